@@ -1,0 +1,3 @@
+pub mod RingLemmas
+pub mod QuadraticRing
+pub mod TowerRing

@@ -1,0 +1,4 @@
+pub mod Ring
+pub mod Quadratic
+pub mod Tower
+pub mod Bit

@@ -1,0 +1,8 @@
+//! Definitions and laws of binary fields that every crate above shares, and the field of two elements.
+#![tactic(auto)]
+
+mod gf2;
+mod laws;
+
+pub use crate::gf2::Gf2;
+pub use crate::laws::tower_is_ring;
