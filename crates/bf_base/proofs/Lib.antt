@@ -1,3 +1,4 @@
 pub mod RingLemmas
 pub mod QuadraticRing
 pub mod TowerRing
+pub mod PowerLemmas

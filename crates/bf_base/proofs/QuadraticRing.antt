@@ -47,8 +47,7 @@ pair_xor width low high low' high' fits fits' = sym (xor_block width high high' 
 
 -- ---- the product
 
-module _ (width : ℕ) (times : ℕ → ℕ → ℕ) (ring : IsRing width times) (t : ℕ) where
-
+module _ (width : ℕ) (times : ℕ → ℕ → ℕ) (ring : IsRing width 1 times) (t : ℕ) where
   -- the low half and the high half of the product of (a0, a1) and (b0, b1)
   abbrev pub low_product : ℕ → ℕ → ℕ → ℕ → ℕ
   low_product a0 a1 b0 b1 = bit_xor (times a0 b0) (times a1 b1)
@@ -65,8 +64,8 @@ module _ (width : ℕ) (times : ℕ → ℕ → ℕ) (ring : IsRing width times)
 
   pub quadratic-halves : (a b : ℕ) → quadratic width times t a b
       ≡ pair width
-          (low_product (low_half width a) (high_half width a) (low_half width b) (high_half width b))
-          (high_product (low_half width a) (high_half width a) (low_half width b) (high_half width b))
+      (low_product (low_half width a) (high_half width a) (low_half width b) (high_half width b))
+      (high_product (low_half width a) (high_half width a) (low_half width b) (high_half width b))
   unfolding quadratic
   quadratic-halves a b = refl
 
@@ -74,12 +73,12 @@ module _ (width : ℕ) (times : ℕ → ℕ → ℕ) (ring : IsRing width times)
   pub quadratic-pair_left : (a0 a1 b : ℕ) → a0 < 2 ^ width → a1 < 2 ^ width
       → quadratic width times t (pair width a0 a1) b
       ≡ pair width (low_product a0 a1 (low_half width b) (high_half width b))
-          (high_product a0 a1 (low_half width b) (high_half width b))
+      (high_product a0 a1 (low_half width b) (high_half width b))
   quadratic-pair_left a0 a1 b low_fits high_fits =
       quadratic-halves (pair width a0 a1) b
       ∙ ap₂ (λ (x y : ℕ). pair width (low_product x y (low_half width b) (high_half width b))
-          (high_product x y (low_half width b) (high_half width b)))
-          (low_half-pair width a0 a1 low_fits) (high_half-pair width a0 a1 low_fits high_fits)
+      (high_product x y (low_half width b) (high_half width b)))
+      (low_half-pair width a0 a1 low_fits) (high_half-pair width a0 a1 low_fits high_fits)
 
   -- ---- the two identities of associativity, half by half
 
@@ -87,43 +86,56 @@ module _ (width : ℕ) (times : ℕ → ℕ → ℕ) (ring : IsRing width times)
       → low_product (low_product a0 a1 b0 b1) (high_product a0 a1 b0 b1) c0 c1
       ≡ low_product a0 a1 (low_product b0 b1 c0 c1) (high_product b0 b1 c0 c1)
   low_assoc a0 a1 b0 b1 c0 c1 =
-      simp (sum_times width times ring, ring.over_sum, ring.assoc, times_left_comm width times ring, xor_assoc,
-        xor_left_comm)
+      simp (
+        sum_times width 1 times ring,
+        ring.over_sum,
+        ring.assoc,
+        times_left_comm width 1 times ring,
+        xor_assoc,
+        xor_left_comm,
+      )
 
   high_assoc : (a0 a1 b0 b1 c0 c1 : ℕ)
       → high_product (low_product a0 a1 b0 b1) (high_product a0 a1 b0 b1) c0 c1
       ≡ high_product a0 a1 (low_product b0 b1 c0 c1) (high_product b0 b1 c0 c1)
   high_assoc a0 a1 b0 b1 c0 c1 =
-      simp (sum_times width times ring, ring.over_sum, ring.assoc, times_left_comm width times ring, xor_assoc,
-        xor_comm, xor_left_comm)
+      simp (
+        sum_times width 1 times ring,
+        ring.over_sum,
+        ring.assoc,
+        times_left_comm width 1 times ring,
+        xor_assoc,
+        xor_comm,
+        xor_left_comm,
+      )
 
   -- ---- the laws
 
   quadratic_below : (a b : ℕ) → quadratic width times t a b < 2 ^ (width + width)
   quadratic_below a b =
       subst (λ (x : ℕ). x < 2 ^ (width + width)) (sym (quadratic-halves a b))
-        (pair-lt width _ _ (low_product-lt _ _ _ _) (high_product-lt _ _ _ _))
+      (pair-lt width _ _ (low_product-lt _ _ _ _) (high_product-lt _ _ _ _))
 
   pub quadratic_comm : (a b : ℕ) → quadratic width times t a b ≡ quadratic width times t b a
   quadratic_comm a b =
       quadratic-halves a b
       ∙ ap₂ (pair width)
-          (ap₂ bit_xor (ring.comm (low_half width a) (low_half width b)) (ring.comm (high_half width a) (high_half width b)))
-          (ap₂ bit_xor
-            (ap₂ bit_xor (ring.comm (low_half width a) (high_half width b)) (ring.comm (high_half width a) (low_half width b))
-              ∙ xor_comm (times (high_half width b) (low_half width a)) (times (low_half width b) (high_half width a)))
-            (ap (times t) (ring.comm (high_half width a) (high_half width b))))
+      (ap₂ bit_xor (ring.comm (low_half width a) (low_half width b)) (ring.comm (high_half width a) (high_half width b)))
+      (ap₂ bit_xor
+      (ap₂ bit_xor (ring.comm (low_half width a) (high_half width b)) (ring.comm (high_half width a) (low_half width b))
+      ∙ xor_comm (times (high_half width b) (low_half width a)) (times (low_half width b) (high_half width a)))
+      (ap (times t) (ring.comm (high_half width a) (high_half width b))))
       ∙ sym (quadratic-halves b a)
 
   pub quadratic-pair_right : (a b0 b1 : ℕ) → b0 < 2 ^ width → b1 < 2 ^ width
       → quadratic width times t a (pair width b0 b1)
       ≡ pair width (low_product (low_half width a) (high_half width a) b0 b1)
-          (high_product (low_half width a) (high_half width a) b0 b1)
+      (high_product (low_half width a) (high_half width a) b0 b1)
   quadratic-pair_right a b0 b1 low_fits high_fits =
       quadratic-halves a (pair width b0 b1)
       ∙ ap₂ (λ (x y : ℕ). pair width (low_product (low_half width a) (high_half width a) x y)
-          (high_product (low_half width a) (high_half width a) x y))
-          (low_half-pair width b0 b1 low_fits) (high_half-pair width b0 b1 low_fits high_fits)
+      (high_product (low_half width a) (high_half width a) x y))
+      (low_half-pair width b0 b1 low_fits) (high_half-pair width b0 b1 low_fits high_fits)
 
   quadratic_assoc : (a b c : ℕ) → quadratic width times t (quadratic width times t a b) c
       ≡ quadratic width times t a (quadratic width times t b c)
@@ -147,8 +159,8 @@ module _ (width : ℕ) (times : ℕ → ℕ → ℕ) (ring : IsRing width times)
   quadratic_over_sum a b c =
       quadratic-halves a (bit_xor b c)
       ∙ ap₂ (λ (x y : ℕ). pair width (low_product (low_half width a) (high_half width a) x y)
-          (high_product (low_half width a) (high_half width a) x y))
-          (low_half_xor width b c) (high_half_xor width b c)
+      (high_product (low_half width a) (high_half width a) x y))
+      (low_half_xor width b c) (high_half_xor width b c)
       ∙ ap₂ (pair width) (low_over_sum _ _ _ _ _ _) (high_over_sum _ _ _ _ _ _)
       ∙ pair_xor width _ _ _ _ (low_product-lt _ _ _ _) (low_product-lt _ _ _ _)
       ∙ sym (ap₂ bit_xor (quadratic-halves a b) (quadratic-halves a c))
@@ -164,25 +176,25 @@ module _ (width : ℕ) (times : ℕ → ℕ → ℕ) (ring : IsRing width times)
   -- the products of the halves of the one with those of an element
   low_product-one : (a0 a1 : ℕ) → a0 < 2 ^ width → low_product 1 0 a0 a1 ≡ a0
   low_product-one a0 a1 fits =
-      ap₂ bit_xor (ring.one a0 ∙ mod-eq_of_lt fits) (zero-times width times ring a1) ∙ xor_zero_r a0
+      ap₂ bit_xor (ring.one a0 ∙ mod-eq_of_lt fits) (zero-times width 1 times ring a1) ∙ xor_zero_r a0
 
   high_product-one : (a0 a1 : ℕ) → a1 < 2 ^ width → high_product 1 0 a0 a1 ≡ a1
   high_product-one a0 a1 fits =
       ap₂ bit_xor
-        (ap₂ bit_xor (ring.one a1 ∙ mod-eq_of_lt fits) (zero-times width times ring a0) ∙ xor_zero_r a1)
-        (ap (times t) (zero-times width times ring a1) ∙ times-zero width times ring t)
+      (ap₂ bit_xor (ring.one a1 ∙ mod-eq_of_lt fits) (zero-times width 1 times ring a0) ∙ xor_zero_r a1)
+      (ap (times t) (zero-times width 1 times ring a1) ∙ times-zero width 1 times ring t)
       ∙ xor_zero_r a1
 
   quadratic_one : 0 < width → (a : ℕ) → quadratic width times t 1 a ≡ a % 2 ^ (width + width)
   quadratic_one wide a =
       quadratic-halves 1 a
       ∙ ap₂ (λ (x y : ℕ). pair width (low_product x y (low_half width a) (high_half width a))
-          (high_product x y (low_half width a) (high_half width a))) (low_half_one wide) (high_half_one wide)
+      (high_product x y (low_half width a) (high_half width a))) (low_half_one wide) (high_half_one wide)
       ∙ ap₂ (pair width) (low_product-one _ (high_half width a) (low_half-lt width a))
-          (high_product-one (low_half width a) _ (high_half-lt width a))
+      (high_product-one (low_half width a) _ (high_half-lt width a))
       ∙ pair-halves width a
 
-  pub quadratic_ring : 0 < width → IsRing (width + width) (quadratic width times t)
+  pub quadratic_ring : 0 < width → IsRing (width + width) 1 (quadratic width times t)
   quadratic_ring wide = record {
     below = quadratic_below;
     comm = quadratic_comm;

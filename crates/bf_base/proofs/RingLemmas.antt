@@ -21,8 +21,7 @@ xor_nothing a b e = sym (xor_zero_r a) ∙ ap (bit_xor a) (sym e) ∙ xor_cancel
 
 -- ---- products
 
-module _ (width : ℕ) (times : ℕ → ℕ → ℕ) (ring : IsRing width times) where
-
+module _ (width unit : ℕ) (times : ℕ → ℕ → ℕ) (ring : IsRing width unit times) where
   pub sum_times : (a b c : ℕ) → times (bit_xor a b) c ≡ bit_xor (times a c) (times b c)
   sum_times a b c = ring.comm (bit_xor a b) c ∙ ring.over_sum c a b ∙ ap₂ bit_xor (ring.comm c a) (ring.comm c b)
 
@@ -38,7 +37,7 @@ module _ (width : ℕ) (times : ℕ → ℕ → ℕ) (ring : IsRing width times)
   -- an operand counts by its low bits alone
   pub times-mod : (a b : ℕ) → times a (b % 2 ^ width) ≡ times a b
   times-mod a b =
-      ap (times a) (sym (ring.one b)) ∙ times_left_comm a 1 b ∙ ring.one (times a b)
+      ap (times a) (sym (ring.one b)) ∙ times_left_comm a unit b ∙ ring.one (times a b)
       ∙ mod-eq_of_lt (ring.below a b)
 
   pub mod-times : (a b : ℕ) → times (a % 2 ^ width) b ≡ times a b

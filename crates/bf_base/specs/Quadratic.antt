@@ -20,5 +20,5 @@ unfoldable pub quadratic : ℕ → (ℕ → ℕ → ℕ) → ℕ → ℕ → ℕ
 quadratic width times t a b = pair width
     (bit_xor (times (low_half width a) (low_half width b)) (times (high_half width a) (high_half width b)))
     (bit_xor
-      (bit_xor (times (low_half width a) (high_half width b)) (times (high_half width a) (low_half width b)))
-      (times t (times (high_half width a) (high_half width b))))
+    (bit_xor (times (low_half width a) (high_half width b)) (times (high_half width a) (low_half width b)))
+    (times t (times (high_half width a) (high_half width b))))

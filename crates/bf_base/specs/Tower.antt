@@ -17,4 +17,4 @@ tower_mul (suc k) a b = quadratic (2 ^ k) (tower_mul k) (root k) a b
 
 -- at every level the tower's product is that of a commutative ring of characteristic two
 abbrev pub TowerIsRing : Type 0
-TowerIsRing = (k : ℕ) → IsRing (2 ^ k) (tower_mul k)
+TowerIsRing = (k : ℕ) → IsRing (2 ^ k) 1 (tower_mul k)

@@ -1,0 +1,37 @@
+// Fields whose bits are a power of two: the levels of the tower, and the fields that are one of them in another basis.
+ghost use Rattle.std.specs.Prelude.{◌≡◌, ◌%◌, ◌^◌, ◌<◌, ℕ};
+
+use crate::traits::field::Field;
+
+/// A field of 2 to the power of `LOG_BITS` bits. The trait is sealed: its fields are those of this library.
+pub trait TowerLevel: Field {
+    /// The unsigned number that stores an element.
+    type Repr;
+
+    /// The binary logarithm of the bits.
+    const LOG_BITS: usize;
+
+    ghost LOG_BITS: { ℕ };
+
+    // What a representation is as a number, and the element that `mul_alpha` multiplies by.
+    ghost number: { Self.Repr → ℕ };
+
+    ghost alpha: { ℕ };
+
+    /// The element of a representation. Bits above the field are dropped.
+    fn from_repr(bits: Self::Repr) -> Self
+        ensures { Self.repr result ≡ number bits % 2 ^ Self.width };
+
+    /// The representation.
+    fn to_repr(self) -> Self::Repr
+        ensures { number result ≡ Self.repr self };
+
+    /// The product by the root that the field's own level of the tower adjoins; at GF(2), where that root is 1, the
+    /// element itself.
+    fn mul_alpha(self) -> Self
+        ensures { Self.repr result ≡ Self.product alpha (Self.repr self) };
+
+    ghost bits_law: { Self.width ≡ 2 ^ LOG_BITS };
+
+    ghost alpha_law: { alpha < 2 ^ Self.width };
+}
