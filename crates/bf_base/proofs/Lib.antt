@@ -1,4 +1,14 @@
-pub mod RingLemmas
-pub mod QuadraticRing
-pub mod TowerRing
+pub mod FieldLemmas
+pub mod Norms
 pub mod PowerLemmas
+pub mod QuadraticProducts
+pub mod QuadraticRing
+pub mod QuadraticTraces
+pub mod RingLemmas
+mod TowerFacts
+pub mod TowerFrobenius
+pub mod TowerInverse
+pub mod TowerProducts
+pub mod TowerRing
+pub mod TowerSqrt
+pub mod TowerTraces

@@ -1,70 +1,235 @@
--- Powers in a ring of numbers, and the steps by which square-and-multiply computes them.
-use Rattle.std.proofs.Common.{◌≡◌, ℕ, zero, suc, ◌+◌, ◌*◌, ◌/◌, ◌%◌, ◌^◌, ◌<◌, refl, sym, ◌∙◌, ap, ap₂, subst, arith}
-use native.Mathlib.Nat.{mod-eq_of_lt, suc-mul, zero-mul}
+-- Powers and repeated squarings in a ring of numbers: exponents add and multiply, a square of a sum is the sum of the
+-- squares, and so repeated squarings and sums of them are additive.
+use Rattle.std.proofs.Common.{◌≡◌, ℕ, zero, suc, ◌+◌, ◌*◌, ◌/◌, ◌%◌, ◌^◌, ◌<◌, refl, sym, ◌∙◌, ap, ap₂, arith}
+use Rattle.std.specs.Prelude.{bit_xor}
+use Rattle.std.proofs.lemmas.Nat.{xor_lt, pow_pos}
+use native.Mathlib.Nat.{mod-eq_of_lt, mul-suc, mul-zero, pow-suc}
 use native.Mathlib.Numerals.{add-one}
+use lib.Bits.{xor_assoc, xor_self, xor_zero_r}
 use Rattle.bf_base.specs.Ring.{IsRing}
-use Rattle.bf_base.specs.Powers.{power, squared}
-
-pub squared-zero : (times : ℕ → ℕ → ℕ) (a : ℕ) → squared times 0 a ≡ a
-unfolding squared
-squared-zero times a = refl
-
--- one squaring more, on the outside
-pub squared_more : (times : ℕ → ℕ → ℕ) (n a : ℕ)
-    → squared times (n + 1) a ≡ times (squared times n a) (squared times n a)
-unfolding squared
-squared_more times zero a = refl
-squared_more times (suc n) a =
-    ap (λ (k : ℕ). squared times k a) (add-one (suc n)) ∙ ap (λ (k : ℕ). squared times k (times a a)) (sym (add-one n))
-    ∙ squared_more times n (times a a)
+use Rattle.bf_base.specs.Powers.{power, squared, sum_of_squarings}
+use Rattle.bf_base.proofs.RingLemmas.{xor_left_comm, xor_cancel, sum_times, times_left_comm, times-zero, times-mod, mod-times}
 
 module _ (width unit : ℕ) (times : ℕ → ℕ → ℕ) (ring : IsRing width unit times) where
-  pub power-zero : (a : ℕ) → power unit times a 0 ≡ unit
-  unfolding power
-  power-zero a = refl
+  pub one-times : (a : ℕ) → a < 2 ^ width → times unit a ≡ a
+  one-times a low = ring.one a ∙ mod-eq_of_lt low
 
-  pub power-suc : (a n : ℕ) → power unit times a (suc n) ≡ times (power unit times a n) a
-  unfolding power
-  power-suc a n = refl
+  pub times-one : (a : ℕ) → a < 2 ^ width → times a unit ≡ a
+  times-one a low = ring.comm a unit ∙ one-times a low
 
-  -- the unit is an element, so every power is
-  pub power-lt : unit < 2 ^ width → (a n : ℕ) → power unit times a n < 2 ^ width
-  unfolding power
-  power-lt fits a zero = fits
-  power-lt fits a (suc n) = ring.below (power unit times a n) a
+  -- the square of a sum is the sum of the squares
+  pub square_xor : (a b : ℕ) → times (bit_xor a b) (bit_xor a b) ≡ bit_xor (times a a) (times b b)
+  square_xor a b =
+      sum_times width unit times ring a b (bit_xor a b)
+      ∙ ap₂ bit_xor (ring.over_sum a a b) (ring.over_sum b a b ∙ ap (λ (x : ℕ). bit_xor x (times b b)) (ring.comm b a))
+      ∙ xor_assoc (times a a) (times a b) (bit_xor (times a b) (times b b))
+      ∙ ap (bit_xor (times a a)) (xor_cancel (times a b) (times b b))
 
-  -- an even power is a power of the square
-  pub power_even : (a n : ℕ) → power unit times a (n * 2) ≡ power unit times (times a a) n
-  unfolding power
-  power_even a zero = refl
-  power_even a (suc n) =
-      let twice : suc n * 2 ≡ suc (suc (n * 2)) = omega arith in
-      ap (power unit times a) twice ∙ ring.assoc (power unit times a (n * 2)) a a
-      ∙ ap (λ (x : ℕ). times x (times a a)) (power_even a n)
+  -- the square of a product is the product of the squares
+  pub square_times : (a b : ℕ) → times (times a b) (times a b) ≡ times (times a a) (times b b)
+  square_times a b = simp (ring.assoc, times_left_comm width unit times ring)
 
-  -- where the exponent is odd, one factor goes over to what is there
-  pub power_step : (value a n : ℕ) → n % 2 ≡ 1
-      → times (times value a) (power unit times (times a a) (n / 2)) ≡ times value (power unit times a n)
-  power_step value a n odd =
-      let whole : suc (n / 2 * 2) ≡ n = omega arith in
-      ring.assoc value a (power unit times (times a a) (n / 2))
-      ∙ ap (times value)
-      (ring.comm a (power unit times (times a a) (n / 2)) ∙ ap (λ (x : ℕ). times x a) (sym (power_even a (n / 2)))
-      ∙ sym (power-suc a (n / 2 * 2)) ∙ ap (power unit times a) whole)
+  -- ---- repeated squarings
 
-  pub power_skip : (a n : ℕ) → n % 2 ≡ 0 → power unit times (times a a) (n / 2) ≡ power unit times a n
-  power_skip a n even =
-      let whole : n / 2 * 2 ≡ n = omega arith in
-      sym (power_even a (n / 2)) ∙ ap (power unit times a) whole
+  pub squared-lt : (n a : ℕ) → squared unit times n a < 2 ^ width
+  unfolding squared
+  squared-lt zero a = ring.below unit a
+  squared-lt (suc n) a = ring.below (squared unit times n a) (squared unit times n a)
 
-  -- before the first step, what is there is the one, and after the last it is all
-  pub power_start : (one a n : ℕ) → one ≡ unit → one < 2 ^ width
-      → times one (power unit times a n) ≡ power unit times a n
-  power_start one a n is_one fits =
-      ap (λ (x : ℕ). times x (power unit times a n)) is_one ∙ ring.one (power unit times a n)
-      ∙ mod-eq_of_lt (power-lt (subst (λ (x : ℕ). x < 2 ^ width) is_one fits) a n)
+  pub squared-mod : (n a : ℕ) → squared unit times n (a % 2 ^ width) ≡ squared unit times n a
+  unfolding squared
+  squared-mod zero a = times-mod width unit times ring unit a
+  squared-mod (suc n) a = ap (λ (x : ℕ). times x x) (squared-mod n a)
 
-  pub power_end : (value a n : ℕ) → value < 2 ^ width → n ≡ 0 → times value (power unit times a n) ≡ value
-  power_end value a n fits done =
-      ap (λ (k : ℕ). times value (power unit times a k)) done ∙ ap (times value) (power-zero a)
-      ∙ ring.comm value unit ∙ ring.one value ∙ mod-eq_of_lt fits
+  pub squared-zero : (n : ℕ) → squared unit times n 0 ≡ 0
+  unfolding squared
+  squared-zero zero = times-zero width unit times ring unit
+  squared-zero (suc n) = ap (λ (x : ℕ). times x x) (squared-zero n) ∙ times-zero width unit times ring 0
+
+  pub squared_xor : (n a b : ℕ) → squared unit times n (bit_xor a b) ≡ bit_xor (squared unit times n a) (squared unit times n b)
+  unfolding squared
+  squared_xor zero a b = ring.over_sum unit a b
+  squared_xor (suc n) a b =
+      ap (λ (x : ℕ). times x x) (squared_xor n a b) ∙ square_xor (squared unit times n a) (squared unit times n b)
+
+  pub squared_times : (n a b : ℕ) → squared unit times n (times a b) ≡ times (squared unit times n a) (squared unit times n b)
+  unfolding squared
+  squared_times zero a b =
+      one-times (times a b) (ring.below a b)
+      ∙ sym (ap₂ times (ring.one a) (ring.one b) ∙ mod-times width unit times ring a (b % 2 ^ width)
+      ∙ times-mod width unit times ring a b)
+  squared_times (suc n) a b =
+      ap (λ (x : ℕ). times x x) (squared_times n a b) ∙ square_times (squared unit times n a) (squared unit times n b)
+
+  -- no squaring leaves an element as it is, and one more squares it once more
+  pub squared-none : (a : ℕ) → a < 2 ^ width → squared unit times 0 a ≡ a
+  unfolding squared
+  squared-none a low = one-times a low
+
+  pub squared_more : (n a : ℕ) → squared unit times (n + 1) a ≡ times (squared unit times n a) (squared unit times n a)
+  unfolding squared
+  squared_more n a = ap (λ (k : ℕ). squared unit times k a) (add-one n)
+
+  -- the first squaring instead of the last
+  pub squared_square : (n a : ℕ) → squared unit times n (times a a) ≡ squared unit times (suc n) a
+  unfolding squared
+  squared_square n a = squared_times n a a
+
+  -- m + n squarings are n squarings and then m
+  pub squared-add : (m n a : ℕ) → squared unit times (m + n) a ≡ squared unit times m (squared unit times n a)
+  unfolding squared
+  squared-add zero n a =
+      let none : 0 + n ≡ n = omega arith in
+      ap (λ (x : ℕ). squared unit times x a) none ∙ sym (one-times (squared unit times n a) (squared-lt n a))
+  squared-add (suc m) n a =
+      let next : suc m + n ≡ suc (m + n) = omega arith in
+      ap (λ (x : ℕ). squared unit times x a) next ∙ ap (λ (x : ℕ). times x x) (squared-add m n a)
+
+  -- ---- sums of repeated squarings
+
+  pub sum_of_squarings-lt : (n a : ℕ) → sum_of_squarings unit times n a < 2 ^ width
+  unfolding sum_of_squarings
+  sum_of_squarings-lt zero a = pow_pos width
+  sum_of_squarings-lt (suc n) a = xor_lt width _ _ (sum_of_squarings-lt n a) (squared-lt n a)
+
+  pub sum_of_squarings-mod : (n a : ℕ) → sum_of_squarings unit times n (a % 2 ^ width) ≡ sum_of_squarings unit times n a
+  unfolding sum_of_squarings
+  sum_of_squarings-mod zero a = refl
+  sum_of_squarings-mod (suc n) a = ap₂ bit_xor (sum_of_squarings-mod n a) (squared-mod n a)
+
+  pub sum_of_squarings_xor : (n a b : ℕ) → sum_of_squarings unit times n (bit_xor a b)
+      ≡ bit_xor (sum_of_squarings unit times n a) (sum_of_squarings unit times n b)
+  unfolding sum_of_squarings
+  sum_of_squarings_xor zero a b = refl
+  sum_of_squarings_xor (suc n) a b =
+      ap₂ bit_xor (sum_of_squarings_xor n a b) (squared_xor n a b) ∙ simp (xor_assoc, xor_left_comm)
+
+  -- the sum for a square is the square of the sum
+  pub sum_of_squarings_square : (n a : ℕ) → sum_of_squarings unit times n (times a a)
+      ≡ times (sum_of_squarings unit times n a) (sum_of_squarings unit times n a)
+  unfolding sum_of_squarings
+  sum_of_squarings_square zero a = sym (times-zero width unit times ring 0)
+  sum_of_squarings_square (suc n) a =
+      ap₂ bit_xor (sum_of_squarings_square n a) (squared_times n a a)
+      ∙ sym (square_xor (sum_of_squarings unit times n a) (squared unit times n a))
+
+  telescoped : (sum first last next : ℕ) → bit_xor (bit_xor sum (bit_xor first last)) next
+      ≡ bit_xor (bit_xor sum last) (bit_xor first next)
+  telescoped sum first last next = simp (xor_assoc, xor_left_comm)
+
+  -- the sum for a square differs from that for the element in the last square and the first
+  pub sum_of_squarings-telescope : (n a : ℕ) → sum_of_squarings unit times n (times a a)
+      ≡ bit_xor (sum_of_squarings unit times n a) (bit_xor (times unit a) (squared unit times n a))
+  unfolding squared sum_of_squarings
+  sum_of_squarings-telescope zero a = sym (xor_self (times unit a))
+  sum_of_squarings-telescope (suc n) a =
+      ap₂ bit_xor (sum_of_squarings-telescope n a) (squared_times n a a)
+      ∙ telescoped (sum_of_squarings unit times n a) (times unit a) (squared unit times n a) _
+
+  -- the first m + n squarings are the first n, and the first m of the n-th
+  pub sum_of_squarings-add : (m n a : ℕ) → sum_of_squarings unit times (m + n) a
+      ≡ bit_xor (sum_of_squarings unit times n a) (sum_of_squarings unit times m (squared unit times n a))
+  unfolding sum_of_squarings
+  sum_of_squarings-add zero n a =
+      let none : 0 + n ≡ n = omega arith in
+      ap (λ (x : ℕ). sum_of_squarings unit times x a) none ∙ sym (xor_zero_r (sum_of_squarings unit times n a))
+  sum_of_squarings-add (suc m) n a =
+      let next : suc m + n ≡ suc (m + n) = omega arith in
+      ap (λ (x : ℕ). sum_of_squarings unit times x a) next
+      ∙ ap₂ bit_xor (sum_of_squarings-add m n a) (squared-add m n a)
+      ∙ xor_assoc (sum_of_squarings unit times n a) (sum_of_squarings unit times m (squared unit times n a))
+      (squared unit times m (squared unit times n a))
+
+  -- ---- powers
+
+  module _ (fits : unit < 2 ^ width) where
+    pub power-lt : (a n : ℕ) → power unit times a n < 2 ^ width
+    unfolding power
+    power-lt a zero = fits
+    power-lt a (suc n) = ring.below (power unit times a n) a
+
+    -- the element of one factor, and of two
+    pub power-one : (a : ℕ) → power unit times a 1 ≡ a % 2 ^ width
+    unfolding power
+    power-one a = ring.one a
+
+    pub power-two : (a : ℕ) → power unit times a 2 ≡ times a a
+    unfolding power
+    power-two a = ap (λ (x : ℕ). times x a) (ring.one a) ∙ mod-times width unit times ring a a
+
+    pub power_mod : (a n : ℕ) → power unit times (a % 2 ^ width) n ≡ power unit times a n
+    unfolding power
+    power_mod a zero = refl
+    power_mod a (suc n) =
+        times-mod width unit times ring (power unit times (a % 2 ^ width) n) a ∙ ap (λ (x : ℕ). times x a) (power_mod a n)
+
+    -- a ^ (m + n) is a ^ m times a ^ n
+    pub power-add : (a m n : ℕ) → power unit times a (m + n) ≡ times (power unit times a m) (power unit times a n)
+    unfolding power
+    power-add a m zero =
+        ap (power unit times a) (omega arith) ∙ sym (times-one (power unit times a m) (power-lt a m))
+    power-add a m (suc n) =
+        let next : m + suc n ≡ suc (m + n) = omega arith in
+        ap (power unit times a) next ∙ ap (λ (x : ℕ). times x a) (power-add a m n)
+        ∙ ring.assoc (power unit times a m) (power unit times a n) a
+
+    -- a ^ (m n) is (a ^ m) ^ n
+    pub power-mul : (a m n : ℕ) → power unit times a (m * n) ≡ power unit times (power unit times a m) n
+    unfolding power
+    power-mul a m zero = ap (power unit times a) (mul-zero m)
+    power-mul a m (suc n) =
+        ap (power unit times a) (mul-suc m n) ∙ power-add a (m * n) m
+        ∙ ap (λ (x : ℕ). times x (power unit times a m)) (power-mul a m n)
+
+    -- a power of a product is the product of the powers
+    pub power_times : (a b n : ℕ) → power unit times (times a b) n ≡ times (power unit times a n) (power unit times b n)
+    unfolding power
+    power_times a b zero = sym (one-times unit fits)
+    power_times a b (suc n) =
+        ap (λ (x : ℕ). times x (times a b)) (power_times a b n)
+        ∙ simp (ring.assoc, times_left_comm width unit times ring)
+
+    -- ---- raising by squaring and multiplying, from the exponent's lowest bit
+
+    -- an even power is a power of the square
+    pub power-even : (a n : ℕ) → power unit times a (2 * n) ≡ power unit times (times a a) n
+    power-even a n = power-mul a 2 n ∙ ap (λ (x : ℕ). power unit times x n) (power-two a)
+
+    pub power-odd : (a n : ℕ) → power unit times a (2 * n + 1) ≡ times a (power unit times (times a a) n)
+    power-odd a n =
+        power-add a (2 * n) 1 ∙ ap₂ times (power-even a n) (power-one a)
+        ∙ times-mod width unit times ring (power unit times (times a a) n) a
+        ∙ ring.comm (power unit times (times a a) n) a
+
+    -- before the first step, what is there is the one
+    pub power_start : (one a n : ℕ) → one ≡ unit → times one (power unit times a n) ≡ power unit times a n
+    power_start one a n is_one =
+        ap (λ (x : ℕ). times x (power unit times a n)) is_one
+        ∙ one-times (power unit times a n) (power-lt a n)
+
+    -- where the exponent is odd, one factor goes over to what is there
+    pub power_step : (value a n : ℕ) → n % 2 ≡ 1
+        → times (times value a) (power unit times (times a a) (n / 2)) ≡ times value (power unit times a n)
+    power_step value a n odd =
+        let whole : 2 * (n / 2) + 1 ≡ n = omega arith in
+        ring.assoc value a (power unit times (times a a) (n / 2))
+        ∙ ap (times value) (sym (power-odd a (n / 2)) ∙ ap (power unit times a) whole)
+
+    pub power_skip : (a n : ℕ) → n % 2 ≡ 0 → power unit times (times a a) (n / 2) ≡ power unit times a n
+    power_skip a n even =
+        let whole : 2 * (n / 2) ≡ n = omega arith in
+        sym (power-even a (n / 2)) ∙ ap (power unit times a) whole
+
+    -- after the last step, it is all
+    pub power_end : (value a n : ℕ) → value < 2 ^ width → n ≡ 0 → times value (power unit times a n) ≡ value
+    unfolding power
+    power_end value a n low done =
+        ap (λ (k : ℕ). times value (power unit times a k)) done ∙ times-one value low
+
+    -- n squarings raise to the power 2 ^ n
+    pub squared-power : (n a : ℕ) → squared unit times n a ≡ power unit times a (2 ^ n)
+    unfolding squared
+    squared-power zero a = ring.one a ∙ sym (power-one a)
+    squared-power (suc n) a =
+        ap (λ (x : ℕ). times x x) (squared-power n a) ∙ sym (power-add a (2 ^ n) (2 ^ n))
+        ∙ ap (power unit times a) (sym (pow-suc 2 n ∙ omega arith))

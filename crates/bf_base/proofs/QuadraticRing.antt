@@ -1,14 +1,14 @@
 -- The quadratic extension of a ring of w-bit elements is a ring of elements of twice the width, whatever the
 -- coefficient t of its polynomial X² + t X + 1 is.
-use Rattle.std.proofs.Common.{◌≡◌, ℕ, zero, suc, ◌+◌, ◌*◌, ◌/◌, ◌%◌, ◌^◌, ◌<◌, refl, sym, ◌∙◌, ap, ap₂, subst}
+use Rattle.std.proofs.Common.{◌≡◌, ℕ, ◌+◌, ◌/◌, ◌%◌, ◌^◌, ◌<◌, refl, sym, ◌∙◌, ap, ap₂, subst}
 use Rattle.std.specs.Prelude.{bit_xor}
 use Rattle.std.proofs.lemmas.Nat.{xor_comm, xor_lt, xor_shr, xor_mod, xor_block, mod-pow-add, mod_low, shr_high, pow-add, pow_pos, pow_below}
 use native.Mathlib.Nat.{mod-eq_of_lt, mod-lt, div-eq_of_lt}
 use lib.Arith.{digits_lt}
-use lib.Bits.{xor_assoc, xor_self, xor_zero_r}
+use lib.Bits.{xor_assoc, xor_zero_r}
 use Rattle.bf_base.specs.Ring.{IsRing}
 use Rattle.bf_base.specs.Quadratic.{low_half, high_half, pair, quadratic}
-use Rattle.bf_base.proofs.RingLemmas.{xor_left_comm, xor_cancel, sum_times, times_left_comm, times-zero, zero-times}
+use Rattle.bf_base.proofs.RingLemmas.{xor_left_comm, sum_times, times_left_comm, times-zero, zero-times}
 
 -- ---- halves
 

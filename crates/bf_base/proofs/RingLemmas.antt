@@ -1,6 +1,6 @@
 -- What follows from the laws of a ring of numbers: sums on the left, products in another order, zero, and operands
 -- beyond the width.
-use Rattle.std.proofs.Common.{◌≡◌, ℕ, zero, ◌%◌, ◌^◌, ◌<◌, refl, sym, ◌∙◌, ap, ap₂}
+use Rattle.std.proofs.Common.{◌≡◌, ℕ, zero, ◌%◌, ◌^◌, sym, ◌∙◌, ap, ap₂}
 use Rattle.std.specs.Prelude.{bit_xor}
 use Rattle.std.proofs.lemmas.Nat.{xor_comm}
 use native.Mathlib.Nat.{mod-eq_of_lt}

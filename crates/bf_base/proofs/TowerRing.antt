@@ -1,6 +1,5 @@
 -- The tower's product at every level is that of a ring, by induction on the level.
-use Rattle.std.proofs.Common.{◌≡◌, ℕ, zero, suc, ◌+◌, ◌*◌, ◌/◌, ◌%◌, ◌^◌, ◌<◌, refl, sym, ◌∙◌, ap, ap₂, subst, arith, lit<}
-use Rattle.std.specs.Prelude.{bit_xor}
+use Rattle.std.proofs.Common.{◌≡◌, ℕ, zero, suc, ◌+◌, ◌^◌, sym, ◌∙◌, subst, arith}
 use Rattle.std.proofs.lemmas.Nat.{pow_pos}
 use native.Mathlib.Nat.{pow-suc}
 use Rattle.bf_base.specs.Ring.{IsRing}

@@ -1,6 +1,6 @@
 -- The laws of the field of two elements, level 0 of the tower, by cases on its bits. They stand here since the field's
 -- own implementation of the traits cites them.
-use Rattle.std.proofs.Common.{◌≡◌, ℕ, zero, suc, ◌+◌, ◌*◌, ◌%◌, ◌^◌, ◌<◌, ◌≢◌, refl, sym, ◌∙◌, ap, arith, lit<}
+use Rattle.std.proofs.Common.{◌≡◌, ℕ, zero, suc, ◌*◌, ◌%◌, ◌<◌, ◌≢◌, refl, sym, ◌∙◌, ap, arith, lit<}
 use Rattle.std.specs.Prelude.{bit_and, bit_xor}
 use Rattle.std.proofs.lemmas.Nat.{xor_mod}
 use native.Mathlib.Nat.{mod-lt, mul_comm, mul_assoc, zero-mul, one-mul, mul-one, mod-eq_of_lt}
@@ -48,9 +48,9 @@ bit_and-bits =
     (two_cases (λ y. bit_and 0 y ≡ 0 % 2 * (y % 2)) refl refl) (two_cases (λ y. bit_and 1 y ≡ 1 % 2 * (y % 2)) refl refl)
 
 -- a bit squared is itself
-pub bit_squared : (x : ℕ) → x < 2 → squared (tower_mul 0) 1 x ≡ x
+pub bit_squared : (x : ℕ) → x < 2 → squared 1 (tower_mul 0) 1 x ≡ x
 unfolding squared tower_mul
-bit_squared = two_cases (λ x. squared (tower_mul 0) 1 x ≡ x) refl refl
+bit_squared = two_cases (λ x. squared 1 (tower_mul 0) 1 x ≡ x) refl refl
 
 -- the only bit but 0 is the one
 pub bit_over_bit : (x : ℕ) → x < 2 → (y : ℕ) → y < 2 → y ≢ 0 → tower_mul 0 x y ≡ x

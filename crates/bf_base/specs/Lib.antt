@@ -1,6 +1,9 @@
-pub mod Ring
-pub mod Quadratic
-pub mod Tower
 pub mod Bit
-pub mod Powers
 pub mod BitRing
+pub mod Field
+pub mod Norm
+pub mod Powers
+pub mod Quadratic
+pub mod Ring
+pub mod Tower
+pub mod TowerField

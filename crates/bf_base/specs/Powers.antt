@@ -1,15 +1,21 @@
--- Powers, sums and products in a ring of numbers with the one `unit`.
-use Rattle.std.specs.Prelude.{ℕ, zero, suc, ℤ, pos, negsuc, ◌%◌, List, bit_xor, fold}
+-- Powers, sums and products in a ring of numbers, under its product `times`, with the one `unit`.
+use Rattle.std.specs.Prelude.{◌≡◌, ℕ, zero, suc, ℤ, pos, negsuc, ◌%◌, ◌^◌, ◌<◌, List, bit_xor, fold}
+use Rattle.bf_base.specs.Ring.{IsRing}
 
--- the power of a at an exponent: a⁰ is the one, aⁿ⁺¹ = aⁿ a
+-- a ^ n: the product of n factors a, and the one for n = 0
 unfoldable pub power : ℕ → (ℕ → ℕ → ℕ) → ℕ → ℕ → ℕ
 power unit times a zero = unit
 power unit times a (suc n) = times (power unit times a n) a
 
--- a squared n times
-unfoldable pub squared : (ℕ → ℕ → ℕ) → ℕ → ℕ → ℕ
-squared times zero a = a
-squared times (suc n) a = squared times n (times a a)
+-- the element a squared n times; 0 squarings give the one times a, which is a where a fits the width
+unfoldable pub squared : ℕ → (ℕ → ℕ → ℕ) → ℕ → ℕ → ℕ
+squared unit times zero a = times unit a
+squared unit times (suc n) a = times (squared unit times n a) (squared unit times n a)
+
+-- a + a ^ 2 + a ^ 4 + .. + a ^ 2 ^ (n - 1): the sum of a squared 0, 1, .., n - 1 times
+unfoldable pub sum_of_squarings : ℕ → (ℕ → ℕ → ℕ) → ℕ → ℕ → ℕ
+sum_of_squarings unit times zero a = 0
+sum_of_squarings unit times (suc n) a = bit_xor (sum_of_squarings unit times n a) (squared unit times n a)
 
 -- the sum of the elements of a list, as a number
 abbrev pub sum_of : {A : Type 0} → (A → ℕ) → List A → ℕ
@@ -23,3 +29,9 @@ product_of unit times repr xs = fold (λ product x. times product (repr x)) unit
 abbrev pub parity : ℤ → ℕ
 parity (pos n) = n % 2
 parity (negsuc n) = suc n % 2
+
+-- in every ring whose one is an element, n squarings raise to the power 2 ^ n
+abbrev pub SquaringsArePowers : Type 0
+SquaringsArePowers =
+    (width unit : ℕ) (times : ℕ → ℕ → ℕ) → IsRing width unit times → unit < 2 ^ width
+    → (n a : ℕ) → squared unit times n a ≡ power unit times a (2 ^ n)

@@ -157,6 +157,8 @@ impl Represented for Gf2 {
 
     ghost ring_law = { bits_ring };
 
+    ghost unit_fits = { lit< tt };
+
     ghost range_law = { λ x. x.in_range };
 
     ghost same_law = { same_repr };

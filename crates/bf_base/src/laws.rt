@@ -1,7 +1,28 @@
 // Laws of the definitions, as contracts of functions that compute nothing.
 ghost use Rattle.bf_base.specs.Tower.{TowerIsRing};
+ghost use Rattle.bf_base.specs.Powers.{SquaringsArePowers};
+ghost use Rattle.bf_base.specs.TowerField.{TracesAreOne, RootInverse, NoLevelHasARoot, NonzeroHasInverse, SquaringsReturn};
 
 /// States that the tower's product is that of a commutative ring of characteristic two at every level.
 pub fn tower_is_ring()
     ensures { TowerIsRing }
+{}
+
+/// States that every level of the tower is a field: each element but 0 has an inverse. The polynomial whose root the
+/// next level adjoins has no root in the level, since the root that the level adjoined and its inverse have the trace 1.
+pub fn tower_is_field()
+    ensures inverses { NonzeroHasInverse }
+    ensures no_root { NoLevelHasARoot }
+    ensures root_inverses { RootInverse }
+    ensures traces { TracesAreOne }
+{}
+
+/// States that 2^k squarings of an element of level k give the element back.
+pub fn frobenius_returns()
+    ensures { SquaringsReturn }
+{}
+
+/// States that n squarings raise an element of a ring to the power 2^n.
+pub fn squarings_are_powers()
+    ensures { SquaringsArePowers }
 {}

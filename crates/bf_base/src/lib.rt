@@ -6,4 +6,4 @@ mod laws;
 pub mod traits;
 
 pub use crate::gf2::Gf2;
-pub use crate::laws::tower_is_ring;
+pub use crate::laws::{frobenius_returns, squarings_are_powers, tower_is_field, tower_is_ring};

@@ -73,5 +73,5 @@ pub trait Field: PrimeCharacteristicRing + Div<Self, Output = Self> + DivAssign<
     ghost div_assign_law: { (x y r : Self) → Self.div_assign_gives x y r → Self.product (Self.repr r) (Self.repr y) ≡ Self.repr x };
 
     // As many squarings as an element has bits give it back.
-    ghost frobenius_law: { (x : Self) → squared Self.product Self.width (Self.repr x) ≡ Self.repr x };
+    ghost frobenius_law: { (x : Self) → squared Self.unit Self.product Self.width (Self.repr x) ≡ Self.repr x };
 }

@@ -21,6 +21,8 @@ pub trait Represented: Copy + Add<Self, Output = Self> + Mul<Self, Output = Self
 
     ghost ring_law: { IsRing width unit product };
 
+    ghost unit_fits: { unit < 2 ^ width };
+
     ghost range_law: { (x : Self) → repr x < 2 ^ width };
 
     ghost same_law: { (x y : Self) → repr x ≡ repr y → x ≡ y };

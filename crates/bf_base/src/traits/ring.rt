@@ -193,7 +193,7 @@ pub trait PrimeCharacteristicRing: Represented
 
     /// The element squared `count` times.
     fn exp_power_of_2(&self, count: usize) -> Self
-        ensures { Self.repr result ≡ squared Self.product count (Self.repr self.now) }
+        ensures { Self.repr result ≡ squared Self.unit Self.product count (Self.repr self.now) }
     {
         let mut value = *self;
         for _ in 0..count {

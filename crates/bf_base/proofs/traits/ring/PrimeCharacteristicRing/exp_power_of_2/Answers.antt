@@ -1,11 +1,15 @@
-use Rattle.std.proofs.Common.{sym, ◌∙◌, ap}
-use Rattle.bf_base.proofs.PowerLemmas.{squared-zero, squared_more}
+use Rattle.std.proofs.Common.{sym}
+use Rattle.bf_base.proofs.PowerLemmas.{squared-none, squared_more}
 use Rattle.bf_base.proofs.traits.ring.PrimeCharacteristicRing.exp_power_of_2.Goals as goal
 
 pub loop-init : goal.loop-init
-loop-init g c = sym (squared-zero g.Self.Represented.product (g.Self.Represented.repr c.args.self.now))
+loop-init g c =
+    let ring = g.Self.Represented in
+    let value = ring.repr c.args.self.now in
+    sym (squared-none ring.width ring.unit ring.product ring.ring_law value (ring.range_law c.args.self.now))
 
 pub loop-preserved : goal.loop-preserved
 loop-preserved g c =
-    let more = squared_more g.Self.Represented.product c.loop.counter (g.Self.Represented.repr c.args.self.now) in
+    let ring = g.Self.Represented in
+    let more = squared_more ring.width ring.unit ring.product ring.ring_law c.loop.counter (ring.repr c.args.self.now) in
     cc (more, c.square-value.ensures, c.loop.invariant)

@@ -5,5 +5,5 @@ use Rattle.bf_base.proofs.traits.ring.PrimeCharacteristicRing.exp_power_of_2.Giv
 abbrev pub invariant-loop : goal.invariant-loop
 invariant-loop g l =
     g.Self.Represented.repr l.value
-    ≡ squared g.Self.Represented.product l.counter
+    ≡ squared g.Self.Represented.unit g.Self.Represented.product l.counter
     (g.Self.Represented.repr l.self)

@@ -1,0 +1,38 @@
+-- Every level of the tower is a field. The root that a level adjoins and its inverse have the trace 1, so the polynomial
+-- whose root the next level adjoins has no root, and each element but 0 has an inverse (D. Wiedemann, An iterated
+-- quadratic extension of GF(2), Fibonacci Quarterly 26, 1988).
+use Rattle.std.specs.Prelude.{◌≡◌, ◌≢◌, ℕ, zero, suc, ◌%◌, ◌^◌, bit_xor}
+use Rattle.bf_base.specs.Field.{HasInverses}
+use Rattle.bf_base.specs.Quadratic.{pair}
+use Rattle.bf_base.specs.Tower.{root, tower_mul}
+use Rattle.bf_base.specs.Powers.{squared, sum_of_squarings}
+
+-- the absolute trace of an element of level k, 0 or 1: the sum of its 2 ^ k conjugates over the field of two elements,
+-- which are the element squared 0, 1, .., 2 ^ k - 1 times
+abbrev pub trace : ℕ → ℕ → ℕ
+trace k a = sum_of_squarings 1 (tower_mul k) (2 ^ k) a
+
+-- the inverse of the root X that level k adjoins: 1 at level 0, and else X + t, by X (X + t) = 1
+unfoldable pub root_inverse : ℕ → ℕ
+root_inverse zero = 1
+root_inverse (suc k) = pair (2 ^ k) (root k) 1
+
+-- at every level the adjoined root and its inverse have the trace 1
+abbrev pub TracesAreOne : Type 0
+TracesAreOne = (k : ℕ) → (trace k (root k) ≡ 1) × (trace k (root_inverse k) ≡ 1)
+
+-- at every level the product of the adjoined root and its inverse is 1
+abbrev pub RootInverse : Type 0
+RootInverse = (k : ℕ) → tower_mul k (root k) (root_inverse k) ≡ 1
+
+-- no level has a root of the polynomial x² + t x + 1 whose root the next level adjoins
+abbrev pub NoLevelHasARoot : Type 0
+NoLevelHasARoot = (k x : ℕ) → bit_xor (bit_xor (tower_mul k x x) (tower_mul k (root k) x)) 1 ≢ 0
+
+-- at every level each element but 0 has an inverse
+abbrev pub NonzeroHasInverse : Type 0
+NonzeroHasInverse = (k : ℕ) → HasInverses (2 ^ k) (tower_mul k)
+
+-- at every level 2 ^ k squarings return the element (Frobenius)
+abbrev pub SquaringsReturn : Type 0
+SquaringsReturn = (k a : ℕ) → squared 1 (tower_mul k) (2 ^ k) a ≡ a % 2 ^ 2 ^ k
