@@ -1,4 +1,5 @@
 pub mod FieldLemmas
+pub mod HalvesLemmas
 pub mod Norms
 pub mod PowerLemmas
 pub mod QuadraticProducts

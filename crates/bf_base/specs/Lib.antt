@@ -1,6 +1,7 @@
 pub mod Bit
 pub mod BitRing
 pub mod Field
+pub mod Halves
 pub mod Norm
 pub mod Powers
 pub mod Quadratic

@@ -3,6 +3,7 @@
 
 mod gf2;
 mod laws;
+pub mod quadratic;
 pub mod traits;
 
 pub use crate::gf2::Gf2;
