@@ -9,6 +9,7 @@ pub mod RingLemmas
 mod TowerFacts
 pub mod TowerFrobenius
 pub mod TowerInverse
+pub mod TowerLaws
 pub mod TowerProducts
 pub mod TowerRing
 pub mod TowerSqrt

@@ -6,7 +6,7 @@ use Rattle.std.proofs.lemmas.Nat.{xor_mod}
 use native.Mathlib.Nat.{mod-lt, mul_comm, mul_assoc, zero-mul, one-mul, mul-one, mod-eq_of_lt}
 use Rattle.bf_base.specs.Ring.{IsRing}
 use Rattle.bf_base.specs.Powers.{squared}
-use Rattle.bf_base.specs.Tower.{tower_mul}
+use Rattle.bf_base.specs.Tower.{root, tower_mul}
 
 -- a fact of 0 and of 1 holds of each number below 2
 pub two_cases : (P : ℕ → Type 0) → P 0 → P 1 → (d : ℕ) → d < 2 → P d
@@ -63,3 +63,12 @@ bit_over_bit x fits =
 pub bit_times_itself : (x : ℕ) → x < 2 → x ≢ 0 → tower_mul 0 x x ≡ 1
 unfolding tower_mul
 bit_times_itself = two_cases (λ x. x ≢ 0 → tower_mul 0 x x ≡ 1) (λ nonzero. absurd (nonzero refl)) (λ nonzero. refl)
+
+-- the root that level 0 adjoins is the one
+pub root_zero-times : (x : ℕ) → x < 2 → tower_mul 0 (root 0) x ≡ x
+unfolding root tower_mul
+root_zero-times x fits = one-mul (x % 2) ∙ mod-eq_of_lt fits
+
+pub root_zero-lt : root 0 < 2
+unfolding root
+root_zero-lt = lit< tt

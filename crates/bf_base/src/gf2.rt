@@ -2,7 +2,7 @@
 ghost use Rattle.std.specs.Prelude.{◌≡◌, ◌≢◌, ◌<◌, ◌*◌, ◌%◌, ℕ, ◌↔◌, IsTrue, bit_xor, refl};
 ghost use Rattle.std.proofs.Common.{lit<, rules};
 ghost use Rattle.bf_base.specs.Powers.{sum_of, product_of};
-ghost use Rattle.bf_base.specs.Tower.{tower_mul};
+ghost use Rattle.bf_base.specs.Tower.{root, tower_mul};
 
 use crate::traits::{
     Field, PrimeCharacteristicRing, Represented, TowerLevel, product_of_items, sum_of_items,
@@ -267,6 +267,8 @@ impl Field for Gf2 {
 }
 
 impl TowerLevel for Gf2 {
+    ghost use Rattle.bf_base.specs.BitRing.{root_zero-lt};
+
     type Repr = u8;
 
     const LOG_BITS: usize = 0;
@@ -275,7 +277,7 @@ impl TowerLevel for Gf2 {
 
     ghost number = { λ n. n };
 
-    ghost alpha = { 1 };
+    ghost alpha = { root 0 };
 
     fn from_repr(bits: u8) -> Gf2 {
         Gf2 { repr: bits % 2 }
@@ -291,5 +293,5 @@ impl TowerLevel for Gf2 {
 
     ghost bits_law = { refl };
 
-    ghost alpha_law = { lit< tt };
+    ghost alpha_law = { root_zero-lt };
 }

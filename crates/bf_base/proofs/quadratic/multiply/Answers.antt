@@ -7,9 +7,9 @@ returns g c =
     let laws = g.met.F.Represented in
     let ring = with_one g.met.F.Field.unit_law field.ring_law in
     let product =
-      halves-product field.width field.product ring g.F.TowerLevel.alpha (field.repr c.args.a.low)
-      (field.repr c.args.a.high) (field.range_law c.args.a.low) (field.range_law c.args.a.high) (field.repr c.args.b.low)
-      (field.repr c.args.b.high) (field.range_law c.args.b.low) (field.range_law c.args.b.high) in
+    halves-product field.width field.product ring g.F.TowerLevel.alpha (field.repr c.args.a.low)
+    (field.repr c.args.a.high) (field.range_law c.args.a.low) (field.range_law c.args.a.high) (field.repr c.args.b.low)
+    (field.repr c.args.b.high) (field.range_law c.args.b.low) (field.range_law c.args.b.high) in
     cc (
       product,
       laws.mul_law c.args.a.low c.args.b.low c.mul-low.result c.mul-low.ensures,
@@ -21,5 +21,5 @@ returns g c =
       laws.add_law _ _ c.add-4.result c.add-4.ensures,
       laws.add_law _ _ c.add-5.result c.add-5.ensures,
       c.mul_alpha.ensures,
-      laws.add_law _ _ c.add-6.result c.add-6.ensures
+      laws.add_law _ _ c.add-6.result c.add-6.ensures,
     )

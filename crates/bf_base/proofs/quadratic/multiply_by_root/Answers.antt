@@ -7,6 +7,6 @@ returns g c =
     let laws = g.met.F.Represented in
     let ring = with_one g.met.F.Field.unit_law field.ring_law in
     let by_root =
-      halves-root field.width field.product ring g.F.TowerLevel.alpha (field.repr c.args.a.low)
-      (field.repr c.args.a.high) (field.range_law c.args.a.low) (field.range_law c.args.a.high) g.met.F.Field.wide_law in
+    halves-root field.width field.product ring g.F.TowerLevel.alpha (field.repr c.args.a.low)
+    (field.repr c.args.a.high) (field.range_law c.args.a.low) (field.range_law c.args.a.high) g.met.F.Field.wide_law in
     cc (by_root, c.mul_alpha.ensures, laws.add_law _ _ c.add.result c.add.ensures)

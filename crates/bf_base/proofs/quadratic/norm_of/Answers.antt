@@ -7,8 +7,8 @@ returns g c =
     let laws = g.met.F.Represented in
     let ring = with_one g.met.F.Field.unit_law field.ring_law in
     let norm =
-      halves-norm field.width field.product ring g.F.TowerLevel.alpha (field.repr c.args.a.low)
-      (field.repr c.args.a.high) (field.range_law c.args.a.low) (field.range_law c.args.a.high) in
+    halves-norm field.width field.product ring g.F.TowerLevel.alpha (field.repr c.args.a.low)
+    (field.repr c.args.a.high) (field.range_law c.args.a.low) (field.range_law c.args.a.high) in
     cc (
       norm,
       c.square.ensures,
@@ -16,5 +16,5 @@ returns g c =
       c.mul_alpha.ensures,
       laws.add_law _ _ c.add.result c.add.ensures,
       c.square-2.ensures,
-      laws.add_law _ _ c.add-2.result c.add-2.ensures
+      laws.add_law _ _ c.add-2.result c.add-2.ensures,
     )

@@ -7,12 +7,12 @@ returns g c =
     let laws = g.met.F.Represented in
     let ring = with_one g.met.F.Field.unit_law field.ring_law in
     let square =
-      halves-square field.width field.product ring g.F.TowerLevel.alpha (field.repr c.args.a.low)
-      (field.repr c.args.a.high) (field.range_law c.args.a.low) (field.range_law c.args.a.high) in
+    halves-square field.width field.product ring g.F.TowerLevel.alpha (field.repr c.args.a.low)
+    (field.repr c.args.a.high) (field.range_law c.args.a.low) (field.range_law c.args.a.high) in
     cc (
       square,
       c.square-high.ensures,
       c.square.ensures,
       laws.add_law _ _ c.add.result c.add.ensures,
-      c.mul_alpha.ensures
+      c.mul_alpha.ensures,
     )

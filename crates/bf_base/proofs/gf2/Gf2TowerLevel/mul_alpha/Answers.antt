@@ -1,7 +1,6 @@
-use Rattle.std.proofs.Common.{sym, ◌∙◌}
-use native.Mathlib.Nat.{mod-eq_of_lt}
-use Rattle.bf_base.specs.BitRing.{bits_ring}
+use Rattle.std.proofs.Common.{sym}
+use Rattle.bf_base.specs.BitRing.{root_zero-times}
 use Rattle.bf_base.proofs.gf2.Gf2TowerLevel.mul_alpha.Goals as goal
 
 pub returns : goal.returns
-returns c = sym (bits_ring.one c.args.self.repr ∙ mod-eq_of_lt c.args.self.in_range)
+returns c = sym (root_zero-times c.args.self.repr c.args.self.in_range)

@@ -1,0 +1,2 @@
+pub mod BinaryField64
+pub mod BinaryField128

@@ -1,0 +1,2 @@
+pub mod BinaryField16
+pub mod BinaryField32

@@ -1,0 +1,342 @@
+// GF(2^4), level 2 of the tower: the quadratic extension of BinaryField2 by the root X of X² + t X + 1, where t is the root
+// that BinaryField2 adjoins. Bits 2 and up of a representation are the part that X multiplies.
+ghost use Rattle.std.specs.Prelude.{◌≡◌, ◌≢◌, ◌<◌, ◌^◌, ◌%◌, ℕ, ◌↔◌, IsTrue, bit_xor, refl};
+ghost use Rattle.std.proofs.Common.{lit<, rules};
+ghost use Rattle.bf_base.specs.Powers.{sum_of, product_of};
+ghost use Rattle.bf_base.specs.Tower.{root, tower_mul};
+
+use crate::level2::BinaryField2;
+use bf_base::Gf2;
+use bf_base::quadratic::{self, Halves};
+use bf_base::traits::{
+    Field, PrimeCharacteristicRing, Represented, TowerLevel, product_of_items, sum_of_items,
+};
+use std::iter::{Product, Sum};
+use std::ops::{Add, AddAssign, Div, DivAssign, Mul, MulAssign, Neg, Sub, SubAssign};
+
+/// An element of GF(2^4), level 2 of the tower. Its representation is `low + high * 2^2` for the element
+/// `low + high X`, where X² = t X + 1 and t is the root that `BinaryField2` adjoins.
+#[derive(Clone, Copy, Debug, PartialEq, Eq, PartialOrd, Ord, Hash)]
+pub struct BinaryField4 {
+    repr: u8,
+    ghost in_range: { repr < 16 },
+}
+
+impl BinaryField4 {
+    ghost use Rattle.bf_tower8.specs.BinaryField4.{repr_of};
+    ghost use Rattle.bf_tower8.specs.BinaryField2.{repr_of as below_of};
+    ghost use Rattle.bf_base.specs.Quadratic.{pair};
+
+    // The halves of the element.
+    fn halves(self) -> Halves<BinaryField2>
+        ensures { pair 2 (below_of result.low) (below_of result.high) ≡ repr_of self }
+    {
+        Halves {
+            low: BinaryField2::from_repr(self.repr),
+            high: BinaryField2::from_repr(self.repr / 4),
+        }
+    }
+
+    // The element of two halves.
+    fn from_halves(halves: Halves<BinaryField2>) -> BinaryField4
+        ensures { repr_of result ≡ pair 2 (below_of halves.low) (below_of halves.high) }
+    {
+        BinaryField4 {
+            repr: halves.high.to_repr() * 4 + halves.low.to_repr(),
+        }
+    }
+
+    // The inverse of an element that is not 0.
+    fn invert(self) -> BinaryField4
+        requires { repr_of self ≢ 0 }
+        ensures { tower_mul 2 (repr_of self) (repr_of result) ≡ 1 }
+    {
+        BinaryField4::from_halves(quadratic::inverse(self.halves()))
+    }
+}
+
+impl Add<BinaryField4> for BinaryField4 {
+    type Output = BinaryField4;
+
+    ghost add_gives = { λ x y r. r.repr ≡ bit_xor x.repr y.repr };
+
+    fn add(self, other: BinaryField4) -> BinaryField4 {
+        BinaryField4 {
+            repr: self.repr ^ other.repr,
+        }
+    }
+}
+
+impl AddAssign<BinaryField4> for BinaryField4 {
+    ghost add_assign_gives = { λ x y r. r.repr ≡ bit_xor x.repr y.repr };
+
+    fn add_assign(&mut self, other: BinaryField4) {
+        *self = *self + other;
+    }
+}
+
+impl Sub<BinaryField4> for BinaryField4 {
+    type Output = BinaryField4;
+
+    ghost sub_gives = { λ x y r. r.repr ≡ bit_xor x.repr y.repr };
+
+    fn sub(self, other: BinaryField4) -> BinaryField4 {
+        self + other
+    }
+}
+
+impl SubAssign<BinaryField4> for BinaryField4 {
+    ghost sub_assign_gives = { λ x y r. r.repr ≡ bit_xor x.repr y.repr };
+
+    fn sub_assign(&mut self, other: BinaryField4) {
+        *self = *self + other;
+    }
+}
+
+impl Neg for BinaryField4 {
+    type Output = BinaryField4;
+
+    ghost neg_gives = { λ x r. r.repr ≡ x.repr };
+
+    fn neg(self) -> BinaryField4 {
+        self
+    }
+}
+
+impl Mul<BinaryField4> for BinaryField4 {
+    type Output = BinaryField4;
+
+    ghost mul_gives = { λ x y r. r.repr ≡ tower_mul 2 x.repr y.repr };
+
+    fn mul(self, other: BinaryField4) -> BinaryField4 {
+        BinaryField4::from_halves(quadratic::multiply(self.halves(), other.halves()))
+    }
+}
+
+impl MulAssign<BinaryField4> for BinaryField4 {
+    ghost mul_assign_gives = { λ x y r. r.repr ≡ tower_mul 2 x.repr y.repr };
+
+    fn mul_assign(&mut self, other: BinaryField4) {
+        *self = *self * other;
+    }
+}
+
+impl Div<BinaryField4> for BinaryField4 {
+    type Output = BinaryField4;
+
+    ghost can_div = { λ x y. y.repr ≢ 0 };
+
+    ghost div_gives = { λ x y r. tower_mul 2 r.repr y.repr ≡ x.repr };
+
+    fn div(self, other: BinaryField4) -> BinaryField4 {
+        self * other.invert()
+    }
+}
+
+impl DivAssign<BinaryField4> for BinaryField4 {
+    ghost can_div_assign = { λ x y. y.repr ≢ 0 };
+
+    ghost div_assign_gives = { λ x y r. tower_mul 2 r.repr y.repr ≡ x.repr };
+
+    fn div_assign(&mut self, other: BinaryField4) {
+        *self = *self / other;
+    }
+}
+
+impl Sum<BinaryField4> for BinaryField4 {
+    ghost sum_gives = { λ xs r. r.repr ≡ sum_of (λ x. x.repr) xs };
+
+    fn sum<I: Iterator<Item = BinaryField4>>(iter: I) -> BinaryField4 {
+        sum_of_items(iter, BinaryField4 { repr: 0 })
+    }
+}
+
+impl Product<BinaryField4> for BinaryField4 {
+    ghost product_gives = { λ xs r. r.repr ≡ product_of 1 (tower_mul 2) (λ x. x.repr) xs };
+
+    fn product<I: Iterator<Item = BinaryField4>>(iter: I) -> BinaryField4 {
+        product_of_items(iter, BinaryField4 { repr: 1 })
+    }
+}
+
+impl Default for BinaryField4 {
+    ghost is_default = { λ x. x.repr ≡ 0 };
+
+    fn default() -> BinaryField4 {
+        BinaryField4 { repr: 0 }
+    }
+}
+
+impl From<Gf2> for BinaryField4 {
+    ghost use Rattle.bf_base.specs.Bit.{repr_of as bit_of};
+
+    ghost from_gives = { λ x r. r.repr ≡ bit_of x };
+
+    fn from(bit: Gf2) -> BinaryField4 {
+        BinaryField4 {
+            repr: bit.to_repr(),
+        }
+    }
+}
+
+impl Represented for BinaryField4 {
+    ghost use Rattle.bf_tower8.specs.BinaryField4.{repr_of, same_repr};
+    ghost use Rattle.bf_base.proofs.TowerRing.{tower_ring};
+
+    ghost width = { 4 };
+
+    ghost unit = { 1 };
+
+    ghost product = { tower_mul 2 };
+
+    ghost repr = { repr_of };
+
+    ghost ring_law = { tower_ring 2 };
+
+    ghost unit_fits = { lit< tt };
+
+    ghost range_law = { λ x. x.in_range };
+
+    ghost same_law = { same_repr };
+
+    ghost can_add_law = { λ x y. tt };
+
+    ghost add_law = { λ x y r is. is };
+
+    ghost can_mul_law = { λ x y. tt };
+
+    ghost mul_law = { λ x y r is. is };
+}
+
+impl PrimeCharacteristicRing for BinaryField4 {
+    ghost use Rattle.bf_base.specs.Bit.{repr_of as bit_of};
+    ghost use Rattle.bf_base.proofs.TowerLaws.{is_times_one};
+
+    type PrimeSubfield = Gf2;
+
+    const ZERO: BinaryField4 = BinaryField4 { repr: 0 };
+
+    ghost ZERO = { record { repr = 0; in_range = lit< tt } };
+
+    const ONE: BinaryField4 = BinaryField4 { repr: 1 };
+
+    ghost ONE = { record { repr = 1; in_range = lit< tt } };
+
+    const TWO: BinaryField4 = BinaryField4 { repr: 0 };
+
+    ghost TWO = { record { repr = 0; in_range = lit< tt } };
+
+    const NEG_ONE: BinaryField4 = BinaryField4 { repr: 1 };
+
+    ghost NEG_ONE = { record { repr = 1; in_range = lit< tt } };
+
+    fn square(&self) -> BinaryField4 {
+        BinaryField4::from_halves(quadratic::square(self.halves()))
+    }
+
+    ghost zero_law = { refl };
+
+    ghost one_law = { refl };
+
+    ghost two_law = { refl };
+
+    ghost neg_one_law = { refl };
+
+    ghost eq_law = { Prim.search rules };
+
+    ghost default_law = { λ r is. is };
+
+    ghost from_law = { λ x r is. is_times_one r.repr (bit_of x) is };
+
+    ghost can_add_assign_law = { λ x y. tt };
+
+    ghost add_assign_law = { λ x y r is. is };
+
+    ghost can_sub_law = { λ x y. tt };
+
+    ghost sub_law = { λ x y r is. is };
+
+    ghost can_sub_assign_law = { λ x y. tt };
+
+    ghost sub_assign_law = { λ x y r is. is };
+
+    ghost can_mul_assign_law = { λ x y. tt };
+
+    ghost mul_assign_law = { λ x y r is. is };
+
+    ghost can_neg_law = { λ x. tt };
+
+    ghost neg_law = { λ x r is. is };
+
+    ghost can_sum_law = { λ xs. tt };
+
+    ghost sum_law = { λ xs r is. is };
+
+    ghost can_product_law = { λ xs. tt };
+
+    ghost product_law = { λ xs r is. is };
+}
+
+impl Field for BinaryField4 {
+    ghost use Rattle.bf_base.proofs.TowerLaws.{tower_frobenius};
+
+    fn bits() -> usize {
+        4
+    }
+
+    fn try_inverse(&self) -> Option<BinaryField4> {
+        if self.repr == 0 {
+            None
+        } else {
+            Some(self.invert())
+        }
+    }
+
+    fn interpolation_node(i: usize) -> BinaryField4 {
+        BinaryField4 { repr: i as u8 }
+    }
+
+    ghost wide_law = { lit< tt };
+
+    ghost unit_law = { refl };
+
+    ghost can_div_law = { λ x y divides. divides };
+
+    ghost div_law = { λ x y r is. is };
+
+    ghost can_div_assign_law = { λ x y divides. divides };
+
+    ghost div_assign_law = { λ x y r is. is };
+
+    ghost frobenius_law = { λ x. tower_frobenius 2 x.repr x.in_range };
+}
+
+impl TowerLevel for BinaryField4 {
+    ghost use Rattle.bf_base.proofs.TowerTraces.{root-lt};
+
+    type Repr = u8;
+
+    const LOG_BITS: usize = 2;
+
+    ghost LOG_BITS = { 2 };
+
+    ghost number = { λ n. n };
+
+    ghost alpha = { root 2 };
+
+    fn from_repr(bits: u8) -> BinaryField4 {
+        BinaryField4 { repr: bits % 16 }
+    }
+
+    fn to_repr(self) -> u8 {
+        self.repr
+    }
+
+    fn mul_alpha(self) -> BinaryField4 {
+        BinaryField4::from_halves(quadratic::multiply_by_root(self.halves()))
+    }
+
+    ghost bits_law = { refl };
+
+    ghost alpha_law = { root-lt 2 };
+}
