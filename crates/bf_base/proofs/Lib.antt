@@ -1,3 +1,4 @@
+pub mod DotLemmas
 pub mod FieldLemmas
 pub mod HalvesLemmas
 pub mod Norms

@@ -1,5 +1,5 @@
 -- Powers, sums and products in a ring of numbers, under its product `times`, with the one `unit`.
-use Rattle.std.specs.Prelude.{◌≡◌, ℕ, zero, suc, ℤ, pos, negsuc, ◌%◌, ◌^◌, ◌<◌, List, bit_xor, fold}
+use Rattle.std.specs.Prelude.{◌≡◌, ℕ, zero, suc, ℤ, pos, negsuc, ◌%◌, ◌^◌, ◌<◌, List, [], ◌∷◌, bit_xor, fold}
 use Rattle.bf_base.specs.Ring.{IsRing}
 
 -- a ^ n: the product of n factors a, and the one for n = 0
@@ -24,6 +24,12 @@ sum_of repr xs = fold (λ sum x. bit_xor sum (repr x)) 0 xs
 -- the product of the elements of a list, as a number
 abbrev pub product_of : {A : Type 0} → ℕ → (ℕ → ℕ → ℕ) → (A → ℕ) → List A → ℕ
 product_of unit times repr xs = fold (λ product x. times product (repr x)) unit xs
+
+-- the sum of the products of the elements of two lists, place by place, as a number
+abbrev pub dot_of : {A : Type 0} → (ℕ → ℕ → ℕ) → (A → ℕ) → List A → List A → ℕ
+dot_of times repr [] ys = 0
+dot_of times repr (x ∷ xs) [] = 0
+dot_of times repr (x ∷ xs) (y ∷ ys) = bit_xor (times (repr x) (repr y)) (dot_of times repr xs ys)
 
 -- 0 for an even integer and 1 for an odd one
 abbrev pub parity : ℤ → ℕ

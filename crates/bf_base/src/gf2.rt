@@ -5,7 +5,7 @@ ghost use Rattle.bf_base.specs.Powers.{sum_of, product_of};
 ghost use Rattle.bf_base.specs.Tower.{root, tower_mul};
 
 use crate::traits::{
-    Field, PrimeCharacteristicRing, Represented, TowerLevel, product_of_items, sum_of_items,
+    Field, PrimeCharacteristicRing, Represented, Sealed, TowerLevel, product_of_items, sum_of_items,
 };
 use std::iter::{Product, Sum};
 use std::ops::{Add, AddAssign, Div, DivAssign, Mul, MulAssign, Neg, Sub, SubAssign};
@@ -19,6 +19,13 @@ pub struct Gf2 {
 
 impl Gf2 {
     ghost use Rattle.bf_base.specs.Bit.{repr_of};
+
+    /// The product, by its definition: what `*` gives.
+    pub fn reference_mul(self, other: Gf2) -> Gf2
+        ensures { repr_of result ≡ tower_mul 0 (repr_of self) (repr_of other) }
+    {
+        self * other
+    }
 
     // Whether the element is 1; the default bodies of the rings' trait ask it.
     pub(crate) fn is_set(self) -> bool
@@ -265,6 +272,8 @@ impl Field for Gf2 {
 
     ghost frobenius_law = { λ x. bit_squared x.repr x.in_range };
 }
+
+impl Sealed for Gf2 {}
 
 impl TowerLevel for Gf2 {
     ghost use Rattle.bf_base.specs.BitRing.{root_zero-lt};

@@ -7,5 +7,5 @@ mod tower_level;
 
 pub use crate::traits::field::Field;
 pub use crate::traits::represented::{Represented, product_of_items, sum_of_items};
-pub use crate::traits::ring::PrimeCharacteristicRing;
-pub use crate::traits::tower_level::TowerLevel;
+pub use crate::traits::ring::{DotProduct, PrimeCharacteristicRing};
+pub use crate::traits::tower_level::{Sealed, TowerLevel};

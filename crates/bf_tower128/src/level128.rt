@@ -5,12 +5,12 @@ ghost use Rattle.std.proofs.Common.{lit<, rules};
 ghost use Rattle.bf_base.specs.Powers.{sum_of, product_of};
 ghost use Rattle.bf_base.specs.Tower.{root, tower_mul};
 
-use crate::level64::BinaryField64;
-use bf_base::Gf2;
 use bf_base::quadratic::{self, Halves};
 use bf_base::traits::{
-    Field, PrimeCharacteristicRing, Represented, TowerLevel, product_of_items, sum_of_items,
+    Field, PrimeCharacteristicRing, Represented, Sealed, TowerLevel, product_of_items, sum_of_items,
 };
+use bf_base::Gf2;
+use crate::level64::BinaryField64;
 use std::iter::{Product, Sum};
 use std::ops::{Add, AddAssign, Div, DivAssign, Mul, MulAssign, Neg, Sub, SubAssign};
 
@@ -27,6 +27,13 @@ impl BinaryField128 {
     ghost use Rattle.bf_tower128.specs.BinaryField64.{repr_of as below_of};
     ghost use Rattle.bf_base.specs.Quadratic.{pair};
 
+    /// The product, by three products of the level below: what `*` gives.
+    pub fn reference_mul(self, other: BinaryField128) -> BinaryField128
+        ensures { repr_of result ≡ tower_mul 7 (repr_of self) (repr_of other) }
+    {
+        BinaryField128::from_halves(quadratic::multiply(self.halves(), other.halves()))
+    }
+
     // The halves of the element.
     fn halves(self) -> Halves<BinaryField64>
         ensures { pair 64 (below_of result.low) (below_of result.high) ≡ repr_of self }
@@ -42,8 +49,7 @@ impl BinaryField128 {
         ensures { repr_of result ≡ pair 64 (below_of halves.low) (below_of halves.high) }
     {
         BinaryField128 {
-            repr: u128::from(halves.high.to_repr()) * 0x10000000000000000
-                + u128::from(halves.low.to_repr()),
+            repr: u128::from(halves.high.to_repr()) * 0x10000000000000000 + u128::from(halves.low.to_repr()),
         }
     }
 
@@ -110,7 +116,7 @@ impl Mul<BinaryField128> for BinaryField128 {
     ghost mul_gives = { λ x y r. r.repr ≡ tower_mul 7 x.repr y.repr };
 
     fn mul(self, other: BinaryField128) -> BinaryField128 {
-        BinaryField128::from_halves(quadratic::multiply(self.halves(), other.halves()))
+        self.reference_mul(other)
     }
 }
 
@@ -286,17 +292,11 @@ impl Field for BinaryField128 {
     }
 
     fn try_inverse(&self) -> Option<BinaryField128> {
-        if self.repr == 0 {
-            None
-        } else {
-            Some(self.invert())
-        }
+        if self.repr == 0 { None } else { Some(self.invert()) }
     }
 
     fn interpolation_node(i: usize) -> BinaryField128 {
-        BinaryField128 {
-            repr: u128::from(i as u64),
-        }
+        BinaryField128 { repr: u128::from(i as u64) }
     }
 
     ghost wide_law = { lit< tt };
@@ -313,6 +313,8 @@ impl Field for BinaryField128 {
 
     ghost frobenius_law = { λ x. tower_frobenius 7 x.repr x.in_range };
 }
+
+impl Sealed for BinaryField128 {}
 
 impl TowerLevel for BinaryField128 {
     ghost use Rattle.bf_base.proofs.TowerTraces.{root-lt};

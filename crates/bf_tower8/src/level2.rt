@@ -5,11 +5,12 @@ ghost use Rattle.std.proofs.Common.{lit<, rules};
 ghost use Rattle.bf_base.specs.Powers.{sum_of, product_of};
 ghost use Rattle.bf_base.specs.Tower.{root, tower_mul};
 
-use bf_base::Gf2;
 use bf_base::quadratic::{self, Halves};
 use bf_base::traits::{
-    Field, PrimeCharacteristicRing, Represented, TowerLevel, product_of_items, sum_of_items,
+    Field, PrimeCharacteristicRing, Represented, Sealed, TowerLevel, product_of_items, sum_of_items,
 };
+use bf_base::Gf2;
+
 use std::iter::{Product, Sum};
 use std::ops::{Add, AddAssign, Div, DivAssign, Mul, MulAssign, Neg, Sub, SubAssign};
 
@@ -25,6 +26,13 @@ impl BinaryField2 {
     ghost use Rattle.bf_tower8.specs.BinaryField2.{repr_of};
     ghost use Rattle.bf_base.specs.Bit.{repr_of as below_of};
     ghost use Rattle.bf_base.specs.Quadratic.{pair};
+
+    /// The product, by three products of the level below: what `*` gives.
+    pub fn reference_mul(self, other: BinaryField2) -> BinaryField2
+        ensures { repr_of result ≡ tower_mul 1 (repr_of self) (repr_of other) }
+    {
+        BinaryField2::from_halves(quadratic::multiply(self.halves(), other.halves()))
+    }
 
     // The halves of the element.
     fn halves(self) -> Halves<Gf2>
@@ -108,7 +116,7 @@ impl Mul<BinaryField2> for BinaryField2 {
     ghost mul_gives = { λ x y r. r.repr ≡ tower_mul 1 x.repr y.repr };
 
     fn mul(self, other: BinaryField2) -> BinaryField2 {
-        BinaryField2::from_halves(quadratic::multiply(self.halves(), other.halves()))
+        self.reference_mul(other)
     }
 }
 
@@ -284,11 +292,7 @@ impl Field for BinaryField2 {
     }
 
     fn try_inverse(&self) -> Option<BinaryField2> {
-        if self.repr == 0 {
-            None
-        } else {
-            Some(self.invert())
-        }
+        if self.repr == 0 { None } else { Some(self.invert()) }
     }
 
     fn interpolation_node(i: usize) -> BinaryField2 {
@@ -309,6 +313,8 @@ impl Field for BinaryField2 {
 
     ghost frobenius_law = { λ x. tower_frobenius 1 x.repr x.in_range };
 }
+
+impl Sealed for BinaryField2 {}
 
 impl TowerLevel for BinaryField2 {
     ghost use Rattle.bf_base.proofs.TowerTraces.{root-lt};

@@ -1,8 +1,8 @@
 // Rings of characteristic two.
-ghost use Rattle.std.specs.Prelude.{◌≡◌, ◌↔◌, ◌*◌, ◌%◌, ◌==◌, ℕ, IsTrue, IfOk, bit_xor, replicate, List, if◌then◌else◌};
+ghost use Rattle.std.specs.Prelude.{◌≡◌, ◌↔◌, ◌*◌, ◌%◌, ◌==◌, ℕ, length, IsTrue, IfOk, bit_xor, replicate, List, if◌then◌else◌};
 ghost use Rattle.bf_base.specs.declared.gf2.Gf2.{Gf2};
 ghost use Rattle.bf_base.specs.Bit.{repr_of};
-ghost use Rattle.bf_base.specs.Powers.{power, squared, sum_of, product_of, parity};
+ghost use Rattle.bf_base.specs.Powers.{power, squared, sum_of, product_of, dot_of, parity};
 
 use crate::gf2::Gf2;
 use crate::traits::represented::Represented;
@@ -202,6 +202,18 @@ pub trait PrimeCharacteristicRing: Represented
         value
     }
 
+    /// The sum of the products of the elements of both slices, place by place; of empty slices it is 0.
+    fn dot_product_of_slices(left: &[Self], right: &[Self]) -> Self
+        requires { length left.now ≡ length right.now }
+        ensures { Self.repr result ≡ dot_of Self.product Self.repr left.now right.now }
+    {
+        let mut sum = Self::ZERO;
+        for place in 0..left.len() {
+            sum = sum + left[place] * right[place];
+        }
+        sum
+    }
+
     /// A vector of `len` zeros. It fails only where the allocator refuses.
     fn zero_vec<A: Allocator>(alloc: A, len: usize) -> Result<Vec<Self, A>, AllocError>
         ensures { IfOk result (λ zeros. zeros.items ≡ replicate len ZERO) }
@@ -254,4 +266,17 @@ pub trait PrimeCharacteristicRing: Represented
     ghost can_product_law: { (xs : List Self) → Self.can_product xs };
 
     ghost product_law: { (xs : List Self) (r : Self) → Self.product_gives xs r → Self.repr r ≡ product_of Self.unit Self.product Self.repr xs };
+}
+
+/// The dot product of arrays, which every ring has.
+pub trait DotProduct<const N: usize>: PrimeCharacteristicRing {
+    /// The sum of the products of the elements of both arrays, place by place.
+    fn dot_product(left: &[Self; N], right: &[Self; N]) -> Self
+        ensures { Self.repr result ≡ dot_of Self.product Self.repr left.now right.now };
+}
+
+impl<R: PrimeCharacteristicRing, const N: usize> DotProduct<N> for R {
+    fn dot_product(left: &[R; N], right: &[R; N]) -> R {
+        R::dot_product_of_slices(left, right)
+    }
 }

@@ -3,8 +3,11 @@ ghost use Rattle.std.specs.Prelude.{◌≡◌, ◌%◌, ◌^◌, ◌<◌, ℕ};
 
 use crate::traits::field::Field;
 
+/// The marker that seals `TowerLevel`: the crate that users take does not export it.
+pub trait Sealed {}
+
 /// A field of 2 to the power of `LOG_BITS` bits. The trait is sealed: its fields are those of this library.
-pub trait TowerLevel: Field {
+pub trait TowerLevel: Field + Sealed {
     /// The unsigned number that stores an element.
     type Repr;
 

@@ -1,5 +1,5 @@
 use Rattle.bf_base.proofs.TowerLaws.{product_by_halves}
-use Rattle.bf_tower128.proofs.level128.BinaryField128Mul.mul.Goals as goal
+use Rattle.bf_tower128.proofs.level128.BinaryField128.reference_mul.Goals as goal
 
 pub returns : goal.returns
 returns c =

@@ -1,5 +1,5 @@
 use Rattle.bf_base.proofs.TowerLaws.{product_by_halves}
-use Rattle.bf_tower8.proofs.level2.BinaryField2Mul.mul.Goals as goal
+use Rattle.bf_tower8.proofs.level2.BinaryField2.reference_mul.Goals as goal
 
 pub returns : goal.returns
 returns c =
