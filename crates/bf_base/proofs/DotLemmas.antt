@@ -8,7 +8,6 @@ use lib.Bits.{xor_assoc, xor_zero_r}
 use Rattle.bf_base.specs.Powers.{dot_of}
 
 module _ {A : Type 0} (times : ℕ → ℕ → ℕ) (repr : A → ℕ) where
-
   pub dot_of-nil : (ys : List A) → dot_of times repr [] ys ≡ 0
   dot_of-nil ys = refl
 

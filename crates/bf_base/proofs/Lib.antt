@@ -1,3 +1,7 @@
+pub mod AdditiveMaps
+pub mod CarrylessFacts
+pub mod CarrylessPairs
+pub mod CarrylessProduct
 pub mod DotLemmas
 pub mod FieldLemmas
 pub mod HalvesLemmas
@@ -6,6 +10,8 @@ pub mod PowerLemmas
 pub mod QuadraticProducts
 pub mod QuadraticRing
 pub mod QuadraticTraces
+pub mod RemainderLaws
+pub mod RemainderRing
 pub mod RingLemmas
 mod TowerFacts
 pub mod TowerFrobenius

@@ -1,10 +1,12 @@
 pub mod Bit
 pub mod BitRing
+pub mod Carryless
 pub mod Field
 pub mod Halves
 pub mod Norm
 pub mod Powers
 pub mod Quadratic
+pub mod Remainder
 pub mod Ring
 pub mod Tower
 pub mod TowerField

@@ -1,4 +1,6 @@
 // Laws of the definitions, as contracts of functions that compute nothing.
+ghost use Rattle.bf_base.specs.Carryless.{ConvCountsPairs, ConvIsProduct};
+ghost use Rattle.bf_base.specs.Remainder.{MulModIsRemainder, MulModIsRing, RemIsRemainder, RemainderIsUnique};
 ghost use Rattle.bf_base.specs.Tower.{TowerIsRing};
 ghost use Rattle.bf_base.specs.Powers.{SquaringsArePowers};
 ghost use Rattle.bf_base.specs.TowerField.{TracesAreOne, RootInverse, NoLevelHasARoot, NonzeroHasInverse, SquaringsReturn};
@@ -25,4 +27,27 @@ pub fn frobenius_returns()
 /// States that n squarings raise an element of a ring to the power 2^n.
 pub fn squarings_are_powers()
     ensures { SquaringsArePowers }
+{}
+
+/// States that each bit of a carryless product is the parity of the number of pairs of bits that meet there.
+pub fn carryless_counts_pairs()
+    ensures { ConvCountsPairs }
+{}
+
+/// States that the carryless product is that of a commutative ring, in which degrees add.
+pub fn carryless_is_product()
+    ensures { ConvIsProduct }
+{}
+
+/// States that the remainder modulo a polynomial is one, and that there is no other.
+pub fn remainder_is_unique()
+    ensures is_remainder { RemIsRemainder }
+    ensures is_unique { RemainderIsUnique }
+{}
+
+/// States that the product modulo any polynomial is the remainder of the carryless product, and is the product of a
+/// commutative ring of characteristic two.
+pub fn mul_mod_is_ring()
+    ensures is_remainder { MulModIsRemainder }
+    ensures is_ring { MulModIsRing }
 {}

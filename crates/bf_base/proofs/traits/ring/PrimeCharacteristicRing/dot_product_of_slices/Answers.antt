@@ -19,11 +19,11 @@ loop-place-preserved g c =
     let within : c.loop-place.place < length c.args.left.now = omega arith in
     let within_right : c.loop-place.place < length c.args.right.now = omega arith in
     let splits =
-      dot_of-drop ring.product ring.repr c.args.left.now c.args.right.now c.loop-place.place x y within within_right
-      c.index-left-place.is c.index-right-place.is in
+    dot_of-drop ring.product ring.repr c.args.left.now c.args.right.now c.loop-place.place x y within within_right
+    c.index-left-place.is c.index-right-place.is in
     let added =
-      laws.add_law c.loop-place.sum c.mul.result c.add-sum.result c.add-sum.ensures
-      ∙ ap (bit_xor (ring.repr c.loop-place.sum)) (laws.mul_law x y c.mul.result c.mul.ensures) in
+    laws.add_law c.loop-place.sum c.mul.result c.add-sum.result c.add-sum.ensures
+    ∙ ap (bit_xor (ring.repr c.loop-place.sum)) (laws.mul_law x y c.mul.result c.mul.ensures) in
     dot_step ring.product ring.repr _ _ _ _ _ _ c.loop-place.invariant splits added
 
 pub returns : goal.returns

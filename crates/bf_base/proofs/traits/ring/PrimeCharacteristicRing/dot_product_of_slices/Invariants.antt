@@ -7,5 +7,5 @@ use Rattle.bf_base.proofs.traits.ring.PrimeCharacteristicRing.dot_product_of_sli
 abbrev pub invariant-loop-place : goal.invariant-loop-place
 invariant-loop-place g l =
     bit_xor (g.Self.Represented.repr l.sum)
-      (dot_of g.Self.Represented.product g.Self.Represented.repr (drop l.place l.left) (drop l.place l.right))
+    (dot_of g.Self.Represented.product g.Self.Represented.repr (drop l.place l.left) (drop l.place l.right))
     ≡ dot_of g.Self.Represented.product g.Self.Represented.repr l.left l.right

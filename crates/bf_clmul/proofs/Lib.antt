@@ -1,0 +1,9 @@
+pub mod Digits
+pub mod ClassMasks
+pub mod CarryIsolation
+pub mod Classes
+pub mod KaratsubaLemmas
+pub mod TailFolds
+pub mod Squares
+pub mod ModularProducts
+pub mod StandardFacts

@@ -1,0 +1,123 @@
+-- A carryless square is the word with its bits spread, since squaring keeps sums; and squares by halves.
+use Rattle.std.proofs.Common.{◌≡◌, ℕ, ◌+◌, ◌-◌, ◌*◌, ◌/◌, ◌%◌, ◌^◌, ◌<◌, true, refl, sym, ◌∙◌, ap, ap₂, lit≤}
+use Rattle.std.specs.Prelude.{bit_xor, bit_and}
+use Rattle.std.proofs.lemmas.Nat.{xor_comm, xor_mod, shl_whole}
+use native.Mathlib.Nat.{mul_assoc}
+use lib.Bits.{xor_assoc, xor_shifted}
+use Rattle.bf_base.specs.Carryless.{conv, conv_in}
+use Rattle.bf_base.proofs.RingLemmas.{xor_cancel}
+use Rattle.bf_base.proofs.CarrylessProduct.{xor_exchange, xor_shl, conv_comm, conv_sum, sum_conv, conv_shl, shl_conv}
+use Rattle.bf_base.proofs.AdditiveMaps.{KeepsSums, maps_agree, agree_on_powers, agree_on_powers-true}
+use Rattle.bf_clmul.specs.Spread.{spread_step}
+use Rattle.bf_clmul.proofs.Classes.{xor_and}
+use Rattle.bf_clmul.proofs.KaratsubaLemmas.{masked_split}
+
+-- ---- a square keeps sums
+
+pub square_sum : (a b : ℕ) → conv (bit_xor a b) (bit_xor a b) ≡ bit_xor (conv a a) (conv b b)
+square_sum a b =
+    sum_conv a b (bit_xor a b)
+    ∙ ap₂ bit_xor (conv_sum a a b) (conv_sum b a b ∙ ap (λ (z : ℕ). bit_xor z (conv b b)) (conv_comm b a))
+    ∙ cancelled (conv a a) (conv a b) (conv b b)
+  where
+    cancelled : (p q r : ℕ) → bit_xor (bit_xor p q) (bit_xor q r) ≡ bit_xor p r
+    cancelled p q r = xor_assoc p q (bit_xor q r) ∙ ap (bit_xor p) (xor_cancel q r)
+
+-- ---- spreading keeps sums
+
+step-sum : (s m a b : ℕ) → spread_step s m (bit_xor a b) ≡ bit_xor (spread_step s m a) (spread_step s m b)
+step-sum s m a b =
+    ap (λ (z : ℕ). bit_and (bit_xor (bit_xor a b) z) m)
+    (ap (λ (z : ℕ). z % 2 ^ 64) (sym (xor_shl s a b)) ∙ xor_mod (a * 2 ^ s) (b * 2 ^ s) 64)
+    ∙ ap (λ (z : ℕ). bit_and z m) (xor_exchange a b (a * 2 ^ s % 2 ^ 64) (b * 2 ^ s % 2 ^ 64))
+    ∙ xor_and (bit_xor a (a * 2 ^ s % 2 ^ 64)) (bit_xor b (b * 2 ^ s % 2 ^ 64)) m
+
+then_step : (f : ℕ → ℕ) → KeepsSums f → (s m : ℕ) → KeepsSums (λ x. spread_step s m (f x))
+then_step f f_sum s m a b = ap (spread_step s m) (f_sum a b) ∙ step-sum s m (f a) (f b)
+
+-- the steps of the code, each named for what it leaves together
+unfoldable halves_apart : ℕ → ℕ
+halves_apart = spread_step 16 0x0000_ffff_0000_ffff
+
+unfoldable bytes_apart : ℕ → ℕ
+bytes_apart x = spread_step 8 0x00ff_00ff_00ff_00ff (halves_apart x)
+
+unfoldable nibbles_apart : ℕ → ℕ
+nibbles_apart x = spread_step 4 0x0f0f_0f0f_0f0f_0f0f (bytes_apart x)
+
+unfoldable pairs_apart : ℕ → ℕ
+pairs_apart x = spread_step 2 0x3333_3333_3333_3333 (nibbles_apart x)
+
+unfoldable spread : ℕ → ℕ
+spread x = spread_step 1 0x5555_5555_5555_5555 (pairs_apart x)
+
+halves_apart-sum : KeepsSums halves_apart
+unfolding halves_apart
+halves_apart-sum = step-sum 16 0x0000_ffff_0000_ffff
+
+bytes_apart-sum : KeepsSums bytes_apart
+unfolding bytes_apart
+bytes_apart-sum = then_step halves_apart halves_apart-sum 8 0x00ff_00ff_00ff_00ff
+
+nibbles_apart-sum : KeepsSums nibbles_apart
+unfolding nibbles_apart
+nibbles_apart-sum = then_step bytes_apart bytes_apart-sum 4 0x0f0f_0f0f_0f0f_0f0f
+
+pairs_apart-sum : KeepsSums pairs_apart
+unfolding pairs_apart
+pairs_apart-sum = then_step nibbles_apart nibbles_apart-sum 2 0x3333_3333_3333_3333
+
+spread-sum : KeepsSums spread
+unfolding spread
+spread-sum = then_step pairs_apart pairs_apart-sum 1 0x5555_5555_5555_5555
+
+-- at the 32 powers of two they are squares, by computation
+powers_agree : agree_on_powers spread (λ x. conv x x) 32 ≡ true
+unfolding spread pairs_apart nibbles_apart bytes_apart halves_apart conv conv_in
+powers_agree = refl
+
+spread-square : (x : ℕ) → x < 2 ^ 32 → spread x ≡ conv x x
+spread-square =
+    maps_agree spread (λ x. conv x x) spread-sum square_sum 32
+    (agree_on_powers-true spread (λ x. conv x x) 32 powers_agree)
+
+-- the steps one after another, as the code calls them
+pub spread_32 : (x a b c d e : ℕ) → x < 2 ^ 32 → a ≡ spread_step 16 0x0000_ffff_0000_ffff x
+    → b ≡ spread_step 8 0x00ff_00ff_00ff_00ff a → c ≡ spread_step 4 0x0f0f_0f0f_0f0f_0f0f b
+    → d ≡ spread_step 2 0x3333_3333_3333_3333 c → e ≡ spread_step 1 0x5555_5555_5555_5555 d → e ≡ conv x x
+unfolding spread pairs_apart nibbles_apart bytes_apart halves_apart
+spread_32 x a b c d e fits of_a of_b of_c of_d of_e =
+    of_e
+    ∙ ap (spread_step 1 0x5555_5555_5555_5555)
+    (of_d
+    ∙ ap (spread_step 2 0x3333_3333_3333_3333)
+    (of_c
+    ∙ ap (spread_step 4 0x0f0f_0f0f_0f0f_0f0f) (of_b ∙ ap (spread_step 8 0x00ff_00ff_00ff_00ff) of_a)))
+    ∙ spread-square x fits
+
+-- ---- squares by halves
+
+halves : (w x low high : ℕ) → low ≡ conv (bit_and x (2 ^ w - 1)) (bit_and x (2 ^ w - 1))
+    → high ≡ conv (x / 2 ^ w) (x / 2 ^ w) → conv x x ≡ bit_xor low (high * 2 ^ w * 2 ^ w)
+halves w x low high of_low of_high =
+    ap (λ (z : ℕ). conv z z) (sym (masked_split w x))
+    ∙ square_sum (bit_and x (2 ^ w - 1)) (x / 2 ^ w * 2 ^ w)
+    ∙ ap₂ bit_xor (sym of_low)
+    (conv_shl w (x / 2 ^ w * 2 ^ w) (x / 2 ^ w)
+    ∙ ap (λ (z : ℕ). z * 2 ^ w)
+    (shl_conv w (x / 2 ^ w) (x / 2 ^ w) ∙ ap (λ (z : ℕ). z * 2 ^ w) (sym of_high)))
+
+pub square_64 : (x low high : ℕ) → high < 2 ^ 64
+    → low ≡ conv (bit_and x (2 ^ 32 - 1)) (bit_and x (2 ^ 32 - 1)) → high ≡ conv (x / 2 ^ 32) (x / 2 ^ 32)
+    → bit_xor (high * 2 ^ 64 % 2 ^ 128) low ≡ conv x x
+square_64 x low high fits of_low of_high =
+    ap (λ (z : ℕ). bit_xor z low) (shl_whole high 64 64 128 fits (lit≤ tt) ∙ sym (mul_assoc high (2 ^ 32) (2 ^ 32)))
+    ∙ xor_comm (high * 2 ^ 32 * 2 ^ 32) low ∙ sym (halves 32 x low high of_low of_high)
+
+pub square_128 : (x low high : ℕ) → low < 2 ^ 128
+    → low ≡ conv (bit_and x (2 ^ 64 - 1)) (bit_and x (2 ^ 64 - 1)) → high ≡ conv (x / 2 ^ 64) (x / 2 ^ 64)
+    → conv x x ≡ high * 2 ^ 128 + low
+square_128 x low high fits of_low of_high =
+    halves 64 x low high of_low of_high
+    ∙ xor_comm low (high * 2 ^ 64 * 2 ^ 64)
+    ∙ ap (λ (z : ℕ). bit_xor z low) (mul_assoc high (2 ^ 64) (2 ^ 64)) ∙ xor_shifted high 128 low fits

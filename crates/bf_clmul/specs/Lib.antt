@@ -1,0 +1,4 @@
+pub mod Masked
+pub mod Tail
+pub mod Spread
+pub mod Karatsuba

@@ -1,0 +1,20 @@
+//! The carryless product of words, that is of binary polynomials, and its remainder modulo two published polynomials.
+//!
+//! Bit i of a word is the coefficient of x^i.
+#![tactic(auto)]
+
+mod fold;
+mod laws;
+mod masked;
+mod modular;
+mod product;
+mod square;
+#[cfg(test)]
+mod tests;
+
+pub use crate::fold::{reduce_64, reduce_128};
+pub use crate::laws::{carry_isolation, class_is_places};
+pub use crate::masked::{masked_product, masked_products, multiply_low_64};
+pub use crate::modular::{multiply_mod_64, multiply_mod_128, square_mod_64, square_mod_128};
+pub use crate::product::{multiply_32, multiply_64, multiply_64_twice, multiply_128};
+pub use crate::square::{spread_32, square_64, square_128};

@@ -1,0 +1,95 @@
+// The carryless product of words.
+//
+// Half a word is multiplied by integer products of its four classes of bits (see `masked`). Twice as many bits take
+// three products by Karatsuba's rule, where `+` is exclusive or:
+//
+//     (a1 B + a0)(b1 B + b0) = a1 b1 B^2 + ((a1 + a0)(b1 + b0) + a1 b1 + a0 b0) B + a0 b0
+ghost use Rattle.std.specs.Prelude.{◌≡◌, ◌%◌, ◌*◌, ◌+◌, ◌^◌, ◌<◌};
+ghost use Rattle.bf_base.specs.Carryless.{conv};
+ghost use Rattle.bf_clmul.specs.Karatsuba.{karatsuba_sum};
+
+use crate::masked::{CLASS_0, CLASS_1, CLASS_2, CLASS_3, multiply_low_64};
+use std::simd::u64x2;
+
+/// The carryless product of two half words.
+pub fn multiply_32(x: u32, y: u32) -> u64
+    ensures { result ≡ conv x y }
+{
+    multiply_low_64(x as u64, y as u64)
+}
+
+/// Two carryless products of half words, `a` by `p` and `b` by `q`, one in each lane of a vector.
+///
+/// A lane is multiplied as in `multiply_low_64`. Since the upper half of each lane is zero, one multiplication of half words
+/// in lanes serves both, so that the two take little more time than one.
+#[inline(always)]
+fn multiply_32_twice(a: u32, b: u32, p: u32, q: u32) -> (u64, u64)
+    ensures first { result.0 ≡ conv a p }
+    ensures second { result.1 ≡ conv b q }
+{
+    let x = u64x2::from_array([a as u64, b as u64]);
+    let y = u64x2::from_array([p as u64, q as u64]);
+    let c0 = u64x2::splat(CLASS_0);
+    let c1 = u64x2::splat(CLASS_1);
+    let c2 = u64x2::splat(CLASS_2);
+    let c3 = u64x2::splat(CLASS_3);
+    let (x0, x1, x2, x3) = (x & c0, x & c1, x & c2, x & c3);
+    let (y0, y1, y2, y3) = (y & c0, y & c1, y & c2, y & c3);
+    let z0 = x0 * y0 ^ x1 * y3 ^ x2 * y2 ^ x3 * y1;
+    let z1 = x0 * y1 ^ x1 * y0 ^ x2 * y3 ^ x3 * y2;
+    let z2 = x0 * y2 ^ x1 * y1 ^ x2 * y0 ^ x3 * y3;
+    let z3 = x0 * y3 ^ x1 * y2 ^ x2 * y1 ^ x3 * y0;
+    let products = ((z0 & c0) ^ (z1 & c1) ^ (z2 & c2) ^ (z3 & c3)).to_array();
+    (products[0], products[1])
+}
+
+/// The sum of Karatsuba's rule for words.
+#[inline(always)]
+#[tactic(auto, using(crate::proofs::KaratsubaLemmas::joined_64))]
+fn join_halves(low: u64, high: u64, both: u64) -> u128
+    ensures { result ≡ karatsuba_sum 32 low high both }
+{
+    let middle = both ^ low ^ high;
+    ((high as u128) << 64) ^ ((middle as u128) << 32) ^ (low as u128)
+}
+
+/// The carryless product of two words.
+pub fn multiply_64(x: u64, y: u64) -> u128
+    ensures { result ≡ conv x y }
+{
+    let (x0, x1) = ((x & 0xffff_ffff) as u32, (x >> 32) as u32);
+    let (y0, y1) = ((y & 0xffff_ffff) as u32, (y >> 32) as u32);
+    let (low, high) = multiply_32_twice(x0, x1, y0, y1);
+    join_halves(low, high, multiply_32(x0 ^ x1, y0 ^ y1))
+}
+
+/// Two carryless products of words, `a` by `p` and `b` by `q`.
+///
+/// The six products of half words that they take are made in pairs.
+pub fn multiply_64_twice(a: u64, b: u64, p: u64, q: u64) -> (u128, u128)
+    ensures first { result.0 ≡ conv a p }
+    ensures second { result.1 ≡ conv b q }
+{
+    let (a0, a1) = ((a & 0xffff_ffff) as u32, (a >> 32) as u32);
+    let (b0, b1) = ((b & 0xffff_ffff) as u32, (b >> 32) as u32);
+    let (p0, p1) = ((p & 0xffff_ffff) as u32, (p >> 32) as u32);
+    let (q0, q1) = ((q & 0xffff_ffff) as u32, (q >> 32) as u32);
+    let (first_low, first_high) = multiply_32_twice(a0, a1, p0, p1);
+    let (second_low, second_high) = multiply_32_twice(b0, b1, q0, q1);
+    let (first_both, second_both) = multiply_32_twice(a0 ^ a1, b0 ^ b1, p0 ^ p1, q0 ^ q1);
+    (
+        join_halves(first_low, first_high, first_both),
+        join_halves(second_low, second_high, second_both),
+    )
+}
+
+/// The carryless product of two double words, its low half before its high half.
+pub fn multiply_128(x: u128, y: u128) -> (u128, u128)
+    ensures { conv x y ≡ result.1 * 2 ^ 128 + result.0 }
+{
+    let (x0, x1) = ((x & 0xffff_ffff_ffff_ffff) as u64, (x >> 64) as u64);
+    let (y0, y1) = ((y & 0xffff_ffff_ffff_ffff) as u64, (y >> 64) as u64);
+    let (low, high) = multiply_64_twice(x0, x1, y0, y1);
+    let middle = multiply_64(x0 ^ x1, y0 ^ y1) ^ low ^ high;
+    (low ^ (middle << 64), high ^ (middle >> 64))
+}

@@ -1,0 +1,74 @@
+// Corners that the argument of carry isolation turns on, and published values.
+use crate::{
+    masked_product, masked_products, multiply_32, multiply_64, multiply_64_twice, multiply_128,
+    multiply_low_64, multiply_mod_64, multiply_mod_128, reduce_64, reduce_128, spread_32,
+    square_64, square_128, square_mod_64, square_mod_128,
+};
+
+#[test]
+fn products_of_words(rt: HostRuntime) {
+    assert_eq!(rt;
+        multiply_64(u64::MAX, u64::MAX),
+        0x5555_5555_5555_5555_5555_5555_5555_5555
+    );
+    assert_eq!(rt; multiply_64(1 << 63, 1 << 63), 1 << 126);
+    assert_eq!(rt;
+        square_64(u64::MAX),
+        0x5555_5555_5555_5555_5555_5555_5555_5555
+    );
+    assert_eq!(rt; square_64(1 << 63), 1 << 126);
+}
+
+#[test]
+fn products_of_half_words(rt: HostRuntime) {
+    assert_eq!(rt; multiply_32(u32::MAX, u32::MAX), 0x5555_5555_5555_5555);
+    assert_eq!(rt; multiply_low_64(u64::MAX, u64::MAX), 0x5555_5555_5555_5555);
+    assert_eq!(rt; spread_32(u32::MAX), 0x5555_5555_5555_5555);
+    assert_eq!(rt; spread_32(1 << 31), 1 << 62);
+}
+
+#[test]
+fn products_of_double_words(rt: HostRuntime) {
+    let (low, high) = multiply_128(1 << 127, 3);
+    assert_eq!(rt; low, 1 << 127, "low");
+    assert_eq!(rt; high, 1, "high");
+    let (low, high) = square_128(1 << 127);
+    assert_eq!(rt; low, 0, "low");
+    assert_eq!(rt; high, 1 << 126, "high");
+}
+
+#[test]
+fn sixteen_bits_of_one_class_meet_at_the_top(rt: HostRuntime) {
+    let class = 0x1111_1111_1111_1111;
+    assert_eq!(rt; masked_product(class, class, 0, 0), 0x0101_0101_0101_0101);
+    let mut words = [class, 1];
+    masked_products(&mut words, class, 0, 0);
+    assert_eq!(rt; words, [0x0101_0101_0101_0101, class]);
+}
+
+#[test]
+fn modulo_the_polynomial_of_64_bits(rt: HostRuntime) {
+    assert_eq!(rt; reduce_64(0, 1), 0x1b);
+    assert_eq!(rt; reduce_64(0, 1 << 63), 0x8000_0000_0000_00af);
+    assert_eq!(rt; square_mod_64(3), 5);
+    assert_eq!(rt; multiply_mod_64(1 << 63, 2), 0x1b);
+    assert_eq!(rt; square_mod_64(1 << 63), 0xc000_0000_0000_005a);
+    assert_eq!(rt; multiply_mod_64(1 << 63, 1 << 63), 0xc000_0000_0000_005a);
+}
+
+#[test]
+fn modulo_the_polynomial_of_ghash(rt: HostRuntime) {
+    assert_eq!(rt;
+        square_mod_128(u128::MAX),
+        0x5555_5555_5555_5555_5555_5555_5555_402f
+    );
+    assert_eq!(rt; multiply_mod_128(1 << 127, 2), 0x87);
+    assert_eq!(rt;
+        square_mod_128(1 << 127),
+        0xc000_0000_0000_0000_0000_0000_0000_1067
+    );
+    assert_eq!(rt;
+        multiply_mod_128(1 << 127, 1 << 127),
+        0xc000_0000_0000_0000_0000_0000_0000_1067
+    );
+}
