@@ -10,6 +10,7 @@ pub mod PowerLemmas
 pub mod QuadraticProducts
 pub mod QuadraticRing
 pub mod QuadraticTraces
+pub mod RemainderDot
 pub mod RemainderLaws
 pub mod RemainderRing
 pub mod RingLemmas

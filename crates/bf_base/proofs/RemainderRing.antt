@@ -1,10 +1,11 @@
 -- The product modulo a binary polynomial is that of a ring, whatever the polynomial is.
-use Rattle.std.proofs.Common.{◌≡◌, ℕ, ◌%◌, ◌^◌, ◌<◌, sym, ◌∙◌, ap, ap₂}
+use Rattle.std.proofs.Common.{◌≡◌, ℕ, ◌%◌, ◌^◌, ◌<◌, lit<, refl, sym, ◌∙◌, ap, ap₂}
 use Rattle.std.specs.Prelude.{bit_xor}
 use Rattle.std.proofs.lemmas.Nat.{xor_mod, pow_below, pow_pos}
 use native.Mathlib.Nat.{mod-eq_of_lt, mod-lt}
 use Rattle.bf_base.specs.Carryless.{conv}
-use Rattle.bf_base.specs.Remainder.{HasDegree, rem, mul_mod, MulModIsRemainder, MulModIsRing}
+use Rattle.bf_base.specs.Remainder.{HasDegree, rem, mul_mod, MulModIsRemainder, MulModIsRing, poly64_modulus, ghash_modulus}
+use Rattle.bf_base.specs.Ring.{IsRing}
 use Rattle.bf_base.proofs.CarrylessProduct.{conv_comm, conv_assoc, conv_sum, one_conv}
 use Rattle.bf_base.proofs.RemainderLaws.{rem_is_remainder, rem_lt, rem_small, rem_sum, rem_conv, rem_conv_left}
 
@@ -73,3 +74,10 @@ mul_mod_ring width modulus wide degree = record {
   over_sum = mul_mod_over_sum width modulus degree;
   one = mul_mod_one width modulus degree wide;
 }
+
+-- the rings of two published moduli
+pub poly64_ring : IsRing 64 1 (mul_mod 64 poly64_modulus)
+poly64_ring = mul_mod_ring 64 poly64_modulus (lit< tt) refl
+
+pub ghash_ring : IsRing 128 1 (mul_mod 128 ghash_modulus)
+ghash_ring = mul_mod_ring 128 ghash_modulus (lit< tt) refl

@@ -35,10 +35,10 @@ fn multiply_32_twice(a: u32, b: u32, p: u32, q: u32) -> (u64, u64)
     let c3 = u64x2::splat(CLASS_3);
     let (x0, x1, x2, x3) = (x & c0, x & c1, x & c2, x & c3);
     let (y0, y1, y2, y3) = (y & c0, y & c1, y & c2, y & c3);
-    let z0 = x0 * y0 ^ x1 * y3 ^ x2 * y2 ^ x3 * y1;
-    let z1 = x0 * y1 ^ x1 * y0 ^ x2 * y3 ^ x3 * y2;
-    let z2 = x0 * y2 ^ x1 * y1 ^ x2 * y0 ^ x3 * y3;
-    let z3 = x0 * y3 ^ x1 * y2 ^ x2 * y1 ^ x3 * y0;
+    let z0 = (x0 * y0) ^ (x1 * y3) ^ (x2 * y2) ^ (x3 * y1);
+    let z1 = (x0 * y1) ^ (x1 * y0) ^ (x2 * y3) ^ (x3 * y2);
+    let z2 = (x0 * y2) ^ (x1 * y1) ^ (x2 * y0) ^ (x3 * y3);
+    let z3 = (x0 * y3) ^ (x1 * y2) ^ (x2 * y1) ^ (x3 * y0);
     let products = ((z0 & c0) ^ (z1 & c1) ^ (z2 & c2) ^ (z3 & c3)).to_array();
     (products[0], products[1])
 }

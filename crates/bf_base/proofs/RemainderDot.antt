@@ -1,0 +1,22 @@
+-- The sum of products modulo a polynomial, with one remainder at its end.
+use Rattle.std.proofs.Common.{◌≡◌, ℕ, ◌+◌, ◌*◌, ◌^◌, ◌<◌, refl, sym, ◌∙◌, ap, ap₂}
+use Rattle.std.specs.Prelude.{bit_xor}
+use lib.Bits.{xor_assoc}
+use Rattle.bf_base.specs.Carryless.{conv}
+use Rattle.bf_base.specs.Remainder.{HasDegree, rem, mul_mod}
+use Rattle.bf_base.proofs.RemainderLaws.{rem_sum, rem_small}
+use Rattle.bf_base.proofs.RemainderRing.{mul_mod-rem}
+
+module _ (width modulus : ℕ) (degree : HasDegree width modulus) where
+  -- one product more: `sum` is what was added up so far, `rest` and `next` are what the places from here on, and those
+  -- behind, add to it
+  pub rem_dot_step : (sum sum' x y rest next whole : ℕ) → x < 2 ^ width → y < 2 ^ width
+      → bit_xor (rem width modulus sum) rest ≡ whole → rest ≡ bit_xor (mul_mod width modulus x y) next
+      → sum' ≡ bit_xor sum (conv x y) → bit_xor (rem width modulus sum') next ≡ whole
+  rem_dot_step sum sum' x y rest next whole x_fits y_fits so_far splits added =
+      ap (λ (s : ℕ). bit_xor (rem width modulus s) next) added
+      ∙ ap (λ (s : ℕ). bit_xor s next) (rem_sum width modulus degree sum (conv x y))
+      ∙ xor_assoc (rem width modulus sum) (rem width modulus (conv x y)) next
+      ∙ ap (λ (p : ℕ). bit_xor (rem width modulus sum) (bit_xor p next))
+      (sym (mul_mod-rem width modulus degree x y x_fits y_fits))
+      ∙ ap (bit_xor (rem width modulus sum)) (sym splits) ∙ so_far

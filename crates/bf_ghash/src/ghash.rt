@@ -1,0 +1,268 @@
+// GF(2^128) in the polynomial basis, modulo x^128 + x^7 + x^2 + x + 1.
+ghost use Rattle.std.specs.Prelude.{◌≡◌, ◌<◌, ◌^◌, ◌≤◌, ◌↔◌, ℕ, length, IsTrue, bit_xor, refl};
+ghost use Rattle.std.specs.Int.{from_le_bytes, w128};
+ghost use Rattle.std.proofs.Common.{lit<, rules};
+ghost use Rattle.bf_base.specs.Powers.{sum_of, product_of, dot_of};
+ghost use Rattle.bf_base.specs.Remainder.{ghash_modulus, mul_mod};
+
+use bf_base::Gf2;
+use bf_base::traits::{
+    PrimeCharacteristicRing, Represented, TowerLevel, product_of_items, sum_of_items,
+};
+use bf_clmul::{multiply_128, multiply_mod_128, reduce_128, square_mod_128};
+use std::iter::{Product, Sum};
+use std::ops::{Add, AddAssign, Mul, MulAssign, Neg, Sub, SubAssign};
+
+/// An element of GF(2^128) in the polynomial basis, modulo x^128 + x^7 + x^2 + x + 1, the modulus of NIST SP 800-38D.
+/// Bit i of its representation is the coefficient of x^i, so a block of that standard, whose leftmost bit is the
+/// coefficient of x^0, has its bits the other way round.
+#[derive(Clone, Copy, Debug, PartialEq, Eq, PartialOrd, Ord, Hash)]
+pub struct Ghash128 {
+    repr: u128,
+    ghost in_range: { repr < 2 ^ 128 },
+}
+
+impl Ghash128 {
+    ghost use Rattle.bf_ghash.specs.Ghash128.{repr_of};
+
+    /// The element of the coefficients `bits`: bit i is the coefficient of x^i.
+    pub fn new(bits: u128) -> Ghash128
+        ensures { repr_of result ≡ bits }
+    {
+        Ghash128 { repr: bits }
+    }
+
+    /// The coefficients: bit i is that of x^i.
+    pub fn to_bits(self) -> u128
+        ensures { result ≡ repr_of self }
+    {
+        self.repr
+    }
+
+    /// The element of 16 bytes, the lowest coefficients first.
+    pub fn from_le_bytes(bytes: [u8; 16]) -> Ghash128
+        ensures { repr_of result ≡ from_le_bytes w128 bytes }
+    {
+        Ghash128 {
+            repr: u128::from_le_bytes(bytes),
+        }
+    }
+}
+
+impl Add<Ghash128> for Ghash128 {
+    type Output = Ghash128;
+
+    ghost add_gives = { λ x y r. r.repr ≡ bit_xor x.repr y.repr };
+
+    fn add(self, other: Ghash128) -> Ghash128 {
+        Ghash128 {
+            repr: self.repr ^ other.repr,
+        }
+    }
+}
+
+impl AddAssign<Ghash128> for Ghash128 {
+    ghost add_assign_gives = { λ x y r. r.repr ≡ bit_xor x.repr y.repr };
+
+    fn add_assign(&mut self, other: Ghash128) {
+        *self = *self + other;
+    }
+}
+
+impl Sub<Ghash128> for Ghash128 {
+    type Output = Ghash128;
+
+    ghost sub_gives = { λ x y r. r.repr ≡ bit_xor x.repr y.repr };
+
+    fn sub(self, other: Ghash128) -> Ghash128 {
+        self + other
+    }
+}
+
+impl SubAssign<Ghash128> for Ghash128 {
+    ghost sub_assign_gives = { λ x y r. r.repr ≡ bit_xor x.repr y.repr };
+
+    fn sub_assign(&mut self, other: Ghash128) {
+        *self = *self + other;
+    }
+}
+
+impl Neg for Ghash128 {
+    type Output = Ghash128;
+
+    ghost neg_gives = { λ x r. r.repr ≡ x.repr };
+
+    fn neg(self) -> Ghash128 {
+        self
+    }
+}
+
+impl Mul<Ghash128> for Ghash128 {
+    type Output = Ghash128;
+
+    ghost mul_gives = { λ x y r. r.repr ≡ mul_mod 128 ghash_modulus x.repr y.repr };
+
+    fn mul(self, other: Ghash128) -> Ghash128 {
+        Ghash128 {
+            repr: multiply_mod_128(self.repr, other.repr),
+        }
+    }
+}
+
+impl MulAssign<Ghash128> for Ghash128 {
+    ghost mul_assign_gives = { λ x y r. r.repr ≡ mul_mod 128 ghash_modulus x.repr y.repr };
+
+    fn mul_assign(&mut self, other: Ghash128) {
+        *self = *self * other;
+    }
+}
+
+impl Sum<Ghash128> for Ghash128 {
+    ghost sum_gives = { λ xs r. r.repr ≡ sum_of (λ x. x.repr) xs };
+
+    fn sum<I: Iterator<Item = Ghash128>>(iter: I) -> Ghash128 {
+        sum_of_items(iter, Ghash128 { repr: 0 })
+    }
+}
+
+impl Product<Ghash128> for Ghash128 {
+    ghost product_gives = { λ xs r. r.repr ≡ product_of 1 (mul_mod 128 ghash_modulus) (λ x. x.repr) xs };
+
+    fn product<I: Iterator<Item = Ghash128>>(iter: I) -> Ghash128 {
+        product_of_items(iter, Ghash128 { repr: 1 })
+    }
+}
+
+impl Default for Ghash128 {
+    ghost is_default = { λ x. x.repr ≡ 0 };
+
+    fn default() -> Ghash128 {
+        Ghash128 { repr: 0 }
+    }
+}
+
+impl From<Gf2> for Ghash128 {
+    ghost use Rattle.bf_base.specs.Bit.{repr_of as bit_of};
+
+    ghost from_gives = { λ x r. r.repr ≡ bit_of x };
+
+    fn from(bit: Gf2) -> Ghash128 {
+        Ghash128 {
+            repr: u128::from(bit.to_repr()),
+        }
+    }
+}
+
+impl Represented for Ghash128 {
+    ghost use Rattle.bf_ghash.specs.Ghash128.{repr_of, same_repr};
+    ghost use Rattle.bf_base.proofs.RemainderRing.{ghash_ring};
+
+    ghost width = { 128 };
+
+    ghost unit = { 1 };
+
+    ghost product = { mul_mod 128 ghash_modulus };
+
+    ghost repr = { repr_of };
+
+    ghost ring_law = { ghash_ring };
+
+    ghost unit_fits = { lit< tt };
+
+    ghost range_law = { λ x. x.in_range };
+
+    ghost same_law = { same_repr };
+
+    ghost can_add_law = { λ x y. tt };
+
+    ghost add_law = { λ x y r is. is };
+
+    ghost can_mul_law = { λ x y. tt };
+
+    ghost mul_law = { λ x y r is. is };
+}
+
+impl PrimeCharacteristicRing for Ghash128 {
+    ghost use Rattle.bf_base.specs.Bit.{repr_of as bit_of};
+    ghost use Rattle.bf_base.proofs.TowerLaws.{is_times_one};
+
+    type PrimeSubfield = Gf2;
+
+    const ZERO: Ghash128 = Ghash128 { repr: 0 };
+
+    ghost ZERO = { record { repr = 0; in_range = lit< tt } };
+
+    const ONE: Ghash128 = Ghash128 { repr: 1 };
+
+    ghost ONE = { record { repr = 1; in_range = lit< tt } };
+
+    const TWO: Ghash128 = Ghash128 { repr: 0 };
+
+    ghost TWO = { record { repr = 0; in_range = lit< tt } };
+
+    const NEG_ONE: Ghash128 = Ghash128 { repr: 1 };
+
+    ghost NEG_ONE = { record { repr = 1; in_range = lit< tt } };
+
+    fn square(&self) -> Ghash128 {
+        Ghash128 {
+            repr: square_mod_128(self.repr),
+        }
+    }
+
+    // The sum of the carryless products is reduced once.
+    fn dot_product_of_slices(left: &[Ghash128], right: &[Ghash128]) -> Ghash128 {
+        let mut low = 0;
+        let mut high = 0;
+        for place in 0..left.len() {
+            let (term_low, term_high) = multiply_128(left[place].repr, right[place].repr);
+            low ^= term_low;
+            high ^= term_high;
+        }
+        Ghash128 {
+            repr: reduce_128(low, high),
+        }
+    }
+
+    ghost zero_law = { refl };
+
+    ghost one_law = { refl };
+
+    ghost two_law = { refl };
+
+    ghost neg_one_law = { refl };
+
+    ghost eq_law = { Prim.search rules };
+
+    ghost default_law = { λ r is. is };
+
+    ghost from_law = { λ x r is. is_times_one r.repr (bit_of x) is };
+
+    ghost can_add_assign_law = { λ x y. tt };
+
+    ghost add_assign_law = { λ x y r is. is };
+
+    ghost can_sub_law = { λ x y. tt };
+
+    ghost sub_law = { λ x y r is. is };
+
+    ghost can_sub_assign_law = { λ x y. tt };
+
+    ghost sub_assign_law = { λ x y r is. is };
+
+    ghost can_mul_assign_law = { λ x y. tt };
+
+    ghost mul_assign_law = { λ x y r is. is };
+
+    ghost can_neg_law = { λ x. tt };
+
+    ghost neg_law = { λ x r is. is };
+
+    ghost can_sum_law = { λ xs. tt };
+
+    ghost sum_law = { λ xs r is. is };
+
+    ghost can_product_law = { λ xs. tt };
+
+    ghost product_law = { λ xs r is. is };
+}

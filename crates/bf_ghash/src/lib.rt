@@ -1,0 +1,6 @@
+//! An element of GF(2^128) in the polynomial basis, modulo x^128 + x^7 + x^2 + x + 1, the modulus of NIST SP 800-38D.
+#![tactic(auto)]
+
+mod ghash;
+
+pub use crate::ghash::Ghash128;
