@@ -22,3 +22,4 @@ pub mod TowerProducts
 pub mod TowerRing
 pub mod TowerSqrt
 pub mod TowerTraces
+pub mod ValueLemmas

@@ -31,6 +31,16 @@ dot_of times repr [] ys = 0
 dot_of times repr (x ∷ xs) [] = 0
 dot_of times repr (x ∷ xs) (y ∷ ys) = bit_xor (times (repr x) (repr y)) (dot_of times repr xs ys)
 
+-- the sum of c[k] a ^ (n + k) over the places k of a list c
+unfoldable pub terms_from : {A : Type 0} → ℕ → (ℕ → ℕ → ℕ) → (A → ℕ) → ℕ → ℕ → List A → ℕ
+terms_from unit times repr a n [] = 0
+terms_from unit times repr a n (c ∷ cs) =
+    bit_xor (times (repr c) (power unit times a n)) (terms_from unit times repr a (suc n) cs)
+
+-- the value at a of the polynomial with these coefficients, lowest first: the sum of c[k] a ^ k
+abbrev pub value_of : {A : Type 0} → ℕ → (ℕ → ℕ → ℕ) → (A → ℕ) → List A → ℕ → ℕ
+value_of unit times repr cs a = terms_from unit times repr a 0 cs
+
 -- 0 for an even integer and 1 for an odd one
 abbrev pub parity : ℤ → ℕ
 parity (pos n) = n % 2

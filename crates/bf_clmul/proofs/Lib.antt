@@ -7,3 +7,4 @@ pub mod TailFolds
 pub mod Squares
 pub mod ModularProducts
 pub mod StandardFacts
+pub mod Shifts

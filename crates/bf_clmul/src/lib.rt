@@ -16,5 +16,7 @@ pub use crate::fold::{reduce_64, reduce_128};
 pub use crate::laws::{carry_isolation, class_is_places};
 pub use crate::masked::{masked_product, masked_products, multiply_low_64};
 pub use crate::modular::{multiply_mod_64, multiply_mod_128, square_mod_64, square_mod_128};
-pub use crate::product::{multiply_32, multiply_64, multiply_64_twice, multiply_128};
+pub use crate::product::{
+    multiply_32, multiply_64, multiply_64_twice, multiply_128, multiply_by_power_128,
+};
 pub use crate::square::{spread_32, square_64, square_128};

@@ -93,3 +93,12 @@ pub fn multiply_128(x: u128, y: u128) -> (u128, u128)
     let middle = multiply_64(x0 ^ x1, y0 ^ y1) ^ low ^ high;
     (low ^ (middle << 64), high ^ (middle >> 64))
 }
+
+/// The carryless product of a double word by x^k, its low half before its high half.
+#[tactic(auto, using(crate::proofs::Shifts::shifted_128))]
+pub fn multiply_by_power_128(x: u128, k: u32) -> (u128, u128)
+    requires { k < 128 }
+    ensures { conv x (2 ^ k) ≡ result.1 * 2 ^ 128 + result.0 }
+{
+    (x << k, (x >> 1) >> (127 - k))
+}

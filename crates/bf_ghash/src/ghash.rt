@@ -2,14 +2,14 @@
 ghost use Rattle.std.specs.Prelude.{◌≡◌, ◌<◌, ◌^◌, ◌≤◌, ◌↔◌, ℕ, length, IsTrue, bit_xor, refl};
 ghost use Rattle.std.specs.Int.{from_le_bytes, w128};
 ghost use Rattle.std.proofs.Common.{lit<, rules};
-ghost use Rattle.bf_base.specs.Powers.{sum_of, product_of, dot_of};
+ghost use Rattle.bf_base.specs.Powers.{sum_of, product_of, dot_of, value_of};
 ghost use Rattle.bf_base.specs.Remainder.{ghash_modulus, mul_mod};
 
 use bf_base::Gf2;
 use bf_base::traits::{
     PrimeCharacteristicRing, Represented, TowerLevel, product_of_items, sum_of_items,
 };
-use bf_clmul::{multiply_128, multiply_mod_128, reduce_128, square_mod_128};
+use bf_clmul::{multiply_128, multiply_by_power_128, multiply_mod_128, reduce_128, square_mod_128};
 use std::iter::{Product, Sum};
 use std::ops::{Add, AddAssign, Mul, MulAssign, Neg, Sub, SubAssign};
 
@@ -45,6 +45,24 @@ impl Ghash128 {
     {
         Ghash128 {
             repr: u128::from_le_bytes(bytes),
+        }
+    }
+
+    /// The value at x of the polynomial with these coefficients, the lowest first: the sum of value k times x^k over at
+    /// most 128 values; of none it is 0. The sum of the shifted values is reduced once.
+    pub fn dot_powers_of_x(values: &[Ghash128]) -> Ghash128
+        requires { length values.now ≤ 128 }
+        ensures { repr_of result ≡ value_of 1 (mul_mod 128 ghash_modulus) repr_of values.now 2 }
+    {
+        let mut low = 0;
+        let mut high = 0;
+        for place in 0..values.len() {
+            let (term_low, term_high) = multiply_by_power_128(values[place].repr, place as u32);
+            low ^= term_low;
+            high ^= term_high;
+        }
+        Ghash128 {
+            repr: reduce_128(low, high),
         }
     }
 }
