@@ -1,11 +1,12 @@
 -- The tower's laws in the form in which the levels' types cite them.
-use Rattle.std.proofs.Common.{◌≡◌, ◌≢◌, ℕ, suc, ◌*◌, ◌^◌, ◌<◌, refl, sym, ◌∙◌, ap, ap₂}
+use Rattle.std.proofs.Common.{◌≡◌, ◌≢◌, ℕ, suc, ◌+◌, ◌*◌, ◌%◌, ◌^◌, ◌<◌, refl, sym, ◌∙◌, ap, ap₂}
 use native.Mathlib.Nat.{mod-eq_of_lt, mul-one}
 use Rattle.bf_base.specs.Norm.{norm}
 use Rattle.bf_base.specs.Powers.{squared}
 use Rattle.bf_base.specs.Quadratic.{quadratic}
 use Rattle.bf_base.specs.Tower.{root, tower_mul}
-use Rattle.bf_base.proofs.PowerLemmas.{times-one}
+use Rattle.bf_base.proofs.PowerLemmas.{times-one, squared-add, squared-none, squared_more}
+use Rattle.bf_base.proofs.TowerFrobenius.{tower_squared-mod_bits}
 use Rattle.bf_base.proofs.TowerTraces.{squarings_return}
 use Rattle.bf_base.proofs.TowerInverse.{tower_norm-zero}
 use Rattle.bf_base.proofs.TowerRing.{tower_ring}
@@ -52,3 +53,20 @@ tower_frobenius k a fits = squarings_return k a ∙ mod-eq_of_lt fits
 -- a number is itself times the one
 pub is_times_one : (a b : ℕ) → a ≡ b → a ≡ b * 1
 is_times_one a b e = e ∙ sym (mul-one b)
+
+-- ---- repeated squarings
+
+-- m squarings after n are their sum, and count modulo the bits of a level
+pub squarings_reduced : (k m n count a : ℕ) → m + n ≡ count % 2 ^ k
+    → squared 1 (tower_mul k) m (squared 1 (tower_mul k) n a) ≡ squared 1 (tower_mul k) count a
+squarings_reduced k m n count a whole =
+    sym (squared-add (2 ^ k) 1 (tower_mul k) (tower_ring k) m n a)
+    ∙ ap (λ (i : ℕ). squared 1 (tower_mul k) i a) whole ∙ tower_squared-mod_bits k count a
+
+pub squarings_none : (k a : ℕ) → a < 2 ^ 2 ^ k → squared 1 (tower_mul k) 0 a ≡ a
+squarings_none k a fits = squared-none (2 ^ k) 1 (tower_mul k) (tower_ring k) a fits
+
+pub squarings_more : (k n a value value' : ℕ) → value ≡ squared 1 (tower_mul k) n a → value' ≡ tower_mul k value value
+    → value' ≡ squared 1 (tower_mul k) (n + 1) a
+squarings_more k n a value value' so_far step =
+    step ∙ ap₂ (tower_mul k) so_far so_far ∙ sym (squared_more (2 ^ k) 1 (tower_mul k) (tower_ring k) n a)

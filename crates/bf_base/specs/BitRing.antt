@@ -5,7 +5,8 @@ use Rattle.std.specs.Prelude.{bit_and, bit_xor}
 use Rattle.std.proofs.lemmas.Nat.{xor_mod}
 use native.Mathlib.Nat.{mod-lt, mul_comm, mul_assoc, zero-mul, one-mul, mul-one, mod-eq_of_lt}
 use Rattle.bf_base.specs.Ring.{IsRing}
-use Rattle.bf_base.specs.Powers.{squared}
+use Rattle.bf_base.specs.Orders.{HasFullOrder, AreCantorVectors}
+use Rattle.bf_base.specs.Powers.{power, squared}
 use Rattle.bf_base.specs.Tower.{root, tower_mul}
 
 -- a fact of 0 and of 1 holds of each number below 2
@@ -72,3 +73,12 @@ root_zero-times x fits = one-mul (x % 2) ∙ mod-eq_of_lt fits
 pub root_zero-lt : root 0 < 2
 unfolding root
 root_zero-lt = lit< tt
+
+-- every element but 0 is a power of the one
+pub bit_generator : HasFullOrder 1 (tower_mul 0) 1
+unfolding power tower_mul
+bit_generator = (refl, λ e above below. absurd (omega arith))
+
+-- the only Cantor vector is the one
+pub bit_cantor : AreCantorVectors 1 (tower_mul 0) (λ i. 1)
+bit_cantor = record { first = refl; rule = λ i above below. absurd (omega arith) }

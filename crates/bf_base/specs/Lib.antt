@@ -4,6 +4,7 @@ pub mod Carryless
 pub mod Field
 pub mod Halves
 pub mod Norm
+pub mod Orders
 pub mod Powers
 pub mod Quadratic
 pub mod Remainder

@@ -244,7 +244,11 @@ impl PrimeCharacteristicRing for Gf2 {
 }
 
 impl Field for Gf2 {
-    ghost use Rattle.bf_base.specs.BitRing.{bit_squared};
+    ghost use Rattle.bf_base.specs.BitRing.{bit_squared, bit_generator};
+
+    const GENERATOR: Gf2 = Gf2 { repr: 1 };
+
+    ghost GENERATOR = { record { repr = 1; in_range = lit< tt } };
 
     fn bits() -> usize {
         1
@@ -257,6 +261,8 @@ impl Field for Gf2 {
     fn interpolation_node(i: usize) -> Gf2 {
         Gf2 { repr: i as u8 }
     }
+
+    ghost generator_law = { λ small. bit_generator };
 
     ghost wide_law = { lit< tt };
 
@@ -276,7 +282,7 @@ impl Field for Gf2 {
 impl Sealed for Gf2 {}
 
 impl TowerLevel for Gf2 {
-    ghost use Rattle.bf_base.specs.BitRing.{root_zero-lt};
+    ghost use Rattle.bf_base.specs.BitRing.{bit_cantor, root_zero-lt};
 
     type Repr = u8;
 
@@ -287,6 +293,8 @@ impl TowerLevel for Gf2 {
     ghost number = { λ n. n };
 
     ghost alpha = { root 0 };
+
+    ghost cantor = { λ i. 1 };
 
     fn from_repr(bits: u8) -> Gf2 {
         Gf2 { repr: bits % 2 }
@@ -299,6 +307,12 @@ impl TowerLevel for Gf2 {
     fn mul_alpha(self) -> Gf2 {
         self
     }
+
+    fn cantor_basis(_i: usize) -> Gf2 {
+        Gf2 { repr: 1 }
+    }
+
+    ghost cantor_law = { bit_cantor };
 
     ghost bits_law = { refl };
 

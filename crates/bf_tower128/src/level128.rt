@@ -1,8 +1,8 @@
 // GF(2^128), level 7 of the tower: the quadratic extension of BinaryField64 by the root X of X² + t X + 1, where t is the root
 // that BinaryField64 adjoins. Bits 64 and up of a representation are the part that X multiplies.
 ghost use Rattle.std.specs.Prelude.{◌≡◌, ◌≢◌, ◌<◌, ◌^◌, ◌%◌, ℕ, ◌↔◌, IsTrue, bit_xor, refl};
-ghost use Rattle.std.proofs.Common.{lit<, rules};
-ghost use Rattle.bf_base.specs.Powers.{sum_of, product_of};
+ghost use Rattle.std.proofs.Common.{lit<, lit≤, rules};
+ghost use Rattle.bf_base.specs.Powers.{squared, sum_of, product_of};
 ghost use Rattle.bf_base.specs.Tower.{root, tower_mul};
 
 use bf_base::quadratic::{self, Halves};
@@ -11,6 +11,7 @@ use bf_base::traits::{
 };
 use bf_base::Gf2;
 use crate::level64::BinaryField64;
+use bf_tables::{cantor_vector, conjugate_128, multiply_by_root_128, sqrt_128, square_128};
 use std::iter::{Product, Sum};
 use std::ops::{Add, AddAssign, Div, DivAssign, Mul, MulAssign, Neg, Sub, SubAssign};
 
@@ -59,6 +60,35 @@ impl BinaryField128 {
         ensures { tower_mul 7 (repr_of self) (repr_of result) ≡ 1 }
     {
         BinaryField128::from_halves(quadratic::inverse(self.halves()))
+    }
+
+    // The square.
+    fn squared(self) -> BinaryField128
+        ensures { repr_of result ≡ tower_mul 7 (repr_of self) (repr_of self) }
+    {
+        BinaryField128 {
+            repr: square_128(self.repr),
+        }
+    }
+
+    // The element squared `count` times.
+    fn squarings(self, count: usize) -> BinaryField128
+        ensures { repr_of result ≡ squared 1 (tower_mul 7) count (repr_of self) }
+    {
+        let mut value = self;
+        for _ in 0..count {
+            value = value.squared();
+        }
+        value
+    }
+
+    // The conjugate over the level below: the element squared 64 times.
+    fn conjugate(self) -> BinaryField128
+        ensures { repr_of result ≡ squared 1 (tower_mul 7) 64 (repr_of self) }
+    {
+        BinaryField128 {
+            repr: conjugate_128(self.repr),
+        }
     }
 }
 
@@ -238,7 +268,17 @@ impl PrimeCharacteristicRing for BinaryField128 {
     ghost NEG_ONE = { record { repr = 1; in_range = lit< tt } };
 
     fn square(&self) -> BinaryField128 {
-        BinaryField128::from_halves(quadratic::square(self.halves()))
+        self.squared()
+    }
+
+    // The count is reduced by the bits, and one conjugation is half of them.
+    fn exp_power_of_2(&self, count: usize) -> BinaryField128 {
+        let rest = count % 128;
+        if rest < 64 {
+            self.squarings(rest)
+        } else {
+            self.conjugate().squarings(rest - 64)
+        }
     }
 
     ghost zero_law = { refl };
@@ -286,6 +326,11 @@ impl PrimeCharacteristicRing for BinaryField128 {
 
 impl Field for BinaryField128 {
     ghost use Rattle.bf_base.proofs.TowerLaws.{tower_frobenius};
+    ghost use Rattle.bf_tables.proofs.LevelLaws.{too_wide};
+
+    const GENERATOR: BinaryField128 = BinaryField128 { repr: 0x1_0000_0000_0000_0005 };
+
+    ghost GENERATOR = { record { repr = 0x1_0000_0000_0000_0005; in_range = lit< tt } };
 
     fn bits() -> usize {
         128
@@ -295,9 +340,17 @@ impl Field for BinaryField128 {
         if self.repr == 0 { None } else { Some(self.invert()) }
     }
 
+    fn try_sqrt(&self) -> Option<BinaryField128> {
+        Some(BinaryField128 {
+            repr: sqrt_128(self.repr),
+        })
+    }
+
     fn interpolation_node(i: usize) -> BinaryField128 {
         BinaryField128 { repr: u128::from(i as u64) }
     }
+
+    ghost generator_law = { λ small. too_wide 128 (lit< tt) small };
 
     ghost wide_law = { lit< tt };
 
@@ -318,6 +371,8 @@ impl Sealed for BinaryField128 {}
 
 impl TowerLevel for BinaryField128 {
     ghost use Rattle.bf_base.proofs.TowerTraces.{root-lt};
+    ghost use Rattle.bf_tables.proofs.LevelLaws.{level_cantor};
+    ghost use Rattle.bf_tables.specs.Cantor.{cantor_vector};
 
     type Repr = u128;
 
@@ -329,6 +384,8 @@ impl TowerLevel for BinaryField128 {
 
     ghost alpha = { root 7 };
 
+    ghost cantor = { cantor_vector };
+
     fn from_repr(bits: u128) -> BinaryField128 {
         BinaryField128 { repr: bits }
     }
@@ -338,8 +395,18 @@ impl TowerLevel for BinaryField128 {
     }
 
     fn mul_alpha(self) -> BinaryField128 {
-        BinaryField128::from_halves(quadratic::multiply_by_root(self.halves()))
+        BinaryField128 {
+            repr: multiply_by_root_128(self.repr),
+        }
     }
+
+    fn cantor_basis(i: usize) -> BinaryField128 {
+        BinaryField128 {
+            repr: cantor_vector(i),
+        }
+    }
+
+    ghost cantor_law = { level_cantor 7 (lit≤ tt) };
 
     ghost bits_law = { refl };
 

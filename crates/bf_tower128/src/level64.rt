@@ -1,8 +1,8 @@
 // GF(2^64), level 6 of the tower: the quadratic extension of BinaryField32 by the root X of X² + t X + 1, where t is the root
 // that BinaryField32 adjoins. Bits 32 and up of a representation are the part that X multiplies.
 ghost use Rattle.std.specs.Prelude.{◌≡◌, ◌≢◌, ◌<◌, ◌^◌, ◌%◌, ℕ, ◌↔◌, IsTrue, bit_xor, refl};
-ghost use Rattle.std.proofs.Common.{lit<, rules};
-ghost use Rattle.bf_base.specs.Powers.{sum_of, product_of};
+ghost use Rattle.std.proofs.Common.{lit<, lit≤, rules};
+ghost use Rattle.bf_base.specs.Powers.{squared, sum_of, product_of};
 ghost use Rattle.bf_base.specs.Tower.{root, tower_mul};
 
 use bf_base::quadratic::{self, Halves};
@@ -11,6 +11,7 @@ use bf_base::traits::{
 };
 use bf_base::Gf2;
 use bf_tower32::BinaryField32;
+use bf_tables::{cantor_vector, conjugate_64, multiply_by_root_64, sqrt_64, square_64};
 use std::iter::{Product, Sum};
 use std::ops::{Add, AddAssign, Div, DivAssign, Mul, MulAssign, Neg, Sub, SubAssign};
 
@@ -59,6 +60,35 @@ impl BinaryField64 {
         ensures { tower_mul 6 (repr_of self) (repr_of result) ≡ 1 }
     {
         BinaryField64::from_halves(quadratic::inverse(self.halves()))
+    }
+
+    // The square.
+    fn squared(self) -> BinaryField64
+        ensures { repr_of result ≡ tower_mul 6 (repr_of self) (repr_of self) }
+    {
+        BinaryField64 {
+            repr: square_64(self.repr),
+        }
+    }
+
+    // The element squared `count` times.
+    fn squarings(self, count: usize) -> BinaryField64
+        ensures { repr_of result ≡ squared 1 (tower_mul 6) count (repr_of self) }
+    {
+        let mut value = self;
+        for _ in 0..count {
+            value = value.squared();
+        }
+        value
+    }
+
+    // The conjugate over the level below: the element squared 32 times.
+    fn conjugate(self) -> BinaryField64
+        ensures { repr_of result ≡ squared 1 (tower_mul 6) 32 (repr_of self) }
+    {
+        BinaryField64 {
+            repr: conjugate_64(self.repr),
+        }
     }
 }
 
@@ -238,7 +268,17 @@ impl PrimeCharacteristicRing for BinaryField64 {
     ghost NEG_ONE = { record { repr = 1; in_range = lit< tt } };
 
     fn square(&self) -> BinaryField64 {
-        BinaryField64::from_halves(quadratic::square(self.halves()))
+        self.squared()
+    }
+
+    // The count is reduced by the bits, and one conjugation is half of them.
+    fn exp_power_of_2(&self, count: usize) -> BinaryField64 {
+        let rest = count % 64;
+        if rest < 32 {
+            self.squarings(rest)
+        } else {
+            self.conjugate().squarings(rest - 32)
+        }
     }
 
     ghost zero_law = { refl };
@@ -286,6 +326,11 @@ impl PrimeCharacteristicRing for BinaryField64 {
 
 impl Field for BinaryField64 {
     ghost use Rattle.bf_base.proofs.TowerLaws.{tower_frobenius};
+    ghost use Rattle.bf_tables.proofs.LevelLaws.{too_wide};
+
+    const GENERATOR: BinaryField64 = BinaryField64 { repr: 0x1_0000_0004 };
+
+    ghost GENERATOR = { record { repr = 0x1_0000_0004; in_range = lit< tt } };
 
     fn bits() -> usize {
         64
@@ -295,9 +340,17 @@ impl Field for BinaryField64 {
         if self.repr == 0 { None } else { Some(self.invert()) }
     }
 
+    fn try_sqrt(&self) -> Option<BinaryField64> {
+        Some(BinaryField64 {
+            repr: sqrt_64(self.repr),
+        })
+    }
+
     fn interpolation_node(i: usize) -> BinaryField64 {
         BinaryField64 { repr: i as u64 }
     }
+
+    ghost generator_law = { λ small. too_wide 64 (lit< tt) small };
 
     ghost wide_law = { lit< tt };
 
@@ -318,6 +371,8 @@ impl Sealed for BinaryField64 {}
 
 impl TowerLevel for BinaryField64 {
     ghost use Rattle.bf_base.proofs.TowerTraces.{root-lt};
+    ghost use Rattle.bf_tables.proofs.LevelLaws.{level_cantor};
+    ghost use Rattle.bf_tables.specs.Cantor.{cantor_vector};
 
     type Repr = u64;
 
@@ -329,6 +384,8 @@ impl TowerLevel for BinaryField64 {
 
     ghost alpha = { root 6 };
 
+    ghost cantor = { cantor_vector };
+
     fn from_repr(bits: u64) -> BinaryField64 {
         BinaryField64 { repr: bits }
     }
@@ -338,8 +395,18 @@ impl TowerLevel for BinaryField64 {
     }
 
     fn mul_alpha(self) -> BinaryField64 {
-        BinaryField64::from_halves(quadratic::multiply_by_root(self.halves()))
+        BinaryField64 {
+            repr: multiply_by_root_64(self.repr),
+        }
     }
+
+    fn cantor_basis(i: usize) -> BinaryField64 {
+        BinaryField64 {
+            repr: cantor_vector(i) as u64,
+        }
+    }
+
+    ghost cantor_law = { level_cantor 6 (lit≤ tt) };
 
     ghost bits_law = { refl };
 

@@ -1,8 +1,8 @@
 // GF(2^16), level 4 of the tower: the quadratic extension of BinaryField8 by the root X of X² + t X + 1, where t is the root
 // that BinaryField8 adjoins. Bits 8 and up of a representation are the part that X multiplies.
 ghost use Rattle.std.specs.Prelude.{◌≡◌, ◌≢◌, ◌<◌, ◌^◌, ◌%◌, ℕ, ◌↔◌, IsTrue, bit_xor, refl};
-ghost use Rattle.std.proofs.Common.{lit<, rules};
-ghost use Rattle.bf_base.specs.Powers.{sum_of, product_of};
+ghost use Rattle.std.proofs.Common.{lit<, lit≤, rules};
+ghost use Rattle.bf_base.specs.Powers.{squared, sum_of, product_of};
 ghost use Rattle.bf_base.specs.Tower.{root, tower_mul};
 
 use bf_base::quadratic::{self, Halves};
@@ -11,6 +11,7 @@ use bf_base::traits::{
 };
 use bf_base::Gf2;
 use bf_tower8::BinaryField8;
+use bf_tables::{cantor_vector, conjugate_16, multiply_by_root_16, sqrt_16, square_16};
 use std::iter::{Product, Sum};
 use std::ops::{Add, AddAssign, Div, DivAssign, Mul, MulAssign, Neg, Sub, SubAssign};
 
@@ -59,6 +60,35 @@ impl BinaryField16 {
         ensures { tower_mul 4 (repr_of self) (repr_of result) ≡ 1 }
     {
         BinaryField16::from_halves(quadratic::inverse(self.halves()))
+    }
+
+    // The square.
+    fn squared(self) -> BinaryField16
+        ensures { repr_of result ≡ tower_mul 4 (repr_of self) (repr_of self) }
+    {
+        BinaryField16 {
+            repr: square_16(self.repr),
+        }
+    }
+
+    // The element squared `count` times.
+    fn squarings(self, count: usize) -> BinaryField16
+        ensures { repr_of result ≡ squared 1 (tower_mul 4) count (repr_of self) }
+    {
+        let mut value = self;
+        for _ in 0..count {
+            value = value.squared();
+        }
+        value
+    }
+
+    // The conjugate over the level below: the element squared 8 times.
+    fn conjugate(self) -> BinaryField16
+        ensures { repr_of result ≡ squared 1 (tower_mul 4) 8 (repr_of self) }
+    {
+        BinaryField16 {
+            repr: conjugate_16(self.repr),
+        }
     }
 }
 
@@ -238,7 +268,17 @@ impl PrimeCharacteristicRing for BinaryField16 {
     ghost NEG_ONE = { record { repr = 1; in_range = lit< tt } };
 
     fn square(&self) -> BinaryField16 {
-        BinaryField16::from_halves(quadratic::square(self.halves()))
+        self.squared()
+    }
+
+    // The count is reduced by the bits, and one conjugation is half of them.
+    fn exp_power_of_2(&self, count: usize) -> BinaryField16 {
+        let rest = count % 16;
+        if rest < 8 {
+            self.squarings(rest)
+        } else {
+            self.conjugate().squarings(rest - 8)
+        }
     }
 
     ghost zero_law = { refl };
@@ -286,6 +326,11 @@ impl PrimeCharacteristicRing for BinaryField16 {
 
 impl Field for BinaryField16 {
     ghost use Rattle.bf_base.proofs.TowerLaws.{tower_frobenius};
+    ghost use Rattle.bf_tables.proofs.LevelLaws.{level_generator};
+
+    const GENERATOR: BinaryField16 = BinaryField16 { repr: 0x102 };
+
+    ghost GENERATOR = { record { repr = 0x102; in_range = lit< tt } };
 
     fn bits() -> usize {
         16
@@ -295,9 +340,17 @@ impl Field for BinaryField16 {
         if self.repr == 0 { None } else { Some(self.invert()) }
     }
 
+    fn try_sqrt(&self) -> Option<BinaryField16> {
+        Some(BinaryField16 {
+            repr: sqrt_16(self.repr),
+        })
+    }
+
     fn interpolation_node(i: usize) -> BinaryField16 {
         BinaryField16 { repr: i as u16 }
     }
+
+    ghost generator_law = { λ small. level_generator 4 (lit≤ tt) };
 
     ghost wide_law = { lit< tt };
 
@@ -318,6 +371,8 @@ impl Sealed for BinaryField16 {}
 
 impl TowerLevel for BinaryField16 {
     ghost use Rattle.bf_base.proofs.TowerTraces.{root-lt};
+    ghost use Rattle.bf_tables.proofs.LevelLaws.{level_cantor};
+    ghost use Rattle.bf_tables.specs.Cantor.{cantor_vector};
 
     type Repr = u16;
 
@@ -329,6 +384,8 @@ impl TowerLevel for BinaryField16 {
 
     ghost alpha = { root 4 };
 
+    ghost cantor = { cantor_vector };
+
     fn from_repr(bits: u16) -> BinaryField16 {
         BinaryField16 { repr: bits }
     }
@@ -338,8 +395,18 @@ impl TowerLevel for BinaryField16 {
     }
 
     fn mul_alpha(self) -> BinaryField16 {
-        BinaryField16::from_halves(quadratic::multiply_by_root(self.halves()))
+        BinaryField16 {
+            repr: multiply_by_root_16(self.repr),
+        }
     }
+
+    fn cantor_basis(i: usize) -> BinaryField16 {
+        BinaryField16 {
+            repr: cantor_vector(i) as u16,
+        }
+    }
+
+    ghost cantor_law = { level_cantor 4 (lit≤ tt) };
 
     ghost bits_law = { refl };
 

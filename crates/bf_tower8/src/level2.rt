@@ -1,16 +1,16 @@
 // GF(2^2), level 1 of the tower: the quadratic extension of Gf2 by the root X of X² + t X + 1, where t is the root
 // that Gf2 adjoins; over GF(2), t is 1. Bits 1 and up of a representation are the part that X multiplies.
 ghost use Rattle.std.specs.Prelude.{◌≡◌, ◌≢◌, ◌<◌, ◌^◌, ◌%◌, ℕ, ◌↔◌, IsTrue, bit_xor, refl};
-ghost use Rattle.std.proofs.Common.{lit<, rules};
-ghost use Rattle.bf_base.specs.Powers.{sum_of, product_of};
+ghost use Rattle.std.proofs.Common.{lit<, lit≤, rules};
+ghost use Rattle.bf_base.specs.Powers.{squared, sum_of, product_of};
 ghost use Rattle.bf_base.specs.Tower.{root, tower_mul};
 
+use bf_base::Gf2;
 use bf_base::quadratic::{self, Halves};
 use bf_base::traits::{
     Field, PrimeCharacteristicRing, Represented, Sealed, TowerLevel, product_of_items, sum_of_items,
 };
-use bf_base::Gf2;
-
+use bf_tables::cantor_vector;
 use std::iter::{Product, Sum};
 use std::ops::{Add, AddAssign, Div, DivAssign, Mul, MulAssign, Neg, Sub, SubAssign};
 
@@ -59,6 +59,24 @@ impl BinaryField2 {
         ensures { tower_mul 1 (repr_of self) (repr_of result) ≡ 1 }
     {
         BinaryField2::from_halves(quadratic::inverse(self.halves()))
+    }
+
+    // The square.
+    fn squared(self) -> BinaryField2
+        ensures { repr_of result ≡ tower_mul 1 (repr_of self) (repr_of self) }
+    {
+        BinaryField2::from_halves(quadratic::square(self.halves()))
+    }
+
+    // The element squared `count` times.
+    fn squarings(self, count: usize) -> BinaryField2
+        ensures { repr_of result ≡ squared 1 (tower_mul 1) count (repr_of self) }
+    {
+        let mut value = self;
+        for _ in 0..count {
+            value = value.squared();
+        }
+        value
     }
 }
 
@@ -238,7 +256,12 @@ impl PrimeCharacteristicRing for BinaryField2 {
     ghost NEG_ONE = { record { repr = 1; in_range = lit< tt } };
 
     fn square(&self) -> BinaryField2 {
-        BinaryField2::from_halves(quadratic::square(self.halves()))
+        self.squared()
+    }
+
+    // The count is reduced by the bits, and one conjugation is half of them.
+    fn exp_power_of_2(&self, count: usize) -> BinaryField2 {
+        self.squarings(count % 2)
     }
 
     ghost zero_law = { refl };
@@ -286,18 +309,29 @@ impl PrimeCharacteristicRing for BinaryField2 {
 
 impl Field for BinaryField2 {
     ghost use Rattle.bf_base.proofs.TowerLaws.{tower_frobenius};
+    ghost use Rattle.bf_tables.proofs.LevelLaws.{level_generator};
+
+    const GENERATOR: BinaryField2 = BinaryField2 { repr: 2 };
+
+    ghost GENERATOR = { record { repr = 2; in_range = lit< tt } };
 
     fn bits() -> usize {
         2
     }
 
     fn try_inverse(&self) -> Option<BinaryField2> {
-        if self.repr == 0 { None } else { Some(self.invert()) }
+        if self.repr == 0 {
+            None
+        } else {
+            Some(self.invert())
+        }
     }
 
     fn interpolation_node(i: usize) -> BinaryField2 {
         BinaryField2 { repr: i as u8 }
     }
+
+    ghost generator_law = { λ small. level_generator 1 (lit≤ tt) };
 
     ghost wide_law = { lit< tt };
 
@@ -318,6 +352,8 @@ impl Sealed for BinaryField2 {}
 
 impl TowerLevel for BinaryField2 {
     ghost use Rattle.bf_base.proofs.TowerTraces.{root-lt};
+    ghost use Rattle.bf_tables.proofs.LevelLaws.{level_cantor};
+    ghost use Rattle.bf_tables.specs.Cantor.{cantor_vector};
 
     type Repr = u8;
 
@@ -328,6 +364,8 @@ impl TowerLevel for BinaryField2 {
     ghost number = { λ n. n };
 
     ghost alpha = { root 1 };
+
+    ghost cantor = { cantor_vector };
 
     fn from_repr(bits: u8) -> BinaryField2 {
         BinaryField2 { repr: bits % 4 }
@@ -340,6 +378,14 @@ impl TowerLevel for BinaryField2 {
     fn mul_alpha(self) -> BinaryField2 {
         BinaryField2::from_halves(quadratic::multiply_by_root(self.halves()))
     }
+
+    fn cantor_basis(i: usize) -> BinaryField2 {
+        BinaryField2 {
+            repr: cantor_vector(i) as u8,
+        }
+    }
+
+    ghost cantor_law = { level_cantor 1 (lit≤ tt) };
 
     ghost bits_law = { refl };
 

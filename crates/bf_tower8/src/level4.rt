@@ -1,16 +1,17 @@
 // GF(2^4), level 2 of the tower: the quadratic extension of BinaryField2 by the root X of X² + t X + 1, where t is the root
 // that BinaryField2 adjoins. Bits 2 and up of a representation are the part that X multiplies.
 ghost use Rattle.std.specs.Prelude.{◌≡◌, ◌≢◌, ◌<◌, ◌^◌, ◌%◌, ℕ, ◌↔◌, IsTrue, bit_xor, refl};
-ghost use Rattle.std.proofs.Common.{lit<, rules};
-ghost use Rattle.bf_base.specs.Powers.{sum_of, product_of};
+ghost use Rattle.std.proofs.Common.{lit<, lit≤, rules};
+ghost use Rattle.bf_base.specs.Powers.{squared, sum_of, product_of};
 ghost use Rattle.bf_base.specs.Tower.{root, tower_mul};
 
+use crate::level2::BinaryField2;
+use bf_base::Gf2;
 use bf_base::quadratic::{self, Halves};
 use bf_base::traits::{
     Field, PrimeCharacteristicRing, Represented, Sealed, TowerLevel, product_of_items, sum_of_items,
 };
-use bf_base::Gf2;
-use crate::level2::BinaryField2;
+use bf_tables::cantor_vector;
 use std::iter::{Product, Sum};
 use std::ops::{Add, AddAssign, Div, DivAssign, Mul, MulAssign, Neg, Sub, SubAssign};
 
@@ -59,6 +60,24 @@ impl BinaryField4 {
         ensures { tower_mul 2 (repr_of self) (repr_of result) ≡ 1 }
     {
         BinaryField4::from_halves(quadratic::inverse(self.halves()))
+    }
+
+    // The square.
+    fn squared(self) -> BinaryField4
+        ensures { repr_of result ≡ tower_mul 2 (repr_of self) (repr_of self) }
+    {
+        BinaryField4::from_halves(quadratic::square(self.halves()))
+    }
+
+    // The element squared `count` times.
+    fn squarings(self, count: usize) -> BinaryField4
+        ensures { repr_of result ≡ squared 1 (tower_mul 2) count (repr_of self) }
+    {
+        let mut value = self;
+        for _ in 0..count {
+            value = value.squared();
+        }
+        value
     }
 }
 
@@ -238,7 +257,12 @@ impl PrimeCharacteristicRing for BinaryField4 {
     ghost NEG_ONE = { record { repr = 1; in_range = lit< tt } };
 
     fn square(&self) -> BinaryField4 {
-        BinaryField4::from_halves(quadratic::square(self.halves()))
+        self.squared()
+    }
+
+    // The count is reduced by the bits, and one conjugation is half of them.
+    fn exp_power_of_2(&self, count: usize) -> BinaryField4 {
+        self.squarings(count % 4)
     }
 
     ghost zero_law = { refl };
@@ -286,18 +310,29 @@ impl PrimeCharacteristicRing for BinaryField4 {
 
 impl Field for BinaryField4 {
     ghost use Rattle.bf_base.proofs.TowerLaws.{tower_frobenius};
+    ghost use Rattle.bf_tables.proofs.LevelLaws.{level_generator};
+
+    const GENERATOR: BinaryField4 = BinaryField4 { repr: 5 };
+
+    ghost GENERATOR = { record { repr = 5; in_range = lit< tt } };
 
     fn bits() -> usize {
         4
     }
 
     fn try_inverse(&self) -> Option<BinaryField4> {
-        if self.repr == 0 { None } else { Some(self.invert()) }
+        if self.repr == 0 {
+            None
+        } else {
+            Some(self.invert())
+        }
     }
 
     fn interpolation_node(i: usize) -> BinaryField4 {
         BinaryField4 { repr: i as u8 }
     }
+
+    ghost generator_law = { λ small. level_generator 2 (lit≤ tt) };
 
     ghost wide_law = { lit< tt };
 
@@ -318,6 +353,8 @@ impl Sealed for BinaryField4 {}
 
 impl TowerLevel for BinaryField4 {
     ghost use Rattle.bf_base.proofs.TowerTraces.{root-lt};
+    ghost use Rattle.bf_tables.proofs.LevelLaws.{level_cantor};
+    ghost use Rattle.bf_tables.specs.Cantor.{cantor_vector};
 
     type Repr = u8;
 
@@ -328,6 +365,8 @@ impl TowerLevel for BinaryField4 {
     ghost number = { λ n. n };
 
     ghost alpha = { root 2 };
+
+    ghost cantor = { cantor_vector };
 
     fn from_repr(bits: u8) -> BinaryField4 {
         BinaryField4 { repr: bits % 16 }
@@ -340,6 +379,14 @@ impl TowerLevel for BinaryField4 {
     fn mul_alpha(self) -> BinaryField4 {
         BinaryField4::from_halves(quadratic::multiply_by_root(self.halves()))
     }
+
+    fn cantor_basis(i: usize) -> BinaryField4 {
+        BinaryField4 {
+            repr: cantor_vector(i) as u8,
+        }
+    }
+
+    ghost cantor_law = { level_cantor 2 (lit≤ tt) };
 
     ghost bits_law = { refl };
 

@@ -1,16 +1,17 @@
 // GF(2^8), level 3 of the tower: the quadratic extension of BinaryField4 by the root X of X² + t X + 1, where t is the root
 // that BinaryField4 adjoins. Bits 4 and up of a representation are the part that X multiplies.
 ghost use Rattle.std.specs.Prelude.{◌≡◌, ◌≢◌, ◌<◌, ◌^◌, ◌%◌, ℕ, ◌↔◌, IsTrue, bit_xor, refl};
-ghost use Rattle.std.proofs.Common.{lit<, rules};
-ghost use Rattle.bf_base.specs.Powers.{sum_of, product_of};
+ghost use Rattle.std.proofs.Common.{lit<, lit≤, rules};
+ghost use Rattle.bf_base.specs.Powers.{squared, sum_of, product_of};
 ghost use Rattle.bf_base.specs.Tower.{root, tower_mul};
 
+use crate::level4::BinaryField4;
+use bf_base::Gf2;
 use bf_base::quadratic::{self, Halves};
 use bf_base::traits::{
     Field, PrimeCharacteristicRing, Represented, Sealed, TowerLevel, product_of_items, sum_of_items,
 };
-use bf_base::Gf2;
-use crate::level4::BinaryField4;
+use bf_tables::{cantor_vector, invert_8, multiply_8, multiply_by_root_8, sqrt_8, square_8};
 use std::iter::{Product, Sum};
 use std::ops::{Add, AddAssign, Div, DivAssign, Mul, MulAssign, Neg, Sub, SubAssign};
 
@@ -58,7 +59,29 @@ impl BinaryField8 {
         requires { repr_of self ≢ 0 }
         ensures { tower_mul 3 (repr_of self) (repr_of result) ≡ 1 }
     {
-        BinaryField8::from_halves(quadratic::inverse(self.halves()))
+        BinaryField8 {
+            repr: invert_8(self.repr),
+        }
+    }
+
+    // The square.
+    fn squared(self) -> BinaryField8
+        ensures { repr_of result ≡ tower_mul 3 (repr_of self) (repr_of self) }
+    {
+        BinaryField8 {
+            repr: square_8(self.repr),
+        }
+    }
+
+    // The element squared `count` times.
+    fn squarings(self, count: usize) -> BinaryField8
+        ensures { repr_of result ≡ squared 1 (tower_mul 3) count (repr_of self) }
+    {
+        let mut value = self;
+        for _ in 0..count {
+            value = value.squared();
+        }
+        value
     }
 }
 
@@ -116,7 +139,9 @@ impl Mul<BinaryField8> for BinaryField8 {
     ghost mul_gives = { λ x y r. r.repr ≡ tower_mul 3 x.repr y.repr };
 
     fn mul(self, other: BinaryField8) -> BinaryField8 {
-        self.reference_mul(other)
+        BinaryField8 {
+            repr: multiply_8(self.repr, other.repr),
+        }
     }
 }
 
@@ -238,7 +263,12 @@ impl PrimeCharacteristicRing for BinaryField8 {
     ghost NEG_ONE = { record { repr = 1; in_range = lit< tt } };
 
     fn square(&self) -> BinaryField8 {
-        BinaryField8::from_halves(quadratic::square(self.halves()))
+        self.squared()
+    }
+
+    // The count is reduced by the bits, and one conjugation is half of them.
+    fn exp_power_of_2(&self, count: usize) -> BinaryField8 {
+        self.squarings(count % 8)
     }
 
     ghost zero_law = { refl };
@@ -286,18 +316,35 @@ impl PrimeCharacteristicRing for BinaryField8 {
 
 impl Field for BinaryField8 {
     ghost use Rattle.bf_base.proofs.TowerLaws.{tower_frobenius};
+    ghost use Rattle.bf_tables.proofs.LevelLaws.{level_generator};
+
+    const GENERATOR: BinaryField8 = BinaryField8 { repr: 0x13 };
+
+    ghost GENERATOR = { record { repr = 0x13; in_range = lit< tt } };
 
     fn bits() -> usize {
         8
     }
 
     fn try_inverse(&self) -> Option<BinaryField8> {
-        if self.repr == 0 { None } else { Some(self.invert()) }
+        if self.repr == 0 {
+            None
+        } else {
+            Some(self.invert())
+        }
+    }
+
+    fn try_sqrt(&self) -> Option<BinaryField8> {
+        Some(BinaryField8 {
+            repr: sqrt_8(self.repr),
+        })
     }
 
     fn interpolation_node(i: usize) -> BinaryField8 {
         BinaryField8 { repr: i as u8 }
     }
+
+    ghost generator_law = { λ small. level_generator 3 (lit≤ tt) };
 
     ghost wide_law = { lit< tt };
 
@@ -318,6 +365,8 @@ impl Sealed for BinaryField8 {}
 
 impl TowerLevel for BinaryField8 {
     ghost use Rattle.bf_base.proofs.TowerTraces.{root-lt};
+    ghost use Rattle.bf_tables.proofs.LevelLaws.{level_cantor};
+    ghost use Rattle.bf_tables.specs.Cantor.{cantor_vector};
 
     type Repr = u8;
 
@@ -329,6 +378,8 @@ impl TowerLevel for BinaryField8 {
 
     ghost alpha = { root 3 };
 
+    ghost cantor = { cantor_vector };
+
     fn from_repr(bits: u8) -> BinaryField8 {
         BinaryField8 { repr: bits }
     }
@@ -338,8 +389,18 @@ impl TowerLevel for BinaryField8 {
     }
 
     fn mul_alpha(self) -> BinaryField8 {
-        BinaryField8::from_halves(quadratic::multiply_by_root(self.halves()))
+        BinaryField8 {
+            repr: multiply_by_root_8(self.repr),
+        }
     }
+
+    fn cantor_basis(i: usize) -> BinaryField8 {
+        BinaryField8 {
+            repr: cantor_vector(i) as u8,
+        }
+    }
+
+    ghost cantor_law = { level_cantor 3 (lit≤ tt) };
 
     ghost bits_law = { refl };
 

@@ -1,5 +1,6 @@
 // Fields of characteristic two.
-ghost use Rattle.std.specs.Prelude.{◌≡◌, ◌≢◌, ◌↔◌, ◌^◌, ◌<◌, ℕ, IsTrue, IsNone, IsSomeAnd, IfSome};
+ghost use Rattle.std.specs.Prelude.{◌≡◌, ◌≢◌, ◌↔◌, ◌^◌, ◌<◌, ◌≤◌, ℕ, IsTrue, IsNone, IsSomeAnd, IfSome};
+ghost use Rattle.bf_base.specs.Orders.{HasFullOrder};
 ghost use Rattle.bf_base.specs.Powers.{squared};
 
 use crate::traits::ring::PrimeCharacteristicRing;
@@ -7,6 +8,11 @@ use std::ops::{Div, DivAssign};
 
 /// A field with 2 to the power of `bits` elements.
 pub trait Field: PrimeCharacteristicRing + Div<Self, Output = Self> + DivAssign<Self> {
+    /// An element of which every element but 0 is a power. Up to 16 bits that is a law of this trait; above, it is tested.
+    const GENERATOR: Self;
+
+    ghost GENERATOR: { Self };
+
     /// The bits of an element's representation.
     fn bits() -> usize
         ensures { result ≡ Self.width };
@@ -59,6 +65,8 @@ pub trait Field: PrimeCharacteristicRing + Div<Self, Output = Self> + DivAssign<
     fn interpolation_node(i: usize) -> Self
         requires { i < 2 ^ Self.width }
         ensures { Self.repr result ≡ i };
+
+    ghost generator_law: { Self.width ≤ 16 → HasFullOrder Self.width Self.product (Self.repr GENERATOR) };
 
     ghost wide_law: { 0 < Self.width };
 

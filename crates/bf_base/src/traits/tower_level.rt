@@ -1,5 +1,6 @@
 // Fields whose bits are a power of two: the levels of the tower, and the fields that are one of them in another basis.
 ghost use Rattle.std.specs.Prelude.{◌≡◌, ◌%◌, ◌^◌, ◌<◌, ℕ};
+ghost use Rattle.bf_base.specs.Orders.{AreCantorVectors};
 
 use crate::traits::field::Field;
 
@@ -21,6 +22,9 @@ pub trait TowerLevel: Field + Sealed {
 
     ghost alpha: { ℕ };
 
+    // Cantor vector i, of as many as the field has bits.
+    ghost cantor: { ℕ → ℕ };
+
     /// The element of a representation. Bits above the field are dropped.
     fn from_repr(bits: Self::Repr) -> Self
         ensures { Self.repr result ≡ number bits % 2 ^ Self.width };
@@ -33,6 +37,14 @@ pub trait TowerLevel: Field + Sealed {
     /// element itself.
     fn mul_alpha(self) -> Self
         ensures { Self.repr result ≡ Self.product alpha (Self.repr self) };
+
+    /// Cantor vector i: vector 0 is 1, and v² + v of each other vector v is the one before it. Of the two solutions it is
+    /// the one whose representation in the tower is even.
+    fn cantor_basis(i: usize) -> Self
+        requires { i < Self.width }
+        ensures { Self.repr result ≡ cantor i };
+
+    ghost cantor_law: { AreCantorVectors Self.width Self.product cantor };
 
     ghost bits_law: { Self.width ≡ 2 ^ LOG_BITS };
 

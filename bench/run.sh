@@ -1,0 +1,37 @@
+#!/bin/sh
+# Builds the static library and the driver, and runs it: run.sh [SAMPLES] [MILLISECONDS]. See README.md.
+set -eu
+here=$(cd "$(dirname "$0")" && pwd)
+crate=$(cd "$here/../crates/bf_ffi" && pwd)
+RT=${RT:-rt}
+
+mkdir -p "$here/target"
+log="$here/target/lib.log"
+if ! (cd "$crate" && "$RT" lib) > "$log" 2>&1; then
+    tail -n 40 "$log" >&2
+    echo "run.sh: bf_ffi was not built; all of its output is in $log" >&2
+    exit 1
+fi
+
+# A manifest beside the repository's own, since a path in it cannot come from the environment.
+manifest="$here/Cargo.toml"
+features=""
+if [ -n "${RUST_CRATE:-}" ]; then
+    rust_crate=$(cd "$RUST_CRATE/p3-binary-field" && pwd)
+    both="$here/target/both"
+    mkdir -p "$both"
+    ln -sfn "$here/src" "$both/src"
+    ln -sfn "$here/build.rs" "$both/build.rs"
+    { cat "$here/Cargo.toml"; echo "p3-binary-field = { path = \"$rust_crate\" }"; } > "$both/Cargo.toml"
+    manifest="$both/Cargo.toml"
+    features="--features rust_crate"
+fi
+
+export BF_FFI_FOLDER="$crate/out"
+export CARGO_TARGET_DIR="$here/target"
+# shellcheck disable=SC2086
+cargo build --offline --quiet --release --manifest-path "$manifest" $features
+
+processor=$(sed -n 's/^model name[^:]*: //p' /proc/cpuinfo | head -n 1)
+echo "$(date -u +%Y-%m-%d); $processor; $(rustc --version), RUSTFLAGS='${RUSTFLAGS:-}'; $("$RT" version)"
+exec "$here/target/release/bench" "$@"

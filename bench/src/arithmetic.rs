@@ -1,0 +1,43 @@
+//! What is timed: the functions of one side over slices of words.
+
+/// Reads words and writes words.
+pub type Unary<W> = fn(&[W], &mut [W]);
+
+/// The functions of one side for the field whose elements are words `W`.
+pub struct Arithmetic<W> {
+    /// Writes the product of the words at each index.
+    pub multiply: fn(&[W], &[W], &mut [W]),
+    /// Multiplies a word by each factor in turn.
+    pub chain: fn(&[W], &mut W),
+    pub square: Unary<W>,
+    pub inverse: Unary<W>,
+    pub square_root: Unary<W>,
+}
+
+/// An unsigned number that holds an element of the field of as many bits.
+pub trait Word: Copy + Default + PartialEq + 'static {
+    const BITS: u32;
+
+    /// The low bits of a number.
+    fn of(bits: u128) -> Self;
+
+    fn bits(self) -> u128;
+}
+
+macro_rules! word {
+    ($($word:ty),*) => {$(
+        impl Word for $word {
+            const BITS: u32 = <$word>::BITS;
+
+            fn of(bits: u128) -> Self {
+                bits as $word
+            }
+
+            fn bits(self) -> u128 {
+                self.into()
+            }
+        }
+    )*};
+}
+
+word!(u8, u16, u32, u64, u128);

@@ -1,0 +1,59 @@
+-- Each read joins what was done before it.
+use Rattle.std.proofs.Common.{◌≢◌, ℕ, ◌++◌, [], take, ◌∙◌, arith}
+use Rattle.std.proofs.KnownBytes.{Consumes-nil, Consumes-trans}
+use Rattle.std.proofs.lemmas.List.Elements.{All-nil}
+use Rattle.std.proofs.lemmas.Result.{on_ok_weaker, on_err_weaker}
+use Rattle.bf_calc.specs.Watched.{inner_of}
+use Rattle.bf_calc.proofs.ProgressLemmas.{OnErr-from, AnswersLines-none, AnswersAll-end, AnswersFront-end, AnswersLines-next, AnswersFront-next, AnswersFront-kept}
+use Rattle.bf_calc.proofs.engine.run.Goals as goal
+
+pub reads-init : goal.reads-init
+reads-init g c = record {
+  answered = ([], Consumes-nil _, rw (c.new-outbox.ensures, c.new-line.ensures.items) (AnswersLines-none _ [] []));
+  is_line = rw c.new-line.ensures.items (All-nil (λ (b : ℕ). b ≢ 10));
+  room = omega arith;
+  reader_passed = c.requires.reader;
+  writer_passed = c.requires.writer;
+}
+
+pub returns-in-Ok-eq0-clause-ok : goal.returns-in-Ok-eq0-clause-ok
+returns-in-Ok-eq0-clause-ok g c =
+    let so_far = c.reads.invariant.answered in
+    let read = c.in-Ok-eq0.ensures.bytes in
+    on_ok_weaker c.finish.result
+    (λ appended. AnswersAll-end _ (g.R.Read.remaining (inner_of c.reads.reader)) so_far.0 c.reads.line.items _ so_far.1 so_far.2 _ _
+    (rw c.in-Ok-eq0.field-0-test at read.0) (read.1 c.in-Ok-eq0.field-0-test (omega arith)) (rw c.as_slice.ensures.value at appended))
+    c.finish.ensures.ok
+
+pub returns-in-Ok-eq0-clause-err : goal.returns-in-Ok-eq0-clause-err
+returns-in-Ok-eq0-clause-err g c =
+    let so_far = c.reads.invariant.answered in
+    let read = c.in-Ok-eq0.ensures.bytes in
+    on_err_weaker c.finish.result
+    (λ front. AnswersFront-end _ (g.R.Read.remaining (inner_of c.reads.reader)) so_far.0 c.reads.line.items _ so_far.1 so_far.2 _ _
+    (rw c.in-Ok-eq0.field-0-test at read.0) (read.1 c.in-Ok-eq0.field-0-test (omega arith)) (rw c.as_slice.ensures.value at front))
+    c.finish.ensures.err
+
+pub reads-preserved : goal.reads-preserved
+reads-preserved g c =
+    let so_far = c.reads.invariant.answered in
+    let fed = c.in_ok-feed-in-Ok.ensures in
+    let chunk = take c.in-Ok.count c.read.new.buf in
+    record {
+      answered = (so_far.0 ++ chunk, Consumes-trans _ _ _ so_far.0 chunk so_far.1 c.in-Ok.ensures.bytes.0, AnswersLines-next chunk so_far.2 fed.ok);
+      is_line = fed.line;
+      room = omega arith;
+      reader_passed = c.in-Ok.ensures.passed ∙ c.reads.invariant.reader_passed;
+      writer_passed = fed.failed.1;
+    }
+
+pub returns-in_err-feed-in-Ok-clause-err : goal.returns-in_err-feed-in-Ok-clause-err
+returns-in_err-feed-in-Ok-clause-err g c =
+    let so_far = c.reads.invariant.answered in
+    let fed = c.in_err-feed-in-Ok.ensures.err in
+    OnErr-from _ _ (AnswersFront-next _ (g.R.Read.remaining (inner_of c.reads.reader)) so_far.0 c.reads.line.items _ so_far.1 so_far.2 _ _ c.in-Ok.ensures.bytes.0 fed.2)
+
+pub returns-in-Err-clause-err : goal.returns-in-Err-clause-err
+returns-in-Err-clause-err g c =
+    let so_far = c.reads.invariant.answered in
+    AnswersFront-kept _ (g.R.Read.remaining (inner_of c.reads.reader)) so_far.0 c.reads.line.items _ so_far.1 so_far.2 _ c.in-Err.ensures.bytes

@@ -1,0 +1,11 @@
+pub mod Answer
+pub mod Digits
+pub mod Fields
+pub mod Lines
+pub mod Operations
+pub mod Outbox
+pub mod Progress
+pub mod RunError
+pub mod Text
+pub mod Watched
+pub mod Words

@@ -1,0 +1,23 @@
+// Laws of the definitions, as contracts of functions that compute nothing.
+ghost use Rattle.bf_calc.specs.Words.{EmptyLineHasNoWord, RunIsOneWord, SpaceDividesWords};
+ghost use Rattle.bf_calc.specs.Digits.{TextIsReadBack};
+ghost use Rattle.bf_calc.specs.Operations.{InverseInverts, RootIsRoot};
+
+/// States what the words of a line are: an empty line has none, bytes with no space among them are one, and a space
+/// divides those before it from those after it.
+pub fn words_by_spaces()
+    ensures empty { EmptyLineHasNoWord }
+    ensures run { RunIsOneWord }
+    ensures space { SpaceDividesWords }
+{}
+
+/// States that the text of an element is an operand with the element's number.
+pub fn text_is_read_back()
+    ensures { TextIsReadBack }
+{}
+
+/// States that `inv` gives the inverse, whose product with the operand is 1, and `sqrt` the root, whose square it is.
+pub fn inverse_and_root()
+    ensures inverse { InverseInverts }
+    ensures root { RootIsRoot }
+{}

@@ -1,0 +1,115 @@
+// The answers to lines: the order of what may be wrong with one, the spaces in it and the case of its digits.
+use crate::answer;
+use std::test::Fail;
+
+// Lines and their answers: first the order of the errors, the spaces and the case of the digits. The products of the low
+// levels follow by hand from the square of the root that a level adjoins, as 10 times 10 at 8 bits is 41.
+const ANSWERS: [(&[u8], &[u8]); 30] = [
+    (b"t8 mul 10 10", b"41"),
+    (b"t8 mul 10 01", b"10"),
+    (b"t8 add 10 01", b"11"),
+    (b"t8 add ff 0f", b"f0"),
+    (b"t8 add FF 0f", b"f0"),
+    (b"t8 add aB Cd", b"66"),
+    (b"t4 mul 04 04", b"09"),
+    (b"t4 add 0f 0a", b"05"),
+    (b"t2 mul 02 02", b"03"),
+    (b"t2 add 03 01", b"02"),
+    (b"gf2 mul 01 01", b"01"),
+    (b"gf2 add 01 01", b"00"),
+    (b"   t8   mul  10 10  ", b"41"),
+    (b"", b"error 1"),
+    (b"   ", b"error 1"),
+    (b"t9 add 01 01", b"error 1"),
+    (b"T8 mul 10 10", b"error 1"),
+    (b"t8", b"error 2"),
+    (b"t8 div 01 01", b"error 2"),
+    (b"t8 MUL 01 01", b"error 2"),
+    (b"t8 mul", b"error 3"),
+    (b"t8 mul 01", b"error 3"),
+    (b"t2 mul 04", b"error 3"),
+    (b"t8 mul 01 01 01", b"error 3"),
+    (b"t4 add 1 02", b"error 4"),
+    (b"t2 mul 04 1", b"error 4"),
+    (b"t8 mul 01 0g", b"error 4"),
+    (b"t8 mul 10 10\r", b"error 4"),
+    (b"t2 mul 04 01", b"error 5"),
+    (b"\xff", b"error 6"),
+];
+
+// Lines whose answers the Rust crate p3-binary-field 0.8.0 gave.
+const REFERENCE: [(&[u8], &[u8]); 23] = [
+    (b"t16 mul 0100 0100", b"1001"),
+    (b"t16 add d6af BC2f", b"6a80"),
+    (b"t32 mul 38492249 c9558eac", b"1a1eca61"),
+    (
+        b"t64 mul 75e923be72ddbe94 aeea51ee81bfc2fa",
+        b"0ec81c3964304c8f",
+    ),
+    (
+        b"t128 mul 0123456789abcdef0123456789abcdef fedcba9876543210fedcba9876543210",
+        b"c4fa634963498a8f0000000000000000",
+    ),
+    (b"t8 square ff", b"70"),
+    (b"t64 square 0123456789ABCDEF", b"828181106dd50000"),
+    (b"gf2 inv 01", b"01"),
+    (b"gf2 inv 00", b"none"),
+    (b"t2 inv 02", b"03"),
+    (b"t8 inv 10", b"14"),
+    (b"t8 inv 00", b"none"),
+    (b"t32 inv 00000000", b"none"),
+    (b"t64 inv 6b4931dccedd7f07", b"d16de9812ae1bf9d"),
+    (
+        b"t128 inv 00000000000000010000000000000000",
+        b"00000000000000010000000100000000",
+    ),
+    (b"t4 sqrt 0e", b"0c"),
+    (b"t8 sqrt d2", b"b8"),
+    (
+        b"t128 sqrt 0123456789abcdef0123456789abcdef",
+        b"c7e785ca4bd72cf23a6f0c596e0dcbdd",
+    ),
+    (b"t8 inv", b"error 3"),
+    (b"t8 inv 10 10", b"error 3"),
+    (b"t8 sqrt 100", b"error 4"),
+    (b"t4 inv 10", b"error 5"),
+    (b"t128 inv 0", b"error 4"),
+];
+
+#[test]
+fn each_line_has_its_answer(rt: HostRuntime) -> Result<(), Fail> {
+    for (line, expected) in ANSWERS {
+        assert_eq!(rt; answer(line).as_bytes(), expected);
+    }
+    Ok(())
+}
+
+#[test]
+fn the_answers_are_those_of_another_implementation(rt: HostRuntime) -> Result<(), Fail> {
+    for (line, expected) in REFERENCE {
+        assert_eq!(rt; answer(line).as_bytes(), expected);
+    }
+    Ok(())
+}
+
+#[test]
+fn a_line_of_one_byte_names_no_field(rt: HostRuntime) -> Result<(), Fail> {
+    for byte in 0..=255u8 {
+        let expected = if byte < 128 { b"error 1" } else { b"error 6" };
+        assert_eq!(rt; answer(&[byte]).as_bytes(), expected.as_slice());
+    }
+    Ok(())
+}
+
+#[test]
+fn a_line_that_is_no_text_is_refused_before_all_else(rt: HostRuntime) -> Result<(), Fail> {
+    assert_eq!(rt;
+        answer(b"t8 mul 10 10 \xc3").as_bytes(),
+        b"error 6".as_slice()
+    );
+    assert_eq!(rt;
+        answer(b"t8 mul 10 10 \xc3\xa9").as_bytes(),
+        b"error 3".as_slice()
+    );
+    Ok(())
+}

@@ -1,0 +1,51 @@
+// The text of an answer.
+ghost use Rattle.std.specs.Prelude.{◌≡◌, ◌≤◌, ◌<◌, ◌*◌, length};
+ghost use Rattle.bf_calc.specs.Digits.{hex_text};
+
+/// The bytes with which a line is answered, at most 48, without a line feed.
+#[derive(Drop)]
+pub struct Answer {
+    bytes: [u8; 48],
+    len: usize,
+    ghost fits: { len ≤ 48 },
+}
+
+impl Answer {
+    ghost use Rattle.bf_calc.specs.Text.{answer_bytes};
+
+    /// The answer of these bytes.
+    pub(crate) fn from_text(text: &[u8]) -> Answer
+        requires { length text.now ≤ 48 }
+        ensures { answer_bytes result ≡ text.now }
+    {
+        let mut bytes = [0; 48];
+        let len = text.len();
+        bytes[..len].copy_from_slice(text);
+        Answer { bytes, len }
+    }
+
+    /// The number of an element as hexadecimal text, two digits for each of its `num_bytes` bytes.
+    pub(crate) fn from_number(number: u128, num_bytes: usize) -> Answer
+        requires { num_bytes ≤ 16 }
+        ensures { answer_bytes result ≡ hex_text num_bytes number }
+    {
+        let mut bytes = [0; 48];
+        let all_bytes = number.to_be_bytes();
+        let low_bytes = &all_bytes[16 - num_bytes..];
+        let encoded = hex::encode_to_slice(low_bytes, &mut bytes[..2 * num_bytes]);
+        if encoded.is_err() {
+            unreachable!();
+        }
+        Answer {
+            bytes,
+            len: 2 * num_bytes,
+        }
+    }
+
+    /// The bytes of the answer.
+    pub fn as_bytes(&self) -> &[u8]
+        ensures { result.now ≡ answer_bytes self.now }
+    {
+        &self.bytes[..self.len]
+    }
+}

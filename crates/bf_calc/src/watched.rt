@@ -1,0 +1,152 @@
+//! A reader or a writer that remembers whether it failed.
+ghost use Rattle.std.specs.Prelude.{◌≡◌, ◌+◌, ◌-◌, ◌^◌, ◌<◌, ◌≤◌, true, false, length, IfOk, OnOk, OnErr};
+ghost use Rattle.std.specs.Io.{ReadsAtMost, WritesAtMost};
+ghost use Rattle.std.specs.Io.KnownBytes.{Keeps, ReadConsumes, WriteAppends};
+
+use std::io;
+use std::io::{ErrorKind, Read, Write};
+
+/// A reader or a writer whose failure is remembered.
+///
+/// It passes each call on. A call fails only where the inner one answered an error, where a write
+/// of one byte or more took none, or where `u64::MAX` reads are spent; an interruption is an
+/// error like any other.
+#[derive(Drop)]
+pub struct Watched<T> {
+    inner: T,
+    has_failed: bool,
+    reads_left: u64,
+}
+
+impl<T> Watched<T> {
+    ghost use Rattle.bf_calc.specs.Watched.{inner_of, has_failed, reads_left};
+
+    /// Watches `inner`, which has not failed yet.
+    pub fn new(inner: T) -> Watched<T>
+        ensures inner { inner_of result ≡ inner }
+        ensures failed { has_failed result ≡ false }
+        ensures reads { reads_left result ≡ 2 ^ 64 - 1 }
+    {
+        Watched {
+            inner,
+            has_failed: false,
+            reads_left: u64::MAX,
+        }
+    }
+
+    /// Whether a call has failed.
+    pub fn failed(&self) -> bool
+        ensures { result ≡ has_failed self.now }
+    {
+        self.has_failed
+    }
+
+    /// The reader or writer that was watched.
+    pub fn into_inner(self) -> T
+        ensures { result ≡ inner_of self }
+    {
+        let Watched {
+            inner,
+            has_failed: _,
+            reads_left: _,
+        } = self;
+        inner
+    }
+
+    fn fail(&mut self, error: io::Error) -> io::Error
+        ensures inner { inner_of self.new ≡ inner_of self.old }
+        ensures failed { has_failed self.new ≡ true }
+        ensures reads { reads_left self.new ≡ reads_left self.old }
+    {
+        self.has_failed = true;
+        error
+    }
+}
+
+impl<T: Read> Read for Watched<T> {
+    ghost use Rattle.bf_calc.specs.Watched.{inner_of, has_failed, reads_left};
+
+    ghost remaining = { λ w. T.remaining (inner_of w) };
+
+    fn read(&mut self, buf: &mut [u8]) -> io::Result<usize>
+        ensures bound { ReadsAtMost result buf.new }
+        ensures bytes { ReadConsumes (T.remaining (inner_of self.old))
+            (T.remaining (inner_of self.new)) result buf.new }
+        // A read that gives bytes, or the end, spends one of those that are left.
+        ensures passed { OnOk result (has_failed self.new ≡ has_failed self.old) }
+        ensures spent { OnOk result (reads_left self.new + 1 ≡ reads_left self.old) }
+        ensures failed { OnErr result (has_failed self.new ≡ true) }
+        ensures unspent { OnErr result (reads_left self.new ≡ reads_left self.old) }
+    {
+        if self.reads_left == 0 {
+            return Err(self.fail(ErrorKind::Other.into()));
+        }
+        match self.inner.read(buf) {
+            Ok(count) => {
+                self.reads_left -= 1;
+                Ok(count)
+            }
+            Err(error) => Err(self.fail(error)),
+        }
+    }
+}
+
+impl<T: Write> Write for Watched<T> {
+    ghost use Rattle.bf_calc.specs.Watched.{inner_of, has_failed, reads_left};
+
+    ghost contents = { λ w. T.contents (inner_of w) };
+
+    fn write(&mut self, buf: &[u8]) -> io::Result<usize>
+        ensures bound { WritesAtMost result buf.now }
+        ensures bytes { WriteAppends (T.contents (inner_of self.old))
+            (T.contents (inner_of self.new)) result buf.now }
+        ensures some { IfOk result (λ count. 0 < length buf.now → 0 < count) }
+        ensures passed { OnOk result (has_failed self.new ≡ has_failed self.old) }
+        ensures failed { OnErr result (has_failed self.new ≡ true) }
+        ensures reads { reads_left self.new ≡ reads_left self.old }
+    {
+        match self.inner.write(buf) {
+            Ok(0) if !buf.is_empty() => Err(self.fail(ErrorKind::WriteZero.into())),
+            Ok(count) => Ok(count),
+            Err(error) => Err(self.fail(error)),
+        }
+    }
+
+    fn flush(&mut self) -> io::Result<()>
+        ensures bytes { Keeps (T.contents (inner_of self.old)) (T.contents (inner_of self.new)) }
+        ensures passed { OnOk result (has_failed self.new ≡ has_failed self.old) }
+        ensures failed { OnErr result (has_failed self.new ≡ true) }
+        ensures reads { reads_left self.new ≡ reads_left self.old }
+    {
+        match self.inner.flush() {
+            Ok(()) => Ok(()),
+            Err(error) => Err(self.fail(error)),
+        }
+    }
+}
+
+#[cfg(test)]
+mod tests {
+    use super::*;
+    use std::test::Fail;
+
+    #[test]
+    fn a_read_past_the_last_fails(rt: HostRuntime) -> Result<(), Fail> {
+        let mut reader = Watched {
+            inner: b"ab".as_slice(),
+            has_failed: false,
+            reads_left: 1,
+        };
+        let mut buf = [0; 1];
+        assert_eq!(rt; reader.read(&mut buf)?, 1);
+        assert!(rt; !reader.failed());
+        assert!(rt; reader.read(&mut buf).is_err());
+        assert!(rt; reader.failed());
+        assert_eq!(rt;
+            reader.into_inner(),
+            b"b".as_slice(),
+            "the inner reader was called"
+        );
+        Ok(())
+    }
+}

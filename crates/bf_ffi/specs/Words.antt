@@ -1,0 +1,25 @@
+-- Words as numbers, and slices of words whose places belong together.
+use Rattle.std.specs.Prelude.{◌≡◌, ◌≢◌, ℕ, ◌+◌, ◌*◌, ◌^◌, ◌<◌, List, length, get_or}
+use Rattle.bf_ffi.specs.declared.words.Wide.{Wide}
+
+-- the number of 128 bits that two words of 64 are, low half first
+abbrev pub wide_number : Wide → ℕ
+wide_number word = word.high * 2 ^ 64 + word.low
+
+-- the number of 128 bits at an index, and 0 past the end
+abbrev pub wide_at : List Wide → ℕ → ℕ
+wide_at words k = wide_number (get_or words k (record { low = 0; high = 0 }))
+
+-- `y` is the inverse of `x` under the product `times`, or both are 0
+abbrev pub IsInverseOrZero : (ℕ → ℕ → ℕ) → ℕ → ℕ → Type 0
+IsInverseOrZero times x y = (x ≡ 0 → y ≡ 0) × (x ≢ 0 → times x y ≡ 1)
+
+-- each word of `ys` is related to the word of `xs` at its index; `number` is what a word stands for
+abbrev pub Each : {W : Type 0} → (W → ℕ) → (ℕ → ℕ → Type 0) → List W → List W → Type 0
+Each number relates xs ys =
+    (k : ℕ) → k < length ys → (d : _) → relates (number (get_or xs k d)) (number (get_or ys k d))
+
+-- each word of `zs` is the product of the words of `xs` and `ys` at its index
+abbrev pub EachProduct : {W : Type 0} → (W → ℕ) → (ℕ → ℕ → ℕ) → List W → List W → List W → Type 0
+EachProduct number times xs ys zs =
+    (k : ℕ) → k < length zs → (d : _) → number (get_or zs k d) ≡ times (number (get_or xs k d)) (number (get_or ys k d))

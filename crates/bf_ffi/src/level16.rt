@@ -1,0 +1,51 @@
+// GF(2^16), level 4 of the tower, in words of 16 bits.
+ghost use Rattle.std.specs.Prelude.{◌≡◌, length, fold, slice_index, EachIndex};
+ghost use Rattle.bf_base.specs.Tower.{tower_mul};
+ghost use Rattle.bf_ffi.specs.Words.{IsInverseOrZero};
+
+use crate::slices;
+
+/// Writes the product of the elements at each index.
+#[unsafe(no_mangle)]
+pub extern "C" fn bf_multiply_16(left: &[u16], right: &[u16], products: &mut [u16])
+    requires left_fits { length left.now ≡ length products.old }
+    requires right_fits { length right.now ≡ length products.old }
+    ensures { EachIndex products.new (λ k. slice_index products.new k ≡ tower_mul 4 (slice_index left.now k) (slice_index right.now k)) }
+{
+    slices::multiply(left, right, products);
+}
+
+/// Multiplies `product` by each factor in turn, so that each product waits for the one before.
+#[unsafe(no_mangle)]
+pub extern "C" fn bf_chain_16(factors: &[u16], product: &mut u16)
+    ensures { product.new ≡ fold (tower_mul 4) product.old factors.now }
+{
+    slices::chain(factors, product);
+}
+
+/// Writes the square of the element at each index.
+#[unsafe(no_mangle)]
+pub extern "C" fn bf_square_16(words: &[u16], squares: &mut [u16])
+    requires { length words.now ≡ length squares.old }
+    ensures { EachIndex squares.new (λ k. slice_index squares.new k ≡ tower_mul 4 (slice_index words.now k) (slice_index words.now k)) }
+{
+    slices::square(words, squares);
+}
+
+/// Writes the inverse of the element at each index, and 0 where that is 0.
+#[unsafe(no_mangle)]
+pub extern "C" fn bf_inverse_16(words: &[u16], inverses: &mut [u16])
+    requires { length words.now ≡ length inverses.old }
+    ensures { EachIndex inverses.new (λ k. IsInverseOrZero (tower_mul 4) (slice_index words.now k) (slice_index inverses.new k)) }
+{
+    slices::invert(words, inverses);
+}
+
+/// Writes the square root of the element at each index.
+#[unsafe(no_mangle)]
+pub extern "C" fn bf_square_root_16(words: &[u16], roots: &mut [u16])
+    requires { length words.now ≡ length roots.old }
+    ensures { EachIndex roots.new (λ k. tower_mul 4 (slice_index roots.new k) (slice_index roots.new k) ≡ slice_index words.now k) }
+{
+    slices::square_root(words, roots);
+}

@@ -1,0 +1,9 @@
+pub mod AdjoinedRoots
+pub mod ByteTables
+pub mod CantorVectors
+pub mod LinearMaps
+pub mod Orders
+pub mod SquareTables
+pub mod Squares
+pub mod TableChecks
+pub mod LevelLaws

@@ -1,0 +1,83 @@
+-- The byte tables of squares and of square roots, each checked whole by computation, and what their sums are.
+use Rattle.std.proofs.Common.{◌≡◌, ℕ, ◌^◌, ◌<◌, true, refl, sym, ◌∙◌, ap, ap₂, arith, lit≤}
+use Rattle.std.specs.Prelude.{bit_xor}
+use native.Mathlib.Nat.{mod-eq_of_lt}
+use Rattle.bf_base.specs.Tower.{tower_mul}
+use Rattle.bf_base.proofs.PowerLemmas.{square_xor}
+use Rattle.bf_base.proofs.TowerRing.{tower_ring}
+use Rattle.bf_tables.specs.Linear.{sum_of_entries, IsAdditive}
+use Rattle.bf_tables.specs.declared.linear.roots.TheConstants.{ROOTS_16, ROOTS_32, ROOTS_64}
+use Rattle.bf_tables.specs.declared.linear.squares.TheConstants.{SQUARES_16, SQUARES_32, SQUARES_64}
+use Rattle.bf_tables.proofs.LinearMaps.{entry_passes, sum_of_entries_is}
+use Rattle.bf_tables.proofs.Squares.{root_product, square_of, square_of_is, squares_joined}
+use Rattle.bf_tables.proofs.TableChecks.{passes}
+
+-- the square is additive, and so is the map that leaves a number as it is
+square_of_additive : (k : ℕ) → IsAdditive (square_of k)
+square_of_additive k a b =
+    square_of_is k (bit_xor a b) ∙ square_xor (2 ^ k) 1 (tower_mul k) (tower_ring k) a b
+    ∙ ap₂ bit_xor (sym (square_of_is k a)) (sym (square_of_is k b))
+
+same_additive : IsAdditive (λ x. x)
+same_additive a b = refl
+
+-- ---- squares
+
+squares_16_pass : passes (entry_passes (λ x. x) (square_of 4)) 0 SQUARES_16 ≡ true
+unfolding passes entry_passes square_of squares_joined root_product
+squares_16_pass = refl
+
+squares_32_pass : passes (entry_passes (λ x. x) (square_of 5)) 0 SQUARES_32 ≡ true
+unfolding passes entry_passes square_of squares_joined root_product
+squares_32_pass = refl
+
+squares_64_pass : passes (entry_passes (λ x. x) (square_of 6)) 0 SQUARES_64 ≡ true
+unfolding passes entry_passes square_of squares_joined root_product
+squares_64_pass = refl
+
+pub squares_16 : (x : ℕ) → x < 2 ^ 16 → sum_of_entries 2 SQUARES_16 x ≡ tower_mul 4 x x
+squares_16 x fits =
+    sum_of_entries_is (λ y. y) (square_of 4) same_additive (square_of_additive 4) SQUARES_16 squares_16_pass 2 x (lit≤ tt)
+    ∙ ap (square_of 4) (mod-eq_of_lt fits) ∙ square_of_is 4 x
+
+pub squares_32 : (x : ℕ) → x < 2 ^ 32 → sum_of_entries 4 SQUARES_32 x ≡ tower_mul 5 x x
+squares_32 x fits =
+    sum_of_entries_is (λ y. y) (square_of 5) same_additive (square_of_additive 5) SQUARES_32 squares_32_pass 4 x (lit≤ tt)
+    ∙ ap (square_of 5) (mod-eq_of_lt fits) ∙ square_of_is 5 x
+
+pub squares_64 : (x : ℕ) → x < 2 ^ 64 → sum_of_entries 8 SQUARES_64 x ≡ tower_mul 6 x x
+squares_64 x fits =
+    sum_of_entries_is (λ y. y) (square_of 6) same_additive (square_of_additive 6) SQUARES_64 squares_64_pass 8 x (lit≤ tt)
+    ∙ ap (square_of 6) (mod-eq_of_lt fits) ∙ square_of_is 6 x
+
+-- ---- square roots
+
+roots_16_pass : passes (entry_passes (square_of 4) (λ x. x)) 0 ROOTS_16 ≡ true
+unfolding passes entry_passes square_of squares_joined root_product
+roots_16_pass = refl
+
+roots_32_pass : passes (entry_passes (square_of 5) (λ x. x)) 0 ROOTS_32 ≡ true
+unfolding passes entry_passes square_of squares_joined root_product
+roots_32_pass = refl
+
+roots_64_pass : passes (entry_passes (square_of 6) (λ x. x)) 0 ROOTS_64 ≡ true
+unfolding passes entry_passes square_of squares_joined root_product
+roots_64_pass = refl
+
+pub roots_16 : (x : ℕ) → x < 2 ^ 16 → tower_mul 4 (sum_of_entries 2 ROOTS_16 x) (sum_of_entries 2 ROOTS_16 x) ≡ x
+roots_16 x fits =
+    sym (square_of_is 4 (sum_of_entries 2 ROOTS_16 x))
+    ∙ sum_of_entries_is (square_of 4) (λ y. y) (square_of_additive 4) same_additive ROOTS_16 roots_16_pass 2 x (lit≤ tt)
+    ∙ mod-eq_of_lt fits
+
+pub roots_32 : (x : ℕ) → x < 2 ^ 32 → tower_mul 5 (sum_of_entries 4 ROOTS_32 x) (sum_of_entries 4 ROOTS_32 x) ≡ x
+roots_32 x fits =
+    sym (square_of_is 5 (sum_of_entries 4 ROOTS_32 x))
+    ∙ sum_of_entries_is (square_of 5) (λ y. y) (square_of_additive 5) same_additive ROOTS_32 roots_32_pass 4 x (lit≤ tt)
+    ∙ mod-eq_of_lt fits
+
+pub roots_64 : (x : ℕ) → x < 2 ^ 64 → tower_mul 6 (sum_of_entries 8 ROOTS_64 x) (sum_of_entries 8 ROOTS_64 x) ≡ x
+roots_64 x fits =
+    sym (square_of_is 6 (sum_of_entries 8 ROOTS_64 x))
+    ∙ sum_of_entries_is (square_of 6) (λ y. y) (square_of_additive 6) same_additive ROOTS_64 roots_64_pass 8 x (lit≤ tt)
+    ∙ mod-eq_of_lt fits

@@ -1,0 +1,4 @@
+pub mod Cantor
+pub mod Generators
+pub mod Linear
+pub mod Tables

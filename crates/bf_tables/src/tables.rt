@@ -1,0 +1,107 @@
+// GF(2^8), level 3 of the tower, by tables: a product is 0x13 to the power of the sum of the logarithms of its operands.
+ghost use Rattle.std.specs.Prelude.{◌≡◌, ◌≢◌, ◌<◌, slice_index};
+ghost use Rattle.bf_base.specs.Tower.{root, tower_mul};
+ghost use Rattle.bf_tables.specs.Tables.{EntriesArePowers, EntriesAreLogarithms, ZeroHasLogarithmZero};
+ghost use Rattle.bf_tables.specs.declared.tables.literals.TheConstants.{EXP, INVERSES, LOG, ROOTS, ROOT_PRODUCTS, SQUARES};
+
+mod literals;
+
+// The entry of EXP at `exponent`.
+#[inline]
+fn power_of_generator(exponent: usize) -> u8
+    requires { exponent < 511 }
+    ensures { result ≡ slice_index EXP exponent }
+{
+    literals::EXP[exponent]
+}
+
+// The entry of LOG at `a`.
+#[inline]
+fn logarithm(a: u8) -> u8
+    ensures { result ≡ slice_index LOG a }
+{
+    literals::LOG[a as usize]
+}
+
+// The entry of INVERSES at `a`.
+#[inline]
+fn inverse_entry(a: u8) -> u8
+    ensures { result ≡ slice_index INVERSES a }
+{
+    literals::INVERSES[a as usize]
+}
+
+// The entry of SQUARES at `a`.
+#[inline]
+fn square_entry(a: u8) -> u8
+    ensures { result ≡ slice_index SQUARES a }
+{
+    literals::SQUARES[a as usize]
+}
+
+// The entry of ROOTS at `a`.
+#[inline]
+fn root_entry(a: u8) -> u8
+    ensures { result ≡ slice_index ROOTS a }
+{
+    literals::ROOTS[a as usize]
+}
+
+// The entry of ROOT_PRODUCTS at `a`.
+#[inline]
+fn root_product_entry(a: u8) -> u8
+    ensures { result ≡ slice_index ROOT_PRODUCTS a }
+{
+    literals::ROOT_PRODUCTS[a as usize]
+}
+
+/// The product of two elements of GF(2^8): 0x13 to the power of the sum of their logarithms, and 0 where an operand is 0,
+/// which has no logarithm.
+#[inline]
+pub fn multiply_8(a: u8, b: u8) -> u8
+    ensures { result ≡ tower_mul 3 a b }
+{
+    let product = power_of_generator(logarithm(a) as usize + logarithm(b) as usize);
+    if a == 0 || b == 0 { 0 } else { product }
+}
+
+/// The square of an element of GF(2^8).
+#[inline]
+pub fn square_8(a: u8) -> u8
+    ensures { result ≡ tower_mul 3 a a }
+{
+    square_entry(a)
+}
+
+/// The inverse of an element of GF(2^8), and 0 for 0.
+#[inline]
+pub fn invert_8(a: u8) -> u8
+    ensures zero { a ≡ 0 → result ≡ 0 }
+    ensures inverse { a ≢ 0 → tower_mul 3 a result ≡ 1 }
+{
+    inverse_entry(a)
+}
+
+/// The square root of an element of GF(2^8). Every element has one.
+#[inline]
+pub fn sqrt_8(a: u8) -> u8
+    ensures { tower_mul 3 result result ≡ a }
+{
+    root_entry(a)
+}
+
+/// The product of an element of GF(2^8) by the root that level 3 adjoins.
+#[inline]
+pub fn multiply_by_root_8(a: u8) -> u8
+    ensures { result ≡ tower_mul 3 (root 3) a }
+{
+    root_product_entry(a)
+}
+
+/// States that the tables of powers and of logarithms hold what they are named for: entry e of EXP is 0x13 to the power
+/// e, and 0x13 to the power of entry x of LOG, which is below 255, is x, for each x but 0. The entry of LOG at 0 is 0.
+pub fn tables_are_powers()
+    ensures powers { EntriesArePowers }
+    ensures logarithms { EntriesAreLogarithms }
+    ensures zero { ZeroHasLogarithmZero }
+{}
