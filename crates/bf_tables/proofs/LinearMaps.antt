@@ -115,16 +115,16 @@ columns_pass f i (column ∷ columns) values =
     (eq-eqb column (f (2 ^ i)) (values 0 (omega arith) ∙ ap (λ (k : ℕ). f (2 ^ k)) first))
     (columns_pass f (suc i) columns
     (λ j inside.
-      let next : i + suc j ≡ suc i + j = omega arith in
-      values (suc j) (omega arith) ∙ ap (λ (k : ℕ). f (2 ^ k)) next))
+    let next : i + suc j ≡ suc i + j = omega arith in
+    values (suc j) (omega arith) ∙ ap (λ (k : ℕ). f (2 ^ k)) next))
 
 pub columns_give_the_map : ColumnsGiveTheMap
 columns_give_the_map f additive columns values x fits =
     apply_columns f additive columns x
     (columns_pass f 0 columns
     (λ j inside.
-      let place : j ≡ 0 + j = omega arith in
-      values j inside ∙ ap (λ (k : ℕ). f (2 ^ k)) place))
+    let place : j ≡ 0 + j = omega arith in
+    values j inside ∙ ap (λ (k : ℕ). f (2 ^ k)) place))
     fits
 
 -- ---- maps by bytes

@@ -56,9 +56,10 @@ full_order : (k g : ℕ) (step : ℕ → ℕ) → ((e : ℕ) → step (power 1 (
     → g < 2 ^ 2 ^ k → g ≢ 0 → never_one step (2 ^ 2 ^ k - 2) g ≡ true → HasFullOrder (2 ^ k) (tower_mul k) g
 full_order k g step steps fits nonzero pass =
     let first : power 1 (tower_mul k) g 1 ≡ g =
-      power-one (2 ^ k) 1 (tower_mul k) (tower_ring k) (one_fits k) g ∙ mod-eq_of_lt fits in
-    (tower_power-units k g fits nonzero,
-    λ e positive inside. never_one_at (tower_mul k) g step steps (2 ^ 2 ^ k - 2) e pass first positive (omega arith))
+    power-one (2 ^ k) 1 (tower_mul k) (tower_ring k) (one_fits k) g ∙ mod-eq_of_lt fits in (
+      tower_power-units k g fits nonzero,
+      λ e positive inside. never_one_at (tower_mul k) g step steps (2 ^ 2 ^ k - 2) e pass first positive (omega arith),
+    )
 
 -- by the product itself, as the step
 steps_of_product : (k g e : ℕ) → tower_mul k (power 1 (tower_mul k) g e) g ≡ power 1 (tower_mul k) g (suc e)

@@ -11,8 +11,8 @@ mod tables;
 mod words;
 
 pub use crate::adjoined::{
-    conjugate_16, conjugate_32, conjugate_64, conjugate_128, divide_by_root_64, multiply_by_root_16, multiply_by_root_32,
-    multiply_by_root_64, multiply_by_root_128,
+    conjugate_16, conjugate_32, conjugate_64, conjugate_128, divide_by_root_64,
+    multiply_by_root_16, multiply_by_root_32, multiply_by_root_64, multiply_by_root_128,
 };
 pub use crate::cantor::{cantor_vector, cantor_vectors_are_solutions};
 pub use crate::columns::{apply_columns_64, apply_columns_128, columns_give_maps};
@@ -20,4 +20,6 @@ pub use crate::generators::{generator, generators_have_full_order};
 pub use crate::linear::{
     sqrt_16, sqrt_32, sqrt_64, sqrt_128, square_16, square_32, square_64, square_128,
 };
-pub use crate::tables::{invert_8, multiply_8, multiply_by_root_8, sqrt_8, square_8, tables_are_powers};
+pub use crate::tables::{
+    invert_8, multiply_8, multiply_by_root_8, sqrt_8, square_8, tables_are_powers,
+};

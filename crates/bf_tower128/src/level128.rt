@@ -5,12 +5,12 @@ ghost use Rattle.std.proofs.Common.{lit<, lit≤, rules};
 ghost use Rattle.bf_base.specs.Powers.{squared, sum_of, product_of};
 ghost use Rattle.bf_base.specs.Tower.{root, tower_mul};
 
+use crate::level64::BinaryField64;
+use bf_base::Gf2;
 use bf_base::quadratic::{self, Halves};
 use bf_base::traits::{
     Field, PrimeCharacteristicRing, Represented, Sealed, TowerLevel, product_of_items, sum_of_items,
 };
-use bf_base::Gf2;
-use crate::level64::BinaryField64;
 use bf_tables::{cantor_vector, conjugate_128, multiply_by_root_128, sqrt_128, square_128};
 use std::iter::{Product, Sum};
 use std::ops::{Add, AddAssign, Div, DivAssign, Mul, MulAssign, Neg, Sub, SubAssign};
@@ -50,7 +50,8 @@ impl BinaryField128 {
         ensures { repr_of result ≡ pair 64 (below_of halves.low) (below_of halves.high) }
     {
         BinaryField128 {
-            repr: u128::from(halves.high.to_repr()) * 0x10000000000000000 + u128::from(halves.low.to_repr()),
+            repr: u128::from(halves.high.to_repr()) * 0x10000000000000000
+                + u128::from(halves.low.to_repr()),
         }
     }
 
@@ -328,7 +329,9 @@ impl Field for BinaryField128 {
     ghost use Rattle.bf_base.proofs.TowerLaws.{tower_frobenius};
     ghost use Rattle.bf_tables.proofs.LevelLaws.{too_wide};
 
-    const GENERATOR: BinaryField128 = BinaryField128 { repr: 0x1_0000_0000_0000_0005 };
+    const GENERATOR: BinaryField128 = BinaryField128 {
+        repr: 0x1_0000_0000_0000_0005,
+    };
 
     ghost GENERATOR = { record { repr = 0x1_0000_0000_0000_0005; in_range = lit< tt } };
 
@@ -337,7 +340,11 @@ impl Field for BinaryField128 {
     }
 
     fn try_inverse(&self) -> Option<BinaryField128> {
-        if self.repr == 0 { None } else { Some(self.invert()) }
+        if self.repr == 0 {
+            None
+        } else {
+            Some(self.invert())
+        }
     }
 
     fn try_sqrt(&self) -> Option<BinaryField128> {
@@ -347,7 +354,9 @@ impl Field for BinaryField128 {
     }
 
     fn interpolation_node(i: usize) -> BinaryField128 {
-        BinaryField128 { repr: u128::from(i as u64) }
+        BinaryField128 {
+            repr: u128::from(i as u64),
+        }
     }
 
     ghost generator_law = { λ small. too_wide 128 (lit< tt) small };

@@ -5,13 +5,13 @@ ghost use Rattle.std.proofs.Common.{lit<, lit≤, rules};
 ghost use Rattle.bf_base.specs.Powers.{squared, sum_of, product_of};
 ghost use Rattle.bf_base.specs.Tower.{root, tower_mul};
 
+use bf_base::Gf2;
 use bf_base::quadratic::{self, Halves};
 use bf_base::traits::{
     Field, PrimeCharacteristicRing, Represented, Sealed, TowerLevel, product_of_items, sum_of_items,
 };
-use bf_base::Gf2;
-use bf_tower32::BinaryField32;
 use bf_tables::{cantor_vector, conjugate_64, multiply_by_root_64, sqrt_64, square_64};
+use bf_tower32::BinaryField32;
 use std::iter::{Product, Sum};
 use std::ops::{Add, AddAssign, Div, DivAssign, Mul, MulAssign, Neg, Sub, SubAssign};
 
@@ -328,7 +328,9 @@ impl Field for BinaryField64 {
     ghost use Rattle.bf_base.proofs.TowerLaws.{tower_frobenius};
     ghost use Rattle.bf_tables.proofs.LevelLaws.{too_wide};
 
-    const GENERATOR: BinaryField64 = BinaryField64 { repr: 0x1_0000_0004 };
+    const GENERATOR: BinaryField64 = BinaryField64 {
+        repr: 0x1_0000_0004,
+    };
 
     ghost GENERATOR = { record { repr = 0x1_0000_0004; in_range = lit< tt } };
 
@@ -337,7 +339,11 @@ impl Field for BinaryField64 {
     }
 
     fn try_inverse(&self) -> Option<BinaryField64> {
-        if self.repr == 0 { None } else { Some(self.invert()) }
+        if self.repr == 0 {
+            None
+        } else {
+            Some(self.invert())
+        }
     }
 
     fn try_sqrt(&self) -> Option<BinaryField64> {

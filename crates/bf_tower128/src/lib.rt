@@ -1,8 +1,8 @@
 //! The tower's levels of 64 and 128 bits.
 #![tactic(auto)]
 
-mod level64;
 mod level128;
+mod level64;
 
 pub use crate::level64::BinaryField64;
 pub use crate::level128::BinaryField128;

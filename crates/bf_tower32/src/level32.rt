@@ -5,12 +5,12 @@ ghost use Rattle.std.proofs.Common.{lit<, lit≤, rules};
 ghost use Rattle.bf_base.specs.Powers.{squared, sum_of, product_of};
 ghost use Rattle.bf_base.specs.Tower.{root, tower_mul};
 
+use crate::level16::BinaryField16;
+use bf_base::Gf2;
 use bf_base::quadratic::{self, Halves};
 use bf_base::traits::{
     Field, PrimeCharacteristicRing, Represented, Sealed, TowerLevel, product_of_items, sum_of_items,
 };
-use bf_base::Gf2;
-use crate::level16::BinaryField16;
 use bf_tables::{cantor_vector, conjugate_32, multiply_by_root_32, sqrt_32, square_32};
 use std::iter::{Product, Sum};
 use std::ops::{Add, AddAssign, Div, DivAssign, Mul, MulAssign, Neg, Sub, SubAssign};
@@ -337,7 +337,11 @@ impl Field for BinaryField32 {
     }
 
     fn try_inverse(&self) -> Option<BinaryField32> {
-        if self.repr == 0 { None } else { Some(self.invert()) }
+        if self.repr == 0 {
+            None
+        } else {
+            Some(self.invert())
+        }
     }
 
     fn try_sqrt(&self) -> Option<BinaryField32> {

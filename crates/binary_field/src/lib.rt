@@ -1,11 +1,14 @@
-//! Binary fields, proved: the tower of Wiedemann from GF(2) to GF(2^128).
+//! Binary fields, proved: the tower of Wiedemann from GF(2) to GF(2^128), and GF(2^64) and GF(2^128) in polynomial bases.
 //!
 //! This crate holds nothing of its own: it passes on what the crates below it make public.
 #![tactic(auto)]
 
 pub use bf_base::Gf2;
-pub use bf_base::traits::{DotProduct, Field, PrimeCharacteristicRing, TowerLevel};
+pub use bf_base::traits::{DotProduct, Field, PrimeCharacteristicRing, Represented, TowerLevel};
 pub use bf_calc as calc;
+pub use bf_ghash::Ghash128;
+pub use bf_poly_basis as poly_basis;
+pub use bf_poly64::Poly64;
 pub use bf_tower8::{BinaryField2, BinaryField4, BinaryField8};
 pub use bf_tower32::{BinaryField16, BinaryField32};
 pub use bf_tower128::{BinaryField64, BinaryField128};

@@ -11,5 +11,5 @@ returns-then-rest-lt64 c = c.squarings.ensures ∙ tower_squared-mod_bits 7 c.ar
 pub returns-else-rest-lt64 : goal.returns-else-rest-lt64
 returns-else-rest-lt64 c =
     let whole : c.args.count % 128 - 64 + 64 ≡ c.args.count % 128 = omega arith in
-    c.squarings.ensures ∙ ap (squared 1 (tower_mul 7) (c.args.count % 128 - 64)) c.conjugate.ensures
+    c.squarings-else-rest-lt64.ensures ∙ ap (squared 1 (tower_mul 7) (c.args.count % 128 - 64)) c.conjugate.ensures
     ∙ squarings_reduced 7 (c.args.count % 128 - 64) 64 c.args.count c.args.self.now.repr whole

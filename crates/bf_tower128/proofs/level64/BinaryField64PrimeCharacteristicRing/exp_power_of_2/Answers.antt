@@ -11,5 +11,5 @@ returns-then-rest-lt32 c = c.squarings.ensures ∙ tower_squared-mod_bits 6 c.ar
 pub returns-else-rest-lt32 : goal.returns-else-rest-lt32
 returns-else-rest-lt32 c =
     let whole : c.args.count % 64 - 32 + 32 ≡ c.args.count % 64 = omega arith in
-    c.squarings.ensures ∙ ap (squared 1 (tower_mul 6) (c.args.count % 64 - 32)) c.conjugate.ensures
+    c.squarings-else-rest-lt32.ensures ∙ ap (squared 1 (tower_mul 6) (c.args.count % 64 - 32)) c.conjugate.ensures
     ∙ squarings_reduced 6 (c.args.count % 64 - 32) 32 c.args.count c.args.self.now.repr whole

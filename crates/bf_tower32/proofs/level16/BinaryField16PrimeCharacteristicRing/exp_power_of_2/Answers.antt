@@ -11,5 +11,5 @@ returns-then-rest-lt8 c = c.squarings.ensures ∙ tower_squared-mod_bits 4 c.arg
 pub returns-else-rest-lt8 : goal.returns-else-rest-lt8
 returns-else-rest-lt8 c =
     let whole : c.args.count % 16 - 8 + 8 ≡ c.args.count % 16 = omega arith in
-    c.squarings.ensures ∙ ap (squared 1 (tower_mul 4) (c.args.count % 16 - 8)) c.conjugate.ensures
+    c.squarings-else-rest-lt8.ensures ∙ ap (squared 1 (tower_mul 4) (c.args.count % 16 - 8)) c.conjugate.ensures
     ∙ squarings_reduced 4 (c.args.count % 16 - 8) 8 c.args.count c.args.self.now.repr whole

@@ -11,5 +11,5 @@ returns-then-rest-lt16 c = c.squarings.ensures ∙ tower_squared-mod_bits 5 c.ar
 pub returns-else-rest-lt16 : goal.returns-else-rest-lt16
 returns-else-rest-lt16 c =
     let whole : c.args.count % 32 - 16 + 16 ≡ c.args.count % 32 = omega arith in
-    c.squarings.ensures ∙ ap (squared 1 (tower_mul 5) (c.args.count % 32 - 16)) c.conjugate.ensures
+    c.squarings-else-rest-lt16.ensures ∙ ap (squared 1 (tower_mul 5) (c.args.count % 32 - 16)) c.conjugate.ensures
     ∙ squarings_reduced 5 (c.args.count % 32 - 16) 16 c.args.count c.args.self.now.repr whole
