@@ -1,4 +1,8 @@
 pub mod AdditiveMaps
+pub mod BasisColumns
+pub mod BasisIsomorphism
+pub mod BasisMaps
+pub mod BasisSums
 pub mod CarrylessFacts
 pub mod CarrylessPairs
 pub mod CarrylessProduct

@@ -1,3 +1,4 @@
+pub mod Basis
 pub mod Bit
 pub mod BitRing
 pub mod Carryless

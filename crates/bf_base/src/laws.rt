@@ -1,4 +1,5 @@
 // Laws of the definitions, as contracts of functions that compute nothing.
+ghost use Rattle.bf_base.specs.Basis.{RootsGiveHomomorphism};
 ghost use Rattle.bf_base.specs.Carryless.{ConvCountsPairs, ConvIsProduct};
 ghost use Rattle.bf_base.specs.Remainder.{MulModIsRemainder, MulModIsRing, RemIsRemainder, RemainderIsUnique};
 ghost use Rattle.bf_base.specs.Tower.{TowerIsRing};
@@ -50,4 +51,10 @@ pub fn remainder_is_unique()
 pub fn mul_mod_is_ring()
     ensures is_remainder { MulModIsRemainder }
     ensures is_ring { MulModIsRing }
+{}
+
+/// States that the change of basis keeps 0, 1, sums and products, whatever the modulus is, where the images of the roots
+/// meet the equations of the roots.
+pub fn roots_give_homomorphism()
+    ensures { RootsGiveHomomorphism }
 {}

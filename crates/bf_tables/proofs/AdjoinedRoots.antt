@@ -1,15 +1,14 @@
 -- Products and quotients by an adjoined root, conjugates, and squares and square roots of a level from the halves of the
 -- operand, in the forms in which they are computed. The operand's halves are its remainder and quotient by 2 ^ 2 ^ k.
-use Rattle.std.proofs.Common.{◌≡◌, ℕ, zero, suc, ◌+◌, ◌*◌, ◌/◌, ◌%◌, ◌^◌, ◌<◌, refl, sym, ◌∙◌, ap, ap₂, subst, arith}
+use Rattle.std.proofs.Common.{◌≡◌, ℕ, suc, ◌+◌, ◌*◌, ◌/◌, ◌%◌, ◌^◌, ◌<◌, sym, ◌∙◌, ap, ap₂, subst}
 use Rattle.std.specs.Prelude.{bit_xor}
-use Rattle.std.proofs.lemmas.Nat.{xor_comm, pow_pos, shr_split, xor_lt}
+use Rattle.std.proofs.lemmas.Nat.{pow_pos, shr_split, xor_lt}
 use native.Mathlib.Nat.{mod-lt, mod-eq_of_lt}
 use lib.Bits.{xor_assoc, xor_self, xor_zero_r, xor_shifted}
-use Rattle.bf_base.specs.Norm.{conjugate}
 use Rattle.bf_base.specs.Powers.{squared}
-use Rattle.bf_base.specs.Quadratic.{low_half, high_half, pair}
+use Rattle.bf_base.specs.Quadratic.{high_half, pair}
 use Rattle.bf_base.specs.Tower.{root, tower_mul}
-use Rattle.bf_base.proofs.QuadraticRing.{low_half-lt, low_half-pair, high_half-pair}
+use Rattle.bf_base.proofs.QuadraticRing.{low_half-pair, high_half-pair}
 use Rattle.bf_base.proofs.TowerFrobenius.{tower_squared-half}
 use Rattle.bf_base.proofs.TowerProducts.{tower_mul-square, tower_mul-root_suc}
 use Rattle.bf_base.proofs.TowerRing.{tower_ring}

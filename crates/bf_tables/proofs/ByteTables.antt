@@ -1,9 +1,7 @@
 -- The tables of GF(2^8), each checked whole by computation, and the rule that each follows.
-use Rattle.std.proofs.Common.{◌≡◌, ◌≢◌, ℕ, zero, suc, ◌+◌, ◌^◌, ◌<◌, Bool, true, false, ◌&&◌, eqb, ltb, cond, List, [], ◌∷◌, length, drop, get_or, refl, sym, ◌∙◌, ap, ap₂, subst, arith, lit<}
+use Rattle.std.proofs.Common.{◌≡◌, ◌≢◌, ℕ, zero, suc, ◌+◌, ◌<◌, Bool, true, ◌&&◌, eqb, ltb, drop, get_or, refl, sym, ◌∙◌, ap, ap₂, arith, lit<}
 use Rattle.std.proofs.lemmas.Bool.{and_parts, eqb-true, ltb-true}
 use Rattle.std.specs.Prelude.{slice_index}
-use native.Mathlib.Nat.{mod-eq_of_lt}
-use Rattle.bf_base.specs.Powers.{power}
 use Rattle.bf_base.specs.Quadratic.{quadratic}
 use Rattle.bf_base.specs.Tower.{root, tower_mul}
 use Rattle.bf_base.proofs.RingLemmas.{times-zero, zero-times}

@@ -1,12 +1,18 @@
 -- The Cantor vectors by computation: at level 7 each is the even solution, and the first 2 ^ k lie in level k. Lower levels
 -- are subrings, so the equations hold there too.
-use Rattle.std.proofs.Common.{◌≡◌, ℕ, zero, suc, ◌+◌, ◌-◌, ◌%◌, ◌^◌, ◌<◌, ◌≤◌, Bool, true, ◌&&◌, eqb, ltb, length, take, drop, get_or, get_or-take, refl, sym, ◌∙◌, ap, subst, arith}
+use Rattle.std.proofs.Common.{◌≡◌, ℕ, zero, suc, ◌+◌, ◌-◌, ◌%◌, ◌^◌, ◌<◌, ◌≤◌, Bool, true, ◌&&◌, eqb, ltb, length, take, drop, get_or, get_or-take, refl, inl, inr, sym, ◌∙◌, ap, ap₂, subst, arith}
 use Rattle.std.specs.Prelude.{bit_xor}
 use Rattle.std.proofs.lemmas.Bool.{and_parts, eqb-true, ltb-true}
 use Rattle.std.proofs.Math.Pow.{pow_mono}
 use Rattle.bf_base.specs.Tower.{tower_mul}
+use Rattle.std.proofs.lemmas.Nat.{pow_below, pow_pos, xor_comm, xor_lt, xor_mod}
+use lib.Bits.{xor_assoc, xor_self, xor_zero_r}
+use Rattle.bf_base.proofs.PowerLemmas.{square_xor, times-one}
+use Rattle.bf_base.proofs.RingLemmas.{xor_cancel, xor_left_comm, xor_nothing}
+use Rattle.bf_base.proofs.TowerInverse.{tower_mul-zero_divisors}
 use Rattle.bf_base.proofs.TowerProducts.{tower_mul-low}
-use Rattle.bf_tables.specs.Cantor.{cantor_vector, AreEven, LieInLevels, SolveTheOneBefore}
+use Rattle.bf_base.proofs.TowerRing.{tower_ring}
+use Rattle.bf_tables.specs.Cantor.{cantor_vector, AreEven, LieInLevels, OneOfEachParity, SolveTheOneBefore}
 use Rattle.bf_tables.specs.declared.cantor.literals.TheConstants.{VECTORS}
 use Rattle.bf_tables.proofs.TableChecks.{passes, passes_at}
 use Rattle.bf_tables.proofs.Squares.{root_product, square_of, square_of_is, squares_joined}
@@ -82,3 +88,36 @@ solve_the_one_before k i low later inside =
     (sym (tower_mul-low (7 - k) k (cantor_vector i) (cantor_vector i) fits fits)
     ∙ ap (λ (x : ℕ). tower_mul x (cantor_vector i) (cantor_vector i)) up)
     ∙ solves_at_7 i later (omega (arith, most))
+
+-- ---- one even solution
+
+exchanged : (p q v w : ℕ) → bit_xor p v ≡ bit_xor q w → bit_xor p q ≡ bit_xor v w
+exchanged p q v w e =
+    ap (λ (x : ℕ). bit_xor x q)
+    (sym (xor_assoc p v v ∙ ap (bit_xor p) (xor_self v) ∙ xor_zero_r p) ∙ ap (λ (x : ℕ). bit_xor x v) e)
+    ∙ simp (xor_assoc, xor_comm, xor_left_comm, xor_cancel)
+
+-- the sum d of two solutions is its own square, so d (d + 1) is 0 and d is 0 or 1
+pub one_of_each_parity : OneOfEachParity
+one_of_each_parity k v w v_fits w_fits parity same =
+    elim (tower_mul-zero_divisors k (bit_xor v w) (bit_xor (bit_xor v w) 1) fits
+    (xor_lt (2 ^ k) (bit_xor v w) 1 fits (pow_below 0 (2 ^ k) (pow_pos k))) nothing) [
+      | inl e ↦ xor_nothing v w e
+      | inr e ↦ absurd (omega (arith, even, xor_nothing (bit_xor v w) 1 e))
+    ]
+  where
+    fits : bit_xor v w < 2 ^ 2 ^ k
+    fits = xor_lt (2 ^ k) v w v_fits w_fits
+
+    square : tower_mul k (bit_xor v w) (bit_xor v w) ≡ bit_xor v w
+    square =
+        square_xor (2 ^ k) 1 (tower_mul k) (tower_ring k) v w
+        ∙ exchanged (tower_mul k v v) (tower_mul k w w) v w same
+
+    nothing : tower_mul k (bit_xor v w) (bit_xor (bit_xor v w) 1) ≡ 0
+    nothing =
+        (tower_ring k).over_sum (bit_xor v w) (bit_xor v w) 1
+        ∙ ap₂ bit_xor square (times-one (2 ^ k) 1 (tower_mul k) (tower_ring k) (bit_xor v w) fits) ∙ xor_self (bit_xor v w)
+
+    even : bit_xor v w % 2 ≡ 0
+    even = xor_mod v w 1 ∙ ap (bit_xor (v % 2)) (sym parity) ∙ xor_self (v % 2)

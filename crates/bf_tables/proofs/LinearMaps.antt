@@ -1,10 +1,10 @@
 -- Additive maps by their columns and by tables: two additive maps that agree at the powers of two agree, and the value of
 -- an additive map at a number is the sum of its values at the number's parts.
-use Rattle.std.proofs.Common.{◌≡◌, ℕ, zero, suc, ◌+◌, ◌*◌, ◌/◌, ◌%◌, ◌^◌, ◌<◌, ◌≤◌, Bool, ◌&&◌, eqb, true, List, [], ◌∷◌, length, drop, get_or, refl, sym, ◌∙◌, ap, ap₂, subst, arith, lit<}
+use Rattle.std.proofs.Common.{◌≡◌, ℕ, zero, suc, ◌+◌, ◌*◌, ◌/◌, ◌%◌, ◌^◌, ◌<◌, ◌≤◌, Bool, eqb, true, List, [], ◌∷◌, length, drop, get_or, refl, sym, ◌∙◌, ap, ap₂, arith, lit<}
 use Rattle.std.specs.Prelude.{bit_xor, slice_index}
 use Rattle.std.proofs.lemmas.Bool.{and_from, and_parts, eq-eqb, eqb-true}
 use Rattle.std.proofs.lemmas.Nat.{xor_comm, pow_pos, shr_split, div-add-mod', mod-pow-add}
-use native.Mathlib.Nat.{mod-lt, mod-eq_of_lt, zero-mul, one-mul, pow-suc, mul_assoc, mul_comm}
+use native.Mathlib.Nat.{mod-lt, mod-eq_of_lt, zero-mul, one-mul, pow-suc}
 use native.Mathlib.Numerals.{add-one}
 use lib.Bits.{xor_assoc, xor_self, xor_shifted, xor_zero_l, xor_zero_r}
 use Rattle.std.proofs.lemmas.List.{drop_all, drop_more}

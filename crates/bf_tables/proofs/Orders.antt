@@ -1,5 +1,5 @@
 -- The orders of the generators up to 16 bits, by computing their powers one after another.
-use Rattle.std.proofs.Common.{◌≡◌, ◌≢◌, ℕ, zero, suc, ◌+◌, ◌-◌, ◌^◌, ◌<◌, ◌≤◌, Bool, true, false, eqb, List, [], ◌∷◌, refl, sym, ◌∙◌, ap, subst, arith, lit<}
+use Rattle.std.proofs.Common.{◌≡◌, ◌≢◌, ℕ, zero, suc, ◌+◌, ◌-◌, ◌^◌, ◌<◌, Bool, true, false, eqb, List, [], ◌∷◌, refl, sym, ◌∙◌, ap, subst, arith, lit<}
 use Rattle.std.proofs.lemmas.Bool.{false≢true, eqb-false}
 use Rattle.std.proofs.lemmas.Nat.{pow_below, pow_pos}
 use native.Mathlib.Nat.{mod-eq_of_lt}
@@ -11,7 +11,7 @@ use Rattle.bf_base.proofs.RingLemmas.{sum_times}
 use Rattle.bf_base.proofs.TowerRing.{tower_ring}
 use Rattle.bf_base.proofs.TowerFrobenius.{tower_power-units}
 use Rattle.bf_base.specs.Orders.{HasFullOrder}
-use Rattle.bf_tables.specs.Generators.{generator, GeneratorsHaveFullOrder}
+use Rattle.bf_tables.specs.Generators.{GeneratorsHaveFullOrder}
 use Rattle.bf_tables.specs.Linear.{apply}
 use Rattle.bf_tables.proofs.LinearMaps.{apply_columns}
 use Rattle.bf_tables.proofs.TableChecks.{passes}

@@ -1,6 +1,6 @@
 -- Squares and products by the adjoined root by a recursion on the level that costs a few steps a bit, so that tables of
 -- them are checked by computation; and that they are the tower's.
-use Rattle.std.proofs.Common.{◌≡◌, ℕ, zero, suc, ◌*◌, ◌%◌, ◌^◌, ◌<◌, refl, sym, ◌∙◌, ap, ap₂, lit<}
+use Rattle.std.proofs.Common.{◌≡◌, ℕ, zero, suc, ◌*◌, ◌%◌, ◌^◌, refl, sym, ◌∙◌, ap, ap₂, lit<}
 use Rattle.std.specs.Prelude.{bit_xor}
 use native.Mathlib.Nat.{mod-lt}
 use Rattle.bf_base.specs.BitRing.{two_cases}

@@ -1,6 +1,6 @@
 -- The Cantor vectors in the tower (D. G. Cantor, On arithmetical algorithms over finite fields, Journal of Combinatorial
--- Theory A 50, 1989): vector 0 is 1, and each other is the even solution v of v² + v = the vector before it. The
--- solutions of each of these equations are two, v and v + 1, so the rule leaves no choice.
+-- Theory A 50, 1989): vector 0 is 1, and each other is the even solution v of v² + v = the vector before it. Such an
+-- equation has one even solution at most, so the rule leaves no choice.
 use Rattle.std.specs.Prelude.{◌≡◌, ℕ, ◌-◌, ◌%◌, ◌^◌, ◌<◌, ◌≤◌, bit_xor, slice_index}
 use Rattle.bf_base.specs.Tower.{tower_mul}
 use Rattle.bf_tables.specs.declared.cantor.literals.TheConstants.{VECTORS}
@@ -26,3 +26,9 @@ SolveTheOneBefore =
 -- of the two solutions it is the even one
 abbrev pub AreEven : Type 0
 AreEven = (i : ℕ) → 0 < i → i < 128 → cantor_vector i % 2 ≡ 0
+
+-- at every level, of the elements of one parity at most one has a given v² + v
+abbrev pub OneOfEachParity : Type 0
+OneOfEachParity =
+    (k v w : ℕ) → v < 2 ^ 2 ^ k → w < 2 ^ 2 ^ k → v % 2 ≡ w % 2
+    → bit_xor (tower_mul k v v) v ≡ bit_xor (tower_mul k w w) w → v ≡ w

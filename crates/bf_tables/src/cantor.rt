@@ -1,6 +1,6 @@
 // The Cantor vectors, a basis of each level of the tower in which x² + x takes each vector to the one before.
 ghost use Rattle.std.specs.Prelude.{◌≡◌, ◌<◌};
-ghost use Rattle.bf_tables.specs.Cantor.{cantor_vector, AreEven, FirstIsOne, LieInLevels, SolveTheOneBefore};
+ghost use Rattle.bf_tables.specs.Cantor.{cantor_vector, AreEven, FirstIsOne, LieInLevels, OneOfEachParity, SolveTheOneBefore};
 
 mod literals;
 
@@ -15,10 +15,11 @@ pub fn cantor_vector(i: usize) -> u128
 }
 
 /// States the rule of the Cantor vectors: the first is 1, the first 2^k are elements of level k, and there each but the
-/// first is the even solution v of v² + v = the vector before.
+/// first is the even solution v of v² + v = the vector before, of which there is one.
 pub fn cantor_vectors_are_solutions()
     ensures first { FirstIsOne }
     ensures levels { LieInLevels }
     ensures solutions { SolveTheOneBefore }
     ensures even { AreEven }
+    ensures unique { OneOfEachParity }
 {}

@@ -23,3 +23,6 @@ pub use crate::linear::{
 pub use crate::tables::{
     invert_8, multiply_8, multiply_by_root_8, sqrt_8, square_8, tables_are_powers,
 };
+
+#[cfg(test)]
+mod tests;

@@ -11,7 +11,7 @@ mod squares;
 use crate::adjoined::{divide_by_root_64, multiply_by_root_64};
 use crate::words::join_64;
 
-// The sum of the entries of a table at the bytes of a number.
+// The sum of the entries of a table at the two bytes of a number, where byte j has the entries from 256 j on.
 #[inline]
 #[tactic(auto, using(crate::proofs::LinearMaps::sum_of_entries_none, crate::proofs::LinearMaps::sum_of_entries_more))]
 fn sum_of_entries_16(table: &[u16; 512], x: u16) -> u16
@@ -24,6 +24,7 @@ fn sum_of_entries_16(table: &[u16; 512], x: u16) -> u16
     sum
 }
 
+// The sum of the entries of a table at the four bytes of a number.
 #[inline]
 #[tactic(auto, using(crate::proofs::LinearMaps::sum_of_entries_none, crate::proofs::LinearMaps::sum_of_entries_more))]
 fn sum_of_entries_32(table: &[u32; 1024], x: u32) -> u32
@@ -36,6 +37,7 @@ fn sum_of_entries_32(table: &[u32; 1024], x: u32) -> u32
     sum
 }
 
+// The sum of the entries of a table at the eight bytes of a number.
 #[inline]
 #[tactic(auto, using(crate::proofs::LinearMaps::sum_of_entries_none, crate::proofs::LinearMaps::sum_of_entries_more))]
 fn sum_of_entries_64(table: &[u64; 2048], x: u64) -> u64

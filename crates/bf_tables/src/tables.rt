@@ -8,7 +8,7 @@ mod literals;
 
 // The entry of EXP at `exponent`.
 #[inline]
-fn power_of_generator(exponent: usize) -> u8
+pub(crate) fn power_entry(exponent: usize) -> u8
     requires { exponent < 511 }
     ensures { result ≡ slice_index EXP exponent }
 {
@@ -17,7 +17,7 @@ fn power_of_generator(exponent: usize) -> u8
 
 // The entry of LOG at `a`.
 #[inline]
-fn logarithm(a: u8) -> u8
+fn logarithm_entry(a: u8) -> u8
     ensures { result ≡ slice_index LOG a }
 {
     literals::LOG[a as usize]
@@ -61,7 +61,7 @@ fn root_product_entry(a: u8) -> u8
 pub fn multiply_8(a: u8, b: u8) -> u8
     ensures { result ≡ tower_mul 3 a b }
 {
-    let product = power_of_generator(logarithm(a) as usize + logarithm(b) as usize);
+    let product = power_entry(logarithm_entry(a) as usize + logarithm_entry(b) as usize);
     if a == 0 || b == 0 { 0 } else { product }
 }
 

@@ -1,4 +1,4 @@
-use Rattle.std.proofs.Common.{◌∙◌, ap, ℕ, arith}
+use Rattle.std.proofs.Common.{◌∙◌, ap, arith}
 use Rattle.bf_base.specs.Tower.{tower_mul}
 use Rattle.bf_tables.proofs.ByteTables.{inverses_at}
 use Rattle.bf_tables.proofs.tables.invert_8.Goals as goal

@@ -1,5 +1,5 @@
 -- Where an operand is 0 so is the product; else its logarithm is the sum of theirs.
-use Rattle.std.proofs.Common.{◌≡◌, ℕ, ◌+◌, inl, inr, sym, ◌∙◌, ap, ap₂, arith}
+use Rattle.std.proofs.Common.{ℕ, ◌+◌, inl, inr, sym, ◌∙◌, ap, ap₂, arith}
 use Rattle.std.specs.Prelude.{slice_index}
 use Rattle.bf_base.specs.Tower.{tower_mul}
 use Rattle.bf_tables.specs.declared.tables.literals.TheConstants.{EXP}
@@ -15,6 +15,6 @@ returns-then-b-eq0 c =
 
 pub returns-else-b-eq0 : goal.returns-else-b-eq0
 returns-else-b-eq0 c =
-    c.power_of_generator-product.ensures
-    ∙ ap₂ (λ (x y : ℕ). slice_index EXP (x + y)) c.logarithm.ensures c.logarithm-2.ensures
+    c.power_entry-product.ensures
+    ∙ ap₂ (λ (x y : ℕ). slice_index EXP (x + y)) c.logarithm_entry.ensures c.logarithm_entry-2.ensures
     ∙ product_of_logarithms c.args.a c.args.b (omega arith) (omega arith) c.if-b-eq0.false.0 c.if-b-eq0.false.1

@@ -1,0 +1,4 @@
+pub mod EntrySums
+pub mod Isomorphisms
+pub mod NibbleTables
+pub mod TableFacts

@@ -1,0 +1,15 @@
+use Rattle.std.proofs.Common.{ℕ, ◌<◌, length, get_or, ap, ◌∙◌, arith}
+use Rattle.std.proofs.Math.ListN.{set}
+use Rattle.std.proofs.lemmas.List.{get_or_default}
+use Rattle.std.proofs.lemmas.List.Edits.{map_over_more}
+use Rattle.bf_base.specs.Basis.{basis_image, ghash_images}
+use Rattle.bf_base.specs.Remainder.{ghash_modulus}
+use Rattle.bf_basis.proofs.slices.to_polynomial_slice_128.Goals as goal
+
+pub loop-x-preserved : goal.loop-x-preserved
+loop-x-preserved c =
+    let within : c.loop-x.x-index < length c.loop-x.xs = omega arith in
+    ap (λ (r : ℕ). set c.loop-x.xs c.loop-x.x-index r) c.to_polynomial_128.ensures
+    ∙ map_over_more (basis_image 128 ghash_modulus ghash_images) c.args.xs.now c.loop-x.xs c.loop-x.x-index
+    (get_or c.loop-x.xs c.loop-x.x-index 0) (omega arith) c.loop-x.invariant
+    (get_or_default c.loop-x.xs c.loop-x.x-index 0 (get_or c.loop-x.xs c.loop-x.x-index 0) within)

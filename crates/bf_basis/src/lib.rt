@@ -1,0 +1,21 @@
+//! The change of basis between the tower's levels of 8, 64 and 128 bits and three fields of polynomials.
+//!
+//! An element of the tower is a word whose high half multiplies the root that its level adjoins; a polynomial is a word
+//! whose bit i is the coefficient of x^i. Bit j of the tower goes to the product of the images of the roots over the set bits
+//! of j.
+#![tactic(auto)]
+
+mod basis;
+mod laws;
+mod literals;
+mod slices;
+#[cfg(test)]
+mod tests;
+
+pub use crate::basis::{
+    to_polynomial_8, to_polynomial_64, to_polynomial_128, to_tower_8, to_tower_64, to_tower_128,
+};
+pub use crate::laws::{isomorphism_8, isomorphism_64, isomorphism_128};
+pub use crate::slices::{
+    to_polynomial_slice_64, to_polynomial_slice_128, to_tower_slice_64, to_tower_slice_128,
+};
