@@ -3,10 +3,11 @@
 -- `low + high X` is the number with `low` in the low w bits and `high` in the w bits above.
 use Rattle.std.specs.Prelude.{ℕ, ◌+◌, ◌*◌, ◌/◌, ◌%◌, ◌^◌, bit_xor}
 
--- the half of an element that stands without the root, and the half that the root multiplies
+-- the half of an element that stands without the root
 abbrev pub low_half : ℕ → ℕ → ℕ
 low_half width a = a % 2 ^ width
 
+-- the half that the root multiplies
 abbrev pub high_half : ℕ → ℕ → ℕ
 high_half width a = a / 2 ^ width % 2 ^ width
 

@@ -20,7 +20,6 @@ pub struct Halves<F> {
 
 /// The product of two elements, by three products of the field below:
 /// (a0 + a1 X)(b0 + b1 X) = (a0 b0 + a1 b1) + ((a0 + a1)(b0 + b1) + a0 b0 + a1 b1 + t a1 b1) X.
-
 pub fn multiply<F: TowerLevel>(a: Halves<F>, b: Halves<F>) -> Halves<F>
     ensures { joined F.width F.repr result ≡ quadratic F.width F.product F.alpha (joined F.width F.repr a) (joined F.width F.repr b) }
 {

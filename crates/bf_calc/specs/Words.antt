@@ -17,6 +17,7 @@ words line = filter has_bytes (slice_split is_space line)
 
 -- ---- three laws that determine the words of every line
 
+-- no bytes have no word
 abbrev pub EmptyLineHasNoWord : Type 0
 EmptyLineHasNoWord = words [] ≡ []
 
