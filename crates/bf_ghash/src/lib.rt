@@ -2,5 +2,7 @@
 #![tactic(auto)]
 
 mod ghash;
+#[cfg(test)]
+mod tests;
 
 pub use crate::ghash::Ghash128;

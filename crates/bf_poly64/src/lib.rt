@@ -2,5 +2,7 @@
 #![tactic(auto)]
 
 mod poly64;
+#[cfg(test)]
+mod tests;
 
 pub use crate::poly64::Poly64;

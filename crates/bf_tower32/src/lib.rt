@@ -3,6 +3,8 @@
 
 mod level16;
 mod level32;
+#[cfg(test)]
+mod tests;
 
 pub use crate::level16::BinaryField16;
 pub use crate::level32::BinaryField32;

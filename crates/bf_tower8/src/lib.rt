@@ -4,6 +4,8 @@
 mod level2;
 mod level4;
 mod level8;
+#[cfg(test)]
+mod tests;
 
 pub use crate::level2::BinaryField2;
 pub use crate::level4::BinaryField4;
