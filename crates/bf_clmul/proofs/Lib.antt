@@ -1,3 +1,4 @@
+pub mod Compacting
 pub mod Digits
 pub mod ClassMasks
 pub mod CarryIsolation
@@ -6,5 +7,6 @@ pub mod KaratsubaLemmas
 pub mod TailFolds
 pub mod Squares
 pub mod ModularProducts
+pub mod Roots
 pub mod StandardFacts
 pub mod Shifts

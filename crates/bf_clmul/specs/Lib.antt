@@ -2,3 +2,4 @@ pub mod Masked
 pub mod Tail
 pub mod Spread
 pub mod Karatsuba
+pub mod Compact

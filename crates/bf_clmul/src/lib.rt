@@ -8,6 +8,7 @@ mod laws;
 mod masked;
 mod modular;
 mod product;
+mod root;
 mod square;
 #[cfg(test)]
 mod tests;
@@ -19,4 +20,5 @@ pub use crate::modular::{multiply_mod_64, multiply_mod_128, square_mod_64, squar
 pub use crate::product::{
     multiply_32, multiply_64, multiply_64_twice, multiply_128, multiply_by_power_128,
 };
+pub use crate::root::{compact_64, compact_128, sqrt_mod_64, sqrt_mod_128};
 pub use crate::square::{spread_32, square_64, square_128};

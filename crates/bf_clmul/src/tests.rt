@@ -1,8 +1,9 @@
 // Corners that the argument of carry isolation turns on, and published values.
 use crate::{
-    masked_product, masked_products, multiply_32, multiply_64, multiply_64_twice, multiply_128,
-    multiply_low_64, multiply_mod_64, multiply_mod_128, reduce_64, reduce_128, spread_32,
-    square_64, square_128, square_mod_64, square_mod_128,
+    compact_64, compact_128, masked_product, masked_products, multiply_32, multiply_64,
+    multiply_64_twice, multiply_128, multiply_low_64, multiply_mod_64, multiply_mod_128, reduce_64,
+    reduce_128, spread_32, sqrt_mod_64, sqrt_mod_128, square_64, square_128, square_mod_64,
+    square_mod_128,
 };
 
 #[test]
@@ -71,4 +72,15 @@ fn modulo_the_polynomial_of_ghash(rt: HostRuntime) {
         multiply_mod_128(1 << 127, 1 << 127),
         0xc000_0000_0000_0000_0000_0000_0000_1067
     );
+}
+
+#[test]
+fn roots_of_x_and_of_all_ones(rt: HostRuntime) {
+    assert_eq!(rt; sqrt_mod_64(2), 0xffff_ffff_0000_000a);
+    assert_eq!(rt; square_mod_64(sqrt_mod_64(u64::MAX)), u64::MAX);
+    assert_eq!(rt; sqrt_mod_128(2), 0x2492_4924_9249_2492_6db6_db6d_b6db_6da4);
+    assert_eq!(rt; square_mod_128(sqrt_mod_128(u128::MAX)), u128::MAX);
+    assert_eq!(rt; compact_64(0x8000_0000_0000_0002), 0);
+    assert_eq!(rt; compact_64(0x4000_0000_0000_0001), 0x8000_0001);
+    assert_eq!(rt; compact_128(1 << 126), 1 << 63);
 }

@@ -1,0 +1,120 @@
+-- The bits at the even places of a word, moved together, are the carryless root of those bits, since both sides keep sums.
+use Rattle.std.proofs.Common.{◌≡◌, ℕ, ◌+◌, ◌*◌, ◌/◌, ◌%◌, ◌^◌, ◌<◌, true, refl, sym, ◌∙◌, ap, ap₂, lit≤}
+use Rattle.std.specs.Prelude.{bit_xor, bit_and}
+use Rattle.std.proofs.lemmas.Nat.{xor_shr, shl_whole}
+use native.Mathlib.Nat.{mul_assoc}
+use Rattle.bf_base.specs.Carryless.{conv, conv_in}
+use Rattle.bf_base.proofs.CarrylessProduct.{xor_exchange, xor_shl, conv_shl, shl_conv}
+use Rattle.bf_base.proofs.AdditiveMaps.{KeepsSums, maps_agree, agree_on_powers, agree_on_powers-true}
+use Rattle.bf_clmul.specs.Compact.{compact_step, even_places_64, even_places_128}
+use Rattle.bf_clmul.proofs.Classes.{xor_and}
+use Rattle.bf_clmul.proofs.Squares.{square_sum}
+
+-- ---- a word
+
+pub masked-sum : (m : ℕ) → KeepsSums (λ x. bit_and x m)
+masked-sum m a b = xor_and a b m
+
+step-sum : (f : ℕ → ℕ) → KeepsSums f → (s m : ℕ) → KeepsSums (λ x. compact_step s m (f x))
+step-sum f f_sum s m a b =
+    ap (compact_step s m) (f_sum a b)
+    ∙ ap (λ (z : ℕ). bit_and (bit_xor (bit_xor (f a) (f b)) z) m) (xor_shr (f a) (f b) s)
+    ∙ ap (λ (z : ℕ). bit_and z m) (xor_exchange (f a) (f b) (f a / 2 ^ s) (f b / 2 ^ s))
+    ∙ xor_and (bit_xor (f a) (f a / 2 ^ s)) (bit_xor (f b) (f b / 2 ^ s)) m
+
+unfoldable pairs_of : ℕ → ℕ
+pairs_of x = compact_step 1 0x3333_3333_3333_3333 (bit_and x even_places_64)
+
+unfoldable nibbles_of : ℕ → ℕ
+nibbles_of x = compact_step 2 0x0f0f_0f0f_0f0f_0f0f (pairs_of x)
+
+unfoldable bytes_of : ℕ → ℕ
+bytes_of x = compact_step 4 0x00ff_00ff_00ff_00ff (nibbles_of x)
+
+unfoldable halves_of : ℕ → ℕ
+halves_of x = compact_step 8 0x0000_ffff_0000_ffff (bytes_of x)
+
+unfoldable compact : ℕ → ℕ
+compact x = compact_step 16 0xffff_ffff (halves_of x)
+
+pairs_of-sum : KeepsSums pairs_of
+unfolding pairs_of
+pairs_of-sum = step-sum (λ x. bit_and x even_places_64) (masked-sum even_places_64) 1 0x3333_3333_3333_3333
+
+nibbles_of-sum : KeepsSums nibbles_of
+unfolding nibbles_of
+nibbles_of-sum = step-sum pairs_of pairs_of-sum 2 0x0f0f_0f0f_0f0f_0f0f
+
+bytes_of-sum : KeepsSums bytes_of
+unfolding bytes_of
+bytes_of-sum = step-sum nibbles_of nibbles_of-sum 4 0x00ff_00ff_00ff_00ff
+
+halves_of-sum : KeepsSums halves_of
+unfolding halves_of
+halves_of-sum = step-sum bytes_of bytes_of-sum 8 0x0000_ffff_0000_ffff
+
+compact-sum : KeepsSums compact
+unfolding compact
+compact-sum = step-sum halves_of halves_of-sum 16 0xffff_ffff
+
+powers_agree : agree_on_powers (λ x. conv (compact x) (compact x)) (λ x. bit_and x even_places_64) 64 ≡ true
+unfolding compact halves_of bytes_of nibbles_of pairs_of conv conv_in
+powers_agree = refl
+
+compact-square : (x : ℕ) → x < 2 ^ 64 → conv (compact x) (compact x) ≡ bit_and x even_places_64
+compact-square =
+    maps_agree (λ x. conv (compact x) (compact x)) (λ x. bit_and x even_places_64)
+    (λ a b. ap (λ (z : ℕ). conv z z) (compact-sum a b) ∙ square_sum (compact a) (compact b)) (masked-sum even_places_64) 64
+    (agree_on_powers-true (λ x. conv (compact x) (compact x)) (λ x. bit_and x even_places_64) 64 powers_agree)
+
+-- the steps one after another, as the code calls them
+pub compact_word : (x b c d e : ℕ) → x < 2 ^ 64
+    → b ≡ compact_step 1 0x3333_3333_3333_3333 (bit_and x even_places_64)
+    → c ≡ compact_step 2 0x0f0f_0f0f_0f0f_0f0f b → d ≡ compact_step 4 0x00ff_00ff_00ff_00ff c
+    → e ≡ compact_step 8 0x0000_ffff_0000_ffff d
+    → conv (compact_step 16 0xffff_ffff e) (compact_step 16 0xffff_ffff e) ≡ bit_and x even_places_64
+unfolding compact halves_of bytes_of nibbles_of pairs_of
+compact_word x b c d e fits of_b of_c of_d of_e =
+    ap (λ (z : ℕ). conv (compact_step 16 0xffff_ffff z) (compact_step 16 0xffff_ffff z))
+    (of_e
+    ∙ ap (compact_step 8 0x0000_ffff_0000_ffff)
+    (of_d
+    ∙ ap (compact_step 4 0x00ff_00ff_00ff_00ff) (of_c ∙ ap (compact_step 2 0x0f0f_0f0f_0f0f_0f0f) of_b)))
+    ∙ compact-square x fits
+
+-- ---- a double word by its words
+
+-- the even places of the words are those of the double word
+split_mask : (x : ℕ) → x < 2 ^ 128
+    → bit_xor (bit_and (x / 2 ^ 64) even_places_64 * 2 ^ 64) (bit_and (bit_and x 0xffff_ffff_ffff_ffff) even_places_64)
+    ≡ bit_and x even_places_128
+split_mask =
+    maps_agree
+    (λ x. bit_xor (bit_and (x / 2 ^ 64) even_places_64 * 2 ^ 64) (bit_and (bit_and x 0xffff_ffff_ffff_ffff) even_places_64))
+    (λ x. bit_and x even_places_128) sums (masked-sum even_places_128) 128
+    (agree_on_powers-true
+    (λ x. bit_xor (bit_and (x / 2 ^ 64) even_places_64 * 2 ^ 64) (bit_and (bit_and x 0xffff_ffff_ffff_ffff) even_places_64))
+    (λ x. bit_and x even_places_128) 128 refl)
+  where
+    sums : KeepsSums (λ x. bit_xor (bit_and (x / 2 ^ 64) even_places_64 * 2 ^ 64) (bit_and (bit_and x 0xffff_ffff_ffff_ffff) even_places_64))
+    sums a b =
+        ap₂ bit_xor
+        (ap (λ (z : ℕ). bit_and z even_places_64 * 2 ^ 64) (xor_shr a b 64)
+        ∙ ap (λ (z : ℕ). z * 2 ^ 64) (xor_and (a / 2 ^ 64) (b / 2 ^ 64) even_places_64)
+        ∙ sym (xor_shl 64 (bit_and (a / 2 ^ 64) even_places_64) (bit_and (b / 2 ^ 64) even_places_64)))
+        (ap (λ (z : ℕ). bit_and z even_places_64) (xor_and a b 0xffff_ffff_ffff_ffff)
+        ∙ xor_and (bit_and a 0xffff_ffff_ffff_ffff) (bit_and b 0xffff_ffff_ffff_ffff) even_places_64)
+        ∙ xor_exchange (bit_and (a / 2 ^ 64) even_places_64 * 2 ^ 64) (bit_and (b / 2 ^ 64) even_places_64 * 2 ^ 64) _ _
+
+pub compact_double_word : (x low high : ℕ) → x < 2 ^ 128 → high < 2 ^ 32
+    → conv low low ≡ bit_and (bit_and x 0xffff_ffff_ffff_ffff) even_places_64
+    → conv high high ≡ bit_and (x / 2 ^ 64) even_places_64
+    → conv (bit_xor (high * 2 ^ 32 % 2 ^ 64) low) (bit_xor (high * 2 ^ 32 % 2 ^ 64) low) ≡ bit_and x even_places_128
+compact_double_word x low high fits high_fits of_low of_high =
+    ap (λ (z : ℕ). conv (bit_xor z low) (bit_xor z low)) (shl_whole high 32 32 64 high_fits (lit≤ tt))
+    ∙ square_sum (high * 2 ^ 32) low
+    ∙ ap₂ bit_xor
+    (conv_shl 32 (high * 2 ^ 32) high ∙ ap (λ (z : ℕ). z * 2 ^ 32) (shl_conv 32 high high)
+    ∙ mul_assoc (conv high high) (2 ^ 32) (2 ^ 32) ∙ ap (λ (z : ℕ). z * 2 ^ 64) of_high)
+    of_low
+    ∙ split_mask x fits

@@ -1,0 +1,114 @@
+-- The square root of a polynomial modulo another from its even part and its odd part.
+use Rattle.std.proofs.Common.{◌≡◌, ℕ, ◌+◌, ◌*◌, ◌/◌, ◌%◌, ◌^◌, ◌<◌, ◌≤◌, true, refl, sym, ◌∙◌, ap, ap₂, subst, arith, lit<, lit≤}
+use Rattle.std.specs.Prelude.{bit_xor, bit_and}
+use Rattle.std.proofs.lemmas.Nat.{and_le_l, xor_comm, xor_lt, xor_shr, shl-shr, shr-shr, shr_split}
+use native.Mathlib.Nat.{mod-lt}
+use lib.Bits.{xor_shifted}
+use Rattle.bf_base.specs.Carryless.{conv, conv_in}
+use Rattle.bf_base.specs.Remainder.{HasDegree, rem, rem_in, mul_mod, poly64_modulus, ghash_modulus}
+use Rattle.bf_base.specs.Ring.{IsRing}
+use Rattle.bf_base.proofs.AdditiveMaps.{KeepsSums, maps_agree, agree_on_powers, agree_on_powers-true}
+use Rattle.bf_base.proofs.CarrylessProduct.{xor_exchange, xor_double, one_conv, double_conv, sum_conv, shl_conv}
+use Rattle.bf_base.proofs.PowerLemmas.{square_xor, square_times}
+use Rattle.bf_base.proofs.RingLemmas.{xor_left_comm}
+use Rattle.bf_base.proofs.RemainderLaws.{rem_small}
+use Rattle.bf_base.proofs.RemainderRing.{mul_mod-rem, mul_mod_ring}
+use Rattle.bf_clmul.specs.Compact.{even_places_64, even_places_128, root_of_x_64, root_of_x_128}
+use Rattle.bf_clmul.proofs.Classes.{xor_and}
+
+-- ---- any width
+
+module _ (width modulus : ℕ) (wide : 1 < width) (degree : HasDegree width modulus) (mask : ℕ) where
+  -- the square of what squares to the bits z of an element is z
+  square_of : (e z : ℕ) → e < 2 ^ width → z < 2 ^ width → conv e e ≡ z → mul_mod width modulus e e ≡ z
+  square_of e z e_fits z_fits of_e =
+      mul_mod-rem width modulus degree e e e_fits e_fits ∙ ap (rem width modulus) of_e ∙ rem_small width modulus degree z z_fits
+
+  -- the product of x and an element of lower degree is its shift
+  times_x : (z : ℕ) → z * 2 < 2 ^ width → 2 < 2 ^ width → mul_mod width modulus 2 z ≡ z * 2
+  times_x z fits two_fits =
+      mul_mod-rem width modulus degree 2 z two_fits (omega arith)
+      ∙ ap (rem width modulus) (double_conv 1 z ∙ ap (λ (y : ℕ). y * 2) (one_conv z))
+      ∙ rem_small width modulus degree (z * 2) fits
+
+  -- the even places and the odd ones
+  parts_sum : KeepsSums (λ x. bit_xor (bit_and x mask) (bit_and (x / 2) mask * 2))
+  parts_sum a b =
+      ap₂ bit_xor (xor_and a b mask)
+      (ap (λ (z : ℕ). bit_and z mask * 2) (xor_shr a b 1) ∙ ap (λ (z : ℕ). z * 2) (xor_and (a / 2) (b / 2) mask)
+      ∙ sym (xor_double (bit_and (a / 2) mask) (bit_and (b / 2) mask)))
+      ∙ xor_exchange (bit_and a mask) (bit_and b mask) _ _
+
+  pub root_of_parts : (s : ℕ) → mul_mod width modulus s s ≡ 2
+      → agree_on_powers (λ x. bit_xor (bit_and x mask) (bit_and (x / 2) mask * 2)) (λ x. x) width ≡ true → (x e o p : ℕ)
+      → x < 2 ^ width → e < 2 ^ width → o < 2 ^ width → 2 < 2 ^ width → conv e e ≡ bit_and x mask
+      → conv o o ≡ bit_and (x / 2) mask → p ≡ mul_mod width modulus s o
+      → mul_mod width modulus (bit_xor e p) (bit_xor e p) ≡ x
+  root_of_parts s is_root agree x e o p x_fits e_fits o_fits two_fits of_e of_o of_p =
+      square_xor width 1 (mul_mod width modulus) ring e p
+      ∙ ap₂ bit_xor
+      (square_of e (bit_and x mask) e_fits (omega (arith, even_le)) of_e)
+      (ap (λ (y : ℕ). mul_mod width modulus y y) of_p ∙ square_times width 1 (mul_mod width modulus) ring s o
+      ∙ ap₂ (mul_mod width modulus) is_root (square_of o (bit_and (x / 2) mask) o_fits (omega (arith, odd_le)) of_o)
+      ∙ times_x (bit_and (x / 2) mask) (omega (arith, odd_le)) two_fits)
+      ∙ maps_agree (λ y. bit_xor (bit_and y mask) (bit_and (y / 2) mask * 2)) (λ y. y) parts_sum (λ a b. refl) width
+      (agree_on_powers-true (λ y. bit_xor (bit_and y mask) (bit_and (y / 2) mask * 2)) (λ y. y) width agree) x x_fits
+    where
+      ring : IsRing width 1 (mul_mod width modulus)
+      ring = mul_mod_ring width modulus (omega arith) degree
+
+      even_le : bit_and x mask ≤ x
+      even_le = and_le_l x mask
+
+      odd_le : bit_and (x / 2) mask ≤ x / 2
+      odd_le = and_le_l (x / 2) mask
+
+-- ---- 64 bits
+
+root_squared_64 : mul_mod 64 poly64_modulus root_of_x_64 root_of_x_64 ≡ 2
+unfolding mul_mod rem rem_in conv conv_in
+root_squared_64 = refl
+
+pub root_64 : (x e o p : ℕ) → x < 2 ^ 64 → e < 2 ^ 32 → o < 2 ^ 32 → conv e e ≡ bit_and x even_places_64
+    → conv o o ≡ bit_and (x / 2) even_places_64 → p ≡ mul_mod 64 poly64_modulus root_of_x_64 o
+    → mul_mod 64 poly64_modulus (bit_xor e p) (bit_xor e p) ≡ x
+root_64 x e o p x_fits e_fits o_fits of_e of_o of_p =
+    root_of_parts 64 poly64_modulus (lit< tt) refl even_places_64 root_of_x_64 root_squared_64 refl x e o p x_fits
+    (omega arith) (omega arith) (lit< tt) of_e of_o of_p
+
+-- ---- 128 bits
+
+root_squared_128 : mul_mod 128 ghash_modulus root_of_x_128 root_of_x_128 ≡ 2
+unfolding mul_mod rem rem_in conv conv_in
+root_squared_128 = refl
+
+pub root_128 : (x e o p : ℕ) → x < 2 ^ 128 → e < 2 ^ 64 → o < 2 ^ 64 → conv e e ≡ bit_and x even_places_128
+    → conv o o ≡ bit_and (x / 2) even_places_128 → p ≡ mul_mod 128 ghash_modulus root_of_x_128 o
+    → mul_mod 128 ghash_modulus (bit_xor e p) (bit_xor e p) ≡ x
+root_128 x e o p x_fits e_fits o_fits of_e of_o of_p =
+    root_of_parts 128 ghash_modulus (lit< tt) refl even_places_128 root_of_x_128 root_squared_128 refl x e o p x_fits
+    (omega arith) (omega arith) (lit< tt) of_e of_o of_p
+
+-- the product by a double word, from the products by its words
+shifted_split : (h : ℕ) → bit_xor (h / 2 ^ 64 * 2 ^ 128) (h * 2 ^ 64 % 2 ^ 128) ≡ h * 2 ^ 64
+shifted_split h =
+    ap (λ (q : ℕ). bit_xor (q * 2 ^ 128) (h * 2 ^ 64 % 2 ^ 128))
+    (sym (ap (λ (y : ℕ). y / 2 ^ 64) (shl-shr h 64)) ∙ shr-shr (h * 2 ^ 64) 64 64)
+    ∙ xor_shifted (h * 2 ^ 64 / 2 ^ 128) 128 (h * 2 ^ 64 % 2 ^ 128) (mod-lt (h * 2 ^ 64) (lit< tt))
+    ∙ shr_split (h * 2 ^ 64) 128
+
+pub product_by_words : (s0 s1 o low high r : ℕ) → s0 < 2 ^ 64 → s1 * 2 ^ 64 + s0 < 2 ^ 128 → o < 2 ^ 64 → low < 2 ^ 128
+    → low ≡ conv s0 o → high ≡ conv s1 o
+    → r ≡ rem 128 ghash_modulus (high / 2 ^ 64 * 2 ^ 128 + bit_xor low (high * 2 ^ 64 % 2 ^ 128))
+    → r ≡ mul_mod 128 ghash_modulus (s1 * 2 ^ 64 + s0) o
+product_by_words s0 s1 o low high r s0_fits s_fits o_fits low_fits of_low of_high of_r =
+    of_r
+    ∙ ap (rem 128 ghash_modulus)
+    (sym (xor_shifted (high / 2 ^ 64) 128 (bit_xor low (high * 2 ^ 64 % 2 ^ 128))
+    (xor_lt 128 low (high * 2 ^ 64 % 2 ^ 128) low_fits (mod-lt (high * 2 ^ 64) (lit< tt))))
+    ∙ xor_left_comm (high / 2 ^ 64 * 2 ^ 128) low (high * 2 ^ 64 % 2 ^ 128)
+    ∙ ap (bit_xor low) (shifted_split high) ∙ xor_comm low (high * 2 ^ 64)
+    ∙ ap₂ (λ (x y : ℕ). bit_xor (x * 2 ^ 64) y) of_high of_low
+    ∙ sym (ap (λ (z : ℕ). conv z o) (sym (xor_shifted s1 64 s0 s0_fits)) ∙ sum_conv (s1 * 2 ^ 64) s0 o
+    ∙ ap (λ (z : ℕ). bit_xor z (conv s0 o)) (shl_conv 64 s1 o)))
+    ∙ sym (mul_mod-rem 128 ghash_modulus refl (s1 * 2 ^ 64 + s0) o s_fits (omega arith))

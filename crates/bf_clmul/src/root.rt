@@ -1,0 +1,71 @@
+// Square roots modulo the polynomials of two fields.
+//
+// A polynomial is an even part and an odd one, e² + x o², where e and o have the bits at its even and at its odd places,
+// since a square spreads bits. So its root is e + √x o.
+ghost use Rattle.std.specs.Prelude.{◌≡◌, ◌<◌, bit_and};
+ghost use Rattle.bf_base.specs.Carryless.{conv};
+ghost use Rattle.bf_base.specs.Remainder.{ghash_modulus, mul_mod, poly64_modulus};
+ghost use Rattle.bf_clmul.specs.Compact.{compact_step, even_places_64, even_places_128, root_of_x_128};
+
+use crate::fold::reduce_128;
+use crate::modular::multiply_mod_64;
+use crate::product::multiply_64_twice;
+
+/// Moves together by `shift` the halves of each field of a word, of which `mask` has the places.
+fn join_fields(x: u64, shift: u32, mask: u64) -> u64
+    requires { shift < 64 }
+    ensures { result ≡ compact_step shift mask x }
+{
+    (x ^ (x >> shift)) & mask
+}
+
+/// The bits at the even places of a word: the carryless root of those bits.
+///
+/// ```text
+/// . a . b . c . d . e . f . g . h  ->  . . a b . . c d . . e f . . g h  ->  . . . . a b c d . . . . e f g h  ->  ..
+/// ```
+pub fn compact_64(x: u64) -> u32
+    ensures { conv result result ≡ bit_and x even_places_64 }
+{
+    let bits = x & 0x5555_5555_5555_5555;
+    let pairs = join_fields(bits, 1, 0x3333_3333_3333_3333);
+    let nibbles = join_fields(pairs, 2, 0x0f0f_0f0f_0f0f_0f0f);
+    let bytes = join_fields(nibbles, 4, 0x00ff_00ff_00ff_00ff);
+    let halves = join_fields(bytes, 8, 0x0000_ffff_0000_ffff);
+    ((halves ^ (halves >> 16)) & 0xffff_ffff) as u32
+}
+
+/// The bits at the even places of a double word: the carryless root of those bits.
+pub fn compact_128(x: u128) -> u64
+    ensures { conv result result ≡ bit_and x even_places_128 }
+{
+    let low = compact_64((x & 0xffff_ffff_ffff_ffff) as u64);
+    let high = compact_64((x >> 64) as u64);
+    ((high as u64) << 32) ^ (low as u64)
+}
+
+/// The square root modulo x^64 + x^4 + x^3 + x + 1.
+pub fn sqrt_mod_64(x: u64) -> u64
+    ensures { mul_mod 64 poly64_modulus result result ≡ x }
+{
+    let even = compact_64(x) as u64;
+    let odd = compact_64(x >> 1) as u64;
+    even ^ multiply_mod_64(0xffff_ffff_0000_000a, odd)
+}
+
+/// The product of a word by the root of x modulo x^128 + x^7 + x^2 + x + 1, from the products by the halves of the root.
+fn times_root_of_x_128(odd: u64) -> u128
+    ensures { result ≡ mul_mod 128 ghash_modulus root_of_x_128 odd }
+{
+    let (low, high) = multiply_64_twice(0x6db6_db6d_b6db_6da4, 0x2492_4924_9249_2492, odd, odd);
+    reduce_128(low ^ (high << 64), high >> 64)
+}
+
+/// The square root modulo x^128 + x^7 + x^2 + x + 1.
+pub fn sqrt_mod_128(x: u128) -> u128
+    ensures { mul_mod 128 ghash_modulus result result ≡ x }
+{
+    let even = compact_128(x);
+    let odd = compact_128(x >> 1);
+    (even as u128) ^ times_root_of_x_128(odd)
+}
