@@ -2,19 +2,20 @@
 use crate::vectors;
 use bf_calc::answer;
 use serde_json::Value;
-use std::alloc::{AllocError, Global};
+use std::alloc::Global;
 use std::process::Abort;
 use std::test::Fail;
 
 /// The bytes of a vector's line: the text under "line", or the numbers under "bytes" where the line is no UTF-8.
-fn line_of(alloc: Global, vector: &Value) -> Result<Vec<u8>, AllocError> {
+fn line_of(alloc: Global, vector: &Value) -> Result<Vec<u8>, Fail> {
     let mut line = Vec::new(alloc);
     if let Some(text) = vector.get("line").and_then(Value::as_str) {
         line.extend_from_slice(text.as_bytes())?;
     }
     if let Some(bytes) = vector.get("bytes").and_then(Value::as_array) {
         for byte in bytes {
-            line.push(byte.as_u64().unwrap_or(0) as u8)?;
+            let byte = byte.as_u64().ok_or("no number")?;
+            line.push(u8::try_from(byte)?)?;
         }
     }
     Ok(line)
