@@ -1,5 +1,6 @@
 pub mod AdditiveMaps
 pub mod BasisColumns
+pub mod BasisFields
 pub mod BasisIsomorphism
 pub mod BasisMaps
 pub mod BasisSums

@@ -2,8 +2,8 @@
 -- squares, and so repeated squarings and sums of them are additive.
 use Rattle.std.proofs.Common.{◌≡◌, ℕ, zero, suc, ◌+◌, ◌*◌, ◌/◌, ◌%◌, ◌^◌, ◌<◌, refl, sym, ◌∙◌, ap, ap₂, arith}
 use Rattle.std.specs.Prelude.{bit_xor}
-use Rattle.std.proofs.lemmas.Nat.{xor_lt, pow_pos}
-use native.Mathlib.Nat.{mod-eq_of_lt, mul-suc, mul-zero, pow-suc}
+use Rattle.std.proofs.lemmas.Nat.{xor_lt, pow_pos, div-add-mod'}
+use native.Mathlib.Nat.{mod-eq_of_lt, mul-suc, mul-zero, pow-suc, zero-mul, zero-add, suc-mul}
 use native.Mathlib.Numerals.{add-one}
 use lib.Bits.{xor_assoc, xor_self, xor_zero_r}
 use Rattle.bf_base.specs.Ring.{IsRing}
@@ -84,6 +84,19 @@ module _ (width unit : ℕ) (times : ℕ → ℕ → ℕ) (ring : IsRing width u
   squared-add (suc m) n a =
       let next : suc m + n ≡ suc (m + n) = omega arith in
       ap (λ (x : ℕ). squared unit times x a) next ∙ ap (λ (x : ℕ). times x x) (squared-add m n a)
+
+  -- where as many squarings as `round` return each element, a count of squarings counts modulo `round`
+  module _ (round : ℕ) (returns : (a : ℕ) → squared unit times round a ≡ a % 2 ^ width) where
+    whole_rounds : (m n a : ℕ) → squared unit times (m * round + n) a ≡ squared unit times n a
+    whole_rounds zero n a = ap (λ (x : ℕ). squared unit times x a) (ap (λ (x : ℕ). x + n) (zero-mul round) ∙ zero-add n)
+    whole_rounds (suc m) n a =
+        let next : suc m * round + n ≡ m * round + n + round = omega (arith, suc-mul m round) in
+        ap (λ (x : ℕ). squared unit times x a) next ∙ squared-add (m * round + n) round a
+        ∙ ap (squared unit times (m * round + n)) (returns a) ∙ squared-mod (m * round + n) a ∙ whole_rounds m n a
+
+    pub squared-mod_round : (n a : ℕ) → squared unit times (n % round) a ≡ squared unit times n a
+    squared-mod_round n a =
+        sym (whole_rounds (n / round) (n % round) a) ∙ ap (λ (x : ℕ). squared unit times x a) (div-add-mod' n round)
 
   -- ---- sums of repeated squarings
 

@@ -11,7 +11,7 @@ use Rattle.bf_base.proofs.TowerRing.{tower_ring}
 use Rattle.bf_base.proofs.TowerTraces.{tower_traces, squarings_return}
 use Rattle.bf_base.proofs.TowerInverse.{tower_inverse, tower_mul-inverse}
 use Rattle.bf_base.proofs.TowerSqrt.{tower_sqrt, tower_sqrt-unique}
-use Rattle.bf_base.proofs.PowerLemmas.{times-one, squared-lt, squared-mod, squared-add, squared-power, power-lt}
+use Rattle.bf_base.proofs.PowerLemmas.{times-one, squared-lt, squared-mod_round, squared-power, power-lt}
 use Rattle.bf_base.proofs.QuadraticTraces.{squared-conjugate}
 
 -- 2 ^ k squarings of an element of level k + 1, which return each element of level k, are its conjugate
@@ -21,20 +21,8 @@ tower_squared-half k a =
     squared-conjugate (2 ^ k) (tower_mul k) (tower_ring k) (root k) (root_inverse k) (tower_traces k) a
 
 -- n squarings are as many as n leaves modulo the number of bits
-whole_rounds : (k m n a : ℕ) → squared 1 (tower_mul k) (m * 2 ^ k + n) a ≡ squared 1 (tower_mul k) n a
-whole_rounds k zero n a = ap (λ (x : ℕ). squared 1 (tower_mul k) x a) (ap (λ (x : ℕ). x + n) (zero-mul (2 ^ k)) ∙ zero-add n)
-whole_rounds k (suc m) n a =
-    let next : suc m * 2 ^ k + n ≡ m * 2 ^ k + n + 2 ^ k = omega (arith, suc-mul m (2 ^ k)) in
-    ap (λ (x : ℕ). squared 1 (tower_mul k) x a) next
-    ∙ squared-add (2 ^ k) 1 (tower_mul k) (tower_ring k) (m * 2 ^ k + n) (2 ^ k) a
-    ∙ ap (squared 1 (tower_mul k) (m * 2 ^ k + n)) (squarings_return k a)
-    ∙ squared-mod (2 ^ k) 1 (tower_mul k) (tower_ring k) (m * 2 ^ k + n) a
-    ∙ whole_rounds k m n a
-
 pub tower_squared-mod_bits : (k n a : ℕ) → squared 1 (tower_mul k) (n % 2 ^ k) a ≡ squared 1 (tower_mul k) n a
-tower_squared-mod_bits k n a =
-    sym (whole_rounds k (n / 2 ^ k) (n % 2 ^ k) a)
-    ∙ ap (λ (x : ℕ). squared 1 (tower_mul k) x a) (div-add-mod' n (2 ^ k))
+tower_squared-mod_bits k n a = squared-mod_round (2 ^ k) 1 (tower_mul k) (tower_ring k) (2 ^ k) (squarings_return k) n a
 
 -- one squaring fewer than the level has bits gives the square root
 pub tower_sqrt-squared : (k a : ℕ) → squared 1 (tower_mul k) (2 ^ k - 1) a ≡ tower_sqrt k a

@@ -1,0 +1,89 @@
+// Rings that another ring embeds in.
+ghost use Rattle.std.specs.Prelude.{◌≡◌, ℕ, bit_xor, refl};
+ghost use Rattle.std.proofs.Common.{ap};
+
+use crate::traits::ring::PrimeCharacteristicRing;
+use std::ops::{Add, AddAssign, Mul, MulAssign, Sub, SubAssign};
+
+/// An algebra over the ring `F`: a ring with an embedding of `F`, by which its operators take an element of `F` on the
+/// right. It has no items of its own. Each ring is an algebra over itself.
+pub trait Algebra<F: PrimeCharacteristicRing>: PrimeCharacteristicRing
+    + From<F>
+    + Add<F, Output = Self>
+    + AddAssign<F>
+    + Sub<F, Output = Self>
+    + SubAssign<F>
+    + Mul<F, Output = Self>
+    + MulAssign<F> {
+    // The embedding, over representations: it carries 1, sums and products.
+    ghost image: { ℕ → ℕ };
+
+    ghost image_unit_law: { image F.unit ≡ Self.unit };
+
+    ghost image_sum_law: { (a b : ℕ) → image (bit_xor a b) ≡ bit_xor (image a) (image b) };
+
+    ghost image_product_law: { (a b : ℕ) → image (F.product a b) ≡ Self.product (image a) (image b) };
+
+    // What the conversion and the operators give, the second bound of each name being the one over `F`.
+    ghost image_from_law: { (x : F) (r : Self) → Self.From-2.from_gives x r → Self.repr r ≡ image (F.repr x) };
+
+    ghost can_add_image_law: { (x : Self) (y : F) → Self.Add-2.can_add x y };
+
+    ghost add_image_law: { (x : Self) (y : F) (r : Self) → Self.Add-2.add_gives x y r → Self.repr r ≡ bit_xor (Self.repr x) (image (F.repr y)) };
+
+    ghost can_add_assign_image_law: { (x : Self) (y : F) → Self.AddAssign-2.can_add_assign x y };
+
+    ghost add_assign_image_law: { (x : Self) (y : F) (r : Self) → Self.AddAssign-2.add_assign_gives x y r → Self.repr r ≡ bit_xor (Self.repr x) (image (F.repr y)) };
+
+    ghost can_sub_image_law: { (x : Self) (y : F) → Self.Sub-2.can_sub x y };
+
+    ghost sub_image_law: { (x : Self) (y : F) (r : Self) → Self.Sub-2.sub_gives x y r → Self.repr r ≡ bit_xor (Self.repr x) (image (F.repr y)) };
+
+    ghost can_sub_assign_image_law: { (x : Self) (y : F) → Self.SubAssign-2.can_sub_assign x y };
+
+    ghost sub_assign_image_law: { (x : Self) (y : F) (r : Self) → Self.SubAssign-2.sub_assign_gives x y r → Self.repr r ≡ bit_xor (Self.repr x) (image (F.repr y)) };
+
+    ghost can_mul_image_law: { (x : Self) (y : F) → Self.Mul-2.can_mul x y };
+
+    ghost mul_image_law: { (x : Self) (y : F) (r : Self) → Self.Mul-2.mul_gives x y r → Self.repr r ≡ Self.product (Self.repr x) (image (F.repr y)) };
+
+    ghost can_mul_assign_image_law: { (x : Self) (y : F) → Self.MulAssign-2.can_mul_assign x y };
+
+    ghost mul_assign_image_law: { (x : Self) (y : F) (r : Self) → Self.MulAssign-2.mul_assign_gives x y r → Self.repr r ≡ Self.product (Self.repr x) (image (F.repr y)) };
+}
+
+impl<R: PrimeCharacteristicRing> Algebra<R> for R {
+    ghost image = { λ a. a };
+
+    ghost image_unit_law = { refl };
+
+    ghost image_sum_law = { λ a b. refl };
+
+    ghost image_product_law = { λ a b. refl };
+
+    ghost image_from_law = { λ x r is. ap R.repr is };
+
+    ghost can_add_image_law = { R.can_add_law };
+
+    ghost add_image_law = { R.add_law };
+
+    ghost can_add_assign_image_law = { R.can_add_assign_law };
+
+    ghost add_assign_image_law = { R.add_assign_law };
+
+    ghost can_sub_image_law = { R.can_sub_law };
+
+    ghost sub_image_law = { R.sub_law };
+
+    ghost can_sub_assign_image_law = { R.can_sub_assign_law };
+
+    ghost sub_assign_image_law = { R.sub_assign_law };
+
+    ghost can_mul_image_law = { R.can_mul_law };
+
+    ghost mul_image_law = { R.mul_law };
+
+    ghost can_mul_assign_image_law = { R.can_mul_assign_law };
+
+    ghost mul_assign_image_law = { R.mul_assign_law };
+}
