@@ -24,6 +24,14 @@ module _ (k width modulus : ℕ) (images : List ℕ) (keeps : IsHomomorphism k w
   image_nonzero a x of_a nonzero zero_a =
       nonzero (sym of_a ∙ ap (basis_image width modulus images) zero_a ∙ keeps.zero_image)
 
+  -- the image of the one, and that of a product, of an element of a lower level
+  pub image_of_one : (unit : ℕ) → unit ≡ 1 → basis_image width modulus images unit ≡ 1
+  image_of_one unit is = ap (basis_image width modulus images) is ∙ keeps.one_image
+
+  pub image_of_product : (a b product : ℕ) → product ≡ tower_mul k a b → basis_image width modulus images product
+      ≡ mul_mod width modulus (basis_image width modulus images a) (basis_image width modulus images b)
+  image_of_product a b product is = ap (basis_image width modulus images) is ∙ keeps.product_image a b
+
   -- the images of Cantor vectors are Cantor vectors
   pub image_cantor : (bits : ℕ) (vector : ℕ → ℕ) → AreCantorVectors bits (tower_mul k) vector
       → AreCantorVectors bits (mul_mod width modulus) (λ i. basis_image width modulus images (vector i))

@@ -1,17 +1,25 @@
 // GF(2^128) in the polynomial basis, modulo x^128 + x^7 + x^2 + x + 1.
-ghost use Rattle.std.specs.Prelude.{◌≡◌, ◌<◌, ◌^◌, ◌≤◌, ◌↔◌, ℕ, length, IsTrue, bit_xor, refl};
+ghost use Rattle.std.specs.Prelude.{◌≡◌, ◌≢◌, ◌<◌, ◌^◌, ◌%◌, ◌≤◌, ◌↔◌, ℕ, length, map, slice_index, IfOk, IsTrue, bit_xor, refl};
 ghost use Rattle.std.specs.Int.{from_le_bytes, w128};
-ghost use Rattle.std.proofs.Common.{lit<, rules};
-ghost use Rattle.bf_base.specs.Powers.{sum_of, product_of, dot_of, value_of};
+ghost use Rattle.std.proofs.Common.{lit<, lit≤, rules};
+ghost use Rattle.bf_base.specs.Basis.{basis_image, ghash_images};
+ghost use Rattle.bf_base.specs.Powers.{squared, sum_of, product_of, dot_of, value_of};
 ghost use Rattle.bf_base.specs.Remainder.{ghash_modulus, mul_mod};
+ghost use Rattle.bf_tower128.specs.BinaryField128.{repr_of as tower_repr_of};
 
 use bf_base::Gf2;
 use bf_base::traits::{
-    PrimeCharacteristicRing, Represented, TowerLevel, product_of_items, sum_of_items,
+    Field, PrimeCharacteristicRing, Represented, Sealed, TowerLevel, product_of_items, sum_of_items,
 };
-use bf_clmul::{multiply_128, multiply_by_power_128, multiply_mod_128, reduce_128, square_mod_128};
+use bf_basis::to_polynomial_128;
+use bf_clmul::{
+    multiply_128, multiply_by_power_128, multiply_mod_128, reduce_128, sqrt_mod_128, square_mod_128,
+};
+use bf_tables::cantor_vector;
+use bf_tower128::BinaryField128;
+use std::alloc::{AllocError, Allocator};
 use std::iter::{Product, Sum};
-use std::ops::{Add, AddAssign, Mul, MulAssign, Neg, Sub, SubAssign};
+use std::ops::{Add, AddAssign, Div, DivAssign, Mul, MulAssign, Neg, Sub, SubAssign};
 
 /// An element of GF(2^128) in the polynomial basis, modulo x^128 + x^7 + x^2 + x + 1, the modulus of NIST SP 800-38D.
 /// Bit i of its representation is the coefficient of x^i, so a block of that standard, whose leftmost bit is the
@@ -64,6 +72,57 @@ impl Ghash128 {
         Ghash128 {
             repr: reduce_128(low, high),
         }
+    }
+
+    /// The images of elements of the tower, place by place, in a vector from `alloc`. It fails only where the allocator
+    /// refuses.
+    pub fn from_tower_vec<A: Allocator>(
+        alloc: A,
+        elements: &[BinaryField128],
+    ) -> Result<Vec<Ghash128, A>, AllocError>
+        ensures { IfOk result (λ images. map repr_of images.items ≡ map (λ x. basis_image 128 ghash_modulus ghash_images (tower_repr_of x)) elements.now) }
+    {
+        let mut images = Vec::with_capacity(alloc, elements.len())?;
+        for element in elements.iter() {
+            images.push(Ghash128::from(*element))?;
+        }
+        Ok(images)
+    }
+
+    /// The inverse, and 0 for 0.
+    pub fn invert_or_zero(self) -> Ghash128
+        ensures zero { repr_of self ≡ 0 → repr_of result ≡ 0 }
+        ensures inverse { repr_of self ≢ 0 → mul_mod 128 ghash_modulus (repr_of self) (repr_of result) ≡ 1 }
+    {
+        if self.repr == 0 { self } else { self.invert() }
+    }
+
+    // The inverse of an element that is not 0: the image of the inverse in the tower.
+    fn invert(self) -> Ghash128
+        requires { repr_of self ≢ 0 }
+        ensures { mul_mod 128 ghash_modulus (repr_of self) (repr_of result) ≡ 1 }
+    {
+        Ghash128::from(BinaryField128::from(self).inverse())
+    }
+
+    // The square.
+    fn squared(self) -> Ghash128
+        ensures { repr_of result ≡ mul_mod 128 ghash_modulus (repr_of self) (repr_of self) }
+    {
+        Ghash128 {
+            repr: square_mod_128(self.repr),
+        }
+    }
+
+    // The element squared `count` times.
+    fn squarings(self, count: usize) -> Ghash128
+        ensures { repr_of result ≡ squared 1 (mul_mod 128 ghash_modulus) count (repr_of self) }
+    {
+        let mut value = self;
+        for _ in 0..count {
+            value = value.squared();
+        }
+        value
     }
 }
 
@@ -132,6 +191,28 @@ impl MulAssign<Ghash128> for Ghash128 {
 
     fn mul_assign(&mut self, other: Ghash128) {
         *self = *self * other;
+    }
+}
+
+impl Div<Ghash128> for Ghash128 {
+    type Output = Ghash128;
+
+    ghost can_div = { λ x y. y.repr ≢ 0 };
+
+    ghost div_gives = { λ x y r. mul_mod 128 ghash_modulus r.repr y.repr ≡ x.repr };
+
+    fn div(self, other: Ghash128) -> Ghash128 {
+        self * other.invert()
+    }
+}
+
+impl DivAssign<Ghash128> for Ghash128 {
+    ghost can_div_assign = { λ x y. y.repr ≢ 0 };
+
+    ghost div_assign_gives = { λ x y r. mul_mod 128 ghash_modulus r.repr y.repr ≡ x.repr };
+
+    fn div_assign(&mut self, other: Ghash128) {
+        *self = *self / other;
     }
 }
 
@@ -223,9 +304,12 @@ impl PrimeCharacteristicRing for Ghash128 {
     ghost NEG_ONE = { record { repr = 1; in_range = lit< tt } };
 
     fn square(&self) -> Ghash128 {
-        Ghash128 {
-            repr: square_mod_128(self.repr),
-        }
+        self.squared()
+    }
+
+    // The count is reduced by the bits.
+    fn exp_power_of_2(&self, count: usize) -> Ghash128 {
+        self.squarings(count % 128)
     }
 
     // The sum of the carryless products is reduced once.
@@ -283,4 +367,103 @@ impl PrimeCharacteristicRing for Ghash128 {
     ghost can_product_law = { λ xs. tt };
 
     ghost product_law = { λ xs r is. is };
+}
+
+impl Field for Ghash128 {
+    ghost use Rattle.bf_base.proofs.BasisFields.{polynomial_frobenius};
+    ghost use Rattle.bf_basis.proofs.Isomorphisms.{field_128};
+    ghost use Rattle.bf_tables.proofs.LevelLaws.{too_wide};
+
+    // The image of the generator of BinaryField128.
+    const GENERATOR: Ghash128 = Ghash128 {
+        repr: 0xe5a5_755a_d217_f07d_1da7_0a74_7203_d630,
+    };
+
+    ghost GENERATOR = { record { repr = 0xe5a5_755a_d217_f07d_1da7_0a74_7203_d630; in_range = lit< tt } };
+
+    fn bits() -> usize {
+        128
+    }
+
+    fn try_inverse(&self) -> Option<Ghash128> {
+        if self.repr == 0 {
+            None
+        } else {
+            Some(self.invert())
+        }
+    }
+
+    fn try_sqrt(&self) -> Option<Ghash128> {
+        Some(Ghash128 {
+            repr: sqrt_mod_128(self.repr),
+        })
+    }
+
+    fn interpolation_node(i: usize) -> Ghash128 {
+        Ghash128 { repr: i as u128 }
+    }
+
+    ghost generator_law = { λ small. too_wide 128 (lit< tt) small };
+
+    ghost wide_law = { lit< tt };
+
+    ghost unit_law = { refl };
+
+    ghost can_div_law = { λ x y divides. divides };
+
+    ghost div_law = { λ x y r is. is };
+
+    ghost can_div_assign_law = { λ x y divides. divides };
+
+    ghost div_assign_law = { λ x y r is. is };
+
+    ghost frobenius_law = { λ x. polynomial_frobenius 128 ghash_modulus x.repr field_128 x.in_range };
+}
+
+impl Sealed for Ghash128 {}
+
+impl TowerLevel for Ghash128 {
+    ghost use Rattle.bf_tables.specs.Cantor.{cantor_vector};
+    ghost use Rattle.bf_tables.proofs.LevelLaws.{level_cantor};
+    ghost use Rattle.bf_base.proofs.BasisFields.{image_cantor};
+    ghost use Rattle.bf_basis.proofs.Isomorphisms.{isomorphic_128};
+
+    type Repr = u128;
+
+    const LOG_BITS: usize = 7;
+
+    ghost LOG_BITS = { 7 };
+
+    ghost number = { λ n. n };
+
+    ghost alpha = { slice_index ghash_images 6 };
+
+    ghost cantor = { λ i. basis_image 128 ghash_modulus ghash_images (cantor_vector i) };
+
+    fn from_repr(bits: u128) -> Ghash128 {
+        Ghash128::new(bits)
+    }
+
+    fn to_repr(self) -> u128 {
+        self.repr
+    }
+
+    // The image of the root that BinaryField128 adjoins.
+    fn mul_alpha(self) -> Ghash128 {
+        Ghash128 {
+            repr: multiply_mod_128(0x9cfc_a256_33f9_993f_4e1f_5110_70b2_3e78, self.repr),
+        }
+    }
+
+    fn cantor_basis(i: usize) -> Ghash128 {
+        Ghash128 {
+            repr: to_polynomial_128(cantor_vector(i)),
+        }
+    }
+
+    ghost cantor_law = { image_cantor 7 128 ghash_modulus ghash_images isomorphic_128.homomorphism 128 cantor_vector (level_cantor 7 (lit≤ tt)) };
+
+    ghost bits_law = { refl };
+
+    ghost alpha_law = { lit< tt };
 }

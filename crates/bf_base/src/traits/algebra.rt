@@ -1,5 +1,5 @@
 // Rings that another ring embeds in.
-ghost use Rattle.std.specs.Prelude.{◌≡◌, ℕ, bit_xor, refl};
+ghost use Rattle.std.specs.Prelude.{◌≡◌, ◌<◌, ◌^◌, ℕ, bit_xor, refl};
 ghost use Rattle.std.proofs.Common.{ap};
 
 use crate::traits::ring::PrimeCharacteristicRing;
@@ -15,14 +15,14 @@ pub trait Algebra<F: PrimeCharacteristicRing>: PrimeCharacteristicRing
     + SubAssign<F>
     + Mul<F, Output = Self>
     + MulAssign<F> {
-    // The embedding, over representations: it carries 1, sums and products.
+    // The embedding, over representations. It carries 1, sums and products.
     ghost image: { ℕ → ℕ };
 
     ghost image_unit_law: { image F.unit ≡ Self.unit };
 
-    ghost image_sum_law: { (a b : ℕ) → image (bit_xor a b) ≡ bit_xor (image a) (image b) };
+    ghost image_sum_law: { (a b : ℕ) → a < 2 ^ F.width → b < 2 ^ F.width → image (bit_xor a b) ≡ bit_xor (image a) (image b) };
 
-    ghost image_product_law: { (a b : ℕ) → image (F.product a b) ≡ Self.product (image a) (image b) };
+    ghost image_product_law: { (a b : ℕ) → a < 2 ^ F.width → b < 2 ^ F.width → image (F.product a b) ≡ Self.product (image a) (image b) };
 
     // What the conversion and the operators give, the second bound of each name being the one over `F`.
     ghost image_from_law: { (x : F) (r : Self) → Self.From-2.from_gives x r → Self.repr r ≡ image (F.repr x) };
@@ -57,9 +57,9 @@ impl<R: PrimeCharacteristicRing> Algebra<R> for R {
 
     ghost image_unit_law = { refl };
 
-    ghost image_sum_law = { λ a b. refl };
+    ghost image_sum_law = { λ a b a_fits b_fits. refl };
 
-    ghost image_product_law = { λ a b. refl };
+    ghost image_product_law = { λ a b a_fits b_fits. refl };
 
     ghost image_from_law = { λ x r is. ap R.repr is };
 

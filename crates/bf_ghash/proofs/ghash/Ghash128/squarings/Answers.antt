@@ -1,0 +1,13 @@
+use Rattle.std.proofs.Common.{sym}
+use Rattle.bf_base.specs.Remainder.{ghash_modulus}
+use Rattle.bf_base.proofs.BasisFields.{polynomial_squarings_none, polynomial_squarings_more}
+use Rattle.bf_basis.proofs.Isomorphisms.{field_128}
+use Rattle.bf_ghash.proofs.ghash.Ghash128.squarings.Goals as goal
+
+pub loop-init : goal.loop-init
+loop-init c = sym (polynomial_squarings_none 128 ghash_modulus c.args.self.repr field_128 c.args.self.in_range)
+
+pub loop-preserved : goal.loop-preserved
+loop-preserved c =
+    polynomial_squarings_more 128 ghash_modulus c.loop.counter c.args.self.repr c.loop.value.repr
+    c.squared-value.result.repr field_128 c.loop.invariant c.squared-value.ensures
