@@ -4,6 +4,8 @@
 //! stand on the right of its operators, and inverses are those of the tower.
 #![tactic(auto)]
 
+#[cfg(test)]
+mod field_tests;
 mod poly64;
 #[cfg(test)]
 mod tests;
