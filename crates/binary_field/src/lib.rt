@@ -12,3 +12,4 @@ pub use bf_poly64::Poly64;
 pub use bf_tower8::{BinaryField2, BinaryField4, BinaryField8};
 pub use bf_tower32::{BinaryField16, BinaryField32};
 pub use bf_tower128::{BinaryField64, BinaryField128};
+pub use bf_transform::over;

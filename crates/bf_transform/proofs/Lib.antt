@@ -1,0 +1,2 @@
+pub mod Horner
+pub mod ImageValues

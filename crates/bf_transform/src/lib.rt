@@ -1,0 +1,9 @@
+//! Polynomials over the fields of this library, by their coefficients, lowest first.
+#![tactic(auto)]
+
+mod laws;
+pub mod over;
+#[cfg(test)]
+mod tests;
+
+pub use crate::laws::values_commute_with_images;
