@@ -16,8 +16,7 @@ loop-coefficient-preserved g c =
     let laws = g.met.F.Represented in
     let coefficient = c.in-Some.coefficient in
     let next =
-    laws.add_law c.mul.result coefficient c.add-value.result c.add-value.ensures
-    ∙ ap (λ s. bit_xor s (field.repr coefficient))
-    (laws.mul_law c.loop-coefficient.value c.args.x c.mul.result c.mul.ensures) in
+    laws.add_law _ _ c.add-value.result c.add-value.ensures
+    ∙ ap (λ s. bit_xor s (field.repr coefficient)) (laws.mul_law _ _ c.mul.result c.mul.ensures) in
     horner_step field.width field.unit field.product field.ring_law field.repr (field.repr c.args.x) _ _ coefficient
     c.loop-coefficient.yielded (field.range_law coefficient) c.loop-coefficient.invariant next
