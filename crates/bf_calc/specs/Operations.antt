@@ -1,8 +1,8 @@
 -- The operations that a line may name, and what they give.
 use Rattle.std.specs.Prelude.{◌≡◌, ◌≢◌, ℕ, ◌-◌, ◌^◌, ◌<◌, ◌==◌, IsSomeAnd, if◌then◌else◌, List, [], ◌∷◌, codes, Option, Some, None, bit_xor}
 use Rattle.bf_base.specs.Powers.{power, squared}
-use Rattle.bf_base.specs.Tower.{tower_mul}
-use Rattle.bf_calc.specs.Fields.{look_up}
+use Rattle.bf_calc.specs.Fields.{field_of, look_up}
+use Rattle.bf_calc.specs.declared.names.FieldName.{FieldName}
 use Rattle.bf_calc.specs.declared.names.Binary.{Binary}
 use Rattle.bf_calc.specs.declared.names.Binary.TheVariants.{Add, Mul}
 use Rattle.bf_calc.specs.declared.names.Unary.{Unary}
@@ -32,13 +32,14 @@ unary_result bits times Square x = Some (times x x)
 unary_result bits times Inv x = if x == 0 then None else Some (power 1 times x (2 ^ bits - 2))
 unary_result bits times Sqrt x = Some (squared 1 times (bits - 1) x)
 
--- at every level of the tower the inverse of an element but 0 is one: their product is 1
+-- in every field that a line may name the inverse of an element but 0 is one: their product is 1
 abbrev pub InverseInverts : Type 0
 InverseInverts =
-    (k x : ℕ) → x < 2 ^ 2 ^ k → x ≢ 0
-    → IsSomeAnd (unary_result (2 ^ k) (tower_mul k) Inv x) (λ y. tower_mul k x y ≡ 1)
+    (name : FieldName) (x : ℕ) → x < 2 ^ (field_of name).bits → x ≢ 0
+    → IsSomeAnd (unary_result (field_of name).bits (field_of name).times Inv x) (λ y. (field_of name).times x y ≡ 1)
 
 -- and the square of the root of an element is the element
 abbrev pub RootIsRoot : Type 0
 RootIsRoot =
-    (k x : ℕ) → x < 2 ^ 2 ^ k → IsSomeAnd (unary_result (2 ^ k) (tower_mul k) Sqrt x) (λ y. tower_mul k y y ≡ x)
+    (name : FieldName) (x : ℕ) → x < 2 ^ (field_of name).bits
+    → IsSomeAnd (unary_result (field_of name).bits (field_of name).times Sqrt x) (λ y. (field_of name).times y y ≡ x)

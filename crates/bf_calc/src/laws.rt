@@ -16,7 +16,8 @@ pub fn text_is_read_back()
     ensures { TextIsReadBack }
 {}
 
-/// States that `inv` gives the inverse, whose product with the operand is 1, and `sqrt` the root, whose square it is.
+/// States that in every field that a line may name `inv` gives the inverse, whose product with the operand is 1, and
+/// `sqrt` the root, whose square it is.
 pub fn inverse_and_root()
     ensures inverse { InverseInverts }
     ensures root { RootIsRoot }

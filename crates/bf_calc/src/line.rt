@@ -14,6 +14,8 @@ use crate::operand::{binary_result, unary_result};
 use crate::text::Answer;
 use crate::words::next_word;
 use bf_base::Gf2;
+use bf_ghash::Ghash128;
+use bf_poly64::Poly64;
 use bf_tower8::{BinaryField2, BinaryField4, BinaryField8};
 use bf_tower32::{BinaryField16, BinaryField32};
 use bf_tower128::{BinaryField64, BinaryField128};
@@ -118,6 +120,8 @@ fn binary_result_in(field: FieldName, operation: Binary, left: u128, right: u128
         FieldName::T32 => binary_result::<BinaryField32>(operation, left, right),
         FieldName::T64 => binary_result::<BinaryField64>(operation, left, right),
         FieldName::T128 => binary_result::<BinaryField128>(operation, left, right),
+        FieldName::P64 => binary_result::<Poly64>(operation, left, right),
+        FieldName::G128 => binary_result::<Ghash128>(operation, left, right),
     }
 }
 
@@ -135,5 +139,7 @@ fn unary_result_in(field: FieldName, operation: Unary, operand: u128) -> Option<
         FieldName::T32 => unary_result::<BinaryField32>(operation, operand),
         FieldName::T64 => unary_result::<BinaryField64>(operation, operand),
         FieldName::T128 => unary_result::<BinaryField128>(operation, operand),
+        FieldName::P64 => unary_result::<Poly64>(operation, operand),
+        FieldName::G128 => unary_result::<Ghash128>(operation, operand),
     }
 }

@@ -4,7 +4,7 @@ ghost use Rattle.bf_calc.specs.Fields.{field_named, field_of};
 ghost use Rattle.bf_calc.specs.Operations.{operation_named};
 ghost use Rattle.bf_calc.specs.Text.{error_number, error_text};
 
-/// A field that a line may name: a level of the tower, by the bits of its elements.
+/// A field that a line may name: a level of the tower or a field of polynomials, by the bits of its elements.
 #[derive(Clone, Copy)]
 pub(crate) enum FieldName {
     Gf2,
@@ -15,6 +15,8 @@ pub(crate) enum FieldName {
     T32,
     T64,
     T128,
+    P64,
+    G128,
 }
 
 /// An operation on two operands.
@@ -70,6 +72,10 @@ pub(crate) fn field_named(word: &[u8]) -> Option<FieldName>
         Some(FieldName::T64)
     } else if word == b"t128".as_slice() {
         Some(FieldName::T128)
+    } else if word == b"p64".as_slice() {
+        Some(FieldName::P64)
+    } else if word == b"g128".as_slice() {
+        Some(FieldName::G128)
     } else {
         None
     }
@@ -104,8 +110,8 @@ impl FieldName {
             FieldName::Gf2 | FieldName::T2 | FieldName::T4 | FieldName::T8 => 1,
             FieldName::T16 => 2,
             FieldName::T32 => 4,
-            FieldName::T64 => 8,
-            FieldName::T128 => 16,
+            FieldName::T64 | FieldName::P64 => 8,
+            FieldName::T128 | FieldName::G128 => 16,
         }
     }
 
@@ -120,8 +126,8 @@ impl FieldName {
             FieldName::T8 => number < 1 << 8,
             FieldName::T16 => number < 1 << 16,
             FieldName::T32 => number < 1 << 32,
-            FieldName::T64 => number < 1 << 64,
-            FieldName::T128 => true,
+            FieldName::T64 | FieldName::P64 => number < 1 << 64,
+            FieldName::T128 | FieldName::G128 => true,
         }
     }
 }

@@ -5,6 +5,8 @@ ghost use Rattle.bf_calc.specs.Operations.{binary_result, unary_result};
 use crate::names::{Binary, Unary};
 use bf_base::Gf2;
 use bf_base::traits::{Field, PrimeCharacteristicRing, TowerLevel};
+use bf_ghash::Ghash128;
+use bf_poly64::Poly64;
 use bf_tower8::{BinaryField2, BinaryField4, BinaryField8};
 use bf_tower32::{BinaryField16, BinaryField32};
 use bf_tower128::{BinaryField64, BinaryField128};
@@ -94,6 +96,26 @@ impl Operand for BinaryField64 {
 impl Operand for BinaryField128 {
     fn from_number(number: u128) -> BinaryField128 {
         BinaryField128::from_repr(number)
+    }
+
+    fn to_number(self) -> u128 {
+        self.to_repr()
+    }
+}
+
+impl Operand for Poly64 {
+    fn from_number(number: u128) -> Poly64 {
+        Poly64::from_repr(number as u64)
+    }
+
+    fn to_number(self) -> u128 {
+        u128::from(self.to_repr())
+    }
+}
+
+impl Operand for Ghash128 {
+    fn from_number(number: u128) -> Ghash128 {
+        Ghash128::from_repr(number)
     }
 
     fn to_number(self) -> u128 {

@@ -1,10 +1,10 @@
--- The laws of inverses and roots, at each level of the tower.
+-- The laws of inverses and roots, in each field that a line may name.
 use Rattle.std.proofs.lemmas.Bool.{ne_eqb}
-use Rattle.bf_calc.proofs.FermatLemmas.{tower-inverse, tower-root}
+use Rattle.bf_calc.proofs.FermatLemmas.{inverse-in, root-in}
 use Rattle.bf_calc.proofs.laws.inverse_and_root.Goals as goal
 
 pub returns-clause-inverse : goal.returns-clause-inverse
-returns-clause-inverse c k x low nonzero = rw (ne_eqb x 0 nonzero) (tower-inverse k x low nonzero)
+returns-clause-inverse c name x low nonzero = rw (ne_eqb x 0 nonzero) (inverse-in name x low nonzero)
 
 pub returns-clause-root : goal.returns-clause-root
-returns-clause-root c = tower-root
+returns-clause-root c = root-in
