@@ -76,6 +76,63 @@ const REFERENCE: [(&[u8], &[u8]); 23] = [
     (b"t128 inv 0", b"error 4"),
 ];
 
+// Lines of the fields of polynomials. By hand: x times its inverse is the modulus and 1, the product of the highest term and x
+// is the rest of the modulus, and a square has the coefficients of its root at the even places. The other results are those of
+// the Rust crate.
+const POLYNOMIALS: [(&[u8], &[u8]); 24] = [
+    (
+        b"p64 add 0123456789ABCDEF fedcba9876543210",
+        b"ffffffffffffffff",
+    ),
+    (
+        b"p64 mul 8000000000000000 0000000000000002",
+        b"000000000000001b",
+    ),
+    (
+        b"p64 mul 0123456789abcdef fedcba9876543210",
+        b"48827ab55d976fa0",
+    ),
+    (b"p64 square 0000000000000003", b"0000000000000005"),
+    (b"p64 inv 0000000000000002", b"800000000000000d"),
+    (b"p64 inv 0000000000000000", b"none"),
+    (b"p64 sqrt 0000000000000002", b"ffffffff0000000a"),
+    (
+        b"g128 add 0123456789abcdef0123456789abcdef fedcba9876543210fedcba9876543210",
+        b"ffffffffffffffffffffffffffffffff",
+    ),
+    (
+        b"g128 mul 80000000000000000000000000000000 00000000000000000000000000000002",
+        b"00000000000000000000000000000087",
+    ),
+    (
+        b"g128 mul 0123456789abcdef0123456789abcdef fedcba9876543210fedcba9876543210",
+        b"725cfee53719bb81d3fd5f4496b81a20",
+    ),
+    (
+        b"g128 square 0123456789abcdef0123456789abcdef",
+        b"00841a9668ec72dfa125bb37c94dd37e",
+    ),
+    (
+        b"g128 inv 00000000000000000000000000000002",
+        b"80000000000000000000000000000043",
+    ),
+    (b"g128 inv 00000000000000000000000000000000", b"none"),
+    (
+        b"g128 sqrt 00000000000000000000000000000002",
+        b"24924924924924926db6db6db6db6da4",
+    ),
+    (b"p64 div 0000000000000001 0000000000000001", b"error 2"),
+    (b"p64 inv", b"error 3"),
+    (b"g128 mul 00000000000000000000000000000002", b"error 3"),
+    (b"p64 mul 01 02", b"error 4"),
+    (b"p64 mul 00000000000000001 0000000000000001", b"error 4"),
+    (b"g128 square 0000000000000003", b"error 4"),
+    (b"P64 inv 0000000000000002", b"error 1"),
+    (b"p128 inv 00000000000000000000000000000002", b"error 1"),
+    (b"p192 add 01 01", b"error 1"),
+    (b"r8 mul 10 10", b"error 1"),
+];
+
 #[test]
 fn each_line_has_its_answer(rt: HostRuntime) -> Result<(), Fail> {
     for (line, expected) in ANSWERS {
@@ -87,6 +144,14 @@ fn each_line_has_its_answer(rt: HostRuntime) -> Result<(), Fail> {
 #[test]
 fn the_answers_are_those_of_another_implementation(rt: HostRuntime) -> Result<(), Fail> {
     for (line, expected) in REFERENCE {
+        assert_eq!(rt; answer(line).as_bytes(), expected);
+    }
+    Ok(())
+}
+
+#[test]
+fn polynomials_are_calculated_modulo_their_modulus(rt: HostRuntime) -> Result<(), Fail> {
+    for (line, expected) in POLYNOMIALS {
         assert_eq!(rt; answer(line).as_bytes(), expected);
     }
     Ok(())

@@ -4,11 +4,11 @@
 #![tactic(auto)]
 
 pub use bf_base::Gf2;
-pub use bf_base::traits::{DotProduct, Field, PrimeCharacteristicRing, Represented, TowerLevel};
+pub use bf_base::traits::{Algebra, DotProduct, Field, PrimeCharacteristicRing, Represented, TowerLevel};
 pub use bf_calc as calc;
-pub use bf_ghash::Ghash128;
+pub use bf_ghash::{EmbedsInGhash128, Ghash128};
 pub use bf_poly_basis as poly_basis;
-pub use bf_poly64::Poly64;
+pub use bf_poly64::{EmbedsInPoly64, Poly64};
 pub use bf_tower8::{BinaryField2, BinaryField4, BinaryField8};
 pub use bf_tower32::{BinaryField16, BinaryField32};
 pub use bf_tower128::{BinaryField64, BinaryField128};
