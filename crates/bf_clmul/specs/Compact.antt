@@ -5,10 +5,11 @@ use Rattle.std.specs.Prelude.{ℕ, ◌/◌, ◌^◌, bit_and, bit_xor}
 abbrev pub compact_step : ℕ → ℕ → ℕ → ℕ
 compact_step shift mask x = bit_and (bit_xor x (x / 2 ^ shift)) mask
 
--- the even places below 64, and below 128
+-- the even places below 64
 abbrev pub even_places_64 : ℕ
 even_places_64 = 0x5555_5555_5555_5555
 
+-- the even places below 128
 abbrev pub even_places_128 : ℕ
 even_places_128 = 0x5555_5555_5555_5555_5555_5555_5555_5555
 
