@@ -2,7 +2,7 @@
 -- the form in which they are computed.
 use Rattle.std.proofs.Common.{◌≡◌, ℕ, ◌+◌, ◌^◌, ◌<◌, refl, sym, ◌∙◌, ap, ap₂, subst}
 use Rattle.std.specs.Prelude.{bit_xor}
-use Rattle.bf_base.specs.Norm.{norm}
+use Rattle.bf_base.specs.Norm.{conjugate, norm}
 use Rattle.bf_base.specs.Quadratic.{low_half, high_half, pair, quadratic}
 use Rattle.bf_base.specs.Ring.{IsRing}
 use Rattle.bf_base.proofs.Norms.{quadratic-inverse}
@@ -41,6 +41,11 @@ module _ (width : ℕ) (times : ℕ → ℕ → ℕ) (ring : IsRing width 1 time
   halves-norm =
       ap₂ (λ (x y : ℕ). bit_xor (bit_xor (times x x) (times t (times x y))) (times y y))
       (low_half-pair width a0 a1 a0_fits) (high_half-pair width a0 a1 a0_fits a1_fits)
+
+  pub halves-conjugate : conjugate width times t (pair width a0 a1) ≡ pair width (bit_xor a0 (times t a1)) a1
+  halves-conjugate =
+      ap₂ (λ (x y : ℕ). pair width (bit_xor x (times t y)) y) (low_half-pair width a0 a1 a0_fits)
+      (high_half-pair width a0 a1 a0_fits a1_fits)
 
   pub halves-inverse : 0 < width → (over_norm : ℕ) → times (norm width times t (pair width a0 a1)) over_norm ≡ 1
       → quadratic width times t (pair width a0 a1)

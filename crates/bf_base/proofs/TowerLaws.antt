@@ -1,12 +1,12 @@
 -- The tower's laws in the form in which the levels' types cite them.
 use Rattle.std.proofs.Common.{◌≡◌, ◌≢◌, ℕ, suc, ◌+◌, ◌*◌, ◌%◌, ◌^◌, ◌<◌, refl, sym, ◌∙◌, ap, ap₂}
 use native.Mathlib.Nat.{mod-eq_of_lt, mul-one}
-use Rattle.bf_base.specs.Norm.{norm}
+use Rattle.bf_base.specs.Norm.{conjugate, norm}
 use Rattle.bf_base.specs.Powers.{squared}
 use Rattle.bf_base.specs.Quadratic.{quadratic}
 use Rattle.bf_base.specs.Tower.{root, tower_mul}
 use Rattle.bf_base.proofs.PowerLemmas.{times-one, squared-add, squared-none, squared_more}
-use Rattle.bf_base.proofs.TowerFrobenius.{tower_squared-mod_bits}
+use Rattle.bf_base.proofs.TowerFrobenius.{tower_squared-half, tower_squared-mod_bits}
 use Rattle.bf_base.proofs.TowerTraces.{squarings_return}
 use Rattle.bf_base.proofs.TowerInverse.{tower_norm-zero}
 use Rattle.bf_base.proofs.TowerRing.{tower_ring}
@@ -30,6 +30,12 @@ pub inverse_by_halves : (k a a' r' r : ℕ) → a' ≡ a → quadratic (2 ^ k) (
 unfolding tower_mul
 inverse_by_halves k a a' r' r operand inverts result =
     ap₂ (quadratic (2 ^ k) (tower_mul k) (root k)) (sym operand) result ∙ inverts
+
+-- half as many squarings as the level has bits conjugate
+pub conjugate_by_halves : (k a a' r' r : ℕ) → a' ≡ a → r' ≡ conjugate (2 ^ k) (tower_mul k) (root k) a' → r ≡ r'
+    → r ≡ squared 1 (tower_mul (suc k)) (2 ^ k) a
+conjugate_by_halves k a a' r' r operand conjugates result =
+    result ∙ conjugates ∙ ap (conjugate (2 ^ k) (tower_mul k) (root k)) operand ∙ sym (tower_squared-half k a)
 
 -- the norm of an element but 0 is not 0
 pub norm_by_halves : (k a a' : ℕ) → a' ≡ a → a < 2 ^ 2 ^ suc k → a ≢ 0 → norm (2 ^ k) (tower_mul k) (root k) a' ≢ 0

@@ -3,7 +3,7 @@
 // the halves of an element stands here once for all of them.
 ghost use Rattle.std.specs.Prelude.{◌≡◌, ◌≢◌, ◌^◌};
 ghost use Rattle.bf_base.specs.Halves.{joined};
-ghost use Rattle.bf_base.specs.Norm.{norm};
+ghost use Rattle.bf_base.specs.Norm.{conjugate, norm};
 ghost use Rattle.bf_base.specs.Quadratic.{quadratic};
 
 use crate::traits::TowerLevel;
@@ -48,6 +48,16 @@ pub fn norm_of<F: TowerLevel>(a: Halves<F>) -> F
     ensures { F.repr result ≡ norm F.width F.product F.alpha (joined F.width F.repr a) }
 {
     a.low.square() + (a.low * a.high).mul_alpha() + a.high.square()
+}
+
+/// The conjugate of an element, in which the other root X + t of the polynomial stands for X: (a0 + t a1) + a1 X.
+pub fn conjugate_of<F: TowerLevel>(a: Halves<F>) -> Halves<F>
+    ensures { joined F.width F.repr result ≡ conjugate F.width F.product F.alpha (joined F.width F.repr a) }
+{
+    Halves {
+        low: a.low + a.high.mul_alpha(),
+        high: a.high,
+    }
 }
 
 /// The inverse of an element whose norm is not 0: its conjugate (a0 + t a1) + a1 X over its norm.

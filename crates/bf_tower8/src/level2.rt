@@ -259,7 +259,7 @@ impl PrimeCharacteristicRing for BinaryField2 {
         self.squared()
     }
 
-    // The count is reduced by the bits, and one conjugation is half of them.
+    // The count is reduced by the bits, and one squaring, which is half of them, is the conjugation.
     fn exp_power_of_2(&self, count: usize) -> BinaryField2 {
         self.squarings(count % 2)
     }

@@ -79,6 +79,13 @@ impl BinaryField4 {
         }
         value
     }
+
+    // The conjugate over the level below: the element squared 2 times.
+    fn conjugate(self) -> BinaryField4
+        ensures { repr_of result ≡ squared 1 (tower_mul 2) 2 (repr_of self) }
+    {
+        BinaryField4::from_halves(quadratic::conjugate_of(self.halves()))
+    }
 }
 
 impl Add<BinaryField4> for BinaryField4 {
@@ -262,7 +269,12 @@ impl PrimeCharacteristicRing for BinaryField4 {
 
     // The count is reduced by the bits, and one conjugation is half of them.
     fn exp_power_of_2(&self, count: usize) -> BinaryField4 {
-        self.squarings(count % 4)
+        let rest = count % 4;
+        if rest < 2 {
+            self.squarings(rest)
+        } else {
+            self.conjugate().squarings(rest - 2)
+        }
     }
 
     ghost zero_law = { refl };

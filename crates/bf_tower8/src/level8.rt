@@ -83,6 +83,13 @@ impl BinaryField8 {
         }
         value
     }
+
+    // The conjugate over the level below: the element squared 4 times.
+    fn conjugate(self) -> BinaryField8
+        ensures { repr_of result ≡ squared 1 (tower_mul 3) 4 (repr_of self) }
+    {
+        BinaryField8::from_halves(quadratic::conjugate_of(self.halves()))
+    }
 }
 
 impl Add<BinaryField8> for BinaryField8 {
@@ -268,7 +275,12 @@ impl PrimeCharacteristicRing for BinaryField8 {
 
     // The count is reduced by the bits, and one conjugation is half of them.
     fn exp_power_of_2(&self, count: usize) -> BinaryField8 {
-        self.squarings(count % 8)
+        let rest = count % 8;
+        if rest < 4 {
+            self.squarings(rest)
+        } else {
+            self.conjugate().squarings(rest - 4)
+        }
     }
 
     ghost zero_law = { refl };

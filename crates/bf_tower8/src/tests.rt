@@ -122,8 +122,30 @@ fn powers(rt: HostRuntime) {
             "to the power of {exponent}"
         );
     }
-    assert_eq!(rt; t8(0xb9).exp_power_of_2(1), t8(0xd3));
-    assert_eq!(rt; t8(0xb9).exp_power_of_2(8), t8(0xb9));
+}
+
+// Half as many squarings as there are bits conjugate, as many give the element back, and one less give its root; the
+// count is reduced modulo the bits.
+#[test]
+fn squarings(rt: HostRuntime) {
+    for (element, count, power) in [
+        (0xb9, 1, 0xd3),
+        (0xb9, 2, 0xbd),
+        (0xb9, 8, 0xb9),
+        (0x10, 4, 0x14),
+        (0x41, 3, 0x14),
+        (0xd3, usize::MAX, 0xb9),
+    ] {
+        assert_eq!(rt;
+            t8(element).exp_power_of_2(count),
+            t8(power),
+            "{element} squared {count} times"
+        );
+    }
+    assert_eq!(rt; t4(4).exp_power_of_2(2), t4(6));
+    assert_eq!(rt; t4(9).exp_power_of_2(usize::MAX), t4(4));
+    assert_eq!(rt; t2(2).exp_power_of_2(1), t2(3));
+    assert_eq!(rt; t2(3).exp_power_of_2(usize::MAX), t2(2));
 }
 
 #[test]
