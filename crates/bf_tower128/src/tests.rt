@@ -65,6 +65,10 @@ fn sixty_four_bits(rt: HostRuntime) {
         t64(0x75e9_23be_72dd_be94).reference_mul(t64(0xaeea_51ee_81bf_c2fa)),
         t64(0x0ec8_1c39_6430_4c8f)
     );
+}
+
+#[test]
+fn functions_of_sixty_four_bits(rt: HostRuntime) {
     assert_eq!(rt;
         t64(0xd60d_d584_10f6_91df).square(),
         t64(0x5e0e_5d7b_c2ff_95c0)
@@ -166,6 +170,10 @@ fn a_hundred_and_twenty_eight_bits(rt: HostRuntime) {
         )),
         t128(0xc4fa_6349_6349_8a8f_0000_0000_0000_0000)
     );
+}
+
+#[test]
+fn functions_of_a_hundred_and_twenty_eight_bits(rt: HostRuntime) {
     assert_eq!(rt;
         t128(0x7666_f90c_0c83_ee46_3748_1f8b_3c1f_5333).square(),
         t128(0xe8eb_4d00_0bfd_c892_f035_38ea_5e22_0c6e)

@@ -79,9 +79,24 @@ fn powers_in_sixteen_bits(rt: HostRuntime) {
         );
     }
     assert_eq!(rt; x.exp_power_of_2(2), t16(0x7308));
-    assert_eq!(rt; x.exp_power_of_2(16), x);
-    assert_eq!(rt; t16(0x0100).exp_power_of_2(8), t16(0x0110));
-    assert_eq!(rt; t16(0x0100).exp_power_of_2(16), t16(0x0100));
+}
+
+// Half as many squarings as there are bits conjugate, as many give the element back, and one less give its root; the
+// count is reduced modulo the bits, which divide 2^64.
+#[test]
+fn squarings_in_sixteen_bits(rt: HostRuntime) {
+    for (element, count, power) in [
+        (0xa0fa, 16, 0xa0fa),
+        (0x0100, 8, 0x0110),
+        (0x0100, 16, 0x0100),
+        (0x1001, usize::MAX, 0x0100),
+    ] {
+        assert_eq!(rt;
+            t16(element).exp_power_of_2(count),
+            t16(power),
+            "{element} squared {count} times"
+        );
+    }
 }
 
 #[test]
@@ -155,7 +170,22 @@ fn powers_in_thirty_two_bits(rt: HostRuntime) {
         );
     }
     assert_eq!(rt; x.exp_power_of_2(2), t32(0x420e_024d));
-    assert_eq!(rt; x.exp_power_of_2(32), x);
+}
+
+#[test]
+fn squarings_in_thirty_two_bits(rt: HostRuntime) {
+    for (element, count, power) in [
+        (0xca9b_8429, 32, 0xca9b_8429),
+        (0x0001_0000, 16, 0x0001_0100),
+        (0x0100_0001, usize::MAX, 0x0001_0000),
+        (0x581f_2a72, usize::MAX, 0xca9b_8429),
+    ] {
+        assert_eq!(rt;
+            t32(element).exp_power_of_2(count),
+            t32(power),
+            "{element} squared {count} times"
+        );
+    }
 }
 
 #[test]
