@@ -1,0 +1,99 @@
+// Samples of the field t128, by the Rust crate p3-binary-field 0.8.0; drawn from the seed 20261122.
+// Written by scripts/make_samples.py; do not edit.
+pub(crate) const SAMPLES: &str = r#"{
+ "bits": 128,
+ "generator": "00000000000000010000000000000005",
+ "cantor_basis": [
+  {"place": 0, "vector": "00000000000000000000000000000001"},
+  {"place": 1, "vector": "00000000000000000000000000000002"},
+  {"place": 2, "vector": "0000000000000000000000000000000c"},
+  {"place": 3, "vector": "00000000000000000000000000000006"},
+  {"place": 4, "vector": "00000000000000000000000000000066"},
+  {"place": 5, "vector": "000000000000000000000000000000be"},
+  {"place": 7, "vector": "000000000000000000000000000000ac"},
+  {"place": 8, "vector": "00000000000000000000000000001444"},
+  {"place": 9, "vector": "000000000000000000000000000028f6"},
+  {"place": 15, "vector": "0000000000000000000000000000cd68"},
+  {"place": 16, "vector": "0000000000000000000000000110a454"},
+  {"place": 17, "vector": "0000000000000000000000000220108c"},
+  {"place": 31, "vector": "000000000000000000000000685bb70c"},
+  {"place": 32, "vector": "0000000000000000000101003bc34582"},
+  {"place": 33, "vector": "000000000000000000020200396bb03a"},
+  {"place": 63, "vector": "0000000000000000b70c3fecc1c7c4cc"},
+  {"place": 64, "vector": "000000010001000051ec1382cf362d58"},
+  {"place": 65, "vector": "0000000200020000988d9fd3a2bef392"},
+  {"place": 127, "vector": "c1c7c4ccd801fe2b6b65f1fbd173938c"}
+ ],
+ "mul_alpha": [
+  {"x": "78f7dacc653488794d7e7dc56182b262", "product": "d2fe8d4b197568ae78f7dacc65348879"},
+  {"x": "245cbe9c335ea8fe73df2df7cd3ab65c", "product": "6039a155e96608c0245cbe9c335ea8fe"},
+  {"x": "0f9839a4ec1772f537966863499672db", "product": "8a2a150e460e4b7f0f9839a4ec1772f5"},
+  {"x": "3f12158557dbd1bf4ced5b95e0db0092", "product": "2f8cb538dfc915173f12158557dbd1bf"},
+  {"x": "8f7662b72372bf94ea749be1f0161c6f", "product": "c53eab037f607ed88f7662b72372bf94"},
+  {"x": "80000000000000000000000000000000", "product": "e8808000800000008000000000000000"}
+ ],
+ "exp_power_of_2": [
+  {"x": "0256f005394827b03b28fce4d9d1e559", "count": 259, "power": "867c436cf8326e2648c8cb803c356353"},
+  {
+   "x": "510692533370ebaa3ca04f7b6dd5ca12",
+   "count": 18446744073709551615,
+   "power": "4b3db16a8494eb239daa8547da8b155e"
+  },
+  {"x": "d49f8b681b567f8e0babbbe8be0c9b12", "count": 9329717049238821473, "power": "cf216fa2a89cfe232a666930daa8ac69"},
+  {
+   "x": "0e6ddf32e9d93f86f6bf7afa39e6583b",
+   "count": 13596247881750450269,
+   "power": "6a4f3a5fda509a0972e1d73d1b39048f"
+  },
+  {
+   "x": "fece5ac9ae4fd60463f73694d806382e",
+   "count": 13373251028958421828,
+   "power": "60b5f4b571aec62e5865f1c6d138145e"
+  },
+  {"x": "ba74fb601b59b78be4bb8451a2afa808", "count": 355358091434989550, "power": "99a9ed721ac11df510a81ead3296f909"}
+ ],
+ "dot_product": [
+  {
+   "left": [],
+   "right": [],
+   "dot": "00000000000000000000000000000000",
+   "sum": "00000000000000000000000000000000",
+   "product": "00000000000000000000000000000001"
+  },
+  {
+   "left": ["ffffffffffffffffffffffffffffffff"],
+   "right": ["4d5afae15f713cf553bf20c086c88ba1"],
+   "dot": "b93c2c58dc33d9dbf086cb1b77f4b947",
+   "sum": "ffffffffffffffffffffffffffffffff",
+   "product": "ffffffffffffffffffffffffffffffff"
+  },
+  {
+   "left": ["00000000000000000000000000000000", "992c2d479dde24bdcb9b64ba84ced20b", "655cd04f695770dba576ab96b88e6556"],
+   "right": ["d195ee1e5b9c1df20708779919c755d5", "e1e448ba303fe4c4f664faaa91d7c8e3", "969f2aee23538e22b486a9b28d1c1c9a"],
+   "dot": "a7d9b8c5cee4c70d6c6bfa6ef0caff2f",
+   "sum": "fc70fd08f48954666eedcf2c3c40b75d",
+   "product": "00000000000000000000000000000000"
+  },
+  {
+   "left": [
+    "fed30607c733f504a2b313ab409bfcb1", "80000000000000000000000000000000", "45fc02a4f38270bda28b79fe2590d614",
+    "0c0663c554ac9fcd85e5875ae091244f", "112eb44f9c5449bd9576210101166fe7", "9ebe85b02012fd7e2d2453ea033ff5e9",
+    "4bbe974be65e2f5e1550324561461edc", "13def969d3ad42d0da9fd80defc82f76", "dd743f5edc0f32c50e10042ee991032c",
+    "4f9e5977d55bf5d49628abe7dc28830e", "23d6c7b904c1e2bb029ffacb640260cb", "a020c3dbbd434fe25b989eda0b56ad17",
+    "f017c3f218ab0594c9e23ee9b5bdb00c", "72584432960b60b57a4445f22cc02107", "110af321454cb11147c35205aa2b41bb",
+    "859061fd4e3390faf1d884c5423ff205", "6441e5e84a09530487978b0259417360"
+   ],
+   "right": [
+    "d18c9115b6de8c24db4081e8ef31b940", "66f41a1e32621689fbe703a13b336c33", "147546eac3d446c44931ac6c97795c74",
+    "5c6aa5f8ae81fe74a1a9afd872049f93", "340184aaecb5c5d2836b60fd0c246cad", "dc8d833383bda81e30d7c8829008aa91",
+    "9bbb42e749d78ca1ae76e6cc7579eb58", "32509cd3e080b18cbfeb6156970790a5", "00000000000000000000000000000001",
+    "e9c0b3e435cda52d4c2a9d8ea2f8e143", "00000000000000000000000000000001", "6dd1d0c9924e26412660b80af2f1cad1",
+    "f411d10d88adf24dbddd06aed7a19ed7", "09b3023fe67965bf323a616d637eee4b", "24066c2a9a129ab70db6f2f6ab297b71",
+    "a277664f388f1feed2255ae189b21702", "b0b9441a286199fa0ead38f613dafcba"
+   ],
+   "dot": "9cfddc85424c1de9167e7fc2a64ace17",
+   "sum": "8351aa0496a8bebfb15598ad7bf8b965",
+   "product": "3ca8266fd152e165b7ed6fb33e774beb"
+  }
+ ]
+}"#;
