@@ -1,5 +1,5 @@
 #!/usr/bin/env python3
-"""Writes the lines and answers that crates/bf_bench replays, src/vectors/FIELD.rt, as JSON.
+"""Writes the lines and answers that crates/bf_lines replays, src/lines/FIELD.rt, as JSON.
 
     make_vectors.py SEED LINES ANSWERS
 
@@ -21,7 +21,7 @@ OTHER_FIELDS = [b"r8", b"p64", b"g128", b"p192"]
 OPERATIONS = ["add", "mul", "square", "inv", "sqrt"]
 ANSWERED = 57
 REFUSED = 20
-FOLDER = pathlib.Path(__file__).parent.parent / "crates/bf_bench/src/vectors"
+FOLDER = pathlib.Path(__file__).parent.parent / "crates/bf_lines/src/lines"
 HEAD = """// Lines {kind} and their answers, by the Rust crate p3-binary-field 0.8.0; drawn from the seed {seed}.
 // Written by scripts/make_vectors.py; do not edit.
 pub(crate) const LINES: &str = r#"[
