@@ -19,7 +19,13 @@ import sys
 FOLDER = pathlib.Path(__file__).resolve().parent.parent / "crates/bf_vectors/src/samples"
 TOWER = ["gf2", "t2", "t4", "t8", "t16", "t32", "t64", "t128"]
 POLYNOMIAL = ["p64", "g128"]
-OTHERS = ["dot_powers_of_x", "masked_product", "change_of_basis", "mixed", "linear_map"]
+OTHERS = {
+    "dot_powers_of_x": "values of polynomials at x",
+    "masked_product": "masked products",
+    "change_of_basis": "elements of the tower and their images",
+    "mixed": "operators between two fields",
+    "linear_map": "a linear map",
+}
 # How many rows are kept of the products by the root, of the repeated squarings, of the elements that change their basis,
 # and of those on which the mixed operators go; and the lengths of the dot products and of the polynomials.
 PRODUCTS_BY_ROOT = 6
@@ -116,10 +122,10 @@ def conversions(vectors, name):
         rows.append({"tower": to_tower[place], "polynomial": bit})
     if name == "r8":
         images = changes["r8_images_of_all_t8"]
-        drawn = [(f"{x:02x}", images[x]) for x in (0x00, 0x13, 0x80, 0xFF)]
+        drawn = [(f"{x:02x}", images[x]) for x in (0x00, 0x13, 0x7F, 0xFF)]
     else:
         slices = changes[f"{name}_from_tower_vec"]
-        drawn = list(zip(slices["in"], slices["out"], strict=True))[:CONVERTED]
+        drawn = list(dict.fromkeys(zip(slices["in"], slices["out"], strict=True)))[:CONVERTED]
     return rows + [{"tower": tower, "polynomial": polynomial} for tower, polynomial in drawn]
 
 
@@ -160,8 +166,7 @@ def chosen(vectors):
 
 
 def text_of(name, samples, seed):
-    kind = f"the field {name}" if name in TOWER + POLYNOMIAL else name
-    return HEAD.format(kind=kind, seed=seed, text=laid_out(samples))
+    return HEAD.format(kind=OTHERS.get(name, f"the field {name}"), seed=seed, text=laid_out(samples))
 
 
 def numbers_in(value):
@@ -172,7 +177,7 @@ def numbers_in(value):
 
 def check():
     total = 0
-    for name in TOWER + POLYNOMIAL + OTHERS:
+    for name in TOWER + POLYNOMIAL + list(OTHERS):
         text = (FOLDER / f"{name}.rt").read_text(encoding="ascii")
         seed = re.search(r"drawn from the seed (\d+)", text).group(1)
         samples = json.loads(text[text.index('r#"') + 3 : text.rindex('"#')])

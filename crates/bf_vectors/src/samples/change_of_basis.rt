@@ -1,4 +1,4 @@
-// Samples of change_of_basis, by the Rust crate p3-binary-field 0.8.0; drawn from the seed 20261122.
+// Samples of elements of the tower and their images, by the Rust crate p3-binary-field 0.8.0; drawn from the seed 20261122.
 // Written by scripts/make_samples.py; do not edit.
 pub(crate) const SAMPLES: &str = r#"{
  "r8": [
@@ -12,7 +12,7 @@ pub(crate) const SAMPLES: &str = r#"{
   {"tower": "f9", "polynomial": "80"},
   {"tower": "00", "polynomial": "00"},
   {"tower": "13", "polynomial": "88"},
-  {"tower": "80", "polynomial": "a7"},
+  {"tower": "7f", "polynomial": "97"},
   {"tower": "ff", "polynomial": "30"}
  ],
  "p64": [
@@ -41,6 +41,6 @@ pub(crate) const SAMPLES: &str = r#"{
   {"tower": "e024bf7430f329bd40fc8bb737bdc9ec", "polynomial": "ceca9ea4abbd94adee37c90064b4b234"},
   {"tower": "00000000000000000000000000000001", "polynomial": "00000000000000000000000000000001"},
   {"tower": "a08a164b7acbb2ed75f134a9946bcd32", "polynomial": "0a6aafc05ae452f2ae5e0a553313f1fd"},
-  {"tower": "00000000000000000000000000000001", "polynomial": "00000000000000000000000000000001"}
+  {"tower": "a2b3938c4a257785640c42d902e06b8c", "polynomial": "70b36234558af0a0520819739740d24d"}
  ]
 }"#;

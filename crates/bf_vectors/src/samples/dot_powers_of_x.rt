@@ -1,4 +1,4 @@
-// Samples of dot_powers_of_x, by the Rust crate p3-binary-field 0.8.0; drawn from the seed 20261122.
+// Samples of values of polynomials at x, by the Rust crate p3-binary-field 0.8.0; drawn from the seed 20261122.
 // Written by scripts/make_samples.py; do not edit.
 pub(crate) const SAMPLES: &str = r#"[
  {"values": [], "sum": "00000000000000000000000000000000"},

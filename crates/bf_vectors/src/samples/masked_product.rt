@@ -1,4 +1,4 @@
-// Samples of masked_product, by the Rust crate p3-binary-field 0.8.0; drawn from the seed 20261122.
+// Samples of masked products, by the Rust crate p3-binary-field 0.8.0; drawn from the seed 20261122.
 // Written by scripts/make_samples.py; do not edit.
 pub(crate) const SAMPLES: &str = r#"[
  {"x": "1111111111111111", "y": "1111111111111111", "i": 0, "j": 0, "product": "0101010101010101"},

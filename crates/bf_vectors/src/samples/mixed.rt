@@ -1,4 +1,4 @@
-// Samples of mixed, by the Rust crate p3-binary-field 0.8.0; drawn from the seed 20261122.
+// Samples of operators between two fields, by the Rust crate p3-binary-field 0.8.0; drawn from the seed 20261122.
 // Written by scripts/make_samples.py; do not edit.
 pub(crate) const SAMPLES: &str = r#"{
  "p64*t8": [
