@@ -4,11 +4,11 @@
     make_vectors.py SEED LINES ANSWERS
 
 LINES is a file of the calculator's lines, and ANSWERS one of the answers that another implementation of the same
-calculator gave to them, a line for a line. Of each of the tower's fields and each operation the first 57 lines that were
-answered are kept, and of each error the first 20: with enough lines 2,400 in all. A line that is no UTF-8 stands as its
-bytes. SEED is what the lines were drawn from.
+calculator gave to them, a line for a line. Of each of the calculator's fields and each operation the first 57 lines that
+were answered are kept, and of each error the first 20: with enough lines 2,970 in all. A line that is no UTF-8 stands as
+its bytes. SEED is what the lines were drawn from.
 
-With --check alone it reads the files back, and says whether they hold the 2,400 lines in the form that it writes.
+With --check alone it reads the files back, and says whether they hold the 2,970 lines in the form that it writes.
 """
 
 import json
@@ -16,8 +16,8 @@ import pathlib
 import re
 import sys
 
-FIELDS = ["gf2", "t2", "t4", "t8", "t16", "t32", "t64", "t128"]
-OTHER_FIELDS = [b"r8", b"p64", b"g128", b"p192"]
+FIELDS = ["gf2", "t2", "t4", "t8", "t16", "t32", "t64", "t128", "p64", "g128"]
+OTHER_FIELDS = [b"r8", b"p192"]
 OPERATIONS = ["add", "mul", "square", "inv", "sqrt"]
 ANSWERED = 57
 REFUSED = 20
@@ -31,7 +31,7 @@ pub(crate) const LINES: &str = r#"[
 
 
 def kind_of(line, answer):
-    """The kind that a line counts for: an error, or a field of the tower and an operation; None for another field."""
+    """The kind that a line counts for: an error, or a field and an operation; None where the calculator lacks the field."""
     if line.split()[:1] and line.split()[0] in OTHER_FIELDS:
         return None
     if answer.startswith("error "):

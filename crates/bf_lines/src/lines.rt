@@ -1,5 +1,7 @@
 // Each line is answered as the other implementation answered it.
+mod g128;
 mod gf2;
+mod p64;
 mod refused;
 mod t128;
 mod t16;
@@ -58,6 +60,14 @@ fn low_levels(rt: HostRuntime) -> Result<(), Fail> {
 #[test]
 fn high_levels(rt: HostRuntime) -> Result<(), Fail> {
     for text in [t16::LINES, t32::LINES, t64::LINES, t128::LINES] {
+        replay(&rt, rt.alloc(), text, 285)?;
+    }
+    Ok(())
+}
+
+#[test]
+fn polynomial_bases(rt: HostRuntime) -> Result<(), Fail> {
+    for text in [p64::LINES, g128::LINES] {
         replay(&rt, rt.alloc(), text, 285)?;
     }
     Ok(())
