@@ -1,5 +1,5 @@
 #!/bin/sh
-# Builds the static library and the driver, and runs it: run.sh [SAMPLES] [MILLISECONDS]. See README.md.
+# Builds the static library and the driver, and runs it: run.sh [SAMPLES] [MILLISECONDS] [tower|polynomials]. See README.md.
 set -eu
 here=$(cd "$(dirname "$0")" && pwd)
 crate=$(cd "$here/../crates/bf_ffi" && pwd)
@@ -27,11 +27,18 @@ if [ -n "${RUST_CRATE:-}" ]; then
     features="--features rust_crate"
 fi
 
+# The hardware's carryless multiplication for the driver and the Rust crate, in a folder of its own.
+target="$here/target"
+if [ -n "${HARDWARE:-}" ]; then
+    export RUSTFLAGS="${RUSTFLAGS:+$RUSTFLAGS }-C target-feature=+pclmulqdq"
+    target="$here/target/hardware"
+fi
+
 export BF_FFI_FOLDER="$crate/out"
-export CARGO_TARGET_DIR="$here/target"
+export CARGO_TARGET_DIR="$target"
 # shellcheck disable=SC2086
 cargo build --offline --quiet --release --manifest-path "$manifest" $features
 
 processor=$(sed -n 's/^model name[^:]*: //p' /proc/cpuinfo | head -n 1)
 echo "$(date -u +%Y-%m-%d); $processor; $(rustc --version), RUSTFLAGS='${RUSTFLAGS:-}'; $("$RT" version)"
-exec "$here/target/release/bench" "$@"
+exec "$target/release/bench" "$@"

@@ -14,6 +14,22 @@ pub struct Arithmetic<W> {
     pub square_root: Unary<W>,
 }
 
+/// The functions of one side for a field of polynomials whose elements are words `W`, besides those of `Arithmetic`.
+pub struct Polynomials<W> {
+    /// Writes the dot product of two slices.
+    pub dot_product: fn(&[W], &[W], &mut W),
+    /// Writes the polynomials that are the images of elements of the tower.
+    pub from_tower: Unary<W>,
+    /// Writes the elements of the tower that have these images.
+    pub to_tower: Unary<W>,
+    /// Replaces elements of the tower by their images.
+    pub from_tower_slice: fn(&mut [W]),
+    /// Replaces images by elements of the tower.
+    pub to_tower_slice: fn(&mut [W]),
+    /// Writes the values at words of the linear map that takes bit i to entry i of the first slice. Not every side has one.
+    pub linear_map: Option<fn(&[W], &[W], &mut [W])>,
+}
+
 /// An unsigned number that holds an element of the field of as many bits.
 pub trait Word: Copy + Default + PartialEq + 'static {
     const BITS: u32;

@@ -1,5 +1,6 @@
-//! `bench [SAMPLES] [MILLISECONDS]`: nanoseconds an operation of the static library's functions and, where it is linked, of
-//! the Rust crate's, in one thread: the least of SAMPLES samples of MILLISECONDS each, the sides in turn.
+//! `bench [SAMPLES] [MILLISECONDS] [tower|polynomials]`: nanoseconds an operation of the static library's functions and,
+//! where it is linked, of the Rust crate's, in one thread: the least of SAMPLES samples of MILLISECONDS each, the sides in
+//! turn.
 
 mod arithmetic;
 mod ours;
@@ -7,7 +8,7 @@ mod ours;
 mod theirs;
 mod timing;
 
-use arithmetic::{Arithmetic, Unary, Word};
+use arithmetic::{Arithmetic, Polynomials, Unary, Word};
 use std::hint::black_box;
 use std::process::ExitCode;
 use std::time::Duration;
@@ -18,24 +19,32 @@ const LENGTH: usize = 1024;
 
 #[cfg(feature = "rust_crate")]
 macro_rules! sides {
-    ($ours:ident, $theirs:ident) => {
-        [ours::$ours(), theirs::field::<p3_binary_field::$theirs>()]
+    ($ours:expr, $theirs:expr) => {
+        [$ours, $theirs]
     };
 }
 
 #[cfg(not(feature = "rust_crate"))]
 macro_rules! sides {
-    ($ours:ident, $theirs:ident) => {
-        [ours::$ours()]
+    ($ours:expr, $theirs:expr) => {
+        [$ours]
     };
 }
 
+#[cfg(feature = "rust_crate")]
+use p3_binary_field as rust;
+
 fn main() -> ExitCode {
-    let mut arguments = std::env::args()
-        .skip(1)
-        .map(|word| word.parse().expect("bench [SAMPLES] [MILLISECONDS]"));
-    let samples = arguments.next().unwrap_or(100);
-    let sample = Duration::from_millis(arguments.next().unwrap_or(2).into());
+    let usage = "bench [SAMPLES] [MILLISECONDS] [tower|polynomials]";
+    let mut arguments = std::env::args().skip(1);
+    let mut number = |otherwise: u32| {
+        arguments
+            .next()
+            .map_or(otherwise, |word| word.parse().expect(usage))
+    };
+    let samples = number(100);
+    let sample = Duration::from_millis(number(2).into());
+    let part = arguments.next().unwrap_or_default();
     let mut report = Report {
         plan: Plan { samples, sample },
         checksum: 0,
@@ -45,14 +54,12 @@ fn main() -> ExitCode {
         "One thread, slices of {LENGTH} elements, the least of {samples} samples of {} ms.",
         sample.as_millis()
     );
-    println!();
-    println!("| operation           | bits |  ours ns | theirs ns | ratio |");
-    println!("|---------------------|-----:|---------:|----------:|------:|");
-    report.field(&sides!(field8, BinaryField8));
-    report.field(&sides!(field16, BinaryField16));
-    report.field(&sides!(field32, BinaryField32));
-    report.field(&sides!(field64, BinaryField64));
-    report.field(&sides!(field128, BinaryField128));
+    if part != "polynomials" {
+        report.tower();
+    }
+    if part != "tower" {
+        report.fields_of_polynomials();
+    }
     report.verdict()
 }
 
@@ -66,58 +73,136 @@ struct Report {
 }
 
 impl Report {
-    /// The rows of one field.
+    fn tower(&mut self) {
+        print_heading("Fields of the tower");
+        self.field(&sides!(
+            ours::field8(),
+            theirs::field::<rust::BinaryField8>()
+        ));
+        self.field(&sides!(
+            ours::field16(),
+            theirs::field::<rust::BinaryField16>()
+        ));
+        self.field(&sides!(
+            ours::field32(),
+            theirs::field::<rust::BinaryField32>()
+        ));
+        self.field(&sides!(
+            ours::field64(),
+            theirs::field::<rust::BinaryField64>()
+        ));
+        self.field(&sides!(
+            ours::field128(),
+            theirs::field::<rust::BinaryField128>()
+        ));
+    }
+
+    fn fields_of_polynomials(&mut self) {
+        print_heading("Poly64");
+        self.field(&sides!(ours::poly64(), theirs::field::<rust::Poly64>()));
+        self.basis(&sides!(ours::basis64(), theirs::basis64()));
+        print_heading("Ghash128");
+        self.field(&sides!(ours::ghash128(), theirs::field::<rust::Ghash128>()));
+        self.basis(&sides!(ours::basis128(), theirs::basis128()));
+    }
+
+    /// The rows that every field has.
     fn field<W: Word>(&mut self, sides: &[Arithmetic<W>]) {
         let mut random = Random(u64::from(W::BITS));
         let left: Vec<W> = (0..LENGTH).map(|_| random.nonzero()).collect();
         let right: Vec<W> = (0..LENGTH).map(|_| random.nonzero()).collect();
         let first: W = random.nonzero();
-        self.row::<W>("product, throughput", sides, |side, out| {
-            (side.multiply)(black_box(&left), black_box(&right), out);
+        let zeros = vec![W::default(); LENGTH];
+        self.row("product, throughput", sides, &zeros, |side| {
+            let multiply = side.multiply;
+            Some(|out: &mut [W]| multiply(black_box(&left), black_box(&right), out))
         });
-        self.row::<W>("product, latency", sides, |side, out| {
-            out[0] = first;
-            (side.chain)(black_box(&left), &mut out[0]);
+        self.row("product, latency", sides, &zeros, |side| {
+            let chain = side.chain;
+            Some(|out: &mut [W]| {
+                out[0] = first;
+                chain(black_box(&left), &mut out[0]);
+            })
         });
         self.unary("square, throughput", sides, &left, |side| side.square);
         self.unary("inverse, throughput", sides, &left, |side| side.inverse);
         self.unary("square root, thr.", sides, &left, |side| side.square_root);
     }
 
-    fn unary<W: Word>(
-        &mut self,
-        name: &str,
-        sides: &[Arithmetic<W>],
-        words: &[W],
-        operation: fn(&Arithmetic<W>) -> Unary<W>,
-    ) {
-        self.row::<W>(name, sides, |side, out| {
-            operation(side)(black_box(words), out)
+    /// The rows that a field of polynomials has besides.
+    fn basis<W: Word>(&mut self, sides: &[Polynomials<W>]) {
+        let mut random = Random(u64::from(W::BITS) + 1);
+        let left: Vec<W> = (0..LENGTH).map(|_| random.nonzero()).collect();
+        let right: Vec<W> = (0..LENGTH).map(|_| random.nonzero()).collect();
+        let zeros = vec![W::default(); LENGTH];
+        self.row("dot product, term", sides, &zeros, |side| {
+            let dot_product = side.dot_product;
+            Some(|out: &mut [W]| dot_product(black_box(&left), black_box(&right), &mut out[0]))
+        });
+        self.unary("from the tower", sides, &left, |side| side.from_tower);
+        self.unary("to the tower", sides, &left, |side| side.to_tower);
+        self.row("from the tower, in place", sides, &left, |side| {
+            Some(side.from_tower_slice)
+        });
+        self.row("to the tower, in place", sides, &left, |side| {
+            Some(side.to_tower_slice)
+        });
+        let columns = &right[..W::BITS as usize];
+        self.row("linear map", sides, &zeros, |side| {
+            side.linear_map
+                .map(|map| |out: &mut [W]| map(black_box(columns), black_box(&left), out))
         });
     }
 
-    /// One row: `call` does `LENGTH` operations of a side, and writes their results.
-    fn row<W: Word>(
+    fn unary<S, W: Word>(
         &mut self,
         name: &str,
-        sides: &[Arithmetic<W>],
-        call: impl Fn(&Arithmetic<W>, &mut [W]),
+        sides: &[S],
+        words: &[W],
+        operation: fn(&S) -> Unary<W>,
     ) {
-        let call = &call;
-        let sums: Vec<u64> = sides
+        let zeros = vec![W::default(); LENGTH];
+        self.row(name, sides, &zeros, |side| {
+            let operation = operation(side);
+            Some(move |out: &mut [W]| operation(black_box(words), out))
+        });
+    }
+
+    /// One row: `call` gives for each side that has the operation what does it `LENGTH` times and writes the results over
+    /// `start`.
+    fn row<S, W: Word, C: Fn(&mut [W])>(
+        &mut self,
+        name: &str,
+        sides: &[S],
+        start: &[W],
+        call: impl Fn(&S) -> Option<C>,
+    ) {
+        let calls: Vec<Option<C>> = sides.iter().map(call).collect();
+        if calls.iter().all(Option::is_none) {
+            return;
+        }
+        let sums: Vec<u64> = calls
             .iter()
-            .map(|side| results_sum(|out| call(side, out)))
+            .flatten()
+            .map(|call| results_sum(start, call))
             .collect();
-        self.checksum = self.checksum.rotate_left(5) ^ sums[0];
+        if calls[0].is_some() {
+            self.checksum = self.checksum.rotate_left(5) ^ sums[0];
+        }
         if sums.iter().any(|sum| *sum != sums[0]) {
             self.differing.push(format!("{name}, {} bits", W::BITS));
         }
-        let mut calls: Vec<Box<dyn FnMut()>> = Vec::new();
-        for side in sides {
-            let mut out = vec![W::default(); LENGTH];
-            calls.push(Box::new(move || call(black_box(side), black_box(&mut out))));
+        let mut timed: Vec<Box<dyn FnMut()>> = Vec::new();
+        for call in calls.iter().flatten() {
+            let mut out = start.to_vec();
+            timed.push(Box::new(move || black_box(call)(black_box(&mut out))));
         }
-        print_row(name, W::BITS, &least_times(self.plan, &mut calls));
+        let mut times = least_times(self.plan, &mut timed).into_iter();
+        let each: Vec<Option<f64>> = calls
+            .iter()
+            .map(|call| call.as_ref().and(times.next()))
+            .collect();
+        print_row(name, W::BITS, &each);
     }
 
     /// Says whether the sides' results are the same.
@@ -142,9 +227,9 @@ impl Report {
     }
 }
 
-// The checksum of what a call writes.
-fn results_sum<W: Word>(call: impl FnOnce(&mut [W])) -> u64 {
-    let mut out = vec![W::default(); LENGTH];
+// The checksum of what a call writes over `start`.
+fn results_sum<W: Word>(start: &[W], call: impl Fn(&mut [W])) -> u64 {
+    let mut out = start.to_vec();
     call(&mut out);
     out.iter().fold(0xcbf2_9ce4_8422_2325, |sum: u64, word| {
         let bits = word.bits();
@@ -155,18 +240,32 @@ fn results_sum<W: Word>(call: impl FnOnce(&mut [W])) -> u64 {
     })
 }
 
-fn print_row(name: &str, bits: u32, times: &[f64]) {
-    let each: Vec<f64> = times.iter().map(|time| time / LENGTH as f64).collect();
-    match each[..] {
-        [ours, theirs] => println!(
-            "| {name:<19} | {bits:>4} | {ours:>8.2} | {theirs:>9.2} | {:>5.2} |",
-            ours / theirs
-        ),
-        _ => println!(
-            "| {name:<19} | {bits:>4} | {:>8.2} | {:>9} | {:>5} |",
-            each[0], "-", "-"
-        ),
-    }
+fn print_heading(title: &str) {
+    println!();
+    println!("{title}");
+    println!();
+    println!("| operation                | bits |  ours ns | theirs ns | ratio |");
+    println!("|--------------------------|-----:|---------:|----------:|------:|");
+}
+
+// A row of the times of `LENGTH` operations, ours first; a side may lack the operation, or be absent.
+fn print_row(name: &str, bits: u32, times: &[Option<f64>]) {
+    let each = |side: usize| {
+        times
+            .get(side)
+            .copied()
+            .flatten()
+            .map(|time| time / LENGTH as f64)
+    };
+    let shown = |value: Option<f64>| value.map_or("-".to_string(), |value| format!("{value:.2}"));
+    let (ours, theirs) = (each(0), each(1));
+    let ratio = ours.zip(theirs).map(|(ours, theirs)| ours / theirs);
+    println!(
+        "| {name:<24} | {bits:>4} | {:>8} | {:>9} | {:>5} |",
+        shown(ours),
+        shown(theirs),
+        shown(ratio)
+    );
 }
 
 /// The generator splitmix64.

@@ -1,7 +1,7 @@
 //! The functions of the static library. It takes a slice as a pointer and a length, and 128 bits as two numbers of 64,
 //! low half first, which is how a `u128` lies in memory here.
 
-use crate::arithmetic::Arithmetic;
+use crate::arithmetic::{Arithmetic, Polynomials};
 
 macro_rules! ours {
     ($name:ident, $word:ty, $multiply:ident, $chain:ident, $square:ident, $inverse:ident, $square_root:ident) => {
@@ -112,4 +112,92 @@ ours!(
     bf_square_128,
     bf_inverse_128,
     bf_square_root_128
+);
+ours!(
+    poly64,
+    u64,
+    bf_multiply_poly64,
+    bf_chain_poly64,
+    bf_square_poly64,
+    bf_inverse_poly64,
+    bf_square_root_poly64
+);
+ours!(
+    ghash128,
+    u128,
+    bf_multiply_ghash128,
+    bf_chain_ghash128,
+    bf_square_ghash128,
+    bf_inverse_ghash128,
+    bf_square_root_ghash128
+);
+
+macro_rules! polynomials {
+    ($name:ident, $word:ty, $dot_product:ident, $from_tower:ident, $to_tower:ident, $from_slice:ident, $to_slice:ident) => {
+        unsafe extern "C" {
+            fn $dot_product(
+                left: *const $word,
+                left_length: usize,
+                right: *const $word,
+                right_length: usize,
+                product: *mut $word,
+            );
+            fn $from_tower(
+                words: *const $word,
+                length: usize,
+                images: *mut $word,
+                images_length: usize,
+            );
+            fn $to_tower(
+                words: *const $word,
+                length: usize,
+                elements: *mut $word,
+                elements_length: usize,
+            );
+            fn $from_slice(words: *mut $word, length: usize);
+            fn $to_slice(words: *mut $word, length: usize);
+        }
+
+        pub fn $name() -> Polynomials<$word> {
+            // SAFETY, of each call: the pointers and lengths are those of slices, and the library asks only that the
+            // slices of one call have one length, which is 1,024 at the dot product.
+            Polynomials {
+                dot_product: |x, y, product| unsafe {
+                    assert!(x.len() == 1024 && y.len() == 1024);
+                    $dot_product(x.as_ptr(), x.len(), y.as_ptr(), y.len(), product)
+                },
+                from_tower: |x, out| unsafe {
+                    assert_eq!(x.len(), out.len());
+                    $from_tower(x.as_ptr(), x.len(), out.as_mut_ptr(), out.len())
+                },
+                to_tower: |x, out| unsafe {
+                    assert_eq!(x.len(), out.len());
+                    $to_tower(x.as_ptr(), x.len(), out.as_mut_ptr(), out.len())
+                },
+                from_tower_slice: |words| unsafe { $from_slice(words.as_mut_ptr(), words.len()) },
+                to_tower_slice: |words| unsafe { $to_slice(words.as_mut_ptr(), words.len()) },
+                // The library has none yet.
+                linear_map: None,
+            }
+        }
+    };
+}
+
+polynomials!(
+    basis64,
+    u64,
+    bf_dot_product_poly64,
+    bf_from_tower_poly64,
+    bf_to_tower_poly64,
+    bf_from_tower_slice_poly64,
+    bf_to_tower_slice_poly64
+);
+polynomials!(
+    basis128,
+    u128,
+    bf_dot_product_ghash128,
+    bf_from_tower_ghash128,
+    bf_to_tower_ghash128,
+    bf_from_tower_slice_ghash128,
+    bf_to_tower_slice_ghash128
 );

@@ -1,7 +1,8 @@
 //! The same functions over the fields of the Rust crate.
 
-use crate::arithmetic::{Arithmetic, Word};
-use p3_binary_field::TowerLevel;
+use crate::LENGTH;
+use crate::arithmetic::{Arithmetic, Polynomials, Word};
+use p3_binary_field::{BinaryField64, BinaryField128, Ghash128, Poly64, TowerLevel, poly_basis};
 
 /// The functions of the field `F`.
 pub fn field<F: TowerLevel>() -> Arithmetic<F::Repr>
@@ -35,4 +36,72 @@ fn each<F: TowerLevel>(words: &[F::Repr], out: &mut [F::Repr], operation: impl F
     for (word, out) in words.iter().zip(out) {
         *out = operation(F::from_repr(*word)).to_repr();
     }
+}
+
+/// The functions of the change of basis at 64 bits. The crate has no slice form there that takes a slice, so a loop stands
+/// for it, and it has no linear map at 64 bits.
+pub fn basis64() -> Polynomials<u64> {
+    fn from_tower(word: u64) -> u64 {
+        Poly64::from(BinaryField64::from_repr(word)).to_bits()
+    }
+
+    fn to_tower(word: u64) -> u64 {
+        BinaryField64::from(Poly64::new(word)).to_repr()
+    }
+
+    Polynomials {
+        dot_product: dot_product::<Poly64>,
+        from_tower: |words, out| each_word(words, out, from_tower),
+        to_tower: |words, out| each_word(words, out, to_tower),
+        from_tower_slice: |words| words.iter_mut().for_each(|word| *word = from_tower(*word)),
+        to_tower_slice: |words| words.iter_mut().for_each(|word| *word = to_tower(*word)),
+        linear_map: None,
+    }
+}
+
+/// The functions of the change of basis at 128 bits. The crate's linear map answers false without the vector instructions,
+/// so a sum of 128 masked columns stands for it.
+pub fn basis128() -> Polynomials<u128> {
+    Polynomials {
+        dot_product: dot_product::<Ghash128>,
+        from_tower: |words, out| {
+            each_word(words, out, |word| {
+                Ghash128::from(BinaryField128::from_repr(word)).to_repr()
+            })
+        },
+        to_tower: |words, out| {
+            each_word(words, out, |word| {
+                BinaryField128::from(Ghash128::from_repr(word)).to_repr()
+            })
+        },
+        from_tower_slice: poly_basis::from_tower_slice,
+        to_tower_slice: poly_basis::to_tower_slice,
+        linear_map: Some(|columns, words, out| {
+            each_word(words, out, |word| {
+                columns.iter().enumerate().fold(0, |sum, (bit, column)| {
+                    sum ^ (column & (word >> bit & 1).wrapping_neg())
+                })
+            })
+        }),
+    }
+}
+
+fn each_word<W: Word>(words: &[W], out: &mut [W], operation: impl Fn(W) -> W) {
+    for (word, out) in words.iter().zip(out) {
+        *out = operation(*word);
+    }
+}
+
+fn dot_product<F: TowerLevel>(left: &[F::Repr], right: &[F::Repr], product: &mut F::Repr)
+where
+    F::Repr: Word,
+{
+    *product = F::dot_product(elements::<F>(left), elements::<F>(right)).to_repr();
+}
+
+// The elements that words hold, where they lie: it is called at `Poly64` and `Ghash128` alone.
+fn elements<F: TowerLevel>(words: &[F::Repr]) -> &[F; LENGTH] {
+    assert!(words.len() == LENGTH && size_of::<F>() == size_of::<F::Repr>());
+    // SAFETY: both fields are transparent over their words, and every word is an element.
+    unsafe { &*words.as_ptr().cast() }
 }

@@ -1,0 +1,2 @@
+mod HeldElements
+mod Inverses

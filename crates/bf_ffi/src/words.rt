@@ -1,31 +1,28 @@
-// The words in which field elements cross to other languages.
+// The words in which the elements of rings cross to other languages.
 ghost use Rattle.std.specs.Prelude.{◌≡◌, ℕ};
 ghost use Rattle.bf_ffi.specs.Words.{wide_number};
 
-use bf_base::traits::TowerLevel;
+use bf_base::traits::{Represented, TowerLevel};
+use bf_ghash::Ghash128;
+use bf_poly64::Poly64;
 use bf_tower8::BinaryField8;
 use bf_tower32::{BinaryField16, BinaryField32};
 use bf_tower128::{BinaryField64, BinaryField128};
 
-/// A word that holds an element of a field.
-pub trait Word: Copy {
-    /// The field.
-    type Field: TowerLevel;
-
+/// A word that holds an element of the ring `R`.
+pub trait Word<R: Represented>: Copy {
     ghost number: { Self → ℕ };
 
     /// The element that the word holds.
-    fn element(self) -> Self::Field
-        ensures { Self.Field.repr result ≡ number self };
+    fn element(self) -> R
+        ensures { R.repr result ≡ number self };
 
     /// The word that holds an element.
-    fn from_element(element: Self::Field) -> Self
-        ensures { number result ≡ Self.Field.repr element };
+    fn from_element(element: R) -> Self
+        ensures { number result ≡ R.repr element };
 }
 
-impl Word for u8 {
-    type Field = BinaryField8;
-
+impl Word<BinaryField8> for u8 {
     ghost number = { λ n. n };
 
     fn element(self) -> BinaryField8 {
@@ -37,9 +34,7 @@ impl Word for u8 {
     }
 }
 
-impl Word for u16 {
-    type Field = BinaryField16;
-
+impl Word<BinaryField16> for u16 {
     ghost number = { λ n. n };
 
     fn element(self) -> BinaryField16 {
@@ -51,9 +46,7 @@ impl Word for u16 {
     }
 }
 
-impl Word for u32 {
-    type Field = BinaryField32;
-
+impl Word<BinaryField32> for u32 {
     ghost number = { λ n. n };
 
     fn element(self) -> BinaryField32 {
@@ -65,9 +58,7 @@ impl Word for u32 {
     }
 }
 
-impl Word for u64 {
-    type Field = BinaryField64;
-
+impl Word<BinaryField64> for u64 {
     ghost number = { λ n. n };
 
     fn element(self) -> BinaryField64 {
@@ -79,6 +70,18 @@ impl Word for u64 {
     }
 }
 
+impl Word<Poly64> for u64 {
+    ghost number = { λ n. n };
+
+    fn element(self) -> Poly64 {
+        Poly64::new(self)
+    }
+
+    fn from_element(element: Poly64) -> u64 {
+        element.to_bits()
+    }
+}
+
 /// A word of 128 bits as two of 64, low half first.
 #[repr(C)]
 #[derive(Clone, Copy)]
@@ -87,22 +90,45 @@ pub struct Wide {
     high: u64,
 }
 
-impl Word for Wide {
-    type Field = BinaryField128;
-
-    ghost number = { wide_number };
-
-    fn element(self) -> BinaryField128 {
-        BinaryField128::from_repr(
-            u128::from(self.high) * 0x10000000000000000 + u128::from(self.low),
-        )
-    }
-
-    fn from_element(element: BinaryField128) -> Wide {
-        let repr = element.to_repr();
+impl Wide {
+    /// The two halves of a number.
+    pub fn new(repr: u128) -> Wide
+        ensures { wide_number result ≡ repr }
+    {
         Wide {
             low: (repr % 0x10000000000000000) as u64,
             high: (repr / 0x10000000000000000) as u64,
         }
+    }
+
+    /// The number of which these are the halves.
+    pub fn number(self) -> u128
+        ensures { result ≡ wide_number self }
+    {
+        u128::from(self.high) * 0x10000000000000000 + u128::from(self.low)
+    }
+}
+
+impl Word<BinaryField128> for Wide {
+    ghost number = { wide_number };
+
+    fn element(self) -> BinaryField128 {
+        BinaryField128::from_repr(self.number())
+    }
+
+    fn from_element(element: BinaryField128) -> Wide {
+        Wide::new(element.to_repr())
+    }
+}
+
+impl Word<Ghash128> for Wide {
+    ghost number = { wide_number };
+
+    fn element(self) -> Ghash128 {
+        Ghash128::new(self.number())
+    }
+
+    fn from_element(element: Ghash128) -> Wide {
+        Wide::new(element.to_bits())
     }
 }

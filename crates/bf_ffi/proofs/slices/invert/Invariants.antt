@@ -5,4 +5,4 @@ use Rattle.bf_ffi.proofs.slices.invert.Given as goal
 abbrev pub invariant-loop-i : goal.invariant-loop-i
 invariant-loop-i g l =
     (k : ℕ) → k < l.i → (d : _)
-    → IsInverseOrZero g.W.Field.Represented.product (g.W.Word.number (get_or l.words k d)) (g.W.Word.number (get_or l.inverses k d))
+    → IsInverseOrZero g.F.Represented.product (g.W.Word.number (get_or l.words k d)) (g.W.Word.number (get_or l.inverses k d))

@@ -5,4 +5,4 @@ abbrev pub invariant-loop-i : goal.invariant-loop-i
 invariant-loop-i g l =
     (k : ℕ) → k < l.i → (d : _)
     → g.W.Word.number (get_or l.squares k d)
-    ≡ g.W.Field.Represented.product (g.W.Word.number (get_or l.words k d)) (g.W.Word.number (get_or l.words k d))
+    ≡ g.R.Represented.product (g.W.Word.number (get_or l.words k d)) (g.W.Word.number (get_or l.words k d))
