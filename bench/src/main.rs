@@ -109,48 +109,48 @@ impl Report {
     /// The rows that every field has.
     fn field<W: Word>(&mut self, sides: &[Arithmetic<W>]) {
         let mut random = Random(u64::from(W::BITS));
-        let left: Vec<W> = (0..LENGTH).map(|_| random.nonzero()).collect();
-        let right: Vec<W> = (0..LENGTH).map(|_| random.nonzero()).collect();
+        let left: &[W] = &random.elements();
+        let right: &[W] = &random.elements();
         let first: W = random.nonzero();
         let zeros = vec![W::default(); LENGTH];
         self.row("product, throughput", sides, &zeros, |side| {
             let multiply = side.multiply;
-            Some(|out: &mut [W]| multiply(black_box(&left), black_box(&right), out))
+            Some(move |out: &mut [W]| multiply(black_box(left), black_box(right), out))
         });
         self.row("product, latency", sides, &zeros, |side| {
             let chain = side.chain;
-            Some(|out: &mut [W]| {
+            Some(move |out: &mut [W]| {
                 out[0] = first;
-                chain(black_box(&left), &mut out[0]);
+                chain(black_box(left), &mut out[0]);
             })
         });
-        self.unary("square, throughput", sides, &left, |side| side.square);
-        self.unary("inverse, throughput", sides, &left, |side| side.inverse);
-        self.unary("square root, thr.", sides, &left, |side| side.square_root);
+        self.unary("square, throughput", sides, left, |side| side.square);
+        self.unary("inverse, throughput", sides, left, |side| side.inverse);
+        self.unary("square root, thr.", sides, left, |side| side.square_root);
     }
 
     /// The rows that a field of polynomials has besides.
     fn basis<W: Word>(&mut self, sides: &[Polynomials<W>]) {
         let mut random = Random(u64::from(W::BITS) + 1);
-        let left: Vec<W> = (0..LENGTH).map(|_| random.nonzero()).collect();
-        let right: Vec<W> = (0..LENGTH).map(|_| random.nonzero()).collect();
+        let left: &[W] = &random.elements();
+        let right: &[W] = &random.elements();
         let zeros = vec![W::default(); LENGTH];
         self.row("dot product, term", sides, &zeros, |side| {
             let dot_product = side.dot_product;
-            Some(|out: &mut [W]| dot_product(black_box(&left), black_box(&right), &mut out[0]))
+            Some(move |out: &mut [W]| dot_product(black_box(left), black_box(right), &mut out[0]))
         });
-        self.unary("from the tower", sides, &left, |side| side.from_tower);
-        self.unary("to the tower", sides, &left, |side| side.to_tower);
-        self.row("from the tower, in place", sides, &left, |side| {
+        self.unary("from the tower", sides, left, |side| side.from_tower);
+        self.unary("to the tower", sides, left, |side| side.to_tower);
+        self.row("from the tower, in place", sides, left, |side| {
             Some(side.from_tower_slice)
         });
-        self.row("to the tower, in place", sides, &left, |side| {
+        self.row("to the tower, in place", sides, left, |side| {
             Some(side.to_tower_slice)
         });
         let columns = &right[..W::BITS as usize];
         self.row("linear map", sides, &zeros, |side| {
             side.linear_map
-                .map(|map| |out: &mut [W]| map(black_box(columns), black_box(&left), out))
+                .map(|map| move |out: &mut [W]| map(black_box(columns), black_box(left), out))
         });
     }
 
@@ -200,7 +200,7 @@ impl Report {
         let mut times = least_times(self.plan, &mut timed).into_iter();
         let each: Vec<Option<f64>> = calls
             .iter()
-            .map(|call| call.as_ref().and(times.next()))
+            .map(|call| call.as_ref().and_then(|_| times.next()))
             .collect();
         print_row(name, W::BITS, &each);
     }
@@ -278,6 +278,11 @@ impl Random {
         mixed = (mixed ^ (mixed >> 30)).wrapping_mul(0xbf58_476d_1ce4_e5b9);
         mixed = (mixed ^ (mixed >> 27)).wrapping_mul(0x94d0_49bb_1331_11eb);
         mixed ^ (mixed >> 31)
+    }
+
+    /// `LENGTH` words, none of which is 0.
+    fn elements<W: Word>(&mut self) -> Vec<W> {
+        (0..LENGTH).map(|_| self.nonzero()).collect()
     }
 
     fn nonzero<W: Word>(&mut self) -> W {

@@ -78,8 +78,11 @@ pub fn basis128() -> Polynomials<u128> {
         to_tower_slice: poly_basis::to_tower_slice,
         linear_map: Some(|columns, words, out| {
             each_word(words, out, |word| {
-                columns.iter().enumerate().fold(0, |sum, (bit, column)| {
-                    sum ^ (column & (word >> bit & 1).wrapping_neg())
+                let mut rest = word;
+                columns.iter().fold(0, |sum, column| {
+                    let masked = column & (rest & 1).wrapping_neg();
+                    rest >>= 1;
+                    sum ^ masked
                 })
             })
         }),
