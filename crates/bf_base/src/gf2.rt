@@ -200,6 +200,11 @@ impl PrimeCharacteristicRing for Gf2 {
 
     ghost NEG_ONE = { record { repr = 1; in_range = lit< tt } };
 
+    // Each bit is its own square, however many the squarings are.
+    fn exp_power_of_2(&self, _count: usize) -> Gf2 {
+        *self
+    }
+
     ghost zero_law = { refl };
 
     ghost one_law = { refl };

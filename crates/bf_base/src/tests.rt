@@ -58,6 +58,7 @@ fn calls_at_an_idempotent<R: PrimeCharacteristicRing>(rt: &impl Abort, x: R) {
     assert_eq!(rt; x.exp_u64(0), R::ONE);
     assert_eq!(rt; x.exp_u64(u64::MAX), x);
     assert_eq!(rt; x.exp_power_of_2(3), x);
+    assert_eq!(rt; x.exp_power_of_2(usize::MAX), x);
     assert_eq!(rt; x.mul_2exp_u64(0), x);
     assert_eq!(rt; x.mul_2exp_u64(1), R::ZERO);
 }

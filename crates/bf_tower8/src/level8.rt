@@ -338,12 +338,12 @@ impl Field for BinaryField8 {
         8
     }
 
+    // The table is read for 0 too, so that no element waits for a branch.
     fn try_inverse(&self) -> Option<BinaryField8> {
-        if self.repr == 0 {
-            None
-        } else {
-            Some(self.invert())
-        }
+        let inverse = BinaryField8 {
+            repr: invert_8(self.repr),
+        };
+        if self.repr == 0 { None } else { Some(inverse) }
     }
 
     fn try_sqrt(&self) -> Option<BinaryField8> {
