@@ -1,5 +1,5 @@
 -- The elements of GF(2^2), level 1 of the tower, as numbers of 2 bits.
-use Rattle.std.specs.Prelude.{◌≡◌, ℕ, ◌^◌, ◌<◌}
+use Rattle.std.specs.Prelude.{◌≡◌, ℕ, ◌<◌}
 use mathlib.Core.HLevel.{is_prop→PathP}
 use native.Mathlib.Bridge.{le_prop}
 use Rattle.bf_tower8.specs.declared.level2.BinaryField2.{BinaryField2}

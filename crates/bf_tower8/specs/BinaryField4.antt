@@ -1,5 +1,5 @@
 -- The elements of GF(2^4), level 2 of the tower, as numbers of 4 bits.
-use Rattle.std.specs.Prelude.{◌≡◌, ℕ, ◌^◌, ◌<◌}
+use Rattle.std.specs.Prelude.{◌≡◌, ℕ, ◌<◌}
 use mathlib.Core.HLevel.{is_prop→PathP}
 use native.Mathlib.Bridge.{le_prop}
 use Rattle.bf_tower8.specs.declared.level4.BinaryField4.{BinaryField4}
