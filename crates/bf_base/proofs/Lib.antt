@@ -10,6 +10,7 @@ pub mod CarrylessProduct
 pub mod DotLemmas
 pub mod FieldLemmas
 pub mod HalvesLemmas
+pub mod LinearMapLemmas
 pub mod Norms
 pub mod PowerLemmas
 pub mod QuadraticProducts

@@ -4,6 +4,7 @@ pub mod BitRing
 pub mod Carryless
 pub mod Field
 pub mod Halves
+pub mod LinearMaps
 pub mod Norm
 pub mod Orders
 pub mod Powers

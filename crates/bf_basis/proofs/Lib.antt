@@ -2,3 +2,4 @@ pub mod EntrySums
 pub mod Isomorphisms
 pub mod NibbleTables
 pub mod TableFacts
+pub mod TabledMaps

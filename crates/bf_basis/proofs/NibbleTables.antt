@@ -50,7 +50,7 @@ entry_at f rest (suc (suc (suc (suc (suc (suc (suc (suc (suc (suc (suc (suc (suc
     absurd (omega arith)
 
 -- four columns at the lowest digit, and the others at what is left
-by_digits : (columns : List ℕ) (x : ℕ) → 4 ≤ length columns
+pub by_digits : (columns : List ℕ) (x : ℕ) → 4 ≤ length columns
     → apply columns x ≡ bit_xor (apply (take 4 columns) (x % 16)) (apply (drop 4 columns) (x / 16))
 by_digits columns x enough =
     ap (λ (cs : List ℕ). apply cs x) (sym (take-append-drop 4 columns)) ∙ apply-append (take 4 columns) (drop 4 columns) x

@@ -37,7 +37,7 @@ fn sum_of_entries_64(table: &[u64; 256], x: u64) -> u64
 
 /// The sum of the entries of `table`, which are double words, at the sixteen digits of `x`.
 #[inline]
-fn sum_of_entries_128(table: &[u128; 256], x: u64) -> u128
+pub(crate) fn sum_of_entries_128(table: &[u128; 256], x: u64) -> u128
     ensures { result ≡ sum_of_entries 16 table.now x }
 {
     let mut sum = 0;

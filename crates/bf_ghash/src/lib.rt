@@ -8,8 +8,12 @@
 mod field_tests;
 mod ghash;
 #[cfg(test)]
+mod linear_tests;
+mod linear_map;
+#[cfg(test)]
 mod tests;
 mod tower_operands;
 
 pub use crate::ghash::Ghash128;
+pub use crate::linear_map::LEAST_TABLED;
 pub use crate::tower_operands::EmbedsInGhash128;

@@ -1,0 +1,75 @@
+-- The linear map of given images: by its columns one after another, and one image more.
+use Rattle.std.proofs.Common.{◌≡◌, ◌≢◌, ℕ, zero, suc, ◌+◌, ◌*◌, ◌/◌, ◌%◌, ◌^◌, ◌<◌, ◌≤◌, List, [], ◌∷◌, length, drop, get_or, drop-cons, refl, sym, ◌∙◌, ap, ap₂, arith}
+use Rattle.std.specs.Prelude.{bit_and, bit_xor, slice_index}
+use Rattle.std.specs.Int.{bit_at}
+use Rattle.std.proofs.lemmas.List.{drop_all}
+use Rattle.std.proofs.lemmas.Nat.{and_mask}
+use Rattle.std.proofs.lemmas.Nat.Bits.{bit_at_lowest}
+use native.Mathlib.Nat.{zero-mul, one-mul}
+use lib.Bits.{xor_assoc, xor_comm, xor_zero_r}
+use Rattle.bf_base.specs.Basis.{sum_below}
+use Rattle.bf_base.specs.LinearMaps.{linear_image}
+use Rattle.bf_base.proofs.BasisColumns.{apply}
+use Rattle.bf_base.proofs.BasisSums.{sum_below-add, sum_below-same, bit_at-add}
+
+-- the images are the columns
+pub linear_image-apply : (images : List ℕ) (x : ℕ) → linear_image images x ≡ apply images x
+unfolding linear_image apply sum_below
+linear_image-apply [] x = refl
+linear_image-apply (image ∷ images) x =
+    let first : suc (length images) ≡ 1 + length images = omega arith in
+    ap (sum_below (λ j. bit_at x j * slice_index (image ∷ images) j)) first
+    ∙ sum_below-add (λ j. bit_at x j * slice_index (image ∷ images) j) 1 (length images)
+    ∙ ap₂ bit_xor
+    (ap (λ (d : ℕ). d * image) (bit_at_lowest x))
+    (sum_below-same (λ j. bit_at x (1 + j) * slice_index (image ∷ images) (1 + j))
+    (λ j. bit_at (x / 2) j * slice_index images j) (length images)
+    (λ j below. ap₂ (λ (d a : ℕ). d * a) (bit_at-add x 1 j) (next j))
+    ∙ linear_image-apply images (x / 2))
+  where
+    next : (j : ℕ) → slice_index (image ∷ images) (1 + j) ≡ slice_index images j
+    next j =
+        let one_more : 1 + j ≡ suc j = omega arith in
+        ap (slice_index (image ∷ images)) one_more
+
+-- the map of the images from a place on, by the image there and those after it
+image_from : (images : List ℕ) (place rest : ℕ) → place < length images → linear_image (drop place images) rest
+    ≡ bit_xor (rest % 2 * get_or images place 0) (linear_image (drop (place + 1) images) (rest / 2))
+unfolding apply
+image_from images place rest within =
+    let next : suc place ≡ place + 1 = omega arith in
+    linear_image-apply (drop place images) rest
+    ∙ ap (λ (cs : List ℕ). apply cs rest)
+    (drop-cons images place 0 within ∙ ap (λ (n : ℕ). get_or images place 0 ∷ drop n images) next)
+    ∙ ap (bit_xor (rest % 2 * get_or images place 0)) (sym (linear_image-apply (drop (place + 1) images) (rest / 2)))
+
+-- where the lowest bit is set, the image at a place enters a sum
+pub image_enters : (images : List ℕ) (place sum rest : ℕ) → place < length images → bit_and rest 1 ≡ 1
+    → bit_xor (bit_xor sum (get_or images place 0)) (linear_image (drop (place + 1) images) (rest / 2))
+    ≡ bit_xor sum (linear_image (drop place images) rest)
+image_enters images place sum rest within set =
+    xor_assoc sum (get_or images place 0) _
+    ∙ ap (bit_xor sum)
+    (ap (λ (y : ℕ). bit_xor y (linear_image (drop (place + 1) images) (rest / 2)))
+    (sym (ap (λ (d : ℕ). d * get_or images place 0) (sym (and_mask rest 1) ∙ set) ∙ one-mul (get_or images place 0)))
+    ∙ sym (image_from images place rest within))
+
+-- and where it is not, the sum stays
+pub image_stays : (images : List ℕ) (place sum rest : ℕ) → place < length images → bit_and rest 1 ≢ 1
+    → bit_xor sum (linear_image (drop (place + 1) images) (rest / 2)) ≡ bit_xor sum (linear_image (drop place images) rest)
+image_stays images place sum rest within clear =
+    ap (bit_xor sum)
+    (sym (xor_comm 0 (linear_image (drop (place + 1) images) (rest / 2)) ∙ xor_zero_r _)
+    ∙ ap (λ (y : ℕ). bit_xor y (linear_image (drop (place + 1) images) (rest / 2)))
+    (sym (ap (λ (d : ℕ). d * get_or images place 0) none ∙ zero-mul (get_or images place 0)))
+    ∙ sym (image_from images place rest within))
+  where
+    none : rest % 2 ≡ 0
+    none = let is : bit_and rest 1 ≡ rest % 2 = and_mask rest 1 in omega (arith, is, clear)
+
+-- past the last image nothing is left
+pub images_end : (images : List ℕ) (place sum rest : ℕ) → length images ≤ place
+    → bit_xor sum (linear_image (drop place images) rest) ≡ sum
+unfolding linear_image sum_below
+images_end images place sum rest past =
+    ap (λ (others : List ℕ). bit_xor sum (linear_image others rest)) (drop_all place images past) ∙ xor_zero_r sum

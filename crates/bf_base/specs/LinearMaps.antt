@@ -1,0 +1,10 @@
+-- Linear maps over GF(2). A number stands for the vector of its bits, and a linear map is given by the images of a basis, here
+-- of the powers of two (the linear map lemma: S. Axler, Linear Algebra Done Right, chapter 3).
+use Rattle.std.specs.Prelude.{ℕ, ◌*◌, List, length, slice_index}
+use Rattle.std.specs.Int.{bit_at}
+use Rattle.bf_base.specs.Basis.{sum_below}
+
+-- the value at x of the linear map that takes 2 ^ j to entry j of `images`: the sum of the images at the set bits of x. Of a
+-- number of more bits than there are images it reads as many.
+unfoldable pub linear_image : List ℕ → ℕ → ℕ
+linear_image images x = sum_below (λ j. bit_at x j * slice_index images j) (length images)

@@ -1,0 +1,40 @@
+// Linear maps from the tower to `Ghash128`, over whole slices.
+ghost use Rattle.std.specs.Prelude.{◌≡◌, ◌<◌, ◌≤◌, ◌↔◌, length, map, IsTrue};
+ghost use Rattle.bf_base.specs.LinearMaps.{linear_image};
+ghost use Rattle.bf_tower128.specs.BinaryField128.{repr_of as tower_repr_of};
+
+use crate::ghash::Ghash128;
+use bf_base::traits::TowerLevel;
+use bf_basis::LinearMap;
+use bf_tower128::BinaryField128;
+
+/// The least number of elements for which the tables of a linear map are worth their making.
+pub const LEAST_TABLED: usize = 4096;
+
+impl Ghash128 {
+    ghost use Rattle.bf_ghash.specs.Ghash128.{repr_of};
+
+    /// Where there are at least 4096 elements, writes the image of each into `output`, place by place, and answers true: the
+    /// map is the linear one that takes bit j of an element of the tower to `images[j]`. Of fewer elements it maps none, leaves
+    /// `output` as it was and answers false: the map's tables would take longer to make than the sums of images by themselves,
+    /// which are then the caller's to make. It takes no memory but 10 KiB of the stack.
+    pub fn try_apply_linear_map_into(
+        images: &[Ghash128; 128],
+        input: &[BinaryField128],
+        output: &mut [Ghash128],
+    ) -> bool
+        requires { length input.now ≡ length output.old }
+        ensures answer { IsTrue result ↔ (4096 ≤ length input.now) }
+        ensures mapped { 4096 ≤ length input.now → map repr_of output.new ≡ map (λ x. linear_image (map repr_of images.now) (tower_repr_of x)) input.now }
+        ensures kept { length input.now < 4096 → output.new ≡ output.old }
+    {
+        if input.len() < LEAST_TABLED {
+            return false;
+        }
+        let map = LinearMap::new(&images.map(|image| image.to_bits()));
+        for place in 0..input.len() {
+            output[place] = Ghash128::new(map.apply(input[place].to_repr()));
+        }
+        true
+    }
+}
