@@ -7,6 +7,7 @@ use crate::basis::sum_of_entries_128;
 
 /// A linear map over GF(2) from 128 bits to 128 bits. It holds its values at the digits to base 16 of either word, 8,192 bytes,
 /// so that a value is the sum of 32 entries.
+#[derive(Drop)]
 pub struct LinearMap {
     low: [u128; 256],
     high: [u128; 256],

@@ -7,9 +7,9 @@
 #[cfg(test)]
 mod field_tests;
 mod ghash;
+mod linear_map;
 #[cfg(test)]
 mod linear_tests;
-mod linear_map;
 #[cfg(test)]
 mod tests;
 mod tower_operands;

@@ -1,6 +1,7 @@
 // Linear maps from the tower to `Ghash128`, over whole slices.
 ghost use Rattle.std.specs.Prelude.{◌≡◌, ◌<◌, ◌≤◌, ◌↔◌, length, map, IsTrue};
 ghost use Rattle.bf_base.specs.LinearMaps.{linear_image};
+ghost use Rattle.bf_ghash.specs.Ghash128.{repr_of};
 ghost use Rattle.bf_tower128.specs.BinaryField128.{repr_of as tower_repr_of};
 
 use crate::ghash::Ghash128;
@@ -12,8 +13,6 @@ use bf_tower128::BinaryField128;
 pub const LEAST_TABLED: usize = 4096;
 
 impl Ghash128 {
-    ghost use Rattle.bf_ghash.specs.Ghash128.{repr_of};
-
     /// Where there are at least 4096 elements, writes the image of each into `output`, place by place, and answers true: the
     /// map is the linear one that takes bit j of an element of the tower to `images[j]`. Of fewer elements it maps none, leaves
     /// `output` as it was and answers false: the map's tables would take longer to make than the sums of images by themselves,
@@ -31,10 +30,21 @@ impl Ghash128 {
         if input.len() < LEAST_TABLED {
             return false;
         }
-        let map = LinearMap::new(&images.map(|image| image.to_bits()));
+        let map = LinearMap::new(&representations(images));
         for place in 0..input.len() {
             output[place] = Ghash128::new(map.apply(input[place].to_repr()));
         }
         true
     }
+}
+
+// The representation of each image.
+fn representations(images: &[Ghash128; 128]) -> [u128; 128]
+    ensures { result ≡ map repr_of images.now }
+{
+    let mut representations = [0; 128];
+    for place in 0..128 {
+        representations[place] = images[place].to_bits();
+    }
+    representations
 }

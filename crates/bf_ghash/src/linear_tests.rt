@@ -7,9 +7,11 @@ use std::test::Fail;
 
 // The powers of x + 1, each of which is another image.
 fn powers() -> [Ghash128; 128] {
-    let mut images = [Ghash128::ONE; 128];
-    for bit in 1..128 {
-        images[bit] = images[bit - 1] * Ghash128::new(3);
+    let mut images = [Ghash128::ZERO; 128];
+    let mut power = Ghash128::ONE;
+    for bit in 0..128 {
+        images[bit] = power;
+        power *= Ghash128::new(3);
     }
     images
 }

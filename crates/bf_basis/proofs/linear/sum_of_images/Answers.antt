@@ -11,14 +11,14 @@ loop-image-preserved c =
     let within : place < length c.args.images.now = omega arith in
     let after : ℕ = linear_image (drop (place + 1) c.args.images.now) (c.loop-image.rest / 2) in
     elim c.if-rest-eq1.branch [
-      then-rest-eq1 w ↦
-        ap (λ (sum : ℕ). bit_xor sum after) w.sum-is
-        ∙ image_enters c.args.images.now place c.loop-image.sum c.loop-image.rest within w.if-rest-eq1.true
-        ∙ c.loop-image.invariant
-    | else-rest-eq1 w ↦
-        ap (λ (sum : ℕ). bit_xor sum after) w.sum-is
-        ∙ image_stays c.args.images.now place c.loop-image.sum c.loop-image.rest within w.if-rest-eq1.false
-        ∙ c.loop-image.invariant
+      | then-rest-eq1 w ↦
+          ap (λ (sum : ℕ). bit_xor sum after) w.sum-is
+          ∙ image_enters c.args.images.now place c.loop-image.sum c.loop-image.rest within w.if-rest-eq1.true
+          ∙ c.loop-image.invariant
+      | else-rest-eq1 w ↦
+          ap (λ (sum : ℕ). bit_xor sum after) w.sum-is
+          ∙ image_stays c.args.images.now place c.loop-image.sum c.loop-image.rest within w.if-rest-eq1.false
+          ∙ c.loop-image.invariant
     ]
 
 pub returns : goal.returns

@@ -13,7 +13,7 @@ returns c x =
     let enough : 64 < length images = omega (arith, c.told-images) in
     let others : length images - 64 ≡ 64 = omega (arith, c.told-images) in
     let last : take 64 (drop 64 images) ≡ drop 64 images =
-        ap (λ (n : ℕ). take n (drop 64 images)) (sym others) ∙ take_rest images 64 in
+    ap (λ (n : ℕ). take n (drop 64 images)) (sym others) ∙ take_rest images 64 in
     ap₂ bit_xor
     (c.table_of.ensures (x % 2 ^ 64))
     (c.table_of-2.ensures (x / 2 ^ 64) ∙ ap (λ (cs : List ℕ). linear_image cs (x / 2 ^ 64)) last)
