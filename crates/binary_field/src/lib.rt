@@ -4,7 +4,9 @@
 #![tactic(auto)]
 
 pub use bf_base::Gf2;
-pub use bf_base::traits::{Algebra, DotProduct, Field, PrimeCharacteristicRing, Represented, TowerLevel};
+pub use bf_base::traits::{
+    Algebra, DotProduct, Field, PrimeCharacteristicRing, Represented, TowerLevel,
+};
 pub use bf_calc as calc;
 pub use bf_ghash::{EmbedsInGhash128, Ghash128};
 pub use bf_poly_basis as poly_basis;
