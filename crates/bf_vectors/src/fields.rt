@@ -1,8 +1,10 @@
-// The calls of a field at the samples of each level of the tower.
+// The calls of a field at the samples of each level of the tower and of two polynomial bases.
 use crate::reading::{count, element, elements, member, rows};
 use crate::samples;
 use bf_base::Gf2;
 use bf_base::traits::TowerLevel;
+use bf_ghash::Ghash128;
+use bf_poly64::Poly64;
 use bf_tower8::{BinaryField2, BinaryField4, BinaryField8};
 use bf_tower32::{BinaryField16, BinaryField32};
 use bf_tower128::{BinaryField64, BinaryField128};
@@ -94,4 +96,10 @@ fn high_levels(rt: HostRuntime) -> Result<(), Fail> {
     replay::<BinaryField32>(&rt, rt.alloc(), samples::t32::SAMPLES, 13)?;
     replay::<BinaryField64>(&rt, rt.alloc(), samples::t64::SAMPLES, 16)?;
     replay::<BinaryField128>(&rt, rt.alloc(), samples::t128::SAMPLES, 19)
+}
+
+#[test]
+fn polynomial_bases(rt: HostRuntime) -> Result<(), Fail> {
+    replay::<Poly64>(&rt, rt.alloc(), samples::p64::SAMPLES, 16)?;
+    replay::<Ghash128>(&rt, rt.alloc(), samples::g128::SAMPLES, 19)
 }

@@ -3,6 +3,8 @@
 #![tactic(auto)]
 
 #[cfg(test)]
+mod algebras;
+#[cfg(test)]
 mod fields;
 #[cfg(test)]
 mod polynomials;
