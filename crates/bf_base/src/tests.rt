@@ -1,6 +1,6 @@
 // Values from outside: the field's tables, integers by their parity, and the halves of an extension.
 use crate::Gf2;
-use crate::quadratic::{Halves, multiply, multiply_by_root, norm_of, square};
+use crate::quadratic::{Halves, conjugate_of, multiply, multiply_by_root, norm_of, square};
 use crate::traits::{DotProduct, Field, PrimeCharacteristicRing, TowerLevel};
 use std::process::Abort;
 use std::test::Fail;
@@ -124,7 +124,7 @@ fn horner(rt: HostRuntime) {
     assert_eq!(rt; evaluate(&[one, one], one), zero);
 }
 
-// GF(4) over GF(2) by a root X of X² + X + 1: X (1 + X) = 1 and (1 + X)² = X.
+// GF(4) over GF(2) by a root X of X² + X + 1: X (1 + X) = 1 and (1 + X)² = X, and the other root is X + 1.
 #[test]
 fn an_extension_by_halves(rt: HostRuntime) {
     let root = Halves {
@@ -139,6 +139,7 @@ fn an_extension_by_halves(rt: HostRuntime) {
         ("product", multiply(root, other), (Gf2::ONE, Gf2::ZERO)),
         ("square", square(other), (Gf2::ZERO, Gf2::ONE)),
         ("by the root", multiply_by_root(root), (Gf2::ONE, Gf2::ONE)),
+        ("conjugate", conjugate_of(root), (Gf2::ONE, Gf2::ONE)),
     ] {
         assert_eq!(rt; (halves.low, halves.high), expected, "{name}");
     }
