@@ -1,6 +1,6 @@
 -- What a homomorphism from the tower to polynomials carries besides sums and products: inverses, the Cantor vectors and
 -- values of polynomials. And quotients and squarings in a ring that is a field.
-use Rattle.std.proofs.Common.{◌≡◌, ◌≢◌, ℕ, zero, suc, ◌+◌, ◌-◌, ◌%◌, ◌^◌, ◌<◌, List, [], ◌∷◌, refl, sym, ◌∙◌, ap, ap₂}
+use Rattle.std.proofs.Common.{◌≡◌, ◌≢◌, ℕ, zero, suc, ◌+◌, ◌%◌, ◌^◌, ◌<◌, List, [], ◌∷◌, sym, ◌∙◌, ap, ap₂}
 use Rattle.std.specs.Prelude.{bit_xor}
 use native.Mathlib.Nat.{mod-eq_of_lt}
 use Rattle.bf_base.specs.Basis.{basis_image, IsHomomorphism, IsFieldOfPolynomials}

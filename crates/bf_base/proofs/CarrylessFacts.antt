@@ -1,6 +1,6 @@
 -- Published values of the carryless product and of products modulo a polynomial, so that a wrong definition or modulus
 -- does not check.
-use Rattle.std.proofs.Common.{◌≡◌, ℕ, refl}
+use Rattle.std.proofs.Common.{◌≡◌, refl}
 use Rattle.std.specs.Int.{reverse_bits, reverse_bits_onto, w128}
 use Rattle.bf_base.specs.Carryless.{conv, conv_in}
 use Rattle.bf_base.specs.Remainder.{HasDegree, rem, rem_in, mul_mod, aes_modulus, poly64_modulus, ghash_modulus}

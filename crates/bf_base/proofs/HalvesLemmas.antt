@@ -1,9 +1,9 @@
 -- The products, squares, inverses and products by the root of a quadratic extension, from the halves of the operands, in
 -- the form in which they are computed.
-use Rattle.std.proofs.Common.{◌≡◌, ℕ, ◌+◌, ◌^◌, ◌<◌, refl, sym, ◌∙◌, ap, ap₂, subst}
+use Rattle.std.proofs.Common.{◌≡◌, ℕ, ◌^◌, ◌<◌, sym, ◌∙◌, ap, ap₂, subst}
 use Rattle.std.specs.Prelude.{bit_xor}
 use Rattle.bf_base.specs.Norm.{conjugate, norm}
-use Rattle.bf_base.specs.Quadratic.{low_half, high_half, pair, quadratic}
+use Rattle.bf_base.specs.Quadratic.{pair, quadratic}
 use Rattle.bf_base.specs.Ring.{IsRing}
 use Rattle.bf_base.proofs.Norms.{quadratic-inverse}
 use Rattle.bf_base.proofs.QuadraticProducts.{quadratic-pairs, quadratic-square_pair, quadratic-root, mixed_products}

@@ -1,10 +1,10 @@
 -- The sum of products modulo a polynomial, with one remainder at its end.
-use Rattle.std.proofs.Common.{◌≡◌, ℕ, ◌+◌, ◌*◌, ◌^◌, ◌<◌, refl, sym, ◌∙◌, ap, ap₂}
+use Rattle.std.proofs.Common.{◌≡◌, ℕ, ◌^◌, ◌<◌, sym, ◌∙◌, ap}
 use Rattle.std.specs.Prelude.{bit_xor}
 use lib.Bits.{xor_assoc}
 use Rattle.bf_base.specs.Carryless.{conv}
 use Rattle.bf_base.specs.Remainder.{HasDegree, rem, mul_mod}
-use Rattle.bf_base.proofs.RemainderLaws.{rem_sum, rem_small}
+use Rattle.bf_base.proofs.RemainderLaws.{rem_sum}
 use Rattle.bf_base.proofs.RemainderRing.{mul_mod-rem}
 
 module _ (width modulus : ℕ) (degree : HasDegree width modulus) where

@@ -1,8 +1,8 @@
 -- Repeated squarings of an element of the tower: half as many as the level has bits give the conjugate, as many return
 -- the element, and one fewer give its square root.
-use Rattle.std.proofs.Common.{◌≡◌, ◌≢◌, ℕ, zero, suc, ◌+◌, ◌-◌, ◌*◌, ◌/◌, ◌%◌, ◌^◌, ◌<◌, sym, ◌∙◌, ap, arith}
-use Rattle.std.proofs.lemmas.Nat.{pow_below, pow_pos, div-add-mod'}
-use native.Mathlib.Nat.{mod-eq_of_lt, zero-mul, zero-add, suc-mul}
+use Rattle.std.proofs.Common.{◌≡◌, ◌≢◌, ℕ, suc, ◌-◌, ◌%◌, ◌^◌, ◌<◌, sym, ◌∙◌, ap, arith}
+use Rattle.std.proofs.lemmas.Nat.{pow_below, pow_pos}
+use native.Mathlib.Nat.{mod-eq_of_lt}
 use Rattle.bf_base.specs.Norm.{conjugate}
 use Rattle.bf_base.specs.Powers.{power, squared}
 use Rattle.bf_base.specs.Tower.{root, tower_mul}

@@ -1,5 +1,5 @@
 -- The tower's laws in the form in which the levels' types cite them.
-use Rattle.std.proofs.Common.{◌≡◌, ◌≢◌, ℕ, suc, ◌+◌, ◌*◌, ◌%◌, ◌^◌, ◌<◌, refl, sym, ◌∙◌, ap, ap₂}
+use Rattle.std.proofs.Common.{◌≡◌, ◌≢◌, ℕ, suc, ◌+◌, ◌*◌, ◌%◌, ◌^◌, ◌<◌, sym, ◌∙◌, ap, ap₂}
 use native.Mathlib.Nat.{mod-eq_of_lt, mul-one}
 use Rattle.bf_base.specs.Norm.{conjugate, norm}
 use Rattle.bf_base.specs.Powers.{squared}

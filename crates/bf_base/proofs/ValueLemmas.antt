@@ -1,5 +1,5 @@
 -- The terms of a polynomial's value, from one place to the next, and the powers of x modulo a polynomial.
-use Rattle.std.proofs.Common.{◌≡◌, ℕ, zero, suc, ◌+◌, ◌*◌, ◌^◌, ◌<◌, ◌≤◌, List, [], ◌∷◌, length, drop, get_or, refl, sym, ◌∙◌, ap, ap₂, subst, arith}
+use Rattle.std.proofs.Common.{◌≡◌, ℕ, zero, suc, ◌+◌, ◌*◌, ◌^◌, ◌<◌, ◌≤◌, List, ◌∷◌, length, drop, get_or, refl, sym, ◌∙◌, ap, arith}
 use Rattle.std.specs.Prelude.{bit_xor}
 use Rattle.std.proofs.Math.Seq.{drop-cons}
 use Rattle.std.proofs.lemmas.List.{drop_all}
@@ -10,7 +10,7 @@ use lib.Bits.{xor_zero_r}
 use Rattle.bf_base.specs.Carryless.{conv}
 use Rattle.bf_base.specs.Powers.{power, terms_from}
 use Rattle.bf_base.specs.Remainder.{HasDegree, rem, mul_mod}
-use Rattle.bf_base.proofs.CarrylessProduct.{conv_shl, conv_one, conv_comm}
+use Rattle.bf_base.proofs.CarrylessProduct.{conv_shl, conv_one}
 use Rattle.bf_base.proofs.RemainderLaws.{rem_small}
 use Rattle.bf_base.proofs.RemainderRing.{mul_mod-rem}
 

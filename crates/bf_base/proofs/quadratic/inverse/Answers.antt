@@ -1,5 +1,4 @@
 use Rattle.std.proofs.Common.{sym, ◌∙◌, ap}
-use Rattle.bf_base.specs.Halves.{joined}
 use Rattle.bf_base.proofs.HalvesLemmas.{with_one, halves-inverse}
 use Rattle.bf_base.proofs.quadratic.inverse.Goals as goal
 

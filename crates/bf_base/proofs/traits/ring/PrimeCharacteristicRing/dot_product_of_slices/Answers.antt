@@ -1,4 +1,4 @@
-use Rattle.std.proofs.Common.{◌≡◌, ◌<◌, length, ◌∙◌, ap, arith}
+use Rattle.std.proofs.Common.{◌<◌, length, ◌∙◌, ap, arith}
 use Rattle.std.specs.Prelude.{bit_xor}
 use Rattle.bf_base.specs.Powers.{dot_of}
 use Rattle.bf_base.proofs.DotLemmas.{dot_of-drop, dot_step, dot_end}
