@@ -8,8 +8,9 @@ use Rattle.std.proofs.lemmas.Nat.Bits.{bit_at_lowest}
 use native.Mathlib.Nat.{zero-mul, one-mul}
 use lib.Bits.{xor_assoc, xor_comm, xor_zero_r}
 use Rattle.bf_base.specs.Basis.{sum_below}
-use Rattle.bf_base.specs.LinearMaps.{linear_image}
-use Rattle.bf_base.proofs.BasisColumns.{apply}
+use Rattle.bf_base.specs.LinearMaps.{linear_image, IsTheLinearMapOf}
+use Rattle.bf_base.proofs.AdditiveMaps.{KeepsSums, maps_agree}
+use Rattle.bf_base.proofs.BasisColumns.{apply, apply-nothing, apply-sum}
 use Rattle.bf_base.proofs.BasisSums.{sum_below-add, sum_below-same, bit_at-add}
 
 -- the images are the columns
@@ -73,3 +74,32 @@ pub images_end : (images : List ℕ) (place sum rest : ℕ) → length images �
 unfolding linear_image sum_below
 images_end images place sum rest past =
     ap (λ (others : List ℕ). bit_xor sum (linear_image others rest)) (drop_all place images past) ∙ xor_zero_r sum
+
+-- ---- what the map is
+
+apply-bit : (images : List ℕ) (j : ℕ) → apply images (2 ^ j) ≡ slice_index images j
+unfolding apply
+apply-bit [] j = refl
+apply-bit (image ∷ images) zero =
+    ap₂ bit_xor (one-mul image) (apply-nothing images) ∙ xor_zero_r image
+apply-bit (image ∷ images) (suc j) =
+    let even : 2 ^ suc j % 2 ≡ 0 = omega arith in
+    let half : 2 ^ suc j / 2 ≡ 2 ^ j = omega arith in
+    ap₂ bit_xor (ap (λ (d : ℕ). d * image) even ∙ zero-mul image) (ap (apply images) half ∙ apply-bit images j)
+    ∙ xor_comm 0 (slice_index images j) ∙ xor_zero_r (slice_index images j)
+
+pub the_linear_map : (images : List ℕ) → IsTheLinearMapOf images (linear_image images)
+the_linear_map images = record { of_sum = sums; of_bit = bits; only = alone }
+  where
+    sums : KeepsSums (linear_image images)
+    sums a b =
+        linear_image-apply images (bit_xor a b) ∙ apply-sum images a b
+        ∙ sym (ap₂ bit_xor (linear_image-apply images a) (linear_image-apply images b))
+
+    bits : (j : ℕ) → j < length images → linear_image images (2 ^ j) ≡ slice_index images j
+    bits j below = linear_image-apply images (2 ^ j) ∙ apply-bit images j
+
+    alone : (g : ℕ → ℕ) → KeepsSums g → ((j : ℕ) → j < length images → g (2 ^ j) ≡ slice_index images j)
+        → (x : ℕ) → x < 2 ^ length images → g x ≡ linear_image images x
+    alone g keeps agrees =
+        maps_agree g (linear_image images) keeps sums (length images) (λ j below. agrees j below ∙ sym (bits j below))

@@ -1,6 +1,6 @@
 // Any linear map of 128 bits, given by the images of its bits, by tables as the changes of basis have them.
-ghost use Rattle.std.specs.Prelude.{◌≡◌, ℕ, length};
-ghost use Rattle.bf_base.specs.LinearMaps.{linear_image};
+ghost use Rattle.std.specs.Prelude.{◌≡◌, ℕ, length, List};
+ghost use Rattle.bf_base.specs.LinearMaps.{IsTheLinearMapOf, linear_image};
 ghost use Rattle.bf_basis.specs.Tables.{sum_of_entries};
 
 use crate::basis::sum_of_entries_128;
@@ -65,3 +65,8 @@ fn sum_of_images(images: &[u128], x: usize) -> u128
     }
     sum
 }
+
+/// States that for all images `linear_image` is the one map that keeps sums and takes bit j to image j.
+pub fn images_give_linear_map()
+    ensures { (images : List ℕ) → IsTheLinearMapOf images (linear_image images) }
+{}
