@@ -1,4 +1,4 @@
-use Rattle.std.proofs.Common.{ℕ, ◌<◌, length, arith, rules}
+use Rattle.std.proofs.Common.{◌<◌, length, arith, rules}
 use Rattle.bf_basis.proofs.TabledMaps.{entry_set, tabled_map}
 use Rattle.bf_basis.proofs.linear.table_of.Goals as goal
 

@@ -1,4 +1,4 @@
-use Rattle.std.proofs.Common.{◌≡◌, ◌∙◌, ap, ap₂, ℕ}
+use Rattle.std.proofs.Common.{◌∙◌, ap, ap₂, ℕ}
 use Rattle.std.specs.Prelude.{bit_xor}
 use Rattle.std.proofs.lemmas.Nat.{and_mask}
 use Rattle.bf_basis.specs.Tables.{sum_of_entries}
