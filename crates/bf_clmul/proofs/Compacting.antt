@@ -1,5 +1,5 @@
 -- The bits at the even places of a word, moved together, are the carryless root of those bits, since both sides keep sums.
-use Rattle.std.proofs.Common.{◌≡◌, ℕ, ◌+◌, ◌*◌, ◌/◌, ◌%◌, ◌^◌, ◌<◌, true, refl, sym, ◌∙◌, ap, ap₂, lit≤}
+use Rattle.std.proofs.Common.{◌≡◌, ℕ, ◌*◌, ◌/◌, ◌%◌, ◌^◌, ◌<◌, true, refl, sym, ◌∙◌, ap, ap₂, lit≤}
 use Rattle.std.specs.Prelude.{bit_xor, bit_and}
 use Rattle.std.proofs.lemmas.Nat.{xor_shr, shl_whole}
 use native.Mathlib.Nat.{mul_assoc}

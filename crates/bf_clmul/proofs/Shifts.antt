@@ -1,5 +1,5 @@
 -- The product by a power of x, in two double words.
-use Rattle.std.proofs.Common.{◌≡◌, ℕ, ◌+◌, ◌-◌, ◌*◌, ◌/◌, ◌%◌, ◌^◌, ◌<◌, sym, ◌∙◌, ap, ap₂, arith}
+use Rattle.std.proofs.Common.{◌≡◌, ℕ, ◌+◌, ◌-◌, ◌*◌, ◌/◌, ◌%◌, ◌^◌, ◌<◌, sym, ◌∙◌, ap, arith}
 use Rattle.std.proofs.lemmas.Nat.{shr-shr, shr_split, pow-add, pow_pos}
 use native.Mathlib.Nat.{mul-div-mul_right}
 use Rattle.bf_base.specs.Carryless.{conv}
