@@ -1,19 +1,19 @@
 -- The square root of a polynomial modulo another from its even part and its odd part.
-use Rattle.std.proofs.Common.{◌≡◌, ℕ, ◌+◌, ◌*◌, ◌/◌, ◌%◌, ◌^◌, ◌<◌, ◌≤◌, true, refl, sym, ◌∙◌, ap, ap₂, subst, arith, lit<, lit≤}
+use Rattle.std.proofs.Common.{◌≡◌, ℕ, ◌+◌, ◌*◌, ◌/◌, ◌%◌, ◌^◌, ◌<◌, ◌≤◌, true, refl, sym, ◌∙◌, ap, ap₂, arith, lit<}
 use Rattle.std.specs.Prelude.{bit_xor, bit_and}
-use Rattle.std.proofs.lemmas.Nat.{and_le_l, xor_comm, xor_lt, xor_shr, shl-shr, shr-shr, shr_split}
-use native.Mathlib.Nat.{mod-lt}
-use lib.Bits.{xor_shifted}
+use Rattle.std.proofs.lemmas.Nat.{and_le_l, xor_comm, xor_lt, xor_mod, xor_shr, shl-shr, shr-shr, shr_split, mul-mod_first, pow_pos}
+use native.Mathlib.Nat.{mod-lt, mod-eq_of_lt}
+use lib.Bits.{xor_assoc, xor_shifted}
 use Rattle.bf_base.specs.Carryless.{conv, conv_in}
 use Rattle.bf_base.specs.Remainder.{HasDegree, rem, rem_in, mul_mod, poly64_modulus, ghash_modulus}
 use Rattle.bf_base.specs.Ring.{IsRing}
 use Rattle.bf_base.proofs.AdditiveMaps.{KeepsSums, maps_agree, agree_on_powers, agree_on_powers-true}
-use Rattle.bf_base.proofs.CarrylessProduct.{xor_exchange, xor_double, one_conv, double_conv, sum_conv, shl_conv}
+use Rattle.bf_base.proofs.CarrylessProduct.{xor_exchange, xor_double, one_conv, double_conv, sum_conv, shl_conv, conv_lt}
 use Rattle.bf_base.proofs.PowerLemmas.{square_xor, square_times}
 use Rattle.bf_base.proofs.RingLemmas.{xor_left_comm}
 use Rattle.bf_base.proofs.RemainderLaws.{rem_small}
 use Rattle.bf_base.proofs.RemainderRing.{mul_mod-rem, mul_mod_ring}
-use Rattle.bf_clmul.specs.Compact.{even_places_64, even_places_128, root_of_x_64, root_of_x_128}
+use Rattle.bf_clmul.specs.Compact.{even_places_64, even_places_128, ones_32, root_of_x_64, root_of_x_128}
 use Rattle.bf_clmul.proofs.Classes.{xor_and}
 
 -- ---- any width
@@ -63,6 +63,14 @@ module _ (width modulus : ℕ) (wide : 1 < width) (degree : HasDegree width modu
       odd_le : bit_and (x / 2) mask ≤ x / 2
       odd_le = and_le_l (x / 2) mask
 
+-- a word and what a shift by half of its width pushes past it
+shifted_split : (n h : ℕ) → bit_xor (h / 2 ^ n * 2 ^ (n + n)) (h * 2 ^ n % 2 ^ (n + n)) ≡ h * 2 ^ n
+shifted_split n h =
+    ap (λ (q : ℕ). bit_xor (q * 2 ^ (n + n)) (h * 2 ^ n % 2 ^ (n + n)))
+    (sym (ap (λ (y : ℕ). y / 2 ^ n) (shl-shr h n)) ∙ shr-shr (h * 2 ^ n) n n)
+    ∙ xor_shifted (h * 2 ^ n / 2 ^ (n + n)) (n + n) (h * 2 ^ n % 2 ^ (n + n)) (mod-lt (h * 2 ^ n) (pow_pos (n + n)))
+    ∙ shr_split (h * 2 ^ n) (n + n)
+
 -- ---- 64 bits
 
 root_squared_64 : mul_mod 64 poly64_modulus root_of_x_64 root_of_x_64 ≡ 2
@@ -75,6 +83,64 @@ pub root_64 : (x e o p : ℕ) → x < 2 ^ 64 → e < 2 ^ 32 → o < 2 ^ 32 → c
 root_64 x e o p x_fits e_fits o_fits of_e of_o of_p =
     root_of_parts 64 poly64_modulus (lit< tt) refl even_places_64 root_of_x_64 root_squared_64 refl x e o p x_fits
     (omega arith) (omega arith) (lit< tt) of_e of_o of_p
+
+-- ---- the product by the root of 64 bits
+
+-- a word and its shift are the product by a polynomial and its shift
+times_shifted : (k a s t : ℕ) → t ≡ conv a s % 2 ^ 64
+    → bit_xor t (t * 2 ^ k % 2 ^ 64) ≡ conv (bit_xor a (a * 2 ^ k)) s % 2 ^ 64
+times_shifted k a s t of_t =
+    ap (λ (z : ℕ). bit_xor z (z * 2 ^ k % 2 ^ 64)) of_t
+    ∙ ap (bit_xor (conv a s % 2 ^ 64)) (mul-mod_first (conv a s) (2 ^ k) (2 ^ 64))
+    ∙ sym (xor_mod (conv a s) (conv a s * 2 ^ k) 64)
+    ∙ ap (λ (z : ℕ). z % 2 ^ 64)
+    (ap (bit_xor (conv a s)) (sym (shl_conv k a s)) ∙ sym (sum_conv a (a * 2 ^ k) s))
+
+-- a word and its shift to the left, in a word
+abbrev with_shift : ℕ → ℕ → ℕ
+with_shift k t = bit_xor t (t * 2 ^ k % 2 ^ 64)
+
+-- the doubling steps make a run of 32 ones, and no bit leaves the word
+pub times_ones : (s : ℕ) → s < 2 ^ 32
+    → with_shift 16 (with_shift 8 (with_shift 4 (with_shift 2 (with_shift 1 s)))) ≡ conv ones_32 s
+times_ones s fits =
+    times_shifted 16 0xffff s _ (times_shifted 8 0xff s _ (times_shifted 4 0xf s _ (times_shifted 2 3 s _
+    (times_shifted 1 1 s s (sym (ap (λ (z : ℕ). z % 2 ^ 64) (one_conv s) ∙ mod-eq_of_lt (omega arith)))))))
+    ∙ mod-eq_of_lt (conv_lt 32 32 ones_32 s (lit< tt) fits)
+
+-- the root is a run of ones and two terms
+root_terms : (s : ℕ) → conv root_of_x_64 s ≡ bit_xor (bit_xor (conv ones_32 s * 2 ^ 32) (s * 2 ^ 3)) (s * 2 ^ 1)
+root_terms s =
+    sum_conv (bit_xor (ones_32 * 2 ^ 32) (1 * 2 ^ 3)) (1 * 2 ^ 1) s
+    ∙ ap₂ bit_xor
+    (sum_conv (ones_32 * 2 ^ 32) (1 * 2 ^ 3) s ∙ ap₂ bit_xor (shl_conv 32 ones_32 s) (term 3))
+    (term 1)
+  where
+    term : (k : ℕ) → conv (1 * 2 ^ k) s ≡ s * 2 ^ k
+    term k = shl_conv k 1 s ∙ ap (λ (z : ℕ). z * 2 ^ k) (one_conv s)
+
+-- so the product by the root, from the product by the ones
+pub product_by_terms : (o t r : ℕ) → o < 2 ^ 32 → t ≡ conv ones_32 o
+    → r ≡ rem 64 poly64_modulus
+    (t / 2 ^ 32 * 2 ^ 64 + bit_xor (bit_xor (t * 2 ^ 32 % 2 ^ 64) (o * 2 ^ 3 % 2 ^ 64)) (o * 2 ^ 1 % 2 ^ 64))
+    → r ≡ mul_mod 64 poly64_modulus root_of_x_64 o
+product_by_terms o t r fits of_t of_r =
+    of_r
+    ∙ ap (rem 64 poly64_modulus)
+    (sym (xor_shifted (t / 2 ^ 32) 64 _
+    (xor_lt 64 _ (o * 2 ^ 1 % 2 ^ 64)
+    (xor_lt 64 (t * 2 ^ 32 % 2 ^ 64) (o * 2 ^ 3 % 2 ^ 64) (word (t * 2 ^ 32)) (word (o * 2 ^ 3))) (word (o * 2 ^ 1))))
+    ∙ sym (ap (λ (z : ℕ). bit_xor z (o * 2 ^ 1 % 2 ^ 64))
+    (xor_assoc (t / 2 ^ 32 * 2 ^ 64) (t * 2 ^ 32 % 2 ^ 64) (o * 2 ^ 3 % 2 ^ 64))
+    ∙ xor_assoc (t / 2 ^ 32 * 2 ^ 64) (bit_xor (t * 2 ^ 32 % 2 ^ 64) (o * 2 ^ 3 % 2 ^ 64)) (o * 2 ^ 1 % 2 ^ 64))
+    ∙ ap₂ bit_xor
+    (ap₂ bit_xor (shifted_split 32 t ∙ ap (λ (z : ℕ). z * 2 ^ 32) of_t) (mod-eq_of_lt (omega arith)))
+    (mod-eq_of_lt (omega arith))
+    ∙ sym (root_terms o))
+    ∙ sym (mul_mod-rem 64 poly64_modulus refl root_of_x_64 o (lit< tt) (omega arith))
+  where
+    word : (z : ℕ) → z % 2 ^ 64 < 2 ^ 64
+    word z = mod-lt z (lit< tt)
 
 -- ---- 128 bits
 
@@ -90,13 +156,6 @@ root_128 x e o p x_fits e_fits o_fits of_e of_o of_p =
     (omega arith) (omega arith) (lit< tt) of_e of_o of_p
 
 -- the product by a double word, from the products by its words
-shifted_split : (h : ℕ) → bit_xor (h / 2 ^ 64 * 2 ^ 128) (h * 2 ^ 64 % 2 ^ 128) ≡ h * 2 ^ 64
-shifted_split h =
-    ap (λ (q : ℕ). bit_xor (q * 2 ^ 128) (h * 2 ^ 64 % 2 ^ 128))
-    (sym (ap (λ (y : ℕ). y / 2 ^ 64) (shl-shr h 64)) ∙ shr-shr (h * 2 ^ 64) 64 64)
-    ∙ xor_shifted (h * 2 ^ 64 / 2 ^ 128) 128 (h * 2 ^ 64 % 2 ^ 128) (mod-lt (h * 2 ^ 64) (lit< tt))
-    ∙ shr_split (h * 2 ^ 64) 128
-
 pub product_by_words : (s0 s1 o low high r : ℕ) → s0 < 2 ^ 64 → s1 * 2 ^ 64 + s0 < 2 ^ 128 → o < 2 ^ 64 → low < 2 ^ 128
     → low ≡ conv s0 o → high ≡ conv s1 o
     → r ≡ rem 128 ghash_modulus (high / 2 ^ 64 * 2 ^ 128 + bit_xor low (high * 2 ^ 64 % 2 ^ 128))
@@ -107,7 +166,7 @@ product_by_words s0 s1 o low high r s0_fits s_fits o_fits low_fits of_low of_hig
     (sym (xor_shifted (high / 2 ^ 64) 128 (bit_xor low (high * 2 ^ 64 % 2 ^ 128))
     (xor_lt 128 low (high * 2 ^ 64 % 2 ^ 128) low_fits (mod-lt (high * 2 ^ 64) (lit< tt))))
     ∙ xor_left_comm (high / 2 ^ 64 * 2 ^ 128) low (high * 2 ^ 64 % 2 ^ 128)
-    ∙ ap (bit_xor low) (shifted_split high) ∙ xor_comm low (high * 2 ^ 64)
+    ∙ ap (bit_xor low) (shifted_split 64 high) ∙ xor_comm low (high * 2 ^ 64)
     ∙ ap₂ (λ (x y : ℕ). bit_xor (x * 2 ^ 64) y) of_high of_low
     ∙ sym (ap (λ (z : ℕ). conv z o) (sym (xor_shifted s1 64 s0 s0_fits)) ∙ sum_conv (s1 * 2 ^ 64) s0 o
     ∙ ap (λ (z : ℕ). bit_xor z (conv s0 o)) (shl_conv 64 s1 o)))

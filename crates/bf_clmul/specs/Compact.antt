@@ -13,6 +13,10 @@ even_places_64 = 0x5555_5555_5555_5555
 abbrev pub even_places_128 : ℕ
 even_places_128 = 0x5555_5555_5555_5555_5555_5555_5555_5555
 
+-- x^31 + .. + x + 1
+abbrev pub ones_32 : ℕ
+ones_32 = 0xffff_ffff
+
 -- the square root of x modulo x^64 + x^4 + x^3 + x + 1
 abbrev pub root_of_x_64 : ℕ
 root_of_x_64 = 0xffff_ffff_0000_000a

@@ -5,10 +5,9 @@
 ghost use Rattle.std.specs.Prelude.{◌≡◌, ◌<◌, bit_and};
 ghost use Rattle.bf_base.specs.Carryless.{conv};
 ghost use Rattle.bf_base.specs.Remainder.{ghash_modulus, mul_mod, poly64_modulus};
-ghost use Rattle.bf_clmul.specs.Compact.{compact_step, even_places_64, even_places_128, root_of_x_128};
+ghost use Rattle.bf_clmul.specs.Compact.{compact_step, even_places_64, even_places_128, ones_32, root_of_x_64, root_of_x_128};
 
-use crate::fold::reduce_128;
-use crate::modular::multiply_mod_64;
+use crate::fold::{reduce_64, reduce_128};
 use crate::product::multiply_64_twice;
 
 /// Moves together by `shift` the halves of each field of a word, of which `mask` has the places.
@@ -44,13 +43,35 @@ pub fn compact_128(x: u128) -> u64
     ((high as u64) << 32) ^ (low as u64)
 }
 
+/// The product of a half word by x^31 + .. + x + 1, which is the product of the x^k + 1 for k = 1, 2, 4, 8 and 16.
+fn times_ones_32(half: u32) -> u64
+    ensures { result ≡ conv ones_32 half }
+{
+    let word = half as u64;
+    let by_2_ones = word ^ (word << 1);
+    let by_4_ones = by_2_ones ^ (by_2_ones << 2);
+    let by_8_ones = by_4_ones ^ (by_4_ones << 4);
+    let by_16_ones = by_8_ones ^ (by_8_ones << 8);
+    by_16_ones ^ (by_16_ones << 16)
+}
+
+/// The product of a half word by the root of x modulo x^64 + x^4 + x^3 + x + 1, which is a run of ones and two terms:
+/// x^63 + .. + x^33 + x^32 + x^3 + x.
+fn times_root_of_x_64(odd: u32) -> u64
+    ensures { result ≡ mul_mod 64 poly64_modulus root_of_x_64 odd }
+{
+    let by_ones = times_ones_32(odd);
+    let word = odd as u64;
+    reduce_64((by_ones << 32) ^ (word << 3) ^ (word << 1), by_ones >> 32)
+}
+
 /// The square root modulo x^64 + x^4 + x^3 + x + 1.
 pub fn sqrt_mod_64(x: u64) -> u64
     ensures { mul_mod 64 poly64_modulus result result ≡ x }
 {
-    let even = compact_64(x) as u64;
-    let odd = compact_64(x >> 1) as u64;
-    even ^ multiply_mod_64(0xffff_ffff_0000_000a, odd)
+    let even = compact_64(x);
+    let odd = compact_64(x >> 1);
+    (even as u64) ^ times_root_of_x_64(odd)
 }
 
 /// The product of a word by the root of x modulo x^128 + x^7 + x^2 + x + 1, from the products by the halves of the root.
