@@ -1,5 +1,5 @@
 -- The tables' laws in the form in which the levels' types cite them.
-use Rattle.std.proofs.Common.{◌≡◌, ℕ, ◌^◌, ◌<◌, ◌≤◌, refl, arith}
+use Rattle.std.proofs.Common.{ℕ, ◌^◌, ◌<◌, ◌≤◌, refl, arith}
 use Rattle.bf_base.specs.Orders.{HasFullOrder, AreCantorVectors}
 use Rattle.bf_base.specs.Tower.{tower_mul}
 use Rattle.bf_tables.specs.Cantor.{cantor_vector}

@@ -1,5 +1,5 @@
 -- Generators of the multiplicative groups of the tower's levels: elements of which every element but 0 is a power.
-use Rattle.std.specs.Prelude.{◌≡◌, ◌≢◌, ℕ, ◌-◌, ◌^◌, ◌<◌, ◌≤◌, [], ◌∷◌, slice_index}
+use Rattle.std.specs.Prelude.{ℕ, ◌^◌, ◌≤◌, [], ◌∷◌, slice_index}
 use Rattle.bf_base.specs.Orders.{HasFullOrder}
 use Rattle.bf_base.specs.Tower.{tower_mul}
 
