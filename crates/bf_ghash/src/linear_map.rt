@@ -9,14 +9,14 @@ use bf_base::traits::TowerLevel;
 use bf_basis::LinearMap;
 use bf_tower128::BinaryField128;
 
-/// The least number of elements for which the tables of a linear map are worth their making.
+/// The least number of elements for which `Ghash128::try_apply_linear_map_into` makes the tables of a linear map.
 pub const LEAST_TABLED: usize = 4096;
 
 impl Ghash128 {
     /// Where there are at least 4096 elements, writes the image of each into `output`, place by place, and answers true: the
     /// map is the linear one that takes bit j of an element of the tower to `images[j]`. Of fewer elements it maps none, leaves
-    /// `output` as it was and answers false: the map's tables would take longer to make than the sums of images by themselves,
-    /// which are then the caller's to make. It takes no memory but 10 KiB of the stack.
+    /// `output` as it was and answers false, so that no tables are made for few elements: the caller then maps them by itself.
+    /// It takes no memory but the stack.
     pub fn try_apply_linear_map_into(
         images: &[Ghash128; 128],
         input: &[BinaryField128],
