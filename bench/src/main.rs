@@ -17,6 +17,9 @@ use timing::{Plan, least_times};
 // The elements of a slice.
 const LENGTH: usize = 1024;
 
+// The elements of a slice whose images under a linear map are wanted: the least number of which the library maps any.
+const MAPPED: usize = 4096;
+
 #[cfg(feature = "rust_crate")]
 macro_rules! sides {
     ($ours:expr, $theirs:expr) => {
@@ -109,8 +112,8 @@ impl Report {
     /// The rows that every field has.
     fn field<W: Word>(&mut self, sides: &[Arithmetic<W>]) {
         let mut random = Random(u64::from(W::BITS));
-        let left: &[W] = &random.elements();
-        let right: &[W] = &random.elements();
+        let left: &[W] = &random.elements(LENGTH);
+        let right: &[W] = &random.elements(LENGTH);
         let first: W = random.nonzero();
         let zeros = vec![W::default(); LENGTH];
         self.row("product, throughput", sides, &zeros, |side| {
@@ -132,8 +135,8 @@ impl Report {
     /// The rows that a field of polynomials has besides.
     fn basis<W: Word>(&mut self, sides: &[Polynomials<W>]) {
         let mut random = Random(u64::from(W::BITS) + 1);
-        let left: &[W] = &random.elements();
-        let right: &[W] = &random.elements();
+        let left: &[W] = &random.elements(LENGTH);
+        let right: &[W] = &random.elements(LENGTH);
         let zeros = vec![W::default(); LENGTH];
         self.row("dot product, term", sides, &zeros, |side| {
             let dot_product = side.dot_product;
@@ -148,9 +151,10 @@ impl Report {
             Some(side.to_tower_slice)
         });
         let columns = &right[..W::BITS as usize];
-        self.row("linear map", sides, &zeros, |side| {
+        let mapped: &[W] = &random.elements(MAPPED);
+        self.row("linear map", sides, &[W::default(); MAPPED], |side| {
             side.linear_map
-                .map(|map| move |out: &mut [W]| map(black_box(columns), black_box(left), out))
+                .map(|map| move |out: &mut [W]| map(black_box(columns), black_box(mapped), out))
         });
     }
 
@@ -168,8 +172,8 @@ impl Report {
         });
     }
 
-    /// One row: `call` gives for each side that has the operation what does it `LENGTH` times and writes the results over
-    /// `start`.
+    /// One row: `call` gives for each side that has the operation what does it once for each word of `start` and writes the
+    /// results over them.
     fn row<S, W: Word, C: Fn(&mut [W])>(
         &mut self,
         name: &str,
@@ -202,7 +206,7 @@ impl Report {
             .iter()
             .map(|call| call.as_ref().and_then(|_| times.next()))
             .collect();
-        print_row(name, W::BITS, &each);
+        print_row(name, W::BITS, start.len(), &each);
     }
 
     /// Says whether the sides' results are the same.
@@ -248,14 +252,14 @@ fn print_heading(title: &str) {
     println!("|--------------------------|-----:|---------:|----------:|------:|");
 }
 
-// A row of the times of `LENGTH` operations, ours first; a side may lack the operation, or be absent.
-fn print_row(name: &str, bits: u32, times: &[Option<f64>]) {
+// A row of the times of `count` operations, ours first; a side may lack the operation, or be absent.
+fn print_row(name: &str, bits: u32, count: usize, times: &[Option<f64>]) {
     let each = |side: usize| {
         times
             .get(side)
             .copied()
             .flatten()
-            .map(|time| time / LENGTH as f64)
+            .map(|time| time / count as f64)
     };
     let shown = |value: Option<f64>| value.map_or("-".to_string(), |value| format!("{value:.2}"));
     let (ours, theirs) = (each(0), each(1));
@@ -280,9 +284,9 @@ impl Random {
         mixed ^ (mixed >> 31)
     }
 
-    /// `LENGTH` words, none of which is 0.
-    fn elements<W: Word>(&mut self) -> Vec<W> {
-        (0..LENGTH).map(|_| self.nonzero()).collect()
+    /// Words, none of which is 0.
+    fn elements<W: Word>(&mut self, count: usize) -> Vec<W> {
+        (0..count).map(|_| self.nonzero()).collect()
     }
 
     fn nonzero<W: Word>(&mut self) -> W {

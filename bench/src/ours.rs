@@ -133,7 +133,7 @@ ours!(
 );
 
 macro_rules! polynomials {
-    ($name:ident, $word:ty, $dot_product:ident, $from_tower:ident, $to_tower:ident, $from_slice:ident, $to_slice:ident) => {
+    ($name:ident, $word:ty, $dot_product:ident, $from_tower:ident, $to_tower:ident, $from_slice:ident, $to_slice:ident, $linear_map:expr) => {
         unsafe extern "C" {
             fn $dot_product(
                 left: *const $word,
@@ -176,8 +176,7 @@ macro_rules! polynomials {
                 },
                 from_tower_slice: |words| unsafe { $from_slice(words.as_mut_ptr(), words.len()) },
                 to_tower_slice: |words| unsafe { $to_slice(words.as_mut_ptr(), words.len()) },
-                // The library has none yet.
-                linear_map: None,
+                linear_map: $linear_map,
             }
         }
     };
@@ -190,7 +189,8 @@ polynomials!(
     bf_from_tower_poly64,
     bf_to_tower_poly64,
     bf_from_tower_slice_poly64,
-    bf_to_tower_slice_poly64
+    bf_to_tower_slice_poly64,
+    None
 );
 polynomials!(
     basis128,
@@ -199,5 +199,33 @@ polynomials!(
     bf_from_tower_ghash128,
     bf_to_tower_ghash128,
     bf_from_tower_slice_ghash128,
-    bf_to_tower_slice_ghash128
+    bf_to_tower_slice_ghash128,
+    Some(linear_map)
 );
+
+unsafe extern "C" {
+    fn bf_linear_map_ghash128(
+        images: *const u128,
+        images_length: usize,
+        words: *const u128,
+        length: usize,
+        values: *mut u128,
+        values_length: usize,
+    );
+}
+
+// It makes the map's tables in each call, as `Ghash128::try_apply_linear_map_into` does.
+fn linear_map(images: &[u128], words: &[u128], values: &mut [u128]) {
+    assert!(images.len() == 128 && words.len() == values.len());
+    // SAFETY: as above, and there are 128 images.
+    unsafe {
+        bf_linear_map_ghash128(
+            images.as_ptr(),
+            images.len(),
+            words.as_ptr(),
+            words.len(),
+            values.as_mut_ptr(),
+            values.len(),
+        )
+    }
+}

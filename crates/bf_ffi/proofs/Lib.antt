@@ -1,2 +1,1 @@
 mod HeldElements
-mod Inverses

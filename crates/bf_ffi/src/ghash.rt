@@ -1,16 +1,17 @@
 // GF(2^128) in the polynomial basis, modulo x^128 + x^7 + x^2 + x + 1, in words of 128 bits, each two of 64, low half first:
 // bit i is the coefficient of x^i.
-ghost use Rattle.std.specs.Prelude.{◌≡◌, length, fold, EachIndex};
+ghost use Rattle.std.specs.Prelude.{◌≡◌, length, fold, map, EachIndex};
 ghost use Rattle.bf_base.specs.Basis.{basis_image, ghash_images};
+ghost use Rattle.bf_base.specs.LinearMaps.{linear_image};
 ghost use Rattle.bf_base.specs.Powers.{dot_of};
 ghost use Rattle.bf_base.specs.Remainder.{mul_mod, ghash_modulus};
-ghost use Rattle.bf_ffi.specs.Words.{IsInverseOrZero, wide_at, wide_number};
+ghost use Rattle.bf_basis.specs.LinearMap.{map_of};
+ghost use Rattle.bf_ffi.specs.Words.{Each, IsInverseOrZero, wide_at, wide_number};
 
 use crate::slices;
 use crate::words::Wide;
 use bf_base::traits::{PrimeCharacteristicRing, TowerLevel};
-use bf_basis::{to_polynomial_128, to_tower_128};
-use bf_clmul::sqrt_mod_128;
+use bf_basis::LinearMap;
 use bf_ghash::Ghash128;
 use bf_tower128::BinaryField128;
 
@@ -62,7 +63,7 @@ pub extern "C" fn bf_inverse_ghash128(words: &[Wide], inverses: &mut [Wide])
     requires { length words.now ≡ length inverses.old }
     ensures { EachIndex inverses.new (λ k. IsInverseOrZero (mul_mod 128 ghash_modulus) (wide_at words.now k) (wide_at inverses.new k)) }
 {
-    slices::each(words, inverses, inverse_or_zero);
+    slices::invert::<Ghash128, Wide>(words, inverses);
 }
 
 /// Writes the square root of the element at each index.
@@ -71,7 +72,7 @@ pub extern "C" fn bf_square_root_ghash128(words: &[Wide], roots: &mut [Wide])
     requires { length words.now ≡ length roots.old }
     ensures { EachIndex roots.new (λ k. mul_mod 128 ghash_modulus (wide_at roots.new k) (wide_at roots.new k) ≡ wide_at words.now k) }
 {
-    slices::each(words, roots, square_root);
+    slices::square_root::<Ghash128, Wide>(words, roots);
 }
 
 /// Writes the polynomial that is the image of the element of the tower at each index.
@@ -108,31 +109,49 @@ pub extern "C" fn bf_to_tower_slice_ghash128(words: &mut [Wide])
     slices::each_in_place(words, to_tower);
 }
 
+/// Writes the value at each word of the linear map that takes bit j to `images[j]`.
+#[unsafe(no_mangle)]
+pub extern "C" fn bf_linear_map_ghash128(images: &[Wide], words: &[Wide], values: &mut [Wide])
+    requires images_length { length images.now ≡ 128 }
+    requires fits { length words.now ≡ length values.old }
+    ensures { EachIndex values.new (λ k. wide_at values.new k ≡ linear_image (map wide_number images.now) (wide_at words.now k)) }
+{
+    let map = LinearMap::new(&numbers(images));
+    apply(&map, words, values);
+}
+
+// Writes the value of a linear map at each word, as `Ghash128::try_apply_linear_map_into` does at each element.
+fn apply(map: &LinearMap, words: &[Wide], values: &mut [Wide])
+    requires { length words.now ≡ length values.old }
+    ensures { Each wide_number (λ x y. y ≡ map_of map.now x) words.now values.new }
+{
+    for i in 0..values.len() {
+        values[i] = Wide::new(map.apply(words[i].number()));
+    }
+}
+
+// The numbers of 128 words.
+fn numbers(words: &[Wide]) -> [u128; 128]
+    requires { length words.now ≡ 128 }
+    ensures { result ≡ map wide_number words.now }
+{
+    let mut numbers = [0; 128];
+    for place in 0..128 {
+        numbers[place] = words[place].number();
+    }
+    numbers
+}
+
 // The polynomial that is the image of an element of the tower.
 fn from_tower(word: Wide) -> Wide
     ensures { wide_number result ≡ basis_image 128 ghash_modulus ghash_images (wide_number word) }
 {
-    Wide::new(to_polynomial_128(word.number()))
+    Wide::new(Ghash128::from(BinaryField128::from_repr(word.number())).to_bits())
 }
 
 // The element of the tower whose image is a polynomial.
 fn to_tower(word: Wide) -> Wide
     ensures { basis_image 128 ghash_modulus ghash_images (wide_number result) ≡ wide_number word }
 {
-    Wide::new(to_tower_128(word.number()))
-}
-
-// The inverse of an element, and 0 for 0: the inverse in the tower, between two changes of basis.
-fn inverse_or_zero(word: Wide) -> Wide
-    ensures { IsInverseOrZero (mul_mod 128 ghash_modulus) (wide_number word) (wide_number result) }
-{
-    let inverse = slices::inverse_or_zero(BinaryField128::from_repr(to_tower_128(word.number())));
-    Wide::new(to_polynomial_128(inverse.to_repr()))
-}
-
-// The square root of an element.
-fn square_root(word: Wide) -> Wide
-    ensures { mul_mod 128 ghash_modulus (wide_number result) (wide_number result) ≡ wide_number word }
-{
-    Wide::new(sqrt_mod_128(word.number()))
+    Wide::new(BinaryField128::from(Ghash128::new(word.number())).to_repr())
 }

@@ -7,8 +7,7 @@ ghost use Rattle.bf_ffi.specs.Words.{IsInverseOrZero};
 
 use crate::slices;
 use bf_base::traits::{PrimeCharacteristicRing, TowerLevel};
-use bf_basis::{to_polynomial_64, to_polynomial_slice_64, to_tower_64, to_tower_slice_64};
-use bf_clmul::sqrt_mod_64;
+use bf_basis::{to_polynomial_slice_64, to_tower_slice_64};
 use bf_poly64::Poly64;
 use bf_tower128::BinaryField64;
 
@@ -60,7 +59,7 @@ pub extern "C" fn bf_inverse_poly64(words: &[u64], inverses: &mut [u64])
     requires { length words.now ≡ length inverses.old }
     ensures { EachIndex inverses.new (λ k. IsInverseOrZero (mul_mod 64 poly64_modulus) (slice_index words.now k) (slice_index inverses.new k)) }
 {
-    slices::each(words, inverses, inverse_or_zero);
+    slices::invert::<Poly64, u64>(words, inverses);
 }
 
 /// Writes the square root of the element at each index.
@@ -69,7 +68,7 @@ pub extern "C" fn bf_square_root_poly64(words: &[u64], roots: &mut [u64])
     requires { length words.now ≡ length roots.old }
     ensures { EachIndex roots.new (λ k. mul_mod 64 poly64_modulus (slice_index roots.new k) (slice_index roots.new k) ≡ slice_index words.now k) }
 {
-    slices::each(words, roots, square_root);
+    slices::square_root::<Poly64, u64>(words, roots);
 }
 
 /// Writes the polynomial that is the image of the element of the tower at each index.
@@ -110,27 +109,12 @@ pub extern "C" fn bf_to_tower_slice_poly64(words: &mut [u64])
 fn from_tower(bits: u64) -> u64
     ensures { result ≡ basis_image 64 poly64_modulus poly64_images bits }
 {
-    to_polynomial_64(bits)
+    Poly64::from(BinaryField64::from_repr(bits)).to_bits()
 }
 
 // The element of the tower whose image is a polynomial.
 fn to_tower(bits: u64) -> u64
     ensures { basis_image 64 poly64_modulus poly64_images result ≡ bits }
 {
-    to_tower_64(bits)
-}
-
-// The square root of an element.
-fn square_root(bits: u64) -> u64
-    ensures { mul_mod 64 poly64_modulus result result ≡ bits }
-{
-    sqrt_mod_64(bits)
-}
-
-// The inverse of an element, and 0 for 0: the inverse in the tower, between two changes of basis.
-fn inverse_or_zero(bits: u64) -> u64
-    ensures { IsInverseOrZero (mul_mod 64 poly64_modulus) bits result }
-{
-    let inverse = slices::inverse_or_zero(BinaryField64::from_repr(to_tower_64(bits)));
-    to_polynomial_64(inverse.to_repr())
+    BinaryField64::from(Poly64::new(bits)).to_repr()
 }
