@@ -1,9 +1,9 @@
-use Rattle.std.proofs.Common.{◌≡◌, ◌<◌, ◌*◌, ◌+◌, ◌^◌, length, drop, refl, sym, ◌∙◌, ap, ap₂, arith, lit<, rules}
+use Rattle.std.proofs.Common.{◌<◌, ◌*◌, ◌+◌, ◌^◌, length, drop, refl, sym, ◌∙◌, ap, arith, lit<, rules}
 use Rattle.std.specs.Prelude.{bit_xor}
 use Rattle.std.proofs.lemmas.Nat.{xor_block, pow_below}
 use Rattle.bf_base.specs.Carryless.{conv}
 use Rattle.bf_base.specs.Powers.{terms_from}
-use Rattle.bf_base.specs.Remainder.{rem, mul_mod, ghash_modulus}
+use Rattle.bf_base.specs.Remainder.{mul_mod, ghash_modulus}
 use Rattle.bf_base.proofs.RemainderDot.{rem_dot_step}
 use Rattle.bf_base.proofs.RemainderLaws.{rem_small}
 use Rattle.bf_base.proofs.ValueLemmas.{terms_from-drop, terms_end, power_of_x}

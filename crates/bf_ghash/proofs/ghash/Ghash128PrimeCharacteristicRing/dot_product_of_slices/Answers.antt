@@ -1,9 +1,9 @@
-use Rattle.std.proofs.Common.{◌≡◌, ◌<◌, ◌*◌, ◌+◌, ◌^◌, ◌/◌, ◌%◌, length, refl, sym, ◌∙◌, ap, ap₂, arith, lit<, rules}
+use Rattle.std.proofs.Common.{◌<◌, ◌*◌, ◌+◌, ◌^◌, length, refl, sym, ◌∙◌, ap, ap₂, arith, lit<, rules}
 use Rattle.std.specs.Prelude.{bit_xor}
 use Rattle.std.proofs.lemmas.Nat.{xor_block}
 use Rattle.bf_base.specs.Carryless.{conv}
 use Rattle.bf_base.specs.Powers.{dot_of}
-use Rattle.bf_base.specs.Remainder.{rem, mul_mod, ghash_modulus}
+use Rattle.bf_base.specs.Remainder.{mul_mod, ghash_modulus}
 use Rattle.bf_base.proofs.DotLemmas.{dot_of-drop, dot_end}
 use Rattle.bf_base.proofs.RemainderDot.{rem_dot_step}
 use Rattle.bf_base.proofs.RemainderLaws.{rem_small}
