@@ -1,15 +1,15 @@
--- What a homomorphism from the tower to polynomials carries besides sums and products: inverses, the Cantor vectors and
--- values of polynomials. And quotients and squarings in a ring that is a field.
-use Rattle.std.proofs.Common.{◌≡◌, ◌≢◌, ℕ, zero, suc, ◌+◌, ◌%◌, ◌^◌, ◌<◌, List, [], ◌∷◌, sym, ◌∙◌, ap, ap₂}
+-- What a homomorphism from the tower to polynomials carries besides sums and products: inverses and values of polynomials.
+-- And quotients in a ring that is a field.
+use Rattle.std.proofs.Common.{◌≡◌, ◌≢◌, ℕ, zero, suc, ◌+◌, ◌-◌, ◌^◌, ◌<◌, ◌≤◌, List, [], ◌∷◌, sym, ◌∙◌, ap, ap₂, subst, arith}
 use Rattle.std.specs.Prelude.{bit_xor}
-use native.Mathlib.Nat.{mod-eq_of_lt}
-use Rattle.bf_base.specs.Basis.{basis_image, IsHomomorphism, IsFieldOfPolynomials}
-use Rattle.bf_base.specs.Orders.{AreCantorVectors}
-use Rattle.bf_base.specs.Powers.{power, squared, terms_from, value_of}
+use Rattle.bf_base.specs.Basis.{basis_image, IsHomomorphism, IsIsomorphism}
+use Rattle.bf_base.specs.TowerBasis.{IsBasisOf}
+use Rattle.bf_base.specs.Powers.{power, terms_from, value_of}
 use Rattle.bf_base.specs.Remainder.{mul_mod}
 use Rattle.bf_base.specs.Ring.{IsRing}
 use Rattle.bf_base.specs.Tower.{tower_mul}
-use Rattle.bf_base.proofs.PowerLemmas.{times-one, squared-mod_round, squared-none, squared_more}
+use Rattle.bf_base.proofs.PowerLemmas.{times-one}
+use Rattle.bf_base.proofs.TowerProducts.{level-lt, tower_mul-low}
 
 module _ (k width modulus : ℕ) (images : List ℕ) (keeps : IsHomomorphism k width modulus images) where
   -- the image of an inverse is the inverse of the image
@@ -24,29 +24,7 @@ module _ (k width modulus : ℕ) (images : List ℕ) (keeps : IsHomomorphism k w
   image_nonzero a x of_a nonzero zero_a =
       nonzero (sym of_a ∙ ap (basis_image width modulus images) zero_a ∙ keeps.zero_image)
 
-  -- the image of the one, and that of a product, of an element of a lower level
-  pub image_of_one : (unit : ℕ) → unit ≡ 1 → basis_image width modulus images unit ≡ 1
-  image_of_one unit is = ap (basis_image width modulus images) is ∙ keeps.one_image
-
-  pub image_of_product : (a b product : ℕ) → product ≡ tower_mul k a b → basis_image width modulus images product
-      ≡ mul_mod width modulus (basis_image width modulus images a) (basis_image width modulus images b)
-  image_of_product a b product is = ap (basis_image width modulus images) is ∙ keeps.product_image a b
-
-  -- the images of Cantor vectors are Cantor vectors
-  pub image_cantor : (bits : ℕ) (vector : ℕ → ℕ) → AreCantorVectors bits (tower_mul k) vector
-      → AreCantorVectors bits (mul_mod width modulus) (λ i. basis_image width modulus images (vector i))
-  image_cantor bits vector vectors =
-      record {
-        first = ap (basis_image width modulus images) vectors.first ∙ keeps.one_image;
-        rule =
-            λ i above below.
-            ap (λ (x : ℕ). bit_xor x (basis_image width modulus images (vector i)))
-            (sym (keeps.product_image (vector i) (vector i)))
-            ∙ sym (keeps.sum_image (tower_mul k (vector i) (vector i)) (vector i))
-            ∙ ap (basis_image width modulus images) (vectors.rule i above below);
-      }
-
-  image_power : (a n : ℕ) → power 1 (mul_mod width modulus) (basis_image width modulus images a) n
+  pub image_power : (a n : ℕ) → power 1 (mul_mod width modulus) (basis_image width modulus images a) n
       ≡ basis_image width modulus images (power 1 (tower_mul k) a n)
   unfolding power
   image_power a zero = sym keeps.one_image
@@ -79,23 +57,38 @@ ring_quotient width times ring a b inverse quotient fits inverts is =
     ap (λ (q : ℕ). times q b) is ∙ ring.assoc a inverse b ∙ ap (times a) (ring.comm inverse b ∙ inverts)
     ∙ times-one width 1 times ring a fits
 
--- as many squarings as an element has bits give it back
-pub polynomial_frobenius : (width modulus a : ℕ) → IsFieldOfPolynomials width modulus → a < 2 ^ width
-    → squared 1 (mul_mod width modulus) width a ≡ a
-polynomial_frobenius width modulus a field fits = field.squarings_return a ∙ mod-eq_of_lt fits
+-- an isomorphism from a level of the tower is a basis of the field
+pub isomorphic_basis : (k width modulus : ℕ) (images : List ℕ) → IsIsomorphism k width modulus images
+    → IsBasisOf k width (mul_mod width modulus) (basis_image width modulus images)
+isomorphic_basis k width modulus images isomorphic =
+    record {
+      below = λ a fits. isomorphic.homomorphism.below a;
+      one_image = isomorphic.homomorphism.one_image;
+      sum_image = isomorphic.homomorphism.sum_image;
+      product_image = isomorphic.homomorphism.product_image;
+      one_to_one =
+          λ a b a_fits b_fits same.
+          sym (isomorphic.inverse_of_image a a_fits) ∙ ap isomorphic.inverse same ∙ isomorphic.inverse_of_image b b_fits;
+      onto = λ b fits. (isomorphic.inverse b, isomorphic.inverse_below b, isomorphic.image_of_inverse b fits);
+    }
 
--- so that n squarings are as many as n leaves modulo the bits
-pub polynomial_squared-mod_bits : (width modulus n a : ℕ) → IsFieldOfPolynomials width modulus
-    → squared 1 (mul_mod width modulus) (n % width) a ≡ squared 1 (mul_mod width modulus) n a
-polynomial_squared-mod_bits width modulus n a field =
-    squared-mod_round width 1 (mul_mod width modulus) field.ring width field.squarings_return n a
+-- the image of a product of elements of a level j below k is the product of the images, and two elements have two images
+module _ (k width modulus : ℕ) (images : List ℕ) (isomorphic : IsIsomorphism k width modulus images) (j : ℕ) (lower : j ≤ k) where
+  between : k - j + j ≡ k
+  between = omega (arith, lower)
 
-pub polynomial_squarings_none : (width modulus a : ℕ) → IsFieldOfPolynomials width modulus → a < 2 ^ width
-    → squared 1 (mul_mod width modulus) 0 a ≡ a
-polynomial_squarings_none width modulus a field fits = squared-none width 1 (mul_mod width modulus) field.ring a fits
+  pub image_of_lower_product : (a b : ℕ) → a < 2 ^ 2 ^ j → b < 2 ^ 2 ^ j → basis_image width modulus images (tower_mul j a b)
+      ≡ mul_mod width modulus (basis_image width modulus images a) (basis_image width modulus images b)
+  image_of_lower_product a b a_fits b_fits =
+      ap (basis_image width modulus images)
+      (sym (tower_mul-low (k - j) j a b a_fits b_fits) ∙ ap (λ (n : ℕ). tower_mul n a b) between)
+      ∙ isomorphic.homomorphism.product_image a b
 
-pub polynomial_squarings_more : (width modulus n a value value' : ℕ) → IsFieldOfPolynomials width modulus
-    → value ≡ squared 1 (mul_mod width modulus) n a → value' ≡ mul_mod width modulus value value
-    → value' ≡ squared 1 (mul_mod width modulus) (n + 1) a
-polynomial_squarings_more width modulus n a value value' field so_far step =
-    step ∙ ap₂ (mul_mod width modulus) so_far so_far ∙ sym (squared_more width 1 (mul_mod width modulus) field.ring n a)
+  up : (a : ℕ) → a < 2 ^ 2 ^ j → a < 2 ^ 2 ^ k
+  up a fits = subst (λ (n : ℕ). a < 2 ^ 2 ^ n) between (level-lt (k - j) j a fits)
+
+  pub image_of_lower_injective : (a b : ℕ) → a < 2 ^ 2 ^ j → b < 2 ^ 2 ^ j
+      → basis_image width modulus images a ≡ basis_image width modulus images b → a ≡ b
+  image_of_lower_injective a b a_fits b_fits same =
+      sym (isomorphic.inverse_of_image a (up a a_fits)) ∙ ap isomorphic.inverse same
+      ∙ isomorphic.inverse_of_image b (up b b_fits)

@@ -5,7 +5,8 @@ use Rattle.std.specs.Prelude.{bit_xor, slice_index}
 use Rattle.std.proofs.lemmas.Nat.{xor_lt, pow_pos}
 use native.Mathlib.Nat.{mod-lt, mod-eq_of_lt}
 use lib.Bits.{xor_assoc, xor_self}
-use Rattle.bf_base.specs.Basis.{basis_image, bit_image, AreRoots, IsHomomorphism, IsIsomorphism, IsFieldOfPolynomials, RootsGiveHomomorphism}
+use Rattle.bf_base.specs.Basis.{basis_image, bit_image, AreRoots, IsHomomorphism, IsIsomorphism, RootsGiveHomomorphism}
+use Rattle.bf_base.specs.Field.{IsField}
 use Rattle.bf_base.specs.Field.{HasInverses}
 use Rattle.bf_base.specs.Powers.{squared}
 use Rattle.bf_base.specs.Remainder.{HasDegree, mul_mod}
@@ -14,8 +15,7 @@ use Rattle.bf_base.specs.Tower.{root, tower_mul}
 use Rattle.bf_base.proofs.AdditiveMaps.{maps_agree}
 use Rattle.bf_base.proofs.BasisColumns.{apply, apply-sum, level_columns, apply-level_columns}
 use Rattle.bf_base.proofs.BasisMaps.{image_at, image_at-mod, image_at-lt, image_at-sum, image_at-nothing, image_at-one, image_at-root, image_at-low, image_at-product}
-use Rattle.bf_base.proofs.FieldLemmas.{no_zero_divisors, square-injective}
-use Rattle.bf_base.proofs.PowerLemmas.{squared-lt, squared-mod}
+use Rattle.bf_base.proofs.PowerLemmas.{squared-mod}
 use Rattle.bf_base.proofs.RemainderRing.{mul_mod_ring}
 use Rattle.bf_base.proofs.RingLemmas.{xor_nothing, zero-times, mod-times}
 use Rattle.bf_base.proofs.TowerTraces.{tower_inverses, squarings_return, root-lt}
@@ -195,26 +195,15 @@ module _ (width modulus : ℕ) (wide : 0 < width) (degree : HasDegree width modu
         returned : basis_image width modulus images a ≡ b % 2 ^ width
         returned = isomorphic.image_of_inverse (b % 2 ^ width) (mod-lt b (pow_pos width))
 
-    pub isomorphic-field : 2 ^ length images ≡ width → IsFieldOfPolynomials width modulus
-    unfolding squared
-    isomorphic-field whole = record {
-      ring = ring;
-      inverses = isomorphic-inverses;
-      no_zero_divisors = no_zero_divisors width (mul_mod width modulus) ring isomorphic-inverses;
-      squarings_return = returned;
-      roots = λ a fits. (
-        squared 1 (mul_mod width modulus) (width - 1) a,
-        squared-lt width 1 (mul_mod width modulus) ring (width - 1) a,
-        ap (λ (n : ℕ). squared 1 (mul_mod width modulus) n a) last ∙ returned a ∙ mod-eq_of_lt fits,
-      );
-      root_unique = square-injective width (mul_mod width modulus) ring isomorphic-inverses;
-    }
-      where
-        returned : (a : ℕ) → squared 1 (mul_mod width modulus) width a ≡ a % 2 ^ width
-        returned a = ap (λ (n : ℕ). squared 1 (mul_mod width modulus) n a) (sym whole) ∙ isomorphic-squarings a
-
-        last : suc (width - 1) ≡ width
-        last = omega arith
+    -- so that polynomials are a field
+    pub isomorphic-field : 2 ^ length images ≡ width → IsField width (mul_mod width modulus)
+    isomorphic-field whole =
+        record {
+          ring = ring;
+          inverses = isomorphic-inverses;
+          squarings_return =
+              λ a. ap (λ (n : ℕ). squared 1 (mul_mod width modulus) n a) (sym whole) ∙ isomorphic-squarings a;
+        }
 
 pub roots_give_homomorphism : RootsGiveHomomorphism
 roots_give_homomorphism width modulus images wide degree roots = homomorphism width modulus wide degree images roots

@@ -1,4 +1,5 @@
 pub mod AdditiveMaps
+pub mod AdjoinedRoots
 pub mod BasisColumns
 pub mod BasisFields
 pub mod BasisIsomorphism
@@ -9,7 +10,6 @@ pub mod CarrylessPairs
 pub mod CarrylessProduct
 pub mod DotLemmas
 pub mod FieldLemmas
-pub mod HalvesLemmas
 pub mod LinearMapLemmas
 pub mod Norms
 pub mod PowerLemmas
@@ -21,6 +21,7 @@ pub mod RemainderLaws
 pub mod RemainderRing
 pub mod RingLemmas
 mod TowerFacts
+pub mod TowerBasisLemmas
 pub mod TowerFrobenius
 pub mod TowerInverse
 pub mod TowerLaws

@@ -8,6 +8,13 @@ use Rattle.bf_base.proofs.RemainderLaws.{rem_sum}
 use Rattle.bf_base.proofs.RemainderRing.{mul_mod-rem}
 
 module _ (width modulus : ℕ) (degree : HasDegree width modulus) where
+  -- the remainder of a sum of products with one product more
+  pub rem_product_sum : (sum x y : ℕ) → x < 2 ^ width → y < 2 ^ width
+      → rem width modulus (bit_xor sum (conv x y)) ≡ bit_xor (rem width modulus sum) (mul_mod width modulus x y)
+  rem_product_sum sum x y x_fits y_fits =
+      rem_sum width modulus degree sum (conv x y)
+      ∙ ap (bit_xor (rem width modulus sum)) (sym (mul_mod-rem width modulus degree x y x_fits y_fits))
+
   -- one product more: `sum` is what was added up so far, `rest` and `next` are what the places from here on, and those
   -- behind, add to it
   pub rem_dot_step : (sum sum' x y rest next whole : ℕ) → x < 2 ^ width → y < 2 ^ width
@@ -15,8 +22,6 @@ module _ (width modulus : ℕ) (degree : HasDegree width modulus) where
       → sum' ≡ bit_xor sum (conv x y) → bit_xor (rem width modulus sum') next ≡ whole
   rem_dot_step sum sum' x y rest next whole x_fits y_fits so_far splits added =
       ap (λ (s : ℕ). bit_xor (rem width modulus s) next) added
-      ∙ ap (λ (s : ℕ). bit_xor s next) (rem_sum width modulus degree sum (conv x y))
-      ∙ xor_assoc (rem width modulus sum) (rem width modulus (conv x y)) next
-      ∙ ap (λ (p : ℕ). bit_xor (rem width modulus sum) (bit_xor p next))
-      (sym (mul_mod-rem width modulus degree x y x_fits y_fits))
+      ∙ ap (λ (s : ℕ). bit_xor s next) (rem_product_sum sum x y x_fits y_fits)
+      ∙ xor_assoc (rem width modulus sum) (mul_mod width modulus x y) next
       ∙ ap (bit_xor (rem width modulus sum)) (sym splits) ∙ so_far

@@ -1,12 +1,10 @@
 -- The change of basis from the tower to a polynomial basis. A field of 2 ^ w elements is unique, so that level k of the
 -- tower, whose elements have 2 ^ k bits, is the field of polynomials modulo an irreducible one of degree 2 ^ k (R. Lidl and
 -- H. Niederreiter, Finite Fields, theorem 2.5). An isomorphism is given by the images of the roots that the tower adjoins.
-use Rattle.std.specs.Prelude.{◌≡◌, ◌⊎◌, ℕ, zero, suc, ◌*◌, ◌%◌, ◌^◌, ◌<◌, List, [], ◌∷◌, length, slice_index, bit_xor}
+use Rattle.std.specs.Prelude.{◌≡◌, ℕ, zero, suc, ◌*◌, ◌%◌, ◌^◌, ◌<◌, List, [], ◌∷◌, length, slice_index, bit_xor}
 use Rattle.std.specs.Int.{bit_at}
-use Rattle.bf_base.specs.Field.{HasInverses}
-use Rattle.bf_base.specs.Powers.{power, squared}
+use Rattle.bf_base.specs.Powers.{power}
 use Rattle.bf_base.specs.Remainder.{HasDegree, mul_mod}
-use Rattle.bf_base.specs.Ring.{IsRing}
 use Rattle.bf_base.specs.Tower.{root, tower_mul}
 
 -- the sum of f 0, f 1, .., f (n - 1)
@@ -61,16 +59,6 @@ pub record IsIsomorphism (k width modulus : ℕ) (images : List ℕ) : Type 0 wh
   pub inverse_below : (b : ℕ) → inverse b < 2 ^ 2 ^ k
   pub image_of_inverse : (b : ℕ) → b < 2 ^ width → basis_image width modulus images (inverse b) ≡ b
   pub inverse_of_image : (a : ℕ) → a < 2 ^ 2 ^ k → inverse (basis_image width modulus images a) ≡ a
-
--- the polynomials modulo `modulus` are a field of 2 ^ width elements, so that the modulus is irreducible: each but 0 has an
--- inverse, `width` squarings return each, and each has one square root
-pub record IsFieldOfPolynomials (width modulus : ℕ) : Type 0 where
-  pub ring : IsRing width 1 (mul_mod width modulus)
-  pub inverses : HasInverses width (mul_mod width modulus)
-  pub no_zero_divisors : (a b : ℕ) → a < 2 ^ width → b < 2 ^ width → mul_mod width modulus a b ≡ 0 → (a ≡ 0) ⊎ (b ≡ 0)
-  pub squarings_return : (a : ℕ) → squared 1 (mul_mod width modulus) width a ≡ a % 2 ^ width
-  pub roots : (a : ℕ) → a < 2 ^ width → (r : ℕ) × (r < 2 ^ width) × (mul_mod width modulus r r ≡ a)
-  pub root_unique : (r s : ℕ) → r < 2 ^ width → s < 2 ^ width → mul_mod width modulus r r ≡ mul_mod width modulus s s → r ≡ s
 
 -- the images of the roots modulo any polynomial give a homomorphism where they meet the equations of the roots
 abbrev pub RootsGiveHomomorphism : Type 0

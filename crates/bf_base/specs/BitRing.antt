@@ -5,9 +5,11 @@ use Rattle.std.specs.Prelude.{bit_and, bit_xor}
 use Rattle.std.proofs.lemmas.Nat.{xor_mod}
 use native.Mathlib.Nat.{mod-lt, mul_comm, mul_assoc, zero-mul, one-mul, mul-one, mod-eq_of_lt}
 use Rattle.bf_base.specs.Ring.{IsRing}
-use Rattle.bf_base.specs.Orders.{HasFullOrder, AreCantorVectors}
+use Rattle.bf_base.specs.Field.{IsField}
+use Rattle.bf_base.specs.Orders.{HasFullOrder}
 use Rattle.bf_base.specs.Powers.{power, squared}
 use Rattle.bf_base.specs.Tower.{root, tower_mul}
+use Rattle.bf_base.specs.TowerBasis.{AreEvenCantorVectors, IsBasisOf}
 
 -- a fact of 0 and of 1 holds of each number below 2
 pub two_cases : (P : ℕ → Type 0) → P 0 → P 1 → (d : ℕ) → d < 2 → P d
@@ -48,11 +50,6 @@ bit_and-bits =
     two_cases (λ x. (y : ℕ) → y < 2 → bit_and x y ≡ x % 2 * (y % 2))
     (two_cases (λ y. bit_and 0 y ≡ 0 % 2 * (y % 2)) refl refl) (two_cases (λ y. bit_and 1 y ≡ 1 % 2 * (y % 2)) refl refl)
 
--- a bit squared is itself
-pub bit_squared : (x : ℕ) → x < 2 → squared 1 (tower_mul 0) 1 x ≡ x
-unfolding squared tower_mul
-bit_squared = two_cases (λ x. squared 1 (tower_mul 0) 1 x ≡ x) refl refl
-
 -- the only bit but 0 is the one
 pub bit_over_bit : (x : ℕ) → x < 2 → (y : ℕ) → y < 2 → y ≢ 0 → tower_mul 0 x y ≡ x
 unfolding tower_mul
@@ -70,15 +67,49 @@ pub root_zero-times : (x : ℕ) → x < 2 → tower_mul 0 (root 0) x ≡ x
 unfolding root tower_mul
 root_zero-times x fits = one-mul (x % 2) ∙ mod-eq_of_lt fits
 
-pub root_zero-lt : root 0 < 2
-unfolding root
-root_zero-lt = lit< tt
-
 -- every element but 0 is a power of the one
 pub bit_generator : HasFullOrder 1 (tower_mul 0) 1
 unfolding power tower_mul
 bit_generator = (refl, λ e above below. absurd (omega arith))
 
 -- the only Cantor vector is the one
-pub bit_cantor : AreCantorVectors 1 (tower_mul 0) (λ i. 1)
-bit_cantor = record { first = refl; rule = λ i above below. absurd (omega arith) }
+pub bit_cantor : AreEvenCantorVectors 0 (λ i. 1)
+bit_cantor =
+    record {
+      first = refl;
+      below = λ i below. lit< tt;
+      rule = λ i above below. absurd (omega (arith, above, below));
+      even = λ i above below. absurd (omega (arith, above, below));
+    }
+
+-- squaring returns each bit, and only 0 has no inverse
+pub bit_field : IsField 1 (tower_mul 0)
+unfolding squared tower_mul
+bit_field =
+    record {
+      ring = bits_ring;
+      inverses = λ a fits nonzero. (a, fits, bit_times_itself a fits nonzero);
+      squarings_return = λ a. two_cases (λ d. 1 % 2 * d % 2 * (1 % 2 * d % 2) ≡ d) refl refl (a % 2) (bit_lt a);
+    }
+
+pub one_is_nonzero : ◌≢◌ {A = ℕ} 1 0
+one_is_nonzero e = absurd (omega (arith, e))
+
+-- the bits are their own basis
+pub bit_basis : IsBasisOf 0 1 (tower_mul 0) (λ a. a)
+bit_basis =
+    record {
+      below = λ a fits. fits;
+      one_image = refl;
+      sum_image = λ a b. refl;
+      product_image = λ a b. refl;
+      one_to_one = λ a b a_fits b_fits same. same;
+      onto = λ b fits. (b, fits, refl);
+    }
+
+-- x² + x + 1 has no root among them
+pub bit_no_root : (x : ℕ) → bit_xor (bit_xor (tower_mul 0 x x) (tower_mul 0 (root 0) x)) 1 ≢ 0
+unfolding root tower_mul
+bit_no_root x =
+    two_cases (λ d. bit_xor (bit_xor (d * d) (1 % 2 * d)) 1 ≢ 0) (λ e. absurd (omega (arith, e)))
+    (λ e. absurd (omega (arith, e))) (x % 2) (bit_lt x)

@@ -3,7 +3,6 @@ pub mod Bit
 pub mod BitRing
 pub mod Carryless
 pub mod Field
-pub mod Halves
 pub mod LinearMaps
 pub mod Norm
 pub mod Orders
@@ -12,4 +11,5 @@ pub mod Quadratic
 pub mod Remainder
 pub mod Ring
 pub mod Tower
+pub mod TowerBasis
 pub mod TowerField

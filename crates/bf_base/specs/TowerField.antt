@@ -2,7 +2,7 @@
 -- whose root the next level adjoins has no root, and each element but 0 has an inverse (D. Wiedemann, An iterated
 -- quadratic extension of GF(2), Fibonacci Quarterly 26, 1988).
 use Rattle.std.specs.Prelude.{◌≡◌, ◌≢◌, ℕ, zero, suc, ◌%◌, ◌^◌, bit_xor}
-use Rattle.bf_base.specs.Field.{HasInverses}
+use Rattle.bf_base.specs.Field.{HasInverses, IsField}
 use Rattle.bf_base.specs.Quadratic.{pair}
 use Rattle.bf_base.specs.Tower.{root, tower_mul}
 use Rattle.bf_base.specs.Powers.{squared, sum_of_squarings}
@@ -36,3 +36,7 @@ NonzeroHasInverse = (k : ℕ) → HasInverses (2 ^ k) (tower_mul k)
 -- at every level 2 ^ k squarings return the element (Frobenius)
 abbrev pub SquaringsReturn : Type 0
 SquaringsReturn = (k a : ℕ) → squared 1 (tower_mul k) (2 ^ k) a ≡ a % 2 ^ 2 ^ k
+
+-- so every level is a field of 2 ^ 2 ^ k elements
+abbrev pub TowerIsField : Type 0
+TowerIsField = (k : ℕ) → IsField (2 ^ k) (tower_mul k)

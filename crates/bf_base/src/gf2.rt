@@ -1,8 +1,8 @@
 // The field of two elements. A sum is exclusive or, a product is and.
 ghost use Rattle.std.specs.Prelude.{◌≡◌, ◌≢◌, ◌<◌, ◌*◌, ◌%◌, ℕ, ◌↔◌, IsTrue, bit_xor, refl};
-ghost use Rattle.std.proofs.Common.{lit<, rules};
+ghost use Rattle.std.proofs.Common.{lit<, lit≤, rules};
 ghost use Rattle.bf_base.specs.Powers.{sum_of, product_of};
-ghost use Rattle.bf_base.specs.Tower.{root, tower_mul};
+ghost use Rattle.bf_base.specs.Tower.{tower_mul};
 
 use crate::traits::{
     Field, PrimeCharacteristicRing, Represented, Sealed, TowerLevel, product_of_items, sum_of_items,
@@ -239,6 +239,10 @@ impl PrimeCharacteristicRing for Gf2 {
 
     ghost neg_law = { λ x r is. is };
 
+    ghost sum_complete_law = { λ r. tt };
+
+    ghost product_complete_law = { λ r. tt };
+
     ghost can_sum_law = { λ xs. tt };
 
     ghost sum_law = { λ xs r is. is };
@@ -249,7 +253,7 @@ impl PrimeCharacteristicRing for Gf2 {
 }
 
 impl Field for Gf2 {
-    ghost use Rattle.bf_base.specs.BitRing.{bit_squared, bit_generator};
+    ghost use Rattle.bf_base.specs.BitRing.{bit_field, bit_generator, one_is_nonzero};
 
     const GENERATOR: Gf2 = Gf2 { repr: 1 };
 
@@ -267,6 +271,8 @@ impl Field for Gf2 {
         Gf2 { repr: i as u8 }
     }
 
+    ghost generator_nonzero_law = { one_is_nonzero };
+
     ghost generator_law = { λ small. bit_generator };
 
     ghost wide_law = { lit< tt };
@@ -281,13 +287,15 @@ impl Field for Gf2 {
 
     ghost div_assign_law = { λ x y r is. is };
 
-    ghost frobenius_law = { λ x. bit_squared x.repr x.in_range };
+    ghost field_law = { bit_field };
+
+    ghost every_law = { λ n fits. (record { repr = n; in_range = fits }, refl) };
 }
 
 impl Sealed for Gf2 {}
 
 impl TowerLevel for Gf2 {
-    ghost use Rattle.bf_base.specs.BitRing.{bit_cantor, root_zero-lt};
+    ghost use Rattle.bf_base.specs.BitRing.{bit_basis, bit_cantor, bit_no_root};
 
     type Repr = u8;
 
@@ -295,9 +303,7 @@ impl TowerLevel for Gf2 {
 
     ghost LOG_BITS = { 0 };
 
-    ghost number = { λ n. n };
-
-    ghost alpha = { root 0 };
+    ghost basis = { λ a. a };
 
     ghost cantor = { λ i. 1 };
 
@@ -317,9 +323,15 @@ impl TowerLevel for Gf2 {
         Gf2 { repr: 1 }
     }
 
-    ghost cantor_law = { bit_cantor };
-
     ghost bits_law = { refl };
 
-    ghost alpha_law = { root_zero-lt };
+    ghost room_law = { lit≤ tt };
+
+    ghost basis_law = { bit_basis };
+
+    ghost cantor_law = { bit_cantor };
+
+    ghost generator_image_law = { refl };
+
+    ghost no_root_law = { bit_no_root };
 }

@@ -1,10 +1,11 @@
 // Laws of the definitions, as contracts of functions that compute nothing.
 ghost use Rattle.bf_base.specs.Basis.{RootsGiveHomomorphism};
 ghost use Rattle.bf_base.specs.Carryless.{ConvCountsPairs, ConvIsProduct};
+ghost use Rattle.bf_base.specs.Field.{FieldsHaveLaws};
 ghost use Rattle.bf_base.specs.Remainder.{MulModIsRemainder, MulModIsRing, RemIsRemainder, RemainderIsUnique};
 ghost use Rattle.bf_base.specs.Tower.{TowerIsRing};
 ghost use Rattle.bf_base.specs.Powers.{SquaringsArePowers};
-ghost use Rattle.bf_base.specs.TowerField.{TracesAreOne, RootInverse, NoLevelHasARoot, NonzeroHasInverse, SquaringsReturn};
+ghost use Rattle.bf_base.specs.TowerField.{TracesAreOne, RootInverse, NoLevelHasARoot, NonzeroHasInverse, SquaringsReturn, TowerIsField};
 
 /// States that the tower's product is that of a commutative ring of characteristic two at every level.
 pub fn tower_is_ring()
@@ -18,6 +19,13 @@ pub fn tower_is_field()
     ensures no_root { NoLevelHasARoot }
     ensures root_inverses { RootInverse }
     ensures traces { TracesAreOne }
+    ensures field { TowerIsField }
+{}
+
+/// States what holds in every field of characteristic two whose elements are numbers: no zero divisors, one inverse, which
+/// is Fermat's power, and one square root, which is reached by squarings.
+pub fn fields_have_laws()
+    ensures { FieldsHaveLaws }
 {}
 
 /// States that 2^k squarings of an element of level k give the element back.

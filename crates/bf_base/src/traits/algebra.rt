@@ -24,6 +24,9 @@ pub trait Algebra<F: PrimeCharacteristicRing>: PrimeCharacteristicRing
 
     ghost image_product_law: { (a b : ℕ) → a < 2 ^ F.width → b < 2 ^ F.width → image (F.product a b) ≡ Self.product (image a) (image b) };
 
+    // It is one to one.
+    ghost image_injective_law: { (a b : ℕ) → a < 2 ^ F.width → b < 2 ^ F.width → image a ≡ image b → a ≡ b };
+
     // What the conversion and the operators give, the second bound of each name being the one over `F`.
     ghost image_from_law: { (x : F) (r : Self) → Self.From-2.from_gives x r → Self.repr r ≡ image (F.repr x) };
 
@@ -60,6 +63,8 @@ impl<R: PrimeCharacteristicRing> Algebra<R> for R {
     ghost image_sum_law = { λ a b a_fits b_fits. refl };
 
     ghost image_product_law = { λ a b a_fits b_fits. refl };
+
+    ghost image_injective_law = { λ a b a_fits b_fits same. same };
 
     ghost image_from_law = { λ x r is. ap R.repr is };
 

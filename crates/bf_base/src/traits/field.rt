@@ -1,7 +1,7 @@
 // Fields of characteristic two.
 ghost use Rattle.std.specs.Prelude.{◌≡◌, ◌≢◌, ◌↔◌, ◌^◌, ◌<◌, ◌≤◌, ℕ, IsTrue, IsNone, IsSomeAnd, IfSome};
+ghost use Rattle.bf_base.specs.Field.{IsField};
 ghost use Rattle.bf_base.specs.Orders.{HasFullOrder};
-ghost use Rattle.bf_base.specs.Powers.{squared};
 
 use crate::traits::ring::PrimeCharacteristicRing;
 use std::ops::{Div, DivAssign};
@@ -66,6 +66,8 @@ pub trait Field: PrimeCharacteristicRing + Div<Self, Output = Self> + DivAssign<
         requires { i < 2 ^ Self.width }
         ensures { Self.repr result ≡ i };
 
+    ghost generator_nonzero_law: { Self.repr GENERATOR ≢ 0 };
+
     ghost generator_law: { Self.width ≤ 16 → HasFullOrder Self.width Self.product (Self.repr GENERATOR) };
 
     ghost wide_law: { 0 < Self.width };
@@ -80,6 +82,9 @@ pub trait Field: PrimeCharacteristicRing + Div<Self, Output = Self> + DivAssign<
 
     ghost div_assign_law: { (x y r : Self) → Self.div_assign_gives x y r → Self.product (Self.repr r) (Self.repr y) ≡ Self.repr x };
 
-    // As many squarings as an element has bits give it back.
-    ghost frobenius_law: { (x : Self) → squared Self.unit Self.product Self.width (Self.repr x) ≡ Self.repr x };
+    // Each but 0 has an inverse, and as many squarings as an element has bits give it back.
+    ghost field_law: { IsField Self.width Self.product };
+
+    // Every number of as many bits is the representation of an element.
+    ghost every_law: { (n : ℕ) → n < 2 ^ Self.width → (x : Self) × (Self.repr x ≡ n) };
 }

@@ -11,7 +11,7 @@ use std::fmt::Debug;
 use std::iter::{Product, Sum};
 use std::ops::{AddAssign, MulAssign, Neg, Sub, SubAssign};
 
-/// A commutative ring of characteristic two: a field, or a packing of fields.
+/// A commutative ring of characteristic two: a field, or a packing of elements.
 pub trait PrimeCharacteristicRing: Represented
     + Debug
     + Default
@@ -258,6 +258,11 @@ pub trait PrimeCharacteristicRing: Represented
     ghost can_neg_law: { (x : Self) → Self.can_neg x };
 
     ghost neg_law: { (x r : Self) → Self.neg_gives x r → Self.repr r ≡ Self.repr x };
+
+    // The sum and the product of an iterator's elements are of all of them.
+    ghost sum_complete_law: { (r : Self) → Self.Sum.is_complete r };
+
+    ghost product_complete_law: { (r : Self) → Self.Product.is_complete r };
 
     ghost can_sum_law: { (xs : List Self) → Self.can_sum xs };
 

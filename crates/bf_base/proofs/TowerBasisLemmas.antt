@@ -1,0 +1,74 @@
+-- What holds of a level of the tower holds of the field that is the level in another basis.
+use Rattle.std.proofs.Common.{◌≡◌, ◌≢◌, ℕ, zero, suc, ◌%◌, ◌^◌, ◌<◌, ◌≤◌, sym, ◌∙◌, ap, ap₂, arith, lit<}
+use Rattle.std.specs.Prelude.{bit_xor}
+use Rattle.std.proofs.lemmas.Nat.{pow_pos, pow_below, xor_lt}
+use native.Mathlib.Nat.{mod-lt}
+use lib.Bits.{xor_self}
+use Rattle.bf_base.specs.Ring.{IsRing}
+use Rattle.bf_base.specs.Tower.{root, tower_mul}
+use Rattle.bf_base.specs.TowerBasis.{IsBasisOf, tower_generator}
+use Rattle.bf_base.proofs.RingLemmas.{times-mod, mod-times}
+use Rattle.bf_base.proofs.TowerRing.{tower_ring}
+use Rattle.bf_base.proofs.TowerTraces.{tower_no_root}
+
+module _ (k width : ℕ) (times : ℕ → ℕ → ℕ) (basis : ℕ → ℕ) (ring : IsRing width 1 times) (keeps : IsBasisOf k width times basis) where
+  -- the image of 0 is 0, and only that
+  pub basis-zero : basis 0 ≡ 0
+  basis-zero = keeps.sum_image 0 0 ∙ xor_self (basis 0)
+
+  pub basis-nonzero : (a : ℕ) → a < 2 ^ 2 ^ k → basis a ≡ 0 → a ≡ 0
+  basis-nonzero a fits none = keeps.one_to_one a 0 fits (pow_pos (2 ^ k)) (none ∙ sym basis-zero)
+
+  -- the image of an inverse is the inverse of the image
+  pub basis-inverse : (a b : ℕ) → tower_mul k a b ≡ 1 → times (basis a) (basis b) ≡ 1
+  basis-inverse a b inverts = sym (keeps.product_image a b) ∙ ap basis inverts ∙ keeps.one_image
+
+  no_root_image : (a : ℕ) → a < 2 ^ 2 ^ k
+      → bit_xor (bit_xor (times (basis a) (basis a)) (times (basis (root k)) (basis a))) 1 ≢ 0
+  no_root_image a fits none =
+      tower_no_root k a
+      (basis-nonzero (bit_xor (bit_xor (tower_mul k a a) (tower_mul k (root k) a)) 1)
+      (xor_lt (2 ^ k) (bit_xor (tower_mul k a a) (tower_mul k (root k) a)) 1
+      (xor_lt (2 ^ k) (tower_mul k a a) (tower_mul k (root k) a) ((tower_ring k).below a a) ((tower_ring k).below (root k) a))
+      (pow_below 0 (2 ^ k) (pow_pos k)))
+      (keeps.sum_image (bit_xor (tower_mul k a a) (tower_mul k (root k) a)) 1
+      ∙ ap₂ bit_xor
+      (keeps.sum_image (tower_mul k a a) (tower_mul k (root k) a)
+      ∙ ap₂ bit_xor (keeps.product_image a a) (keeps.product_image (root k) a))
+      keeps.one_image
+      ∙ none))
+
+  -- the polynomial whose root the next level adjoins has no root in the field
+  pub basis-no_root : (x : ℕ) → bit_xor (bit_xor (times x x) (times (basis (root k)) x)) 1 ≢ 0
+  basis-no_root x none =
+      let found = keeps.onto (x % 2 ^ width) (mod-lt x (pow_pos width)) in
+      no_root_image found.0 found.1
+      (ap (λ (y : ℕ). bit_xor (bit_xor (times y y) (times (basis (root k)) y)) 1) found.2
+      ∙ ap₂ (λ (y z : ℕ). bit_xor (bit_xor y z) 1)
+      (times-mod width 1 times ring (x % 2 ^ width) x ∙ mod-times width 1 times ring x x)
+      (times-mod width 1 times ring (basis (root k)) x)
+      ∙ none)
+
+-- ---- the generators
+
+-- a property of each of the eight levels
+eight_levels : (P : ℕ → Type 0) → P 0 → P 1 → P 2 → P 3 → P 4 → P 5 → P 6 → P 7 → (k : ℕ) → k ≤ 7 → P k
+eight_levels P p0 p1 p2 p3 p4 p5 p6 p7 zero few = p0
+eight_levels P p0 p1 p2 p3 p4 p5 p6 p7 (suc zero) few = p1
+eight_levels P p0 p1 p2 p3 p4 p5 p6 p7 (suc (suc zero)) few = p2
+eight_levels P p0 p1 p2 p3 p4 p5 p6 p7 (suc (suc (suc zero))) few = p3
+eight_levels P p0 p1 p2 p3 p4 p5 p6 p7 (suc (suc (suc (suc zero)))) few = p4
+eight_levels P p0 p1 p2 p3 p4 p5 p6 p7 (suc (suc (suc (suc (suc zero))))) few = p5
+eight_levels P p0 p1 p2 p3 p4 p5 p6 p7 (suc (suc (suc (suc (suc (suc zero)))))) few = p6
+eight_levels P p0 p1 p2 p3 p4 p5 p6 p7 (suc (suc (suc (suc (suc (suc (suc zero))))))) few = p7
+eight_levels P p0 p1 p2 p3 p4 p5 p6 p7 (suc (suc (suc (suc (suc (suc (suc (suc k)))))))) few = absurd (omega (arith, few))
+
+pub generator_lt : (k : ℕ) → k ≤ 7 → tower_generator k < 2 ^ 2 ^ k
+generator_lt =
+    eight_levels (λ k. tower_generator k < 2 ^ 2 ^ k) (lit< tt) (lit< tt) (lit< tt) (lit< tt) (lit< tt) (lit< tt) (lit< tt) (lit< tt)
+
+pub generator_nonzero : (k : ℕ) → k ≤ 7 → tower_generator k ≢ 0
+generator_nonzero =
+    eight_levels (λ k. tower_generator k ≢ 0) (λ e. absurd (omega (arith, e))) (λ e. absurd (omega (arith, e)))
+    (λ e. absurd (omega (arith, e))) (λ e. absurd (omega (arith, e))) (λ e. absurd (omega (arith, e)))
+    (λ e. absurd (omega (arith, e))) (λ e. absurd (omega (arith, e))) (λ e. absurd (omega (arith, e)))
