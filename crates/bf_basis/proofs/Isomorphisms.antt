@@ -1,7 +1,8 @@
 -- The changes of basis at 8, 64 and 128 bits are isomorphisms, and the tables compute them and their inverses.
 use Rattle.std.proofs.Common.{◌≡◌, ℕ, ◌+◌, ◌*◌, ◌/◌, ◌^◌, ◌<◌, true, List, length, length-append, refl, sym, ◌∙◌, ap, ap₂, lit<}
 use Rattle.std.specs.Prelude.{bit_and, bit_xor, slice_index}
-use Rattle.bf_base.specs.Basis.{basis_image, AreRoots, IsHomomorphism, IsIsomorphism, IsFieldOfPolynomials, aes_images, poly64_images, ghash_images}
+use Rattle.bf_base.specs.Basis.{basis_image, AreRoots, IsHomomorphism, IsIsomorphism, aes_images, poly64_images, ghash_images}
+use Rattle.bf_base.specs.Field.{IsField}
 use Rattle.bf_base.specs.Remainder.{HasDegree, mul_mod, aes_modulus, poly64_modulus, ghash_modulus}
 use Rattle.bf_base.proofs.AdditiveMaps.{agree_on_powers-true}
 use Rattle.bf_base.proofs.BasisColumns.{apply, level_columns, length-level_columns}
@@ -36,7 +37,7 @@ module _ (width modulus : ℕ) (wide : 0 < width) (degree : HasDegree width modu
   pub isomorphic : IsIsomorphism (length images) width modulus images
   isomorphic = isomorphism width modulus wide degree images keeps inverse_columns at_powers
 
-  pub field_of : 2 ^ length images ≡ width → IsFieldOfPolynomials width modulus
+  pub field_of : 2 ^ length images ≡ width → IsField width (mul_mod width modulus)
   field_of whole = isomorphic-field width modulus wide degree images isomorphic whole
 
   pub undone : (b : ℕ) → b < 2 ^ width → basis_image width modulus images (apply inverse_columns b) ≡ b
@@ -59,7 +60,7 @@ tabled rows columns table x of_table whole =
 pub isomorphic_8 : IsIsomorphism 3 8 aes_modulus aes_images
 isomorphic_8 = isomorphic 8 aes_modulus (lit< tt) refl aes_images roots_8 inverse_columns_8 undoes_8
 
-pub field_8 : IsFieldOfPolynomials 8 aes_modulus
+pub field_8 : IsField 8 (mul_mod 8 aes_modulus)
 field_8 = field_of 8 aes_modulus (lit< tt) refl aes_images roots_8 inverse_columns_8 undoes_8 refl
 
 pub image_8 : (x : ℕ) → sum_of_entries 2 TO_POLYNOMIAL_8 x ≡ basis_image 8 aes_modulus aes_images x
@@ -81,7 +82,7 @@ only_8 = only 8 aes_modulus (lit< tt) refl aes_images roots_8 inverse_columns_8 
 pub isomorphic_64 : IsIsomorphism 6 64 poly64_modulus poly64_images
 isomorphic_64 = isomorphic 64 poly64_modulus (lit< tt) refl poly64_images roots_64 inverse_columns_64 undoes_64
 
-pub field_64 : IsFieldOfPolynomials 64 poly64_modulus
+pub field_64 : IsField 64 (mul_mod 64 poly64_modulus)
 field_64 = field_of 64 poly64_modulus (lit< tt) refl poly64_images roots_64 inverse_columns_64 undoes_64 refl
 
 pub image_64 : (x : ℕ) → sum_of_entries 16 TO_POLYNOMIAL_64 x ≡ basis_image 64 poly64_modulus poly64_images x
@@ -105,7 +106,7 @@ only_64 = only 64 poly64_modulus (lit< tt) refl poly64_images roots_64 inverse_c
 pub isomorphic_128 : IsIsomorphism 7 128 ghash_modulus ghash_images
 isomorphic_128 = isomorphic 128 ghash_modulus (lit< tt) refl ghash_images roots_128 inverse_columns_128 undoes_128
 
-pub field_128 : IsFieldOfPolynomials 128 ghash_modulus
+pub field_128 : IsField 128 (mul_mod 128 ghash_modulus)
 field_128 = field_of 128 ghash_modulus (lit< tt) refl ghash_images roots_128 inverse_columns_128 undoes_128 refl
 
 pub image_128 : (x a b : ℕ) → a ≡ sum_of_entries 16 TO_POLYNOMIAL_128_LOW (bit_and x 0xffff_ffff_ffff_ffff)

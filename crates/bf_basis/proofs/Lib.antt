@@ -3,3 +3,4 @@ pub mod Isomorphisms
 pub mod NibbleTables
 pub mod TableFacts
 pub mod TabledMaps
+pub mod RootImages

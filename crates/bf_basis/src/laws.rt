@@ -1,13 +1,14 @@
 // Laws of the changes of basis, as contracts of functions that compute nothing.
-ghost use Rattle.bf_base.specs.Basis.{aes_images, AreRoots, ghash_images, IsFieldOfPolynomials, IsIsomorphism, poly64_images};
-ghost use Rattle.bf_base.specs.Remainder.{aes_modulus, ghash_modulus, poly64_modulus};
+ghost use Rattle.bf_base.specs.Basis.{aes_images, AreRoots, ghash_images, IsIsomorphism, poly64_images};
+ghost use Rattle.bf_base.specs.Field.{IsField};
+ghost use Rattle.bf_base.specs.Remainder.{aes_modulus, ghash_modulus, mul_mod, poly64_modulus};
 
 /// States that the change of basis at 8 bits is an isomorphism, so that the polynomials modulo x^8 + x^4 + x^3 + x + 1 are
 /// a field.
 pub fn isomorphism_8()
     ensures roots { AreRoots 8 aes_modulus aes_images }
     ensures isomorphism { IsIsomorphism 3 8 aes_modulus aes_images }
-    ensures field { IsFieldOfPolynomials 8 aes_modulus }
+    ensures field { IsField 8 (mul_mod 8 aes_modulus) }
 {}
 
 /// States that the change of basis at 64 bits is an isomorphism, so that the polynomials modulo x^64 + x^4 + x^3 + x + 1 are
@@ -15,7 +16,7 @@ pub fn isomorphism_8()
 pub fn isomorphism_64()
     ensures roots { AreRoots 64 poly64_modulus poly64_images }
     ensures isomorphism { IsIsomorphism 6 64 poly64_modulus poly64_images }
-    ensures field { IsFieldOfPolynomials 64 poly64_modulus }
+    ensures field { IsField 64 (mul_mod 64 poly64_modulus) }
 {}
 
 /// States that the change of basis at 128 bits is an isomorphism, so that the polynomials modulo
@@ -23,5 +24,5 @@ pub fn isomorphism_64()
 pub fn isomorphism_128()
     ensures roots { AreRoots 128 ghash_modulus ghash_images }
     ensures isomorphism { IsIsomorphism 7 128 ghash_modulus ghash_images }
-    ensures field { IsFieldOfPolynomials 128 ghash_modulus }
+    ensures field { IsField 128 (mul_mod 128 ghash_modulus) }
 {}

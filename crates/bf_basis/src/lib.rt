@@ -10,8 +10,6 @@ mod laws;
 mod linear;
 mod literals;
 mod slices;
-#[cfg(test)]
-mod tests;
 
 pub use crate::basis::{
     to_polynomial_8, to_polynomial_64, to_polynomial_128, to_tower_8, to_tower_64, to_tower_128,

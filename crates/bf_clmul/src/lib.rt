@@ -10,8 +10,6 @@ mod modular;
 mod product;
 mod root;
 mod square;
-#[cfg(test)]
-mod tests;
 
 pub use crate::fold::{reduce_64, reduce_128};
 pub use crate::laws::{carry_isolation, class_is_places};

@@ -1,4 +1,4 @@
-pub mod AdjoinedRoots
+pub mod GeneratorImages
 pub mod ByteTables
 pub mod CantorVectors
 pub mod LinearMaps

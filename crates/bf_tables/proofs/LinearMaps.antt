@@ -1,13 +1,12 @@
 -- Additive maps by their columns and by tables: two additive maps that agree at the powers of two agree, and the value of
 -- an additive map at a number is the sum of its values at the number's parts.
-use Rattle.std.proofs.Common.{◌≡◌, ℕ, zero, suc, ◌+◌, ◌*◌, ◌/◌, ◌%◌, ◌^◌, ◌<◌, ◌≤◌, Bool, eqb, true, List, [], ◌∷◌, length, drop, get_or, refl, sym, ◌∙◌, ap, ap₂, arith, lit<}
+use Rattle.std.proofs.Common.{◌≡◌, ℕ, zero, suc, ◌+◌, ◌*◌, ◌/◌, ◌%◌, ◌^◌, ◌<◌, ◌≤◌, Bool, eqb, true, List, [], ◌∷◌, length, get_or, refl, sym, ◌∙◌, ap, ap₂, arith, lit<}
 use Rattle.std.specs.Prelude.{bit_xor, slice_index}
 use Rattle.std.proofs.lemmas.Bool.{and_from, and_parts, eq-eqb, eqb-true}
 use Rattle.std.proofs.lemmas.Nat.{xor_comm, pow_pos, shr_split, div-add-mod', mod-pow-add}
 use native.Mathlib.Nat.{mod-lt, mod-eq_of_lt, zero-mul, one-mul, pow-suc}
 use native.Mathlib.Numerals.{add-one}
-use lib.Bits.{xor_assoc, xor_self, xor_shifted, xor_zero_l, xor_zero_r}
-use Rattle.std.proofs.lemmas.List.{drop_all, drop_more}
+use lib.Bits.{xor_self, xor_shifted}
 use Rattle.bf_base.specs.BitRing.{two_cases}
 use Rattle.bf_tables.specs.Linear.{apply, sum_of_entries, IsAdditive, AgreeAtPowers, ColumnsGiveTheMap}
 use Rattle.bf_tables.proofs.TableChecks.{passes, passes_at}
@@ -177,20 +176,3 @@ unfolding sum_of_entries
 sum_of_entries_more n table x sum so_far =
     ap (λ (s : ℕ). bit_xor s (slice_index table (256 * n + x / 2 ^ (8 * n) % 256))) so_far
     ∙ ap (λ (k : ℕ). sum_of_entries k table x) (sym (add-one n))
-
--- the loop over the columns: what is summed and what the columns left give at the bits left is the whole
-pub apply_start : (columns : List ℕ) (x : ℕ) → bit_xor 0 (apply columns x) ≡ apply columns x
-apply_start columns x = xor_zero_l (apply columns x)
-
-pub apply_step : (columns : List ℕ) (i sum rest : ℕ) → i < length columns
-    → bit_xor (bit_xor sum (rest % 2 * get_or columns i 0)) (apply (drop (i + 1) columns) (rest / 2))
-    ≡ bit_xor sum (apply (drop i columns) rest)
-unfolding apply
-apply_step columns i sum rest inside =
-    xor_assoc sum (rest % 2 * get_or columns i 0) (apply (drop (i + 1) columns) (rest / 2))
-    ∙ ap (λ (cs : List ℕ). bit_xor sum (apply cs rest)) (sym (drop_more columns i 0 inside))
-
-pub apply_end : (columns : List ℕ) (i sum rest : ℕ) → length columns ≤ i → bit_xor sum (apply (drop i columns) rest) ≡ sum
-unfolding apply
-apply_end columns i sum rest done =
-    ap (λ (cs : List ℕ). bit_xor sum (apply cs rest)) (drop_all i columns done) ∙ xor_zero_r sum

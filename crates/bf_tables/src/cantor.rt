@@ -4,7 +4,7 @@ ghost use Rattle.bf_tables.specs.Cantor.{cantor_vector, AreEven, FirstIsOne, Lie
 
 mod literals;
 
-/// Cantor vector `i`: 1 for `i` = 0, and else the even v with v² + v = vector `i` - 1. The first 2^k are a basis of the
+/// Cantor vector `i`: 1 for `i` = 0, and else the even v with v² + v = vector `i` - 1. The first 2^k are elements of the
 /// tower's level k.
 #[inline]
 pub fn cantor_vector(i: usize) -> u128

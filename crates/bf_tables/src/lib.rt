@@ -1,28 +1,17 @@
-//! Tables of powers and logarithms of the tower's 8-bit level, its linear maps on words up to 128 bits, and the Cantor
+//! Tables of powers and logarithms of the tower's 8-bit level, its linear maps on words up to 64 bits, and the Cantor
 //! vectors. Everything here is over words; the types of the fields stand in other crates.
 #![tactic(auto)]
 
-mod adjoined;
 mod cantor;
 mod columns;
 mod generators;
 mod linear;
 mod tables;
-mod words;
 
-pub use crate::adjoined::{
-    conjugate_16, conjugate_32, conjugate_64, conjugate_128, divide_by_root_64,
-    multiply_by_root_16, multiply_by_root_32, multiply_by_root_64, multiply_by_root_128,
-};
 pub use crate::cantor::{cantor_vector, cantor_vectors_are_solutions};
-pub use crate::columns::{apply_columns_64, apply_columns_128, columns_give_maps};
-pub use crate::generators::{generator, generators_have_full_order};
-pub use crate::linear::{
-    sqrt_16, sqrt_32, sqrt_64, sqrt_128, square_16, square_32, square_64, square_128,
-};
+pub use crate::columns::columns_give_maps;
+pub use crate::generators::generators_have_full_order;
+pub use crate::linear::{sqrt_16, sqrt_32, sqrt_64, square_16, square_32, square_64};
 pub use crate::tables::{
     invert_8, multiply_8, multiply_by_root_8, sqrt_8, square_8, tables_are_powers,
 };
-
-#[cfg(test)]
-mod tests;

@@ -1,15 +1,11 @@
-// Squares and square roots of wide elements of the tower. Both are additive, so up to 64 bits the value at a number is
-// the sum of one table entry for each of its bytes. At 128 bits, where such tables would take 64 KB each and gain nothing,
-// the value is computed from those of the halves.
+// Squares and square roots of elements of the tower of 16 to 64 bits. Both are additive, so the value at a number is the sum
+// of one table entry for each of its bytes. At 128 bits such tables would take 64 KB each and gain nothing.
 ghost use Rattle.std.specs.Prelude.{◌≡◌};
 ghost use Rattle.bf_base.specs.Tower.{tower_mul};
 ghost use Rattle.bf_tables.specs.Linear.{sum_of_entries};
 
 mod roots;
 mod squares;
-
-use crate::adjoined::{divide_by_root_64, multiply_by_root_64};
-use crate::words::join_64;
 
 // The sum of the entries of a table at the two bytes of a number, where byte j has the entries from 256 j on.
 #[inline]
@@ -74,16 +70,6 @@ pub fn square_64(x: u64) -> u64
     sum_of_entries_64(&squares::SQUARES_64, x)
 }
 
-/// The square of an element of GF(2^128), level 7 of the tower: (a0 + a1 X)² = (a0² + a1²) + t a1² X.
-#[inline]
-pub fn square_128(x: u128) -> u128
-    ensures { result ≡ tower_mul 7 x x }
-{
-    let low = square_64((x % 0x1_0000_0000_0000_0000) as u64);
-    let high = square_64((x / 0x1_0000_0000_0000_0000) as u64);
-    join_64(low ^ high, multiply_by_root_64(high))
-}
-
 /// The square root of an element of GF(2^16). Every element has one.
 #[inline]
 pub fn sqrt_16(x: u16) -> u16
@@ -106,15 +92,4 @@ pub fn sqrt_64(x: u64) -> u64
     ensures { tower_mul 6 result result ≡ x }
 {
     sum_of_entries_64(&roots::ROOTS_64, x)
-}
-
-/// The square root of an element of GF(2^128). Every element has one: a0 + a1 X is the square of r0 + r1 X where r1² is
-/// a1 / t and r0² is a0 + a1 / t.
-#[inline]
-pub fn sqrt_128(x: u128) -> u128
-    ensures { tower_mul 7 result result ≡ x }
-{
-    let low = (x % 0x1_0000_0000_0000_0000) as u64;
-    let quotient = divide_by_root_64((x / 0x1_0000_0000_0000_0000) as u64);
-    join_64(sqrt_64(low ^ quotient), sqrt_64(quotient))
 }
