@@ -1,0 +1,109 @@
+-- Products, quotients by the root, inverses and square roots of a level from the halves of the operands, in the forms in
+-- which they are computed: what is computed is named by what it is equal to.
+use Rattle.std.proofs.Common.{◌≡◌, ◌≢◌, ℕ, suc, ◌/◌, ◌%◌, ◌^◌, ◌<◌, sym, ◌∙◌, ap, ap₂, subst, arith}
+use Rattle.std.specs.Prelude.{bit_xor}
+use Rattle.std.proofs.lemmas.Nat.{xor_lt}
+use native.Mathlib.Nat.{mod-eq_of_lt, pow-suc}
+use lib.Bits.{xor_assoc, xor_self, xor_zero_r}
+use Rattle.bf_base.specs.Norm.{conjugate, norm}
+use Rattle.bf_base.specs.Powers.{squared}
+use Rattle.bf_base.specs.Quadratic.{low_half, high_half, pair}
+use Rattle.bf_base.specs.Tower.{root, tower_mul}
+use Rattle.bf_base.proofs.Norms.{norm-of_zero}
+use Rattle.bf_base.proofs.QuadraticProducts.{pair-low}
+use Rattle.bf_base.proofs.QuadraticRing.{low_half-lt, high_half-lt, low_half-pair, high_half-pair, pair-halves, pair-lt}
+use Rattle.bf_base.proofs.RingLemmas.{times-zero}
+use Rattle.bf_base.proofs.TowerFrobenius.{tower_squared-half}
+use Rattle.bf_base.proofs.TowerInverse.{tower_norm-lt, tower_norm-zero, tower_mul-conjugate_over_norm}
+use Rattle.bf_base.proofs.TowerProducts.{tower_mul-square, tower_mul-root_suc}
+use Rattle.bf_base.proofs.TowerRing.{tower_ring, bits_double}
+
+-- ---- what is an element
+
+pub product_lt : (k a b r : ℕ) → r ≡ tower_mul k a b → r < 2 ^ 2 ^ k
+product_lt k a b r is = subst (λ (x : ℕ). x < 2 ^ 2 ^ k) (sym is) ((tower_ring k).below a b)
+
+pub sum_lt : (k a b r : ℕ) → a < 2 ^ 2 ^ k → b < 2 ^ 2 ^ k → r ≡ bit_xor a b → r < 2 ^ 2 ^ k
+sum_lt k a b r a_fits b_fits is = subst (λ (x : ℕ). x < 2 ^ 2 ^ k) (sym is) (xor_lt (2 ^ k) a b a_fits b_fits)
+
+pub low_lt : (k a r : ℕ) → r ≡ low_half (2 ^ k) a → r < 2 ^ 2 ^ k
+low_lt k a r is = subst (λ (x : ℕ). x < 2 ^ 2 ^ k) (sym is) (low_half-lt (2 ^ k) a)
+
+pub high_lt : (k a r : ℕ) → r ≡ high_half (2 ^ k) a → r < 2 ^ 2 ^ k
+high_lt k a r is = subst (λ (x : ℕ). x < 2 ^ 2 ^ k) (sym is) (high_half-lt (2 ^ k) a)
+
+pub norm_is_element : (k a r : ℕ) → r ≡ norm (2 ^ k) (tower_mul k) (root k) a → r < 2 ^ 2 ^ k
+norm_is_element k a r is = subst (λ (x : ℕ). x < 2 ^ 2 ^ k) (sym is) (tower_norm-lt k a)
+
+pub joined_lt : (k low high r : ℕ) → low < 2 ^ 2 ^ k → high < 2 ^ 2 ^ k → r ≡ pair (2 ^ k) low high → r < 2 ^ 2 ^ suc k
+joined_lt k low high r low_fits high_fits is =
+    subst (λ (x : ℕ). x < 2 ^ 2 ^ suc k) (sym is)
+    (subst (λ (w : ℕ). pair (2 ^ k) low high < 2 ^ w) (bits_double k) (pair-lt (2 ^ k) low high low_fits high_fits))
+
+-- ---- quotients by the root, roots and inverses
+
+whole : (k a : ℕ) → a < 2 ^ 2 ^ suc k → pair (2 ^ k) (low_half (2 ^ k) a) (high_half (2 ^ k) a) ≡ a
+whole k a fits = pair-halves (2 ^ k) a ∙ ap (λ (w : ℕ). a % 2 ^ w) (bits_double k) ∙ mod-eq_of_lt fits
+
+-- X ((a1 + t a0) + a0 X) = a0 + a1 X
+pub root_quotient : (k a : ℕ) → a < 2 ^ 2 ^ suc k
+    → tower_mul (suc k) (root (suc k))
+    (pair (2 ^ k) (bit_xor (high_half (2 ^ k) a) (tower_mul k (root k) (low_half (2 ^ k) a))) (low_half (2 ^ k) a))
+    ≡ a
+root_quotient k a fits =
+    let r = tower_mul k (root k) (low_half (2 ^ k) a) in
+    let high_fits = xor_lt (2 ^ k) (high_half (2 ^ k) a) r (high_half-lt (2 ^ k) a) ((tower_ring k).below (root k) (low_half (2 ^ k) a)) in
+    tower_mul-root_suc k (pair (2 ^ k) (bit_xor (high_half (2 ^ k) a) r) (low_half (2 ^ k) a))
+    ∙ ap₂ (λ (x y : ℕ). pair (2 ^ k) y (bit_xor x (tower_mul k (root k) y)))
+    (low_half-pair (2 ^ k) (bit_xor (high_half (2 ^ k) a) r) (low_half (2 ^ k) a) high_fits)
+    (high_half-pair (2 ^ k) (bit_xor (high_half (2 ^ k) a) r) (low_half (2 ^ k) a) high_fits (low_half-lt (2 ^ k) a))
+    ∙ ap (pair (2 ^ k) (low_half (2 ^ k) a))
+    (xor_assoc (high_half (2 ^ k) a) r r ∙ ap (bit_xor (high_half (2 ^ k) a)) (xor_self r) ∙ xor_zero_r (high_half (2 ^ k) a))
+    ∙ whole k a fits
+
+-- a0 + a1 X is the square of r0 + r1 X where r1² is the quotient q of a1 by t, and r0² is a0 + q
+pub root_of_halves : (k a q r0 r1 : ℕ) → a < 2 ^ 2 ^ suc k → r0 < 2 ^ 2 ^ k → r1 < 2 ^ 2 ^ k
+    → tower_mul k (root k) q ≡ high_half (2 ^ k) a
+    → tower_mul k r0 r0 ≡ bit_xor (low_half (2 ^ k) a) q → tower_mul k r1 r1 ≡ q
+    → tower_mul (suc k) (pair (2 ^ k) r0 r1) (pair (2 ^ k) r0 r1) ≡ a
+root_of_halves k a q r0 r1 fits low_fits high_fits quotient low_square high_square =
+    tower_mul-square k (pair (2 ^ k) r0 r1)
+    ∙ ap₂ (λ (x y : ℕ). pair (2 ^ k) (bit_xor (tower_mul k x x) (tower_mul k y y)) (tower_mul k (root k) (tower_mul k y y)))
+    (low_half-pair (2 ^ k) r0 r1 low_fits) (high_half-pair (2 ^ k) r0 r1 low_fits high_fits)
+    ∙ ap₂ (λ (x y : ℕ). pair (2 ^ k) (bit_xor x y) (tower_mul k (root k) y)) low_square high_square
+    ∙ ap₂ (pair (2 ^ k))
+    (xor_assoc (low_half (2 ^ k) a) q q ∙ ap (bit_xor (low_half (2 ^ k) a)) (xor_self q) ∙ xor_zero_r (low_half (2 ^ k) a)) quotient
+    ∙ whole k a fits
+
+-- of 0 the inverse of the norm is 0, and so are both halves
+pub inverse_of_zero : (k a norm' over_norm x y r : ℕ) → norm' ≡ norm (2 ^ k) (tower_mul k) (root k) a
+    → (norm' ≡ 0 → over_norm ≡ 0) → r ≡ pair (2 ^ k) (tower_mul k x over_norm) (tower_mul k y over_norm) → a ≡ 0 → r ≡ 0
+inverse_of_zero k a norm' over_norm x y r is_norm zero_over is_pair zero =
+    let ring = tower_ring k in
+    let none =
+    zero_over (is_norm ∙ ap (norm (2 ^ k) (tower_mul k) (root k)) zero ∙ norm-of_zero (2 ^ k) (tower_mul k) ring (root k)) in
+    is_pair ∙ ap (λ (n : ℕ). pair (2 ^ k) (tower_mul k x n) (tower_mul k y n)) none
+    ∙ ap₂ (pair (2 ^ k)) (times-zero (2 ^ k) 1 (tower_mul k) ring x) (times-zero (2 ^ k) 1 (tower_mul k) ring y)
+    ∙ pair-low (2 ^ k) 0
+
+pub inverse_of_nonzero : (k a norm' over_norm r : ℕ) → a < 2 ^ 2 ^ suc k → norm' ≡ norm (2 ^ k) (tower_mul k) (root k) a
+    → (norm' ≢ 0 → tower_mul k norm' over_norm ≡ 1)
+    → r ≡ pair (2 ^ k)
+    (tower_mul k (bit_xor (low_half (2 ^ k) a) (tower_mul k (root k) (high_half (2 ^ k) a))) over_norm)
+    (tower_mul k (high_half (2 ^ k) a) over_norm)
+    → a ≢ 0 → tower_mul (suc k) a r ≡ 1
+inverse_of_nonzero k a norm' over_norm r fits is_norm inverts is_pair nonzero =
+    ap (tower_mul (suc k) a) is_pair
+    ∙ tower_mul-conjugate_over_norm k a over_norm
+    (ap (λ (n : ℕ). tower_mul k n over_norm) (sym is_norm)
+    ∙ inverts (λ none. nonzero (tower_norm-zero k a fits (sym is_norm ∙ none))))
+
+-- ---- the level by its number
+
+-- half as many squarings as the level has bits conjugate
+pub conjugate_is_squarings : (n k a r : ℕ) → n ≡ suc k → r ≡ conjugate (2 ^ k) (tower_mul k) (root k) a
+    → r ≡ squared 1 (tower_mul n) (2 ^ n / 2) a
+conjugate_is_squarings n k a r next is =
+    let half : 2 ^ suc k / 2 ≡ 2 ^ k = omega (arith, pow-suc 2 k) in
+    is ∙ sym (tower_squared-half k a) ∙ ap (λ (m : ℕ). squared 1 (tower_mul (suc k)) m a) (sym half)
+    ∙ ap (λ (m : ℕ). squared 1 (tower_mul m) (2 ^ m / 2) a) (sym next)

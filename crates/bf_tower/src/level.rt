@@ -1,0 +1,67 @@
+// What differs between the levels of the tower.
+ghost use Rattle.std.specs.Prelude.{◌≡◌, ◌≢◌, ◌<◌, ◌≤◌, ◌^◌, ◌%◌, ◌/◌, ℕ};
+ghost use Rattle.bf_base.specs.Powers.{squared};
+ghost use Rattle.bf_base.specs.Tower.{root, tower_mul};
+ghost use Rattle.bf_base.specs.TowerBasis.{tower_generator};
+
+use bf_base::Unsigned;
+
+/// A level of the tower, by its arithmetic on words. An element of level k is a word whose number has 2^k bits. Functions
+/// that give a product read those bits of their operands alone.
+pub trait Level<R: Unsigned> {
+    /// The name of the type of the level's elements.
+    const NAME: &'static str;
+
+    /// The number of the level, which is the binary logarithm of its bits.
+    const LEVEL: usize;
+
+    ghost LEVEL: { ℕ };
+
+    /// An element of which every element but 0 is a power.
+    const GENERATOR: R;
+
+    ghost GENERATOR: { R };
+
+    ghost few: { LEVEL ≤ 7 };
+
+    /// The word without its bits above the level.
+    fn truncate(x: R) -> R
+        ensures { R.number result ≡ R.number x % 2 ^ 2 ^ LEVEL };
+
+    /// The product.
+    fn multiply(x: R, y: R) -> R
+        ensures { R.number result ≡ tower_mul LEVEL (R.number x) (R.number y) };
+
+    /// The product by its definition, which is by products of the level below.
+    fn reference_multiply(x: R, y: R) -> R
+        ensures { R.number result ≡ tower_mul LEVEL (R.number x) (R.number y) };
+
+    /// The square.
+    fn square(x: R) -> R
+        ensures { R.number result ≡ tower_mul LEVEL (R.number x) (R.number x) };
+
+    /// The product by the root that the level adjoins.
+    fn multiply_by_root(x: R) -> R
+        ensures { R.number result ≡ tower_mul LEVEL (root LEVEL) (R.number x) };
+
+    /// The conjugate over the level below: the element squared half as many times as it has bits.
+    fn conjugate(x: R) -> R
+        ensures { R.number result ≡ squared 1 (tower_mul LEVEL) (2 ^ LEVEL / 2) (R.number x) };
+
+    /// The inverse of an element, by which the product is 1, and 0 for 0.
+    fn invert(x: R) -> R
+        requires { R.number x < 2 ^ 2 ^ LEVEL }
+        ensures fits { R.number result < 2 ^ 2 ^ LEVEL }
+        ensures zero { R.number x ≡ 0 → R.number result ≡ 0 }
+        ensures inverse { R.number x ≢ 0 → tower_mul LEVEL (R.number x) (R.number result) ≡ 1 };
+
+    /// The square root of an element, whose square is the element.
+    fn sqrt(x: R) -> R
+        requires { R.number x < 2 ^ 2 ^ LEVEL }
+        ensures fits { R.number result < 2 ^ 2 ^ LEVEL }
+        ensures root { tower_mul LEVEL (R.number result) (R.number result) ≡ R.number x };
+
+    ghost room_law: { 2 ^ LEVEL ≤ R.bits };
+
+    ghost generator_is: { GENERATOR ≡ R.of_number (tower_generator LEVEL) };
+}

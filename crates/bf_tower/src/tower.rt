@@ -1,0 +1,135 @@
+// The kernel of every level.
+ghost use Rattle.std.specs.Prelude.{◌≡◌, ◌<◌, ◌≤◌, ◌%◌, ◌/◌, ◌^◌, ℕ, refl};
+ghost use Rattle.std.proofs.lemmas.Nat.{pow_pos};
+ghost use native.Mathlib.Nat.{mod-lt};
+ghost use Rattle.bf_base.specs.Tower.{root, tower_mul};
+ghost use Rattle.bf_base.specs.TowerBasis.{tower_generator};
+ghost use Rattle.bf_base.proofs.TowerBasisLemmas.{generator_lt, generator_nonzero};
+ghost use Rattle.bf_base.proofs.TowerLaws.{tower_basis, tower_field};
+ghost use Rattle.bf_tables.specs.Cantor.{cantor_vector};
+ghost use Rattle.bf_tables.proofs.LevelLaws.{at_most_four, level_cantor, level_generator};
+
+use crate::level::Level;
+use bf_base::{Kernel, LevelKernel, Unsigned};
+use bf_tables::cantor_vector;
+use std::marker::PhantomData;
+
+/// The field that the level `L` of the tower is.
+pub struct Tower<L>(PhantomData<L>);
+
+impl<R: Unsigned, L: Level<R>> Kernel<R> for Tower<L> {
+    ghost width = { 2 ^ L.LEVEL };
+
+    ghost product = { tower_mul L.LEVEL };
+
+    ghost generator = { tower_generator L.LEVEL };
+
+    const NAME: &'static str = L::NAME;
+
+    const GENERATOR: R = L::GENERATOR;
+
+    ghost GENERATOR = { L.GENERATOR };
+
+    // Products are elements, so that the low word holds a sum of them.
+    ghost reduced = { λ low high. R.number low % 2 ^ 2 ^ L.LEVEL };
+
+    ghost field_law = { tower_field L.LEVEL };
+
+    ghost wide_law = { pow_pos L.LEVEL };
+
+    ghost generator_fits = { generator_lt L.LEVEL L.few };
+
+    #[inline]
+    fn bits() -> usize {
+        1 << L::LEVEL
+    }
+
+    #[inline]
+    fn truncate(x: R) -> R {
+        L::truncate(x)
+    }
+
+    #[inline]
+    fn multiply(x: R, y: R) -> R {
+        L::multiply(x, y)
+    }
+
+    #[inline]
+    fn square(x: R) -> R {
+        L::square(x)
+    }
+
+    #[inline]
+    fn invert(x: R) -> R {
+        L::invert(x)
+    }
+
+    #[inline]
+    fn sqrt(x: R) -> R {
+        L::sqrt(x)
+    }
+
+    // The count is reduced by the bits, and one conjugation is half of them.
+    #[inline]
+    fn reduce_squarings(x: R, count: usize) -> (R, usize) {
+        let bits = Self::bits();
+        let rest = count % bits;
+        if rest < bits / 2 {
+            (x, rest)
+        } else {
+            (L::conjugate(x), rest - bits / 2)
+        }
+    }
+
+    #[inline]
+    fn no_products() -> (R, R) {
+        (R::ZERO, R::ZERO)
+    }
+
+    #[inline]
+    fn add_product(low: R, high: R, x: R, y: R) -> (R, R) {
+        (low.xor(L::multiply(x, y)), high)
+    }
+
+    #[inline]
+    fn reduce_sum(low: R, _high: R) -> R {
+        L::truncate(low)
+    }
+
+    ghost room_law = { L.room_law };
+
+    ghost reduced_fits = { λ low high. mod-lt (R.number low) (pow_pos (2 ^ L.LEVEL)) };
+
+    ghost generator_is = { L.generator_is };
+
+    ghost generator_nonzero = { generator_nonzero L.LEVEL L.few };
+
+    ghost generator_law = { λ small. level_generator L.LEVEL (at_most_four L.LEVEL small) };
+}
+
+impl<R: Unsigned, L: Level<R>> LevelKernel<R> for Tower<L> {
+    ghost basis = { λ a. a };
+
+    ghost cantor = { cantor_vector };
+
+    const LOG_BITS: usize = L::LEVEL;
+
+    ghost LOG_BITS = { L.LEVEL };
+
+    #[inline]
+    fn multiply_by_alpha(x: R) -> R {
+        L::multiply_by_root(x)
+    }
+
+    fn cantor_vector(i: usize) -> R {
+        R::of_u128(cantor_vector(i))
+    }
+
+    ghost bits_law = { refl };
+
+    ghost basis_law = { tower_basis L.LEVEL };
+
+    ghost cantor_law = { level_cantor L.LEVEL L.few };
+
+    ghost generator_image_law = { refl };
+}
