@@ -1,0 +1,85 @@
+// Elements of every field: one struct.
+ghost use Rattle.std.specs.Prelude.{◌≡◌, ◌<◌, ◌^◌, ℕ};
+
+mod operators;
+mod ring;
+
+use bf_base::{Gf2, Kernel, Word};
+use std::alloc::AllocError;
+use std::fmt;
+use std::marker::PhantomData;
+
+/// An element of the field `K`, which a word `R` stores: its representation. Equality, order and hash are those of the
+/// representation. The fields have names of their own, as [`BinaryField8`](crate::BinaryField8) and
+/// [`Ghash128`](crate::Ghash128).
+#[derive_where(PartialEq, Eq, PartialOrd, Ord, Hash; R)]
+pub struct Element<R: Word, K: Kernel<R>> {
+    repr: R,
+    #[derive_where(skip)]
+    field: PhantomData<K>,
+    ghost in_range: { R.number repr < 2 ^ K.width },
+}
+
+impl<R: Word, K: Kernel<R>> Clone for Element<R, K> {
+    ghost is_clone = { λ x y. y.repr ≡ x.repr };
+
+    fn clone(&self) -> Result<Element<R, K>, AllocError> {
+        Ok(Element {
+            repr: self.repr,
+            field: PhantomData,
+        })
+    }
+}
+
+impl<R: Word, K: Kernel<R>> Copy for Element<R, K> {}
+
+// The element behind a reference: `*x` at a struct with a type parameter gets no generated proof.
+#[inline]
+fn value<R: Word, K: Kernel<R>>(x: &Element<R, K>) -> Element<R, K>
+    ensures { result.repr ≡ x.now.repr }
+{
+    Element {
+        repr: x.repr,
+        field: PhantomData,
+    }
+}
+
+impl<R: Word, K: Kernel<R>> Element<R, K> {
+    // The word that stores the element, from behind a reference.
+    #[inline]
+    pub(crate) fn word(&self) -> R
+        ensures { result ≡ self.now.repr }
+    {
+        self.repr
+    }
+}
+
+impl<R: Word, K: Kernel<R>> fmt::Debug for Element<R, K> {
+    fn fmt<W: fmt::Write>(&self, f: &mut fmt::Formatter<W>) -> fmt::Result {
+        f.debug_struct(K::NAME).field("repr", &self.repr).finish()
+    }
+}
+
+impl<R: Word, K: Kernel<R>> Default for Element<R, K> {
+    ghost is_default = { λ x. R.number x.repr ≡ 0 };
+
+    fn default() -> Element<R, K> {
+        Element {
+            repr: R::ZERO,
+            field: PhantomData,
+        }
+    }
+}
+
+impl<R: Word, K: Kernel<R>> From<Gf2> for Element<R, K> {
+    ghost use Rattle.bf_base.specs.Bit.{repr_of as bit_of};
+
+    ghost from_gives = { λ x r. R.number r.repr ≡ bit_of x };
+
+    fn from(bit: Gf2) -> Element<R, K> {
+        Element {
+            repr: R::of_bit(bit),
+            field: PhantomData,
+        }
+    }
+}

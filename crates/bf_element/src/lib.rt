@@ -1,0 +1,17 @@
+//! Elements of the fields: one struct for all of them, with one impl of each trait, the names of the fields, the operators and
+//! conversions between them, and what each field has of its own.
+#![tactic(auto)]
+
+mod element;
+mod linear_map;
+mod names;
+mod polynomial;
+mod subfields;
+mod tower;
+
+pub use crate::element::Element;
+pub use crate::linear_map::LEAST_TABLED;
+pub use crate::names::{
+    BinaryField2, BinaryField4, BinaryField8, BinaryField16, BinaryField32, BinaryField64,
+    BinaryField128, Ghash128, Poly64,
+};

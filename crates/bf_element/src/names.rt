@@ -1,0 +1,41 @@
+// The fields by their names.
+use crate::element::Element;
+use bf_poly::{GhashKernel, Poly64Kernel};
+use bf_tower::{Bits2, Bits4, Bits8, Bits16, Bits32, Bits64, Bits128, Tower};
+
+/// An element of GF(2^2), level 1 of Wiedemann's tower. Its representation is `low + high * 2` for the element
+/// `low + high X`, where X² = X + 1.
+pub type BinaryField2 = Element<u8, Tower<Bits2>>;
+
+/// An element of GF(2^4), level 2 of Wiedemann's tower. Its representation is `low + high * 2^2` for the element
+/// `low + high X`, where X² = t X + 1 and t is the root that [`BinaryField2`] adjoins.
+pub type BinaryField4 = Element<u8, Tower<Bits4>>;
+
+/// An element of GF(2^8), level 3 of Wiedemann's tower. Its representation is `low + high * 2^4` for the element
+/// `low + high X`, where X² = t X + 1 and t is the root that [`BinaryField4`] adjoins.
+pub type BinaryField8 = Element<u8, Tower<Bits8>>;
+
+/// An element of GF(2^16), level 4 of Wiedemann's tower. Its representation is `low + high * 2^8` for the element
+/// `low + high X`, where X² = t X + 1 and t is the root that [`BinaryField8`] adjoins.
+pub type BinaryField16 = Element<u16, Tower<Bits16>>;
+
+/// An element of GF(2^32), level 5 of Wiedemann's tower. Its representation is `low + high * 2^16` for the element
+/// `low + high X`, where X² = t X + 1 and t is the root that [`BinaryField16`] adjoins.
+pub type BinaryField32 = Element<u32, Tower<Bits32>>;
+
+/// An element of GF(2^64), level 6 of Wiedemann's tower. Its representation is `low + high * 2^32` for the element
+/// `low + high X`, where X² = t X + 1 and t is the root that [`BinaryField32`] adjoins.
+pub type BinaryField64 = Element<u64, Tower<Bits64>>;
+
+/// An element of GF(2^128), level 7 of Wiedemann's tower. Its representation is `low + high * 2^64` for the element
+/// `low + high X`, where X² = t X + 1 and t is the root that [`BinaryField64`] adjoins.
+pub type BinaryField128 = Element<u128, Tower<Bits128>>;
+
+/// An element of GF(2^64) in the polynomial basis, modulo x^64 + x^4 + x^3 + x + 1 (G. Seroussi, Table of low-weight
+/// binary irreducible polynomials, 1998). Bit i of its representation is the coefficient of x^i.
+pub type Poly64 = Element<u64, Poly64Kernel>;
+
+/// An element of GF(2^128) in the polynomial basis, modulo x^128 + x^7 + x^2 + x + 1, the modulus of NIST SP 800-38D.
+/// Bit i of its representation is the coefficient of x^i, so a block of that standard, whose leftmost bit is the
+/// coefficient of x^0, has its bits the other way round.
+pub type Ghash128 = Element<u128, GhashKernel>;

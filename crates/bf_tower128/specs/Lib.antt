@@ -1,2 +1,0 @@
-pub mod BinaryField64
-pub mod BinaryField128

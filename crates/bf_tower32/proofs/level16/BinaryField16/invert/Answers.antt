@@ -1,9 +1,0 @@
-use Rattle.bf_base.proofs.TowerLaws.{inverse_by_halves, norm_by_halves}
-use Rattle.bf_tower32.proofs.level16.BinaryField16.invert.Goals as goal
-
-pub inverse-requires : goal.inverse-requires
-inverse-requires c = norm_by_halves 3 c.args.self.repr _ c.halves.ensures c.args.self.in_range c.requires
-
-pub returns : goal.returns
-returns c =
-    inverse_by_halves 3 c.args.self.repr _ _ _ c.halves.ensures c.inverse.ensures c.from_halves.ensures

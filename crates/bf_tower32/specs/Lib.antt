@@ -1,2 +1,0 @@
-pub mod BinaryField16
-pub mod BinaryField32

@@ -1,7 +1,0 @@
-use Rattle.bf_base.proofs.TowerLaws.{product_by_halves}
-use Rattle.bf_tower8.proofs.level2.BinaryField2.squared.Goals as goal
-
-pub returns : goal.returns
-returns c =
-    product_by_halves 0 c.args.self.repr c.args.self.repr _ _ _ _ c.halves.ensures c.halves.ensures
-    c.square.ensures c.from_halves.ensures

@@ -1,3 +1,0 @@
-pub mod BinaryField2
-pub mod BinaryField4
-pub mod BinaryField8
