@@ -12,8 +12,7 @@ use crate::slices;
 use crate::words::Wide;
 use bf_base::traits::{PrimeCharacteristicRing, TowerLevel};
 use bf_basis::LinearMap;
-use bf_ghash::Ghash128;
-use bf_tower128::BinaryField128;
+use bf_element::{BinaryField128, Ghash128};
 
 /// Writes the product of the elements at each index.
 #[unsafe(no_mangle)]

@@ -5,7 +5,7 @@ ghost use Rattle.bf_ffi.specs.Words.{IsInverseOrZero, wide_at, wide_number};
 
 use crate::slices;
 use crate::words::Wide;
-use bf_tower128::BinaryField128;
+use bf_element::BinaryField128;
 
 /// Writes the product of the elements at each index.
 #[unsafe(no_mangle)]

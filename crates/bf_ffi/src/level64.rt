@@ -4,7 +4,7 @@ ghost use Rattle.bf_base.specs.Tower.{tower_mul};
 ghost use Rattle.bf_ffi.specs.Words.{IsInverseOrZero};
 
 use crate::slices;
-use bf_tower128::BinaryField64;
+use bf_element::BinaryField64;
 
 /// Writes the product of the elements at each index.
 #[unsafe(no_mangle)]

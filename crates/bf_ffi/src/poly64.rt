@@ -8,8 +8,7 @@ ghost use Rattle.bf_ffi.specs.Words.{IsInverseOrZero};
 use crate::slices;
 use bf_base::traits::{PrimeCharacteristicRing, TowerLevel};
 use bf_basis::{to_polynomial_slice_64, to_tower_slice_64};
-use bf_poly64::Poly64;
-use bf_tower128::BinaryField64;
+use bf_element::{BinaryField64, Poly64};
 
 /// Writes the product of the elements at each index.
 #[unsafe(no_mangle)]

@@ -3,11 +3,9 @@ ghost use Rattle.std.specs.Prelude.{◌≡◌, ℕ};
 ghost use Rattle.bf_ffi.specs.Words.{wide_number};
 
 use bf_base::traits::{Represented, TowerLevel};
-use bf_ghash::Ghash128;
-use bf_poly64::Poly64;
-use bf_tower8::BinaryField8;
-use bf_tower32::{BinaryField16, BinaryField32};
-use bf_tower128::{BinaryField64, BinaryField128};
+use bf_element::{
+    BinaryField8, BinaryField16, BinaryField32, BinaryField64, BinaryField128, Ghash128, Poly64,
+};
 
 /// A word that holds an element of the ring `R`.
 pub trait Word<R: Represented>: Copy {

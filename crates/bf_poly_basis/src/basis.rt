@@ -2,11 +2,11 @@
 ghost use Rattle.std.specs.Prelude.{◌≡◌, map};
 ghost use Rattle.bf_base.specs.Basis.{basis_image, ghash_images};
 ghost use Rattle.bf_base.specs.Remainder.{ghash_modulus};
-ghost use Rattle.bf_tower128.specs.BinaryField128.{repr_of};
+ghost use Rattle.bf_element.specs.Element.{repr_of};
 
 use bf_base::traits::TowerLevel;
 use bf_basis::{to_polynomial_128, to_polynomial_slice_128, to_tower_128, to_tower_slice_128};
-use bf_tower128::BinaryField128;
+use bf_element::BinaryField128;
 
 /// The polynomial that is the image of an element of the tower.
 pub fn from_tower(x: BinaryField128) -> u128

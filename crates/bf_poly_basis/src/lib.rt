@@ -5,8 +5,6 @@
 #![tactic(auto)]
 
 mod basis;
-#[cfg(test)]
-mod tests;
 
 ghost use Rattle.std.specs.Prelude.{◌≡◌};
 ghost use Rattle.bf_base.specs.Remainder.{mul_mod, ghash_modulus};

@@ -3,7 +3,5 @@
 
 mod laws;
 pub mod over;
-#[cfg(test)]
-mod tests;
 
 pub use crate::laws::values_commute_with_images;

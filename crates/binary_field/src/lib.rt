@@ -8,10 +8,9 @@ pub use bf_base::traits::{
     Algebra, DotProduct, Field, PrimeCharacteristicRing, Represented, TowerLevel,
 };
 pub use bf_calc as calc;
-pub use bf_ghash::{EmbedsInGhash128, Ghash128};
+pub use bf_element::{
+    BinaryField2, BinaryField4, BinaryField8, BinaryField16, BinaryField32, BinaryField64,
+    BinaryField128, Ghash128, Poly64,
+};
 pub use bf_poly_basis as poly_basis;
-pub use bf_poly64::{EmbedsInPoly64, Poly64};
-pub use bf_tower8::{BinaryField2, BinaryField4, BinaryField8};
-pub use bf_tower32::{BinaryField16, BinaryField32};
-pub use bf_tower128::{BinaryField64, BinaryField128};
 pub use bf_transform::over;
