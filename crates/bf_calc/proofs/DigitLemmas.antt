@@ -136,7 +136,7 @@ encode_with-bytes (suc count) n =
     let twice : 2 * suc count ≡ suc (suc (2 * count)) = omega arith in
     rw (twice, high_digit count n, low_digit count n, encode_with-bytes count n) refl
 
-length-low_digits : (count n : ℕ) → length (low_digits count n) ≡ count
+pub length-low_digits : (count n : ℕ) → length (low_digits count n) ≡ count
 unfolding low_digits
 length-low_digits zero n = refl
 length-low_digits (suc count) n = ap suc (length-low_digits count n)

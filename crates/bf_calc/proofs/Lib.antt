@@ -1,4 +1,5 @@
 pub mod DigitLemmas
+pub mod FaultLemmas
 pub mod FermatLemmas
 pub mod FoundLemmas
 pub mod LineLemmas

@@ -1,7 +1,7 @@
 -- How runs that follow one another join.
-use Rattle.std.proofs.Common.{◌≡◌, ℕ, ◌+◌, ◌-◌, ◌≤◌, List, [], ◌∷◌, ◌++◌, Option, refl, sym, ap, ◌∙◌, append_assoc, append-nil, take, drop, take-append-drop, arith, inl, inr}
+use Rattle.std.proofs.Common.{◌≡◌, ℕ, ◌+◌, ◌-◌, ◌≤◌, ◌<◌, length, length-append, List, [], ◌∷◌, ◌++◌, Option, refl, sym, ap, ◌∙◌, append_assoc, append-nil, take, drop, take-append-drop, arith, inl, inr}
 use Rattle.std.proofs.lemmas.List.{drop-take}
-use Rattle.std.specs.Prelude.{Result, Ok, Err, OnErr}
+use Rattle.std.specs.Prelude.{Result, Ok, Err, OnErr, IfErr}
 use Rattle.std.specs.Io.KnownBytes.{Appends, Consumes, IsAtEnd, Keeps}
 use Rattle.std.proofs.KnownBytes.{Appends-nil, Appends-trans, Consumes-trans, Consumes-kept}
 use Rattle.std.proofs.lemmas.List.Elements.{All-nil, All-cons, All-append}
@@ -9,7 +9,7 @@ use Rattle.std.proofs.lemmas.List.Concat.{flat_map-append}
 use Rattle.bf_calc.specs.Answer.{answer_of}
 use Rattle.bf_calc.specs.Lines.{with_feed, unlines, IsLine, finished, answers_to, answers}
 use Rattle.bf_calc.proofs.LineLemmas.{answers-unlines, finished-unlines}
-use Rattle.bf_calc.specs.Progress.{Takes, GainsFront, AnswersLines, AnswersAll, AnswersFront}
+use Rattle.bf_calc.specs.Progress.{Takes, GainsFront, AnswersLines, AnswersAll, AnswersFront, GaveSome}
 
 -- a part of a list, from either end first
 pub take-drop : (i j : ℕ) (xs : List ℕ) → i ≤ j → take (j - i) (drop i xs) ≡ drop i (take j xs)
@@ -198,6 +198,10 @@ module _ (r0 r1 : Option (List ℕ)) {w0 w1 : Option (List ℕ)} (read line left
     front = inl (AnswersLines-front (AnswersLines-next chunk answered fed));
   }
 
+  pub GaveSome-next : (r2 : Option (List ℕ)) (chunk : List ℕ) → Consumes r1 r2 chunk → 0 < length chunk → GaveSome r0 r2
+  GaveSome-next r2 chunk more some =
+      (read ++ chunk, Consumes-trans r0 r1 r2 read chunk consumed more, omega (arith, length-append read chunk))
+
   pub AnswersFront-kept : (r2 : Option (List ℕ)) → Keeps r1 r2 → AnswersFront r0 r2 w0 w1
   AnswersFront-kept r2 kept = record {
     read = read;
@@ -211,3 +215,8 @@ module _ (r0 r1 : Option (List ℕ)) {w0 w1 : Option (List ℕ)} (read line left
 pub OnErr-from : {T E : Type 0} (P : Type 0) (r : Result T E) → P → OnErr r P
 OnErr-from P (Ok _) p = tt
 OnErr-from P (Err _) p = p
+
+-- or of some errors
+pub IfErr-from : {T E : Type 0} (Is : E → Type 0) (P : Type 0) (r : Result T E) → P → IfErr r (λ e. Is e → P)
+IfErr-from Is P (Ok _) p = tt
+IfErr-from Is P (Err e) p = λ is. p

@@ -5,10 +5,9 @@ use Rattle.std.specs.Prelude.{ℕ, ◌^◌, ◌&&◌, nat_lt, if◌then◌else�
 use Rattle.std.specs.Str.{is_utf8}
 use Rattle.bf_calc.specs.Words.{words}
 use Rattle.bf_calc.specs.Digits.{operand_value, hex_text}
-use Rattle.bf_calc.specs.Fields.{FieldOf, field_named, field_of}
+use Rattle.bf_calc.specs.Fields.{FieldOf, bytes_of, field_named}
 use Rattle.bf_calc.specs.Operations.{operation_named, binary_result, unary_result}
 use Rattle.bf_calc.specs.Text.{error_text}
-use Rattle.bf_calc.specs.declared.names.FieldName.{FieldName}
 use Rattle.bf_calc.specs.declared.names.Binary.{Binary}
 use Rattle.bf_calc.specs.declared.names.Unary.{Unary}
 use Rattle.bf_calc.specs.declared.names.Operation.{Operation}
@@ -22,33 +21,37 @@ of_result bytes (Some x) = hex_text bytes x
 -- the answer by the numbers of two operands, None for one that is not written as it has to be
 abbrev pub of_two : FieldOf → Binary → Option ℕ → Option ℕ → List ℕ
 of_two field operation (Some x) (Some y) =
-    if nat_lt x (2 ^ field.bits) && nat_lt y (2 ^ field.bits) then hex_text field.bytes (binary_result field.times operation x y)
+    if nat_lt x (2 ^ field.bits) && nat_lt y (2 ^ field.bits) then hex_text (bytes_of field) (binary_result field.times operation x y)
     else error_text 5
 of_two field operation x y = error_text 4
 
 -- the answer by the number of the only operand
 abbrev pub of_one : FieldOf → Unary → Option ℕ → List ℕ
 of_one field operation (Some x) =
-    if nat_lt x (2 ^ field.bits) then of_result field.bytes (unary_result field.bits field.times operation x) else error_text 5
+    if nat_lt x (2 ^ field.bits) then of_result (bytes_of field) (unary_result field.bits field.times operation x) else error_text 5
 of_one field operation None = error_text 4
 
 -- the answer by the words after the operation
 abbrev pub of_operands : FieldOf → Operation → List (List ℕ) → List ℕ
 of_operands field (OfTwo operation) (left ∷ right ∷ []) =
-    of_two field operation (operand_value field.bytes left) (operand_value field.bytes right)
-of_operands field (OfOne operation) (operand ∷ []) = of_one field operation (operand_value field.bytes operand)
+    of_two field operation (operand_value (bytes_of field) left) (operand_value (bytes_of field) right)
+of_operands field (OfOne operation) (operand ∷ []) = of_one field operation (operand_value (bytes_of field) operand)
 of_operands field operation operands = error_text 3
 
 -- the answer by the operation, None for one that is unknown, and the words after it
-abbrev pub of_operation : FieldName → Option Operation → List (List ℕ) → List ℕ
+abbrev pub of_operation : FieldOf → Option Operation → List (List ℕ) → List ℕ
 of_operation field None operands = error_text 2
-of_operation field (Some operation) operands = of_operands (field_of field) operation operands
+of_operation field (Some operation) operands = of_operands field operation operands
+
+-- the answer by the words after the name of the field
+abbrev pub of_rest : FieldOf → List (List ℕ) → List ℕ
+of_rest field [] = error_text 2
+of_rest field (name ∷ operands) = of_operation field (operation_named name) operands
 
 -- the answer by the field, None for one that is unknown, and the words after it
-abbrev pub of_field : Option FieldName → List (List ℕ) → List ℕ
+abbrev pub of_field : Option FieldOf → List (List ℕ) → List ℕ
 of_field None rest = error_text 1
-of_field (Some field) [] = error_text 2
-of_field (Some field) (name ∷ operands) = of_operation field (operation_named name) operands
+of_field (Some field) rest = of_rest field rest
 
 -- the answer by the words of the line
 abbrev pub of_words : List (List ℕ) → List ℕ

@@ -1,5 +1,6 @@
 pub mod Answer
 pub mod Digits
+pub mod Faults
 pub mod Fields
 pub mod Lines
 pub mod Operations

@@ -1,8 +1,7 @@
 -- The operations that a line may name, and what they give.
 use Rattle.std.specs.Prelude.{◌≡◌, ◌≢◌, ℕ, ◌-◌, ◌^◌, ◌<◌, ◌==◌, IsSomeAnd, if◌then◌else◌, List, [], ◌∷◌, codes, Option, Some, None, bit_xor}
 use Rattle.bf_base.specs.Powers.{power, squared}
-use Rattle.bf_calc.specs.Fields.{field_of, look_up}
-use Rattle.bf_calc.specs.declared.names.FieldName.{FieldName}
+use Rattle.bf_calc.specs.Fields.{FieldOf, field_named, look_up}
 use Rattle.bf_calc.specs.declared.names.Binary.{Binary}
 use Rattle.bf_calc.specs.declared.names.Binary.TheVariants.{Add, Mul}
 use Rattle.bf_calc.specs.declared.names.Unary.{Unary}
@@ -32,14 +31,14 @@ unary_result bits times Square x = Some (times x x)
 unary_result bits times Inv x = if x == 0 then None else Some (power 1 times x (2 ^ bits - 2))
 unary_result bits times Sqrt x = Some (squared 1 times (bits - 1) x)
 
--- in every field that a line may name the inverse of an element but 0 is one: their product is 1
+-- in every field that a word names the inverse of an element but 0 is one: their product is 1
 abbrev pub InverseInverts : Type 0
 InverseInverts =
-    (name : FieldName) (x : ℕ) → x < 2 ^ (field_of name).bits → x ≢ 0
-    → IsSomeAnd (unary_result (field_of name).bits (field_of name).times Inv x) (λ y. (field_of name).times x y ≡ 1)
+    (name : List ℕ) (field : FieldOf) → field_named name ≡ Some field → (x : ℕ) → x < 2 ^ field.bits → x ≢ 0
+    → IsSomeAnd (unary_result field.bits field.times Inv x) (λ y. field.times x y ≡ 1)
 
 -- and the square of the root of an element is the element
 abbrev pub RootIsRoot : Type 0
 RootIsRoot =
-    (name : FieldName) (x : ℕ) → x < 2 ^ (field_of name).bits
-    → IsSomeAnd (unary_result (field_of name).bits (field_of name).times Sqrt x) (λ y. (field_of name).times y y ≡ x)
+    (name : List ℕ) (field : FieldOf) → field_named name ≡ Some field → (x : ℕ) → x < 2 ^ field.bits
+    → IsSomeAnd (unary_result field.bits field.times Sqrt x) (λ y. field.times y y ≡ x)

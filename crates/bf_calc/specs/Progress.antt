@@ -1,5 +1,5 @@
 -- How far a run has come: what the writer took, and which lines were answered.
-use Rattle.std.specs.Prelude.{◌≡◌, ℕ, List, ◌++◌, ◌⊎◌, Option, All}
+use Rattle.std.specs.Prelude.{◌≡◌, ℕ, ◌<◌, List, ◌++◌, ◌⊎◌, length, Option, All}
 use Rattle.std.specs.Io.KnownBytes.{Appends, Consumes, IsAtEnd}
 use Rattle.bf_calc.specs.Lines.{unlines, IsLine, finished, answers_to, answers}
 
@@ -35,3 +35,7 @@ pub record AnswersFront (reader reader' writer writer' : Option (List ℕ)) : Ty
   pub consumed : Consumes reader reader' read
   pub front : GainsFront writer writer' (answers (finished read))
       ⊎ (IsAtEnd reader' × GainsFront writer writer' (answers read))
+
+-- the reader gave a byte
+abbrev pub GaveSome : Option (List ℕ) → Option (List ℕ) → Type 0
+GaveSome reader reader' = (read : List ℕ) × Consumes reader reader' read × (0 < length read)

@@ -15,3 +15,10 @@ FailedEnds (Ok _) reader writer = (reader ≡ false) × (writer ≡ false)
 FailedEnds (Err Read) reader writer = (reader ≡ true) × (writer ≡ false)
 FailedEnds (Err Write) reader writer = (reader ≡ false) × (writer ≡ true)
 FailedEnds (Err Memory) reader writer = (reader ≡ false) × (writer ≡ false)
+
+-- whether the writer has failed, by what a call answers whose only fault is the writer's
+abbrev pub FailedWriter : {T : Type 0} → Result T RunError → Bool → Type 0
+FailedWriter (Ok _) writer = writer ≡ false
+FailedWriter (Err Write) writer = writer ≡ true
+FailedWriter (Err Read) writer = ⊥
+FailedWriter (Err Memory) writer = ⊥

@@ -1,14 +1,16 @@
 //! Reading lines and writing their answers.
-ghost use Rattle.std.specs.Prelude.{◌≡◌, ℕ, false, List, [], ◌∷◌, ◌++◌, OnOk, OnErr};
+ghost use Rattle.std.specs.Prelude.{◌≡◌, ℕ, false, List, [], ◌∷◌, ◌++◌, OnOk, OnErr, IfErr};
 ghost use Rattle.bf_calc.specs.Answer.{answer_of};
 ghost use Rattle.std.specs.Io.KnownBytes.{Appends};
 ghost use Rattle.bf_calc.specs.Lines.{lines, answers, finished, IsLine, AreLinesOf, IsFinished};
 ghost use Rattle.bf_calc.specs.Outbox.{waiting};
-ghost use Rattle.bf_calc.specs.Progress.{Takes, AnswersLines, AnswersAll, AnswersFront, GainsFront};
-ghost use Rattle.bf_calc.specs.RunError.{FailedEnds};
+ghost use Rattle.bf_calc.specs.Progress.{Takes, AnswersLines, AnswersAll, AnswersFront, GainsFront, GaveSome};
+ghost use Rattle.bf_calc.specs.RunError.{FailedEnds, FailedWriter};
 ghost use Rattle.bf_calc.specs.Watched.{inner_of, has_failed};
+ghost use Rattle.bf_calc.specs.declared.error.RunError.TheVariants.{Memory};
 
 use crate::error::RunError;
+use crate::line::answer;
 use crate::outbox::Outbox;
 use crate::watched::Watched;
 use memchr::memchr;
@@ -23,8 +25,9 @@ const CHUNK: usize = 8192;
 /// only for a line that goes past what one read gave. At the end the writer is flushed.
 ///
 /// `Read` and `Write` come only where that end has failed, and `Memory` only where a growth was
-/// refused. No failure is tried again. After one, what was written is a beginning of the answers
-/// to the lines that were read; a line is read with its line feed or the end of the input.
+/// refused for a line of which a byte was read. No failure is tried again. After one, what was
+/// written is a beginning of the answers to the lines that were read; a line is read with its line
+/// feed or the end of the input.
 pub fn run<A: Allocator, R: Read, W: Write>(
     alloc: A,
     reader: &mut Watched<R>,
@@ -39,6 +42,8 @@ pub fn run<A: Allocator, R: Read, W: Write>(
         (R.remaining (inner_of reader.old)) (R.remaining (inner_of reader.new))
         (W.contents (inner_of writer.old)) (W.contents (inner_of writer.new))) }
     ensures failed { FailedEnds result (has_failed reader.new) (has_failed writer.new) }
+    ensures memory { IfErr result (λ fault. fault ≡ Memory → GaveSome
+        (R.remaining (inner_of reader.old)) (R.remaining (inner_of reader.new))) }
 {
     let mut chunk = [0; CHUNK];
     let mut line = Vec::new(alloc);
@@ -46,14 +51,14 @@ pub fn run<A: Allocator, R: Read, W: Write>(
     'reads: loop {
         match reader.read(&mut chunk) {
             Ok(0) => return finish(line.as_slice(), &mut outbox, writer),
-            Ok(count) => feed(&chunk[..count], &mut line, &mut outbox, writer)?,
+            Ok(count) => answer_lines(&chunk[..count], &mut line, &mut outbox, writer)?,
             Err(_) => return Err(RunError::Read),
         }
     }
 }
 
 // Answers the lines that end in `chunk`. `line` has the bytes of the line that has not ended.
-fn feed<A: Allocator, W: Write>(
+fn answer_lines<A: Allocator, W: Write>(
     chunk: &[u8],
     line: &mut Vec<u8, A>,
     outbox: &mut Outbox,
@@ -99,14 +104,31 @@ fn end_line<A: Allocator, W: Write>(
     ensures failed { FailedEnds result false (has_failed writer.new) }
 {
     if line.is_empty() {
-        return outbox.answer_line(tail, writer);
+        return answer_line(tail, outbox, writer);
     }
     if line.extend_from_slice(tail).is_err() {
         return Err(RunError::Memory);
     }
-    outbox.answer_line(line.as_slice(), writer)?;
+    answer_line(line.as_slice(), outbox, writer)?;
     line.clear();
     Ok(())
+}
+
+// Puts the answer to `line` behind what waits.
+fn answer_line<W: Write>(
+    line: &[u8],
+    outbox: &mut Outbox,
+    writer: &mut Watched<W>,
+) -> Result<(), RunError>
+    requires { has_failed writer.old ≡ false }
+    ensures ok { OnOk result (Takes (W.contents (inner_of writer.old))
+        (W.contents (inner_of writer.new)) (waiting outbox.old ++ (answer_of line.now ++ 10 ∷ []))
+        (waiting outbox.new)) }
+    ensures err { OnErr result (GainsFront (W.contents (inner_of writer.old))
+        (W.contents (inner_of writer.new)) (waiting outbox.old)) }
+    ensures failed { FailedWriter result (has_failed writer.new) }
+{
+    outbox.push_line(answer(line).as_bytes(), writer)
 }
 
 // Answers the last line, if it has a byte.
@@ -122,12 +144,12 @@ fn answer_last<W: Write>(
         (waiting outbox.new)) }
     ensures err { OnErr result (GainsFront (W.contents (inner_of writer.old))
         (W.contents (inner_of writer.new)) (waiting outbox.old)) }
-    ensures failed { FailedEnds result false (has_failed writer.new) }
+    ensures failed { FailedWriter result (has_failed writer.new) }
 {
     if line.is_empty() {
         Ok(())
     } else {
-        outbox.answer_line(line, writer)
+        answer_line(line, outbox, writer)
     }
 }
 
@@ -143,7 +165,7 @@ fn finish<W: Write>(
         (W.contents (inner_of writer.new)) (waiting outbox.old ++ answers line.now)) }
     ensures err { OnErr result (GainsFront (W.contents (inner_of writer.old))
         (W.contents (inner_of writer.new)) (waiting outbox.old ++ answers line.now)) }
-    ensures failed { FailedEnds result false (has_failed writer.new) }
+    ensures failed { FailedWriter result (has_failed writer.new) }
 {
     answer_last(line, outbox, writer)?;
     outbox.write_to(writer)?;

@@ -1,4 +1,6 @@
 // Laws of the definitions, as contracts of functions that compute nothing.
+ghost use Rattle.std.specs.Prelude.{ℕ, List};
+ghost use Rattle.bf_calc.specs.Faults.{FaultsInOrder};
 ghost use Rattle.bf_calc.specs.Words.{EmptyLineHasNoWord, RunIsOneWord, SpaceDividesWords};
 ghost use Rattle.bf_calc.specs.Digits.{TextIsReadBack};
 ghost use Rattle.bf_calc.specs.Operations.{InverseInverts, RootIsRoot};
@@ -21,4 +23,13 @@ pub fn text_is_read_back()
 pub fn inverse_and_root()
     ensures inverse { InverseInverts }
     ensures root { RootIsRoot }
+{}
+
+/// States when a line is answered with each error. The answer is `error 6` exactly if the line is not UTF-8; else `error 1`
+/// exactly if it has no first word, or that names no field; else `error 2` exactly if it has no second word, or that names no
+/// operation; else `error 3` exactly if its operands are not as many as the operation takes; else `error 4` exactly if the
+/// length or a digit of some operand is wrong; else `error 5` exactly if some operand is above the field; else it is what the
+/// operation gives.
+pub fn faults_in_order()
+    ensures { (line : List ℕ) → FaultsInOrder line }
 {}

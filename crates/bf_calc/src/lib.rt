@@ -4,25 +4,22 @@
 //! of a reader.
 #![tactic(auto)]
 
+mod calculation;
 mod digits;
 mod engine;
 mod error;
 mod laws;
 mod line;
-#[cfg(test)]
-mod line_tests;
 mod names;
 mod operand;
 mod outbox;
-#[cfg(test)]
-mod tests;
 mod text;
 mod watched;
 mod words;
 
 pub use crate::engine::{lines_law, run};
 pub use crate::error::RunError;
-pub use crate::laws::{inverse_and_root, text_is_read_back, words_by_spaces};
+pub use crate::laws::{faults_in_order, inverse_and_root, text_is_read_back, words_by_spaces};
 pub use crate::line::answer;
 pub use crate::text::Answer;
 pub use crate::watched::Watched;

@@ -44,7 +44,8 @@ impl Answer {
 
     /// The bytes of the answer.
     pub fn as_bytes(&self) -> &[u8]
-        ensures { result.now ≡ answer_bytes self.now }
+        ensures value { result.now ≡ answer_bytes self.now }
+        ensures short { length result.now ≤ 48 }
     {
         &self.bytes[..self.len]
     }

@@ -124,29 +124,3 @@ impl<T: Write> Write for Watched<T> {
         }
     }
 }
-
-#[cfg(test)]
-mod tests {
-    use super::*;
-    use std::test::Fail;
-
-    #[test]
-    fn a_read_past_the_last_fails(rt: HostRuntime) -> Result<(), Fail> {
-        let mut reader = Watched {
-            inner: b"ab".as_slice(),
-            has_failed: false,
-            reads_left: 1,
-        };
-        let mut buf = [0; 1];
-        assert_eq!(rt; reader.read(&mut buf)?, 1);
-        assert!(rt; !reader.failed());
-        assert!(rt; reader.read(&mut buf).is_err());
-        assert!(rt; reader.failed());
-        assert_eq!(rt;
-            reader.into_inner(),
-            b"b".as_slice(),
-            "the inner reader was called"
-        );
-        Ok(())
-    }
-}

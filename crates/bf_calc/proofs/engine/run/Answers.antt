@@ -1,10 +1,12 @@
 -- Each read joins what was done before it.
-use Rattle.std.proofs.Common.{◌≢◌, ℕ, ◌++◌, [], take, ◌∙◌, arith}
+use Rattle.std.proofs.Common.{◌≡◌, ◌≢◌, ◌<◌, ℕ, ◌++◌, [], length, take, length-take, ◌∙◌, arith}
 use Rattle.std.proofs.KnownBytes.{Consumes-nil, Consumes-trans}
 use Rattle.std.proofs.lemmas.List.Elements.{All-nil}
 use Rattle.std.proofs.lemmas.Result.{on_ok_weaker, on_err_weaker}
 use Rattle.bf_calc.specs.Watched.{inner_of}
-use Rattle.bf_calc.proofs.ProgressLemmas.{OnErr-from, AnswersLines-none, AnswersAll-end, AnswersFront-end, AnswersLines-next, AnswersFront-next, AnswersFront-kept}
+use Rattle.bf_calc.specs.declared.error.RunError.{RunError}
+use Rattle.bf_calc.specs.declared.error.RunError.TheVariants.{Memory}
+use Rattle.bf_calc.proofs.ProgressLemmas.{OnErr-from, IfErr-from, GaveSome-next, AnswersLines-none, AnswersAll-end, AnswersFront-end, AnswersLines-next, AnswersFront-next, AnswersFront-kept}
 use Rattle.bf_calc.proofs.engine.run.Goals as goal
 
 pub reads-init : goal.reads-init
@@ -37,7 +39,7 @@ returns-in-Ok-eq0-clause-err g c =
 pub reads-preserved : goal.reads-preserved
 reads-preserved g c =
     let so_far = c.reads.invariant.answered in
-    let fed = c.in_ok-feed-in-Ok.ensures in
+    let fed = c.in_ok-answer_lines-in-Ok.ensures in
     let chunk = take c.in-Ok.count c.read.new.buf in
     record {
       answered = (so_far.0 ++ chunk, Consumes-trans _ _ _ so_far.0 chunk so_far.1 c.in-Ok.ensures.bytes.0, AnswersLines-next chunk so_far.2 fed.ok);
@@ -47,11 +49,18 @@ reads-preserved g c =
       writer_passed = fed.failed.1;
     }
 
-pub returns-in_err-feed-in-Ok-clause-err : goal.returns-in_err-feed-in-Ok-clause-err
-returns-in_err-feed-in-Ok-clause-err g c =
+pub returns-in_err-answer_lines-in-Ok-clause-err : goal.returns-in_err-answer_lines-in-Ok-clause-err
+returns-in_err-answer_lines-in-Ok-clause-err g c =
     let so_far = c.reads.invariant.answered in
-    let fed = c.in_err-feed-in-Ok.ensures.err in
+    let fed = c.in_err-answer_lines-in-Ok.ensures.err in
     OnErr-from _ _ (AnswersFront-next _ (g.R.Read.remaining (inner_of c.reads.reader)) so_far.0 c.reads.line.items _ so_far.1 so_far.2 _ _ c.in-Ok.ensures.bytes.0 fed.2)
+
+pub returns-in_err-answer_lines-in-Ok-clause-memory : goal.returns-in_err-answer_lines-in-Ok-clause-memory
+returns-in_err-answer_lines-in-Ok-clause-memory g c =
+    let so_far = c.reads.invariant.answered in
+    let some : 0 < length (take c.in-Ok.count c.read.new.buf) = omega (arith, length-take c.in-Ok.count c.read.new.buf, c.in-Ok.ensures.bound) in
+    IfErr-from (λ (fault : RunError). fault ≡ Memory) _ _
+    (GaveSome-next _ (g.R.Read.remaining (inner_of c.reads.reader)) so_far.0 c.reads.line.items _ so_far.1 so_far.2 _ _ c.in-Ok.ensures.bytes.0 some)
 
 pub returns-in-Err-clause-err : goal.returns-in-Err-clause-err
 returns-in-Err-clause-err g c =

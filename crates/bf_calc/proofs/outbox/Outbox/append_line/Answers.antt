@@ -3,7 +3,7 @@ use Rattle.std.proofs.Common.{◌≡◌, refl, ℕ, ◌+◌, ◌<◌, List, [], 
 use Rattle.std.proofs.lemmas.Grind.{take-set_at}
 use Rattle.std.proofs.lemmas.Slice.{take-put_mid}
 use borrow.Rule.Slice.PartMut.{put_mid}
-use Rattle.bf_calc.proofs.outbox.Outbox.push_line.Goals as goal
+use Rattle.bf_calc.proofs.outbox.Outbox.append_line.Goals as goal
 
 -- a text put behind the first n bytes, and a line feed behind it
 pushed : (bytes text : List ℕ) (n k e : ℕ) → e ≡ n + length text → k ≡ length text → e < length bytes
@@ -20,4 +20,4 @@ returns c =
     let text = c.copy_from_slice.ensures.after in
     let bytes = c.args.self.now.bytes in
     let inside = length-take c.args.self.now.len bytes in
-    rw text (pushed bytes c.args.text.now c.args.self.now.len _ _ refl (omega arith) (omega arith))
+    rw text (pushed bytes c.args.line.now c.args.self.now.len _ _ refl (omega arith) (omega arith))

@@ -1,10 +1,14 @@
-// The answers to lines: the order of what may be wrong with one, the spaces in it and the case of its digits.
-use crate::answer;
+// Lines and their answers, each asked of the line alone and of a run over memory.
+ghost use Rattle.std.specs.Prelude.{◌≡◌, IfOk};
+ghost use Rattle.bf_calc.specs.Lines.{answers};
+
+use bf_calc::{RunError, Watched, answer, run};
+use std::alloc::{AllocError, Global};
 use std::test::Fail;
 
-// Lines and their answers: first the order of the errors, the spaces and the case of the digits. The products of the low
-// levels follow by hand from the square of the root that a level adjoins, as 10 times 10 at 8 bits is 41.
-const ANSWERS: [(&[u8], &[u8]); 30] = [
+/// The order of the errors, the spaces and the case of the digits. The products follow by hand from the square of the root
+/// that a level adjoins, as 10 times 10 at 8 bits is 41.
+static BY_HAND: [(&[u8], &[u8]); 31] = [
     (b"t8 mul 10 10", b"41"),
     (b"t8 mul 10 01", b"10"),
     (b"t8 add 10 01", b"11"),
@@ -17,6 +21,7 @@ const ANSWERS: [(&[u8], &[u8]); 30] = [
     (b"t2 add 03 01", b"02"),
     (b"gf2 mul 01 01", b"01"),
     (b"gf2 add 01 01", b"00"),
+    (b"t32 square 00010000", b"01000001"),
     (b"   t8   mul  10 10  ", b"41"),
     (b"", b"error 1"),
     (b"   ", b"error 1"),
@@ -37,8 +42,8 @@ const ANSWERS: [(&[u8], &[u8]); 30] = [
     (b"\xff", b"error 6"),
 ];
 
-// Lines whose answers the Rust crate p3-binary-field 0.8.0 gave.
-const REFERENCE: [(&[u8], &[u8]); 23] = [
+/// Lines whose answers the Rust crate p3-binary-field 0.8.0 gave.
+static REFERENCE: [(&[u8], &[u8]); 23] = [
     (b"t16 mul 0100 0100", b"1001"),
     (b"t16 add d6af BC2f", b"6a80"),
     (b"t32 mul 38492249 c9558eac", b"1a1eca61"),
@@ -76,10 +81,10 @@ const REFERENCE: [(&[u8], &[u8]); 23] = [
     (b"t128 inv 0", b"error 4"),
 ];
 
-// Lines of the fields of polynomials. By hand: x times its inverse is the modulus and 1, the product of the highest term and x
-// is the rest of the modulus, and a square has the coefficients of its root at the even places. The other results are those of
-// the Rust crate.
-const POLYNOMIALS: [(&[u8], &[u8]); 24] = [
+/// Lines of the fields of polynomials. By hand: x times its inverse is the modulus and 1, the product of the highest term and
+/// x is the rest of the modulus, and a square has the coefficients of its root at the even places. The other results are
+/// those of the Rust crate.
+static POLYNOMIALS: [(&[u8], &[u8]); 24] = [
     (
         b"p64 add 0123456789ABCDEF fedcba9876543210",
         b"ffffffffffffffff",
@@ -133,48 +138,98 @@ const POLYNOMIALS: [(&[u8], &[u8]); 24] = [
     (b"r8 mul 10 10", b"error 1"),
 ];
 
+/// A line that is no text is refused before all else, and one that is text is not.
+static ENCODINGS: [(&[u8], &[u8]); 2] = [
+    (b"t8 mul 10 10 \xc3", b"error 6"),
+    (b"t8 mul 10 10 \xc3\xa9", b"error 3"),
+];
+
+/// Inputs of any number of lines, and what a run over each writes.
+static INPUTS: [(&[u8], &[u8]); 6] = [
+    (b"t8 mul 10 10\n\nt8 inv 00", b"41\nerror 1\nnone\n"),
+    (b"t8 mul 10 10\n\nt8 inv 00\n", b"41\nerror 1\nnone\n"),
+    (b"t8 mul 10 10", b"41\n"),
+    (b"\xff", b"error 6\n"),
+    (b"\n\n", b"error 1\nerror 1\n"),
+    (b"", b""),
+];
+
+/// What a run over `input` writes, which a caller over memory learns from the contract of `run`.
+fn answered(alloc: Global, input: &[u8]) -> Result<Vec<u8>, RunError>
+    ensures { IfOk result (λ bytes. bytes.items ≡ answers input.now) }
+{
+    let mut reader = Watched::new(input);
+    let mut writer = Watched::new(Vec::new(alloc));
+    run(alloc, &mut reader, &mut writer)?;
+    Ok(writer.into_inner())
+}
+
+/// Whether a run over `input` writes `want`.
+fn input_is_answered(alloc: Global, input: &[u8], want: &[u8]) -> bool {
+    match answered(alloc, input) {
+        Ok(bytes) => bytes.as_slice() == want,
+        Err(_) => false,
+    }
+}
+
+/// Whether `line` is answered `want`, alone and by a run over it and a line feed.
+fn line_is_answered(alloc: Global, line: &[u8], want: &[u8]) -> Result<bool, AllocError> {
+    let mut input = Vec::from_slice(alloc, line)?;
+    input.push(b'\n')?;
+    let mut output = Vec::from_slice(alloc, want)?;
+    output.push(b'\n')?;
+    Ok(
+        answer(line).as_bytes() == want
+            && input_is_answered(alloc, input.as_slice(), output.as_slice()),
+    )
+}
+
 #[test]
-fn each_line_has_its_answer(rt: HostRuntime) -> Result<(), Fail> {
-    for (line, expected) in ANSWERS {
-        assert_eq!(rt; answer(line).as_bytes(), expected);
+fn lines_by_hand(rt: HostRuntime) -> Result<(), Fail> {
+    for (line, want) in &BY_HAND {
+        assert!(rt; line_is_answered(rt.alloc(), *line, *want)?);
     }
     Ok(())
 }
 
 #[test]
-fn the_answers_are_those_of_another_implementation(rt: HostRuntime) -> Result<(), Fail> {
-    for (line, expected) in REFERENCE {
-        assert_eq!(rt; answer(line).as_bytes(), expected);
+fn lines_of_another_implementation(rt: HostRuntime) -> Result<(), Fail> {
+    for (line, want) in &REFERENCE {
+        assert!(rt; line_is_answered(rt.alloc(), *line, *want)?);
     }
     Ok(())
 }
 
 #[test]
 fn polynomials_are_calculated_modulo_their_modulus(rt: HostRuntime) -> Result<(), Fail> {
-    for (line, expected) in POLYNOMIALS {
-        assert_eq!(rt; answer(line).as_bytes(), expected);
-    }
-    Ok(())
-}
-
-#[test]
-fn a_line_of_one_byte_names_no_field(rt: HostRuntime) -> Result<(), Fail> {
-    for byte in 0..=255u8 {
-        let expected = if byte < 128 { b"error 1" } else { b"error 6" };
-        assert_eq!(rt; answer(&[byte]).as_bytes(), expected.as_slice());
+    for (line, want) in &POLYNOMIALS {
+        assert!(rt; line_is_answered(rt.alloc(), *line, *want)?);
     }
     Ok(())
 }
 
 #[test]
 fn a_line_that_is_no_text_is_refused_before_all_else(rt: HostRuntime) -> Result<(), Fail> {
-    assert_eq!(rt;
-        answer(b"t8 mul 10 10 \xc3").as_bytes(),
-        b"error 6".as_slice()
-    );
-    assert_eq!(rt;
-        answer(b"t8 mul 10 10 \xc3\xa9").as_bytes(),
-        b"error 3".as_slice()
-    );
+    for (line, want) in &ENCODINGS {
+        assert!(rt; line_is_answered(rt.alloc(), *line, *want)?);
+    }
     Ok(())
+}
+
+#[test]
+fn a_line_of_one_byte_names_no_field(rt: HostRuntime) {
+    for byte in 0..=255u8 {
+        let want = if byte < 128 { b"error 1" } else { b"error 6" };
+        assert!(rt;
+            answer(&[byte]).as_bytes() == want.as_slice(),
+            "byte {byte}"
+        );
+    }
+}
+
+#[test]
+fn whole_inputs(rt: HostRuntime) {
+    for (input, want) in &INPUTS {
+        assert!(rt; input_is_answered(rt.alloc(), *input, *want));
+    }
 }

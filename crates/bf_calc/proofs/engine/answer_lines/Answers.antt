@@ -6,7 +6,7 @@ use Rattle.bf_calc.specs.Outbox.{waiting}
 use Rattle.bf_calc.specs.Progress.{AnswersLines}
 use Rattle.bf_calc.proofs.FoundLemmas.{IsLine-none, IsLine-ended, cut_ended, ended_within}
 use Rattle.bf_calc.proofs.ProgressLemmas.{OnErr-from, AnswersLines-none, AnswersLines-front_left, AnswersLines-line, AnswersLines-trans}
-use Rattle.bf_calc.proofs.engine.feed.Goals as goal
+use Rattle.bf_calc.proofs.engine.answer_lines.Goals as goal
 
 pub lines-init : goal.lines-init
 lines-init g c = record {

@@ -4,7 +4,7 @@ use Rattle.bf_calc.specs.Lines.{IsLine}
 use Rattle.bf_calc.specs.Outbox.{waiting}
 use Rattle.bf_calc.specs.Progress.{AnswersLines}
 use Rattle.bf_calc.specs.Watched.{inner_of, has_failed}
-use Rattle.bf_calc.proofs.engine.feed.Given as goal
+use Rattle.bf_calc.proofs.engine.answer_lines.Given as goal
 
 -- the lines that end before `start` are answered
 abbrev pub invariant-lines : goal.invariant-lines

@@ -1,0 +1,14 @@
+//! Tests of the calculator: lines with their answers, runs over readers, writers and allocators that fail, and the texts of
+//! faults. The crate has nothing to call.
+#![tactic(auto)]
+
+#[cfg(test)]
+mod ends;
+#[cfg(test)]
+mod faults;
+#[cfg(test)]
+mod lines;
+#[cfg(test)]
+mod memory;
+#[cfg(test)]
+mod runs;
