@@ -1,96 +1,284 @@
 #!/usr/bin/env python3
-"""Writes the lines and answers that crates/bf_lines replays, src/lines/FIELD.rt, as JSON.
+"""Writes the calls that crates/bf_vectors is run on and the answers that it has to print: its files stdin and stdout.
 
-    make_vectors.py SEED LINES ANSWERS
+    make_vectors.py VECTORS
 
-LINES is a file of the calculator's lines, and ANSWERS one of the answers that another implementation of the same
-calculator gave to them, a line for a line. Of each of the calculator's fields and each operation the first 57 lines that
-were answered are kept, and of each error the first 20: with enough lines 2,970 in all. A line that is no UTF-8 stands as
-its bytes. SEED is what the lines were drawn from.
+VECTORS is the JSON of another implementation's answers: a map with its seed, and a list or a map for each kind of call. A
+few rows of each kind are kept, under a heading for each field and for each kind that is no method of a field. Numbers are
+hexadecimal without zeros before them, a list has commas between its numbers, and `-` is the empty list.
 
-With --check alone it reads the files back, and says whether they hold the 2,970 lines in the form that it writes.
+With --check alone it reads both files back, and says whether they hold as many calls under each heading as are expected,
+and answers in the form that it writes.
 """
 
+import hashlib
 import json
 import pathlib
 import re
 import sys
 
-FIELDS = ["gf2", "t2", "t4", "t8", "t16", "t32", "t64", "t128", "p64", "g128"]
-OTHER_FIELDS = [b"r8", b"p192"]
-OPERATIONS = ["add", "mul", "square", "inv", "sqrt"]
-ANSWERED = 57
-REFUSED = 20
-FOLDER = pathlib.Path(__file__).parent.parent / "crates/bf_lines/src/lines"
-HEAD = """// Lines {kind} and their answers, by the Rust crate p3-binary-field 0.8.0; drawn from the seed {seed}.
-// Written by scripts/make_vectors.py; do not edit.
-pub(crate) const LINES: &str = r#"[
-{entries}
-]"#;
+FOLDER = pathlib.Path(__file__).resolve().parent.parent / "crates/bf_vectors"
+TOWER = ["gf2", "t2", "t4", "t8", "t16", "t32", "t64", "t128"]
+POLYNOMIAL = ["p64", "g128"]
+# How many rows are kept of the products by the root, of the repeated squarings, of the elements that change their basis,
+# and of those on which the mixed operators go; and the lengths of the dot products and of the polynomials.
+PRODUCTS_BY_ROOT = 6
+POWERS = 6
+CONVERTED = 4
+MIXED = 2
+DOT_PRODUCTS = [0, 1, 3, 17]
+POLYNOMIALS = [0, 1, 2, 20, 65, 128]
+# The operators between two fields: their name, and in how many ways each is computed. A sum is a difference too.
+OPERATORS = {"*": ("products", 2), "+": ("sums", 5), "-": ("sums", 5)}
+# Lines that are no calls, or whose operands the function does not take.
+REFUSED = [
+    "",
+    "t9 bits",
+    "t8 bits 1",
+    "t8 mul_alpha",
+    "t8 mul_alpha 1g",
+    "t8 mul_alpha 100",
+    "t2 mul_alpha 4",
+    "t8 cantor_basis 8",
+    "t8 dot_product 1,2 1",
+    "t8 sum 1,,2",
+    "p64/t128 sums 1 1",
+    "p64/t8 quotients 1 1",
+    "dot_powers_of_x " + ",".join(["1"] * 129),
+    "masked_product 1 1 4 0",
+    "masked_product 2 1 0 0",
+    "to_tower_8 100",
+    "to_tower_16 1",
+    "linear_map 1,2,3 0 1000",
+]
+# How many calls stand under each heading.
+CALLS = {
+    "gf2": 27,
+    "t2": 28,
+    "t4": 30,
+    "t8": 33,
+    "t16": 36,
+    "t32": 39,
+    "t64": 42,
+    "t128": 45,
+    "p64": 42,
+    "g128": 45,
+    "operators between two fields": 30,
+    "values of polynomials at x": 6,
+    "masked products": 64,
+    "changes of basis": 72,
+    "a linear map": 1,
+    "no calls": 18,
+}
+HEAD = """\
+# Calls of the library, and in stdout their answers by the Rust crate p3-binary-field 0.8.0; drawn from the seed {seed}.
+# Written by scripts/make_vectors.py; do not edit.
 """
 
 
-def kind_of(line, answer):
-    """The kind that a line counts for: an error, or a field and an operation; None where the calculator lacks the field."""
-    if line.split()[:1] and line.split()[0] in OTHER_FIELDS:
-        return None
-    if answer.startswith("error "):
-        return (answer,)
-    field, operation = line.decode().split()[:2]
-    return (field, operation)
+def number(text):
+    """A number whose digits are given."""
+    return f"{int(text, 16):x}"
 
 
-def entry(line, answer):
-    """A line and its answer as JSON."""
-    try:
-        return {"line": line.decode(), "answer": answer}
-    except UnicodeDecodeError:
-        return {"bytes": list(line), "answer": answer}
+def listed(texts):
+    """A list of numbers whose digits are given."""
+    return ",".join(map(number, texts)) or "-"
 
 
-def chosen(lines, answers):
-    """The entries of each file: by field those that were answered, and those that were refused."""
-    files = {field: [] for field in FIELDS + ["refused"]}
-    counts = {}
-    for line, answer in zip(lines, answers, strict=True):
-        kind = kind_of(line, answer)
-        if kind is None:
-            continue
-        refused = len(kind) == 1
-        counts[kind] = counts.get(kind, 0) + 1
-        if counts[kind] <= (REFUSED if refused else ANSWERED):
-            files["refused" if refused else kind[0]].append(entry(line, answer))
-    return files
+def of_field(rows, field):
+    return [row for row in rows if row["field"] == field]
 
 
-def text_of(name, entries, seed):
-    kind = "that are refused" if name == "refused" else f"of the field {name}"
-    rows = ",\n".join(json.dumps(row, ensure_ascii=True) for row in entries)
-    return HEAD.format(kind=kind, seed=seed, entries=rows)
+def places(bits):
+    """The places of the Cantor vectors that are kept: each power of two, the places beside it, and the last."""
+    powers = [1 << log for log in range(bits.bit_length())]
+    return sorted({place for power in powers for place in (power - 1, power, power + 1) if place < bits})
+
+
+def cantor_vector(row, field, digits):
+    """A field's Cantor vector; a level of the tower has the vectors of the levels above."""
+    return row[field] if field in POLYNOMIAL else row["t128"][-digits:]
+
+
+def constants(vectors, field):
+    """The bits, the generator and the Cantor vectors of a field."""
+    [row] = of_field(vectors["generators"], field)
+    bits, digits = row["bits"], len(row["generator"])
+    yield f"{field} bits", f"{bits:x}"
+    yield f"{field} generator", number(row["generator"])
+    for place in places(bits):
+        vector = cantor_vector(vectors["cantor_basis"][place], field, digits)
+        yield f"{field} cantor_basis {place:x}", number(vector)
+
+
+def products(vectors, field):
+    """Products by the root of the field's level, and repeated squarings."""
+    for row in of_field(vectors["mul_alpha"], field)[-PRODUCTS_BY_ROOT:]:
+        yield f"{field} mul_alpha {number(row['x'])}", number(row["y"])
+    # GF(2) squares as often as it is told to, which for a count of 64 bits does not end.
+    rows = of_field(vectors["exp_power_of_2"], field)
+    rows = [row for row in rows if field != "gf2" or int(row["k"]) < 1024]
+    for row in rows[-POWERS:]:
+        yield f"{field} exp_power_of_2 {number(row['x'])} {int(row['k']):x}", number(row["y"])
+
+
+def dot_products(vectors, field):
+    """Dot products, and the sums and products of their left operands."""
+    for row in of_field(vectors["dot_product"], field):
+        if len(row["u"]) in DOT_PRODUCTS:
+            left, right = listed(row["u"]), listed(row["v"])
+            yield f"{field} dot_product {left} {right}", number(row["dot"])
+            yield f"{field} sum {left}", number(row["sum_u"])
+            yield f"{field} product {left}", number(row["product_u"])
+
+
+def field_calls(vectors, field):
+    return [*constants(vectors, field), *products(vectors, field), *dot_products(vectors, field)]
+
+
+def mixed(vectors):
+    """What an operator gives at an element and one of a level of the tower on its right."""
+    rows = vectors["change_of_basis"]["mixed"][-MIXED:]
+    for name in (name for name in rows[0] if re.search("[-+*]", name)):
+        left, operator, right = re.split("([-+*])", name)
+        operators, ways = OPERATORS[operator]
+        for row in rows:
+            yield f"{left}/{right} {operators} {number(row[left])} {number(row[right])}", listed([row[name]] * ways)
+
+
+def values_at_x(vectors):
+    """The values at x of polynomials over the field of GHASH."""
+    for row in vectors["dot_powers_of_x"]:
+        if len(row["values"]) in POLYNOMIALS:
+            yield f"dot_powers_of_x {listed(row['values'])}", number(row["sum"])
+
+
+def masked_products(vectors):
+    """The all ones of each pair of classes, and the first row that was drawn; `masked_products` is of x, 0 and x."""
+    kept = {}
+    for row in vectors["masked_product"]:
+        kept.setdefault((row["i"], row["j"]), []).append(row)
+    for row in (row for rows in kept.values() for row in rows[:2]):
+        operands = f"{number(row['x'])} {number(row['y'])} {row['i']} {row['j']}"
+        yield f"masked_product {operands}", number(row["product"])
+        yield f"masked_products {operands}", listed([row["product"], "0", row["product"]])
+
+
+def conversions(vectors, name):
+    """Elements of the tower beside their images: of some bits each way, and of elements that were drawn."""
+    changes = vectors["change_of_basis"]
+    to_polynomial, to_tower = changes[f"tower_to_{name}_columns"], changes[f"{name}_to_tower_columns"]
+    bits, digits = len(to_tower), len(to_tower[0])
+    rows = []
+    for place in sorted({1, bits // 4, bits // 2, bits - 1}):
+        bit = f"{1 << place:0{digits}x}"
+        rows += [(bit, to_polynomial[place]), (to_tower[place], bit)]
+    if name == "r8":
+        images = changes["r8_images_of_all_t8"]
+        drawn = [(f"{x:02x}", images[x]) for x in (0x00, 0x13, 0x7F, 0xFF)]
+    else:
+        slices = changes[f"{name}_from_tower_vec"]
+        drawn = list(dict.fromkeys(zip(slices["in"], slices["out"], strict=True)))[:CONVERTED]
+    return rows + drawn
+
+
+def changes_of_basis(vectors):
+    for name, bits in (("r8", 8), ("p64", 64), ("g128", 128)):
+        for tower, polynomial in conversions(vectors, name):
+            yield f"to_polynomial_{bits} {number(tower)}", number(polynomial)
+            yield f"to_tower_{bits} {number(polynomial)}", number(tower)
+
+
+def drawn_words(seed):
+    """The words of splitmix64 from a seed."""
+    mask = (1 << 64) - 1
+    while True:
+        seed = seed + 0x9E3779B97F4A7C15 & mask
+        word = (seed ^ seed >> 30) * 0xBF58476D1CE4E5B9 & mask
+        word = (word ^ word >> 27) * 0x94D049BB133111EB & mask
+        yield word ^ word >> 31
+
+
+def results_of(row):
+    """The results of a linear map on elements of two words each, the low one first; their SHA-256 has to be the row's."""
+    images = [int(image, 16) for image in row["images"]]
+    words = drawn_words(int(row["input_seed"], 16))
+    results = []
+    for _ in range(row["len"]):
+        element = next(words) | next(words) << 64
+        result = 0
+        for bit, image in enumerate(images):
+            if element >> bit & 1:
+                result ^= image
+        results.append(f"{result:032x}")
+    if hashlib.sha256(bytes.fromhex("".join(results))).hexdigest() != row["sha256_of_be_bytes"]:
+        sys.exit("the results of the linear map are others")
+    return results
+
+
+def linear_maps(vectors):
+    """A map that was drawn. Of its results the vectors have the SHA-256."""
+    row = vectors["try_apply_linear_map_into"][0]
+    call = f"linear_map {listed(row['images'])} {number(row['input_seed'])} {row['len']:x}"
+    yield call, listed(results_of(row))
+
+
+def chosen(vectors):
+    """The calls and their answers under each heading."""
+    sections = {field: field_calls(vectors, field) for field in TOWER + POLYNOMIAL}
+    sections["operators between two fields"] = list(mixed(vectors))
+    sections["values of polynomials at x"] = list(values_at_x(vectors))
+    sections["masked products"] = list(masked_products(vectors))
+    sections["changes of basis"] = list(changes_of_basis(vectors))
+    sections["a linear map"] = list(linear_maps(vectors))
+    sections["no calls"] = [(line, "error") for line in REFUSED]
+    return sections
+
+
+def texts_of(sections, seed):
+    """The two files. A line that begins with `#` stands in both."""
+    calls = answers = HEAD.format(seed=seed)
+    for name, rows in sections.items():
+        heading = f"# {name}\n"
+        calls += heading + "".join(f"{call}\n" for call, _ in rows)
+        answers += heading + "".join(f"{answer}\n" for _, answer in rows)
+    return calls, answers
+
+
+def read(calls, answers):
+    """The calls and their answers under each heading of two files."""
+    sections = {}
+    for call, answer in zip(calls.split("\n")[2:-1], answers.split("\n")[2:-1], strict=True):
+        if call.startswith("# "):
+            rows = sections.setdefault(call[2:], [])
+        else:
+            rows.append((call, answer))
+    return sections
 
 
 def check():
-    total = 0
-    for name in FIELDS + ["refused"]:
-        text = (FOLDER / f"{name}.rt").read_text(encoding="utf-8")
-        seed = re.search(r"drawn from the seed (\d+)", text).group(1)
-        entries = json.loads(text[text.index("[\n") : text.rindex('"#')])
-        if text_of(name, entries, seed) != text:
-            sys.exit(f"{name}.rt is not what this script writes")
-        total += len(entries)
-    if total != len(FIELDS) * len(OPERATIONS) * ANSWERED + 6 * REFUSED:
-        sys.exit(f"there are {total} lines")
+    calls, answers = ((FOLDER / name).read_text(encoding="ascii") for name in ("stdin", "stdout"))
+    seed = re.search(r"drawn from the seed (\d+)", calls).group(1)
+    sections = read(calls, answers)
+    if texts_of(sections, seed) != (calls, answers):
+        sys.exit("stdin and stdout are not in the form that this script writes")
+    if {name: len(rows) for name, rows in sections.items()} != CALLS:
+        sys.exit("there are not as many calls under each heading as are kept")
+    for name, rows in sections.items():
+        form = "error" if name == "no calls" else "[0-9a-f]+(,[0-9a-f]+)*"
+        if not all(re.fullmatch(form, answer) for _, answer in rows):
+            sys.exit(f"an answer under {name} has another form")
 
 
 def main():
     if sys.argv[1:] == ["--check"]:
         return check()
-    seed, lines, answers = sys.argv[1:]
-    lines = pathlib.Path(lines).read_bytes().split(b"\n")[:-1]
-    answers = pathlib.Path(answers).read_text(encoding="ascii").split("\n")[:-1]
-    FOLDER.mkdir(parents=True, exist_ok=True)
-    for name, entries in chosen(lines, answers).items():
-        (FOLDER / f"{name}.rt").write_text(text_of(name, entries, seed), encoding="utf-8")
+    [path] = sys.argv[1:]
+    vectors = json.loads(pathlib.Path(path).read_text(encoding="ascii"))
+    calls, answers = texts_of(chosen(vectors), vectors["seed"])
+    (FOLDER / "stdin").write_text(calls, encoding="ascii")
+    (FOLDER / "stdout").write_text(answers, encoding="ascii")
 
 
 if __name__ == "__main__":

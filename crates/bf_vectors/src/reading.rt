@@ -1,57 +1,47 @@
-// The members of a sample, and the elements that its texts write in hexadecimal.
+// Operands as words in hexadecimal.
+use crate::fault::Fault;
+use bf_base::Unsigned;
 use bf_base::traits::TowerLevel;
-use num_traits::Num;
-use serde_json::Value;
 use std::alloc::Global;
-use std::process::Abort;
-use std::test::Fail;
 
-/// The member of a sample.
-pub(crate) fn member<'a>(sample: &'a Value, name: &str) -> Result<&'a Value, Fail> {
-    Ok(sample.get(name).ok_or("no such member")?)
+/// The number that a word writes.
+pub(crate) fn number(word: &str) -> Result<u128, Fault> {
+    u128::from_str_radix(word, 16).ok().ok_or(Fault::Line)
 }
 
-/// The rows of an array, of which there have to be `count`.
-pub(crate) fn rows<'a>(
-    rt: &impl Abort,
-    array: &'a Value,
-    count: usize,
-) -> Result<&'a [Value], Fail> {
-    let rows = array.as_array().ok_or("no array")?;
-    assert_eq!(rt; rows.len(), count);
-    Ok(rows.as_slice())
+/// The word of 64 bits that a word writes.
+pub(crate) fn word(word: &str) -> Result<u64, Fault> {
+    u64::from_str_radix(word, 16).ok().ok_or(Fault::Line)
 }
 
-/// The number that a member writes in decimal.
-pub(crate) fn count(sample: &Value, name: &str) -> Result<usize, Fail> {
-    let number = member(sample, name)?.as_u64().ok_or("no number")?;
-    Ok(usize::try_from(number)?)
+/// The place or the count that a word writes.
+pub(crate) fn count(word: &str) -> Result<usize, Fault> {
+    usize::from_str_radix(word, 16).ok().ok_or(Fault::Line)
 }
 
-/// The number that a text writes in hexadecimal.
-pub(crate) fn number<N: Num>(text: &Value) -> Result<N, Fail> {
-    let text = text.as_str().ok_or("no text")?;
-    let number = N::from_str_radix(text, 16).ok();
-    Ok(number.ok_or("no hexadecimal number")?)
+/// The representation of an element as a number.
+pub(crate) fn number_of<F: TowerLevel>(element: F) -> u128 {
+    element.to_repr().to_u128()
 }
 
-/// The element whose representation a text writes.
-pub(crate) fn element<F: TowerLevel>(text: &Value) -> Result<F, Fail>
-where
-    F::Repr: Num,
-{
-    let bits: F::Repr = number(text)?;
-    Ok(F::from_repr(bits))
+/// The element whose representation a word writes.
+pub(crate) fn element<F: TowerLevel>(word: &str) -> Result<F, Fault> {
+    let number = number(word)?;
+    let element = F::from_repr(F::Repr::of_u128(number));
+    if number_of(element) == number {
+        Ok(element)
+    } else {
+        Err(Fault::Line)
+    }
 }
 
-/// The elements whose representations an array of texts writes.
-pub(crate) fn elements<F: TowerLevel>(alloc: Global, array: &Value) -> Result<Vec<F>, Fail>
-where
-    F::Repr: Num,
-{
+/// The elements whose representations a list writes.
+pub(crate) fn elements<F: TowerLevel>(alloc: Global, list: &str) -> Result<Vec<F>, Fault> {
     let mut elements = Vec::new(alloc);
-    for text in array.as_array().ok_or("no array")? {
-        elements.push(element(text)?)?;
+    if list != "-" {
+        for word in list.split(',') {
+            elements.push(element(word)?)?;
+        }
     }
     Ok(elements)
 }

@@ -1,0 +1,20 @@
+//! Answers one field operation a line, as the program `binfield` does, and is run on 2,970 lines.
+//!
+//! The file `stdin` has the lines, some of which are malformed or no UTF-8, and `stdout` has the answers that the Rust crate
+//! p3-binary-field 0.8.0 gave to them. The lines were drawn from the seed 20261122. scripts/make_lines.py writes both files.
+#![tactic(auto)]
+
+use bf_calc::{Watched, run};
+use std::process::ExitCode;
+
+fn main(rt: HostRuntime) -> ExitCode {
+    let mut reader = Watched::new(rt.stdin());
+    let mut writer = Watched::new(rt.stdout());
+    match run(rt.alloc(), &mut reader, &mut writer) {
+        Ok(()) => ExitCode::SUCCESS,
+        Err(fault) => {
+            let _ = eprint!(rt; "{}", fault.line());
+            ExitCode::FAILURE
+        }
+    }
+}

@@ -1,0 +1,12 @@
+//! Tests of what joins the tower and the two polynomial bases: the change of basis, operators with an element of the tower on the
+//! right, and linear maps. The crate has nothing to call.
+#![tactic(auto)]
+
+#[cfg(test)]
+mod change_of_basis;
+#[cfg(test)]
+mod linear_map;
+#[cfg(test)]
+mod mixed_operands;
+#[cfg(test)]
+mod numbers;

@@ -1,0 +1,108 @@
+//! Answers calls of the library, one a line, and is run on a sample that the Rust crate p3-binary-field 0.8.0 answered.
+//!
+//! A line is words: what is called and its operands. Numbers and representations are in hexadecimal, a list has commas
+//! between its numbers, and `-` is the empty list. The answer is a list too, or `error` for a line that is no call, or whose
+//! operands the function does not take. A line that begins with `#` is repeated.
+//!
+//! | Line | Answer |
+//! |---|---|
+//! | `t8 mul_alpha 53`, `t8 dot_product 1,2 3,4` | what a call of a field gives |
+//! | `p64/t8 sums 1 2`, `p64/t8 products 1 2` | what the operators of a field give with an element of a level on the right |
+//! | `dot_powers_of_x 1,2,3`, `to_tower_64 13` | what a function of one type gives |
+//!
+//! The file `stdout` has the crate's answers to the calls of `stdin`, which were drawn from the seed 20261122.
+//! scripts/make_vectors.py writes both.
+#![tactic(auto)]
+
+mod algebras;
+mod basis;
+mod fault;
+mod fields;
+mod linear_map;
+mod masked;
+mod reading;
+
+use crate::algebras::{ghash_call, poly64_call};
+use crate::fault::Fault;
+use crate::fields::{field_call, value_at_x};
+use bf_base::Gf2;
+use bf_element::{
+    BinaryField2, BinaryField4, BinaryField8, BinaryField16, BinaryField32, BinaryField64,
+    BinaryField128, Ghash128, Poly64,
+};
+use bf_tower::{Bits8, Bits16, Bits32, Bits64, Bits128};
+use std::alloc::{AllocError, Global};
+use std::fmt::Write;
+use std::io;
+
+/// The answer to a call.
+fn answer(alloc: Global, name: &str, call: &[&str]) -> Result<Vec<u128>, Fault> {
+    match name {
+        "p64/t8" => poly64_call::<u8, Bits8>(alloc, call),
+        "p64/t16" => poly64_call::<u16, Bits16>(alloc, call),
+        "p64/t32" => poly64_call::<u32, Bits32>(alloc, call),
+        "p64/t64" => poly64_call::<u64, Bits64>(alloc, call),
+        "g128/t8" => ghash_call::<u8, Bits8>(alloc, call),
+        "g128/t16" => ghash_call::<u16, Bits16>(alloc, call),
+        "g128/t32" => ghash_call::<u32, Bits32>(alloc, call),
+        "g128/t64" => ghash_call::<u64, Bits64>(alloc, call),
+        "g128/t128" => ghash_call::<u128, Bits128>(alloc, call),
+        "linear_map" => linear_map::sample(alloc, call),
+        "masked_products" => masked::products(alloc, call),
+        _ => Ok(vec![in alloc; number(alloc, name, call)?]?),
+    }
+}
+
+/// The answer to a call that gives one number.
+fn number(alloc: Global, name: &str, call: &[&str]) -> Result<u128, Fault> {
+    match name {
+        "gf2" => field_call::<Gf2>(alloc, call),
+        "t2" => field_call::<BinaryField2>(alloc, call),
+        "t4" => field_call::<BinaryField4>(alloc, call),
+        "t8" => field_call::<BinaryField8>(alloc, call),
+        "t16" => field_call::<BinaryField16>(alloc, call),
+        "t32" => field_call::<BinaryField32>(alloc, call),
+        "t64" => field_call::<BinaryField64>(alloc, call),
+        "t128" => field_call::<BinaryField128>(alloc, call),
+        "p64" => field_call::<Poly64>(alloc, call),
+        "g128" => field_call::<Ghash128>(alloc, call),
+        "dot_powers_of_x" => value_at_x(alloc, call),
+        "masked_product" => masked::product(call),
+        _ => basis::changed(name, call),
+    }
+}
+
+/// The numbers with commas between them.
+fn listed(alloc: Global, numbers: &[u128]) -> Result<String, AllocError> {
+    let mut text = String::new(alloc);
+    for (place, number) in numbers.iter().enumerate() {
+        let comma = if place == 0 { "" } else { "," };
+        write!(text, "{comma}{number:x}")?;
+    }
+    Ok(text)
+}
+
+/// What is printed for a line.
+fn reply(alloc: Global, line: &str) -> Result<String, AllocError> {
+    if line.starts_with('#') {
+        return String::from_str(alloc, line);
+    }
+    let words: Vec<&str> = line.split_whitespace().collect(alloc)?;
+    let given = match words.split_first() {
+        Some((name, call)) => answer(alloc, name, call),
+        None => Err(Fault::Line),
+    };
+    match given {
+        Ok(numbers) => listed(alloc, &numbers),
+        Err(Fault::Line) => String::from_str(alloc, "error"),
+        Err(Fault::Memory(error)) => Err(error),
+    }
+}
+
+fn main(rt: HostRuntime) -> io::Result<()> {
+    for line in rt.lines(rt.alloc()) {
+        let text = reply(rt.alloc(), line?.as_str())?;
+        println!(rt; "{text}")?;
+    }
+    Ok(())
+}
