@@ -1,12 +1,13 @@
 -- What holds of a level of the tower holds of the field that is the level in another basis.
-use Rattle.std.proofs.Common.{◌≡◌, ◌≢◌, ℕ, zero, suc, ◌%◌, ◌^◌, ◌<◌, ◌≤◌, sym, ◌∙◌, ap, ap₂, arith, lit<}
+use Rattle.std.proofs.Common.{◌≡◌, ◌≢◌, ℕ, zero, suc, ◌%◌, ◌^◌, ◌<◌, ◌≤◌, sym, ◌∙◌, ap, ap₂, subst, arith, lit<}
 use Rattle.std.specs.Prelude.{bit_xor}
 use Rattle.std.proofs.lemmas.Nat.{pow_pos, pow_below, xor_lt}
 use native.Mathlib.Nat.{mod-lt}
 use lib.Bits.{xor_self}
+use Rattle.bf_base.specs.Orders.{AreCantorVectors}
 use Rattle.bf_base.specs.Ring.{IsRing}
 use Rattle.bf_base.specs.Tower.{root, tower_mul}
-use Rattle.bf_base.specs.TowerBasis.{IsBasisOf, tower_generator}
+use Rattle.bf_base.specs.TowerBasis.{AreEvenCantorVectors, IsBasisOf, tower_generator}
 use Rattle.bf_base.proofs.RingLemmas.{times-mod, mod-times}
 use Rattle.bf_base.proofs.TowerRing.{tower_ring}
 use Rattle.bf_base.proofs.TowerTraces.{tower_no_root}
@@ -48,6 +49,19 @@ module _ (k width : ℕ) (times : ℕ → ℕ → ℕ) (basis : ℕ → ℕ) (ri
       (times-mod width 1 times ring (x % 2 ^ width) x ∙ mod-times width 1 times ring x x)
       (times-mod width 1 times ring (basis (root k)) x)
       ∙ none)
+
+  -- the images of Cantor vectors are Cantor vectors of the field
+  pub basis-cantor : (vector : ℕ → ℕ) → AreEvenCantorVectors k vector → width ≡ 2 ^ k
+      → AreCantorVectors width times (λ i. basis (vector i))
+  basis-cantor vector vectors bits =
+      record {
+        first = ap basis vectors.first ∙ keeps.one_image;
+        rule =
+            λ i above below.
+            ap (λ (x : ℕ). bit_xor x (basis (vector i))) (sym (keeps.product_image (vector i) (vector i)))
+            ∙ sym (keeps.sum_image (tower_mul k (vector i) (vector i)) (vector i))
+            ∙ ap basis (vectors.rule i above (subst (λ (w : ℕ). i < w) bits below));
+      }
 
 -- ---- the generators
 

@@ -6,7 +6,7 @@ use Rattle.std.proofs.lemmas.Nat.{xor_mod}
 use native.Mathlib.Nat.{mod-lt, mul_comm, mul_assoc, zero-mul, one-mul, mul-one, mod-eq_of_lt}
 use Rattle.bf_base.specs.Ring.{IsRing}
 use Rattle.bf_base.specs.Field.{IsField}
-use Rattle.bf_base.specs.Orders.{HasFullOrder}
+use Rattle.bf_base.specs.Orders.{AreCantorVectors, HasFullOrder}
 use Rattle.bf_base.specs.Powers.{power, squared}
 use Rattle.bf_base.specs.Tower.{root, tower_mul}
 use Rattle.bf_base.specs.TowerBasis.{AreEvenCantorVectors, IsBasisOf}
@@ -81,6 +81,9 @@ bit_cantor =
       rule = λ i above below. absurd (omega (arith, above, below));
       even = λ i above below. absurd (omega (arith, above, below));
     }
+
+pub bit_cantor_image : AreCantorVectors 1 (tower_mul 0) (λ i. 1)
+bit_cantor_image = record { first = refl; rule = λ i above below. absurd (omega (arith, above, below)) }
 
 -- squaring returns each bit, and only 0 has no inverse
 pub bit_field : IsField 1 (tower_mul 0)

@@ -13,8 +13,8 @@ pub record IsBasisOf (k width : ℕ) (times : ℕ → ℕ → ℕ) (basis : ℕ 
   pub one_to_one : (a b : ℕ) → a < 2 ^ 2 ^ k → b < 2 ^ 2 ^ k → basis a ≡ basis b → a ≡ b
   pub onto : (b : ℕ) → b < 2 ^ width → (a : ℕ) × (a < 2 ^ 2 ^ k) × (basis a ≡ b)
 
--- the Cantor vectors of level k of the tower (D. G. Cantor, On arithmetical algorithms over finite fields, Journal of
--- Combinatorial Theory A 50, 1989): vector 0 is 1, and each other is the even solution v of v² + v = the vector before it
+-- the Cantor vectors of level k of the tower: vector 0 is 1, and each other is the even solution v of v² + v = the vector
+-- before it
 pub record AreEvenCantorVectors (k : ℕ) (vector : ℕ → ℕ) : Type 0 where
   pub first : vector 0 ≡ 1
   pub below : (i : ℕ) → i < 2 ^ k → vector i < 2 ^ 2 ^ k

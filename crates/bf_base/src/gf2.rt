@@ -295,7 +295,7 @@ impl Field for Gf2 {
 impl Sealed for Gf2 {}
 
 impl TowerLevel for Gf2 {
-    ghost use Rattle.bf_base.specs.BitRing.{bit_basis, bit_cantor, bit_no_root};
+    ghost use Rattle.bf_base.specs.BitRing.{bit_basis, bit_cantor, bit_cantor_image, bit_no_root};
 
     type Repr = u8;
 
@@ -330,6 +330,8 @@ impl TowerLevel for Gf2 {
     ghost basis_law = { bit_basis };
 
     ghost cantor_law = { bit_cantor };
+
+    ghost cantor_image_law = { bit_cantor_image };
 
     ghost generator_image_law = { refl };
 

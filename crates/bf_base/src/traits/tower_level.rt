@@ -1,5 +1,6 @@
 // Fields whose bits are a power of two: the levels of the tower, and the fields that are one of them in another basis.
 ghost use Rattle.std.specs.Prelude.{◌≡◌, ◌≢◌, ◌%◌, ◌^◌, ◌<◌, ◌≤◌, ℕ, bit_xor};
+ghost use Rattle.bf_base.specs.Orders.{AreCantorVectors};
 ghost use Rattle.bf_base.specs.Tower.{root};
 ghost use Rattle.bf_base.specs.TowerBasis.{AreEvenCantorVectors, IsBasisOf, tower_generator};
 
@@ -52,6 +53,9 @@ pub trait TowerLevel: Field + Sealed {
     ghost basis_law: { IsBasisOf LOG_BITS Self.width Self.product basis };
 
     ghost cantor_law: { AreEvenCantorVectors LOG_BITS cantor };
+
+    // In the field too each of their images solves v² + v = the image before it.
+    ghost cantor_image_law: { AreCantorVectors Self.width Self.product (λ i. basis (cantor i)) };
 
     ghost generator_image_law: { Self.repr Self.Field.GENERATOR ≡ basis (tower_generator LOG_BITS) };
 

@@ -228,7 +228,7 @@ impl<R: Word, K: Kernel<R>> Field for Element<R, K> {
 impl<R: Unsigned, K: LevelKernel<R>> Sealed for Element<R, K> {}
 
 impl<R: Unsigned, K: LevelKernel<R>> TowerLevel for Element<R, K> {
-    ghost use Rattle.bf_base.proofs.TowerBasisLemmas.{basis-no_root};
+    ghost use Rattle.bf_base.proofs.TowerBasisLemmas.{basis-cantor, basis-no_root};
 
     type Repr = R;
 
@@ -275,6 +275,8 @@ impl<R: Unsigned, K: LevelKernel<R>> TowerLevel for Element<R, K> {
     ghost basis_law = { K.basis_law };
 
     ghost cantor_law = { K.cantor_law };
+
+    ghost cantor_image_law = { basis-cantor K.LOG_BITS K.width K.product K.basis K.field_law.ring K.basis_law K.cantor K.cantor_law K.bits_law };
 
     ghost generator_image_law = { word_number K.width R.bits (R.number (R.of_number K.generator)) K.generator (R.number_of K.generator) K.generator_fits K.room_law ∙ K.generator_image_law };
 
