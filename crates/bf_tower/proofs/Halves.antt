@@ -12,7 +12,7 @@ use Rattle.bf_base.specs.Tower.{root, tower_mul}
 use Rattle.bf_base.proofs.Norms.{norm-of_zero}
 use Rattle.bf_base.proofs.QuadraticProducts.{pair-low}
 use Rattle.bf_base.proofs.QuadraticRing.{low_half-lt, high_half-lt, low_half-pair, high_half-pair, pair-halves, pair-lt}
-use Rattle.bf_base.proofs.RingLemmas.{times-zero}
+use Rattle.bf_base.proofs.RingLemmas.{times-zero, times_left_comm}
 use Rattle.bf_base.proofs.TowerFrobenius.{tower_squared-half}
 use Rattle.bf_base.proofs.TowerInverse.{tower_norm-lt, tower_norm-zero, tower_mul-conjugate_over_norm}
 use Rattle.bf_base.proofs.TowerProducts.{tower_mul-square, tower_mul-root_suc}
@@ -74,6 +74,15 @@ root_of_halves k a q r0 r1 fits low_fits high_fits quotient low_square high_squa
     ∙ ap₂ (pair (2 ^ k))
     (xor_assoc (low_half (2 ^ k) a) q q ∙ ap (bit_xor (low_half (2 ^ k) a)) (xor_self q) ∙ xor_zero_r (low_half (2 ^ k) a)) quotient
     ∙ whole k a fits
+
+-- a0 (a0 + t a1) + a1² is a0² + t a0 a1 + a1²
+pub norm_by_conjugate : (k a0 a1 : ℕ)
+    → bit_xor (tower_mul k a0 (bit_xor a0 (tower_mul k (root k) a1))) (tower_mul k a1 a1)
+    ≡ bit_xor (bit_xor (tower_mul k a0 a0) (tower_mul k (root k) (tower_mul k a0 a1))) (tower_mul k a1 a1)
+norm_by_conjugate k a0 a1 =
+    ap (λ (x : ℕ). bit_xor x (tower_mul k a1 a1))
+    ((tower_ring k).over_sum a0 a0 (tower_mul k (root k) a1)
+    ∙ ap (bit_xor (tower_mul k a0 a0)) (times_left_comm (2 ^ k) 1 (tower_mul k) (tower_ring k) a0 (root k) a1))
 
 -- of 0 the inverse of the norm is 0, and so are both halves
 pub inverse_of_zero : (k a norm' over_norm x y r : ℕ) → norm' ≡ norm (2 ^ k) (tower_mul k) (root k) a

@@ -98,14 +98,14 @@ pub fn conjugate_of<R: Unsigned, E: Extension<R>>(a: R) -> R
     E::join(low.xor(E::Below::multiply_by_root(high)), high)
 }
 
-/// The norm of an element, its product with its conjugate: a0² + t a0 a1 + a1².
+/// The norm of an element, its product with its conjugate: a0² + t a0 a1 + a1², which is a0 (a0 + t a1) + a1².
 #[inline]
 pub fn norm_of<R: Unsigned, E: Extension<R>>(a: R) -> E::Half
     ensures { E.Half.number result ≡ norm (2 ^ E.Below.LEVEL) (tower_mul E.Below.LEVEL) (root E.Below.LEVEL) (R.number a) }
 {
     let (low, high) = (E::low(a), E::high(a));
-    let mixed = E::Below::multiply_by_root(E::Below::multiply(low, high));
-    E::Below::square(low).xor(mixed).xor(E::Below::square(high))
+    let conjugate_low = low.xor(E::Below::multiply_by_root(high));
+    E::Below::multiply(low, conjugate_low).xor(E::Below::square(high))
 }
 
 /// The inverse of an element, its conjugate (a0 + t a1) + a1 X over its norm, and 0 for 0. The norm of an element but 0 is
