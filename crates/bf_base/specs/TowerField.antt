@@ -1,8 +1,9 @@
 -- Every level of the tower is a field. The root that a level adjoins and its inverse have the trace 1, so the polynomial
 -- whose root the next level adjoins has no root, and each element but 0 has an inverse (D. Wiedemann, An iterated
 -- quadratic extension of GF(2), Fibonacci Quarterly 26, 1988).
-use Rattle.std.specs.Prelude.{◌≡◌, ◌≢◌, ℕ, zero, suc, ◌%◌, ◌^◌, bit_xor}
+use Rattle.std.specs.Prelude.{◌≡◌, ◌≢◌, ℕ, zero, suc, ◌+◌, ◌%◌, ◌^◌, ◌<◌, bit_xor}
 use Rattle.bf_base.specs.Field.{HasInverses, IsField}
+use Rattle.bf_base.specs.Norm.{conjugate, norm}
 use Rattle.bf_base.specs.Quadratic.{pair}
 use Rattle.bf_base.specs.Tower.{root, tower_mul}
 use Rattle.bf_base.specs.Powers.{squared, sum_of_squarings}
@@ -40,3 +41,19 @@ SquaringsReturn = (k a : ℕ) → squared 1 (tower_mul k) (2 ^ k) a ≡ a % 2 ^ 
 -- so every level is a field of 2 ^ 2 ^ k elements
 abbrev pub TowerIsField : Type 0
 TowerIsField = (k : ℕ) → IsField (2 ^ k) (tower_mul k)
+
+-- an element of level k is one of each level j + k above it, where sums and products of such elements are the same: level k
+-- lies inside the levels above
+pub record LevelsLieInside : Type 0 where
+  pub fits : (j k a : ℕ) → a < 2 ^ 2 ^ k → a < 2 ^ 2 ^ (j + k)
+  pub sum_fits : (k a b : ℕ) → a < 2 ^ 2 ^ k → b < 2 ^ 2 ^ k → bit_xor a b < 2 ^ 2 ^ k
+  pub product : (j k a b : ℕ) → a < 2 ^ 2 ^ k → b < 2 ^ 2 ^ k → tower_mul (j + k) a b ≡ tower_mul k a b
+
+-- the norm of an element of level k + 1 over level k, its conjugate and half as many squarings as it has bits: the norm is the
+-- product with the conjugate, the conjugate is those squarings, and only 0 has the norm 0
+pub record NormsAndConjugates : Type 0 where
+  pub norm_is_product : (k a : ℕ) → tower_mul (suc k) a (conjugate (2 ^ k) (tower_mul k) (root k) a)
+      ≡ norm (2 ^ k) (tower_mul k) (root k) a
+  pub conjugate_is_squarings : (k a : ℕ) → conjugate (2 ^ k) (tower_mul k) (root k) a ≡ squared 1 (tower_mul (suc k)) (2 ^ k) a
+  pub norm_below : (k a : ℕ) → norm (2 ^ k) (tower_mul k) (root k) a < 2 ^ 2 ^ k
+  pub norm_of_nonzero : (k a : ℕ) → a < 2 ^ 2 ^ suc k → a ≢ 0 → norm (2 ^ k) (tower_mul k) (root k) a ≢ 0

@@ -7,10 +7,12 @@ pub use bf_base::Gf2;
 pub use bf_base::traits::{
     Algebra, DotProduct, Field, PrimeCharacteristicRing, Represented, TowerLevel,
 };
+pub use bf_basis::{LinearMap, to_polynomial_slice_64, to_tower_slice_64};
 pub use bf_calc as calc;
 pub use bf_element::{
     BinaryField2, BinaryField4, BinaryField8, BinaryField16, BinaryField32, BinaryField64,
     BinaryField128, Ghash128, Poly64,
 };
+pub use bf_laws as laws;
 pub use bf_poly_basis as poly_basis;
 pub use bf_transform::over;

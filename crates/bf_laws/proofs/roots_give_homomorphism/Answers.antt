@@ -1,6 +1,6 @@
 -- The homomorphism, by induction on the level.
 use Rattle.bf_base.proofs.BasisIsomorphism.{roots_give_homomorphism}
-use Rattle.bf_base.proofs.laws.roots_give_homomorphism.Goals as goal
+use Rattle.bf_laws.proofs.roots_give_homomorphism.Goals as goal
 
 pub returns : goal.returns
 returns c = roots_give_homomorphism

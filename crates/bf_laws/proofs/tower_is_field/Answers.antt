@@ -1,7 +1,7 @@
 -- The laws of a field, each by its induction on the level.
 use Rattle.bf_base.proofs.TowerTraces.{tower_inverses, tower_no_root, root_inverse_is, traces_are_one}
 use Rattle.bf_base.proofs.TowerLaws.{tower_field}
-use Rattle.bf_base.proofs.laws.tower_is_field.Goals as goal
+use Rattle.bf_laws.proofs.tower_is_field.Goals as goal
 
 pub returns-clause-inverses : goal.returns-clause-inverses
 returns-clause-inverses c = tower_inverses

@@ -1,11 +1,13 @@
-// Laws of the definitions, as contracts of functions that compute nothing.
+//! Laws of the fields' definitions, as contracts of functions that compute nothing.
+#![tactic(auto)]
+
 ghost use Rattle.bf_base.specs.Basis.{RootsGiveHomomorphism};
 ghost use Rattle.bf_base.specs.Carryless.{ConvCountsPairs, ConvIsProduct};
 ghost use Rattle.bf_base.specs.Field.{FieldsHaveLaws};
 ghost use Rattle.bf_base.specs.Remainder.{MulModIsRemainder, MulModIsRing, RemIsRemainder, RemainderIsUnique};
 ghost use Rattle.bf_base.specs.Tower.{TowerIsRing};
 ghost use Rattle.bf_base.specs.Powers.{SquaringsArePowers};
-ghost use Rattle.bf_base.specs.TowerField.{TracesAreOne, RootInverse, NoLevelHasARoot, NonzeroHasInverse, SquaringsReturn, TowerIsField};
+ghost use Rattle.bf_base.specs.TowerField.{TracesAreOne, RootInverse, NoLevelHasARoot, NonzeroHasInverse, SquaringsReturn, TowerIsField, LevelsLieInside, NormsAndConjugates};
 
 /// States that the tower's product is that of a commutative ring of characteristic two at every level.
 pub fn tower_is_ring()
@@ -26,6 +28,18 @@ pub fn tower_is_field()
 /// is Fermat's power, and one square root, which is reached by squarings.
 pub fn fields_have_laws()
     ensures { FieldsHaveLaws }
+{}
+
+/// States that each level of the tower lies inside the levels above it: its elements are elements there, and their sums and
+/// products are the same.
+pub fn levels_lie_inside()
+    ensures { LevelsLieInside }
+{}
+
+/// States what the norm and the conjugate over the level below are: the conjugate is half as many squarings as the element has
+/// bits, the norm is the product with it, and only 0 has the norm 0.
+pub fn norms_and_conjugates()
+    ensures { NormsAndConjugates }
 {}
 
 /// States that 2^k squarings of an element of level k give the element back.
