@@ -5,11 +5,11 @@ use Rattle.std.specs.Prelude.{bit_xor}
 use Rattle.std.proofs.lemmas.Nat.{pow_pos, shr_split, xor_lt}
 use native.Mathlib.Nat.{mod-lt, mod-eq_of_lt}
 use lib.Bits.{xor_assoc, xor_self, xor_zero_r, xor_shifted}
-use Rattle.bf_base.specs.Powers.{squared}
+use Rattle.bf_base.specs.Powers.{repeated_square}
 use Rattle.bf_base.specs.Quadratic.{high_half, pair}
 use Rattle.bf_base.specs.Tower.{root, tower_mul}
 use Rattle.bf_base.proofs.QuadraticRing.{low_half-pair, high_half-pair}
-use Rattle.bf_base.proofs.TowerFrobenius.{tower_squared-half}
+use Rattle.bf_base.proofs.TowerFrobenius.{tower_repeated_square-half}
 use Rattle.bf_base.proofs.TowerProducts.{tower_mul-square, tower_mul-root_suc}
 use Rattle.bf_base.proofs.TowerRing.{tower_ring}
 
@@ -44,14 +44,14 @@ module _ (k a : ℕ) (fits : a / 2 ^ 2 ^ k < 2 ^ 2 ^ k) where
 
   -- the conjugate is the element and t a1, where r is t a1
   pub conjugate_of_halves : (r : ℕ) → r ≡ tower_mul k (root k) (a / 2 ^ 2 ^ k)
-      → bit_xor a r ≡ squared 1 (tower_mul (suc k)) (2 ^ k) a
+      → bit_xor a r ≡ repeated_square 1 (tower_mul (suc k)) (2 ^ k) a
   conjugate_of_halves r product =
       ap (λ (x : ℕ). bit_xor x r) (sym (shifted (a % 2 ^ 2 ^ k) low_fits ∙ shr_split a (2 ^ k)))
       ∙ xor_assoc (a / 2 ^ 2 ^ k * 2 ^ 2 ^ k) (a % 2 ^ 2 ^ k) r
       ∙ shifted (bit_xor (a % 2 ^ 2 ^ k) r) (xor_lt (2 ^ k) (a % 2 ^ 2 ^ k) r low_fits r_fits)
       ∙ ap₂ (λ (x y : ℕ). x * 2 ^ 2 ^ k + bit_xor (a % 2 ^ 2 ^ k) y) (sym (high_half_is (2 ^ k) a fits))
       (product ∙ ap (tower_mul k (root k)) (sym (high_half_is (2 ^ k) a fits)))
-      ∙ sym (tower_squared-half k a)
+      ∙ sym (tower_repeated_square-half k a)
     where
       low_fits : a % 2 ^ 2 ^ k < 2 ^ 2 ^ k
       low_fits = mod-lt a (pow_pos (2 ^ k))

@@ -8,14 +8,14 @@ use lib.Bits.{xor_assoc, xor_self}
 use Rattle.bf_base.specs.Basis.{basis_image, bit_image, AreRoots, IsHomomorphism, IsIsomorphism, RootsGiveHomomorphism}
 use Rattle.bf_base.specs.Field.{IsField}
 use Rattle.bf_base.specs.Field.{HasInverses}
-use Rattle.bf_base.specs.Powers.{squared}
+use Rattle.bf_base.specs.Powers.{repeated_square}
 use Rattle.bf_base.specs.Remainder.{HasDegree, mul_mod}
 use Rattle.bf_base.specs.Ring.{IsRing}
 use Rattle.bf_base.specs.Tower.{root, tower_mul}
 use Rattle.bf_base.proofs.AdditiveMaps.{maps_agree}
 use Rattle.bf_base.proofs.BasisColumns.{apply, apply-sum, level_columns, apply-level_columns}
 use Rattle.bf_base.proofs.BasisMaps.{image_at, image_at-mod, image_at-lt, image_at-sum, image_at-nothing, image_at-one, image_at-root, image_at-low, image_at-product}
-use Rattle.bf_base.proofs.PowerLemmas.{squared-mod}
+use Rattle.bf_base.proofs.PowerLemmas.{repeated_square-mod}
 use Rattle.bf_base.proofs.RemainderRing.{mul_mod_ring}
 use Rattle.bf_base.proofs.RingLemmas.{xor_nothing, zero-times, mod-times}
 use Rattle.bf_base.proofs.TowerTraces.{tower_inverses, squarings_return, root-lt}
@@ -171,21 +171,21 @@ module _ (width modulus : ℕ) (wide : 0 < width) (degree : HasDegree width modu
             ∙ isomorphic.homomorphism.zero_image)
 
     -- squarings of the image are the image of squarings
-    squared_image : (n a : ℕ) → basis_image width modulus images (squared 1 (tower_mul (length images)) n a)
-        ≡ squared 1 (mul_mod width modulus) n (basis_image width modulus images a)
-    unfolding squared
-    squared_image zero a =
+    repeated_square_image : (n a : ℕ) → basis_image width modulus images (repeated_square 1 (tower_mul (length images)) n a)
+        ≡ repeated_square 1 (mul_mod width modulus) n (basis_image width modulus images a)
+    unfolding repeated_square
+    repeated_square_image zero a =
         isomorphic.homomorphism.product_image 1 a
         ∙ ap (λ (x : ℕ). mul_mod width modulus x (basis_image width modulus images a)) isomorphic.homomorphism.one_image
-    squared_image (suc n) a =
-        isomorphic.homomorphism.product_image _ _ ∙ ap (λ (x : ℕ). mul_mod width modulus x x) (squared_image n a)
+    repeated_square_image (suc n) a =
+        isomorphic.homomorphism.product_image _ _ ∙ ap (λ (x : ℕ). mul_mod width modulus x x) (repeated_square_image n a)
 
     -- as many squarings as the level has bits return each polynomial
-    pub isomorphic-squarings : (b : ℕ) → squared 1 (mul_mod width modulus) (2 ^ length images) b ≡ b % 2 ^ width
+    pub isomorphic-squarings : (b : ℕ) → repeated_square 1 (mul_mod width modulus) (2 ^ length images) b ≡ b % 2 ^ width
     isomorphic-squarings b =
-        sym (squared-mod width 1 (mul_mod width modulus) ring (2 ^ length images) b)
-        ∙ ap (squared 1 (mul_mod width modulus) (2 ^ length images)) (sym returned)
-        ∙ sym (squared_image (2 ^ length images) a)
+        sym (repeated_square-mod width 1 (mul_mod width modulus) ring (2 ^ length images) b)
+        ∙ ap (repeated_square 1 (mul_mod width modulus) (2 ^ length images)) (sym returned)
+        ∙ sym (repeated_square_image (2 ^ length images) a)
         ∙ ap (basis_image width modulus images) (squarings_return (length images) a ∙ mod-eq_of_lt (isomorphic.inverse_below (b % 2 ^ width)))
         ∙ returned
       where
@@ -202,7 +202,7 @@ module _ (width modulus : ℕ) (wide : 0 < width) (degree : HasDegree width modu
           ring = ring;
           inverses = isomorphic-inverses;
           squarings_return =
-              λ a. ap (λ (n : ℕ). squared 1 (mul_mod width modulus) n a) (sym whole) ∙ isomorphic-squarings a;
+              λ a. ap (λ (n : ℕ). repeated_square 1 (mul_mod width modulus) n a) (sym whole) ∙ isomorphic-squarings a;
         }
 
 pub roots_give_homomorphism : RootsGiveHomomorphism

@@ -3,8 +3,8 @@ use Rattle.std.proofs.Common.{◌≡◌, ℕ, zero, suc, ◌+◌, ◌-◌, ◌*�
 use Rattle.std.specs.Int.{bit_at}
 use Rattle.std.proofs.lemmas.Nat.Bits.{bit_at_xor, bit_at-suc, bit_at_lowest, bit_at-zero}
 use native.Mathlib.Nat.{zero-mul, one-mul, zero-add, add-zero, add_assoc, sub-zero, suc-sub-suc, add-mod-mod, mul-mod_left, mul-div_cancel}
-use Rattle.bf_base.specs.Carryless.{conv, pairs_before, pairs, ConvCountsPairs}
-use Rattle.bf_base.proofs.CarrylessProduct.{conv_step, bit_cases}
+use Rattle.bf_base.specs.Carryless.{carryless, pairs_before, pairs, ConvCountsPairs}
+use Rattle.bf_base.proofs.CarrylessProduct.{carryless_step, bit_cases}
 
 -- ---- pairs
 
@@ -40,21 +40,21 @@ bit_at-double_lowest a = bit_at_lowest (a * 2) ∙ mul-mod_left a 2
 
 -- ---- the count
 
-conv_bit-step : (a b n : ℕ)
-    → bit_at (conv a b) n ≡ (a % 2 * bit_at b n + bit_at (conv (a / 2) b * 2) n) % 2
-conv_bit-step a b n =
-    ap (λ (x : ℕ). bit_at x n) (conv_step a b) ∙ bit_at_xor (a % 2 * b) (conv (a / 2) b * 2) n
-    ∙ ap (λ (x : ℕ). (x + bit_at (conv (a / 2) b * 2) n) % 2) (bit_at-bit_times a b n)
+carryless_bit-step : (a b n : ℕ)
+    → bit_at (carryless a b) n ≡ (a % 2 * bit_at b n + bit_at (carryless (a / 2) b * 2) n) % 2
+carryless_bit-step a b n =
+    ap (λ (x : ℕ). bit_at x n) (carryless_step a b) ∙ bit_at_xor (a % 2 * b) (carryless (a / 2) b * 2) n
+    ∙ ap (λ (x : ℕ). (x + bit_at (carryless (a / 2) b * 2) n) % 2) (bit_at-bit_times a b n)
 
-pub conv_counts : ConvCountsPairs
-conv_counts a b zero =
-    conv_bit-step a b 0
-    ∙ ap (λ (x : ℕ). (a % 2 * bit_at b 0 + x) % 2) (bit_at-double_lowest (conv (a / 2) b))
+pub carryless_counts : ConvCountsPairs
+carryless_counts a b zero =
+    carryless_bit-step a b 0
+    ∙ ap (λ (x : ℕ). (a % 2 * bit_at b 0 + x) % 2) (bit_at-double_lowest (carryless (a / 2) b))
     ∙ ap (λ (x : ℕ). x % 2) (add-zero (a % 2 * bit_at b 0)
     ∙ ap (λ (x : ℕ). x * bit_at b 0) (sym (bit_at_lowest a)) ∙ sym (pairs_lowest a b))
-conv_counts a b (suc n) =
-    conv_bit-step a b (suc n)
+carryless_counts a b (suc n) =
+    carryless_bit-step a b (suc n)
     ∙ ap₂ (λ (x y : ℕ). (x * bit_at b (suc n) + y) % 2) (sym (bit_at_lowest a))
-    (bit_at-double (conv (a / 2) b) n ∙ conv_counts (a / 2) b n)
+    (bit_at-double (carryless (a / 2) b) n ∙ carryless_counts (a / 2) b n)
     ∙ add-mod-mod (bit_at a 0 * bit_at b (suc n)) (pairs (a / 2) b n) 2
     ∙ ap (λ (x : ℕ). x % 2) (sym (pairs_front a b n (suc n)))

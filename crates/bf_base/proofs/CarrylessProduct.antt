@@ -7,7 +7,7 @@ use native.Mathlib.Nat.{mod-lt, zero-mul, one-mul, mul-one, add-zero, mul_assoc,
 use lib.Arith.{bin_ind, half_le, lt-one}
 use lib.Bits.{xor_assoc, xor_self, xor_zero_r, xor_shifted}
 use native.Mathlib.Decide.{le_ind}
-use Rattle.bf_base.specs.Carryless.{conv_in, conv, ConvIsProduct}
+use Rattle.bf_base.specs.Carryless.{carryless_in, carryless, ConvIsProduct}
 use Rattle.bf_base.proofs.RingLemmas.{xor_left_comm}
 use Rattle.bf_base.specs.BitRing.{two_cases}
 
@@ -43,28 +43,28 @@ bit_cases P none one a = two_cases P none one (a % 2) (mod-lt a (lit< tt))
 
 -- ---- the step
 
-more : (fuel a b : ℕ) → a ≤ fuel → conv_in (suc fuel) a b ≡ conv_in fuel a b
-unfolding conv_in
+more : (fuel a b : ℕ) → a ≤ fuel → carryless_in (suc fuel) a b ≡ carryless_in fuel a b
+unfolding carryless_in
 more zero zero b fits = refl
 more zero (suc a) b fits = absurd (not-suc-le-zero fits)
 more (suc fuel) zero b fits = refl
 more (suc fuel) (suc a) b fits =
     ap (λ (x : ℕ). bit_xor (suc a % 2 * b) (x * 2)) (more fuel (suc a / 2) b (half_le fits))
 
-enough : (fuel a b : ℕ) → a ≤ fuel → conv_in fuel a b ≡ conv a b
-unfolding conv
+enough : (fuel a b : ℕ) → a ≤ fuel → carryless_in fuel a b ≡ carryless a b
+unfolding carryless
 enough fuel a b fits =
-    le_ind (λ (m : ℕ). conv_in m a b ≡ conv_in a a b) refl (λ m k e. more m a b k ∙ e) fuel fits
+    le_ind (λ (m : ℕ). carryless_in m a b ≡ carryless_in a a b) refl (λ m k e. more m a b k ∙ e) fuel fits
 
-pub zero_conv : (b : ℕ) → conv 0 b ≡ 0
-unfolding conv conv_in
-zero_conv b = refl
+pub zero_carryless : (b : ℕ) → carryless 0 b ≡ 0
+unfolding carryless carryless_in
+zero_carryless b = refl
 
 -- the lowest bit of the left operand, and the others
-pub conv_step : (a b : ℕ) → conv a b ≡ bit_xor (a % 2 * b) (conv (a / 2) b * 2)
-unfolding conv conv_in
-conv_step zero b = sym (ap (λ (x : ℕ). bit_xor x 0) (zero-mul b))
-conv_step (suc a) b =
+pub carryless_step : (a b : ℕ) → carryless a b ≡ bit_xor (a % 2 * b) (carryless (a / 2) b * 2)
+unfolding carryless carryless_in
+carryless_step zero b = sym (ap (λ (x : ℕ). bit_xor x 0) (zero-mul b))
+carryless_step (suc a) b =
     ap (λ (x : ℕ). bit_xor (suc a % 2 * b) (x * 2)) (enough a (suc a / 2) b (half_le (le_refl (suc a))))
 
 -- ---- products of sums
@@ -79,102 +79,102 @@ sum_times_bit d e c =
     (bit_cases (λ y. bit_xor 1 y * c ≡ bit_xor (1 * c) (y * c)) (simp (zero-mul, one-mul, xor_zero_r))
     (simp (zero-mul, one-mul, xor_self)) e) d
 
-pub conv_sum : (a b c : ℕ) → conv a (bit_xor b c) ≡ bit_xor (conv a b) (conv a c)
-conv_sum a b c =
-    bin_ind (λ (n : ℕ). conv n (bit_xor b c) ≡ bit_xor (conv n b) (conv n c)) (simp zero_conv)
-    (λ n ih. conv_step n (bit_xor b c)
+pub carryless_sum : (a b c : ℕ) → carryless a (bit_xor b c) ≡ bit_xor (carryless a b) (carryless a c)
+carryless_sum a b c =
+    bin_ind (λ (n : ℕ). carryless n (bit_xor b c) ≡ bit_xor (carryless n b) (carryless n c)) (simp zero_carryless)
+    (λ n ih. carryless_step n (bit_xor b c)
     ∙ ap₂ (λ (x y : ℕ). bit_xor x (y * 2)) (bit_times_sum n b c) ih
-    ∙ ap (bit_xor (bit_xor (n % 2 * b) (n % 2 * c))) (sym (xor_double (conv (n / 2) b) (conv (n / 2) c)))
-    ∙ xor_exchange (n % 2 * b) (n % 2 * c) (conv (n / 2) b * 2) (conv (n / 2) c * 2)
-    ∙ sym (ap₂ bit_xor (conv_step n b) (conv_step n c))) a
+    ∙ ap (bit_xor (bit_xor (n % 2 * b) (n % 2 * c))) (sym (xor_double (carryless (n / 2) b) (carryless (n / 2) c)))
+    ∙ xor_exchange (n % 2 * b) (n % 2 * c) (carryless (n / 2) b * 2) (carryless (n / 2) c * 2)
+    ∙ sym (ap₂ bit_xor (carryless_step n b) (carryless_step n c))) a
 
-pub sum_conv : (a b c : ℕ) → conv (bit_xor a b) c ≡ bit_xor (conv a c) (conv b c)
-sum_conv a b c =
-    bin_ind (λ (n : ℕ). (m : ℕ) → conv (bit_xor n m) c ≡ bit_xor (conv n c) (conv m c)) (λ m. simp zero_conv)
-    (λ n ih m. conv_step (bit_xor n m) c
+pub sum_carryless : (a b c : ℕ) → carryless (bit_xor a b) c ≡ bit_xor (carryless a c) (carryless b c)
+sum_carryless a b c =
+    bin_ind (λ (n : ℕ). (m : ℕ) → carryless (bit_xor n m) c ≡ bit_xor (carryless n c) (carryless m c)) (λ m. simp zero_carryless)
+    (λ n ih m. carryless_step (bit_xor n m) c
     ∙ ap₂ (λ (x y : ℕ). bit_xor x (y * 2))
     (ap (λ (x : ℕ). x * c) (xor_odd n m) ∙ sum_times_bit n m c)
-    (ap (λ (x : ℕ). conv x c) (xor_half n m) ∙ ih (m / 2))
-    ∙ ap (bit_xor (bit_xor (n % 2 * c) (m % 2 * c))) (sym (xor_double (conv (n / 2) c) (conv (m / 2) c)))
-    ∙ xor_exchange (n % 2 * c) (m % 2 * c) (conv (n / 2) c * 2) (conv (m / 2) c * 2)
-    ∙ sym (ap₂ bit_xor (conv_step n c) (conv_step m c))) a b
+    (ap (λ (x : ℕ). carryless x c) (xor_half n m) ∙ ih (m / 2))
+    ∙ ap (bit_xor (bit_xor (n % 2 * c) (m % 2 * c))) (sym (xor_double (carryless (n / 2) c) (carryless (m / 2) c)))
+    ∙ xor_exchange (n % 2 * c) (m % 2 * c) (carryless (n / 2) c * 2) (carryless (m / 2) c * 2)
+    ∙ sym (ap₂ bit_xor (carryless_step n c) (carryless_step m c))) a b
 
 -- ---- zero and one
 
-pub conv_zero : (a : ℕ) → conv a 0 ≡ 0
-conv_zero a = conv_sum a 0 0 ∙ xor_self (conv a 0)
+pub carryless_zero : (a : ℕ) → carryless a 0 ≡ 0
+carryless_zero a = carryless_sum a 0 0 ∙ xor_self (carryless a 0)
 
-pub one_conv : (b : ℕ) → conv 1 b ≡ b
-one_conv b = conv_step 1 b ∙ ap₂ (λ (x y : ℕ). bit_xor x (y * 2)) (one-mul b) (zero_conv b) ∙ xor_zero_r b
+pub one_carryless : (b : ℕ) → carryless 1 b ≡ b
+one_carryless b = carryless_step 1 b ∙ ap₂ (λ (x y : ℕ). bit_xor x (y * 2)) (one-mul b) (zero_carryless b) ∙ xor_zero_r b
 
-pub conv_one : (a : ℕ) → conv a 1 ≡ a
-conv_one =
-    bin_ind (λ (n : ℕ). conv n 1 ≡ n) (zero_conv 1)
-    (λ n ih. conv_step n 1 ∙ ap₂ (λ (x y : ℕ). bit_xor x (y * 2)) (mul-one (n % 2)) ih ∙ xor_split n)
+pub carryless_one : (a : ℕ) → carryless a 1 ≡ a
+carryless_one =
+    bin_ind (λ (n : ℕ). carryless n 1 ≡ n) (zero_carryless 1)
+    (λ n ih. carryless_step n 1 ∙ ap₂ (λ (x y : ℕ). bit_xor x (y * 2)) (mul-one (n % 2)) ih ∙ xor_split n)
 
 -- the product by a bit
-pub bit_conv : (a b : ℕ) → conv (a % 2) b ≡ a % 2 * b
-bit_conv a b =
-    bit_cases (λ x. conv x b ≡ x * b) (zero_conv b ∙ sym (zero-mul b)) (one_conv b ∙ sym (one-mul b)) a
+pub bit_carryless : (a b : ℕ) → carryless (a % 2) b ≡ a % 2 * b
+bit_carryless a b =
+    bit_cases (λ x. carryless x b ≡ x * b) (zero_carryless b ∙ sym (zero-mul b)) (one_carryless b ∙ sym (one-mul b)) a
 
-pub conv_bit : (a b : ℕ) → conv a (b % 2) ≡ b % 2 * a
-conv_bit a b =
-    bit_cases (λ x. conv a x ≡ x * a) (conv_zero a ∙ sym (zero-mul a)) (conv_one a ∙ sym (one-mul a)) b
+pub carryless_bit : (a b : ℕ) → carryless a (b % 2) ≡ b % 2 * a
+carryless_bit a b =
+    bit_cases (λ x. carryless a x ≡ x * a) (carryless_zero a ∙ sym (zero-mul a)) (carryless_one a ∙ sym (one-mul a)) b
 
 -- ---- shifts
 
-pub conv_double : (a b : ℕ) → conv a (b * 2) ≡ conv a b * 2
-conv_double a b =
-    bin_ind (λ (n : ℕ). conv n (b * 2) ≡ conv n b * 2) (zero_conv (b * 2) ∙ sym (ap (λ (x : ℕ). x * 2) (zero_conv b)))
-    (λ n ih. conv_step n (b * 2)
+pub carryless_double : (a b : ℕ) → carryless a (b * 2) ≡ carryless a b * 2
+carryless_double a b =
+    bin_ind (λ (n : ℕ). carryless n (b * 2) ≡ carryless n b * 2) (zero_carryless (b * 2) ∙ sym (ap (λ (x : ℕ). x * 2) (zero_carryless b)))
+    (λ n ih. carryless_step n (b * 2)
     ∙ ap₂ (λ (x y : ℕ). bit_xor x (y * 2)) (sym (mul_assoc (n % 2) b 2)) ih
-    ∙ xor_double (n % 2 * b) (conv (n / 2) b * 2)
-    ∙ sym (ap (λ (x : ℕ). x * 2) (conv_step n b))) a
+    ∙ xor_double (n % 2 * b) (carryless (n / 2) b * 2)
+    ∙ sym (ap (λ (x : ℕ). x * 2) (carryless_step n b))) a
 
-pub double_conv : (a b : ℕ) → conv (a * 2) b ≡ conv a b * 2
-double_conv a b =
-    conv_step (a * 2) b
-    ∙ ap₂ (λ (x y : ℕ). bit_xor (x * b) (conv y b * 2)) (mul-mod_left a 2) (mul-div_cancel a (lit< tt))
-    ∙ ap (λ (x : ℕ). bit_xor x (conv a b * 2)) (zero-mul b)
+pub double_carryless : (a b : ℕ) → carryless (a * 2) b ≡ carryless a b * 2
+double_carryless a b =
+    carryless_step (a * 2) b
+    ∙ ap₂ (λ (x y : ℕ). bit_xor (x * b) (carryless y b * 2)) (mul-mod_left a 2) (mul-div_cancel a (lit< tt))
+    ∙ ap (λ (x : ℕ). bit_xor x (carryless a b * 2)) (zero-mul b)
 
-pub conv_shl : (k a b : ℕ) → conv a (b * 2 ^ k) ≡ conv a b * 2 ^ k
-conv_shl zero a b = ap (conv a) (mul-one b) ∙ sym (mul-one (conv a b))
-conv_shl (suc k) a b =
-    ap (conv a) (shift b) ∙ conv_double a (b * 2 ^ k) ∙ ap (λ (x : ℕ). x * 2) (conv_shl k a b) ∙ sym (shift (conv a b))
+pub carryless_shl : (k a b : ℕ) → carryless a (b * 2 ^ k) ≡ carryless a b * 2 ^ k
+carryless_shl zero a b = ap (carryless a) (mul-one b) ∙ sym (mul-one (carryless a b))
+carryless_shl (suc k) a b =
+    ap (carryless a) (shift b) ∙ carryless_double a (b * 2 ^ k) ∙ ap (λ (x : ℕ). x * 2) (carryless_shl k a b) ∙ sym (shift (carryless a b))
   where
     shift : (x : ℕ) → x * 2 ^ suc k ≡ x * 2 ^ k * 2
     shift x = ap (λ (y : ℕ). x * y) (pow-suc 2 k) ∙ sym (mul_assoc x (2 ^ k) 2)
 
 -- ---- the order of the operands
 
-pub conv_comm : (a b : ℕ) → conv a b ≡ conv b a
-conv_comm a b =
-    bin_ind (λ (n : ℕ). conv n b ≡ conv b n) (zero_conv b ∙ sym (conv_zero b))
-    (λ n ih. conv_step n b
-    ∙ ap₂ (λ (x y : ℕ). bit_xor x y) (sym (conv_bit b n)) (ap (λ (x : ℕ). x * 2) ih ∙ sym (conv_double b (n / 2)))
-    ∙ sym (conv_sum b (n % 2) (n / 2 * 2))
-    ∙ ap (conv b) (xor_split n)) a
+pub carryless_comm : (a b : ℕ) → carryless a b ≡ carryless b a
+carryless_comm a b =
+    bin_ind (λ (n : ℕ). carryless n b ≡ carryless b n) (zero_carryless b ∙ sym (carryless_zero b))
+    (λ n ih. carryless_step n b
+    ∙ ap₂ (λ (x y : ℕ). bit_xor x y) (sym (carryless_bit b n)) (ap (λ (x : ℕ). x * 2) ih ∙ sym (carryless_double b (n / 2)))
+    ∙ sym (carryless_sum b (n % 2) (n / 2 * 2))
+    ∙ ap (carryless b) (xor_split n)) a
 
-pub shl_conv : (k a b : ℕ) → conv (a * 2 ^ k) b ≡ conv a b * 2 ^ k
-shl_conv k a b = conv_comm (a * 2 ^ k) b ∙ conv_shl k b a ∙ ap (λ (x : ℕ). x * 2 ^ k) (conv_comm b a)
+pub shl_carryless : (k a b : ℕ) → carryless (a * 2 ^ k) b ≡ carryless a b * 2 ^ k
+shl_carryless k a b = carryless_comm (a * 2 ^ k) b ∙ carryless_shl k b a ∙ ap (λ (x : ℕ). x * 2 ^ k) (carryless_comm b a)
 
-bit_times_conv : (d b c : ℕ) → conv (d % 2 * b) c ≡ d % 2 * conv b c
-bit_times_conv d b c =
-    bit_cases (λ x. conv (x * b) c ≡ x * conv b c)
-    (ap (λ (x : ℕ). conv x c) (zero-mul b) ∙ zero_conv c ∙ sym (zero-mul (conv b c)))
-    (ap (λ (x : ℕ). conv x c) (one-mul b) ∙ sym (one-mul (conv b c))) d
+bit_times_carryless : (d b c : ℕ) → carryless (d % 2 * b) c ≡ d % 2 * carryless b c
+bit_times_carryless d b c =
+    bit_cases (λ x. carryless (x * b) c ≡ x * carryless b c)
+    (ap (λ (x : ℕ). carryless x c) (zero-mul b) ∙ zero_carryless c ∙ sym (zero-mul (carryless b c)))
+    (ap (λ (x : ℕ). carryless x c) (one-mul b) ∙ sym (one-mul (carryless b c))) d
 
-pub conv_assoc : (a b c : ℕ) → conv (conv a b) c ≡ conv a (conv b c)
-conv_assoc a b c =
-    bin_ind (λ (n : ℕ). conv (conv n b) c ≡ conv n (conv b c))
-    (ap (λ (x : ℕ). conv x c) (zero_conv b) ∙ zero_conv c ∙ sym (zero_conv (conv b c)))
-    (λ n ih. ap (λ (x : ℕ). conv x c) (conv_step n b)
-    ∙ sum_conv (n % 2 * b) (conv (n / 2) b * 2) c
-    ∙ ap₂ bit_xor (bit_times_conv n b c) (double_conv (conv (n / 2) b) c ∙ ap (λ (x : ℕ). x * 2) ih)
-    ∙ sym (conv_step n (conv b c))) a
+pub carryless_assoc : (a b c : ℕ) → carryless (carryless a b) c ≡ carryless a (carryless b c)
+carryless_assoc a b c =
+    bin_ind (λ (n : ℕ). carryless (carryless n b) c ≡ carryless n (carryless b c))
+    (ap (λ (x : ℕ). carryless x c) (zero_carryless b) ∙ zero_carryless c ∙ sym (zero_carryless (carryless b c)))
+    (λ n ih. ap (λ (x : ℕ). carryless x c) (carryless_step n b)
+    ∙ sum_carryless (n % 2 * b) (carryless (n / 2) b * 2) c
+    ∙ ap₂ bit_xor (bit_times_carryless n b c) (double_carryless (carryless (n / 2) b) c ∙ ap (λ (x : ℕ). x * 2) ih)
+    ∙ sym (carryless_step n (carryless b c))) a
 
-pub conv_left_comm : (a b c : ℕ) → conv a (conv b c) ≡ conv b (conv a c)
-conv_left_comm a b c = sym (conv_assoc a b c) ∙ ap (λ (x : ℕ). conv x c) (conv_comm a b) ∙ conv_assoc b a c
+pub carryless_left_comm : (a b c : ℕ) → carryless a (carryless b c) ≡ carryless b (carryless a c)
+carryless_left_comm a b c = sym (carryless_assoc a b c) ∙ ap (λ (x : ℕ). carryless x c) (carryless_comm a b) ∙ carryless_assoc b a c
 
 -- ---- bounds
 
@@ -187,22 +187,22 @@ double_lt x k fits = omega arith
 bit_times_lt : (d b n : ℕ) → b < 2 ^ n → d % 2 * b < 2 ^ n
 bit_times_lt d b n fits = bit_cases (λ x. x * b < 2 ^ n) (rw zero-mul (pow_pos n)) (rw one-mul fits) d
 
-pub conv_below : (m n a b : ℕ) → a < 2 ^ m → b < 2 ^ n → conv a b * 2 < 2 ^ (m + n)
-conv_below zero n a b left right =
-    subst (λ (x : ℕ). x * 2 < 2 ^ (0 + n)) (sym (ap (λ (x : ℕ). conv x b) (lt-one left) ∙ zero_conv b)) (pow_pos (0 + n))
-conv_below (suc m) n a b left right =
+pub carryless_below : (m n a b : ℕ) → a < 2 ^ m → b < 2 ^ n → carryless a b * 2 < 2 ^ (m + n)
+carryless_below zero n a b left right =
+    subst (λ (x : ℕ). x * 2 < 2 ^ (0 + n)) (sym (ap (λ (x : ℕ). carryless x b) (lt-one left) ∙ zero_carryless b)) (pow_pos (0 + n))
+carryless_below (suc m) n a b left right =
     subst (λ (x : ℕ). x < 2 ^ (suc m + n))
-    (xor_double (a % 2 * b) (conv (a / 2) b * 2) ∙ sym (ap (λ (x : ℕ). x * 2) (conv_step a b)))
-    (subst (λ (x : ℕ). bit_xor (a % 2 * b * 2) (conv (a / 2) b * 2 * 2) < 2 ^ x) (sym (suc-add m n))
+    (xor_double (a % 2 * b) (carryless (a / 2) b * 2) ∙ sym (ap (λ (x : ℕ). x * 2) (carryless_step a b)))
+    (subst (λ (x : ℕ). bit_xor (a % 2 * b * 2) (carryless (a / 2) b * 2 * 2) < 2 ^ x) (sym (suc-add m n))
     (xor_lt (suc (m + n)) _ _
     (double_lt (a % 2 * b) (m + n)
     (lt_of_lt_of_le (bit_times_lt a b n right) (pow-le-pow_right (lit< tt) (le-add_left n m))))
-    (double_lt (conv (a / 2) b * 2) (m + n) (conv_below m n (a / 2) b (half_lt a m left) right))))
+    (double_lt (carryless (a / 2) b * 2) (m + n) (carryless_below m n (a / 2) b (half_lt a m left) right))))
 
-pub conv_lt : (m n a b : ℕ) → a < 2 ^ m → b < 2 ^ n → conv a b < 2 ^ (m + n)
-conv_lt m n a b left right = let twice : conv a b * 2 < 2 ^ (m + n) = conv_below m n a b left right in omega arith
+pub carryless_lt : (m n a b : ℕ) → a < 2 ^ m → b < 2 ^ n → carryless a b < 2 ^ (m + n)
+carryless_lt m n a b left right = let twice : carryless a b * 2 < 2 ^ (m + n) = carryless_below m n a b left right in omega arith
 
 -- ---- the ring
 
-pub conv_is_product : ConvIsProduct
-conv_is_product = record { comm = conv_comm; assoc = conv_assoc; over_sum = conv_sum; one = one_conv; below = conv_below }
+pub carryless_is_product : ConvIsProduct
+carryless_is_product = record { comm = carryless_comm; assoc = carryless_assoc; over_sum = carryless_sum; one = one_carryless; below = carryless_below }

@@ -8,9 +8,9 @@ use native.Mathlib.Nat.{mod-eq_of_lt}
 use lib.Bits.{xor_self}
 use Rattle.bf_base.specs.Ring.{IsRing}
 use Rattle.bf_base.specs.Field.{HasInverses, IsField, FieldsHaveLaws}
-use Rattle.bf_base.specs.Powers.{power, squared}
+use Rattle.bf_base.specs.Powers.{power, repeated_square}
 use Rattle.bf_base.proofs.RingLemmas.{xor_nothing, times_left_comm, times-zero}
-use Rattle.bf_base.proofs.PowerLemmas.{one-times, times-one, square_xor, square_times, squared_more, squared_square, squared-mod_round, power-lt, power-two, power-add, squared-power}
+use Rattle.bf_base.proofs.PowerLemmas.{one-times, times-one, square_xor, square_times, repeated_square_more, repeated_square_square, repeated_square-mod_round, power-lt, power-two, power-add, repeated_square-power}
 
 module _ (width : ℕ) (times : ℕ → ℕ → ℕ) (ring : IsRing width 1 times) where
   pub inverse-unique : (a x y : ℕ) → x < 2 ^ width → y < 2 ^ width → times a x ≡ 1 → times a y ≡ 1 → x ≡ y
@@ -53,7 +53,7 @@ power-back width times field wide x fits =
     let order : 2 ^ width - 2 + 2 ≡ 2 ^ width = omega (arith, pow_mono {i = 1} {j = width} wide) in
     ap (times (power 1 times x (2 ^ width - 2))) (sym (power-two width 1 times ring one_fits x))
     ∙ sym (power-add width 1 times ring one_fits x (2 ^ width - 2) 2) ∙ ap (power 1 times x) order
-    ∙ sym (squared-power width 1 times ring one_fits width x) ∙ field.squarings_return x ∙ mod-eq_of_lt fits
+    ∙ sym (repeated_square-power width 1 times ring one_fits width x) ∙ field.squarings_return x ∙ mod-eq_of_lt fits
 
 -- so that it is the inverse, where x has one
 pub inverse-power : (width : ℕ) (times : ℕ → ℕ → ℕ) → IsField width times → 0 < width → (x y : ℕ) → x < 2 ^ width
@@ -76,29 +76,29 @@ power-inverts width times field wide x fits nonzero =
 
 -- the element squared once fewer than it has bits is its root
 pub squarings-square : (width : ℕ) (times : ℕ → ℕ → ℕ) → IsField width times → 0 < width → (x : ℕ) → x < 2 ^ width
-    → times (squared 1 times (width - 1) x) (squared 1 times (width - 1) x) ≡ x
+    → times (repeated_square 1 times (width - 1) x) (repeated_square 1 times (width - 1) x) ≡ x
 squarings-square width times field wide x fits =
     let count : width - 1 + 1 ≡ width = omega arith in
-    sym (squared_more width 1 times field.ring (width - 1) x) ∙ ap (λ (n : ℕ). squared 1 times n x) count
+    sym (repeated_square_more width 1 times field.ring (width - 1) x) ∙ ap (λ (n : ℕ). repeated_square 1 times n x) count
     ∙ field.squarings_return x ∙ mod-eq_of_lt fits
 
 -- as many squarings as an element has bits return it
 pub field_frobenius : (width : ℕ) (times : ℕ → ℕ → ℕ) → IsField width times → (a : ℕ) → a < 2 ^ width
-    → squared 1 times width a ≡ a
+    → repeated_square 1 times width a ≡ a
 field_frobenius width times field a fits = field.squarings_return a ∙ mod-eq_of_lt fits
 
 -- so that n squarings are as many as n leaves modulo the bits
-pub field_squared-mod_bits : (width : ℕ) (times : ℕ → ℕ → ℕ) → IsField width times → (n a : ℕ)
-    → squared 1 times (n % width) a ≡ squared 1 times n a
-field_squared-mod_bits width times field n a = squared-mod_round width 1 times field.ring width field.squarings_return n a
+pub field_repeated_square-mod_bits : (width : ℕ) (times : ℕ → ℕ → ℕ) → IsField width times → (n a : ℕ)
+    → repeated_square 1 times (n % width) a ≡ repeated_square 1 times n a
+field_repeated_square-mod_bits width times field n a = repeated_square-mod_round width 1 times field.ring width field.squarings_return n a
 
 -- the root of an element is its only one
 pub root_is_squarings : (width : ℕ) (times : ℕ → ℕ → ℕ) → IsField width times → 0 < width → (x r : ℕ) → r < 2 ^ width
-    → times r r ≡ x → r ≡ squared 1 times (width - 1) x
+    → times r r ≡ x → r ≡ repeated_square 1 times (width - 1) x
 root_is_squarings width times field wide x r fits squares =
     let count : width ≡ suc (width - 1) = omega arith in
-    sym (field_frobenius width times field r fits) ∙ ap (λ (n : ℕ). squared 1 times n r) count
-    ∙ sym (squared_square width 1 times field.ring (width - 1) r) ∙ ap (squared 1 times (width - 1)) squares
+    sym (field_frobenius width times field r fits) ∙ ap (λ (n : ℕ). repeated_square 1 times n r) count
+    ∙ sym (repeated_square_square width 1 times field.ring (width - 1) r) ∙ ap (repeated_square 1 times (width - 1)) squares
 
 pub fields_have_laws : FieldsHaveLaws
 fields_have_laws width times wide field =
@@ -106,6 +106,6 @@ fields_have_laws width times wide field =
       no_zero_divisors = no_zero_divisors width times field.ring field.inverses;
       inverse_unique = inverse-unique width times field.ring;
       inverse_is_power = power-inverts width times field wide;
-      root_is_squared = squarings-square width times field wide;
+      root_is_repeated_square = squarings-square width times field wide;
       root_unique = square-injective width times field.ring field.inverses;
     }

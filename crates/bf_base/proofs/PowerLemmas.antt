@@ -7,7 +7,7 @@ use native.Mathlib.Nat.{mod-eq_of_lt, mul-suc, mul-zero, pow-suc, zero-mul, zero
 use native.Mathlib.Numerals.{add-one}
 use lib.Bits.{xor_assoc, xor_self, xor_zero_r}
 use Rattle.bf_base.specs.Ring.{IsRing}
-use Rattle.bf_base.specs.Powers.{power, squared, sum_of_squarings}
+use Rattle.bf_base.specs.Powers.{power, repeated_square, sum_of_squarings}
 use Rattle.bf_base.proofs.RingLemmas.{xor_left_comm, xor_cancel, sum_times, times_left_comm, times-zero, times-mod, mod-times}
 
 module _ (width unit : ℕ) (times : ℕ → ℕ → ℕ) (ring : IsRing width unit times) where
@@ -31,91 +31,91 @@ module _ (width unit : ℕ) (times : ℕ → ℕ → ℕ) (ring : IsRing width u
 
   -- ---- repeated squarings
 
-  pub squared-lt : (n a : ℕ) → squared unit times n a < 2 ^ width
-  unfolding squared
-  squared-lt zero a = ring.below unit a
-  squared-lt (suc n) a = ring.below (squared unit times n a) (squared unit times n a)
+  pub repeated_square-lt : (n a : ℕ) → repeated_square unit times n a < 2 ^ width
+  unfolding repeated_square
+  repeated_square-lt zero a = ring.below unit a
+  repeated_square-lt (suc n) a = ring.below (repeated_square unit times n a) (repeated_square unit times n a)
 
-  pub squared-mod : (n a : ℕ) → squared unit times n (a % 2 ^ width) ≡ squared unit times n a
-  unfolding squared
-  squared-mod zero a = times-mod width unit times ring unit a
-  squared-mod (suc n) a = ap (λ (x : ℕ). times x x) (squared-mod n a)
+  pub repeated_square-mod : (n a : ℕ) → repeated_square unit times n (a % 2 ^ width) ≡ repeated_square unit times n a
+  unfolding repeated_square
+  repeated_square-mod zero a = times-mod width unit times ring unit a
+  repeated_square-mod (suc n) a = ap (λ (x : ℕ). times x x) (repeated_square-mod n a)
 
-  pub squared-zero : (n : ℕ) → squared unit times n 0 ≡ 0
-  unfolding squared
-  squared-zero zero = times-zero width unit times ring unit
-  squared-zero (suc n) = ap (λ (x : ℕ). times x x) (squared-zero n) ∙ times-zero width unit times ring 0
+  pub repeated_square-zero : (n : ℕ) → repeated_square unit times n 0 ≡ 0
+  unfolding repeated_square
+  repeated_square-zero zero = times-zero width unit times ring unit
+  repeated_square-zero (suc n) = ap (λ (x : ℕ). times x x) (repeated_square-zero n) ∙ times-zero width unit times ring 0
 
-  pub squared_xor : (n a b : ℕ) → squared unit times n (bit_xor a b) ≡ bit_xor (squared unit times n a) (squared unit times n b)
-  unfolding squared
-  squared_xor zero a b = ring.over_sum unit a b
-  squared_xor (suc n) a b =
-      ap (λ (x : ℕ). times x x) (squared_xor n a b) ∙ square_xor (squared unit times n a) (squared unit times n b)
+  pub repeated_square_xor : (n a b : ℕ) → repeated_square unit times n (bit_xor a b) ≡ bit_xor (repeated_square unit times n a) (repeated_square unit times n b)
+  unfolding repeated_square
+  repeated_square_xor zero a b = ring.over_sum unit a b
+  repeated_square_xor (suc n) a b =
+      ap (λ (x : ℕ). times x x) (repeated_square_xor n a b) ∙ square_xor (repeated_square unit times n a) (repeated_square unit times n b)
 
-  pub squared_times : (n a b : ℕ) → squared unit times n (times a b) ≡ times (squared unit times n a) (squared unit times n b)
-  unfolding squared
-  squared_times zero a b =
+  pub repeated_square_times : (n a b : ℕ) → repeated_square unit times n (times a b) ≡ times (repeated_square unit times n a) (repeated_square unit times n b)
+  unfolding repeated_square
+  repeated_square_times zero a b =
       one-times (times a b) (ring.below a b)
       ∙ sym (ap₂ times (ring.one a) (ring.one b) ∙ mod-times width unit times ring a (b % 2 ^ width)
       ∙ times-mod width unit times ring a b)
-  squared_times (suc n) a b =
-      ap (λ (x : ℕ). times x x) (squared_times n a b) ∙ square_times (squared unit times n a) (squared unit times n b)
+  repeated_square_times (suc n) a b =
+      ap (λ (x : ℕ). times x x) (repeated_square_times n a b) ∙ square_times (repeated_square unit times n a) (repeated_square unit times n b)
 
   -- no squaring leaves an element as it is, and one more squares it once more
-  pub squared-none : (a : ℕ) → a < 2 ^ width → squared unit times 0 a ≡ a
-  unfolding squared
-  squared-none a low = one-times a low
+  pub repeated_square-none : (a : ℕ) → a < 2 ^ width → repeated_square unit times 0 a ≡ a
+  unfolding repeated_square
+  repeated_square-none a low = one-times a low
 
-  pub squared_more : (n a : ℕ) → squared unit times (n + 1) a ≡ times (squared unit times n a) (squared unit times n a)
-  unfolding squared
-  squared_more n a = ap (λ (k : ℕ). squared unit times k a) (add-one n)
+  pub repeated_square_more : (n a : ℕ) → repeated_square unit times (n + 1) a ≡ times (repeated_square unit times n a) (repeated_square unit times n a)
+  unfolding repeated_square
+  repeated_square_more n a = ap (λ (k : ℕ). repeated_square unit times k a) (add-one n)
 
   -- the first squaring instead of the last
-  pub squared_square : (n a : ℕ) → squared unit times n (times a a) ≡ squared unit times (suc n) a
-  unfolding squared
-  squared_square n a = squared_times n a a
+  pub repeated_square_square : (n a : ℕ) → repeated_square unit times n (times a a) ≡ repeated_square unit times (suc n) a
+  unfolding repeated_square
+  repeated_square_square n a = repeated_square_times n a a
 
   -- m + n squarings are n squarings and then m
-  pub squared-add : (m n a : ℕ) → squared unit times (m + n) a ≡ squared unit times m (squared unit times n a)
-  unfolding squared
-  squared-add zero n a =
+  pub repeated_square-add : (m n a : ℕ) → repeated_square unit times (m + n) a ≡ repeated_square unit times m (repeated_square unit times n a)
+  unfolding repeated_square
+  repeated_square-add zero n a =
       let none : 0 + n ≡ n = omega arith in
-      ap (λ (x : ℕ). squared unit times x a) none ∙ sym (one-times (squared unit times n a) (squared-lt n a))
-  squared-add (suc m) n a =
+      ap (λ (x : ℕ). repeated_square unit times x a) none ∙ sym (one-times (repeated_square unit times n a) (repeated_square-lt n a))
+  repeated_square-add (suc m) n a =
       let next : suc m + n ≡ suc (m + n) = omega arith in
-      ap (λ (x : ℕ). squared unit times x a) next ∙ ap (λ (x : ℕ). times x x) (squared-add m n a)
+      ap (λ (x : ℕ). repeated_square unit times x a) next ∙ ap (λ (x : ℕ). times x x) (repeated_square-add m n a)
 
   -- where as many squarings as `round` return each element, a count of squarings counts modulo `round`
-  module _ (round : ℕ) (returns : (a : ℕ) → squared unit times round a ≡ a % 2 ^ width) where
-    whole_rounds : (m n a : ℕ) → squared unit times (m * round + n) a ≡ squared unit times n a
-    whole_rounds zero n a = ap (λ (x : ℕ). squared unit times x a) (ap (λ (x : ℕ). x + n) (zero-mul round) ∙ zero-add n)
+  module _ (round : ℕ) (returns : (a : ℕ) → repeated_square unit times round a ≡ a % 2 ^ width) where
+    whole_rounds : (m n a : ℕ) → repeated_square unit times (m * round + n) a ≡ repeated_square unit times n a
+    whole_rounds zero n a = ap (λ (x : ℕ). repeated_square unit times x a) (ap (λ (x : ℕ). x + n) (zero-mul round) ∙ zero-add n)
     whole_rounds (suc m) n a =
         let next : suc m * round + n ≡ m * round + n + round = omega (arith, suc-mul m round) in
-        ap (λ (x : ℕ). squared unit times x a) next ∙ squared-add (m * round + n) round a
-        ∙ ap (squared unit times (m * round + n)) (returns a) ∙ squared-mod (m * round + n) a ∙ whole_rounds m n a
+        ap (λ (x : ℕ). repeated_square unit times x a) next ∙ repeated_square-add (m * round + n) round a
+        ∙ ap (repeated_square unit times (m * round + n)) (returns a) ∙ repeated_square-mod (m * round + n) a ∙ whole_rounds m n a
 
-    pub squared-mod_round : (n a : ℕ) → squared unit times (n % round) a ≡ squared unit times n a
-    squared-mod_round n a =
-        sym (whole_rounds (n / round) (n % round) a) ∙ ap (λ (x : ℕ). squared unit times x a) (div-add-mod' n round)
+    pub repeated_square-mod_round : (n a : ℕ) → repeated_square unit times (n % round) a ≡ repeated_square unit times n a
+    repeated_square-mod_round n a =
+        sym (whole_rounds (n / round) (n % round) a) ∙ ap (λ (x : ℕ). repeated_square unit times x a) (div-add-mod' n round)
 
   -- ---- sums of repeated squarings
 
   pub sum_of_squarings-lt : (n a : ℕ) → sum_of_squarings unit times n a < 2 ^ width
   unfolding sum_of_squarings
   sum_of_squarings-lt zero a = pow_pos width
-  sum_of_squarings-lt (suc n) a = xor_lt width _ _ (sum_of_squarings-lt n a) (squared-lt n a)
+  sum_of_squarings-lt (suc n) a = xor_lt width _ _ (sum_of_squarings-lt n a) (repeated_square-lt n a)
 
   pub sum_of_squarings-mod : (n a : ℕ) → sum_of_squarings unit times n (a % 2 ^ width) ≡ sum_of_squarings unit times n a
   unfolding sum_of_squarings
   sum_of_squarings-mod zero a = refl
-  sum_of_squarings-mod (suc n) a = ap₂ bit_xor (sum_of_squarings-mod n a) (squared-mod n a)
+  sum_of_squarings-mod (suc n) a = ap₂ bit_xor (sum_of_squarings-mod n a) (repeated_square-mod n a)
 
   pub sum_of_squarings_xor : (n a b : ℕ) → sum_of_squarings unit times n (bit_xor a b)
       ≡ bit_xor (sum_of_squarings unit times n a) (sum_of_squarings unit times n b)
   unfolding sum_of_squarings
   sum_of_squarings_xor zero a b = refl
   sum_of_squarings_xor (suc n) a b =
-      ap₂ bit_xor (sum_of_squarings_xor n a b) (squared_xor n a b) ∙ simp (xor_assoc, xor_left_comm)
+      ap₂ bit_xor (sum_of_squarings_xor n a b) (repeated_square_xor n a b) ∙ simp (xor_assoc, xor_left_comm)
 
   -- the sum for a square is the square of the sum
   pub sum_of_squarings_square : (n a : ℕ) → sum_of_squarings unit times n (times a a)
@@ -123,8 +123,8 @@ module _ (width unit : ℕ) (times : ℕ → ℕ → ℕ) (ring : IsRing width u
   unfolding sum_of_squarings
   sum_of_squarings_square zero a = sym (times-zero width unit times ring 0)
   sum_of_squarings_square (suc n) a =
-      ap₂ bit_xor (sum_of_squarings_square n a) (squared_times n a a)
-      ∙ sym (square_xor (sum_of_squarings unit times n a) (squared unit times n a))
+      ap₂ bit_xor (sum_of_squarings_square n a) (repeated_square_times n a a)
+      ∙ sym (square_xor (sum_of_squarings unit times n a) (repeated_square unit times n a))
 
   telescoped : (sum first last next : ℕ) → bit_xor (bit_xor sum (bit_xor first last)) next
       ≡ bit_xor (bit_xor sum last) (bit_xor first next)
@@ -132,16 +132,16 @@ module _ (width unit : ℕ) (times : ℕ → ℕ → ℕ) (ring : IsRing width u
 
   -- the sum for a square differs from that for the element in the last square and the first
   pub sum_of_squarings-telescope : (n a : ℕ) → sum_of_squarings unit times n (times a a)
-      ≡ bit_xor (sum_of_squarings unit times n a) (bit_xor (times unit a) (squared unit times n a))
-  unfolding squared sum_of_squarings
+      ≡ bit_xor (sum_of_squarings unit times n a) (bit_xor (times unit a) (repeated_square unit times n a))
+  unfolding repeated_square sum_of_squarings
   sum_of_squarings-telescope zero a = sym (xor_self (times unit a))
   sum_of_squarings-telescope (suc n) a =
-      ap₂ bit_xor (sum_of_squarings-telescope n a) (squared_times n a a)
-      ∙ telescoped (sum_of_squarings unit times n a) (times unit a) (squared unit times n a) _
+      ap₂ bit_xor (sum_of_squarings-telescope n a) (repeated_square_times n a a)
+      ∙ telescoped (sum_of_squarings unit times n a) (times unit a) (repeated_square unit times n a) _
 
   -- the first m + n squarings are the first n, and the first m of the n-th
   pub sum_of_squarings-add : (m n a : ℕ) → sum_of_squarings unit times (m + n) a
-      ≡ bit_xor (sum_of_squarings unit times n a) (sum_of_squarings unit times m (squared unit times n a))
+      ≡ bit_xor (sum_of_squarings unit times n a) (sum_of_squarings unit times m (repeated_square unit times n a))
   unfolding sum_of_squarings
   sum_of_squarings-add zero n a =
       let none : 0 + n ≡ n = omega arith in
@@ -149,9 +149,9 @@ module _ (width unit : ℕ) (times : ℕ → ℕ → ℕ) (ring : IsRing width u
   sum_of_squarings-add (suc m) n a =
       let next : suc m + n ≡ suc (m + n) = omega arith in
       ap (λ (x : ℕ). sum_of_squarings unit times x a) next
-      ∙ ap₂ bit_xor (sum_of_squarings-add m n a) (squared-add m n a)
-      ∙ xor_assoc (sum_of_squarings unit times n a) (sum_of_squarings unit times m (squared unit times n a))
-      (squared unit times m (squared unit times n a))
+      ∙ ap₂ bit_xor (sum_of_squarings-add m n a) (repeated_square-add m n a)
+      ∙ xor_assoc (sum_of_squarings unit times n a) (sum_of_squarings unit times m (repeated_square unit times n a))
+      (repeated_square unit times m (repeated_square unit times n a))
 
   -- ---- powers
 
@@ -240,9 +240,9 @@ module _ (width unit : ℕ) (times : ℕ → ℕ → ℕ) (ring : IsRing width u
         ap (λ (k : ℕ). times value (power unit times a k)) done ∙ times-one value low
 
     -- n squarings raise to the power 2 ^ n
-    pub squared-power : (n a : ℕ) → squared unit times n a ≡ power unit times a (2 ^ n)
-    unfolding squared
-    squared-power zero a = ring.one a ∙ sym (power-one a)
-    squared-power (suc n) a =
-        ap (λ (x : ℕ). times x x) (squared-power n a) ∙ sym (power-add a (2 ^ n) (2 ^ n))
+    pub repeated_square-power : (n a : ℕ) → repeated_square unit times n a ≡ power unit times a (2 ^ n)
+    unfolding repeated_square
+    repeated_square-power zero a = ring.one a ∙ sym (power-one a)
+    repeated_square-power (suc n) a =
+        ap (λ (x : ℕ). times x x) (repeated_square-power n a) ∙ sym (power-add a (2 ^ n) (2 ^ n))
         ∙ ap (power unit times a) (sym (pow-suc 2 n ∙ omega arith))

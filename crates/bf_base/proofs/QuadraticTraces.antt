@@ -9,9 +9,9 @@ use lib.Bits.{xor_assoc, xor_self, xor_zero_r}
 use Rattle.bf_base.specs.Ring.{IsRing}
 use Rattle.bf_base.specs.Quadratic.{low_half, high_half, pair, quadratic}
 use Rattle.bf_base.specs.Norm.{conjugate}
-use Rattle.bf_base.specs.Powers.{squared, sum_of_squarings}
+use Rattle.bf_base.specs.Powers.{repeated_square, sum_of_squarings}
 use Rattle.bf_base.proofs.RingLemmas.{xor_left_comm, xor_cancel, xor_nothing, times_left_comm, times-zero, zero-times}
-use Rattle.bf_base.proofs.PowerLemmas.{one-times, times-one, square_times, squared-lt, squared-mod, squared_xor, squared_times, squared_square, squared-add, sum_of_squarings-mod, sum_of_squarings_xor, sum_of_squarings-telescope, sum_of_squarings-add}
+use Rattle.bf_base.proofs.PowerLemmas.{one-times, times-one, square_times, repeated_square-lt, repeated_square-mod, repeated_square_xor, repeated_square_times, repeated_square_square, repeated_square-add, sum_of_squarings-mod, sum_of_squarings_xor, sum_of_squarings-telescope, sum_of_squarings-add}
 use Rattle.bf_base.proofs.QuadraticRing.{low_half-lt, high_half-lt, low_half-pair, high_half-pair, pair-halves, pair-lt, pair_xor, quadratic_ring}
 use Rattle.bf_base.proofs.QuadraticProducts.{pair-low, pair-root, quadratic-low, quadratic-low_times, quadratic-square_pair, quadratic-root}
 
@@ -21,7 +21,7 @@ pub record HasUnitTraces (width : ℕ) (times : ℕ → ℕ → ℕ) (t s : ℕ)
   pub t_fits : t < 2 ^ width
   pub s_fits : s < 2 ^ width
   pub unit : times t s ≡ 1
-  pub returns : (a : ℕ) → squared 1 times width a ≡ a % 2 ^ width
+  pub returns : (a : ℕ) → repeated_square 1 times width a ≡ a % 2 ^ width
   pub t_trace : sum_of_squarings 1 times width t ≡ 1
   pub s_trace : sum_of_squarings 1 times width s ≡ 1
 
@@ -80,19 +80,19 @@ module _ (width : ℕ) (times : ℕ → ℕ → ℕ) (ring : IsRing width 1 time
   extended : IsRing (width + width) 1 (quadratic width times t)
   extended = quadratic_ring width times ring t given.wide
 
-  squared-low : (n a : ℕ) → a < 2 ^ width → squared 1 (quadratic width times t) n a ≡ squared 1 times n a
-  unfolding squared
-  squared-low zero a fits = quadratic-low width times ring t 1 a one_fits fits
-  squared-low (suc n) a fits =
-      ap (λ (x : ℕ). quadratic width times t x x) (squared-low n a fits)
-      ∙ quadratic-low width times ring t (squared 1 times n a) (squared 1 times n a) (squared-lt width 1 times ring n a)
-      (squared-lt width 1 times ring n a)
+  repeated_square-low : (n a : ℕ) → a < 2 ^ width → repeated_square 1 (quadratic width times t) n a ≡ repeated_square 1 times n a
+  unfolding repeated_square
+  repeated_square-low zero a fits = quadratic-low width times ring t 1 a one_fits fits
+  repeated_square-low (suc n) a fits =
+      ap (λ (x : ℕ). quadratic width times t x x) (repeated_square-low n a fits)
+      ∙ quadratic-low width times ring t (repeated_square 1 times n a) (repeated_square 1 times n a) (repeated_square-lt width 1 times ring n a)
+      (repeated_square-lt width 1 times ring n a)
 
   sum_of_squarings-low : (n a : ℕ) → a < 2 ^ width
       → sum_of_squarings 1 (quadratic width times t) n a ≡ sum_of_squarings 1 times n a
   unfolding sum_of_squarings
   sum_of_squarings-low zero a fits = refl
-  sum_of_squarings-low (suc n) a fits = ap₂ bit_xor (sum_of_squarings-low n a fits) (squared-low n a fits)
+  sum_of_squarings-low (suc n) a fits = ap₂ bit_xor (sum_of_squarings-low n a fits) (repeated_square-low n a fits)
 
   -- ---- w squarings in the extension conjugate
 
@@ -108,19 +108,19 @@ module _ (width : ℕ) (times : ℕ → ℕ → ℕ) (ring : IsRing width 1 time
           sym (ring.assoc t s s) ∙ ap (λ (x : ℕ). times x s) given.unit ∙ one-times width 1 times ring s given.s_fits
 
   -- so n squarings add to it the first n squares of s²
-  scaled_root-squared : (n : ℕ) → squared 1 (quadratic width times t) n (pair width 0 s)
+  scaled_root-repeated_square : (n : ℕ) → repeated_square 1 (quadratic width times t) n (pair width 0 s)
       ≡ bit_xor (pair width 0 s) (sum_of_squarings 1 times n (times s s))
-  unfolding squared sum_of_squarings
-  scaled_root-squared zero =
+  unfolding repeated_square sum_of_squarings
+  scaled_root-repeated_square zero =
       one-times (width + width) 1 (quadratic width times t) extended (pair width 0 s)
       (pair-lt width 0 s (pow_pos width) given.s_fits)
       ∙ sym (xor_zero_r (pair width 0 s))
-  scaled_root-squared (suc n) =
-      sym (squared_square (width + width) 1 (quadratic width times t) extended n (pair width 0 s))
-      ∙ ap (squared 1 (quadratic width times t) n) scaled_root-square
-      ∙ squared_xor (width + width) 1 (quadratic width times t) extended n (times s s) (pair width 0 s)
-      ∙ ap₂ bit_xor (squared-low n (times s s) (ring.below s s)) (scaled_root-squared n)
-      ∙ regrouped (squared 1 times n (times s s)) (pair width 0 s) (sum_of_squarings 1 times n (times s s))
+  scaled_root-repeated_square (suc n) =
+      sym (repeated_square_square (width + width) 1 (quadratic width times t) extended n (pair width 0 s))
+      ∙ ap (repeated_square 1 (quadratic width times t) n) scaled_root-square
+      ∙ repeated_square_xor (width + width) 1 (quadratic width times t) extended n (times s s) (pair width 0 s)
+      ∙ ap₂ bit_xor (repeated_square-low n (times s s) (ring.below s s)) (scaled_root-repeated_square n)
+      ∙ regrouped (repeated_square 1 times n (times s s)) (pair width 0 s) (sum_of_squarings 1 times n (times s s))
     where
       regrouped : (next y sum : ℕ) → bit_xor next (bit_xor y sum) ≡ bit_xor y (bit_xor sum next)
       regrouped next y sum = simp (xor_comm, xor_left_comm)
@@ -140,55 +140,55 @@ module _ (width : ℕ) (times : ℕ → ℕ → ℕ) (ring : IsRing width 1 time
           ∙ times-one width 1 times ring a1 fits
 
   -- w squarings of a1 X = t a1 y add t a1 to it
-  high-squared : (a1 : ℕ) → a1 < 2 ^ width
-      → squared 1 (quadratic width times t) width (pair width 0 a1) ≡ bit_xor (pair width 0 a1) (times t a1)
-  high-squared a1 fits =
-      ap (squared 1 (quadratic width times t) width) (sym (low_times-scaled_root a1 fits))
-      ∙ squared_times (width + width) 1 (quadratic width times t) extended width (times t a1) (pair width 0 s)
+  high-repeated_square : (a1 : ℕ) → a1 < 2 ^ width
+      → repeated_square 1 (quadratic width times t) width (pair width 0 a1) ≡ bit_xor (pair width 0 a1) (times t a1)
+  high-repeated_square a1 fits =
+      ap (repeated_square 1 (quadratic width times t) width) (sym (low_times-scaled_root a1 fits))
+      ∙ repeated_square_times (width + width) 1 (quadratic width times t) extended width (times t a1) (pair width 0 s)
       ∙ ap₂ (quadratic width times t)
-      (squared-low width (times t a1) (ring.below t a1) ∙ given.returns (times t a1)
+      (repeated_square-low width (times t a1) (ring.below t a1) ∙ given.returns (times t a1)
       ∙ mod-eq_of_lt (ring.below t a1))
-      (scaled_root-squared width ∙ ap (bit_xor (pair width 0 s)) s_square-trace)
+      (scaled_root-repeated_square width ∙ ap (bit_xor (pair width 0 s)) s_square-trace)
       ∙ extended.over_sum (times t a1) (pair width 0 s) 1
       ∙ ap₂ bit_xor (low_times-scaled_root a1 fits)
       (quadratic-low width times ring t (times t a1) 1 (ring.below t a1) one_fits
       ∙ times-one width 1 times ring (times t a1) (ring.below t a1))
 
-  half-squared : (a0 a1 : ℕ) → a0 < 2 ^ width → a1 < 2 ^ width
-      → squared 1 (quadratic width times t) width (pair width a0 a1) ≡ bit_xor (pair width a0 a1) (times t a1)
-  half-squared a0 a1 low_fits high_fits =
-      ap (squared 1 (quadratic width times t) width) (pair_as_sum width a0 a1 low_fits)
-      ∙ squared_xor (width + width) 1 (quadratic width times t) extended width a0 (pair width 0 a1)
-      ∙ ap₂ bit_xor (squared-low width a0 low_fits ∙ given.returns a0 ∙ mod-eq_of_lt low_fits) (high-squared a1 high_fits)
+  half-repeated_square : (a0 a1 : ℕ) → a0 < 2 ^ width → a1 < 2 ^ width
+      → repeated_square 1 (quadratic width times t) width (pair width a0 a1) ≡ bit_xor (pair width a0 a1) (times t a1)
+  half-repeated_square a0 a1 low_fits high_fits =
+      ap (repeated_square 1 (quadratic width times t) width) (pair_as_sum width a0 a1 low_fits)
+      ∙ repeated_square_xor (width + width) 1 (quadratic width times t) extended width a0 (pair width 0 a1)
+      ∙ ap₂ bit_xor (repeated_square-low width a0 low_fits ∙ given.returns a0 ∙ mod-eq_of_lt low_fits) (high-repeated_square a1 high_fits)
       ∙ sym (xor_assoc a0 (pair width 0 a1) (times t a1))
       ∙ ap (λ (x : ℕ). bit_xor x (times t a1)) (sym (pair_as_sum width a0 a1 low_fits))
 
-  pub squared-half : (a : ℕ) → squared 1 (quadratic width times t) width a
+  pub repeated_square-half : (a : ℕ) → repeated_square 1 (quadratic width times t) width a
       ≡ bit_xor (a % 2 ^ (width + width)) (times t (high_half width a))
-  squared-half a =
-      sym (squared-mod (width + width) 1 (quadratic width times t) extended width a)
-      ∙ ap (squared 1 (quadratic width times t) width) (sym (pair-halves width a))
-      ∙ half-squared (low_half width a) (high_half width a) (low_half-lt width a) (high_half-lt width a)
+  repeated_square-half a =
+      sym (repeated_square-mod (width + width) 1 (quadratic width times t) extended width a)
+      ∙ ap (repeated_square 1 (quadratic width times t) width) (sym (pair-halves width a))
+      ∙ half-repeated_square (low_half width a) (high_half width a) (low_half-lt width a) (high_half-lt width a)
       ∙ ap (λ (x : ℕ). bit_xor x (times t (high_half width a))) (pair-halves width a)
 
   -- w squarings of an element are its conjugate
-  pub squared-conjugate : (a : ℕ) → squared 1 (quadratic width times t) width a ≡ conjugate width times t a
-  squared-conjugate a =
-      squared-half a
+  pub repeated_square-conjugate : (a : ℕ) → repeated_square 1 (quadratic width times t) width a ≡ conjugate width times t a
+  repeated_square-conjugate a =
+      repeated_square-half a
       ∙ ap₂ bit_xor (sym (pair-halves width a)) (sym (pair-low width (times t (high_half width a))))
       ∙ sym (pair_xor width (low_half width a) (high_half width a) (times t (high_half width a)) 0 (low_half-lt width a)
       (ring.below t (high_half width a)))
       ∙ ap (pair width (bit_xor (low_half width a) (times t (high_half width a)))) (xor_zero_r (high_half width a))
 
   -- and 2 w squarings return the element
-  pub squared-whole : (a : ℕ) → squared 1 (quadratic width times t) (width + width) a ≡ a % 2 ^ (width + width)
-  squared-whole a =
-      squared-add (width + width) 1 (quadratic width times t) extended width width a
-      ∙ ap (squared 1 (quadratic width times t) width) (squared-half a)
-      ∙ squared_xor (width + width) 1 (quadratic width times t) extended width (a % 2 ^ (width + width)) e
+  pub repeated_square-whole : (a : ℕ) → repeated_square 1 (quadratic width times t) (width + width) a ≡ a % 2 ^ (width + width)
+  repeated_square-whole a =
+      repeated_square-add (width + width) 1 (quadratic width times t) extended width width a
+      ∙ ap (repeated_square 1 (quadratic width times t) width) (repeated_square-half a)
+      ∙ repeated_square_xor (width + width) 1 (quadratic width times t) extended width (a % 2 ^ (width + width)) e
       ∙ ap₂ bit_xor
-      (squared-mod (width + width) 1 (quadratic width times t) extended width a ∙ squared-half a)
-      (squared-low width e (ring.below t (high_half width a)) ∙ given.returns e
+      (repeated_square-mod (width + width) 1 (quadratic width times t) extended width a ∙ repeated_square-half a)
+      (repeated_square-low width e (ring.below t (high_half width a)) ∙ given.returns e
       ∙ mod-eq_of_lt (ring.below t (high_half width a)))
       ∙ xor_assoc (a % 2 ^ (width + width)) e e
       ∙ ap (bit_xor (a % 2 ^ (width + width))) (xor_self e) ∙ xor_zero_r (a % 2 ^ (width + width))
@@ -202,7 +202,7 @@ module _ (width : ℕ) (times : ℕ → ℕ → ℕ) (ring : IsRing width 1 time
       ≡ sum_of_squarings 1 times width (times t (high_half width a))
   quadratic-trace a =
       sum_of_squarings-add (width + width) 1 (quadratic width times t) extended width width a
-      ∙ ap (λ (x : ℕ). bit_xor whole (sum_of_squarings 1 (quadratic width times t) width x)) (squared-half a)
+      ∙ ap (λ (x : ℕ). bit_xor whole (sum_of_squarings 1 (quadratic width times t) width x)) (repeated_square-half a)
       ∙ ap (bit_xor whole)
       (sum_of_squarings_xor (width + width) 1 (quadratic width times t) extended width (a % 2 ^ (width + width)) e
       ∙ ap₂ bit_xor (sum_of_squarings-mod (width + width) 1 (quadratic width times t) extended width a)
@@ -236,7 +236,7 @@ module _ (width : ℕ) (times : ℕ → ℕ → ℕ) (ring : IsRing width 1 time
     t_fits = pow_below width (width + width) (omega (arith, given.wide));
     s_fits = pair-lt width t 1 given.t_fits one_fits;
     unit = root-times_inverse;
-    returns = squared-whole;
+    returns = repeated_square-whole;
     t_trace = trace-of_one (2 ^ width)
         (ap (high_half width) (sym (pair-root width)) ∙ high_half-pair width 0 1 (pow_pos width) one_fits);
     s_trace = trace-of_one (pair width t 1) (high_half-pair width t 1 given.t_fits one_fits);

@@ -7,10 +7,10 @@ use native.Mathlib.Nat.{mod-lt, zero-mul, one-mul, zero-div, mod-eq_of_lt, div-e
 use native.Mathlib.Decide.{le_ind}
 use lib.Arith.{bin_ind, half_le}
 use lib.Bits.{xor_assoc, xor_self, xor_zero_r, xor_shifted}
-use Rattle.bf_base.specs.Carryless.{conv}
+use Rattle.bf_base.specs.Carryless.{carryless}
 use Rattle.bf_base.specs.Remainder.{HasDegree, reduce_top, rem_in, rem, IsRemainder, RemIsRemainder, RemainderIsUnique}
 use Rattle.bf_base.proofs.RingLemmas.{xor_left_comm, xor_cancel, xor_nothing}
-use Rattle.bf_base.proofs.CarrylessProduct.{xor_double, xor_exchange, bit_cases, conv_step, zero_conv, one_conv, bit_conv, conv_sum, sum_conv, double_conv, conv_assoc, conv_comm}
+use Rattle.bf_base.proofs.CarrylessProduct.{xor_double, xor_exchange, bit_cases, carryless_step, zero_carryless, one_carryless, bit_carryless, carryless_sum, sum_carryless, double_carryless, carryless_assoc, carryless_comm}
 
 -- ---- the step
 
@@ -75,21 +75,21 @@ double_bit p d = sym (xor_shifted p 1 (d % 2) (mod-lt d (lit< tt)))
 
 -- a multiple of the modulus and a polynomial, doubled, with a bit more
 enter_bit : (modulus q r d : ℕ)
-    → bit_xor (conv q modulus) r * 2 + d % 2 ≡ bit_xor (conv (q * 2) modulus) (r * 2 + d % 2)
+    → bit_xor (carryless q modulus) r * 2 + d % 2 ≡ bit_xor (carryless (q * 2) modulus) (r * 2 + d % 2)
 enter_bit modulus q r d =
-    double_bit (bit_xor (conv q modulus) r) d
-    ∙ ap (λ (x : ℕ). bit_xor x (d % 2)) (sym (xor_double (conv q modulus) r))
-    ∙ xor_assoc (conv q modulus * 2) (r * 2) (d % 2)
-    ∙ ap₂ bit_xor (sym (double_conv q modulus)) (sym (double_bit r d))
+    double_bit (bit_xor (carryless q modulus) r) d
+    ∙ ap (λ (x : ℕ). bit_xor x (d % 2)) (sym (xor_double (carryless q modulus) r))
+    ∙ xor_assoc (carryless q modulus * 2) (r * 2) (d % 2)
+    ∙ ap₂ bit_xor (sym (double_carryless q modulus)) (sym (double_bit r d))
 
 -- the modulus leaves the polynomial, and enters the multiple
-move_top : (width modulus q p : ℕ) → bit_xor (conv q modulus) p
-    ≡ bit_xor (conv (bit_xor q (p / 2 ^ width % 2)) modulus) (reduce_top width modulus p)
+move_top : (width modulus q p : ℕ) → bit_xor (carryless q modulus) p
+    ≡ bit_xor (carryless (bit_xor q (p / 2 ^ width % 2)) modulus) (reduce_top width modulus p)
 move_top width modulus q p =
     sym (ap (λ (x : ℕ). bit_xor x (reduce_top width modulus p))
-    (sum_conv q (p / 2 ^ width % 2) modulus
-    ∙ ap (bit_xor (conv q modulus)) (bit_conv (p / 2 ^ width) modulus))
-    ∙ moved (conv q modulus) (p / 2 ^ width % 2 * modulus) p)
+    (sum_carryless q (p / 2 ^ width % 2) modulus
+    ∙ ap (bit_xor (carryless q modulus)) (bit_carryless (p / 2 ^ width) modulus))
+    ∙ moved (carryless q modulus) (p / 2 ^ width % 2 * modulus) p)
   where
     moved : (a b c : ℕ) → bit_xor (bit_xor a b) (bit_xor c b) ≡ bit_xor a c
     moved a b c = xor_exchange a b c b ∙ ap (bit_xor (bit_xor a c)) (xor_self b) ∙ xor_zero_r (bit_xor a c)
@@ -110,7 +110,7 @@ zero_is : (width modulus : ℕ) → IsRemainder width modulus 0 0
 zero_is width modulus = record {
   below = pow_pos width;
   quotient = 0;
-  parts = sym (ap (λ (x : ℕ). bit_xor x 0) (zero_conv modulus));
+  parts = sym (ap (λ (x : ℕ). bit_xor x 0) (zero_carryless modulus));
 }
 
 rem_is-suc : (width modulus p : ℕ) → HasDegree width modulus
@@ -162,9 +162,9 @@ bit_times_lt : (d b n : ℕ) → b < 2 ^ n → d % 2 * b < 2 ^ n
 bit_times_lt d b n fits = bit_cases (λ x. x * b < 2 ^ n) (rw zero-mul (pow_pos n)) (rw one-mul fits) d
 
 -- a multiple of the modulus other than zero has at least its degree
-multiple_le : (width modulus : ℕ) → HasDegree width modulus → (q : ℕ) → 0 < q → 2 ^ width ≤ conv q modulus
+multiple_le : (width modulus : ℕ) → HasDegree width modulus → (q : ℕ) → 0 < q → 2 ^ width ≤ carryless q modulus
 multiple_le width modulus degree =
-    bin_ind (λ (n : ℕ). 0 < n → 2 ^ width ≤ conv n modulus) (λ some. absurd (not-suc-le-zero some))
+    bin_ind (λ (n : ℕ). 0 < n → 2 ^ width ≤ carryless n modulus) (λ some. absurd (not-suc-le-zero some))
     (λ n ih some. cases n ih some (eq-zero-or-pos (n / 2)))
   where
     doubled : (x k : ℕ) → 2 ^ k ≤ x → 2 ^ suc k ≤ x * 2
@@ -173,22 +173,22 @@ multiple_le width modulus degree =
     single : (n : ℕ) → 0 < n → n / 2 ≡ 0 → 1 ≡ n
     single n some none = omega arith
 
-    cases : (n : ℕ) → (0 < n / 2 → 2 ^ width ≤ conv (n / 2) modulus) → 0 < n → (n / 2 ≡ 0) ⊎ (0 < n / 2)
-        → 2 ^ width ≤ conv n modulus
+    cases : (n : ℕ) → (0 < n / 2 → 2 ^ width ≤ carryless (n / 2) modulus) → 0 < n → (n / 2 ≡ 0) ⊎ (0 < n / 2)
+        → 2 ^ width ≤ carryless n modulus
     cases n ih some (inl none) =
-        subst (λ (x : ℕ). 2 ^ width ≤ conv x modulus) (single n some none)
-        (subst (λ (x : ℕ). 2 ^ width ≤ x) (sym (one_conv modulus)) (modulus_le width modulus degree))
+        subst (λ (x : ℕ). 2 ^ width ≤ carryless x modulus) (single n some none)
+        (subst (λ (x : ℕ). 2 ^ width ≤ x) (sym (one_carryless modulus)) (modulus_le width modulus degree))
     cases n ih some (inr other) =
-        subst (λ (x : ℕ). 2 ^ width ≤ x) (sym (conv_step n modulus))
+        subst (λ (x : ℕ). 2 ^ width ≤ x) (sym (carryless_step n modulus))
         (le_trans (pow-le-pow_right (lit< tt) (le-suc width))
-        (xor_le (suc width) (n % 2 * modulus) (conv (n / 2) modulus * 2)
+        (xor_le (suc width) (n % 2 * modulus) (carryless (n / 2) modulus * 2)
         (bit_times_lt n modulus (suc width) (modulus_lt width modulus degree))
-        (doubled (conv (n / 2) modulus) width (ih other))))
+        (doubled (carryless (n / 2) modulus) width (ih other))))
 
 -- a multiple of the modulus of lower degree is zero
-small_multiple : (width modulus q : ℕ) → HasDegree width modulus → conv q modulus < 2 ^ width
-    → (q ≡ 0) ⊎ (0 < q) → conv q modulus ≡ 0
-small_multiple width modulus q degree below (inl none) = ap (λ (x : ℕ). conv x modulus) none ∙ zero_conv modulus
+small_multiple : (width modulus q : ℕ) → HasDegree width modulus → carryless q modulus < 2 ^ width
+    → (q ≡ 0) ⊎ (0 < q) → carryless q modulus ≡ 0
+small_multiple width modulus q degree below (inl none) = ap (λ (x : ℕ). carryless x modulus) none ∙ zero_carryless modulus
 small_multiple width modulus q degree below (inr some) =
     absurd (not-le_of_lt below (multiple_le width modulus degree q some))
 
@@ -205,10 +205,10 @@ remainder_unique width modulus p r s degree first second =
     (subst (λ (x : ℕ). x < 2 ^ width) (sym apart) (xor_lt width r s first.below second.below))
     (eq-zero-or-pos (bit_xor first.quotient second.quotient)))
   where
-    apart : conv (bit_xor first.quotient second.quotient) modulus ≡ bit_xor r s
+    apart : carryless (bit_xor first.quotient second.quotient) modulus ≡ bit_xor r s
     apart =
-        sum_conv first.quotient second.quotient modulus
-        ∙ difference (conv first.quotient modulus) r (conv second.quotient modulus) s (sym first.parts ∙ second.parts)
+        sum_carryless first.quotient second.quotient modulus
+        ∙ difference (carryless first.quotient modulus) r (carryless second.quotient modulus) s (sym first.parts ∙ second.parts)
 
 -- ---- what the remainder keeps
 
@@ -224,7 +224,7 @@ module _ (width modulus : ℕ) (degree : HasDegree width modulus) where
       rem_of p p record {
         below = fits;
         quotient = 0;
-        parts = sym (ap (λ (x : ℕ). bit_xor x p) (zero_conv modulus));
+        parts = sym (ap (λ (x : ℕ). bit_xor x p) (zero_carryless modulus));
       }
 
   pub rem_sum : (a b : ℕ) → rem width modulus (bit_xor a b) ≡ bit_xor (rem width modulus a) (rem width modulus b)
@@ -240,33 +240,33 @@ module _ (width modulus : ℕ) (degree : HasDegree width modulus) where
             quotient = bit_xor of_a.quotient of_b.quotient;
             parts =
                 ap₂ bit_xor of_a.parts of_b.parts
-                ∙ xor_exchange (conv of_a.quotient modulus) r (conv of_b.quotient modulus) s
-                ∙ ap (λ (x : ℕ). bit_xor x (bit_xor r s)) (sym (sum_conv of_a.quotient of_b.quotient modulus));
+                ∙ xor_exchange (carryless of_a.quotient modulus) r (carryless of_b.quotient modulus) s
+                ∙ ap (λ (x : ℕ). bit_xor x (bit_xor r s)) (sym (sum_carryless of_a.quotient of_b.quotient modulus));
           }
 
   -- a multiple of the modulus counts for nothing
-  pub rem_multiple : (q p : ℕ) → rem width modulus (bit_xor (conv q modulus) p) ≡ rem width modulus p
+  pub rem_multiple : (q p : ℕ) → rem width modulus (bit_xor (carryless q modulus) p) ≡ rem width modulus p
   rem_multiple q p =
-      rem_sum (conv q modulus) p
+      rem_sum (carryless q modulus) p
       ∙ ap (λ (x : ℕ). bit_xor x (rem width modulus p))
-      (rem_of (conv q modulus) 0 record {
+      (rem_of (carryless q modulus) 0 record {
         below = pow_pos width;
         quotient = q;
-        parts = sym (xor_zero_r (conv q modulus));
+        parts = sym (xor_zero_r (carryless q modulus));
       })
 
   -- a factor counts by its remainder alone
-  pub rem_conv : (a b : ℕ) → rem width modulus (conv a (rem width modulus b)) ≡ rem width modulus (conv a b)
-  rem_conv a b = factor (rem width modulus b) (rem_is_remainder width modulus b degree)
+  pub rem_carryless : (a b : ℕ) → rem width modulus (carryless a (rem width modulus b)) ≡ rem width modulus (carryless a b)
+  rem_carryless a b = factor (rem width modulus b) (rem_is_remainder width modulus b degree)
     where
       factor : (r : ℕ) → IsRemainder width modulus b r
-          → rem width modulus (conv a r) ≡ rem width modulus (conv a b)
+          → rem width modulus (carryless a r) ≡ rem width modulus (carryless a b)
       factor r is =
-          sym (ap (λ (x : ℕ). rem width modulus (conv a x)) is.parts
-          ∙ ap (rem width modulus) (conv_sum a (conv is.quotient modulus) r
-          ∙ ap (λ (x : ℕ). bit_xor x (conv a r)) (sym (conv_assoc a is.quotient modulus)))
-          ∙ rem_multiple (conv a is.quotient) (conv a r))
+          sym (ap (λ (x : ℕ). rem width modulus (carryless a x)) is.parts
+          ∙ ap (rem width modulus) (carryless_sum a (carryless is.quotient modulus) r
+          ∙ ap (λ (x : ℕ). bit_xor x (carryless a r)) (sym (carryless_assoc a is.quotient modulus)))
+          ∙ rem_multiple (carryless a is.quotient) (carryless a r))
 
-  pub rem_conv_left : (a b : ℕ) → rem width modulus (conv (rem width modulus a) b) ≡ rem width modulus (conv a b)
-  rem_conv_left a b =
-      ap (rem width modulus) (conv_comm (rem width modulus a) b) ∙ rem_conv b a ∙ ap (rem width modulus) (conv_comm b a)
+  pub rem_carryless_left : (a b : ℕ) → rem width modulus (carryless (rem width modulus a) b) ≡ rem width modulus (carryless a b)
+  rem_carryless_left a b =
+      ap (rem width modulus) (carryless_comm (rem width modulus a) b) ∙ rem_carryless b a ∙ ap (rem width modulus) (carryless_comm b a)

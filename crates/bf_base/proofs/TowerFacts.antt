@@ -2,7 +2,7 @@
 use Rattle.std.proofs.Common.{◌≡◌, map, [], ◌∷◌, refl}
 use Rattle.bf_base.specs.Quadratic.{quadratic}
 use Rattle.bf_base.specs.Tower.{root, tower_mul}
-use Rattle.bf_base.specs.Powers.{power, squared, sum_of_squarings}
+use Rattle.bf_base.specs.Powers.{power, repeated_square, sum_of_squarings}
 use Rattle.bf_base.specs.TowerField.{trace, root_inverse}
 use Rattle.bf_base.proofs.TowerInverse.{tower_inverse}
 use Rattle.bf_base.proofs.TowerSqrt.{tower_sqrt}
@@ -14,11 +14,11 @@ root_8-square = refl
 
 -- the traces of the elements of the field of four elements, and of the roots of 8 and 16 bits
 traces_of_four : map (trace 1) (0 ∷ 1 ∷ 2 ∷ 3 ∷ []) ≡ 0 ∷ 0 ∷ 1 ∷ 1 ∷ []
-unfolding tower_mul quadratic root squared sum_of_squarings
+unfolding tower_mul quadratic root repeated_square sum_of_squarings
 traces_of_four = refl
 
 traces_of_roots : map (trace 4) (0x10 ∷ 0x100 ∷ []) ≡ 0 ∷ 1 ∷ []
-unfolding tower_mul quadratic root squared sum_of_squarings
+unfolding tower_mul quadratic root repeated_square sum_of_squarings
 traces_of_roots = refl
 
 -- the inverses of the elements of the field of four elements, and one of 8 bits

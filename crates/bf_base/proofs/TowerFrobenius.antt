@@ -4,32 +4,32 @@ use Rattle.std.proofs.Common.{◌≡◌, ◌≢◌, ℕ, suc, ◌-◌, ◌%◌, 
 use Rattle.std.proofs.lemmas.Nat.{pow_below, pow_pos}
 use native.Mathlib.Nat.{mod-eq_of_lt}
 use Rattle.bf_base.specs.Norm.{conjugate}
-use Rattle.bf_base.specs.Powers.{power, squared}
+use Rattle.bf_base.specs.Powers.{power, repeated_square}
 use Rattle.bf_base.specs.Tower.{root, tower_mul}
 use Rattle.bf_base.specs.TowerField.{root_inverse}
 use Rattle.bf_base.proofs.TowerRing.{tower_ring}
 use Rattle.bf_base.proofs.TowerTraces.{tower_traces, squarings_return}
 use Rattle.bf_base.proofs.TowerInverse.{tower_inverse, tower_mul-inverse}
 use Rattle.bf_base.proofs.TowerSqrt.{tower_sqrt, tower_sqrt-unique}
-use Rattle.bf_base.proofs.PowerLemmas.{times-one, squared-lt, squared-mod_round, squared-power, power-lt}
-use Rattle.bf_base.proofs.QuadraticTraces.{squared-conjugate}
+use Rattle.bf_base.proofs.PowerLemmas.{times-one, repeated_square-lt, repeated_square-mod_round, repeated_square-power, power-lt}
+use Rattle.bf_base.proofs.QuadraticTraces.{repeated_square-conjugate}
 
 -- 2 ^ k squarings of an element of level k + 1, which return each element of level k, are its conjugate
-pub tower_squared-half : (k a : ℕ) → squared 1 (tower_mul (suc k)) (2 ^ k) a ≡ conjugate (2 ^ k) (tower_mul k) (root k) a
+pub tower_repeated_square-half : (k a : ℕ) → repeated_square 1 (tower_mul (suc k)) (2 ^ k) a ≡ conjugate (2 ^ k) (tower_mul k) (root k) a
 unfolding tower_mul
-tower_squared-half k a =
-    squared-conjugate (2 ^ k) (tower_mul k) (tower_ring k) (root k) (root_inverse k) (tower_traces k) a
+tower_repeated_square-half k a =
+    repeated_square-conjugate (2 ^ k) (tower_mul k) (tower_ring k) (root k) (root_inverse k) (tower_traces k) a
 
 -- n squarings are as many as n leaves modulo the number of bits
-pub tower_squared-mod_bits : (k n a : ℕ) → squared 1 (tower_mul k) (n % 2 ^ k) a ≡ squared 1 (tower_mul k) n a
-tower_squared-mod_bits k n a = squared-mod_round (2 ^ k) 1 (tower_mul k) (tower_ring k) (2 ^ k) (squarings_return k) n a
+pub tower_repeated_square-mod_bits : (k n a : ℕ) → repeated_square 1 (tower_mul k) (n % 2 ^ k) a ≡ repeated_square 1 (tower_mul k) n a
+tower_repeated_square-mod_bits k n a = repeated_square-mod_round (2 ^ k) 1 (tower_mul k) (tower_ring k) (2 ^ k) (squarings_return k) n a
 
 -- one squaring fewer than the level has bits gives the square root
-pub tower_sqrt-squared : (k a : ℕ) → squared 1 (tower_mul k) (2 ^ k - 1) a ≡ tower_sqrt k a
-unfolding squared
-tower_sqrt-squared k a =
-    tower_sqrt-unique k a (squared 1 (tower_mul k) (2 ^ k - 1) a) (squared-lt (2 ^ k) 1 (tower_mul k) (tower_ring k) (2 ^ k - 1) a)
-    (ap (λ (x : ℕ). squared 1 (tower_mul k) x a) last ∙ squarings_return k a)
+pub tower_sqrt-repeated_square : (k a : ℕ) → repeated_square 1 (tower_mul k) (2 ^ k - 1) a ≡ tower_sqrt k a
+unfolding repeated_square
+tower_sqrt-repeated_square k a =
+    tower_sqrt-unique k a (repeated_square 1 (tower_mul k) (2 ^ k - 1) a) (repeated_square-lt (2 ^ k) 1 (tower_mul k) (tower_ring k) (2 ^ k - 1) a)
+    (ap (λ (x : ℕ). repeated_square 1 (tower_mul k) x a) last ∙ squarings_return k a)
   where
     last : suc (2 ^ k - 1) ≡ 2 ^ k
     last = omega (arith, pow_pos k)
@@ -39,8 +39,8 @@ one_fits : (k : ℕ) → 1 < 2 ^ 2 ^ k
 one_fits k = pow_below 0 (2 ^ k) (pow_pos k)
 
 -- n squarings are the power 2 ^ n
-pub tower_squared-power : (k n a : ℕ) → squared 1 (tower_mul k) n a ≡ power 1 (tower_mul k) a (2 ^ n)
-tower_squared-power k n a = squared-power (2 ^ k) 1 (tower_mul k) (tower_ring k) (one_fits k) n a
+pub tower_repeated_square-power : (k n a : ℕ) → repeated_square 1 (tower_mul k) n a ≡ power 1 (tower_mul k) a (2 ^ n)
+tower_repeated_square-power k n a = repeated_square-power (2 ^ k) 1 (tower_mul k) (tower_ring k) (one_fits k) n a
 
 -- the power of an element but 0 by the number of such elements is 1 (Fermat)
 pub tower_power-units : (k a : ℕ) → a < 2 ^ 2 ^ k → a ≢ 0 → power 1 (tower_mul k) a (2 ^ 2 ^ k - 1) ≡ 1
@@ -59,5 +59,5 @@ tower_power-units k a fits nonzero =
 
     returned : tower_mul k p a ≡ a
     returned =
-        ap (power 1 (tower_mul k) a) last ∙ sym (tower_squared-power k (2 ^ k) a) ∙ squarings_return k a
+        ap (power 1 (tower_mul k) a) last ∙ sym (tower_repeated_square-power k (2 ^ k) a) ∙ squarings_return k a
         ∙ mod-eq_of_lt fits

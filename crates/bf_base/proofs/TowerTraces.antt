@@ -5,7 +5,7 @@ use Rattle.std.proofs.lemmas.Nat.{pow_pos}
 use native.Mathlib.Nat.{mod-lt, one-mul}
 use Rattle.bf_base.specs.Field.{HasInverses}
 use Rattle.bf_base.specs.Quadratic.{high_half, pair, quadratic}
-use Rattle.bf_base.specs.Powers.{squared, sum_of_squarings}
+use Rattle.bf_base.specs.Powers.{repeated_square, sum_of_squarings}
 use Rattle.bf_base.specs.Tower.{root, tower_mul}
 use Rattle.bf_base.specs.TowerField.{trace, root_inverse, TracesAreOne, RootInverse, NoLevelHasARoot, NonzeroHasInverse, SquaringsReturn}
 use Rattle.bf_base.proofs.TowerRing.{tower_ring, bits_double}
@@ -15,18 +15,18 @@ use Rattle.bf_base.proofs.QuadraticTraces.{HasUnitTraces, quadratic-no_root, qua
 
 -- ---- level 0
 
-bits_squared : (a : ℕ) → squared 1 (tower_mul 0) 1 a ≡ a % 2
-unfolding squared tower_mul
-bits_squared a = two_cases (λ x. (1 * x) % 2 * ((1 * x) % 2) ≡ x) refl refl (a % 2) (mod-lt a (lit< tt))
+bits_repeated_square : (a : ℕ) → repeated_square 1 (tower_mul 0) 1 a ≡ a % 2
+unfolding repeated_square tower_mul
+bits_repeated_square a = two_cases (λ x. (1 * x) % 2 * ((1 * x) % 2) ≡ x) refl refl (a % 2) (mod-lt a (lit< tt))
 
 bits_traces : HasUnitTraces 1 (tower_mul 0) (root 0) (root_inverse 0)
-unfolding squared sum_of_squarings tower_mul root root_inverse
+unfolding repeated_square sum_of_squarings tower_mul root root_inverse
 bits_traces = record {
   wide = lit< tt;
   t_fits = lit< tt;
   s_fits = lit< tt;
   unit = refl;
-  returns = bits_squared;
+  returns = bits_repeated_square;
   t_trace = refl;
   s_trace = refl;
 }
@@ -74,7 +74,7 @@ root_inverse-lt k = (tower_traces k).s_fits
 
 -- the trace by recursion: a bit is its own trace, and an element of the next level has that of t times its high half
 pub trace-zero : (a : ℕ) → trace 0 a ≡ a % 2
-unfolding squared sum_of_squarings tower_mul
+unfolding repeated_square sum_of_squarings tower_mul
 trace-zero a = one-mul (a % 2)
 
 pub trace-suc : (k a : ℕ) → trace (suc k) a ≡ trace k (tower_mul k (root k) (high_half (2 ^ k) a))

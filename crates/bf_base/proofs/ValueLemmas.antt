@@ -7,10 +7,10 @@ use Rattle.std.proofs.lemmas.Nat.{pow_below}
 use native.Mathlib.Nat.{pow-suc, one-mul}
 use native.Mathlib.Numerals.{add-one}
 use lib.Bits.{xor_zero_r}
-use Rattle.bf_base.specs.Carryless.{conv}
+use Rattle.bf_base.specs.Carryless.{carryless}
 use Rattle.bf_base.specs.Powers.{power, terms_from}
 use Rattle.bf_base.specs.Remainder.{HasDegree, rem, mul_mod}
-use Rattle.bf_base.proofs.CarrylessProduct.{conv_shl, conv_one}
+use Rattle.bf_base.proofs.CarrylessProduct.{carryless_shl, carryless_one}
 use Rattle.bf_base.proofs.RemainderLaws.{rem_small}
 use Rattle.bf_base.proofs.RemainderRing.{mul_mod-rem}
 
@@ -35,9 +35,9 @@ module _ {A : Type 0} (unit : ℕ) (times : ℕ → ℕ → ℕ) (repr : A → �
       ∙ ap (λ (zs : List A). bit_xor sum (terms_from unit times repr a k zs)) (sym (drop_all k cs past)) ∙ so_far
 
 -- the product by a power of x shifts
-pub conv_power : (x k : ℕ) → conv x (2 ^ k) ≡ x * 2 ^ k
-conv_power x k =
-    ap (conv x) (sym (one-mul (2 ^ k))) ∙ conv_shl k x 1 ∙ ap (λ (z : ℕ). z * 2 ^ k) (conv_one x)
+pub carryless_power : (x k : ℕ) → carryless x (2 ^ k) ≡ x * 2 ^ k
+carryless_power x k =
+    ap (carryless x) (sym (one-mul (2 ^ k))) ∙ carryless_shl k x 1 ∙ ap (λ (z : ℕ). z * 2 ^ k) (carryless_one x)
 
 -- below the degree the powers of x are those of the whole numbers
 pub power_of_x : (width modulus : ℕ) → HasDegree width modulus → (k : ℕ) → k < width
@@ -49,5 +49,5 @@ power_of_x width modulus degree (suc k) within =
     let wide : 1 < width = omega arith in
     ap (λ (x : ℕ). mul_mod width modulus x 2) (power_of_x width modulus degree k below)
     ∙ mul_mod-rem width modulus degree (2 ^ k) 2 (pow_below k width below) (pow_below 1 width wide)
-    ∙ ap (rem width modulus) (conv_power (2 ^ k) 1 ∙ sym (pow-suc 2 k))
+    ∙ ap (rem width modulus) (carryless_power (2 ^ k) 1 ∙ sym (pow-suc 2 k))
     ∙ rem_small width modulus degree (2 ^ suc k) (pow_below (suc k) width within)

@@ -7,7 +7,7 @@ use native.Mathlib.Nat.{mod-lt, mul_comm, mul_assoc, zero-mul, one-mul, mul-one,
 use Rattle.bf_base.specs.Ring.{IsRing}
 use Rattle.bf_base.specs.Field.{IsField}
 use Rattle.bf_base.specs.Orders.{AreCantorVectors, HasFullOrder}
-use Rattle.bf_base.specs.Powers.{power, squared}
+use Rattle.bf_base.specs.Powers.{power, repeated_square}
 use Rattle.bf_base.specs.Tower.{root, tower_mul}
 use Rattle.bf_base.specs.TowerBasis.{AreEvenCantorVectors, IsBasisOf}
 
@@ -87,7 +87,7 @@ bit_cantor_image = record { first = refl; rule = λ i above below. absurd (omega
 
 -- squaring returns each bit, and only 0 has no inverse
 pub bit_field : IsField 1 (tower_mul 0)
-unfolding squared tower_mul
+unfolding repeated_square tower_mul
 bit_field =
     record {
       ring = bits_ring;

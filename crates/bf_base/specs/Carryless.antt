@@ -5,14 +5,14 @@ use Rattle.std.specs.Prelude.{◌≡◌, ℕ, zero, suc, ◌+◌, ◌-◌, ◌*�
 use Rattle.std.specs.Int.{bit_at}
 
 -- the product of the low `fuel` bits of a with b: for each set bit of a, lowest first, b shifted to its place
-unfoldable pub conv_in : ℕ → ℕ → ℕ → ℕ
-conv_in zero a b = 0
-conv_in (suc fuel) zero b = 0
-conv_in (suc fuel) (suc a) b = bit_xor (suc a % 2 * b) (conv_in fuel (suc a / 2) b * 2)
+unfoldable pub carryless_in : ℕ → ℕ → ℕ → ℕ
+carryless_in zero a b = 0
+carryless_in (suc fuel) zero b = 0
+carryless_in (suc fuel) (suc a) b = bit_xor (suc a % 2 * b) (carryless_in fuel (suc a / 2) b * 2)
 
 -- the carryless product of a and b; a number has fewer bits than its value, so that a itself is fuel enough
-unfoldable pub conv : ℕ → ℕ → ℕ
-conv a b = conv_in a a b
+unfoldable pub carryless : ℕ → ℕ → ℕ
+carryless a b = carryless_in a a b
 
 -- how many pairs of places (i, n - i), i below the last argument, have the first set in a and the second in b
 unfoldable pub pairs_before : ℕ → ℕ → ℕ → ℕ → ℕ
@@ -26,13 +26,13 @@ pairs a b n = pairs_before a b n (suc n)
 
 -- the coefficient of x^n in the carryless product is the number of those pairs modulo two
 abbrev pub ConvCountsPairs : Type 0
-ConvCountsPairs = (a b n : ℕ) → bit_at (conv a b) n ≡ pairs a b n % 2
+ConvCountsPairs = (a b n : ℕ) → bit_at (carryless a b) n ≡ pairs a b n % 2
 
 -- binary polynomials with the carryless product are a commutative ring, and degrees add
 pub record ConvIsProduct : Type 0 where
-  pub comm : (a b : ℕ) → conv a b ≡ conv b a
-  pub assoc : (a b c : ℕ) → conv (conv a b) c ≡ conv a (conv b c)
-  pub over_sum : (a b c : ℕ) → conv a (bit_xor b c) ≡ bit_xor (conv a b) (conv a c)
-  pub one : (a : ℕ) → conv 1 a ≡ a
+  pub comm : (a b : ℕ) → carryless a b ≡ carryless b a
+  pub assoc : (a b c : ℕ) → carryless (carryless a b) c ≡ carryless a (carryless b c)
+  pub over_sum : (a b c : ℕ) → carryless a (bit_xor b c) ≡ bit_xor (carryless a b) (carryless a c)
+  pub one : (a : ℕ) → carryless 1 a ≡ a
   -- of m bits and n bits, not both none, the product has at most m + n - 1
-  pub below : (m n a b : ℕ) → a < 2 ^ m → b < 2 ^ n → conv a b * 2 < 2 ^ (m + n)
+  pub below : (m n a b : ℕ) → a < 2 ^ m → b < 2 ^ n → carryless a b * 2 < 2 ^ (m + n)

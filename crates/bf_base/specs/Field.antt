@@ -1,6 +1,6 @@
 -- Fields of characteristic two whose elements are numbers: rings of Ring.antt in which one can divide.
 use Rattle.std.specs.Prelude.{◌≡◌, ◌≢◌, ◌⊎◌, ℕ, ◌-◌, ◌%◌, ◌^◌, ◌<◌}
-use Rattle.bf_base.specs.Powers.{power, squared}
+use Rattle.bf_base.specs.Powers.{power, repeated_square}
 use Rattle.bf_base.specs.Ring.{IsRing}
 
 -- every element but 0 of a ring of w-bit elements has an inverse: an element whose product with it is 1
@@ -13,7 +13,7 @@ HasInverses width times =
 pub record IsField (width : ℕ) (times : ℕ → ℕ → ℕ) : Type 0 where
   pub ring : IsRing width 1 times
   pub inverses : HasInverses width times
-  pub squarings_return : (a : ℕ) → squared 1 times width a ≡ a % 2 ^ width
+  pub squarings_return : (a : ℕ) → repeated_square 1 times width a ≡ a % 2 ^ width
 
 -- what holds in every field of 2 ^ width elements (R. Lidl and H. Niederreiter, Finite Fields, chapters 1 and 2)
 pub record HasFieldLaws (width : ℕ) (times : ℕ → ℕ → ℕ) : Type 0 where
@@ -24,8 +24,8 @@ pub record HasFieldLaws (width : ℕ) (times : ℕ → ℕ → ℕ) : Type 0 whe
   -- the inverse of a, but for 0, is a ^ (2 ^ width - 2) (Fermat)
   pub inverse_is_power : (a : ℕ) → a < 2 ^ width → a ≢ 0 → times a (power 1 times a (2 ^ width - 2)) ≡ 1
   -- an element is the square of one fewer squaring than it has bits, and of no other element
-  pub root_is_squared : (a : ℕ) → a < 2 ^ width
-      → times (squared 1 times (width - 1) a) (squared 1 times (width - 1) a) ≡ a
+  pub root_is_repeated_square : (a : ℕ) → a < 2 ^ width
+      → times (repeated_square 1 times (width - 1) a) (repeated_square 1 times (width - 1) a) ≡ a
   pub root_unique : (r s : ℕ) → r < 2 ^ width → s < 2 ^ width → times r r ≡ times s s → r ≡ s
 
 -- every field has them

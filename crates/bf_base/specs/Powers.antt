@@ -8,14 +8,14 @@ power unit times a zero = unit
 power unit times a (suc n) = times (power unit times a n) a
 
 -- the element a squared n times; 0 squarings give the one times a, which is a where a fits the width
-unfoldable pub squared : ℕ → (ℕ → ℕ → ℕ) → ℕ → ℕ → ℕ
-squared unit times zero a = times unit a
-squared unit times (suc n) a = times (squared unit times n a) (squared unit times n a)
+unfoldable pub repeated_square : ℕ → (ℕ → ℕ → ℕ) → ℕ → ℕ → ℕ
+repeated_square unit times zero a = times unit a
+repeated_square unit times (suc n) a = times (repeated_square unit times n a) (repeated_square unit times n a)
 
 -- a + a ^ 2 + a ^ 4 + .. + a ^ 2 ^ (n - 1): the sum of a squared 0, 1, .., n - 1 times
 unfoldable pub sum_of_squarings : ℕ → (ℕ → ℕ → ℕ) → ℕ → ℕ → ℕ
 sum_of_squarings unit times zero a = 0
-sum_of_squarings unit times (suc n) a = bit_xor (sum_of_squarings unit times n a) (squared unit times n a)
+sum_of_squarings unit times (suc n) a = bit_xor (sum_of_squarings unit times n a) (repeated_square unit times n a)
 
 -- the sum of the elements of a list, as a number
 abbrev pub sum_of : {A : Type 0} → (A → ℕ) → List A → ℕ
@@ -50,4 +50,4 @@ parity (negsuc n) = suc n % 2
 abbrev pub SquaringsArePowers : Type 0
 SquaringsArePowers =
     (width unit : ℕ) (times : ℕ → ℕ → ℕ) → IsRing width unit times → unit < 2 ^ width
-    → (n a : ℕ) → squared unit times n a ≡ power unit times a (2 ^ n)
+    → (n a : ℕ) → repeated_square unit times n a ≡ power unit times a (2 ^ n)

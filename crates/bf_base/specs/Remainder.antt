@@ -1,7 +1,7 @@
 -- Binary polynomials modulo a polynomial: the remainder of a division, and the product that it gives, with the moduli
 -- of three published fields. A polynomial is a number, the set of the places of its set bits; a sum is `bit_xor`.
 use Rattle.std.specs.Prelude.{◌≡◌, ℕ, zero, suc, ◌+◌, ◌*◌, ◌/◌, ◌%◌, ◌^◌, ◌<◌, bit_xor}
-use Rattle.bf_base.specs.Carryless.{conv}
+use Rattle.bf_base.specs.Carryless.{carryless}
 use Rattle.bf_base.specs.Ring.{IsRing}
 
 -- the highest term of the modulus is x^width
@@ -27,7 +27,7 @@ rem width modulus p = rem_in p width modulus p
 pub record IsRemainder (width modulus p r : ℕ) : Type 0 where
   pub below : r < 2 ^ width
   pub quotient : ℕ
-  pub parts : p ≡ bit_xor (conv quotient modulus) r
+  pub parts : p ≡ bit_xor (carryless quotient modulus) r
 
 -- `rem` gives a remainder
 abbrev pub RemIsRemainder : Type 0
@@ -40,12 +40,12 @@ RemainderIsUnique = (width modulus p r s : ℕ) → HasDegree width modulus
 
 -- the product modulo a polynomial of degree `width`; of wider numbers it reads the low `width` bits
 unfoldable pub mul_mod : ℕ → ℕ → ℕ → ℕ → ℕ
-mul_mod width modulus a b = rem width modulus (conv (a % 2 ^ width) (b % 2 ^ width))
+mul_mod width modulus a b = rem width modulus (carryless (a % 2 ^ width) (b % 2 ^ width))
 
 -- it is the remainder of the carryless product
 abbrev pub MulModIsRemainder : Type 0
 MulModIsRemainder = (width modulus a b : ℕ) → HasDegree width modulus
-    → IsRemainder width modulus (conv (a % 2 ^ width) (b % 2 ^ width)) (mul_mod width modulus a b)
+    → IsRemainder width modulus (carryless (a % 2 ^ width) (b % 2 ^ width)) (mul_mod width modulus a b)
 
 -- it is the product of a commutative ring of characteristic two, whatever the modulus is
 abbrev pub MulModIsRing : Type 0

@@ -6,7 +6,7 @@ use Rattle.bf_base.specs.Field.{HasInverses, IsField}
 use Rattle.bf_base.specs.Norm.{conjugate, norm}
 use Rattle.bf_base.specs.Quadratic.{pair}
 use Rattle.bf_base.specs.Tower.{root, tower_mul}
-use Rattle.bf_base.specs.Powers.{squared, sum_of_squarings}
+use Rattle.bf_base.specs.Powers.{repeated_square, sum_of_squarings}
 
 -- the absolute trace of an element of level k, 0 or 1: the sum of its 2 ^ k conjugates over the field of two elements,
 -- which are the element squared 0, 1, .., 2 ^ k - 1 times
@@ -36,7 +36,7 @@ NonzeroHasInverse = (k : ℕ) → HasInverses (2 ^ k) (tower_mul k)
 
 -- at every level 2 ^ k squarings return the element (Frobenius)
 abbrev pub SquaringsReturn : Type 0
-SquaringsReturn = (k a : ℕ) → squared 1 (tower_mul k) (2 ^ k) a ≡ a % 2 ^ 2 ^ k
+SquaringsReturn = (k a : ℕ) → repeated_square 1 (tower_mul k) (2 ^ k) a ≡ a % 2 ^ 2 ^ k
 
 -- so every level is a field of 2 ^ 2 ^ k elements
 abbrev pub TowerIsField : Type 0
@@ -54,6 +54,6 @@ pub record LevelsLieInside : Type 0 where
 pub record NormsAndConjugates : Type 0 where
   pub norm_is_product : (k a : ℕ) → tower_mul (suc k) a (conjugate (2 ^ k) (tower_mul k) (root k) a)
       ≡ norm (2 ^ k) (tower_mul k) (root k) a
-  pub conjugate_is_squarings : (k a : ℕ) → conjugate (2 ^ k) (tower_mul k) (root k) a ≡ squared 1 (tower_mul (suc k)) (2 ^ k) a
+  pub conjugate_is_squarings : (k a : ℕ) → conjugate (2 ^ k) (tower_mul k) (root k) a ≡ repeated_square 1 (tower_mul (suc k)) (2 ^ k) a
   pub norm_below : (k a : ℕ) → norm (2 ^ k) (tower_mul k) (root k) a < 2 ^ 2 ^ k
   pub norm_of_nonzero : (k a : ℕ) → a < 2 ^ 2 ^ suc k → a ≢ 0 → norm (2 ^ k) (tower_mul k) (root k) a ≢ 0

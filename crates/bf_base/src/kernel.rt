@@ -2,7 +2,7 @@
 ghost use Rattle.std.specs.Prelude.{◌≡◌, ◌≢◌, ◌<◌, ◌≤◌, ◌^◌, ◌%◌, ℕ, bit_xor, refl};
 ghost use Rattle.bf_base.specs.Field.{IsField};
 ghost use Rattle.bf_base.specs.Orders.{HasFullOrder};
-ghost use Rattle.bf_base.specs.Powers.{squared};
+ghost use Rattle.bf_base.specs.Powers.{repeated_square};
 ghost use Rattle.bf_base.specs.Tower.{root};
 ghost use Rattle.bf_base.specs.TowerBasis.{AreEvenCantorVectors, IsBasisOf, tower_generator};
 
@@ -72,7 +72,7 @@ pub trait Kernel<R: Word> {
         requires { R.number x < 2 ^ width }
         ensures fits { R.number result.0 < 2 ^ width }
         ensures few { result.1 < width }
-        ensures squarings { squared 1 product result.1 (R.number result.0) ≡ squared 1 product count (R.number x) };
+        ensures squarings { repeated_square 1 product result.1 (R.number result.0) ≡ repeated_square 1 product count (R.number x) };
 
     /// The sum of no products, as two words: a sum of products is reduced once, at its end.
     fn no_products() -> (R, R)

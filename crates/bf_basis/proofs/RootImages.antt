@@ -2,7 +2,7 @@
 use Rattle.std.proofs.Common.{◌≡◌, refl, sym, lit<}
 use Rattle.std.specs.Prelude.{◌%◌, ◌^◌}
 use Rattle.bf_base.specs.Basis.{basis_image, bit_image, sum_below, product_below, poly64_images, ghash_images}
-use Rattle.bf_base.specs.Carryless.{conv, conv_in}
+use Rattle.bf_base.specs.Carryless.{carryless, carryless_in}
 use Rattle.bf_base.specs.Powers.{power}
 use Rattle.bf_base.specs.Remainder.{mul_mod, rem, rem_in, poly64_modulus, ghash_modulus}
 use Rattle.bf_base.specs.Tower.{root}
@@ -16,10 +16,10 @@ pub ghash_alpha : 0x9cfc_a256_33f9_993f_4e1f_5110_70b2_3e78 ≡ basis_image 128 
 ghash_alpha = sym (isomorphic_128.homomorphism.root_image 6 (lit< tt))
 
 pub poly64_generator : 0xc313_d8d1_bfae_2150 ≡ basis_image 64 poly64_modulus poly64_images (tower_generator 6) % 2 ^ 64
-unfolding basis_image bit_image sum_below product_below conv conv_in power mul_mod rem rem_in
+unfolding basis_image bit_image sum_below product_below carryless carryless_in power mul_mod rem rem_in
 poly64_generator = refl
 
 pub ghash_generator : 0xe5a5_755a_d217_f07d_1da7_0a74_7203_d630
     ≡ basis_image 128 ghash_modulus ghash_images (tower_generator 7) % 2 ^ 128
-unfolding basis_image bit_image sum_below product_below conv conv_in power mul_mod rem rem_in
+unfolding basis_image bit_image sum_below product_below carryless carryless_in power mul_mod rem rem_in
 ghash_generator = refl

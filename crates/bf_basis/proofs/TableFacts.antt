@@ -3,7 +3,7 @@
 use Rattle.std.proofs.Common.{◌≡◌, ℕ, zero, suc, Bool, true, List, ◌++◌, take, drop, refl, arith}
 use Rattle.std.specs.Prelude.{slice_index}
 use Rattle.bf_base.specs.Basis.{AreRoots, aes_images, poly64_images, ghash_images}
-use Rattle.bf_base.specs.Carryless.{conv, conv_in}
+use Rattle.bf_base.specs.Carryless.{carryless, carryless_in}
 use Rattle.bf_base.specs.Remainder.{rem, rem_in, mul_mod, aes_modulus, poly64_modulus, ghash_modulus}
 use Rattle.bf_base.proofs.AdditiveMaps.{agree_on_powers}
 use Rattle.bf_base.proofs.BasisColumns.{apply, level_columns, doubled}
@@ -18,14 +18,14 @@ use Rattle.bf_basis.proofs.NibbleTables.{nibble_rows, columns_in}
 -- ---- the equations of the roots
 
 pub roots_8 : AreRoots 8 aes_modulus aes_images
-unfolding mul_mod rem rem_in conv conv_in
+unfolding mul_mod rem rem_in carryless carryless_in
 roots_8 zero below = refl
 roots_8 (suc zero) below = refl
 roots_8 (suc (suc zero)) below = refl
 roots_8 (suc (suc (suc m))) below = absurd (omega arith)
 
 pub roots_64 : AreRoots 64 poly64_modulus poly64_images
-unfolding mul_mod rem rem_in conv conv_in
+unfolding mul_mod rem rem_in carryless carryless_in
 roots_64 zero below = refl
 roots_64 (suc zero) below = refl
 roots_64 (suc (suc zero)) below = refl
@@ -35,7 +35,7 @@ roots_64 (suc (suc (suc (suc (suc zero))))) below = refl
 roots_64 (suc (suc (suc (suc (suc (suc m)))))) below = absurd (omega arith)
 
 pub roots_128 : AreRoots 128 ghash_modulus ghash_images
-unfolding mul_mod rem rem_in conv conv_in
+unfolding mul_mod rem rem_in carryless carryless_in
 roots_128 zero below = refl
 roots_128 (suc zero) below = refl
 roots_128 (suc (suc zero)) below = refl
@@ -68,19 +68,19 @@ inverse_columns_128 = columns_in 16 TO_TOWER_128_LOW ++ columns_in 16 TO_TOWER_1
 -- ---- rows
 
 pub rows_8 : nibble_rows 2 columns_8 ≡ TO_POLYNOMIAL_8
-unfolding nibble_rows apply level_columns doubled mul_mod rem rem_in conv conv_in
+unfolding nibble_rows apply level_columns doubled mul_mod rem rem_in carryless carryless_in
 rows_8 = refl
 
 pub rows_64 : nibble_rows 16 columns_64 ≡ TO_POLYNOMIAL_64
-unfolding nibble_rows apply level_columns doubled mul_mod rem rem_in conv conv_in
+unfolding nibble_rows apply level_columns doubled mul_mod rem rem_in carryless carryless_in
 rows_64 = refl
 
 pub rows_128_low : nibble_rows 16 (take 64 columns_128) ≡ TO_POLYNOMIAL_128_LOW
-unfolding nibble_rows apply level_columns doubled mul_mod rem rem_in conv conv_in
+unfolding nibble_rows apply level_columns doubled mul_mod rem rem_in carryless carryless_in
 rows_128_low = refl
 
 pub rows_128_high : nibble_rows 16 (drop 64 columns_128) ≡ TO_POLYNOMIAL_128_HIGH
-unfolding nibble_rows apply level_columns doubled mul_mod rem rem_in conv conv_in
+unfolding nibble_rows apply level_columns doubled mul_mod rem rem_in carryless carryless_in
 rows_128_high = refl
 
 pub inverse_rows_8 : nibble_rows 2 inverse_columns_8 ≡ TO_TOWER_8
@@ -106,13 +106,13 @@ unfoldable pub undoes : List ℕ → List ℕ → ℕ → Bool
 undoes columns inverse_columns n = agree_on_powers (λ b. apply columns (apply inverse_columns b)) (λ b. b) n
 
 pub undoes_8 : undoes columns_8 inverse_columns_8 8 ≡ true
-unfolding undoes columns_in apply level_columns doubled mul_mod rem rem_in conv conv_in
+unfolding undoes columns_in apply level_columns doubled mul_mod rem rem_in carryless carryless_in
 undoes_8 = refl
 
 pub undoes_64 : undoes columns_64 inverse_columns_64 64 ≡ true
-unfolding undoes columns_in apply level_columns doubled mul_mod rem rem_in conv conv_in
+unfolding undoes columns_in apply level_columns doubled mul_mod rem rem_in carryless carryless_in
 undoes_64 = refl
 
 pub undoes_128 : undoes columns_128 inverse_columns_128 128 ≡ true
-unfolding undoes columns_in apply level_columns doubled mul_mod rem rem_in conv conv_in
+unfolding undoes columns_in apply level_columns doubled mul_mod rem rem_in carryless carryless_in
 undoes_128 = refl

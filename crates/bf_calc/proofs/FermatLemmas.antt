@@ -6,7 +6,7 @@ use Rattle.std.proofs.lemmas.Bool.{eq-eqb, ne_eqb}
 use Rattle.std.proofs.lemmas.Nat.{pow_pos}
 use Rattle.bf_base.specs.Field.{IsField}
 use Rattle.bf_base.specs.Remainder.{mul_mod, poly64_modulus, ghash_modulus}
-use Rattle.bf_base.specs.Powers.{power, squared}
+use Rattle.bf_base.specs.Powers.{power, repeated_square}
 use Rattle.bf_base.specs.Tower.{tower_mul}
 use Rattle.bf_base.proofs.FieldLemmas.{inverse-power, power-inverts, root_is_squarings, squarings-square}
 use Rattle.bf_base.proofs.TowerLaws.{tower_field}
@@ -37,7 +37,7 @@ module _ (width : ℕ) (times : ℕ → ℕ → ℕ) (field : IsField width time
 pub record HasInverseAndRoot (field : FieldOf) : Type 0 where
   pub inverse : (x : ℕ) → x < 2 ^ field.bits → x ≢ 0 → field.times x (power 1 field.times x (2 ^ field.bits - 2)) ≡ 1
   pub root : (x : ℕ) → x < 2 ^ field.bits
-      → field.times (squared 1 field.times (field.bits - 1) x) (squared 1 field.times (field.bits - 1) x) ≡ x
+      → field.times (repeated_square 1 field.times (field.bits - 1) x) (repeated_square 1 field.times (field.bits - 1) x) ≡ x
 
 field-laws : (width : ℕ) (times : ℕ → ℕ → ℕ) → 0 < width → IsField width times → HasInverseAndRoot (field_of width times)
 field-laws width times wide field =

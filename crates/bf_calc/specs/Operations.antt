@@ -1,6 +1,6 @@
 -- The operations that a line may name, and what they give.
 use Rattle.std.specs.Prelude.{◌≡◌, ◌≢◌, ℕ, ◌-◌, ◌^◌, ◌<◌, ◌==◌, IsSomeAnd, if◌then◌else◌, List, [], ◌∷◌, codes, Option, Some, None, bit_xor}
-use Rattle.bf_base.specs.Powers.{power, squared}
+use Rattle.bf_base.specs.Powers.{power, repeated_square}
 use Rattle.bf_calc.specs.Fields.{FieldOf, field_named, look_up}
 use Rattle.bf_calc.specs.declared.names.Binary.{Binary}
 use Rattle.bf_calc.specs.declared.names.Binary.TheVariants.{Add, Mul}
@@ -29,7 +29,7 @@ binary_result times Mul x y = times x y
 abbrev pub unary_result : ℕ → (ℕ → ℕ → ℕ) → Unary → ℕ → Option ℕ
 unary_result bits times Square x = Some (times x x)
 unary_result bits times Inv x = if x == 0 then None else Some (power 1 times x (2 ^ bits - 2))
-unary_result bits times Sqrt x = Some (squared 1 times (bits - 1) x)
+unary_result bits times Sqrt x = Some (repeated_square 1 times (bits - 1) x)
 
 -- in every field that a word names the inverse of an element but 0 is one: their product is 1
 abbrev pub InverseInverts : Type 0

@@ -7,8 +7,8 @@ use Rattle.std.proofs.lemmas.Nat.Bits.{bit_at-suc, bit_at_lowest}
 use native.Mathlib.Nat.{add-zero, mul_assoc, div-add-mod', mod-eq_of_lt, mul-mul-mul_comm, lt_of_le_of_lt, le_refl, le_dest}
 use Rattle.std.proofs.lemmas.Bool.{cases_lt}
 use lib.Arith.{mod-mul}
-use Rattle.bf_base.specs.Carryless.{conv}
-use Rattle.bf_base.proofs.CarrylessProduct.{conv_shl, shl_conv}
+use Rattle.bf_base.specs.Carryless.{carryless}
+use Rattle.bf_base.proofs.CarrylessProduct.{carryless_shl, shl_carryless}
 use Rattle.bf_clmul.specs.Masked.{IsInClass, HasPlaces, class_mask, CarryIsolation}
 use Rattle.bf_clmul.proofs.ClassMasks.{mask_lt, no_bit, class-fits, class-places}
 use Rattle.bf_clmul.proofs.Digits.{value, parity, product, AreBits, Stairs, ones, value-product, parity-product, parity-bits, stairs_product, stairs_shift, mask-value}
@@ -88,35 +88,35 @@ masked_list : (ds : List ℕ) → Stairs 1 ds → bit_and (value ds) (ones 16) �
 masked_list ds stairs = mask-value 16 1 ds stairs (lit≤ tt)
 
 masked_digits : (ds es : List ℕ) → AreBits ds → AreBits es
-    → bit_and (value ds * value es) (ones 16) ≡ conv (value ds) (value es) % 2 ^ 64
+    → bit_and (value ds * value es) (ones 16) ≡ carryless (value ds) (value es) % 2 ^ 64
 masked_digits ds es left right =
     ap (λ (x : ℕ). bit_and x (ones 16)) (sym (value-product ds es))
     ∙ masked_list (product ds es) (stairs_product ds es left right)
-    ∙ ap (λ (x : ℕ). x % 2 ^ 64) (parity-product ds es left ∙ ap (conv (value ds)) (parity-bits es right))
+    ∙ ap (λ (x : ℕ). x % 2 ^ 64) (parity-product ds es left ∙ ap (carryless (value ds)) (parity-bits es right))
 
 masked_digits-shifted : (ds es : List ℕ) → AreBits ds → AreBits es
-    → bit_and (value ds * value es * 16) (ones 16) ≡ conv (value ds) (value es) * 16 % 2 ^ 64
+    → bit_and (value ds * value es * 16) (ones 16) ≡ carryless (value ds) (value es) * 16 % 2 ^ 64
 masked_digits-shifted ds es left right =
     ap (λ (x : ℕ). bit_and x (ones 16)) (ap (λ (x : ℕ). x * 16) (sym (value-product ds es)) ∙ sym (add-zero _))
     ∙ masked_list (0 ∷ product ds es) (stairs_shift (product ds es) (stairs_product ds es left right))
     ∙ ap (λ (x : ℕ). x % 2 ^ 64)
     (add-zero (parity (product ds es) * 16)
-    ∙ ap (λ (x : ℕ). x * 16) (parity-product ds es left ∙ ap (conv (value ds)) (parity-bits es right)))
+    ∙ ap (λ (x : ℕ). x * 16) (parity-product ds es left ∙ ap (carryless (value ds)) (parity-bits es right)))
 
 class_zero : (x y : ℕ) → HasPlaces 0 x → HasPlaces 0 y → x < 2 ^ 64 → y < 2 ^ 64
-    → bit_and (x * y) (ones 16) ≡ conv x y % 2 ^ 64
+    → bit_and (x * y) (ones 16) ≡ carryless x y % 2 ^ 64
 class_zero x y left right left_fits right_fits =
-    subst (λ (v : ℕ). bit_and (v * y) (ones 16) ≡ conv v y % 2 ^ 64) (value-digits_of 16 x left left_fits)
-    (subst (λ (w : ℕ). bit_and (value (digits_of 16 x) * w) (ones 16) ≡ conv (value (digits_of 16 x)) w % 2 ^ 64)
+    subst (λ (v : ℕ). bit_and (v * y) (ones 16) ≡ carryless v y % 2 ^ 64) (value-digits_of 16 x left left_fits)
+    (subst (λ (w : ℕ). bit_and (value (digits_of 16 x) * w) (ones 16) ≡ carryless (value (digits_of 16 x)) w % 2 ^ 64)
     (value-digits_of 16 y right right_fits)
     (masked_digits (digits_of 16 x) (digits_of 16 y) (digits_of-bits 16 x) (digits_of-bits 16 y)))
 
 class_zero-shifted : (x y : ℕ) → HasPlaces 0 x → HasPlaces 0 y → x < 2 ^ 64 → y < 2 ^ 64
-    → bit_and (x * y * 16) (ones 16) ≡ conv x y * 16 % 2 ^ 64
+    → bit_and (x * y * 16) (ones 16) ≡ carryless x y * 16 % 2 ^ 64
 class_zero-shifted x y left right left_fits right_fits =
-    subst (λ (v : ℕ). bit_and (v * y * 16) (ones 16) ≡ conv v y * 16 % 2 ^ 64) (value-digits_of 16 x left left_fits)
+    subst (λ (v : ℕ). bit_and (v * y * 16) (ones 16) ≡ carryless v y * 16 % 2 ^ 64) (value-digits_of 16 x left left_fits)
     (subst
-    (λ (w : ℕ). bit_and (value (digits_of 16 x) * w * 16) (ones 16) ≡ conv (value (digits_of 16 x)) w * 16 % 2 ^ 64)
+    (λ (w : ℕ). bit_and (value (digits_of 16 x) * w * 16) (ones 16) ≡ carryless (value (digits_of 16 x)) w * 16 % 2 ^ 64)
     (value-digits_of 16 y right right_fits)
     (masked_digits-shifted (digits_of 16 x) (digits_of 16 y) (digits_of-bits 16 x) (digits_of-bits 16 y)))
 
@@ -147,10 +147,10 @@ shifted_product : (i j x y : ℕ) → x * 2 ^ i * (y * 2 ^ j) ≡ x * y * 2 ^ (i
 shifted_product i j x y =
     mul-mul-mul_comm x (2 ^ i) y (2 ^ j) ∙ ap (λ (z : ℕ). x * y * z) (sym (pow-add 2 i j))
 
-shifted_conv : (i j x y : ℕ) → conv (x * 2 ^ i) (y * 2 ^ j) ≡ conv x y * 2 ^ (i + j)
-shifted_conv i j x y =
-    conv_shl j (x * 2 ^ i) y ∙ ap (λ (z : ℕ). z * 2 ^ j) (shl_conv i x y) ∙ mul_assoc (conv x y) (2 ^ i) (2 ^ j)
-    ∙ ap (λ (z : ℕ). conv x y * z) (sym (pow-add 2 i j))
+shifted_carryless : (i j x y : ℕ) → carryless (x * 2 ^ i) (y * 2 ^ j) ≡ carryless x y * 2 ^ (i + j)
+shifted_carryless i j x y =
+    carryless_shl j (x * 2 ^ i) y ∙ ap (λ (z : ℕ). z * 2 ^ j) (shl_carryless i x y) ∙ mul_assoc (carryless x y) (2 ^ i) (2 ^ j)
+    ∙ ap (λ (z : ℕ). carryless x y * z) (sym (pow-add 2 i j))
 
 past_digit : (p k : ℕ) → p * 2 ^ (4 + k) ≡ p * 16 * 2 ^ k
 past_digit p k = ap (λ (z : ℕ). p * z) (pow-add 2 4 k) ∙ sym (mul_assoc p 16 (2 ^ k))
@@ -158,24 +158,24 @@ past_digit p k = ap (λ (z : ℕ). p * z) (pow-add 2 4 k) ∙ sym (mul_assoc p 1
 -- two words of class 0, shifted by i and j
 isolated : (i j x y : ℕ) → i < 4 → j < 4 → HasPlaces 0 x → HasPlaces 0 y → x < 2 ^ 64 → y < 2 ^ 64
     → (i + j < 4) ⊎ (4 ≤ i + j)
-    → bit_and (x * y * 2 ^ (i + j) % 2 ^ 64) (class_mask ((i + j) % 4)) ≡ conv x y * 2 ^ (i + j) % 2 ^ 64
+    → bit_and (x * y * 2 ^ (i + j) % 2 ^ 64) (class_mask ((i + j) % 4)) ≡ carryless x y * 2 ^ (i + j) % 2 ^ 64
 isolated i j x y i_small j_small left right left_fits right_fits (inl low) =
     ap (λ (k : ℕ). bit_and (x * y * 2 ^ (i + j) % 2 ^ 64) (class_mask k)) (mod-eq_of_lt low)
-    ∙ class_up (i + j) (x * y) (conv x y) low (class_zero x y left right left_fits right_fits)
+    ∙ class_up (i + j) (x * y) (carryless x y) low (class_zero x y left right left_fits right_fits)
 isolated i j x y i_small j_small left right left_fits right_fits (inr high) = past (le_dest high)
   where
     past : (k : ℕ) × (4 + k ≡ i + j)
-        → bit_and (x * y * 2 ^ (i + j) % 2 ^ 64) (class_mask ((i + j) % 4)) ≡ conv x y * 2 ^ (i + j) % 2 ^ 64
+        → bit_and (x * y * 2 ^ (i + j) % 2 ^ 64) (class_mask ((i + j) % 4)) ≡ carryless x y * 2 ^ (i + j) % 2 ^ 64
     past (k, e) =
         ap₂ (λ (p m : ℕ). bit_and (x * y * 2 ^ p % 2 ^ 64) (class_mask m)) (sym e) (omega arith)
         ∙ ap (λ (p : ℕ). bit_and (p % 2 ^ 64) (class_mask k)) (past_digit (x * y) k)
-        ∙ class_up k (x * y * 16) (conv x y * 16) (omega arith)
+        ∙ class_up k (x * y * 16) (carryless x y * 16) (omega arith)
         (class_zero-shifted x y left right left_fits right_fits)
-        ∙ ap (λ (p : ℕ). p % 2 ^ 64) (sym (past_digit (conv x y) k))
-        ∙ ap (λ (p : ℕ). conv x y * 2 ^ p % 2 ^ 64) e
+        ∙ ap (λ (p : ℕ). p % 2 ^ 64) (sym (past_digit (carryless x y) k))
+        ∙ ap (λ (p : ℕ). carryless x y * 2 ^ p % 2 ^ 64) e
 
 places_isolated : (i j x y : ℕ) → i < 4 → j < 4 → x < 2 ^ 64 → y < 2 ^ 64 → HasPlaces i x → HasPlaces j y
-    → bit_and (x * y % 2 ^ 64) (class_mask ((i + j) % 4)) ≡ conv x y % 2 ^ 64
+    → bit_and (x * y % 2 ^ 64) (class_mask ((i + j) % 4)) ≡ carryless x y % 2 ^ 64
 places_isolated i j x y i_small j_small x_fits y_fits x_class y_class =
     ap (λ (p : ℕ). bit_and (p % 2 ^ 64) (class_mask ((i + j) % 4)))
     (sym (ap₂ (λ (p q : ℕ). p * q) (places-shl i x i_small x_class) (places-shl j y j_small y_class))
@@ -184,8 +184,8 @@ places_isolated i j x y i_small j_small x_fits y_fits x_class y_class =
     (places-shr j y j_small y_class) (lt_of_le_of_lt (shr_le x i) x_fits) (lt_of_le_of_lt (shr_le y j) y_fits)
     (cases_lt (i + j) 4)
     ∙ ap (λ (p : ℕ). p % 2 ^ 64)
-    (sym (shifted_conv i j (x / 2 ^ i) (y / 2 ^ j))
-    ∙ ap₂ conv (places-shl i x i_small x_class) (places-shl j y j_small y_class))
+    (sym (shifted_carryless i j (x / 2 ^ i) (y / 2 ^ j))
+    ∙ ap₂ carryless (places-shl i x i_small x_class) (places-shl j y j_small y_class))
 
 pub carry_isolation : CarryIsolation
 carry_isolation i j x y i_small j_small x_class y_class =
@@ -193,9 +193,9 @@ carry_isolation i j x y i_small j_small x_class y_class =
     (class-places i x i_small x_class) (class-places j y j_small y_class)
 
 -- as the code computes it, with the mask shifted in a word
-pub masked_conv : (i j x y : ℕ) → i < 4 → j < 4 → IsInClass i x → IsInClass j y
-    → bit_and (x * y % 2 ^ 64) (0x1111_1111_1111_1111 * 2 ^ ((i + j) % 4) % 2 ^ 64) ≡ conv x y % 2 ^ 64
-masked_conv i j x y i_small j_small x_class y_class =
+pub masked_carryless : (i j x y : ℕ) → i < 4 → j < 4 → IsInClass i x → IsInClass j y
+    → bit_and (x * y % 2 ^ 64) (0x1111_1111_1111_1111 * 2 ^ ((i + j) % 4) % 2 ^ 64) ≡ carryless x y % 2 ^ 64
+masked_carryless i j x y i_small j_small x_class y_class =
     ap (bit_and (x * y % 2 ^ 64))
     (mod-eq_of_lt (mask_lt ((i + j) % 4) (ones 16) (omega arith) (le_refl (ones 16))))
     ∙ carry_isolation i j x y i_small j_small x_class y_class

@@ -7,10 +7,10 @@ use Rattle.std.proofs.lemmas.Nat.{and_mask, and_comm, xor_comm, xor_mod}
 use Rattle.std.proofs.lemmas.Nat.Bits.{bit_at_and, bit_at_xor, bit_at-lt, same_from_bits}
 use native.Mathlib.Nat.{mod-eq_of_lt}
 use lib.Bits.{xor_assoc}
-use Rattle.bf_base.specs.Carryless.{conv}
+use Rattle.bf_base.specs.Carryless.{carryless}
 use Rattle.bf_base.proofs.RingLemmas.{xor_left_comm}
 use Rattle.bf_base.specs.BitRing.{two_cases}
-use Rattle.bf_base.proofs.CarrylessProduct.{conv_sum, sum_conv}
+use Rattle.bf_base.proofs.CarrylessProduct.{carryless_sum, sum_carryless}
 use Rattle.bf_clmul.specs.Masked.{class_mask}
 use Rattle.bf_clmul.proofs.ClassMasks.{class-mask}
 use Rattle.bf_clmul.proofs.CarryIsolation.{carry_isolation}
@@ -40,7 +40,7 @@ xor_and a b m =
 -- the masked product of two classes of words
 part : (i j x y : ℕ) → i < 4 → j < 4
     → bit_and (bit_and x (class_mask i) * bit_and y (class_mask j) % 2 ^ 64) (class_mask ((i + j) % 4))
-    ≡ conv (bit_and x (class_mask i)) (bit_and y (class_mask j)) % 2 ^ 64
+    ≡ carryless (bit_and x (class_mask i)) (bit_and y (class_mask j)) % 2 ^ 64
 part i j x y i_small j_small =
     carry_isolation i j (bit_and x (class_mask i)) (bit_and y (class_mask j)) i_small j_small (class-mask i x)
     (class-mask j y)
@@ -69,14 +69,14 @@ xor_mod_64 a b = xor_mod a b 64
 
 -- four sums of four products, a line for each class of the product
 joined : (x0 x1 x2 x3 y0 y1 y2 y3 : ℕ)
-    → conv (bit_xor (bit_xor (bit_xor x0 x1) x2) x3) (bit_xor (bit_xor (bit_xor y0 y1) y2) y3)
+    → carryless (bit_xor (bit_xor (bit_xor x0 x1) x2) x3) (bit_xor (bit_xor (bit_xor y0 y1) y2) y3)
     ≡ bit_xor
     (bit_xor
-    (bit_xor (bit_xor (bit_xor (bit_xor (conv x0 y0) (conv x1 y3)) (conv x2 y2)) (conv x3 y1))
-    (bit_xor (bit_xor (bit_xor (conv x0 y1) (conv x1 y0)) (conv x2 y3)) (conv x3 y2)))
-    (bit_xor (bit_xor (bit_xor (conv x0 y2) (conv x1 y1)) (conv x2 y0)) (conv x3 y3)))
-    (bit_xor (bit_xor (bit_xor (conv x0 y3) (conv x1 y2)) (conv x2 y1)) (conv x3 y0))
-joined x0 x1 x2 x3 y0 y1 y2 y3 = simp (sum_conv, conv_sum, xor_assoc, xor_comm, xor_left_comm)
+    (bit_xor (bit_xor (bit_xor (bit_xor (carryless x0 y0) (carryless x1 y3)) (carryless x2 y2)) (carryless x3 y1))
+    (bit_xor (bit_xor (bit_xor (carryless x0 y1) (carryless x1 y0)) (carryless x2 y3)) (carryless x3 y2)))
+    (bit_xor (bit_xor (bit_xor (carryless x0 y2) (carryless x1 y1)) (carryless x2 y0)) (carryless x3 y3)))
+    (bit_xor (bit_xor (bit_xor (carryless x0 y3) (carryless x1 y2)) (carryless x2 y1)) (carryless x3 y0))
+joined x0 x1 x2 x3 y0 y1 y2 y3 = simp (sum_carryless, carryless_sum, xor_assoc, xor_comm, xor_left_comm)
 
 -- four integer products under one mask, if each is a carryless product modulo 2 ^ 64
 masked_sum : (p q r s p' q' r' s' m : ℕ) → bit_and p m ≡ p' % 2 ^ 64 → bit_and q m ≡ q' % 2 ^ 64
@@ -94,8 +94,8 @@ masked_sum p q r s p' q' r' s' m of_p of_q of_r of_s =
 abbrev part_product : ℕ → ℕ → ℕ → ℕ → ℕ
 part_product x y i j = bit_and x (class_mask i) * bit_and y (class_mask j) % 2 ^ 64
 
-abbrev part_conv : ℕ → ℕ → ℕ → ℕ → ℕ
-part_conv x y i j = conv (bit_and x (class_mask i)) (bit_and y (class_mask j))
+abbrev part_carryless : ℕ → ℕ → ℕ → ℕ → ℕ
+part_carryless x y i j = carryless (bit_and x (class_mask i)) (bit_and y (class_mask j))
 
 module _ (x y : ℕ) where
   -- the classes of y that meet those of x from 0 to 3 in one class of the product
@@ -104,20 +104,20 @@ module _ (x y : ℕ) where
       → bit_and
       (bit_xor (bit_xor (bit_xor (part_product x y 0 j0) (part_product x y 1 j1)) (part_product x y 2 j2))
       (part_product x y 3 j3)) (class_mask k)
-      ≡ bit_xor (bit_xor (bit_xor (part_conv x y 0 j0) (part_conv x y 1 j1)) (part_conv x y 2 j2)) (part_conv x y 3 j3)
+      ≡ bit_xor (bit_xor (bit_xor (part_carryless x y 0 j0) (part_carryless x y 1 j1)) (part_carryless x y 2 j2)) (part_carryless x y 3 j3)
       % 2 ^ 64
   class_line k j0 j1 j2 j3 small0 small1 small2 small3 e0 e1 e2 e3 =
-      masked_sum _ _ _ _ (part_conv x y 0 j0) (part_conv x y 1 j1) (part_conv x y 2 j2) (part_conv x y 3 j3)
+      masked_sum _ _ _ _ (part_carryless x y 0 j0) (part_carryless x y 1 j1) (part_carryless x y 2 j2) (part_carryless x y 3 j3)
       (class_mask k) (at 0 j0 (lit< tt) small0 e0) (at 1 j1 (lit< tt) small1 e1) (at 2 j2 (lit< tt) small2 e2)
       (at 3 j3 (lit< tt) small3 e3)
     where
       at : (i j : ℕ) → i < 4 → j < 4 → (i + j) % 4 ≡ k
-          → bit_and (part_product x y i j) (class_mask k) ≡ part_conv x y i j % 2 ^ 64
+          → bit_and (part_product x y i j) (class_mask k) ≡ part_carryless x y i j % 2 ^ 64
       at i j i_small j_small e =
           ap (λ (m : ℕ). bit_and (part_product x y i j) (class_mask m)) (sym e) ∙ part i j x y i_small j_small
 
   -- the low half of the product as the code computes it
-  pub low_conv : x < 2 ^ 64 → y < 2 ^ 64
+  pub low_carryless : x < 2 ^ 64 → y < 2 ^ 64
       → bit_xor
       (bit_xor
       (bit_xor
@@ -133,8 +133,8 @@ module _ (x y : ℕ) where
       (bit_and
       (bit_xor (bit_xor (bit_xor (part_product x y 0 3) (part_product x y 1 2)) (part_product x y 2 1))
       (part_product x y 3 0)) (class_mask 3))
-      ≡ conv x y % 2 ^ 64
-  low_conv x_fits y_fits =
+      ≡ carryless x y % 2 ^ 64
+  low_carryless x_fits y_fits =
       ap₂ bit_xor
       (ap₂ bit_xor
       (ap₂ bit_xor
@@ -146,4 +146,4 @@ module _ (x y : ℕ) where
       (class_line 3 3 2 1 0 (lit< tt) (lit< tt) (lit< tt) (lit< tt) refl refl refl refl)
       ∙ sym (xor_mod_64 _ _)
       ∙ ap (λ (z : ℕ). z % 2 ^ 64)
-      (sym (joined _ _ _ _ _ _ _ _) ∙ ap₂ conv (classes-word x x_fits) (classes-word y y_fits))
+      (sym (joined _ _ _ _ _ _ _ _) ∙ ap₂ carryless (classes-word x x_fits) (classes-word y y_fits))

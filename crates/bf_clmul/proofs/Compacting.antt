@@ -3,8 +3,8 @@ use Rattle.std.proofs.Common.{◌≡◌, ℕ, ◌*◌, ◌/◌, ◌%◌, ◌^◌
 use Rattle.std.specs.Prelude.{bit_xor, bit_and}
 use Rattle.std.proofs.lemmas.Nat.{xor_shr, shl_whole}
 use native.Mathlib.Nat.{mul_assoc}
-use Rattle.bf_base.specs.Carryless.{conv, conv_in}
-use Rattle.bf_base.proofs.CarrylessProduct.{xor_exchange, xor_shl, conv_shl, shl_conv}
+use Rattle.bf_base.specs.Carryless.{carryless, carryless_in}
+use Rattle.bf_base.proofs.CarrylessProduct.{xor_exchange, xor_shl, carryless_shl, shl_carryless}
 use Rattle.bf_base.proofs.AdditiveMaps.{KeepsSums, maps_agree, agree_on_powers, agree_on_powers-true}
 use Rattle.bf_clmul.specs.Compact.{compact_step, even_places_64, even_places_128}
 use Rattle.bf_clmul.proofs.Classes.{xor_and}
@@ -57,25 +57,25 @@ compact-sum : KeepsSums compact
 unfolding compact
 compact-sum = step-sum halves_of halves_of-sum 16 0xffff_ffff
 
-powers_agree : agree_on_powers (λ x. conv (compact x) (compact x)) (λ x. bit_and x even_places_64) 64 ≡ true
-unfolding compact halves_of bytes_of nibbles_of pairs_of conv conv_in
+powers_agree : agree_on_powers (λ x. carryless (compact x) (compact x)) (λ x. bit_and x even_places_64) 64 ≡ true
+unfolding compact halves_of bytes_of nibbles_of pairs_of carryless carryless_in
 powers_agree = refl
 
-compact-square : (x : ℕ) → x < 2 ^ 64 → conv (compact x) (compact x) ≡ bit_and x even_places_64
+compact-square : (x : ℕ) → x < 2 ^ 64 → carryless (compact x) (compact x) ≡ bit_and x even_places_64
 compact-square =
-    maps_agree (λ x. conv (compact x) (compact x)) (λ x. bit_and x even_places_64)
-    (λ a b. ap (λ (z : ℕ). conv z z) (compact-sum a b) ∙ square_sum (compact a) (compact b)) (masked-sum even_places_64) 64
-    (agree_on_powers-true (λ x. conv (compact x) (compact x)) (λ x. bit_and x even_places_64) 64 powers_agree)
+    maps_agree (λ x. carryless (compact x) (compact x)) (λ x. bit_and x even_places_64)
+    (λ a b. ap (λ (z : ℕ). carryless z z) (compact-sum a b) ∙ square_sum (compact a) (compact b)) (masked-sum even_places_64) 64
+    (agree_on_powers-true (λ x. carryless (compact x) (compact x)) (λ x. bit_and x even_places_64) 64 powers_agree)
 
 -- the steps one after another, as the code calls them
 pub compact_word : (x b c d e : ℕ) → x < 2 ^ 64
     → b ≡ compact_step 1 0x3333_3333_3333_3333 (bit_and x even_places_64)
     → c ≡ compact_step 2 0x0f0f_0f0f_0f0f_0f0f b → d ≡ compact_step 4 0x00ff_00ff_00ff_00ff c
     → e ≡ compact_step 8 0x0000_ffff_0000_ffff d
-    → conv (compact_step 16 0xffff_ffff e) (compact_step 16 0xffff_ffff e) ≡ bit_and x even_places_64
+    → carryless (compact_step 16 0xffff_ffff e) (compact_step 16 0xffff_ffff e) ≡ bit_and x even_places_64
 unfolding compact halves_of bytes_of nibbles_of pairs_of
 compact_word x b c d e fits of_b of_c of_d of_e =
-    ap (λ (z : ℕ). conv (compact_step 16 0xffff_ffff z) (compact_step 16 0xffff_ffff z))
+    ap (λ (z : ℕ). carryless (compact_step 16 0xffff_ffff z) (compact_step 16 0xffff_ffff z))
     (of_e
     ∙ ap (compact_step 8 0x0000_ffff_0000_ffff)
     (of_d
@@ -107,14 +107,14 @@ split_mask =
         ∙ xor_exchange (bit_and (a / 2 ^ 64) even_places_64 * 2 ^ 64) (bit_and (b / 2 ^ 64) even_places_64 * 2 ^ 64) _ _
 
 pub compact_double_word : (x low high : ℕ) → x < 2 ^ 128 → high < 2 ^ 32
-    → conv low low ≡ bit_and (bit_and x 0xffff_ffff_ffff_ffff) even_places_64
-    → conv high high ≡ bit_and (x / 2 ^ 64) even_places_64
-    → conv (bit_xor (high * 2 ^ 32 % 2 ^ 64) low) (bit_xor (high * 2 ^ 32 % 2 ^ 64) low) ≡ bit_and x even_places_128
+    → carryless low low ≡ bit_and (bit_and x 0xffff_ffff_ffff_ffff) even_places_64
+    → carryless high high ≡ bit_and (x / 2 ^ 64) even_places_64
+    → carryless (bit_xor (high * 2 ^ 32 % 2 ^ 64) low) (bit_xor (high * 2 ^ 32 % 2 ^ 64) low) ≡ bit_and x even_places_128
 compact_double_word x low high fits high_fits of_low of_high =
-    ap (λ (z : ℕ). conv (bit_xor z low) (bit_xor z low)) (shl_whole high 32 32 64 high_fits (lit≤ tt))
+    ap (λ (z : ℕ). carryless (bit_xor z low) (bit_xor z low)) (shl_whole high 32 32 64 high_fits (lit≤ tt))
     ∙ square_sum (high * 2 ^ 32) low
     ∙ ap₂ bit_xor
-    (conv_shl 32 (high * 2 ^ 32) high ∙ ap (λ (z : ℕ). z * 2 ^ 32) (shl_conv 32 high high)
-    ∙ mul_assoc (conv high high) (2 ^ 32) (2 ^ 32) ∙ ap (λ (z : ℕ). z * 2 ^ 64) of_high)
+    (carryless_shl 32 (high * 2 ^ 32) high ∙ ap (λ (z : ℕ). z * 2 ^ 32) (shl_carryless 32 high high)
+    ∙ mul_assoc (carryless high high) (2 ^ 32) (2 ^ 32) ∙ ap (λ (z : ℕ). z * 2 ^ 64) of_high)
     of_low
     ∙ split_mask x fits

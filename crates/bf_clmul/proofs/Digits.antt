@@ -6,8 +6,8 @@ use Rattle.std.proofs.lemmas.Nat.{and_mask, and_block, pow_pos, pow-add, xor_com
 use native.Mathlib.Nat.{zero-mul, one-mul, mul-zero, add-zero, zero-add, zero-mod, mod-one, add-mod, mod-mod, mod-lt, lt_of_lt_of_le}
 use lib.Arith.{mod-mul}
 use lib.Bits.{and_zero_r, xor_shifted, xor_zero_r}
-use Rattle.bf_base.specs.Carryless.{conv}
-use Rattle.bf_base.proofs.CarrylessProduct.{bit_cases, zero_conv, sum_conv, bit_conv, shl_conv}
+use Rattle.bf_base.specs.Carryless.{carryless}
+use Rattle.bf_base.proofs.CarrylessProduct.{bit_cases, zero_carryless, sum_carryless, bit_carryless, shl_carryless}
 
 -- ---- lists of digits
 
@@ -103,17 +103,17 @@ parity-scaled d es =
 digit_first : (v d : ℕ) → v * 16 + d % 2 ≡ bit_xor (v * 16) (d % 2)
 digit_first v d = sym (xor_shifted v 4 (d % 2) (parity_lt d))
 
-pub parity-product : (ds es : List ℕ) → AreBits ds → parity (product ds es) ≡ conv (value ds) (parity es)
-parity-product [] es bits = sym (zero_conv (parity es))
+pub parity-product : (ds es : List ℕ) → AreBits ds → parity (product ds es) ≡ carryless (value ds) (parity es)
+parity-product [] es bits = sym (zero_carryless (parity es))
 parity-product (d ∷ ds) es bits =
     parity-plus (scaled d es) (0 ∷ product ds es)
     ∙ ap₂ bit_xor
-    (ap (λ (x : ℕ). parity (scaled x es)) (sym bits.0) ∙ parity-scaled d es ∙ sym (bit_conv d (parity es)))
+    (ap (λ (x : ℕ). parity (scaled x es)) (sym bits.0) ∙ parity-scaled d es ∙ sym (bit_carryless d (parity es)))
     (add-zero (parity (product ds es) * 16)
-    ∙ ap (λ (x : ℕ). x * 16) (parity-product ds es bits.1) ∙ sym (shl_conv 4 (value ds) (parity es)))
-    ∙ xor_comm (conv (d % 2) (parity es)) (conv (value ds * 16) (parity es))
-    ∙ sym (sum_conv (value ds * 16) (d % 2) (parity es))
-    ∙ ap (λ (x : ℕ). conv x (parity es)) (sym (digit_first (value ds) d) ∙ ap (λ (x : ℕ). value ds * 16 + x) bits.0)
+    ∙ ap (λ (x : ℕ). x * 16) (parity-product ds es bits.1) ∙ sym (shl_carryless 4 (value ds) (parity es)))
+    ∙ xor_comm (carryless (d % 2) (parity es)) (carryless (value ds * 16) (parity es))
+    ∙ sym (sum_carryless (value ds * 16) (d % 2) (parity es))
+    ∙ ap (λ (x : ℕ). carryless x (parity es)) (sym (digit_first (value ds) d) ∙ ap (λ (x : ℕ). value ds * 16 + x) bits.0)
 
 pub parity-bits : (ds : List ℕ) → AreBits ds → parity ds ≡ value ds
 parity-bits [] bits = refl

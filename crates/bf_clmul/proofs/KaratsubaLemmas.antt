@@ -4,42 +4,42 @@ use Rattle.std.specs.Prelude.{bit_xor, bit_and}
 use Rattle.std.proofs.lemmas.Nat.{and_mask, xor_comm, xor_lt, shr_split, shl_whole, shl_below, mod_low, pow_pos}
 use native.Mathlib.Nat.{mod-lt, mod-eq_of_lt, mul_assoc}
 use lib.Bits.{xor_assoc, xor_self, xor_shifted}
-use Rattle.bf_base.specs.Carryless.{conv}
+use Rattle.bf_base.specs.Carryless.{carryless}
 use Rattle.bf_clmul.specs.Karatsuba.{karatsuba_sum}
 use Rattle.bf_base.proofs.RingLemmas.{xor_left_comm, xor_cancel}
-use Rattle.bf_base.proofs.CarrylessProduct.{xor_shl, conv_sum, sum_conv, conv_shl, shl_conv, conv_lt}
+use Rattle.bf_base.proofs.CarrylessProduct.{xor_shl, carryless_sum, sum_carryless, carryless_shl, shl_carryless, carryless_lt}
 
 -- ---- the rule
 
 -- the product of the sums of halves, less the products of the halves, is the product of each half by the other
 pub middle_product : (x0 x1 y0 y1 : ℕ)
-    → bit_xor (bit_xor (conv (bit_xor x0 x1) (bit_xor y0 y1)) (conv x0 y0)) (conv x1 y1)
-    ≡ bit_xor (conv x0 y1) (conv x1 y0)
+    → bit_xor (bit_xor (carryless (bit_xor x0 x1) (bit_xor y0 y1)) (carryless x0 y0)) (carryless x1 y1)
+    ≡ bit_xor (carryless x0 y1) (carryless x1 y0)
 middle_product x0 x1 y0 y1 =
-    simp (sum_conv, conv_sum, xor_assoc, xor_comm, xor_left_comm, xor_self, xor_cancel)
+    simp (sum_carryless, carryless_sum, xor_assoc, xor_comm, xor_left_comm, xor_self, xor_cancel)
 
 -- the products of the halves, low by high
-crossed : (w x0 x1 y0 y1 : ℕ) → conv (bit_xor x0 (x1 * 2 ^ w)) (bit_xor y0 (y1 * 2 ^ w))
-    ≡ bit_xor (conv x0 y0) (bit_xor (bit_xor (conv x0 y1) (conv x1 y0) * 2 ^ w) (conv x1 y1 * 2 ^ w * 2 ^ w))
+crossed : (w x0 x1 y0 y1 : ℕ) → carryless (bit_xor x0 (x1 * 2 ^ w)) (bit_xor y0 (y1 * 2 ^ w))
+    ≡ bit_xor (carryless x0 y0) (bit_xor (bit_xor (carryless x0 y1) (carryless x1 y0) * 2 ^ w) (carryless x1 y1 * 2 ^ w * 2 ^ w))
 crossed w x0 x1 y0 y1 =
-    sum_conv x0 (x1 * 2 ^ w) (bit_xor y0 (y1 * 2 ^ w))
+    sum_carryless x0 (x1 * 2 ^ w) (bit_xor y0 (y1 * 2 ^ w))
     ∙ ap₂ bit_xor
-    (conv_sum x0 y0 (y1 * 2 ^ w) ∙ ap (bit_xor (conv x0 y0)) (conv_shl w x0 y1))
-    (conv_sum (x1 * 2 ^ w) y0 (y1 * 2 ^ w)
-    ∙ ap₂ bit_xor (shl_conv w x1 y0) (conv_shl w (x1 * 2 ^ w) y1 ∙ ap (λ (z : ℕ). z * 2 ^ w) (shl_conv w x1 y1)))
-    ∙ xor_assoc (conv x0 y0) (conv x0 y1 * 2 ^ w) (bit_xor (conv x1 y0 * 2 ^ w) (conv x1 y1 * 2 ^ w * 2 ^ w))
-    ∙ ap (bit_xor (conv x0 y0))
-    (sym (xor_assoc (conv x0 y1 * 2 ^ w) (conv x1 y0 * 2 ^ w) (conv x1 y1 * 2 ^ w * 2 ^ w))
-    ∙ ap (λ (z : ℕ). bit_xor z (conv x1 y1 * 2 ^ w * 2 ^ w)) (xor_shl w (conv x0 y1) (conv x1 y0)))
+    (carryless_sum x0 y0 (y1 * 2 ^ w) ∙ ap (bit_xor (carryless x0 y0)) (carryless_shl w x0 y1))
+    (carryless_sum (x1 * 2 ^ w) y0 (y1 * 2 ^ w)
+    ∙ ap₂ bit_xor (shl_carryless w x1 y0) (carryless_shl w (x1 * 2 ^ w) y1 ∙ ap (λ (z : ℕ). z * 2 ^ w) (shl_carryless w x1 y1)))
+    ∙ xor_assoc (carryless x0 y0) (carryless x0 y1 * 2 ^ w) (bit_xor (carryless x1 y0 * 2 ^ w) (carryless x1 y1 * 2 ^ w * 2 ^ w))
+    ∙ ap (bit_xor (carryless x0 y0))
+    (sym (xor_assoc (carryless x0 y1 * 2 ^ w) (carryless x1 y0 * 2 ^ w) (carryless x1 y1 * 2 ^ w * 2 ^ w))
+    ∙ ap (λ (z : ℕ). bit_xor z (carryless x1 y1 * 2 ^ w * 2 ^ w)) (xor_shl w (carryless x0 y1) (carryless x1 y0)))
 
-pub karatsuba : (w x0 x1 y0 y1 : ℕ) → conv (bit_xor x0 (x1 * 2 ^ w)) (bit_xor y0 (y1 * 2 ^ w))
-    ≡ bit_xor (conv x0 y0)
+pub karatsuba : (w x0 x1 y0 y1 : ℕ) → carryless (bit_xor x0 (x1 * 2 ^ w)) (bit_xor y0 (y1 * 2 ^ w))
+    ≡ bit_xor (carryless x0 y0)
     (bit_xor
-    (bit_xor (bit_xor (conv (bit_xor x0 x1) (bit_xor y0 y1)) (conv x0 y0)) (conv x1 y1) * 2 ^ w)
-    (conv x1 y1 * 2 ^ w * 2 ^ w))
+    (bit_xor (bit_xor (carryless (bit_xor x0 x1) (bit_xor y0 y1)) (carryless x0 y0)) (carryless x1 y1) * 2 ^ w)
+    (carryless x1 y1 * 2 ^ w * 2 ^ w))
 karatsuba w x0 x1 y0 y1 =
     crossed w x0 x1 y0 y1
-    ∙ ap (λ (z : ℕ). bit_xor (conv x0 y0) (bit_xor (z * 2 ^ w) (conv x1 y1 * 2 ^ w * 2 ^ w)))
+    ∙ ap (λ (z : ℕ). bit_xor (carryless x0 y0) (bit_xor (z * 2 ^ w) (carryless x1 y1 * 2 ^ w * 2 ^ w)))
     (sym (middle_product x0 x1 y0 y1))
 
 -- a number by the mask of its w low bits and the others
@@ -50,12 +50,12 @@ masked_split w x =
     ∙ xor_shifted (x / 2 ^ w) w (x % 2 ^ w) (mod-lt x (pow_pos w)) ∙ shr_split x w
 
 -- the product from the three: of the low halves, of the high halves, and of the sums
-pub conv_halves : (w x y low high both : ℕ)
-    → low ≡ conv (bit_and x (2 ^ w - 1)) (bit_and y (2 ^ w - 1)) → high ≡ conv (x / 2 ^ w) (y / 2 ^ w)
-    → both ≡ conv (bit_xor (bit_and x (2 ^ w - 1)) (x / 2 ^ w)) (bit_xor (bit_and y (2 ^ w - 1)) (y / 2 ^ w))
-    → conv x y ≡ karatsuba_sum w low high both
-conv_halves w x y low high both of_low of_high of_both =
-    sym (ap₂ conv (masked_split w x) (masked_split w y))
+pub carryless_halves : (w x y low high both : ℕ)
+    → low ≡ carryless (bit_and x (2 ^ w - 1)) (bit_and y (2 ^ w - 1)) → high ≡ carryless (x / 2 ^ w) (y / 2 ^ w)
+    → both ≡ carryless (bit_xor (bit_and x (2 ^ w - 1)) (x / 2 ^ w)) (bit_xor (bit_and y (2 ^ w - 1)) (y / 2 ^ w))
+    → carryless x y ≡ karatsuba_sum w low high both
+carryless_halves w x y low high both of_low of_high of_both =
+    sym (ap₂ carryless (masked_split w x) (masked_split w y))
     ∙ karatsuba w (bit_and x (2 ^ w - 1)) (x / 2 ^ w) (bit_and y (2 ^ w - 1)) (y / 2 ^ w)
     ∙ sym (ap₂ bit_xor of_low
     (ap₂ bit_xor
@@ -65,8 +65,8 @@ conv_halves w x y low high both of_low of_high of_both =
 -- ---- as the code joins the three
 
 -- a product of half words is a word
-pub conv_32 : (x y : ℕ) → x < 2 ^ 32 → y < 2 ^ 32 → conv x y % 2 ^ 64 ≡ conv x y
-conv_32 x y x_fits y_fits = mod-eq_of_lt (conv_lt 32 32 x y x_fits y_fits)
+pub carryless_32 : (x y : ℕ) → x < 2 ^ 32 → y < 2 ^ 32 → carryless x y % 2 ^ 64 ≡ carryless x y
+carryless_32 x y x_fits y_fits = mod-eq_of_lt (carryless_lt 32 32 x y x_fits y_fits)
 
 -- the sum of Karatsuba's rule in a double word
 pub joined_64 : (low high both : ℕ) → low < 2 ^ 64 → high < 2 ^ 64 → both < 2 ^ 64
@@ -81,12 +81,12 @@ joined_64 low high both low_fits high_fits both_fits =
     ∙ ap (bit_xor low) (xor_comm (high * 2 ^ 32 * 2 ^ 32) (bit_xor (bit_xor both low) high * 2 ^ 32))
 
 -- a product of words, from the sum
-pub conv_64 : (x y low high both r : ℕ)
-    → low ≡ conv (bit_and x (2 ^ 32 - 1)) (bit_and y (2 ^ 32 - 1)) → high ≡ conv (x / 2 ^ 32) (y / 2 ^ 32)
-    → both ≡ conv (bit_xor (bit_and x (2 ^ 32 - 1)) (x / 2 ^ 32)) (bit_xor (bit_and y (2 ^ 32 - 1)) (y / 2 ^ 32))
-    → r ≡ karatsuba_sum 32 low high both → r ≡ conv x y
-conv_64 x y low high both r of_low of_high of_both of_sum =
-    of_sum ∙ sym (conv_halves 32 x y low high both of_low of_high of_both)
+pub carryless_64 : (x y low high both r : ℕ)
+    → low ≡ carryless (bit_and x (2 ^ 32 - 1)) (bit_and y (2 ^ 32 - 1)) → high ≡ carryless (x / 2 ^ 32) (y / 2 ^ 32)
+    → both ≡ carryless (bit_xor (bit_and x (2 ^ 32 - 1)) (x / 2 ^ 32)) (bit_xor (bit_and y (2 ^ 32 - 1)) (y / 2 ^ 32))
+    → r ≡ karatsuba_sum 32 low high both → r ≡ carryless x y
+carryless_64 x y low high both r of_low of_high of_both of_sum =
+    of_sum ∙ sym (carryless_halves 32 x y low high both of_low of_high of_both)
 
 -- a shift by a whole half, as what stays in the double word and what leaves it
 shift_parts : (m : ℕ) → m * 2 ^ 64 ≡ bit_xor (m / 2 ^ 64 * 2 ^ 128) (m * 2 ^ 64 % 2 ^ 128)
@@ -114,11 +114,11 @@ joined_128 low middle high low_fits =
     placed : (a b c d : ℕ) → bit_xor a (bit_xor (bit_xor b c) d) ≡ bit_xor (bit_xor d b) (bit_xor a c)
     placed a b c d = simp (xor_assoc, xor_comm, xor_left_comm)
 
-pub conv_128 : (x y low high both : ℕ) → low < 2 ^ 128
-    → low ≡ conv (bit_and x (2 ^ 64 - 1)) (bit_and y (2 ^ 64 - 1)) → high ≡ conv (x / 2 ^ 64) (y / 2 ^ 64)
-    → both ≡ conv (bit_xor (bit_and x (2 ^ 64 - 1)) (x / 2 ^ 64)) (bit_xor (bit_and y (2 ^ 64 - 1)) (y / 2 ^ 64))
-    → conv x y ≡ bit_xor high (bit_xor (bit_xor both low) high / 2 ^ 64) * 2 ^ 128
+pub carryless_128 : (x y low high both : ℕ) → low < 2 ^ 128
+    → low ≡ carryless (bit_and x (2 ^ 64 - 1)) (bit_and y (2 ^ 64 - 1)) → high ≡ carryless (x / 2 ^ 64) (y / 2 ^ 64)
+    → both ≡ carryless (bit_xor (bit_and x (2 ^ 64 - 1)) (x / 2 ^ 64)) (bit_xor (bit_and y (2 ^ 64 - 1)) (y / 2 ^ 64))
+    → carryless x y ≡ bit_xor high (bit_xor (bit_xor both low) high / 2 ^ 64) * 2 ^ 128
     + bit_xor low (bit_xor (bit_xor both low) high * 2 ^ 64 % 2 ^ 128)
-conv_128 x y low high both low_fits of_low of_high of_both =
-    conv_halves 64 x y low high both of_low of_high of_both
+carryless_128 x y low high both low_fits of_low of_high of_both =
+    carryless_halves 64 x y low high both of_low of_high of_both
     ∙ joined_128 low (bit_xor (bit_xor both low) high) high low_fits

@@ -4,11 +4,11 @@ use Rattle.std.specs.Prelude.{bit_xor, bit_and}
 use Rattle.std.proofs.lemmas.Nat.{and_le_l, xor_comm, xor_lt, xor_mod, xor_shr, shl-shr, shr-shr, shr_split, mul-mod_first, pow_pos}
 use native.Mathlib.Nat.{mod-lt, mod-eq_of_lt}
 use lib.Bits.{xor_assoc, xor_shifted}
-use Rattle.bf_base.specs.Carryless.{conv, conv_in}
+use Rattle.bf_base.specs.Carryless.{carryless, carryless_in}
 use Rattle.bf_base.specs.Remainder.{HasDegree, rem, rem_in, mul_mod, poly64_modulus, ghash_modulus}
 use Rattle.bf_base.specs.Ring.{IsRing}
 use Rattle.bf_base.proofs.AdditiveMaps.{KeepsSums, maps_agree, agree_on_powers, agree_on_powers-true}
-use Rattle.bf_base.proofs.CarrylessProduct.{xor_exchange, xor_double, one_conv, double_conv, sum_conv, shl_conv, conv_lt}
+use Rattle.bf_base.proofs.CarrylessProduct.{xor_exchange, xor_double, one_carryless, double_carryless, sum_carryless, shl_carryless, carryless_lt}
 use Rattle.bf_base.proofs.PowerLemmas.{square_xor, square_times}
 use Rattle.bf_base.proofs.RingLemmas.{xor_left_comm}
 use Rattle.bf_base.proofs.RemainderLaws.{rem_small}
@@ -20,7 +20,7 @@ use Rattle.bf_clmul.proofs.Classes.{xor_and}
 
 module _ (width modulus : ℕ) (wide : 1 < width) (degree : HasDegree width modulus) (mask : ℕ) where
   -- the square of what squares to the bits z of an element is z
-  square_of : (e z : ℕ) → e < 2 ^ width → z < 2 ^ width → conv e e ≡ z → mul_mod width modulus e e ≡ z
+  square_of : (e z : ℕ) → e < 2 ^ width → z < 2 ^ width → carryless e e ≡ z → mul_mod width modulus e e ≡ z
   square_of e z e_fits z_fits of_e =
       mul_mod-rem width modulus degree e e e_fits e_fits ∙ ap (rem width modulus) of_e ∙ rem_small width modulus degree z z_fits
 
@@ -28,7 +28,7 @@ module _ (width modulus : ℕ) (wide : 1 < width) (degree : HasDegree width modu
   times_x : (z : ℕ) → z * 2 < 2 ^ width → 2 < 2 ^ width → mul_mod width modulus 2 z ≡ z * 2
   times_x z fits two_fits =
       mul_mod-rem width modulus degree 2 z two_fits (omega arith)
-      ∙ ap (rem width modulus) (double_conv 1 z ∙ ap (λ (y : ℕ). y * 2) (one_conv z))
+      ∙ ap (rem width modulus) (double_carryless 1 z ∙ ap (λ (y : ℕ). y * 2) (one_carryless z))
       ∙ rem_small width modulus degree (z * 2) fits
 
   -- the even places and the odd ones
@@ -41,8 +41,8 @@ module _ (width modulus : ℕ) (wide : 1 < width) (degree : HasDegree width modu
 
   pub root_of_parts : (s : ℕ) → mul_mod width modulus s s ≡ 2
       → agree_on_powers (λ x. bit_xor (bit_and x mask) (bit_and (x / 2) mask * 2)) (λ x. x) width ≡ true → (x e o p : ℕ)
-      → x < 2 ^ width → e < 2 ^ width → o < 2 ^ width → 2 < 2 ^ width → conv e e ≡ bit_and x mask
-      → conv o o ≡ bit_and (x / 2) mask → p ≡ mul_mod width modulus s o
+      → x < 2 ^ width → e < 2 ^ width → o < 2 ^ width → 2 < 2 ^ width → carryless e e ≡ bit_and x mask
+      → carryless o o ≡ bit_and (x / 2) mask → p ≡ mul_mod width modulus s o
       → mul_mod width modulus (bit_xor e p) (bit_xor e p) ≡ x
   root_of_parts s is_root agree x e o p x_fits e_fits o_fits two_fits of_e of_o of_p =
       square_xor width 1 (mul_mod width modulus) ring e p
@@ -73,28 +73,28 @@ shifted_split n h =
 
 -- ---- 64 bits
 
-root_squared_64 : mul_mod 64 poly64_modulus root_of_x_64 root_of_x_64 ≡ 2
-unfolding mul_mod rem rem_in conv conv_in
-root_squared_64 = refl
+root_repeated_square_64 : mul_mod 64 poly64_modulus root_of_x_64 root_of_x_64 ≡ 2
+unfolding mul_mod rem rem_in carryless carryless_in
+root_repeated_square_64 = refl
 
-pub root_64 : (x e o p : ℕ) → x < 2 ^ 64 → e < 2 ^ 32 → o < 2 ^ 32 → conv e e ≡ bit_and x even_places_64
-    → conv o o ≡ bit_and (x / 2) even_places_64 → p ≡ mul_mod 64 poly64_modulus root_of_x_64 o
+pub root_64 : (x e o p : ℕ) → x < 2 ^ 64 → e < 2 ^ 32 → o < 2 ^ 32 → carryless e e ≡ bit_and x even_places_64
+    → carryless o o ≡ bit_and (x / 2) even_places_64 → p ≡ mul_mod 64 poly64_modulus root_of_x_64 o
     → mul_mod 64 poly64_modulus (bit_xor e p) (bit_xor e p) ≡ x
 root_64 x e o p x_fits e_fits o_fits of_e of_o of_p =
-    root_of_parts 64 poly64_modulus (lit< tt) refl even_places_64 root_of_x_64 root_squared_64 refl x e o p x_fits
+    root_of_parts 64 poly64_modulus (lit< tt) refl even_places_64 root_of_x_64 root_repeated_square_64 refl x e o p x_fits
     (omega arith) (omega arith) (lit< tt) of_e of_o of_p
 
 -- ---- the product by the root of 64 bits
 
 -- a word and its shift are the product by a polynomial and its shift
-times_shifted : (k a s t : ℕ) → t ≡ conv a s % 2 ^ 64
-    → bit_xor t (t * 2 ^ k % 2 ^ 64) ≡ conv (bit_xor a (a * 2 ^ k)) s % 2 ^ 64
+times_shifted : (k a s t : ℕ) → t ≡ carryless a s % 2 ^ 64
+    → bit_xor t (t * 2 ^ k % 2 ^ 64) ≡ carryless (bit_xor a (a * 2 ^ k)) s % 2 ^ 64
 times_shifted k a s t of_t =
     ap (λ (z : ℕ). bit_xor z (z * 2 ^ k % 2 ^ 64)) of_t
-    ∙ ap (bit_xor (conv a s % 2 ^ 64)) (mul-mod_first (conv a s) (2 ^ k) (2 ^ 64))
-    ∙ sym (xor_mod (conv a s) (conv a s * 2 ^ k) 64)
+    ∙ ap (bit_xor (carryless a s % 2 ^ 64)) (mul-mod_first (carryless a s) (2 ^ k) (2 ^ 64))
+    ∙ sym (xor_mod (carryless a s) (carryless a s * 2 ^ k) 64)
     ∙ ap (λ (z : ℕ). z % 2 ^ 64)
-    (ap (bit_xor (conv a s)) (sym (shl_conv k a s)) ∙ sym (sum_conv a (a * 2 ^ k) s))
+    (ap (bit_xor (carryless a s)) (sym (shl_carryless k a s)) ∙ sym (sum_carryless a (a * 2 ^ k) s))
 
 -- a word and its shift to the left, in a word
 abbrev with_shift : ℕ → ℕ → ℕ
@@ -102,25 +102,25 @@ with_shift k t = bit_xor t (t * 2 ^ k % 2 ^ 64)
 
 -- the doubling steps make a run of 32 ones, and no bit leaves the word
 pub times_ones : (s : ℕ) → s < 2 ^ 32
-    → with_shift 16 (with_shift 8 (with_shift 4 (with_shift 2 (with_shift 1 s)))) ≡ conv ones_32 s
+    → with_shift 16 (with_shift 8 (with_shift 4 (with_shift 2 (with_shift 1 s)))) ≡ carryless ones_32 s
 times_ones s fits =
     times_shifted 16 0xffff s _ (times_shifted 8 0xff s _ (times_shifted 4 0xf s _ (times_shifted 2 3 s _
-    (times_shifted 1 1 s s (sym (ap (λ (z : ℕ). z % 2 ^ 64) (one_conv s) ∙ mod-eq_of_lt (omega arith)))))))
-    ∙ mod-eq_of_lt (conv_lt 32 32 ones_32 s (lit< tt) fits)
+    (times_shifted 1 1 s s (sym (ap (λ (z : ℕ). z % 2 ^ 64) (one_carryless s) ∙ mod-eq_of_lt (omega arith)))))))
+    ∙ mod-eq_of_lt (carryless_lt 32 32 ones_32 s (lit< tt) fits)
 
 -- the root is a run of ones and two terms
-root_terms : (s : ℕ) → conv root_of_x_64 s ≡ bit_xor (bit_xor (conv ones_32 s * 2 ^ 32) (s * 2 ^ 3)) (s * 2 ^ 1)
+root_terms : (s : ℕ) → carryless root_of_x_64 s ≡ bit_xor (bit_xor (carryless ones_32 s * 2 ^ 32) (s * 2 ^ 3)) (s * 2 ^ 1)
 root_terms s =
-    sum_conv (bit_xor (ones_32 * 2 ^ 32) (1 * 2 ^ 3)) (1 * 2 ^ 1) s
+    sum_carryless (bit_xor (ones_32 * 2 ^ 32) (1 * 2 ^ 3)) (1 * 2 ^ 1) s
     ∙ ap₂ bit_xor
-    (sum_conv (ones_32 * 2 ^ 32) (1 * 2 ^ 3) s ∙ ap₂ bit_xor (shl_conv 32 ones_32 s) (term 3))
+    (sum_carryless (ones_32 * 2 ^ 32) (1 * 2 ^ 3) s ∙ ap₂ bit_xor (shl_carryless 32 ones_32 s) (term 3))
     (term 1)
   where
-    term : (k : ℕ) → conv (1 * 2 ^ k) s ≡ s * 2 ^ k
-    term k = shl_conv k 1 s ∙ ap (λ (z : ℕ). z * 2 ^ k) (one_conv s)
+    term : (k : ℕ) → carryless (1 * 2 ^ k) s ≡ s * 2 ^ k
+    term k = shl_carryless k 1 s ∙ ap (λ (z : ℕ). z * 2 ^ k) (one_carryless s)
 
 -- so the product by the root, from the product by the ones
-pub product_by_terms : (o t r : ℕ) → o < 2 ^ 32 → t ≡ conv ones_32 o
+pub product_by_terms : (o t r : ℕ) → o < 2 ^ 32 → t ≡ carryless ones_32 o
     → r ≡ rem 64 poly64_modulus
     (t / 2 ^ 32 * 2 ^ 64 + bit_xor (bit_xor (t * 2 ^ 32 % 2 ^ 64) (o * 2 ^ 3 % 2 ^ 64)) (o * 2 ^ 1 % 2 ^ 64))
     → r ≡ mul_mod 64 poly64_modulus root_of_x_64 o
@@ -144,20 +144,20 @@ product_by_terms o t r fits of_t of_r =
 
 -- ---- 128 bits
 
-root_squared_128 : mul_mod 128 ghash_modulus root_of_x_128 root_of_x_128 ≡ 2
-unfolding mul_mod rem rem_in conv conv_in
-root_squared_128 = refl
+root_repeated_square_128 : mul_mod 128 ghash_modulus root_of_x_128 root_of_x_128 ≡ 2
+unfolding mul_mod rem rem_in carryless carryless_in
+root_repeated_square_128 = refl
 
-pub root_128 : (x e o p : ℕ) → x < 2 ^ 128 → e < 2 ^ 64 → o < 2 ^ 64 → conv e e ≡ bit_and x even_places_128
-    → conv o o ≡ bit_and (x / 2) even_places_128 → p ≡ mul_mod 128 ghash_modulus root_of_x_128 o
+pub root_128 : (x e o p : ℕ) → x < 2 ^ 128 → e < 2 ^ 64 → o < 2 ^ 64 → carryless e e ≡ bit_and x even_places_128
+    → carryless o o ≡ bit_and (x / 2) even_places_128 → p ≡ mul_mod 128 ghash_modulus root_of_x_128 o
     → mul_mod 128 ghash_modulus (bit_xor e p) (bit_xor e p) ≡ x
 root_128 x e o p x_fits e_fits o_fits of_e of_o of_p =
-    root_of_parts 128 ghash_modulus (lit< tt) refl even_places_128 root_of_x_128 root_squared_128 refl x e o p x_fits
+    root_of_parts 128 ghash_modulus (lit< tt) refl even_places_128 root_of_x_128 root_repeated_square_128 refl x e o p x_fits
     (omega arith) (omega arith) (lit< tt) of_e of_o of_p
 
 -- the product by a double word, from the products by its words
 pub product_by_words : (s0 s1 o low high r : ℕ) → s0 < 2 ^ 64 → s1 * 2 ^ 64 + s0 < 2 ^ 128 → o < 2 ^ 64 → low < 2 ^ 128
-    → low ≡ conv s0 o → high ≡ conv s1 o
+    → low ≡ carryless s0 o → high ≡ carryless s1 o
     → r ≡ rem 128 ghash_modulus (high / 2 ^ 64 * 2 ^ 128 + bit_xor low (high * 2 ^ 64 % 2 ^ 128))
     → r ≡ mul_mod 128 ghash_modulus (s1 * 2 ^ 64 + s0) o
 product_by_words s0 s1 o low high r s0_fits s_fits o_fits low_fits of_low of_high of_r =
@@ -168,6 +168,6 @@ product_by_words s0 s1 o low high r s0_fits s_fits o_fits low_fits of_low of_hig
     ∙ xor_left_comm (high / 2 ^ 64 * 2 ^ 128) low (high * 2 ^ 64 % 2 ^ 128)
     ∙ ap (bit_xor low) (shifted_split 64 high) ∙ xor_comm low (high * 2 ^ 64)
     ∙ ap₂ (λ (x y : ℕ). bit_xor (x * 2 ^ 64) y) of_high of_low
-    ∙ sym (ap (λ (z : ℕ). conv z o) (sym (xor_shifted s1 64 s0 s0_fits)) ∙ sum_conv (s1 * 2 ^ 64) s0 o
-    ∙ ap (λ (z : ℕ). bit_xor z (conv s0 o)) (shl_conv 64 s1 o)))
+    ∙ sym (ap (λ (z : ℕ). carryless z o) (sym (xor_shifted s1 64 s0 s0_fits)) ∙ sum_carryless (s1 * 2 ^ 64) s0 o
+    ∙ ap (λ (z : ℕ). bit_xor z (carryless s0 o)) (shl_carryless 64 s1 o)))
     ∙ sym (mul_mod-rem 128 ghash_modulus refl (s1 * 2 ^ 64 + s0) o s_fits (omega arith))

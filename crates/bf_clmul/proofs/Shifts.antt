@@ -2,12 +2,12 @@
 use Rattle.std.proofs.Common.{◌≡◌, ℕ, ◌+◌, ◌-◌, ◌*◌, ◌/◌, ◌%◌, ◌^◌, ◌<◌, sym, ◌∙◌, ap, arith}
 use Rattle.std.proofs.lemmas.Nat.{shr-shr, shr_split, pow-add, pow_pos}
 use native.Mathlib.Nat.{mul-div-mul_right}
-use Rattle.bf_base.specs.Carryless.{conv}
-use Rattle.bf_base.proofs.ValueLemmas.{conv_power}
+use Rattle.bf_base.specs.Carryless.{carryless}
+use Rattle.bf_base.proofs.ValueLemmas.{carryless_power}
 
-pub shifted_128 : (x k : ℕ) → k < 128 → conv x (2 ^ k) ≡ x / 2 / 2 ^ (127 - k) * 2 ^ 128 + x * 2 ^ k % 2 ^ 128
+pub shifted_128 : (x k : ℕ) → k < 128 → carryless x (2 ^ k) ≡ x / 2 / 2 ^ (127 - k) * 2 ^ 128 + x * 2 ^ k % 2 ^ 128
 shifted_128 x k within =
-    conv_power x k ∙ sym (shr_split (x * 2 ^ k) 128)
+    carryless_power x k ∙ sym (shr_split (x * 2 ^ k) 128)
     ∙ ap (λ (h : ℕ). h * 2 ^ 128 + x * 2 ^ k % 2 ^ 128) (high ∙ sym (shr-shr x 1 (127 - k) ∙ ap (λ (n : ℕ). x / 2 ^ n) parts))
   where
     parts : 1 + (127 - k) ≡ 128 - k

@@ -4,9 +4,9 @@ use Rattle.std.specs.Prelude.{bit_xor, bit_and}
 use Rattle.std.proofs.lemmas.Nat.{xor_comm, xor_mod, shl_whole}
 use native.Mathlib.Nat.{mul_assoc}
 use lib.Bits.{xor_assoc, xor_shifted}
-use Rattle.bf_base.specs.Carryless.{conv, conv_in}
+use Rattle.bf_base.specs.Carryless.{carryless, carryless_in}
 use Rattle.bf_base.proofs.RingLemmas.{xor_cancel}
-use Rattle.bf_base.proofs.CarrylessProduct.{xor_exchange, xor_shl, conv_comm, conv_sum, sum_conv, conv_shl, shl_conv}
+use Rattle.bf_base.proofs.CarrylessProduct.{xor_exchange, xor_shl, carryless_comm, carryless_sum, sum_carryless, carryless_shl, shl_carryless}
 use Rattle.bf_base.proofs.AdditiveMaps.{KeepsSums, maps_agree, agree_on_powers, agree_on_powers-true}
 use Rattle.bf_clmul.specs.Spread.{spread_step}
 use Rattle.bf_clmul.proofs.Classes.{xor_and}
@@ -14,11 +14,11 @@ use Rattle.bf_clmul.proofs.KaratsubaLemmas.{masked_split}
 
 -- ---- a square keeps sums
 
-pub square_sum : (a b : ℕ) → conv (bit_xor a b) (bit_xor a b) ≡ bit_xor (conv a a) (conv b b)
+pub square_sum : (a b : ℕ) → carryless (bit_xor a b) (bit_xor a b) ≡ bit_xor (carryless a a) (carryless b b)
 square_sum a b =
-    sum_conv a b (bit_xor a b)
-    ∙ ap₂ bit_xor (conv_sum a a b) (conv_sum b a b ∙ ap (λ (z : ℕ). bit_xor z (conv b b)) (conv_comm b a))
-    ∙ cancelled (conv a a) (conv a b) (conv b b)
+    sum_carryless a b (bit_xor a b)
+    ∙ ap₂ bit_xor (carryless_sum a a b) (carryless_sum b a b ∙ ap (λ (z : ℕ). bit_xor z (carryless b b)) (carryless_comm b a))
+    ∙ cancelled (carryless a a) (carryless a b) (carryless b b)
   where
     cancelled : (p q r : ℕ) → bit_xor (bit_xor p q) (bit_xor q r) ≡ bit_xor p r
     cancelled p q r = xor_assoc p q (bit_xor q r) ∙ ap (bit_xor p) (xor_cancel q r)
@@ -72,19 +72,19 @@ unfolding spread
 spread-sum = then_step pairs_apart pairs_apart-sum 1 0x5555_5555_5555_5555
 
 -- at the 32 powers of two they are squares, by computation
-powers_agree : agree_on_powers spread (λ x. conv x x) 32 ≡ true
-unfolding spread pairs_apart nibbles_apart bytes_apart halves_apart conv conv_in
+powers_agree : agree_on_powers spread (λ x. carryless x x) 32 ≡ true
+unfolding spread pairs_apart nibbles_apart bytes_apart halves_apart carryless carryless_in
 powers_agree = refl
 
-spread-square : (x : ℕ) → x < 2 ^ 32 → spread x ≡ conv x x
+spread-square : (x : ℕ) → x < 2 ^ 32 → spread x ≡ carryless x x
 spread-square =
-    maps_agree spread (λ x. conv x x) spread-sum square_sum 32
-    (agree_on_powers-true spread (λ x. conv x x) 32 powers_agree)
+    maps_agree spread (λ x. carryless x x) spread-sum square_sum 32
+    (agree_on_powers-true spread (λ x. carryless x x) 32 powers_agree)
 
 -- the steps one after another, as the code calls them
 pub spread_32 : (x a b c d e : ℕ) → x < 2 ^ 32 → a ≡ spread_step 16 0x0000_ffff_0000_ffff x
     → b ≡ spread_step 8 0x00ff_00ff_00ff_00ff a → c ≡ spread_step 4 0x0f0f_0f0f_0f0f_0f0f b
-    → d ≡ spread_step 2 0x3333_3333_3333_3333 c → e ≡ spread_step 1 0x5555_5555_5555_5555 d → e ≡ conv x x
+    → d ≡ spread_step 2 0x3333_3333_3333_3333 c → e ≡ spread_step 1 0x5555_5555_5555_5555 d → e ≡ carryless x x
 unfolding spread pairs_apart nibbles_apart bytes_apart halves_apart
 spread_32 x a b c d e fits of_a of_b of_c of_d of_e =
     of_e
@@ -97,27 +97,27 @@ spread_32 x a b c d e fits of_a of_b of_c of_d of_e =
 
 -- ---- squares by halves
 
-halves : (w x low high : ℕ) → low ≡ conv (bit_and x (2 ^ w - 1)) (bit_and x (2 ^ w - 1))
-    → high ≡ conv (x / 2 ^ w) (x / 2 ^ w) → conv x x ≡ bit_xor low (high * 2 ^ w * 2 ^ w)
+halves : (w x low high : ℕ) → low ≡ carryless (bit_and x (2 ^ w - 1)) (bit_and x (2 ^ w - 1))
+    → high ≡ carryless (x / 2 ^ w) (x / 2 ^ w) → carryless x x ≡ bit_xor low (high * 2 ^ w * 2 ^ w)
 halves w x low high of_low of_high =
-    ap (λ (z : ℕ). conv z z) (sym (masked_split w x))
+    ap (λ (z : ℕ). carryless z z) (sym (masked_split w x))
     ∙ square_sum (bit_and x (2 ^ w - 1)) (x / 2 ^ w * 2 ^ w)
     ∙ ap₂ bit_xor (sym of_low)
-    (conv_shl w (x / 2 ^ w * 2 ^ w) (x / 2 ^ w)
+    (carryless_shl w (x / 2 ^ w * 2 ^ w) (x / 2 ^ w)
     ∙ ap (λ (z : ℕ). z * 2 ^ w)
-    (shl_conv w (x / 2 ^ w) (x / 2 ^ w) ∙ ap (λ (z : ℕ). z * 2 ^ w) (sym of_high)))
+    (shl_carryless w (x / 2 ^ w) (x / 2 ^ w) ∙ ap (λ (z : ℕ). z * 2 ^ w) (sym of_high)))
 
-pub square_64 : (x low high : ℕ) → high < 2 ^ 64
-    → low ≡ conv (bit_and x (2 ^ 32 - 1)) (bit_and x (2 ^ 32 - 1)) → high ≡ conv (x / 2 ^ 32) (x / 2 ^ 32)
-    → bit_xor (high * 2 ^ 64 % 2 ^ 128) low ≡ conv x x
-square_64 x low high fits of_low of_high =
+pub carryless_square_64 : (x low high : ℕ) → high < 2 ^ 64
+    → low ≡ carryless (bit_and x (2 ^ 32 - 1)) (bit_and x (2 ^ 32 - 1)) → high ≡ carryless (x / 2 ^ 32) (x / 2 ^ 32)
+    → bit_xor (high * 2 ^ 64 % 2 ^ 128) low ≡ carryless x x
+carryless_square_64 x low high fits of_low of_high =
     ap (λ (z : ℕ). bit_xor z low) (shl_whole high 64 64 128 fits (lit≤ tt) ∙ sym (mul_assoc high (2 ^ 32) (2 ^ 32)))
     ∙ xor_comm (high * 2 ^ 32 * 2 ^ 32) low ∙ sym (halves 32 x low high of_low of_high)
 
-pub square_128 : (x low high : ℕ) → low < 2 ^ 128
-    → low ≡ conv (bit_and x (2 ^ 64 - 1)) (bit_and x (2 ^ 64 - 1)) → high ≡ conv (x / 2 ^ 64) (x / 2 ^ 64)
-    → conv x x ≡ high * 2 ^ 128 + low
-square_128 x low high fits of_low of_high =
+pub carryless_square_128 : (x low high : ℕ) → low < 2 ^ 128
+    → low ≡ carryless (bit_and x (2 ^ 64 - 1)) (bit_and x (2 ^ 64 - 1)) → high ≡ carryless (x / 2 ^ 64) (x / 2 ^ 64)
+    → carryless x x ≡ high * 2 ^ 128 + low
+carryless_square_128 x low high fits of_low of_high =
     halves 64 x low high of_low of_high
     ∙ xor_comm low (high * 2 ^ 64 * 2 ^ 64)
     ∙ ap (λ (z : ℕ). bit_xor z low) (mul_assoc high (2 ^ 64) (2 ^ 64)) ∙ xor_shifted high 128 low fits

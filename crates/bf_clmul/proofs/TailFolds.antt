@@ -4,9 +4,9 @@ use Rattle.std.specs.Prelude.{bit_xor}
 use Rattle.std.proofs.lemmas.Nat.{xor_comm, xor_lt, xor_mod, xor_shr, shr_split, shr_below, pow-add, pow_pos}
 use native.Mathlib.Nat.{mod-lt, mod-eq_of_lt, div-eq_of_lt, one-mul, add_comm, mul-div-mul_right, lt_of_lt_of_le, pow-le-pow_right}
 use lib.Bits.{xor_assoc, xor_zero_r, xor_shifted}
-use Rattle.bf_base.specs.Carryless.{conv}
+use Rattle.bf_base.specs.Carryless.{carryless}
 use Rattle.bf_base.specs.Remainder.{HasDegree, rem, poly64_modulus, ghash_modulus}
-use Rattle.bf_base.proofs.CarrylessProduct.{conv_sum, conv_one, conv_shl, conv_lt}
+use Rattle.bf_base.proofs.CarrylessProduct.{carryless_sum, carryless_one, carryless_shl, carryless_lt}
 use Rattle.bf_base.proofs.RemainderLaws.{rem_small, rem_multiple}
 use Rattle.bf_base.proofs.RingLemmas.{xor_cancel}
 use Rattle.bf_clmul.specs.Tail.{poly64_tail, ghash_tail}
@@ -14,27 +14,27 @@ use Rattle.bf_clmul.specs.Tail.{poly64_tail, ghash_tail}
 -- ---- the product by a tail of four terms
 
 -- the product by a power of x
-conv_pow : (h a : ℕ) → conv h (2 ^ a) ≡ h * 2 ^ a
-conv_pow h a = ap (conv h) (sym (one-mul (2 ^ a))) ∙ conv_shl a h 1 ∙ ap (λ (z : ℕ). z * 2 ^ a) (conv_one h)
+carryless_pow : (h a : ℕ) → carryless h (2 ^ a) ≡ h * 2 ^ a
+carryless_pow h a = ap (carryless h) (sym (one-mul (2 ^ a))) ∙ carryless_shl a h 1 ∙ ap (λ (z : ℕ). z * 2 ^ a) (carryless_one h)
 
 -- the tail with the terms a, b, d and 0
 abbrev tail : ℕ → ℕ → ℕ → ℕ
 tail a b d = bit_xor (bit_xor (bit_xor (2 ^ a) (2 ^ b)) (2 ^ d)) 1
 
-conv_tail : (h a b d : ℕ) → conv h (tail a b d) ≡ bit_xor (bit_xor (bit_xor (h * 2 ^ a) (h * 2 ^ b)) (h * 2 ^ d)) h
-conv_tail h a b d =
-    conv_sum h (bit_xor (bit_xor (2 ^ a) (2 ^ b)) (2 ^ d)) 1
+carryless_tail : (h a b d : ℕ) → carryless h (tail a b d) ≡ bit_xor (bit_xor (bit_xor (h * 2 ^ a) (h * 2 ^ b)) (h * 2 ^ d)) h
+carryless_tail h a b d =
+    carryless_sum h (bit_xor (bit_xor (2 ^ a) (2 ^ b)) (2 ^ d)) 1
     ∙ ap₂ bit_xor
-    (conv_sum h (bit_xor (2 ^ a) (2 ^ b)) (2 ^ d)
-    ∙ ap₂ bit_xor (conv_sum h (2 ^ a) (2 ^ b) ∙ ap₂ bit_xor (conv_pow h a) (conv_pow h b)) (conv_pow h d))
-    (conv_one h)
+    (carryless_sum h (bit_xor (2 ^ a) (2 ^ b)) (2 ^ d)
+    ∙ ap₂ bit_xor (carryless_sum h (2 ^ a) (2 ^ b) ∙ ap₂ bit_xor (carryless_pow h a) (carryless_pow h b)) (carryless_pow h d))
+    (carryless_one h)
 
 -- what of the product is below x^w
 tail_low : (w a b d h : ℕ) → h < 2 ^ w
     → bit_xor (bit_xor (bit_xor (h * 2 ^ a % 2 ^ w) (h * 2 ^ b % 2 ^ w)) (h * 2 ^ d % 2 ^ w)) h
-    ≡ conv h (tail a b d) % 2 ^ w
+    ≡ carryless h (tail a b d) % 2 ^ w
 tail_low w a b d h fits =
-    sym (ap (λ (z : ℕ). z % 2 ^ w) (conv_tail h a b d)
+    sym (ap (λ (z : ℕ). z % 2 ^ w) (carryless_tail h a b d)
     ∙ xor_mod (bit_xor (bit_xor (h * 2 ^ a) (h * 2 ^ b)) (h * 2 ^ d)) h w
     ∙ ap₂ bit_xor
     (xor_mod (bit_xor (h * 2 ^ a) (h * 2 ^ b)) (h * 2 ^ d) w
@@ -49,9 +49,9 @@ shl_high w a above h e =
 
 -- what of the product is past x^w
 tail_high : (w a b d a' b' d' h : ℕ) → h < 2 ^ w → a' + a ≡ w → b' + b ≡ w → d' + d ≡ w
-    → bit_xor (bit_xor (h / 2 ^ a') (h / 2 ^ b')) (h / 2 ^ d') ≡ conv h (tail a b d) / 2 ^ w
+    → bit_xor (bit_xor (h / 2 ^ a') (h / 2 ^ b')) (h / 2 ^ d') ≡ carryless h (tail a b d) / 2 ^ w
 tail_high w a b d a' b' d' h fits e_a e_b e_d =
-    sym (ap (λ (z : ℕ). z / 2 ^ w) (conv_tail h a b d)
+    sym (ap (λ (z : ℕ). z / 2 ^ w) (carryless_tail h a b d)
     ∙ xor_shr (bit_xor (bit_xor (h * 2 ^ a) (h * 2 ^ b)) (h * 2 ^ d)) h w
     ∙ ap₂ bit_xor
     (xor_shr (bit_xor (h * 2 ^ a) (h * 2 ^ b)) (h * 2 ^ d) w
@@ -65,17 +65,17 @@ tail_high w a b d a' b' d' h fits e_a e_b e_d =
 
 module _ (w t : ℕ) (degree : HasDegree w (bit_xor (1 * 2 ^ w) t)) where
   -- x^w counts as the tail
-  fold_once : (h p : ℕ) → rem w (bit_xor (1 * 2 ^ w) t) (bit_xor (h * 2 ^ w) p) ≡ rem w (bit_xor (1 * 2 ^ w) t) (bit_xor (conv h t) p)
+  fold_once : (h p : ℕ) → rem w (bit_xor (1 * 2 ^ w) t) (bit_xor (h * 2 ^ w) p) ≡ rem w (bit_xor (1 * 2 ^ w) t) (bit_xor (carryless h t) p)
   fold_once h p =
-      ap (λ (z : ℕ). rem w (bit_xor (1 * 2 ^ w) t) (bit_xor z p)) (sym (xor_cancel (conv h t) (h * 2 ^ w)))
+      ap (λ (z : ℕ). rem w (bit_xor (1 * 2 ^ w) t) (bit_xor z p)) (sym (xor_cancel (carryless h t) (h * 2 ^ w)))
       ∙ ap (rem w (bit_xor (1 * 2 ^ w) t))
-      (turned (conv h t) (h * 2 ^ w) p ∙ ap (λ (z : ℕ). bit_xor z (bit_xor (conv h t) p)) (sym whole))
-      ∙ rem_multiple w (bit_xor (1 * 2 ^ w) t) degree h (bit_xor (conv h t) p)
+      (turned (carryless h t) (h * 2 ^ w) p ∙ ap (λ (z : ℕ). bit_xor z (bit_xor (carryless h t) p)) (sym whole))
+      ∙ rem_multiple w (bit_xor (1 * 2 ^ w) t) degree h (bit_xor (carryless h t) p)
     where
-      whole : conv h (bit_xor (1 * 2 ^ w) t) ≡ bit_xor (h * 2 ^ w) (conv h t)
+      whole : carryless h (bit_xor (1 * 2 ^ w) t) ≡ bit_xor (h * 2 ^ w) (carryless h t)
       whole =
-          conv_sum h (1 * 2 ^ w) t
-          ∙ ap (λ (z : ℕ). bit_xor z (conv h t)) (conv_shl w h 1 ∙ ap (λ (z : ℕ). z * 2 ^ w) (conv_one h))
+          carryless_sum h (1 * 2 ^ w) t
+          ∙ ap (λ (z : ℕ). bit_xor z (carryless h t)) (carryless_shl w h 1 ∙ ap (λ (z : ℕ). z * 2 ^ w) (carryless_one h))
 
       turned : (a b c : ℕ) → bit_xor (bit_xor a (bit_xor a b)) c ≡ bit_xor (bit_xor b a) (bit_xor a c)
       turned a b c =
@@ -85,27 +85,27 @@ module _ (w t : ℕ) (degree : HasDegree w (bit_xor (1 * 2 ^ w) t)) where
   -- a tail of degree below half the width leaves nothing after the second fold
   pub fold_twice : (n low high : ℕ) → t < 2 ^ n → n + n ≤ w → low < 2 ^ w → high < 2 ^ w
       → rem w (bit_xor (1 * 2 ^ w) t) (high * 2 ^ w + low)
-      ≡ bit_xor (bit_xor low (conv high t % 2 ^ w)) (conv (conv high t / 2 ^ w) t % 2 ^ w)
+      ≡ bit_xor (bit_xor low (carryless high t % 2 ^ w)) (carryless (carryless high t / 2 ^ w) t % 2 ^ w)
   fold_twice n low high small half low_fits high_fits =
       ap (rem w (bit_xor (1 * 2 ^ w) t)) (sym (xor_shifted high w low low_fits)) ∙ fold_once high low
-      ∙ ap (λ (z : ℕ). rem w (bit_xor (1 * 2 ^ w) t) (bit_xor z low)) (sym (split (conv high t)))
-      ∙ ap (rem w (bit_xor (1 * 2 ^ w) t)) (xor_assoc (conv high t / 2 ^ w * 2 ^ w) (conv high t % 2 ^ w) low)
-      ∙ fold_once (conv high t / 2 ^ w) (bit_xor (conv high t % 2 ^ w) low)
+      ∙ ap (λ (z : ℕ). rem w (bit_xor (1 * 2 ^ w) t) (bit_xor z low)) (sym (split (carryless high t)))
+      ∙ ap (rem w (bit_xor (1 * 2 ^ w) t)) (xor_assoc (carryless high t / 2 ^ w * 2 ^ w) (carryless high t % 2 ^ w) low)
+      ∙ fold_once (carryless high t / 2 ^ w) (bit_xor (carryless high t % 2 ^ w) low)
       ∙ rem_small w (bit_xor (1 * 2 ^ w) t) degree _
-      (xor_lt w (conv (conv high t / 2 ^ w) t) _ spill_fits
-      (xor_lt w (conv high t % 2 ^ w) low (mod-lt (conv high t) (pow_pos w)) low_fits))
-      ∙ xor_comm (conv (conv high t / 2 ^ w) t) (bit_xor (conv high t % 2 ^ w) low)
-      ∙ ap₂ bit_xor (xor_comm (conv high t % 2 ^ w) low) (sym (mod-eq_of_lt spill_fits))
+      (xor_lt w (carryless (carryless high t / 2 ^ w) t) _ spill_fits
+      (xor_lt w (carryless high t % 2 ^ w) low (mod-lt (carryless high t) (pow_pos w)) low_fits))
+      ∙ xor_comm (carryless (carryless high t / 2 ^ w) t) (bit_xor (carryless high t % 2 ^ w) low)
+      ∙ ap₂ bit_xor (xor_comm (carryless high t % 2 ^ w) low) (sym (mod-eq_of_lt spill_fits))
     where
       split : (c : ℕ) → bit_xor (c / 2 ^ w * 2 ^ w) (c % 2 ^ w) ≡ c
       split c = xor_shifted (c / 2 ^ w) w (c % 2 ^ w) (mod-lt c (pow_pos w)) ∙ shr_split c w
 
-      spill_fits : conv (conv high t / 2 ^ w) t < 2 ^ w
+      spill_fits : carryless (carryless high t / 2 ^ w) t < 2 ^ w
       spill_fits =
           lt_of_lt_of_le
-          (conv_lt n n (conv high t / 2 ^ w) t
-          (shr_below (conv high t) n w
-          (subst (λ (z : ℕ). conv high t < 2 ^ z) (add_comm w n) (conv_lt w n high t high_fits small)))
+          (carryless_lt n n (carryless high t / 2 ^ w) t
+          (shr_below (carryless high t) n w
+          (subst (λ (z : ℕ). carryless high t < 2 ^ z) (add_comm w n) (carryless_lt w n high t high_fits small)))
           small)
           (pow-le-pow_right (lit< tt) half)
 
@@ -113,26 +113,26 @@ module _ (w t : ℕ) (degree : HasDegree w (bit_xor (1 * 2 ^ w) t)) where
 
 pub tail_low_64 : (h : ℕ) → h < 2 ^ 64
     → bit_xor (bit_xor (bit_xor (h * 2 ^ 4 % 2 ^ 64) (h * 2 ^ 3 % 2 ^ 64)) (h * 2 ^ 1 % 2 ^ 64)) h
-    ≡ conv h poly64_tail % 2 ^ 64
+    ≡ carryless h poly64_tail % 2 ^ 64
 tail_low_64 = tail_low 64 4 3 1
 
 pub tail_high_64 : (h : ℕ) → h < 2 ^ 64
-    → bit_xor (bit_xor (h / 2 ^ 60) (h / 2 ^ 61)) (h / 2 ^ 63) ≡ conv h poly64_tail / 2 ^ 64
+    → bit_xor (bit_xor (h / 2 ^ 60) (h / 2 ^ 61)) (h / 2 ^ 63) ≡ carryless h poly64_tail / 2 ^ 64
 tail_high_64 h fits = tail_high 64 4 3 1 60 61 63 h fits refl refl refl
 
 pub fold_64 : (low high : ℕ) → low < 2 ^ 64 → high < 2 ^ 64 → rem 64 poly64_modulus (high * 2 ^ 64 + low)
-    ≡ bit_xor (bit_xor low (conv high poly64_tail % 2 ^ 64)) (conv (conv high poly64_tail / 2 ^ 64) poly64_tail % 2 ^ 64)
+    ≡ bit_xor (bit_xor low (carryless high poly64_tail % 2 ^ 64)) (carryless (carryless high poly64_tail / 2 ^ 64) poly64_tail % 2 ^ 64)
 fold_64 low high = fold_twice 64 poly64_tail refl 5 low high (lit< tt) (lit≤ tt)
 
 pub tail_low_128 : (h : ℕ) → h < 2 ^ 128
     → bit_xor (bit_xor (bit_xor (h * 2 ^ 7 % 2 ^ 128) (h * 2 ^ 2 % 2 ^ 128)) (h * 2 ^ 1 % 2 ^ 128)) h
-    ≡ conv h ghash_tail % 2 ^ 128
+    ≡ carryless h ghash_tail % 2 ^ 128
 tail_low_128 = tail_low 128 7 2 1
 
 pub tail_high_128 : (h : ℕ) → h < 2 ^ 128
-    → bit_xor (bit_xor (h / 2 ^ 121) (h / 2 ^ 126)) (h / 2 ^ 127) ≡ conv h ghash_tail / 2 ^ 128
+    → bit_xor (bit_xor (h / 2 ^ 121) (h / 2 ^ 126)) (h / 2 ^ 127) ≡ carryless h ghash_tail / 2 ^ 128
 tail_high_128 h fits = tail_high 128 7 2 1 121 126 127 h fits refl refl refl
 
 pub fold_128 : (low high : ℕ) → low < 2 ^ 128 → high < 2 ^ 128 → rem 128 ghash_modulus (high * 2 ^ 128 + low)
-    ≡ bit_xor (bit_xor low (conv high ghash_tail % 2 ^ 128)) (conv (conv high ghash_tail / 2 ^ 128) ghash_tail % 2 ^ 128)
+    ≡ bit_xor (bit_xor low (carryless high ghash_tail % 2 ^ 128)) (carryless (carryless high ghash_tail / 2 ^ 128) ghash_tail % 2 ^ 128)
 fold_128 low high = fold_twice 128 ghash_tail refl 8 low high (lit< tt) (lit≤ tt)

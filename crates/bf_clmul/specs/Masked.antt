@@ -2,7 +2,7 @@
 -- Their integer product gives their carryless product, since no carry reaches a bit that the class keeps.
 use Rattle.std.specs.Prelude.{◌≡◌, ◌↔◌, ℕ, ◌+◌, ◌*◌, ◌%◌, ◌^◌, ◌<◌, bit_and}
 use Rattle.std.specs.Int.{bit_at}
-use Rattle.bf_base.specs.Carryless.{conv}
+use Rattle.bf_base.specs.Carryless.{carryless}
 
 -- the places below 64 that are i modulo 4
 abbrev pub class_mask : ℕ → ℕ
@@ -24,4 +24,4 @@ ClassIsPlaces = (i x : ℕ) → i < 4 → x < 2 ^ 64 → IsInClass i x ↔ HasPl
 -- x^64 of their carryless product
 abbrev pub CarryIsolation : Type 0
 CarryIsolation = (i j x y : ℕ) → i < 4 → j < 4 → IsInClass i x → IsInClass j y
-    → bit_and (x * y % 2 ^ 64) (class_mask ((i + j) % 4)) ≡ conv x y % 2 ^ 64
+    → bit_and (x * y % 2 ^ 64) (class_mask ((i + j) % 4)) ≡ carryless x y % 2 ^ 64

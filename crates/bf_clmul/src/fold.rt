@@ -5,14 +5,14 @@
 //
 //     high | low   ->   low + high * tail   ->   low + (high * tail) % x^w + spill * tail
 ghost use Rattle.std.specs.Prelude.{◌≡◌, ◌/◌, ◌%◌, ◌*◌, ◌+◌, ◌^◌};
-ghost use Rattle.bf_base.specs.Carryless.{conv};
+ghost use Rattle.bf_base.specs.Carryless.{carryless};
 ghost use Rattle.bf_base.specs.Remainder.{ghash_modulus, poly64_modulus, rem};
 ghost use Rattle.bf_clmul.specs.Tail.{ghash_tail, poly64_tail};
 
 /// The low word of the product by x^4 + x^3 + x + 1.
 #[tactic(auto, using(crate::proofs::TailFolds::tail_low_64))]
 fn times_tail_64(h: u64) -> u64
-    ensures { result ≡ conv h poly64_tail % 2 ^ 64 }
+    ensures { result ≡ carryless h poly64_tail % 2 ^ 64 }
 {
     (h << 4) ^ (h << 3) ^ (h << 1) ^ h
 }
@@ -20,7 +20,7 @@ fn times_tail_64(h: u64) -> u64
 /// What of that product lies past the word.
 #[tactic(auto, using(crate::proofs::TailFolds::tail_high_64))]
 fn spill_64(h: u64) -> u64
-    ensures { result ≡ conv h poly64_tail / 2 ^ 64 }
+    ensures { result ≡ carryless h poly64_tail / 2 ^ 64 }
 {
     (h >> 60) ^ (h >> 61) ^ (h >> 63)
 }
@@ -35,7 +35,7 @@ pub fn reduce_64(low: u64, high: u64) -> u64
 /// The low double word of the product by x^7 + x^2 + x + 1.
 #[tactic(auto, using(crate::proofs::TailFolds::tail_low_128))]
 fn times_tail_128(h: u128) -> u128
-    ensures { result ≡ conv h ghash_tail % 2 ^ 128 }
+    ensures { result ≡ carryless h ghash_tail % 2 ^ 128 }
 {
     (h << 7) ^ (h << 2) ^ (h << 1) ^ h
 }
@@ -43,7 +43,7 @@ fn times_tail_128(h: u128) -> u128
 /// What of that product lies past the double word.
 #[tactic(auto, using(crate::proofs::TailFolds::tail_high_128))]
 fn spill_128(h: u128) -> u128
-    ensures { result ≡ conv h ghash_tail / 2 ^ 128 }
+    ensures { result ≡ carryless h ghash_tail / 2 ^ 128 }
 {
     (h >> 121) ^ (h >> 126) ^ (h >> 127)
 }

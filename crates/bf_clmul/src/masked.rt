@@ -6,7 +6,7 @@
 // the word.
 ghost use Rattle.std.specs.Prelude.{◌≡◌, ◌%◌, ◌+◌, ◌^◌, ◌<◌, map};
 ghost use Rattle.std.specs.List.{All};
-ghost use Rattle.bf_base.specs.Carryless.{conv};
+ghost use Rattle.bf_base.specs.Carryless.{carryless};
 ghost use Rattle.bf_clmul.specs.Masked.{IsInClass};
 
 /// The bits of a word that are 0 modulo 4.
@@ -24,13 +24,13 @@ pub(crate) const CLASS_3: u64 = 0x8888_8888_8888_8888;
 /// The low 64 bits of the carryless product of a word of class `i` and a word of class `j`.
 ///
 /// It is the integer product modulo 2^64, masked to class `(i + j) % 4`.
-#[tactic(auto, using(crate::proofs::CarryIsolation::masked_conv))]
+#[tactic(auto, using(crate::proofs::CarryIsolation::masked_carryless))]
 pub fn masked_product(x: u64, y: u64, i: u32, j: u32) -> u64
     requires i_in_range { i < 4 }
     requires j_in_range { j < 4 }
     requires x_in_class { IsInClass i x }
     requires y_in_class { IsInClass j y }
-    ensures { result ≡ conv x y % 2 ^ 64 }
+    ensures { result ≡ carryless x y % 2 ^ 64 }
 {
     x.wrapping_mul(y) & (CLASS_0 << ((i + j) % 4))
 }
@@ -41,7 +41,7 @@ pub fn masked_products(xs: &mut [u64], y: u64, i: u32, j: u32)
     requires j_in_range { j < 4 }
     requires xs_in_class { All (IsInClass i) xs.old }
     requires y_in_class { IsInClass j y }
-    ensures { xs.new ≡ map (λ x. conv x y % 2 ^ 64) xs.old }
+    ensures { xs.new ≡ map (λ x. carryless x y % 2 ^ 64) xs.old }
 {
     for x in xs.iter_mut() {
         *x = masked_product(*x, y, i, j);
@@ -56,9 +56,9 @@ pub fn masked_products(xs: &mut [u64], y: u64, i: u32, j: u32)
 /// class 0 <- (0,0) (1,3) (2,2) (3,1)        class 2 <- (0,2) (1,1) (2,0) (3,3)
 /// class 1 <- (0,1) (1,0) (2,3) (3,2)        class 3 <- (0,3) (1,2) (2,1) (3,0)
 /// ```
-#[tactic(auto, using(crate::proofs::Classes::low_conv))]
+#[tactic(auto, using(crate::proofs::Classes::low_carryless))]
 pub fn multiply_low_64(x: u64, y: u64) -> u64
-    ensures { result ≡ conv x y % 2 ^ 64 }
+    ensures { result ≡ carryless x y % 2 ^ 64 }
 {
     let (x0, x1, x2, x3) = (x & CLASS_0, x & CLASS_1, x & CLASS_2, x & CLASS_3);
     let (y0, y1, y2, y3) = (y & CLASS_0, y & CLASS_1, y & CLASS_2, y & CLASS_3);

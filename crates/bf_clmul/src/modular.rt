@@ -4,7 +4,7 @@ ghost use Rattle.bf_base.specs.Remainder.{ghash_modulus, mul_mod, poly64_modulus
 
 use crate::fold::{reduce_64, reduce_128};
 use crate::product::{multiply_64, multiply_128};
-use crate::square::{square_64, square_128};
+use crate::square::{carryless_square_64, carryless_square_128};
 
 /// The product modulo x^64 + x^4 + x^3 + x + 1.
 pub fn multiply_mod_64(x: u64, y: u64) -> u64
@@ -21,7 +21,7 @@ pub fn multiply_mod_64(x: u64, y: u64) -> u64
 pub fn square_mod_64(x: u64) -> u64
     ensures { result ≡ mul_mod 64 poly64_modulus x x }
 {
-    let product = square_64(x);
+    let product = carryless_square_64(x);
     reduce_64(
         (product & 0xffff_ffff_ffff_ffff) as u64,
         (product >> 64) as u64,
@@ -40,6 +40,6 @@ pub fn multiply_mod_128(x: u128, y: u128) -> u128
 pub fn square_mod_128(x: u128) -> u128
     ensures { result ≡ mul_mod 128 ghash_modulus x x }
 {
-    let (low, high) = square_128(x);
+    let (low, high) = carryless_square_128(x);
     reduce_128(low, high)
 }

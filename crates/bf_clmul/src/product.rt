@@ -5,7 +5,7 @@
 //
 //     (a1 B + a0)(b1 B + b0) = a1 b1 B^2 + ((a1 + a0)(b1 + b0) + a1 b1 + a0 b0) B + a0 b0
 ghost use Rattle.std.specs.Prelude.{◌≡◌, ◌%◌, ◌*◌, ◌+◌, ◌^◌, ◌<◌};
-ghost use Rattle.bf_base.specs.Carryless.{conv};
+ghost use Rattle.bf_base.specs.Carryless.{carryless};
 ghost use Rattle.bf_clmul.specs.Karatsuba.{karatsuba_sum};
 
 use crate::masked::{CLASS_0, CLASS_1, CLASS_2, CLASS_3, multiply_low_64};
@@ -13,7 +13,7 @@ use std::simd::u64x2;
 
 /// The carryless product of two half words.
 pub fn multiply_32(x: u32, y: u32) -> u64
-    ensures { result ≡ conv x y }
+    ensures { result ≡ carryless x y }
 {
     multiply_low_64(x as u64, y as u64)
 }
@@ -24,8 +24,8 @@ pub fn multiply_32(x: u32, y: u32) -> u64
 /// in lanes serves both, so that the two take little more time than one.
 #[inline(always)]
 fn multiply_32_twice(a: u32, b: u32, p: u32, q: u32) -> (u64, u64)
-    ensures first { result.0 ≡ conv a p }
-    ensures second { result.1 ≡ conv b q }
+    ensures first { result.0 ≡ carryless a p }
+    ensures second { result.1 ≡ carryless b q }
 {
     let x = u64x2::from_array([a as u64, b as u64]);
     let y = u64x2::from_array([p as u64, q as u64]);
@@ -55,7 +55,7 @@ fn join_halves(low: u64, high: u64, both: u64) -> u128
 
 /// The carryless product of two words.
 pub fn multiply_64(x: u64, y: u64) -> u128
-    ensures { result ≡ conv x y }
+    ensures { result ≡ carryless x y }
 {
     let (x0, x1) = ((x & 0xffff_ffff) as u32, (x >> 32) as u32);
     let (y0, y1) = ((y & 0xffff_ffff) as u32, (y >> 32) as u32);
@@ -67,8 +67,8 @@ pub fn multiply_64(x: u64, y: u64) -> u128
 ///
 /// The six products of half words that they take are made in pairs.
 pub fn multiply_64_twice(a: u64, b: u64, p: u64, q: u64) -> (u128, u128)
-    ensures first { result.0 ≡ conv a p }
-    ensures second { result.1 ≡ conv b q }
+    ensures first { result.0 ≡ carryless a p }
+    ensures second { result.1 ≡ carryless b q }
 {
     let (a0, a1) = ((a & 0xffff_ffff) as u32, (a >> 32) as u32);
     let (b0, b1) = ((b & 0xffff_ffff) as u32, (b >> 32) as u32);
@@ -85,7 +85,7 @@ pub fn multiply_64_twice(a: u64, b: u64, p: u64, q: u64) -> (u128, u128)
 
 /// The carryless product of two double words, its low half before its high half.
 pub fn multiply_128(x: u128, y: u128) -> (u128, u128)
-    ensures { conv x y ≡ result.1 * 2 ^ 128 + result.0 }
+    ensures { carryless x y ≡ result.1 * 2 ^ 128 + result.0 }
 {
     let (x0, x1) = ((x & 0xffff_ffff_ffff_ffff) as u64, (x >> 64) as u64);
     let (y0, y1) = ((y & 0xffff_ffff_ffff_ffff) as u64, (y >> 64) as u64);
@@ -98,7 +98,7 @@ pub fn multiply_128(x: u128, y: u128) -> (u128, u128)
 #[tactic(auto, using(crate::proofs::Shifts::shifted_128))]
 pub fn multiply_by_power_128(x: u128, k: u32) -> (u128, u128)
     requires { k < 128 }
-    ensures { conv x (2 ^ k) ≡ result.1 * 2 ^ 128 + result.0 }
+    ensures { carryless x (2 ^ k) ≡ result.1 * 2 ^ 128 + result.0 }
 {
     (x << k, (x >> 1) >> (127 - k))
 }

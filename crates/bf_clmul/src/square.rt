@@ -1,7 +1,7 @@
 // The carryless square of a word: between two bits of the word it has a zero, since the products of two bits at
 // different places come twice.
 ghost use Rattle.std.specs.Prelude.{◌≡◌, ◌%◌, ◌*◌, ◌+◌, ◌^◌, ◌<◌, bit_and, bit_xor};
-ghost use Rattle.bf_base.specs.Carryless.{conv};
+ghost use Rattle.bf_base.specs.Carryless.{carryless};
 ghost use Rattle.bf_clmul.specs.Spread.{spread_step};
 
 /// Moves apart by `shift` the two halves of each field of a word, of which `mask` has the places.
@@ -18,7 +18,7 @@ fn move_halves(x: u64, shift: u32, mask: u64) -> u64
 /// 16 abcdefghijklmnop  ->  8 abcdefgh 8 ijklmnop  ->  4 abcd 4 efgh 4 ijkl 4 mnop  ->  ..
 /// ```
 pub fn spread_32(x: u32) -> u64
-    ensures { result ≡ conv x x }
+    ensures { result ≡ carryless x x }
 {
     let halves = move_halves(x as u64, 16, 0x0000_ffff_0000_ffff);
     let bytes = move_halves(halves, 8, 0x00ff_00ff_00ff_00ff);
@@ -28,8 +28,8 @@ pub fn spread_32(x: u32) -> u64
 }
 
 /// The carryless square of a word.
-pub fn square_64(x: u64) -> u128
-    ensures { result ≡ conv x x }
+pub fn carryless_square_64(x: u64) -> u128
+    ensures { result ≡ carryless x x }
 {
     let low = spread_32((x & 0xffff_ffff) as u32);
     let high = spread_32((x >> 32) as u32);
@@ -37,10 +37,10 @@ pub fn square_64(x: u64) -> u128
 }
 
 /// The carryless square of a double word, its low half before its high half.
-pub fn square_128(x: u128) -> (u128, u128)
-    ensures { conv x x ≡ result.1 * 2 ^ 128 + result.0 }
+pub fn carryless_square_128(x: u128) -> (u128, u128)
+    ensures { carryless x x ≡ result.1 * 2 ^ 128 + result.0 }
 {
-    let low = square_64((x & 0xffff_ffff_ffff_ffff) as u64);
-    let high = square_64((x >> 64) as u64);
+    let low = carryless_square_64((x & 0xffff_ffff_ffff_ffff) as u64);
+    let high = carryless_square_64((x >> 64) as u64);
     (low, high)
 }

@@ -6,14 +6,14 @@ use Rattle.std.proofs.lemmas.Nat.{xor_lt}
 use native.Mathlib.Nat.{mod-eq_of_lt, pow-suc}
 use lib.Bits.{xor_assoc, xor_self, xor_zero_r}
 use Rattle.bf_base.specs.Norm.{conjugate, norm}
-use Rattle.bf_base.specs.Powers.{squared}
+use Rattle.bf_base.specs.Powers.{repeated_square}
 use Rattle.bf_base.specs.Quadratic.{low_half, high_half, pair}
 use Rattle.bf_base.specs.Tower.{root, tower_mul}
 use Rattle.bf_base.proofs.Norms.{norm-of_zero}
 use Rattle.bf_base.proofs.QuadraticProducts.{pair-low}
 use Rattle.bf_base.proofs.QuadraticRing.{low_half-lt, high_half-lt, low_half-pair, high_half-pair, pair-halves, pair-lt}
 use Rattle.bf_base.proofs.RingLemmas.{times-zero, times_left_comm}
-use Rattle.bf_base.proofs.TowerFrobenius.{tower_squared-half}
+use Rattle.bf_base.proofs.TowerFrobenius.{tower_repeated_square-half}
 use Rattle.bf_base.proofs.TowerInverse.{tower_norm-lt, tower_norm-zero, tower_mul-conjugate_over_norm}
 use Rattle.bf_base.proofs.TowerProducts.{tower_mul-square, tower_mul-root_suc}
 use Rattle.bf_base.proofs.TowerRing.{tower_ring, bits_double}
@@ -111,8 +111,8 @@ inverse_of_nonzero k a norm' over_norm r fits is_norm inverts is_pair nonzero =
 
 -- half as many squarings as the level has bits conjugate
 pub conjugate_is_squarings : (n k a r : ℕ) → n ≡ suc k → r ≡ conjugate (2 ^ k) (tower_mul k) (root k) a
-    → r ≡ squared 1 (tower_mul n) (2 ^ n / 2) a
+    → r ≡ repeated_square 1 (tower_mul n) (2 ^ n / 2) a
 conjugate_is_squarings n k a r next is =
     let half : 2 ^ suc k / 2 ≡ 2 ^ k = omega (arith, pow-suc 2 k) in
-    is ∙ sym (tower_squared-half k a) ∙ ap (λ (m : ℕ). squared 1 (tower_mul (suc k)) m a) (sym half)
-    ∙ ap (λ (m : ℕ). squared 1 (tower_mul m) (2 ^ m / 2) a) (sym next)
+    is ∙ sym (tower_repeated_square-half k a) ∙ ap (λ (m : ℕ). repeated_square 1 (tower_mul (suc k)) m a) (sym half)
+    ∙ ap (λ (m : ℕ). repeated_square 1 (tower_mul m) (2 ^ m / 2) a) (sym next)

@@ -1,6 +1,6 @@
 // What differs between the levels of the tower.
 ghost use Rattle.std.specs.Prelude.{◌≡◌, ◌≢◌, ◌<◌, ◌≤◌, ◌^◌, ◌%◌, ◌/◌, ℕ};
-ghost use Rattle.bf_base.specs.Powers.{squared};
+ghost use Rattle.bf_base.specs.Powers.{repeated_square};
 ghost use Rattle.bf_base.specs.Tower.{root, tower_mul};
 ghost use Rattle.bf_base.specs.TowerBasis.{tower_generator};
 
@@ -46,7 +46,7 @@ pub trait Level<R: Unsigned> {
 
     /// The conjugate over the level below: the element squared half as many times as it has bits.
     fn conjugate(x: R) -> R
-        ensures { R.number result ≡ squared 1 (tower_mul LEVEL) (2 ^ LEVEL / 2) (R.number x) };
+        ensures { R.number result ≡ repeated_square 1 (tower_mul LEVEL) (2 ^ LEVEL / 2) (R.number x) };
 
     /// The inverse of an element, by which the product is 1, and 0 for 0.
     fn invert(x: R) -> R

@@ -3,7 +3,7 @@
 use bf_clmul::{
     compact_64, compact_128, masked_product, masked_products, multiply_32, multiply_64,
     multiply_64_twice, multiply_128, multiply_low_64, multiply_mod_64, multiply_mod_128, reduce_64,
-    reduce_128, spread_32, sqrt_mod_64, sqrt_mod_128, square_64, square_128, square_mod_64,
+    reduce_128, spread_32, sqrt_mod_64, sqrt_mod_128, carryless_square_64, carryless_square_128, square_mod_64,
     square_mod_128,
 };
 
@@ -15,8 +15,8 @@ fn products_of_words(rt: HostRuntime) {
     assert!(rt;
         multiply_64(u64::MAX, u64::MAX) == SPREAD
             && multiply_64(1 << 63, 1 << 63) == 1 << 126
-            && square_64(u64::MAX) == SPREAD
-            && square_64(1 << 63) == 1 << 126
+            && carryless_square_64(u64::MAX) == SPREAD
+            && carryless_square_64(1 << 63) == 1 << 126
     );
 }
 
@@ -40,7 +40,7 @@ fn products_of_half_words(rt: HostRuntime) {
 fn products_of_double_words(rt: HostRuntime) {
     let (low, high) = multiply_128(1 << 127, 3);
     assert!(rt; low == 1 << 127 && high == 1);
-    let (low, high) = square_128(1 << 127);
+    let (low, high) = carryless_square_128(1 << 127);
     assert!(rt; low == 0 && high == 1 << 126);
 }
 

@@ -2,7 +2,7 @@
 ghost use Rattle.std.specs.Prelude.{◌≡◌, ◌↔◌, ◌*◌, ◌%◌, ◌==◌, ℕ, length, IsTrue, IfOk, bit_xor, replicate, List, if◌then◌else◌};
 ghost use Rattle.bf_base.specs.declared.gf2.Gf2.{Gf2};
 ghost use Rattle.bf_base.specs.Bit.{repr_of};
-ghost use Rattle.bf_base.specs.Powers.{power, squared, sum_of, product_of, dot_of, parity};
+ghost use Rattle.bf_base.specs.Powers.{power, repeated_square, sum_of, product_of, dot_of, parity};
 
 use crate::gf2::Gf2;
 use crate::traits::represented::Represented;
@@ -193,7 +193,7 @@ pub trait PrimeCharacteristicRing: Represented
 
     /// The element squared `count` times.
     fn exp_power_of_2(&self, count: usize) -> Self
-        ensures { Self.repr result ≡ squared Self.unit Self.product count (Self.repr self.now) }
+        ensures { Self.repr result ≡ repeated_square Self.unit Self.product count (Self.repr self.now) }
     {
         let mut value = *self;
         for _ in 0..count {

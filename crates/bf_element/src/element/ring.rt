@@ -2,7 +2,7 @@
 ghost use Rattle.std.specs.Prelude.{◌≡◌, ◌≢◌, ◌<◌, ◌%◌, ◌^◌, ℕ, refl};
 ghost use Rattle.std.proofs.Common.{sym, subst, ◌∙◌};
 ghost use Rattle.bf_base.specs.Orders.{HasFullOrder};
-ghost use Rattle.bf_base.specs.Powers.{squared};
+ghost use Rattle.bf_base.specs.Powers.{repeated_square};
 ghost use Rattle.bf_element.specs.Range.{one_in_range, word_in_range, word_number, zero_in_range};
 
 use crate::element::{Element, value};
@@ -13,7 +13,7 @@ use std::marker::PhantomData;
 impl<R: Word, K: Kernel<R>> Element<R, K> {
     // The element squared `count` times.
     fn squarings(self, count: usize) -> Element<R, K>
-        ensures { R.number result.repr ≡ squared 1 K.product count (R.number self.repr) }
+        ensures { R.number result.repr ≡ repeated_square 1 K.product count (R.number self.repr) }
     {
         let mut value = self;
         for _ in 0..count {

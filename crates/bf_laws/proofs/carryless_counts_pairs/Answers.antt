@@ -1,5 +1,5 @@
-use Rattle.bf_base.proofs.CarrylessPairs.{conv_counts}
+use Rattle.bf_base.proofs.CarrylessPairs.{carryless_counts}
 use Rattle.bf_laws.proofs.carryless_counts_pairs.Goals as goal
 
 pub returns : goal.returns
-returns c = conv_counts
+returns c = carryless_counts

@@ -1,8 +1,8 @@
 use Rattle.std.proofs.Common.{arith}
-use Rattle.bf_clmul.proofs.KaratsubaLemmas.{conv_128}
+use Rattle.bf_clmul.proofs.KaratsubaLemmas.{carryless_128}
 use Rattle.bf_clmul.proofs.product.multiply_128.Goals as goal
 
 pub returns : goal.returns
 returns c =
-    conv_128 c.args.x c.args.y c.multiply_64_twice-low.result.0 c.multiply_64_twice-low.result.1 c.multiply_64.result
+    carryless_128 c.args.x c.args.y c.multiply_64_twice-low.result.0 c.multiply_64_twice-low.result.1 c.multiply_64.result
     (omega arith) c.multiply_64_twice-low.ensures.first c.multiply_64_twice-low.ensures.second c.multiply_64.ensures

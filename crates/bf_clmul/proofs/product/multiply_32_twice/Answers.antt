@@ -1,12 +1,12 @@
 use Rattle.std.proofs.Common.{◌∙◌, arith}
-use Rattle.bf_clmul.proofs.Classes.{low_conv}
-use Rattle.bf_clmul.proofs.KaratsubaLemmas.{conv_32}
+use Rattle.bf_clmul.proofs.Classes.{low_carryless}
+use Rattle.bf_clmul.proofs.KaratsubaLemmas.{carryless_32}
 use Rattle.bf_clmul.proofs.product.multiply_32_twice.Goals as goal
 
 pub returns-clause-first : goal.returns-clause-first
 returns-clause-first c =
-    low_conv c.args.a c.args.p (omega arith) (omega arith) ∙ conv_32 c.args.a c.args.p (omega arith) (omega arith)
+    low_carryless c.args.a c.args.p (omega arith) (omega arith) ∙ carryless_32 c.args.a c.args.p (omega arith) (omega arith)
 
 pub returns-clause-second : goal.returns-clause-second
 returns-clause-second c =
-    low_conv c.args.b c.args.q (omega arith) (omega arith) ∙ conv_32 c.args.b c.args.q (omega arith) (omega arith)
+    low_carryless c.args.b c.args.q (omega arith) (omega arith) ∙ carryless_32 c.args.b c.args.q (omega arith) (omega arith)

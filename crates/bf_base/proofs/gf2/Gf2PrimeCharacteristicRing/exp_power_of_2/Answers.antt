@@ -1,7 +1,7 @@
 use Rattle.std.proofs.Common.{◌≡◌, ◌%◌, ◌^◌, sym, ◌∙◌, ap, arith}
-use Rattle.bf_base.specs.Powers.{squared}
+use Rattle.bf_base.specs.Powers.{repeated_square}
 use Rattle.bf_base.specs.Tower.{tower_mul}
-use Rattle.bf_base.proofs.TowerFrobenius.{tower_squared-mod_bits}
+use Rattle.bf_base.proofs.TowerFrobenius.{tower_repeated_square-mod_bits}
 use Rattle.bf_base.proofs.TowerLaws.{squarings_none}
 use Rattle.bf_base.proofs.gf2.Gf2PrimeCharacteristicRing.exp_power_of_2.Goals as goal
 
@@ -9,5 +9,5 @@ pub returns : goal.returns
 returns c =
     let none : c.args._count % 2 ^ 0 ≡ 0 = omega arith in
     sym (squarings_none 0 c.args.self.now.repr c.args.self.now.in_range)
-    ∙ ap (λ n. squared 1 (tower_mul 0) n c.args.self.now.repr) (sym none)
-    ∙ tower_squared-mod_bits 0 c.args._count c.args.self.now.repr
+    ∙ ap (λ n. repeated_square 1 (tower_mul 0) n c.args.self.now.repr) (sym none)
+    ∙ tower_repeated_square-mod_bits 0 c.args._count c.args.self.now.repr

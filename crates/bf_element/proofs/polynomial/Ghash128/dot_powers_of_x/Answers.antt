@@ -2,7 +2,7 @@ use Rattle.std.proofs.Common.{◌<◌, ◌*◌, ◌+◌, ◌^◌, length, drop, 
 use Rattle.std.specs.Prelude.{bit_xor}
 use Rattle.std.proofs.lemmas.Nat.{xor_block, pow_below}
 use native.Mathlib.Nat.{mod-eq_of_lt}
-use Rattle.bf_base.specs.Carryless.{conv}
+use Rattle.bf_base.specs.Carryless.{carryless}
 use Rattle.bf_base.specs.Powers.{terms_from}
 use Rattle.bf_base.specs.Remainder.{mul_mod, ghash_modulus}
 use Rattle.bf_base.proofs.RemainderDot.{rem_dot_step}
@@ -32,7 +32,7 @@ loop-place-preserved c =
     sym (xor_block 128 c.loop-place.high term.result.1 c.loop-place.low term.result.0 c.loop-place.auto.low-fits.fits
     (search rules))
     ∙ ap (bit_xor (c.loop-place.high * 2 ^ 128 + c.loop-place.low))
-    (sym term.ensures ∙ ap (λ v. conv v (2 ^ c.loop-place.place)) c.to_repr.ensures) in
+    (sym term.ensures ∙ ap (λ v. carryless v (2 ^ c.loop-place.place)) c.to_repr.ensures) in
     rem_dot_step 128 ghash_modulus refl (c.loop-place.high * 2 ^ 128 + c.loop-place.low) _ x.result.repr
     (2 ^ c.loop-place.place) _ _ _ x.result.in_range (pow_below c.loop-place.place 128 few) c.loop-place.invariant splits
     added
