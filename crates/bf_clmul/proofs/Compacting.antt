@@ -1,7 +1,7 @@
 -- The bits at the even places of a word, moved together, are the carryless root of those bits, since both sides keep sums.
-use Rattle.std.proofs.Common.{◌≡◌, ℕ, ◌*◌, ◌/◌, ◌%◌, ◌^◌, ◌<◌, true, refl, sym, ◌∙◌, ap, ap₂, lit≤}
+use Rattle.std.proofs.Common.{◌≡◌, ℕ, ◌+◌, ◌*◌, ◌/◌, ◌%◌, ◌^◌, ◌<◌, true, refl, sym, ◌∙◌, ap, ap₂, arith, lit≤}
 use Rattle.std.specs.Prelude.{bit_xor, bit_and}
-use Rattle.std.proofs.lemmas.Nat.{xor_shr, shl_whole}
+use Rattle.std.proofs.lemmas.Nat.{and_mask, xor_shr, shl_whole}
 use native.Mathlib.Nat.{mul_assoc}
 use Rattle.bf_base.specs.Carryless.{carryless, carryless_in}
 use Rattle.bf_base.proofs.CarrylessProduct.{xor_exchange, xor_shl, carryless_shl, shl_carryless}
@@ -106,15 +106,17 @@ split_mask =
         ∙ xor_and (bit_and a 0xffff_ffff_ffff_ffff) (bit_and b 0xffff_ffff_ffff_ffff) even_places_64)
         ∙ xor_exchange (bit_and (a / 2 ^ 64) even_places_64 * 2 ^ 64) (bit_and (b / 2 ^ 64) even_places_64 * 2 ^ 64) _ _
 
-pub compact_double_word : (x low high : ℕ) → x < 2 ^ 128 → high < 2 ^ 32
-    → carryless low low ≡ bit_and (bit_and x 0xffff_ffff_ffff_ffff) even_places_64
-    → carryless high high ≡ bit_and (x / 2 ^ 64) even_places_64
+pub compact_double_word : (x x0 x1 low high : ℕ) → x < 2 ^ 128 → x0 < 2 ^ 64 → high < 2 ^ 32 → x ≡ x1 * 2 ^ 64 + x0
+    → carryless low low ≡ bit_and x0 even_places_64 → carryless high high ≡ bit_and x1 even_places_64
     → carryless (bit_xor (high * 2 ^ 32 % 2 ^ 64) low) (bit_xor (high * 2 ^ 32 % 2 ^ 64) low) ≡ bit_and x even_places_128
-compact_double_word x low high fits high_fits of_low of_high =
+compact_double_word x x0 x1 low high fits low_fits high_fits of_x of_low of_high =
+    let is_low : x0 ≡ x % 2 ^ 64 = omega arith in
+    let is_high : x1 ≡ x / 2 ^ 64 = omega arith in
     ap (λ (z : ℕ). carryless (bit_xor z low) (bit_xor z low)) (shl_whole high 32 32 64 high_fits (lit≤ tt))
     ∙ square_sum (high * 2 ^ 32) low
     ∙ ap₂ bit_xor
     (carryless_shl 32 (high * 2 ^ 32) high ∙ ap (λ (z : ℕ). z * 2 ^ 32) (shl_carryless 32 high high)
-    ∙ mul_assoc (carryless high high) (2 ^ 32) (2 ^ 32) ∙ ap (λ (z : ℕ). z * 2 ^ 64) of_high)
-    of_low
+    ∙ mul_assoc (carryless high high) (2 ^ 32) (2 ^ 32)
+    ∙ ap (λ (z : ℕ). z * 2 ^ 64) (of_high ∙ ap (λ (z : ℕ). bit_and z even_places_64) is_high))
+    (of_low ∙ ap (λ (z : ℕ). bit_and z even_places_64) (is_low ∙ sym (and_mask x 64)))
     ∙ split_mask x fits

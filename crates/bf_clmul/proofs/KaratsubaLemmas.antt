@@ -6,6 +6,7 @@ use native.Mathlib.Nat.{mod-lt, mod-eq_of_lt, mul_assoc}
 use lib.Bits.{xor_assoc, xor_self, xor_shifted}
 use Rattle.bf_base.specs.Carryless.{carryless}
 use Rattle.bf_clmul.specs.Karatsuba.{karatsuba_sum}
+use Rattle.bf_clmul.proofs.Halves.{split_xor}
 use Rattle.bf_base.proofs.RingLemmas.{xor_left_comm, xor_cancel}
 use Rattle.bf_base.proofs.CarrylessProduct.{xor_shl, carryless_sum, sum_carryless, carryless_shl, shl_carryless, carryless_lt}
 
@@ -42,21 +43,13 @@ karatsuba w x0 x1 y0 y1 =
     ∙ ap (λ (z : ℕ). bit_xor (carryless x0 y0) (bit_xor (z * 2 ^ w) (carryless x1 y1 * 2 ^ w * 2 ^ w)))
     (sym (middle_product x0 x1 y0 y1))
 
--- a number by the mask of its w low bits and the others
-pub masked_split : (w x : ℕ) → bit_xor (bit_and x (2 ^ w - 1)) (x / 2 ^ w * 2 ^ w) ≡ x
-masked_split w x =
-    xor_comm (bit_and x (2 ^ w - 1)) (x / 2 ^ w * 2 ^ w)
-    ∙ ap (bit_xor (x / 2 ^ w * 2 ^ w)) (and_mask x w)
-    ∙ xor_shifted (x / 2 ^ w) w (x % 2 ^ w) (mod-lt x (pow_pos w)) ∙ shr_split x w
-
 -- the product from the three: of the low halves, of the high halves, and of the sums
-pub carryless_halves : (w x y low high both : ℕ)
-    → low ≡ carryless (bit_and x (2 ^ w - 1)) (bit_and y (2 ^ w - 1)) → high ≡ carryless (x / 2 ^ w) (y / 2 ^ w)
-    → both ≡ carryless (bit_xor (bit_and x (2 ^ w - 1)) (x / 2 ^ w)) (bit_xor (bit_and y (2 ^ w - 1)) (y / 2 ^ w))
-    → carryless x y ≡ karatsuba_sum w low high both
-carryless_halves w x y low high both of_low of_high of_both =
-    sym (ap₂ carryless (masked_split w x) (masked_split w y))
-    ∙ karatsuba w (bit_and x (2 ^ w - 1)) (x / 2 ^ w) (bit_and y (2 ^ w - 1)) (y / 2 ^ w)
+pub carryless_halves : (w x y x0 x1 y0 y1 low high both : ℕ) → x0 < 2 ^ w → y0 < 2 ^ w
+    → x ≡ x1 * 2 ^ w + x0 → y ≡ y1 * 2 ^ w + y0 → low ≡ carryless x0 y0 → high ≡ carryless x1 y1
+    → both ≡ carryless (bit_xor x0 x1) (bit_xor y0 y1) → carryless x y ≡ karatsuba_sum w low high both
+carryless_halves w x y x0 x1 y0 y1 low high both x0_fits y0_fits of_x of_y of_low of_high of_both =
+    ap₂ carryless (split_xor w x x0 x1 x0_fits of_x) (split_xor w y y0 y1 y0_fits of_y)
+    ∙ karatsuba w x0 x1 y0 y1
     ∙ sym (ap₂ bit_xor of_low
     (ap₂ bit_xor
     (ap (λ (z : ℕ). z * 2 ^ w) (ap₂ bit_xor (ap₂ bit_xor of_both of_low) of_high))
@@ -81,12 +74,11 @@ joined_64 low high both low_fits high_fits both_fits =
     ∙ ap (bit_xor low) (xor_comm (high * 2 ^ 32 * 2 ^ 32) (bit_xor (bit_xor both low) high * 2 ^ 32))
 
 -- a product of words, from the sum
-pub carryless_64 : (x y low high both r : ℕ)
-    → low ≡ carryless (bit_and x (2 ^ 32 - 1)) (bit_and y (2 ^ 32 - 1)) → high ≡ carryless (x / 2 ^ 32) (y / 2 ^ 32)
-    → both ≡ carryless (bit_xor (bit_and x (2 ^ 32 - 1)) (x / 2 ^ 32)) (bit_xor (bit_and y (2 ^ 32 - 1)) (y / 2 ^ 32))
-    → r ≡ karatsuba_sum 32 low high both → r ≡ carryless x y
-carryless_64 x y low high both r of_low of_high of_both of_sum =
-    of_sum ∙ sym (carryless_halves 32 x y low high both of_low of_high of_both)
+pub carryless_64 : (x y x0 x1 y0 y1 low high both r : ℕ) → x0 < 2 ^ 32 → y0 < 2 ^ 32
+    → x ≡ x1 * 2 ^ 32 + x0 → y ≡ y1 * 2 ^ 32 + y0 → low ≡ carryless x0 y0 → high ≡ carryless x1 y1
+    → both ≡ carryless (bit_xor x0 x1) (bit_xor y0 y1) → r ≡ karatsuba_sum 32 low high both → r ≡ carryless x y
+carryless_64 x y x0 x1 y0 y1 low high both r x0_fits y0_fits of_x of_y of_low of_high of_both of_sum =
+    of_sum ∙ sym (carryless_halves 32 x y x0 x1 y0 y1 low high both x0_fits y0_fits of_x of_y of_low of_high of_both)
 
 -- a shift by a whole half, as what stays in the double word and what leaves it
 shift_parts : (m : ℕ) → m * 2 ^ 64 ≡ bit_xor (m / 2 ^ 64 * 2 ^ 128) (m * 2 ^ 64 % 2 ^ 128)
@@ -114,11 +106,10 @@ joined_128 low middle high low_fits =
     placed : (a b c d : ℕ) → bit_xor a (bit_xor (bit_xor b c) d) ≡ bit_xor (bit_xor d b) (bit_xor a c)
     placed a b c d = simp (xor_assoc, xor_comm, xor_left_comm)
 
-pub carryless_128 : (x y low high both : ℕ) → low < 2 ^ 128
-    → low ≡ carryless (bit_and x (2 ^ 64 - 1)) (bit_and y (2 ^ 64 - 1)) → high ≡ carryless (x / 2 ^ 64) (y / 2 ^ 64)
-    → both ≡ carryless (bit_xor (bit_and x (2 ^ 64 - 1)) (x / 2 ^ 64)) (bit_xor (bit_and y (2 ^ 64 - 1)) (y / 2 ^ 64))
-    → carryless x y ≡ bit_xor high (bit_xor (bit_xor both low) high / 2 ^ 64) * 2 ^ 128
+pub carryless_128 : (x y x0 x1 y0 y1 low high both : ℕ) → x0 < 2 ^ 64 → y0 < 2 ^ 64 → low < 2 ^ 128
+    → x ≡ x1 * 2 ^ 64 + x0 → y ≡ y1 * 2 ^ 64 + y0 → low ≡ carryless x0 y0 → high ≡ carryless x1 y1
+    → both ≡ carryless (bit_xor x0 x1) (bit_xor y0 y1) → carryless x y ≡ bit_xor high (bit_xor (bit_xor both low) high / 2 ^ 64) * 2 ^ 128
     + bit_xor low (bit_xor (bit_xor both low) high * 2 ^ 64 % 2 ^ 128)
-carryless_128 x y low high both low_fits of_low of_high of_both =
-    carryless_halves 64 x y low high both of_low of_high of_both
+carryless_128 x y x0 x1 y0 y1 low high both x0_fits y0_fits low_fits of_x of_y of_low of_high of_both =
+    carryless_halves 64 x y x0 x1 y0 y1 low high both x0_fits y0_fits of_x of_y of_low of_high of_both
     ∙ joined_128 low (bit_xor (bit_xor both low) high) high low_fits

@@ -1,5 +1,6 @@
 pub mod Compacting
 pub mod Digits
+pub mod Halves
 pub mod ClassMasks
 pub mod CarryIsolation
 pub mod Classes

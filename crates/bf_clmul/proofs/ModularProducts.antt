@@ -6,13 +6,10 @@ use Rattle.bf_base.specs.Carryless.{carryless}
 use Rattle.bf_base.specs.Remainder.{rem, mul_mod, poly64_modulus, ghash_modulus}
 use Rattle.bf_base.proofs.RemainderRing.{mul_mod-rem}
 
-pub reduced_64 : (x y p r : ℕ) → x < 2 ^ 64 → y < 2 ^ 64 → p ≡ carryless x y
-    → r ≡ rem 64 poly64_modulus (p / 2 ^ 64 * 2 ^ 64 + bit_and p (2 ^ 64 - 1)) → r ≡ mul_mod 64 poly64_modulus x y
-reduced_64 x y p r x_fits y_fits of_p of_r =
-    of_r
-    ∙ ap (rem 64 poly64_modulus)
-    (ap (λ (z : ℕ). p / 2 ^ 64 * 2 ^ 64 + z) (and_mask p 64) ∙ shr_split p 64 ∙ of_p)
-    ∙ sym (mul_mod-rem 64 poly64_modulus refl x y x_fits y_fits)
+pub reduced_64 : (x y low high r : ℕ) → x < 2 ^ 64 → y < 2 ^ 64 → carryless x y ≡ high * 2 ^ 64 + low
+    → r ≡ rem 64 poly64_modulus (high * 2 ^ 64 + low) → r ≡ mul_mod 64 poly64_modulus x y
+reduced_64 x y low high r x_fits y_fits of_product of_r =
+    of_r ∙ ap (rem 64 poly64_modulus) (sym of_product) ∙ sym (mul_mod-rem 64 poly64_modulus refl x y x_fits y_fits)
 
 pub reduced_128 : (x y low high r : ℕ) → x < 2 ^ 128 → y < 2 ^ 128 → carryless x y ≡ high * 2 ^ 128 + low
     → r ≡ rem 128 ghash_modulus (high * 2 ^ 128 + low) → r ≡ mul_mod 128 ghash_modulus x y

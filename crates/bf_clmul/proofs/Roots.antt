@@ -73,15 +73,15 @@ shifted_split n h =
 
 -- ---- 64 bits
 
-root_repeated_square_64 : mul_mod 64 poly64_modulus root_of_x_64 root_of_x_64 ≡ 2
+root_squared_64 : mul_mod 64 poly64_modulus root_of_x_64 root_of_x_64 ≡ 2
 unfolding mul_mod rem rem_in carryless carryless_in
-root_repeated_square_64 = refl
+root_squared_64 = refl
 
 pub root_64 : (x e o p : ℕ) → x < 2 ^ 64 → e < 2 ^ 32 → o < 2 ^ 32 → carryless e e ≡ bit_and x even_places_64
     → carryless o o ≡ bit_and (x / 2) even_places_64 → p ≡ mul_mod 64 poly64_modulus root_of_x_64 o
     → mul_mod 64 poly64_modulus (bit_xor e p) (bit_xor e p) ≡ x
 root_64 x e o p x_fits e_fits o_fits of_e of_o of_p =
-    root_of_parts 64 poly64_modulus (lit< tt) refl even_places_64 root_of_x_64 root_repeated_square_64 refl x e o p x_fits
+    root_of_parts 64 poly64_modulus (lit< tt) refl even_places_64 root_of_x_64 root_squared_64 refl x e o p x_fits
     (omega arith) (omega arith) (lit< tt) of_e of_o of_p
 
 -- ---- the product by the root of 64 bits
@@ -144,15 +144,15 @@ product_by_terms o t r fits of_t of_r =
 
 -- ---- 128 bits
 
-root_repeated_square_128 : mul_mod 128 ghash_modulus root_of_x_128 root_of_x_128 ≡ 2
+root_squared_128 : mul_mod 128 ghash_modulus root_of_x_128 root_of_x_128 ≡ 2
 unfolding mul_mod rem rem_in carryless carryless_in
-root_repeated_square_128 = refl
+root_squared_128 = refl
 
 pub root_128 : (x e o p : ℕ) → x < 2 ^ 128 → e < 2 ^ 64 → o < 2 ^ 64 → carryless e e ≡ bit_and x even_places_128
     → carryless o o ≡ bit_and (x / 2) even_places_128 → p ≡ mul_mod 128 ghash_modulus root_of_x_128 o
     → mul_mod 128 ghash_modulus (bit_xor e p) (bit_xor e p) ≡ x
 root_128 x e o p x_fits e_fits o_fits of_e of_o of_p =
-    root_of_parts 128 ghash_modulus (lit< tt) refl even_places_128 root_of_x_128 root_repeated_square_128 refl x e o p x_fits
+    root_of_parts 128 ghash_modulus (lit< tt) refl even_places_128 root_of_x_128 root_squared_128 refl x e o p x_fits
     (omega arith) (omega arith) (lit< tt) of_e of_o of_p
 
 -- the product by a double word, from the products by its words

@@ -10,7 +10,7 @@ use Rattle.bf_base.proofs.CarrylessProduct.{xor_exchange, xor_shl, carryless_com
 use Rattle.bf_base.proofs.AdditiveMaps.{KeepsSums, maps_agree, agree_on_powers, agree_on_powers-true}
 use Rattle.bf_clmul.specs.Spread.{spread_step}
 use Rattle.bf_clmul.proofs.Classes.{xor_and}
-use Rattle.bf_clmul.proofs.KaratsubaLemmas.{masked_split}
+use Rattle.bf_clmul.proofs.Halves.{split_xor}
 
 -- ---- a square keeps sums
 
@@ -97,27 +97,24 @@ spread_32 x a b c d e fits of_a of_b of_c of_d of_e =
 
 -- ---- squares by halves
 
-halves : (w x low high : ℕ) → low ≡ carryless (bit_and x (2 ^ w - 1)) (bit_and x (2 ^ w - 1))
-    → high ≡ carryless (x / 2 ^ w) (x / 2 ^ w) → carryless x x ≡ bit_xor low (high * 2 ^ w * 2 ^ w)
-halves w x low high of_low of_high =
-    ap (λ (z : ℕ). carryless z z) (sym (masked_split w x))
-    ∙ square_sum (bit_and x (2 ^ w - 1)) (x / 2 ^ w * 2 ^ w)
+halves : (w x x0 x1 low high : ℕ) → x0 < 2 ^ w → x ≡ x1 * 2 ^ w + x0 → low ≡ carryless x0 x0 → high ≡ carryless x1 x1
+    → carryless x x ≡ bit_xor low (high * 2 ^ w * 2 ^ w)
+halves w x x0 x1 low high fits of_x of_low of_high =
+    ap (λ (z : ℕ). carryless z z) (split_xor w x x0 x1 fits of_x)
+    ∙ square_sum x0 (x1 * 2 ^ w)
     ∙ ap₂ bit_xor (sym of_low)
-    (carryless_shl w (x / 2 ^ w * 2 ^ w) (x / 2 ^ w)
-    ∙ ap (λ (z : ℕ). z * 2 ^ w)
-    (shl_carryless w (x / 2 ^ w) (x / 2 ^ w) ∙ ap (λ (z : ℕ). z * 2 ^ w) (sym of_high)))
+    (carryless_shl w (x1 * 2 ^ w) x1
+    ∙ ap (λ (z : ℕ). z * 2 ^ w) (shl_carryless w x1 x1 ∙ ap (λ (z : ℕ). z * 2 ^ w) (sym of_high)))
 
-pub carryless_square_64 : (x low high : ℕ) → high < 2 ^ 64
-    → low ≡ carryless (bit_and x (2 ^ 32 - 1)) (bit_and x (2 ^ 32 - 1)) → high ≡ carryless (x / 2 ^ 32) (x / 2 ^ 32)
-    → bit_xor (high * 2 ^ 64 % 2 ^ 128) low ≡ carryless x x
-carryless_square_64 x low high fits of_low of_high =
+pub carryless_square_64 : (x x0 x1 low high : ℕ) → x0 < 2 ^ 32 → high < 2 ^ 64 → x ≡ x1 * 2 ^ 32 + x0
+    → low ≡ carryless x0 x0 → high ≡ carryless x1 x1 → bit_xor (high * 2 ^ 64 % 2 ^ 128) low ≡ carryless x x
+carryless_square_64 x x0 x1 low high low_fits fits of_x of_low of_high =
     ap (λ (z : ℕ). bit_xor z low) (shl_whole high 64 64 128 fits (lit≤ tt) ∙ sym (mul_assoc high (2 ^ 32) (2 ^ 32)))
-    ∙ xor_comm (high * 2 ^ 32 * 2 ^ 32) low ∙ sym (halves 32 x low high of_low of_high)
+    ∙ xor_comm (high * 2 ^ 32 * 2 ^ 32) low ∙ sym (halves 32 x x0 x1 low high low_fits of_x of_low of_high)
 
-pub carryless_square_128 : (x low high : ℕ) → low < 2 ^ 128
-    → low ≡ carryless (bit_and x (2 ^ 64 - 1)) (bit_and x (2 ^ 64 - 1)) → high ≡ carryless (x / 2 ^ 64) (x / 2 ^ 64)
-    → carryless x x ≡ high * 2 ^ 128 + low
-carryless_square_128 x low high fits of_low of_high =
-    halves 64 x low high of_low of_high
+pub carryless_square_128 : (x x0 x1 low high : ℕ) → x0 < 2 ^ 64 → low < 2 ^ 128 → x ≡ x1 * 2 ^ 64 + x0
+    → low ≡ carryless x0 x0 → high ≡ carryless x1 x1 → carryless x x ≡ high * 2 ^ 128 + low
+carryless_square_128 x x0 x1 low high low_fits fits of_x of_low of_high =
+    halves 64 x x0 x1 low high low_fits of_x of_low of_high
     ∙ xor_comm low (high * 2 ^ 64 * 2 ^ 64)
     ∙ ap (λ (z : ℕ). bit_xor z low) (mul_assoc high (2 ^ 64) (2 ^ 64)) ∙ xor_shifted high 128 low fits

@@ -9,6 +9,7 @@ mod masked;
 mod modular;
 mod product;
 mod root;
+mod split;
 mod square;
 
 pub use crate::fold::{reduce_64, reduce_128};
@@ -19,4 +20,5 @@ pub use crate::product::{
     multiply_32, multiply_64, multiply_64_twice, multiply_128, multiply_by_power_128,
 };
 pub use crate::root::{compact_64, compact_128, sqrt_mod_64, sqrt_mod_128};
+pub use crate::split::{split_64, split_128};
 pub use crate::square::{spread_32, carryless_square_64, carryless_square_128};

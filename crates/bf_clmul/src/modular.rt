@@ -4,28 +4,23 @@ ghost use Rattle.bf_base.specs.Remainder.{ghash_modulus, mul_mod, poly64_modulus
 
 use crate::fold::{reduce_64, reduce_128};
 use crate::product::{multiply_64, multiply_128};
+use crate::split::split_128;
 use crate::square::{carryless_square_64, carryless_square_128};
 
 /// The product modulo x^64 + x^4 + x^3 + x + 1.
 pub fn multiply_mod_64(x: u64, y: u64) -> u64
     ensures { result ≡ mul_mod 64 poly64_modulus x y }
 {
-    let product = multiply_64(x, y);
-    reduce_64(
-        (product & 0xffff_ffff_ffff_ffff) as u64,
-        (product >> 64) as u64,
-    )
+    let (low, high) = split_128(multiply_64(x, y));
+    reduce_64(low, high)
 }
 
 /// The square modulo x^64 + x^4 + x^3 + x + 1.
 pub fn square_mod_64(x: u64) -> u64
     ensures { result ≡ mul_mod 64 poly64_modulus x x }
 {
-    let product = carryless_square_64(x);
-    reduce_64(
-        (product & 0xffff_ffff_ffff_ffff) as u64,
-        (product >> 64) as u64,
-    )
+    let (low, high) = split_128(carryless_square_64(x));
+    reduce_64(low, high)
 }
 
 /// The product modulo x^128 + x^7 + x^2 + x + 1.

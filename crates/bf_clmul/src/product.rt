@@ -9,6 +9,7 @@ ghost use Rattle.bf_base.specs.Carryless.{carryless};
 ghost use Rattle.bf_clmul.specs.Karatsuba.{karatsuba_sum};
 
 use crate::masked::{CLASS_0, CLASS_1, CLASS_2, CLASS_3, multiply_low_64};
+use crate::split::{split_64, split_128};
 use std::simd::u64x2;
 
 /// The carryless product of two half words.
@@ -57,8 +58,8 @@ fn join_halves(low: u64, high: u64, both: u64) -> u128
 pub fn multiply_64(x: u64, y: u64) -> u128
     ensures { result ≡ carryless x y }
 {
-    let (x0, x1) = ((x & 0xffff_ffff) as u32, (x >> 32) as u32);
-    let (y0, y1) = ((y & 0xffff_ffff) as u32, (y >> 32) as u32);
+    let (x0, x1) = split_64(x);
+    let (y0, y1) = split_64(y);
     let (low, high) = multiply_32_twice(x0, x1, y0, y1);
     join_halves(low, high, multiply_32(x0 ^ x1, y0 ^ y1))
 }
@@ -70,10 +71,10 @@ pub fn multiply_64_twice(a: u64, b: u64, p: u64, q: u64) -> (u128, u128)
     ensures first { result.0 ≡ carryless a p }
     ensures second { result.1 ≡ carryless b q }
 {
-    let (a0, a1) = ((a & 0xffff_ffff) as u32, (a >> 32) as u32);
-    let (b0, b1) = ((b & 0xffff_ffff) as u32, (b >> 32) as u32);
-    let (p0, p1) = ((p & 0xffff_ffff) as u32, (p >> 32) as u32);
-    let (q0, q1) = ((q & 0xffff_ffff) as u32, (q >> 32) as u32);
+    let (a0, a1) = split_64(a);
+    let (b0, b1) = split_64(b);
+    let (p0, p1) = split_64(p);
+    let (q0, q1) = split_64(q);
     let (first_low, first_high) = multiply_32_twice(a0, a1, p0, p1);
     let (second_low, second_high) = multiply_32_twice(b0, b1, q0, q1);
     let (first_both, second_both) = multiply_32_twice(a0 ^ a1, b0 ^ b1, p0 ^ p1, q0 ^ q1);
@@ -87,8 +88,8 @@ pub fn multiply_64_twice(a: u64, b: u64, p: u64, q: u64) -> (u128, u128)
 pub fn multiply_128(x: u128, y: u128) -> (u128, u128)
     ensures { carryless x y ≡ result.1 * 2 ^ 128 + result.0 }
 {
-    let (x0, x1) = ((x & 0xffff_ffff_ffff_ffff) as u64, (x >> 64) as u64);
-    let (y0, y1) = ((y & 0xffff_ffff_ffff_ffff) as u64, (y >> 64) as u64);
+    let (x0, x1) = split_128(x);
+    let (y0, y1) = split_128(y);
     let (low, high) = multiply_64_twice(x0, x1, y0, y1);
     let middle = multiply_64(x0 ^ x1, y0 ^ y1) ^ low ^ high;
     (low ^ (middle << 64), high ^ (middle >> 64))

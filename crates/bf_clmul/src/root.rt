@@ -9,6 +9,7 @@ ghost use Rattle.bf_clmul.specs.Compact.{compact_step, even_places_64, even_plac
 
 use crate::fold::{reduce_64, reduce_128};
 use crate::product::multiply_64_twice;
+use crate::split::split_128;
 
 /// Moves together by `shift` the halves of each field of a word, of which `mask` has the places.
 fn join_fields(x: u64, shift: u32, mask: u64) -> u64
@@ -38,9 +39,8 @@ pub fn compact_64(x: u64) -> u32
 pub fn compact_128(x: u128) -> u64
     ensures { carryless result result ≡ bit_and x even_places_128 }
 {
-    let low = compact_64((x & 0xffff_ffff_ffff_ffff) as u64);
-    let high = compact_64((x >> 64) as u64);
-    ((high as u64) << 32) ^ (low as u64)
+    let (low, high) = split_128(x);
+    ((compact_64(high) as u64) << 32) ^ (compact_64(low) as u64)
 }
 
 /// The product of a half word by x^31 + .. + x + 1, which is the product of the x^k + 1 for k = 1, 2, 4, 8 and 16.

@@ -4,6 +4,8 @@ ghost use Rattle.std.specs.Prelude.{◌≡◌, ◌%◌, ◌*◌, ◌+◌, ◌^�
 ghost use Rattle.bf_base.specs.Carryless.{carryless};
 ghost use Rattle.bf_clmul.specs.Spread.{spread_step};
 
+use crate::split::{split_64, split_128};
+
 /// Moves apart by `shift` the two halves of each field of a word, of which `mask` has the places.
 fn move_halves(x: u64, shift: u32, mask: u64) -> u64
     requires { shift < 64 }
@@ -31,16 +33,14 @@ pub fn spread_32(x: u32) -> u64
 pub fn carryless_square_64(x: u64) -> u128
     ensures { result ≡ carryless x x }
 {
-    let low = spread_32((x & 0xffff_ffff) as u32);
-    let high = spread_32((x >> 32) as u32);
-    ((high as u128) << 64) ^ (low as u128)
+    let (low, high) = split_64(x);
+    ((spread_32(high) as u128) << 64) ^ (spread_32(low) as u128)
 }
 
 /// The carryless square of a double word, its low half before its high half.
 pub fn carryless_square_128(x: u128) -> (u128, u128)
     ensures { carryless x x ≡ result.1 * 2 ^ 128 + result.0 }
 {
-    let low = carryless_square_64((x & 0xffff_ffff_ffff_ffff) as u64);
-    let high = carryless_square_64((x >> 64) as u64);
-    (low, high)
+    let (low, high) = split_128(x);
+    (carryless_square_64(low), carryless_square_64(high))
 }
