@@ -1,7 +1,7 @@
 -- Karatsuba's rule for the carryless product: a product of twice the width by three of the width.
-use Rattle.std.proofs.Common.{◌≡◌, ℕ, ◌+◌, ◌-◌, ◌*◌, ◌/◌, ◌%◌, ◌^◌, ◌<◌, sym, ◌∙◌, ap, ap₂, arith, lit<, lit≤}
-use Rattle.std.specs.Prelude.{bit_xor, bit_and}
-use Rattle.std.proofs.lemmas.Nat.{and_mask, xor_comm, xor_lt, shr_split, shl_whole, shl_below, mod_low, pow_pos}
+use Rattle.std.proofs.Common.{◌≡◌, ℕ, ◌+◌, ◌*◌, ◌/◌, ◌%◌, ◌^◌, ◌<◌, sym, ◌∙◌, ap, ap₂, arith, lit<, lit≤}
+use Rattle.std.specs.Prelude.{bit_xor}
+use Rattle.std.proofs.lemmas.Nat.{xor_comm, xor_lt, shl_whole, shl_below, mod_low}
 use native.Mathlib.Nat.{mod-lt, mod-eq_of_lt, mul_assoc}
 use lib.Bits.{xor_assoc, xor_self, xor_shifted}
 use Rattle.bf_base.specs.Carryless.{carryless}

@@ -1,7 +1,5 @@
 -- The remainder of a product, by its two halves, is the product modulo the polynomial.
-use Rattle.std.proofs.Common.{◌≡◌, ℕ, ◌+◌, ◌-◌, ◌*◌, ◌/◌, ◌^◌, ◌<◌, refl, sym, ◌∙◌, ap}
-use Rattle.std.specs.Prelude.{bit_and}
-use Rattle.std.proofs.lemmas.Nat.{and_mask, shr_split}
+use Rattle.std.proofs.Common.{◌≡◌, ℕ, ◌+◌, ◌*◌, ◌^◌, ◌<◌, refl, sym, ◌∙◌, ap}
 use Rattle.bf_base.specs.Carryless.{carryless}
 use Rattle.bf_base.specs.Remainder.{rem, mul_mod, poly64_modulus, ghash_modulus}
 use Rattle.bf_base.proofs.RemainderRing.{mul_mod-rem}
