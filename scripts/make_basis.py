@@ -1,14 +1,14 @@
 #!/usr/bin/env python3
-"""Writes the tables of the change of basis: crates/bf_basis/src/literals/*.rt.
+"""Writes the byte tables of the changes of basis: crates/bf_basis/src/literals/*.rt.
 
-A linear map of words is tabled by its values at the sixteen multiples of each power of 16: row r, entry d has the value at
-d * 16^r. The map from the tower to a polynomial basis sends bit j to the product of the images of the roots over the set
-bits of j; the map back is the inverse matrix over the field of two elements.
-
-Run it at the top of the repository: python3 scripts/make_basis.py
+With --check it compares instead. Entry 256 * j + b of a table is the value at b * 256 ** j. The map from the tower to a
+polynomial basis sends bit j to the product of the images of the roots over the set bits of j; the map back is the inverse
+matrix over the field of two elements.
 """
 
 from pathlib import Path
+
+import literals
 
 FIELDS = [
     # width, modulus, the images of the roots, the modulus in words
@@ -95,55 +95,29 @@ def apply(columns, x):
     return total
 
 
-def nibble_table(columns):
-    """Row r, entry d: the value at d * 16^r."""
-    return [apply(columns[4 * row : 4 * row + 4], digit) for row in range(len(columns) // 4) for digit in range(16)]
+def byte_table(columns):
+    """The values at each byte in each place."""
+    return [apply(columns[8 * place : 8 * place + 8], byte) for place in range(len(columns) // 8) for byte in range(256)]
 
 
-def literal(width, value):
-    digits = f"{value:0{width // 4}x}"
-    if width == 8:
-        return "0x" + digits
-    return "0x" + "_".join(digits[i : i + 4] for i in range(0, len(digits), 4))
-
-
-def static(name, width, table):
-    per_line = 16 if width == 8 else 1
-    lines = ["", f"pub(crate) static {name}: [u{width}; {len(table)}] = ["]
-    for i in range(0, len(table), per_line):
-        lines.append("    " + ", ".join(literal(width, value) for value in table[i : i + per_line]) + ",")
-    return lines + ["];"]
-
-
-def write(folder, name, head, width, table):
-    """One static, or one each for the digits of the low and of the high word."""
-    lines = [f"// {line}" for line in head]
-    if width == 128:
-        lines += static(f"{name}_128_LOW".upper(), width, table[:256])
-        lines += static(f"{name}_128_HIGH".upper(), width, table[256:])
-    else:
-        lines += static(f"{name}_{width}".upper(), width, table)
-    (folder / f"{name}_{width}.rt").write_text("\n".join(lines) + "\n")
+def write(folder, name, head, comment, width, columns):
+    in_a_line = {8: 16, 64: 4, 128: 6}[width]
+    table = literals.array(comment, f"{name}_{width}".upper(), f"u{width}", byte_table(columns), width // 4, in_a_line)
+    head = f"// {head} Written by scripts/make_basis.py; do not edit.\n"
+    literals.write(folder / f"{name}_{width}.rt", head, [table])
 
 
 def main():
     folder = Path(__file__).resolve().parent.parent / "crates/bf_basis/src/literals"
-    folder.mkdir(exist_ok=True)
     for width, modulus, images, words in FIELDS:
         columns = columns_of(width, modulus, images)
         inverse = inverse_of(columns)
         assert all(apply(columns, column) == 1 << place for place, column in enumerate(inverse))
         assert all(apply(inverse, column) == 1 << place for place, column in enumerate(columns))
-        to_polynomial = [
-            f"From the tower to polynomials modulo {words}: entry 16 r + d is the image of d * 16^r.",
-            "Written by scripts/make_basis.py.",
-        ]
-        to_tower = [
-            f"From polynomials modulo {words} to the tower: entry 16 r + d has the image d * 16^r.",
-            "Written by scripts/make_basis.py.",
-        ]
-        write(folder, "to_polynomial", to_polynomial, width, nibble_table(columns))
-        write(folder, "to_tower", to_tower, width, nibble_table(inverse))
+        to_polynomial = f"From the tower to polynomials modulo {words}."
+        to_tower = f"From polynomials modulo {words} to the tower."
+        write(folder, "to_polynomial", to_polynomial, "Entry 256 j + b is the image of b 2^(8 j).", width, columns)
+        write(folder, "to_tower", to_tower, "Entry 256 j + b has the image b 2^(8 j).", width, inverse)
 
 
 if __name__ == "__main__":

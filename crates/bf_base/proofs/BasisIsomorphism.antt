@@ -13,7 +13,7 @@ use Rattle.bf_base.specs.Remainder.{HasDegree, mul_mod}
 use Rattle.bf_base.specs.Ring.{IsRing}
 use Rattle.bf_base.specs.Tower.{root, tower_mul}
 use Rattle.bf_base.proofs.AdditiveMaps.{maps_agree}
-use Rattle.bf_base.proofs.BasisColumns.{apply, apply-sum, level_columns, apply-level_columns}
+use Rattle.bf_base.proofs.BasisColumns.{sum_of_columns, sum_of_columns-sum, level_columns, sum_of_columns-level_columns}
 use Rattle.bf_base.proofs.BasisMaps.{image_at, image_at-mod, image_at-lt, image_at-sum, image_at-nothing, image_at-one, image_at-root, image_at-low, image_at-product}
 use Rattle.bf_base.proofs.PowerLemmas.{repeated_square-mod}
 use Rattle.bf_base.proofs.RemainderRing.{mul_mod_ring}
@@ -34,10 +34,10 @@ module _ (width modulus : ℕ) (wide : 0 < width) (degree : HasDegree width modu
 
   -- it is the linear map by the columns of the level
   pub basis_image-columns : (x : ℕ) → basis_image width modulus images x
-      ≡ apply (level_columns (mul_mod width modulus) (slice_index images) (length images)) x
+      ≡ sum_of_columns (level_columns (mul_mod width modulus) (slice_index images) (length images)) x
   basis_image-columns x =
       basis_image-at x
-      ∙ sym (apply-level_columns width (mul_mod width modulus) ring wide (slice_index images) (length images) x)
+      ∙ sym (sum_of_columns-level_columns width (mul_mod width modulus) ring wide (slice_index images) (length images) x)
 
   -- ---- the homomorphism
 
@@ -121,23 +121,23 @@ module _ (width modulus : ℕ) (wide : 0 < width) (degree : HasDegree width modu
 
     -- a linear map that the change of basis undoes on the powers of two
     module _ (inverse_columns : List ℕ)
-        (undoes : (i : ℕ) → i < width → basis_image width modulus images (apply inverse_columns (2 ^ i)) ≡ 2 ^ i) where
-      pub basis_image-undoes : (b : ℕ) → b < 2 ^ width → basis_image width modulus images (apply inverse_columns b) ≡ b
+        (undoes : (i : ℕ) → i < width → basis_image width modulus images (sum_of_columns inverse_columns (2 ^ i)) ≡ 2 ^ i) where
+      pub basis_image-undoes : (b : ℕ) → b < 2 ^ width → basis_image width modulus images (sum_of_columns inverse_columns b) ≡ b
       basis_image-undoes =
-          maps_agree (λ c. basis_image width modulus images (apply inverse_columns c)) (λ c. c)
-          (λ c d. ap (basis_image width modulus images) (apply-sum inverse_columns c d)
-          ∙ keeps.sum_image (apply inverse_columns c) (apply inverse_columns d))
+          maps_agree (λ c. basis_image width modulus images (sum_of_columns inverse_columns c)) (λ c. c)
+          (λ c d. ap (basis_image width modulus images) (sum_of_columns-sum inverse_columns c d)
+          ∙ keeps.sum_image (sum_of_columns inverse_columns c) (sum_of_columns inverse_columns d))
           (λ c d. refl) width undoes
 
       -- is its inverse
       abbrev inverse : ℕ → ℕ
-      inverse b = apply inverse_columns b % 2 ^ 2 ^ length images
+      inverse b = sum_of_columns inverse_columns b % 2 ^ 2 ^ length images
 
       inverse_lt : (b : ℕ) → inverse b < 2 ^ 2 ^ length images
-      inverse_lt b = mod-lt (apply inverse_columns b) (pow_pos (2 ^ length images))
+      inverse_lt b = mod-lt (sum_of_columns inverse_columns b) (pow_pos (2 ^ length images))
 
       image_of_inverse : (b : ℕ) → b < 2 ^ width → basis_image width modulus images (inverse b) ≡ b
-      image_of_inverse b fits = basis_image-mod (apply inverse_columns b) ∙ basis_image-undoes b fits
+      image_of_inverse b fits = basis_image-mod (sum_of_columns inverse_columns b) ∙ basis_image-undoes b fits
 
       pub isomorphism : IsIsomorphism (length images) width modulus images
       isomorphism = record {

@@ -5,6 +5,7 @@ pub mod BasisFields
 pub mod BasisIsomorphism
 pub mod BasisMaps
 pub mod BasisSums
+pub mod ByteTableSums
 pub mod CarrylessFacts
 pub mod CarrylessPairs
 pub mod CarrylessProduct
@@ -20,6 +21,7 @@ pub mod RemainderDot
 pub mod RemainderLaws
 pub mod RemainderRing
 pub mod RingLemmas
+pub mod TableChecks
 mod TowerFacts
 pub mod TowerBasisLemmas
 pub mod TowerFrobenius

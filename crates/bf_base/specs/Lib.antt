@@ -1,6 +1,7 @@
 pub mod Basis
 pub mod Bit
 pub mod BitRing
+pub mod ByteTables
 pub mod Carryless
 pub mod Field
 pub mod LinearMaps

@@ -2,6 +2,7 @@
 //! elements.
 #![tactic(auto)]
 
+pub mod byte_tables;
 mod gf2;
 mod kernel;
 pub mod traits;

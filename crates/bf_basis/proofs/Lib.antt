@@ -1,6 +1,4 @@
-pub mod EntrySums
 pub mod Isomorphisms
-pub mod NibbleTables
+pub mod RootImages
 pub mod TableFacts
 pub mod TabledMaps
-pub mod RootImages

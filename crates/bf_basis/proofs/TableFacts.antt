@@ -1,19 +1,21 @@
--- The tables by computation: those to polynomials have the rows of the columns that the images of the roots give, and
--- those to the tower are tables of linear maps that the changes of basis undo.
-use Rattle.std.proofs.Common.{◌≡◌, ℕ, zero, suc, Bool, true, List, ◌++◌, take, drop, refl, arith}
+-- The tables by computation: those to polynomials are of the columns that the images of the roots give, and those
+-- to the tower are of linear maps that the changes of basis undo.
+use Rattle.std.proofs.Common.{◌≡◌, ℕ, zero, suc, Bool, true, List, refl, arith}
 use Rattle.std.specs.Prelude.{slice_index}
 use Rattle.bf_base.specs.Basis.{AreRoots, aes_images, poly64_images, ghash_images}
 use Rattle.bf_base.specs.Carryless.{carryless, carryless_in}
 use Rattle.bf_base.specs.Remainder.{rem, rem_in, mul_mod, aes_modulus, poly64_modulus, ghash_modulus}
 use Rattle.bf_base.proofs.AdditiveMaps.{agree_on_powers}
-use Rattle.bf_base.proofs.BasisColumns.{apply, level_columns, doubled}
+use Rattle.bf_base.proofs.BasisColumns.{sum_of_columns, level_columns, doubled}
 use Rattle.bf_basis.specs.declared.literals.to_polynomial_8.TheConstants.{TO_POLYNOMIAL_8}
 use Rattle.bf_basis.specs.declared.literals.to_polynomial_64.TheConstants.{TO_POLYNOMIAL_64}
-use Rattle.bf_basis.specs.declared.literals.to_polynomial_128.TheConstants.{TO_POLYNOMIAL_128_LOW, TO_POLYNOMIAL_128_HIGH}
+use Rattle.bf_basis.specs.declared.literals.to_polynomial_128.TheConstants.{TO_POLYNOMIAL_128}
 use Rattle.bf_basis.specs.declared.literals.to_tower_8.TheConstants.{TO_TOWER_8}
 use Rattle.bf_basis.specs.declared.literals.to_tower_64.TheConstants.{TO_TOWER_64}
-use Rattle.bf_basis.specs.declared.literals.to_tower_128.TheConstants.{TO_TOWER_128_LOW, TO_TOWER_128_HIGH}
-use Rattle.bf_basis.proofs.NibbleTables.{nibble_rows, columns_in}
+use Rattle.bf_basis.specs.declared.literals.to_tower_128.TheConstants.{TO_TOWER_128}
+use Rattle.bf_base.proofs.ByteTableSums.{entry_passes}
+use Rattle.bf_base.proofs.TableChecks.{passes}
+use Rattle.bf_basis.proofs.TabledMaps.{columns_in, tabulates_map}
 
 -- ---- the equations of the roots
 
@@ -57,62 +59,54 @@ abbrev pub columns_128 : List ℕ
 columns_128 = level_columns (mul_mod 128 ghash_modulus) (slice_index ghash_images) 7
 
 abbrev pub inverse_columns_8 : List ℕ
-inverse_columns_8 = columns_in 2 TO_TOWER_8
+inverse_columns_8 = columns_in 1 TO_TOWER_8
 
 abbrev pub inverse_columns_64 : List ℕ
-inverse_columns_64 = columns_in 16 TO_TOWER_64
+inverse_columns_64 = columns_in 8 TO_TOWER_64
 
 abbrev pub inverse_columns_128 : List ℕ
-inverse_columns_128 = columns_in 16 TO_TOWER_128_LOW ++ columns_in 16 TO_TOWER_128_HIGH
+inverse_columns_128 = columns_in 16 TO_TOWER_128
 
--- ---- rows
+-- ---- entries
 
-pub rows_8 : nibble_rows 2 columns_8 ≡ TO_POLYNOMIAL_8
-unfolding nibble_rows apply level_columns doubled mul_mod rem rem_in carryless carryless_in
-rows_8 = refl
+pub entries_8 : tabulates_map columns_8 TO_POLYNOMIAL_8 ≡ true
+unfolding tabulates_map passes entry_passes sum_of_columns level_columns doubled mul_mod rem rem_in carryless carryless_in
+entries_8 = refl
 
-pub rows_64 : nibble_rows 16 columns_64 ≡ TO_POLYNOMIAL_64
-unfolding nibble_rows apply level_columns doubled mul_mod rem rem_in carryless carryless_in
-rows_64 = refl
+pub inverse_entries_8 : tabulates_map inverse_columns_8 TO_TOWER_8 ≡ true
+unfolding tabulates_map passes entry_passes sum_of_columns columns_in
+inverse_entries_8 = refl
 
-pub rows_128_low : nibble_rows 16 (take 64 columns_128) ≡ TO_POLYNOMIAL_128_LOW
-unfolding nibble_rows apply level_columns doubled mul_mod rem rem_in carryless carryless_in
-rows_128_low = refl
+pub entries_64 : tabulates_map columns_64 TO_POLYNOMIAL_64 ≡ true
+unfolding tabulates_map passes entry_passes sum_of_columns level_columns doubled mul_mod rem rem_in carryless carryless_in
+entries_64 = refl
 
-pub rows_128_high : nibble_rows 16 (drop 64 columns_128) ≡ TO_POLYNOMIAL_128_HIGH
-unfolding nibble_rows apply level_columns doubled mul_mod rem rem_in carryless carryless_in
-rows_128_high = refl
+pub inverse_entries_64 : tabulates_map inverse_columns_64 TO_TOWER_64 ≡ true
+unfolding tabulates_map passes entry_passes sum_of_columns columns_in
+inverse_entries_64 = refl
 
-pub inverse_rows_8 : nibble_rows 2 inverse_columns_8 ≡ TO_TOWER_8
-unfolding nibble_rows columns_in apply
-inverse_rows_8 = refl
+pub entries_128 : tabulates_map columns_128 TO_POLYNOMIAL_128 ≡ true
+unfolding tabulates_map passes entry_passes sum_of_columns level_columns doubled mul_mod rem rem_in carryless carryless_in
+entries_128 = refl
 
-pub inverse_rows_64 : nibble_rows 16 inverse_columns_64 ≡ TO_TOWER_64
-unfolding nibble_rows columns_in apply
-inverse_rows_64 = refl
-
-pub inverse_rows_128_low : nibble_rows 16 (take 64 inverse_columns_128) ≡ TO_TOWER_128_LOW
-unfolding nibble_rows columns_in apply
-inverse_rows_128_low = refl
-
-pub inverse_rows_128_high : nibble_rows 16 (drop 64 inverse_columns_128) ≡ TO_TOWER_128_HIGH
-unfolding nibble_rows columns_in apply
-inverse_rows_128_high = refl
+pub inverse_entries_128 : tabulates_map inverse_columns_128 TO_TOWER_128 ≡ true
+unfolding tabulates_map passes entry_passes sum_of_columns columns_in
+inverse_entries_128 = refl
 
 -- ---- the map by the second columns undoes that by the first
 
 -- whether the map by the first columns takes what the second ones give at each power of two below 2 ^ n back to it
 unfoldable pub undoes : List ℕ → List ℕ → ℕ → Bool
-undoes columns inverse_columns n = agree_on_powers (λ b. apply columns (apply inverse_columns b)) (λ b. b) n
+undoes columns inverse_columns n = agree_on_powers (λ b. sum_of_columns columns (sum_of_columns inverse_columns b)) (λ b. b) n
 
 pub undoes_8 : undoes columns_8 inverse_columns_8 8 ≡ true
-unfolding undoes columns_in apply level_columns doubled mul_mod rem rem_in carryless carryless_in
+unfolding undoes columns_in sum_of_columns level_columns doubled mul_mod rem rem_in carryless carryless_in
 undoes_8 = refl
 
 pub undoes_64 : undoes columns_64 inverse_columns_64 64 ≡ true
-unfolding undoes columns_in apply level_columns doubled mul_mod rem rem_in carryless carryless_in
+unfolding undoes columns_in sum_of_columns level_columns doubled mul_mod rem rem_in carryless carryless_in
 undoes_64 = refl
 
 pub undoes_128 : undoes columns_128 inverse_columns_128 128 ≡ true
-unfolding undoes columns_in apply level_columns doubled mul_mod rem rem_in carryless carryless_in
+unfolding undoes columns_in sum_of_columns level_columns doubled mul_mod rem rem_in carryless carryless_in
 undoes_128 = refl

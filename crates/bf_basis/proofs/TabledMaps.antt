@@ -1,80 +1,172 @@
--- A table whose entries are the values of a linear map at the digits to base 16, and two such tables for the two words.
-use Rattle.std.proofs.Common.{◌≡◌, ◌≢◌, ℕ, zero, suc, ◌+◌, ◌-◌, ◌*◌, ◌/◌, ◌%◌, ◌^◌, ◌<◌, List, [], ◌∷◌, length, take, drop, get_or, get_or-drop, get_or-set_other, get_or-set_same, below_more, drop-drop, length-drop, length-take-le, take-append-drop, sym, ◌∙◌, ap, ap₂, arith, lit<, refl}
-use Rattle.std.specs.Prelude.{bit_xor}
+-- Tables of linear maps: what a checked table sums to, and the entries of a table that is made.
+use Rattle.std.proofs.Common.{◌≡◌, ◌≢◌, ℕ, zero, suc, ◌+◌, ◌-◌, ◌*◌, ◌/◌, ◌%◌, ◌^◌, ◌<◌, ◌≤◌, Bool, true, List, ◌∷◌, [], length, take, drop, get_or, get_or-set_other, get_or-set_same, below_more, length-drop, length-take-le, take-append-drop, refl, sym, ◌∙◌, ap, ap₂, subst, arith, lit<}
+use Rattle.std.specs.Prelude.{bit_xor, slice_index}
 use Rattle.std.proofs.Math.ListN.{set}
-use native.Mathlib.Nat.{mod-lt}
+use Rattle.std.proofs.lemmas.Nat.{mod_low, pow-add, pow_pos, shl-shr, xor_comm}
+use native.Mathlib.Nat.{add-zero, mod-eq_of_lt, mod-lt}
+use lib.Bits.{xor_shifted, xor_zero_r}
+use Rattle.bf_base.specs.ByteTables.{sum_of_entries}
 use Rattle.bf_base.specs.LinearMaps.{linear_image}
-use Rattle.bf_base.proofs.BasisColumns.{apply, apply-append, apply-mod}
-use Rattle.bf_base.proofs.LinearMapLemmas.{linear_image-apply}
-use Rattle.bf_basis.specs.Tables.{sum_of_entries}
-use Rattle.bf_basis.proofs.NibbleTables.{by_digits}
+use Rattle.bf_base.proofs.AdditiveMaps.{KeepsSums}
+use Rattle.bf_base.proofs.BasisColumns.{sum_of_columns, sum_of_columns-append, sum_of_columns-mod, sum_of_columns-nothing, sum_of_columns-sum}
+use Rattle.bf_base.proofs.ByteTableSums.{HoldValues, entries_hold, entry_passes, sum_of_entries_is}
+use Rattle.bf_base.proofs.CarrylessProduct.{xor_shl}
+use Rattle.bf_base.proofs.LinearMapLemmas.{linear_image-columns, the_linear_map}
+use Rattle.bf_base.proofs.TableChecks.{passes}
 
--- the first n places of a table hold their entries: place j is in row j / 16, whose images are the four from 4 (j / 16) on, at
--- the digit j % 16
-abbrev pub HoldEntries : ℕ → List ℕ → List ℕ → Type 0
-HoldEntries n images table =
-    (j : ℕ) → j < n → get_or table j 0 ≡ linear_image (take 4 (drop (4 * (j / 16)) images)) (j % 16)
+-- ---- a table that is a literal
+
+-- whether the entries of a table are the values of the map by these columns
+unfoldable pub tabulates_map : List ℕ → List ℕ → Bool
+tabulates_map columns table = passes (entry_passes (λ y. y) (sum_of_columns columns)) 0 table
+
+-- so its sums are the map
+pub tabled : (rows : ℕ) (columns table : List ℕ) (x : ℕ) → tabulates_map columns table ≡ true → length table ≡ 256 * rows
+    → length columns ≡ 8 * rows → sum_of_entries rows table x ≡ sum_of_columns columns x
+unfolding tabulates_map
+tabled rows columns table x pass size whole =
+    sum_of_entries_is (λ y. y) (sum_of_columns columns) (λ a b. refl) (sum_of_columns-sum columns) table rows x
+    (λ p below. entries_hold (λ y. y) (sum_of_columns columns) table pass p (subst (λ (n : ℕ). p < n) (sym size) below))
+    ∙ ap (λ (n : ℕ). sum_of_columns columns (x % 2 ^ n)) (sym whole)
+    ∙ sum_of_columns-mod columns x
+
+-- the entry of a byte, where there is but one
+pub byte_entry : (columns table : List ℕ) (x : ℕ) → tabulates_map columns table ≡ true → length table ≡ 256 → x < 256
+    → get_or table x 0 ≡ sum_of_columns columns x
+unfolding tabulates_map
+byte_entry columns table x pass size fits =
+    let first : x / 256 ≡ 0 = omega arith in
+    let byte : x % 256 * 1 ≡ x = omega arith in
+    entries_hold (λ y. y) (sum_of_columns columns) table pass x (subst (λ (n : ℕ). x < n) (sym size) fits)
+    ∙ ap (λ (j : ℕ). sum_of_columns columns (x % 256 * 2 ^ (8 * j))) first
+    ∙ ap (sum_of_columns columns) byte
+
+-- the columns stand in the table at the powers of two of each byte
+unfoldable pub columns_in : ℕ → List ℕ → List ℕ
+columns_in zero table = []
+columns_in (suc rows) table =
+    slice_index table 1 ∷ slice_index table 2 ∷ slice_index table 4 ∷ slice_index table 8 ∷ slice_index table 16
+    ∷ slice_index table 32 ∷ slice_index table 64 ∷ slice_index table 128 ∷ columns_in rows (drop 256 table)
+
+pub length-columns_in : (rows : ℕ) (table : List ℕ) → length (columns_in rows table) ≡ 8 * rows
+unfolding columns_in
+length-columns_in zero table = refl
+length-columns_in (suc rows) table =
+    ap (λ (n : ℕ). suc (suc (suc (suc (suc (suc (suc (suc n)))))))) (length-columns_in rows (drop 256 table)) ∙ eight_more rows
+  where
+    eight_more : (n : ℕ) → suc (suc (suc (suc (suc (suc (suc (suc (8 * n)))))))) ≡ 8 * suc n
+    eight_more n = omega arith
+
+-- ---- a table that is made
+
+-- the first n places hold the values of v
+abbrev pub Hold : (ℕ → ℕ) → ℕ → List ℕ → Type 0
+Hold v n table = (p : ℕ) → p < n → get_or table p 0 ≡ v p
 
 -- one entry more
-pub entry_set : (images table : List ℕ) (place entry : ℕ) → place < length table
-    → entry ≡ linear_image (take (4 * (place / 16) + 4 - 4 * (place / 16)) (drop (4 * (place / 16)) images)) (place % 16)
-    → HoldEntries place images table → HoldEntries (place + 1) images (set table place entry)
-entry_set images table place entry within is entries =
-    let four : 4 * (place / 16) + 4 - 4 * (place / 16) ≡ 4 = omega arith in
+pub entry_set : (v : ℕ → ℕ) (table : List ℕ) (place entry : ℕ) → place < length table → entry ≡ v place → Hold v place table
+    → Hold v (place + 1) (set table place entry)
+entry_set v table place entry within is entries =
     below_more _ _
-    (λ j below. let other : j ≢ place = omega arith in rw get_or-set_other (entries j below))
-    (rw get_or-set_same (is ∙ ap (λ (n : ℕ). linear_image (take n (drop (4 * (place / 16)) images)) (place % 16)) four))
+    (λ p below. let other : p ≢ place = omega arith in rw get_or-set_other (entries p below))
+    (rw get_or-set_same is)
 
--- the entry of the first row at a digit
-first_entry : (images table : List ℕ) (rows d : ℕ) → HoldEntries (16 * suc rows) images table → d < 16
-    → get_or table d 0 ≡ apply (take 4 images) d
-first_entry images table rows d entries small =
-    let within : d < 16 * suc rows = omega arith in
-    let row : 4 * (d / 16) ≡ 0 = omega arith in
-    let digit : d % 16 ≡ d = omega arith in
-    entries d within
-    ∙ ap₂ (λ (n e : ℕ). linear_image (take 4 (drop n images)) e) row digit
-    ∙ linear_image-apply (take 4 images) d
+linear_image-sum : (images : List ℕ) → KeepsSums (linear_image images)
+linear_image-sum images = (the_linear_map images).of_sum
 
--- the rows after the first are the table of the images after the first four
-other_entries : (images table : List ℕ) (rows : ℕ) → HoldEntries (16 * suc rows) images table → HoldEntries (16 * rows) (drop 4 images) (drop 16 table)
-other_entries images table rows entries j below =
-    let within : 16 + j < 16 * suc rows = omega arith in
-    let row : 4 * ((16 + j) / 16) ≡ 4 + 4 * (j / 16) = omega arith in
-    let digit : (16 + j) % 16 ≡ j % 16 = omega arith in
-    get_or-drop 16 table j 0 ∙ entries (16 + j) within
-    ∙ ap₂ (λ (n e : ℕ). linear_image (take 4 (drop n images)) e) row digit
-    ∙ ap (λ (rest : List ℕ). linear_image (take 4 rest) (j % 16)) (sym (drop-drop (4 * (j / 16)) 4 images))
-
-tabled : (rows : ℕ) (images table : List ℕ) → length images ≡ 4 * rows → HoldEntries (16 * rows) images table → (x : ℕ)
-    → sum_of_entries rows table x ≡ apply images x
-unfolding sum_of_entries apply
-tabled zero [] table whole entries x = refl
-tabled zero (image ∷ images) table whole entries x = absurd (omega arith)
-tabled (suc rows) images table whole entries x =
-    ap₂ bit_xor
-    (first_entry images table rows (x % 16) entries (mod-lt x (lit< tt)))
-    (tabled rows (drop 4 images) (drop 16 table) (length-drop 4 images ∙ omega arith)
-    (other_entries images table rows entries) (x / 16))
-    ∙ sym (by_digits images x (omega arith))
-
--- the sum of the entries of a table is the map
-pub tabled_map : (rows : ℕ) (images table : List ℕ) → length images ≡ 4 * rows → HoldEntries (16 * rows) images table → (x : ℕ)
-    → sum_of_entries rows table x ≡ linear_image images x
-tabled_map rows images table whole entries x =
-    tabled rows images table whole entries x ∙ sym (linear_image-apply images x)
-
--- the map of the first n images at the lowest n bits, and that of the others at the bits above, are the map
-pub joined_maps : (n : ℕ) (images : List ℕ) (x : ℕ) → n < length images
-    → bit_xor (linear_image (take n images) (x % 2 ^ n)) (linear_image (drop n images) (x / 2 ^ n)) ≡ linear_image images x
-joined_maps n images x enough =
-    ap₂ bit_xor
-    (linear_image-apply (take n images) (x % 2 ^ n)
-    ∙ ap (λ (m : ℕ). apply (take n images) (x % 2 ^ m)) (sym first) ∙ apply-mod (take n images) x)
-    (linear_image-apply (drop n images) (x / 2 ^ n) ∙ ap (λ (m : ℕ). apply (drop n images) (x / 2 ^ m)) (sym first))
-    ∙ sym (apply-append (take n images) (drop n images) x)
-    ∙ ap (λ (cs : List ℕ). apply cs x) (take-append-drop n images)
-    ∙ sym (linear_image-apply images x)
+-- four columns at the lowest digit, and the others at what is left
+by_digits : (columns : List ℕ) (x : ℕ) → 4 ≤ length columns
+    → sum_of_columns columns x ≡ bit_xor (sum_of_columns (take 4 columns) (x % 16)) (sum_of_columns (drop 4 columns) (x / 16))
+by_digits columns x enough =
+    ap (λ (cs : List ℕ). sum_of_columns cs x) (sym (take-append-drop 4 columns))
+    ∙ sum_of_columns-append (take 4 columns) (drop 4 columns) x
+    ∙ ap₂ bit_xor
+    (sym (sum_of_columns-mod (take 4 columns) x) ∙ ap (λ (n : ℕ). sum_of_columns (take 4 columns) (x % 2 ^ n)) four)
+    (ap (λ (n : ℕ). sum_of_columns (drop 4 columns) (x / 2 ^ n)) four)
   where
-    first : length (take n images) ≡ n
-    first = length-take-le n images (omega arith)
+    four : length (take 4 columns) ≡ 4
+    four = length-take-le 4 columns enough
+
+-- the columns from place n on at x are all of them at x 2^n
+from_place : (columns : List ℕ) (n x : ℕ) → n ≤ length columns
+    → sum_of_columns columns (x * 2 ^ n) ≡ sum_of_columns (drop n columns) x
+from_place columns n x enough =
+    ap (λ (cs : List ℕ). sum_of_columns cs (x * 2 ^ n)) (sym (take-append-drop n columns))
+    ∙ sum_of_columns-append (take n columns) (drop n columns) (x * 2 ^ n)
+    ∙ ap₂ bit_xor below (ap (λ (m : ℕ). sum_of_columns (drop n columns) (x * 2 ^ n / 2 ^ m)) first
+    ∙ ap (sum_of_columns (drop n columns)) (shl-shr x n))
+    ∙ xor_comm 0 (sum_of_columns (drop n columns) x) ∙ xor_zero_r (sum_of_columns (drop n columns) x)
+  where
+    first : length (take n columns) ≡ n
+    first = length-take-le n columns enough
+
+    none : x * 2 ^ n % 2 ^ n ≡ 0
+    none = ap (λ (y : ℕ). y % 2 ^ n) (sym (add-zero (x * 2 ^ n))) ∙ mod_low x n 0 (pow_pos n)
+
+    below : sum_of_columns (take n columns) (x * 2 ^ n) ≡ 0
+    below =
+        sym (sum_of_columns-mod (take n columns) (x * 2 ^ n))
+        ∙ ap (λ (m : ℕ). sum_of_columns (take n columns) (x * 2 ^ n % 2 ^ m)) first
+        ∙ ap (sum_of_columns (take n columns)) none ∙ sum_of_columns-nothing (take n columns)
+
+-- the four images from place n on, at a digit d, are the map at d 2^n
+pub value_at_digit : (images : List ℕ) (n d : ℕ) → d < 16 → n + 4 ≤ length images
+    → linear_image (take 4 (drop n images)) d ≡ linear_image images (d * 2 ^ n)
+value_at_digit images n d small enough =
+    let digit : d % 16 ≡ d = omega arith in
+    let nothing : d / 16 ≡ 0 = omega arith in
+    let within : n ≤ length images = omega (arith, enough) in
+    let four : 4 ≤ length (drop n images) = omega (arith, enough, length-drop n images) in
+    linear_image-columns (take 4 (drop n images)) d
+    ∙ sym (by_digits (drop n images) d four
+    ∙ ap₂ bit_xor (ap (sum_of_columns (take 4 (drop n images))) digit)
+    (ap (sum_of_columns (drop 4 (drop n images))) nothing ∙ sum_of_columns-nothing (drop 4 (drop n images)))
+    ∙ xor_zero_r (sum_of_columns (take 4 (drop n images)) d))
+    ∙ sym (from_place images n d within) ∙ sym (linear_image-columns images (d * 2 ^ n))
+
+-- the value of the map that has these images at digit p % 16 of place p / 16
+abbrev pub digit_value : List ℕ → ℕ → ℕ
+digit_value images p = linear_image images (p % 16 * 2 ^ (4 * (p / 16)))
+
+-- and at byte p % 256 of place p / 256
+abbrev pub byte_value : List ℕ → ℕ → ℕ
+byte_value images p = linear_image images (p % 256 * 2 ^ (8 * (p / 256)))
+
+-- two digits make a byte
+two_digits : (j l h : ℕ) → l < 16 → bit_xor (l * 2 ^ (8 * j)) (h * 2 ^ (8 * j + 4)) ≡ (h * 16 + l) * 2 ^ (8 * j)
+two_digits j l h small =
+    ap (λ (y : ℕ). bit_xor (l * 2 ^ (8 * j)) y) (ap (λ (y : ℕ). h * y) (pow-add 2 (8 * j) 4) ∙ moved (2 ^ (8 * j)))
+    ∙ xor_shl (8 * j) l (h * 16)
+    ∙ ap (λ (y : ℕ). y * 2 ^ (8 * j)) (xor_comm l (h * 16) ∙ xor_shifted h 4 l small)
+  where
+    moved : (p : ℕ) → h * (p * 16) ≡ h * 16 * p
+    moved p = omega arith
+
+pub byte_of_digits : (images values : List ℕ) → Hold (digit_value images) 512 values → (p : ℕ) → p < 4096
+    → bit_xor (get_or values (32 * (p / 256) + p % 16) 0) (get_or values (32 * (p / 256) + 16 + p % 256 / 16) 0)
+    ≡ byte_value images p
+byte_of_digits images values held p below =
+    let low_inside : 32 * (p / 256) + p % 16 < 512 = omega arith in
+    let high_inside : 32 * (p / 256) + 16 + p % 256 / 16 < 512 = omega arith in
+    let low_digit : (32 * (p / 256) + p % 16) % 16 ≡ p % 16 = omega arith in
+    let low_place : 4 * ((32 * (p / 256) + p % 16) / 16) ≡ 8 * (p / 256) = omega arith in
+    let high_digit : (32 * (p / 256) + 16 + p % 256 / 16) % 16 ≡ p % 256 / 16 = omega arith in
+    let high_place : 4 * ((32 * (p / 256) + 16 + p % 256 / 16) / 16) ≡ 8 * (p / 256) + 4 = omega arith in
+    let byte : p % 256 / 16 * 16 + p % 16 ≡ p % 256 = omega arith in
+    ap₂ bit_xor
+    (held (32 * (p / 256) + p % 16) low_inside
+    ∙ ap₂ (λ (d n : ℕ). linear_image images (d * 2 ^ n)) low_digit low_place)
+    (held (32 * (p / 256) + 16 + p % 256 / 16) high_inside
+    ∙ ap₂ (λ (d n : ℕ). linear_image images (d * 2 ^ n)) high_digit high_place)
+    ∙ sym (linear_image-sum images (p % 16 * 2 ^ (8 * (p / 256))) (p % 256 / 16 * 2 ^ (8 * (p / 256) + 4)))
+    ∙ ap (linear_image images)
+    (two_digits (p / 256) (p % 16) (p % 256 / 16) (mod-lt p (lit< tt)) ∙ ap (λ (b : ℕ). b * 2 ^ (8 * (p / 256))) byte)
+
+-- the sum of the entries of a table that holds the values at bytes is the map
+pub made_table : (images table : List ℕ) → length images ≡ 128 → Hold (byte_value images) 4096 table → (x : ℕ)
+    → sum_of_entries 16 table x ≡ linear_image images x
+made_table images table whole held x =
+    sum_of_entries_is (λ y. y) (linear_image images) (λ a b. refl) (linear_image-sum images) table 16 x held
+    ∙ linear_image-columns images (x % 2 ^ 128)
+    ∙ ap (λ (n : ℕ). sum_of_columns images (x % 2 ^ n)) (sym whole)
+    ∙ sum_of_columns-mod images x ∙ sym (linear_image-columns images x)

@@ -9,7 +9,7 @@ use Rattle.bf_base.proofs.PowerLemmas.{power-add}
 use Rattle.bf_base.proofs.TowerRing.{tower_ring}
 use Rattle.bf_tables.specs.Tables.{EntriesArePowers, EntriesAreLogarithms}
 use Rattle.bf_tables.specs.declared.tables.literals.TheConstants.{EXP, INVERSES, LOG, ROOTS, ROOT_PRODUCTS, SQUARES}
-use Rattle.bf_tables.proofs.TableChecks.{passes, passes_at, tabulates, tabulates_at, repeats, repeats_at}
+use Rattle.bf_base.proofs.TableChecks.{passes, passes_at, tabulates, tabulates_at, repeats, repeats_at}
 
 -- ---- powers and logarithms
 

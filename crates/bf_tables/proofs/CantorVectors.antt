@@ -14,7 +14,7 @@ use Rattle.bf_base.proofs.TowerProducts.{tower_mul-low}
 use Rattle.bf_base.proofs.TowerRing.{tower_ring}
 use Rattle.bf_tables.specs.Cantor.{cantor_vector, AreEven, LieInLevels, OneOfEachParity, SolveTheOneBefore}
 use Rattle.bf_tables.specs.declared.cantor.literals.TheConstants.{VECTORS}
-use Rattle.bf_tables.proofs.TableChecks.{passes, passes_at}
+use Rattle.bf_base.proofs.TableChecks.{passes, passes_at}
 use Rattle.bf_tables.proofs.Squares.{root_product, square_of, square_of_is, squares_joined}
 
 -- ---- the equations at level 7

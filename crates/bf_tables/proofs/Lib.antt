@@ -5,5 +5,4 @@ pub mod LinearMaps
 pub mod Orders
 pub mod SquareTables
 pub mod Squares
-pub mod TableChecks
 pub mod LevelLaws

@@ -12,9 +12,9 @@ use Rattle.bf_base.proofs.TowerRing.{tower_ring}
 use Rattle.bf_base.proofs.TowerFrobenius.{tower_power-units}
 use Rattle.bf_base.specs.Orders.{HasFullOrder}
 use Rattle.bf_tables.specs.Generators.{GeneratorsHaveFullOrder}
-use Rattle.bf_tables.specs.Linear.{apply}
-use Rattle.bf_tables.proofs.LinearMaps.{apply_columns}
-use Rattle.bf_tables.proofs.TableChecks.{passes}
+use Rattle.bf_base.proofs.BasisColumns.{sum_of_columns}
+use Rattle.bf_base.proofs.LinearMapLemmas.{columns_checked}
+use Rattle.bf_base.proofs.TableChecks.{passes}
 
 -- whether none of the n values that begin with this one, each the step of the one before, is 1
 unfoldable never_one : (ℕ → ℕ) → ℕ → ℕ → Bool
@@ -92,14 +92,14 @@ columns_16_pass : passes (λ j column. eqb column (tower_mul 4 (2 ^ j) 0x102)) 0
 unfolding passes columns_16 tower_mul quadratic root
 columns_16_pass = refl
 
-steps_of_columns : (e : ℕ) → apply columns_16 (power 1 (tower_mul 4) 0x102 e) ≡ power 1 (tower_mul 4) 0x102 (suc e)
+steps_of_columns : (e : ℕ) → sum_of_columns columns_16 (power 1 (tower_mul 4) 0x102 e) ≡ power 1 (tower_mul 4) 0x102 (suc e)
 unfolding power columns_16
 steps_of_columns e =
-    apply_columns (λ x. tower_mul 4 x 0x102) (λ a b. sum_times 16 1 (tower_mul 4) (tower_ring 4) a b 0x102) columns_16
-    (power 1 (tower_mul 4) 0x102 e) columns_16_pass (power-lt 16 1 (tower_mul 4) (tower_ring 4) (lit< tt) 0x102 e)
+    columns_checked (λ x. tower_mul 4 x 0x102) (λ a b. sum_times 16 1 (tower_mul 4) (tower_ring 4) a b 0x102) columns_16
+    columns_16_pass (power 1 (tower_mul 4) 0x102 e) (power-lt 16 1 (tower_mul 4) (tower_ring 4) (lit< tt) 0x102 e)
 
-order_16 : never_one (apply columns_16) 65534 0x102 ≡ true
-unfolding never_one apply columns_16
+order_16 : never_one (sum_of_columns columns_16) 65534 0x102 ≡ true
+unfolding never_one sum_of_columns columns_16
 order_16 = refl
 
 pub generators_have_full_order : GeneratorsHaveFullOrder
@@ -112,5 +112,5 @@ generators_have_full_order (suc (suc zero)) low =
 generators_have_full_order (suc (suc (suc zero))) low =
     full_order 3 0x13 (λ x. tower_mul 3 x 0x13) (steps_of_product 3 0x13) (lit< tt) (λ e. absurd (omega arith)) order_8
 generators_have_full_order (suc (suc (suc (suc zero)))) low =
-    full_order 4 0x102 (apply columns_16) steps_of_columns (lit< tt) (λ e. absurd (omega arith)) order_16
+    full_order 4 0x102 (sum_of_columns columns_16) steps_of_columns (lit< tt) (λ e. absurd (omega arith)) order_16
 generators_have_full_order (suc (suc (suc (suc (suc k))))) low = absurd (omega arith)

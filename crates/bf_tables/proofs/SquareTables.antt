@@ -5,12 +5,13 @@ use native.Mathlib.Nat.{mod-eq_of_lt}
 use Rattle.bf_base.specs.Tower.{tower_mul}
 use Rattle.bf_base.proofs.PowerLemmas.{square_xor}
 use Rattle.bf_base.proofs.TowerRing.{tower_ring}
-use Rattle.bf_tables.specs.Linear.{sum_of_entries, IsAdditive}
+use Rattle.bf_base.specs.ByteTables.{sum_of_entries}
+use Rattle.bf_tables.specs.Linear.{IsAdditive}
 use Rattle.bf_tables.specs.declared.linear.roots.TheConstants.{ROOTS_16, ROOTS_32, ROOTS_64}
 use Rattle.bf_tables.specs.declared.linear.squares.TheConstants.{SQUARES_16, SQUARES_32, SQUARES_64}
-use Rattle.bf_tables.proofs.LinearMaps.{entry_passes, sum_of_entries_is}
+use Rattle.bf_base.proofs.ByteTableSums.{entries_hold, entry_passes, sum_of_entries_is}
 use Rattle.bf_tables.proofs.Squares.{root_product, square_of, square_of_is, squares_joined}
-use Rattle.bf_tables.proofs.TableChecks.{passes}
+use Rattle.bf_base.proofs.TableChecks.{passes}
 
 -- the square is additive, and so is the map that leaves a number as it is
 square_of_additive : (k : ℕ) → IsAdditive (square_of k)
@@ -37,17 +38,20 @@ squares_64_pass = refl
 
 pub squares_16 : (x : ℕ) → x < 2 ^ 16 → sum_of_entries 2 SQUARES_16 x ≡ tower_mul 4 x x
 squares_16 x fits =
-    sum_of_entries_is (λ y. y) (square_of 4) same_additive (square_of_additive 4) SQUARES_16 squares_16_pass 2 x (lit≤ tt)
+    sum_of_entries_is (λ y. y) (square_of 4) same_additive (square_of_additive 4) SQUARES_16 2 x
+    (entries_hold (λ y. y) (square_of 4) SQUARES_16 squares_16_pass)
     ∙ ap (square_of 4) (mod-eq_of_lt fits) ∙ square_of_is 4 x
 
 pub squares_32 : (x : ℕ) → x < 2 ^ 32 → sum_of_entries 4 SQUARES_32 x ≡ tower_mul 5 x x
 squares_32 x fits =
-    sum_of_entries_is (λ y. y) (square_of 5) same_additive (square_of_additive 5) SQUARES_32 squares_32_pass 4 x (lit≤ tt)
+    sum_of_entries_is (λ y. y) (square_of 5) same_additive (square_of_additive 5) SQUARES_32 4 x
+    (entries_hold (λ y. y) (square_of 5) SQUARES_32 squares_32_pass)
     ∙ ap (square_of 5) (mod-eq_of_lt fits) ∙ square_of_is 5 x
 
 pub squares_64 : (x : ℕ) → x < 2 ^ 64 → sum_of_entries 8 SQUARES_64 x ≡ tower_mul 6 x x
 squares_64 x fits =
-    sum_of_entries_is (λ y. y) (square_of 6) same_additive (square_of_additive 6) SQUARES_64 squares_64_pass 8 x (lit≤ tt)
+    sum_of_entries_is (λ y. y) (square_of 6) same_additive (square_of_additive 6) SQUARES_64 8 x
+    (entries_hold (λ y. y) (square_of 6) SQUARES_64 squares_64_pass)
     ∙ ap (square_of 6) (mod-eq_of_lt fits) ∙ square_of_is 6 x
 
 -- ---- square roots
@@ -67,17 +71,20 @@ roots_64_pass = refl
 pub roots_16 : (x : ℕ) → x < 2 ^ 16 → tower_mul 4 (sum_of_entries 2 ROOTS_16 x) (sum_of_entries 2 ROOTS_16 x) ≡ x
 roots_16 x fits =
     sym (square_of_is 4 (sum_of_entries 2 ROOTS_16 x))
-    ∙ sum_of_entries_is (square_of 4) (λ y. y) (square_of_additive 4) same_additive ROOTS_16 roots_16_pass 2 x (lit≤ tt)
+    ∙ sum_of_entries_is (square_of 4) (λ y. y) (square_of_additive 4) same_additive ROOTS_16 2 x
+    (entries_hold (square_of 4) (λ y. y) ROOTS_16 roots_16_pass)
     ∙ mod-eq_of_lt fits
 
 pub roots_32 : (x : ℕ) → x < 2 ^ 32 → tower_mul 5 (sum_of_entries 4 ROOTS_32 x) (sum_of_entries 4 ROOTS_32 x) ≡ x
 roots_32 x fits =
     sym (square_of_is 5 (sum_of_entries 4 ROOTS_32 x))
-    ∙ sum_of_entries_is (square_of 5) (λ y. y) (square_of_additive 5) same_additive ROOTS_32 roots_32_pass 4 x (lit≤ tt)
+    ∙ sum_of_entries_is (square_of 5) (λ y. y) (square_of_additive 5) same_additive ROOTS_32 4 x
+    (entries_hold (square_of 5) (λ y. y) ROOTS_32 roots_32_pass)
     ∙ mod-eq_of_lt fits
 
 pub roots_64 : (x : ℕ) → x < 2 ^ 64 → tower_mul 6 (sum_of_entries 8 ROOTS_64 x) (sum_of_entries 8 ROOTS_64 x) ≡ x
 roots_64 x fits =
     sym (square_of_is 6 (sum_of_entries 8 ROOTS_64 x))
-    ∙ sum_of_entries_is (square_of 6) (λ y. y) (square_of_additive 6) same_additive ROOTS_64 roots_64_pass 8 x (lit≤ tt)
+    ∙ sum_of_entries_is (square_of 6) (λ y. y) (square_of_additive 6) same_additive ROOTS_64 8 x
+    (entries_hold (square_of 6) (λ y. y) ROOTS_64 roots_64_pass)
     ∙ mod-eq_of_lt fits

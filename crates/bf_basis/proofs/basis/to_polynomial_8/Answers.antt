@@ -1,6 +1,6 @@
-use Rattle.std.proofs.Common.{◌∙◌}
+use Rattle.std.proofs.Common.{arith}
 use Rattle.bf_basis.proofs.Isomorphisms.{image_8}
 use Rattle.bf_basis.proofs.basis.to_polynomial_8.Goals as goal
 
 pub returns : goal.returns
-returns c = c.sum_of_entries_8.ensures ∙ image_8 c.args.x
+returns c = image_8 c.args.x (omega arith)

@@ -1,7 +1,7 @@
 use Rattle.std.proofs.Common.{◌≡◌, length}
-use Rattle.bf_basis.proofs.TabledMaps.{HoldEntries}
+use Rattle.bf_basis.proofs.TabledMaps.{Hold, byte_value}
 use Rattle.bf_basis.proofs.linear.table_of.Given as goal
 
 -- the places before hold their entries
 abbrev pub invariant-loop-place : goal.invariant-loop-place
-invariant-loop-place l = (length l.table ≡ 256) × HoldEntries l.place l.images l.table
+invariant-loop-place l = (length l.table ≡ 4096) × Hold (byte_value l.images) l.place l.table
