@@ -1,2 +1,3 @@
 pub mod Halves
+pub mod Images
 pub mod LowLevels

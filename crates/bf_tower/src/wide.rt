@@ -1,5 +1,6 @@
 // The levels of 16 bits and more, whose halves are words. Squares and square roots of up to 64 bits are sums of table entries
-// of the bytes; all else is computed by halves.
+// of the bytes, and products of 64 and 128 bits are those of the images in the polynomial basis; all else is computed by
+// halves.
 ghost use Rattle.std.specs.Prelude.{◌≡◌, ◌<◌, ◌^◌, refl};
 ghost use Rattle.std.proofs.Common.{lit≤};
 
@@ -7,6 +8,8 @@ use crate::bytes::Bits8;
 use crate::extension::Extension;
 use crate::level::Level;
 use crate::quadratic;
+use bf_basis::{to_polynomial_64, to_polynomial_128, to_tower_64, to_tower_128};
+use bf_clmul::{multiply_mod_64, multiply_mod_128};
 use bf_tables::{sqrt_16, sqrt_32, sqrt_64, square_16, square_32, square_64};
 
 /// The level of 16 bits.
@@ -218,9 +221,11 @@ impl Level<u64> for Bits64 {
         x
     }
 
+    // By the isomorphism with the polynomials modulo x^64 + x^4 + x^3 + x + 1: the element whose image is the product of the
+    // images.
     #[inline]
     fn multiply(x: u64, y: u64) -> u64 {
-        quadratic::multiply::<u64, Bits64>(x, y)
+        to_tower_64(multiply_mod_64(to_polynomial_64(x), to_polynomial_64(y)))
     }
 
     #[inline]
@@ -297,9 +302,13 @@ impl Level<u128> for Bits128 {
         x
     }
 
+    // By the isomorphism with the polynomials modulo x^128 + x^7 + x^2 + x + 1, as at 64 bits.
     #[inline]
     fn multiply(x: u128, y: u128) -> u128 {
-        quadratic::multiply::<u128, Bits128>(x, y)
+        to_tower_128(multiply_mod_128(
+            to_polynomial_128(x),
+            to_polynomial_128(y),
+        ))
     }
 
     #[inline]
