@@ -36,7 +36,7 @@ linear_image-columns (image ∷ images) x =
         ap (slice_index (image ∷ images)) one_more
 
 -- the map of the images from a place on, by the image there and those after it
-image_from : (images : List ℕ) (place rest : ℕ) → place < length images → linear_image (drop place images) rest
+pub image_from : (images : List ℕ) (place rest : ℕ) → place < length images → linear_image (drop place images) rest
     ≡ bit_xor (rest % 2 * get_or images place 0) (linear_image (drop (place + 1) images) (rest / 2))
 unfolding sum_of_columns
 image_from images place rest within =

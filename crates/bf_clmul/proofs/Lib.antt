@@ -3,11 +3,13 @@ pub mod Digits
 pub mod Halves
 pub mod ClassMasks
 pub mod CarryIsolation
+pub mod Chains
 pub mod Classes
 pub mod KaratsubaLemmas
 pub mod TailFolds
 pub mod Squares
 pub mod ModularProducts
 pub mod Roots
+pub mod PowerMaps
 pub mod StandardFacts
 pub mod Shifts

@@ -4,18 +4,25 @@
 #![tactic(auto)]
 
 mod fold;
+mod inverse;
 mod laws;
 mod masked;
 mod modular;
+mod power_maps;
 mod product;
 mod root;
 mod split;
 mod square;
 
 pub use crate::fold::{reduce_64, reduce_128};
+pub use crate::inverse::{invert_mod_64, invert_mod_128};
 pub use crate::laws::{carry_isolation, class_is_places};
 pub use crate::masked::{masked_product, masked_products, multiply_low_64};
 pub use crate::modular::{multiply_mod_64, multiply_mod_128, square_mod_64, square_mod_128};
+pub use crate::power_maps::{
+    square_3_times_mod_128, square_7_times_mod_128, square_14_times_mod_128,
+    square_28_times_mod_128, square_63_times_mod_128,
+};
 pub use crate::product::{
     multiply_32, multiply_64, multiply_64_twice, multiply_128, multiply_by_power_128,
 };

@@ -33,9 +33,16 @@ pub type BinaryField128 = Element<u128, Tower<Bits128>>;
 
 /// An element of GF(2^64) in the polynomial basis, modulo x^64 + x^4 + x^3 + x + 1 (G. Seroussi, Table of low-weight
 /// binary irreducible polynomials, 1998). Bit i of its representation is the coefficient of x^i.
+///
+/// An inverse is a chain of products and squares, which looks up nothing. `Poly64::from(BinaryField64::from(x).inverse())` goes
+/// through the tower, by look-ups that depend on `x`, and takes less time: docs/BENCHMARKS.md has both.
 pub type Poly64 = Element<u64, Poly64Kernel>;
 
 /// An element of GF(2^128) in the polynomial basis, modulo x^128 + x^7 + x^2 + x + 1, the modulus of NIST SP 800-38D.
 /// Bit i of its representation is the coefficient of x^i, so a block of that standard, whose leftmost bit is the
 /// coefficient of x^0, has its bits the other way round.
+///
+/// An inverse is a chain of products, squares and linear maps, which reads the same columns of those maps for every operand.
+/// `Ghash128::from(BinaryField128::from(x).inverse())` goes through the tower, by look-ups that depend on `x`, and takes less
+/// time: docs/BENCHMARKS.md has both.
 pub type Ghash128 = Element<u128, GhashKernel>;

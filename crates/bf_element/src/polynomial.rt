@@ -17,7 +17,7 @@ use std::alloc::{AllocError, Allocator};
 impl<R: Unsigned, L: Level<R>, M: Modulus<R, L>> Element<R, Polynomials<M, L>> {
     ghost use Rattle.bf_element.specs.Element.{repr_of};
 
-    /// The inverse, and 0 for 0.
+    /// The inverse, and 0 for 0, by a chain that looks up nothing by the operand.
     pub fn invert_or_zero(self) -> Element<R, Polynomials<M, L>>
         ensures zero { repr_of self ≡ 0 → repr_of result ≡ 0 }
         ensures inverse { repr_of self ≢ 0 → mul_mod M.width M.modulus (repr_of self) (repr_of result) ≡ 1 }

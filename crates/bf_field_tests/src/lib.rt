@@ -22,3 +22,5 @@ mod tower_high;
 mod tower_low;
 #[cfg(test)]
 mod tower_middle;
+#[cfg(test)]
+mod two_routes;

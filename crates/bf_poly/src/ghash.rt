@@ -1,5 +1,5 @@
 // The polynomials modulo x^128 + x^7 + x^2 + x + 1.
-ghost use Rattle.std.specs.Prelude.{◌≡◌, ◌<◌, ◌*◌, ◌+◌, ◌^◌, refl};
+ghost use Rattle.std.specs.Prelude.{◌≡◌, ◌≢◌, ◌<◌, ◌*◌, ◌+◌, ◌^◌, refl};
 ghost use Rattle.std.proofs.Common.{lit<, lit≤};
 ghost use Rattle.bf_base.specs.Basis.{ghash_images};
 ghost use Rattle.bf_base.specs.Remainder.{ghash_modulus, rem};
@@ -10,7 +10,9 @@ ghost use Rattle.bf_basis.proofs.RootImages.{ghash_generator, ghash_alpha};
 use crate::modulus::Modulus;
 use crate::polynomials::Polynomials;
 use bf_basis::{to_polynomial_128, to_tower_128};
-use bf_clmul::{multiply_128, multiply_mod_128, reduce_128, sqrt_mod_128, square_mod_128};
+use bf_clmul::{
+    invert_mod_128, multiply_128, multiply_mod_128, reduce_128, sqrt_mod_128, square_mod_128,
+};
 use bf_tower::Bits128;
 
 /// x^128 + x^7 + x^2 + x + 1, the modulus of GHASH (NIST SP 800-38D, section 6.3).
@@ -56,6 +58,10 @@ impl Modulus<u128, Bits128> for GhashModulus {
     #[inline]
     fn square(x: u128) -> u128 {
         square_mod_128(x)
+    }
+
+    fn invert(x: u128) -> u128 {
+        invert_mod_128(x)
     }
 
     #[inline]

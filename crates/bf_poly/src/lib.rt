@@ -1,5 +1,5 @@
 //! The fields of polynomials over GF(2) modulo an irreducible polynomial, by their arithmetic on words: bit i of a word is the
-//! coefficient of x^i. Each is a level of the tower in another basis, and its inverses are those of the tower.
+//! coefficient of x^i. Each is a level of the tower in another basis.
 #![tactic(auto)]
 
 mod ghash;

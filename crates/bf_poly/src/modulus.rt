@@ -1,5 +1,5 @@
 // What differs between the fields of polynomials.
-ghost use Rattle.std.specs.Prelude.{◌≡◌, ◌<◌, ◌≤◌, ◌^◌, ℕ, List, bit_xor};
+ghost use Rattle.std.specs.Prelude.{◌≡◌, ◌≢◌, ◌<◌, ◌≤◌, ◌^◌, ℕ, List, bit_xor};
 ghost use Rattle.bf_base.specs.Basis.{basis_image, IsIsomorphism};
 ghost use Rattle.bf_base.specs.Field.{IsField};
 ghost use Rattle.bf_base.specs.Remainder.{mul_mod};
@@ -52,6 +52,12 @@ pub trait Modulus<R: Unsigned, L: Level<R>> {
     /// The square.
     fn square(x: R) -> R
         ensures { R.number result ≡ mul_mod width modulus (R.number x) (R.number x) };
+
+    /// The inverse of a polynomial, by which the product is 1, and 0 for 0.
+    fn invert(x: R) -> R
+        ensures fits { R.number result < 2 ^ width }
+        ensures zero { R.number x ≡ 0 → R.number result ≡ 0 }
+        ensures inverse { R.number x ≢ 0 → mul_mod width modulus (R.number x) (R.number result) ≡ 1 };
 
     /// The square root, whose square is the polynomial.
     fn sqrt(x: R) -> R

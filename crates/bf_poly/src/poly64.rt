@@ -1,5 +1,5 @@
 // The polynomials modulo x^64 + x^4 + x^3 + x + 1.
-ghost use Rattle.std.specs.Prelude.{◌≡◌, ◌<◌, ◌*◌, ◌+◌, ◌^◌, refl};
+ghost use Rattle.std.specs.Prelude.{◌≡◌, ◌≢◌, ◌<◌, ◌*◌, ◌+◌, ◌^◌, refl};
 ghost use Rattle.std.proofs.Common.{lit<, lit≤};
 ghost use Rattle.bf_base.specs.Basis.{poly64_images};
 ghost use Rattle.bf_base.specs.Remainder.{poly64_modulus, rem};
@@ -10,7 +10,9 @@ ghost use Rattle.bf_basis.proofs.RootImages.{poly64_generator, poly64_alpha};
 use crate::modulus::Modulus;
 use crate::polynomials::Polynomials;
 use bf_basis::{to_polynomial_64, to_tower_64};
-use bf_clmul::{multiply_64, multiply_mod_64, reduce_64, sqrt_mod_64, square_mod_64};
+use bf_clmul::{
+    invert_mod_64, multiply_64, multiply_mod_64, reduce_64, split_128, sqrt_mod_64, square_mod_64,
+};
 use bf_tower::Bits64;
 
 /// x^64 + x^4 + x^3 + x + 1 (G. Seroussi, Table of low-weight binary irreducible polynomials, 1998).
@@ -58,6 +60,10 @@ impl Modulus<u64, Bits64> for Poly64Modulus {
         square_mod_64(x)
     }
 
+    fn invert(x: u64) -> u64 {
+        invert_mod_64(x)
+    }
+
     #[inline]
     fn sqrt(x: u64) -> u64 {
         sqrt_mod_64(x)
@@ -80,11 +86,8 @@ impl Modulus<u64, Bits64> for Poly64Modulus {
 
     #[inline]
     fn add_product(low: u64, high: u64, x: u64, y: u64) -> (u64, u64) {
-        let product = multiply_64(x, y);
-        (
-            low ^ (product & 0xffff_ffff_ffff_ffff) as u64,
-            high ^ (product >> 64) as u64,
-        )
+        let (product_low, product_high) = split_128(multiply_64(x, y));
+        (low ^ product_low, high ^ product_high)
     }
 
     #[inline]

@@ -62,10 +62,9 @@ impl<R: Unsigned, L: Level<R>, M: Modulus<R, L>> Kernel<R> for Polynomials<M, L>
         M::square(x)
     }
 
-    // The image of the inverse in the tower.
     #[inline]
     fn invert(x: R) -> R {
-        M::to_polynomial(L::invert(M::to_tower(x)))
+        M::invert(x)
     }
 
     #[inline]

@@ -1,10 +1,11 @@
 // Carryless products, squares, remainders and roots, at corners that the argument of carry isolation turns on and at
 // published values.
 use bf_clmul::{
-    compact_64, compact_128, masked_product, masked_products, multiply_32, multiply_64,
+    compact_64, compact_128, invert_mod_64, invert_mod_128, masked_product, masked_products, multiply_32, multiply_64,
     multiply_64_twice, multiply_128, multiply_low_64, multiply_mod_64, multiply_mod_128, reduce_64,
-    reduce_128, spread_32, sqrt_mod_64, sqrt_mod_128, carryless_square_64, carryless_square_128, square_mod_64,
-    square_mod_128,
+    reduce_128, split_64, split_128, spread_32, sqrt_mod_64, sqrt_mod_128, carryless_square_64,
+    carryless_square_128, square_3_times_mod_128, square_7_times_mod_128, square_14_times_mod_128,
+    square_28_times_mod_128, square_63_times_mod_128, square_mod_64, square_mod_128,
 };
 
 /// The square of the 64 coefficients 1.
@@ -83,6 +84,49 @@ fn roots_of_x_and_of_all_ones(rt: HostRuntime) {
             && square_mod_64(sqrt_mod_64(u64::MAX)) == u64::MAX
             && sqrt_mod_128(2) == 0x2492_4924_9249_2492_6db6_db6d_b6db_6da4
             && square_mod_128(sqrt_mod_128(u128::MAX)) == u128::MAX
+    );
+}
+
+// Each of the squarings of x, by squares and by the power map.
+#[test]
+fn power_maps_are_squarings_of_x(rt: HostRuntime) {
+    let mut power = 2;
+    let mut agree = true;
+    for count in 1..64 {
+        power = square_mod_128(power);
+        let by_map = match count {
+            3 => square_3_times_mod_128(2),
+            7 => square_7_times_mod_128(2),
+            14 => square_14_times_mod_128(2),
+            28 => square_28_times_mod_128(2),
+            63 => square_63_times_mod_128(2),
+            _ => power,
+        };
+        agree = agree && by_map == power;
+    }
+    assert!(rt; agree);
+}
+
+#[test]
+fn inverses_modulo_both_polynomials(rt: HostRuntime) {
+    assert!(rt;
+        invert_mod_64(0) == 0
+            && invert_mod_64(1) == 1
+            && multiply_mod_64(invert_mod_64(u64::MAX), u64::MAX) == 1
+            && multiply_mod_64(invert_mod_64(1 << 63), 1 << 63) == 1
+            && invert_mod_128(0) == 0
+            && invert_mod_128(1) == 1
+            && multiply_mod_128(invert_mod_128(u128::MAX), u128::MAX) == 1
+            && multiply_mod_128(invert_mod_128(1 << 127), 1 << 127) == 1
+    );
+}
+
+#[test]
+fn halves_of_words(rt: HostRuntime) {
+    assert!(rt;
+        split_64(0x0123_4567_89ab_cdef) == (0x89ab_cdef, 0x0123_4567)
+            && split_128(1 << 64) == (0, 1)
+            && split_128(u128::MAX) == (u64::MAX, u64::MAX)
     );
 }
 
