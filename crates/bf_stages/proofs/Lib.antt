@@ -1,0 +1,3 @@
+pub mod CantorValues
+pub mod Places
+pub mod StageSums

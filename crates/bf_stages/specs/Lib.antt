@@ -1,0 +1,2 @@
+pub mod Cantor
+pub mod Stages
