@@ -1,0 +1,4 @@
+mod LowRuns
+mod RunPlaces
+mod RunStages
+mod SliceLemmas

@@ -1,0 +1,4 @@
+pub mod LowStages
+pub mod Runs
+pub mod Slices
+pub mod Twiddles

@@ -1,15 +1,20 @@
-//! The field of GHASH over plain numbers, its change of basis from and to the tower, and masked products of words.
+//! The field of GHASH over plain numbers: products, also of slices by a scalar, its change of basis from and to the tower,
+//! masked products of words, and butterflies and the lowest stages of an additive transform.
 //!
 //! Bit i of a number is the coefficient of x^i, and products are modulo x^128 + x^7 + x^2 + x + 1 (NIST SP 800-38D). The
 //! change of basis sends bit j of an element of the tower to the product of the images of the roots over the set bits of j.
 #![tactic(auto)]
 
 mod basis;
+mod low_stages;
+mod slices;
 
 ghost use Rattle.std.specs.Prelude.{◌≡◌};
 ghost use Rattle.bf_base.specs.Remainder.{mul_mod, ghash_modulus};
 
 pub use crate::basis::{from_tower, from_tower_slice, to_tower, to_tower_slice};
+pub use crate::low_stages::{LOW_STAGES, LowStageTwiddles};
+pub use crate::slices::{butterflies_restore, butterfly_forward, butterfly_inverse, mul_slice};
 use bf_clmul::{multiply_mod_128, square_mod_128};
 pub use bf_clmul::{masked_product, masked_products};
 

@@ -3,7 +3,7 @@ use Rattle.std.proofs.Common.{◌≡◌, ℕ, zero, suc, ◌+◌, ◌*◌, ◌/�
 use Rattle.std.specs.Prelude.{bit_xor}
 use Rattle.std.specs.Int.{bit_at}
 use Rattle.std.proofs.Math.Nat.{two-pow-succ}
-use Rattle.std.proofs.lemmas.Nat.{pow_below, xor_lt}
+use Rattle.std.proofs.lemmas.Nat.{pow_below}
 use Rattle.std.proofs.lemmas.Nat.Bits.{bit_at_above}
 use native.Mathlib.Nat.{mod-eq_of_lt}
 use lib.Bits.{xor_assoc, xor_comm, xor_zero_r}
@@ -91,18 +91,14 @@ module _ (width : ℕ) (times : ℕ → ℕ → ℕ) (wide : 0 < width) (ring : 
       order a b d = sym (ring.assoc a b d) ∙ ring.comm (times a b) d ∙ sym (ring.assoc d a b)
 
   -- one value is its own sum
-  sum_of_factors-one : (f : ℕ → ℕ) (c : ℕ → ℕ) → c 0 < 2 ^ width → sum_of_factors times f 0 c ≡ c 0
+  sum_of_factors-one : (f : ℕ → ℕ) (c : ℕ → ℕ) → sum_of_factors times f 0 c ≡ c 0 % 2 ^ width
   unfolding sum_of_factors factors_at sum_below product_below
-  sum_of_factors-one f c fits =
-      xor_comm 0 (times (c 0) 1) ∙ xor_zero_r (times (c 0) 1) ∙ ring.comm (c 0) 1 ∙ ring.one (c 0) ∙ mod-eq_of_lt fits
+  sum_of_factors-one f c =
+      xor_comm 0 (times (c 0) 1) ∙ xor_zero_r (times (c 0) 1) ∙ ring.comm (c 0) 1 ∙ ring.one (c 0)
 
   -- ---- stages
 
   module _ (f : ℕ → ℕ → ℕ) (by_quotient : (j p q : ℕ) → p / 2 ^ j ≡ q / 2 ^ j → f j p ≡ f j q) where
-    stage-lt : (n : ℕ) (a : ℕ → ℕ) → ((q : ℕ) → a q < 2 ^ width) → (q : ℕ) → stage times f n a q < 2 ^ width
-    unfolding stage
-    stage-lt n a fits q = xor_lt width _ _ (fits _) (ring.below _ _)
-
     -- a stage at place k of the block of p
     stage-in_block : (n : ℕ) (a : ℕ → ℕ) (p k : ℕ) → k < 2 ^ n
         → stage times f n a (p / 2 ^ n * 2 ^ n + k)
@@ -112,14 +108,14 @@ module _ (width : ℕ) (times : ℕ → ℕ → ℕ) (wide : 0 < width) (ring : 
         ap₂ bit_xor (ap a (lower_in_block n p k below))
         (ap₂ times (by_quotient n (p / 2 ^ n * 2 ^ n + k) p (block_quotient n p k below)) (ap a (upper_in_block n p k below)))
 
-    pub stages_sum : (n : ℕ) (a : ℕ → ℕ) → ((q : ℕ) → a q < 2 ^ width) → (p : ℕ)
-        → stages times f n a p ≡ sum_of_factors times (λ j. f j p) n (λ k. a (p / 2 ^ n * 2 ^ n + k))
+    pub stages_sum : (n : ℕ) (a : ℕ → ℕ) (p : ℕ)
+        → stages times f n a p % 2 ^ width ≡ sum_of_factors times (λ j. f j p) n (λ k. a (p / 2 ^ n * 2 ^ n + k))
     unfolding stages
-    stages_sum zero a fits p =
+    stages_sum zero a p =
         let itself : p / 2 ^ 0 * 2 ^ 0 + 0 ≡ p = omega arith in
-        ap a (sym itself) ∙ sym (sum_of_factors-one (λ j. f j p) (λ k. a (p / 2 ^ 0 * 2 ^ 0 + k)) (fits _))
-    stages_sum (suc n) a fits p =
-        stages_sum n (stage times f n a) (stage-lt n a fits) p
+        ap (λ (q : ℕ). a q % 2 ^ width) (sym itself) ∙ sym (sum_of_factors-one (λ j. f j p) (λ k. a (p / 2 ^ 0 * 2 ^ 0 + k)))
+    stages_sum (suc n) a p =
+        stages_sum n (stage times f n a) p
         ∙ sum_of_factors-values times (λ j. f j p) n (λ k. stage times f n a (p / 2 ^ n * 2 ^ n + k))
         (λ k. bit_xor (a (p / 2 ^ suc n * 2 ^ suc n + k)) (times (f n p) (a (p / 2 ^ suc n * 2 ^ suc n + (2 ^ n + k)))))
         (λ k below. stage-in_block n a p k below)

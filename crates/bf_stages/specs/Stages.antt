@@ -42,12 +42,12 @@ unfoldable pub stages : (ℕ → ℕ → ℕ) → (ℕ → ℕ → ℕ) → ℕ 
 stages times f zero a = a
 stages times f (suc n) a = stages times f n (stage times f n a)
 
--- where the factor of stage j is the same at all places with the same quotient by 2 ^ j, n stages leave at each place the sum
--- over k below 2 ^ n of value k of its block times the product of the place's factors at the set bits of k. A block is the
--- 2 ^ n places with the same quotient by 2 ^ n.
+-- where the factor of stage j is the same at all places with the same quotient by 2 ^ j, n stages leave at each place, in the
+-- bits of an element, the sum over k below 2 ^ n of value k of its block times the product of the place's factors at the set
+-- bits of k. A block is the 2 ^ n places with the same quotient by 2 ^ n.
 abbrev pub StagesGiveSums : Type 0
 StagesGiveSums =
     (width : ℕ) (times : ℕ → ℕ → ℕ) → 0 < width → IsRing width 1 times
     → (f : ℕ → ℕ → ℕ) → ((j p q : ℕ) → p / 2 ^ j ≡ q / 2 ^ j → f j p ≡ f j q)
-    → (n : ℕ) (a : ℕ → ℕ) → ((q : ℕ) → a q < 2 ^ width) → (p : ℕ)
-    → stages times f n a p ≡ sum_of_factors times (λ j. f j p) n (λ k. a (p / 2 ^ n * 2 ^ n + k))
+    → (n : ℕ) (a : ℕ → ℕ) (p : ℕ)
+    → stages times f n a p % 2 ^ width ≡ sum_of_factors times (λ j. f j p) n (λ k. a (p / 2 ^ n * 2 ^ n + k))
