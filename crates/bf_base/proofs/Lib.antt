@@ -11,6 +11,8 @@ pub mod CarrylessPairs
 pub mod CarrylessProduct
 pub mod DotLemmas
 pub mod FieldLemmas
+mod LaneAnswers
+pub mod LaneRing
 pub mod LinearMapLemmas
 pub mod Norms
 pub mod PowerLemmas
@@ -22,8 +24,8 @@ pub mod RemainderLaws
 pub mod RemainderRing
 pub mod RingLemmas
 pub mod TableChecks
-mod TowerFacts
 pub mod TowerBasisLemmas
+mod TowerFacts
 pub mod TowerFrobenius
 pub mod TowerInverse
 pub mod TowerLaws

@@ -4,8 +4,10 @@ pub mod BitRing
 pub mod ByteTables
 pub mod Carryless
 pub mod Field
+pub mod Lanes
 pub mod LinearMaps
 pub mod Norm
+pub mod OneLane
 pub mod Orders
 pub mod Powers
 pub mod Quadratic

@@ -255,6 +255,8 @@ impl PrimeCharacteristicRing for Gf2 {
 impl Field for Gf2 {
     ghost use Rattle.bf_base.specs.BitRing.{bit_field, bit_generator, one_is_nonzero};
 
+    type Packing = Gf2;
+
     const GENERATOR: Gf2 = Gf2 { repr: 1 };
 
     ghost GENERATOR = { record { repr = 1; in_range = lit< tt } };

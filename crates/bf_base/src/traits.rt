@@ -2,12 +2,14 @@
 
 mod algebra;
 mod field;
+mod packing;
 mod represented;
 mod ring;
 mod tower_level;
 
 pub use crate::traits::algebra::Algebra;
 pub use crate::traits::field::Field;
+pub use crate::traits::packing::{PackedField, PackedFieldPow2, PackedValue};
 pub use crate::traits::represented::{Represented, product_of_items, sum_of_items};
 pub use crate::traits::ring::{DotProduct, PrimeCharacteristicRing};
 pub use crate::traits::tower_level::{Sealed, TowerLevel};

@@ -1,19 +1,26 @@
 -- The images of the generators, and of the roots that the levels adjoin, by computation.
 use Rattle.std.proofs.Common.{◌≡◌, refl, sym, lit<}
 use Rattle.std.specs.Prelude.{◌%◌, ◌^◌}
-use Rattle.bf_base.specs.Basis.{basis_image, bit_image, sum_below, product_below, poly64_images, ghash_images}
+use Rattle.bf_base.specs.Basis.{basis_image, bit_image, sum_below, product_below, aes_images, poly64_images, ghash_images}
 use Rattle.bf_base.specs.Carryless.{carryless, carryless_in}
 use Rattle.bf_base.specs.Powers.{power}
-use Rattle.bf_base.specs.Remainder.{mul_mod, rem, rem_in, poly64_modulus, ghash_modulus}
+use Rattle.bf_base.specs.Remainder.{mul_mod, rem, rem_in, aes_modulus, poly64_modulus, ghash_modulus}
 use Rattle.bf_base.specs.Tower.{root}
 use Rattle.bf_base.specs.TowerBasis.{tower_generator}
-use Rattle.bf_basis.proofs.Isomorphisms.{isomorphic_64, isomorphic_128}
+use Rattle.bf_basis.proofs.Isomorphisms.{isomorphic_8, isomorphic_64, isomorphic_128}
+
+pub rijndael_alpha : 0x35 ≡ basis_image 8 aes_modulus aes_images (root 3)
+rijndael_alpha = sym (isomorphic_8.homomorphism.root_image 2 (lit< tt))
 
 pub poly64_alpha : 0x3f2a_7c50_1e89_8bcd ≡ basis_image 64 poly64_modulus poly64_images (root 6)
 poly64_alpha = sym (isomorphic_64.homomorphism.root_image 5 (lit< tt))
 
 pub ghash_alpha : 0x9cfc_a256_33f9_993f_4e1f_5110_70b2_3e78 ≡ basis_image 128 ghash_modulus ghash_images (root 7)
 ghash_alpha = sym (isomorphic_128.homomorphism.root_image 6 (lit< tt))
+
+pub rijndael_generator : 0x88 ≡ basis_image 8 aes_modulus aes_images (tower_generator 3) % 2 ^ 8
+unfolding basis_image bit_image sum_below product_below carryless carryless_in power mul_mod rem rem_in
+rijndael_generator = refl
 
 pub poly64_generator : 0xc313_d8d1_bfae_2150 ≡ basis_image 64 poly64_modulus poly64_images (tower_generator 6) % 2 ^ 64
 unfolding basis_image bit_image sum_below product_below carryless carryless_in power mul_mod rem rem_in

@@ -1,5 +1,5 @@
 // Elements of every field: one struct.
-ghost use Rattle.std.specs.Prelude.{◌≡◌, ◌<◌, ◌^◌, ℕ};
+ghost use Rattle.std.specs.Prelude.{◌≡◌, ◌<◌, ◌%◌, ◌^◌, ℕ};
 
 mod operators;
 mod ring;
@@ -44,7 +44,24 @@ fn value<R: Word, K: Kernel<R>>(x: &Element<R, K>) -> Element<R, K>
     }
 }
 
+/// A kernel whose elements have a packing, which `Field::Packing` of them is: for most it is the element itself.
+pub trait HasPacking<R: Word>: Kernel<R> {
+    /// The packing of the elements.
+    type Packing;
+}
+
 impl<R: Word, K: Kernel<R>> Element<R, K> {
+    // The element of the low bits of a word.
+    #[inline]
+    pub(crate) fn of_word(word: R) -> Element<R, K>
+        ensures { R.number result.repr ≡ R.number word % 2 ^ K.width }
+    {
+        Element {
+            repr: K::truncate(word),
+            field: PhantomData,
+        }
+    }
+
     // The word that stores the element, from behind a reference.
     #[inline]
     pub(crate) fn word(&self) -> R

@@ -9,9 +9,9 @@ mod polynomial;
 mod subfields;
 mod tower;
 
-pub use crate::element::Element;
+pub use crate::element::{Element, HasPacking};
 pub use crate::linear_map::LEAST_TABLED;
 pub use crate::names::{
     BinaryField2, BinaryField4, BinaryField8, BinaryField16, BinaryField32, BinaryField64,
-    BinaryField128, Ghash128, Poly64,
+    BinaryField128, Ghash128, Poly64, Rijndael8b,
 };

@@ -1,7 +1,8 @@
 // The fields by their names.
-use crate::element::Element;
-use bf_poly::{GhashKernel, Poly64Kernel};
-use bf_tower::{Bits2, Bits4, Bits8, Bits16, Bits32, Bits64, Bits128, Tower};
+use crate::element::{Element, HasPacking};
+use bf_base::Unsigned;
+use bf_poly::{GhashKernel, Poly64Kernel, RijndaelKernel};
+use bf_tower::{Bits2, Bits4, Bits8, Bits16, Bits32, Bits64, Bits128, Level, Tower};
 
 /// An element of GF(2^2), level 1 of Wiedemann's tower. Its representation is `low + high * 2` for the element
 /// `low + high X`, where X² = X + 1.
@@ -31,6 +32,10 @@ pub type BinaryField64 = Element<u64, Tower<Bits64>>;
 /// `low + high X`, where X² = t X + 1 and t is the root that [`BinaryField64`] adjoins.
 pub type BinaryField128 = Element<u128, Tower<Bits128>>;
 
+/// An element of GF(2^8) in the polynomial basis, modulo x^8 + x^4 + x^3 + x + 1: a byte of AES (FIPS 197, section 4.2). Bit i
+/// of its representation is the coefficient of x^i.
+pub type Rijndael8b = Element<u8, RijndaelKernel>;
+
 /// An element of GF(2^64) in the polynomial basis, modulo x^64 + x^4 + x^3 + x + 1 (G. Seroussi, Table of low-weight
 /// binary irreducible polynomials, 1998). Bit i of its representation is the coefficient of x^i.
 ///
@@ -46,3 +51,21 @@ pub type Poly64 = Element<u64, Poly64Kernel>;
 /// `Ghash128::from(BinaryField128::from(x).inverse())` goes through the tower, by look-ups that depend on `x`, and takes less
 /// time: docs/BENCHMARKS.md has both.
 pub type Ghash128 = Element<u128, GhashKernel>;
+
+// Each field is its own packing.
+
+impl<R: Unsigned, L: Level<R>> HasPacking<R> for Tower<L> {
+    type Packing = Element<R, Tower<L>>;
+}
+
+impl HasPacking<u8> for RijndaelKernel {
+    type Packing = Rijndael8b;
+}
+
+impl HasPacking<u64> for Poly64Kernel {
+    type Packing = Poly64;
+}
+
+impl HasPacking<u128> for GhashKernel {
+    type Packing = Ghash128;
+}

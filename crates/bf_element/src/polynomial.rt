@@ -22,7 +22,7 @@ impl<R: Unsigned, L: Level<R>, M: Modulus<R, L>> Element<R, Polynomials<M, L>> {
         ensures zero { repr_of self ≡ 0 → repr_of result ≡ 0 }
         ensures inverse { repr_of self ≢ 0 → mul_mod M.width M.modulus (repr_of self) (repr_of result) ≡ 1 }
     {
-        Element::from_repr(<Polynomials<M, L> as Kernel<R>>::invert(self.to_repr()))
+        Element::of_word(<Polynomials<M, L> as Kernel<R>>::invert(self.word()))
     }
 
     /// The images of elements of the tower's level of as many bits, place by place, in a vector from `alloc`. It fails only
@@ -35,7 +35,7 @@ impl<R: Unsigned, L: Level<R>, M: Modulus<R, L>> Element<R, Polynomials<M, L>> {
     {
         let mut images = Vec::with_capacity(alloc, elements.len())?;
         for element in elements.iter() {
-            images.push(Element::from_repr(M::to_polynomial(element.word())))?;
+            images.push(Element::of_word(M::to_polynomial(element.word())))?;
         }
         Ok(images)
     }

@@ -6,10 +6,13 @@ ghost use Rattle.bf_base.specs.Remainder.{mul_mod};
 ghost use Rattle.bf_element.specs.Element.{repr_of};
 
 use crate::element::Element;
-use crate::names::{BinaryField16, BinaryField32, BinaryField64, BinaryField128, Ghash128, Poly64};
+use crate::names::{
+    BinaryField8, BinaryField16, BinaryField32, BinaryField64, BinaryField128, Ghash128, Poly64,
+    Rijndael8b,
+};
 use bf_base::traits::{Algebra, TowerLevel};
 use bf_base::{Contains, LevelKernel, Unsigned};
-use bf_basis::{to_tower_64, to_tower_128};
+use bf_basis::{to_tower_8, to_tower_64, to_tower_128};
 use bf_poly::{EmbedsIn, Modulus, Polynomials};
 use bf_tower::{Bits2, Bits8, Bits16, Bits32, Bits64, Bits128, Level, LiesIn, Tower};
 
@@ -23,9 +26,18 @@ impl<
     ghost from_gives = { λ x r. repr_of r ≡ basis_image M.width M.modulus M.images (repr_of x) };
 
     fn from(element: Element<S, Tower<L>>) -> Element<R, Polynomials<M, B>> {
-        Element::from_repr(<Polynomials<M, B> as Contains<R, S, Tower<L>>>::embed(
-            element.to_repr(),
-        ))
+        Element::of_word(<Polynomials<M, B> as Contains<R, S, Tower<L>>>::embed(element.word()))
+    }
+}
+
+impl From<Rijndael8b> for BinaryField8 {
+    ghost use Rattle.bf_base.specs.Basis.{aes_images};
+    ghost use Rattle.bf_base.specs.Remainder.{aes_modulus};
+
+    ghost from_gives = { λ x r. basis_image 8 aes_modulus aes_images (repr_of r) ≡ repr_of x };
+
+    fn from(element: Rijndael8b) -> BinaryField8 {
+        BinaryField8::from_repr(to_tower_8(element.to_repr()))
     }
 }
 
@@ -126,7 +138,7 @@ impl<
 
     ghost image_product_law = { λ a b a_fits b_fits. image_of_lower_product M.LEVEL M.width M.modulus M.images M.isomorphism_law L.LEVEL L.lies_law a b a_fits b_fits };
 
-    ghost image_injective_law = { λ a b a_fits b_fits. image_of_lower_injective M.LEVEL M.width M.modulus M.images M.isomorphism_law L.LEVEL L.lies_law a b a_fits b_fits };
+    ghost image_injective_law = { λ proper a b a_fits b_fits. image_of_lower_injective M.LEVEL M.width M.modulus M.images M.isomorphism_law L.LEVEL L.lies_law a b a_fits b_fits };
 
     ghost image_from_law = { λ x r is. is };
 

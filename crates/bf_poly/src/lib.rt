@@ -6,10 +6,12 @@ mod ghash;
 mod modulus;
 mod poly64;
 mod polynomials;
+mod rijndael;
 mod subfields;
 
 pub use crate::ghash::{GhashKernel, GhashModulus};
 pub use crate::modulus::Modulus;
 pub use crate::poly64::{Poly64Kernel, Poly64Modulus};
 pub use crate::polynomials::Polynomials;
+pub use crate::rijndael::{RijndaelKernel, RijndaelModulus};
 pub use crate::subfields::EmbedsIn;

@@ -7,6 +7,7 @@ use crate::ghash::GhashKernel;
 use crate::modulus::Modulus;
 use crate::poly64::Poly64Kernel;
 use crate::polynomials::Polynomials;
+use crate::rijndael::RijndaelKernel;
 use bf_base::{Contains, LevelKernel, Unsigned};
 use bf_tower::{Bits8, Bits16, Bits32, Bits64, Bits128, Level, Tower};
 
@@ -29,6 +30,10 @@ impl<
     fn embed(x: S) -> R {
         M::to_polynomial(R::of_u128(x.to_u128()))
     }
+}
+
+impl EmbedsIn<u8, RijndaelKernel, u8> for Bits8 {
+    ghost lies_law = { lit≤ tt };
 }
 
 impl EmbedsIn<u64, Poly64Kernel, u8> for Bits8 {

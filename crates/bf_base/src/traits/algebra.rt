@@ -1,5 +1,5 @@
 // Rings that another ring embeds in.
-ghost use Rattle.std.specs.Prelude.{◌≡◌, ◌<◌, ◌^◌, ℕ, bit_xor, refl};
+ghost use Rattle.std.specs.Prelude.{◌≡◌, ◌≢◌, ◌<◌, ◌^◌, ℕ, bit_xor, refl};
 ghost use Rattle.std.proofs.Common.{ap};
 
 use crate::traits::ring::PrimeCharacteristicRing;
@@ -24,8 +24,8 @@ pub trait Algebra<F: PrimeCharacteristicRing>: PrimeCharacteristicRing
 
     ghost image_product_law: { (a b : ℕ) → a < 2 ^ F.width → b < 2 ^ F.width → image (F.product a b) ≡ Self.product (image a) (image b) };
 
-    // It is one to one.
-    ghost image_injective_law: { (a b : ℕ) → a < 2 ^ F.width → b < 2 ^ F.width → image a ≡ image b → a ≡ b };
+    // It is one to one, but where the ring is the one without an element but 0, as a packing of no lanes is.
+    ghost image_injective_law: { Self.unit ≢ 0 → (a b : ℕ) → a < 2 ^ F.width → b < 2 ^ F.width → image a ≡ image b → a ≡ b };
 
     // What the conversion and the operators give, the second bound of each name being the one over `F`.
     ghost image_from_law: { (x : F) (r : Self) → Self.From-2.from_gives x r → Self.repr r ≡ image (F.repr x) };
@@ -64,7 +64,7 @@ impl<R: PrimeCharacteristicRing> Algebra<R> for R {
 
     ghost image_product_law = { λ a b a_fits b_fits. refl };
 
-    ghost image_injective_law = { λ a b a_fits b_fits same. same };
+    ghost image_injective_law = { λ proper a b a_fits b_fits same. same };
 
     ghost image_from_law = { λ x r is. ap R.repr is };
 

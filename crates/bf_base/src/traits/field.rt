@@ -8,6 +8,10 @@ use std::ops::{Div, DivAssign};
 
 /// A field with 2 to the power of `bits` elements.
 pub trait Field: PrimeCharacteristicRing + Div<Self, Output = Self> + DivAssign<Self> {
+    /// The packing in which several elements are computed at once: of some fields a `PackedField` of more lanes, and of the
+    /// others the field itself.
+    type Packing;
+
     /// An element of which every element but 0 is a power. Up to 16 bits that is a law of this trait; above, it is tested.
     const GENERATOR: Self;
 

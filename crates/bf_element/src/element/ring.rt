@@ -5,7 +5,7 @@ ghost use Rattle.bf_base.specs.Orders.{HasFullOrder};
 ghost use Rattle.bf_base.specs.Powers.{repeated_square};
 ghost use Rattle.bf_element.specs.Range.{one_in_range, word_in_range, word_number, zero_in_range};
 
-use crate::element::{Element, value};
+use crate::element::{Element, HasPacking, value};
 use bf_base::traits::{Field, PrimeCharacteristicRing, Represented, Sealed, TowerLevel};
 use bf_base::{Gf2, Kernel, LevelKernel, Unsigned, Word};
 use std::marker::PhantomData;
@@ -162,7 +162,9 @@ impl<R: Word, K: Kernel<R>> PrimeCharacteristicRing for Element<R, K> {
     ghost product_law = { λ xs r is. is };
 }
 
-impl<R: Word, K: Kernel<R>> Field for Element<R, K> {
+impl<R: Word, K: HasPacking<R>> Field for Element<R, K> {
+    type Packing = K::Packing;
+
     const GENERATOR: Element<R, K> = Element {
         repr: K::GENERATOR,
         field: PhantomData,
@@ -225,9 +227,9 @@ impl<R: Word, K: Kernel<R>> Field for Element<R, K> {
     ghost every_law = { λ n fits. (record { repr = R.of_number n; field = record {}; in_range = word_in_range K.width R.bits (R.number (R.of_number n)) n (R.number_of n) fits }, word_number K.width R.bits (R.number (R.of_number n)) n (R.number_of n) fits K.room_law) };
 }
 
-impl<R: Unsigned, K: LevelKernel<R>> Sealed for Element<R, K> {}
+impl<R: Unsigned, K: LevelKernel<R> + HasPacking<R>> Sealed for Element<R, K> {}
 
-impl<R: Unsigned, K: LevelKernel<R>> TowerLevel for Element<R, K> {
+impl<R: Unsigned, K: LevelKernel<R> + HasPacking<R>> TowerLevel for Element<R, K> {
     ghost use Rattle.bf_base.proofs.TowerBasisLemmas.{basis-cantor, basis-no_root};
 
     type Repr = R;

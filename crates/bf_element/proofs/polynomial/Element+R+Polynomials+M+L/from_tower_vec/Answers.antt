@@ -13,12 +13,12 @@ loop-element-preserved g c =
     let element = c.element-item in
     let within : index < length elements = omega arith in
     let image =
-    c.from_repr.ensures
+    c.of_word.ensures
     ∙ ap (λ (n : ℕ). n % 2 ^ m.width)
     (c.to_polynomial.ensures ∙ ap (λ w. basis_image m.width m.modulus m.images (g.R.Word.number w)) c.word.ensures)
     ∙ mod-eq_of_lt (m.isomorphism_law.homomorphism.below (repr_of element.result))
     ∙ ap (λ x. basis_image m.width m.modulus m.images (repr_of x)) element.is in
     ap (map repr_of) c.in_ok-push.ensures.items
-    ∙ map-append repr_of c.loop-element.images.items (c.from_repr.result ∷ [])
+    ∙ map-append repr_of c.loop-element.images.items (c.of_word.result ∷ [])
     ∙ ap₂ (λ (xs : List ℕ) (v : ℕ). xs ++ v ∷ []) c.loop-element.invariant image
     ∙ sym (map_more (λ x. basis_image m.width m.modulus m.images (repr_of x)) elements index element.result within)

@@ -1,0 +1,44 @@
+-- Packings: a packing is the list of its lanes, and its number is that of the lanes side by side, lane 0 in the lowest bits.
+use Rattle.std.specs.Prelude.{◌≡◌, ℕ, zero, suc, ◌+◌, ◌-◌, ◌*◌, ◌/◌, ◌%◌, ◌^◌, ◌<◌, ◌==◌, List, [], ◌∷◌, length, slice_index_or, if◌then◌else◌}
+
+-- the number of a list of lanes of `width` bits
+unfoldable pub joined : ℕ → List ℕ → ℕ
+joined width [] = 0
+joined width (x ∷ xs) = joined width xs * 2 ^ width + x
+
+-- the product of two packings of n lanes, lane by lane, by the product `times` of the lanes, which reads the low `width` bits of
+-- its operands
+unfoldable pub lane_product : ℕ → (ℕ → ℕ → ℕ) → ℕ → ℕ → ℕ → ℕ
+lane_product width times zero a b = 0
+lane_product width times (suc n) a b =
+    lane_product width times n (a / 2 ^ width) (b / 2 ^ width) * 2 ^ width + times a b
+
+-- the list of what `f` gives of the elements of two lists, place by place
+abbrev pub lane_by_lane : {A B C : Type 0} → (A → B → C) → List A → List B → List C
+lane_by_lane f [] ys = []
+lane_by_lane f (x ∷ xs) [] = []
+lane_by_lane f (x ∷ xs) (y ∷ ys) = f x y ∷ lane_by_lane f xs ys
+
+-- calls at the numbers from i on, one after the other, took the state s to t and returned the elements of a list
+abbrev pub AnswersFrom : {S A : Type 0} → (S → ℕ → A → S → Type 0) → S → ℕ → List A → S → Type 0
+AnswersFrom step s i [] t = s ≡ t
+AnswersFrom {S} step s i (x ∷ xs) t = (next : S) × step s i x next × AnswersFrom step next (i + 1) xs t
+
+abbrev pub IsPowerOfTwo : ℕ → Type 0
+IsPowerOfTwo n = (k : ℕ) × (n ≡ 2 ^ k)
+
+-- `first` and `second` are `left` and `right` interleaved by blocks of b lanes: in the first stand the even blocks of both,
+-- a block of the left before the same block of the right, and in the second the odd blocks. By blocks as long as the lists
+-- both stay as they are.
+abbrev pub interleaved_first : {A : Type 0} → ℕ → List A → List A → A → ℕ → A
+interleaved_first b left right d i =
+    if i / b % 2 == 0 then slice_index_or left i d else slice_index_or right (i - b) d
+
+abbrev pub interleaved_second : {A : Type 0} → ℕ → List A → List A → A → ℕ → A
+interleaved_second b left right d i =
+    if b == length left then slice_index_or right i d
+    else (if i / b % 2 == 0 then slice_index_or left (i + b) d else slice_index_or right i d)
+
+pub record AreInterleaved {A : Type 0} (b : ℕ) (left right first second : List A) : Type 0 where
+  pub first_lanes : (i : ℕ) (d : A) → i < length left → slice_index_or first i d ≡ interleaved_first b left right d i
+  pub second_lanes : (i : ℕ) (d : A) → i < length left → slice_index_or second i d ≡ interleaved_second b left right d i
