@@ -1,5 +1,6 @@
 #!/bin/sh
-# Builds the static library and the driver, and runs it: run.sh [SAMPLES] [MILLISECONDS] [tower|polynomials]. See README.md.
+# Builds the static library and the driver, and runs it: run.sh [SAMPLES] [MILLISECONDS] [tower|polynomials]. CPU names the
+# processor that the library is built for. See README.md.
 set -eu
 here=$(cd "$(dirname "$0")" && pwd)
 crate=$(cd "$here/../crates/bf_ffi" && pwd)
@@ -7,7 +8,7 @@ RT=${RT:-rt}
 
 mkdir -p "$here/target"
 log="$here/target/lib.log"
-if ! (cd "$crate" && "$RT" lib) > "$log" 2>&1; then
+if ! (cd "$crate" && "$RT" lib ${CPU:+--cpu "$CPU"}) > "$log" 2>&1; then
     tail -n 40 "$log" >&2
     echo "run.sh: bf_ffi was not built; all of its output is in $log" >&2
     exit 1
@@ -40,5 +41,5 @@ export CARGO_TARGET_DIR="$target"
 cargo build --offline --quiet --release --manifest-path "$manifest" $features
 
 processor=$(sed -n 's/^model name[^:]*: //p' /proc/cpuinfo | head -n 1)
-echo "$(date -u +%Y-%m-%d); $processor; $(rustc --version), RUSTFLAGS='${RUSTFLAGS:-}'; $("$RT" version)"
+echo "$(date -u +%Y-%m-%d); $processor; $(rustc --version), RUSTFLAGS='${RUSTFLAGS:-}'; ours for ${CPU:-x86-64-v2}; $("$RT" version)"
 exec "$target/release/bench" "$@"
