@@ -1,3 +1,4 @@
+pub mod DigitMaps
 pub mod Isomorphisms
 pub mod RootImages
 pub mod TableFacts

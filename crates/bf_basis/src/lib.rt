@@ -6,6 +6,7 @@
 #![tactic(auto)]
 
 mod basis;
+mod byte_map;
 mod laws;
 mod linear;
 mod literals;
@@ -14,6 +15,7 @@ mod slices;
 pub use crate::basis::{
     to_polynomial_8, to_polynomial_64, to_polynomial_128, to_tower_8, to_tower_64, to_tower_128,
 };
+pub use crate::byte_map::ByteMap;
 pub use crate::laws::{isomorphism_8, isomorphism_64, isomorphism_128};
 pub use crate::linear::{LinearMap, images_give_linear_map};
 pub use crate::slices::{

@@ -5,7 +5,7 @@ ghost use Rattle.bf_element.specs.Element.{repr_of};
 
 use crate::names::{BinaryField128, Ghash128};
 use bf_base::traits::TowerLevel;
-use bf_basis::LinearMap;
+use bf_basis::ByteMap;
 
 /// The least number of elements for which `Ghash128::try_apply_linear_map_into` makes the tables of a linear map.
 pub const LEAST_TABLED: usize = 4096;
@@ -28,7 +28,7 @@ impl Ghash128 {
         if input.len() < LEAST_TABLED {
             return false;
         }
-        let map = LinearMap::new(&representations(images));
+        let map = ByteMap::new(&representations(images));
         for place in 0..input.len() {
             output[place] = Ghash128::new(map.apply(input[place].to_repr()));
         }

@@ -5,13 +5,13 @@ ghost use Rattle.bf_base.specs.Basis.{basis_image, ghash_images};
 ghost use Rattle.bf_base.specs.LinearMaps.{linear_image};
 ghost use Rattle.bf_base.specs.Powers.{dot_of};
 ghost use Rattle.bf_base.specs.Remainder.{mul_mod, ghash_modulus};
-ghost use Rattle.bf_basis.specs.LinearMap.{map_of};
+ghost use Rattle.bf_basis.specs.LinearMap.{byte_map_of};
 ghost use Rattle.bf_ffi.specs.Words.{Each, IsInverseOrZero, wide_at, wide_number};
 
 use crate::slices;
 use crate::words::Wide;
 use bf_base::traits::{PrimeCharacteristicRing, TowerLevel};
-use bf_basis::LinearMap;
+use bf_basis::ByteMap;
 use bf_element::{BinaryField128, Ghash128};
 
 /// Writes the product of the elements at each index.
@@ -115,14 +115,14 @@ pub extern "C" fn bf_linear_map_ghash128(images: &[Wide], words: &[Wide], values
     requires fits { length words.now ≡ length values.old }
     ensures { EachIndex values.new (λ k. wide_at values.new k ≡ linear_image (map wide_number images.now) (wide_at words.now k)) }
 {
-    let map = LinearMap::new(&numbers(images));
+    let map = ByteMap::new(&numbers(images));
     apply(&map, words, values);
 }
 
 // Writes the value of a linear map at each word, as `Ghash128::try_apply_linear_map_into` does at each element.
-fn apply(map: &LinearMap, words: &[Wide], values: &mut [Wide])
+fn apply(map: &ByteMap, words: &[Wide], values: &mut [Wide])
     requires { length words.now ≡ length values.old }
-    ensures { Each wide_number (λ x y. y ≡ map_of map.now x) words.now values.new }
+    ensures { Each wide_number (λ x y. y ≡ byte_map_of map.now x) words.now values.new }
 {
     for i in 0..values.len() {
         values[i] = Wide::new(map.apply(words[i].number()));

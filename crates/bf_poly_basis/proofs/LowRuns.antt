@@ -10,9 +10,9 @@ use Rattle.bf_base.specs.Basis.{basis_image, ghash_images}
 use Rattle.bf_base.specs.LinearMaps.{linear_image}
 use Rattle.bf_base.specs.Orders.{AreCantorVectors}
 use Rattle.bf_base.specs.Remainder.{ghash_modulus}
-use Rattle.bf_base.proofs.BasisColumns.{apply}
+use Rattle.bf_base.proofs.BasisColumns.{sum_of_columns}
 use Rattle.bf_base.proofs.BasisFields.{isomorphic_basis}
-use Rattle.bf_base.proofs.LinearMapLemmas.{linear_image-apply, the_linear_map}
+use Rattle.bf_base.proofs.LinearMapLemmas.{linear_image-columns, the_linear_map}
 use Rattle.bf_base.proofs.RemainderRing.{ghash_ring}
 use Rattle.bf_base.proofs.RingLemmas.{xor_cancel}
 use Rattle.bf_base.proofs.TowerBasisLemmas.{basis-cantor}
@@ -70,15 +70,15 @@ module _ (twiddles low : List ℕ) where
 -- ---- factors
 
 -- the images from place m on are those of a number times 2 ^ m
-apply-shifted : (m : ℕ) (images : List ℕ) (x : ℕ) → apply images (x * 2 ^ m) ≡ apply (drop m images) x
-unfolding apply
-apply-shifted zero images x = let all : x * 2 ^ 0 ≡ x = omega arith in ap (apply images) all
-apply-shifted (suc m) [] x = refl
-apply-shifted (suc m) (image ∷ images) x =
+columns-shifted : (m : ℕ) (images : List ℕ) (x : ℕ) → sum_of_columns images (x * 2 ^ m) ≡ sum_of_columns (drop m images) x
+unfolding sum_of_columns
+columns-shifted zero images x = let all : x * 2 ^ 0 ≡ x = omega arith in ap (sum_of_columns images) all
+columns-shifted (suc m) [] x = refl
+columns-shifted (suc m) (image ∷ images) x =
     let even : x * 2 ^ suc m % 2 ≡ 0 = omega (arith, doubled m) in
     let half : x * 2 ^ suc m / 2 ≡ x * 2 ^ m = omega (arith, doubled m) in
-    ap₂ bit_xor (ap (λ (d : ℕ). d * image) even ∙ zero-mul image) (ap (apply images) half ∙ apply-shifted m images x)
-    ∙ xor_comm 0 (apply (drop m images) x) ∙ xor_zero_r (apply (drop m images) x)
+    ap₂ bit_xor (ap (λ (d : ℕ). d * image) even ∙ zero-mul image) (ap (sum_of_columns images) half ∙ columns-shifted m images x)
+    ∙ xor_comm 0 (sum_of_columns (drop m images) x) ∙ xor_zero_r (sum_of_columns (drop m images) x)
   where
     doubled : (n : ℕ) → x * 2 ^ suc n ≡ x * 2 ^ n * 2
     doubled n = ap (λ (m' : ℕ). x * m') (pow-suc 2 n) ∙ sym (mul_assoc x (2 ^ n) 2)
@@ -95,7 +95,7 @@ module _ (shifts basis : List ℕ) where
       ap (linear_image basis) (sym (xor_shifted run m b small))
       ∙ (the_linear_map basis).of_sum (run * 2 ^ m) b
       ∙ ap (λ (x : ℕ). bit_xor x (linear_image basis b))
-      (linear_image-apply basis (run * 2 ^ m) ∙ apply-shifted m basis run ∙ sym (linear_image-apply (drop m basis) run))
+      (linear_image-columns basis (run * 2 ^ m) ∙ columns-shifted m basis run ∙ sym (linear_image-columns (drop m basis) run))
 
   run_factor-is : (twiddles low : List ℕ) (number j i : ℕ) → AreRunTwiddles shifts basis number twiddles → AreLowSums basis low
       → j < 4 → i < 16 → run_factor twiddles low j i ≡ factor shifts basis j (16 * number + i)

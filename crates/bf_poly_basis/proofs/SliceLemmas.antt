@@ -11,8 +11,8 @@ use native.Mathlib.Numerals.{add-one}
 use lib.Bits.{xor_assoc, xor_self, xor_zero_r}
 use Rattle.bf_base.specs.LinearMaps.{linear_image}
 use Rattle.bf_base.specs.Remainder.{ghash_modulus, mul_mod}
-use Rattle.bf_base.proofs.BasisColumns.{apply-mod}
-use Rattle.bf_base.proofs.LinearMapLemmas.{linear_image-apply, the_linear_map}
+use Rattle.bf_base.proofs.BasisColumns.{sum_of_columns-mod}
+use Rattle.bf_base.proofs.LinearMapLemmas.{linear_image-columns, the_linear_map}
 use Rattle.bf_base.proofs.RemainderRing.{ghash_ring}
 use Rattle.bf_base.proofs.RingLemmas.{times-mod}
 use Rattle.bf_poly_basis.specs.Slices.{add_multiple, ButterfliesRestore}
@@ -80,7 +80,7 @@ pub multiples_map : (scalar : ℕ) (images : List ℕ) → length images ≡ 128
     → ((j : ℕ) → j < 128 → get_or images j 0 ≡ mul_mod 128 ghash_modulus scalar (2 ^ j))
     → (x : ℕ) → linear_image images x ≡ mul_mod 128 ghash_modulus scalar x
 multiples_map scalar images whole are x =
-    linear_image-apply images x ∙ sym (apply-mod images x) ∙ sym (linear_image-apply images (x % 2 ^ length images))
+    linear_image-columns images x ∙ sym (sum_of_columns-mod images x) ∙ sym (linear_image-columns images (x % 2 ^ length images))
     ∙ sym ((the_linear_map images).only (mul_mod 128 ghash_modulus scalar) (ghash_ring.over_sum scalar)
     (λ j below. sym (are j (subst (λ (n : ℕ). j < n) whole below))) (x % 2 ^ length images) narrow)
     ∙ ap (λ (n : ℕ). mul_mod 128 ghash_modulus scalar (x % 2 ^ n)) whole

@@ -2,8 +2,8 @@ use Rattle.std.proofs.Common.{◌∙◌, sym, ap, ℕ, ◌+◌, ◌/◌, ◌<◌
 use Rattle.std.specs.Prelude.{bit_xor}
 use lib.Bits.{xor_zero_r}
 use Rattle.bf_base.specs.LinearMaps.{linear_image}
-use Rattle.bf_base.proofs.BasisColumns.{apply-nothing}
-use Rattle.bf_base.proofs.LinearMapLemmas.{image_enters, image_stays, images_end, linear_image-apply}
+use Rattle.bf_base.proofs.BasisColumns.{sum_of_columns-nothing}
+use Rattle.bf_base.proofs.LinearMapLemmas.{image_enters, image_stays, images_end, linear_image-columns}
 use Rattle.bf_poly_basis.proofs.low_stages.sum_of_images.Goals as goal
 use Rattle.bf_poly_basis.proofs.low_stages.sum_of_images.Goals.{then-rest-eq1, else-rest-eq1}
 
@@ -28,7 +28,7 @@ pub returns-then-rest-eq0 : goal.returns-then-rest-eq0
 returns-then-rest-eq0 c =
     let others = drop c.loop-image.image-index c.args.images.now in
     sym (ap (λ (rest : ℕ). bit_xor c.loop-image.sum (linear_image others rest)) c.if-rest-eq0.true
-    ∙ ap (bit_xor c.loop-image.sum) (linear_image-apply others 0 ∙ apply-nothing others) ∙ xor_zero_r c.loop-image.sum)
+    ∙ ap (bit_xor c.loop-image.sum) (linear_image-columns others 0 ∙ sum_of_columns-nothing others) ∙ xor_zero_r c.loop-image.sum)
     ∙ c.loop-image.invariant
 
 pub returns : goal.returns

@@ -3,4 +3,4 @@ use Rattle.bf_basis.proofs.linear.LinearMap.apply.Goals as goal
 
 pub returns : goal.returns
 unfolding map_of
-returns c = c.sum_of_entries_128.ensures
+returns c = c.sum_of_values.ensures

@@ -1,6 +1,6 @@
 use Rattle.std.proofs.Common.{◌<◌, length, arith, rules}
 use Rattle.bf_basis.proofs.TabledMaps.{byte_of_digits, byte_value, entry_set, made_table}
-use Rattle.bf_basis.proofs.linear.table_of.Goals as goal
+use Rattle.bf_basis.proofs.byte_map.table_of.Goals as goal
 
 pub loop-place-preserved : goal.loop-place-preserved
 loop-place-preserved c =

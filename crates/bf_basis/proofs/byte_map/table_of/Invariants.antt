@@ -1,6 +1,6 @@
 use Rattle.std.proofs.Common.{◌≡◌, length}
 use Rattle.bf_basis.proofs.TabledMaps.{Hold, byte_value}
-use Rattle.bf_basis.proofs.linear.table_of.Given as goal
+use Rattle.bf_basis.proofs.byte_map.table_of.Given as goal
 
 -- the places before hold their entries
 abbrev pub invariant-loop-place : goal.invariant-loop-place
