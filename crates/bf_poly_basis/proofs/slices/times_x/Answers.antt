@@ -1,11 +1,11 @@
 use Rattle.std.proofs.Common.{◌≡◌, ℕ, ◌+◌, ◌*◌, ◌/◌, ◌%◌, ◌^◌, refl, sym, ◌∙◌, ap, arith, lit<}
 use Rattle.bf_base.specs.Remainder.{ghash_modulus, rem}
 use Rattle.bf_base.proofs.RemainderRing.{mul_mod-rem}
-use Rattle.bf_base.proofs.ValueLemmas.{conv_power}
+use Rattle.bf_base.proofs.ValueLemmas.{carryless_power}
 use Rattle.bf_poly_basis.proofs.slices.times_x.Goals as goal
 
 pub returns : goal.returns
 returns c =
     let doubled : c.args.value / 2 ^ 127 * 2 ^ 128 + c.args.value * 2 % 2 ^ 128 ≡ c.args.value * 2 = omega arith in
-    c.reduce_128.ensures ∙ ap (rem 128 ghash_modulus) (doubled ∙ sym (conv_power c.args.value 1))
+    c.reduce_128.ensures ∙ ap (rem 128 ghash_modulus) (doubled ∙ sym (carryless_power c.args.value 1))
     ∙ sym (mul_mod-rem 128 ghash_modulus refl c.args.value 2 (omega arith) (lit< tt))
