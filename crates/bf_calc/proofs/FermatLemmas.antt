@@ -5,12 +5,12 @@ use Rattle.std.specs.Str.{bytes_eq}
 use Rattle.std.proofs.lemmas.Bool.{eq-eqb, ne_eqb}
 use Rattle.std.proofs.lemmas.Nat.{pow_pos}
 use Rattle.bf_base.specs.Field.{IsField}
-use Rattle.bf_base.specs.Remainder.{mul_mod, poly64_modulus, ghash_modulus}
+use Rattle.bf_base.specs.Remainder.{mul_mod, aes_modulus, poly64_modulus, ghash_modulus}
 use Rattle.bf_base.specs.Powers.{power, repeated_square}
 use Rattle.bf_base.specs.Tower.{tower_mul}
 use Rattle.bf_base.proofs.FieldLemmas.{inverse-power, power-inverts, root_is_squarings, squarings-square}
 use Rattle.bf_base.proofs.TowerLaws.{tower_field}
-use Rattle.bf_basis.proofs.Isomorphisms.{field_64, field_128}
+use Rattle.bf_basis.proofs.Isomorphisms.{field_8, field_64, field_128}
 use Rattle.bf_calc.specs.Fields.{FieldOf, field_of, tower_level, polynomials_modulo, fields, look_up, field_named}
 use Rattle.bf_calc.specs.Operations.{unary_result}
 use Rattle.bf_calc.specs.declared.names.Unary.TheVariants.{Inv, Sqrt}
@@ -84,7 +84,10 @@ named-laws name field is =
                   tower-laws 6,
                   (
                     tower-laws 7,
-                    (polynomial-laws 64 poly64_modulus (lit< tt) field_64, (polynomial-laws 128 ghash_modulus (lit< tt) field_128, tt)),
+                    (
+                      polynomial-laws 8 aes_modulus (lit< tt) field_8,
+                      (polynomial-laws 64 poly64_modulus (lit< tt) field_64, (polynomial-laws 128 ghash_modulus (lit< tt) field_128, tt)),
+                    ),
                   ),
                 ),
               ),

@@ -1,7 +1,7 @@
 -- The fields that a line may name.
 use Rattle.std.specs.Prelude.{ℕ, ◌+◌, ◌/◌, ◌^◌, if◌then◌else◌, List, [], ◌∷◌, codes, Option, Some, None}
 use Rattle.std.specs.Str.{bytes_eq}
-use Rattle.bf_base.specs.Remainder.{mul_mod, poly64_modulus, ghash_modulus}
+use Rattle.bf_base.specs.Remainder.{mul_mod, aes_modulus, poly64_modulus, ghash_modulus}
 use Rattle.bf_base.specs.Tower.{tower_mul}
 
 -- a field: how many bits an element has, and the product of elements
@@ -36,6 +36,7 @@ fields =
     ∷ (codes "t32", tower_level 5)
     ∷ (codes "t64", tower_level 6)
     ∷ (codes "t128", tower_level 7)
+    ∷ (codes "r8", polynomials_modulo 8 aes_modulus)
     ∷ (codes "p64", polynomials_modulo 64 poly64_modulus)
     ∷ (codes "g128", polynomials_modulo 128 ghash_modulus)
     ∷ []

@@ -13,7 +13,7 @@ use crate::words::next_word;
 use bf_base::Gf2;
 use bf_element::{
     BinaryField2, BinaryField4, BinaryField8, BinaryField16, BinaryField32, BinaryField64,
-    BinaryField128, Ghash128, Poly64,
+    BinaryField128, Ghash128, Poly64, Rijndael8b,
 };
 
 /// The answer to a line: the result of its operation as hexadecimal text, `none` for the inverse of 0, or `error` and
@@ -59,6 +59,7 @@ fn in_field_named(name: &[u8], rest: &[u8]) -> Result<Answer, Fault>
         b"t32" => answer_in::<BinaryField32>(rest),
         b"t64" => answer_in::<BinaryField64>(rest),
         b"t128" => answer_in::<BinaryField128>(rest),
+        b"r8" => answer_in::<Rijndael8b>(rest),
         b"p64" => answer_in::<Poly64>(rest),
         b"g128" => answer_in::<Ghash128>(rest),
         _ => Err(Fault::Field),
