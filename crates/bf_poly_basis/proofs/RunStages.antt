@@ -1,7 +1,6 @@
 -- One stage of a run, pair by pair, and the four stages.
-use Rattle.std.proofs.Common.{◌≡◌, ◌≢◌, ◌⊎◌, inl, inr, ℕ, zero, suc, ◌+◌, ◌-◌, ◌*◌, ◌/◌, ◌%◌, ◌^◌, ◌<◌, ◌≤◌, List, length, get_or, get_or-set_other, get_or-set_same, refl, sym, ◌∙◌, ap, ap₂, subst, arith, rules}
+use Rattle.std.proofs.Common.{◌≡◌, ◌≢◌, ◌⊎◌, inl, inr, ℕ, ◌+◌, ◌/◌, ◌^◌, ◌<◌, ◌≤◌, List, length, get_or-set_other, get_or-set_same, refl, sym, ◌∙◌, ap, ap₂, arith, rules}
 use Rattle.std.specs.Prelude.{bit_xor, slice_index}
-use Rattle.std.specs.Int.{bit_at}
 use Rattle.std.proofs.Math.ListN.{set}
 use Rattle.std.proofs.lemmas.Bool.{cases_order}
 use Rattle.std.proofs.lemmas.Nat.{pow_pos}
@@ -9,7 +8,7 @@ use native.Mathlib.Nat.{mod-eq_of_lt}
 use lib.Bits.{xor_assoc, xor_comm, xor_zero_r}
 use Rattle.bf_base.proofs.RemainderRing.{ghash_ring}
 use Rattle.bf_base.proofs.RingLemmas.{sum_times}
-use Rattle.bf_stages.specs.Stages.{lower_place, upper_place, stage}
+use Rattle.bf_stages.specs.Stages.{upper_place, stage}
 use Rattle.bf_poly_basis.specs.LowStages.{ghash_product, values_from}
 use Rattle.bf_poly_basis.specs.Runs.{run_factor}
 use Rattle.bf_poly_basis.proofs.RunPlaces.{pair_of, lower_of, PairPlaces, pair_places, run_places}

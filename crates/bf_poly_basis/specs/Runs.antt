@@ -1,5 +1,5 @@
 -- One run of sixteen places, as the code computes it.
-use Rattle.std.specs.Prelude.{◌≡◌, ℕ, suc, ◌+◌, ◌/◌, ◌^◌, ◌<◌, List, slice_index, bit_xor}
+use Rattle.std.specs.Prelude.{◌≡◌, ℕ, suc, ◌/◌, ◌^◌, ◌<◌, List, slice_index, bit_xor}
 use Rattle.std.specs.Int.{bit_at}
 use Rattle.bf_base.specs.LinearMaps.{linear_image}
 

@@ -17,6 +17,7 @@ pub use crate::low_stages::{LOW_STAGES, LowStageTwiddles};
 pub use crate::slices::{butterflies_restore, butterfly_forward, butterfly_inverse, mul_slice};
 use bf_clmul::{multiply_mod_128, square_mod_128};
 pub use bf_clmul::{masked_product, masked_products};
+pub use bf_stages::{cantor_vectors_step_down, stages_give_sums, sums_are_values};
 
 /// Whether products are computed by a carryless-multiply instruction: never, they are made of masked integer products.
 pub const HAS_HARDWARE_CLMUL: bool = false;

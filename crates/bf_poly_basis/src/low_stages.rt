@@ -1,5 +1,5 @@
 // The four lowest stages of an additive transform, fused over runs of sixteen places.
-ghost use Rattle.std.specs.Prelude.{◌≡◌, ◌≢◌, ℕ, ◌+◌, ◌-◌, ◌*◌, ◌%◌, ◌/◌, ◌^◌, ◌<◌, ◌≤◌, List, [], length, take, drop, slice_index, bit_xor, IfOk};
+ghost use Rattle.std.specs.Prelude.{◌≡◌, ◌≢◌, ℕ, ◌+◌, ◌-◌, ◌*◌, ◌%◌, ◌/◌, ◌^◌, ◌<◌, ◌≤◌, [], length, take, drop, slice_index, bit_xor, IfOk};
 ghost use Rattle.bf_base.specs.LinearMaps.{linear_image};
 ghost use Rattle.bf_poly_basis.specs.LowStages.{ghash_cantor_vector, ghash_product, HoldSums, HoldValues, values_from};
 ghost use Rattle.bf_stages.specs.Cantor.{AreCantorTwiddles};
@@ -26,11 +26,7 @@ impl<A: Allocator> LowStageTwiddles<A> {
 
     /// The twiddles with the first four of `shifts`, and with a copy of `basis` in a vector from `alloc`. There have to be at
     /// least four shifts, and at least three elements of the basis. It fails only where the allocator refuses.
-    pub fn new(
-        alloc: A,
-        shifts: &[u128],
-        basis: &[u128],
-    ) -> Result<LowStageTwiddles<A>, AllocError>
+    pub fn new(alloc: A, shifts: &[u128], basis: &[u128]) -> Result<LowStageTwiddles<A>, AllocError>
         requires shifts { 4 ≤ length shifts.now }
         requires basis { 3 ≤ length basis.now }
         ensures { IfOk result (λ twiddles. (shifts_of twiddles ≡ take 4 shifts.now) × (basis_of twiddles ≡ basis.now)) }
@@ -128,13 +124,7 @@ fn transform_run(values: &mut [u128], start: usize, twiddles: &[u128; 4], low: &
 
 // One stage of that run, pair by pair: two places whose numbers differ in the bit of the stage alone are a pair.
 #[inline]
-fn run_stage(
-    values: &mut [u128],
-    start: usize,
-    bit: usize,
-    twiddles: &[u128; 4],
-    low: &[u128; 8],
-)
+fn run_stage(values: &mut [u128], start: usize, bit: usize, twiddles: &[u128; 4], low: &[u128; 8])
     requires bit { bit < 4 }
     requires whole { start + 16 ≤ length values.old }
     ensures length { length values.new ≡ length values.old }

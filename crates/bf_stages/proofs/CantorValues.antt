@@ -1,5 +1,5 @@
 -- s_j at Cantor vectors and at the points that they span, and the factors of the stages.
-use Rattle.std.proofs.Common.{◌≡◌, ◌⊎◌, inl, inr, ℕ, zero, suc, ◌+◌, ◌-◌, ◌*◌, ◌/◌, ◌%◌, ◌^◌, ◌<◌, ◌≤◌, List, length, refl, sym, ◌∙◌, ap, ap₂, subst, arith}
+use Rattle.std.proofs.Common.{◌≡◌, ◌⊎◌, inl, inr, ℕ, zero, suc, ◌+◌, ◌-◌, ◌*◌, ◌/◌, ◌^◌, ◌<◌, ◌≤◌, List, length, refl, sym, ◌∙◌, ap, ap₂, arith}
 use Rattle.std.specs.Prelude.{bit_xor, slice_index}
 use Rattle.std.specs.Int.{bit_at}
 use Rattle.std.proofs.lemmas.Bool.{cases_lt}
@@ -15,8 +15,8 @@ use Rattle.bf_base.specs.Ring.{IsRing}
 use Rattle.bf_base.proofs.AdditiveMaps.{KeepsSums, keeps_zero}
 use Rattle.bf_base.proofs.BasisSums.{sum_below-add, sum_below-same, bit_at-add}
 use Rattle.bf_base.proofs.RingLemmas.{sum_times, xor_left_comm}
-use Rattle.bf_stages.specs.Cantor.{subspace_value, polynomial_value, point, AreCantorTwiddles, SubspaceValues, CantorVectorsStepDown, FactorsAreSubspaceValues, SumsAreValues}
-use Rattle.bf_stages.specs.Stages.{factor, sum_of_factors}
+use Rattle.bf_stages.specs.Cantor.{subspace_value, polynomial_value, point, AreCantorTwiddles, CantorVectorsStepDown, FactorsAreSubspaceValues, SumsAreValues}
+use Rattle.bf_stages.specs.Stages.{factor}
 use Rattle.bf_stages.proofs.StageSums.{sum_of_factors-same}
 
 -- ---- sums

@@ -12,7 +12,7 @@ use Rattle.bf_base.specs.Powers.{power}
 use Rattle.bf_base.specs.Ring.{IsRing}
 use Rattle.bf_base.proofs.BasisSums.{sum_below-add, sum_below-same, product_below-same, bit_at_with-low, bit_at_with-top}
 use Rattle.bf_base.proofs.RingLemmas.{sum_times, times-mod, xor_left_comm}
-use Rattle.bf_stages.specs.Stages.{factors_at, sum_of_factors, lower_place, upper_place, stage, stages, StagesGiveSums}
+use Rattle.bf_stages.specs.Stages.{factors_at, sum_of_factors, stage, stages, StagesGiveSums}
 use Rattle.bf_stages.proofs.Places.{block_quotient, lower_in_block, upper_in_block}
 
 -- ---- sums

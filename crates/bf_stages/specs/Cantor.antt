@@ -30,12 +30,13 @@ pub record AreCantorTwiddles (width : ℕ) (times : ℕ → ℕ → ℕ) (vector
   pub shifts_are : (j : ℕ) → j < n → slice_index shifts j ≡ subspace_value times j z
   pub basis_is : (t : ℕ) → t < length basis → slice_index basis t ≡ vector (suc t)
 
--- in every field with Cantor vectors each s_j keeps sums and takes vector b to vector b - j, and to 0 where b is below j
+-- each s_j keeps sums and takes vector b to vector b - j, and to 0 where b is below j
 pub record SubspaceValues (width : ℕ) (times : ℕ → ℕ → ℕ) (vector : ℕ → ℕ) : Type 0 where
   pub of_sum : (j x y : ℕ) → subspace_value times j (bit_xor x y) ≡ bit_xor (subspace_value times j x) (subspace_value times j y)
   pub of_vector : (j b : ℕ) → j ≤ b → b < width → subspace_value times j (vector b) ≡ vector (b - j)
   pub of_lower_vector : (j b : ℕ) → b < j → b < width → subspace_value times j (vector b) ≡ 0
 
+-- that holds in every ring with Cantor vectors
 abbrev pub CantorVectorsStepDown : Type 0
 CantorVectorsStepDown =
     (width : ℕ) (times : ℕ → ℕ → ℕ) (vector : ℕ → ℕ) → 0 < width → IsRing width 1 times

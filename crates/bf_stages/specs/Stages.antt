@@ -26,10 +26,11 @@ factor shifts basis j p = bit_xor (bit_xor (slice_index shifts j) (linear_image 
 
 -- ---- how
 
--- the place p with bit j clear, and with bit j set
+-- the place p with bit j clear
 unfoldable pub lower_place : ℕ → ℕ → ℕ
 lower_place j p = p / 2 ^ suc j * 2 ^ suc j + p % 2 ^ j
 
+-- and with bit j set
 unfoldable pub upper_place : ℕ → ℕ → ℕ
 upper_place j p = lower_place j p + 2 ^ j
 

@@ -1,8 +1,8 @@
-use Rattle.std.proofs.Common.{◌≡◌, ℕ, ◌+◌, ◌-◌, ◌*◌, ◌/◌, ◌%◌, ◌^◌, ◌<◌, ◌≤◌, length, refl, sym, ◌∙◌, ap, ap₂, arith, rules}
+use Rattle.std.proofs.Common.{ℕ, ◌+◌, ◌-◌, ◌*◌, ◌/◌, ◌%◌, ◌<◌, refl, ◌∙◌, ap, arith}
 use Rattle.std.specs.Prelude.{bit_xor, slice_index}
 use Rattle.std.proofs.Math.Seq.{lt-length-set}
 use Rattle.bf_poly_basis.specs.LowStages.{ghash_product}
-use Rattle.bf_poly_basis.proofs.RunPlaces.{lower_of, pair_places}
+use Rattle.bf_poly_basis.proofs.RunPlaces.{pair_places}
 use Rattle.bf_poly_basis.proofs.RunStages.{stage_ends, stage_starts, stage_step}
 use Rattle.bf_poly_basis.proofs.low_stages.run_stage.Goals as goal
 
@@ -27,11 +27,10 @@ bounds-values-upper-in-loop-pair c =
     lt-length-set c.loop-pair.values (c.args.start + c.lower_of.result) _ (omega (arith, room, whole, lower, same, half))
 
 pub loop-pair-init : goal.loop-pair-init
-loop-pair-init c =
-    (
-      λ p. (c.type_inv.values p).fits,
-      stage_starts c.args.twiddles.now c.args.low.now c.args.bit c.args.start c.args.values.now,
-    )
+loop-pair-init c = (
+  λ p. (c.type_inv.values p).fits,
+  stage_starts c.args.twiddles.now c.args.low.now c.args.bit c.args.start c.args.values.now,
+)
 
 pub loop-pair-preserved : goal.loop-pair-preserved
 loop-pair-preserved c =
@@ -41,8 +40,7 @@ loop-pair-preserved c =
     let values = c.loop-pair.values in
     let lower : ℕ = c.args.start + c.lower_of.result in
     let upper : ℕ = lower + c.half_of-half.result in
-    let sum : ℕ = bit_xor (slice_index values lower) c.multiply_mod_128.result in
-    (
+    let sum : ℕ = bit_xor (slice_index values lower) c.multiply_mod_128.result in (
       c.loop-pair.invariant.0,
       stage_step c.args.twiddles.now c.args.low.now c.args.bit c.args.start c.loop-pair.pair c.args.values.now values
           c.requires.bit small c.requires.whole c.loop-pair.invariant.0 c.loop-pair.invariant.1 lower upper sum

@@ -1,4 +1,4 @@
-use Rattle.std.proofs.Common.{◌≡◌, ℕ, zero, suc, ◌-◌, ◌<◌, List, length, take, drop, ◌∙◌, ap, arith}
+use Rattle.std.proofs.Common.{ℕ, zero, suc, List, ◌∙◌, ap, arith}
 use Rattle.std.specs.Prelude.{bit_xor, slice_index}
 use Rattle.std.proofs.lemmas.List.{take_rest}
 use Rattle.bf_base.specs.LinearMaps.{linear_image}

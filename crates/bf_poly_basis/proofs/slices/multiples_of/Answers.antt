@@ -1,4 +1,4 @@
-use Rattle.std.proofs.Common.{◌≡◌, ℕ, suc, ◌+◌, ◌^◌, ◌<◌, ◌≢◌, length, get_or, get_or-set_other, get_or-set_same, below_more, refl, sym, ◌∙◌, ap, arith, rules}
+use Rattle.std.proofs.Common.{◌≡◌, ℕ, ◌+◌, ◌^◌, ◌<◌, ◌≢◌, length, get_or-set_other, get_or-set_same, below_more, refl, sym, ◌∙◌, ap, arith, rules}
 use native.Mathlib.Nat.{mod-eq_of_lt}
 use native.Mathlib.Numerals.{add-one}
 use Rattle.bf_base.specs.Powers.{power}
@@ -28,8 +28,7 @@ pub loop-power-preserved : goal.loop-power-preserved
 loop-power-preserved c =
     let n = c.loop-power.power in
     let few : n < 128 = omega arith in
-    let within : n < length c.loop-power.images = omega (arith, c.loop-power.invariant.0) in
-    (
+    let within : n < length c.loop-power.images = omega (arith, c.loop-power.invariant.0) in (
       search (rules, c.loop-power.invariant.0),
       below_more _ _
           (λ j below. let other : j ≢ n = omega arith in rw get_or-set_other (c.loop-power.invariant.1 j below))

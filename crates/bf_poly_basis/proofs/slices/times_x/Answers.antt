@@ -1,4 +1,4 @@
-use Rattle.std.proofs.Common.{◌≡◌, ℕ, ◌+◌, ◌*◌, ◌/◌, ◌%◌, ◌^◌, refl, sym, ◌∙◌, ap, arith, lit<}
+use Rattle.std.proofs.Common.{◌≡◌, ◌+◌, ◌*◌, ◌/◌, ◌%◌, ◌^◌, refl, sym, ◌∙◌, ap, arith, lit<}
 use Rattle.bf_base.specs.Remainder.{ghash_modulus, rem}
 use Rattle.bf_base.proofs.RemainderRing.{mul_mod-rem}
 use Rattle.bf_base.proofs.ValueLemmas.{carryless_power}
