@@ -12,9 +12,9 @@ use bf_basis::LinearMap;
 use bf_clmul::{multiply_mod_128, reduce_128};
 
 /// The least number of elements for which a slice is multiplied by the tables of a scalar, and not element by element.
-pub(crate) const LEAST_TABLED: usize = 64;
+pub(crate) const LEAST_TABLED: usize = 128;
 
-/// Multiplies each value by `scalar`. From 64 values on it looks up tables by the digits of the values, which it makes on the
+/// Multiplies each value by `scalar`. From 128 values on it looks up tables by the digits of the values, which it makes on the
 /// stack; with fewer it reads no table.
 pub fn mul_slice(values: &mut [u128], scalar: u128)
     ensures { values.new ≡ map (λ x. mul_mod 128 ghash_modulus scalar x) values.old }
@@ -27,7 +27,7 @@ pub fn mul_slice(values: &mut [u128], scalar: u128)
 }
 
 /// The butterfly of the forward transform, place by place: `lo += scalar * hi`, and then `hi += lo`. Both slices have to be of
-/// one length. From 64 places on it looks up tables, as `mul_slice` does.
+/// one length. From 128 places on it looks up tables, as `mul_slice` does.
 pub fn butterfly_forward(lo: &mut [u128], hi: &mut [u128], scalar: u128)
     requires { length lo.old ≡ length hi.old }
     ensures low { lo.new ≡ zip2 (add_multiple scalar) lo.old hi.old }
@@ -38,7 +38,7 @@ pub fn butterfly_forward(lo: &mut [u128], hi: &mut [u128], scalar: u128)
 }
 
 /// The butterfly of the inverse transform, place by place: `hi += lo`, and then `lo += scalar * hi`. With the same scalar it
-/// restores what `butterfly_forward` changed. Both slices have to be of one length. From 64 places on it looks up tables, as
+/// restores what `butterfly_forward` changed. Both slices have to be of one length. From 128 places on it looks up tables, as
 /// `mul_slice` does.
 pub fn butterfly_inverse(lo: &mut [u128], hi: &mut [u128], scalar: u128)
     requires { length lo.old ≡ length hi.old }
