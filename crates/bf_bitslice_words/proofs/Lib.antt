@@ -1,0 +1,4 @@
+pub mod BlockLemmas
+pub mod BlockPlaces
+pub mod EvenBlocks
+pub mod LaneLemmas

@@ -1,0 +1,259 @@
+// Blocks of words.
+ghost use Rattle.std.specs.Prelude.{◌≡◌, ℕ, IsTrue, refl, replicate};
+ghost use Rattle.std.proofs.Common.{lit<, rules, ◌^◌, ◌-◌};
+ghost use Rattle.bf_bitslice_words.specs.Parts.{is_whole, joined};
+ghost use Rattle.bf_bitslice_words.specs.Joined.{same_from_joined, whole_joined-lt};
+
+use crate::sealed::Sealed;
+use crate::underlier::Underlier;
+
+/// A block of `N` words of 64 bits, the lowest first. Its names are `M128`, `M256` and `M512`.
+#[derive(Clone, Copy, Debug, PartialEq, Eq, Hash)]
+pub struct Block<const N: usize> {
+    words: [u64; N],
+}
+
+/// 128 bits: two words.
+pub type M128 = Block<2>;
+
+/// 256 bits: four words.
+pub type M256 = Block<4>;
+
+/// 512 bits: eight words.
+pub type M512 = Block<8>;
+
+impl<const N: usize> Block<N> {
+    /// The block of these words, the lowest first.
+    pub fn from_words(words: [u64; N]) -> Block<N>
+        ensures { result.words ≡ words.entry }
+    {
+        Block { words }
+    }
+
+    /// The words of the block, the lowest first.
+    pub fn to_words(self) -> [u64; N]
+        ensures { result ≡ self.entry.words }
+    {
+        self.words
+    }
+}
+
+impl<const N: usize> Default for Block<N> {
+    ghost is_default = { λ x. x.words ≡ replicate N 0 };
+
+    fn default() -> Block<N> {
+        Block { words: [0; N] }
+    }
+}
+
+impl<const N: usize> Sealed for Block<N> {}
+
+impl Underlier for Block<2> {
+    type Word = u64;
+
+    ghost number = { λ x. joined 64 x.words };
+
+    ghost is_whole = { λ x. is_whole 64 2 x.words };
+
+    ghost log_words = { 1 };
+
+    const WORD_COUNT: usize = 2;
+
+    ghost WORD_COUNT = { 2 };
+
+    const BITS: usize = 128;
+
+    ghost BITS = { 128 };
+
+    const ZERO: Block<2> = Block { words: [0; 2] };
+
+    ghost ZERO = { record { words = replicate 2 0 } };
+
+    const ONES: Block<2> = Block {
+        words: [u64::MAX; 2],
+    };
+
+    ghost ONES = { record { words = replicate 2 (2 ^ 64 - 1) } };
+
+    fn words(&self) -> &[u64] {
+        let _row = self.checked();
+        &self.words
+    }
+
+    fn word(&self, i: usize) -> u64 {
+        let _row = self.checked();
+        self.words[i]
+    }
+
+    fn set_word(&mut self, i: usize, word: u64) {
+        let _row = self.checked();
+        self.words[i] = word;
+    }
+
+    fn checked(&self) -> Block<2> {
+        let _word = self.words[0];
+        *self
+    }
+
+    ghost words_law = { refl };
+
+    ghost bits_law = { refl };
+
+    ghost narrow_law = { lit< tt };
+
+    ghost zero_whole = { refl };
+
+    ghost zero_number = { refl };
+
+    ghost ones_whole = { refl };
+
+    ghost ones_number = { refl };
+
+    ghost range_law = { λ x whole. whole_joined-lt 64 2 x.words whole };
+
+    ghost same_law = { λ x y left right same i. record { words = same_from_joined 64 2 x.words y.words left right same i } };
+
+    ghost eq_law = { Prim.search rules };
+
+    ghost default_law = { λ r is i. record { words = is i } };
+}
+
+impl Underlier for Block<4> {
+    type Word = u64;
+
+    ghost number = { λ x. joined 64 x.words };
+
+    ghost is_whole = { λ x. is_whole 64 4 x.words };
+
+    ghost log_words = { 2 };
+
+    const WORD_COUNT: usize = 4;
+
+    ghost WORD_COUNT = { 4 };
+
+    const BITS: usize = 256;
+
+    ghost BITS = { 256 };
+
+    const ZERO: Block<4> = Block { words: [0; 4] };
+
+    ghost ZERO = { record { words = replicate 4 0 } };
+
+    const ONES: Block<4> = Block {
+        words: [u64::MAX; 4],
+    };
+
+    ghost ONES = { record { words = replicate 4 (2 ^ 64 - 1) } };
+
+    fn words(&self) -> &[u64] {
+        let _row = self.checked();
+        &self.words
+    }
+
+    fn word(&self, i: usize) -> u64 {
+        let _row = self.checked();
+        self.words[i]
+    }
+
+    fn set_word(&mut self, i: usize, word: u64) {
+        let _row = self.checked();
+        self.words[i] = word;
+    }
+
+    fn checked(&self) -> Block<4> {
+        let _word = self.words[0];
+        *self
+    }
+
+    ghost words_law = { refl };
+
+    ghost bits_law = { refl };
+
+    ghost narrow_law = { lit< tt };
+
+    ghost zero_whole = { refl };
+
+    ghost zero_number = { refl };
+
+    ghost ones_whole = { refl };
+
+    ghost ones_number = { refl };
+
+    ghost range_law = { λ x whole. whole_joined-lt 64 4 x.words whole };
+
+    ghost same_law = { λ x y left right same i. record { words = same_from_joined 64 4 x.words y.words left right same i } };
+
+    ghost eq_law = { Prim.search rules };
+
+    ghost default_law = { λ r is i. record { words = is i } };
+}
+
+impl Underlier for Block<8> {
+    type Word = u64;
+
+    ghost number = { λ x. joined 64 x.words };
+
+    ghost is_whole = { λ x. is_whole 64 8 x.words };
+
+    ghost log_words = { 3 };
+
+    const WORD_COUNT: usize = 8;
+
+    ghost WORD_COUNT = { 8 };
+
+    const BITS: usize = 512;
+
+    ghost BITS = { 512 };
+
+    const ZERO: Block<8> = Block { words: [0; 8] };
+
+    ghost ZERO = { record { words = replicate 8 0 } };
+
+    const ONES: Block<8> = Block {
+        words: [u64::MAX; 8],
+    };
+
+    ghost ONES = { record { words = replicate 8 (2 ^ 64 - 1) } };
+
+    fn words(&self) -> &[u64] {
+        let _row = self.checked();
+        &self.words
+    }
+
+    fn word(&self, i: usize) -> u64 {
+        let _row = self.checked();
+        self.words[i]
+    }
+
+    fn set_word(&mut self, i: usize, word: u64) {
+        let _row = self.checked();
+        self.words[i] = word;
+    }
+
+    fn checked(&self) -> Block<8> {
+        let _word = self.words[0];
+        *self
+    }
+
+    ghost words_law = { refl };
+
+    ghost bits_law = { refl };
+
+    ghost narrow_law = { lit< tt };
+
+    ghost zero_whole = { refl };
+
+    ghost zero_number = { refl };
+
+    ghost ones_whole = { refl };
+
+    ghost ones_number = { refl };
+
+    ghost range_law = { λ x whole. whole_joined-lt 64 8 x.words whole };
+
+    ghost same_law = { λ x y left right same i. record { words = same_from_joined 64 8 x.words y.words left right same i } };
+
+    ghost eq_law = { Prim.search rules };
+
+    ghost default_law = { λ r is i. record { words = is i } };
+}

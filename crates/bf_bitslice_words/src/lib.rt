@@ -1,0 +1,16 @@
+//! Words, blocks of words, and the parts of either: rows of 8 to 512 bits, each of which stands for one number.
+#![tactic(auto)]
+
+mod bits;
+mod block;
+mod rows;
+mod sealed;
+mod underlier;
+mod word;
+mod words;
+
+pub use crate::bits::{even_word, field, join_even_blocks, join_odd_blocks, with_field};
+pub use crate::block::{Block, M128, M256, M512};
+pub use crate::rows::{bits_and, bits_xor, count_bits, interleave_in_words, interleave_words};
+pub use crate::underlier::Underlier;
+pub use crate::word::Word;
