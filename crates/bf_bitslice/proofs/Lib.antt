@@ -1,0 +1,2 @@
+mod LaneAccess
+mod Rounds

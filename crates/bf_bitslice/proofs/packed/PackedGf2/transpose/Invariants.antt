@@ -1,0 +1,11 @@
+use Rattle.std.proofs.Common.{◌≡◌, ◌≤◌, ◌^◌, ◌-◌, ℕ, map}
+use Rattle.bf_bitslice.proofs.Rounds.{AreMixed}
+use Rattle.bf_bitslice.proofs.packed.PackedGf2.transpose.Given as goal
+
+abbrev pub invariant-loop-block : goal.invariant-loop-block
+invariant-loop-block g l =
+    (k : ℕ) × (l.block ≡ 2 ^ k) × (l.block ≤ g.U.Underlier.BITS)
+    × AreMixed g.U.Underlier.BITS l.block (map (λ x. g.U.Underlier.number x.bits) l.fn.rows) (map (λ x. g.U.Underlier.number x.bits) l.rows)
+
+abbrev pub decreases-loop-block : goal.decreases-loop-block
+decreases-loop-block g l = g.U.Underlier.BITS - l.block

@@ -1,0 +1,7 @@
+use Rattle.std.proofs.Common.{map}
+use Rattle.bf_bitslice.specs.Rounds.{IsRoundTo}
+use Rattle.bf_bitslice.proofs.packed.transpose.exchange_blocks.Given as goal
+
+abbrev pub invariant-loop-i : goal.invariant-loop-i
+invariant-loop-i g l =
+    IsRoundTo g.U.Underlier.BITS l.block l.i (map (λ x. g.U.Underlier.number x.bits) l.fn.rows) (map (λ x. g.U.Underlier.number x.bits) l.rows)

@@ -1,0 +1,34 @@
+-- Lanes. Lane i of packed bits is bit i of their number, which is bit i modulo W of word i divided by W.
+use Rattle.std.specs.Prelude.{◌≡◌, ◌≢◌, ◌<◌, ℕ, ◌+◌, ◌-◌, ◌/◌, ◌%◌, ◌^◌, List, slice_index, bit_and}
+use Rattle.std.specs.Int.{bit_at}
+
+-- lane `lane` of `after` is `value`, and every other lane below `width` is that of `before`
+abbrev pub IsWithLane : ℕ → ℕ → ℕ → ℕ → ℕ → Type 0
+IsWithLane width before lane value after =
+    (bit_at after lane ≡ value) × ((j : ℕ) → j < width → j ≢ lane → bit_at after j ≡ bit_at before j)
+
+-- The blocks of `block` lanes beside the diagonal are exchanged: where one of i and j lies in an odd block and the other in
+-- an even one, lane j of row i is that of the row and lane with both moved to the other block.
+abbrev pub AreExchanged : ℕ → ℕ → List ℕ → List ℕ → Type 0
+AreExchanged width block before after =
+    (i j : ℕ) → i < width → j < width
+    → (i / block % 2 ≡ j / block % 2 → bit_at (slice_index after i) j ≡ bit_at (slice_index before i) j)
+    × (i / block % 2 ≡ 0 → j / block % 2 ≡ 1 → bit_at (slice_index after i) j ≡ bit_at (slice_index before (i + block)) (j - block))
+    × (i / block % 2 ≡ 1 → j / block % 2 ≡ 0 → bit_at (slice_index after i) j ≡ bit_at (slice_index before (i - block)) (j + block))
+
+-- lane j of row i of the one is lane i of row j of the other
+abbrev pub AreTransposed : ℕ → List ℕ → List ℕ → Type 0
+AreTransposed width before after =
+    (i j : ℕ) → i < width → j < width → bit_at (slice_index after i) j ≡ bit_at (slice_index before j) i
+
+-- the product of packed bits: lanes that are 1 in both, below `width`
+abbrev pub lane_product : ℕ → ℕ → ℕ → ℕ
+lane_product width a b = bit_and a b % 2 ^ width
+
+-- square rows that are transposed twice are the rows
+abbrev pub TransposingTwiceReturns : Type 0
+TransposingTwiceReturns =
+    (width : ℕ) (rows turned again : List ℕ)
+    → ((i : ℕ) → slice_index rows i < 2 ^ width) → ((i : ℕ) → slice_index again i < 2 ^ width)
+    → AreTransposed width rows turned → AreTransposed width turned again
+    → (i : ℕ) → i < width → slice_index again i ≡ slice_index rows i
