@@ -4,7 +4,7 @@ use Rattle.std.proofs.Common.{◌≡◌, ◌≢◌, ℕ, zero, suc, ◌+◌, ◌
 use Rattle.std.specs.Prelude.{bit_xor}
 use Rattle.bf_base.specs.Basis.{basis_image, IsHomomorphism, IsIsomorphism}
 use Rattle.bf_base.specs.TowerBasis.{IsBasisOf}
-use Rattle.bf_base.specs.Powers.{power, terms_from, value_of}
+use Rattle.bf_base.specs.Powers.{power, repeated_square, terms_from, value_of}
 use Rattle.bf_base.specs.Remainder.{mul_mod}
 use Rattle.bf_base.specs.Ring.{IsRing}
 use Rattle.bf_base.specs.Tower.{tower_mul}
@@ -31,6 +31,15 @@ module _ (k width modulus : ℕ) (images : List ℕ) (keeps : IsHomomorphism k w
   image_power a (suc n) =
       ap (λ (x : ℕ). mul_mod width modulus x (basis_image width modulus images a)) (image_power a n)
       ∙ sym (keeps.product_image (power 1 (tower_mul k) a n) a)
+
+  -- repeated squares of the image are the image of repeated squares
+  pub image_squarings : (n a : ℕ) → basis_image width modulus images (repeated_square 1 (tower_mul k) n a)
+      ≡ repeated_square 1 (mul_mod width modulus) n (basis_image width modulus images a)
+  unfolding repeated_square
+  image_squarings zero a =
+      keeps.product_image 1 a ∙ ap (λ (x : ℕ). mul_mod width modulus x (basis_image width modulus images a)) keeps.one_image
+  image_squarings (suc n) a =
+      keeps.product_image _ _ ∙ ap (λ (x : ℕ). mul_mod width modulus x x) (image_squarings n a)
 
   image_terms : {A : Type 0} (repr : A → ℕ) (a n : ℕ) (cs : List A)
       → terms_from 1 (mul_mod width modulus) (λ c. basis_image width modulus images (repr c)) (basis_image width modulus images a) n cs

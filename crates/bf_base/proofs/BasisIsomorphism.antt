@@ -14,6 +14,7 @@ use Rattle.bf_base.specs.Ring.{IsRing}
 use Rattle.bf_base.specs.Tower.{root, tower_mul}
 use Rattle.bf_base.proofs.AdditiveMaps.{maps_agree}
 use Rattle.bf_base.proofs.BasisColumns.{sum_of_columns, sum_of_columns-sum, level_columns, sum_of_columns-level_columns}
+use Rattle.bf_base.proofs.BasisFields.{image_squarings}
 use Rattle.bf_base.proofs.BasisMaps.{image_at, image_at-mod, image_at-lt, image_at-sum, image_at-nothing, image_at-one, image_at-root, image_at-low, image_at-product}
 use Rattle.bf_base.proofs.PowerLemmas.{repeated_square-mod}
 use Rattle.bf_base.proofs.RemainderRing.{mul_mod_ring}
@@ -170,22 +171,12 @@ module _ (width modulus : ℕ) (wide : 0 < width) (degree : HasDegree width modu
             nonzero (sym (isomorphic.image_of_inverse b fits) ∙ ap (basis_image width modulus images) none
             ∙ isomorphic.homomorphism.zero_image)
 
-    -- squarings of the image are the image of squarings
-    repeated_square_image : (n a : ℕ) → basis_image width modulus images (repeated_square 1 (tower_mul (length images)) n a)
-        ≡ repeated_square 1 (mul_mod width modulus) n (basis_image width modulus images a)
-    unfolding repeated_square
-    repeated_square_image zero a =
-        isomorphic.homomorphism.product_image 1 a
-        ∙ ap (λ (x : ℕ). mul_mod width modulus x (basis_image width modulus images a)) isomorphic.homomorphism.one_image
-    repeated_square_image (suc n) a =
-        isomorphic.homomorphism.product_image _ _ ∙ ap (λ (x : ℕ). mul_mod width modulus x x) (repeated_square_image n a)
-
     -- as many squarings as the level has bits return each polynomial
     pub isomorphic-squarings : (b : ℕ) → repeated_square 1 (mul_mod width modulus) (2 ^ length images) b ≡ b % 2 ^ width
     isomorphic-squarings b =
         sym (repeated_square-mod width 1 (mul_mod width modulus) ring (2 ^ length images) b)
         ∙ ap (repeated_square 1 (mul_mod width modulus) (2 ^ length images)) (sym returned)
-        ∙ sym (repeated_square_image (2 ^ length images) a)
+        ∙ sym (image_squarings (length images) width modulus images isomorphic.homomorphism (2 ^ length images) a)
         ∙ ap (basis_image width modulus images) (squarings_return (length images) a ∙ mod-eq_of_lt (isomorphic.inverse_below (b % 2 ^ width)))
         ∙ returned
       where

@@ -18,7 +18,8 @@ digit_of_place i d small = omega arith
 row_of_place : (i d : ℕ) → d < 16 → (16 * i + d) / 16 ≡ i
 row_of_place i d small = omega arith
 
-sum_of_values_is : (images values : List ℕ) (n x : ℕ) → Hold (digit_value images) (16 * n) values
+-- the values at the low n digits are the map there
+pub sum_of_values_is : (images values : List ℕ) (n x : ℕ) → Hold (digit_value images) (16 * n) values
     → sum_of_values n values x ≡ linear_image images (x % 2 ^ (4 * n))
 unfolding sum_of_values
 sum_of_values_is images values zero x held =

@@ -1,5 +1,5 @@
 // Any linear map of 128 bits, given by the images of its bits, by its values at digits to base 16.
-ghost use Rattle.std.specs.Prelude.{◌≡◌, ℕ, ◌*◌, ◌/◌, ◌%◌, ◌^◌, ◌<◌, List, slice_index};
+ghost use Rattle.std.specs.Prelude.{◌≡◌, ℕ, ◌*◌, ◌/◌, ◌%◌, ◌^◌, ◌<◌, ◌≤◌, List, slice_index};
 ghost use Rattle.bf_base.specs.LinearMaps.{IsTheLinearMapOf, linear_image};
 ghost use Rattle.bf_basis.specs.LinearMap.{sum_of_values};
 
@@ -28,18 +28,20 @@ impl LinearMap {
     pub fn apply(&self, x: u128) -> u128
         ensures { result ≡ map_of self.now x }
     {
-        sum_of_values(&self.values, x)
+        sum_of_values(&self.values, x, 32)
     }
 }
 
-// The sum of the values at the 32 digits of `x`.
+/// The sum of the values of a linear map at the low digits of `x` to base 16. Entry 16 i + d is the value at d 16^i, and there are
+/// 32 digits at most.
 #[inline]
 #[tactic(auto, using(crate::proofs::DigitMaps::sum_of_values_none, crate::proofs::DigitMaps::sum_of_values_more))]
-fn sum_of_values(values: &[u128; 512], x: u128) -> u128
-    ensures { result ≡ sum_of_values 32 values.now x }
+pub fn sum_of_values(values: &[u128; 512], x: u128, digits: usize) -> u128
+    requires { digits ≤ 32 }
+    ensures { result ≡ sum_of_values digits values.now x }
 {
     let mut sum = 0;
-    for i in 0..32 {
+    for i in 0..digits {
         sum ^= values[16 * i + ((x >> (4 * i)) % 16) as usize];
     }
     sum

@@ -2,6 +2,26 @@
 //!
 //! A line names a field, an operation and operands. [`answer`] gives the answer to one line, and [`run`] those to all lines
 //! of a reader.
+//!
+//! # The format
+//!
+//! A line is a field, an operation and its operands, with one or more spaces between.
+//!
+//! | Part | What it may be |
+//! |---|---|
+//! | field | `gf2`, `t2`, `t4`, `t8`, `t16`, `t32`, `t64`, `t128` (levels of the tower), `p64` (`Poly64`), `g128` (`Ghash128`) |
+//! | operation | `add`, `mul` with two operands; `square`, `inv`, `sqrt` with one |
+//! | operand | two hexadecimal digits for each byte of an element, highest byte first, in either case |
+//! | answer | the result in lower case; `none` for `inv` of zero; or the first of these errors that applies |
+//!
+//! | Answer | Where |
+//! |---|---|
+//! | `error 6` | the line is not UTF-8 |
+//! | `error 1` | it has no field, or an unknown one |
+//! | `error 2` | it has no operation, or an unknown one |
+//! | `error 3` | it has too few or too many operands |
+//! | `error 4` | an operand has another length, or a byte that is no hexadecimal digit |
+//! | `error 5` | an operand is no element of the field |
 #![tactic(auto)]
 
 mod calculation;

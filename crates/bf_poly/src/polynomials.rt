@@ -14,11 +14,14 @@ ghost use Rattle.bf_tables.proofs.LevelLaws.{level_cantor};
 use crate::modulus::Modulus;
 use bf_base::{Kernel, LevelKernel, Unsigned};
 use bf_tables::cantor_vector;
-use bf_tower::Level;
+use bf_tower::{Level, Tower};
 use std::marker::PhantomData;
 
 /// The field of polynomials modulo `M`, which is the level `L` of the tower in another basis.
 pub struct Polynomials<M, L>(PhantomData<M>, PhantomData<L>);
+
+// From so many squarings on the way through the tower is faster.
+const MANY_SQUARINGS: usize = 16;
 
 impl<R: Unsigned, L: Level<R>, M: Modulus<R, L>> Kernel<R> for Polynomials<M, L> {
     ghost width = { M.width };
@@ -72,9 +75,16 @@ impl<R: Unsigned, L: Level<R>, M: Modulus<R, L>> Kernel<R> for Polynomials<M, L>
         M::sqrt(x)
     }
 
+    // Many squarings go through the tower, which has tables of them; the changes of basis cost as much as a few.
     #[inline]
     fn reduce_squarings(x: R, count: usize) -> (R, usize) {
-        (x, count % Self::bits())
+        let rest = count % Self::bits();
+        if rest < MANY_SQUARINGS {
+            (x, rest)
+        } else {
+            let (element, fewer) = Tower::<L>::reduce_squarings(M::to_tower(x), rest);
+            (M::to_polynomial(element), fewer)
+        }
     }
 
     #[inline]

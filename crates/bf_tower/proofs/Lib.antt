@@ -1,3 +1,4 @@
 pub mod Halves
 pub mod Images
 pub mod LowLevels
+pub mod Squarings

@@ -118,6 +118,9 @@ pub fn invert<R: Unsigned, E: Extension<R>>(a: R) -> R
     ensures zero { R.number a ≡ 0 → R.number result ≡ 0 }
     ensures inverse { R.number a ≢ 0 → tower_mul (suc E.Below.LEVEL) (R.number a) (R.number result) ≡ 1 }
 {
+    if a == R::ZERO {
+        return R::ZERO;
+    }
     let (low, high) = (E::low(a), E::high(a));
     let over_norm = E::Below::invert(norm_of::<R, E>(a));
     E::join(

@@ -1,7 +1,8 @@
 // The kernel of every level.
-ghost use Rattle.std.specs.Prelude.{◌≡◌, ◌<◌, ◌≤◌, ◌%◌, ◌/◌, ◌^◌, ℕ, refl};
+ghost use Rattle.std.specs.Prelude.{◌≡◌, ◌<◌, ◌≤◌, ◌*◌, ◌%◌, ◌/◌, ◌^◌, ℕ, refl};
 ghost use Rattle.std.proofs.lemmas.Nat.{pow_pos};
 ghost use native.Mathlib.Nat.{mod-lt};
+ghost use Rattle.bf_base.specs.Powers.{repeated_square};
 ghost use Rattle.bf_base.specs.Tower.{root, tower_mul};
 ghost use Rattle.bf_base.specs.TowerBasis.{tower_generator};
 ghost use Rattle.bf_base.proofs.TowerBasisLemmas.{generator_lt, generator_nonzero};
@@ -11,11 +12,29 @@ ghost use Rattle.bf_tables.proofs.LevelLaws.{at_most_four, level_cantor, level_g
 
 use crate::level::Level;
 use bf_base::{Kernel, LevelKernel, Unsigned};
+use bf_frobenius::repeated_square;
 use bf_tables::cantor_vector;
 use std::marker::PhantomData;
 
 /// The field that the level `L` of the tower is.
 pub struct Tower<L>(PhantomData<L>);
+
+// An element squared fewer times than half of its bits: one table for each set bit of the count. A level of 1 or 2 bits
+// has no count but 0.
+#[inline]
+fn square_by_tables<R: Unsigned, L: Level<R>>(x: R, count: usize) -> (R, usize)
+    requires fits { R.number x < 2 ^ 2 ^ L.LEVEL }
+    requires few { 2 * count < 2 ^ L.LEVEL }
+    ensures fits { R.number result.0 < 2 ^ 2 ^ L.LEVEL }
+    ensures few { result.1 < 2 ^ L.LEVEL }
+    ensures squarings { repeated_square 1 (tower_mul L.LEVEL) result.1 (R.number result.0) ≡ repeated_square 1 (tower_mul L.LEVEL) count (R.number x) }
+{
+    if L::LEVEL < 2 {
+        (x, count)
+    } else {
+        (R::of_u128(repeated_square(L::LEVEL, x.to_u128(), count)), 0)
+    }
+}
 
 impl<R: Unsigned, L: Level<R>> Kernel<R> for Tower<L> {
     ghost width = { 2 ^ L.LEVEL };
@@ -69,15 +88,15 @@ impl<R: Unsigned, L: Level<R>> Kernel<R> for Tower<L> {
         L::sqrt(x)
     }
 
-    // The count is reduced by the bits, and one conjugation is half of them.
+    // The count is reduced by the bits. One conjugation is half of them, and tables of repeated squares are the rest.
     #[inline]
     fn reduce_squarings(x: R, count: usize) -> (R, usize) {
         let bits = Self::bits();
         let rest = count % bits;
         if rest < bits / 2 {
-            (x, rest)
+            square_by_tables::<R, L>(x, rest)
         } else {
-            (L::conjugate(x), rest - bits / 2)
+            square_by_tables::<R, L>(L::conjugate(x), rest - bits / 2)
         }
     }
 
