@@ -24,21 +24,25 @@ abbrev pub AnswersFrom : {S A : Type 0} → (S → ℕ → A → S → Type 0) �
 AnswersFrom step s i [] t = s ≡ t
 AnswersFrom {S} step s i (x ∷ xs) t = (next : S) × step s i x next × AnswersFrom step next (i + 1) xs t
 
+-- 1, 2, 4, 8, ..
 abbrev pub IsPowerOfTwo : ℕ → Type 0
 IsPowerOfTwo n = (k : ℕ) × (n ≡ 2 ^ k)
 
--- `first` and `second` are `left` and `right` interleaved by blocks of b lanes: in the first stand the even blocks of both,
--- a block of the left before the same block of the right, and in the second the odd blocks. By blocks as long as the lists
--- both stay as they are.
+-- lane i of the first result of interleaving by blocks of b lanes, in which the even blocks of both lists stand, a block of the
+-- left before the same block of the right; d is what a list gives past its end
 abbrev pub interleaved_first : {A : Type 0} → ℕ → List A → List A → A → ℕ → A
 interleaved_first b left right d i =
     if i / b % 2 == 0 then slice_index_or left i d else slice_index_or right (i - b) d
 
+-- lane i of the second result; d is what a list gives past its end
 abbrev pub interleaved_second : {A : Type 0} → ℕ → List A → List A → A → ℕ → A
 interleaved_second b left right d i =
     if b == length left then slice_index_or right i d
     else (if i / b % 2 == 0 then slice_index_or left (i + b) d else slice_index_or right i d)
 
+-- `first` and `second` are `left` and `right` interleaved by blocks of b lanes: in the first stand the even blocks of both,
+-- a block of the left before the same block of the right, and in the second the odd blocks. By blocks as long as the lists
+-- both stay as they are.
 pub record AreInterleaved {A : Type 0} (b : ℕ) (left right first second : List A) : Type 0 where
   pub first_lanes : (i : ℕ) (d : A) → i < length left → slice_index_or first i d ≡ interleaved_first b left right d i
   pub second_lanes : (i : ℕ) (d : A) → i < length left → slice_index_or second i d ≡ interleaved_second b left right d i
