@@ -9,7 +9,7 @@
 //!
 //! | Part | What it may be |
 //! |---|---|
-//! | field | `gf2`, `t2`, `t4`, `t8`, `t16`, `t32`, `t64`, `t128` (levels of the tower), `p64` (`Poly64`), `g128` (`Ghash128`) |
+//! | field | `gf2`, `t2`, `t4`, `t8`, `t16`, `t32`, `t64`, `t128` (levels of the tower), `r8` (`Rijndael8b`), `p64` (`Poly64`), `g128` (`Ghash128`) |
 //! | operation | `add`, `mul` with two operands; `square`, `inv`, `sqrt` with one |
 //! | operand | two hexadecimal digits for each byte of an element, highest byte first, in either case |
 //! | answer | the result in lower case; `none` for `inv` of zero; or the first of these errors that applies |
