@@ -1,0 +1,4 @@
+pub mod Columns
+pub mod Linearized
+pub mod Matrix
+pub mod Polynomial
