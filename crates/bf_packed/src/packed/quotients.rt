@@ -1,0 +1,46 @@
+// Quotients of packings, lane by lane.
+ghost use Rattle.std.specs.Prelude.{◌≡◌, ◌≢◌, ◌<◌, ℕ, length, map, replicate, slice_index_or};
+ghost use Rattle.bf_base.specs.Lanes.{lane_by_lane};
+
+use crate::packed::{Packed, WiderField};
+use bf_base::traits::Field;
+use std::ops::{Div, DivAssign};
+
+impl<F: WiderField, const N: usize> Div<Packed<F, N>> for Packed<F, N> {
+    type Output = Packed<F, N>;
+
+    // No lane of the divisor is 0.
+    ghost can_div = { λ x y. (k : ℕ) (d : F) → k < N → F.repr (slice_index_or y.lanes k d) ≢ 0 };
+
+    ghost div_gives = { λ x y r. map F.repr x.lanes ≡ lane_by_lane F.product (map F.repr r.lanes) (map F.repr y.lanes) };
+
+    #[inline]
+    fn div(self, other: Packed<F, N>) -> Packed<F, N> {
+        let mut lanes = self.lanes;
+        divide_lanes(lanes.as_mut_slice(), other.lanes.as_slice());
+        Packed { lanes }
+    }
+}
+
+impl<F: WiderField, const N: usize> DivAssign<Packed<F, N>> for Packed<F, N> {
+    ghost can_div_assign = { λ x y. (k : ℕ) (d : F) → k < N → F.repr (slice_index_or y.lanes k d) ≢ 0 };
+
+    ghost div_assign_gives = { λ x y r. map F.repr x.lanes ≡ lane_by_lane F.product (map F.repr r.lanes) (map F.repr y.lanes) };
+
+    #[inline]
+    fn div_assign(&mut self, other: Packed<F, N>) {
+        *self = Packed { lanes: self.lanes } / other;
+    }
+}
+
+// Divides the elements of `left` by those of `right`, of which none is 0, place by place.
+#[inline]
+fn divide_lanes<F: Field>(left: &mut [F], right: &[F])
+    requires long { length left.old ≡ length right.now }
+    requires nonzero { (k : ℕ) (d : F) → k < length right.now → F.repr (slice_index_or right.now k d) ≢ 0 }
+    ensures { map F.repr left.old ≡ lane_by_lane F.product (map F.repr left.new) (map F.repr right.now) }
+{
+    for lane in 0..right.len() {
+        left[lane] = left[lane] / right[lane];
+    }
+}

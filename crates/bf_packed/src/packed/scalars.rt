@@ -1,0 +1,108 @@
+// The operators of packings with an element of their field on the right, which stands in every lane.
+ghost use Rattle.std.specs.Prelude.{◌≡◌, bit_xor, map, refl, replicate};
+ghost use Rattle.std.proofs.Common.{sym, ◌∙◌, ap};
+ghost use Rattle.std.proofs.lemmas.List.{length-replicate};
+ghost use Rattle.bf_base.specs.Lanes.{joined, lane_by_lane, lane_product};
+ghost use Rattle.bf_packed.specs.LaneLists.{every_product, every_same, every_sum, number_of_every, product_number, sum_number};
+
+use crate::packed::{Packed, WiderField};
+use bf_base::traits::Algebra;
+use std::ops::{Add, AddAssign, Mul, MulAssign, Sub, SubAssign};
+
+impl<F: WiderField, const N: usize> Add<F> for Packed<F, N> {
+    type Output = Packed<F, N>;
+
+    ghost add_gives = { λ x y r. map F.repr r.lanes ≡ lane_by_lane bit_xor (map F.repr x.lanes) (map F.repr (replicate N y)) };
+
+    #[inline]
+    fn add(self, other: F) -> Packed<F, N> {
+        self + Packed::broadcast(other)
+    }
+}
+
+impl<F: WiderField, const N: usize> AddAssign<F> for Packed<F, N> {
+    ghost add_assign_gives = { λ x y r. map F.repr r.lanes ≡ lane_by_lane bit_xor (map F.repr x.lanes) (map F.repr (replicate N y)) };
+
+    #[inline]
+    fn add_assign(&mut self, other: F) {
+        *self = Packed { lanes: self.lanes } + Packed::broadcast(other);
+    }
+}
+
+impl<F: WiderField, const N: usize> Sub<F> for Packed<F, N> {
+    type Output = Packed<F, N>;
+
+    ghost sub_gives = { λ x y r. map F.repr r.lanes ≡ lane_by_lane bit_xor (map F.repr x.lanes) (map F.repr (replicate N y)) };
+
+    #[inline]
+    fn sub(self, other: F) -> Packed<F, N> {
+        self + Packed::broadcast(other)
+    }
+}
+
+impl<F: WiderField, const N: usize> SubAssign<F> for Packed<F, N> {
+    ghost sub_assign_gives = { λ x y r. map F.repr r.lanes ≡ lane_by_lane bit_xor (map F.repr x.lanes) (map F.repr (replicate N y)) };
+
+    #[inline]
+    fn sub_assign(&mut self, other: F) {
+        *self = Packed { lanes: self.lanes } + Packed::broadcast(other);
+    }
+}
+
+impl<F: WiderField, const N: usize> Mul<F> for Packed<F, N> {
+    type Output = Packed<F, N>;
+
+    ghost mul_gives = { λ x y r. map F.repr r.lanes ≡ lane_by_lane F.product (map F.repr x.lanes) (map F.repr (replicate N y)) };
+
+    #[inline]
+    fn mul(self, other: F) -> Packed<F, N> {
+        self * Packed::broadcast(other)
+    }
+}
+
+impl<F: WiderField, const N: usize> MulAssign<F> for Packed<F, N> {
+    ghost mul_assign_gives = { λ x y r. map F.repr r.lanes ≡ lane_by_lane F.product (map F.repr x.lanes) (map F.repr (replicate N y)) };
+
+    #[inline]
+    fn mul_assign(&mut self, other: F) {
+        *self = Packed { lanes: self.lanes } * Packed::broadcast(other);
+    }
+}
+
+impl<F: WiderField, const N: usize> Algebra<F> for Packed<F, N> {
+    ghost image = { λ a. joined F.width (replicate N a) };
+
+    ghost image_unit_law = { refl };
+
+    ghost image_sum_law = { λ a b a_fits b_fits. every_sum F.width N a b a_fits b_fits };
+
+    ghost image_product_law = { λ a b a_fits b_fits. every_product F.width F.unit F.product F.ring_law N a b a_fits b_fits };
+
+    ghost image_injective_law = { λ proper a b a_fits b_fits same. every_same F.width F.unit N a b a_fits b_fits proper same };
+
+    ghost image_from_law = { λ x r is. ap (λ xs. joined F.width (map F.repr xs)) is ∙ number_of_every F.width _ F.repr F.range_law N x };
+
+    ghost can_add_image_law = { λ x y. tt };
+
+    ghost add_image_law = { λ x y r is. sum_number F.width _ F.repr F.range_law x.lanes (replicate N y) r.lanes (x.long ∙ sym (length-replicate N y)) is ∙ ap (bit_xor (joined F.width (map F.repr x.lanes))) (number_of_every F.width _ F.repr F.range_law N y) };
+
+    ghost can_add_assign_image_law = { λ x y. tt };
+
+    ghost add_assign_image_law = { λ x y r is. sum_number F.width _ F.repr F.range_law x.lanes (replicate N y) r.lanes (x.long ∙ sym (length-replicate N y)) is ∙ ap (bit_xor (joined F.width (map F.repr x.lanes))) (number_of_every F.width _ F.repr F.range_law N y) };
+
+    ghost can_sub_image_law = { λ x y. tt };
+
+    ghost sub_image_law = { λ x y r is. sum_number F.width _ F.repr F.range_law x.lanes (replicate N y) r.lanes (x.long ∙ sym (length-replicate N y)) is ∙ ap (bit_xor (joined F.width (map F.repr x.lanes))) (number_of_every F.width _ F.repr F.range_law N y) };
+
+    ghost can_sub_assign_image_law = { λ x y. tt };
+
+    ghost sub_assign_image_law = { λ x y r is. sum_number F.width _ F.repr F.range_law x.lanes (replicate N y) r.lanes (x.long ∙ sym (length-replicate N y)) is ∙ ap (bit_xor (joined F.width (map F.repr x.lanes))) (number_of_every F.width _ F.repr F.range_law N y) };
+
+    ghost can_mul_image_law = { λ x y. tt };
+
+    ghost mul_image_law = { λ x y r is. product_number F.width _ F.repr F.range_law F.unit F.product F.ring_law N x.lanes (replicate N y) r.lanes x.long (length-replicate N y) is ∙ ap (lane_product F.width F.product N (joined F.width (map F.repr x.lanes))) (number_of_every F.width _ F.repr F.range_law N y) };
+
+    ghost can_mul_assign_image_law = { λ x y. tt };
+
+    ghost mul_assign_image_law = { λ x y r is. product_number F.width _ F.repr F.range_law F.unit F.product F.ring_law N x.lanes (replicate N y) r.lanes x.long (length-replicate N y) is ∙ ap (lane_product F.width F.product N (joined F.width (map F.repr x.lanes))) (number_of_every F.width _ F.repr F.range_law N y) };
+}
