@@ -10,9 +10,17 @@ use crate::matrix::ByteMatrix;
 use bf_base::traits::{PrimeCharacteristicRing, TowerLevel};
 use bf_element::Rijndael8b;
 
-/// The maps of `Rijndael8b` that are linear over GF(2), as matrices. They are methods of a trait, since a type has functions of
-/// its own in its crate alone.
+/// The elements of `Rijndael8b` as bytes, and its maps that are linear over GF(2) as matrices. They are methods of a trait, since
+/// a type has functions of its own in its crate alone.
 pub trait RijndaelMaps: TowerLevel {
+    /// The element that a byte is.
+    fn from_byte(byte: u8) -> Self
+        ensures { Self.repr result ≡ byte };
+
+    /// The byte that the element is.
+    fn to_byte(self) -> u8
+        ensures { result ≡ Self.repr self };
+
     /// The map that multiplies a byte by the element.
     fn scaling_matrix(self) -> ByteMatrix
         ensures { (x : ℕ) → x < 256 → linear_image (images_of result) x ≡ Self.product (Self.repr self) x };
@@ -27,6 +35,16 @@ pub trait RijndaelMaps: TowerLevel {
 }
 
 impl RijndaelMaps for Rijndael8b {
+    #[inline]
+    fn from_byte(byte: u8) -> Rijndael8b {
+        Rijndael8b::from_repr(byte)
+    }
+
+    #[inline]
+    fn to_byte(self) -> u8 {
+        self.to_repr()
+    }
+
     fn scaling_matrix(self) -> ByteMatrix {
         ByteMatrix::from_images([
             scaled(self, 1),
