@@ -1,0 +1,8 @@
+//! Tests of packed bits at concrete widths: worked rows, lanes, and transposition of every width against its definition,
+//! read lane by lane. The crate has nothing to call.
+#![tactic(auto)]
+
+#[cfg(test)]
+mod rows;
+#[cfg(test)]
+mod squares;
