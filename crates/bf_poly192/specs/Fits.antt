@@ -1,0 +1,8 @@
+-- The words of an element of three coefficients of 64 bits.
+use Rattle.std.specs.Prelude.{ℕ, ◌^◌, ◌<◌}
+
+-- each coefficient has at most 64 bits
+pub record FitsThree (c0 c1 c2 : ℕ) : Type 0 where
+  pub first : c0 < 2 ^ 64
+  pub second : c1 < 2 ^ 64
+  pub third : c2 < 2 ^ 64

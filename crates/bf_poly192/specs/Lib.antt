@@ -1,0 +1,3 @@
+pub mod Field
+pub mod Fits
+pub mod Triple

@@ -1,0 +1,83 @@
+// The arithmetic of the cubic extension on three words: products by six products of words, and the inverse by the adjugate, whose
+// product with the element is its norm, an element of GF(2^64).
+ghost use Rattle.std.specs.Prelude.{◌≡◌, ◌≢◌, ◌<◌, ◌^◌};
+ghost use Rattle.bf_base.specs.Cubic.{cubic};
+ghost use Rattle.bf_base.specs.Remainder.{mul_mod, poly64_modulus};
+ghost use Rattle.bf_poly192.specs.Triple.{number_of};
+
+use crate::triple::Triple;
+use bf_clmul::{invert_mod_64, multiply_mod_64, sqrt_mod_64, square_mod_64};
+
+/// The product, by Karatsuba's rule: six products of coefficients in place of nine.
+#[inline]
+pub fn multiply_192(x: Triple, y: Triple) -> Triple
+    ensures { number_of result ≡ cubic 64 (mul_mod 64 poly64_modulus) (number_of x) (number_of y) }
+{
+    let p0 = multiply_mod_64(x.c0, y.c0);
+    let p1 = multiply_mod_64(x.c1, y.c1);
+    let p2 = multiply_mod_64(x.c2, y.c2);
+    let p01 = multiply_mod_64(x.c0 ^ x.c1, y.c0 ^ y.c1);
+    let p02 = multiply_mod_64(x.c0 ^ x.c2, y.c0 ^ y.c2);
+    let p12 = multiply_mod_64(x.c1 ^ x.c2, y.c1 ^ y.c2);
+    let spill = p12 ^ p1 ^ p2;
+    Triple {
+        c0: p0 ^ spill,
+        c1: p01 ^ p0 ^ p1 ^ spill ^ p2,
+        c2: p02 ^ p0 ^ p1,
+    }
+}
+
+/// The square: y² stays, and y⁴ is y² + y.
+#[inline]
+pub fn square_192(x: Triple) -> Triple
+    ensures { number_of result ≡ cubic 64 (mul_mod 64 poly64_modulus) (number_of x) (number_of x) }
+{
+    let s0 = square_mod_64(x.c0);
+    let s1 = square_mod_64(x.c1);
+    let s2 = square_mod_64(x.c2);
+    Triple {
+        c0: s0,
+        c1: s2,
+        c2: s1 ^ s2,
+    }
+}
+
+/// The square root.
+#[inline]
+pub fn sqrt_192(x: Triple) -> Triple
+    ensures { cubic 64 (mul_mod 64 poly64_modulus) (number_of result) (number_of result) ≡ number_of x }
+{
+    let r0 = sqrt_mod_64(x.c0);
+    let r1 = sqrt_mod_64(x.c1 ^ x.c2);
+    let r2 = sqrt_mod_64(x.c1);
+    Triple {
+        c0: r0,
+        c1: r1,
+        c2: r2,
+    }
+}
+
+/// The inverse, and 0 for 0: the adjugate times the inverse of the norm.
+#[inline]
+pub fn invert_192(x: Triple) -> Triple
+    ensures zero { number_of x ≡ 0 → number_of result ≡ 0 }
+    ensures inverse { number_of x ≢ 0 → cubic 64 (mul_mod 64 poly64_modulus) (number_of x) (number_of result) ≡ 1 }
+{
+    let s0 = square_mod_64(x.c0);
+    let s1 = square_mod_64(x.c1);
+    let s2 = square_mod_64(x.c2);
+    let p01 = multiply_mod_64(x.c0, x.c1);
+    let p02 = multiply_mod_64(x.c0, x.c2);
+    let p12 = multiply_mod_64(x.c1, x.c2);
+    let d0 = s0 ^ s1 ^ (s2 ^ p12);
+    let d1 = p01 ^ s2;
+    let d2 = s1 ^ s2 ^ p02;
+    let n0 = multiply_mod_64(x.c0, d0);
+    let n1 = multiply_mod_64(x.c1, d2);
+    let n2 = multiply_mod_64(x.c2, d1);
+    let scale = invert_mod_64(n0 ^ n1 ^ n2);
+    let c0 = multiply_mod_64(scale, d0);
+    let c1 = multiply_mod_64(scale, d1);
+    let c2 = multiply_mod_64(scale, d2);
+    Triple { c0, c1, c2 }
+}

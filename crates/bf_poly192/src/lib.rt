@@ -1,0 +1,9 @@
+//! The cubic extension of GF(2^64) by a root y of y³ + y + 1: its elements as three words, and its arithmetic on them.
+#![tactic(auto)]
+
+mod cubic;
+mod kernel;
+mod triple;
+
+pub use crate::kernel::CubicKernel;
+pub use crate::triple::Triple;
