@@ -1,2 +1,3 @@
+pub mod Inverses
 pub mod LaneLists
 pub mod Packed

@@ -5,12 +5,16 @@ ghost use Rattle.std.proofs.lemmas.List.{length-replicate};
 ghost use Rattle.bf_base.specs.Lanes.{joined, lane_by_lane, lane_product};
 ghost use Rattle.bf_packed.specs.LaneLists.{every_below, every_zero, lanes_below, lanes_same, map-replicate, product_number, sum_number};
 
+mod bits;
+mod fields;
 mod lanes;
+mod maps;
 mod operators;
 mod quotients;
 mod ring;
 mod scalars;
 
+pub use crate::packed::fields::PackedRijndael8b;
 use bf_base::Gf2;
 use bf_base::traits::{Field, Represented};
 use std::alloc::AllocError;

@@ -33,6 +33,32 @@ impl<F: WiderField, const N: usize> DivAssign<Packed<F, N>> for Packed<F, N> {
     }
 }
 
+impl<F: WiderField, const N: usize> Div<F> for Packed<F, N> {
+    type Output = Packed<F, N>;
+
+    ghost can_div = { λ x y. F.repr y ≢ 0 };
+
+    ghost div_gives = { λ x y r. map F.repr x.lanes ≡ lane_by_lane F.product (map F.repr r.lanes) (map F.repr (replicate N y)) };
+
+    #[inline]
+    fn div(self, other: F) -> Packed<F, N> {
+        let every: Packed<F, N> = Packed::broadcast(other);
+        self / every
+    }
+}
+
+impl<F: WiderField, const N: usize> DivAssign<F> for Packed<F, N> {
+    ghost can_div_assign = { λ x y. F.repr y ≢ 0 };
+
+    ghost div_assign_gives = { λ x y r. map F.repr x.lanes ≡ lane_by_lane F.product (map F.repr r.lanes) (map F.repr (replicate N y)) };
+
+    #[inline]
+    fn div_assign(&mut self, other: F) {
+        let every: Packed<F, N> = Packed::broadcast(other);
+        *self = Packed { lanes: self.lanes } / every;
+    }
+}
+
 // Divides the elements of `left` by those of `right`, of which none is 0, place by place.
 #[inline]
 fn divide_lanes<F: Field>(left: &mut [F], right: &[F])

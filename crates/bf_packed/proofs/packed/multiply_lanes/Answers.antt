@@ -1,5 +1,5 @@
-use Rattle.std.proofs.Common.{◌≡◌, ◌<◌, ◌≤◌, ℕ, length, refl, sym, ◌∙◌, ap, ap₂, arith}
-use Rattle.std.specs.Prelude.{bit_xor, slice_index_or}
+use Rattle.std.proofs.Common.{◌≡◌, ◌<◌, length, refl, sym, ◌∙◌, ap, ap₂, arith}
+use Rattle.std.specs.Prelude.{slice_index_or}
 use native.Mathlib.Nat.{le_refl}
 use Rattle.bf_packed.proofs.LanePoints.{lanes_agree, lanes_done, lanes_left, same_entry}
 use Rattle.bf_packed.proofs.packed.multiply_lanes.Goals as goal

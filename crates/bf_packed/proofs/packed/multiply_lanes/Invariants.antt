@@ -1,5 +1,5 @@
-use Rattle.std.proofs.Common.{◌≡◌, ◌<◌, ◌≤◌, ℕ, length}
-use Rattle.std.specs.Prelude.{bit_xor, slice_index_or}
+use Rattle.std.proofs.Common.{◌≡◌, ◌<◌, ◌≤◌, ℕ}
+use Rattle.std.specs.Prelude.{slice_index_or}
 use Rattle.bf_packed.proofs.packed.multiply_lanes.Given as goal
 
 -- the lanes before this one are written, and the others are as they were
