@@ -1,17 +1,20 @@
-//! Binary fields, proved: the tower of Wiedemann from GF(2) to GF(2^128), and GF(2^64) and GF(2^128) in polynomial bases.
+//! Binary fields, proved: the tower of Wiedemann from GF(2) to GF(2^128), and GF(2^8), GF(2^64) and GF(2^128) in polynomial
+//! bases.
 //!
 //! This crate holds nothing of its own: it passes on what the crates below it make public.
 #![tactic(auto)]
 
+pub use bf_aes::{ByteMatrix, LinearizedPoly8b, RijndaelMaps, columns_are_transposed};
 pub use bf_base::Gf2;
 pub use bf_base::traits::{
-    Algebra, DotProduct, Field, PrimeCharacteristicRing, Represented, TowerLevel,
+    Algebra, DotProduct, Field, PackedField, PackedFieldPow2, PackedValue, PrimeCharacteristicRing,
+    Represented, TowerLevel,
 };
 pub use bf_basis::{LinearMap, to_polynomial_slice_64, to_tower_slice_64};
 pub use bf_calc as calc;
 pub use bf_element::{
     BinaryField2, BinaryField4, BinaryField8, BinaryField16, BinaryField32, BinaryField64,
-    BinaryField128, Ghash128, Poly64,
+    BinaryField128, Ghash128, Poly64, Rijndael8b,
 };
 pub use bf_laws as laws;
 pub use bf_poly_basis as poly_basis;
