@@ -1,4 +1,4 @@
--- Products, squares, roots and inverses of elements of three coefficients, as the code computes them, at a ring of 64 bits.
+-- Products, squares, roots and inverses of elements of three coefficients, as the code computes them, over any ring.
 use Rattle.std.proofs.Common.{◌≡◌, ℕ, ◌^◌, ◌<◌, ◌∙◌, ap₂}
 use Rattle.std.specs.Prelude.{bit_xor}
 use Rattle.std.proofs.lemmas.Nat.{xor_comm}

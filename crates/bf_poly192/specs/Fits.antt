@@ -1,4 +1,4 @@
--- The words of an element of three coefficients of 64 bits.
+-- The words of an element of three coefficients of 64 bits each.
 use Rattle.std.specs.Prelude.{ℕ, ◌^◌, ◌<◌}
 
 -- each coefficient has at most 64 bits
