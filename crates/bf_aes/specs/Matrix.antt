@@ -2,5 +2,6 @@
 use Rattle.std.specs.Prelude.{ℕ, List}
 use Rattle.bf_aes.specs.declared.matrix.ByteMatrix.{ByteMatrix}
 
+-- the images, that of bit 0 first
 abbrev pub images_of : ByteMatrix → List ℕ
 images_of matrix = matrix.images

@@ -17,5 +17,6 @@ pub use bf_element::{
     BinaryField128, Ghash128, Poly64, Rijndael8b,
 };
 pub use bf_laws as laws;
+pub use bf_packed::{Packed, PackedRijndael8b, WiderField};
 pub use bf_poly_basis as poly_basis;
 pub use bf_transform::over;
