@@ -5,12 +5,19 @@
 #![tactic(auto)]
 
 pub use bf_aes::{ByteMatrix, LinearizedPoly8b, RijndaelMaps, columns_are_transposed};
+pub mod laws;
+
 pub use bf_base::Gf2;
 pub use bf_base::traits::{
     Algebra, DotProduct, Field, PackedField, PackedFieldPow2, PackedValue, PrimeCharacteristicRing,
     Represented, TowerLevel,
 };
 pub use bf_basis::{LinearMap, to_polynomial_slice_64, to_tower_slice_64};
+pub use bf_bitslice::{
+    PackedGf2, PackedGf2x8, PackedGf2x16, PackedGf2x32, PackedGf2x64, PackedGf2x128, PackedGf2x256,
+    PackedGf2x512,
+};
+pub use bf_bitslice_words::{M128, M256, M512, Underlier, Word};
 pub use bf_calc as calc;
 pub use bf_element::{
     BinaryField2, BinaryField4, BinaryField8, BinaryField16, BinaryField32, BinaryField64,
