@@ -53,25 +53,28 @@ square x = mul_mod 128 ghash_modulus x x
 
 once : IsPowerMap 1 square
 unfolding square repeated_square
-once =
-    (λ a b. square_xor 128 1 (mul_mod 128 ghash_modulus) ring a b,
-    λ x fits. sym (ap (λ (y : ℕ). mul_mod 128 ghash_modulus y y) (one-times 128 1 (mul_mod 128 ghash_modulus) ring x fits)))
+once = (
+  λ a b. square_xor 128 1 (mul_mod 128 ghash_modulus) ring a b,
+  λ x fits. sym (ap (λ (y : ℕ). mul_mod 128 ghash_modulus y y) (one-times 128 1 (mul_mod 128 ghash_modulus) ring x fits)),
+)
 
 composed : (m n : ℕ) (f g : ℕ → ℕ) → IsPowerMap m f → IsPowerMap n g → IsPowerMap (m + n) (λ x. f (g x))
-composed m n f g is_f is_g =
-    (λ a b. ap f (is_g.0 a b) ∙ is_f.0 (g a) (g b),
-    λ x fits. ap f (is_g.1 x fits)
-    ∙ is_f.1 (squared n x) (repeated_square-lt 128 1 (mul_mod 128 ghash_modulus) ring n x)
-    ∙ sym (repeated_square-add 128 1 (mul_mod 128 ghash_modulus) ring m n x))
+composed m n f g is_f is_g = (
+  λ a b. ap f (is_g.0 a b) ∙ is_f.0 (g a) (g b),
+  λ x fits. ap f (is_g.1 x fits)
+      ∙ is_f.1 (squared n x) (repeated_square-lt 128 1 (mul_mod 128 ghash_modulus) ring n x)
+      ∙ sym (repeated_square-add 128 1 (mul_mod 128 ghash_modulus) ring m n x),
+)
 
 -- columns that agree with such a map at the powers of two give it
 by_columns : (n : ℕ) (f : ℕ → ℕ) (columns : List ℕ) → IsPowerMap n f → agree_on_powers (sum_of_columns columns) f 128 ≡ true
     → IsPowerMap n (sum_of_columns columns)
-by_columns n f columns is_f agree =
-    (sum_of_columns-sum columns,
-    λ x fits. maps_agree (sum_of_columns columns) f (sum_of_columns-sum columns) is_f.0 128
-    (agree_on_powers-true (sum_of_columns columns) f 128 agree) x fits
-    ∙ is_f.1 x fits)
+by_columns n f columns is_f agree = (
+  sum_of_columns-sum columns,
+  λ x fits. maps_agree (sum_of_columns columns) f (sum_of_columns-sum columns) is_f.0 128
+      (agree_on_powers-true (sum_of_columns columns) f 128 agree) x fits
+      ∙ is_f.1 x fits,
+)
 
 abbrev by_3 : ℕ → ℕ
 by_3 = sum_of_columns SQUARED_3_TIMES

@@ -28,4 +28,4 @@ pub use crate::product::{
 };
 pub use crate::root::{compact_64, compact_128, sqrt_mod_64, sqrt_mod_128};
 pub use crate::split::{split_64, split_128};
-pub use crate::square::{spread_32, carryless_square_64, carryless_square_128};
+pub use crate::square::{carryless_square_64, carryless_square_128, spread_32};

@@ -9,12 +9,7 @@ const DRAWS: usize = 200;
 /// Zero, one, all ones, and the highest bit alone.
 static CORNERS_64: [u64; 4] = [0, 1, 0xffff_ffff_ffff_ffff, 1 << 63];
 
-static CORNERS_128: [u128; 4] = [
-    0,
-    1,
-    0xffff_ffff_ffff_ffff_ffff_ffff_ffff_ffff,
-    1 << 127,
-];
+static CORNERS_128: [u128; 4] = [0, 1, 0xffff_ffff_ffff_ffff_ffff_ffff_ffff_ffff, 1 << 127];
 
 /// The next number of the generator xorshift64 (G. Marsaglia, Xorshift RNGs, 2003).
 fn next(state: u64) -> u64 {
@@ -40,12 +35,18 @@ fn products_agree_128(x: u128, y: u128) -> bool {
 
 fn inverses_agree_64(x: u64) -> bool {
     let x = Poly64::new(x);
-    x.try_inverse() == BinaryField64::from(x).try_inverse().map(|y| Poly64::from(y))
+    x.try_inverse()
+        == BinaryField64::from(x)
+            .try_inverse()
+            .map(|y| Poly64::from(y))
 }
 
 fn inverses_agree_128(x: u128) -> bool {
     let x = Ghash128::new(x);
-    x.try_inverse() == BinaryField128::from(x).try_inverse().map(|y| Ghash128::from(y))
+    x.try_inverse()
+        == BinaryField128::from(x)
+            .try_inverse()
+            .map(|y| Ghash128::from(y))
 }
 
 #[test]

@@ -305,10 +305,7 @@ impl Level<u128> for Bits128 {
     // By the isomorphism with the polynomials modulo x^128 + x^7 + x^2 + x + 1, as at 64 bits.
     #[inline]
     fn multiply(x: u128, y: u128) -> u128 {
-        to_tower_128(multiply_mod_128(
-            to_polynomial_128(x),
-            to_polynomial_128(y),
-        ))
+        to_tower_128(multiply_mod_128(to_polynomial_128(x), to_polynomial_128(y)))
     }
 
     #[inline]

@@ -1,11 +1,12 @@
 // Carryless products, squares, remainders and roots, at corners that the argument of carry isolation turns on and at
 // published values.
 use bf_clmul::{
-    compact_64, compact_128, invert_mod_64, invert_mod_128, masked_product, masked_products, multiply_32, multiply_64,
-    multiply_64_twice, multiply_128, multiply_low_64, multiply_mod_64, multiply_mod_128, reduce_64,
-    reduce_128, split_64, split_128, spread_32, sqrt_mod_64, sqrt_mod_128, carryless_square_64,
-    carryless_square_128, square_3_times_mod_128, square_7_times_mod_128, square_14_times_mod_128,
-    square_28_times_mod_128, square_63_times_mod_128, square_mod_64, square_mod_128,
+    carryless_square_64, carryless_square_128, compact_64, compact_128, invert_mod_64,
+    invert_mod_128, masked_product, masked_products, multiply_32, multiply_64, multiply_64_twice,
+    multiply_128, multiply_low_64, multiply_mod_64, multiply_mod_128, reduce_64, reduce_128,
+    split_64, split_128, spread_32, sqrt_mod_64, sqrt_mod_128, square_3_times_mod_128,
+    square_7_times_mod_128, square_14_times_mod_128, square_28_times_mod_128,
+    square_63_times_mod_128, square_mod_64, square_mod_128,
 };
 
 /// The square of the 64 coefficients 1.

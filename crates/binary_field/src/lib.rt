@@ -4,9 +4,9 @@
 //! This crate holds nothing of its own: it passes on what the crates below it make public.
 #![tactic(auto)]
 
-pub use bf_aes::{ByteMatrix, LinearizedPoly8b, RijndaelMaps, columns_are_transposed};
 pub mod laws;
 
+pub use bf_aes::{ByteMatrix, LinearizedPoly8b, RijndaelMaps, columns_are_transposed};
 pub use bf_base::Gf2;
 pub use bf_base::traits::{
     Algebra, DotProduct, Field, PackedField, PackedFieldPow2, PackedValue, PrimeCharacteristicRing,
@@ -23,7 +23,6 @@ pub use bf_element::{
     BinaryField2, BinaryField4, BinaryField8, BinaryField16, BinaryField32, BinaryField64,
     BinaryField128, Ghash128, Poly64, Rijndael8b,
 };
-pub use bf_laws as laws;
 pub use bf_packed::{Packed, PackedRijndael8b, WiderField};
 pub use bf_poly_basis as poly_basis;
 pub use bf_transform::over;

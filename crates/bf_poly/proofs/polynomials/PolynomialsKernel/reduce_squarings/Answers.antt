@@ -27,8 +27,8 @@ returns-else-rest-lt-MANY_SQUARINGS-clause-squarings g c =
     let fewer = c.reduce_squarings-element.result.1 in
     let rest = c.args.count % c.bits.result in
     let in_tower : repeated_square 1 (tower_mul m.LEVEL) fewer squared ≡ repeated_square 1 (tower_mul m.LEVEL) rest element =
-        subst (λ (k : ℕ). repeated_square 1 (tower_mul k) fewer squared ≡ repeated_square 1 (tower_mul k) rest element)
-        (sym g.met.M.Modulus.level_law) c.reduce_squarings-element.ensures.squarings in
+    subst (λ (k : ℕ). repeated_square 1 (tower_mul k) fewer squared ≡ repeated_square 1 (tower_mul k) rest element)
+    (sym g.met.M.Modulus.level_law) c.reduce_squarings-element.ensures.squarings in
     ap (repeated_square 1 times fewer) c.to_polynomial.ensures ∙ sym (image_of fewer squared) ∙ ap image in_tower
     ∙ image_of rest element ∙ ap (repeated_square 1 times rest) c.to_tower.ensures.image
     ∙ ap (λ (b : ℕ). repeated_square 1 times (c.args.count % b) x) c.bits.ensures
