@@ -84,7 +84,7 @@ static REFERENCE: [(&[u8], &[u8]); 23] = [
 /// Lines of the fields of polynomials. By hand: x times its inverse is the modulus and 1, the product of the highest term and
 /// x is the rest of the modulus, and a square has the coefficients of its root at the even places. The other results are
 /// those of the Rust crate.
-static POLYNOMIALS: [(&[u8], &[u8]); 24] = [
+static POLYNOMIALS: [(&[u8], &[u8]); 26] = [
     (
         b"p64 add 0123456789ABCDEF fedcba9876543210",
         b"ffffffffffffffff",
@@ -135,7 +135,9 @@ static POLYNOMIALS: [(&[u8], &[u8]); 24] = [
     (b"P64 inv 0000000000000002", b"error 1"),
     (b"p128 inv 00000000000000000000000000000002", b"error 1"),
     (b"p192 add 01 01", b"error 1"),
-    (b"r8 mul 10 10", b"error 1"),
+    (b"r8 mul 57 83", b"c1"),
+    (b"r8 inv 53", b"ca"),
+    (b"r16 mul 1010 1010", b"error 1"),
 ];
 
 /// A line that is no text is refused before all else, and one that is text is not.
