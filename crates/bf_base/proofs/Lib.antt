@@ -9,16 +9,10 @@ pub mod ByteTableSums
 pub mod CarrylessFacts
 pub mod CarrylessPairs
 pub mod CarrylessProduct
-pub mod CubicField
-pub mod CubicRing
 pub mod DotLemmas
 pub mod FieldLemmas
-pub mod FrobeniusRounds
-mod LaneAnswers
-pub mod LaneRing
 pub mod LinearMapLemmas
 pub mod Norms
-pub mod PowerItems
 pub mod PowerLemmas
 pub mod QuadraticProducts
 pub mod QuadraticRing
@@ -27,7 +21,6 @@ pub mod RemainderDot
 pub mod RemainderLaws
 pub mod RemainderRing
 pub mod RingLemmas
-pub mod Spaces
 pub mod TableChecks
 pub mod TowerBasisLemmas
 mod TowerFacts

@@ -1,23 +1,13 @@
 // The traits of rings and fields of characteristic two whose elements are stored as numbers.
 
 mod algebra;
-mod extension;
 mod field;
-mod packing;
-mod powers;
 mod represented;
 mod ring;
-mod space;
 mod tower_level;
 
 pub use crate::traits::algebra::Algebra;
-pub use crate::traits::extension::{
-    AlgebraIdentity, ExtensionField, HasFrobenius, PackedFieldExtension,
-};
 pub use crate::traits::field::Field;
-pub use crate::traits::packing::{PackedField, PackedFieldPow2, PackedValue};
-pub use crate::traits::powers::{HasPowers, Powers};
 pub use crate::traits::represented::{Represented, product_of_items, sum_of_items};
 pub use crate::traits::ring::{DotProduct, PrimeCharacteristicRing};
-pub use crate::traits::space::{BasedVectorSpace, BasisCoefficients};
 pub use crate::traits::tower_level::{Sealed, TowerLevel};

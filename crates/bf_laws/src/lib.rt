@@ -3,7 +3,6 @@
 
 ghost use Rattle.bf_base.specs.Basis.{RootsGiveHomomorphism};
 ghost use Rattle.bf_base.specs.Carryless.{ConvCountsPairs, ConvIsProduct};
-ghost use Rattle.bf_base.specs.Cubic.{CubicFrobenius, CubicIsField, CubicIsRing, NoFieldHasACubicRoot};
 ghost use Rattle.bf_base.specs.Field.{FieldsHaveLaws};
 ghost use Rattle.bf_base.specs.Remainder.{MulModIsRemainder, MulModIsRing, RemIsRemainder, RemainderIsUnique};
 ghost use Rattle.bf_base.specs.Tower.{TowerIsRing};
@@ -23,16 +22,6 @@ pub fn tower_is_field()
     ensures root_inverses { RootInverse }
     ensures traces { TracesAreOne }
     ensures field { TowerIsField }
-{}
-
-/// States that the cubic extension of a ring by a root y of y³ + y + 1 is a ring. A field whose bits leave 1 modulo 3 has no root
-/// of that polynomial, so that its cubic extension is a field: each element but 0 has an inverse. As many squarings as an element
-/// of the smaller field has bits take y to y².
-pub fn cubic_is_field()
-    ensures ring { CubicIsRing }
-    ensures no_root { NoFieldHasACubicRoot }
-    ensures field { CubicIsField }
-    ensures frobenius { CubicFrobenius }
 {}
 
 /// States what holds in every field of characteristic two whose elements are numbers: no zero divisors, one inverse, which

@@ -3,7 +3,7 @@ use Rattle.std.proofs.Common.{◌≡◌, ◌≢◌, ◌⊎◌, inl, inr, ℕ, ze
 use Rattle.std.specs.Prelude.{slice_index_or, slice_set}
 use Rattle.std.proofs.lemmas.List.{get_or-set_same, get_or-set_other}
 use native.Mathlib.Nat.{eq-or-lt_of_le}
-use Rattle.bf_base.specs.Lanes.{lane_by_lane}
+use Rattle.bf_packing.specs.Lanes.{lane_by_lane}
 
 -- an entry of a list, whatever stands for those past its end
 pub same_entry : {A : Type 0} → (xs : List A) (i : ℕ) (d e : A) → i < length xs → slice_index_or xs i d ≡ slice_index_or xs i e

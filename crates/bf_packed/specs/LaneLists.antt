@@ -7,9 +7,9 @@ use lib.Pointwise.{pointwise, pointwise_decides}
 use native.Mathlib.Nat.{add-zero, one-mul, zero-mul}
 use Rattle.bf_base.specs.BitRing.{two_cases}
 use lib.Arith.{digits_lt}
-use Rattle.bf_base.specs.Lanes.{joined, lane_by_lane, lane_product}
+use Rattle.bf_packing.specs.Lanes.{joined, lane_by_lane, lane_product}
 use Rattle.bf_base.specs.Ring.{IsRing}
-use Rattle.bf_base.proofs.LaneRing.{more_lanes}
+use Rattle.bf_packing.proofs.LaneRing.{more_lanes}
 use Rattle.bf_base.proofs.RingLemmas.{mod-times, times-mod}
 
 -- ---- one element in every lane

@@ -2,7 +2,7 @@
 ghost use Rattle.std.specs.Prelude.{◌≡◌, ◌≢◌, ◌<◌, ◌*◌, ◌^◌, ℕ, List, bit_xor, length, map, replicate, refl};
 ghost use Rattle.std.proofs.Common.{sym, ◌∙◌, ap};
 ghost use Rattle.std.proofs.lemmas.List.{length-replicate};
-ghost use Rattle.bf_base.specs.Lanes.{joined, lane_by_lane, lane_product};
+ghost use Rattle.bf_packing.specs.Lanes.{joined, lane_by_lane, lane_product};
 ghost use Rattle.bf_packed.specs.LaneLists.{every_below, every_zero, lanes_below, lanes_same, map-replicate, product_number, sum_number};
 
 mod bits;
@@ -119,7 +119,7 @@ fn multiply_lanes<F: Field>(left: &mut [F], right: &[F])
 }
 
 impl<F: WiderField, const N: usize> Represented for Packed<F, N> {
-    ghost use Rattle.bf_base.proofs.LaneRing.{lanes_ring};
+    ghost use Rattle.bf_packing.proofs.LaneRing.{lanes_ring};
     ghost use Rattle.bf_packed.specs.Packed.{same_packed};
 
     ghost width = { N * F.width };

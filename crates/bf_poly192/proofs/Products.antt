@@ -3,10 +3,10 @@ use Rattle.std.proofs.Common.{◌≡◌, ℕ, ◌^◌, ◌<◌, ◌∙◌, ap₂
 use Rattle.std.specs.Prelude.{bit_xor}
 use Rattle.std.proofs.lemmas.Nat.{xor_comm}
 use lib.Bits.{xor_assoc, xor_self, xor_zero_r}
-use Rattle.bf_base.specs.Cubic.{cubic, triple}
+use Rattle.bf_cubic.specs.Cubic.{cubic, triple}
 use Rattle.bf_base.specs.Ring.{IsRing}
-use Rattle.bf_base.proofs.CubicField.{adjugate_0, adjugate_1, adjugate_2, cubic-square}
-use Rattle.bf_base.proofs.CubicRing.{cubic-triples, same₃}
+use Rattle.bf_cubic.proofs.CubicField.{adjugate_0, adjugate_1, adjugate_2, cubic-square}
+use Rattle.bf_cubic.proofs.CubicRing.{cubic-triples, same₃}
 use Rattle.bf_base.proofs.RingLemmas.{sum_times, times-zero, xor_cancel, xor_left_comm}
 
 module _ (width : ℕ) (times : ℕ → ℕ → ℕ) (ring : IsRing width 1 times) where

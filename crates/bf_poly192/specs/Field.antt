@@ -1,12 +1,12 @@
 -- Lemmas that the impl of the kernel names: the cubic extension of GF(2^64) is a field.
 use Rattle.std.specs.Prelude.{◌≢◌, ◌≤◌, ◌^◌, ◌<◌, refl}
 use Rattle.std.proofs.Common.{arith, lit<}
-use Rattle.bf_base.specs.Cubic.{cubic, triple}
+use Rattle.bf_cubic.specs.Cubic.{cubic, triple}
 use Rattle.bf_base.specs.Field.{IsField}
 use Rattle.bf_base.specs.Orders.{HasFullOrder}
 use Rattle.bf_base.specs.Remainder.{mul_mod, poly64_modulus}
-use Rattle.bf_base.proofs.CubicField.{cubic_is_field}
-use Rattle.bf_base.proofs.CubicRing.{triple-lt}
+use Rattle.bf_cubic.proofs.CubicField.{cubic_is_field}
+use Rattle.bf_cubic.proofs.CubicRing.{triple-lt}
 use Rattle.bf_basis.proofs.Isomorphisms.{field_64}
 use Rattle.bf_poly192.specs.Triple.{number_of}
 use Rattle.bf_poly192.specs.declared.triple.Triple.{Triple}

@@ -4,9 +4,9 @@ use Rattle.std.proofs.Common.{sym, ◌∙◌, ap}
 use Rattle.std.proofs.lemmas.Nat.{pow_pos}
 use mathlib.Core.HLevel.{is_prop→PathP}
 use native.Mathlib.Bridge.{le_prop}
-use Rattle.bf_base.specs.Cubic.{triple}
-use Rattle.bf_base.specs.Spaces.{chunk}
-use Rattle.bf_base.proofs.CubicRing.{chunk_below, first-triple, second-triple, third-triple}
+use Rattle.bf_cubic.specs.Cubic.{triple}
+use Rattle.bf_base.specs.Chunks.{chunk}
+use Rattle.bf_cubic.proofs.CubicRing.{chunk_below, first-triple, second-triple, third-triple}
 use Rattle.bf_poly192.specs.declared.triple.Triple.{Triple}
 
 -- the number of three words, the first lowest

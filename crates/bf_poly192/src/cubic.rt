@@ -1,7 +1,7 @@
 // The arithmetic of the cubic extension on three words: products by six products of words, and the inverse by the adjugate, whose
 // product with the element is its norm, an element of GF(2^64).
 ghost use Rattle.std.specs.Prelude.{◌≡◌, ◌≢◌, ◌<◌, ◌^◌};
-ghost use Rattle.bf_base.specs.Cubic.{cubic};
+ghost use Rattle.bf_cubic.specs.Cubic.{cubic};
 ghost use Rattle.bf_base.specs.Remainder.{mul_mod, poly64_modulus};
 ghost use Rattle.bf_poly192.specs.Triple.{number_of};
 

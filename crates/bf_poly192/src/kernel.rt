@@ -1,7 +1,7 @@
 // The kernel of the cubic extension of GF(2^64).
 ghost use Rattle.std.specs.Prelude.{◌≡◌, ◌≢◌, ◌<◌, ◌≤◌, ◌^◌, ℕ, refl};
 ghost use Rattle.std.proofs.Common.{arith, lit<, lit≤};
-ghost use Rattle.bf_base.specs.Cubic.{cubic, triple};
+ghost use Rattle.bf_cubic.specs.Cubic.{cubic, triple};
 ghost use Rattle.bf_base.specs.Remainder.{mul_mod, poly64_modulus};
 ghost use Rattle.bf_poly192.specs.Field.{field_192, fits_192, generator_nonzero_192, generator_order_192};
 ghost use Rattle.bf_poly192.specs.Triple.{number_of, words_of};

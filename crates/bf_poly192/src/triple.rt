@@ -16,7 +16,7 @@ pub struct Triple {
 
 impl Word for Triple {
     ghost use Rattle.std.proofs.Common.{lit<, rules};
-    ghost use Rattle.bf_base.proofs.CubicRing.{triple-chunks};
+    ghost use Rattle.bf_cubic.proofs.CubicRing.{triple-chunks};
     ghost use Rattle.bf_poly192.specs.Triple.{low_word, number_of, same_number, words_law, words_of};
 
     ghost number = { number_of };

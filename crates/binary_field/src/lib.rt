@@ -9,8 +9,7 @@ pub mod laws;
 pub use bf_aes::{ByteMatrix, LinearizedPoly8b, RijndaelMaps, columns_are_transposed};
 pub use bf_base::Gf2;
 pub use bf_base::traits::{
-    Algebra, DotProduct, Field, PackedField, PackedFieldPow2, PackedValue, PrimeCharacteristicRing,
-    Represented, TowerLevel,
+    Algebra, DotProduct, Field, PrimeCharacteristicRing, Represented, TowerLevel,
 };
 pub use bf_basis::{LinearMap, to_polynomial_slice_64, to_tower_slice_64};
 pub use bf_bitslice::{
@@ -24,5 +23,10 @@ pub use bf_element::{
     BinaryField128, Ghash128, Poly64, Rijndael8b,
 };
 pub use bf_packed::{Packed, PackedRijndael8b, WiderField};
+pub use bf_packing::{PackedField, PackedFieldPow2, PackedValue};
 pub use bf_poly_basis as poly_basis;
+pub use bf_space::{
+    AlgebraIdentity, BasedVectorSpace, BasisCoefficients, ExtensionField, HasFrobenius, HasPowers,
+    PackedFieldExtension, Powers,
+};
 pub use bf_transform::over;

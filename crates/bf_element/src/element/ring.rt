@@ -10,17 +10,17 @@ use bf_base::traits::{Field, PrimeCharacteristicRing, Represented, Sealed, Tower
 use bf_base::{Gf2, Kernel, LevelKernel, Unsigned, Word};
 use std::marker::PhantomData;
 
-impl<R: Word, K: Kernel<R>> Element<R, K> {
-    // The element squared `count` times.
-    fn squarings(self, count: usize) -> Element<R, K>
-        ensures { R.number result.repr ≡ repeated_square 1 K.product count (R.number self.repr) }
-    {
-        let mut value = self;
-        for _ in 0..count {
-            value = value.square();
-        }
-        value
+// The word of an element, squared `count` times.
+fn squarings<R: Word, K: Kernel<R>>(word: R, count: usize) -> R
+    requires { R.number word < 2 ^ K.width }
+    ensures fits { R.number result < 2 ^ K.width }
+    ensures squares { R.number result ≡ repeated_square 1 K.product count (R.number word) }
+{
+    let mut squared = word;
+    for _ in 0..count {
+        squared = K::square(squared);
     }
+    squared
 }
 
 impl<R: Word, K: Kernel<R>> Represented for Element<R, K> {
@@ -95,12 +95,11 @@ impl<R: Word, K: Kernel<R>> PrimeCharacteristicRing for Element<R, K> {
 
     // The kernel reduces the count by the bits first.
     fn exp_power_of_2(&self, count: usize) -> Element<R, K> {
-        let (repr, rest) = K::reduce_squarings(self.repr, count);
-        let element = Element {
-            repr,
+        let (word, rest) = K::reduce_squarings(self.repr, count);
+        Element {
+            repr: squarings::<R, K>(word, rest),
             field: PhantomData,
-        };
-        element.squarings(rest)
+        }
     }
 
     // The kernel reduces the sum of the products once.
@@ -197,6 +196,16 @@ impl<R: Word, K: HasPacking<R>> Field for Element<R, K> {
             repr: K::sqrt(self.repr),
             field: PhantomData,
         })
+    }
+
+    #[inline]
+    fn is_zero(&self) -> bool {
+        self.repr == R::ZERO
+    }
+
+    #[inline]
+    fn is_one(&self) -> bool {
+        self.repr == R::ONE
     }
 
     fn interpolation_node(i: usize) -> Element<R, K> {

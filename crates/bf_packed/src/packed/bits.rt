@@ -1,6 +1,6 @@
 // The operators of packings with an element of GF(2) on the right, which stands in every lane.
 ghost use Rattle.std.specs.Prelude.{◌≡◌, ◌*◌, bit_xor, map, replicate};
-ghost use Rattle.bf_base.specs.Lanes.{lane_by_lane};
+ghost use Rattle.bf_packing.specs.Lanes.{lane_by_lane};
 
 use crate::packed::{Packed, WiderField};
 use bf_base::Gf2;

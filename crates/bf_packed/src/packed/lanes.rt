@@ -2,7 +2,7 @@
 ghost use Rattle.std.specs.Prelude.{refl};
 
 use crate::packed::{Packed, WiderField};
-use bf_base::traits::{PackedField, PackedValue};
+use bf_packing::{PackedField, PackedValue};
 
 impl<F: WiderField, const N: usize> PackedValue for Packed<F, N> {
     ghost use Rattle.bf_packed.specs.Packed.{lanes_of, same_packed};

@@ -1,6 +1,6 @@
 // The operators of packings, and sums and products of many.
 ghost use Rattle.std.specs.Prelude.{◌≡◌, bit_xor, map, replicate};
-ghost use Rattle.bf_base.specs.Lanes.{joined, lane_by_lane, lane_product};
+ghost use Rattle.bf_packing.specs.Lanes.{joined, lane_by_lane, lane_product};
 ghost use Rattle.bf_base.specs.Powers.{product_of, sum_of};
 
 use crate::packed::{Packed, WiderField};

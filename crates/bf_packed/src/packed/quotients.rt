@@ -1,6 +1,6 @@
 // Quotients of packings, lane by lane.
 ghost use Rattle.std.specs.Prelude.{◌≡◌, ◌≢◌, ◌<◌, ℕ, length, map, replicate, slice_index_or};
-ghost use Rattle.bf_base.specs.Lanes.{lane_by_lane};
+ghost use Rattle.bf_packing.specs.Lanes.{lane_by_lane};
 
 use crate::packed::{Packed, WiderField};
 use bf_base::traits::Field;

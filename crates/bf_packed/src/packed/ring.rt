@@ -2,7 +2,7 @@
 ghost use Rattle.std.specs.Prelude.{◌≡◌, map, refl, replicate};
 ghost use Rattle.std.proofs.Common.{sym, ◌∙◌, ap};
 ghost use Rattle.std.proofs.lemmas.List.{length-replicate};
-ghost use Rattle.bf_base.specs.Lanes.{joined};
+ghost use Rattle.bf_packing.specs.Lanes.{joined};
 ghost use Rattle.bf_packed.specs.LaneLists.{equal_lanes, every_bit, every_zero, number_of_every, product_number, sum_number};
 
 use crate::packed::{Packed, WiderField};

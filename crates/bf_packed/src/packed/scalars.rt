@@ -2,7 +2,7 @@
 ghost use Rattle.std.specs.Prelude.{◌≡◌, bit_xor, map, refl, replicate};
 ghost use Rattle.std.proofs.Common.{sym, ◌∙◌, ap};
 ghost use Rattle.std.proofs.lemmas.List.{length-replicate};
-ghost use Rattle.bf_base.specs.Lanes.{joined, lane_by_lane, lane_product};
+ghost use Rattle.bf_packing.specs.Lanes.{joined, lane_by_lane, lane_product};
 ghost use Rattle.bf_packed.specs.LaneLists.{every_product, every_same, every_sum, number_of_every, product_number, sum_number};
 
 use crate::packed::{Packed, WiderField};

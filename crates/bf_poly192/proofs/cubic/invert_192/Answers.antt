@@ -2,9 +2,9 @@ use Rattle.std.proofs.Common.{◌≡◌, ℕ, ◌-◌, ◌^◌, refl, sym, ◌�
 use Rattle.std.specs.Prelude.{bit_xor}
 use Rattle.bf_base.specs.Powers.{power}
 use Rattle.bf_base.specs.Remainder.{mul_mod, poly64_modulus}
-use Rattle.bf_base.specs.Spaces.{chunk}
-use Rattle.bf_base.proofs.CubicField.{cubic_norm, norm-lt, norm_of_nonzero, scaled_adjugate}
-use Rattle.bf_base.proofs.CubicRing.{first-triple, second-triple, third-triple, triple-low}
+use Rattle.bf_base.specs.Chunks.{chunk}
+use Rattle.bf_cubic.proofs.CubicField.{cubic_norm, norm-lt, norm_of_nonzero, scaled_adjugate}
+use Rattle.bf_cubic.proofs.CubicRing.{first-triple, second-triple, third-triple, triple-low}
 use Rattle.bf_base.proofs.FieldLemmas.{power-inverts}
 use Rattle.bf_basis.proofs.Isomorphisms.{field_64}
 use Rattle.bf_poly192.proofs.Products.{adjugate_of_zero}

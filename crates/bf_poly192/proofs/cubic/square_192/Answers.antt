@@ -1,6 +1,6 @@
 use Rattle.std.proofs.lemmas.Nat.{xor_lt}
 use Rattle.bf_base.specs.Remainder.{mul_mod, poly64_modulus}
-use Rattle.bf_base.proofs.CubicField.{cubic-square}
+use Rattle.bf_cubic.proofs.CubicField.{cubic-square}
 use Rattle.bf_base.proofs.RemainderRing.{poly64_ring}
 use Rattle.bf_poly192.proofs.cubic.square_192.Goals as goal
 

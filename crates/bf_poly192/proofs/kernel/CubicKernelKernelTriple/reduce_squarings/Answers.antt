@@ -1,4 +1,4 @@
-use Rattle.bf_base.specs.Cubic.{cubic}
+use Rattle.bf_cubic.specs.Cubic.{cubic}
 use Rattle.bf_base.specs.Remainder.{mul_mod, poly64_modulus}
 use Rattle.bf_base.proofs.FieldLemmas.{field_repeated_square-mod_bits}
 use Rattle.bf_poly192.specs.Field.{field_192, fits_192}

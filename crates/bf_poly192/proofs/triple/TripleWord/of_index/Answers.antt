@@ -1,4 +1,4 @@
-use Rattle.bf_base.proofs.CubicRing.{triple-low}
+use Rattle.bf_cubic.proofs.CubicRing.{triple-low}
 use Rattle.bf_poly192.proofs.triple.TripleWord.of_index.Goals as goal
 
 pub returns : goal.returns

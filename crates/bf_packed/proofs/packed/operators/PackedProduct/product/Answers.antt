@@ -1,5 +1,5 @@
 use Rattle.std.proofs.Common.{ℕ, map, replicate, ◌∙◌, ap}
-use Rattle.bf_base.specs.Lanes.{joined}
+use Rattle.bf_packing.specs.Lanes.{joined}
 use Rattle.bf_packed.specs.LaneLists.{number_of_every}
 use Rattle.bf_packed.proofs.packed.operators.PackedProduct.product.Goals as goal
 

@@ -1,5 +1,5 @@
 use Rattle.std.proofs.Common.{ℕ, map, replicate, ◌∙◌, ap}
-use Rattle.bf_base.specs.Lanes.{joined}
+use Rattle.bf_packing.specs.Lanes.{joined}
 use Rattle.bf_packed.specs.LaneLists.{every_zero, number_of_every}
 use Rattle.bf_packed.proofs.packed.operators.PackedSum.sum.Goals as goal
 

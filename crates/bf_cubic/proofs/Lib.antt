@@ -1,0 +1,2 @@
+pub mod CubicField
+pub mod CubicRing

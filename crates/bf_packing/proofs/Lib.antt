@@ -1,0 +1,2 @@
+mod LaneAnswers
+pub mod LaneRing

@@ -1,0 +1,3 @@
+pub mod FrobeniusRounds
+pub mod PowerItems
+pub mod Spaces

@@ -1,0 +1,3 @@
+pub mod Items
+pub mod OneCoefficient
+pub mod PowerItems

@@ -1,0 +1,11 @@
+//! Elements as vectors over a smaller ring, extensions of fields, and powers of an element: the traits that folding and sum-check
+//! code is written over.
+#![tactic(auto)]
+
+mod extension;
+mod powers;
+mod space;
+
+pub use crate::extension::{AlgebraIdentity, ExtensionField, HasFrobenius, PackedFieldExtension};
+pub use crate::powers::{HasPowers, Powers};
+pub use crate::space::{BasedVectorSpace, BasisCoefficients};

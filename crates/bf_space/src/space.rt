@@ -1,0 +1,154 @@
+// Elements as vectors over a smaller ring, and fields as extensions of a smaller field.
+ghost use Rattle.std.specs.Prelude.{◌≡◌, ◌≢◌, ◌↔◌, ◌*◌, ◌+◌, ◌%◌, ◌^◌, ◌<◌, ◌≤◌, ℕ, List, map, length, IsTrue, IsNone, IfOk, IfSome, refl};
+ghost use Rattle.std.proofs.Common.{lit<, sym};
+ghost use native.Mathlib.Nat.{mul-one};
+ghost use Rattle.std.specs.Array.{FillsFrom};
+ghost use Rattle.std.specs.Iterator.{IsFinite};
+ghost use Rattle.std.specs.List.{flat_map};
+ghost use Rattle.bf_space.specs.OneCoefficient.{scales_one_coefficient};
+ghost use Rattle.bf_base.specs.Chunks.{chunk, chunks};
+ghost use Rattle.bf_space.specs.Items.{TakesOneMore};
+
+use bf_base::traits::{Field, PrimeCharacteristicRing};
+use std::alloc::{AllocError, Allocator};
+
+/// A ring whose elements are vectors over the ring `F`. Coefficient i of an element is chunk i of its representation, of as
+/// many bits as an element of `F` has, the lowest first. Each field is a space of dimension 1 over itself.
+pub trait BasedVectorSpace<F: PrimeCharacteristicRing>: PrimeCharacteristicRing {
+    /// How many coefficients an element has.
+    const DIMENSION: usize;
+
+    ghost DIMENSION: { ℕ };
+
+    /// Coefficient `i`, of which there have to be as many as the dimension.
+    fn basis_coefficient(&self, i: usize) -> F
+        requires { i < DIMENSION }
+        ensures { F.repr result ≡ chunk F.width i (Self.repr self.now) };
+
+    /// The element with `coefficient` in place `i`, at an element whose coefficients from there on are 0.
+    fn with_basis_coefficient(self, i: usize, coefficient: F) -> Self
+        requires place { i < DIMENSION }
+        requires below { Self.repr self < 2 ^ (F.width * i) }
+        ensures { Self.repr result ≡ F.repr coefficient * 2 ^ (F.width * i) + Self.repr self };
+
+    /// The coefficients of the elements, one element after the other, in a vector from `alloc`. It fails only where the
+    /// allocator refuses.
+    fn flatten_to_base<A: Allocator>(alloc: A, elements: &[Self]) -> Result<Vec<F, A>, AllocError>
+        ensures { IfOk result (λ flat. map F.repr flat.items ≡ flat_map (λ x. chunks F.width DIMENSION (Self.repr x)) elements.now) }
+    {
+        let mut flat = Vec::new(alloc);
+        for place in 0..elements.len() {
+            let element = elements[place];
+            for i in 0..Self::DIMENSION {
+                flat.push(element.basis_coefficient(i))?;
+            }
+        }
+        Ok(flat)
+    }
+
+    /// The elements of the coefficients, which have to be those of a whole number of elements, in a vector from `alloc`. It
+    /// fails only where the allocator refuses.
+    fn reconstitute_from_base<A: Allocator>(
+        alloc: A,
+        coefficients: &[F],
+    ) -> Result<Vec<Self, A>, AllocError>
+        requires { length coefficients.now % DIMENSION ≡ 0 }
+        ensures { IfOk result (λ elements. flat_map (λ x. chunks F.width DIMENSION (Self.repr x)) elements.items ≡ map F.repr coefficients.now) }
+    {
+        let mut elements = Vec::new(alloc);
+        let mut element = Self::ZERO;
+        let mut i = 0;
+        for place in 0..coefficients.len() {
+            element = element.with_basis_coefficient(i, coefficients[place]);
+            i += 1;
+            if i == Self::DIMENSION {
+                elements.push(element)?;
+                element = Self::ZERO;
+                i = 0;
+            }
+        }
+        Ok(elements)
+    }
+
+    /// The element whose coefficient i is `f(i)`. `f` is called for 0, 1, .., below the dimension, in order, each once.
+    final fn from_basis_coefficients_fn<G: FnMut(usize) -> F>(mut f: G) -> Self
+        requires { G.IsAlwaysCallable f }
+        ensures { (coefficients : List F) × (last : G) × FillsFrom G.step f 0 coefficients last × (map F.repr coefficients ≡ chunks F.width DIMENSION (Self.repr result)) }
+    {
+        let mut element = Self::ZERO;
+        for i in 0..Self::DIMENSION {
+            element = element.with_basis_coefficient(i, f(i));
+        }
+        element
+    }
+
+    /// The element of the coefficients that `iter` gives, the lowest first, and None where they are not as many as the
+    /// dimension. It takes at most one item more than that. `iter` has to be one that ends.
+    final fn from_basis_coefficients_iter<I: Iterator<Item = F>>(mut iter: I) -> Option<Self>
+        requires can { I.can_next iter }
+        requires finite { IsFinite (I.remaining iter) }
+        ensures { (coefficients : List F) × TakesOneMore I.next_gives iter DIMENSION coefficients × (IsNone result ↔ (length coefficients ≢ DIMENSION)) × IfSome result (λ x. map F.repr coefficients ≡ chunks F.width DIMENSION (Self.repr x)) }
+    {
+        let mut element = Self::ZERO;
+        for i in 0..Self::DIMENSION {
+            match iter.next() {
+                Some(coefficient) => element = element.with_basis_coefficient(i, coefficient),
+                None => return None,
+            }
+        }
+        match iter.next() {
+            Some(_) => None,
+            None => Some(element),
+        }
+    }
+
+    ghost dimension_law: { 0 < DIMENSION };
+
+    ghost space_law: { Self.width ≡ F.width * DIMENSION };
+
+    // An element of `F`, as coefficient 0 of an element, multiplies each coefficient of another.
+    ghost scale_law: { (i c a : ℕ) → i < DIMENSION → c < 2 ^ F.width → chunk F.width i (Self.product c a) ≡ F.product c (chunk F.width i a) };
+}
+
+/// A vector space whose elements show their coefficients as an array.
+pub trait BasisCoefficients<F: PrimeCharacteristicRing>: BasedVectorSpace<F> {
+    /// The array of an element's coefficients.
+    type Coefficients;
+
+    // Its elements, as a list.
+    ghost listed: { Self.Coefficients → List F };
+
+    /// The coefficients, the lowest first.
+    fn as_basis_coefficients(&self) -> Self::Coefficients
+        ensures { map F.repr (listed result) ≡ chunks F.width Self.DIMENSION (Self.repr self.now) };
+}
+
+impl<F: Field> BasedVectorSpace<F> for F {
+    const DIMENSION: usize = 1;
+
+    ghost DIMENSION = { 1 };
+
+    ghost dimension_law = { lit< tt };
+
+    ghost space_law = { sym (mul-one F.width) };
+
+    ghost scale_law = { scales_one_coefficient F.width F.unit F.product F.ring_law };
+
+    fn basis_coefficient(&self, _i: usize) -> F {
+        *self
+    }
+
+    fn with_basis_coefficient(self, _i: usize, coefficient: F) -> F {
+        coefficient
+    }
+}
+
+impl<F: Field> BasisCoefficients<F> for F {
+    type Coefficients = [F; 1];
+
+    ghost listed = { λ cs. cs };
+
+    fn as_basis_coefficients(&self) -> [F; 1] {
+        [*self]
+    }
+}
