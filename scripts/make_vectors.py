@@ -19,7 +19,7 @@ import sys
 
 FOLDER = pathlib.Path(__file__).resolve().parent.parent / "crates/bf_vectors"
 TOWER = ["gf2", "t2", "t4", "t8", "t16", "t32", "t64", "t128"]
-POLYNOMIAL = ["p64", "g128"]
+POLYNOMIAL = ["r8", "p64", "g128"]
 # How many rows are kept of the products by the root, of the repeated squarings, of the elements that change their basis,
 # and of those on which the mixed operators go; and the lengths of the dot products and of the polynomials.
 PRODUCTS_BY_ROOT = 6
@@ -28,6 +28,11 @@ CONVERTED = 4
 MIXED = 2
 DOT_PRODUCTS = [0, 1, 3, 17]
 POLYNOMIALS = [0, 1, 2, 20, 65, 128]
+# The lengths of the slices, of each of which the last row is kept; the most values of the runs of low stages; and how many
+# matrices, polynomials and elements of the byte field.
+SLICES = [0, 1, 2, 5, 17, 257]
+LOW_STAGES = 64
+BYTE_MAPS = 3
 # The operators between two fields: their name, and in how many ways each is computed. A sum is a difference too.
 OPERATORS = {"*": ("products", 2), "+": ("sums", 5), "-": ("sums", 5)}
 # Lines that are no calls, or whose operands the function does not take.
@@ -46,6 +51,13 @@ REFUSED = [
     "p64/t8 quotients 1 1",
     "dot_powers_of_x " + ",".join(["1"] * 129),
     "masked_product 1 1 4 0",
+    "butterfly_forward 1 1,2 1",
+    "mul_slice 1",
+    "low_stages 1,2,3 1,2,3 0 -",
+    "low_stages 1,2,3,4 1,2,3 0 1,2",
+    "low_stages 1,2,3,4 1,2,3 1 0,0,0,0,0,0,0,0,0,0,0,0,0,0,0,0",
+    "apply_slice 1,2,3 4",
+    "eval 1,2,3,4,5,6,7,8 100",
     "masked_product 2 1 0 0",
     "to_tower_8 100",
     "to_tower_16 1",
@@ -61,6 +73,7 @@ CALLS = {
     "t32": 39,
     "t64": 42,
     "t128": 45,
+    "r8": 33,
     "p64": 42,
     "g128": 45,
     "operators between two fields": 30,
@@ -68,7 +81,10 @@ CALLS = {
     "masked products": 64,
     "changes of basis": 72,
     "a linear map": 1,
-    "no calls": 18,
+    "slices": 18,
+    "low stages": 12,
+    "maps of bytes": 42,
+    "no calls": 25,
 }
 HEAD = """\
 # Calls of the library, and in stdout their answers by the Rust crate p3-binary-field 0.8.0; drawn from the seed {seed}.
@@ -224,6 +240,50 @@ def linear_maps(vectors):
     yield call, listed(results_of(row))
 
 
+def slices(vectors):
+    """Products of slices by a scalar, and butterflies, which give both slices, the low one first."""
+    for length in SLICES:
+        row = [row for row in vectors["mul_slice"] if len(row["in"]) == length][-1]
+        yield f"mul_slice {number(row['scalar'])} {listed(row['in'])}", listed(row["out"])
+        for name in ("butterfly_forward", "butterfly_inverse"):
+            row = [row for row in vectors[name] if len(row["lo"]) == length][-1]
+            call = f"{name} {number(row['scalar'])} {listed(row['lo'])} {listed(row['hi'])}"
+            yield call, listed(row["lo_out"] + row["hi_out"])
+
+
+def low_stages(vectors):
+    """Runs of the low stages, by twiddles that were drawn and by those of Cantor points."""
+    for row in vectors["low_stages_forward"]:
+        if len(row["in"]) <= LOW_STAGES:
+            call = f"low_stages {listed(row['shifts'])} {listed(row['basis'])} {int(row['first_run']):x} {listed(row['in'])}"
+            yield call, listed(row["out"])
+
+
+def digits_of(text):
+    """The bytes of a text of two digits each."""
+    return [text[at : at + 2] for at in range(0, len(text), 2)]
+
+
+def byte_maps(vectors):
+    """Matrices of 8 by 8 bits, linearized polynomials, and the maps of elements of the byte field."""
+    for row in vectors["byte_matrix"][-BYTE_MAPS:]:
+        images = listed(row["images"])
+        yield f"compose {images} {listed(row['first_images'])}", listed(row["compose_images"])
+        yield f"to_quadword {images}", number(row["quadword"])
+        yield f"from_quadword {number(row['from_quadword'])}", listed(row["from_quadword_images"])
+        for applied in row["apply_slice"]:
+            if len(applied["in"]) // 2 in SLICES + [40]:
+                yield f"apply_slice {images} {listed(digits_of(applied['in']))}", listed(digits_of(applied["out"]))
+    for row in vectors["linearized_poly8b"][-BYTE_MAPS:]:
+        coefficients, values = listed(row["coefficients"]), digits_of(row["eval_all"])
+        yield f"to_matrix {coefficients}", listed(row["matrix_images"])
+        for x in (0x00, 0x01, 0x53, 0xFF):
+            yield f"eval {coefficients} {x:x}", number(values[x])
+    for row in vectors["rijndael8b"]["scaling"][-BYTE_MAPS:]:
+        yield f"scaling_matrix {number(row['s'])}", listed(row["images"])
+        yield f"frobenius_orbit {number(row['s'])}", listed(row["orbit"])
+
+
 def chosen(vectors):
     """The calls and their answers under each heading."""
     sections = {field: field_calls(vectors, field) for field in TOWER + POLYNOMIAL}
@@ -232,6 +292,9 @@ def chosen(vectors):
     sections["masked products"] = list(masked_products(vectors))
     sections["changes of basis"] = list(changes_of_basis(vectors))
     sections["a linear map"] = list(linear_maps(vectors))
+    sections["slices"] = list(slices(vectors))
+    sections["low stages"] = list(low_stages(vectors))
+    sections["maps of bytes"] = list(byte_maps(vectors))
     sections["no calls"] = [(line, "error") for line in REFUSED]
     return sections
 
@@ -266,7 +329,7 @@ def check():
     if {name: len(rows) for name, rows in sections.items()} != CALLS:
         sys.exit("there are not as many calls under each heading as are kept")
     for name, rows in sections.items():
-        form = "error" if name == "no calls" else "[0-9a-f]+(,[0-9a-f]+)*"
+        form = "error" if name == "no calls" else "-|[0-9a-f]+(,[0-9a-f]+)*"
         if not all(re.fullmatch(form, answer) for _, answer in rows):
             sys.exit(f"an answer under {name} has another form")
 

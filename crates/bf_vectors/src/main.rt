@@ -9,6 +9,8 @@
 //! | `t8 mul_alpha 53`, `t8 dot_product 1,2 3,4` | what a call of a field gives |
 //! | `p64/t8 sums 1 2`, `p64/t8 products 1 2` | what the operators of a field give with an element of a level on the right |
 //! | `dot_powers_of_x 1,2,3`, `to_tower_64 13` | what a function of one type gives |
+//! | `butterfly_forward 2 1,2 3,4`, `low_stages 1,2,3,4 5,6,7 0 -` | the slices that a function changes, one after the other |
+//! | `compose 1,2,..,80 1,2,..,80`, `eval 1,0,0,0,0,0,0,0 53` | the images of a matrix of bits, or a value of a polynomial |
 //!
 //! The file `stdout` has the crate's answers to the calls of `stdin`, which were drawn from the seed 20261122.
 //! scripts/make_vectors.py writes both.
@@ -16,11 +18,13 @@
 
 mod algebras;
 mod basis;
+mod bytes;
 mod fault;
 mod fields;
 mod linear_map;
 mod masked;
 mod reading;
+mod slices;
 
 use crate::algebras::{ghash_call, poly64_call};
 use crate::fault::Fault;
@@ -28,7 +32,7 @@ use crate::fields::{field_call, value_at_x};
 use bf_base::Gf2;
 use bf_element::{
     BinaryField2, BinaryField4, BinaryField8, BinaryField16, BinaryField32, BinaryField64,
-    BinaryField128, Ghash128, Poly64,
+    BinaryField128, Ghash128, Poly64, Rijndael8b,
 };
 use bf_tower::{Bits8, Bits16, Bits32, Bits64, Bits128};
 use std::alloc::{AllocError, Global};
@@ -49,6 +53,17 @@ fn answer(alloc: Global, name: &str, call: &[&str]) -> Result<Vec<u128>, Fault> 
         "g128/t128" => ghash_call::<u128, Bits128>(alloc, call),
         "linear_map" => linear_map::sample(alloc, call),
         "masked_products" => masked::products(alloc, call),
+        "mul_slice" | "butterfly_forward" | "butterfly_inverse" | "low_stages" => {
+            slices::changed(alloc, name, call)
+        }
+        "apply_slice"
+        | "compose"
+        | "to_quadword"
+        | "from_quadword"
+        | "scaling_matrix"
+        | "frobenius_orbit"
+        | "eval"
+        | "to_matrix" => bytes::mapped(alloc, name, call),
         _ => Ok(vec![in alloc; number(alloc, name, call)?]?),
     }
 }
@@ -64,6 +79,7 @@ fn number(alloc: Global, name: &str, call: &[&str]) -> Result<u128, Fault> {
         "t32" => field_call::<BinaryField32>(alloc, call),
         "t64" => field_call::<BinaryField64>(alloc, call),
         "t128" => field_call::<BinaryField128>(alloc, call),
+        "r8" => field_call::<Rijndael8b>(alloc, call),
         "p64" => field_call::<Poly64>(alloc, call),
         "g128" => field_call::<Ghash128>(alloc, call),
         "dot_powers_of_x" => value_at_x(alloc, call),
@@ -74,6 +90,9 @@ fn number(alloc: Global, name: &str, call: &[&str]) -> Result<u128, Fault> {
 
 /// The numbers with commas between them.
 fn listed(alloc: Global, numbers: &[u128]) -> Result<String, AllocError> {
+    if numbers.is_empty() {
+        return String::from_str(alloc, "-");
+    }
     let mut text = String::new(alloc);
     for (place, number) in numbers.iter().enumerate() {
         let comma = if place == 0 { "" } else { "," };
