@@ -14,6 +14,9 @@ pub struct Arithmetic<W> {
     pub square_root: Unary<W>,
 }
 
+/// Replaces bytes by what a matrix of eight images makes of them.
+pub type ByteMap = fn(&[u8; 8], &mut [u8]);
+
 /// The functions of one side for a field of polynomials whose elements are words `W`, besides those of `Arithmetic`.
 pub struct Polynomials<W> {
     /// Writes the dot product of two slices.

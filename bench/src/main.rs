@@ -8,7 +8,7 @@ mod ours;
 mod theirs;
 mod timing;
 
-use arithmetic::{Arithmetic, Polynomials, Unary, Word};
+use arithmetic::{Arithmetic, ByteMap, Polynomials, Unary, Word};
 use std::hint::black_box;
 use std::process::ExitCode;
 use std::time::Duration;
@@ -101,6 +101,12 @@ impl Report {
     }
 
     fn fields_of_polynomials(&mut self) {
+        print_heading("Rijndael8b");
+        self.field(&sides!(
+            ours::rijndael(),
+            theirs::field::<rust::Rijndael8b>()
+        ));
+        self.bytes(&sides!(ours::apply_matrix as ByteMap, theirs::apply_matrix as ByteMap));
         print_heading("Poly64");
         self.field(&sides!(ours::poly64(), theirs::field::<rust::Poly64>()));
         self.basis(&sides!(ours::basis64(), theirs::basis64()));
@@ -130,6 +136,18 @@ impl Report {
         self.unary("square, throughput", sides, left, |side| side.square);
         self.unary("inverse, throughput", sides, left, |side| side.inverse);
         self.unary("square root, thr.", sides, left, |side| side.square_root);
+    }
+
+    /// The row of matrices of 8 by 8 bits.
+    fn bytes(&mut self, sides: &[ByteMap]) {
+        let mut random = Random(9);
+        let images: &[u8] = &random.elements(8);
+        let images: &[u8; 8] = images.try_into().expect("eight images");
+        let bytes: &[u8] = &random.elements(LENGTH);
+        self.row("matrix, in place", sides, bytes, |side| {
+            let apply = *side;
+            Some(move |out: &mut [u8]| apply(black_box(images), out))
+        });
     }
 
     /// The rows that a field of polynomials has besides.

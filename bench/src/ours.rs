@@ -78,6 +78,15 @@ ours!(
     bf_square_root_8
 );
 ours!(
+    rijndael,
+    u8,
+    bf_multiply_rijndael,
+    bf_chain_rijndael,
+    bf_square_rijndael,
+    bf_inverse_rijndael,
+    bf_square_root_rijndael
+);
+ours!(
     field16,
     u16,
     bf_multiply_16,
@@ -204,6 +213,7 @@ polynomials!(
 );
 
 unsafe extern "C" {
+    fn bf_apply_matrix(images: *const [u8; 8], bytes: *mut u8, length: usize);
     fn bf_linear_map_ghash128(
         images: *const u128,
         images_length: usize,
@@ -212,6 +222,12 @@ unsafe extern "C" {
         values: *mut u128,
         values_length: usize,
     );
+}
+
+/// Replaces each byte by what the matrix of these images makes of it.
+pub fn apply_matrix(images: &[u8; 8], bytes: &mut [u8]) {
+    // SAFETY: the pointers are those of an array and of a slice.
+    unsafe { bf_apply_matrix(images, bytes.as_mut_ptr(), bytes.len()) }
 }
 
 // It makes the map's tables in each call, as `Ghash128::try_apply_linear_map_into` does.

@@ -2,7 +2,9 @@
 
 use crate::LENGTH;
 use crate::arithmetic::{Arithmetic, Polynomials, Word};
-use p3_binary_field::{BinaryField64, BinaryField128, Ghash128, Poly64, TowerLevel, poly_basis};
+use p3_binary_field::{
+    BinaryField64, BinaryField128, ByteMatrix, Ghash128, Poly64, TowerLevel, poly_basis,
+};
 
 /// The functions of the field `F`.
 pub fn field<F: TowerLevel>() -> Arithmetic<F::Repr>
@@ -36,6 +38,11 @@ fn each<F: TowerLevel>(words: &[F::Repr], out: &mut [F::Repr], operation: impl F
     for (word, out) in words.iter().zip(out) {
         *out = operation(F::from_repr(*word)).to_repr();
     }
+}
+
+/// Replaces each byte by what the matrix of these images makes of it.
+pub fn apply_matrix(images: &[u8; 8], bytes: &mut [u8]) {
+    ByteMatrix::from_images(*images).apply_slice(bytes);
 }
 
 /// The functions of the change of basis at 64 bits. The crate has no slice form there that takes a slice, so a loop stands

@@ -5,6 +5,7 @@ ghost use Rattle.bf_ffi.specs.Words.{wide_number};
 use bf_base::traits::{Represented, TowerLevel};
 use bf_element::{
     BinaryField8, BinaryField16, BinaryField32, BinaryField64, BinaryField128, Ghash128, Poly64,
+    Rijndael8b,
 };
 
 /// A word that holds an element of the ring `R`.
@@ -28,6 +29,18 @@ impl Word<BinaryField8> for u8 {
     }
 
     fn from_element(element: BinaryField8) -> u8 {
+        element.to_repr()
+    }
+}
+
+impl Word<Rijndael8b> for u8 {
+    ghost number = { λ n. n };
+
+    fn element(self) -> Rijndael8b {
+        Rijndael8b::from_repr(self)
+    }
+
+    fn from_element(element: Rijndael8b) -> u8 {
         element.to_repr()
     }
 }
