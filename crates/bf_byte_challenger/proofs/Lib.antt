@@ -1,0 +1,3 @@
+-- Lemmas on runs of byte calls.
+pub mod Runs
+pub mod Buffers

@@ -1,0 +1,3 @@
+pub mod ByteCalls
+pub mod HashBuffers
+pub mod HashChallengers

@@ -1,0 +1,10 @@
+//! Byte challengers: transcripts that observe bytes and from which bytes are sampled, among them one over a hash function.
+#![tactic(auto)]
+
+mod byte_challenger;
+mod hash_challenger;
+mod hasher;
+
+pub use crate::byte_challenger::{ByteChallenger, runs_join};
+pub use crate::hash_challenger::HashChallenger;
+pub use crate::hasher::{ByteHasher32, Sha256Hasher};
