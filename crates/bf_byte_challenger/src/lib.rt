@@ -2,9 +2,11 @@
 #![tactic(auto)]
 
 mod byte_challenger;
+mod byte_runs;
 mod hash_challenger;
 mod hasher;
 
 pub use crate::byte_challenger::{ByteChallenger, runs_join};
+pub use crate::byte_runs::{observe_bytes, sample_bytes, sample_u64};
 pub use crate::hash_challenger::HashChallenger;
 pub use crate::hasher::{ByteHasher32, Sha256Hasher};
