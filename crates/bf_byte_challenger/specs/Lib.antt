@@ -1,3 +1,5 @@
 pub mod ByteCalls
+pub mod Guarded
+pub mod GuardedAnswers
 pub mod HashBuffers
 pub mod HashChallengers

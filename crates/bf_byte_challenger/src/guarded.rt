@@ -1,0 +1,115 @@
+// A byte challenger that is used no further once a call was refused.
+ghost use Rattle.std.specs.Prelude.{◌≡◌, ℕ, false, true, length, IfErr, IfOk, OnErr, OnOk};
+ghost use Rattle.std.specs.Int.{from_le_bytes, w64};
+ghost use Rattle.bf_byte_challenger.specs.ByteCalls.{bytes_sampled, observing, sampling, state_after};
+ghost use Rattle.bf_byte_challenger.specs.GuardedAnswers.{GuardedAnswer};
+
+use crate::byte_challenger::ByteChallenger;
+use crate::byte_runs::{observe_bytes, sample_bytes, sample_u64};
+use crate::error::ChallengerError;
+use std::alloc::AllocError;
+
+/// A byte challenger that is used no further once a call was refused: that call answers `Memory`, and each later one `Failed`. So
+/// no state that an unfinished call left is ever read.
+#[derive(Drop)]
+pub struct Guarded<C: ByteChallenger> {
+    inner: C,
+    has_failed: bool,
+    ghost fails_if_refused: { has_failed ≡ false → C.has_refused inner ≡ false },
+}
+
+impl<C: ByteChallenger> Guarded<C> {
+    ghost use Rattle.bf_byte_challenger.specs.Guarded.{failed_of, inner_of};
+
+    /// Guards `inner`, which has not refused. No call has failed yet.
+    pub fn new(inner: C) -> Guarded<C>
+        requires { C.has_refused inner ≡ false }
+        ensures inner { inner_of result ≡ inner }
+        ensures failed { failed_of result ≡ false }
+    {
+        Guarded {
+            inner,
+            has_failed: false,
+        }
+    }
+
+    /// Whether a call has failed.
+    pub fn failed(&self) -> bool
+        ensures { result ≡ failed_of self.now }
+    {
+        self.has_failed
+    }
+
+    /// Makes this a challenger that has failed, for a caller that was refused memory on its own account.
+    pub fn fail(&mut self)
+        ensures inner { inner_of self.new ≡ inner_of self.old }
+        ensures failed { failed_of self.new ≡ true }
+    {
+        self.has_failed = true;
+    }
+
+    /// Observes the bytes in order.
+    pub fn observe_bytes(&mut self, bytes: &[u8]) -> Result<(), ChallengerError>
+        ensures ok { OnOk result (C.state (inner_of self.new) ≡ state_after C.observed C.sampled (observing bytes.now) (C.state (inner_of self.old))) }
+        ensures answer { GuardedAnswer (failed_of self.old) (failed_of self.new) (C.has_refused (inner_of self.new)) result }
+    {
+        if self.has_failed {
+            return Err(ChallengerError::Failed);
+        }
+        match observe_bytes(&mut self.inner, bytes) {
+            Ok(()) => Ok(()),
+            Err(_) => {
+                self.has_failed = true;
+                Err(ChallengerError::Memory)
+            }
+        }
+    }
+
+    /// Samples as many bytes as `bytes` has, in order, and writes them there. After a failure what `bytes` holds is left open.
+    pub fn sample_bytes(&mut self, bytes: &mut [u8]) -> Result<(), ChallengerError>
+        ensures ok { OnOk result (C.state (inner_of self.new) ≡ state_after C.observed C.sampled (sampling (length bytes.old)) (C.state (inner_of self.old))) }
+        ensures bytes { OnOk result (bytes.new ≡ bytes_sampled C.observed C.sampled (sampling (length bytes.old)) (C.state (inner_of self.old))) }
+        ensures answer { GuardedAnswer (failed_of self.old) (failed_of self.new) (C.has_refused (inner_of self.new)) result }
+    {
+        if self.has_failed {
+            return Err(ChallengerError::Failed);
+        }
+        match sample_bytes(&mut self.inner, bytes) {
+            Ok(()) => Ok(()),
+            Err(_) => {
+                self.has_failed = true;
+                Err(ChallengerError::Memory)
+            }
+        }
+    }
+
+    /// Samples eight bytes and reads them as a number, lowest byte first.
+    pub fn sample_u64(&mut self) -> Result<u64, ChallengerError>
+        ensures ok { OnOk result (C.state (inner_of self.new) ≡ state_after C.observed C.sampled (sampling 8) (C.state (inner_of self.old))) }
+        ensures word { IfOk result (λ word. word ≡ from_le_bytes w64 (bytes_sampled C.observed C.sampled (sampling 8) (C.state (inner_of self.old)))) }
+        ensures answer { GuardedAnswer (failed_of self.old) (failed_of self.new) (C.has_refused (inner_of self.new)) result }
+    {
+        if self.has_failed {
+            return Err(ChallengerError::Failed);
+        }
+        match sample_u64(&mut self.inner) {
+            Ok(word) => Ok(word),
+            Err(_) => {
+                self.has_failed = true;
+                Err(ChallengerError::Memory)
+            }
+        }
+    }
+
+    /// A copy with the same state, which has failed exactly where this one has. It fails where memory was refused, and this one
+    /// then is as before.
+    pub fn try_clone(&self) -> Result<Guarded<C>, AllocError>
+        ensures state { IfOk result (λ copy. C.state (inner_of copy) ≡ C.state (inner_of self.now)) }
+        ensures failed { IfOk result (λ copy. failed_of copy ≡ failed_of self.now) }
+    {
+        Ok(Guarded {
+            inner: self.inner.try_clone()?,
+            has_failed: self.has_failed,
+        })
+    }
+}
