@@ -1,4 +1,4 @@
--- Lemmas on runs of byte calls.
-pub mod Runs
 pub mod Buffers
 pub mod GuardedLemmas
+pub mod Runs
+pub mod StandardFacts
