@@ -90,3 +90,33 @@ module _ {S : Type 0} (observed : S → ℕ → S) (sampled : S → ℕ × S) wh
       → now ≡ state_after observed sampled (sampling few) old → IsPartlyRun observed sampled (sampling count) old now
   sampling_is_partly_run few count old now fewer run =
       (few, rw (length-replicate count Sample) fewer, rw (take-sampling few count (omega (arith, fewer))) run)
+
+  -- calls that follow others, from the state that those left: the state, and the bytes, which are those of both
+  pub state_joined : (first second : List ByteCall) (old now next : S) → now ≡ state_after observed sampled first old
+      → next ≡ state_after observed sampled second now → next ≡ state_after observed sampled (first ++ second) old
+  state_joined first second old now next before after = rw (state_after-append first second old, ← before) after
+
+  pub bytes_joined : (first second : List ByteCall) (old now : S) (begun more : List ℕ)
+      → now ≡ state_after observed sampled first old → begun ≡ bytes_sampled observed sampled first old
+      → more ≡ bytes_sampled observed sampled second now
+      → begun ++ more ≡ bytes_sampled observed sampled (first ++ second) old
+  bytes_joined first second old now begun more before begins after =
+      rw (bytes_sampled-append first second old, ← before, ← begins, ← after) refl
+
+  -- calls that observe sample nothing, so that calls behind them sample what they do from the state after them
+  bytes_sampled-observing : (bytes : List ℕ) (state : S) → bytes_sampled observed sampled (observing bytes) state ≡ []
+  unfolding bytes_sampled
+  bytes_sampled-observing [] state = refl
+  bytes_sampled-observing (byte ∷ bytes) state = bytes_sampled-observing bytes (observed state byte)
+
+  pub bytes_after_observing : (bytes : List ℕ) (calls : List ByteCall) (old now : S)
+      → now ≡ state_after observed sampled (observing bytes) old
+      → bytes_sampled observed sampled (observing bytes ++ calls) old ≡ bytes_sampled observed sampled calls now
+  bytes_after_observing bytes calls old now before =
+      rw (bytes_sampled-append (observing bytes) calls old, bytes_sampled-observing bytes old, before) refl
+
+  -- as many bytes as samples
+  pub length_sampled : (count : ℕ) (state : S) → length (bytes_sampled observed sampled (sampling count) state) ≡ count
+  unfolding bytes_sampled
+  length_sampled zero state = refl
+  length_sampled (suc count) state = ap (λ (n : ℕ). suc n) (length_sampled count (sampled state).1)
