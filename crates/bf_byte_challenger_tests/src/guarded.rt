@@ -90,12 +90,19 @@ fn nothing_is_called_after_a_refusal(rt: HostRuntime) -> Result<(), Fail> {
     Ok(())
 }
 
+fn samples_word(double: &mut Double<'_>, wanted: u64) -> bool {
+    match sample_u64(double) {
+        Ok(word) => word == wanted,
+        Err(_) => false,
+    }
+}
+
 // Helpers stop at the call that is refused, which the challenger remembers.
 fn helpers_stop() -> bool {
     let seen = Cell::new(Seen::default());
     let mut double = Double::new(&seen, 0, 10, Copies::Refused);
     let observed = observe_bytes(&mut double, &[8, 9]).is_ok();
-    let sampled = sample_u64(&mut double).is_ok_and(|word| word == 0);
+    let sampled = samples_word(&mut double, 0);
     let before = double.refused();
     let refused = observe_bytes(&mut double, &[8, 9]).is_err();
     observed && sampled && !before && refused && double.refused() && has_seen(&seen, 2, 8, 0x0809)
@@ -104,9 +111,7 @@ fn helpers_stop() -> bool {
 fn constant_doubles_sample(byte: u8, word: u64) -> bool {
     let seen = Cell::new(Seen::default());
     let mut double = Double::constant(&seen, byte);
-    sample_u64(&mut double).is_ok_and(|sampled| sampled == word)
-        && double.try_clone().is_ok()
-        && has_seen(&seen, 0, 8, 0)
+    samples_word(&mut double, word) && double.try_clone().is_ok() && has_seen(&seen, 0, 8, 0)
 }
 
 #[test]
