@@ -23,6 +23,12 @@ abbrev pub IsWithPart : ℕ → ℕ → ℕ → ℕ → ℕ → ℕ → Type 0
 IsWithPart width count n i v r =
     (part_at width r i ≡ v) × ((k : ℕ) → k < count → k ≢ i → part_at width r k ≡ part_at width n k)
 
+-- of `count` words of `width` bits, word i of the result is what is given of words i of both operands
+abbrev pub IsZipped : {A : Type 0} → ℕ → (A → ℕ) → (A → A → A → Type 0) → ℕ → ℕ → ℕ → ℕ → Type 0
+IsZipped {A} width number gives count left right result =
+    (i : ℕ) → i < count
+    → (x y z : A) × (number x ≡ part_at width left i) × (number y ≡ part_at width right i) × gives x y z × (number z ≡ part_at width result i)
+
 -- a list is `count` words of `width` bits
 abbrev pub is_whole : ℕ → ℕ → List ℕ → Bool
 is_whole width count words = nat_eq (length words) count && list_all (λ word. nat_lt word (2 ^ width)) words

@@ -1,9 +1,12 @@
 // What packed bits are stored in: one word, or a block of words.
-ghost use Rattle.std.specs.Prelude.{◌≡◌, ◌↔◌, ◌<◌, ◌-◌, ◌*◌, ◌^◌, ℕ, Bool, IsTrue, map};
-ghost use Rattle.bf_bitslice_words.specs.Parts.{IsWithPart, part_at, parts_of};
+ghost use Rattle.std.specs.Prelude.{◌≡◌, ◌↔◌, ◌<◌, ◌-◌, ◌*◌, ◌^◌, ℕ, Bool, IsTrue, List, map};
+ghost use Rattle.std.specs.Array.{FillsFrom};
+ghost use Rattle.bf_bitslice_words.specs.Parts.{IsWithPart, IsZipped, part_at, parts_of};
 
 use crate::sealed::Sealed;
 use crate::word::Word;
+use rand::distr::SampleStandard;
+use rand_core::Rng;
 use std::fmt::Debug;
 use std::hash::Hash;
 
@@ -61,6 +64,45 @@ pub trait Underlier: Sealed + Copy + Debug + Default + PartialEq + Eq + Hash {
     fn checked(&self) -> Self
         ensures same { result ≡ self.now }
         ensures whole { IsTrue (is_whole self.now) };
+
+    /// The row whose word i is `f(i)`. `f` is called for 0, 1, .., below `WORD_COUNT`, in order, each once.
+    final fn from_words_fn<F: FnMut(usize) -> Self::Word>(mut f: F) -> Self
+        requires { F.IsAlwaysCallable f }
+        ensures filled { (words : List Self.Word) × (last : F) × FillsFrom F.step f 0 words last × (map Self.Word.number words ≡ parts_of Self.Word.BITS WORD_COUNT (number result)) }
+        ensures whole { IsTrue (is_whole result) }
+    {
+        let mut row = Self::ZERO;
+        for i in 0..Self::WORD_COUNT {
+            row.set_word(i, f(i));
+        }
+        row
+    }
+
+    /// The row whose word i is `f` of word i of this row and word i of the other.
+    final fn zip<F: Fn(Self::Word, Self::Word) -> Self::Word>(self, other: Self, f: F) -> Self
+        requires { F.IsAlwaysCallable f }
+        ensures each { IsZipped Self.Word.BITS Self.Word.number (λ x y z. F.post f x y z) WORD_COUNT (number self) (number other) (number result) }
+        ensures whole { IsTrue (is_whole result) }
+    {
+        let mut row = Self::ZERO;
+        for i in 0..Self::WORD_COUNT {
+            row.set_word(i, f(self.word(i), other.word(i)));
+        }
+        row
+    }
+
+    /// A row each of whose words is drawn, word 0 first.
+    final fn random<R: Rng>(rng: &mut R) -> Self
+        ensures drawn { (words : List Self.Word) × FillsFrom (λ s i word t. Self.Word.draws s word t) (R.stream rng.old) 0 words (R.stream rng.new) × (map Self.Word.number words ≡ parts_of Self.Word.BITS WORD_COUNT (number result)) }
+        ensures whole { IsTrue (is_whole result) }
+    {
+        let mut row = Self::ZERO;
+        for i in 0..Self::WORD_COUNT {
+            let word = Self::Word::sample_standard(rng);
+            row.set_word(i, word);
+        }
+        row
+    }
 
     ghost words_law: { WORD_COUNT ≡ 2 ^ log_words };
 

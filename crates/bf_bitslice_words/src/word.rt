@@ -3,6 +3,7 @@ ghost use Rattle.std.specs.Prelude.{◌≡◌, ◌↔◌, ◌<◌, ◌≤◌, �
 ghost use Rattle.std.proofs.Common.{lit≤, rules};
 
 use crate::sealed::Sealed;
+use rand::distr::SampleStandard;
 use std::fmt::Debug;
 use std::hash::Hash;
 use std::ops::{BitAnd, BitOr, BitXor, Not, Shl, Shr};
@@ -16,6 +17,7 @@ pub trait Word: Sealed
     + PartialEq
     + Eq
     + Hash
+    + SampleStandard
     + BitAnd<Self, Output = Self>
     + BitOr<Self, Output = Self>
     + BitXor<Self, Output = Self>
@@ -58,6 +60,8 @@ pub trait Word: Sealed
     ghost bits_law: { BITS ≡ 2 ^ log_bits };
 
     ghost narrow_law: { BITS ≤ 64 };
+
+    ghost bytes_law: { BITS ≡ 8 * (BITS / 8) };
 
     ghost zero_number: { number ZERO ≡ 0 };
 
@@ -129,6 +133,8 @@ impl Word for u8 {
 
     ghost narrow_law = { lit≤ tt };
 
+    ghost bytes_law = { refl };
+
     ghost zero_number = { refl };
 
     ghost ones_number = { refl };
@@ -198,6 +204,8 @@ impl Word for u16 {
     ghost bits_law = { refl };
 
     ghost narrow_law = { lit≤ tt };
+
+    ghost bytes_law = { refl };
 
     ghost zero_number = { refl };
 
@@ -269,6 +277,8 @@ impl Word for u32 {
 
     ghost narrow_law = { lit≤ tt };
 
+    ghost bytes_law = { refl };
+
     ghost zero_number = { refl };
 
     ghost ones_number = { refl };
@@ -338,6 +348,8 @@ impl Word for u64 {
     ghost bits_law = { refl };
 
     ghost narrow_law = { lit≤ tt };
+
+    ghost bytes_law = { refl };
 
     ghost zero_number = { refl };
 
