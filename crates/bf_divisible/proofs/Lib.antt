@@ -1,0 +1,3 @@
+pub mod NarrowParts
+pub mod WideParts
+pub mod PartLists
