@@ -1,2 +1,3 @@
 mod LaneAccess
 mod Rounds
+mod LaneLists

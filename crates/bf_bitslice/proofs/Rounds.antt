@@ -1,10 +1,10 @@
 -- The rounds of a transposition, over the numbers of the rows.
-use Rattle.std.proofs.Common.{◌≡◌, ◌≢◌, ℕ, ◌+◌, ◌*◌, ◌/◌, ◌%◌, ◌^◌, ◌<◌, ◌≤◌, ◌-◌, suc, zero, List, length, get_or, map, set, refl, sym, ap, ap₂, ◌∙◌, lit<, arith, subst, inl, inr, ◌⊎◌, get_or-set_same, get_or-set_other}
+use Rattle.std.proofs.Common.{◌≡◌, ◌≢◌, ℕ, ◌+◌, ◌*◌, ◌/◌, ◌%◌, ◌<◌, ◌≤◌, ◌-◌, suc, zero, List, length, get_or, map, set, refl, sym, ap, ap₂, ◌∙◌, lit<, arith, subst, inl, inr, ◌⊎◌, get_or-set_same, get_or-set_other}
 use Rattle.std.specs.Int.{bit_at}
-use Rattle.std.proofs.lemmas.Bool.{cases_eq, cases_lt}
+use Rattle.std.proofs.lemmas.Bool.{cases_eq}
 use Rattle.std.proofs.lemmas.List.{get_or-map, length-map, length-set, map-set}
 use Rattle.std.proofs.lemmas.Nat.{mul-le}
-use Rattle.std.proofs.Math.Nat.{add-mod_right, div-one, div-eq_of_lt}
+use Rattle.std.proofs.Math.Nat.{div-one, div-eq_of_lt}
 use native.Mathlib.Nat.{mod-lt, mod-eq_of_lt}
 use Rattle.bf_bitslice_words.specs.Parts.{HasFirstBlocks, HasSecondBlocks}
 use Rattle.bf_bitslice_words.proofs.BlockPlaces.{before_quotient, even_mixed, mixed, next_quotient, odd_is_above, odd_mixed, same_mixed}

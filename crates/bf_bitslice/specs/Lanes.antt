@@ -1,6 +1,15 @@
 -- Lanes. Lane i of packed bits is bit i of their number, which is bit i modulo W of word i divided by W.
-use Rattle.std.specs.Prelude.{◌≡◌, ◌≢◌, ◌<◌, ℕ, ◌+◌, ◌-◌, ◌/◌, ◌%◌, ◌^◌, List, slice_index, bit_and}
+use Rattle.std.specs.Prelude.{◌≡◌, ◌≢◌, ◌<◌, ℕ, ◌+◌, ◌-◌, ◌/◌, ◌%◌, ◌^◌, List, slice_index, drop, bit_and}
+use Rattle.bf_bitslice_words.specs.Parts.{parts_of}
 use Rattle.std.specs.Int.{bit_at}
+
+-- lanes 0 to width - 1 of a number, in order
+abbrev pub lanes_of : ℕ → ℕ → List ℕ
+lanes_of width n = parts_of 1 width n
+
+-- those from lane `next` on
+abbrev pub lanes_from : ℕ → ℕ → ℕ → List ℕ
+lanes_from width next n = drop next (lanes_of width n)
 
 -- lane `lane` of `after` is `value`, and every other lane below `width` is that of `before`
 abbrev pub IsWithLane : ℕ → ℕ → ℕ → ℕ → ℕ → Type 0

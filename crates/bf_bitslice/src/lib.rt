@@ -6,6 +6,6 @@ mod packed;
 
 pub use crate::laws::transposing_twice_returns;
 pub use crate::packed::{
-    PackedGf2, PackedGf2x8, PackedGf2x16, PackedGf2x32, PackedGf2x64, PackedGf2x128, PackedGf2x256,
-    PackedGf2x512,
+    Lanes, PackedGf2, PackedGf2x8, PackedGf2x16, PackedGf2x32, PackedGf2x64, PackedGf2x128,
+    PackedGf2x256, PackedGf2x512,
 };

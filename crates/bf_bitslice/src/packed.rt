@@ -4,9 +4,13 @@ ghost use Rattle.std.specs.Int.{bit_at};
 ghost use Rattle.bf_base.specs.Bit.{repr_of};
 ghost use Rattle.bf_bitslice.specs.Lanes.{IsWithLane};
 
+mod draws;
+mod lanes;
 mod operators;
+mod parts;
 mod transpose;
 
+pub use crate::packed::lanes::Lanes;
 use bf_base::Gf2;
 use bf_base::traits::TowerLevel;
 use bf_bitslice_words::{M128, M256, M512, Underlier, Word, count_bits, field, with_field};

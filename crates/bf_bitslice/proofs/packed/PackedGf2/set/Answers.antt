@@ -1,4 +1,4 @@
-use Rattle.std.proofs.Common.{◌≡◌, ◌<◌, ◌≤◌, ◌%◌, ◌*◌, ◌^◌, ℕ, ◌∙◌, ap, sym, subst, arith}
+use Rattle.std.proofs.Common.{◌≡◌, ◌<◌, ◌%◌, ◌*◌, ◌^◌, ℕ, ◌∙◌, sym, subst, arith}
 use Rattle.std.proofs.lemmas.Nat.{pow_pos}
 use native.Mathlib.Nat.{mod-eq_of_lt}
 use Rattle.bf_base.specs.Bit.{repr_of}

@@ -1,4 +1,4 @@
-use Rattle.std.proofs.Common.{◌≡◌, ◌<◌, ◌≤◌, ◌+◌, ◌*◌, ◌^◌, ℕ, ◌∙◌, ap, sym, subst, refl, arith, rules}
+use Rattle.std.proofs.Common.{◌≡◌, ◌<◌, ◌≤◌, ◌+◌, ◌*◌, ℕ, ◌∙◌, ap, sym, subst, refl, arith, rules}
 use Rattle.std.proofs.lemmas.Nat.{pow-add, pow_pos}
 use Rattle.bf_bitslice_words.proofs.BlockLemmas.{block_divides, block_some}
 use Rattle.bf_bitslice_words.specs.Parts.{IsBlockSize}

@@ -1,4 +1,4 @@
-use Rattle.std.proofs.Common.{◌≡◌, ◌<◌, ◌/◌, ◌%◌, lit<, arith, rules}
+use Rattle.std.proofs.Common.{◌≡◌, ◌<◌, ◌/◌, ◌%◌, lit<, arith}
 use native.Mathlib.Nat.{mod-lt}
 use Rattle.bf_bitslice_words.proofs.BlockLemmas.{block_some}
 use Rattle.bf_bitslice.proofs.Rounds.{pair_written, round_passes}
