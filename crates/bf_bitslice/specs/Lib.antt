@@ -1,2 +1,3 @@
+pub mod BitsRing
 pub mod Lanes
 pub mod Rounds

@@ -8,6 +8,7 @@ mod draws;
 mod lanes;
 mod operators;
 mod parts;
+mod ring;
 mod transpose;
 
 pub use crate::packed::lanes::Lanes;

@@ -45,6 +45,18 @@ pub trait Underlier: Sealed + Copy + Debug + Default + PartialEq + Eq + Hash {
 
     ghost ONES: { Self };
 
+    ghost zero_whole: { IsTrue (is_whole ZERO) };
+
+    ghost zero_number: { number ZERO ≡ 0 };
+
+    ghost ones_whole: { IsTrue (is_whole ONES) };
+
+    ghost ones_number: { number ONES ≡ 2 ^ BITS - 1 };
+
+    ghost range_law: { (x : Self) → IsTrue (is_whole x) → number x < 2 ^ BITS };
+
+    ghost same_law: { (x y : Self) → IsTrue (is_whole x) → IsTrue (is_whole y) → number x ≡ number y → x ≡ y };
+
     /// The words, the lowest first.
     fn words(&self) -> &[Self::Word]
         ensures { map Self.Word.number result.now ≡ parts_of Self.Word.BITS WORD_COUNT (number self.now) };
@@ -109,18 +121,6 @@ pub trait Underlier: Sealed + Copy + Debug + Default + PartialEq + Eq + Hash {
     ghost bits_law: { BITS ≡ Self.Word.BITS * WORD_COUNT };
 
     ghost narrow_law: { BITS < 2 ^ 32 };
-
-    ghost zero_whole: { IsTrue (is_whole ZERO) };
-
-    ghost zero_number: { number ZERO ≡ 0 };
-
-    ghost ones_whole: { IsTrue (is_whole ONES) };
-
-    ghost ones_number: { number ONES ≡ 2 ^ BITS - 1 };
-
-    ghost range_law: { (x : Self) → IsTrue (is_whole x) → number x < 2 ^ BITS };
-
-    ghost same_law: { (x y : Self) → IsTrue (is_whole x) → IsTrue (is_whole y) → number x ≡ number y → x ≡ y };
 
     ghost eq_law: { (x y : Self) → IsTrue (Self.PartialEq.eq x y) ↔ (x ≡ y) };
 

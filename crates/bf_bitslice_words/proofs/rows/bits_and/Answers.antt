@@ -10,7 +10,7 @@ use Rattle.bf_bitslice_words.proofs.rows.bits_and.Goals as goal
 pub loop-i-init : goal.loop-i-init
 loop-i-init g c = (
   λ k less. absurd (omega arith),
-  subst (λ x. g.U.Underlier.is_whole x ≡ true) (sym c.ZERO-product.ensures) g.met.U.Underlier.zero_whole,
+  subst (λ x. g.U.Underlier.is_whole x ≡ true) (sym c.ZERO-product.ensures) g.U.Underlier.zero_whole,
 )
 
 pub loop-i-preserved : goal.loop-i-preserved
@@ -34,9 +34,9 @@ returns-clause-number g c =
     let word = g.U.Word.Word in
     let bits = g.met.U.Underlier.bits_law in
     let some : 0 < word.BITS = subst (λ (n : ℕ). 0 < n) (sym g.met.U.Word.Word.bits_law) (pow_pos word.log_bits) in
-    let left = g.met.U.Underlier.range_law c.args.left.now c.requires.left_whole in
-    let right = g.met.U.Underlier.range_law c.args.right.now c.requires.right_whole in
-    let result = g.met.U.Underlier.range_law c.loop-i.product c.loop-i.invariant.1 in
+    let left = g.U.Underlier.range_law c.args.left.now c.requires.left_whole in
+    let right = g.U.Underlier.range_law c.args.right.now c.requires.right_whole in
+    let result = g.U.Underlier.range_law c.loop-i.product c.loop-i.invariant.1 in
     let both : bit_and (row.number c.args.left.now) (row.number c.args.right.now) < 2 ^ row.BITS =
     and_lt row.BITS (row.number c.args.left.now) (row.number c.args.right.now) left right in
     same_from_parts word.BITS row.WORD_COUNT (row.number c.loop-i.product) (bit_and (row.number c.args.left.now) (row.number c.args.right.now)) some

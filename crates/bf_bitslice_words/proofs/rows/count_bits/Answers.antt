@@ -38,7 +38,7 @@ returns g c =
     let word = g.U.Word.Word in
     let n = row.number c.args.row.now in
     let bits = g.met.U.Underlier.bits_law in
-    let fits = g.met.U.Underlier.range_law c.args.row.now c.requires in
+    let fits = g.U.Underlier.range_law c.args.row.now c.requires in
     let whole : c.loop-i.i ≡ row.WORD_COUNT = omega arith in
     c.loop-i.invariant
     ∙ ap (λ (k : ℕ). count_ones (n % 2 ^ k)) (ap (λ (k : ℕ). word.BITS * k) whole ∙ sym bits)

@@ -9,8 +9,8 @@ loop-i-init g c =
     record {
       first = λ k less. absurd (omega arith);
       second = λ k less. absurd (omega arith);
-      first_whole = subst (λ x. g.U.Underlier.is_whole x ≡ true) (sym c.ZERO-first.ensures) g.met.U.Underlier.zero_whole;
-      second_whole = subst (λ x. g.U.Underlier.is_whole x ≡ true) (sym c.ZERO-second.ensures) g.met.U.Underlier.zero_whole;
+      first_whole = subst (λ x. g.U.Underlier.is_whole x ≡ true) (sym c.ZERO-first.ensures) g.U.Underlier.zero_whole;
+      second_whole = subst (λ x. g.U.Underlier.is_whole x ≡ true) (sym c.ZERO-second.ensures) g.U.Underlier.zero_whole;
     }
 
 pub loop-i-preserved : goal.loop-i-preserved

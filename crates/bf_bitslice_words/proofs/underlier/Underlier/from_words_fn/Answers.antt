@@ -8,7 +8,7 @@ pub loop-i-init : goal.loop-i-init
 loop-i-init g c = (
   c.requires,
   nothing_filled g.Self.Word.Word.BITS g.Self.Word.Word.number _ _ _,
-  subst (λ x. g.Self.Underlier.is_whole x ≡ true) (sym c.ZERO-row.ensures) g.met.Self.Underlier.zero_whole,
+  subst (λ x. g.Self.Underlier.is_whole x ≡ true) (sym c.ZERO-row.ensures) g.Self.Underlier.zero_whole,
 )
 
 pub loop-i-preserved : goal.loop-i-preserved

@@ -6,7 +6,7 @@ use Rattle.bf_bitslice_words.proofs.underlier.Underlier.zip.Goals as goal
 pub loop-i-init : goal.loop-i-init
 loop-i-init g c = (
   λ k less. absurd (omega arith),
-  subst (λ x. g.Self.Underlier.is_whole x ≡ true) (sym c.ZERO-row.ensures) g.met.Self.Underlier.zero_whole,
+  subst (λ x. g.Self.Underlier.is_whole x ≡ true) (sym c.ZERO-row.ensures) g.Self.Underlier.zero_whole,
 )
 
 pub loop-i-preserved : goal.loop-i-preserved

@@ -22,5 +22,5 @@ returns-clause-value g c =
     let word = g.V.Word.Word in
     let some : 0 < word.BITS = subst (λ (n : ℕ). 0 < n) (sym g.met.V.Word.Word.bits_law) (pow_pos word.log_bits) in
     is_part word.BITS g.V.Underlier.WORD_COUNT g.V.Underlier.BITS (g.Self.Underlier.number c.args.self.now) c.args.i
-    (g.V.Underlier.number c.loop-k.part) some g.met.V.Underlier.bits_law (g.met.V.Underlier.range_law c.loop-k.part c.loop-k.invariant.1)
+    (g.V.Underlier.number c.loop-k.part) some g.met.V.Underlier.bits_law (g.V.Underlier.range_law c.loop-k.part c.loop-k.invariant.1)
     (λ j less. let here : j < c.loop-k.k = omega arith in c.loop-k.invariant.0 j here)

@@ -33,7 +33,7 @@ returns-clause-replaced g c =
     g.met.Self.Divisible.ratio_law in
     let all : c.loop-k.k ≡ g.V.Underlier.WORD_COUNT = omega arith in
     let v : g.V.Underlier.number c.checked-whole.result ≡ g.V.Underlier.number c.args.part = ap g.V.Underlier.number c.checked-whole.ensures.same in
-    let fits = g.met.V.Underlier.range_law c.args.part c.checked-whole.ensures.whole in
+    let fits = g.V.Underlier.range_law c.args.part c.checked-whole.ensures.whole in
     part_replaced w g.V.Underlier.WORD_COUNT g.V.Underlier.BITS (wide / w * g.Self.Underlier.WORD_COUNT) g.Self.Divisible.RATIO c.args.i
     (g.V.Underlier.number c.args.part) before now some g.met.V.Underlier.bits_law total c.requires fits
     (subst (λ (z : ℕ). IsWrittenTo w g.V.Underlier.WORD_COUNT (wide / w * g.Self.Underlier.WORD_COUNT) c.args.i g.V.Underlier.WORD_COUNT z before now) v
