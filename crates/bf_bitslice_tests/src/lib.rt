@@ -1,7 +1,13 @@
-//! Tests of packed bits at concrete widths: worked rows, lanes, and transposition of every width against its definition,
-//! read lane by lane. The crate has nothing to call.
+//! Tests of packed bits at concrete widths: worked rows, lanes, parts, closures, draws, and transposition of every width
+//! against its definition, read lane by lane. The crate has nothing to call.
 #![tactic(auto)]
 
+#[cfg(test)]
+mod closures;
+#[cfg(test)]
+mod memory;
+#[cfg(test)]
+mod parts;
 #[cfg(test)]
 mod rows;
 #[cfg(test)]

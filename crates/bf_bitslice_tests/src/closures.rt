@@ -1,0 +1,93 @@
+// Calls of closures and draws.
+use bf_base::Gf2;
+use bf_base::traits::{PrimeCharacteristicRing, TowerLevel};
+use bf_bitslice::{PackedGf2, PackedGf2x512};
+use bf_bitslice_words::{M128, M256, M512, Underlier};
+use rand::rngs::SmallRng;
+use rand::{RngExt, SeedableRng};
+
+// Whether each third lane alone is 1.
+fn has_each_third_lane(packed: PackedGf2x512) -> bool {
+    let mut lane: usize = 0;
+    for bit in packed.lanes() {
+        if (bit.to_repr() == 1) != (lane % 3 == 0) {
+            return false;
+        }
+        lane = lane.wrapping_add(1);
+    }
+    lane == 512
+}
+
+#[test]
+fn lanes_are_asked_for_in_order(rt: HostRuntime) {
+    let mut calls: usize = 0;
+    let mut in_order = true;
+    let packed = PackedGf2x512::from_fn(|lane| {
+        in_order = in_order && lane == calls;
+        calls = calls.wrapping_add(1);
+        Gf2::from_bool(lane % 3 == 0)
+    });
+    assert!(rt; calls == 512 && in_order && has_each_third_lane(packed));
+}
+
+#[test]
+fn words_are_asked_for_in_order(rt: HostRuntime) {
+    let mut calls: usize = 0;
+    let mut in_order = true;
+    let block = M256::from_words_fn(|i| {
+        in_order = in_order && i == calls;
+        calls = calls.wrapping_add(1);
+        i as u64
+    });
+    assert!(rt; calls == 4 && in_order && block == M256::from_words([0, 1, 2, 3]));
+}
+
+#[test]
+fn rows_are_zipped_word_by_word(rt: HostRuntime) {
+    let left = M128::from_words([0b1100, 0b1010]);
+    let right = M128::from_words([0b1010, 0b0110]);
+    assert!(rt;
+        left.zip(right, |x, y| x & !y) == M128::from_words([0b0100, 0b1000])
+            && 0x12u8.zip(0x10, |x, y| x ^ y) == 0x02
+    );
+}
+
+// Whether 64 draws have each lane as 0 and as 1.
+fn draws_both<U: Underlier>(seed: u64) -> bool {
+    let mut rng = SmallRng::seed_from_u64(seed);
+    let mut ones = PackedGf2::new(U::ZERO);
+    let mut zeros = PackedGf2::new(U::ZERO);
+    for _ in 0..64 {
+        let drawn: PackedGf2<U> = rng.random();
+        let other = drawn + Gf2::from_bool(true);
+        ones = ones + drawn + ones * drawn;
+        zeros = zeros + other + zeros * other;
+    }
+    ones.to_bits() == U::ONES && zeros.to_bits() == U::ONES
+}
+
+#[test]
+fn each_lane_is_drawn_as_0_and_as_1(rt: HostRuntime) {
+    assert!(rt;
+        draws_both::<u8>(1) && draws_both::<u16>(2) && draws_both::<u32>(3) && draws_both::<u64>(4)
+    );
+    assert!(rt; draws_both::<M128>(5) && draws_both::<M256>(6) && draws_both::<M512>(7));
+}
+
+// Whether sums, products and constants are those of the ring.
+fn is_ring<U: Underlier>(seed: u64) -> bool {
+    let mut rng = SmallRng::seed_from_u64(seed);
+    let x: PackedGf2<U> = rng.random();
+    let y: PackedGf2<U> = rng.random();
+    let both = [x, y];
+    both.iter().copied().sum::<PackedGf2<U>>() == x + y
+        && both.iter().copied().product::<PackedGf2<U>>() == x * y
+        && x + PackedGf2::<U>::ZERO == x
+        && x * PackedGf2::<U>::ONE == x
+        && x.andn(&y) == y + x * y
+}
+
+#[test]
+fn packed_bits_are_a_ring(rt: HostRuntime) {
+    assert!(rt; is_ring::<u8>(8) && is_ring::<u64>(9) && is_ring::<M512>(10));
+}
