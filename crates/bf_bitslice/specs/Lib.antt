@@ -1,3 +1,4 @@
 pub mod BitsRing
+pub mod EveryLane
 pub mod Lanes
 pub mod Rounds

@@ -4,6 +4,7 @@ ghost use Rattle.std.specs.Int.{bit_at};
 ghost use Rattle.bf_base.specs.Bit.{repr_of};
 ghost use Rattle.bf_bitslice.specs.Lanes.{IsWithLane};
 
+mod bits;
 mod draws;
 mod lanes;
 mod operators;

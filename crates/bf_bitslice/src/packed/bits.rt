@@ -1,0 +1,52 @@
+// Packed bits as an algebra over the field of two elements, whose element stands in every lane.
+ghost use Rattle.std.specs.Prelude.{◌-◌, ◌*◌, ◌^◌};
+ghost use Rattle.std.proofs.Common.{◌∙◌, ap};
+ghost use Rattle.std.specs.Prelude.{bit_xor};
+ghost use native.Mathlib.Nat.{one-mul};
+ghost use Rattle.bf_bitslice.specs.EveryLane.{every_product, every_same, every_sum, times_every};
+ghost use Rattle.bf_bitslice.specs.Lanes.{lane_product};
+
+use crate::packed::PackedGf2;
+use bf_base::Gf2;
+use bf_base::traits::Algebra;
+use bf_bitslice_words::Underlier;
+
+impl<U: Underlier> Algebra<Gf2> for PackedGf2<U> {
+    ghost use Rattle.bf_base.specs.Bit.{repr_of};
+
+    ghost image = { λ a. a * (2 ^ U.BITS - 1) };
+
+    ghost image_unit_law = { one-mul (2 ^ U.BITS - 1) };
+
+    ghost image_sum_law = { λ a b a_fits b_fits. every_sum (2 ^ U.BITS - 1) a b a_fits b_fits };
+
+    ghost image_product_law = { λ a b a_fits b_fits. every_product U.BITS a b a_fits b_fits };
+
+    ghost image_injective_law = { λ proper a b a_fits b_fits same. every_same (2 ^ U.BITS - 1) a b proper a_fits b_fits same };
+
+    ghost image_from_law = { λ x r is. is };
+
+    ghost can_add_image_law = { λ x y. tt };
+
+    ghost add_image_law = { λ x y r is. is };
+
+    ghost can_add_assign_image_law = { λ x y. tt };
+
+    ghost add_assign_image_law = { λ x y r is. is };
+
+    ghost can_sub_image_law = { λ x y. tt };
+
+    ghost sub_image_law = { λ x y r is. is };
+
+    ghost can_sub_assign_image_law = { λ x y. tt };
+
+    ghost sub_assign_image_law = { λ x y r is. is };
+
+    ghost can_mul_image_law = { λ x y. tt };
+
+    ghost mul_image_law = { λ x y r is. is ∙ times_every U.BITS (U.number x.bits) (repr_of y) (U.range_law x.bits x.in_range) y.in_range };
+
+    ghost can_mul_assign_image_law = { λ x y. tt };
+
+    ghost mul_assign_image_law = { λ x y r is. is ∙ times_every U.BITS (U.number x.bits) (repr_of y) (U.range_law x.bits x.in_range) y.in_range };
+}
