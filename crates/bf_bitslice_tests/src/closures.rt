@@ -74,20 +74,27 @@ fn each_lane_is_drawn_as_0_and_as_1(rt: HostRuntime) {
     assert!(rt; draws_both::<M128>(5) && draws_both::<M256>(6) && draws_both::<M512>(7));
 }
 
-// Whether sums, products and constants are those of the ring.
+// Whether the constants and "y and not x" are those of the ring.
 fn is_ring<U: Underlier>(seed: u64) -> bool {
     let mut rng = SmallRng::seed_from_u64(seed);
     let x: PackedGf2<U> = rng.random();
     let y: PackedGf2<U> = rng.random();
+    x + PackedGf2::<U>::ZERO == x && x * PackedGf2::<U>::ONE == x && x.andn(&y) == y + x * y
+}
+
+// Whether the sum and the product of two are theirs.
+fn adds_and_multiplies(seed: u64) -> bool {
+    let mut rng = SmallRng::seed_from_u64(seed);
+    let x: PackedGf2x512 = rng.random();
+    let y: PackedGf2x512 = rng.random();
     let both = [x, y];
-    both.iter().copied().sum::<PackedGf2<U>>() == x + y
-        && both.iter().copied().product::<PackedGf2<U>>() == x * y
-        && x + PackedGf2::<U>::ZERO == x
-        && x * PackedGf2::<U>::ONE == x
-        && x.andn(&y) == y + x * y
+    both.iter().copied().sum::<PackedGf2x512>() == x + y
+        && both.iter().copied().product::<PackedGf2x512>() == x * y
 }
 
 #[test]
 fn packed_bits_are_a_ring(rt: HostRuntime) {
-    assert!(rt; is_ring::<u8>(8) && is_ring::<u64>(9) && is_ring::<M512>(10));
+    assert!(rt;
+        is_ring::<u8>(8) && is_ring::<u64>(9) && is_ring::<M512>(10) && adds_and_multiplies(11)
+    );
 }
