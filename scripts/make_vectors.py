@@ -33,6 +33,8 @@ POLYNOMIALS = [0, 1, 2, 20, 65, 128]
 SLICES = [0, 1, 2, 5, 17, 257]
 LOW_STAGES = 64
 BYTE_MAPS = 3
+# The widths of rows, and of their parts.
+PARTS = [(128, 64), (128, 8), (64, 32), (64, 8), (32, 16), (16, 8), (256, 128), (256, 32), (512, 256), (512, 128), (512, 64), (512, 16)]
 # The operators between two fields: their name, and in how many ways each is computed. A sum is a difference too.
 OPERATORS = {"*": ("products", 2), "+": ("sums", 5), "-": ("sums", 5)}
 # Lines that are no calls, or whose operands the function does not take.
@@ -58,6 +60,9 @@ REFUSED = [
     "low_stages 1,2,3,4 1,2,3 1 0,0,0,0,0,0,0,0,0,0,0,0,0,0,0,0",
     "apply_slice 1,2,3 4",
     "eval 1,2,3,4,5,6,7,8 100",
+    "transpose 8 1,2,3",
+    "interleave 8 4 1,2",
+    "parts 80 40 1",
     "masked_product 2 1 0 0",
     "to_tower_8 100",
     "to_tower_16 1",
@@ -84,7 +89,8 @@ CALLS = {
     "slices": 18,
     "low stages": 12,
     "maps of bytes": 42,
-    "no calls": 25,
+    "rows of bits": 66,
+    "no calls": 28,
 }
 HEAD = """\
 # Calls of the library, and in stdout their answers by the Rust crate p3-binary-field 0.8.0; drawn from the seed {seed}.
@@ -284,6 +290,32 @@ def byte_maps(vectors):
         yield f"frobenius_orbit {number(row['s'])}", listed(row["orbit"])
 
 
+def words_of(number, bits):
+    """The words of a row whose digits are given, of 64 bits or as many as it has, the lowest first."""
+    width = min(bits, 64)
+    return [f"{int(number, 16) >> width * i & (1 << width) - 1:x}" for i in range(bits // width)]
+
+
+def rows_of(numbers, bits):
+    return listed([word for number in numbers for word in words_of(number, bits)])
+
+
+def rows_of_bits(vectors):
+    """Rows of bits transposed, up to 128 of them, interleaved by every block length, and cut into parts."""
+    for row in vectors["packed_gf2"]:
+        bits, transposed = row["width"], row["transpose"]
+        if bits <= 128:
+            yield f"transpose {bits:x} {rows_of(transposed['rows'], bits)}", rows_of(transposed["out"], bits)
+        for pair in row["interleave"]:
+            log = pair["block_len"].bit_length() - 1
+            call = f"interleave {bits:x} {log:x} {rows_of([pair['left'], pair['right']], bits)}"
+            yield call, rows_of([pair["first"], pair["second"]], bits)
+    for row in vectors["divisible"]:
+        wide, narrow = row["wide"], row["narrow"]
+        if (wide, narrow) in PARTS:
+            yield f"parts {wide:x} {narrow:x} {rows_of([row['x']], wide)}", rows_of(row["parts"], narrow)
+
+
 def chosen(vectors):
     """The calls and their answers under each heading."""
     sections = {field: field_calls(vectors, field) for field in TOWER + POLYNOMIAL}
@@ -295,6 +327,7 @@ def chosen(vectors):
     sections["slices"] = list(slices(vectors))
     sections["low stages"] = list(low_stages(vectors))
     sections["maps of bytes"] = list(byte_maps(vectors))
+    sections["rows of bits"] = list(rows_of_bits(vectors))
     sections["no calls"] = [(line, "error") for line in REFUSED]
     return sections
 

@@ -10,6 +10,7 @@
 //! | `p64/t8 sums 1 2`, `p64/t8 products 1 2` | what the operators of a field give with an element of a level on the right |
 //! | `dot_powers_of_x 1,2,3`, `to_tower_64 13` | what a function of one type gives |
 //! | `butterfly_forward 2 1,2 3,4`, `low_stages 1,2,3,4 5,6,7 0 -` | the slices that a function changes, one after the other |
+//! | `transpose 8 1,2,3,4,5,6,7,8`, `parts 10 8 201` | rows of bits by their words, as rows of so many bits are changed or cut |
 //! | `compose 1,2,..,80 1,2,..,80`, `eval 1,0,0,0,0,0,0,0 53` | the images of a matrix of bits, or a value of a polynomial |
 //!
 //! The file `stdout` has the crate's answers to the calls of `stdin`, which were drawn from the seed 20261122.
@@ -18,6 +19,7 @@
 
 mod algebras;
 mod basis;
+mod bits;
 mod bytes;
 mod fault;
 mod fields;
@@ -64,6 +66,7 @@ fn answer(alloc: Global, name: &str, call: &[&str]) -> Result<Vec<u128>, Fault> 
         | "frobenius_orbit"
         | "eval"
         | "to_matrix" => bytes::mapped(alloc, name, call),
+        "transpose" | "interleave" | "parts" => bits::rearranged(alloc, name, call),
         _ => Ok(vec![in alloc; number(alloc, name, call)?]?),
     }
 }
