@@ -1,1 +1,2 @@
-mod LanePoints
+mod Blocks
+pub mod LanePoints

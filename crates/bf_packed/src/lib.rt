@@ -3,4 +3,4 @@
 
 mod packed;
 
-pub use crate::packed::{Packed, PackedRijndael8b, WiderField};
+pub use crate::packed::{Packed, WiderField};

@@ -6,7 +6,8 @@ ghost use Rattle.bf_packing.specs.Lanes.{joined, lane_by_lane, lane_product};
 ghost use Rattle.bf_packed.specs.LaneLists.{every_below, every_zero, lanes_below, lanes_same, map-replicate, product_number, sum_number};
 
 mod bits;
-mod fields;
+mod draws;
+mod interleaved;
 mod lanes;
 mod maps;
 mod operators;
@@ -14,14 +15,23 @@ mod quotients;
 mod ring;
 mod scalars;
 
-pub use crate::packed::fields::PackedRijndael8b;
 use bf_base::Gf2;
 use bf_base::traits::{Field, Represented};
 use std::alloc::AllocError;
 use std::ops::{Add, Mul};
 
-/// A field with more elements than GF(2), whose packings are this crate's: bits are packed in words.
-pub trait WiderField: Field {}
+/// A field with more elements than GF(2), whose packings are this crate's: bits are packed in words. A field may write the work on
+/// many lanes at once in a faster way of its own.
+pub trait WiderField: Field {
+    /// Multiplies the elements of `left` by those of `right`, place by place. The slices are of one length.
+    #[inline]
+    fn multiply_lanes(left: &mut [Self], right: &[Self])
+        requires { length left.old ≡ length right.now }
+        ensures { map Self.repr left.new ≡ lane_by_lane Self.product (map Self.repr left.old) (map Self.repr right.now) }
+    {
+        multiply_each(left, right);
+    }
+}
 
 /// `N` elements of the field `F`, whose operations go lane by lane. `N` may be 0.
 #[derive(Debug, PartialEq, Eq)]
@@ -91,7 +101,7 @@ impl<F: WiderField, const N: usize> Mul<Packed<F, N>> for Packed<F, N> {
     #[inline]
     fn mul(self, other: Packed<F, N>) -> Packed<F, N> {
         let mut lanes = self.lanes;
-        multiply_lanes(lanes.as_mut_slice(), other.lanes.as_slice());
+        F::multiply_lanes(lanes.as_mut_slice(), other.lanes.as_slice());
         Packed { lanes }
     }
 }
@@ -109,7 +119,7 @@ fn add_lanes<F: Field>(left: &mut [F], right: &[F])
 
 // Multiplies the elements of `left` by those of `right`, place by place.
 #[inline]
-fn multiply_lanes<F: Field>(left: &mut [F], right: &[F])
+fn multiply_each<F: Field>(left: &mut [F], right: &[F])
     requires { length left.old ≡ length right.now }
     ensures { map F.repr left.new ≡ lane_by_lane F.product (map F.repr left.old) (map F.repr right.now) }
 {

@@ -1,2 +1,2 @@
-mod LaneAnswers
+pub mod LaneAnswers
 pub mod LaneRing

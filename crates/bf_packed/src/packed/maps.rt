@@ -1,15 +1,10 @@
-// Maps of each lane: squarings, matrices of bits, and inverses.
+// Maps of each lane: squarings and inverses.
 ghost use Rattle.std.specs.Prelude.{◌≡◌, ◌<◌, ℕ, length, map, slice_index_or};
-ghost use Rattle.bf_base.specs.LinearMaps.{linear_image};
 ghost use Rattle.bf_base.specs.Powers.{repeated_square};
-ghost use Rattle.bf_element.specs.Element.{repr_of};
-ghost use Rattle.bf_aes.specs.Matrix.{images_of};
 ghost use Rattle.bf_packed.specs.Inverses.{IsInverseOrZero};
 
 use crate::packed::{Packed, WiderField};
-use bf_aes::{ByteMatrix, RijndaelMaps};
 use bf_base::traits::Field;
-use bf_element::Rijndael8b;
 
 impl<F: WiderField, const N: usize> Packed<F, N> {
     ghost use Rattle.bf_packed.specs.Packed.{lanes_of};
@@ -29,19 +24,6 @@ impl<F: WiderField, const N: usize> Packed<F, N> {
     {
         let mut lanes = self.lanes;
         invert_lanes(lanes.as_mut_slice());
-        Packed { lanes }
-    }
-}
-
-impl<const N: usize> Packed<Rijndael8b, N> {
-    ghost use Rattle.bf_packed.specs.Packed.{lanes_of};
-
-    /// What a matrix makes of each lane.
-    pub fn apply(self, matrix: ByteMatrix) -> Packed<Rijndael8b, N>
-        ensures { map repr_of (lanes_of result) ≡ map (linear_image (images_of matrix)) (map repr_of (lanes_of self.entry)) }
-    {
-        let mut lanes = self.lanes;
-        apply_to_lanes(matrix, lanes.as_mut_slice());
         Packed { lanes }
     }
 }
@@ -75,22 +57,4 @@ fn inverse_or_zero<F: Field>(x: F) -> F
         Some(inverse) => inverse,
         None => F::ZERO,
     }
-}
-
-// Writes over each element what the matrix makes of it.
-#[inline]
-fn apply_to_lanes(matrix: ByteMatrix, lanes: &mut [Rijndael8b])
-    ensures { map repr_of lanes.new ≡ map (linear_image (images_of matrix)) (map repr_of lanes.old) }
-{
-    for lane in 0..lanes.len() {
-        lanes[lane] = applied(matrix, lanes[lane]);
-    }
-}
-
-// What the matrix makes of an element.
-#[inline]
-fn applied(matrix: ByteMatrix, x: Rijndael8b) -> Rijndael8b
-    ensures { repr_of result ≡ linear_image (images_of matrix) (repr_of x) }
-{
-    Rijndael8b::from_byte(matrix.apply(x.to_byte()))
 }

@@ -1,12 +1,15 @@
-// The operators of packings with an element of their field on the right, which stands in every lane.
+// The operators of packings with an element of their field on the right, which stands in every lane, and sums and products of many
+// elements.
 ghost use Rattle.std.specs.Prelude.{◌≡◌, bit_xor, map, refl, replicate};
 ghost use Rattle.std.proofs.Common.{sym, ◌∙◌, ap};
 ghost use Rattle.std.proofs.lemmas.List.{length-replicate};
+ghost use Rattle.bf_base.specs.Powers.{product_of, sum_of};
 ghost use Rattle.bf_packing.specs.Lanes.{joined, lane_by_lane, lane_product};
 ghost use Rattle.bf_packed.specs.LaneLists.{every_product, every_same, every_sum, number_of_every, product_number, sum_number};
 
 use crate::packed::{Packed, WiderField};
-use bf_base::traits::Algebra;
+use bf_base::traits::{Algebra, product_of_items, sum_of_items};
+use std::iter::{Product, Sum};
 use std::ops::{Add, AddAssign, Mul, MulAssign, Sub, SubAssign};
 
 impl<F: WiderField, const N: usize> Add<F> for Packed<F, N> {
@@ -66,6 +69,24 @@ impl<F: WiderField, const N: usize> MulAssign<F> for Packed<F, N> {
     #[inline]
     fn mul_assign(&mut self, other: F) {
         *self = Packed { lanes: self.lanes } * Packed::broadcast(other);
+    }
+}
+
+impl<F: WiderField, const N: usize> Sum<F> for Packed<F, N> {
+    // The sum of the elements stands in every lane.
+    ghost sum_gives = { λ xs r. map F.repr r.lanes ≡ replicate N (sum_of F.repr xs) };
+
+    fn sum<I: Iterator<Item = F>>(iter: I) -> Packed<F, N> {
+        Packed::broadcast(sum_of_items(iter, F::ZERO))
+    }
+}
+
+impl<F: WiderField, const N: usize> Product<F> for Packed<F, N> {
+    // The product of the elements stands in every lane.
+    ghost product_gives = { λ xs r. map F.repr r.lanes ≡ replicate N (product_of F.unit F.product F.repr xs) };
+
+    fn product<I: Iterator<Item = F>>(iter: I) -> Packed<F, N> {
+        Packed::broadcast(product_of_items(iter, F::ONE))
     }
 }
 

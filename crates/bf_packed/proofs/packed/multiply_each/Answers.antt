@@ -2,7 +2,7 @@ use Rattle.std.proofs.Common.{◌≡◌, ◌<◌, length, refl, sym, ◌∙◌, 
 use Rattle.std.specs.Prelude.{slice_index_or}
 use native.Mathlib.Nat.{le_refl}
 use Rattle.bf_packed.proofs.LanePoints.{lanes_agree, lanes_done, lanes_left, same_entry}
-use Rattle.bf_packed.proofs.packed.multiply_lanes.Goals as goal
+use Rattle.bf_packed.proofs.packed.multiply_each.Goals as goal
 
 pub loop-lane-init : goal.loop-lane-init
 loop-lane-init g c = (λ k d below. absurd (omega (arith, below)), λ k d above. refl)

@@ -1,6 +1,6 @@
 use Rattle.std.proofs.Common.{◌≡◌, ◌<◌, ◌≤◌, ℕ}
 use Rattle.std.specs.Prelude.{slice_index_or}
-use Rattle.bf_packed.proofs.packed.multiply_lanes.Given as goal
+use Rattle.bf_packed.proofs.packed.multiply_each.Given as goal
 
 -- the lanes before this one are written, and the others are as they were
 abbrev pub invariant-loop-lane : goal.invariant-loop-lane
