@@ -1,6 +1,7 @@
 // The fields by their names.
 use crate::element::{Element, HasPacking};
 use bf_base::Unsigned;
+use bf_packed::Packed;
 use bf_poly::{GhashKernel, Poly64Kernel, RijndaelKernel};
 use bf_tower::{Bits2, Bits4, Bits8, Bits16, Bits32, Bits64, Bits128, Level, Tower};
 
@@ -52,14 +53,20 @@ pub type Poly64 = Element<u64, Poly64Kernel>;
 /// time: 207 ns and 1,292 for the chain (docs/BENCHMARKS.md).
 pub type Ghash128 = Element<u128, GhashKernel>;
 
-// Each field is its own packing.
+/// `N` bytes of AES, whose operations go lane by lane.
+pub type PackedRijndael8b<const N: usize> = Packed<Rijndael8b, N>;
+
+/// Four elements of `Ghash128`, whose operations go lane by lane.
+pub type PackedGhash128 = Packed<Ghash128, 4>;
+
+// Each field is its own packing, but for the byte field of AES, which has 16 lanes, and `Ghash128`, which has four.
 
 impl<R: Unsigned, L: Level<R>> HasPacking<R> for Tower<L> {
     type Packing = Element<R, Tower<L>>;
 }
 
 impl HasPacking<u8> for RijndaelKernel {
-    type Packing = Rijndael8b;
+    type Packing = PackedRijndael8b<16>;
 }
 
 impl HasPacking<u64> for Poly64Kernel {
@@ -67,5 +74,5 @@ impl HasPacking<u64> for Poly64Kernel {
 }
 
 impl HasPacking<u128> for GhashKernel {
-    type Packing = Ghash128;
+    type Packing = PackedGhash128;
 }

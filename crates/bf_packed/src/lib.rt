@@ -3,4 +3,4 @@
 
 mod packed;
 
-pub use crate::packed::{Packed, WiderField};
+pub use crate::packed::{Laned, Packed, WiderField};

@@ -20,9 +20,8 @@ use bf_base::traits::{Field, Represented};
 use std::alloc::AllocError;
 use std::ops::{Add, Mul};
 
-/// A field with more elements than GF(2), whose packings are this crate's: bits are packed in words. A field may write the work on
-/// many lanes at once in a faster way of its own.
-pub trait WiderField: Field {
+/// A ring whose packings are this crate's, with the work on many lanes at once, which a ring may write in a faster way of its own.
+pub trait Laned: Represented {
     /// Multiplies the elements of `left` by those of `right`, place by place. The slices are of one length.
     #[inline]
     fn multiply_lanes(left: &mut [Self], right: &[Self])
@@ -32,6 +31,9 @@ pub trait WiderField: Field {
         multiply_each(left, right);
     }
 }
+
+/// A field with more elements than GF(2), whose packings are this crate's: bits are packed in words.
+pub trait WiderField: Field + Laned {}
 
 /// `N` elements of the field `F`, whose operations go lane by lane. `N` may be 0.
 #[derive(Debug, PartialEq, Eq)]
@@ -80,7 +82,7 @@ impl<F: WiderField, const N: usize> From<Gf2> for Packed<F, N> {
     }
 }
 
-impl<F: WiderField, const N: usize> Add<Packed<F, N>> for Packed<F, N> {
+impl<F: Laned, const N: usize> Add<Packed<F, N>> for Packed<F, N> {
     type Output = Packed<F, N>;
 
     ghost add_gives = { λ x y r. map F.repr r.lanes ≡ lane_by_lane bit_xor (map F.repr x.lanes) (map F.repr y.lanes) };
@@ -93,7 +95,7 @@ impl<F: WiderField, const N: usize> Add<Packed<F, N>> for Packed<F, N> {
     }
 }
 
-impl<F: WiderField, const N: usize> Mul<Packed<F, N>> for Packed<F, N> {
+impl<F: Laned, const N: usize> Mul<Packed<F, N>> for Packed<F, N> {
     type Output = Packed<F, N>;
 
     ghost mul_gives = { λ x y r. map F.repr r.lanes ≡ lane_by_lane F.product (map F.repr x.lanes) (map F.repr y.lanes) };
@@ -108,7 +110,7 @@ impl<F: WiderField, const N: usize> Mul<Packed<F, N>> for Packed<F, N> {
 
 // Adds the elements of `right` to those of `left`, place by place.
 #[inline]
-fn add_lanes<F: Field>(left: &mut [F], right: &[F])
+fn add_lanes<F: Represented>(left: &mut [F], right: &[F])
     requires { length left.old ≡ length right.now }
     ensures { map F.repr left.new ≡ lane_by_lane bit_xor (map F.repr left.old) (map F.repr right.now) }
 {
@@ -119,7 +121,7 @@ fn add_lanes<F: Field>(left: &mut [F], right: &[F])
 
 // Multiplies the elements of `left` by those of `right`, place by place.
 #[inline]
-fn multiply_each<F: Field>(left: &mut [F], right: &[F])
+fn multiply_each<F: Represented>(left: &mut [F], right: &[F])
     requires { length left.old ≡ length right.now }
     ensures { map F.repr left.new ≡ lane_by_lane F.product (map F.repr left.old) (map F.repr right.now) }
 {
@@ -128,7 +130,7 @@ fn multiply_each<F: Field>(left: &mut [F], right: &[F])
     }
 }
 
-impl<F: WiderField, const N: usize> Represented for Packed<F, N> {
+impl<F: Laned, const N: usize> Represented for Packed<F, N> {
     ghost use Rattle.bf_packing.proofs.LaneRing.{lanes_ring};
     ghost use Rattle.bf_packed.specs.Packed.{same_packed};
 

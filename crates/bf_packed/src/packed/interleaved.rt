@@ -15,11 +15,7 @@ impl<F: Copy, const N: usize> Packed<F, N> {
     /// Both packings interleaved by blocks of `block_len` lanes, a power of two up to `N`, which is a power of two itself: the even
     /// blocks of both, a block of this one before the same block of the other, and then the odd blocks. By blocks of `N` lanes both
     /// stay as they are. It is `interleave` of `PackedFieldPow2`.
-    pub fn interleave(
-        &self,
-        other: Packed<F, N>,
-        block_len: usize,
-    ) -> (Packed<F, N>, Packed<F, N>)
+    pub fn interleave(&self, other: Packed<F, N>, block_len: usize) -> (Packed<F, N>, Packed<F, N>)
         requires width { IsPowerOfTwo N }
         requires block { IsPowerOfTwo block_len }
         requires room { block_len ≤ N }

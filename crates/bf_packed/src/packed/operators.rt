@@ -3,12 +3,12 @@ ghost use Rattle.std.specs.Prelude.{◌≡◌, bit_xor, map, replicate};
 ghost use Rattle.bf_packing.specs.Lanes.{joined, lane_by_lane, lane_product};
 ghost use Rattle.bf_base.specs.Powers.{product_of, sum_of};
 
-use crate::packed::{Packed, WiderField};
+use crate::packed::{Laned, Packed, WiderField};
 use bf_base::traits::{product_of_items, sum_of_items};
 use std::iter::{Product, Sum};
 use std::ops::{AddAssign, MulAssign, Neg, Sub, SubAssign};
 
-impl<F: WiderField, const N: usize> AddAssign<Packed<F, N>> for Packed<F, N> {
+impl<F: Laned, const N: usize> AddAssign<Packed<F, N>> for Packed<F, N> {
     ghost add_assign_gives = { λ x y r. map F.repr r.lanes ≡ lane_by_lane bit_xor (map F.repr x.lanes) (map F.repr y.lanes) };
 
     #[inline]
@@ -17,7 +17,7 @@ impl<F: WiderField, const N: usize> AddAssign<Packed<F, N>> for Packed<F, N> {
     }
 }
 
-impl<F: WiderField, const N: usize> Sub<Packed<F, N>> for Packed<F, N> {
+impl<F: Laned, const N: usize> Sub<Packed<F, N>> for Packed<F, N> {
     type Output = Packed<F, N>;
 
     ghost sub_gives = { λ x y r. map F.repr r.lanes ≡ lane_by_lane bit_xor (map F.repr x.lanes) (map F.repr y.lanes) };
@@ -28,7 +28,7 @@ impl<F: WiderField, const N: usize> Sub<Packed<F, N>> for Packed<F, N> {
     }
 }
 
-impl<F: WiderField, const N: usize> SubAssign<Packed<F, N>> for Packed<F, N> {
+impl<F: Laned, const N: usize> SubAssign<Packed<F, N>> for Packed<F, N> {
     ghost sub_assign_gives = { λ x y r. map F.repr r.lanes ≡ lane_by_lane bit_xor (map F.repr x.lanes) (map F.repr y.lanes) };
 
     #[inline]
@@ -37,7 +37,7 @@ impl<F: WiderField, const N: usize> SubAssign<Packed<F, N>> for Packed<F, N> {
     }
 }
 
-impl<F: WiderField, const N: usize> MulAssign<Packed<F, N>> for Packed<F, N> {
+impl<F: Laned, const N: usize> MulAssign<Packed<F, N>> for Packed<F, N> {
     ghost mul_assign_gives = { λ x y r. map F.repr r.lanes ≡ lane_by_lane F.product (map F.repr x.lanes) (map F.repr y.lanes) };
 
     #[inline]
@@ -46,7 +46,7 @@ impl<F: WiderField, const N: usize> MulAssign<Packed<F, N>> for Packed<F, N> {
     }
 }
 
-impl<F: WiderField, const N: usize> Neg for Packed<F, N> {
+impl<F: Laned, const N: usize> Neg for Packed<F, N> {
     type Output = Packed<F, N>;
 
     ghost neg_gives = { λ x r. map F.repr r.lanes ≡ map F.repr x.lanes };
