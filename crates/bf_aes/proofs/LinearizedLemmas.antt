@@ -1,5 +1,5 @@
 -- Maps of bytes that keep sums, by their eight images.
-use Rattle.std.proofs.Common.{◌≡◌, ℕ, zero, suc, ◌+◌, ◌^◌, ◌<◌, List, [], ◌∷◌, length, map, refl, sym, ◌∙◌, ap, ap₂, subst, arith}
+use Rattle.std.proofs.Common.{◌≡◌, ℕ, zero, suc, ◌^◌, ◌<◌, List, [], ◌∷◌, length, map, refl, sym, ◌∙◌, ap, ap₂, arith}
 use Rattle.std.specs.Prelude.{bit_xor, slice_index, slice_index_or}
 use lib.Bits.{xor_assoc}
 use Rattle.bf_base.specs.Basis.{sum_below}

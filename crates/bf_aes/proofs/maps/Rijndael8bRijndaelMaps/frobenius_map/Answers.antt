@@ -1,8 +1,7 @@
 use Rattle.std.proofs.Common.{◌∙◌}
 use Rattle.bf_base.specs.Powers.{repeated_square}
 use Rattle.bf_base.specs.Remainder.{aes_modulus, mul_mod}
-use Rattle.bf_element.specs.Element.{repr_of}
-use Rattle.bf_aes.proofs.LinearizedLemmas.{by_eight_images, eight_entries_are, scaling_keeps, squarings_keep}
+use Rattle.bf_aes.proofs.LinearizedLemmas.{by_eight_images, eight_entries_are, squarings_keep}
 use Rattle.bf_aes.proofs.maps.Rijndael8bRijndaelMaps.frobenius_map.Goals as goal
 
 pub returns : goal.returns
