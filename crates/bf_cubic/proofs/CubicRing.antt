@@ -1,5 +1,5 @@
 -- The cubic extension of a ring of w-bit elements by a root y of y³ + y + 1 is a ring of elements of three times the width.
-use Rattle.std.proofs.Common.{◌≡◌, ℕ, ◌+◌, ◌*◌, ◌/◌, ◌%◌, ◌^◌, ◌<◌, refl, sym, ◌∙◌, ap, ap₂, subst, arith}
+use Rattle.std.proofs.Common.{◌≡◌, ℕ, ◌+◌, ◌*◌, ◌/◌, ◌%◌, ◌^◌, ◌<◌, refl, sym, ◌∙◌, ap, ap₂, subst, arith, [], ◌∷◌}
 use Rattle.std.specs.Prelude.{bit_xor}
 use Rattle.std.proofs.lemmas.Nat.{xor_comm, xor_lt, xor_shr, xor_mod, mod-pow-add, shr_high, shr-shr, pow-add, pow_pos, pow_below}
 use native.Mathlib.Nat.{mod-lt, mul-zero, mul-one, div-one}
@@ -9,7 +9,7 @@ use Rattle.bf_base.specs.Basis.{sum_below}
 use Rattle.bf_cubic.specs.Cubic.{CubicIsRing, cubic, triple}
 use Rattle.bf_base.specs.Quadratic.{pair}
 use Rattle.bf_base.specs.Ring.{IsRing}
-use Rattle.bf_base.specs.Chunks.{chunk}
+use Rattle.bf_base.specs.Chunks.{chunk, chunks}
 use Rattle.bf_base.proofs.PowerLemmas.{one-times}
 use Rattle.bf_base.proofs.QuadraticProducts.{pair-low}
 use Rattle.bf_base.proofs.QuadraticRing.{high_half-pair, low_half-pair, pair-halves, pair-lt, pair_xor}
@@ -52,6 +52,14 @@ third-triple width x y z x_fits y_fits z_fits =
     chunk-third width (triple width x y z)
     ∙ ap (λ (r : ℕ). r / 2 ^ width % 2 ^ width) (shr_high (pair width y z) width x x_fits)
     ∙ high_half-pair width y z y_fits z_fits
+
+-- the list of its coefficients
+pub chunks-triple : (width x y z : ℕ) → x < 2 ^ width → y < 2 ^ width → z < 2 ^ width
+    → chunks width 3 (triple width x y z) ≡ x ∷ y ∷ z ∷ []
+unfolding chunks
+chunks-triple width x y z x_fits y_fits z_fits =
+    λ i. first-triple width x y z x_fits i ∷ second-triple width x y z x_fits y_fits i
+    ∷ third-triple width x y z x_fits y_fits z_fits i ∷ []
 
 -- the coefficients of a number are those of its low bits
 pub triple-chunks : (width a : ℕ) → triple width (chunk width 0 a) (chunk width 1 a) (chunk width 2 a) ≡ a % 2 ^ (width + width + width)

@@ -2,6 +2,7 @@
 //! conversions between them, and what each field has of its own.
 #![tactic(auto)]
 
+mod cubic;
 mod draws;
 mod element;
 mod linear_map;
@@ -15,5 +16,5 @@ pub use crate::element::{Element, HasPacking};
 pub use crate::linear_map::LEAST_TABLED;
 pub use crate::names::{
     BinaryField2, BinaryField4, BinaryField8, BinaryField16, BinaryField32, BinaryField64,
-    BinaryField128, Ghash128, PackedGhash128, PackedRijndael8b, Poly64, Rijndael8b,
+    BinaryField128, Ghash128, PackedGhash128, PackedRijndael8b, Poly64, Poly192, Rijndael8b,
 };

@@ -3,6 +3,7 @@
 
 mod cubic;
 mod kernel;
+mod subfield;
 mod triple;
 
 pub use crate::kernel::CubicKernel;

@@ -1,0 +1,131 @@
+// What the cubic extension of `Poly64` has of its own, and how `Poly64` lies in it: an element is coefficient 0.
+ghost use Rattle.std.specs.Prelude.{◌≡◌, ◌≢◌, ◌<◌, ◌^◌, ℕ, map, refl};
+ghost use Rattle.bf_base.specs.Chunks.{chunks};
+ghost use Rattle.bf_base.specs.Remainder.{mul_mod, poly64_modulus};
+ghost use Rattle.bf_cubic.specs.Cubic.{cubic};
+ghost use Rattle.bf_element.specs.Element.{repr_of};
+
+use crate::element::Element;
+use crate::names::{Poly64, Poly192};
+use bf_base::Kernel;
+use bf_base::traits::{Algebra, TowerLevel};
+use bf_poly192::{CubicKernel, Triple};
+use std::ops::{Div, DivAssign};
+
+impl Poly192 {
+    /// The element c0 + c1 y + c2 y² of the coefficients [c0, c1, c2].
+    pub fn new(coefficients: [Poly64; 3]) -> Poly192
+        ensures { chunks 64 3 (repr_of result) ≡ map repr_of coefficients }
+    {
+        let [c0, c1, c2] = coefficients;
+        Element::of_word(Triple {
+            c0: c0.to_repr(),
+            c1: c1.to_repr(),
+            c2: c2.to_repr(),
+        })
+    }
+
+    /// The coefficients [c0, c1, c2] of the element c0 + c1 y + c2 y².
+    pub fn coefficients(self) -> [Poly64; 3]
+        ensures { map repr_of result ≡ chunks 64 3 (repr_of self) }
+    {
+        let word = self.word();
+        [
+            Poly64::from_repr(word.c0),
+            Poly64::from_repr(word.c1),
+            Poly64::from_repr(word.c2),
+        ]
+    }
+
+    /// The product, by products of coefficients. It is what `*` gives.
+    pub fn composed_mul(self, other: Poly192) -> Poly192
+        ensures { repr_of result ≡ cubic 64 (mul_mod 64 poly64_modulus) (repr_of self) (repr_of other) }
+    {
+        self * other
+    }
+
+    /// The inverse, and 0 for 0.
+    pub fn invert_or_zero(self) -> Poly192
+        ensures zero { repr_of self ≡ 0 → repr_of result ≡ 0 }
+        ensures inverse { repr_of self ≢ 0 → cubic 64 (mul_mod 64 poly64_modulus) (repr_of self) (repr_of result) ≡ 1 }
+    {
+        Element::of_word(CubicKernel::invert(self.word()))
+    }
+}
+
+impl From<Poly64> for Poly192 {
+    ghost from_gives = { λ x r. repr_of r ≡ repr_of x };
+
+    fn from(element: Poly64) -> Poly192 {
+        Element::of_word(Triple {
+            c0: element.to_repr(),
+            c1: 0,
+            c2: 0,
+        })
+    }
+}
+
+impl Div<Poly64> for Poly192 {
+    type Output = Poly192;
+
+    ghost can_div = { λ x y. repr_of y ≢ 0 };
+
+    ghost div_gives = { λ x y r. cubic 64 (mul_mod 64 poly64_modulus) (repr_of r) (repr_of y) ≡ repr_of x };
+
+    #[inline]
+    fn div(self, other: Poly64) -> Poly192 {
+        self / Poly192::from(other)
+    }
+}
+
+impl DivAssign<Poly64> for Poly192 {
+    ghost can_div_assign = { λ x y. repr_of y ≢ 0 };
+
+    ghost div_assign_gives = { λ x y r. cubic 64 (mul_mod 64 poly64_modulus) (repr_of r) (repr_of y) ≡ repr_of x };
+
+    #[inline]
+    fn div_assign(&mut self, other: Poly64) {
+        *self = *self / other;
+    }
+}
+
+impl Algebra<Poly64> for Poly192 {
+    ghost use Rattle.bf_base.proofs.RemainderRing.{poly64_ring};
+    ghost use Rattle.bf_cubic.proofs.CubicRing.{cubic-low};
+
+    ghost image = { λ a. a };
+
+    ghost image_unit_law = { refl };
+
+    ghost image_sum_law = { λ a b a_fits b_fits. refl };
+
+    ghost image_product_law = { cubic-low 64 (mul_mod 64 poly64_modulus) poly64_ring };
+
+    ghost image_injective_law = { λ proper a b a_fits b_fits same. same };
+
+    ghost image_from_law = { λ x r is. is };
+
+    ghost can_add_image_law = { λ x y. tt };
+
+    ghost add_image_law = { λ x y r is. is };
+
+    ghost can_add_assign_image_law = { λ x y. tt };
+
+    ghost add_assign_image_law = { λ x y r is. is };
+
+    ghost can_sub_image_law = { λ x y. tt };
+
+    ghost sub_image_law = { λ x y r is. is };
+
+    ghost can_sub_assign_image_law = { λ x y. tt };
+
+    ghost sub_assign_image_law = { λ x y r is. is };
+
+    ghost can_mul_image_law = { λ x y. tt };
+
+    ghost mul_image_law = { λ x y r is. is };
+
+    ghost can_mul_assign_image_law = { λ x y. tt };
+
+    ghost mul_assign_image_law = { λ x y r is. is };
+}
