@@ -1,5 +1,5 @@
 -- The cubic extension of a ring of w-bit elements by a root y of y³ + y + 1 is a ring of elements of three times the width.
-use Rattle.std.proofs.Common.{◌≡◌, ℕ, ◌+◌, ◌*◌, ◌/◌, ◌%◌, ◌^◌, ◌<◌, refl, sym, ◌∙◌, ap, ap₂, subst, arith, [], ◌∷◌}
+use Rattle.std.proofs.Common.{◌≡◌, ℕ, zero, suc, ◌+◌, ◌*◌, ◌/◌, ◌%◌, ◌^◌, ◌<◌, refl, sym, ◌∙◌, ap, ap₂, subst, arith, [], ◌∷◌}
 use Rattle.std.specs.Prelude.{bit_xor}
 use Rattle.std.proofs.lemmas.Nat.{xor_comm, xor_lt, xor_shr, xor_mod, mod-pow-add, shr_high, shr-shr, pow-add, pow_pos, pow_below}
 use native.Mathlib.Nat.{mod-lt, mul-zero, mul-one, div-one}
@@ -305,6 +305,26 @@ module _ (width : ℕ) (times : ℕ → ℕ → ℕ) (ring : IsRing width 1 time
       cubic-triples c 0 0 a0 a1 a2 fits (pow_pos width) (pow_pos width) fits0 fits1 fits2
       ∙ same₃ (triple width) (simp (zero-times width 1 times ring, xor_zero_r)) (simp (zero-times width 1 times ring, xor_zero_r))
       (simp (zero-times width 1 times ring, xor_zero_r))
+
+  -- whatever number the other operand is
+  cubic-scale : (c a : ℕ) → c < 2 ^ width → cubic width times c a
+      ≡ triple width (times c (chunk width 0 a)) (times c (chunk width 1 a)) (times c (chunk width 2 a))
+  cubic-scale c a fits =
+      ap (λ (x : ℕ). cubic width times x a) (sym (triple-low width c))
+      ∙ cubic-triple_left c 0 0 a fits (pow_pos width) (pow_pos width)
+      ∙ same₃ (triple width) (simp (zero-times width 1 times ring, xor_zero_r)) (simp (zero-times width 1 times ring, xor_zero_r))
+      (simp (zero-times width 1 times ring, xor_zero_r))
+
+  pub chunk-cubic : (i c a : ℕ) → i < 3 → c < 2 ^ width → chunk width i (cubic width times c a) ≡ times c (chunk width i a)
+  chunk-cubic zero c a few fits =
+      ap (chunk width 0) (cubic-scale c a fits) ∙ first-triple width _ _ _ (ring.below c (chunk width 0 a))
+  chunk-cubic (suc zero) c a few fits =
+      ap (chunk width 1) (cubic-scale c a fits)
+      ∙ second-triple width _ _ _ (ring.below c (chunk width 0 a)) (ring.below c (chunk width 1 a))
+  chunk-cubic (suc (suc zero)) c a few fits =
+      ap (chunk width 2) (cubic-scale c a fits)
+      ∙ third-triple width _ _ _ (ring.below c (chunk width 0 a)) (ring.below c (chunk width 1 a)) (ring.below c (chunk width 2 a))
+  chunk-cubic (suc (suc (suc i))) c a few fits = absurd (omega (arith, few))
 
   one_0 : (x0 x1 x2 : ℕ) → x0 < 2 ^ width → product_0 1 0 0 x0 x1 x2 ≡ x0
   one_0 x0 x1 x2 fits =

@@ -3,6 +3,9 @@ ghost use Rattle.std.specs.Prelude.{◌≡◌, ◌<◌, ◌%◌, ◌^◌, ℕ};
 
 mod operators;
 mod ring;
+mod stored;
+
+pub use crate::element::stored::{element_of_word, word_of};
 
 use bf_base::{Gf2, Kernel, Word};
 use std::alloc::AllocError;

@@ -2,6 +2,7 @@
 // product with the element is its norm, an element of GF(2^64).
 ghost use Rattle.std.specs.Prelude.{◌≡◌, ◌≢◌, ◌<◌, ◌^◌};
 ghost use Rattle.bf_cubic.specs.Cubic.{cubic};
+ghost use Rattle.bf_base.specs.Powers.{repeated_square};
 ghost use Rattle.bf_base.specs.Remainder.{mul_mod, poly64_modulus};
 ghost use Rattle.bf_poly192.specs.Triple.{number_of};
 
@@ -39,6 +40,18 @@ pub fn square_192(x: Triple) -> Triple
         c0: s0,
         c1: s2,
         c2: s1 ^ s2,
+    }
+}
+
+/// The element squared 64 times: an automorphism that leaves GF(2^64) and takes y to y², and y² to y² + y.
+#[inline]
+pub fn automorphism_192(x: Triple) -> Triple
+    ensures { number_of result ≡ repeated_square 1 (cubic 64 (mul_mod 64 poly64_modulus)) 64 (number_of x) }
+{
+    Triple {
+        c0: x.c0,
+        c1: x.c2,
+        c2: x.c1 ^ x.c2,
     }
 }
 

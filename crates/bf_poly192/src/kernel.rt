@@ -6,7 +6,7 @@ ghost use Rattle.bf_base.specs.Remainder.{mul_mod, poly64_modulus};
 ghost use Rattle.bf_poly192.specs.Field.{field_192, fits_192, generator_nonzero_192, generator_order_192};
 ghost use Rattle.bf_poly192.specs.Triple.{number_of, words_of};
 
-use crate::cubic::{invert_192, multiply_192, sqrt_192, square_192};
+use crate::cubic::{automorphism_192, invert_192, multiply_192, sqrt_192, square_192};
 use crate::triple::Triple;
 use bf_base::{Kernel, Word};
 
@@ -69,9 +69,17 @@ impl Kernel<Triple> for CubicKernel {
         sqrt_192(x)
     }
 
+    // 64 squarings are the automorphism over GF(2^64), which takes y to y².
     #[inline]
     fn reduce_squarings(x: Triple, count: usize) -> (Triple, usize) {
-        (x, count % 192)
+        let rest = count % 192;
+        if rest < 64 {
+            (x, rest)
+        } else if rest < 128 {
+            (automorphism_192(x), rest - 64)
+        } else {
+            (automorphism_192(automorphism_192(x)), rest - 128)
+        }
     }
 
     #[inline]
