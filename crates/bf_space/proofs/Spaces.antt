@@ -4,6 +4,7 @@ use Rattle.std.proofs.lemmas.Nat.{mod-pow-add, shr_high, pow-add, pow_pos}
 use native.Mathlib.Nat.{mul-add, mul-add-mod_self_left, zero-add, mod-eq_of_lt, mod-lt, mul-suc, mul-zero, mul_assoc, add-mul-mod_self_right, div-one}
 use native.Mathlib.Numerals.{add-one}
 use lib.Arith.{digits_lt}
+use Rattle.std.proofs.Math.Pow.{pow_mono}
 use Rattle.std.proofs.Math.Seq.{take-suc}
 use Rattle.std.proofs.lemmas.Grind.{flat_map-append}
 use Rattle.std.proofs.lemmas.List.{append-nil, append_assoc, length-append, map-append}
@@ -62,6 +63,17 @@ put-lt width i a c x low_fits high_fits is =
     let bits : 2 ^ (width * suc i) ≡ 2 ^ width * 2 ^ (width * i) =
     ap (λ (k : ℕ). 2 ^ k) (mul-suc width i ∙ omega arith) ∙ pow-add 2 width (width * i) in
     omega (arith, bits, is, digits_lt high_fits low_fits)
+
+-- so that it fits the space
+pub put_fits : (whole width dimension i a c x : ℕ) → whole ≡ width * dimension → i < dimension → x < 2 ^ (width * i) → c < 2 ^ width
+    → a ≡ c * 2 ^ (width * i) + x → a < 2 ^ whole
+put_fits whole width dimension i a c x bits place low fits is =
+    let split : dimension ≡ suc i + (dimension - suc i) = omega (arith, place) in
+    let wide : whole ≡ width * suc i + width * (dimension - suc i) =
+    bits ∙ ap (λ (k : ℕ). width * k) split ∙ mul-add width (suc i) (dimension - suc i) in
+    let more : width * suc i ≤ whole = omega (arith, wide) in
+    let grows : 2 ^ (width * suc i) ≤ 2 ^ whole = pow_mono {i = width * suc i} {j = whole} more in
+    omega (arith, put-lt width i a c x low fits is, grows)
 
 -- ---- a field over itself
 

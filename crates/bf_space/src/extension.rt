@@ -6,6 +6,7 @@ ghost use Rattle.bf_space.specs.PowerItems.{ArePowersOf};
 use crate::powers::{HasPowers, Powers};
 use crate::space::BasedVectorSpace;
 use bf_base::traits::{Algebra, Field};
+use bf_element::{Poly64, Poly192};
 use std::alloc::{AllocError, Allocator};
 
 /// A field that contains the field `F`: coefficient 0 of an element of `F` is the element, and the others are 0.
@@ -15,7 +16,10 @@ pub trait ExtensionField<F: Field>: Field + Algebra<F> + BasedVectorSpace<F> {
 
     /// Whether the element lies in `F`.
     fn is_in_basefield(&self) -> bool
-        ensures { IsTrue result ↔ (Self.repr self.now < 2 ^ F.width) };
+        ensures { IsTrue result ↔ (Self.repr self.now < 2 ^ F.width) }
+    {
+        <Self as From<F>>::from(self.basis_coefficient(0)) == *self
+    }
 
     /// The element as one of `F`, and None where it lies outside.
     fn as_base(&self) -> Option<F>
@@ -33,13 +37,14 @@ pub trait ExtensionField<F: Field>: Field + Algebra<F> + BasedVectorSpace<F> {
     ghost embeds_law: { (a : ℕ) → a < 2 ^ F.width → Self.Algebra.image a ≡ a };
 }
 
-impl<F: Field> ExtensionField<F> for F {
+impl<F: Field + BasedVectorSpace<F>> ExtensionField<F> for F {
     type ExtensionPacking = F;
 
-    fn is_in_basefield(&self) -> bool {
-        let _in_range = *self;
-        true
-    }
+    ghost embeds_law = { λ a fits. refl };
+}
+
+impl ExtensionField<Poly64> for Poly192 {
+    type ExtensionPacking = Poly192;
 
     ghost embeds_law = { λ a fits. refl };
 }
@@ -76,7 +81,7 @@ pub trait HasFrobenius<F: Field>: ExtensionField<F> {
     }
 }
 
-impl<F: Field> HasFrobenius<F> for F {}
+impl<F: Field, E: ExtensionField<F>> HasFrobenius<F> for E {}
 
 /// An extension of a field with a text that names it and its basis.
 pub trait AlgebraIdentity<F: Field>: ExtensionField<F> {

@@ -3,9 +3,11 @@
 #![tactic(auto)]
 
 mod extension;
+mod kernel;
 mod powers;
 mod space;
 
 pub use crate::extension::{AlgebraIdentity, ExtensionField, HasFrobenius, PackedFieldExtension};
+pub use crate::kernel::SpaceOver;
 pub use crate::powers::{HasPowers, Powers};
 pub use crate::space::{BasedVectorSpace, BasisCoefficients};

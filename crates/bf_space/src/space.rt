@@ -1,15 +1,19 @@
 // Elements as vectors over a smaller ring, and fields as extensions of a smaller field.
 ghost use Rattle.std.specs.Prelude.{◌≡◌, ◌≢◌, ◌↔◌, ◌*◌, ◌+◌, ◌%◌, ◌^◌, ◌<◌, ◌≤◌, ℕ, List, map, length, IsTrue, IsNone, IfOk, IfSome, refl};
-ghost use Rattle.std.proofs.Common.{lit<, sym};
-ghost use native.Mathlib.Nat.{mul-one};
+ghost use Rattle.std.proofs.Common.{lit<};
 ghost use Rattle.std.specs.Array.{FillsFrom};
 ghost use Rattle.std.specs.Iterator.{IsFinite};
 ghost use Rattle.std.specs.List.{flat_map};
 ghost use Rattle.bf_space.specs.OneCoefficient.{scales_one_coefficient};
+ghost use Rattle.bf_base.specs.BitRing.{bits_ring};
 ghost use Rattle.bf_base.specs.Chunks.{chunk, chunks};
+ghost use Rattle.bf_base.specs.Tower.{tower_mul};
 ghost use Rattle.bf_space.specs.Items.{TakesOneMore};
 
-use bf_base::traits::{Field, PrimeCharacteristicRing};
+use crate::kernel::SpaceOver;
+use bf_base::traits::PrimeCharacteristicRing;
+use bf_base::{Gf2, Kernel, Word};
+use bf_element::{Element, Poly64, Poly192, element_of_word, word_of};
 use std::alloc::{AllocError, Allocator};
 
 /// A ring whose elements are vectors over the ring `F`. Coefficient i of an element is chunk i of its representation, of as
@@ -123,32 +127,73 @@ pub trait BasisCoefficients<F: PrimeCharacteristicRing>: BasedVectorSpace<F> {
         ensures { map F.repr (listed result) ≡ chunks F.width Self.DIMENSION (Self.repr self.now) };
 }
 
-impl<F: Field> BasedVectorSpace<F> for F {
+impl<R: Word, K: SpaceOver<R, S, J>, S: Word, J: Kernel<S>> BasedVectorSpace<Element<S, J>>
+    for Element<R, K> {
+    const DIMENSION: usize = K::DIMENSION;
+
+    ghost DIMENSION = { K.DIMENSION };
+
+    ghost dimension_law = { K.dimension_law };
+
+    ghost space_law = { K.space_law };
+
+    ghost scale_law = { K.scale_law };
+
+    fn basis_coefficient(&self, i: usize) -> Element<S, J> {
+        element_of_word(K::coefficient(word_of(self), i))
+    }
+
+    fn with_basis_coefficient(self, i: usize, coefficient: Element<S, J>) -> Element<R, K> {
+        element_of_word(K::with_coefficient(word_of(&self), i, word_of(&coefficient)))
+    }
+}
+
+impl BasedVectorSpace<Gf2> for Gf2 {
     const DIMENSION: usize = 1;
 
     ghost DIMENSION = { 1 };
 
     ghost dimension_law = { lit< tt };
 
-    ghost space_law = { sym (mul-one F.width) };
+    ghost space_law = { refl };
 
-    ghost scale_law = { scales_one_coefficient F.width F.unit F.product F.ring_law };
+    ghost scale_law = { scales_one_coefficient 1 1 (tower_mul 0) bits_ring };
 
-    fn basis_coefficient(&self, _i: usize) -> F {
+    fn basis_coefficient(&self, _i: usize) -> Gf2 {
         *self
     }
 
-    fn with_basis_coefficient(self, _i: usize, coefficient: F) -> F {
+    fn with_basis_coefficient(self, _i: usize, coefficient: Gf2) -> Gf2 {
         coefficient
     }
 }
 
-impl<F: Field> BasisCoefficients<F> for F {
-    type Coefficients = [F; 1];
+impl<R: Word, K: Kernel<R>> BasisCoefficients<Element<R, K>> for Element<R, K> {
+    type Coefficients = [Element<R, K>; 1];
 
     ghost listed = { λ cs. cs };
 
-    fn as_basis_coefficients(&self) -> [F; 1] {
+    fn as_basis_coefficients(&self) -> [Element<R, K>; 1] {
+        [<Element<R, K> as BasedVectorSpace<Element<R, K>>>::basis_coefficient(self, 0)]
+    }
+}
+
+impl BasisCoefficients<Gf2> for Gf2 {
+    type Coefficients = [Gf2; 1];
+
+    ghost listed = { λ cs. cs };
+
+    fn as_basis_coefficients(&self) -> [Gf2; 1] {
         [*self]
+    }
+}
+
+impl BasisCoefficients<Poly64> for Poly192 {
+    type Coefficients = [Poly64; 3];
+
+    ghost listed = { λ cs. cs };
+
+    fn as_basis_coefficients(&self) -> [Poly64; 3] {
+        self.coefficients()
     }
 }

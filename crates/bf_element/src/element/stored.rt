@@ -15,8 +15,8 @@ pub fn element_of_word<R: Word, K: Kernel<R>>(word: R) -> Element<R, K>
 
 /// The word that stores an element.
 #[inline]
-pub fn word_of<R: Word, K: Kernel<R>>(element: Element<R, K>) -> R
-    ensures { R.number result ≡ repr_of element }
+pub fn word_of<R: Word, K: Kernel<R>>(element: &Element<R, K>) -> R
+    ensures { R.number result ≡ repr_of element.now }
 {
     element.repr
 }

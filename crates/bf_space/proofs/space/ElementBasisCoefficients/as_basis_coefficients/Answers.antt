@@ -1,0 +1,10 @@
+use Rattle.std.proofs.Common.{◌∷◌, [], sym, ◌∙◌, ap}
+use Rattle.bf_space.proofs.Spaces.{chunk-whole, chunks-whole}
+use Rattle.bf_space.proofs.space.ElementBasisCoefficients.as_basis_coefficients.Goals as goal
+
+pub returns : goal.returns
+returns g c =
+    let width = g.K.Kernel.width in
+    let x = g.R.Word.number c.args.self.now.repr in
+    ap (λ n. n ∷ []) (c.basis_coefficient.ensures ∙ chunk-whole width x c.args.self.now.in_range)
+    ∙ chunks-whole width x c.args.self.now.in_range

@@ -1,0 +1,103 @@
+// Fields as vector spaces over a smaller field, by their arithmetic on words.
+ghost use Rattle.std.specs.Prelude.{◌≡◌, ◌*◌, ◌+◌, ◌<◌, ◌^◌, ℕ};
+ghost use Rattle.std.proofs.Common.{lit<, refl, sym};
+ghost use native.Mathlib.Nat.{mul-one};
+ghost use Rattle.bf_base.specs.Chunks.{chunk};
+ghost use Rattle.bf_base.specs.Remainder.{mul_mod, poly64_modulus};
+ghost use Rattle.bf_base.proofs.RemainderRing.{poly64_ring};
+ghost use Rattle.bf_cubic.proofs.CubicRing.{chunk-cubic};
+ghost use Rattle.bf_space.specs.OneCoefficient.{scales_one_coefficient};
+
+use bf_base::{Kernel, Word};
+use bf_poly::Poly64Kernel;
+use bf_poly192::{CubicKernel, Triple};
+
+/// A field `Self`, stored in `R`, whose elements are vectors over the field `J`, stored in `S`: coefficient i of an element is
+/// chunk i of its number, of as many bits as an element of `J` has, the lowest first. Every field is a space of dimension 1 over
+/// itself.
+pub trait SpaceOver<R: Word, S: Word, J: Kernel<S>>: Kernel<R> {
+    /// How many coefficients an element has.
+    const DIMENSION: usize;
+
+    ghost DIMENSION: { ℕ };
+
+    /// Coefficient `i` of an element.
+    fn coefficient(x: R, i: usize) -> S
+        requires place { i < DIMENSION }
+        requires fits { R.number x < 2 ^ Self.width }
+        ensures { S.number result ≡ chunk J.width i (R.number x) };
+
+    /// The element with `coefficient` in place `i`, at an element whose coefficients from there on are 0.
+    fn with_coefficient(x: R, i: usize, coefficient: S) -> R
+        requires place { i < DIMENSION }
+        requires below { R.number x < 2 ^ (J.width * i) }
+        requires fits { S.number coefficient < 2 ^ J.width }
+        ensures { R.number result ≡ S.number coefficient * 2 ^ (J.width * i) + R.number x };
+
+    ghost dimension_law: { 0 < DIMENSION };
+
+    ghost space_law: { Self.width ≡ J.width * DIMENSION };
+
+    // An element of `J`, as coefficient 0 of an element, multiplies each coefficient of another.
+    ghost scale_law: { (i c a : ℕ) → i < DIMENSION → c < 2 ^ J.width → chunk J.width i (Self.product c a) ≡ J.product c (chunk J.width i a) };
+}
+
+impl<R: Word, K: Kernel<R>> SpaceOver<R, R, K> for K {
+    const DIMENSION: usize = 1;
+
+    ghost DIMENSION = { 1 };
+
+    ghost dimension_law = { lit< tt };
+
+    ghost space_law = { sym (mul-one K.width) };
+
+    ghost scale_law = { scales_one_coefficient K.width 1 K.product K.field_law.ring };
+
+    fn coefficient(x: R, _i: usize) -> R {
+        x
+    }
+
+    fn with_coefficient(_x: R, _i: usize, coefficient: R) -> R {
+        coefficient
+    }
+}
+
+impl SpaceOver<Triple, u64, Poly64Kernel> for CubicKernel {
+    const DIMENSION: usize = 3;
+
+    ghost DIMENSION = { 3 };
+
+    ghost dimension_law = { lit< tt };
+
+    ghost space_law = { refl };
+
+    ghost scale_law = { chunk-cubic 64 (mul_mod 64 poly64_modulus) poly64_ring };
+
+    fn coefficient(x: Triple, i: usize) -> u64 {
+        match i {
+            0 => x.c0,
+            1 => x.c1,
+            _ => x.c2,
+        }
+    }
+
+    fn with_coefficient(x: Triple, i: usize, coefficient: u64) -> Triple {
+        match i {
+            0 => Triple {
+                c0: coefficient,
+                c1: 0,
+                c2: 0,
+            },
+            1 => Triple {
+                c0: x.c0,
+                c1: coefficient,
+                c2: 0,
+            },
+            _ => Triple {
+                c0: x.c0,
+                c1: x.c1,
+                c2: coefficient,
+            },
+        }
+    }
+}
