@@ -1,5 +1,5 @@
 // Fields that extend a smaller field, and their packings, which have one lane.
-ghost use Rattle.std.specs.Prelude.{◌≡◌, ◌≢◌, ◌↔◌, ◌*◌, ◌^◌, ◌<◌, ◌≤◌, ℕ, List, length, IsTrue, IsNone, IfOk, IfSome, slice_index_or, bit_xor, refl};
+ghost use Rattle.std.specs.Prelude.{◌≡◌, ◌≢◌, ◌↔◌, ◌*◌, ◌^◌, ◌<◌, ◌≤◌, ℕ, List, length, IsTrue, IsNone, IfOk, IfSome, slice_index_or, bit_xor, codes, refl};
 ghost use Rattle.bf_base.specs.Powers.{repeated_square};
 ghost use Rattle.bf_space.specs.PowerItems.{ArePowersOf};
 
@@ -88,9 +88,26 @@ pub trait AlgebraIdentity<F: Field>: ExtensionField<F> {
     // The bytes of the text.
     ghost identity: { List ℕ };
 
+    /// The text.
+    fn identity() -> &'static [u8]
+        ensures { result.now ≡ identity };
+
     /// The text, in a vector from `alloc`. It fails only where the allocator refuses.
     fn algebra_id<A: Allocator>(alloc: A) -> Result<Vec<u8, A>, AllocError>
-        ensures { IfOk result (λ id. id.items ≡ identity) };
+        ensures { IfOk result (λ id. id.items ≡ identity) }
+    {
+        let mut id = Vec::new(alloc);
+        id.extend_from_slice(Self::identity())?;
+        Ok(id)
+    }
+}
+
+impl AlgebraIdentity<Poly64> for Poly192 {
+    ghost identity = { codes "p3-binary-cubic-v1:y^3+y+1:64:192" };
+
+    fn identity() -> &'static [u8] {
+        b"p3-binary-cubic-v1:y^3+y+1:64:192"
+    }
 }
 
 /// A packing of elements of the extension `E` of the field `F`. Each has one lane, and is the extension itself.

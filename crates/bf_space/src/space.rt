@@ -2,7 +2,6 @@
 ghost use Rattle.std.specs.Prelude.{◌≡◌, ◌≢◌, ◌↔◌, ◌*◌, ◌+◌, ◌%◌, ◌^◌, ◌<◌, ◌≤◌, ℕ, List, map, length, IsTrue, IsNone, IfOk, IfSome, refl};
 ghost use Rattle.std.proofs.Common.{lit<};
 ghost use Rattle.std.specs.Array.{FillsFrom};
-ghost use Rattle.std.specs.Iterator.{IsFinite};
 ghost use Rattle.std.specs.List.{flat_map};
 ghost use Rattle.bf_space.specs.OneCoefficient.{scales_one_coefficient};
 ghost use Rattle.bf_base.specs.BitRing.{bits_ring};
@@ -87,20 +86,19 @@ pub trait BasedVectorSpace<F: PrimeCharacteristicRing>: PrimeCharacteristicRing 
     }
 
     /// The element of the coefficients that `iter` gives, the lowest first, and None where they are not as many as the
-    /// dimension. It takes at most one item more than that. `iter` has to be one that ends.
+    /// dimension. It takes at most one item more than that, also of an iterator without end.
     final fn from_basis_coefficients_iter<I: Iterator<Item = F>>(mut iter: I) -> Option<Self>
-        requires can { I.can_next iter }
-        requires finite { IsFinite (I.remaining iter) }
+        requires { I.can_next iter }
         ensures { (coefficients : List F) × TakesOneMore I.next_gives iter DIMENSION coefficients × (IsNone result ↔ (length coefficients ≢ DIMENSION)) × IfSome result (λ x. map F.repr coefficients ≡ chunks F.width DIMENSION (Self.repr x)) }
     {
         let mut element = Self::ZERO;
         for i in 0..Self::DIMENSION {
-            match iter.next() {
+            match next_of(&mut iter) {
                 Some(coefficient) => element = element.with_basis_coefficient(i, coefficient),
                 None => return None,
             }
         }
-        match iter.next() {
+        match next_of(&mut iter) {
             Some(_) => None,
             None => Some(element),
         }
@@ -112,6 +110,15 @@ pub trait BasedVectorSpace<F: PrimeCharacteristicRing>: PrimeCharacteristicRing 
 
     // An element of `F`, as coefficient 0 of an element, multiplies each coefficient of another.
     ghost scale_law: { (i c a : ℕ) → i < DIMENSION → c < 2 ^ F.width → chunk F.width i (Self.product c a) ≡ F.product c (chunk F.width i a) };
+}
+
+// The next item of an iterator. A loop that calls `next` itself would have to know that the iterator ends.
+fn next_of<F, I: Iterator<Item = F>>(iter: &mut I) -> Option<F>
+    requires { I.can_next iter.old }
+    ensures steps { I.next_gives iter.old result iter.new }
+    ensures goes_on { IfSome result (λ item. I.can_next iter.new) }
+{
+    iter.next()
 }
 
 /// A vector space whose elements show their coefficients as an array.

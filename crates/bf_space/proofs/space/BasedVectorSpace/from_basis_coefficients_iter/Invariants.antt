@@ -5,7 +5,6 @@ use Rattle.bf_space.proofs.space.BasedVectorSpace.from_basis_coefficients_iter.G
 -- the element has the coefficients that the iterator has given
 abbrev pub invariant-loop-i : goal.invariant-loop-i
 invariant-loop-i g l =
-    (goal.iterator-loop-i g).can_next l.iter
-    × (goal.iterator-loop-i g).is_finite l.iter
-    × Coefficients g.F.Represented.width g.F.Represented.repr (λ p k x q. (goal.iterator-loop-i g).next_gives p (Some x) q) l.initial.iter l.i
+    g.I.Iterator.can_next l.iter
+    × Coefficients g.F.Represented.width g.F.Represented.repr (λ p k x q. g.I.Iterator.next_gives p (Some x) q) l.initial.iter l.i
     (g.Self.Represented.repr l.element) l.iter
