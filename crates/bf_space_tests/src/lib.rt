@@ -1,0 +1,13 @@
+//! Tests of the cubic extension `Poly192`, and of elements as vectors: products and inverses, Frobenius's map, coefficients from
+//! functions and iterators, vectors of coefficients that are granted or refused, and the order of the generator. The crate has
+//! nothing to call.
+#![tactic(auto)]
+
+#[cfg(test)]
+mod generator;
+#[cfg(test)]
+mod memory;
+#[cfg(test)]
+mod products;
+#[cfg(test)]
+mod vectors;
