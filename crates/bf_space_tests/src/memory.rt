@@ -14,6 +14,18 @@ fn coefficients_of<A: Allocator>(
     <Poly192 as BasedVectorSpace<Poly64>>::flatten_to_base(alloc, elements)
 }
 
+/// The elements of the coefficients, and none where those are not of whole elements.
+fn elements_of<A: Allocator>(
+    alloc: A,
+    coefficients: &[Poly64],
+) -> Result<Vec<Poly192, A>, AllocError> {
+    if coefficients.len() % 3 == 0 {
+        Poly192::reconstitute_from_base(alloc, coefficients)
+    } else {
+        Ok(Vec::new(alloc))
+    }
+}
+
 /// Whether the coefficients of the elements, and the elements of those coefficients, are granted and are theirs.
 fn round_trip<A: Allocator, B: Allocator>(
     alloc: A,
@@ -21,7 +33,7 @@ fn round_trip<A: Allocator, B: Allocator>(
     elements: &[Poly192],
 ) -> Result<bool, Fail> {
     let flat = coefficients_of(alloc, elements)?;
-    let back = Poly192::reconstitute_from_base(other, flat.as_slice())?;
+    let back = elements_of(other, flat.as_slice())?;
     let mut place = 0;
     for element in elements {
         let [c0, c1, c2] = element.coefficients();
@@ -40,7 +52,7 @@ fn round_trip<A: Allocator, B: Allocator>(
 fn one_element(rt: HostRuntime) -> Result<(), Fail> {
     let flat = coefficients_of(rt.alloc(), &[cubic(1, 2, 3)])?;
     assert!(rt; flat.as_slice() == [Poly64::new(1), Poly64::new(2), Poly64::new(3)].as_slice());
-    let back = Poly192::reconstitute_from_base(rt.alloc(), flat.as_slice())?;
+    let back = elements_of(rt.alloc(), flat.as_slice())?;
     assert!(rt; back.as_slice() == [cubic(1, 2, 3)].as_slice());
     Ok(())
 }
@@ -58,7 +70,7 @@ fn granted_and_refused(rt: HostRuntime) -> Result<(), Fail> {
         );
         let flat = coefficients_of(rt.alloc(), elements.as_slice())?;
         let refused = coefficients_of(&small, elements.as_slice()).is_err()
-            && Poly192::reconstitute_from_base(&small, flat.as_slice()).is_err();
+            && elements_of(&small, flat.as_slice()).is_err();
         assert!(rt; refused == (len > 0) && small.used() == 0, "{len} elements");
         elements.push(cubic(len as u64, len as u64 + 1000, len as u64 + 2000))?;
     }

@@ -86,8 +86,9 @@ fn is_one_two_three(element: Poly192) -> bool {
 fn coefficients_from_functions(rt: HostRuntime) {
     let mut calls = 0u64;
     let counted = Poly192::from_basis_coefficients_fn(|i| {
-        calls = calls.wrapping_mul(8).wrapping_add(i as u64 + 1);
-        Poly64::new(i as u64 + 1)
+        let next = (i as u64).wrapping_add(1);
+        calls = calls.wrapping_mul(8).wrapping_add(next);
+        Poly64::new(next)
     });
     assert!(rt; is_one_two_three(counted) && calls == 0o123);
 }
