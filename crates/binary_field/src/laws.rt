@@ -1,6 +1,7 @@
 //! Laws of the definitions, as contracts of functions that compute nothing.
 
 pub use bf_bitslice::transposing_twice_returns;
+pub use bf_byte_challenger::runs_join;
 pub use bf_cubic::cubic_is_field;
 pub use bf_laws::{
     carryless_counts_pairs, carryless_is_product, fields_have_laws, frobenius_returns,

@@ -6,23 +6,27 @@
 
 pub mod laws;
 
-pub use bf_aes::{ByteMatrix, LinearizedPoly8b, RijndaelMaps, columns_are_transposed};
+pub use bf_aes::{ByteLanes, ByteMatrix, LinearizedPoly8b, RijndaelMaps, columns_are_transposed};
 pub use bf_base::Gf2;
 pub use bf_base::traits::{
     Algebra, DotProduct, Field, PrimeCharacteristicRing, Represented, TowerLevel,
 };
 pub use bf_basis::{LinearMap, to_polynomial_slice_64, to_tower_slice_64};
 pub use bf_bitslice::{
-    PackedGf2, PackedGf2x8, PackedGf2x16, PackedGf2x32, PackedGf2x64, PackedGf2x128, PackedGf2x256,
-    PackedGf2x512,
+    Lanes, PackedGf2, PackedGf2x8, PackedGf2x16, PackedGf2x32, PackedGf2x64, PackedGf2x128,
+    PackedGf2x256, PackedGf2x512,
 };
 pub use bf_bitslice_words::{M128, M256, M512, Underlier, Word};
+pub use bf_byte_challenger::{
+    ByteChallenger, ByteHasher32, ChallengerError, HashChallenger, Sha256Hasher,
+};
 pub use bf_calc as calc;
+pub use bf_divisible::Divisible;
 pub use bf_element::{
     BinaryField2, BinaryField4, BinaryField8, BinaryField16, BinaryField32, BinaryField64,
-    BinaryField128, Ghash128, Poly64, Rijndael8b,
+    BinaryField128, Ghash128, PackedGhash128, PackedRijndael8b, Poly64, Poly192, Rijndael8b,
 };
-pub use bf_packed::{Packed, PackedRijndael8b, WiderField};
+pub use bf_packed::{Packed, WiderField};
 pub use bf_packing::{PackedField, PackedFieldPow2, PackedValue};
 pub use bf_poly_basis as poly_basis;
 pub use bf_space::{
