@@ -41,7 +41,7 @@ pub trait Field: PrimeCharacteristicRing + Div<Self, Output = Self> + DivAssign<
     }
 
     /// The inverse of an element that is not 0.
-    fn inverse(&self) -> Self
+    final fn inverse(&self) -> Self
         requires { Self.repr self.now ≢ 0 }
         ensures { Self.product (Self.repr self.now) (Self.repr result) ≡ 1 }
     {
@@ -59,7 +59,7 @@ pub trait Field: PrimeCharacteristicRing + Div<Self, Output = Self> + DivAssign<
     }
 
     /// The n for which the field has 2 to the power of n elements.
-    fn order() -> usize
+    final fn order() -> usize
         ensures { result ≡ Self.width }
     {
         Self::bits()

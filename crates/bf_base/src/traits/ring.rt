@@ -49,91 +49,91 @@ pub trait PrimeCharacteristicRing: Represented
     ghost NEG_ONE: { Self };
 
     /// The ring's 0 or 1 for the bit 0 or 1.
-    fn from_prime_subfield(bit: Gf2) -> Self
+    final fn from_prime_subfield(bit: Gf2) -> Self
         ensures { Self.repr result ≡ repr_of bit * Self.unit }
     {
         Self::from_bool(bit.is_set())
     }
 
     /// 1 for true, and 0 for false.
-    fn from_bool(b: bool) -> Self
+    final fn from_bool(b: bool) -> Self
         ensures { Self.repr result ≡ (if b then Self.unit else 0) }
     {
         if b { Self::ONE } else { Self::ZERO }
     }
 
     /// The number as a sum of ones: 1 for an odd number, and 0 for an even one.
-    fn from_u8(n: u8) -> Self
+    final fn from_u8(n: u8) -> Self
         ensures { Self.repr result ≡ n % 2 * Self.unit }
     {
         Self::from_bool(n % 2 == 1)
     }
 
     /// The number as a sum of ones: 1 for an odd number, and 0 for an even one.
-    fn from_u16(n: u16) -> Self
+    final fn from_u16(n: u16) -> Self
         ensures { Self.repr result ≡ n % 2 * Self.unit }
     {
         Self::from_bool(n % 2 == 1)
     }
 
     /// The number as a sum of ones: 1 for an odd number, and 0 for an even one.
-    fn from_u32(n: u32) -> Self
+    final fn from_u32(n: u32) -> Self
         ensures { Self.repr result ≡ n % 2 * Self.unit }
     {
         Self::from_bool(n % 2 == 1)
     }
 
     /// The number as a sum of ones: 1 for an odd number, and 0 for an even one.
-    fn from_u64(n: u64) -> Self
+    final fn from_u64(n: u64) -> Self
         ensures { Self.repr result ≡ n % 2 * Self.unit }
     {
         Self::from_bool(n % 2 == 1)
     }
 
     /// The number as a sum of ones: 1 for an odd number, and 0 for an even one.
-    fn from_u128(n: u128) -> Self
+    final fn from_u128(n: u128) -> Self
         ensures { Self.repr result ≡ n % 2 * Self.unit }
     {
         Self::from_bool(n % 2 == 1)
     }
 
     /// The number as a sum of ones: 1 for an odd number, and 0 for an even one.
-    fn from_i8(n: i8) -> Self
+    final fn from_i8(n: i8) -> Self
         ensures { Self.repr result ≡ parity n * Self.unit }
     {
         Self::from_bool(n % 2 != 0)
     }
 
     /// The number as a sum of ones: 1 for an odd number, and 0 for an even one.
-    fn from_i16(n: i16) -> Self
+    final fn from_i16(n: i16) -> Self
         ensures { Self.repr result ≡ parity n * Self.unit }
     {
         Self::from_bool(n % 2 != 0)
     }
 
     /// The number as a sum of ones: 1 for an odd number, and 0 for an even one.
-    fn from_i32(n: i32) -> Self
+    final fn from_i32(n: i32) -> Self
         ensures { Self.repr result ≡ parity n * Self.unit }
     {
         Self::from_bool(n % 2 != 0)
     }
 
     /// The number as a sum of ones: 1 for an odd number, and 0 for an even one.
-    fn from_i64(n: i64) -> Self
+    final fn from_i64(n: i64) -> Self
         ensures { Self.repr result ≡ parity n * Self.unit }
     {
         Self::from_bool(n % 2 != 0)
     }
 
     /// The number as a sum of ones: 1 for an odd number, and 0 for an even one.
-    fn from_i128(n: i128) -> Self
+    final fn from_i128(n: i128) -> Self
         ensures { Self.repr result ≡ parity n * Self.unit }
     {
         Self::from_bool(n % 2 != 0)
     }
 
     /// The element twice, which is 0.
-    fn double(&self) -> Self
+    final fn double(&self) -> Self
         ensures { Self.repr result ≡ 0 }
     {
         Self::ZERO
@@ -147,35 +147,35 @@ pub trait PrimeCharacteristicRing: Represented
     }
 
     /// The sum of both, as the exclusive or of two elements that are 0 or 1.
-    fn xor(&self, other: &Self) -> Self
+    final fn xor(&self, other: &Self) -> Self
         ensures { Self.repr result ≡ bit_xor (Self.repr self.now) (Self.repr other.now) }
     {
         *self + *other
     }
 
     /// (1 + x) y for x the element and y the other: "y and not x" of two elements that are 0 or 1.
-    fn andn(&self, other: &Self) -> Self
+    final fn andn(&self, other: &Self) -> Self
         ensures { Self.repr result ≡ Self.product (bit_xor Self.unit (Self.repr self.now)) (Self.repr other.now) }
     {
         (Self::ONE + *self) * *other
     }
 
     /// x² + x, which is 0 for 0 and 1.
-    fn bool_check(&self) -> Self
+    final fn bool_check(&self) -> Self
         ensures { Self.repr result ≡ bit_xor (Self.product (Self.repr self.now) (Self.repr self.now)) (Self.repr self.now) }
     {
         self.square() + *self
     }
 
     /// The element times 2 to the power of the exponent: itself for the exponent 0, and else 0.
-    fn mul_2exp_u64(&self, exponent: u64) -> Self
+    final fn mul_2exp_u64(&self, exponent: u64) -> Self
         ensures { Self.repr result ≡ (if exponent == 0 then Self.repr self.now else 0) }
     {
         if exponent == 0 { *self } else { Self::ZERO }
     }
 
     /// The element to the power of the exponent; to the power of 0 it is 1.
-    fn exp_u64(&self, exponent: u64) -> Self
+    final fn exp_u64(&self, exponent: u64) -> Self
         ensures { Self.repr result ≡ power Self.unit Self.product (Self.repr self.now) exponent }
     {
         let mut base = *self;
@@ -215,7 +215,7 @@ pub trait PrimeCharacteristicRing: Represented
     }
 
     /// A vector of `len` zeros. It fails only where the allocator refuses.
-    fn zero_vec<A: Allocator>(alloc: A, len: usize) -> Result<Vec<Self, A>, AllocError>
+    final fn zero_vec<A: Allocator>(alloc: A, len: usize) -> Result<Vec<Self, A>, AllocError>
         ensures { IfOk result (λ zeros. zeros.items ≡ replicate len ZERO) }
     {
         let mut zeros = Vec::with_capacity(alloc, len)?;
