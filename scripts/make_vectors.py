@@ -90,6 +90,7 @@ CALLS = {
     "low stages": 12,
     "maps of bytes": 42,
     "rows of bits": 66,
+    "packings": 18,
     "no calls": 28,
 }
 HEAD = """\
@@ -316,6 +317,19 @@ def rows_of_bits(vectors):
             yield f"parts {wide:x} {narrow:x} {rows_of([row['x']], wide)}", rows_of(row["parts"], narrow)
 
 
+def packings(vectors):
+    """Sixteen bytes of AES lane by lane, and four elements of the field of GHASH."""
+    for row in vectors["packed_rijndael8b"]["cases"][-BYTE_MAPS:]:
+        x, y = (listed(digits_of(row[name])) for name in "xy")
+        for operation in ("add", "mul"):
+            yield f"byte_lanes {operation} {x} {y}", listed(digits_of(row[operation]))
+        yield f"byte_lanes invert_or_zero {x}", listed(digits_of(row["invert_or_zero"]))
+        yield f"byte_lanes apply {x} {number(row['matrix_quadword'])}", listed(digits_of(row["apply"]))
+    for row in vectors["packed_ghash128"]["cases"][-BYTE_MAPS:]:
+        yield f"ghash_lanes mul {listed(row['a'])} {listed(row['b'])}", listed(row["mul"])
+        yield f"ghash_lanes square {listed(row['a'])}", listed(row["square_a"])
+
+
 def chosen(vectors):
     """The calls and their answers under each heading."""
     sections = {field: field_calls(vectors, field) for field in TOWER + POLYNOMIAL}
@@ -328,6 +342,7 @@ def chosen(vectors):
     sections["low stages"] = list(low_stages(vectors))
     sections["maps of bytes"] = list(byte_maps(vectors))
     sections["rows of bits"] = list(rows_of_bits(vectors))
+    sections["packings"] = list(packings(vectors))
     sections["no calls"] = [(line, "error") for line in REFUSED]
     return sections
 

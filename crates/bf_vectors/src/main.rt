@@ -11,6 +11,7 @@
 //! | `dot_powers_of_x 1,2,3`, `to_tower_64 13` | what a function of one type gives |
 //! | `butterfly_forward 2 1,2 3,4`, `low_stages 1,2,3,4 5,6,7 0 -` | the slices that a function changes, one after the other |
 //! | `transpose 8 1,2,3,4,5,6,7,8`, `parts 10 8 201` | rows of bits by their words, as rows of so many bits are changed or cut |
+//! | `ghash_lanes mul 1,2,3,4 5,6,7,8` | the lanes of packings |
 //! | `compose 1,2,..,80 1,2,..,80`, `eval 1,0,0,0,0,0,0,0 53` | the images of a matrix of bits, or a value of a polynomial |
 //!
 //! The file `stdout` has the crate's answers to the calls of `stdin`, which were drawn from the seed 20261122.
@@ -25,6 +26,7 @@ mod fault;
 mod fields;
 mod linear_map;
 mod masked;
+mod packed;
 mod reading;
 mod slices;
 
@@ -67,6 +69,7 @@ fn answer(alloc: Global, name: &str, call: &[&str]) -> Result<Vec<u128>, Fault> 
         | "eval"
         | "to_matrix" => bytes::mapped(alloc, name, call),
         "transpose" | "interleave" | "parts" => bits::rearranged(alloc, name, call),
+        "byte_lanes" | "ghash_lanes" => packed::computed(alloc, name, call),
         _ => Ok(vec![in alloc; number(alloc, name, call)?]?),
     }
 }
