@@ -1,6 +1,6 @@
-use Rattle.std.proofs.Common.{ℕ, List, [], ◌∷◌, ◌%◌, ◌^◌, ◌∙◌, sym, ap}
+use Rattle.std.proofs.Common.{ℕ, [], ◌∷◌, ◌%◌, ◌^◌, ◌∙◌, sym, ap}
 use native.Mathlib.Nat.{mod-eq_of_lt}
-use Rattle.bf_cubic.proofs.CubicRing.{chunks-triple, same₃}
+use Rattle.bf_cubic.proofs.CubicRing.{chunks-triple}
 use Rattle.bf_poly192.specs.declared.triple.Triple.{Triple}
 use Rattle.bf_element.proofs.cubic.Poly192.coefficients.Goals as goal
 

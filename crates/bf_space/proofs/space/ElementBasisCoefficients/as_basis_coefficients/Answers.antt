@@ -1,4 +1,4 @@
-use Rattle.std.proofs.Common.{◌∷◌, [], sym, ◌∙◌, ap}
+use Rattle.std.proofs.Common.{◌∷◌, [], ◌∙◌, ap}
 use Rattle.bf_space.proofs.Spaces.{chunk-whole, chunks-whole}
 use Rattle.bf_space.proofs.space.ElementBasisCoefficients.as_basis_coefficients.Goals as goal
 
