@@ -6,7 +6,6 @@ mod ring;
 mod stored;
 
 pub use crate::element::stored::{element_of_word, word_of};
-
 use bf_base::{Gf2, Kernel, Word};
 use std::alloc::AllocError;
 use std::fmt;
