@@ -1,0 +1,9 @@
+//! Elements as bytes and as words of other sizes, the lowest byte first.
+#![tactic(auto)]
+
+mod element;
+mod little_endian;
+mod serializable;
+
+pub use crate::little_endian::LittleEndian;
+pub use crate::serializable::RawDataSerializable;

@@ -1,0 +1,37 @@
+// Elements as bytes.
+ghost use Rattle.std.specs.Prelude.{◌≡◌, ◌<◌, ◌*◌, ◌%◌, ◌^◌, ◌↔◌, ℕ, List, length, IsNone, IfSome};
+ghost use Rattle.std.specs.Iterator.{IsFinite};
+ghost use Rattle.bf_base.specs.Chunks.{chunk};
+ghost use Rattle.bf_bytes.specs.Bytes.{low_bytes, number_of_bytes, TakesBytes};
+
+use bf_base::traits::Represented;
+
+/// An element that is written as a fixed number of bytes: those of its representation, the lowest first.
+pub trait RawDataSerializable: Represented {
+    /// How many bytes an element is written as.
+    const NUM_BYTES: usize;
+
+    ghost NUM_BYTES: { ℕ };
+
+    /// The array of an element's bytes.
+    type Bytes;
+
+    // Its elements, as a list.
+    ghost listed: { Self.Bytes → List ℕ };
+
+    /// The bytes of the element's representation, the lowest first.
+    fn into_bytes(self) -> Self::Bytes
+        ensures { listed result ≡ low_bytes NUM_BYTES (Self.repr self) };
+
+    /// Byte `i` of `into_bytes`, of which there have to be as many.
+    fn byte(self, i: usize) -> u8
+        requires { i < NUM_BYTES }
+        ensures { result ≡ chunk 8 i (Self.repr self) };
+
+    /// The element of the next `NUM_BYTES` bytes of an iterator, the lowest first, and None where it ends before. Bits above
+    /// the element are dropped, and no byte past those is taken. `iter` has to be one that ends.
+    fn from_le_byte_iter<I: Iterator<Item = u8>>(iter: I) -> Option<Self>
+        requires can { I.can_next iter }
+        requires finite { IsFinite (I.remaining iter) }
+        ensures { (bytes : List ℕ) × TakesBytes I.next_gives iter NUM_BYTES bytes × (IsNone result ↔ (length bytes < NUM_BYTES)) × IfSome result (λ x. Self.repr x ≡ number_of_bytes bytes % 2 ^ Self.width) };
+}
