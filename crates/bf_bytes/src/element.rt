@@ -1,5 +1,5 @@
 // The elements of every field as bytes: those of the word that stores them.
-ghost use Rattle.std.specs.Prelude.{◌≡◌, refl};
+ghost use Rattle.std.proofs.Common.{lit<};
 
 use crate::little_endian::{LittleEndian, byte_of, number_from_iter};
 use crate::serializable::RawDataSerializable;
@@ -15,6 +15,8 @@ impl<R: LittleEndian, K: LevelKernel<R> + HasPacking<R>> RawDataSerializable for
     type Bytes = R::Bytes;
 
     ghost listed = { R.listed };
+
+    ghost bytes_law = { R.wide_law };
 
     fn into_bytes(self) -> R::Bytes {
         self.to_repr().to_bytes()
@@ -41,6 +43,8 @@ impl RawDataSerializable for Gf2 {
     type Bytes = [u8; 1];
 
     ghost listed = { λ bytes. bytes };
+
+    ghost bytes_law = { lit< tt };
 
     fn into_bytes(self) -> [u8; 1] {
         self.to_repr().to_bytes()

@@ -4,6 +4,8 @@
 mod element;
 mod little_endian;
 mod serializable;
+mod streams;
 
 pub use crate::little_endian::LittleEndian;
 pub use crate::serializable::RawDataSerializable;
+pub use crate::streams::{ByteStream, into_byte_stream};

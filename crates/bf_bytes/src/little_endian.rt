@@ -27,6 +27,8 @@ pub trait LittleEndian: Unsigned {
     ghost size_law: { Self.bits ≡ 8 * SIZE };
 
     ghost short_law: { SIZE ≤ 16 };
+
+    ghost wide_law: { 0 < SIZE };
 }
 
 /// Byte `i` of a number, counted from the lowest, of which there are 16.
@@ -84,6 +86,8 @@ impl LittleEndian for u8 {
     ghost size_law = { refl };
 
     ghost short_law = { lit< tt };
+
+    ghost wide_law = { lit< tt };
 }
 
 impl LittleEndian for u16 {
@@ -103,6 +107,8 @@ impl LittleEndian for u16 {
     ghost size_law = { refl };
 
     ghost short_law = { lit< tt };
+
+    ghost wide_law = { lit< tt };
 }
 
 impl LittleEndian for u32 {
@@ -122,6 +128,8 @@ impl LittleEndian for u32 {
     ghost size_law = { refl };
 
     ghost short_law = { lit< tt };
+
+    ghost wide_law = { lit< tt };
 }
 
 impl LittleEndian for u64 {
@@ -141,6 +149,8 @@ impl LittleEndian for u64 {
     ghost size_law = { refl };
 
     ghost short_law = { lit< tt };
+
+    ghost wide_law = { lit< tt };
 }
 
 impl LittleEndian for u128 {
@@ -160,4 +170,6 @@ impl LittleEndian for u128 {
     ghost size_law = { refl };
 
     ghost short_law = { lit< tt };
+
+    ghost wide_law = { lit< tt };
 }

@@ -34,4 +34,6 @@ pub trait RawDataSerializable: Represented {
         requires can { I.can_next iter }
         requires finite { IsFinite (I.remaining iter) }
         ensures { (bytes : List ℕ) × TakesBytes I.next_gives iter NUM_BYTES bytes × (IsNone result ↔ (length bytes < NUM_BYTES)) × IfSome result (λ x. Self.repr x ≡ number_of_bytes bytes % 2 ^ Self.width) };
+
+    ghost bytes_law: { 0 < NUM_BYTES };
 }
