@@ -1,4 +1,4 @@
-use Rattle.std.proofs.Common.{◌≡◌, ◌<◌, ◌^◌, ◌+◌, ◌*◌, ◌∙◌, sym, ap, subst, refl, arith, inl, inr, rules}
+use Rattle.std.proofs.Common.{◌≡◌, ◌<◌, ◌^◌, ◌*◌, ◌∙◌, sym, subst, refl, arith, inl, inr}
 use Rattle.std.proofs.lemmas.Bool.{true≢false}
 use Rattle.bf_bytes.proofs.Reading.{byte_read, nothing_read, sum-fits}
 use Rattle.bf_bytes.proofs.little_endian.number_from_iter.Goals as goal

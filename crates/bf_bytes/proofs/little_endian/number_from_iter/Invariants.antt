@@ -1,4 +1,3 @@
-use Rattle.std.proofs.Common.{Some}
 use Rattle.bf_bytes.proofs.Reading.{Reading}
 use Rattle.bf_bytes.proofs.little_endian.number_from_iter.Given as goal
 

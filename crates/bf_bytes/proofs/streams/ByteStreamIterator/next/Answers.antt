@@ -1,4 +1,4 @@
-use Rattle.std.proofs.Common.{◌≡◌, ◌<◌, ◌+◌, ◌∙◌, ◌∷◌, ap, ap₂, sym, length, arith}
+use Rattle.std.proofs.Common.{◌<◌, ◌+◌, ◌∙◌, ap, sym, length, arith}
 use Rattle.bf_base.specs.Chunks.{chunk}
 use Rattle.bf_bytes.proofs.Streaming.{byte_given, last_byte_given, shown}
 use Rattle.bf_bytes.proofs.streams.ByteStreamIterator.next.Goals as goal
