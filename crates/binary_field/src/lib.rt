@@ -20,6 +20,7 @@ pub use bf_bitslice_words::{M128, M256, M512, Underlier, Word};
 pub use bf_byte_challenger::{
     ByteChallenger, ByteHasher32, ChallengerError, HashChallenger, Sha256Hasher,
 };
+pub use bf_bytes::{ByteStream, RawDataSerializable, into_byte_stream};
 pub use bf_calc as calc;
 pub use bf_divisible::Divisible;
 pub use bf_element::{
