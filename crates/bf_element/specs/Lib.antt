@@ -1,2 +1,3 @@
+mod LevelProducts
 pub mod Element
 pub mod Range

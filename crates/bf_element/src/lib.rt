@@ -2,6 +2,7 @@
 //! conversions between them, and what each field has of its own.
 #![tactic(auto)]
 
+mod algebras;
 mod cubic;
 mod draws;
 mod element;

@@ -1,3 +1,4 @@
 pub mod FrobeniusRounds
+pub mod LevelShifts
 pub mod PowerItems
 pub mod Spaces

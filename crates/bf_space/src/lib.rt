@@ -4,10 +4,12 @@
 
 mod extension;
 mod kernel;
+mod levels;
 mod powers;
 mod space;
 
 pub use crate::extension::{AlgebraIdentity, ExtensionField, HasFrobenius, PackedFieldExtension};
 pub use crate::kernel::SpaceOver;
+pub use crate::levels::CoefficientsOf;
 pub use crate::powers::{HasPowers, Powers};
 pub use crate::space::{BasedVectorSpace, BasisCoefficients};
