@@ -1,5 +1,5 @@
 -- Elements as vectors: what one coefficient more makes of the coefficients so far.
-use Rattle.std.proofs.Common.{◌≡◌, ◌≢◌, ℕ, zero, suc, ◌+◌, ◌*◌, ◌-◌, ◌/◌, ◌%◌, ◌^◌, ◌<◌, ◌≤◌, refl, sym, ◌∙◌, ap, ap₂, arith, List, [], ◌∷◌, ◌++◌, length, map, Option, Some, subst, take, get_or}
+use Rattle.std.proofs.Common.{◌≡◌, ◌≢◌, ℕ, zero, suc, ◌+◌, ◌*◌, ◌-◌, ◌/◌, ◌%◌, ◌^◌, ◌<◌, ◌≤◌, refl, sym, ◌∙◌, ap, ap₂, arith, List, [], ◌∷◌, ◌++◌, length, map, Option, Some, subst, take, get_or, replicate, set}
 use Rattle.std.proofs.lemmas.Nat.{mod-pow-add, shr_high, pow-add, pow_pos}
 use native.Mathlib.Nat.{mul-add, mul-add-mod_self_left, zero-add, mod-eq_of_lt, mod-lt, mul-suc, mul-zero, mul_assoc, add-mul-mod_self_right, div-one}
 use native.Mathlib.Numerals.{add-one}
@@ -7,7 +7,7 @@ use lib.Arith.{digits_lt}
 use Rattle.std.proofs.Math.Pow.{pow_mono}
 use Rattle.std.proofs.Math.Seq.{take-suc}
 use Rattle.std.proofs.lemmas.Grind.{flat_map-append}
-use Rattle.std.proofs.lemmas.List.{append-nil, append_assoc, length-append, map-append}
+use Rattle.std.proofs.lemmas.List.{append-nil, append_assoc, length-append, length-replicate, length-set, map-append, take_all, take_more_set}
 use Rattle.std.specs.List.{flat_map}
 use Rattle.std.specs.Iterator.{Yields}
 use Rattle.std.specs.Array.{FillsFrom}
@@ -234,3 +234,37 @@ module _ {E : Type 0} (width dimension : ℕ) (repr : E → ℕ) where
       ∙ ap (λ (n : ℕ). n % dimension) (sym state.whole) ∙ divides in
       none_pushed width x (flat_map (λ y. chunks width dimension (repr y)) elements)
       ∙ ap (λ (k : ℕ). flat_map (λ y. chunks width dimension (repr y)) elements ++ chunks width k x) (sym none) ∙ state.items
+
+-- ---- the coefficients of an element, written to an array
+
+pub record ListedSoFar {A : Type 0} (width : ℕ) (repr : A → ℕ) (element n i : ℕ) (written : List A) : Type 0 where
+  pub as_long : length written ≡ n
+  pub are : map repr (take i written) ≡ chunks width i element
+
+pub none_written : {A : Type 0} (width : ℕ) (repr : A → ℕ) (element n : ℕ) (none : A) → ListedSoFar width repr element n 0 (replicate n none)
+none_written width repr element n none = record {
+  as_long = length-replicate n none;
+  are = sym (chunks-none width element);
+}
+
+pub one_written : {A : Type 0} (width : ℕ) (repr : A → ℕ) (element n i : ℕ) (written : List A) (x : A) → i < n
+    → ListedSoFar width repr element n i written → repr x ≡ chunk width i element
+    → ListedSoFar width repr element n (i + 1) (set written i x)
+one_written width repr element n i written x more so_far is =
+    let long = so_far.as_long in
+    record {
+      as_long = length-set written i x ∙ so_far.as_long;
+      are =
+        ap (map repr) (take_more_set written i x (omega (arith, long)))
+        ∙ map-append repr (take i written) (x ∷ [])
+        ∙ ap₂ (λ xs y. xs ++ y ∷ []) so_far.are is
+        ∙ sym (chunks-next width i element);
+    }
+
+pub all_written : {A : Type 0} (width : ℕ) (repr : A → ℕ) (element n i : ℕ) (written : List A) → n ≤ i → i ≤ n
+    → ListedSoFar width repr element n i written → map repr written ≡ chunks width n element
+all_written width repr element n i written past within so_far =
+    let end : i ≡ n = omega (arith, past, within) in
+    let long = so_far.as_long in
+    ap (map repr) (sym (take_all i written (omega (arith, long, past))))
+    ∙ so_far.are ∙ ap (λ (k : ℕ). chunks width k element) end

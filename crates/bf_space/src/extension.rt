@@ -1,5 +1,6 @@
 // Fields that extend a smaller field, and their packings, which have one lane.
 ghost use Rattle.std.specs.Prelude.{◌≡◌, ◌≢◌, ◌↔◌, ◌*◌, ◌^◌, ◌<◌, ◌≤◌, ℕ, List, length, IsTrue, IsNone, IfOk, IfSome, slice_index_or, bit_xor, codes, refl};
+ghost use Rattle.std.specs.List.{All};
 ghost use Rattle.bf_base.specs.Powers.{repeated_square};
 ghost use Rattle.bf_space.specs.PowerItems.{ArePowersOf};
 
@@ -47,6 +48,33 @@ impl ExtensionField<Poly64> for Poly192 {
     type ExtensionPacking = Poly192;
 
     ghost embeds_law = { λ a fits. refl };
+}
+
+/// A field that can tell whether its elements lie in the field `F`, which it contains.
+pub trait HasSubfield<F: Field>: Algebra<F> {
+    /// The element as one of `F`, and None where it lies outside.
+    fn as_subfield(&self) -> Option<F>
+        ensures none { IsNone result ↔ (2 ^ F.width ≤ Self.repr self.now) }
+        ensures subfield { IfSome result (λ element. F.repr element ≡ Self.repr self.now) };
+
+    /// Whether all elements of a slice lie in `F`.
+    fn all_in_subfield(values: &[Self]) -> bool
+        ensures { IsTrue result ↔ All (λ x. Self.repr x < 2 ^ F.width) values.now };
+}
+
+impl<F: Field, E: ExtensionField<F>> HasSubfield<F> for E {
+    fn as_subfield(&self) -> Option<F> {
+        self.as_base()
+    }
+
+    fn all_in_subfield(values: &[E]) -> bool {
+        for place in 0..values.len() {
+            if !values[place].is_in_basefield() {
+                return false;
+            }
+        }
+        true
+    }
 }
 
 /// The automorphism of a field over the field `F` that raises to the power of the number of elements of `F`.

@@ -3,13 +3,19 @@ ghost use Rattle.std.specs.Prelude.{◌≡◌, ◌<◌, ◌≤◌, ◌*◌, ◌+
 ghost use Rattle.bf_base.specs.Chunks.{chunk};
 ghost use Rattle.bf_space.specs.LevelSpaces.{dimension_positive, dimension_bits, scales_coefficients};
 
+use crate::extension::{AlgebraIdentity, ExtensionField};
 use crate::kernel::SpaceOver;
+use crate::space::{BasisCoefficients, coefficients_of};
 use bf_base::{Kernel, Unsigned};
-use bf_tower::{Bits2, Bits8, Bits16, Bits32, Bits64, Bits128, Level, LiesIn, Tower};
+use bf_element::{
+    Below, BinaryField2, BinaryField8, BinaryField16, BinaryField32, BinaryField64, BinaryField128,
+    Element,
+};
+use bf_tower::{Bits2, Bits8, Bits16, Bits32, Bits64, Bits128, Level, Tower};
 
 /// A level of the tower inside the level `L`, so that the elements of `L` are vectors over it: coefficient i of an element is
 /// chunk i of its number. The marker is local to this crate, so that the compiler knows that no level lies inside itself.
-pub trait CoefficientsOf<R: Unsigned, L: Level<R>, S: Unsigned>: LiesIn<R, Tower<L>, S> {
+pub trait CoefficientsOf<R: Unsigned, L: Level<R>, S: Unsigned>: Below<R, Tower<L>, S> {
     /// How many coefficients an element of `L` has.
     const COUNT: usize;
 
@@ -291,5 +297,179 @@ impl<S: Unsigned, J: CoefficientsOf<u128, Bits128, S>> SpaceOver<u128, S, Tower<
     #[inline]
     fn with_coefficient(x: u128, i: usize, coefficient: S) -> u128 {
         put_coefficient::<u128, Bits128, S, J>(x, i, coefficient)
+    }
+}
+
+impl<S: Unsigned, J: CoefficientsOf<u16, Bits16, S>> ExtensionField<Element<S, Tower<J>>>
+    for BinaryField16 {
+    type ExtensionPacking = BinaryField16;
+
+    ghost embeds_law = { λ a fits. refl };
+}
+
+impl<S: Unsigned, J: CoefficientsOf<u32, Bits32, S>> ExtensionField<Element<S, Tower<J>>>
+    for BinaryField32 {
+    type ExtensionPacking = BinaryField32;
+
+    ghost embeds_law = { λ a fits. refl };
+}
+
+impl<S: Unsigned, J: CoefficientsOf<u64, Bits64, S>> ExtensionField<Element<S, Tower<J>>>
+    for BinaryField64 {
+    type ExtensionPacking = BinaryField64;
+
+    ghost embeds_law = { λ a fits. refl };
+}
+
+impl<S: Unsigned, J: CoefficientsOf<u128, Bits128, S>> ExtensionField<Element<S, Tower<J>>>
+    for BinaryField128 {
+    type ExtensionPacking = BinaryField128;
+
+    ghost embeds_law = { λ a fits. refl };
+}
+
+impl<S: Unsigned, J: CoefficientsOf<u16, Bits16, S>> AlgebraIdentity<Element<S, Tower<J>>>
+    for BinaryField16 {
+    ghost identity = { J.identity };
+
+    fn identity() -> &'static [u8] {
+        J::identity()
+    }
+}
+
+impl<S: Unsigned, J: CoefficientsOf<u32, Bits32, S>> AlgebraIdentity<Element<S, Tower<J>>>
+    for BinaryField32 {
+    ghost identity = { J.identity };
+
+    fn identity() -> &'static [u8] {
+        J::identity()
+    }
+}
+
+impl<S: Unsigned, J: CoefficientsOf<u64, Bits64, S>> AlgebraIdentity<Element<S, Tower<J>>>
+    for BinaryField64 {
+    ghost identity = { J.identity };
+
+    fn identity() -> &'static [u8] {
+        J::identity()
+    }
+}
+
+impl<S: Unsigned, J: CoefficientsOf<u128, Bits128, S>> AlgebraIdentity<Element<S, Tower<J>>>
+    for BinaryField128 {
+    ghost identity = { J.identity };
+
+    fn identity() -> &'static [u8] {
+        J::identity()
+    }
+}
+
+impl BasisCoefficients<BinaryField8> for BinaryField16 {
+    type Coefficients = [BinaryField8; 2];
+
+    ghost listed = { λ cs. cs };
+
+    fn as_basis_coefficients(&self) -> [BinaryField8; 2] {
+        coefficients_of(self)
+    }
+}
+
+impl BasisCoefficients<BinaryField8> for BinaryField32 {
+    type Coefficients = [BinaryField8; 4];
+
+    ghost listed = { λ cs. cs };
+
+    fn as_basis_coefficients(&self) -> [BinaryField8; 4] {
+        coefficients_of(self)
+    }
+}
+
+impl BasisCoefficients<BinaryField16> for BinaryField32 {
+    type Coefficients = [BinaryField16; 2];
+
+    ghost listed = { λ cs. cs };
+
+    fn as_basis_coefficients(&self) -> [BinaryField16; 2] {
+        coefficients_of(self)
+    }
+}
+
+impl BasisCoefficients<BinaryField8> for BinaryField64 {
+    type Coefficients = [BinaryField8; 8];
+
+    ghost listed = { λ cs. cs };
+
+    fn as_basis_coefficients(&self) -> [BinaryField8; 8] {
+        coefficients_of(self)
+    }
+}
+
+impl BasisCoefficients<BinaryField16> for BinaryField64 {
+    type Coefficients = [BinaryField16; 4];
+
+    ghost listed = { λ cs. cs };
+
+    fn as_basis_coefficients(&self) -> [BinaryField16; 4] {
+        coefficients_of(self)
+    }
+}
+
+impl BasisCoefficients<BinaryField32> for BinaryField64 {
+    type Coefficients = [BinaryField32; 2];
+
+    ghost listed = { λ cs. cs };
+
+    fn as_basis_coefficients(&self) -> [BinaryField32; 2] {
+        coefficients_of(self)
+    }
+}
+
+impl BasisCoefficients<BinaryField8> for BinaryField128 {
+    type Coefficients = [BinaryField8; 16];
+
+    ghost listed = { λ cs. cs };
+
+    fn as_basis_coefficients(&self) -> [BinaryField8; 16] {
+        coefficients_of(self)
+    }
+}
+
+impl BasisCoefficients<BinaryField16> for BinaryField128 {
+    type Coefficients = [BinaryField16; 8];
+
+    ghost listed = { λ cs. cs };
+
+    fn as_basis_coefficients(&self) -> [BinaryField16; 8] {
+        coefficients_of(self)
+    }
+}
+
+impl BasisCoefficients<BinaryField32> for BinaryField128 {
+    type Coefficients = [BinaryField32; 4];
+
+    ghost listed = { λ cs. cs };
+
+    fn as_basis_coefficients(&self) -> [BinaryField32; 4] {
+        coefficients_of(self)
+    }
+}
+
+impl BasisCoefficients<BinaryField64> for BinaryField128 {
+    type Coefficients = [BinaryField64; 2];
+
+    ghost listed = { λ cs. cs };
+
+    fn as_basis_coefficients(&self) -> [BinaryField64; 2] {
+        coefficients_of(self)
+    }
+}
+
+impl BasisCoefficients<BinaryField2> for BinaryField128 {
+    type Coefficients = [BinaryField2; 64];
+
+    ghost listed = { λ cs. cs };
+
+    fn as_basis_coefficients(&self) -> [BinaryField2; 64] {
+        coefficients_of(self)
     }
 }

@@ -134,6 +134,20 @@ pub trait BasisCoefficients<F: PrimeCharacteristicRing>: BasedVectorSpace<F> {
         ensures { map F.repr (listed result) ≡ chunks F.width Self.DIMENSION (Self.repr self.now) };
 }
 
+/// The array of an element's coefficients, of which there are `N`.
+pub(crate) fn coefficients_of<F: PrimeCharacteristicRing, E: BasedVectorSpace<F>, const N: usize>(
+    element: &E,
+) -> [F; N]
+    requires { N ≡ E.DIMENSION }
+    ensures { map F.repr result ≡ chunks F.width N (E.repr element.now) }
+{
+    let mut coefficients = [F::ZERO; N];
+    for i in 0..N {
+        coefficients[i] = element.basis_coefficient(i);
+    }
+    coefficients
+}
+
 impl<R: Word, K: SpaceOver<R, S, J>, S: Word, J: Kernel<S>> BasedVectorSpace<Element<S, J>>
     for Element<R, K> {
     const DIMENSION: usize = K::DIMENSION;
