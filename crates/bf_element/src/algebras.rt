@@ -124,7 +124,8 @@ impl<S: Unsigned, J: Below<u64, Tower<Bits64>, S>> Algebra<Element<S, Tower<J>>>
     ghost mul_assign_image_law = { λ x y r is. is };
 }
 
-impl<S: Unsigned, J: Below<u128, Tower<Bits128>, S>> Algebra<Element<S, Tower<J>>> for BinaryField128 {
+impl<S: Unsigned, J: Below<u128, Tower<Bits128>, S>> Algebra<Element<S, Tower<J>>>
+    for BinaryField128 {
     ghost image = { λ a. a };
 
     ghost image_unit_law = { refl };

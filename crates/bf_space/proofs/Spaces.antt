@@ -255,10 +255,10 @@ one_written width repr element n i written x more so_far is =
     record {
       as_long = length-set written i x ∙ so_far.as_long;
       are =
-        ap (map repr) (take_more_set written i x (omega (arith, long)))
-        ∙ map-append repr (take i written) (x ∷ [])
-        ∙ ap₂ (λ xs y. xs ++ y ∷ []) so_far.are is
-        ∙ sym (chunks-next width i element);
+          ap (map repr) (take_more_set written i x (omega (arith, long)))
+          ∙ map-append repr (take i written) (x ∷ [])
+          ∙ ap₂ (λ xs y. xs ++ y ∷ []) so_far.are is
+          ∙ sym (chunks-next width i element);
     }
 
 pub all_written : {A : Type 0} (width : ℕ) (repr : A → ℕ) (element n i : ℕ) (written : List A) → n ≤ i → i ≤ n

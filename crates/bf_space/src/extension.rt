@@ -16,14 +16,14 @@ pub trait ExtensionField<F: Field>: Field + Algebra<F> + BasedVectorSpace<F> {
     type ExtensionPacking;
 
     /// Whether the element lies in `F`.
-    fn is_in_basefield(&self) -> bool
+    final fn is_in_basefield(&self) -> bool
         ensures { IsTrue result ↔ (Self.repr self.now < 2 ^ F.width) }
     {
         <Self as From<F>>::from(self.basis_coefficient(0)) == *self
     }
 
     /// The element as one of `F`, and None where it lies outside.
-    fn as_base(&self) -> Option<F>
+    final fn as_base(&self) -> Option<F>
         ensures none { IsNone result ↔ (2 ^ F.width ≤ Self.repr self.now) }
         ensures base { IfSome result (λ base. F.repr base ≡ Self.repr self.now) }
     {
@@ -80,14 +80,14 @@ impl<F: Field, E: ExtensionField<F>> HasSubfield<F> for E {
 /// The automorphism of a field over the field `F` that raises to the power of the number of elements of `F`.
 pub trait HasFrobenius<F: Field>: ExtensionField<F> {
     /// The element to the power of the number of elements of `F`: squared as many times as an element of `F` has bits.
-    fn frobenius(&self) -> Self
+    final fn frobenius(&self) -> Self
         ensures { Self.repr result ≡ repeated_square 1 Self.product F.width (Self.repr self.now) }
     {
         self.exp_power_of_2(F::bits())
     }
 
     /// `frobenius`, `count` times over. As many times as the dimension return each element.
-    fn repeated_frobenius(&self, count: usize) -> Self
+    final fn repeated_frobenius(&self, count: usize) -> Self
         ensures { Self.repr result ≡ repeated_square 1 Self.product (F.width * count) (Self.repr self.now) }
     {
         let mut value = *self;
@@ -98,7 +98,7 @@ pub trait HasFrobenius<F: Field>: ExtensionField<F> {
     }
 
     /// The inverse, and 0 for 0.
-    fn pseudo_inv(&self) -> Self
+    final fn pseudo_inv(&self) -> Self
         ensures zero { Self.repr self.now ≡ 0 → Self.repr result ≡ 0 }
         ensures inverse { Self.repr self.now ≢ 0 → Self.product (Self.repr self.now) (Self.repr result) ≡ 1 }
     {
@@ -121,7 +121,7 @@ pub trait AlgebraIdentity<F: Field>: ExtensionField<F> {
         ensures { result.now ≡ identity };
 
     /// The text, in a vector from `alloc`. It fails only where the allocator refuses.
-    fn algebra_id<A: Allocator>(alloc: A) -> Result<Vec<u8, A>, AllocError>
+    final fn algebra_id<A: Allocator>(alloc: A) -> Result<Vec<u8, A>, AllocError>
         ensures { IfOk result (λ id. id.items ≡ identity) }
     {
         let mut id = Vec::new(alloc);
@@ -145,7 +145,7 @@ pub trait PackedFieldExtension<F: Field, E: ExtensionField<F>>: Algebra<E> {
         ensures { Self.repr result ≡ E.repr element };
 
     /// The packing of the elements of a slice, of which there has to be one.
-    fn from_ext_slice(elements: &[E]) -> Self
+    final fn from_ext_slice(elements: &[E]) -> Self
         requires { length elements.now ≡ 1 }
         ensures { (x : E) → Self.repr result ≡ E.repr (slice_index_or elements.now 0 x) }
     {

@@ -278,7 +278,8 @@ impl<S: Unsigned, J: CoefficientsOf<u64, Bits64, S>> SpaceOver<u64, S, Tower<J>>
     }
 }
 
-impl<S: Unsigned, J: CoefficientsOf<u128, Bits128, S>> SpaceOver<u128, S, Tower<J>> for Tower<Bits128> {
+impl<S: Unsigned, J: CoefficientsOf<u128, Bits128, S>> SpaceOver<u128, S, Tower<J>>
+    for Tower<Bits128> {
     const DIMENSION: usize = J::COUNT;
 
     ghost DIMENSION = { J.COUNT };

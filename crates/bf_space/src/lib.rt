@@ -8,7 +8,9 @@ mod levels;
 mod powers;
 mod space;
 
-pub use crate::extension::{AlgebraIdentity, ExtensionField, HasFrobenius, HasSubfield, PackedFieldExtension};
+pub use crate::extension::{
+    AlgebraIdentity, ExtensionField, HasFrobenius, HasSubfield, PackedFieldExtension,
+};
 pub use crate::kernel::SpaceOver;
 pub use crate::levels::CoefficientsOf;
 pub use crate::powers::{HasPowers, Powers};

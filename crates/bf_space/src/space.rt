@@ -36,7 +36,10 @@ pub trait BasedVectorSpace<F: PrimeCharacteristicRing>: PrimeCharacteristicRing 
 
     /// The coefficients of the elements, one element after the other, in a vector from `alloc`. It fails only where the
     /// allocator refuses.
-    fn flatten_to_base<A: Allocator>(alloc: A, elements: &[Self]) -> Result<Vec<F, A>, AllocError>
+    final fn flatten_to_base<A: Allocator>(
+        alloc: A,
+        elements: &[Self],
+    ) -> Result<Vec<F, A>, AllocError>
         ensures { IfOk result (λ flat. map F.repr flat.items ≡ flat_map (λ x. chunks F.width DIMENSION (Self.repr x)) elements.now) }
     {
         let mut flat = Vec::new(alloc);
@@ -51,7 +54,7 @@ pub trait BasedVectorSpace<F: PrimeCharacteristicRing>: PrimeCharacteristicRing 
 
     /// The elements of the coefficients, which have to be those of a whole number of elements, in a vector from `alloc`. It
     /// fails only where the allocator refuses.
-    fn reconstitute_from_base<A: Allocator>(
+    final fn reconstitute_from_base<A: Allocator>(
         alloc: A,
         coefficients: &[F],
     ) -> Result<Vec<Self, A>, AllocError>
