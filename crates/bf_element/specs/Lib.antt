@@ -1,3 +1,4 @@
 mod LevelProducts
+pub mod BitProducts
 pub mod Element
 pub mod Range

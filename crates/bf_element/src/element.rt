@@ -1,6 +1,7 @@
 // Elements of every field: one struct.
 ghost use Rattle.std.specs.Prelude.{◌≡◌, ◌<◌, ◌%◌, ◌^◌, ℕ};
 
+mod bits;
 mod operators;
 mod ring;
 mod stored;

@@ -1,0 +1,25 @@
+use Rattle.std.proofs.Common.{◌≡◌, ℕ, ◌%◌, ◌^◌, sym, ◌∙◌, ap, arith}
+use native.Mathlib.Nat.{zero-mod}
+use Rattle.bf_base.specs.Bit.{repr_of as bit_of}
+use Rattle.bf_element.specs.BitProducts.{times_none, times_one}
+use Rattle.bf_element.specs.Element.{repr_of}
+use Rattle.bf_element.proofs.element.bits.times_bit.Goals as goal
+
+pub returns-then-to_repr-eq0 : goal.returns-then-to_repr-eq0
+returns-then-to_repr-eq0 g c =
+    let field = g.K.Kernel.field_law in
+    c.of_word.ensures
+    ∙ ap (λ (n : ℕ). n % 2 ^ g.K.Kernel.width) (ap g.R.Word.number c.ZERO.ensures ∙ g.R.Word.zero_number)
+    ∙ zero-mod (2 ^ g.K.Kernel.width)
+    ∙ times_none g.K.Kernel.width g.K.Kernel.product field.ring g.K.Kernel.wide_law (repr_of c.args.x)
+    ∙ ap (g.K.Kernel.product (repr_of c.args.x)) (sym c.if-to_repr-eq0.true ∙ c.to_repr.ensures)
+
+pub returns-else-to_repr-eq0 : goal.returns-else-to_repr-eq0
+returns-else-to_repr-eq0 g c =
+    let field = g.K.Kernel.field_law in
+    let some = c.if-to_repr-eq0.false in
+    let is = c.to_repr.ensures in
+    let fits = c.args.bit.in_range in
+    let one : 1 ≡ bit_of c.args.bit = omega (arith, some, is, fits) in
+    times_one g.K.Kernel.width g.K.Kernel.product field.ring g.K.Kernel.wide_law (repr_of c.args.x) c.args.x.in_range
+    ∙ ap (g.K.Kernel.product (repr_of c.args.x)) one

@@ -1,0 +1,132 @@
+// Elements of GF(2) in a field: the operators with a bit on the right, the product with one on the left, and the field as an
+// algebra over GF(2).
+ghost use Rattle.std.specs.Prelude.{◌≡◌, ◌<◌, ◌^◌, ℕ, bit_xor, refl};
+ghost use Rattle.bf_base.specs.Bit.{repr_of as bit_of};
+ghost use Rattle.bf_element.specs.BitProducts.{bit_product};
+ghost use Rattle.bf_element.specs.Element.{repr_of};
+
+use crate::element::{Element, value};
+use bf_base::traits::{Algebra, TowerLevel};
+use bf_base::{Gf2, Kernel, Word};
+use std::ops::{Add, AddAssign, Mul, MulAssign, Sub, SubAssign};
+
+// The product of a word and a bit, which is the word or 0.
+#[inline]
+fn times_bit<R: Word, K: Kernel<R>>(x: Element<R, K>, bit: Gf2) -> Element<R, K>
+    ensures { repr_of result ≡ K.product (repr_of x) (bit_of bit) }
+{
+    if bit.to_repr() == 0 {
+        Element::of_word(R::ZERO)
+    } else {
+        x
+    }
+}
+
+impl<R: Word, K: Kernel<R>> Add<Gf2> for Element<R, K> {
+    type Output = Element<R, K>;
+
+    ghost add_gives = { λ x y r. repr_of r ≡ bit_xor (repr_of x) (bit_of y) };
+
+    #[inline]
+    fn add(self, bit: Gf2) -> Element<R, K> {
+        self + Element::from(bit)
+    }
+}
+
+impl<R: Word, K: Kernel<R>> AddAssign<Gf2> for Element<R, K> {
+    ghost add_assign_gives = { λ x y r. repr_of r ≡ bit_xor (repr_of x) (bit_of y) };
+
+    #[inline]
+    fn add_assign(&mut self, bit: Gf2) {
+        *self += Element::from(bit);
+    }
+}
+
+impl<R: Word, K: Kernel<R>> Sub<Gf2> for Element<R, K> {
+    type Output = Element<R, K>;
+
+    ghost sub_gives = { λ x y r. repr_of r ≡ bit_xor (repr_of x) (bit_of y) };
+
+    #[inline]
+    fn sub(self, bit: Gf2) -> Element<R, K> {
+        self + bit
+    }
+}
+
+impl<R: Word, K: Kernel<R>> SubAssign<Gf2> for Element<R, K> {
+    ghost sub_assign_gives = { λ x y r. repr_of r ≡ bit_xor (repr_of x) (bit_of y) };
+
+    #[inline]
+    fn sub_assign(&mut self, bit: Gf2) {
+        *self += bit;
+    }
+}
+
+impl<R: Word, K: Kernel<R>> Mul<Gf2> for Element<R, K> {
+    type Output = Element<R, K>;
+
+    ghost mul_gives = { λ x y r. repr_of r ≡ K.product (repr_of x) (bit_of y) };
+
+    #[inline]
+    fn mul(self, bit: Gf2) -> Element<R, K> {
+        times_bit(self, bit)
+    }
+}
+
+impl<R: Word, K: Kernel<R>> MulAssign<Gf2> for Element<R, K> {
+    ghost mul_assign_gives = { λ x y r. repr_of r ≡ K.product (repr_of x) (bit_of y) };
+
+    #[inline]
+    fn mul_assign(&mut self, bit: Gf2) {
+        *self = times_bit(value(self), bit);
+    }
+}
+
+impl<R: Word, K: Kernel<R>> Mul<Element<R, K>> for Gf2 {
+    type Output = Element<R, K>;
+
+    ghost mul_gives = { λ x y r. repr_of r ≡ K.product (repr_of y) (bit_of x) };
+
+    #[inline]
+    fn mul(self, element: Element<R, K>) -> Element<R, K> {
+        times_bit(element, self)
+    }
+}
+
+impl<R: Word, K: Kernel<R>> Algebra<Gf2> for Element<R, K> {
+    ghost image = { λ a. a };
+
+    ghost image_unit_law = { refl };
+
+    ghost image_sum_law = { λ a b a_fits b_fits. refl };
+
+    ghost image_product_law = { λ a b a_fits b_fits. bit_product K.width K.product K.field_law.ring K.wide_law a a_fits b b_fits };
+
+    ghost image_injective_law = { λ proper a b a_fits b_fits same. same };
+
+    ghost image_from_law = { λ x r is. is };
+
+    ghost can_add_image_law = { λ x y. tt };
+
+    ghost add_image_law = { λ x y r is. is };
+
+    ghost can_add_assign_image_law = { λ x y. tt };
+
+    ghost add_assign_image_law = { λ x y r is. is };
+
+    ghost can_sub_image_law = { λ x y. tt };
+
+    ghost sub_image_law = { λ x y r is. is };
+
+    ghost can_sub_assign_image_law = { λ x y. tt };
+
+    ghost sub_assign_image_law = { λ x y r is. is };
+
+    ghost can_mul_image_law = { λ x y. tt };
+
+    ghost mul_image_law = { λ x y r is. is };
+
+    ghost can_mul_assign_image_law = { λ x y. tt };
+
+    ghost mul_assign_image_law = { λ x y r is. is };
+}
