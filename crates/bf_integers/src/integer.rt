@@ -1,0 +1,214 @@
+// The integer types of Rust, by the parity of a number and by the numbers 0 and 1.
+ghost use Rattle.std.specs.Prelude.{◌≡◌, ◌≢◌, ◌↔◌, ℕ, ℤ, pos, IsTrue, IsNone, IfSome};
+ghost use Rattle.bf_base.specs.Bit.{repr_of};
+ghost use Rattle.bf_base.specs.Powers.{parity};
+
+use bf_base::Gf2;
+use bf_base::traits::PrimeCharacteristicRing;
+
+/// An integer type of Rust.
+pub trait Integer: Copy {
+    // The whole number that a value is.
+    ghost value: { Self → ℤ };
+
+    /// Whether the number is odd.
+    fn is_odd(self) -> bool
+        ensures { IsTrue result ↔ (parity (value self) ≡ 1) };
+
+    /// The element of GF(2) that 0 or 1 is, and None for any other number.
+    fn as_bit(self) -> Option<Gf2>
+        ensures none { IsNone result ↔ ((value self ≢ pos 0) × (value self ≢ pos 1)) }
+        ensures bit { IfSome result (λ bit. value self ≡ pos (repr_of bit)) };
+}
+
+impl Integer for u8 {
+    ghost value = { λ n. pos n };
+
+    fn is_odd(self) -> bool {
+        self % 2 != 0
+    }
+
+    fn as_bit(self) -> Option<Gf2> {
+        match self {
+            0 => Some(Gf2::ZERO),
+            1 => Some(Gf2::ONE),
+            _ => None,
+        }
+    }
+}
+
+impl Integer for u16 {
+    ghost value = { λ n. pos n };
+
+    fn is_odd(self) -> bool {
+        self % 2 != 0
+    }
+
+    fn as_bit(self) -> Option<Gf2> {
+        match self {
+            0 => Some(Gf2::ZERO),
+            1 => Some(Gf2::ONE),
+            _ => None,
+        }
+    }
+}
+
+impl Integer for u32 {
+    ghost value = { λ n. pos n };
+
+    fn is_odd(self) -> bool {
+        self % 2 != 0
+    }
+
+    fn as_bit(self) -> Option<Gf2> {
+        match self {
+            0 => Some(Gf2::ZERO),
+            1 => Some(Gf2::ONE),
+            _ => None,
+        }
+    }
+}
+
+impl Integer for u64 {
+    ghost value = { λ n. pos n };
+
+    fn is_odd(self) -> bool {
+        self % 2 != 0
+    }
+
+    fn as_bit(self) -> Option<Gf2> {
+        match self {
+            0 => Some(Gf2::ZERO),
+            1 => Some(Gf2::ONE),
+            _ => None,
+        }
+    }
+}
+
+impl Integer for u128 {
+    ghost value = { λ n. pos n };
+
+    fn is_odd(self) -> bool {
+        self % 2 != 0
+    }
+
+    fn as_bit(self) -> Option<Gf2> {
+        match self {
+            0 => Some(Gf2::ZERO),
+            1 => Some(Gf2::ONE),
+            _ => None,
+        }
+    }
+}
+
+impl Integer for usize {
+    ghost value = { λ n. pos n };
+
+    fn is_odd(self) -> bool {
+        self % 2 != 0
+    }
+
+    fn as_bit(self) -> Option<Gf2> {
+        match self {
+            0 => Some(Gf2::ZERO),
+            1 => Some(Gf2::ONE),
+            _ => None,
+        }
+    }
+}
+
+impl Integer for i8 {
+    ghost value = { λ n. n };
+
+    fn is_odd(self) -> bool {
+        self % 2 != 0
+    }
+
+    fn as_bit(self) -> Option<Gf2> {
+        match self {
+            0 => Some(Gf2::ZERO),
+            1 => Some(Gf2::ONE),
+            _ => None,
+        }
+    }
+}
+
+impl Integer for i16 {
+    ghost value = { λ n. n };
+
+    fn is_odd(self) -> bool {
+        self % 2 != 0
+    }
+
+    fn as_bit(self) -> Option<Gf2> {
+        match self {
+            0 => Some(Gf2::ZERO),
+            1 => Some(Gf2::ONE),
+            _ => None,
+        }
+    }
+}
+
+impl Integer for i32 {
+    ghost value = { λ n. n };
+
+    fn is_odd(self) -> bool {
+        self % 2 != 0
+    }
+
+    fn as_bit(self) -> Option<Gf2> {
+        match self {
+            0 => Some(Gf2::ZERO),
+            1 => Some(Gf2::ONE),
+            _ => None,
+        }
+    }
+}
+
+impl Integer for i64 {
+    ghost value = { λ n. n };
+
+    fn is_odd(self) -> bool {
+        self % 2 != 0
+    }
+
+    fn as_bit(self) -> Option<Gf2> {
+        match self {
+            0 => Some(Gf2::ZERO),
+            1 => Some(Gf2::ONE),
+            _ => None,
+        }
+    }
+}
+
+impl Integer for i128 {
+    ghost value = { λ n. n };
+
+    fn is_odd(self) -> bool {
+        self % 2 != 0
+    }
+
+    fn as_bit(self) -> Option<Gf2> {
+        match self {
+            0 => Some(Gf2::ZERO),
+            1 => Some(Gf2::ONE),
+            _ => None,
+        }
+    }
+}
+
+impl Integer for isize {
+    ghost value = { λ n. n };
+
+    fn is_odd(self) -> bool {
+        self % 2 != 0
+    }
+
+    fn as_bit(self) -> Option<Gf2> {
+        match self {
+            0 => Some(Gf2::ZERO),
+            1 => Some(Gf2::ONE),
+            _ => None,
+        }
+    }
+}
