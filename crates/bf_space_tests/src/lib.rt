@@ -11,3 +11,5 @@ mod memory;
 mod products;
 #[cfg(test)]
 mod vectors;
+#[cfg(test)]
+mod views;
