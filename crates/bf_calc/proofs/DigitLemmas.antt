@@ -129,7 +129,7 @@ low_digit k n =
     let part : n / 16 ^ (2 * k) % 256 % 16 ≡ n / 16 ^ (2 * k) % 16 = omega arith in
     ap (λ (m : ℕ). m % 16) (byte_at-div k n) ∙ part
 
-encode_with-bytes : (count n : ℕ) → encode_with lower_digits (bytes_high_first count n) ≡ low_digits (2 * count) n
+pub encode_with-bytes : (count n : ℕ) → encode_with lower_digits (bytes_high_first count n) ≡ low_digits (2 * count) n
 unfolding encode_with low_digits
 encode_with-bytes zero n = refl
 encode_with-bytes (suc count) n =
@@ -141,17 +141,17 @@ unfolding low_digits
 length-low_digits zero n = refl
 length-low_digits (suc count) n = ap suc (length-low_digits count n)
 
--- what the code writes: the digits of the last bytes of all 16
-pub text-written : (count number : ℕ) (all written rest : List ℕ) → count ≤ 16 → all ≡ bytes_high_first 16 number
-    → written ≡ encode_with lower_digits (take (16 - (16 - count)) (drop (16 - count) all))
+-- what the code writes: the digits of the last bytes of all 24
+pub text-written : (count number : ℕ) (all written rest : List ℕ) → count ≤ 24 → all ≡ bytes_high_first 24 number
+    → written ≡ encode_with lower_digits (take (24 - (24 - count)) (drop (24 - count) all))
     → take (2 * count) (written ++ rest) ≡ low_digits (2 * count) number
 text-written count number all written rest fits whole is =
-    let size : length all ≡ 16 = ap length whole in
-    let split : 16 - count + count ≡ 16 = omega arith in
-    let last : take (16 - (16 - count)) (drop (16 - count) all) ≡ bytes_high_first count number =
-    ap (λ (n : ℕ). take (n - (16 - count)) (drop (16 - count) all)) (sym size) ∙ take_rest all (16 - count) ∙ ap (drop (16 - count)) whole
-    ∙ ap (λ (n : ℕ). drop (16 - count) (bytes_high_first n number)) (sym split)
-    ∙ bytes_high_first-drop (16 - count) count number in
+    let size : length all ≡ 24 = ap length whole in
+    let split : 24 - count + count ≡ 24 = omega arith in
+    let last : take (24 - (24 - count)) (drop (24 - count) all) ≡ bytes_high_first count number =
+    ap (λ (n : ℕ). take (n - (24 - count)) (drop (24 - count) all)) (sym size) ∙ take_rest all (24 - count) ∙ ap (drop (24 - count)) whole
+    ∙ ap (λ (n : ℕ). drop (24 - count) (bytes_high_first n number)) (sym split)
+    ∙ bytes_high_first-drop (24 - count) count number in
     let digits : written ≡ low_digits (2 * count) number =
     is ∙ ap (encode_with lower_digits) last ∙ encode_with-bytes count number in
     take_at written rest (2 * count) (ap length digits ∙ length-low_digits (2 * count) number) ∙ digits

@@ -9,7 +9,8 @@ use Rattle.std.proofs.lemmas.List.Elements.{All-nil, All-cons, All-head, All-tai
 use Rattle.std.proofs.lemmas.Str.{IsUtf8-from_is_utf8, is_utf8-from_IsUtf8}
 use Rattle.hex.specs.Hex.{hex_digit_value}
 use Rattle.bf_calc.specs.Words.{words}
-use Rattle.bf_calc.specs.Digits.{number_after, operand_value, hex_text}
+use Rattle.bf_calc.specs.Digits.{number_after, operand_value}
+use Rattle.bf_calc.specs.Elements.{element_text}
 use Rattle.bf_calc.specs.Fields.{FieldOf, bytes_of, field_named}
 use Rattle.bf_calc.specs.Operations.{operation_named, binary_result, unary_result}
 use Rattle.bf_calc.specs.Text.{error_text}
@@ -79,10 +80,11 @@ error_text-number j k same =
 no_error : (answer : List ℕ) (k : ℕ) → (length answer ≡ 7 → ⊥) → answer ≡ error_text k → ⊥
 no_error answer k other told = other (ap length told)
 
-of_result-no_error : (bytes k : ℕ) (result : Option ℕ) → of_result bytes result ≡ error_text k → ⊥
-of_result-no_error bytes k None told = no_error (codes "none") k (λ same. absurd (omega arith)) told
-of_result-no_error bytes k (Some x) told =
-    no_error (hex_text bytes x) k (λ same. let digits = length-low_digits (2 * bytes) x in absurd (omega arith)) told
+of_result-no_error : (field : FieldOf) (k : ℕ) (result : Option ℕ) → of_result field result ≡ error_text k → ⊥
+of_result-no_error field k None told = no_error (codes "none") k (λ same. absurd (omega arith)) told
+of_result-no_error field k (Some x) told =
+    no_error (element_text field x) k
+    (λ same. let digits = length-low_digits (2 * bytes_of field) (field.order x) in absurd (omega arith)) told
 
 -- the answer tells of a fault after k, or of none
 abbrev Later : ℕ → List ℕ → Type 0
@@ -110,7 +112,7 @@ record OperandFaults (field : FieldOf) (operation : Operation) (operands : List 
   range : length operands ≡ operand_count operation → All (IsOperand field) operands
       → (answer ≡ error_text 5) ↔ (All (IsInRange field) operands → ⊥)
   result : length operands ≡ operand_count operation → All (IsOperand field) operands → All (IsInRange field) operands
-      → answer ≡ of_result (bytes_of field) (result_at field operation (map number_of operands))
+      → answer ≡ of_result field (result_at field operation (map number_of operands))
   later : Later 2 answer
 
 miscounted : (field : FieldOf) (operation : Operation) (operands : List (List ℕ)) → length operands ≢ operand_count operation
@@ -134,7 +136,7 @@ not_false false never = refl
 -- the operands are as many as the operation takes
 module _ (field : FieldOf) (operation : Operation) (operands : List (List ℕ)) (same : length operands ≡ operand_count operation) where
   abbrev wanted : List ℕ
-  wanted = of_result (bytes_of field) (result_at field operation (map number_of operands))
+  wanted = of_result field (result_at field operation (map number_of operands))
 
   counted : (in_range : Bool) (answer : List ℕ) → Later 3 answer → ((All (IsOperand field) operands → ⊥) → answer ≡ error_text 4)
       → (All (IsOperand field) operands → answer ≡ cond in_range wanted (error_text 5))
@@ -144,12 +146,12 @@ module _ (field : FieldOf) (operation : Operation) (operands : List (List ℕ)) 
     count = (λ told. absurd (later_never 3 3 answer later (λ after. absurd (omega arith)) told), λ differs. absurd (differs same));
     digits = λ same_count. (
       λ told all. later_never 4 4 (cond in_range wanted (error_text 5))
-          (later_ranged in_range wanted (λ j. of_result-no_error (bytes_of field) j (result_at field operation (map number_of operands))))
+          (later_ranged in_range wanted (λ j. of_result-no_error field j (result_at field operation (map number_of operands))))
           (λ after. absurd (omega arith)) (sym (read all) ∙ told),
       unread,
     );
     range = λ same_count all. (
-      λ told low. of_result-no_error (bytes_of field) 5 (result_at field operation (map number_of operands))
+      λ told low. of_result-no_error field 5 (result_at field operation (map number_of operands))
           (sym (cond-true in_range wanted (error_text 5) (back low)) ∙ sym (read all) ∙ told),
       λ never. read all ∙ cond-false in_range wanted (error_text 5) (not_false in_range (λ is. never (holds is))),
     );
@@ -199,7 +201,7 @@ module _ (field : FieldOf) (operation : Binary) (left right : List ℕ) where
   later-two (Some x) None = later_error 3 4 (lit< tt) (omega arith)
   later-two (Some x) (Some y) =
       later_weaker 3 4 _ (omega arith) (later_ranged (nat_lt x (2 ^ field.bits) && nat_lt y (2 ^ field.bits)) _
-      (λ j. of_result-no_error (bytes_of field) j (Some (binary_result field.times operation x y))))
+      (λ j. of_result-no_error field j (Some (binary_result field.times operation (field.order x) (field.order y)))))
 
   read-two : All (IsOperand field) (left ∷ right ∷ [])
       → of_two field operation (operand_value (bytes_of field) left) (operand_value (bytes_of field) right)
@@ -230,7 +232,7 @@ module _ (field : FieldOf) (operation : Unary) (operand : List ℕ) where
   later-one None = later_error 3 4 (lit< tt) (omega arith)
   later-one (Some x) =
       later_weaker 3 4 _ (omega arith) (later_ranged (nat_lt x (2 ^ field.bits)) _
-      (λ j. of_result-no_error (bytes_of field) j (unary_result field.bits field.times operation x)))
+      (λ j. of_result-no_error field j (unary_result field.bits field.times operation (field.order x))))
 
   faults-one : OperandFaults field (OfOne operation) (operand ∷ []) (of_one field operation (operand_value (bytes_of field) operand))
   faults-one =

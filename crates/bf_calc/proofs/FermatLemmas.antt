@@ -1,7 +1,6 @@
 -- Inverses and square roots in a field as powers: in a field of q elements the inverse of x is x ^ (q - 2), and the square
 -- root is reached by one squaring fewer than give the element back.
-use Rattle.std.proofs.Common.{◌≡◌, ◌≢◌, ℕ, ◌-◌, ◌^◌, ◌<◌, Bool, true, false, cond, List, [], ◌∷◌, Option, Some, None, sym, subst, ◌∙◌, ap, lit<}
-use Rattle.std.specs.Str.{bytes_eq}
+use Rattle.std.proofs.Common.{◌≡◌, ◌≢◌, ℕ, ◌-◌, ◌^◌, ◌<◌, Bool, cond, List, Some, None, refl, sym, ◌∙◌, ap, lit<}
 use Rattle.std.proofs.lemmas.Bool.{eq-eqb, ne_eqb}
 use Rattle.std.proofs.lemmas.Nat.{pow_pos}
 use Rattle.bf_base.specs.Field.{IsField}
@@ -10,9 +9,12 @@ use Rattle.bf_base.specs.Powers.{power, repeated_square}
 use Rattle.bf_base.specs.Tower.{tower_mul}
 use Rattle.bf_base.proofs.FieldLemmas.{inverse-power, power-inverts, root_is_squarings, squarings-square}
 use Rattle.bf_base.proofs.TowerLaws.{tower_field}
+use Rattle.bf_cubic.specs.Cubic.{cubic}
+use Rattle.bf_cubic.proofs.CubicField.{cubic_is_field}
 use Rattle.bf_basis.proofs.Isomorphisms.{field_8, field_64, field_128}
-use Rattle.bf_calc.specs.Fields.{FieldOf, field_of, tower_level, polynomials_modulo, fields, look_up, field_named}
+use Rattle.bf_calc.specs.Fields.{FieldOf, field_of, undivided, lowest_first, tower_level, polynomials_modulo, cubic_extension, field_named}
 use Rattle.bf_calc.specs.Operations.{unary_result}
+use Rattle.bf_calc.proofs.NamedFields.{of_named}
 use Rattle.bf_calc.specs.declared.names.Unary.TheVariants.{Inv, Sqrt}
 
 module _ (width : ℕ) (times : ℕ → ℕ → ℕ) (field : IsField width times) (wide : 0 < width) where
@@ -39,60 +41,23 @@ pub record HasInverseAndRoot (field : FieldOf) : Type 0 where
   pub root : (x : ℕ) → x < 2 ^ field.bits
       → field.times (repeated_square 1 field.times (field.bits - 1) x) (repeated_square 1 field.times (field.bits - 1) x) ≡ x
 
-field-laws : (width : ℕ) (times : ℕ → ℕ → ℕ) → 0 < width → IsField width times → HasInverseAndRoot (field_of width times)
-field-laws width times wide field =
+field-laws : (width : ℕ) (times : ℕ → ℕ → ℕ) (order : ℕ → ℕ) → 0 < width → IsField width times → HasInverseAndRoot (field_of width times order)
+field-laws width times order wide field =
     record { inverse = power-inverts width times field wide; root = squarings-square width times field wide }
 
 tower-laws : (k : ℕ) → HasInverseAndRoot (tower_level k)
-tower-laws k = field-laws (2 ^ k) (tower_mul k) (pow_pos k) (tower_field k)
+tower-laws k = field-laws (2 ^ k) (tower_mul k) undivided (pow_pos k) (tower_field k)
 
 polynomial-laws : (width modulus : ℕ) → 0 < width → IsField width (mul_mod width modulus)
     → HasInverseAndRoot (polynomials_modulo width modulus)
-polynomial-laws width modulus = field-laws width (mul_mod width modulus)
+polynomial-laws width modulus = field-laws width (mul_mod width modulus) undivided
 
--- what holds beside each name of a table holds of what is found there
-abbrev AllBeside : {A : Type 0} → (A → Type 0) → List (List ℕ × A) → Type 0
-AllBeside P [] = Unit
-AllBeside P (row ∷ rows) = P row.1 × AllBeside P rows
-
-found_first : {A : Type 0} (P : A → Type 0) (here : Bool) (a found : A) (later : Option A) → P a → (later ≡ Some found → P found)
-    → cond here (Some a) later ≡ Some found → P found
-found_first P true a found later holds more is = let same : a ≡ found = cc in subst P same holds
-found_first P false a found later holds more is = more is
-
-found-beside : {A : Type 0} (P : A → Type 0) (word : List ℕ) (rows : List (List ℕ × A)) (found : A) → AllBeside P rows
-    → look_up word rows ≡ Some found → P found
-found-beside P word [] found all is = absurd (cc)
-found-beside P word ((name, a) ∷ rows) found all is =
-    found_first P (bytes_eq word name) a found (look_up word rows) all.0 (found-beside P word rows found all.1) is
+cubic-laws : HasInverseAndRoot cubic_extension
+cubic-laws =
+    field-laws 192 (cubic 64 (mul_mod 64 poly64_modulus)) lowest_first (lit< tt)
+    (cubic_is_field 64 (mul_mod 64 poly64_modulus) field_64 (lit< tt) refl)
 
 pub named-laws : (name : List ℕ) (field : FieldOf) → field_named name ≡ Some field → HasInverseAndRoot field
-named-laws name field is =
-    found-beside HasInverseAndRoot name fields field (
-      tower-laws 0,
-      (
-        tower-laws 1,
-        (
-          tower-laws 2,
-          (
-            tower-laws 3,
-            (
-              tower-laws 4,
-              (
-                tower-laws 5,
-                (
-                  tower-laws 6,
-                  (
-                    tower-laws 7,
-                    (
-                      polynomial-laws 8 aes_modulus (lit< tt) field_8,
-                      (polynomial-laws 64 poly64_modulus (lit< tt) field_64, (polynomial-laws 128 ghash_modulus (lit< tt) field_128, tt)),
-                    ),
-                  ),
-                ),
-              ),
-            ),
-          ),
-        ),
-      ),
-    ) is
+named-laws =
+    of_named HasInverseAndRoot tower-laws (polynomial-laws 8 aes_modulus (lit< tt) field_8)
+    (polynomial-laws 64 poly64_modulus (lit< tt) field_64) (polynomial-laws 128 ghash_modulus (lit< tt) field_128) cubic-laws

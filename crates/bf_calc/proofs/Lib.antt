@@ -1,7 +1,10 @@
+pub mod CoefficientLemmas
 pub mod DigitLemmas
 pub mod FaultLemmas
 pub mod FermatLemmas
 pub mod FoundLemmas
 pub mod LineLemmas
+pub mod NamedFields
+pub mod NumberLemmas
 pub mod ProgressLemmas
 pub mod WordLemmas

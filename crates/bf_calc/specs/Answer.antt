@@ -4,7 +4,8 @@
 use Rattle.std.specs.Prelude.{ℕ, ◌^◌, ◌&&◌, nat_lt, if◌then◌else◌, List, [], ◌∷◌, codes, Option, Some, None}
 use Rattle.std.specs.Str.{is_utf8}
 use Rattle.bf_calc.specs.Words.{words}
-use Rattle.bf_calc.specs.Digits.{operand_value, hex_text}
+use Rattle.bf_calc.specs.Digits.{operand_value}
+use Rattle.bf_calc.specs.Elements.{element_text}
 use Rattle.bf_calc.specs.Fields.{FieldOf, bytes_of, field_named}
 use Rattle.bf_calc.specs.Operations.{operation_named, binary_result, unary_result}
 use Rattle.bf_calc.specs.Text.{error_text}
@@ -14,21 +15,21 @@ use Rattle.bf_calc.specs.declared.names.Operation.{Operation}
 use Rattle.bf_calc.specs.declared.names.Operation.TheVariants.{OfTwo, OfOne}
 
 -- the answer that gives a result, None for one that there is not
-abbrev pub of_result : ℕ → Option ℕ → List ℕ
-of_result bytes None = codes "none"
-of_result bytes (Some x) = hex_text bytes x
+abbrev pub of_result : FieldOf → Option ℕ → List ℕ
+of_result field None = codes "none"
+of_result field (Some x) = element_text field x
 
--- the answer by the numbers of two operands, None for one that is not written as it has to be
+-- the answer by the numbers that two operands write, None for one that is not written as it has to be
 abbrev pub of_two : FieldOf → Binary → Option ℕ → Option ℕ → List ℕ
 of_two field operation (Some x) (Some y) =
-    if nat_lt x (2 ^ field.bits) && nat_lt y (2 ^ field.bits) then hex_text (bytes_of field) (binary_result field.times operation x y)
-    else error_text 5
+    if nat_lt x (2 ^ field.bits) && nat_lt y (2 ^ field.bits)
+    then of_result field (Some (binary_result field.times operation (field.order x) (field.order y))) else error_text 5
 of_two field operation x y = error_text 4
 
--- the answer by the number of the only operand
+-- the answer by the number that the only operand writes
 abbrev pub of_one : FieldOf → Unary → Option ℕ → List ℕ
 of_one field operation (Some x) =
-    if nat_lt x (2 ^ field.bits) then of_result (bytes_of field) (unary_result field.bits field.times operation x) else error_text 5
+    if nat_lt x (2 ^ field.bits) then of_result field (unary_result field.bits field.times operation (field.order x)) else error_text 5
 of_one field operation None = error_text 4
 
 -- the answer by the words after the operation

@@ -51,10 +51,10 @@ number_of word = fold (λ n digit. n * 16 + unwrap_or (hex_digit_value digit) 0)
 abbrev pub IsInRange : FieldOf → List ℕ → Type 0
 IsInRange field word = number_of word < 2 ^ field.bits
 
--- what an operation gives at the numbers of its operands; None for the inverse of 0
+-- what an operation gives at the numbers that its operands write; None for the inverse of 0
 abbrev pub result_at : FieldOf → Operation → List ℕ → Option ℕ
-result_at field (OfTwo operation) (x ∷ y ∷ []) = Some (binary_result field.times operation x y)
-result_at field (OfOne operation) (x ∷ []) = unary_result field.bits field.times operation x
+result_at field (OfTwo operation) (x ∷ y ∷ []) = Some (binary_result field.times operation (field.order x) (field.order y))
+result_at field (OfOne operation) (x ∷ []) = unary_result field.bits field.times operation (field.order x)
 result_at field operation numbers = None
 
 -- ---- the order
@@ -91,4 +91,4 @@ pub record FaultsInOrder (line : List ℕ) : Type 0 where
   -- else the answer is what the operation gives, as digits, or `none`
   pub result : (known : FieldOf) (named : Operation) → HasItsOperands line known named → All (IsOperand known) (operands_in line)
       → All (IsInRange known) (operands_in line)
-      → answer_of line ≡ of_result (bytes_of known) (result_at known named (map number_of (operands_in line)))
+      → answer_of line ≡ of_result known (result_at known named (map number_of (operands_in line)))

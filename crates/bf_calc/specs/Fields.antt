@@ -1,29 +1,46 @@
 -- The fields that a line may name.
 use Rattle.std.specs.Prelude.{ℕ, ◌+◌, ◌/◌, ◌^◌, if◌then◌else◌, List, [], ◌∷◌, codes, Option, Some, None}
 use Rattle.std.specs.Str.{bytes_eq}
+use Rattle.bf_base.specs.Chunks.{chunk}
 use Rattle.bf_base.specs.Remainder.{mul_mod, aes_modulus, poly64_modulus, ghash_modulus}
 use Rattle.bf_base.specs.Tower.{tower_mul}
+use Rattle.bf_cubic.specs.Cubic.{cubic, triple}
 
--- a field: how many bits an element has, and the product of elements
+-- a field: how many bits an element has, the product of elements, and the number of the element that a text of some number
+-- writes, which is also the number that the text of an element of some number writes
 pub record FieldOf : Type 0 where
   pub bits : ℕ
   pub times : ℕ → ℕ → ℕ
+  pub order : ℕ → ℕ
 
--- the field of so many bits with the product `times`
-abbrev pub field_of : ℕ → (ℕ → ℕ → ℕ) → FieldOf
-field_of bits times = record { bits = bits; times = times }
+-- the field of so many bits with the product `times`, whose texts have their parts in this order
+abbrev pub field_of : ℕ → (ℕ → ℕ → ℕ) → (ℕ → ℕ) → FieldOf
+field_of bits times order = record { bits = bits; times = times; order = order }
 
 -- how many bytes the bits of an element fill: its text has two digits for each
 abbrev pub bytes_of : FieldOf → ℕ
 bytes_of field = (field.bits + 7) / 8
 
+-- a text that is not divided writes the number of its element
+abbrev pub undivided : ℕ → ℕ
+undivided n = n
+
+-- a text of three coefficients of 64 bits has the lowest first, where its highest digits are: c0, c1 and c2 are written as the
+-- number of c2, c1 and c0
+abbrev pub lowest_first : ℕ → ℕ
+lowest_first n = triple 64 (chunk 64 2 n) (chunk 64 1 n) (chunk 64 0 n)
+
 -- level k of the tower of fields, whose elements have 2 ^ k bits
 abbrev pub tower_level : ℕ → FieldOf
-tower_level k = field_of (2 ^ k) (tower_mul k)
+tower_level k = field_of (2 ^ k) (tower_mul k) undivided
 
 -- the polynomials modulo one whose degree is `bits`, where the coefficient of x^i is bit i
 abbrev pub polynomials_modulo : ℕ → ℕ → FieldOf
-polynomials_modulo bits modulus = field_of bits (mul_mod bits modulus)
+polynomials_modulo bits modulus = field_of bits (mul_mod bits modulus) undivided
+
+-- the extension of the polynomials modulo x^64 + x^4 + x^3 + x + 1 by a root y of y³ + y + 1
+abbrev pub cubic_extension : FieldOf
+cubic_extension = field_of 192 (cubic 64 (mul_mod 64 poly64_modulus)) lowest_first
 
 -- the fields by their names
 abbrev pub fields : List (List ℕ × FieldOf)
@@ -39,6 +56,7 @@ fields =
     ∷ (codes "r8", polynomials_modulo 8 aes_modulus)
     ∷ (codes "p64", polynomials_modulo 64 poly64_modulus)
     ∷ (codes "g128", polynomials_modulo 128 ghash_modulus)
+    ∷ (codes "p192", cubic_extension)
     ∷ []
 
 -- what stands beside a word in a table of names; None where it is not there

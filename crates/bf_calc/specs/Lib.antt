@@ -1,8 +1,10 @@
 pub mod Answer
 pub mod Digits
+pub mod Elements
 pub mod Faults
 pub mod Fields
 pub mod Lines
+pub mod Number
 pub mod Operations
 pub mod Outbox
 pub mod Progress

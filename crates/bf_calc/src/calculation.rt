@@ -1,5 +1,5 @@
 // Operations on the elements of a field that operands write.
-ghost use Rattle.std.specs.Prelude.{◌≡◌, ◌<◌, ◌≤◌, ◌^◌, nat_lt};
+ghost use Rattle.std.specs.Prelude.{◌≡◌, ◌≤◌};
 ghost use Rattle.std.specs.Option.{option_map};
 ghost use Rattle.bf_calc.specs.Answer.{of_rest, of_operands, of_two, of_one};
 ghost use Rattle.bf_calc.specs.Digits.{operand_value};
@@ -10,15 +10,14 @@ ghost use Rattle.bf_calc.specs.Words.{words};
 
 use crate::digits::operand_value;
 use crate::names::{Binary, Fault, Operation, Unary, operation_named};
-use crate::operand::{element_of, number_of};
+use crate::operand::Written;
 use crate::text::Answer;
 use crate::words::next_word;
-use bf_base::traits::TowerLevel;
+use bf_base::traits::Field;
 
 /// The answer to what follows the name of the field: the name of an operation, and operands.
-pub(crate) fn answer_in<F: TowerLevel>(rest: &[u8]) -> Result<Answer, Fault>
-    requires { F.width ≤ 128 }
-    ensures { text_of result ≡ of_rest (field_of F.width F.product) (words rest.now) }
+pub(crate) fn answer_in<F: Written>(rest: &[u8]) -> Result<Answer, Fault>
+    ensures { text_of result ≡ of_rest (field_of F.width F.product F.order) (words rest.now) }
 {
     let (name, operands) = next_word(rest).ok_or(Fault::Operation)?;
     let operation = operation_named(name).ok_or(Fault::Operation)?;
@@ -26,9 +25,8 @@ pub(crate) fn answer_in<F: TowerLevel>(rest: &[u8]) -> Result<Answer, Fault>
 }
 
 // The answer by the operation and what follows it.
-fn of_operands<F: TowerLevel>(operation: Operation, operands: &[u8]) -> Result<Answer, Fault>
-    requires { F.width ≤ 128 }
-    ensures { text_of result ≡ of_operands (field_of F.width F.product) operation (words operands.now) }
+fn of_operands<F: Written>(operation: Operation, operands: &[u8]) -> Result<Answer, Fault>
+    ensures { text_of result ≡ of_operands (field_of F.width F.product F.order) operation (words operands.now) }
 {
     let (first, rest) = next_word(operands).ok_or(Fault::Operands)?;
     match operation {
@@ -49,58 +47,46 @@ fn of_operands<F: TowerLevel>(operation: Operation, operands: &[u8]) -> Result<A
 }
 
 // The answer to two operands.
-fn of_two<F: TowerLevel>(operation: Binary, left: &[u8], right: &[u8]) -> Result<Answer, Fault>
-    requires { F.width ≤ 128 }
-    ensures { let known = field_of F.width F.product in
+fn of_two<F: Written>(operation: Binary, left: &[u8], right: &[u8]) -> Result<Answer, Fault>
+    ensures { let known = field_of F.width F.product F.order in
         text_of result ≡ of_two known operation (operand_value (bytes_of known) left.now) (operand_value (bytes_of known) right.now) }
 {
     let num_bytes = num_bytes::<F>();
     let left = operand_value(left, num_bytes).ok_or(Fault::Digits)?;
     let right = operand_value(right, num_bytes).ok_or(Fault::Digits)?;
-    if !has::<F>(left) || !has::<F>(right) {
+    if !left.fits(F::bits()) || !right.fits(F::bits()) {
         return Err(Fault::Range);
     }
-    let result = binary_result::<F>(operation, element_of(left), element_of(right));
-    Ok(Answer::from_number(number_of(result), num_bytes))
+    let result = binary_result(operation, F::element_of(left), F::element_of(right));
+    Ok(Answer::from_number(result.number_of(), num_bytes))
 }
 
 // The answer to one operand.
-fn of_one<F: TowerLevel>(operation: Unary, operand: &[u8]) -> Result<Answer, Fault>
-    requires { F.width ≤ 128 }
-    ensures { let known = field_of F.width F.product in
+fn of_one<F: Written>(operation: Unary, operand: &[u8]) -> Result<Answer, Fault>
+    ensures { let known = field_of F.width F.product F.order in
         text_of result ≡ of_one known operation (operand_value (bytes_of known) operand.now) }
 {
     let num_bytes = num_bytes::<F>();
     let operand = operand_value(operand, num_bytes).ok_or(Fault::Digits)?;
-    if !has::<F>(operand) {
+    if !operand.fits(F::bits()) {
         return Err(Fault::Range);
     }
-    Ok(match unary_result::<F>(operation, element_of(operand)) {
-        Some(result) => Answer::from_number(number_of(result), num_bytes),
+    Ok(match unary_result(operation, F::element_of(operand)) {
+        Some(result) => Answer::from_number(result.number_of(), num_bytes),
         None => Answer::from_text(b"none"),
     })
 }
 
 // The bytes of an element's text, which has two digits for each.
-fn num_bytes<F: TowerLevel>() -> usize
-    requires { F.width ≤ 128 }
-    ensures known { result ≡ bytes_of (field_of F.width F.product) }
-    ensures few { result ≤ 16 }
+fn num_bytes<F: Written>() -> usize
+    ensures known { result ≡ bytes_of (field_of F.width F.product F.order) }
+    ensures few { result ≤ 24 }
 {
     F::bits().div_ceil(8)
 }
 
-// Whether the field has an element of this number. The shift leaves its highest bit as well, since all 128 bits of a number
-// cannot be shifted out.
-fn has<F: TowerLevel>(number: u128) -> bool
-    requires { F.width ≤ 128 }
-    ensures { result ≡ nat_lt number (2 ^ F.width) }
-{
-    number >> (F::bits() - 1) < 2
-}
-
 // What an operation gives at two elements.
-fn binary_result<F: TowerLevel>(operation: Binary, left: F, right: F) -> F
+fn binary_result<F: Field>(operation: Binary, left: F, right: F) -> F
     ensures { F.repr result ≡ binary_result F.product operation (F.repr left) (F.repr right) }
 {
     match operation {
@@ -110,7 +96,7 @@ fn binary_result<F: TowerLevel>(operation: Binary, left: F, right: F) -> F
 }
 
 // What an operation gives at one element; None for the inverse of 0.
-fn unary_result<F: TowerLevel>(operation: Unary, operand: F) -> Option<F>
+fn unary_result<F: Field>(operation: Unary, operand: F) -> Option<F>
     ensures { option_map F.repr result ≡ unary_result F.width F.product operation (F.repr operand) }
 {
     match operation {

@@ -3,6 +3,7 @@ ghost use Rattle.std.specs.Prelude.{ℕ, List};
 ghost use Rattle.bf_calc.specs.Faults.{FaultsInOrder};
 ghost use Rattle.bf_calc.specs.Words.{EmptyLineHasNoWord, RunIsOneWord, SpaceDividesWords};
 ghost use Rattle.bf_calc.specs.Digits.{TextIsReadBack};
+ghost use Rattle.bf_calc.specs.Elements.{CoefficientsStandInOrder, OrderTurnsBack};
 ghost use Rattle.bf_calc.specs.Operations.{InverseInverts, RootIsRoot};
 
 /// States what the words of a line are: an empty line has none, bytes with no space among them are one, and a space
@@ -13,9 +14,17 @@ pub fn words_by_spaces()
     ensures space { SpaceDividesWords }
 {}
 
-/// States that the text of an element is an operand with the element's number.
+/// States that the text of an element is an operand with the number that the text writes.
 pub fn text_is_read_back()
     ensures { TextIsReadBack }
+{}
+
+/// States that the number which a text writes is in every field that of the element after the same change of order by which it
+/// came from the element, and has no more bits. For `p192` the text of an element is the texts of its coefficients, the lowest
+/// first.
+pub fn texts_in_order()
+    ensures back { OrderTurnsBack }
+    ensures coefficients { CoefficientsStandInOrder }
 {}
 
 /// States that in every field that a line may name `inv` gives the inverse, whose product with the operand is 1, and

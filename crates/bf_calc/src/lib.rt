@@ -9,9 +9,9 @@
 //!
 //! | Part | What it may be |
 //! |---|---|
-//! | field | `gf2`, `t2`, `t4`, `t8`, `t16`, `t32`, `t64`, `t128` (levels of the tower), `r8` (`Rijndael8b`), `p64` (`Poly64`), `g128` (`Ghash128`) |
+//! | field | `gf2`, `t2`, `t4`, `t8`, `t16`, `t32`, `t64`, `t128` (levels of the tower), `r8` (`Rijndael8b`), `p64` (`Poly64`), `g128` (`Ghash128`), `p192` (`Poly192`) |
 //! | operation | `add`, `mul` with two operands; `square`, `inv`, `sqrt` with one |
-//! | operand | two hexadecimal digits for each byte of an element, highest byte first, in either case |
+//! | operand | two hexadecimal digits for each byte of an element, highest byte first, in either case; for `p192` the three coefficients, lowest first, each so written |
 //! | answer | the result in lower case; `none` for `inv` of zero; or the first of these errors that applies |
 //!
 //! | Answer | Where |
@@ -31,6 +31,7 @@ mod error;
 mod laws;
 mod line;
 mod names;
+mod number;
 mod operand;
 mod outbox;
 mod text;
@@ -39,7 +40,9 @@ mod words;
 
 pub use crate::engine::{lines_law, run};
 pub use crate::error::RunError;
-pub use crate::laws::{faults_in_order, inverse_and_root, text_is_read_back, words_by_spaces};
+pub use crate::laws::{
+    faults_in_order, inverse_and_root, text_is_read_back, texts_in_order, words_by_spaces,
+};
 pub use crate::line::answer;
 pub use crate::text::Answer;
 pub use crate::watched::Watched;

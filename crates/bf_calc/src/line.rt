@@ -13,7 +13,7 @@ use crate::words::next_word;
 use bf_base::Gf2;
 use bf_element::{
     BinaryField2, BinaryField4, BinaryField8, BinaryField16, BinaryField32, BinaryField64,
-    BinaryField128, Ghash128, Poly64, Rijndael8b,
+    BinaryField128, Ghash128, Poly64, Poly192, Rijndael8b,
 };
 
 /// The answer to a line: the result of its operation as hexadecimal text, `none` for the inverse of 0, or `error` and
@@ -62,6 +62,7 @@ fn in_field_named(name: &[u8], rest: &[u8]) -> Result<Answer, Fault>
         b"r8" => answer_in::<Rijndael8b>(rest),
         b"p64" => answer_in::<Poly64>(rest),
         b"g128" => answer_in::<Ghash128>(rest),
+        b"p192" => answer_in::<Poly192>(rest),
         _ => Err(Fault::Field),
     }
 }

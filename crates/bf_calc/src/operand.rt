@@ -1,20 +1,120 @@
-// Elements of a field by their numbers.
-ghost use Rattle.std.specs.Prelude.{◌≡◌, ◌^◌, ◌<◌};
+// Elements of a field by the numbers that their texts write.
+ghost use Rattle.std.specs.Prelude.{◌≡◌, ◌≤◌, ◌^◌, ◌<◌, ℕ};
+ghost use Rattle.std.proofs.Common.{lit≤};
+ghost use Rattle.std.proofs.Math.Nat.{le_trans};
+ghost use Rattle.bf_calc.specs.Fields.{lowest_first, undivided};
+ghost use Rattle.bf_calc.specs.Number.{value_of};
 
-use bf_base::Unsigned;
-use bf_base::traits::TowerLevel;
+use crate::number::Number;
+use bf_base::traits::{Field, TowerLevel};
+use bf_base::{Gf2, Unsigned};
+use bf_element::{
+    BinaryField2, BinaryField4, BinaryField8, BinaryField16, BinaryField32, BinaryField64,
+    BinaryField128, Ghash128, Poly64, Poly192, Rijndael8b,
+};
 
-/// The element that is represented by a number.
-pub(crate) fn element_of<F: TowerLevel>(number: u128) -> F
-    requires { number < 2 ^ F.width }
-    ensures { F.repr result ≡ number }
-{
-    F::from_repr(F::Repr::of_u128(number))
+/// A field whose elements lines may write.
+pub(crate) trait Written: Field {
+    // The number of the element that a text of some number writes, and the other way round.
+    ghost order: { ℕ → ℕ };
+
+    /// The element that a text of this number writes.
+    fn element_of(number: Number) -> Self
+        requires { value_of number < 2 ^ Self.width }
+        ensures { Self.repr result ≡ order (value_of number) };
+
+    /// The number that the element's text writes.
+    fn number_of(self) -> Number
+        ensures { value_of result ≡ order (Self.repr self) };
+
+    ghost number_law: { Self.width ≤ 192 };
 }
 
-/// The representation as a number.
-pub(crate) fn number_of<F: TowerLevel>(element: F) -> u128
-    ensures { result ≡ F.repr element }
-{
-    element.to_repr().to_u128()
+/// A field whose texts write the number of the element, of at most 128 bits.
+pub(crate) trait Undivided: TowerLevel {
+    ghost word_law: { Self.width ≤ 128 };
+}
+
+impl<F: Undivided> Written for F {
+    ghost order = { undivided };
+
+    ghost number_law = { le_trans F.word_law (lit≤ tt) };
+
+    fn element_of(number: Number) -> F {
+        F::from_repr(F::Repr::of_u128(number.low))
+    }
+
+    fn number_of(self) -> Number {
+        Number {
+            high: 0,
+            low: self.to_repr().to_u128(),
+        }
+    }
+}
+
+impl Undivided for Gf2 {
+    ghost word_law = { lit≤ tt };
+}
+
+impl Undivided for BinaryField2 {
+    ghost word_law = { lit≤ tt };
+}
+
+impl Undivided for BinaryField4 {
+    ghost word_law = { lit≤ tt };
+}
+
+impl Undivided for BinaryField8 {
+    ghost word_law = { lit≤ tt };
+}
+
+impl Undivided for BinaryField16 {
+    ghost word_law = { lit≤ tt };
+}
+
+impl Undivided for BinaryField32 {
+    ghost word_law = { lit≤ tt };
+}
+
+impl Undivided for BinaryField64 {
+    ghost word_law = { lit≤ tt };
+}
+
+impl Undivided for BinaryField128 {
+    ghost word_law = { lit≤ tt };
+}
+
+impl Undivided for Rijndael8b {
+    ghost word_law = { lit≤ tt };
+}
+
+impl Undivided for Poly64 {
+    ghost word_law = { lit≤ tt };
+}
+
+impl Undivided for Ghash128 {
+    ghost word_law = { lit≤ tt };
+}
+
+// The coefficients stand lowest first, so that coefficient 0 has the highest digits.
+impl Written for Poly192 {
+    ghost order = { lowest_first };
+
+    fn element_of(number: Number) -> Poly192 {
+        Poly192::new([
+            Poly64::from_repr(number.high),
+            Poly64::from_repr((number.low >> 64) as u64),
+            Poly64::from_repr((number.low % (1 << 64)) as u64),
+        ])
+    }
+
+    fn number_of(self) -> Number {
+        let [c0, c1, c2] = self.coefficients();
+        Number {
+            high: c0.to_repr(),
+            low: u128::from(c1.to_repr()) << 64 | u128::from(c2.to_repr()),
+        }
+    }
+
+    ghost number_law = { lit≤ tt };
 }

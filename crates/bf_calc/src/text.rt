@@ -1,6 +1,9 @@
 // The text of an answer.
 ghost use Rattle.std.specs.Prelude.{◌≡◌, ◌≤◌, ◌<◌, ◌*◌, length};
 ghost use Rattle.bf_calc.specs.Digits.{hex_text};
+ghost use Rattle.bf_calc.specs.Number.{value_of};
+
+use crate::number::Number;
 
 /// The bytes with which a line is answered, at most 48, without a line feed.
 #[derive(Drop)]
@@ -24,14 +27,14 @@ impl Answer {
         Answer { bytes, len }
     }
 
-    /// The number of an element as hexadecimal text, two digits for each of its `num_bytes` bytes.
-    pub(crate) fn from_number(number: u128, num_bytes: usize) -> Answer
-        requires { num_bytes ≤ 16 }
-        ensures { answer_bytes result ≡ hex_text num_bytes number }
+    /// The low `num_bytes` bytes of a number as hexadecimal text, two digits for each.
+    pub(crate) fn from_number(number: Number, num_bytes: usize) -> Answer
+        requires { num_bytes ≤ 24 }
+        ensures { answer_bytes result ≡ hex_text num_bytes (value_of number) }
     {
         let mut bytes = [0; 48];
-        let all_bytes = number.to_be_bytes();
-        let low_bytes = &all_bytes[16 - num_bytes..];
+        let all_bytes = number.to_bytes();
+        let low_bytes = &all_bytes[24 - num_bytes..];
         let encoded = hex::encode_to_slice(low_bytes, &mut bytes[..2 * num_bytes]);
         if encoded.is_err() {
             unreachable!();

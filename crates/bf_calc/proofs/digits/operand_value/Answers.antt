@@ -1,5 +1,6 @@
 -- What `hex` decodes is the number of the operand.
 use Rattle.std.proofs.Common.{arith}
+use Rattle.bf_calc.specs.Number.{value_of}
 use Rattle.bf_calc.proofs.DigitLemmas.{operand_value-read, operand_value-refused, length-front}
 use Rattle.bf_calc.proofs.digits.operand_value.Goals as goal
 
@@ -10,5 +11,5 @@ returns-then-is_err c =
 
 pub returns : goal.returns
 returns c =
-    operand_value-read c.args.num_bytes _ c.args.word.now _ c.decode_to_slice.result c.number_of.result
-    (length-front c.args.num_bytes _ (omega arith)) c.decode_to_slice.ensures.value c.if-is_err.ensures.value c.number_of.ensures
+    operand_value-read c.args.num_bytes _ c.args.word.now _ c.decode_to_slice.result (value_of c.from_bytes.result)
+    (length-front c.args.num_bytes _ (omega arith)) c.decode_to_slice.ensures.value c.if-is_err.ensures.value c.from_bytes.ensures

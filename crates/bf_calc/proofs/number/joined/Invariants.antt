@@ -1,6 +1,6 @@
 -- The number so far is that of the bytes so far.
 use Rattle.std.proofs.Common.{◌≡◌, ◌<◌, ◌^◌, ◌*◌, ◌+◌, fold, take}
-use Rattle.bf_calc.proofs.digits.number_of.Given as goal
+use Rattle.bf_calc.proofs.number.joined.Given as goal
 
 abbrev pub invariant-loop-byte : goal.invariant-loop-byte
 invariant-loop-byte l = record {
