@@ -1,8 +1,8 @@
 -- Numbers as two words, and as bytes.
-use Rattle.std.proofs.Common.{◌≡◌, ◌≢◌, ℕ, zero, suc, ◌+◌, ◌-◌, ◌*◌, ◌/◌, ◌%◌, ◌^◌, ◌<◌, ◌≤◌, nat_lt, false, List, [], ◌∷◌, ◌++◌, length, take, drop, fold, refl, subst, sym, ◌∙◌, ap, ap₂, arith, ⊎_elim, zero-add, lit<}
+use Rattle.std.proofs.Common.{◌≡◌, ◌≢◌, ℕ, zero, suc, ◌+◌, ◌-◌, ◌*◌, ◌/◌, ◌%◌, ◌^◌, ◌<◌, ◌≤◌, nat_eq, nat_lt, false, List, [], ◌∷◌, ◌++◌, length, take, drop, fold, refl, subst, sym, ◌∙◌, ap, ap₂, arith, ⊎_elim, zero-add, lit<}
 use Rattle.std.specs.Int.{bytes_high_first, byte_at}
 use Rattle.std.proofs.Math.Nat.{one-le-pow, mul_comm, mul_assoc, pow-suc, div-one, div-div-eq-div-mul, div-lt_iff_lt-mul, mul-add-div_right, pow-le-pow_right}
-use Rattle.std.proofs.lemmas.Bool.{cases_lt, lt-ltb, le-ltb}
+use Rattle.std.proofs.lemmas.Bool.{cases_lt, lt-ltb, le-ltb, ne_eqb}
 use Rattle.std.proofs.lemmas.List.{take-append-drop, length-drop}
 use Rattle.std.proofs.lemmas.List.Sums.{fold-append}
 use Rattle.std.proofs.lemmas.Nat.{div-mul-add, pow-add, pow_pos}
@@ -111,22 +111,22 @@ shifted-test n place =
     same_test (n / 2 ^ place) 2 n (2 ^ suc place) (λ below. subst (λ (m : ℕ). n < m) wide (decides.0 below))
     (λ below. decides.1 (subst (λ (m : ℕ). n < m) (sym wide) below))
 
-pub fits-low : (high low bits : ℕ) → high ≡ 0 → 0 < bits
+pub fits_low : (high low bits : ℕ) → high ≡ 0 → 0 < bits
     → nat_lt (low / 2 ^ (bits - 1)) 2 ≡ nat_lt (high * 2 ^ 128 + low) (2 ^ bits)
-fits-low high low bits nothing some =
+fits_low high low bits nothing some =
     let whole : low ≡ high * 2 ^ 128 + low = omega (arith, nothing) in
     let next : suc (bits - 1) ≡ bits = omega arith in
     shifted-test low (bits - 1) ∙ ap₂ (λ (n k : ℕ). nat_lt n (2 ^ k)) whole next
 
-pub fits-not : (high low bits : ℕ) → high ≢ 0 → bits ≤ 128 → false ≡ nat_lt (high * 2 ^ 128 + low) (2 ^ bits)
-fits-not high low bits some few =
+pub fits_not : (high low bits : ℕ) → high ≢ 0 → bits ≤ 128 → nat_eq high 0 ≡ nat_lt (high * 2 ^ 128 + low) (2 ^ bits)
+fits_not high low bits some few =
     let narrow : 2 ^ bits ≤ 2 ^ 128 = pow-le-pow_right {n = 2} (lit< tt) {i = bits} {j = 128} few in
     let one : 1 ≤ high = ⊎_elim (λ below. absurd (some (omega arith))) (λ above. above) (cases_lt high 1) in
-    sym (le-ltb (high * 2 ^ 128 + low) (2 ^ bits) (omega (arith, narrow, one)))
+    ne_eqb high 0 some ∙ sym (le-ltb (high * 2 ^ 128 + low) (2 ^ bits) (omega (arith, narrow, one)))
 
-pub fits-high : (high low bits : ℕ) → low < 2 ^ 128 → 128 < bits
+pub fits_high : (high low bits : ℕ) → low < 2 ^ 128 → 128 < bits
     → nat_lt (high / 2 ^ (bits - 129)) 2 ≡ nat_lt (high * 2 ^ 128 + low) (2 ^ bits)
-fits-high high low bits fits more =
+fits_high high low bits fits more =
     let above = 2 ^ (bits - 128) in
     let next : suc (bits - 129) ≡ bits - 128 = omega arith in
     let cut : bits ≡ bits - 128 + 128 = omega arith in

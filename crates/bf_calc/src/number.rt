@@ -36,6 +36,7 @@ impl Number {
 
     /// Whether the number has at most so many bits. A shift leaves the highest of them as well, since all bits of a word cannot
     /// be shifted out.
+    #[tactic(auto, using(crate::proofs::NumberLemmas::fits_low, crate::proofs::NumberLemmas::fits_not, crate::proofs::NumberLemmas::fits_high))]
     pub(crate) fn fits(self, bits: usize) -> bool
         requires some { 0 < bits }
         requires few { bits ≤ 192 }
