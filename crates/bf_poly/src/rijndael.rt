@@ -10,7 +10,7 @@ ghost use Rattle.bf_basis.proofs.RootImages.{rijndael_alpha, rijndael_generator}
 use crate::modulus::Modulus;
 use crate::polynomials::Polynomials;
 use bf_basis::{to_polynomial_8, to_tower_8};
-use bf_tables::{invert_8, multiply_8, sqrt_8, square_8};
+use bf_rijndael_tables::{invert, multiply, sqrt, square};
 use bf_tower::Bits8;
 
 /// x^8 + x^4 + x^3 + x + 1, the modulus of AES (FIPS 197, section 4.2).
@@ -49,27 +49,24 @@ impl Modulus<u8, Bits8> for RijndaelModulus {
 
     ghost few = { lit≤ tt };
 
-    // The image of the product in the tower, which is by tables of powers and logarithms.
     #[inline]
     fn multiply(x: u8, y: u8) -> u8 {
-        let left = to_tower_8(x);
-        let right = to_tower_8(y);
-        to_polynomial_8(multiply_8(left, right))
+        multiply(x, y)
     }
 
     #[inline]
     fn square(x: u8) -> u8 {
-        to_polynomial_8(square_8(to_tower_8(x)))
+        square(x)
     }
 
     #[inline]
     fn invert(x: u8) -> u8 {
-        to_polynomial_8(invert_8(to_tower_8(x)))
+        invert(x)
     }
 
     #[inline]
     fn sqrt(x: u8) -> u8 {
-        to_polynomial_8(sqrt_8(to_tower_8(x)))
+        sqrt(x)
     }
 
     #[inline]

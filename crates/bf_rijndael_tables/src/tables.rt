@@ -1,0 +1,82 @@
+// Polynomials modulo x^8 + x^4 + x^3 + x + 1 (FIPS 197, section 4.2) by tables: a product is 0x88, the field's generator, to the
+// power of the sum of the logarithms of its operands. Bit i of a byte is the coefficient of x^i.
+ghost use Rattle.std.specs.Prelude.{◌≡◌, ◌≢◌, ◌<◌, slice_index};
+ghost use Rattle.bf_base.specs.Remainder.{aes_modulus, mul_mod};
+ghost use Rattle.bf_rijndael_tables.specs.declared.tables.literals.TheConstants.{EXP, INVERSES, LOG, ROOTS, SQUARES};
+
+mod literals;
+
+// The entry of EXP at `exponent`.
+#[inline]
+fn power_entry(exponent: usize) -> u8
+    requires { exponent < 1023 }
+    ensures { result ≡ slice_index EXP exponent }
+{
+    literals::EXP[exponent]
+}
+
+// The entry of LOG at `a`.
+#[inline]
+fn logarithm_entry(a: u8) -> u16
+    ensures { result ≡ slice_index LOG a }
+{
+    literals::LOG[a as usize]
+}
+
+// The entry of INVERSES at `a`.
+#[inline]
+fn inverse_entry(a: u8) -> u8
+    ensures { result ≡ slice_index INVERSES a }
+{
+    literals::INVERSES[a as usize]
+}
+
+// The entry of SQUARES at `a`.
+#[inline]
+fn square_entry(a: u8) -> u8
+    ensures { result ≡ slice_index SQUARES a }
+{
+    literals::SQUARES[a as usize]
+}
+
+// The entry of ROOTS at `a`.
+#[inline]
+fn root_entry(a: u8) -> u8
+    ensures { result ≡ slice_index ROOTS a }
+{
+    literals::ROOTS[a as usize]
+}
+
+/// The product of two bytes: 0x88 to the power of the sum of their logarithms. That of 0 is so large that EXP has 0 at each sum
+/// with it, so that no operand is asked whether it is 0.
+#[inline]
+pub fn multiply(a: u8, b: u8) -> u8
+    ensures { result ≡ mul_mod 8 aes_modulus a b }
+{
+    power_entry(logarithm_entry(a) as usize + logarithm_entry(b) as usize)
+}
+
+/// The square of a byte.
+#[inline]
+pub fn square(a: u8) -> u8
+    ensures { result ≡ mul_mod 8 aes_modulus a a }
+{
+    square_entry(a)
+}
+
+/// The inverse of a byte, and 0 for 0.
+#[inline]
+pub fn invert(a: u8) -> u8
+    ensures zero { a ≡ 0 → result ≡ 0 }
+    ensures inverse { a ≢ 0 → mul_mod 8 aes_modulus a result ≡ 1 }
+{
+    inverse_entry(a)
+}
+
+/// The square root of a byte. Every byte has one.
+#[inline]
+pub fn sqrt(a: u8) -> u8
+    ensures { mul_mod 8 aes_modulus result result ≡ a }
+{
+    root_entry(a)
+}
