@@ -1,5 +1,5 @@
 -- Lanes that a loop writes one after the other, and lists of lanes that agree at each place.
-use Rattle.std.proofs.Common.{◌≡◌, ◌≢◌, ◌⊎◌, inl, inr, ℕ, zero, suc, ◌+◌, ◌<◌, ◌≤◌, List, [], ◌∷◌, length, map, replicate, refl, sym, ◌∙◌, ap₂, subst, arith}
+use Rattle.std.proofs.Common.{◌≡◌, ◌≢◌, ◌⊎◌, inl, inr, ℕ, zero, suc, ◌+◌, ◌<◌, ◌≤◌, List, [], ◌∷◌, length, map, refl, sym, ◌∙◌, ap₂, subst, arith}
 use Rattle.std.specs.Prelude.{slice_index_or, slice_set}
 use Rattle.std.proofs.lemmas.List.{get_or-set_same, get_or-set_other}
 use native.Mathlib.Nat.{eq-or-lt_of_le}
@@ -46,12 +46,6 @@ lanes_agree repr op (x ∷ xs) (y ∷ ys) (r ∷ rs) long also at =
     ap₂ (λ (n : ℕ) (ns : List ℕ). n ∷ ns) (at 0 x (omega arith))
     (lanes_agree repr op xs ys rs (omega (arith, long)) (omega (arith, also))
     (λ k d below. at (suc k) d (omega (arith, below))))
-
--- an entry of a list of one element in every place
-pub every_entry : {A : Type 0} → (n k : ℕ) (x d : A) → k < n → slice_index_or (replicate n x) k d ≡ x
-every_entry zero k x d within = absurd (omega (arith, within))
-every_entry (suc n) zero x d within = refl
-every_entry (suc n) (suc k) x d within = every_entry n k x d (omega (arith, within))
 
 -- lists whose numbers agree with a map at each lane
 pub images_agree : {A : Type 0} → (repr : A → ℕ) (f : ℕ → ℕ) (xs rs : List A) → length rs ≡ length xs

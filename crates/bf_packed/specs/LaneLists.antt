@@ -137,6 +137,23 @@ module _ (width : ℕ) where
         → joined width (map repr rs) ≡ bit_xor (joined width (map repr xs)) (joined width (map repr ys))
     sum_number xs ys rs long is = ap (joined width) is ∙ lanes_sum xs ys long
 
+    lanes_plus_every : (v : ℕ) → v < 2 ^ width → (n : ℕ) (xs : List A) → length xs ≡ n
+        → joined width (lane_by_lane bit_xor (map repr xs) (replicate n v))
+        ≡ bit_xor (joined width (map repr xs)) (joined width (replicate n v))
+    unfolding joined
+    lanes_plus_every v v_fits zero [] long = refl
+    lanes_plus_every v v_fits zero (x ∷ xs) long = absurd (omega (arith, long))
+    lanes_plus_every v v_fits (suc n) [] long = absurd (omega (arith, long))
+    lanes_plus_every v v_fits (suc n) (x ∷ xs) long =
+        ap (λ (h : ℕ). h * 2 ^ width + bit_xor (repr x) v) (lanes_plus_every v v_fits n xs (omega (arith, long)))
+        ∙ sym (xor_block width _ _ (repr x) v (fits x) v_fits)
+
+    -- and of the sum with a number in every lane
+    pub sum_with_every : (n v : ℕ) → v < 2 ^ width → (xs rs : List A) → length xs ≡ n
+        → map repr rs ≡ lane_by_lane bit_xor (map repr xs) (replicate n v)
+        → joined width (map repr rs) ≡ bit_xor (joined width (map repr xs)) (joined width (replicate n v))
+    sum_with_every n v v_fits xs rs long is = ap (joined width) is ∙ lanes_plus_every v v_fits n xs long
+
     module _ (unit : ℕ) (times : ℕ → ℕ → ℕ) (ring : IsRing width unit times) where
       lanes_times : (xs ys : List A) → length xs ≡ length ys
           → joined width (lane_by_lane times (map repr xs) (map repr ys))
@@ -158,3 +175,21 @@ module _ (width : ℕ) where
       product_number n xs ys rs x_long y_long is =
           ap (joined width) is ∙ lanes_times xs ys (x_long ∙ sym y_long)
           ∙ ap (λ (k : ℕ). lane_product width times k (joined width (map repr xs)) (joined width (map repr ys))) x_long
+
+      times_every : (v : ℕ) → v < 2 ^ width → (n : ℕ) (xs : List A) → length xs ≡ n
+          → joined width (lane_by_lane times (map repr xs) (replicate n v))
+          ≡ lane_product width times n (joined width (map repr xs)) (joined width (replicate n v))
+      unfolding joined lane_product
+      times_every v v_fits zero [] long = refl
+      times_every v v_fits zero (x ∷ xs) long = absurd (omega (arith, long))
+      times_every v v_fits (suc n) [] long = absurd (omega (arith, long))
+      times_every v v_fits (suc n) (x ∷ xs) long =
+          ap (λ (h : ℕ). h * 2 ^ width + times (repr x) v) (times_every v v_fits n xs (omega (arith, long)))
+          ∙ sym (product_more unit times ring n (joined width (map repr xs)) (repr x) (joined width (replicate n v)) v (fits x)
+          v_fits)
+
+      -- and of the product with a number in every lane
+      pub product_with_every : (n v : ℕ) → v < 2 ^ width → (xs rs : List A) → length xs ≡ n
+          → map repr rs ≡ lane_by_lane times (map repr xs) (replicate n v)
+          → joined width (map repr rs) ≡ lane_product width times n (joined width (map repr xs)) (joined width (replicate n v))
+      product_with_every n v v_fits xs rs long is = ap (joined width) is ∙ times_every v v_fits n xs long

@@ -1,3 +1,4 @@
+pub mod BitImages
 pub mod Inverses
 pub mod LaneLists
 pub mod Packed

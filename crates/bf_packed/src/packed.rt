@@ -9,6 +9,7 @@ mod bits;
 mod draws;
 mod interleaved;
 mod lanes;
+mod left;
 mod maps;
 mod operators;
 mod quotients;

@@ -10,7 +10,7 @@ loop-lane-init g c = (λ k d below. absurd (omega (arith, below)), λ k d above.
 pub div-requires : goal.div-requires
 div-requires g c =
     g.met.F.Field.can_div_law c.index-left-lane.result c.index-right-lane.result
-    (λ none. c.requires.nonzero c.loop-lane.lane c.index-right-lane.result c.loop-lane-test.true
+    (λ none. c.requires.nonzero _ c.index-right-lane.result (omega (arith, c.loop-lane-test.true))
     (ap g.F.Represented.repr (sym c.index-right-lane.is) ∙ none))
 
 pub loop-lane-preserved : goal.loop-lane-preserved
