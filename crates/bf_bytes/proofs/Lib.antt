@@ -1,3 +1,4 @@
-pub mod Reading
+pub mod Placing
+pub mod Taking
 pub mod Words
 pub mod Streaming

@@ -1,17 +1,12 @@
 -- The bytes that a stream has still to give, after one more.
-use Rattle.std.proofs.Common.{◌≡◌, ℕ, zero, suc, ◌+◌, ◌<◌, ◌≤◌, ◌⊎◌, inl, inr, refl, sym, ◌∙◌, ap, arith, List, [], ◌∷◌, ◌++◌, length, drop, get_or}
+use Rattle.std.proofs.Common.{◌≡◌, ℕ, zero, suc, ◌+◌, ◌<◌, ◌≤◌, ◌⊎◌, inl, inr, sym, ◌∙◌, ap, arith, List, [], ◌∷◌, ◌++◌, length, drop, get_or}
 use Rattle.std.proofs.Math.ListN.{drop_of_length-le}
 use Rattle.std.proofs.lemmas.List.{drop-append-le, drop_more, length-append}
 use Rattle.std.proofs.lemmas.Bool.{cases_lt}
-use native.Mathlib.Numerals.{add-one}
 use Rattle.bf_base.specs.Chunks.{chunk, chunks}
 use Rattle.bf_bytes.specs.Bytes.{low_bytes}
 use Rattle.bf_bytes.specs.Streams.{joined_bytes}
-
-length-chunks : (width n a : ℕ) → length (chunks width n a) ≡ n
-unfolding chunks
-length-chunks width zero a = refl
-length-chunks width (suc n) a = length-append (chunks width n a) (chunk width n a ∷ []) ∙ ap (λ (k : ℕ). k + 1) (length-chunks width n a) ∙ add-one n
+use Rattle.bf_bytes.proofs.Taking.{length-chunks}
 
 -- what is left of a list from an index on is longer by one than from the next
 drop-chunks : (width n i a : ℕ) → i < n → drop i (chunks width n a) ≡ chunk width i a ∷ drop (i + 1) (chunks width n a)

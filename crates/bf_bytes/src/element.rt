@@ -1,13 +1,15 @@
 // The elements of every field as bytes: those of the word that stores them.
-ghost use Rattle.std.proofs.Common.{lit<};
+ghost use Rattle.std.specs.Prelude.{◌≤◌};
+ghost use Rattle.std.proofs.Common.{lit<, lit≤, subst};
 
-use crate::little_endian::{LittleEndian, byte_of, number_from_iter};
+use crate::little_endian::{LittleEndian, read_byte};
+use crate::reading::word_from_iter;
 use crate::serializable::RawDataSerializable;
 use bf_base::traits::TowerLevel;
-use bf_base::{Gf2, LevelKernel, Unsigned};
-use bf_element::{Element, HasPacking};
+use bf_base::{Gf2, Kernel};
+use bf_element::{Element, element_of_word, word_of};
 
-impl<R: LittleEndian, K: LevelKernel<R> + HasPacking<R>> RawDataSerializable for Element<R, K> {
+impl<R: LittleEndian, K: Kernel<R>> RawDataSerializable for Element<R, K> {
     const NUM_BYTES: usize = R::SIZE;
 
     ghost NUM_BYTES = { R.SIZE };
@@ -18,18 +20,21 @@ impl<R: LittleEndian, K: LevelKernel<R> + HasPacking<R>> RawDataSerializable for
 
     ghost bytes_law = { R.wide_law };
 
+    ghost room_law = { subst (λ n. K.width ≤ n) R.size_law K.room_law };
+
+    #[inline]
     fn into_bytes(self) -> R::Bytes {
-        self.to_repr().to_bytes()
+        word_of(&self).to_bytes()
     }
 
+    #[inline]
     fn byte(self, i: usize) -> u8 {
-        byte_of(self.to_repr().to_u128(), i)
+        word_of(&self).byte(i)
     }
 
-    #[tactic(auto, using(crate::proofs::Reading::number_kept))]
     fn from_le_byte_iter<I: Iterator<Item = u8>>(iter: I) -> Option<Element<R, K>> {
-        match number_from_iter(iter, R::SIZE) {
-            Some(number) => Some(Element::from_repr(R::of_u128(number))),
+        match word_from_iter::<R, I>(iter) {
+            Some(word) => Some(element_of_word(word)),
             None => None,
         }
     }
@@ -46,17 +51,21 @@ impl RawDataSerializable for Gf2 {
 
     ghost bytes_law = { lit< tt };
 
+    ghost room_law = { lit≤ tt };
+
+    #[inline]
     fn into_bytes(self) -> [u8; 1] {
         self.to_repr().to_bytes()
     }
 
+    #[inline]
     fn byte(self, i: usize) -> u8 {
-        byte_of(u128::from(self.to_repr()), i)
+        read_byte(self.to_repr(), i)
     }
 
     fn from_le_byte_iter<I: Iterator<Item = u8>>(iter: I) -> Option<Gf2> {
-        match number_from_iter(iter, 1) {
-            Some(number) => Some(Gf2::from_repr(number as u8)),
+        match word_from_iter::<u8, I>(iter) {
+            Some(word) => Some(Gf2::from_repr(word)),
             None => None,
         }
     }

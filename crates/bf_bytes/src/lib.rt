@@ -3,9 +3,12 @@
 
 mod element;
 mod little_endian;
+mod reading;
 mod serializable;
 mod streams;
+mod triple;
 
 pub use crate::little_endian::LittleEndian;
+pub use crate::reading::word_from_iter;
 pub use crate::serializable::RawDataSerializable;
 pub use crate::streams::{ByteStream, into_byte_stream};

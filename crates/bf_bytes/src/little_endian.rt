@@ -1,14 +1,13 @@
-// Words by their bytes, the lowest first.
-ghost use Rattle.std.specs.Prelude.{◌≡◌, ◌<◌, ◌≤◌, ◌+◌, ◌*◌, ◌^◌, ◌↔◌, ℕ, List, length, IsNone, IfSome, refl};
+// Stored words by their bytes, the lowest first.
+ghost use Rattle.std.specs.Prelude.{◌≡◌, ◌<◌, ◌≤◌, ◌+◌, ◌*◌, ◌^◌, ℕ, List, length, refl};
 ghost use Rattle.std.proofs.Common.{lit<};
-ghost use Rattle.std.specs.Iterator.{IsFinite};
 ghost use Rattle.bf_base.specs.Chunks.{chunk};
-ghost use Rattle.bf_bytes.specs.Bytes.{low_bytes, number_of_bytes, TakesBytes};
+ghost use Rattle.bf_bytes.specs.Bytes.{low_bytes, number_of_bytes};
 
-use bf_base::Unsigned;
+use bf_base::{Unsigned, Word};
 
-/// An unsigned integer of Rust that is a whole number of bytes.
-pub trait LittleEndian: Unsigned {
+/// A word that stores an element and is a whole number of bytes.
+pub trait LittleEndian: Word {
     /// How many bytes a word has.
     const SIZE: usize;
 
@@ -24,16 +23,25 @@ pub trait LittleEndian: Unsigned {
     fn to_bytes(self) -> Self::Bytes
         ensures { listed result ≡ low_bytes SIZE (Self.number self) };
 
-    ghost size_law: { Self.bits ≡ 8 * SIZE };
+    /// Byte `i` of the word's number, counted from the lowest, of which there have to be as many.
+    fn byte(self, i: usize) -> u8
+        requires { i < SIZE }
+        ensures { result ≡ chunk 8 i (Self.number self) };
 
-    ghost short_law: { SIZE ≤ 16 };
+    /// The word with `byte` as its byte `i`, which the word has to have. Byte `i` of `self` and those above have to be 0.
+    fn with_byte(self, i: usize, byte: u8) -> Self
+        requires within { i < SIZE }
+        requires above { Self.number self < 2 ^ (8 * i) }
+        ensures { Self.number result ≡ byte * 2 ^ (8 * i) + Self.number self };
+
+    ghost size_law: { Self.bits ≡ 8 * SIZE };
 
     ghost wide_law: { 0 < SIZE };
 }
 
-/// Byte `i` of a number, counted from the lowest, of which there are 16.
+// Byte `i` of a number, counted from the lowest, of which there are 16.
 #[inline]
-pub fn byte_of(n: u128, i: usize) -> u8
+fn byte_of(n: u128, i: usize) -> u8
     requires { i < 16 }
     ensures { result ≡ chunk 8 i n }
 {
@@ -42,7 +50,7 @@ pub fn byte_of(n: u128, i: usize) -> u8
 
 // What a byte is worth as byte `i` of a number.
 #[inline]
-#[tactic(auto, using(crate::proofs::Reading::byte_placed))]
+#[tactic(auto, using(crate::proofs::Placing::byte_placed))]
 fn placed(byte: u8, i: usize) -> u128
     requires { i < 16 }
     ensures fits { byte < 2 ^ 8 }
@@ -51,22 +59,24 @@ fn placed(byte: u8, i: usize) -> u128
     u128::from(byte) << (8 * i)
 }
 
-/// The number of the next `count` bytes of an iterator, the lowest first, and None where it ends before. `count` is at most
-/// 16, and no byte past those is taken. `iter` has to be one that ends.
-pub fn number_from_iter<I: Iterator<Item = u8>>(mut iter: I, count: usize) -> Option<u128>
-    requires can { I.can_next iter }
-    requires finite { IsFinite (I.remaining iter) }
-    requires few { count ≤ 16 }
-    ensures { (bytes : List ℕ) × TakesBytes I.next_gives iter count bytes × (IsNone result ↔ (length bytes < count)) × IfSome result (λ n. (n ≡ number_of_bytes bytes) × (n < 2 ^ (8 * count))) }
+/// Byte `i` of an integer of at most 16 bytes, counted from the lowest.
+#[inline]
+pub(crate) fn read_byte<U: Unsigned>(word: U, i: usize) -> u8
+    requires { i < 16 }
+    ensures { result ≡ chunk 8 i (U.number word) }
 {
-    let mut number: u128 = 0;
-    for i in 0..count {
-        match iter.next() {
-            Some(byte) => number += placed(byte, i),
-            None => return None,
-        }
-    }
-    Some(number)
+    byte_of(word.to_u128(), i)
+}
+
+/// The integer with `byte` as its byte `i`, where byte `i` and those above are 0.
+#[inline]
+pub(crate) fn put_byte<U: Unsigned>(word: U, i: usize, byte: u8) -> U
+    requires short { U.bits ≤ 128 }
+    requires within { 8 * i + 8 ≤ U.bits }
+    requires above { U.number word < 2 ^ (8 * i) }
+    ensures { U.number result ≡ byte * 2 ^ (8 * i) + U.number word }
+{
+    U::of_u128(placed(byte, i) + word.to_u128())
 }
 
 impl LittleEndian for u8 {
@@ -83,9 +93,15 @@ impl LittleEndian for u8 {
         self.to_le_bytes()
     }
 
-    ghost size_law = { refl };
+    fn byte(self, i: usize) -> u8 {
+        read_byte(self, i)
+    }
 
-    ghost short_law = { lit< tt };
+    fn with_byte(self, i: usize, byte: u8) -> u8 {
+        put_byte(self, i, byte)
+    }
+
+    ghost size_law = { refl };
 
     ghost wide_law = { lit< tt };
 }
@@ -104,9 +120,15 @@ impl LittleEndian for u16 {
         self.to_le_bytes()
     }
 
-    ghost size_law = { refl };
+    fn byte(self, i: usize) -> u8 {
+        read_byte(self, i)
+    }
 
-    ghost short_law = { lit< tt };
+    fn with_byte(self, i: usize, byte: u8) -> u16 {
+        put_byte(self, i, byte)
+    }
+
+    ghost size_law = { refl };
 
     ghost wide_law = { lit< tt };
 }
@@ -125,9 +147,15 @@ impl LittleEndian for u32 {
         self.to_le_bytes()
     }
 
-    ghost size_law = { refl };
+    fn byte(self, i: usize) -> u8 {
+        read_byte(self, i)
+    }
 
-    ghost short_law = { lit< tt };
+    fn with_byte(self, i: usize, byte: u8) -> u32 {
+        put_byte(self, i, byte)
+    }
+
+    ghost size_law = { refl };
 
     ghost wide_law = { lit< tt };
 }
@@ -146,9 +174,15 @@ impl LittleEndian for u64 {
         self.to_le_bytes()
     }
 
-    ghost size_law = { refl };
+    fn byte(self, i: usize) -> u8 {
+        read_byte(self, i)
+    }
 
-    ghost short_law = { lit< tt };
+    fn with_byte(self, i: usize, byte: u8) -> u64 {
+        put_byte(self, i, byte)
+    }
+
+    ghost size_law = { refl };
 
     ghost wide_law = { lit< tt };
 }
@@ -167,9 +201,15 @@ impl LittleEndian for u128 {
         self.to_le_bytes()
     }
 
-    ghost size_law = { refl };
+    fn byte(self, i: usize) -> u8 {
+        read_byte(self, i)
+    }
 
-    ghost short_law = { lit< tt };
+    fn with_byte(self, i: usize, byte: u8) -> u128 {
+        put_byte(self, i, byte)
+    }
+
+    ghost size_law = { refl };
 
     ghost wide_law = { lit< tt };
 }

@@ -1,6 +1,5 @@
 // Elements as bytes.
-ghost use Rattle.std.specs.Prelude.{◌≡◌, ◌<◌, ◌*◌, ◌%◌, ◌^◌, ◌↔◌, ℕ, List, length, IsNone, IfSome};
-ghost use Rattle.std.specs.Iterator.{IsFinite};
+ghost use Rattle.std.specs.Prelude.{◌≡◌, ◌<◌, ◌≤◌, ◌*◌, ◌%◌, ◌^◌, ◌↔◌, ℕ, List, length, IsNone, IfSome};
 ghost use Rattle.bf_base.specs.Chunks.{chunk};
 ghost use Rattle.bf_bytes.specs.Bytes.{low_bytes, number_of_bytes, TakesBytes};
 
@@ -29,11 +28,13 @@ pub trait RawDataSerializable: Represented {
         ensures { result ≡ chunk 8 i (Self.repr self) };
 
     /// The element of the next `NUM_BYTES` bytes of an iterator, the lowest first, and None where it ends before. Bits above
-    /// the element are dropped, and no byte past those is taken. `iter` has to be one that ends.
+    /// the element are dropped, and no byte past those is taken, so that `iter` need not end.
     fn from_le_byte_iter<I: Iterator<Item = u8>>(iter: I) -> Option<Self>
-        requires can { I.can_next iter }
-        requires finite { IsFinite (I.remaining iter) }
+        requires { I.can_next iter }
         ensures { (bytes : List ℕ) × TakesBytes I.next_gives iter NUM_BYTES bytes × (IsNone result ↔ (length bytes < NUM_BYTES)) × IfSome result (λ x. Self.repr x ≡ number_of_bytes bytes % 2 ^ Self.width) };
 
     ghost bytes_law: { 0 < NUM_BYTES };
+
+    // The bytes hold each bit of an element.
+    ghost room_law: { Self.width ≤ 8 * NUM_BYTES };
 }

@@ -2,7 +2,9 @@
 use bf_base::Gf2;
 use bf_base::traits::TowerLevel;
 use bf_bytes::{RawDataSerializable, into_byte_stream};
-use bf_element::{BinaryField2, BinaryField16, BinaryField32, BinaryField128, Ghash128};
+use bf_element::{
+    BinaryField2, BinaryField16, BinaryField32, BinaryField128, Ghash128, Poly64, Poly192,
+};
 
 // The representation of the element of the bytes, and a number past every representation where they are too few.
 fn read_32(bytes: &[u8]) -> u64 {
@@ -33,9 +35,22 @@ fn bytes_of_128() -> bool {
         && BinaryField128::from_repr(1).byte(0) == 1
 }
 
+// Coefficient 0 first, each from its lowest byte on.
+fn bytes_of_192() -> bool {
+    Poly192::new([
+        Poly64::new(0x0706_0504_0302_0100),
+        Poly64::new(0x0f0e_0d0c_0b0a_0908),
+        Poly64::new(0x1716_1514_1312_1110),
+    ])
+    .into_bytes()
+        == [
+            0, 1, 2, 3, 4, 5, 6, 7, 8, 9, 10, 11, 12, 13, 14, 15, 16, 17, 18, 19, 20, 21, 22, 23,
+        ]
+}
+
 #[test]
 fn elements_as_bytes(rt: HostRuntime) {
-    assert!(rt; bytes_of_16() && bytes_of_gf2() && bytes_of_128());
+    assert!(rt; bytes_of_16() && bytes_of_gf2() && bytes_of_128() && bytes_of_192());
 }
 
 #[test]

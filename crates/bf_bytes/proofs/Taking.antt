@@ -1,12 +1,14 @@
 -- Bytes that are read one after the other.
-use Rattle.std.proofs.Common.{◌≡◌, ℕ, suc, ◌+◌, ◌*◌, ◌%◌, ◌^◌, ◌<◌, refl, sym, ◌∙◌, ap, arith, List, [], ◌∷◌, ◌++◌, length, Option, Some, subst}
-use Rattle.std.proofs.Math.Nat.{lt_of_lt_of_le}
+use Rattle.std.proofs.Common.{◌≡◌, ℕ, zero, suc, ◌+◌, ◌*◌, ◌%◌, ◌^◌, ◌<◌, ◌≤◌, refl, sym, ◌∙◌, ap, ap₂, arith, List, [], ◌∷◌, ◌++◌, length, Option, Some, subst}
 use Rattle.std.proofs.Math.Pow.{pow_mono}
-use Rattle.std.proofs.lemmas.Nat.{pow-add, pow_pos}
+use Rattle.std.proofs.Math.Nat.{lt_of_lt_of_le}
+use Rattle.std.proofs.lemmas.Nat.{mod-pow-add, pow-add, pow_pos}
 use Rattle.std.proofs.lemmas.List.{length-append}
 use native.Mathlib.Nat.{mod-eq_of_lt, mul-suc, mul_assoc, mul_comm}
+use native.Mathlib.Numerals.{add-one}
 use Rattle.std.specs.Iterator.{Yields}
-use Rattle.bf_bytes.specs.Bytes.{number_of_bytes}
+use Rattle.bf_base.specs.Chunks.{chunk, chunks}
+use Rattle.bf_bytes.specs.Bytes.{low_bytes, number_of_bytes}
 use Rattle.bf_space.proofs.Spaces.{more-lt}
 
 pub yields_more : {S A : Type 0} (next_gives : S → Option A → S → Type 0) (s : S) (xs : List A) (t u : S) (x : A)
@@ -36,9 +38,15 @@ pub record Reading {S : Type 0} (next_gives : S → Option ℕ → S → Type 0)
   pub is : number_of_bytes taken ≡ number
 
 module _ {S : Type 0} (next_gives : S → Option ℕ → S → Type 0) (start : S) where
-  pub nothing_read : Reading next_gives start 0 0 start
+  pub nothing_read : (number : ℕ) → number ≡ 0 → Reading next_gives start 0 number start
   unfolding number_of_bytes
-  nothing_read = record { below = pow_pos 0; taken = []; yields = refl; long = refl; is = refl }
+  nothing_read number none = record {
+    below = subst (λ (n : ℕ). n < 2 ^ (8 * 0)) (sym none) (pow_pos 0);
+    taken = [];
+    yields = refl;
+    long = refl;
+    is = sym none;
+  }
 
   pub byte_read : (i number more b : ℕ) (now next : S) → Reading next_gives start i number now → next_gives now (Some b) next → b < 2 ^ 8
       → more ≡ b * 2 ^ (8 * i) + number → Reading next_gives start (i + 1) more next
@@ -51,15 +59,27 @@ module _ {S : Type 0} (next_gives : S → Option ℕ → S → Type 0) (start : 
         ∙ ap (λ (n : ℕ). b * 2 ^ (8 * i) + n) begun.is ∙ sym is;
   }
 
--- one byte more fits a number of 16 bytes, and is put there whole
-pub byte_placed : (i b : ℕ) → i < 16 → b < 2 ^ 8 → b * 2 ^ (8 * i) % 2 ^ 128 ≡ b * 2 ^ (8 * i)
-byte_placed i b few fits =
-    mod-eq_of_lt (lt_of_lt_of_le (more-lt 8 i (b * 2 ^ (8 * i)) b 0 (pow_pos (8 * i)) fits (omega arith)) (pow_mono {j = 128} (omega (arith, few))))
+-- ---- the bytes of a number, read again
 
-pub sum-fits : (i b number : ℕ) → i < 16 → b < 2 ^ 8 → number < 2 ^ (8 * i) → b * 2 ^ (8 * i) + number < 2 ^ 128
-sum-fits i b number few fits below =
-    lt_of_lt_of_le (more-lt 8 i (b * 2 ^ (8 * i) + number) b number below fits refl) (pow_mono {j = 128} (omega (arith, few)))
+pub length-chunks : (width n a : ℕ) → length (chunks width n a) ≡ n
+unfolding chunks
+length-chunks width zero a = refl
+length-chunks width (suc n) a = length-append (chunks width n a) (chunk width n a ∷ []) ∙ ap (λ (k : ℕ). k + 1) (length-chunks width n a) ∙ add-one n
 
--- a number that fits the word is that of the word
-pub number_kept : (number bits count : ℕ) → number < 2 ^ (8 * count) → bits ≡ 8 * count → number % 2 ^ bits ≡ number
-number_kept number bits count fits is = mod-eq_of_lt (subst (λ k. number < 2 ^ k) (sym is) fits)
+pub read_again : (count a : ℕ) → number_of_bytes (low_bytes count a) ≡ a % 2 ^ (8 * count)
+unfolding chunks number_of_bytes
+read_again zero a = sym (mod-one a)
+  where
+    mod-one : (n : ℕ) → n % 1 ≡ 0
+    mod-one n = omega arith
+read_again (suc count) a =
+    let bits : 8 * suc count ≡ 8 + 8 * count = omega arith in
+    number-more (low_bytes count a) (chunk 8 count a)
+    ∙ ap₂ (λ (k n : ℕ). chunk 8 count a * 2 ^ (8 * k) + n) (length-chunks 8 count a) (read_again count a)
+    ∙ sym (ap (λ (k : ℕ). a % 2 ^ k) bits ∙ mod-pow-add a 8 (8 * count))
+
+-- so that the bytes of an element give it back
+pub given_back : (count width a : ℕ) → a < 2 ^ width → width ≤ 8 * count → number_of_bytes (low_bytes count a) % 2 ^ width ≡ a
+given_back count width a fits room =
+    ap (λ (n : ℕ). n % 2 ^ width) (read_again count a ∙ mod-eq_of_lt (lt_of_lt_of_le fits (pow_mono {i = width} {j = 8 * count} room)))
+    ∙ mod-eq_of_lt fits
