@@ -1,4 +1,5 @@
 pub mod Placing
 pub mod Taking
-pub mod Words
+pub mod WordBytes
 pub mod Streaming
+pub mod Wording

@@ -1,12 +1,17 @@
 -- The bytes that a stream has still to give, after one more.
-use Rattle.std.proofs.Common.{◌≡◌, ℕ, zero, suc, ◌+◌, ◌<◌, ◌≤◌, ◌⊎◌, inl, inr, sym, ◌∙◌, ap, arith, List, [], ◌∷◌, ◌++◌, length, drop, get_or}
+use Rattle.std.proofs.Common.{◌≡◌, ℕ, zero, suc, ◌+◌, ◌*◌, ◌<◌, ◌≤◌, ◌⊎◌, inl, inr, sym, ◌∙◌, ap, arith, List, [], ◌∷◌, ◌++◌, length, drop, subst, Option, Some, None}
+use Rattle.std.specs.Iterator.{Drains, Yields}
 use Rattle.std.proofs.Math.ListN.{drop_of_length-le}
-use Rattle.std.proofs.lemmas.List.{drop-append-le, drop_more, length-append}
+use Rattle.std.proofs.lemmas.List.{append-nil, append_assoc, drop-append-le, length-append}
 use Rattle.std.proofs.lemmas.Bool.{cases_lt}
 use Rattle.bf_base.specs.Chunks.{chunk, chunks}
 use Rattle.bf_bytes.specs.Bytes.{low_bytes}
-use Rattle.bf_bytes.specs.Streams.{joined_bytes}
-use Rattle.bf_bytes.proofs.Taking.{length-chunks}
+use Rattle.std.proofs.lemmas.Grind.{flat_map-append}
+use Rattle.bf_bytes.specs.declared.streams.ByteStream.{ByteStream}
+use Rattle.bf_bytes.specs.Streams.{GivesByte, IsWithin, bytes_pending, joined_bytes}
+use Rattle.std.proofs.lemmas.Nat.{mul-le}
+use native.Mathlib.Nat.{suc-mul}
+use Rattle.bf_bytes.proofs.Taking.{length-chunks, yields_append}
 
 -- what is left of a list from an index on is longer by one than from the next
 drop-chunks : (width n i a : ℕ) → i < n → drop i (chunks width n a) ≡ chunk width i a ∷ drop (i + 1) (chunks width n a)
@@ -33,44 +38,79 @@ drop-chunks width (suc n) i a within = by_place (drop-chunks width n i a) (cases
         (sym (drop_of_length-le (chunks width n a ++ chunk width n a ∷ [])
         (omega (arith, is, long, length-append (chunks width n a) (chunk width n a ∷ [])))))
 
-module _ {E : Type 0} (size : ℕ) (repr : E → ℕ) (xs : List E) (place : ℕ) (x : E) (within : place < length xs) (is : x ≡ get_or xs place x) where
-  first : joined_bytes size repr (drop place xs) ≡ low_bytes size (repr x) ++ joined_bytes size repr (drop (place + 1) xs)
-  first = ap (joined_bytes size repr) (drop_more xs place x within ∙ ap (λ y. y ∷ drop (place + 1) xs) (sym is))
+-- a byte of an element, and its last one
+pub byte_given : (size given a b : ℕ) → given < size → b ≡ chunk 8 given a → drop given (low_bytes size a) ≡ b ∷ drop (given + 1) (low_bytes size a)
+byte_given size given a b within is =
+    drop-chunks 8 size given a within ∙ ap (λ (x : ℕ). x ∷ drop (given + 1) (low_bytes size a)) (sym is)
 
-  given_first : (given : ℕ) → given < size
-      → drop given (joined_bytes size repr (drop place xs))
-      ≡ chunk 8 given (repr x) ∷ (drop (given + 1) (low_bytes size (repr x)) ++ joined_bytes size repr (drop (place + 1) xs))
-  given_first given fits =
-      let long = length-chunks 8 size (repr x) in
-      ap (drop given) first
-      ∙ drop-append-le given (low_bytes size (repr x)) (joined_bytes size repr (drop (place + 1) xs)) (omega (arith, fits, long))
-      ∙ ap (λ ys. ys ++ joined_bytes size repr (drop (place + 1) xs)) (drop-chunks 8 size given (repr x) fits)
+pub last_byte_given : (size given a b : ℕ) → given + 1 ≡ size → b ≡ chunk 8 given a → drop given (low_bytes size a) ≡ b ∷ []
+last_byte_given size given a b last is =
+    byte_given size given a b (omega (arith, last)) is
+    ∙ ap (λ ys. b ∷ ys) (drop_of_length-le (low_bytes size a) (omega (arith, last, length-chunks 8 size a)))
 
-  -- a byte within an element
-  pub byte_given : (given : ℕ) → given + 1 < size
-      → drop given (joined_bytes size repr (drop place xs)) ≡ chunk 8 given (repr x) ∷ drop (given + 1) (joined_bytes size repr (drop place xs))
-  byte_given given fits =
-      let long = length-chunks 8 size (repr x) in
-      given_first given (omega (arith, fits))
-      ∙ ap (λ ys. chunk 8 given (repr x) ∷ ys)
-      (sym (ap (drop (given + 1)) first
-      ∙ drop-append-le (given + 1) (low_bytes size (repr x)) (joined_bytes size repr (drop (place + 1) xs)) (omega (arith, fits, long))))
+module _ {S E : Type 0} (next_gives : S → Option E → S → Type 0) (size : ℕ) (repr : E → ℕ) where
+  pub nothing_pending : (pending : Option E) (given : ℕ) → pending ≡ None → bytes_pending size repr pending given ≡ []
+  nothing_pending pending given is = ap (λ p. bytes_pending size repr p given) is
 
-  -- and the last of an element
-  pub last_byte_given : (given : ℕ) → given + 1 ≡ size
-      → drop given (joined_bytes size repr (drop place xs)) ≡ chunk 8 given (repr x) ∷ joined_bytes size repr (drop (place + 1) xs)
-  last_byte_given given fits =
-      let long = length-chunks 8 size (repr x) in
-      given_first given (omega (arith, fits))
-      ∙ ap (λ ys. chunk 8 given (repr x) ∷ (ys ++ joined_bytes size repr (drop (place + 1) xs)))
-      (drop_of_length-le (low_bytes size (repr x)) (omega (arith, fits, long)))
+  -- where no byte is pending, those of the next element are
+  pub element_taken : (elements next now : S) (pending new : Option E) (given place : ℕ) (x : E) (b : ℕ) → pending ≡ None → IsWithin size pending given
+      → next_gives elements (Some x) next → now ≡ next → bytes_pending size repr (Some x) given ≡ b ∷ bytes_pending size repr new place
+      → (taken : List E) × Yields next_gives elements taken now
+      × (bytes_pending size repr pending given ++ joined_bytes size repr taken ≡ b ∷ bytes_pending size repr new place)
+  element_taken elements next now pending new given place x b none within step same left =
+      let start : given ≡ 0 = subst (λ p. IsWithin size p given) none within in (
+        x ∷ [],
+        (next, step, sym same),
+        ap (λ ys. ys ++ joined_bytes size repr (x ∷ [])) (nothing_pending pending given none) ∙ append-nil (low_bytes size (repr x))
+            ∙ ap (λ (k : ℕ). drop k (low_bytes size (repr x))) (sym start) ∙ left,
+      )
 
--- past the last element nothing is left
-pub none_left : {E : Type 0} (size : ℕ) (repr : E → ℕ) (xs : List E) (place given : ℕ) → length xs ≤ place
-    → drop given (joined_bytes size repr (drop place xs)) ≡ []
-none_left size repr xs place given past =
-    ap (λ ys. drop given (joined_bytes size repr ys)) (drop_of_length-le xs past) ∙ drop_of_length-le [] (omega arith)
+  -- of which there are as many as an element has
+  pub fewer_left : (more fewer given place : ℕ) (pending new : Option E) (x : E) (b : ℕ) → fewer < more → IsWithin size pending given → pending ≡ None
+      → bytes_pending size repr (Some x) given ≡ b ∷ bytes_pending size repr new place
+      → fewer * size + length (bytes_pending size repr new place) < more * size + length (bytes_pending size repr pending given)
+  fewer_left more fewer given place pending new x b less within none left =
+      let start : given ≡ 0 = subst (λ p. IsWithin size p given) none within in
+      let long : suc (length (bytes_pending size repr new place)) ≡ size =
+      ap length (sym left) ∙ ap (λ (k : ℕ). length (drop k (low_bytes size (repr x)))) start ∙ length-chunks 8 size (repr x) in
+      let bound : suc fewer * size ≤ more * size = mul-le (suc fewer) size more size less (omega arith) in
+      let whole : suc fewer * size ≡ fewer * size + size = suc-mul fewer size in
+      omega (arith, long, bound, whole)
 
--- the byte that is given is the first that was left
-pub shown : (a b : ℕ) (left rest : List ℕ) → left ≡ a ∷ rest → b ≡ a → left ≡ b ∷ rest
-shown a b left rest begins is = begins ∙ ap (λ (x : ℕ). x ∷ rest) (sym is)
+  -- ---- all that a stream gives
+
+  joined-append : (xs ys : List E) → joined_bytes size repr (xs ++ ys) ≡ joined_bytes size repr xs ++ joined_bytes size repr ys
+  joined-append xs ys = flat_map-append (λ x. low_bytes size (repr x)) xs ys
+
+  run_gives : (s : ByteStream S E) (bytes : List ℕ) (t : ByteStream S E) → Yields (GivesByte next_gives size repr) s bytes t
+      → (taken : List E) × Yields next_gives s.elements taken t.elements
+      × (bytes_pending size repr s.pending s.given ++ joined_bytes size repr taken ≡ bytes ++ bytes_pending size repr t.pending t.given)
+  run_gives s [] t same = (
+    [],
+    ap (λ (x : ByteStream S E). x.elements) same,
+    append-nil (bytes_pending size repr s.pending s.given) ∙ ap (λ (x : ByteStream S E). bytes_pending size repr x.pending x.given) same,
+  )
+  run_gives s (b ∷ bytes) t run =
+      let j = run.0 in
+      let step = run.1 in
+      let others = run_gives j bytes t run.2 in (
+        step.0 ++ others.0,
+        yields_append next_gives step.0 others.0 s.elements j.elements t.elements step.1 others.1,
+        ap (λ ys. bytes_pending size repr s.pending s.given ++ ys) (joined-append step.0 others.0)
+            ∙ sym (append_assoc (bytes_pending size repr s.pending s.given) (joined_bytes size repr step.0) (joined_bytes size repr others.0))
+            ∙ ap (λ ys. ys ++ joined_bytes size repr others.0) step.2 ∙ ap (λ ys. b ∷ ys) others.2,
+      )
+
+  -- a stream that begins gives the bytes of all elements of its source
+  pub stream_gives : (s : ByteStream S E) (source : S) (bytes : List ℕ) → s.elements ≡ source → bytes_pending size repr s.pending s.given ≡ []
+      → Drains (GivesByte next_gives size repr) s bytes
+      → (elements : List E) × Drains next_gives source elements × (bytes ≡ joined_bytes size repr elements)
+  stream_gives s source bytes same begins run =
+      let u = run.0 in
+      let t = run.1.0 in
+      let end = run.1.2 in
+      let given = run_gives s bytes t run.1.1 in (
+        given.0,
+        (u.elements, (t.elements, subst (λ x. Yields next_gives x given.0 t.elements) same given.1, end.2)),
+        sym (append-nil bytes) ∙ ap (λ ys. bytes ++ ys) (sym end.0) ∙ sym given.2 ∙ ap (λ ys. ys ++ joined_bytes size repr given.0) begins,
+      )

@@ -16,6 +16,12 @@ pub yields_more : {S A : Type 0} (next_gives : S → Option A → S → Type 0) 
 yields_more next_gives s [] t u x same step = (u, subst (λ p. next_gives p (Some x) u) (sym same) step, refl)
 yields_more next_gives s (y ∷ ys) t u x begun step = (begun.0, begun.1, yields_more next_gives begun.0 ys t u x begun.2 step)
 
+pub yields_append : {S A : Type 0} (next_gives : S → Option A → S → Type 0) (xs ys : List A) (s t u : S)
+    → Yields next_gives s xs t → Yields next_gives t ys u → Yields next_gives s (xs ++ ys) u
+yields_append next_gives [] ys s t u same others = subst (λ p. Yields next_gives p ys u) (sym same) others
+yields_append next_gives (x ∷ xs) ys s t u begun others =
+    (begun.0, begun.1, yields_append next_gives xs ys begun.0 t u begun.2 others)
+
 -- one byte more, above the others
 pub number-more : (bs : List ℕ) (b : ℕ) → number_of_bytes (bs ++ b ∷ []) ≡ b * 2 ^ (8 * length bs) + number_of_bytes bs
 unfolding number_of_bytes
@@ -83,3 +89,8 @@ pub given_back : (count width a : ℕ) → a < 2 ^ width → width ≤ 8 * count
 given_back count width a fits room =
     ap (λ (n : ℕ). n % 2 ^ width) (read_again count a ∙ mod-eq_of_lt (lt_of_lt_of_le fits (pow_mono {i = width} {j = 8 * count} room)))
     ∙ mod-eq_of_lt fits
+
+pub same_again : (count width a b : ℕ) (bytes : List ℕ) → a < 2 ^ width → width ≤ 8 * count → b ≡ number_of_bytes bytes % 2 ^ width
+    → bytes ≡ low_bytes count a → b ≡ a
+same_again count width a b bytes fits room is same =
+    is ∙ ap (λ ys. number_of_bytes ys % 2 ^ width) same ∙ given_back count width a fits room

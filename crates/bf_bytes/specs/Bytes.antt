@@ -1,7 +1,8 @@
 -- Numbers as bytes, in positional notation, the lowest byte first.
 use Rattle.std.specs.Prelude.{◌≡◌, ℕ, ◌*◌, ◌+◌, ◌<◌, ◌⊎◌, List, [], ◌∷◌, length}
 use Rattle.std.specs.declared.option.Option.{Option}
-use Rattle.std.specs.Iterator.{Drains, Yields}
+use Rattle.std.specs.declared.option.Option.TheVariants.{None}
+use Rattle.std.specs.Iterator.{Yields, YieldsThen}
 use Rattle.bf_base.specs.Chunks.{chunks}
 
 -- the lowest bytes of a number, as many as `count`, the lowest first: bits 8 i to 8 i + 7 are byte i
@@ -13,7 +14,11 @@ unfoldable pub number_of_bytes : List ℕ → ℕ
 number_of_bytes [] = 0
 number_of_bytes (b ∷ bs) = b + 256 * number_of_bytes bs
 
--- what a call takes of an iterator that takes n bytes: all its bytes, where they are fewer, or the first n
+-- a call took bytes of an iterator, which it left at `rest`: all of them up to its end, where they are fewer than n, or n
+abbrev pub TakesUpTo : {S : Type 0} → (S → Option ℕ → S → Type 0) → S → ℕ → List ℕ → S → Type 0
+TakesUpTo next_gives iter n bytes rest =
+    (YieldsThen next_gives iter bytes None rest × (length bytes < n)) ⊎ (Yields next_gives iter bytes rest × (length bytes ≡ n))
+
+-- the same, wherever it left the iterator
 abbrev pub TakesBytes : {S : Type 0} → (S → Option ℕ → S → Type 0) → S → ℕ → List ℕ → Type 0
-TakesBytes {S} next_gives iter n bytes =
-    (Drains next_gives iter bytes × (length bytes < n)) ⊎ ((rest : S) × Yields next_gives iter bytes rest × (length bytes ≡ n))
+TakesBytes {S} next_gives iter n bytes = (rest : S) × TakesUpTo next_gives iter n bytes rest

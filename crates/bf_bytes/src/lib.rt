@@ -7,8 +7,12 @@ mod reading;
 mod serializable;
 mod streams;
 mod triple;
+mod words;
 
 pub use crate::little_endian::LittleEndian;
 pub use crate::reading::word_from_iter;
 pub use crate::serializable::RawDataSerializable;
 pub use crate::streams::{ByteStream, into_byte_stream};
+pub use crate::words::{
+    U32Stream, U64Stream, WordStream, into_u32_stream, into_u64_stream, into_word_stream,
+};

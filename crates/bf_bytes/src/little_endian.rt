@@ -88,7 +88,7 @@ impl LittleEndian for u8 {
 
     ghost listed = { λ bytes. bytes };
 
-    #[tactic(auto, using(crate::proofs::Words::one_byte))]
+    #[tactic(auto, using(crate::proofs::WordBytes::one_byte))]
     fn to_bytes(self) -> [u8; 1] {
         self.to_le_bytes()
     }
@@ -115,7 +115,7 @@ impl LittleEndian for u16 {
 
     ghost listed = { λ bytes. bytes };
 
-    #[tactic(auto, using(crate::proofs::Words::two_bytes))]
+    #[tactic(auto, using(crate::proofs::WordBytes::two_bytes))]
     fn to_bytes(self) -> [u8; 2] {
         self.to_le_bytes()
     }
@@ -142,7 +142,7 @@ impl LittleEndian for u32 {
 
     ghost listed = { λ bytes. bytes };
 
-    #[tactic(auto, using(crate::proofs::Words::four_bytes))]
+    #[tactic(auto, using(crate::proofs::WordBytes::four_bytes))]
     fn to_bytes(self) -> [u8; 4] {
         self.to_le_bytes()
     }
@@ -169,7 +169,7 @@ impl LittleEndian for u64 {
 
     ghost listed = { λ bytes. bytes };
 
-    #[tactic(auto, using(crate::proofs::Words::eight_bytes))]
+    #[tactic(auto, using(crate::proofs::WordBytes::eight_bytes))]
     fn to_bytes(self) -> [u8; 8] {
         self.to_le_bytes()
     }
@@ -196,7 +196,7 @@ impl LittleEndian for u128 {
 
     ghost listed = { λ bytes. bytes };
 
-    #[tactic(auto, using(crate::proofs::Words::sixteen_bytes))]
+    #[tactic(auto, using(crate::proofs::WordBytes::sixteen_bytes))]
     fn to_bytes(self) -> [u8; 16] {
         self.to_le_bytes()
     }

@@ -28,10 +28,10 @@ pub trait RawDataSerializable: Represented {
         ensures { result ≡ chunk 8 i (Self.repr self) };
 
     /// The element of the next `NUM_BYTES` bytes of an iterator, the lowest first, and None where it ends before. Bits above
-    /// the element are dropped, and no byte past those is taken, so that `iter` need not end.
+    /// the element are dropped. The bytes of an element give it back. No byte past those is taken, so that `iter` need not end.
     fn from_le_byte_iter<I: Iterator<Item = u8>>(iter: I) -> Option<Self>
         requires { I.can_next iter }
-        ensures { (bytes : List ℕ) × TakesBytes I.next_gives iter NUM_BYTES bytes × (IsNone result ↔ (length bytes < NUM_BYTES)) × IfSome result (λ x. Self.repr x ≡ number_of_bytes bytes % 2 ^ Self.width) };
+        ensures { (bytes : List ℕ) × TakesBytes I.next_gives iter NUM_BYTES bytes × (IsNone result ↔ (length bytes < NUM_BYTES)) × IfSome result (λ y. (Self.repr y ≡ number_of_bytes bytes % 2 ^ Self.width) × ((x : Self) → bytes ≡ low_bytes NUM_BYTES (Self.repr x) → y ≡ x)) };
 
     ghost bytes_law: { 0 < NUM_BYTES };
 

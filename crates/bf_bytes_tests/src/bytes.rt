@@ -1,7 +1,7 @@
 // Elements as bytes and back.
 use bf_base::Gf2;
 use bf_base::traits::TowerLevel;
-use bf_bytes::{RawDataSerializable, into_byte_stream};
+use bf_bytes::RawDataSerializable;
 use bf_element::{
     BinaryField2, BinaryField16, BinaryField32, BinaryField128, Ghash128, Poly64, Poly192,
 };
@@ -59,25 +59,4 @@ fn elements_of_bytes(rt: HostRuntime) {
     assert!(rt;
         read_32(&[1, 2, 3, 4, 5]) == 0x0403_0201 && read_2(&[0xff]) == 3 && read_2(&[]) == 1 << 40
     );
-}
-
-fn stream_is(elements: &[BinaryField16], want: &[u8]) -> bool {
-    let mut place = 0;
-    for byte in into_byte_stream(elements) {
-        if place >= want.len() || byte != want[place] {
-            return false;
-        }
-        place += 1;
-    }
-    place == want.len()
-}
-
-#[test]
-fn streams_of_bytes(rt: HostRuntime) {
-    let elements = [
-        BinaryField16::from_repr(0x0102),
-        BinaryField16::from_repr(0x0304),
-        BinaryField16::from_repr(0x0506),
-    ];
-    assert!(rt; stream_is(&elements, &[2, 1, 4, 3, 6, 5]) && stream_is(&[], &[]));
 }

@@ -4,3 +4,5 @@
 
 #[cfg(test)]
 mod bytes;
+#[cfg(test)]
+mod streams;

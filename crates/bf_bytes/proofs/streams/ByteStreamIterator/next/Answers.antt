@@ -1,27 +1,37 @@
-use Rattle.std.proofs.Common.{◌<◌, ◌+◌, ◌∙◌, ap, sym, length, arith}
-use Rattle.bf_base.specs.Chunks.{chunk}
-use Rattle.bf_bytes.proofs.Streaming.{byte_given, last_byte_given, shown}
+use Rattle.std.proofs.Common.{◌<◌, subst, sym}
+use Rattle.std.specs.Iterator.{IsFinite, size}
+use Rattle.bf_bytes.proofs.Streaming.{element_taken, fewer_left, nothing_pending}
 use Rattle.bf_bytes.proofs.streams.ByteStreamIterator.next.Goals as goal
 
-pub returns-then-self-size-clause-steps : goal.returns-then-self-size-clause-steps
-returns-then-self-size-clause-steps g c =
-    shown _ _ _ _ (last_byte_given g.E.RawDataSerializable.NUM_BYTES g.E.Represented.repr c.args.self.now.elements.now c.args.self.now.place c.index-self-self.result
-    (omega (arith, c.if-self.false)) c.index-self-self.is c.args.self.now.given (omega (arith, c.if-self-size.true, c.NUM_BYTES-size.ensures)))
-    (c.byte-byte.ensures ∙ ap (λ y. chunk 8 c.args.self.now.given (g.E.Represented.repr y)) (sym c.index-self-self.is))
+pub returns-in-Some-next-clause-steps : goal.returns-in-Some-next-clause-steps
+returns-in-Some-next-clause-steps g c =
+    element_taken g.I.Iterator.next_gives g.E.RawDataSerializable.NUM_BYTES g.E.Represented.repr c.args.self.now.elements c.next.new.self
+    c.give-in-Some-next.new.self.elements c.args.self.now.pending c.give-in-Some-next.new.self.pending c.args.self.now.given c.give-in-Some-next.new.self.given
+    c.in-Some-next.element c.give-in-Some-next.result c.in-None.is c.requires.1 c.in-Some-next.ensures.steps c.give-in-Some-next.ensures.source
+    c.give-in-Some-next.ensures.left
 
-pub returns-then-self-size-clause-goes : goal.returns-then-self-size-clause-goes
-returns-then-self-size-clause-goes g c =
-    let less = ap length (returns-then-self-size-clause-steps g c) in
-    record { on = λ finite. (g.met.E.RawDataSerializable.bytes_law, tt, omega (arith, less)); keeps = g.met.E.RawDataSerializable.bytes_law; rests = λ finite. tt }
+pub returns-in-Some-next-clause-goes : goal.returns-in-Some-next-clause-goes
+returns-in-Some-next-clause-goes g c =
+    let step = c.in-Some-next.ensures.goes in
+    let same = sym c.give-in-Some-next.ensures.source in
+    let can = subst g.I.Iterator.can_next same step.keeps in
+    let within = c.give-in-Some-next.ensures.within in
+    record {
+      on = λ finite.
+          let inner = step.on finite in (
+            (can, within),
+            subst (λ s. IsFinite (g.I.Iterator.remaining s)) same inner.1,
+            fewer_left g.I.Iterator.next_gives g.E.RawDataSerializable.NUM_BYTES g.E.Represented.repr (size (g.I.Iterator.remaining c.args.self.now.elements))
+                (size (g.I.Iterator.remaining c.give-in-Some-next.new.self.elements)) c.args.self.now.given c.give-in-Some-next.new.self.given
+                c.args.self.now.pending c.give-in-Some-next.new.self.pending c.in-Some-next.element c.give-in-Some-next.result
+                (subst (λ s. size (g.I.Iterator.remaining s) < size (g.I.Iterator.remaining c.args.self.now.elements)) same inner.2) c.requires.1 c.in-None.is
+                c.give-in-Some-next.ensures.left,
+          );
+      keeps = (can, within);
+      rests = λ finite. tt;
+    }
 
-pub returns-else-self-size-clause-steps : goal.returns-else-self-size-clause-steps
-returns-else-self-size-clause-steps g c =
-    shown _ _ _ _ (byte_given g.E.RawDataSerializable.NUM_BYTES g.E.Represented.repr c.args.self.now.elements.now c.args.self.now.place c.index-self-self.result
-    (omega (arith, c.if-self.false)) c.index-self-self.is c.args.self.now.given (omega (arith, c.if-self-size.false, c.NUM_BYTES-size.ensures, c.requires)))
-    (c.byte-byte.ensures ∙ ap (λ y. chunk 8 c.args.self.now.given (g.E.Represented.repr y)) (sym c.index-self-self.is))
-
-pub returns-else-self-size-clause-goes : goal.returns-else-self-size-clause-goes
-returns-else-self-size-clause-goes g c =
-    let less = ap length (returns-else-self-size-clause-steps g c) in
-    let on : c.args.self.now.given + 1 < g.E.RawDataSerializable.NUM_BYTES = omega (arith, c.if-self-size.false, c.NUM_BYTES-size.ensures, c.requires) in
-    record { on = λ finite. (on, tt, omega (arith, less)); keeps = on; rests = λ finite. tt }
+pub returns-in-None-next-clause-steps : goal.returns-in-None-next-clause-steps
+returns-in-None-next-clause-steps g c =
+    let none = nothing_pending g.I.Iterator.next_gives g.E.RawDataSerializable.NUM_BYTES g.E.Represented.repr c.args.self.now.pending c.args.self.now.given c.in-None.is in
+    (none, none, c.in-None-next.ensures.steps)

@@ -1,0 +1,13 @@
+use Rattle.std.proofs.Common.{refl, subst}
+use Rattle.bf_bytes.specs.Streams.{GivesByte}
+use Rattle.bf_bytes.specs.Words.{AreWords}
+use Rattle.bf_bytes.proofs.Wording.{words_given}
+use Rattle.bf_bytes.proofs.words.into_word_stream.Goals as goal
+
+pub returns-clause-items : goal.returns-clause-items
+returns-clause-items g c =
+    let bytes_of = GivesByte g.I.Iterator.next_gives g.E.RawDataSerializable.NUM_BYTES g.E.Represented.repr in
+    λ words run.
+    let made = words_given bytes_of g.W.LittleEndian.SIZE g.W.Word.number _ c.into_byte_stream.result words g.met.W.LittleEndian.wide_law refl refl run in
+    let joined = c.into_byte_stream.ensures.items made.0 made.1 in
+    (joined.0, joined.1, subst (λ bytes. AreWords g.W.Word.number g.W.LittleEndian.SIZE bytes words) joined.2 made.2)
