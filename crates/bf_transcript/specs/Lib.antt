@@ -1,0 +1,4 @@
+pub mod BigEndian
+pub mod Recorders
+pub mod Seeds
+pub mod Tags
