@@ -1,0 +1,2 @@
+pub mod Challengers
+pub mod Sampled
