@@ -1,6 +1,6 @@
 // Fields whose elements are written in at most 16 bytes.
 ghost use Rattle.std.specs.Prelude.{◌≡◌, ◌≤◌, ◌*◌, ◌%◌, ◌^◌, length, reverse, take, drop, ◌-◌};
-ghost use Rattle.std.proofs.Common.{lit≤, subst};
+ghost use Rattle.std.proofs.Common.{lit≤};
 ghost use Rattle.bf_bytes.specs.Bytes.{low_bytes, number_of_bytes};
 ghost use Rattle.bf_transcript.specs.BigEndian.{be_bytes};
 
@@ -40,8 +40,6 @@ fn number_of_high_first(bytes: &[u8]) -> u128
 pub trait ByteLevel: TowerLevel + RawDataSerializable {
     ghost short_law: { Self.NUM_BYTES ≤ 16 };
 
-    ghost room_law: { Self.width ≤ 8 * Self.NUM_BYTES };
-
     /// The bytes of the representation, the lowest first, and zeros behind them.
     final fn low_first(self) -> [u8; 16]
         ensures { take Self.NUM_BYTES result ≡ low_bytes Self.NUM_BYTES (Self.repr self) }
@@ -74,14 +72,35 @@ pub trait ByteLevel: TowerLevel + RawDataSerializable {
     }
 }
 
-impl<R: LittleEndian, K: LevelKernel<R> + HasPacking<R>> ByteLevel for Element<R, K> {
-    ghost short_law = { R.short_law };
+/// A word of at most 16 bytes, as every integer of Rust is.
+pub trait ShortWord: LittleEndian + Unsigned {
+    ghost short_law: { Self.SIZE ≤ 16 };
+}
 
-    ghost room_law = { subst (λ n. K.width ≤ n) R.size_law K.room_law };
+impl ShortWord for u8 {
+    ghost short_law = { lit≤ tt };
+}
+
+impl ShortWord for u16 {
+    ghost short_law = { lit≤ tt };
+}
+
+impl ShortWord for u32 {
+    ghost short_law = { lit≤ tt };
+}
+
+impl ShortWord for u64 {
+    ghost short_law = { lit≤ tt };
+}
+
+impl ShortWord for u128 {
+    ghost short_law = { lit≤ tt };
+}
+
+impl<R: ShortWord, K: LevelKernel<R> + HasPacking<R>> ByteLevel for Element<R, K> {
+    ghost short_law = { R.short_law };
 }
 
 impl ByteLevel for Gf2 {
     ghost short_law = { lit≤ tt };
-
-    ghost room_law = { lit≤ tt };
 }

@@ -6,14 +6,13 @@ ghost use Rattle.bf_transcript.specs.BigEndian.{be_bytes};
 ghost use Rattle.bf_transcript.specs.Seeds.{AreOfSeed, NeitherBegins, Observes, ObservesPart, seed_bytes};
 ghost use Rattle.bf_transcript.specs.Tags.{tag_of};
 
-use crate::byte_level::{ByteLevel, MOST_BYTES};
+use crate::byte_level::{ByteLevel, MOST_BYTES, ShortWord};
 use crate::error::TranscriptError;
 use crate::observe::CanObserve;
 use crate::seeds::observe_padded;
 use crate::tag::TypeTag;
 use bf_base::LevelKernel;
 use bf_byte_challenger::ChallengerError;
-use bf_bytes::LittleEndian;
 use bf_element::{Element, HasPacking};
 use bf_poly::Poly64Kernel;
 use bf_tower::{Bits8, Bits16, Bits32, Bits64, Bits128, Tower};
@@ -79,7 +78,7 @@ pub trait TranscriptField: ByteLevel {
 }
 
 /// A kernel of a field whose elements go into transcripts.
-pub trait TranscriptKernel<R: LittleEndian>: LevelKernel<R> + HasPacking<R> {
+pub trait TranscriptKernel<R: ShortWord>: LevelKernel<R> + HasPacking<R> {
     /// Whether the field is in a polynomial basis, and no level of the tower.
     const IN_POLYNOMIAL_BASIS: bool;
 
@@ -88,7 +87,7 @@ pub trait TranscriptKernel<R: LittleEndian>: LevelKernel<R> + HasPacking<R> {
     ghost whole_law: { Self.width ≡ R.bits };
 }
 
-impl<R: LittleEndian, K: TranscriptKernel<R>> TranscriptField for Element<R, K> {
+impl<R: ShortWord, K: TranscriptKernel<R>> TranscriptField for Element<R, K> {
     ghost IN_POLYNOMIAL_BASIS = { K.IN_POLYNOMIAL_BASIS };
 
     ghost whole_law = { K.whole_law ∙ R.size_law };

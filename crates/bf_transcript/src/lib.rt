@@ -10,7 +10,7 @@ mod recorder;
 mod seeds;
 mod tag;
 
-pub use crate::byte_level::ByteLevel;
+pub use crate::byte_level::{ByteLevel, ShortWord};
 pub use crate::error::TranscriptError;
 pub use crate::field::{TranscriptField, TranscriptKernel};
 pub use crate::observe::{CanObserve, Transcript};

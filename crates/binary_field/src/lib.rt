@@ -20,18 +20,26 @@ pub use bf_bitslice_words::{M128, M256, M512, Underlier, Word};
 pub use bf_byte_challenger::{
     ByteChallenger, ByteHasher32, ChallengerError, HashChallenger, Sha256Hasher,
 };
-pub use bf_bytes::{ByteStream, RawDataSerializable, into_byte_stream};
+pub use bf_bytes::{
+    ByteStream, RawDataSerializable, U32Stream, U64Stream, into_byte_stream, into_u32_stream,
+    into_u64_stream,
+};
 pub use bf_calc as calc;
+pub use bf_challenger::{
+    BinaryChallenger, CanSampleBits, CanSampleUniformBits, GrindingChallenger,
+};
 pub use bf_divisible::Divisible;
 pub use bf_element::{
     BinaryField2, BinaryField4, BinaryField8, BinaryField16, BinaryField32, BinaryField64,
     BinaryField128, Ghash128, PackedGhash128, PackedRijndael8b, Poly64, Poly192, Rijndael8b,
 };
+pub use bf_integers::{PrimeField, PrimeField32, PrimeField64, QuotientMap};
 pub use bf_packed::{Packed, WiderField};
 pub use bf_packing::{PackedField, PackedFieldPow2, PackedValue};
 pub use bf_poly_basis as poly_basis;
 pub use bf_space::{
     AlgebraIdentity, BasedVectorSpace, BasisCoefficients, ExtensionField, HasFrobenius, HasPowers,
-    PackedFieldExtension, Powers,
+    HasSubfield, PackedFieldExtension, Powers,
 };
+pub use bf_transcript::{CanObserve, Recorder, TranscriptError, TranscriptField, TypeTag};
 pub use bf_transform::over;
