@@ -1,19 +1,20 @@
 -- Three coefficients of 64 bits, as one number and as text.
-use Rattle.std.proofs.Common.{◌≡◌, ℕ, ◌+◌, ◌*◌, ◌/◌, ◌%◌, ◌^◌, ◌<◌, List, [], ◌∷◌, ◌++◌, get_or, map, refl, sym, ◌∙◌, ap, arith}
+use Rattle.std.proofs.Common.{◌≡◌, ℕ, zero, suc, ◌+◌, ◌*◌, ◌/◌, ◌%◌, ◌^◌, ◌<◌, ◌≤◌, List, [], ◌∷◌, ◌++◌, get_or, map, Some, refl, sym, subst, ◌∙◌, ap, arith, lit<}
 use Rattle.std.specs.Prelude.{bit_or}
+use Rattle.std.specs.Option.{option_map}
 use Rattle.std.specs.Int.{bytes_high_first}
 use Rattle.std.proofs.Math.ListN.{get_or-map}
-use Rattle.std.proofs.Math.Nat.{mod-eq_of_lt}
-use Rattle.std.proofs.lemmas.Nat.{or_shifted}
+use Rattle.std.proofs.Math.Nat.{mod-eq_of_lt, pow-suc, pow-le-pow_right}
+use Rattle.std.proofs.lemmas.Nat.{or_shifted, pow-add}
 use Rattle.hex.specs.Hex.{lower_digits, encode_with}
 use Rattle.bf_base.specs.Chunks.{chunk, chunks}
 use Rattle.bf_base.specs.Remainder.{aes_modulus, poly64_modulus, ghash_modulus}
 use Rattle.bf_cubic.specs.Cubic.{triple}
 use Rattle.bf_cubic.proofs.CubicRing.{same₃, chunk_below, chunks-triple, first-triple, second-triple, third-triple, triple-chunks, triple-lt}
 use Rattle.bf_calc.specs.Digits.{low_digits}
-use Rattle.bf_calc.specs.Elements.{CoefficientsStandInOrder, OrderTurnsBack}
-use Rattle.bf_calc.specs.Fields.{FieldOf, lowest_first, tower_level, polynomials_modulo, cubic_extension}
-use Rattle.bf_calc.proofs.DigitLemmas.{encode_with-bytes}
+use Rattle.bf_calc.specs.Elements.{CoefficientsStandInOrder, ElementIsReadBack}
+use Rattle.bf_calc.specs.Fields.{FieldOf, bytes_of, lowest_first, tower_level, polynomials_modulo, cubic_extension, field_named}
+use Rattle.bf_calc.proofs.DigitLemmas.{encode_with-bytes, operand_value-hex_text}
 use Rattle.bf_calc.proofs.NamedFields.{of_named}
 use Rattle.bf_calc.proofs.NumberLemmas.{bytes-joined}
 
@@ -55,7 +56,7 @@ number-written high middle low c0 c1 c2 fits0 fits1 fits2 first second third =
     omega (arith, joined, first, second, third) in
     whole ∙ sym (lowest_first-triple c0 c1 c2 fits0 fits1 fits2)
 
--- ---- the law of the order
+-- ---- elements are read back
 
 abbrev TurnsBack : FieldOf → Type 0
 TurnsBack field = (x : ℕ) → x < 2 ^ field.bits → (field.order x < 2 ^ field.bits) × (field.order (field.order x) ≡ x)
@@ -74,10 +75,25 @@ cubic-back x fits =
           ∙ triple-chunks 64 x ∙ mod-eq_of_lt fits,
     )
 
-pub order-turns_back : OrderTurnsBack
-order-turns_back =
+named-back : (name : List ℕ) (field : FieldOf) → field_named name ≡ Some field → TurnsBack field
+named-back =
     of_named TurnsBack tower-back (polynomials-back 8 aes_modulus) (polynomials-back 64 poly64_modulus)
     (polynomials-back 128 ghash_modulus) cubic-back
+
+bytes-pow : (count : ℕ) → 256 ^ count ≡ 2 ^ (8 * count)
+bytes-pow zero = refl
+bytes-pow (suc count) =
+    let next : 8 * suc count ≡ 8 * count + 8 = omega arith in
+    pow-suc 256 count ∙ ap (λ (n : ℕ). n * 256) (bytes-pow count)
+    ∙ sym (ap (λ (n : ℕ). 2 ^ n) next ∙ pow-add 2 (8 * count) 8)
+
+pub element-read_back : ElementIsReadBack
+element-read_back name field is x fits =
+    let back = named-back name field is x fits in
+    let room : 2 ^ field.bits ≤ 2 ^ (8 * bytes_of field) = pow-le-pow_right {n = 2} (lit< tt) {i = field.bits} {j = 8 * bytes_of field} (omega arith) in
+    let fits_bytes : field.order x < 256 ^ bytes_of field =
+    subst (λ (m : ℕ). field.order x < m) (sym (bytes-pow (bytes_of field))) (omega (arith, back.0, room)) in
+    ap (option_map field.order) (operand_value-hex_text (bytes_of field) (field.order x) fits_bytes) ∙ ap Some back.1
 
 -- ---- the text of coefficients
 

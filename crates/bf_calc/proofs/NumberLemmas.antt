@@ -1,5 +1,5 @@
 -- Numbers as two words, and as bytes.
-use Rattle.std.proofs.Common.{◌≡◌, ◌≢◌, ℕ, zero, suc, ◌+◌, ◌-◌, ◌*◌, ◌/◌, ◌%◌, ◌^◌, ◌<◌, ◌≤◌, nat_eq, nat_lt, false, List, [], ◌∷◌, ◌++◌, length, take, drop, fold, refl, subst, sym, ◌∙◌, ap, ap₂, arith, ⊎_elim, zero-add, lit<}
+use Rattle.std.proofs.Common.{◌≡◌, ◌≢◌, ℕ, zero, suc, ◌+◌, ◌-◌, ◌*◌, ◌/◌, ◌%◌, ◌^◌, ◌<◌, ◌≤◌, nat_eq, nat_lt, List, [], ◌∷◌, ◌++◌, length, take, drop, fold, refl, subst, sym, ◌∙◌, ap, ap₂, arith, ⊎_elim, zero-add, lit<}
 use Rattle.std.specs.Int.{bytes_high_first, byte_at}
 use Rattle.std.proofs.Math.Nat.{one-le-pow, mul_comm, mul_assoc, pow-suc, div-one, div-div-eq-div-mul, div-lt_iff_lt-mul, mul-add-div_right, pow-le-pow_right}
 use Rattle.std.proofs.lemmas.Bool.{cases_lt, lt-ltb, le-ltb, ne_eqb}

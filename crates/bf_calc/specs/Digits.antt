@@ -17,10 +17,10 @@ unfoldable pub low_digits : ℕ → ℕ → List ℕ
 low_digits zero n = []
 low_digits (suc count) n = slice_index lower_digits (n / 16 ^ count % 16) ∷ low_digits count n
 
--- the text of an element, two digits for each of its bytes
+-- the text of a number, two digits for each of so many bytes
 abbrev pub hex_text : ℕ → ℕ → List ℕ
 hex_text bytes n = low_digits (2 * bytes) n
 
--- the text of an element is an operand, and its number is the element
+-- the text of a number is an operand, and its number is that number
 abbrev pub TextIsReadBack : Type 0
 TextIsReadBack = (bytes n : ℕ) → n < 256 ^ bytes → operand_value bytes (hex_text bytes n) ≡ Some n

@@ -1,19 +1,19 @@
 -- Elements of a field as text.
 use Rattle.std.specs.Prelude.{◌≡◌, ℕ, ◌^◌, ◌<◌, List, ◌++◌, Some}
+use Rattle.std.specs.Option.{option_map}
 use Rattle.bf_cubic.specs.Cubic.{triple}
-use Rattle.bf_calc.specs.Digits.{hex_text}
+use Rattle.bf_calc.specs.Digits.{hex_text, operand_value}
 use Rattle.bf_calc.specs.Fields.{FieldOf, bytes_of, cubic_extension, field_named}
 
 -- the text of the element of a number
 abbrev pub element_text : FieldOf → ℕ → List ℕ
 element_text field x = hex_text (bytes_of field) (field.order x)
 
--- in every field that a word names, the number that the text of an element writes is that of the element again after a second
--- change of order, and has no more bits
-abbrev pub OrderTurnsBack : Type 0
-OrderTurnsBack =
+-- in every field that a word names the text of an element is an operand, which writes this element
+abbrev pub ElementIsReadBack : Type 0
+ElementIsReadBack =
     (name : List ℕ) (field : FieldOf) → field_named name ≡ Some field → (x : ℕ) → x < 2 ^ field.bits
-    → (field.order x < 2 ^ field.bits) × (field.order (field.order x) ≡ x)
+    → option_map field.order (operand_value (bytes_of field) (element_text field x)) ≡ Some x
 
 -- the text of an element of the cubic extension is the texts of its coefficients, the lowest first
 abbrev pub CoefficientsStandInOrder : Type 0

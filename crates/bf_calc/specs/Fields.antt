@@ -6,14 +6,14 @@ use Rattle.bf_base.specs.Remainder.{mul_mod, aes_modulus, poly64_modulus, ghash_
 use Rattle.bf_base.specs.Tower.{tower_mul}
 use Rattle.bf_cubic.specs.Cubic.{cubic, triple}
 
--- a field: how many bits an element has, the product of elements, and the number of the element that a text of some number
--- writes, which is also the number that the text of an element of some number writes
+-- a field: how many bits an element has, the product of elements, and the change of order that takes the number which a text
+-- writes to the number of the element, and back
 pub record FieldOf : Type 0 where
   pub bits : ℕ
   pub times : ℕ → ℕ → ℕ
   pub order : ℕ → ℕ
 
--- the field of so many bits with the product `times`, whose texts have their parts in this order
+-- the field of so many bits with the product `times` and this change of order
 abbrev pub field_of : ℕ → (ℕ → ℕ → ℕ) → (ℕ → ℕ) → FieldOf
 field_of bits times order = record { bits = bits; times = times; order = order }
 
@@ -21,12 +21,12 @@ field_of bits times order = record { bits = bits; times = times; order = order }
 abbrev pub bytes_of : FieldOf → ℕ
 bytes_of field = (field.bits + 7) / 8
 
--- a text that is not divided writes the number of its element
+-- a text that has no parts writes the number of the element
 abbrev pub undivided : ℕ → ℕ
 undivided n = n
 
--- a text of three coefficients of 64 bits has the lowest first, where its highest digits are: c0, c1 and c2 are written as the
--- number of c2, c1 and c0
+-- a text of three coefficients of 64 bits has the lowest first, where the highest digits of a number stand, so that the text of
+-- c0 + c1 y + c2 y² writes the number of c2 + c1 y + c0 y²
 abbrev pub lowest_first : ℕ → ℕ
 lowest_first n = triple 64 (chunk 64 2 n) (chunk 64 1 n) (chunk 64 0 n)
 

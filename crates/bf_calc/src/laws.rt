@@ -3,7 +3,7 @@ ghost use Rattle.std.specs.Prelude.{ℕ, List};
 ghost use Rattle.bf_calc.specs.Faults.{FaultsInOrder};
 ghost use Rattle.bf_calc.specs.Words.{EmptyLineHasNoWord, RunIsOneWord, SpaceDividesWords};
 ghost use Rattle.bf_calc.specs.Digits.{TextIsReadBack};
-ghost use Rattle.bf_calc.specs.Elements.{CoefficientsStandInOrder, OrderTurnsBack};
+ghost use Rattle.bf_calc.specs.Elements.{CoefficientsStandInOrder, ElementIsReadBack};
 ghost use Rattle.bf_calc.specs.Operations.{InverseInverts, RootIsRoot};
 
 /// States what the words of a line are: an empty line has none, bytes with no space among them are one, and a space
@@ -14,16 +14,15 @@ pub fn words_by_spaces()
     ensures space { SpaceDividesWords }
 {}
 
-/// States that the text of an element is an operand with the number that the text writes.
+/// States that the text of a number, two digits for each byte, is an operand with that number.
 pub fn text_is_read_back()
     ensures { TextIsReadBack }
 {}
 
-/// States that the number which a text writes is in every field that of the element after the same change of order by which it
-/// came from the element, and has no more bits. For `p192` the text of an element is the texts of its coefficients, the lowest
-/// first.
-pub fn texts_in_order()
-    ensures back { OrderTurnsBack }
+/// States that in every field that a line may name the text of an element is an operand that writes this element, and that the
+/// text of an element of `p192` is the texts of its three coefficients, the lowest first.
+pub fn element_is_read_back()
+    ensures element { ElementIsReadBack }
     ensures coefficients { CoefficientsStandInOrder }
 {}
 

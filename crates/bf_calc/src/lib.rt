@@ -41,7 +41,7 @@ mod words;
 pub use crate::engine::{lines_law, run};
 pub use crate::error::RunError;
 pub use crate::laws::{
-    faults_in_order, inverse_and_root, text_is_read_back, texts_in_order, words_by_spaces,
+    element_is_read_back, faults_in_order, inverse_and_root, text_is_read_back, words_by_spaces,
 };
 pub use crate::line::answer;
 pub use crate::text::Answer;
