@@ -1,2 +1,3 @@
 pub mod Challengers
+pub mod Digests
 pub mod Sampled

@@ -3,9 +3,13 @@
 #![tactic(auto)]
 
 mod challenger;
+mod digest;
 mod elements;
+mod sample;
 mod witness;
 
 pub use crate::challenger::BinaryChallenger;
+pub use crate::digest::{Digest, Hash, MerkleCap};
 pub use crate::elements::{CanSampleBits, CanSampleUniformBits};
+pub use crate::sample::CanSample;
 pub use crate::witness::GrindingChallenger;
