@@ -1,0 +1,16 @@
+//! Tests of packings: N bytes of AES for N of 0, 1, 3, 16 and 17, and four elements of the field of GHASH. The crate has nothing to
+//! call.
+#![tactic(auto)]
+
+#[cfg(test)]
+mod bytes;
+#[cfg(test)]
+mod ghash;
+#[cfg(test)]
+mod lanes;
+#[cfg(test)]
+mod maps;
+#[cfg(test)]
+mod operators;
+#[cfg(test)]
+mod quotients;
