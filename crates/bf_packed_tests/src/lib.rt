@@ -3,6 +3,8 @@
 #![tactic(auto)]
 
 #[cfg(test)]
+mod algebras;
+#[cfg(test)]
 mod bytes;
 #[cfg(test)]
 mod ghash;
