@@ -3,3 +3,4 @@ pub mod Taking
 pub mod WordBytes
 pub mod Streaming
 pub mod Wording
+pub mod Rows

@@ -1,6 +1,7 @@
 -- The bytes that a stream has still to give, after one more.
-use Rattle.std.proofs.Common.{◌≡◌, ℕ, zero, suc, ◌+◌, ◌*◌, ◌<◌, ◌≤◌, ◌⊎◌, inl, inr, sym, ◌∙◌, ap, arith, List, [], ◌∷◌, ◌++◌, length, drop, subst, Option, Some, None}
+use Rattle.std.proofs.Common.{◌≡◌, ℕ, zero, suc, ◌+◌, ◌*◌, ◌%◌, ◌^◌, ◌<◌, ◌≤◌, ◌⊎◌, inl, inr, sym, ◌∙◌, ap, arith, List, [], ◌∷◌, ◌++◌, length, drop, subst, Option, Some, None}
 use Rattle.std.specs.Iterator.{Drains, Yields}
+use Rattle.std.proofs.Math.Nat.{zero-div}
 use Rattle.std.proofs.Math.ListN.{drop_of_length-le}
 use Rattle.std.proofs.lemmas.List.{append-nil, append_assoc, drop-append-le, length-append}
 use Rattle.std.proofs.lemmas.Bool.{cases_lt}
@@ -48,22 +49,20 @@ last_byte_given size given a b last is =
     byte_given size given a b (omega (arith, last)) is
     ∙ ap (λ ys. b ∷ ys) (drop_of_length-le (low_bytes size a) (omega (arith, last, length-chunks 8 size a)))
 
-module _ {S E : Type 0} (next_gives : S → Option E → S → Type 0) (size : ℕ) (repr : E → ℕ) where
+pub chunk-zero : (i : ℕ) → chunk 8 i 0 ≡ 0
+chunk-zero i = ap (λ (n : ℕ). n % 2 ^ 8) (zero-div (2 ^ (8 * i)))
+
+module _ {E : Type 0} (size : ℕ) (repr : E → ℕ) where
   pub nothing_pending : (pending : Option E) (given : ℕ) → pending ≡ None → bytes_pending size repr pending given ≡ []
   nothing_pending pending given is = ap (λ p. bytes_pending size repr p given) is
 
   -- where no byte is pending, those of the next element are
-  pub element_taken : (elements next now : S) (pending new : Option E) (given place : ℕ) (x : E) (b : ℕ) → pending ≡ None → IsWithin size pending given
-      → next_gives elements (Some x) next → now ≡ next → bytes_pending size repr (Some x) given ≡ b ∷ bytes_pending size repr new place
-      → (taken : List E) × Yields next_gives elements taken now
-      × (bytes_pending size repr pending given ++ joined_bytes size repr taken ≡ b ∷ bytes_pending size repr new place)
-  element_taken elements next now pending new given place x b none within step same left =
-      let start : given ≡ 0 = subst (λ p. IsWithin size p given) none within in (
-        x ∷ [],
-        (next, step, sym same),
-        ap (λ ys. ys ++ joined_bytes size repr (x ∷ [])) (nothing_pending pending given none) ∙ append-nil (low_bytes size (repr x))
-            ∙ ap (λ (k : ℕ). drop k (low_bytes size (repr x))) (sym start) ∙ left,
-      )
+  pub first_bytes : (pending : Option E) (given : ℕ) (x : E) (rest : List ℕ) → pending ≡ None → IsWithin size pending given
+      → bytes_pending size repr (Some x) given ≡ rest → bytes_pending size repr pending given ++ joined_bytes size repr (x ∷ []) ≡ rest
+  first_bytes pending given x rest none within left =
+      let start : given ≡ 0 = subst (λ p. IsWithin size p given) none within in
+      ap (λ ys. ys ++ joined_bytes size repr (x ∷ [])) (nothing_pending pending given none) ∙ append-nil (low_bytes size (repr x))
+      ∙ ap (λ (k : ℕ). drop k (low_bytes size (repr x))) (sym start) ∙ left
 
   -- of which there are as many as an element has
   pub fewer_left : (more fewer given place : ℕ) (pending new : Option E) (x : E) (b : ℕ) → fewer < more → IsWithin size pending given → pending ≡ None
@@ -77,10 +76,25 @@ module _ {S E : Type 0} (next_gives : S → Option E → S → Type 0) (size : �
       let whole : suc fewer * size ≡ fewer * size + size = suc-mul fewer size in
       omega (arith, long, bound, whole)
 
-  -- ---- all that a stream gives
-
   joined-append : (xs ys : List E) → joined_bytes size repr (xs ++ ys) ≡ joined_bytes size repr xs ++ joined_bytes size repr ys
   joined-append xs ys = flat_map-append (λ x. low_bytes size (repr x)) xs ys
+
+  -- the bytes of some elements, and then those of others
+  pub bytes_on : (before after : List ℕ) (xs ys : List E) (b : ℕ) (given last : List ℕ) → before ++ joined_bytes size repr xs ≡ b ∷ after
+      → after ++ joined_bytes size repr ys ≡ given ++ last → before ++ joined_bytes size repr (xs ++ ys) ≡ b ∷ (given ++ last)
+  bytes_on before after xs ys b given last first others =
+      ap (λ zs. before ++ zs) (joined-append xs ys) ∙ sym (append_assoc before (joined_bytes size repr xs) (joined_bytes size repr ys))
+      ∙ ap (λ zs. zs ++ joined_bytes size repr ys) first ∙ ap (λ zs. b ∷ zs) others
+
+module _ {S E : Type 0} (next_gives : S → Option E → S → Type 0) (size : ℕ) (repr : E → ℕ) where
+  pub element_taken : (elements next now : S) (pending new : Option E) (given place : ℕ) (x : E) (b : ℕ) → pending ≡ None → IsWithin size pending given
+      → next_gives elements (Some x) next → now ≡ next → bytes_pending size repr (Some x) given ≡ b ∷ bytes_pending size repr new place
+      → (taken : List E) × Yields next_gives elements taken now
+      × (bytes_pending size repr pending given ++ joined_bytes size repr taken ≡ b ∷ bytes_pending size repr new place)
+  element_taken elements next now pending new given place x b none within step same left =
+      (x ∷ [], (next, step, sym same), first_bytes size repr pending given x _ none within left)
+
+  -- ---- all that a stream gives
 
   run_gives : (s : ByteStream S E) (bytes : List ℕ) (t : ByteStream S E) → Yields (GivesByte next_gives size repr) s bytes t
       → (taken : List E) × Yields next_gives s.elements taken t.elements
@@ -96,9 +110,7 @@ module _ {S E : Type 0} (next_gives : S → Option E → S → Type 0) (size : �
       let others = run_gives j bytes t run.2 in (
         step.0 ++ others.0,
         yields_append next_gives step.0 others.0 s.elements j.elements t.elements step.1 others.1,
-        ap (λ ys. bytes_pending size repr s.pending s.given ++ ys) (joined-append step.0 others.0)
-            ∙ sym (append_assoc (bytes_pending size repr s.pending s.given) (joined_bytes size repr step.0) (joined_bytes size repr others.0))
-            ∙ ap (λ ys. ys ++ joined_bytes size repr others.0) step.2 ∙ ap (λ ys. b ∷ ys) others.2,
+        bytes_on size repr _ _ step.0 others.0 b bytes _ step.2 others.2,
       )
 
   -- a stream that begins gives the bytes of all elements of its source

@@ -14,11 +14,11 @@ unfoldable pub number_of_bytes : List ℕ → ℕ
 number_of_bytes [] = 0
 number_of_bytes (b ∷ bs) = b + 256 * number_of_bytes bs
 
--- a call took bytes of an iterator, which it left at `rest`: all of them up to its end, where they are fewer than n, or n
-abbrev pub TakesUpTo : {S : Type 0} → (S → Option ℕ → S → Type 0) → S → ℕ → List ℕ → S → Type 0
-TakesUpTo next_gives iter n bytes rest =
-    (YieldsThen next_gives iter bytes None rest × (length bytes < n)) ⊎ (Yields next_gives iter bytes rest × (length bytes ≡ n))
+-- a call took items of an iterator, which it left at `rest`: all of them up to its end, where they are fewer than n, or n
+abbrev pub TakesUpTo : {S A : Type 0} → (S → Option A → S → Type 0) → S → ℕ → List A → S → Type 0
+TakesUpTo next_gives iter n items rest =
+    (YieldsThen next_gives iter items None rest × (length items < n)) ⊎ (Yields next_gives iter items rest × (length items ≡ n))
 
--- the same, wherever it left the iterator
+-- the same of bytes, wherever it left the iterator
 abbrev pub TakesBytes : {S : Type 0} → (S → Option ℕ → S → Type 0) → S → ℕ → List ℕ → Type 0
 TakesBytes {S} next_gives iter n bytes = (rest : S) × TakesUpTo next_gives iter n bytes rest

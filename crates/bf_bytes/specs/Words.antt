@@ -1,35 +1,65 @@
--- Bytes as words of n bytes, the lowest first, and what streams of words give.
-use Rattle.std.specs.Prelude.{◌≡◌, ℕ, ◌<◌, ◌≤◌, ◌⊎◌, true, false, List, [], ◌∷◌, ◌++◌, length, MatchOption}
+-- Bytes, or rows of bytes, as words of n of them, the lowest first, and what streams of words give.
+use Rattle.std.specs.Prelude.{◌≡◌, ℕ, ◌<◌, ◌≤◌, ◌⊎◌, Bool, true, false, List, [], ◌∷◌, ◌++◌, length, map, slice_index, MatchOption}
 use Rattle.std.specs.declared.option.Option.{Option}
 use Rattle.std.specs.declared.option.Option.TheVariants.{None}
 use Rattle.std.specs.Iterator.{Count, Yields, YieldsThen, count_unless}
+use Rattle.bf_bytes.specs.declared.parallel_words.ParallelWordStreams.{ParallelWordStreams}
 use Rattle.bf_bytes.specs.declared.words.WordStream.{WordStream}
 use Rattle.bf_bytes.specs.Bytes.{number_of_bytes}
 
--- The words of a list of bytes: word k has the bytes n k to n k + n - 1. The last may have fewer, but has one; those above are 0.
-abbrev pub AreWords : {W : Type 0} → (W → ℕ) → ℕ → List ℕ → List W → Type 0
-AreWords number n bytes [] = bytes ≡ []
-AreWords number n bytes (w ∷ words) =
-    (first : List ℕ) × (others : List ℕ) × (bytes ≡ first ++ others) × (number w ≡ number_of_bytes first) × (0 < length first) × (length first ≤ n)
-    × (length first < n → others ≡ []) × AreWords number n others words
+-- the word of at most n bytes has their number: bytes that are missing are 0
+abbrev pub IsWord : {W : Type 0} → (W → ℕ) → W → List ℕ → Type 0
+IsWord number w bytes = number w ≡ number_of_bytes bytes
 
-module _ {S W : Type 0} (next_gives : S → Option ℕ → S → Type 0) (n : ℕ) (number : W → ℕ) where
-  -- A call from s took bytes of the source: none, once the source has ended; all that it had, where they are fewer than n; or n.
-  abbrev pub TakesOn : WordStream W S → List ℕ → WordStream W S → Type 0
-  TakesOn s bytes t =
-      ((s.ended ≡ true) × (t.ended ≡ true) × (bytes ≡ []))
-      ⊎ ((s.ended ≡ false) × (t.ended ≡ true) × YieldsThen next_gives s.bytes bytes None t.bytes × (length bytes < n))
-      ⊎ ((s.ended ≡ false) × (t.ended ≡ false) × Yields next_gives s.bytes bytes t.bytes × (length bytes ≡ n))
+-- the same in each of `width` columns
+abbrev pub IsWordRow : {W : Type 0} → ℕ → (W → ℕ) → List W → List (List ℕ) → Type 0
+IsWordRow width number words rows =
+    (j : ℕ) → j < width → slice_index (map number words) j ≡ number_of_bytes (map (λ row. slice_index row j) rows)
+
+-- The words of a list of items: word k is that of the items n k to n k + n - 1. The last may have fewer, but has one.
+abbrev pub AreWordsBy : {A W : Type 0} → (W → List A → Type 0) → ℕ → List A → List W → Type 0
+AreWordsBy is n items [] = items ≡ []
+AreWordsBy {A = A} is n items (w ∷ words) =
+    (first : List A) × (others : List A) × (items ≡ first ++ others) × is w first × (0 < length first) × (length first ≤ n)
+    × (length first < n → others ≡ []) × AreWordsBy is n others words
+
+abbrev pub AreWords : {W : Type 0} → (W → ℕ) → ℕ → List ℕ → List W → Type 0
+AreWords number n bytes words = AreWordsBy (IsWord number) n bytes words
+
+abbrev pub AreWordRows : {W : Type 0} → ℕ → (W → ℕ) → ℕ → List (List ℕ) → List (List W) → Type 0
+AreWordRows width number n rows words = AreWordsBy (IsWordRow width number) n rows words
+
+module _ {S A : Type 0} (next_gives : S → Option A → S → Type 0) (n : ℕ) where
+  -- A call took items of the source s: none, once the source has ended; all that it had, where they are fewer than n; or n.
+  abbrev pub TakesOn : Bool → S → List A → Bool → S → Type 0
+  TakesOn ended s items over t =
+      ((ended ≡ true) × (over ≡ true) × (items ≡ []))
+      ⊎ ((ended ≡ false) × (over ≡ true) × YieldsThen next_gives s items None t × (length items < n))
+      ⊎ ((ended ≡ false) × (over ≡ false) × Yields next_gives s items t × (length items ≡ n))
 
   -- it gave their word, and None where there was none
-  abbrev pub GivesWord : WordStream W S → Option W → WordStream W S → Type 0
-  GivesWord s r t =
-      (bytes : List ℕ) × TakesOn s bytes t × MatchOption r (bytes ≡ []) (λ w. (0 < length bytes) × (number w ≡ number_of_bytes bytes))
+  abbrev pub GivesWordOf : {W : Type 0} → (W → List A → Type 0) → Bool → S → Option W → Bool → S → Type 0
+  GivesWordOf is ended s r over t =
+      (items : List A) × TakesOn ended s items over t × MatchOption r (items ≡ []) (λ w. (0 < length items) × is w items)
+
+abbrev pub GivesWord : {S W : Type 0} → (S → Option ℕ → S → Type 0) → ℕ → (W → ℕ) → WordStream W S → Option W → WordStream W S → Type 0
+GivesWord next_gives n number s r t = GivesWordOf next_gives n (IsWord number) s.ended s.bytes r t.ended t.bytes
+
+abbrev pub GivesWordRow : {S W : Type 0} {width : ℕ} → (S → Option (List ℕ) → S → Type 0) → ℕ → (W → ℕ) → ParallelWordStreams W S width → Option (List W)
+    → ParallelWordStreams W S width → Type 0
+GivesWordRow {width = width} next_gives n number s r t =
+    GivesWordOf next_gives n (IsWordRow width number) s.ended s.rows r t.ended t.rows
 
 -- a call of the source is allowed where it is made
 abbrev pub can_take : {S W : Type 0} → (S → Type 0) → WordStream W S → Type 0
 can_take can_next s = s.ended ≡ false → can_next s.bytes
 
+abbrev pub can_take_rows : {S W : Type 0} {width : ℕ} → (S → Type 0) → ParallelWordStreams W S width → Type 0
+can_take_rows can_next s = s.ended ≡ false → can_next s.rows
+
 -- each word has a byte
 abbrev pub word_count : {S W : Type 0} → (S → Count) → WordStream W S → Count
 word_count remaining s = count_unless s.ended (remaining s.bytes)
+
+abbrev pub word_row_count : {S W : Type 0} {width : ℕ} → (S → Count) → ParallelWordStreams W S width → Count
+word_row_count remaining s = count_unless s.ended (remaining s.rows)

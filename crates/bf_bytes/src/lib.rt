@@ -3,6 +3,8 @@
 
 mod element;
 mod little_endian;
+mod parallel;
+mod parallel_words;
 mod reading;
 mod serializable;
 mod streams;
@@ -10,6 +12,11 @@ mod triple;
 mod words;
 
 pub use crate::little_endian::LittleEndian;
+pub use crate::parallel::{ParallelByteStreams, into_parallel_byte_streams};
+pub use crate::parallel_words::{
+    ParallelU32Streams, ParallelU64Streams, ParallelWordStreams, into_parallel_u32_streams,
+    into_parallel_u64_streams, into_parallel_word_streams,
+};
 pub use crate::reading::word_from_iter;
 pub use crate::serializable::RawDataSerializable;
 pub use crate::streams::{ByteStream, into_byte_stream};

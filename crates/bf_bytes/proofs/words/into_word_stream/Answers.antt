@@ -1,6 +1,8 @@
 use Rattle.std.proofs.Common.{refl, subst}
 use Rattle.bf_bytes.specs.Streams.{GivesByte}
-use Rattle.bf_bytes.specs.Words.{AreWords}
+use Rattle.bf_bytes.specs.Words.{AreWords, IsWord}
+use Rattle.bf_bytes.specs.declared.streams.ByteStream.{ByteStream}
+use Rattle.bf_bytes.specs.declared.words.WordStream.{WordStream}
 use Rattle.bf_bytes.proofs.Wording.{words_given}
 use Rattle.bf_bytes.proofs.words.into_word_stream.Goals as goal
 
@@ -8,6 +10,7 @@ pub returns-clause-items : goal.returns-clause-items
 returns-clause-items g c =
     let bytes_of = GivesByte g.I.Iterator.next_gives g.E.RawDataSerializable.NUM_BYTES g.E.Represented.repr in
     λ words run.
-    let made = words_given bytes_of g.W.LittleEndian.SIZE g.W.Word.number _ c.into_byte_stream.result words g.met.W.LittleEndian.wide_law refl refl run in
+    let made = words_given {X = WordStream g.row.W.Denot (ByteStream g.row.I.Denot g.row.E.Denot)} bytes_of g.W.LittleEndian.SIZE (IsWord g.W.Word.number)
+    (λ s. s.ended) (λ s. s.bytes) _ words g.met.W.LittleEndian.wide_law refl run in
     let joined = c.into_byte_stream.ensures.items made.0 made.1 in
     (joined.0, joined.1, subst (λ bytes. AreWords g.W.Word.number g.W.LittleEndian.SIZE bytes words) joined.2 made.2)

@@ -21,7 +21,7 @@ returns-in-Some-next-clause-goes g c =
           let inner = step.on finite in (
             (can, within),
             subst (λ s. IsFinite (g.I.Iterator.remaining s)) same inner.1,
-            fewer_left g.I.Iterator.next_gives g.E.RawDataSerializable.NUM_BYTES g.E.Represented.repr (size (g.I.Iterator.remaining c.args.self.now.elements))
+            fewer_left g.E.RawDataSerializable.NUM_BYTES g.E.Represented.repr (size (g.I.Iterator.remaining c.args.self.now.elements))
                 (size (g.I.Iterator.remaining c.give-in-Some-next.new.self.elements)) c.args.self.now.given c.give-in-Some-next.new.self.given
                 c.args.self.now.pending c.give-in-Some-next.new.self.pending c.in-Some-next.element c.give-in-Some-next.result
                 (subst (λ s. size (g.I.Iterator.remaining s) < size (g.I.Iterator.remaining c.args.self.now.elements)) same inner.2) c.requires.1 c.in-None.is
@@ -33,5 +33,5 @@ returns-in-Some-next-clause-goes g c =
 
 pub returns-in-None-next-clause-steps : goal.returns-in-None-next-clause-steps
 returns-in-None-next-clause-steps g c =
-    let none = nothing_pending g.I.Iterator.next_gives g.E.RawDataSerializable.NUM_BYTES g.E.Represented.repr c.args.self.now.pending c.args.self.now.given c.in-None.is in
+    let none = nothing_pending g.E.RawDataSerializable.NUM_BYTES g.E.Represented.repr c.args.self.now.pending c.args.self.now.given c.in-None.is in
     (none, none, c.in-None-next.ensures.steps)

@@ -1,0 +1,39 @@
+use Rattle.std.proofs.Common.{◌<◌, subst, sym}
+use Rattle.std.specs.Iterator.{IsFinite, size}
+use Rattle.bf_bytes.proofs.Rows.{row_begun, row_taken}
+use Rattle.bf_bytes.proofs.Streaming.{fewer_left}
+use Rattle.bf_bytes.proofs.parallel.ParallelByteStreamsIterator.next.Goals as goal
+
+pub returns-in-Some-next-clause-steps : goal.returns-in-Some-next-clause-steps
+returns-in-Some-next-clause-steps g c =
+    row_taken {width = g.row.N} g.I.Iterator.next_gives g.E.RawDataSerializable.NUM_BYTES g.E.Represented.repr c.args.self.now.elements c.next.new.self
+    c.give-in-Some-next.new.self.elements c.args.self.now.pending c.give-in-Some-next.new.self.pending c.args.self.now.given c.give-in-Some-next.new.self.given
+    c.in-Some-next.row c.give-in-Some-next.result c.in-None.is c.requires.1 c.in-Some-next.ensures.steps c.give-in-Some-next.ensures.source
+    c.give-in-Some-next.ensures.left
+
+pub returns-in-Some-next-clause-goes : goal.returns-in-Some-next-clause-goes
+returns-in-Some-next-clause-goes g c =
+    let step = c.in-Some-next.ensures.goes in
+    let same = sym c.give-in-Some-next.ensures.source in
+    let can = subst g.I.Iterator.can_next same step.keeps in
+    let within = c.give-in-Some-next.ensures.within in
+    record {
+      on = λ finite.
+          let inner = step.on finite in (
+            (can, within),
+            subst (λ s. IsFinite (g.I.Iterator.remaining s)) same inner.1,
+            fewer_left g.E.RawDataSerializable.NUM_BYTES (λ row. 0) (size (g.I.Iterator.remaining c.args.self.now.elements))
+                (size (g.I.Iterator.remaining c.give-in-Some-next.new.self.elements)) c.args.self.now.given c.give-in-Some-next.new.self.given
+                c.args.self.now.pending c.give-in-Some-next.new.self.pending c.in-Some-next.row 0
+                (subst (λ s. size (g.I.Iterator.remaining s) < size (g.I.Iterator.remaining c.args.self.now.elements)) same inner.2) c.requires.1 c.in-None.is
+                c.give-in-Some-next.ensures.fewer,
+          );
+      keeps = (can, within);
+      rests = λ finite. tt;
+    }
+
+pub returns-in-Some-clause-steps : goal.returns-in-Some-clause-steps
+returns-in-Some-clause-steps g c =
+    row_begun {width = g.row.N} g.I.Iterator.next_gives g.E.RawDataSerializable.NUM_BYTES g.E.Represented.repr c.args.self.now.elements c.give.new.self.elements
+    c.args.self.now.pending c.give.new.self.pending c.args.self.now.given c.give.new.self.given c.in-Some.row c.give.result c.in-Some.is c.give.ensures.source
+    c.give.ensures.left

@@ -1,0 +1,16 @@
+use Rattle.std.proofs.Common.{refl}
+use Rattle.bf_bytes.specs.Parallel.{GivesRow}
+use Rattle.bf_bytes.specs.Words.{IsWordRow}
+use Rattle.bf_bytes.specs.declared.parallel.ParallelByteStreams.{ParallelByteStreams}
+use Rattle.bf_bytes.specs.declared.parallel_words.ParallelWordStreams.{ParallelWordStreams}
+use Rattle.bf_bytes.proofs.Wording.{words_given}
+use Rattle.bf_bytes.proofs.parallel_words.into_parallel_word_streams.Goals as goal
+
+pub returns-clause-items : goal.returns-clause-items
+returns-clause-items g c =
+    let rows_of = GivesRow g.I.Iterator.next_gives g.row.N g.E.RawDataSerializable.NUM_BYTES g.E.Represented.repr in
+    λ words run.
+    let made = words_given {X = ParallelWordStreams g.row.W.Denot (ParallelByteStreams g.row.I.Denot g.row.E.Denot g.row.N) g.row.N} rows_of
+    g.W.LittleEndian.SIZE (IsWordRow g.row.N g.W.Word.number) (λ s. s.ended) (λ s. s.rows) _ words g.met.W.LittleEndian.wide_law refl run in
+    let joined = c.into_parallel_byte_streams.ensures.items made.0 made.1 in
+    (joined.0, made.0, joined.1, joined.2, made.2)
