@@ -5,4 +5,8 @@
 #[cfg(test)]
 mod bytes;
 #[cfg(test)]
+mod parallel;
+#[cfg(test)]
+mod short;
+#[cfg(test)]
 mod streams;
