@@ -1,9 +1,10 @@
 -- Bytes that are read one after the other.
-use Rattle.std.proofs.Common.{◌≡◌, ℕ, zero, suc, ◌+◌, ◌*◌, ◌%◌, ◌^◌, ◌<◌, ◌≤◌, refl, sym, ◌∙◌, ap, ap₂, arith, List, [], ◌∷◌, ◌++◌, length, Option, Some, subst}
+use Rattle.std.proofs.Common.{◌≡◌, ℕ, zero, suc, ◌+◌, ◌*◌, ◌%◌, ◌^◌, ◌<◌, ◌≤◌, refl, sym, ◌∙◌, ap, ap₂, arith, List, [], ◌∷◌, ◌++◌, length, take, get_or, Option, Some, subst}
 use Rattle.std.proofs.Math.Pow.{pow_mono}
 use Rattle.std.proofs.Math.Nat.{lt_of_lt_of_le}
+use Rattle.std.proofs.Math.Seq.{take-suc}
 use Rattle.std.proofs.lemmas.Nat.{mod-pow-add, pow-add, pow_pos}
-use Rattle.std.proofs.lemmas.List.{length-append}
+use Rattle.std.proofs.lemmas.List.{length-append, length-take-le}
 use native.Mathlib.Nat.{mod-eq_of_lt, mul-suc, mul_assoc, mul_comm}
 use native.Mathlib.Numerals.{add-one}
 use Rattle.std.specs.Iterator.{Yields}
@@ -94,3 +95,23 @@ pub same_again : (count width a b : ℕ) (bytes : List ℕ) → a < 2 ^ width �
     → bytes ≡ low_bytes count a → b ≡ a
 same_again count width a b bytes fits room is same =
     is ∙ ap (λ ys. number_of_bytes ys % 2 ^ width) same ∙ given_back count width a fits room
+
+-- ---- the bytes of a list, one after the other
+
+-- the number of the first i bytes
+pub record FirstBytes (bytes : List ℕ) (i number : ℕ) : Type 0 where
+  pub below : number < 2 ^ (8 * i)
+  pub is : number ≡ number_of_bytes (take i bytes)
+
+pub first_none : (bytes : List ℕ) (number : ℕ) → number ≡ 0 → FirstBytes bytes 0 number
+unfolding number_of_bytes
+first_none bytes number none = record { below = subst (λ (n : ℕ). n < 2 ^ (8 * 0)) (sym none) (pow_pos 0); is = none }
+
+pub first_more : (bytes : List ℕ) (i number more b : ℕ) → FirstBytes bytes i number → i < length bytes → b ≡ get_or bytes i 0 → b < 2 ^ 8
+    → more ≡ b * 2 ^ (8 * i) + number → FirstBytes bytes (i + 1) more
+first_more bytes i number more b begun within at fits is = record {
+  below = more-lt 8 i more b number begun.below fits is;
+  is = is ∙ ap₂ (λ (n k : ℕ). b * 2 ^ (8 * k) + n) begun.is (sym (length-take-le i bytes (omega (arith, within))))
+      ∙ sym (number-more (take i bytes) b)
+      ∙ ap number_of_bytes (sym (ap (λ (k : ℕ). take k bytes) (add-one i) ∙ take-suc bytes i 0 within ∙ ap (λ y. take i bytes ++ y ∷ []) (sym at)));
+}

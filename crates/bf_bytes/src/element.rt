@@ -3,10 +3,10 @@ ghost use Rattle.std.specs.Prelude.{◌≤◌};
 ghost use Rattle.std.proofs.Common.{lit<, lit≤, subst};
 
 use crate::little_endian::{LittleEndian, read_byte};
-use crate::reading::word_from_iter;
-use crate::serializable::RawDataSerializable;
+use crate::reading::{word_from_iter, word_of_bytes};
+use crate::serializable::{Packable, RawDataSerializable};
 use bf_base::traits::TowerLevel;
-use bf_base::{Gf2, Kernel};
+use bf_base::{Gf2, Kernel, Word};
 use bf_element::{Element, element_of_word, word_of};
 
 impl<R: LittleEndian, K: Kernel<R>> RawDataSerializable for Element<R, K> {
@@ -30,6 +30,11 @@ impl<R: LittleEndian, K: Kernel<R>> RawDataSerializable for Element<R, K> {
     #[inline]
     fn byte(self, i: usize) -> u8 {
         word_of(&self).byte(i)
+    }
+
+    #[inline]
+    fn from_le_bytes(bytes: R::Bytes) -> Element<R, K> {
+        element_of_word(word_of_bytes::<R>(R::slice_of(&bytes)))
     }
 
     fn from_le_byte_iter<I: Iterator<Item = u8>>(iter: I) -> Option<Element<R, K>> {
@@ -63,6 +68,11 @@ impl RawDataSerializable for Gf2 {
         read_byte(self.to_repr(), i)
     }
 
+    #[inline]
+    fn from_le_bytes(bytes: [u8; 1]) -> Gf2 {
+        Gf2::from_repr(word_of_bytes::<u8>(&bytes))
+    }
+
     fn from_le_byte_iter<I: Iterator<Item = u8>>(iter: I) -> Option<Gf2> {
         match word_from_iter::<u8, I>(iter) {
             Some(word) => Some(Gf2::from_repr(word)),
@@ -70,3 +80,7 @@ impl RawDataSerializable for Gf2 {
         }
     }
 }
+
+impl<R: Word, K: Kernel<R>> Packable for Element<R, K> {}
+
+impl Packable for Gf2 {}

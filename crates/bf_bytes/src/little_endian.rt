@@ -14,7 +14,7 @@ pub trait LittleEndian: Word {
     ghost SIZE: { ℕ };
 
     /// The array of a word's bytes.
-    type Bytes;
+    type Bytes: Drop;
 
     // Its elements, as a list.
     ghost listed: { Self.Bytes → List ℕ };
@@ -33,6 +33,11 @@ pub trait LittleEndian: Word {
         requires within { i < SIZE }
         requires above { Self.number self < 2 ^ (8 * i) }
         ensures { Self.number result ≡ byte * 2 ^ (8 * i) + Self.number self };
+
+    /// The bytes of an array as a slice.
+    fn slice_of(bytes: &Self::Bytes) -> &[u8]
+        ensures same { result.now ≡ listed bytes.now }
+        ensures long { length result.now ≡ SIZE };
 
     ghost size_law: { Self.bits ≡ 8 * SIZE };
 
@@ -101,6 +106,10 @@ impl LittleEndian for u8 {
         put_byte(self, i, byte)
     }
 
+    fn slice_of(bytes: &[u8; 1]) -> &[u8] {
+        bytes
+    }
+
     ghost size_law = { refl };
 
     ghost wide_law = { lit< tt };
@@ -126,6 +135,10 @@ impl LittleEndian for u16 {
 
     fn with_byte(self, i: usize, byte: u8) -> u16 {
         put_byte(self, i, byte)
+    }
+
+    fn slice_of(bytes: &[u8; 2]) -> &[u8] {
+        bytes
     }
 
     ghost size_law = { refl };
@@ -155,6 +168,10 @@ impl LittleEndian for u32 {
         put_byte(self, i, byte)
     }
 
+    fn slice_of(bytes: &[u8; 4]) -> &[u8] {
+        bytes
+    }
+
     ghost size_law = { refl };
 
     ghost wide_law = { lit< tt };
@@ -182,6 +199,10 @@ impl LittleEndian for u64 {
         put_byte(self, i, byte)
     }
 
+    fn slice_of(bytes: &[u8; 8]) -> &[u8] {
+        bytes
+    }
+
     ghost size_law = { refl };
 
     ghost wide_law = { lit< tt };
@@ -207,6 +228,10 @@ impl LittleEndian for u128 {
 
     fn with_byte(self, i: usize, byte: u8) -> u128 {
         put_byte(self, i, byte)
+    }
+
+    fn slice_of(bytes: &[u8; 16]) -> &[u8] {
+        bytes
     }
 
     ghost size_law = { refl };

@@ -43,3 +43,15 @@ fn next_byte<I: Iterator<Item = u8>>(iter: &mut I) -> Option<u8>
 {
     iter.next()
 }
+
+/// The word of its bytes, the lowest first.
+pub(crate) fn word_of_bytes<R: LittleEndian>(bytes: &[u8]) -> R
+    requires { length bytes.now ≡ R.SIZE }
+    ensures { R.number result ≡ number_of_bytes bytes.now }
+{
+    let mut word = R::ZERO;
+    for i in 0..bytes.len() {
+        word = word.with_byte(i, bytes[i]);
+    }
+    word
+}

@@ -27,6 +27,10 @@ pub trait RawDataSerializable: Represented {
         requires { i < NUM_BYTES }
         ensures { result ≡ chunk 8 i (Self.repr self) };
 
+    /// The element of its bytes, the lowest first. Bits above the element are dropped.
+    fn from_le_bytes(bytes: Self::Bytes) -> Self
+        ensures { Self.repr result ≡ number_of_bytes (listed bytes) % 2 ^ Self.width };
+
     /// The element of the next `NUM_BYTES` bytes of an iterator, the lowest first, and None where it ends before. Bits above
     /// the element are dropped. The bytes of an element give it back. No byte past those is taken, so that `iter` need not end.
     fn from_le_byte_iter<I: Iterator<Item = u8>>(iter: I) -> Option<Self>
@@ -38,3 +42,6 @@ pub trait RawDataSerializable: Represented {
     // The bytes hold each bit of an element.
     ghost room_law: { Self.width ≤ 8 * NUM_BYTES };
 }
+
+/// A marker of elements that a packing can hold: they are copied, compared, and have a default.
+pub trait Packable: Copy + Default + Eq {}

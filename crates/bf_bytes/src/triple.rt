@@ -76,6 +76,10 @@ impl LittleEndian for Triple {
         }
     }
 
+    fn slice_of(bytes: &[u8; 24]) -> &[u8] {
+        bytes
+    }
+
     ghost size_law = { refl };
 
     ghost wide_law = { lit< tt };
