@@ -5,6 +5,7 @@ mod bits;
 mod operators;
 mod ring;
 mod stored;
+mod texts;
 
 pub use crate::element::stored::{element_of_word, word_of};
 use bf_base::{Gf2, Kernel, Word};

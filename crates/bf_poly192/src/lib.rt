@@ -4,6 +4,7 @@
 mod cubic;
 mod kernel;
 mod subfield;
+mod texts;
 mod triple;
 
 pub use crate::kernel::CubicKernel;
