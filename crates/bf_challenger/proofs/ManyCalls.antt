@@ -1,15 +1,15 @@
 -- Calls that are made one after the other: the bytes of a list of values, and the coefficients of an element.
-use Rattle.std.proofs.Common.{◌≡◌, ◌<◌, ◌+◌, ◌*◌, ◌%◌, ◌^◌, ℕ, zero, suc, List, [], ◌∷◌, ◌++◌, get_or, length, map, replicate, take, refl, sym, ap, ap₂, subst, ◌∙◌, add-one, arith}
+use Rattle.std.proofs.Common.{◌≡◌, ◌<◌, ◌+◌, ◌*◌, ◌%◌, ◌^◌, ℕ, suc, List, [], ◌∷◌, ◌++◌, get_or, length, take, sym, ap, ap₂, subst, ◌∙◌, add-one, arith}
 use Rattle.std.proofs.Math.Seq.{take-suc}
 use Rattle.std.proofs.lemmas.Grind.{flat_map-append}
 use Rattle.std.proofs.lemmas.List.{append-nil, map-append, replicate-append-replicate}
 use Rattle.std.specs.List.{flat_map}
 use native.Mathlib.Nat.{mul-suc, mul-zero}
-use Rattle.bf_base.specs.Chunks.{chunks}
-use Rattle.bf_byte_challenger.specs.ByteCalls.{ByteCall, bytes_sampled, Observe, observing, Sample, sampling, state_after}
+use Rattle.bf_base.specs.Chunks.{chunk, chunks}
+use Rattle.bf_byte_challenger.specs.ByteCalls.{bytes_sampled, Observe, observing, Sample, sampling, state_after}
 use Rattle.bf_byte_challenger.proofs.Runs.{state_after_none, state_joined}
-use Rattle.bf_bytes.specs.Bytes.{number_of_bytes}
-use Rattle.bf_space.proofs.Spaces.{chunks-more, chunks-none, more-lt}
+use Rattle.bf_bytes.specs.Bytes.{low_bytes, number_of_bytes}
+use Rattle.bf_space.proofs.Spaces.{chunks-more, chunks-next, chunks-none, more-lt}
 use Rattle.bf_challenger.specs.Sampled.{coefficients_sampled}
 
 module _ {S : Type 0} (observed : S → ℕ → S) (sampled : S → ℕ × S) where
@@ -32,7 +32,33 @@ module _ {S : Type 0} (observed : S → ℕ → S) (sampled : S → ℕ × S) wh
       state_joined observed sampled (observing (flat_map bytes (take count values))) (observing (bytes value)) old now next before step
       ∙ ap (λ calls. state_after observed sampled calls old) (sym joined)
 
-  -- ---- coefficients
+  -- ---- coefficients that are observed
+
+  pub no_coefficient_observed : (size width element : ℕ) (state : S)
+      → state ≡ state_after observed sampled (observing (flat_map (λ c. low_bytes size c) (chunks width 0 element))) state
+  no_coefficient_observed size width element state =
+      none_observed state
+      ∙ ap (λ cs. state_after observed sampled (observing (flat_map (λ c. low_bytes size c) cs)) state) (sym (chunks-none width element))
+
+  pub one_more_coefficient : (size width count element coefficient : ℕ) (old now next : S)
+      → now ≡ state_after observed sampled (observing (flat_map (λ c. low_bytes size c) (chunks width count element))) old
+      → coefficient ≡ chunk width count element
+      → next ≡ state_after observed sampled (observing (low_bytes size coefficient)) now
+      → next ≡ state_after observed sampled (observing (flat_map (λ c. low_bytes size c) (chunks width (count + 1) element))) old
+  one_more_coefficient size width count element coefficient old now next before is step =
+      let longer : chunks width (count + 1) element ≡ chunks width count element ++ coefficient ∷ [] =
+      chunks-next width count element ∙ ap (λ c. chunks width count element ++ c ∷ []) (sym is) in
+      let joined : observing (flat_map (λ c. low_bytes size c) (chunks width (count + 1) element))
+      ≡ observing (flat_map (λ c. low_bytes size c) (chunks width count element)) ++ observing (low_bytes size coefficient) =
+      ap (λ cs. observing (flat_map (λ c. low_bytes size c) cs)) longer
+      ∙ ap observing (flat_map-append (λ c. low_bytes size c) (chunks width count element) (coefficient ∷ [])
+      ∙ ap (λ bs. flat_map (λ c. low_bytes size c) (chunks width count element) ++ bs) (append-nil (low_bytes size coefficient)))
+      ∙ map-append Observe (flat_map (λ c. low_bytes size c) (chunks width count element)) (low_bytes size coefficient) in
+      state_joined observed sampled (observing (flat_map (λ c. low_bytes size c) (chunks width count element)))
+      (observing (low_bytes size coefficient)) old now next before step
+      ∙ ap (λ calls. state_after observed sampled calls old) (sym joined)
+
+  -- ---- coefficients that are sampled
 
   -- the first coefficients of an element were sampled
   pub record Sampling (size width count element : ℕ) (old now : S) : Type 0 where

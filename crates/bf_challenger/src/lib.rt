@@ -2,12 +2,14 @@
 //! bytes that are sampled.
 #![tactic(auto)]
 
+mod algebra;
 mod challenger;
 mod digest;
 mod elements;
 mod sample;
 mod witness;
 
+pub use crate::algebra::FieldChallenger;
 pub use crate::challenger::BinaryChallenger;
 pub use crate::digest::{Digest, Hash, MerkleCap};
 pub use crate::elements::{CanSampleBits, CanSampleUniformBits};

@@ -1,4 +1,4 @@
-use Rattle.std.proofs.Common.{◌≡◌, ◌∙◌, ap, get_or, refl}
+use Rattle.std.proofs.Common.{◌∙◌, ap, get_or, refl}
 use Rattle.std.proofs.lemmas.List.{take_all}
 use Rattle.std.specs.List.{flat_map}
 use Rattle.bf_byte_challenger.specs.ByteCalls.{observing, state_after}

@@ -1,4 +1,3 @@
-use Rattle.std.proofs.Common.{◌≡◌}
 use Rattle.bf_challenger.proofs.Checks.{nothing_checked, passes_checked, state_checked}
 use Rattle.bf_challenger.proofs.witness.BinaryChallengerGrindingChallenger.check_witness.Goals as goal
 
