@@ -2,7 +2,8 @@
 use bf_base::traits::TowerLevel;
 use bf_byte_challenger::{ChallengerError, HashChallenger, Sha256Hasher};
 use bf_challenger::{
-    BinaryChallenger, CanSample, CanSampleBits, CanSampleUniformBits, GrindingChallenger,
+    BinaryChallenger, CanSample, CanSampleBits, CanSampleUniformBits, FieldChallenger,
+    GrindingChallenger,
 };
 use bf_element::{BinaryField8, BinaryField16, Poly64, Poly192};
 use bf_transcript::CanObserve;
@@ -88,6 +89,20 @@ fn witnesses_checked(alloc: Global) -> Result<bool, ChallengerError> {
     )
 }
 
+// An element of the cubic extension is observed as its three coefficients, and sampled as three.
+fn algebra_elements(alloc: Global) -> Result<bool, ChallengerError> {
+    let element = Poly192::new([Poly64::new(1), Poly64::new(2), Poly64::new(3)]);
+    let mut whole: Over64 = BinaryChallenger::from_hasher(Vec::new(alloc), Sha256Hasher);
+    whole.observe_algebra_element(element)?;
+    let mut parts: Over64 = BinaryChallenger::from_hasher(Vec::new(alloc), Sha256Hasher);
+    for word in [1, 2, 3] {
+        parts.observe(Poly64::new(word))?;
+    }
+    let sampled: Poly192 = whole.sample_algebra_element()?;
+    let wanted: Poly192 = parts.sample()?;
+    Ok(sampled == wanted)
+}
+
 #[test]
 fn answers_over_sha256(rt: HostRuntime) -> Result<(), Fail> {
     assert!(rt;
@@ -96,6 +111,7 @@ fn answers_over_sha256(rt: HostRuntime) -> Result<(), Fail> {
             && samples_after_observing(rt.alloc()) == Ok(true)
             && copies_sample_alike(rt.alloc()) == Ok(true)
             && witnesses_checked(rt.alloc()) == Ok(true)
+            && algebra_elements(rt.alloc()) == Ok(true)
     );
     Ok(())
 }
