@@ -53,8 +53,14 @@ fn elements_as_bytes(rt: HostRuntime) {
     assert!(rt; bytes_of_16() && bytes_of_gf2() && bytes_of_128() && bytes_of_192());
 }
 
+fn arrays_are_read() -> bool {
+    Poly64::from_le_bytes([1, 2, 3, 4, 5, 6, 7, 8]).to_repr() == 0x0807_0605_0403_0201
+        && BinaryField2::from_le_bytes([0xff]).to_repr() == 3
+}
+
 #[test]
 fn elements_of_bytes(rt: HostRuntime) {
+    assert!(rt; arrays_are_read());
     assert!(rt; read_32(&[1, 2, 3]) == 1 << 40 && read_32(&[1, 2, 3, 4]) == 0x0403_0201);
     assert!(rt;
         read_32(&[1, 2, 3, 4, 5]) == 0x0403_0201 && read_2(&[0xff]) == 3 && read_2(&[]) == 1 << 40
