@@ -11,6 +11,7 @@ use Rattle.bf_bytes.specs.Bytes.{low_bytes}
 abbrev pub joined_bytes : {E : Type 0} → ℕ → (E → ℕ) → List E → List ℕ
 joined_bytes size repr elements = flat_map (λ x. low_bytes size (repr x)) elements
 
+-- those of an element that may be there
 abbrev pub option_bytes : {E : Type 0} → (E → List ℕ) → Option E → List ℕ
 option_bytes bytes None = []
 option_bytes bytes (Some x) = bytes x

@@ -23,9 +23,11 @@ AreWordsBy {A = A} is n items (w ∷ words) =
     (first : List A) × (others : List A) × (items ≡ first ++ others) × is w first × (0 < length first) × (length first ≤ n)
     × (length first < n → others ≡ []) × AreWordsBy is n others words
 
+-- the words of some bytes
 abbrev pub AreWords : {W : Type 0} → (W → ℕ) → ℕ → List ℕ → List W → Type 0
 AreWords number n bytes words = AreWordsBy (IsWord number) n bytes words
 
+-- the rows of words of some rows of bytes
 abbrev pub AreWordRows : {W : Type 0} → ℕ → (W → ℕ) → ℕ → List (List ℕ) → List (List W) → Type 0
 AreWordRows width number n rows words = AreWordsBy (IsWordRow width number) n rows words
 
@@ -42,9 +44,11 @@ module _ {S A : Type 0} (next_gives : S → Option A → S → Type 0) (n : ℕ)
   GivesWordOf is ended s r over t =
       (items : List A) × TakesOn ended s items over t × MatchOption r (items ≡ []) (λ w. (0 < length items) × is w items)
 
+-- a call of a stream of words, by the source of its bytes
 abbrev pub GivesWord : {S W : Type 0} → (S → Option ℕ → S → Type 0) → ℕ → (W → ℕ) → WordStream W S → Option W → WordStream W S → Type 0
 GivesWord next_gives n number s r t = GivesWordOf next_gives n (IsWord number) s.ended s.bytes r t.ended t.bytes
 
+-- a call of streams of words side by side, by the source of their rows of bytes
 abbrev pub GivesWordRow : {S W : Type 0} {width : ℕ} → (S → Option (List ℕ) → S → Type 0) → ℕ → (W → ℕ) → ParallelWordStreams W S width → Option (List W)
     → ParallelWordStreams W S width → Type 0
 GivesWordRow {width = width} next_gives n number s r t =
@@ -54,6 +58,7 @@ GivesWordRow {width = width} next_gives n number s r t =
 abbrev pub can_take : {S W : Type 0} → (S → Type 0) → WordStream W S → Type 0
 can_take can_next s = s.ended ≡ false → can_next s.bytes
 
+-- the same, of rows
 abbrev pub can_take_rows : {S W : Type 0} {width : ℕ} → (S → Type 0) → ParallelWordStreams W S width → Type 0
 can_take_rows can_next s = s.ended ≡ false → can_next s.rows
 
@@ -61,5 +66,6 @@ can_take_rows can_next s = s.ended ≡ false → can_next s.rows
 abbrev pub word_count : {S W : Type 0} → (S → Count) → WordStream W S → Count
 word_count remaining s = count_unless s.ended (remaining s.bytes)
 
+-- each row of words has a row of bytes
 abbrev pub word_row_count : {S W : Type 0} {width : ℕ} → (S → Count) → ParallelWordStreams W S width → Count
 word_row_count remaining s = count_unless s.ended (remaining s.rows)

@@ -10,8 +10,8 @@ use Rattle.std.proofs.lemmas.List.{length-append, length-reverse, length-take, r
 use Rattle.std.specs.Int.{byte_at, bytes_high_first, to_be_bytes, to_le_bytes, w128}
 use Rattle.bf_base.specs.Chunks.{chunk, chunks}
 use Rattle.bf_bytes.specs.Bytes.{low_bytes, number_of_bytes}
-use Rattle.bf_bytes.proofs.Reading.{number-more}
-use Rattle.bf_bytes.proofs.Words.{sixteen_bytes}
+use Rattle.bf_bytes.proofs.Taking.{number-more}
+use Rattle.bf_bytes.proofs.WordBytes.{sixteen_bytes}
 use Rattle.bf_space.proofs.Spaces.{chunks-put, put-lt}
 use Rattle.bf_transcript.specs.BigEndian.{be_bytes}
 

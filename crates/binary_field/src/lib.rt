@@ -1,5 +1,5 @@
-//! Binary fields, proved: the tower of Wiedemann from GF(2) to GF(2^128), and GF(2^8), GF(2^64) and GF(2^128) in polynomial
-//! bases.
+//! Binary fields, proved: the tower of Wiedemann from GF(2) to GF(2^128), GF(2^8), GF(2^64) and GF(2^128) in polynomial
+//! bases, and the cubic extension of GF(2^64).
 //!
 //! This crate holds nothing of its own: it passes on what the crates below it make public.
 #![tactic(auto)]
@@ -21,12 +21,15 @@ pub use bf_byte_challenger::{
     ByteChallenger, ByteHasher32, ChallengerError, HashChallenger, Sha256Hasher,
 };
 pub use bf_bytes::{
-    ByteStream, RawDataSerializable, U32Stream, U64Stream, into_byte_stream, into_u32_stream,
-    into_u64_stream,
+    ByteStream, LittleEndian, Packable, ParallelByteStreams, ParallelU32Streams,
+    ParallelU64Streams, RawDataSerializable, U32Stream, U64Stream, into_byte_stream,
+    into_parallel_byte_streams, into_parallel_u32_streams, into_parallel_u64_streams,
+    into_u32_stream, into_u64_stream,
 };
 pub use bf_calc as calc;
 pub use bf_challenger::{
-    BinaryChallenger, CanSampleBits, CanSampleUniformBits, GrindingChallenger,
+    BinaryChallenger, CanSample, CanSampleBits, CanSampleUniformBits, Digest, FieldChallenger,
+    GrindingChallenger, Hash, MerkleCap,
 };
 pub use bf_divisible::Divisible;
 pub use bf_element::{
@@ -41,5 +44,7 @@ pub use bf_space::{
     AlgebraIdentity, BasedVectorSpace, BasisCoefficients, ExtensionField, HasFrobenius, HasPowers,
     HasSubfield, PackedFieldExtension, Powers,
 };
-pub use bf_transcript::{CanObserve, Recorder, TranscriptError, TranscriptField, TypeTag};
+pub use bf_transcript::{
+    CanObserve, Recorder, Transcript, TranscriptError, TranscriptField, TypeTag,
+};
 pub use bf_transform::over;

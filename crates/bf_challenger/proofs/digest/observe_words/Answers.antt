@@ -4,7 +4,7 @@ use Rattle.std.specs.List.{flat_map}
 use Rattle.bf_byte_challenger.specs.ByteCalls.{observing, state_after}
 use Rattle.bf_byte_challenger.specs.Guarded.{inner_of}
 use Rattle.bf_bytes.specs.Bytes.{low_bytes}
-use Rattle.bf_bytes.proofs.Words.{eight_bytes}
+use Rattle.bf_bytes.proofs.WordBytes.{eight_bytes}
 use Rattle.bf_challenger.proofs.ManyCalls.{none_observed, one_more_observed}
 use Rattle.bf_challenger.proofs.digest.observe_words.Goals as goal
 

@@ -1,6 +1,6 @@
 -- The length and the bytes of a seed, one after the other.
 use Rattle.std.proofs.Common.{◌∙◌, [], arith, length, refl, rules, subst}
-use Rattle.bf_bytes.proofs.Words.{eight_bytes}
+use Rattle.bf_bytes.proofs.WordBytes.{eight_bytes}
 use Rattle.bf_bytes.specs.Bytes.{low_bytes}
 use Rattle.bf_transcript.specs.Seeds.{Observes, ObservesPart, padded}
 use Rattle.bf_transcript.proofs.SeedLemmas.{neither_begins, on_err-with, on_ok-with, observes_both, observes_part_of_both, observes_part_of_first, seed_is_long}
