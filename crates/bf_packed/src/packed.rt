@@ -7,6 +7,7 @@ ghost use Rattle.bf_packed.specs.LaneLists.{every_below, every_zero, lanes_below
 
 mod bits;
 mod draws;
+mod each;
 mod interleaved;
 mod lanes;
 mod left;
@@ -16,6 +17,7 @@ mod quotients;
 mod ring;
 mod scalars;
 
+use crate::packed::each::zip_lanes;
 use bf_base::Gf2;
 use bf_base::traits::{Field, Represented};
 use std::alloc::AllocError;
@@ -29,7 +31,7 @@ pub trait Laned: Represented {
         requires { length left.old ≡ length right.now }
         ensures { map Self.repr left.new ≡ lane_by_lane Self.product (map Self.repr left.old) (map Self.repr right.now) }
     {
-        multiply_each(left, right);
+        zip_lanes(left, right, product::<Self>);
     }
 }
 
@@ -91,7 +93,7 @@ impl<F: Laned, const N: usize> Add<Packed<F, N>> for Packed<F, N> {
     #[inline]
     fn add(self, other: Packed<F, N>) -> Packed<F, N> {
         let mut lanes = self.lanes;
-        add_lanes(lanes.as_mut_slice(), other.lanes.as_slice());
+        zip_lanes(lanes.as_mut_slice(), other.lanes.as_slice(), sum::<F>);
         Packed { lanes }
     }
 }
@@ -109,26 +111,19 @@ impl<F: Laned, const N: usize> Mul<Packed<F, N>> for Packed<F, N> {
     }
 }
 
-// Adds the elements of `right` to those of `left`, place by place.
+// The operators as functions, which `zip_lanes` takes.
 #[inline]
-fn add_lanes<F: Represented>(left: &mut [F], right: &[F])
-    requires { length left.old ≡ length right.now }
-    ensures { map F.repr left.new ≡ lane_by_lane bit_xor (map F.repr left.old) (map F.repr right.now) }
+fn sum<F: Represented>(x: F, y: F) -> F
+    ensures { F.repr result ≡ bit_xor (F.repr x) (F.repr y) }
 {
-    for lane in 0..right.len() {
-        left[lane] = left[lane] + right[lane];
-    }
+    x + y
 }
 
-// Multiplies the elements of `left` by those of `right`, place by place.
 #[inline]
-fn multiply_each<F: Represented>(left: &mut [F], right: &[F])
-    requires { length left.old ≡ length right.now }
-    ensures { map F.repr left.new ≡ lane_by_lane F.product (map F.repr left.old) (map F.repr right.now) }
+fn product<F: Represented>(x: F, y: F) -> F
+    ensures { F.repr result ≡ F.product (F.repr x) (F.repr y) }
 {
-    for lane in 0..right.len() {
-        left[lane] = left[lane] * right[lane];
-    }
+    x * y
 }
 
 impl<F: Laned, const N: usize> Represented for Packed<F, N> {

@@ -1,8 +1,9 @@
 // Maps of each lane: squarings and inverses.
-ghost use Rattle.std.specs.Prelude.{◌≡◌, ◌<◌, ℕ, length, map, slice_index_or};
+ghost use Rattle.std.specs.Prelude.{◌≡◌, ◌<◌, ℕ, map, slice_index_or};
 ghost use Rattle.bf_base.specs.Powers.{repeated_square};
 ghost use Rattle.bf_packed.specs.Inverses.{IsInverseOrZero};
 
+use crate::packed::each::map_lanes;
 use crate::packed::{Packed, WiderField};
 use bf_base::traits::Field;
 
@@ -14,7 +15,12 @@ impl<F: WiderField, const N: usize> Packed<F, N> {
         ensures { map F.repr (lanes_of result) ≡ map (repeated_square F.unit F.product count) (map F.repr (lanes_of self)) }
     {
         let mut lanes = self.lanes;
-        square_lanes(lanes.as_mut_slice(), count);
+        map_lanes(
+            lanes.as_mut_slice(),
+            |lane: F| -> F
+                ensures { F.repr result ≡ repeated_square F.unit F.product count (F.repr lane) }
+            { lane.exp_power_of_2(count) },
+        );
         Packed { lanes }
     }
 
@@ -23,34 +29,14 @@ impl<F: WiderField, const N: usize> Packed<F, N> {
         ensures { (k : ℕ) (d : F) → k < N → IsInverseOrZero F.product (F.repr (slice_index_or (lanes_of self) k d)) (F.repr (slice_index_or (lanes_of result) k d)) }
     {
         let mut lanes = self.lanes;
-        invert_lanes(lanes.as_mut_slice());
+        map_lanes(lanes.as_mut_slice(), inverse_or_zero::<F>);
         Packed { lanes }
-    }
-}
-
-// Squares each element `count` times.
-#[inline]
-fn square_lanes<F: Field>(lanes: &mut [F], count: usize)
-    ensures { map F.repr lanes.new ≡ map (repeated_square F.unit F.product count) (map F.repr lanes.old) }
-{
-    for lane in 0..lanes.len() {
-        lanes[lane] = lanes[lane].exp_power_of_2(count);
-    }
-}
-
-// Writes over each element its inverse, and leaves 0.
-#[inline]
-fn invert_lanes<F: Field>(lanes: &mut [F])
-    ensures { (k : ℕ) (d : F) → k < length lanes.old → IsInverseOrZero F.product (F.repr (slice_index_or lanes.old k d)) (F.repr (slice_index_or lanes.new k d)) }
-{
-    for lane in 0..lanes.len() {
-        lanes[lane] = inverse_or_zero(lanes[lane]);
     }
 }
 
 // The inverse of an element, and 0 for 0.
 #[inline]
-fn inverse_or_zero<F: Field>(x: F) -> F
+pub(crate) fn inverse_or_zero<F: Field>(x: F) -> F
     ensures { IsInverseOrZero F.product (F.repr x) (F.repr result) }
 {
     match x.try_inverse() {

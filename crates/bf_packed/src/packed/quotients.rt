@@ -1,7 +1,9 @@
 // Quotients of packings, lane by lane.
-ghost use Rattle.std.specs.Prelude.{◌≡◌, ◌≢◌, ◌<◌, ℕ, length, map, replicate, slice_index_or};
+ghost use Rattle.std.specs.Prelude.{◌≡◌, ◌≢◌, ◌<◌, ℕ, map, replicate, slice_index_or};
 ghost use Rattle.bf_packing.specs.Lanes.{lane_by_lane};
 
+use crate::packed::each::zip_lanes;
+use crate::packed::maps::inverse_or_zero;
 use crate::packed::{Packed, WiderField};
 use bf_base::traits::Field;
 use std::ops::{Div, DivAssign};
@@ -17,7 +19,7 @@ impl<F: WiderField, const N: usize> Div<Packed<F, N>> for Packed<F, N> {
     #[inline]
     fn div(self, other: Packed<F, N>) -> Packed<F, N> {
         let mut lanes = self.lanes;
-        divide_lanes(lanes.as_mut_slice(), other.lanes.as_slice());
+        zip_lanes(lanes.as_mut_slice(), other.lanes.as_slice(), quotient::<F>);
         Packed { lanes }
     }
 }
@@ -59,14 +61,10 @@ impl<F: WiderField, const N: usize> DivAssign<F> for Packed<F, N> {
     }
 }
 
-// Divides the elements of `left` by those of `right`, of which none is 0, place by place.
+// The quotient of two elements, and 0 for a divisor that is 0.
 #[inline]
-fn divide_lanes<F: Field>(left: &mut [F], right: &[F])
-    requires long { length left.old ≡ length right.now }
-    requires nonzero { (k : ℕ) (d : F) → k < length right.now → F.repr (slice_index_or right.now k d) ≢ 0 }
-    ensures { map F.repr left.old ≡ lane_by_lane F.product (map F.repr left.new) (map F.repr right.now) }
+fn quotient<F: Field>(x: F, y: F) -> F
+    ensures { F.repr y ≢ 0 → F.repr x ≡ F.product (F.repr result) (F.repr y) }
 {
-    for lane in 0..right.len() {
-        left[lane] = left[lane] / right[lane];
-    }
+    x * inverse_or_zero(y)
 }

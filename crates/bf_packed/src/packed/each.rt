@@ -1,0 +1,27 @@
+// Loops over lanes: one of two slices, and one of a slice alone.
+ghost use Rattle.std.specs.Prelude.{◌≡◌, ◌<◌, ℕ, length, slice_index_or};
+
+// Replaces each element of `left` by what `operation` gives for it and the element of `right` at its place.
+#[inline]
+pub(crate) fn zip_lanes<F: Copy, O: Fn(F, F) -> F>(left: &mut [F], right: &[F], operation: O)
+    requires long { length left.old ≡ length right.now }
+    requires callable { O.IsAlwaysCallable operation }
+    ensures long { length left.new ≡ length left.old }
+    ensures each { (k : ℕ) (d : F) → k < length left.old → O.post operation (slice_index_or left.old k d) (slice_index_or right.now k d) (slice_index_or left.new k d) }
+{
+    for lane in 0..right.len() {
+        left[lane] = operation(left[lane], right[lane]);
+    }
+}
+
+// Replaces each element by what `operation` gives for it.
+#[inline]
+pub(crate) fn map_lanes<F: Copy, O: Fn(F) -> F>(lanes: &mut [F], operation: O)
+    requires callable { O.IsAlwaysCallable operation }
+    ensures long { length lanes.new ≡ length lanes.old }
+    ensures each { (k : ℕ) (d : F) → k < length lanes.old → O.post operation (slice_index_or lanes.old k d) (slice_index_or lanes.new k d) }
+{
+    for lane in 0..lanes.len() {
+        lanes[lane] = operation(lanes[lane]);
+    }
+}
