@@ -1,11 +1,9 @@
-use Rattle.std.proofs.Common.{◌≡◌, ℕ, ◌-◌, ◌^◌, refl, sym, ◌∙◌, ap, lit<}
+use Rattle.std.proofs.Common.{◌≡◌, ℕ, refl, sym, ◌∙◌, ap, lit<}
 use Rattle.std.specs.Prelude.{bit_xor}
-use Rattle.bf_base.specs.Powers.{power}
 use Rattle.bf_base.specs.Remainder.{mul_mod, poly64_modulus}
 use Rattle.bf_base.specs.Chunks.{chunk}
-use Rattle.bf_cubic.proofs.CubicField.{cubic_norm, norm-lt, norm_of_nonzero, scaled_adjugate}
+use Rattle.bf_cubic.proofs.CubicField.{cubic_norm, norm_of_nonzero, scaled_adjugate}
 use Rattle.bf_cubic.proofs.CubicRing.{first-triple, second-triple, third-triple, triple-low}
-use Rattle.bf_base.proofs.FieldLemmas.{power-inverts}
 use Rattle.bf_basis.proofs.Isomorphisms.{field_64}
 use Rattle.bf_poly192.proofs.Products.{adjugate_of_zero}
 use Rattle.bf_poly192.proofs.cubic.invert_192.Goals as goal
@@ -19,7 +17,7 @@ returns-clause-zero c =
     let z1 : x.c1 ≡ 0 = sym (second-triple 64 x.c0 x.c1 x.c2 r.first r.second) ∙ ap (chunk 64 1) nothing in
     let z2 : x.c2 ≡ 0 = sym (third-triple 64 x.c0 x.c1 x.c2 r.first r.second r.third) ∙ ap (chunk 64 2) nothing in
     let none =
-    adjugate_of_zero 64 (mul_mod 64 poly64_modulus) field_64.ring c.invert_mod_64-scale.result x.c0 x.c1 x.c2 z0 z1 z2
+    adjugate_of_zero 64 (mul_mod 64 poly64_modulus) field_64.ring c.invert_by_tower-scale.result x.c0 x.c1 x.c2 z0 z1 z2
     ∙ triple-low 64 0 in
     cc (
       none,
@@ -53,14 +51,13 @@ returns-clause-inverse c =
       c.multiply_mod_64-n1.ensures,
       c.multiply_mod_64-n2.ensures,
     ) in
-    let unit : times n c.invert_mod_64-scale.result ≡ 1 =
-    ap (times n) (c.invert_mod_64-scale.ensures ∙ ap (λ (k : ℕ). power 1 (mul_mod 64 poly64_modulus) k (2 ^ 64 - 2)) norm_is)
-    ∙ power-inverts 64 (mul_mod 64 poly64_modulus) field_64 (lit< tt) n
-    (norm-lt 64 (mul_mod 64 poly64_modulus) field_64.ring x.c0 x.c1 x.c2)
-    (λ none. nonzero (norm_of_nonzero 64 (mul_mod 64 poly64_modulus) field_64 (lit< tt) refl x.c0 x.c1 x.c2 r.first r.second r.third none)) in
+    let unit : times n c.invert_by_tower-scale.result ≡ 1 =
+    ap (λ (k : ℕ). times k c.invert_by_tower-scale.result) (sym norm_is)
+    ∙ c.invert_by_tower-scale.ensures.inverse
+    (λ none. nonzero (norm_of_nonzero 64 (mul_mod 64 poly64_modulus) field_64 (lit< tt) refl x.c0 x.c1 x.c2 r.first r.second r.third (sym norm_is ∙ none))) in
     let whole =
-    scaled_adjugate 64 (mul_mod 64 poly64_modulus) field_64.ring (lit< tt) x.c0 x.c1 x.c2 c.invert_mod_64-scale.result r.first r.second
-    r.third c.invert_mod_64-scale.type_inv unit in
+    scaled_adjugate 64 (mul_mod 64 poly64_modulus) field_64.ring (lit< tt) x.c0 x.c1 x.c2 c.invert_by_tower-scale.result r.first r.second
+    r.third c.invert_by_tower-scale.type_inv unit in
     cc (
       whole,
       c.square_mod_64-s0.ensures,
