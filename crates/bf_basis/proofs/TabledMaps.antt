@@ -1,15 +1,15 @@
 -- Tables of linear maps: what a checked table sums to, and the entries of a table that is made.
-use Rattle.std.proofs.Common.{◌≡◌, ◌≢◌, ℕ, zero, suc, ◌+◌, ◌-◌, ◌*◌, ◌/◌, ◌%◌, ◌^◌, ◌<◌, ◌≤◌, Bool, true, List, ◌∷◌, [], length, take, drop, get_or, get_or-set_other, get_or-set_same, below_more, length-drop, length-take-le, take-append-drop, refl, sym, ◌∙◌, ap, ap₂, subst, arith, lit<}
+use Rattle.std.proofs.Common.{◌≡◌, ◌≢◌, ℕ, zero, suc, ◌+◌, ◌*◌, ◌/◌, ◌%◌, ◌^◌, ◌<◌, ◌≤◌, Bool, true, List, ◌∷◌, [], length, take, drop, get_or, get_or-set_other, get_or-set_same, below_more, length-drop, length-take-le, take-append-drop, refl, sym, ◌∙◌, ap, ap₂, subst, arith, lit<}
 use Rattle.std.specs.Prelude.{bit_xor, slice_index}
 use Rattle.std.proofs.Math.ListN.{set}
 use Rattle.std.proofs.lemmas.Nat.{mod_low, pow-add, pow_pos, shl-shr, xor_comm}
-use native.Mathlib.Nat.{add-zero, mod-eq_of_lt, mod-lt}
+use native.Mathlib.Nat.{add-zero, mod-lt}
 use lib.Bits.{xor_shifted, xor_zero_r}
 use Rattle.bf_base.specs.ByteTables.{sum_of_entries}
 use Rattle.bf_base.specs.LinearMaps.{linear_image}
 use Rattle.bf_base.proofs.AdditiveMaps.{KeepsSums}
 use Rattle.bf_base.proofs.BasisColumns.{sum_of_columns, sum_of_columns-append, sum_of_columns-mod, sum_of_columns-nothing, sum_of_columns-sum}
-use Rattle.bf_base.proofs.ByteTableSums.{HoldValues, entries_hold, entry_passes, sum_of_entries_is}
+use Rattle.bf_base.proofs.ByteTableSums.{entries_hold, entry_passes, sum_of_entries_is}
 use Rattle.bf_base.proofs.CarrylessProduct.{xor_shl}
 use Rattle.bf_base.proofs.LinearMapLemmas.{linear_image-columns, the_linear_map}
 use Rattle.bf_base.proofs.TableChecks.{passes}

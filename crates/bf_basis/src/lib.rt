@@ -17,7 +17,7 @@ pub use crate::basis::{
 };
 pub use crate::byte_map::ByteMap;
 pub use crate::laws::{isomorphism_8, isomorphism_64, isomorphism_128};
-pub use crate::linear::{LinearMap, images_give_linear_map, sum_of_values};
+pub use crate::linear::{LinearMap, images_give_linear_map, sum_of_images, sum_of_values};
 pub use crate::slices::{
     to_polynomial_slice_64, to_polynomial_slice_128, to_tower_slice_64, to_tower_slice_128,
 };

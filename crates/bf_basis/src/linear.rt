@@ -54,18 +54,22 @@ pub(crate) fn values_at_digits(images: &[u128; 128]) -> [u128; 512]
     let mut values = [0; 512];
     for place in 0..512 {
         let first = 4 * (place / 16);
-        values[place] = sum_of_images(&images[first..first + 4], place % 16);
+        values[place] = sum_of_images(&images[first..first + 4], (place % 16) as u128);
     }
     values
 }
 
-// The sum of the images at the set bits of `x`, bit by bit.
-fn sum_of_images(images: &[u128], x: usize) -> u128
-    ensures { result ≡ linear_image images.now x }
+/// The image of `bits` by the linear map whose image of bit j is `images[j]`: the sum of the images at the set bits. It ends with the
+/// highest of them.
+pub fn sum_of_images(images: &[u128], bits: u128) -> u128
+    ensures { result ≡ linear_image images.now bits }
 {
     let mut sum = 0;
-    let mut rest = x;
+    let mut rest = bits;
     for image in images {
+        if rest == 0 {
+            return sum;
+        }
         if rest & 1 == 1 {
             sum ^= *image;
         }

@@ -6,6 +6,7 @@ ghost use Rattle.bf_stages.specs.Cantor.{AreCantorTwiddles};
 ghost use Rattle.bf_stages.specs.Stages.{stage, sum_of_factors};
 ghost use Rattle.bf_poly_basis.specs.Runs.{AreLowSums, run_factor};
 
+use bf_basis::sum_of_images;
 use bf_clmul::multiply_mod_128;
 use std::alloc::{AllocError, Allocator};
 
@@ -88,24 +89,6 @@ fn with_images(twiddles: &[u128; 4], basis: &[u128], bits: u128) -> [u128; 4]
         twiddles[2] ^ sum_of_images(&basis[1..], bits),
         twiddles[3] ^ sum_of_images(basis, bits),
     ]
-}
-
-// The sum of the images at the set bits of `bits`. It ends with the highest of them.
-fn sum_of_images(images: &[u128], bits: u128) -> u128
-    ensures { result ≡ linear_image images.now bits }
-{
-    let mut sum = 0;
-    let mut rest = bits;
-    for image in images {
-        if rest == 0 {
-            return sum;
-        }
-        if rest & 1 == 1 {
-            sum ^= *image;
-        }
-        rest >>= 1;
-    }
-    sum
 }
 
 // The four stages of the run of sixteen values from `start` on, by its twiddles and the sums of three elements of the basis.

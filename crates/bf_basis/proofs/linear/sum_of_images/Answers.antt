@@ -1,7 +1,9 @@
 use Rattle.std.proofs.Common.{◌∙◌, sym, ap, ℕ, ◌+◌, ◌/◌, ◌<◌, ◌≤◌, length, drop, arith}
 use Rattle.std.specs.Prelude.{bit_xor}
+use lib.Bits.{xor_zero_r}
 use Rattle.bf_base.specs.LinearMaps.{linear_image}
-use Rattle.bf_base.proofs.LinearMapLemmas.{image_enters, image_stays, images_end}
+use Rattle.bf_base.proofs.BasisColumns.{sum_of_columns-nothing}
+use Rattle.bf_base.proofs.LinearMapLemmas.{image_enters, image_stays, images_end, linear_image-columns}
 use Rattle.bf_basis.proofs.linear.sum_of_images.Goals as goal
 use Rattle.bf_basis.proofs.linear.sum_of_images.Goals.{then-rest-eq1, else-rest-eq1}
 
@@ -20,6 +22,14 @@ loop-image-preserved c =
           ∙ image_stays c.args.images.now place c.loop-image.sum c.loop-image.rest within w.if-rest-eq1.false
           ∙ c.loop-image.invariant
     ]
+
+-- no bit is left
+pub returns-then-rest-eq0 : goal.returns-then-rest-eq0
+returns-then-rest-eq0 c =
+    let others = drop c.loop-image.image-index c.args.images.now in
+    sym (ap (λ (rest : ℕ). bit_xor c.loop-image.sum (linear_image others rest)) c.if-rest-eq0.true
+    ∙ ap (bit_xor c.loop-image.sum) (linear_image-columns others 0 ∙ sum_of_columns-nothing others) ∙ xor_zero_r c.loop-image.sum)
+    ∙ c.loop-image.invariant
 
 pub returns : goal.returns
 returns c =

@@ -6,4 +6,4 @@ use Rattle.bf_basis.proofs.linear.sum_of_images.Given as goal
 -- the images before the index are in the sum, and the bits that are left belong to those from it on
 abbrev pub invariant-loop-image : goal.invariant-loop-image
 invariant-loop-image l =
-    bit_xor l.sum (linear_image (drop l.image-index l.images) l.rest) ≡ linear_image l.images l.fn.x
+    bit_xor l.sum (linear_image (drop l.image-index l.images) l.rest) ≡ linear_image l.images l.fn.bits
