@@ -4,6 +4,9 @@ ghost use Rattle.std.proofs.Common.{lit<, lit≤, rules};
 ghost use Rattle.bf_base.specs.Powers.{sum_of, product_of};
 ghost use Rattle.bf_base.specs.Tower.{tower_mul};
 
+mod draws;
+mod texts;
+
 use crate::traits::{
     Field, PrimeCharacteristicRing, Represented, Sealed, TowerLevel, product_of_items, sum_of_items,
 };

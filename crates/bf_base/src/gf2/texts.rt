@@ -1,0 +1,65 @@
+// Bits as text, and as numbers for `serde`: 0 or 1.
+ghost use Rattle.std.specs.Prelude.{◌≡◌, ◌<◌, ◌↔◌, IfSome, IsSome, Some};
+ghost use Rattle.std.specs.Fmt.{decimal};
+
+use crate::gf2::Gf2;
+use serde::{
+    Described, Deserialize, DeserializeOwned, Deserializer, Format, Serialize, Serializer,
+};
+use std::alloc::Global;
+use std::fmt;
+
+impl fmt::Display for Gf2 {
+    ghost output = { λ x. Some (decimal x.repr) };
+
+    ghost styled_output = { λ x s. ⟦<u8 as fmt::Display>⟧.styled_output x.repr s };
+
+    fn fmt<W: fmt::Write>(&self, f: &mut fmt::Formatter<W>) -> fmt::Result {
+        fmt::Display::fmt(&self.repr, f)
+    }
+}
+
+impl Described for Gf2 {
+    ghost writes = { λ x. ⟦<u8 as Described>⟧.writes x.repr };
+}
+
+impl Serialize for Gf2 {
+    fn serialize<S: Serializer>(&self, out: &mut S) -> Result<(), S::Error> {
+        self.repr.serialize(out)
+    }
+}
+
+// The bit that a number is, and None where it is neither 0 nor 1.
+fn bit_in_range(repr: u8) -> Option<Gf2>
+    ensures range { IsSome result ↔ (repr < 2) }
+    ensures value { IfSome result (λ x. x.repr ≡ repr) }
+{
+    if repr < 2 { Some(Gf2 { repr }) } else { None }
+}
+
+// A number other than 0 and 1 is refused.
+impl<'de> Deserialize<'de> for Gf2 {
+    fn deserialize<F: Format>(
+        alloc: Global,
+        from: &mut Deserializer<'de, '_, F>,
+    ) -> Result<Gf2, F::Error> {
+        let repr = u8::deserialize(alloc, from)?;
+        match bit_in_range(repr) {
+            Some(bit) => Ok(bit),
+            None => Err(from.custom("Value is out of range")),
+        }
+    }
+}
+
+impl DeserializeOwned for Gf2 {
+    fn deserialize_owned<F: Format>(
+        alloc: Global,
+        from: &mut Deserializer<'_, '_, F>,
+    ) -> Result<Gf2, F::Error> {
+        let repr = u8::deserialize_owned(alloc, from)?;
+        match bit_in_range(repr) {
+            Some(bit) => Ok(bit),
+            None => Err(from.custom("Value is out of range")),
+        }
+    }
+}
