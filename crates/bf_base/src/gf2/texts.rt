@@ -1,6 +1,8 @@
 // Bits as text, and as numbers for `serde`: 0 or 1.
-ghost use Rattle.std.specs.Prelude.{◌≡◌, ◌<◌, ◌↔◌, IfSome, IsSome, Some};
+ghost use Rattle.std.specs.Prelude.{◌≡◌, ◌<◌, ◌↔◌, IfOk, IfSome, IsSome, Some};
 ghost use Rattle.std.specs.Fmt.{decimal};
+ghost use Rattle.serde.specs.Event.{unsigned};
+ghost use Rattle.serde.specs.Steps.{Gives};
 
 use crate::gf2::Gf2;
 use serde::{
@@ -37,12 +39,14 @@ fn bit_in_range(repr: u8) -> Option<Gf2>
     if repr < 2 { Some(Gf2 { repr }) } else { None }
 }
 
-// A number other than 0 and 1 is refused.
+// The bit is the number that was read: 0 or 1, and any other number is refused.
 impl<'de> Deserialize<'de> for Gf2 {
     fn deserialize<F: Format>(
         alloc: Global,
         from: &mut Deserializer<'de, '_, F>,
-    ) -> Result<Gf2, F::Error> {
+    ) -> Result<Gf2, F::Error>
+        ensures { IfOk result (λ x. Gives F.gives from.old (unsigned x.repr) from.new) }
+    {
         let repr = u8::deserialize(alloc, from)?;
         match bit_in_range(repr) {
             Some(bit) => Ok(bit),
@@ -55,7 +59,9 @@ impl DeserializeOwned for Gf2 {
     fn deserialize_owned<F: Format>(
         alloc: Global,
         from: &mut Deserializer<'_, '_, F>,
-    ) -> Result<Gf2, F::Error> {
+    ) -> Result<Gf2, F::Error>
+        ensures { IfOk result (λ x. Gives F.gives from.old (unsigned x.repr) from.new) }
+    {
         let repr = u8::deserialize_owned(alloc, from)?;
         match bit_in_range(repr) {
             Some(bit) => Ok(bit),
