@@ -7,6 +7,8 @@ ghost use Rattle.bf_element.specs.Element.{repr_of};
 ghost use Rattle.bf_aes.specs.Linearized.{linearized_value};
 ghost use Rattle.bf_aes.specs.Matrix.{images_of};
 
+mod numbers;
+
 use crate::matrix::ByteMatrix;
 use bf_base::traits::{PrimeCharacteristicRing, TowerLevel};
 use bf_element::Rijndael8b;
