@@ -2,6 +2,7 @@
 #![tactic(auto)]
 
 mod cubic;
+mod draws;
 mod kernel;
 mod subfield;
 mod texts;
