@@ -8,6 +8,7 @@ pub mod Classes
 pub mod KaratsubaLemmas
 pub mod TailFolds
 pub mod Squares
+pub mod NibbleSquares
 pub mod ModularProducts
 pub mod Roots
 pub mod PowerMaps

@@ -1,5 +1,5 @@
 -- The power maps of GHASH: columns that are the values of a number of squarings, those of longer maps from shorter ones.
-use Rattle.std.proofs.Common.{◌≡◌, ℕ, ◌+◌, ◌-◌, ◌*◌, ◌/◌, ◌%◌, ◌^◌, ◌<◌, true, List, length, drop, get_or, refl, sym, ◌∙◌, ap, arith, lit<}
+use Rattle.std.proofs.Common.{◌≡◌, ℕ, ◌+◌, ◌-◌, ◌*◌, ◌/◌, ◌%◌, ◌^◌, ◌<◌, true, List, length, drop, get_or, refl, sym, ◌∙◌, ap, lit<}
 use Rattle.std.specs.Prelude.{bit_and, bit_xor}
 use Rattle.std.proofs.lemmas.Nat.{and_mask}
 use native.Mathlib.Nat.{mod-eq_of_lt, mod-lt, one-mul, zero-mul}

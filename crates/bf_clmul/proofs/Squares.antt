@@ -3,7 +3,7 @@ use Rattle.std.proofs.Common.{◌≡◌, ℕ, ◌+◌, ◌*◌, ◌%◌, ◌^◌
 use Rattle.std.specs.Prelude.{bit_xor, bit_and}
 use Rattle.std.proofs.lemmas.Nat.{xor_comm, xor_mod, shl_whole}
 use native.Mathlib.Nat.{mul_assoc}
-use lib.Bits.{xor_assoc, xor_shifted}
+use lib.Bits.{xor_assoc}
 use Rattle.bf_base.specs.Carryless.{carryless, carryless_in}
 use Rattle.bf_base.proofs.RingLemmas.{xor_cancel}
 use Rattle.bf_base.proofs.CarrylessProduct.{xor_exchange, xor_shl, carryless_comm, carryless_sum, sum_carryless, carryless_shl, shl_carryless}
@@ -97,7 +97,7 @@ spread_32 x a b c d e fits of_a of_b of_c of_d of_e =
 
 -- ---- squares by halves
 
-halves : (w x x0 x1 low high : ℕ) → x0 < 2 ^ w → x ≡ x1 * 2 ^ w + x0 → low ≡ carryless x0 x0 → high ≡ carryless x1 x1
+pub halves : (w x x0 x1 low high : ℕ) → x0 < 2 ^ w → x ≡ x1 * 2 ^ w + x0 → low ≡ carryless x0 x0 → high ≡ carryless x1 x1
     → carryless x x ≡ bit_xor low (high * 2 ^ w * 2 ^ w)
 halves w x x0 x1 low high fits of_x of_low of_high =
     ap (λ (z : ℕ). carryless z z) (split_xor w x x0 x1 fits of_x)
@@ -111,10 +111,3 @@ pub carryless_square_64 : (x x0 x1 low high : ℕ) → x0 < 2 ^ 32 → high < 2 
 carryless_square_64 x x0 x1 low high low_fits fits of_x of_low of_high =
     ap (λ (z : ℕ). bit_xor z low) (shl_whole high 64 64 128 fits (lit≤ tt) ∙ sym (mul_assoc high (2 ^ 32) (2 ^ 32)))
     ∙ xor_comm (high * 2 ^ 32 * 2 ^ 32) low ∙ sym (halves 32 x x0 x1 low high low_fits of_x of_low of_high)
-
-pub carryless_square_128 : (x x0 x1 low high : ℕ) → x0 < 2 ^ 64 → low < 2 ^ 128 → x ≡ x1 * 2 ^ 64 + x0
-    → low ≡ carryless x0 x0 → high ≡ carryless x1 x1 → carryless x x ≡ high * 2 ^ 128 + low
-carryless_square_128 x x0 x1 low high low_fits fits of_x of_low of_high =
-    halves 64 x x0 x1 low high low_fits of_x of_low of_high
-    ∙ xor_comm low (high * 2 ^ 64 * 2 ^ 64)
-    ∙ ap (λ (z : ℕ). bit_xor z low) (mul_assoc high (2 ^ 64) (2 ^ 64)) ∙ xor_shifted high 128 low fits

@@ -8,6 +8,7 @@ mod inverse;
 mod laws;
 mod masked;
 mod modular;
+mod nibbles;
 mod power_maps;
 mod product;
 mod root;

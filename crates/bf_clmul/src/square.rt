@@ -4,7 +4,8 @@ ghost use Rattle.std.specs.Prelude.{◌≡◌, ◌%◌, ◌*◌, ◌+◌, ◌^�
 ghost use Rattle.bf_base.specs.Carryless.{carryless};
 ghost use Rattle.bf_clmul.specs.Spread.{spread_step};
 
-use crate::split::{split_64, split_128};
+use crate::nibbles::{bytes_of, high_squares, low_squares, number_of};
+use crate::split::split_64;
 
 /// Moves apart by `shift` the two halves of each field of a word, of which `mask` has the places.
 fn move_halves(x: u64, shift: u32, mask: u64) -> u64
@@ -37,10 +38,12 @@ pub fn carryless_square_64(x: u64) -> u128
     ((spread_32(high) as u128) << 64) ^ (spread_32(low) as u128)
 }
 
-/// The carryless square of a double word, its low half before its high half.
+/// The carryless square of a double word, its low half before its high half: the squares of the halves of its bytes, in
+/// turn.
 pub fn carryless_square_128(x: u128) -> (u128, u128)
     ensures { carryless x x ≡ result.1 * 2 ^ 128 + result.0 }
 {
-    let (low, high) = split_128(x);
-    (carryless_square_64(low), carryless_square_64(high))
+    let bytes = bytes_of(x);
+    let (first, second) = low_squares(bytes).interleave(high_squares(bytes));
+    (number_of(first), number_of(second))
 }
