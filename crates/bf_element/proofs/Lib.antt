@@ -1,1 +1,1 @@
-mod Arrays
+pub mod Arrays

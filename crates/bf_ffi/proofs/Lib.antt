@@ -1,1 +1,2 @@
+mod Coefficients
 mod HeldElements

@@ -1,5 +1,7 @@
 -- Words as numbers, and slices of words whose places belong together.
 use Rattle.std.specs.Prelude.{◌≡◌, ◌≢◌, ℕ, ◌+◌, ◌*◌, ◌^◌, ◌<◌, List, length, get_or}
+use Rattle.bf_cubic.specs.Cubic.{triple}
+use Rattle.bf_ffi.specs.declared.words.Cubic.{Cubic}
 use Rattle.bf_ffi.specs.declared.words.Wide.{Wide}
 
 -- the number of 128 bits that two words of 64 are, low half first
@@ -9,6 +11,14 @@ wide_number word = word.high * 2 ^ 64 + word.low
 -- the number of 128 bits at an index, and 0 past the end
 abbrev pub wide_at : List Wide → ℕ → ℕ
 wide_at words k = wide_number (get_or words k (record { low = 0; high = 0 }))
+
+-- the number of 192 bits that three words of 64 are, the lowest first
+abbrev pub cubic_number : Cubic → ℕ
+cubic_number word = triple 64 word.c0 word.c1 word.c2
+
+-- the number of 192 bits at an index, and 0 past the end
+abbrev pub cubic_at : List Cubic → ℕ → ℕ
+cubic_at words k = cubic_number (get_or words k (record { c0 = 0; c1 = 0; c2 = 0 }))
 
 -- `y` is the inverse of `x` under the product `times`, or both are 0
 abbrev pub IsInverseOrZero : (ℕ → ℕ → ℕ) → ℕ → ℕ → Type 0

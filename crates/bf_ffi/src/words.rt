@@ -1,11 +1,11 @@
 // The words in which the elements of rings cross to other languages.
 ghost use Rattle.std.specs.Prelude.{◌≡◌, ℕ};
-ghost use Rattle.bf_ffi.specs.Words.{wide_number};
+ghost use Rattle.bf_ffi.specs.Words.{cubic_number, wide_number};
 
 use bf_base::traits::{Represented, TowerLevel};
 use bf_element::{
     BinaryField8, BinaryField16, BinaryField32, BinaryField64, BinaryField128, Ghash128, Poly64,
-    Rijndael8b,
+    Poly192, Rijndael8b,
 };
 
 /// A word that holds an element of the ring `R`.
@@ -141,5 +141,35 @@ impl Word<Ghash128> for Wide {
 
     fn from_element(element: Ghash128) -> Wide {
         Wide::new(element.to_bits())
+    }
+}
+
+/// A word of 192 bits as three of 64, the coefficient of 1 first, then that of y and of y².
+#[repr(C)]
+#[derive(Clone, Copy)]
+pub struct Cubic {
+    c0: u64,
+    c1: u64,
+    c2: u64,
+}
+
+impl Word<Poly192> for Cubic {
+    ghost number = { cubic_number };
+
+    fn element(self) -> Poly192 {
+        Poly192::new([
+            Poly64::new(self.c0),
+            Poly64::new(self.c1),
+            Poly64::new(self.c2),
+        ])
+    }
+
+    fn from_element(element: Poly192) -> Cubic {
+        let [c0, c1, c2] = element.coefficients();
+        Cubic {
+            c0: c0.to_bits(),
+            c1: c1.to_bits(),
+            c2: c2.to_bits(),
+        }
     }
 }
