@@ -23,7 +23,12 @@ if [ -n "${RUST_CRATE:-}" ]; then
     mkdir -p "$both"
     ln -sfn "$here/src" "$both/src"
     ln -sfn "$here/build.rs" "$both/build.rs"
-    { cat "$here/Cargo.toml"; echo "p3-binary-field = { path = \"$rust_crate\" }"; } > "$both/Cargo.toml"
+    {
+        cat "$here/Cargo.toml"
+        echo "p3-binary-field = { path = \"$rust_crate\" }"
+        # The traits of its fields, from where it has them.
+        grep '^p3-field ' "$rust_crate/Cargo.toml" | sed "s|path = \"|path = \"$rust_crate/|"
+    } > "$both/Cargo.toml"
     manifest="$both/Cargo.toml"
     features="--features rust_crate"
 fi

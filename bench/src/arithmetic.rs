@@ -60,3 +60,23 @@ macro_rules! word {
 }
 
 word!(u8, u16, u32, u64, u128);
+
+/// An element of the cubic extension as its three coefficients, that of 1 first, as the static library takes it.
+#[repr(C)]
+#[derive(Clone, Copy, Default, PartialEq)]
+pub struct Cubic(pub [u64; 3]);
+
+impl Word for Cubic {
+    const BITS: u32 = 192;
+
+    // The third coefficient is a mix of the bits of the first two.
+    fn of(bits: u128) -> Self {
+        let (low, high) = (bits as u64, (bits >> 64) as u64);
+        Cubic([low, high, (low ^ high).wrapping_mul(0x9e37_79b9_7f4a_7c15)])
+    }
+
+    fn bits(self) -> u128 {
+        let [c0, c1, c2] = self.0;
+        u128::from(c1) << 64 | u128::from(c0 ^ c2.rotate_left(32))
+    }
+}

@@ -80,23 +80,23 @@ impl Report {
         print_heading("Fields of the tower");
         self.field(&sides!(
             ours::field8(),
-            theirs::field::<rust::BinaryField8>()
+            theirs::field::<theirs::Level<rust::BinaryField8>>()
         ));
         self.field(&sides!(
             ours::field16(),
-            theirs::field::<rust::BinaryField16>()
+            theirs::field::<theirs::Level<rust::BinaryField16>>()
         ));
         self.field(&sides!(
             ours::field32(),
-            theirs::field::<rust::BinaryField32>()
+            theirs::field::<theirs::Level<rust::BinaryField32>>()
         ));
         self.field(&sides!(
             ours::field64(),
-            theirs::field::<rust::BinaryField64>()
+            theirs::field::<theirs::Level<rust::BinaryField64>>()
         ));
         self.field(&sides!(
             ours::field128(),
-            theirs::field::<rust::BinaryField128>()
+            theirs::field::<theirs::Level<rust::BinaryField128>>()
         ));
     }
 
@@ -104,15 +104,29 @@ impl Report {
         print_heading("Rijndael8b");
         self.field(&sides!(
             ours::rijndael(),
-            theirs::field::<rust::Rijndael8b>()
+            theirs::field::<theirs::Level<rust::Rijndael8b>>()
         ));
-        self.bytes(&sides!(ours::apply_matrix as ByteMap, theirs::apply_matrix as ByteMap));
+        self.bytes(&sides!(
+            ours::apply_matrix as ByteMap,
+            theirs::apply_matrix as ByteMap
+        ));
         print_heading("Poly64");
-        self.field(&sides!(ours::poly64(), theirs::field::<rust::Poly64>()));
+        self.field(&sides!(
+            ours::poly64(),
+            theirs::field::<theirs::Level<rust::Poly64>>()
+        ));
         self.basis(&sides!(ours::basis64(), theirs::basis64()));
         print_heading("Ghash128");
-        self.field(&sides!(ours::ghash128(), theirs::field::<rust::Ghash128>()));
+        self.field(&sides!(
+            ours::ghash128(),
+            theirs::field::<theirs::Level<rust::Ghash128>>()
+        ));
         self.basis(&sides!(ours::basis128(), theirs::basis128()));
+        print_heading("Poly192");
+        self.field(&sides!(
+            ours::poly192(),
+            theirs::field::<theirs::Extension>()
+        ));
     }
 
     /// The rows that every field has.

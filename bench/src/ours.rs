@@ -1,7 +1,7 @@
 //! The functions of the static library. It takes a slice as a pointer and a length, and 128 bits as two numbers of 64,
 //! low half first, which is how a `u128` lies in memory here.
 
-use crate::arithmetic::{Arithmetic, Polynomials};
+use crate::arithmetic::{Arithmetic, Cubic, Polynomials};
 
 macro_rules! ours {
     ($name:ident, $word:ty, $multiply:ident, $chain:ident, $square:ident, $inverse:ident, $square_root:ident) => {
@@ -139,6 +139,16 @@ ours!(
     bf_square_ghash128,
     bf_inverse_ghash128,
     bf_square_root_ghash128
+);
+
+ours!(
+    poly192,
+    Cubic,
+    bf_multiply_poly192,
+    bf_chain_poly192,
+    bf_square_poly192,
+    bf_inverse_poly192,
+    bf_square_root_poly192
 );
 
 macro_rules! polynomials {

@@ -1,42 +1,93 @@
 //! The same functions over the fields of the Rust crate.
 
 use crate::LENGTH;
-use crate::arithmetic::{Arithmetic, Polynomials, Word};
+use crate::arithmetic::{Arithmetic, Cubic, Polynomials, Word};
 use p3_binary_field::{
-    BinaryField64, BinaryField128, ByteMatrix, Ghash128, Poly64, TowerLevel, poly_basis,
+    BinaryField64, BinaryField128, ByteMatrix, Ghash128, Poly64, Poly192, TowerLevel, poly_basis,
 };
+use p3_field::{Field, PrimeCharacteristicRing};
+use std::marker::PhantomData;
 
-/// The functions of the field `F`.
-pub fn field<F: TowerLevel>() -> Arithmetic<F::Repr>
+/// A field and the words in which its elements cross.
+pub trait Side {
+    type Element: Field;
+
+    type Word: Word;
+
+    fn element(word: Self::Word) -> Self::Element;
+
+    fn word(element: Self::Element) -> Self::Word;
+}
+
+/// The side of a field that is a level of a tower.
+pub struct Level<F>(PhantomData<F>);
+
+impl<F: TowerLevel> Side for Level<F>
 where
     F::Repr: Word,
 {
+    type Element = F;
+
+    type Word = F::Repr;
+
+    fn element(word: F::Repr) -> F {
+        F::from_repr(word)
+    }
+
+    fn word(element: F) -> F::Repr {
+        element.to_repr()
+    }
+}
+
+/// The side of the cubic extension.
+pub struct Extension;
+
+impl Side for Extension {
+    type Element = Poly192;
+
+    type Word = Cubic;
+
+    fn element(word: Cubic) -> Poly192 {
+        Poly192::new(word.0.map(Poly64::new))
+    }
+
+    fn word(element: Poly192) -> Cubic {
+        Cubic(element.coefficients().map(Poly64::to_bits))
+    }
+}
+
+/// The functions of the field of `S`.
+pub fn field<S: Side>() -> Arithmetic<S::Word> {
     Arithmetic {
         multiply: |x, y, out| {
             for ((x, y), out) in x.iter().zip(y).zip(out) {
-                *out = (F::from_repr(*x) * F::from_repr(*y)).to_repr();
+                *out = S::word(S::element(*x) * S::element(*y));
             }
         },
         chain: |factors, product| {
-            let mut value = F::from_repr(*product);
+            let mut value = S::element(*product);
             for factor in factors {
-                value *= F::from_repr(*factor);
+                value *= S::element(*factor);
             }
-            *product = value.to_repr();
+            *product = S::word(value);
         },
-        square: |x, out| each(x, out, |x: F| x.square()),
-        inverse: |x, out| each(x, out, |x: F| x.inverse()),
+        square: |x, out| each::<S>(x, out, |x| x.square()),
+        inverse: |x, out| each::<S>(x, out, |x| x.inverse()),
         square_root: |x, out| {
-            each(x, out, |x: F| {
+            each::<S>(x, out, |x| {
                 x.try_sqrt().expect("each element has a square root")
             })
         },
     }
 }
 
-fn each<F: TowerLevel>(words: &[F::Repr], out: &mut [F::Repr], operation: impl Fn(F) -> F) {
+fn each<S: Side>(
+    words: &[S::Word],
+    out: &mut [S::Word],
+    operation: impl Fn(S::Element) -> S::Element,
+) {
     for (word, out) in words.iter().zip(out) {
-        *out = operation(F::from_repr(*word)).to_repr();
+        *out = S::word(operation(S::element(*word)));
     }
 }
 
