@@ -1,3 +1,4 @@
 pub mod Challengers
 pub mod Digests
+pub mod Grinding
 pub mod Sampled

@@ -6,6 +6,7 @@ mod algebra;
 mod challenger;
 mod digest;
 mod elements;
+mod error;
 mod sample;
 mod witness;
 
@@ -13,5 +14,6 @@ pub use crate::algebra::FieldChallenger;
 pub use crate::challenger::BinaryChallenger;
 pub use crate::digest::{Digest, Hash, MerkleCap};
 pub use crate::elements::{CanSampleBits, CanSampleUniformBits};
+pub use crate::error::GrindError;
 pub use crate::sample::CanSample;
 pub use crate::witness::GrindingChallenger;

@@ -1,0 +1,10 @@
+use Rattle.std.proofs.Common.{◌<◌, ℕ, arith}
+use Rattle.bf_challenger.specs.Grinding.{candidate_count}
+use Rattle.bf_challenger.proofs.Candidates.{candidate_lt}
+use Rattle.bf_challenger.proofs.challenger.BinaryChallenger.first_passing.Goals as goal
+
+pub interpolation_node-witness-requires : goal.interpolation_node-witness-requires
+interpolation_node-witness-requires g c =
+    let within : c.candidates.number < candidate_count g.F.Represented.width =
+    omega (arith, c.candidates-test.true, c.candidates.auto.number-end, c.candidate_count-number-end.ensures) in
+    candidate_lt g.F.Represented.width c.candidates.number within
