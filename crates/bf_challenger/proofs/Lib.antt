@@ -1,3 +1,4 @@
+pub mod CallLists
 pub mod Candidates
 pub mod Checks
 pub mod ManyCalls

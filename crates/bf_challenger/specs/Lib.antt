@@ -1,3 +1,4 @@
+pub mod Calls
 pub mod Challengers
 pub mod Digests
 pub mod Grinding

@@ -3,6 +3,7 @@
 #![tactic(auto)]
 
 mod algebra;
+mod calls;
 mod challenger;
 mod digest;
 mod elements;
@@ -11,6 +12,7 @@ mod sample;
 mod witness;
 
 pub use crate::algebra::FieldChallenger;
+pub use crate::calls::{Call, Reply, run_calls};
 pub use crate::challenger::BinaryChallenger;
 pub use crate::digest::{Digest, Hash, MerkleCap};
 pub use crate::elements::{CanSampleBits, CanSampleUniformBits};
