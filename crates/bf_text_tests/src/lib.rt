@@ -1,7 +1,9 @@
-//! Tests of elements as text and as numbers of `serde`. Expected values follow from the representations that stand beside them.
-//! The crate has nothing to call.
+//! Tests of elements as text and as numbers of `serde`, and of elements that are drawn. Expected values follow from the
+//! representations that stand beside them. The crate has nothing to call.
 #![tactic(auto)]
 
+#[cfg(test)]
+mod draws;
 #[cfg(test)]
 mod numbers;
 #[cfg(test)]

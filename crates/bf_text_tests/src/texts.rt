@@ -1,6 +1,7 @@
 // Elements as text.
+use bf_base::Gf2;
 use bf_base::traits::TowerLevel;
-use bf_element::{BinaryField16, Ghash128, Poly64, Poly192};
+use bf_element::{BinaryField2, BinaryField16, Ghash128, Poly64, Poly192};
 use std::alloc::Global;
 use std::fmt::Display;
 
@@ -15,7 +16,10 @@ fn prints<E: Display + Copy>(alloc: Global, element: E, want: &str) -> bool {
 fn elements_as_text(rt: HostRuntime) {
     let alloc = rt.alloc();
     assert!(rt;
-        prints(alloc, BinaryField16::from_repr(0xA5C3), "42435")
+        prints(alloc, Gf2::from_repr(0), "0")
+            && prints(alloc, Gf2::from_repr(3), "1")
+            && prints(alloc, BinaryField2::from_repr(7), "3")
+            && prints(alloc, BinaryField16::from_repr(0xA5C3), "42435")
             && prints(
                 alloc,
                 Ghash128::from_repr(1 << 127),
