@@ -1,10 +1,10 @@
 -- The rounds of a transposition, over the numbers of the rows.
 use Rattle.std.proofs.Common.{◌≡◌, ◌≢◌, ℕ, ◌+◌, ◌*◌, ◌/◌, ◌%◌, ◌<◌, ◌≤◌, ◌-◌, suc, zero, List, length, get_or, map, set, refl, sym, ap, ap₂, ◌∙◌, lit<, arith, subst, inl, inr, ◌⊎◌, get_or-set_same, get_or-set_other}
 use Rattle.std.specs.Int.{bit_at}
-use Rattle.std.proofs.lemmas.Bool.{cases_eq}
+use Rattle.std.proofs.lemmas.Bool.{cases_eq, cases_lt}
 use Rattle.std.proofs.lemmas.List.{get_or-map, length-map, length-set, map-set}
-use Rattle.std.proofs.lemmas.Nat.{mul-le}
-use Rattle.std.proofs.Math.Nat.{div-one, div-eq_of_lt}
+use Rattle.std.proofs.lemmas.Nat.{div-mul-add, mul-le}
+use Rattle.std.proofs.Math.Nat.{add-mul, div-one, div-eq_of_lt, mul_assoc}
 use native.Mathlib.Nat.{mod-lt, mod-eq_of_lt}
 use Rattle.bf_bitslice_words.specs.Parts.{HasFirstBlocks, HasSecondBlocks}
 use Rattle.bf_bitslice_words.proofs.BlockPlaces.{before_quotient, even_mixed, mixed, next_quotient, odd_is_above, odd_mixed, same_mixed}
@@ -215,3 +215,60 @@ rounds_ended width s old now whole so_far = all_mixed width old now (subst (λ (
 pub double_fits : (width q s : ℕ) → width ≡ q * (2 * s) → s < width → s * 2 ≤ width
 double_fits width zero s is less = absurd (omega arith)
 double_fits width (suc q) s is less = let more = mul-le 1 (2 * s) (suc q) (2 * s) (omega arith) (omega arith) in omega (arith, more, is)
+
+-- ---- blocks of rows, two by two
+
+pub pairs_are : (width q s : ℕ) → 0 < s → width ≡ q * (2 * s) → width / (2 * s) ≡ q
+pairs_are width q s some is =
+    let none : q * (2 * s) + 0 ≡ q * (2 * s) = omega arith in
+    ap (λ (x : ℕ). x / (2 * s)) (is ∙ sym none) ∙ div-mul-add q (2 * s) 0 (omega arith)
+
+-- the pairs of blocks fill the rows
+pub pairs_fill : (width q s pair : ℕ) → 0 < s → width ≡ q * (2 * s) → pair < width / (2 * s) → pair * (2 * s) + 2 * s ≤ width
+pairs_fill width q s pair some is less =
+    let double : 0 < 2 * s = omega arith in
+    let count : width / (2 * s) ≡ q = pairs_are width q s some is in
+    let below : pair < q = omega arith in
+    let more = mul-le (pair + 1) (2 * s) q (2 * s) (omega arith) (omega arith) in
+    let spread = add-mul pair 1 (2 * s) in
+    omega (arith, more, spread, is)
+
+block_of : (s c i : ℕ) → c * s ≤ i → i < c * s + s → i / s ≡ c
+block_of s c i low high =
+    let place : i ≡ c * s + (i - c * s) = omega arith in
+    ap (λ (x : ℕ). x / s) place ∙ div-mul-add c s (i - c * s) (omega arith)
+
+twice_times : (pair s : ℕ) → pair * (2 * s) ≡ pair * 2 * s
+twice_times pair s = sym (mul_assoc pair 2 s)
+
+pub upper_block : (s pair i : ℕ) → pair * (2 * s) ≤ i → i < pair * (2 * s) + s → i / s % 2 ≡ 0
+upper_block s pair i low high =
+    let place = twice_times pair s in
+    let block = block_of s (pair * 2) i (omega arith) (omega arith) in
+    omega (arith, block)
+
+lower_block : (s pair i : ℕ) → pair * (2 * s) + s ≤ i → i < pair * (2 * s) + s + s → i / s % 2 ≡ 1
+lower_block s pair i low high =
+    let place = twice_times pair s in
+    let spread = add-mul (pair * 2) 1 s in
+    let block = block_of s (pair * 2 + 1) i (omega arith) (omega arith) in
+    omega (arith, block)
+
+-- a round passes the rows of a lower block: they were written with those of the upper one
+pub block_passes : (width s pair n : ℕ) (old now : List ℕ) → 0 < s → n ≡ pair * (2 * s) + s
+    → IsRoundTo width s n old now → IsRoundTo width s ((pair + 1) * (2 * s)) old now
+block_passes width s pair n old now some is so_far =
+    let spread = add-mul pair 1 (2 * s) in
+    record {
+      even_done = λ r less even below. so_far.even_done r less even (not_lower r even (omega (arith, spread, below)));
+      even_left = λ r less even more. so_far.even_left r less even (omega (arith, spread, more, is));
+      odd_done = λ r less odd below. so_far.odd_done r less odd (not_lower (r - s) (before_parity_even s r some odd) (omega (arith, spread, below)));
+      odd_left = λ r less odd more. so_far.odd_left r less odd (omega (arith, spread, more, is));
+    }
+  where
+    not_lower : (r : ℕ) → r / s % 2 ≡ 0 → r < pair * (2 * s) + s + s → r < n
+    not_lower r even below = cases (cases_lt r n)
+      where
+        cases : (r < n) ⊎ (n ≤ r) → r < n
+        cases (inl h) = h
+        cases (inr h) = let odd = lower_block s pair r (omega (arith, is, h)) below in absurd (omega (arith, odd, even))

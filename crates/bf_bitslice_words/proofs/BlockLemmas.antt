@@ -1,5 +1,5 @@
 -- Interleaved words make interleaved blocks of words, whether a block of lanes lies in a word or takes several.
-use Rattle.std.proofs.Common.{◌≡◌, ◌≢◌, ℕ, ◌+◌, ◌*◌, ◌/◌, ◌%◌, ◌^◌, ◌<◌, ◌≤◌, ◌-◌, suc, sym, ap, ◌∙◌, lit<, arith, subst, inl, inr, ◌⊎◌}
+use Rattle.std.proofs.Common.{◌≡◌, ◌≢◌, ℕ, ◌+◌, ◌*◌, ◌/◌, ◌%◌, ◌^◌, ◌<◌, ◌≤◌, ◌-◌, suc, true, List, get_or, refl, sym, ap, ◌∙◌, lit<, arith, subst, inl, inr, ◌⊎◌}
 use Rattle.std.specs.Int.{bit_at}
 use Rattle.std.proofs.lemmas.Bool.{cases_eq, cases_lt}
 use Rattle.std.proofs.lemmas.Nat.{div-add-mod', div_below, mod-pow-add, mul-le, ones-le, ones_cat, pow-add, pow_pos}
@@ -8,7 +8,8 @@ use Rattle.std.proofs.Math.Pow.{pow_mono}
 use Rattle.std.specs.Prelude.{count_ones}
 use lib.Count.{ones}
 use native.Mathlib.Nat.{mod-lt}
-use Rattle.bf_bitslice_words.specs.Parts.{HasEvenBlocks, HasFirstBlocks, HasSecondBlocks, IsBlockSize, IsWithPart, part_at}
+use Rattle.bf_bitslice_words.specs.Joined.{joined-part, whole-below}
+use Rattle.bf_bitslice_words.specs.Parts.{HasEvenBlocks, HasFirstBlocks, HasSecondBlocks, IsBlockSize, IsWithPart, is_whole, joined, part_at}
 use Rattle.bf_bitslice_words.proofs.BlockPlaces.{odd_is_above}
 use Rattle.bf_bitslice_words.proofs.LaneLemmas.{bit_at_mod, lane-part}
 
@@ -182,3 +183,29 @@ ones_fit w n i = ones-le (w * (i + 1)) (n % 2 ^ (w * (i + 1))) (mod-lt n (pow_po
 
 pub places_up : (w i count : ℕ) → i < count → w * (i + 1) ≤ w * count
 places_up w i count less = mul-le w (i + 1) w count (omega arith) (omega arith)
+
+-- ---- the words of two blocks interleaved, each with that in its place
+
+pub first_in_joined : (count block : ℕ) (left right x : List ℕ) → IsBlockSize 64 block
+    → is_whole 64 count left ≡ true → is_whole 64 count right ≡ true → is_whole 64 count x ≡ true
+    → ((k : ℕ) → k < count → HasFirstBlocks 64 block (get_or left k 0) (get_or right k 0) (get_or x k 0))
+    → HasFirstBlocks (64 * count) block (joined 64 left) (joined 64 right) (joined 64 x)
+first_in_joined count block left right x size l r w each =
+    let divides = block_divides 64 6 block refl size in
+    first_in_words 64 divides.0 block count (joined 64 left) (joined 64 right) (joined 64 x) (block_some 64 block size) (lit< tt) divides.1
+    (λ k less.
+    subst (λ (z : ℕ). HasFirstBlocks 64 block (part_at 64 (joined 64 left) k) (part_at 64 (joined 64 right) k) z) (sym (joined-part 64 x (whole-below 64 count x w) k))
+    (subst (λ (z : ℕ). HasFirstBlocks 64 block (part_at 64 (joined 64 left) k) z (get_or x k 0)) (sym (joined-part 64 right (whole-below 64 count right r) k))
+    (subst (λ (z : ℕ). HasFirstBlocks 64 block z (get_or right k 0) (get_or x k 0)) (sym (joined-part 64 left (whole-below 64 count left l) k)) (each k less))))
+
+pub second_in_joined : (count block : ℕ) (left right x : List ℕ) → IsBlockSize 64 block
+    → is_whole 64 count left ≡ true → is_whole 64 count right ≡ true → is_whole 64 count x ≡ true
+    → ((k : ℕ) → k < count → HasSecondBlocks 64 block (get_or left k 0) (get_or right k 0) (get_or x k 0))
+    → HasSecondBlocks (64 * count) block (joined 64 left) (joined 64 right) (joined 64 x)
+second_in_joined count block left right x size l r w each =
+    let divides = block_divides 64 6 block refl size in
+    second_in_words 64 divides.0 block count (joined 64 left) (joined 64 right) (joined 64 x) (block_some 64 block size) (lit< tt) divides.1
+    (λ k less.
+    subst (λ (z : ℕ). HasSecondBlocks 64 block (part_at 64 (joined 64 left) k) (part_at 64 (joined 64 right) k) z) (sym (joined-part 64 x (whole-below 64 count x w) k))
+    (subst (λ (z : ℕ). HasSecondBlocks 64 block (part_at 64 (joined 64 left) k) z (get_or x k 0)) (sym (joined-part 64 right (whole-below 64 count right r) k))
+    (subst (λ (z : ℕ). HasSecondBlocks 64 block z (get_or right k 0) (get_or x k 0)) (sym (joined-part 64 left (whole-below 64 count left l) k)) (each k less))))

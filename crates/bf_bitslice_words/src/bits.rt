@@ -95,3 +95,17 @@ pub fn join_odd_blocks<W: Word>(left: W, right: W, block: u32, even: W) -> W
 {
     right ^ block_difference(left, right, block, even)
 }
+
+/// Both results of interleaving two words by blocks of `block` bits. It asks for a power of two below the bits of a word.
+#[inline]
+pub fn interleave_word<W: Word>(left: W, right: W, block: u32) -> (W, W)
+    requires { IsBlockSize W.BITS block }
+    ensures first { HasFirstBlocks W.BITS block (W.number left) (W.number right) (W.number result.0) }
+    ensures second { HasSecondBlocks W.BITS block (W.number left) (W.number right) (W.number result.1) }
+{
+    let even = even_word::<W>(block);
+    (
+        join_even_blocks(left, right, block, even),
+        join_odd_blocks(left, right, block, even),
+    )
+}

@@ -1,11 +1,13 @@
 // Blocks of words.
-ghost use Rattle.std.specs.Prelude.{◌≡◌, ℕ, IsTrue, refl, replicate};
+ghost use Rattle.std.specs.Prelude.{◌≡◌, ◌<◌, ℕ, IsTrue, refl, replicate, slice_index};
 ghost use Rattle.std.proofs.Common.{lit<, rules, ◌^◌, ◌-◌};
-ghost use Rattle.bf_bitslice_words.specs.Parts.{is_whole, joined};
+ghost use Rattle.bf_bitslice_words.specs.Parts.{HasFirstBlocks, HasSecondBlocks, IsBlockSize, is_whole, joined};
 ghost use Rattle.bf_bitslice_words.specs.Joined.{same_from_joined, whole_joined-lt};
 
+use crate::bits::even_word;
 use crate::sealed::Sealed;
 use crate::underlier::Underlier;
+use std::simd::Simd;
 
 /// A block of `N` words of 64 bits, the lowest first. Its names are `M128`, `M256` and `M512`.
 #[derive(Clone, Copy, Debug, PartialEq, Eq, Hash)]
@@ -47,6 +49,35 @@ impl<const N: usize> Default for Block<N> {
 }
 
 impl<const N: usize> Sealed for Block<N> {}
+
+// Both results of interleaving each word of the one block with that of the other, all words at once in the lanes of a
+// vector.
+#[inline]
+fn interleave_lanes<const N: usize>(
+    left: &Block<N>,
+    right: &Block<N>,
+    block: u32,
+) -> (Block<N>, Block<N>)
+    requires { IsBlockSize 64 block }
+    ensures first { (k : ℕ) → k < N → HasFirstBlocks 64 block (slice_index left.now.words k) (slice_index right.now.words k) (slice_index result.0.words k) }
+    ensures second { (k : ℕ) → k < N → HasSecondBlocks 64 block (slice_index left.now.words k) (slice_index right.now.words k) (slice_index result.1.words k) }
+{
+    let even = Simd::<u64, N>::splat(even_word::<u64>(block));
+    let places = Simd::<u64, N>::splat(block as u64);
+    let upper = Simd::<u64, N>::from_array(left.words);
+    let lower = Simd::<u64, N>::from_array(right.words);
+    let change = ((upper >> places) ^ lower) & even;
+    let first = upper ^ (change << places);
+    let second = lower ^ change;
+    (
+        Block {
+            words: first.to_array(),
+        },
+        Block {
+            words: second.to_array(),
+        },
+    )
+}
 
 impl Underlier for Block<2> {
     type Word = u64;
@@ -93,6 +124,15 @@ impl Underlier for Block<2> {
     fn checked(&self) -> Block<2> {
         let _word = self.words[0];
         *self
+    }
+
+    fn interleave_in_words(&self, other: &Block<2>, block: u32) -> (Block<2>, Block<2>) {
+        let _left = self.checked();
+        let _right = other.checked();
+        let (first, second) = interleave_lanes(self, other, block);
+        let _first = first.checked();
+        let _second = second.checked();
+        (first, second)
     }
 
     ghost words_law = { refl };
@@ -165,6 +205,15 @@ impl Underlier for Block<4> {
         *self
     }
 
+    fn interleave_in_words(&self, other: &Block<4>, block: u32) -> (Block<4>, Block<4>) {
+        let _left = self.checked();
+        let _right = other.checked();
+        let (first, second) = interleave_lanes(self, other, block);
+        let _first = first.checked();
+        let _second = second.checked();
+        (first, second)
+    }
+
     ghost words_law = { refl };
 
     ghost bits_law = { refl };
@@ -233,6 +282,15 @@ impl Underlier for Block<8> {
     fn checked(&self) -> Block<8> {
         let _word = self.words[0];
         *self
+    }
+
+    fn interleave_in_words(&self, other: &Block<8>, block: u32) -> (Block<8>, Block<8>) {
+        let _left = self.checked();
+        let _right = other.checked();
+        let (first, second) = interleave_lanes(self, other, block);
+        let _first = first.checked();
+        let _second = second.checked();
+        (first, second)
     }
 
     ghost words_law = { refl };

@@ -9,8 +9,10 @@ mod underlier;
 mod word;
 mod words;
 
-pub use crate::bits::{even_word, field, join_even_blocks, join_odd_blocks, with_field};
+pub use crate::bits::{
+    even_word, field, interleave_word, join_even_blocks, join_odd_blocks, with_field,
+};
 pub use crate::block::{Block, M128, M256, M512};
-pub use crate::rows::{bits_and, bits_xor, count_bits, interleave_in_words, interleave_words};
+pub use crate::rows::{bits_and, bits_xor, count_bits, interleave_words};
 pub use crate::underlier::Underlier;
 pub use crate::word::Word;

@@ -2,7 +2,6 @@
 ghost use Rattle.std.specs.Prelude.{◌≡◌, ◌<◌, ◌+◌, ◌-◌, ◌*◌, ◌/◌, ◌%◌, IsTrue, bit_and, bit_xor, count_ones};
 ghost use Rattle.bf_bitslice_words.specs.Parts.{HasFirstBlocks, HasSecondBlocks, IsBlockSize, part_at};
 
-use crate::bits::{even_word, join_even_blocks, join_odd_blocks};
 use crate::underlier::Underlier;
 use crate::word::Word;
 
@@ -52,27 +51,6 @@ pub fn count_bits<U: Underlier>(row: &U) -> u32
         count += word.count_ones();
     }
     count
-}
-
-/// Both results of interleaving two rows by blocks of `block` bits. It asks for a power of two below the bits of a word.
-#[inline]
-pub fn interleave_in_words<U: Underlier>(left: &U, right: &U, block: u32) -> (U, U)
-    requires { IsBlockSize U.Word.BITS block }
-    ensures first { HasFirstBlocks U.BITS block (U.number left.now) (U.number right.now) (U.number result.0) }
-    ensures second { HasSecondBlocks U.BITS block (U.number left.now) (U.number right.now) (U.number result.1) }
-    ensures first_whole { IsTrue (U.is_whole result.0) }
-    ensures second_whole { IsTrue (U.is_whole result.1) }
-{
-    let even = even_word::<U::Word>(block);
-    let mut first = U::ZERO;
-    let mut second = U::ZERO;
-    for i in 0..U::WORD_COUNT {
-        let upper = left.word(i);
-        let lower = right.word(i);
-        first.set_word(i, join_even_blocks(upper, lower, block, even));
-        second.set_word(i, join_odd_blocks(upper, lower, block, even));
-    }
-    (first, second)
 }
 
 // Word `i` of the first result of interleaving by blocks of `block` words.

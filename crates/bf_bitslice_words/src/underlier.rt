@@ -1,7 +1,7 @@
 // What packed bits are stored in: one word, or a block of words.
 ghost use Rattle.std.specs.Prelude.{◌≡◌, ◌↔◌, ◌<◌, ◌-◌, ◌*◌, ◌^◌, ℕ, Bool, IsTrue, List, map};
 ghost use Rattle.std.specs.Array.{FillsFrom};
-ghost use Rattle.bf_bitslice_words.specs.Parts.{IsWithPart, IsZipped, part_at, parts_of};
+ghost use Rattle.bf_bitslice_words.specs.Parts.{HasFirstBlocks, HasSecondBlocks, IsBlockSize, IsWithPart, IsZipped, part_at, parts_of};
 
 use crate::sealed::Sealed;
 use crate::word::Word;
@@ -76,6 +76,15 @@ pub trait Underlier: Sealed + Copy + Debug + Default + PartialEq + Eq + Hash {
     fn checked(&self) -> Self
         ensures same { result ≡ self.now }
         ensures whole { IsTrue (is_whole self.now) };
+
+    /// Both results of interleaving the row and the other by blocks of `block` bits. It asks for a power of two below the
+    /// bits of a word.
+    fn interleave_in_words(&self, other: &Self, block: u32) -> (Self, Self)
+        requires { IsBlockSize Self.Word.BITS block }
+        ensures first { HasFirstBlocks BITS block (number self.now) (number other.now) (number result.0) }
+        ensures second { HasSecondBlocks BITS block (number self.now) (number other.now) (number result.1) }
+        ensures first_whole { IsTrue (is_whole result.0) }
+        ensures second_whole { IsTrue (is_whole result.1) };
 
     /// The row whose word i is `f(i)`. `f` is called for 0, 1, .., below `WORD_COUNT`, in order, each once.
     final fn from_words_fn<F: FnMut(usize) -> Self::Word>(mut f: F) -> Self

@@ -4,6 +4,7 @@ ghost use Rattle.std.proofs.Common.{lit<, rules, ◌^◌, ◌-◌};
 ghost use Rattle.std.specs.Bool.{nat_lt};
 ghost use Rattle.std.proofs.lemmas.Bool.{ltb-true};
 
+use crate::bits::interleave_word;
 use crate::underlier::Underlier;
 use std::slice;
 
@@ -47,6 +48,10 @@ impl Underlier for u8 {
 
     fn checked(&self) -> u8 {
         *self
+    }
+
+    fn interleave_in_words(&self, other: &u8, block: u32) -> (u8, u8) {
+        interleave_word(*self, *other, block)
     }
 
     ghost words_law = { refl };
@@ -114,6 +119,10 @@ impl Underlier for u16 {
         *self
     }
 
+    fn interleave_in_words(&self, other: &u16, block: u32) -> (u16, u16) {
+        interleave_word(*self, *other, block)
+    }
+
     ghost words_law = { refl };
 
     ghost bits_law = { refl };
@@ -179,6 +188,10 @@ impl Underlier for u32 {
         *self
     }
 
+    fn interleave_in_words(&self, other: &u32, block: u32) -> (u32, u32) {
+        interleave_word(*self, *other, block)
+    }
+
     ghost words_law = { refl };
 
     ghost bits_law = { refl };
@@ -242,6 +255,10 @@ impl Underlier for u64 {
 
     fn checked(&self) -> u64 {
         *self
+    }
+
+    fn interleave_in_words(&self, other: &u64, block: u32) -> (u64, u64) {
+        interleave_word(*self, *other, block)
     }
 
     ghost words_law = { refl };

@@ -1,11 +1,11 @@
 // Blocks of lanes interleaved, and rows and columns of bits exchanged.
-ghost use Rattle.std.specs.Prelude.{◌≡◌, ◌≤◌, ◌<◌, ◌+◌, ◌/◌, ◌%◌, ◌^◌, ℕ, List, length, map};
+ghost use Rattle.std.specs.Prelude.{◌≡◌, ◌≤◌, ◌<◌, ◌+◌, ◌*◌, ◌/◌, ◌%◌, ◌^◌, ℕ, List, length, map};
 ghost use Rattle.bf_bitslice_words.specs.Parts.{HasFirstBlocks, HasSecondBlocks, IsBlockSize};
 ghost use Rattle.bf_bitslice.specs.Lanes.{AreExchanged, AreTransposed};
 ghost use Rattle.bf_bitslice.specs.Rounds.{IsRoundTo};
 
 use crate::packed::{PackedGf2, value};
-use bf_bitslice_words::{Underlier, Word, interleave_in_words, interleave_words};
+use bf_bitslice_words::{Underlier, Word, interleave_words};
 
 // Both results of interleaving by blocks below the width.
 #[inline]
@@ -20,7 +20,7 @@ fn interleave_blocks<U: Underlier>(
 {
     let word_bits = <U::Word as Word>::BITS as usize;
     if block < word_bits {
-        let (first, second) = interleave_in_words(&left.bits, &right.bits, block as u32);
+        let (first, second) = left.bits.interleave_in_words(&right.bits, block as u32);
         (PackedGf2 { bits: first }, PackedGf2 { bits: second })
     } else {
         let (first, second) = interleave_words(&left.bits, &right.bits, block / word_bits);
@@ -29,7 +29,7 @@ fn interleave_blocks<U: Underlier>(
 }
 
 // The row `block` below row `i`, which lies in an even block.
-#[inline]
+#[inline(always)]
 fn lower_row<U: Underlier>(i: usize, block: usize) -> usize
     requires block { IsBlockSize U.BITS block }
     requires inside { i < U.BITS }
@@ -40,32 +40,76 @@ fn lower_row<U: Underlier>(i: usize, block: usize) -> usize
     i + block
 }
 
-// Row `i` of a round: an even block's row and the row `block` below it are interleaved.
-#[inline]
-fn exchange_row<U: Underlier>(rows: &mut [PackedGf2<U>], block: usize, i: usize)
+// Row `i`, which lies in an even block, and the row `block` below it are interleaved.
+#[inline(always)]
+fn exchange_pair<U: Underlier>(rows: &mut [PackedGf2<U>], block: usize, i: usize)
     requires block { IsBlockSize U.BITS block }
     requires square { length rows.old ≡ U.BITS }
     requires inside { i < U.BITS }
+    requires even { i / block % 2 ≡ 0 }
     ensures { (old : List ℕ) → IsRoundTo U.BITS block i old (map (λ x. U.number x.bits) rows.old) → IsRoundTo U.BITS block (i + 1) old (map (λ x. U.number x.bits) rows.new) }
 {
-    if i / block % 2 != 0 {
-        return;
-    }
     let other = lower_row::<U>(i, block);
     let (first, second) = interleave_blocks(&rows[i], &rows[other], block);
     rows[i] = first;
     rows[other] = second;
 }
 
+// The first row of two blocks of rows.
+#[inline(always)]
+fn first_of_two<U: Underlier>(block: usize, pair: usize) -> usize
+    requires block { IsBlockSize U.BITS block }
+    requires inside { pair < U.BITS / (2 * block) }
+    ensures value { result ≡ pair * (2 * block) }
+    ensures inside { result + 2 * block ≤ U.BITS }
+{
+    pair * (2 * block)
+}
+
+// The rows of two blocks, which are number `pair` of all pairs of blocks: each row of the upper block is interleaved with
+// that in its place in the lower block.
+#[inline(always)]
+fn exchange_two_blocks<U: Underlier>(rows: &mut [PackedGf2<U>], block: usize, pair: usize)
+    requires block { IsBlockSize U.BITS block }
+    requires square { length rows.old ≡ U.BITS }
+    requires inside { pair < U.BITS / (2 * block) }
+    ensures { (old : List ℕ) → IsRoundTo U.BITS block (pair * (2 * block)) old (map (λ x. U.number x.bits) rows.old) → IsRoundTo U.BITS block ((pair + 1) * (2 * block)) old (map (λ x. U.number x.bits) rows.new) }
+{
+    let start = first_of_two::<U>(block, pair);
+    for i in start..start + block {
+        exchange_pair(rows, block, i);
+    }
+}
+
 // One round of a transposition: in each pair of rows that are `block` apart, the odd blocks of the upper row and the even
 // ones of the lower row are exchanged.
+#[inline(always)]
 fn exchange_blocks<U: Underlier>(rows: &mut [PackedGf2<U>], block: usize)
     requires block { IsBlockSize U.BITS block }
     requires square { length rows.old ≡ U.BITS }
     ensures { AreExchanged U.BITS block (map (λ x. U.number x.bits) rows.old) (map (λ x. U.number x.bits) rows.new) }
 {
-    for i in 0..U::BITS {
-        exchange_row(rows, block, i);
+    for pair in 0..U::BITS / (2 * block) {
+        exchange_two_blocks(rows, block, pair);
+    }
+}
+
+// The same round. Each length up to a word of 64 bits stands as a literal, so that in the machine code shifts and masks are
+// constants.
+fn exchange_blocks_of_constant<U: Underlier>(rows: &mut [PackedGf2<U>], block: usize)
+    requires block { IsBlockSize U.BITS block }
+    requires square { length rows.old ≡ U.BITS }
+    ensures { AreExchanged U.BITS block (map (λ x. U.number x.bits) rows.old) (map (λ x. U.number x.bits) rows.new) }
+{
+    match block {
+        1 => exchange_blocks(rows, 1),
+        2 => exchange_blocks(rows, 2),
+        4 => exchange_blocks(rows, 4),
+        8 => exchange_blocks(rows, 8),
+        16 => exchange_blocks(rows, 16),
+        32 => exchange_blocks(rows, 32),
+        64 => exchange_blocks(rows, 64),
+        _ => exchange_blocks(rows, block),
     }
 }
 
@@ -95,7 +139,7 @@ impl<U: Underlier> PackedGf2<U> {
     {
         let mut block = 1;
         while block < U::BITS {
-            exchange_blocks(rows, block);
+            exchange_blocks_of_constant(rows, block);
             block *= 2;
         }
     }

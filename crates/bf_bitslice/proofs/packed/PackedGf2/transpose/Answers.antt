@@ -14,8 +14,8 @@ loop-block-init g c =
     let some : 1 ≤ g.U.Underlier.BITS = subst (λ (z : ℕ). 1 ≤ z) (sym power) (pow_pos (g.U.Word.Word.log_bits + g.U.Underlier.log_words)) in
     (0, refl, some, nothing_mixed g.U.Underlier.BITS _)
 
-pub exchange_blocks-requires-clause-block : goal.exchange_blocks-requires-clause-block
-exchange_blocks-requires-clause-block g c =
+pub exchange_blocks_of_constant-requires-clause-block : goal.exchange_blocks_of_constant-requires-clause-block
+exchange_blocks_of_constant-requires-clause-block g c =
     let less : c.loop-block.block < g.U.Underlier.BITS = search rules in
     (c.loop-block.invariant.0, c.loop-block.invariant.1, less)
 
@@ -37,7 +37,7 @@ loop-block-preserved g c =
       ap (λ (z : ℕ). z * 2) c.loop-block.invariant.1 ∙ sym (pow-add 2 c.loop-block.invariant.0 1),
       double_fits g.U.Underlier.BITS divides.0 c.loop-block.block divides.1 less,
       next_round g.U.Underlier.BITS divides.0 c.loop-block.block (c.loop-block.block * 2) _ _ _
-          (block_some g.U.Underlier.BITS c.loop-block.block size) divides.1 (omega arith) c.loop-block.invariant.3 c.exchange_blocks.ensures,
+          (block_some g.U.Underlier.BITS c.loop-block.block size) divides.1 (omega arith) c.loop-block.invariant.3 c.exchange_blocks_of_constant.ensures,
     )
 
 pub loop-block-smaller : goal.loop-block-smaller
