@@ -1,6 +1,6 @@
 // Transposition of every width, and interleaving by every block length, against their definitions at rows from a seeded
 // generator.
-ghost use Rattle.std.specs.Prelude.{◌≡◌, ◌<◌, ◌^◌, ℕ, length};
+ghost use Rattle.std.specs.Prelude.{◌≡◌, ◌<◌, ◌≤◌, ◌^◌, ℕ, length};
 
 use bf_base::Gf2;
 use bf_base::traits::TowerLevel;
@@ -61,7 +61,16 @@ fn interleaves_by<U: Underlier>(left: &PackedGf2<U>, right: &PackedGf2<U>, block
     true
 }
 
-// Whether two rows are interleaved by every block length below the width.
+// Whether interleaving by this many lanes hands both rows back.
+fn hands_back<U: Underlier>(left: &PackedGf2<U>, right: &PackedGf2<U>, block: usize) -> bool
+    requires power { (k : ℕ) × (block ≡ 2 ^ k) }
+    requires within { block ≤ U.BITS }
+{
+    let (first, second) = left.interleave(*right, block);
+    first == *left && second == *right
+}
+
+// Whether two rows are interleaved by every block length up to the width.
 fn interleaves<U: Underlier>(left: &PackedGf2<U>, right: &PackedGf2<U>) -> bool {
     let mut all = true;
     let mut block = 1;
@@ -69,7 +78,7 @@ fn interleaves<U: Underlier>(left: &PackedGf2<U>, right: &PackedGf2<U>) -> bool 
         all = all && interleaves_by(left, right, block);
         block *= 2;
     }
-    all
+    all && block == U::BITS && hands_back(left, right, block)
 }
 
 // Whether seeded rows are transposed, and two of them interleaved, given two copies of any rows.
