@@ -10,6 +10,7 @@ mod lanes;
 mod operators;
 mod parts;
 mod ring;
+mod text;
 mod transpose;
 
 pub use crate::packed::lanes::Lanes;
@@ -20,7 +21,7 @@ use std::alloc::AllocError;
 
 /// Lanes of GF(2), packed into a word or a block of words: lane i is bit i of its number, so bit i modulo W of word i
 /// divided by W, for words of W bits. Sums and products go lane by lane.
-#[derive_where(PartialEq, Eq, Hash, Debug; U)]
+#[derive_where(PartialEq, Eq, Hash; U)]
 pub struct PackedGf2<U: Underlier> {
     bits: U,
     ghost in_range: { IsTrue (U.is_whole bits) },

@@ -12,3 +12,5 @@ mod parts;
 mod rows;
 #[cfg(test)]
 mod squares;
+#[cfg(test)]
+mod text;

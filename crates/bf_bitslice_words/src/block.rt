@@ -7,10 +7,11 @@ ghost use Rattle.bf_bitslice_words.specs.Joined.{same_from_joined, whole_joined-
 use crate::bits::even_word;
 use crate::sealed::Sealed;
 use crate::underlier::Underlier;
+use std::fmt;
 use std::simd::Simd;
 
 /// A block of `N` words of 64 bits, the lowest first. Its names are `M128`, `M256` and `M512`.
-#[derive(Clone, Copy, Debug, PartialEq, Eq, Hash)]
+#[derive(Clone, Copy, PartialEq, Eq, Hash)]
 pub struct Block<const N: usize> {
     words: [u64; N],
 }
@@ -37,6 +38,19 @@ impl<const N: usize> Block<N> {
         ensures { result ≡ self.entry.words }
     {
         self.words
+    }
+}
+
+impl<const N: usize> fmt::Debug for Block<N> {
+    // The alias and the words, as in `M128([1, 2])`.
+    fn fmt<W: fmt::Write>(&self, f: &mut fmt::Formatter<W>) -> fmt::Result {
+        let name = match N {
+            2 => "M128",
+            4 => "M256",
+            8 => "M512",
+            _ => "Block",
+        };
+        f.debug_tuple(name).field(&self.words).finish()
     }
 }
 
