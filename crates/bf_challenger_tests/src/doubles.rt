@@ -2,7 +2,7 @@
 use bf_base::traits::TowerLevel;
 use bf_byte_challenger::ChallengerError;
 use bf_challenger::{
-    BinaryChallenger, CanSample, CanSampleBits, GrindingChallenger, Hash, MerkleCap,
+    BinaryChallenger, CanSample, CanSampleBits, GrindError, GrindingChallenger, Hash, MerkleCap,
 };
 use bf_challenger_doubles::{Copies, Double, Seen};
 use bf_element::{BinaryField16, BinaryField32};
@@ -55,6 +55,8 @@ fn only_fails(challenger: &mut BinaryChallenger<BinaryField32, Double<'_>>) -> b
         && challenger.sample_bits(0) == Err(ChallengerError::Failed)
         && challenger.check_witness(0, BinaryField32::from_repr(1)) == Err(ChallengerError::Failed)
         && challenger.check_witness(5, BinaryField32::from_repr(1)) == Err(ChallengerError::Failed)
+        && challenger.grind(0) == Err(GrindError::Failed)
+        && challenger.grind(8) == Err(GrindError::Failed)
 }
 
 fn third_call_refused() -> bool {
