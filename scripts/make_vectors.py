@@ -35,6 +35,12 @@ LOW_STAGES = 64
 BYTE_MAPS = 3
 # The widths of rows, and of their parts.
 PARTS = [(128, 64), (128, 8), (64, 32), (64, 8), (32, 16), (16, 8), (256, 128), (256, 32), (512, 256), (512, 128), (512, 64), (512, 16)]
+# The fields and the lengths of the streams, and the pairs of levels and how many of their views.
+STREAMED = ["gf2", "t4", "t16", "t32", "p64", "g128", "p192"]
+STREAMS = [0, 3, 5]
+VIEWED = [("t16", "t8"), ("t32", "t16"), ("t64", "t8"), ("t128", "t64")]
+VIEWS = 3
+SUBFIELD = 6
 # The operators between two fields: their name, and in how many ways each is computed. A sum is a difference too.
 OPERATORS = {"*": ("products", 2), "+": ("sums", 5), "-": ("sums", 5)}
 # Lines that are no calls, or whose operands the function does not take.
@@ -67,6 +73,11 @@ REFUSED = [
     "to_tower_8 100",
     "to_tower_16 1",
     "linear_map 1,2,3 0 1000",
+    "streams/t16 u16 1",
+    "streams/t16 text 1 2",
+    "streams/t16 bytes 10000",
+    "t16/t8 as_base 10000",
+    "t8/t16 coefficients 1",
 ]
 # How many calls stand under each heading.
 CALLS = {
@@ -91,7 +102,9 @@ CALLS = {
     "maps of bytes": 42,
     "rows of bits": 66,
     "packings": 18,
-    "no calls": 28,
+    "streams": 77,
+    "views": 60,
+    "no calls": 33,
 }
 HEAD = """\
 # Calls of the library, and in stdout their answers by the Rust crate p3-binary-field 0.8.0; drawn from the seed {seed}.
@@ -330,6 +343,43 @@ def packings(vectors):
         yield f"ghash_lanes square {listed(row['a'])}", listed(row["square_a"])
 
 
+def numbers_of(field, texts):
+    """The numbers of elements whose digits are given: three for one of the cubic extension, and else one."""
+    return [text[at : at + 16] for text in texts for at in range(0, 48, 16)] if field == "p192" else texts
+
+
+def streams(vectors):
+    """Elements as bytes and words, one after the other, and the text of the first of them."""
+    rows = [row for row in vectors["streams"] if row["field"] in STREAMED and len(row["in"]) in STREAMS]
+    for row in rows:
+        call = f"streams/{row['field']}"
+        elements = listed(numbers_of(row["field"], row["in"]))
+        yield f"{call} bytes {elements}", listed(digits_of(row["bytes"]))
+        for kind in ("u32", "u64"):
+            yield f"{call} {kind} {elements}", listed(row[kind])
+        for x, text in list(zip(row["in"], row["display"]))[:1]:
+            yield f"{call} text {listed(numbers_of(row['field'], [x]))}", listed([f"{ord(letter):x}" for letter in text])
+
+
+def views(vectors):
+    """Elements as vectors over a smaller level, the operators with an element of it, and the powers of its number."""
+    for pair in vectors["extension_views"]:
+        if (pair["upper"], pair["lower"]) in VIEWED:
+            call = f"{pair['upper']}/{pair['lower']}"
+            for row in pair["cases"][:VIEWS]:
+                x = number(row["x"])
+                yield f"{call} coefficients {x}", listed(row["coefficients"])
+                yield f"{call} as_base {x}", listed([row["as_base"]] if row["as_base"] else [])
+                mixed_with = [row["embedded"], row["x+lower"], row["x*lower"]]
+                yield f"{call} mixed {x} {number(row['lower'])}", listed(mixed_with)
+                powers = [row["frobenius"], row["repeated_frobenius"], row["pseudo_inv"]]
+                yield f"{call} frobenius {x} {int(row['count']):x}", listed(powers)
+    for row in vectors["subfield_t2_in_t128"][:SUBFIELD]:
+        x, lower = number(row["x"]), number(row["t2"])
+        yield f"t128/t2 mixed {x} {lower}", listed([row["t2"], row["x+t2"], row["x*t2"]])
+        yield f"t128/t2 as_base {x}", listed([row["as_subfield"]] if row["as_subfield"] else [])
+
+
 def chosen(vectors):
     """The calls and their answers under each heading."""
     sections = {field: field_calls(vectors, field) for field in TOWER + POLYNOMIAL}
@@ -343,6 +393,8 @@ def chosen(vectors):
     sections["maps of bytes"] = list(byte_maps(vectors))
     sections["rows of bits"] = list(rows_of_bits(vectors))
     sections["packings"] = list(packings(vectors))
+    sections["streams"] = list(streams(vectors))
+    sections["views"] = list(views(vectors))
     sections["no calls"] = [(line, "error") for line in REFUSED]
     return sections
 

@@ -10,6 +10,8 @@
 //! | `p64/t8 sums 1 2`, `p64/t8 products 1 2` | what the operators of a field give with an element of a level on the right |
 //! | `dot_powers_of_x 1,2,3`, `to_tower_64 13` | what a function of one type gives |
 //! | `butterfly_forward 2 1,2 3,4`, `low_stages 1,2,3,4 5,6,7 0 -` | the slices that a function changes, one after the other |
+//! | `streams/t16 u32 102,304,506`, `streams/t16 text 13` | the items of a stream of elements, or the bytes of their text |
+//! | `t32/t8 coefficients 4030201`, `t32/t8 frobenius 4030201 2` | what a view over a smaller level gives |
 //! | `transpose 8 1,2,3,4,5,6,7,8`, `parts 10 8 201` | rows of bits by their words, as rows of so many bits are changed or cut |
 //! | `ghash_lanes mul 1,2,3,4 5,6,7,8` | the lanes of packings |
 //! | `compose 1,2,..,80 1,2,..,80`, `eval 1,0,0,0,0,0,0,0 53` | the images of a matrix of bits, or a value of a polynomial |
@@ -29,10 +31,14 @@ mod masked;
 mod packed;
 mod reading;
 mod slices;
+mod streams;
+mod views;
 
 use crate::algebras::{ghash_call, poly64_call};
 use crate::fault::Fault;
 use crate::fields::{field_call, value_at_x};
+use crate::streams::level_call;
+use crate::views::view_call;
 use bf_base::Gf2;
 use bf_element::{
     BinaryField2, BinaryField4, BinaryField8, BinaryField16, BinaryField32, BinaryField64,
@@ -55,6 +61,18 @@ fn answer(alloc: Global, name: &str, call: &[&str]) -> Result<Vec<u128>, Fault> 
         "g128/t32" => ghash_call::<u32, Bits32>(alloc, call),
         "g128/t64" => ghash_call::<u64, Bits64>(alloc, call),
         "g128/t128" => ghash_call::<u128, Bits128>(alloc, call),
+        "t16/t8" => view_call::<BinaryField16, BinaryField8>(alloc, call),
+        "t32/t16" => view_call::<BinaryField32, BinaryField16>(alloc, call),
+        "t64/t8" => view_call::<BinaryField64, BinaryField8>(alloc, call),
+        "t128/t64" => view_call::<BinaryField128, BinaryField64>(alloc, call),
+        "t128/t2" => view_call::<BinaryField128, BinaryField2>(alloc, call),
+        "streams/gf2" => level_call::<Gf2>(alloc, call),
+        "streams/t4" => level_call::<BinaryField4>(alloc, call),
+        "streams/t16" => level_call::<BinaryField16>(alloc, call),
+        "streams/t32" => level_call::<BinaryField32>(alloc, call),
+        "streams/p64" => level_call::<Poly64>(alloc, call),
+        "streams/g128" => level_call::<Ghash128>(alloc, call),
+        "streams/p192" => streams::cubic_call(alloc, call),
         "linear_map" => linear_map::sample(alloc, call),
         "masked_products" => masked::products(alloc, call),
         "mul_slice" | "butterfly_forward" | "butterfly_inverse" | "low_stages" => {

@@ -1,0 +1,58 @@
+// Levels of the tower as vectors over the levels inside them.
+use crate::fault::Fault;
+use crate::reading::{count, element, number_of};
+use bf_base::traits::TowerLevel;
+use bf_space::{BasedVectorSpace, ExtensionField, HasFrobenius};
+use std::alloc::Global;
+
+/// What a view of an element over a smaller level gives, or an operator with an element of it on the right.
+pub(crate) fn view_call<U, L>(alloc: Global, call: &[&str]) -> Result<Vec<u128>, Fault>
+where
+    U: HasFrobenius<L> + TowerLevel,
+    L: TowerLevel,
+{
+    match *call {
+        ["coefficients", x] => coefficients::<U, L>(alloc, element(x)?),
+        ["as_base", x] => match element::<U>(x)?.as_base() {
+            Some(base) => Ok(vec![in alloc; number_of::<L>(base)]?),
+            None => Ok(Vec::new(alloc)),
+        },
+        ["mixed", x, lower] => mixed::<U, L>(alloc, element(x)?, element(lower)?),
+        ["frobenius", x, times] => {
+            let x: U = element(x)?;
+            let times = count(times)?;
+            Ok(vec![in alloc;
+                number_of::<U>(HasFrobenius::<L>::frobenius(&x)),
+                number_of::<U>(HasFrobenius::<L>::repeated_frobenius(&x, times)),
+                number_of::<U>(HasFrobenius::<L>::pseudo_inv(&x)),
+            ]?)
+        }
+        _ => Err(Fault::Line),
+    }
+}
+
+/// The coefficients, lowest first.
+fn coefficients<U, L>(alloc: Global, x: U) -> Result<Vec<u128>, Fault>
+where
+    U: BasedVectorSpace<L> + TowerLevel,
+    L: TowerLevel,
+{
+    let mut answer = Vec::new(alloc);
+    for place in 0..U::DIMENSION {
+        answer.push(number_of::<L>(x.basis_coefficient(place)))?;
+    }
+    Ok(answer)
+}
+
+/// The image of the smaller element, and the sum and the product with it on the right.
+fn mixed<U, L>(alloc: Global, x: U, lower: L) -> Result<Vec<u128>, Fault>
+where
+    U: ExtensionField<L> + TowerLevel,
+    L: TowerLevel,
+{
+    Ok(vec![in alloc;
+        number_of(U::from(lower)),
+        number_of(x + lower),
+        number_of(x * lower),
+    ]?)
+}
