@@ -4,3 +4,4 @@ pub mod WordBytes
 pub mod Streaming
 pub mod Wording
 pub mod Rows
+mod Wide

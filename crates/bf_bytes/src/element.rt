@@ -2,7 +2,7 @@
 ghost use Rattle.std.specs.Prelude.{◌≤◌};
 ghost use Rattle.std.proofs.Common.{lit<, lit≤, subst};
 
-use crate::little_endian::{LittleEndian, read_byte};
+use crate::little_endian::{LittleEndian, read_byte, wide_of};
 use crate::reading::{word_from_iter, word_of_bytes};
 use crate::serializable::{Packable, RawDataSerializable};
 use bf_base::traits::TowerLevel;
@@ -30,6 +30,11 @@ impl<R: LittleEndian, K: Kernel<R>> RawDataSerializable for Element<R, K> {
     #[inline]
     fn byte(self, i: usize) -> u8 {
         word_of(&self).byte(i)
+    }
+
+    #[inline]
+    fn wide(self, k: usize) -> u64 {
+        word_of(&self).wide(k)
     }
 
     #[inline]
@@ -66,6 +71,11 @@ impl RawDataSerializable for Gf2 {
     #[inline]
     fn byte(self, i: usize) -> u8 {
         read_byte(self.to_repr(), i)
+    }
+
+    #[inline]
+    fn wide(self, k: usize) -> u64 {
+        wide_of(self.to_repr(), k)
     }
 
     #[inline]

@@ -19,7 +19,7 @@ pub use crate::parallel_words::{
 };
 pub use crate::reading::word_from_iter;
 pub use crate::serializable::{Packable, RawDataSerializable};
-pub use crate::streams::{ByteStream, into_byte_stream};
+pub use crate::streams::{ByteSource, ByteStream, into_byte_stream};
 pub use crate::words::{
     U32Stream, U64Stream, WordStream, into_u32_stream, into_u64_stream, into_word_stream,
 };

@@ -1,5 +1,5 @@
 // Stored words by their bytes, the lowest first.
-ghost use Rattle.std.specs.Prelude.{◌≡◌, ◌<◌, ◌≤◌, ◌+◌, ◌*◌, ◌^◌, ℕ, List, length, refl};
+ghost use Rattle.std.specs.Prelude.{◌≡◌, ◌<◌, ◌≤◌, ◌+◌, ◌*◌, ◌^◌, ◌%◌, ℕ, List, length, refl};
 ghost use Rattle.std.proofs.Common.{lit<};
 ghost use Rattle.bf_base.specs.Chunks.{chunk};
 ghost use Rattle.bf_bytes.specs.Bytes.{low_bytes, number_of_bytes};
@@ -34,6 +34,15 @@ pub trait LittleEndian: Word {
         requires above { Self.number self < 2 ^ (8 * i) }
         ensures { Self.number result ≡ byte * 2 ^ (8 * i) + Self.number self };
 
+    /// Word `k` of 64 bits of the word's number, counted from the lowest, which has to begin within its bytes.
+    fn wide(self, k: usize) -> u64
+        requires { 8 * k < SIZE }
+        ensures { result ≡ chunk 64 k (Self.number self) };
+
+    /// The word of a number of 64 bits. Bits above the word are dropped.
+    fn of_wide(n: u64) -> Self
+        ensures { Self.number result ≡ n % 2 ^ Self.bits };
+
     /// The bytes of an array as a slice.
     fn slice_of(bytes: &Self::Bytes) -> &[u8]
         ensures same { result.now ≡ listed bytes.now }
@@ -51,6 +60,15 @@ fn byte_of(n: u128, i: usize) -> u8
     ensures { result ≡ chunk 8 i n }
 {
     ((n >> (8 * i)) & 0xff) as u8
+}
+
+/// Word `k` of 64 bits of an integer of at most 16 bytes, counted from the lowest.
+#[inline]
+pub(crate) fn wide_of<U: Unsigned>(word: U, k: usize) -> u64
+    requires { k < 2 }
+    ensures { result ≡ chunk 64 k (U.number word) }
+{
+    ((word.to_u128() >> (64 * k)) & 0xffff_ffff_ffff_ffff) as u64
 }
 
 // What a byte is worth as byte `i` of a number.
@@ -106,6 +124,16 @@ impl LittleEndian for u8 {
         put_byte(self, i, byte)
     }
 
+    #[inline]
+    fn wide(self, k: usize) -> u64 {
+        wide_of(self, k)
+    }
+
+    #[inline]
+    fn of_wide(n: u64) -> u8 {
+        u8::of_u128(u128::from(n))
+    }
+
     fn slice_of(bytes: &[u8; 1]) -> &[u8] {
         bytes
     }
@@ -135,6 +163,16 @@ impl LittleEndian for u16 {
 
     fn with_byte(self, i: usize, byte: u8) -> u16 {
         put_byte(self, i, byte)
+    }
+
+    #[inline]
+    fn wide(self, k: usize) -> u64 {
+        wide_of(self, k)
+    }
+
+    #[inline]
+    fn of_wide(n: u64) -> u16 {
+        u16::of_u128(u128::from(n))
     }
 
     fn slice_of(bytes: &[u8; 2]) -> &[u8] {
@@ -168,6 +206,16 @@ impl LittleEndian for u32 {
         put_byte(self, i, byte)
     }
 
+    #[inline]
+    fn wide(self, k: usize) -> u64 {
+        wide_of(self, k)
+    }
+
+    #[inline]
+    fn of_wide(n: u64) -> u32 {
+        u32::of_u128(u128::from(n))
+    }
+
     fn slice_of(bytes: &[u8; 4]) -> &[u8] {
         bytes
     }
@@ -199,6 +247,16 @@ impl LittleEndian for u64 {
         put_byte(self, i, byte)
     }
 
+    #[inline]
+    fn wide(self, k: usize) -> u64 {
+        wide_of(self, k)
+    }
+
+    #[inline]
+    fn of_wide(n: u64) -> u64 {
+        u64::of_u128(u128::from(n))
+    }
+
     fn slice_of(bytes: &[u8; 8]) -> &[u8] {
         bytes
     }
@@ -228,6 +286,16 @@ impl LittleEndian for u128 {
 
     fn with_byte(self, i: usize, byte: u8) -> u128 {
         put_byte(self, i, byte)
+    }
+
+    #[inline]
+    fn wide(self, k: usize) -> u64 {
+        wide_of(self, k)
+    }
+
+    #[inline]
+    fn of_wide(n: u64) -> u128 {
+        u128::of_u128(u128::from(n))
     }
 
     fn slice_of(bytes: &[u8; 16]) -> &[u8] {

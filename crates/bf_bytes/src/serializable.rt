@@ -27,6 +27,11 @@ pub trait RawDataSerializable: Represented {
         requires { i < NUM_BYTES }
         ensures { result ≡ chunk 8 i (Self.repr self) };
 
+    /// Word `k` of 64 bits of the element's representation, counted from the lowest, which has to begin within its bytes.
+    fn wide(self, k: usize) -> u64
+        requires { 8 * k < NUM_BYTES }
+        ensures { result ≡ chunk 64 k (Self.repr self) };
+
     /// The element of its bytes, the lowest first. Bits above the element are dropped.
     fn from_le_bytes(bytes: Self::Bytes) -> Self
         ensures { Self.repr result ≡ number_of_bytes (listed bytes) % 2 ^ Self.width };

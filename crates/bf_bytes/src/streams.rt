@@ -1,10 +1,24 @@
 // Streams of the bytes of many elements.
-ghost use Rattle.std.specs.Prelude.{◌≡◌, ◌<◌, ℕ, List, ◌∷◌, Some};
-ghost use Rattle.std.specs.Iterator.{Drains, IsFinite};
+ghost use Rattle.std.specs.Prelude.{◌≡◌, ◌<◌, ◌≤◌, ◌+◌, ◌*◌, ◌/◌, ◌%◌, ◌^◌, ℕ, List, ◌∷◌, Some, drop, length};
+ghost use Rattle.std.specs.Iterator.{Drains, IsFinite, size};
 ghost use Rattle.bf_base.specs.Chunks.{chunk};
 ghost use Rattle.bf_bytes.specs.Streams.{byte_count, bytes_pending, GivesByte, IsWithin, joined_bytes};
+ghost use Rattle.bf_bytes.specs.Bytes.{low_bytes, number_of_bytes, TakesUpTo};
 
+use crate::little_endian::LittleEndian;
+use crate::reading::take_word;
 use crate::serializable::RawDataSerializable;
+
+/// A source of bytes that are taken as whole words.
+pub trait ByteSource: Iterator<Item = u8> {
+    /// The word of the next bytes, the lowest first, as many as a word has, and how many there were. Where the source ends
+    /// before, the others are 0.
+    fn take_word<W: LittleEndian>(&mut self) -> (W, usize)
+        requires { Self.can_next self.old }
+        ensures taken { (bytes : List ℕ) × TakesUpTo Self.next_gives self.old W.SIZE bytes self.new × (result.1 ≡ length bytes) × (W.number result.0 ≡ number_of_bytes bytes) }
+        ensures goes_on { result.1 ≡ W.SIZE → Self.can_next self.new }
+        ensures ends { IsFinite (Self.remaining self.old) → (result.1 ≤ size (Self.remaining self.old)) × (result.1 ≡ W.SIZE → IsFinite (Self.remaining self.new) × (size (Self.remaining self.new) + W.SIZE ≤ size (Self.remaining self.old))) };
+}
 
 /// The bytes of the elements of an iterator, one element after the other, each from its lowest byte on.
 #[derive(Drop)]
@@ -35,6 +49,29 @@ impl<I: Drop, E: RawDataSerializable> ByteStream<I, E> {
         }
         byte
     }
+
+    // The next eight bytes of an element as a word, of which whole words were given.
+    #[inline]
+    fn give_wide<W: LittleEndian>(&mut self, element: E) -> W
+        requires eight { W.SIZE ≡ 8 }
+        requires whole { self.old.given % 8 ≡ 0 }
+        requires within { self.old.given + 8 ≤ E.NUM_BYTES }
+        ensures source { self.new.elements ≡ self.old.elements }
+        ensures inside { IsWithin E.NUM_BYTES self.new.pending self.new.given }
+        ensures word { W.number result ≡ number_of_bytes (low_bytes 8 (E.repr element / 2 ^ (8 * self.old.given))) }
+        ensures left { bytes_pending E.NUM_BYTES E.repr self.new.pending self.new.given ≡ drop (self.old.given + 8) (low_bytes E.NUM_BYTES (E.repr element)) }
+    {
+        let size = E::NUM_BYTES;
+        let word = W::of_wide(element.wide(self.given / 8));
+        if self.given + 8 == size {
+            self.pending = None;
+            self.given = 0;
+        } else {
+            self.pending = Some(element);
+            self.given += 8;
+        }
+        word
+    }
 }
 
 impl<I: Iterator<Item = E>, E: RawDataSerializable> Iterator for ByteStream<I, E> {
@@ -58,6 +95,23 @@ impl<I: Iterator<Item = E>, E: RawDataSerializable> Iterator for ByteStream<I, E
 
     fn size_hint(&self) -> (usize, Option<usize>) {
         (0, None)
+    }
+}
+
+impl<I: Iterator<Item = E>, E: RawDataSerializable> ByteSource for ByteStream<I, E> {
+    // Words of eight bytes are taken at once where elements are made of such.
+    #[inline]
+    fn take_word<W: LittleEndian>(&mut self) -> (W, usize) {
+        if W::SIZE != 8 || E::NUM_BYTES % 8 != 0 || self.given % 8 != 0 {
+            return take_word::<W, ByteStream<I, E>>(self);
+        }
+        match self.pending {
+            Some(element) => (self.give_wide(element), 8),
+            None => match self.elements.next() {
+                Some(element) => (self.give_wide(element), 8),
+                None => (W::ZERO, 0),
+            },
+        }
     }
 }
 

@@ -76,6 +76,24 @@ impl LittleEndian for Triple {
         }
     }
 
+    fn wide(self, k: usize) -> u64 {
+        if k == 0 {
+            self.c0
+        } else if k == 1 {
+            self.c1
+        } else {
+            self.c2
+        }
+    }
+
+    fn of_wide(n: u64) -> Triple {
+        Triple {
+            c0: n,
+            c1: 0,
+            c2: 0,
+        }
+    }
+
     fn slice_of(bytes: &[u8; 24]) -> &[u8] {
         bytes
     }

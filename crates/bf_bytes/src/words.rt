@@ -5,9 +5,8 @@ ghost use Rattle.bf_bytes.specs.Streams.{GivesByte, joined_bytes};
 ghost use Rattle.bf_bytes.specs.Words.{AreWords, GivesWord, can_take, word_count};
 
 use crate::little_endian::LittleEndian;
-use crate::reading::take_word;
 use crate::serializable::RawDataSerializable;
-use crate::streams::{ByteStream, into_byte_stream};
+use crate::streams::{ByteSource, ByteStream, into_byte_stream};
 use std::marker::PhantomData;
 
 /// The words of the bytes of an iterator, each from its lowest byte on. Where the bytes end within a word, its others are 0.
@@ -25,7 +24,7 @@ pub type U32Stream<I, E> = WordStream<u32, ByteStream<I, E>>;
 /// The words of 64 bits of the bytes of elements.
 pub type U64Stream<I, E> = WordStream<u64, ByteStream<I, E>>;
 
-impl<W: LittleEndian, B: Iterator<Item = u8>> Iterator for WordStream<W, B> {
+impl<W: LittleEndian, B: ByteSource> Iterator for WordStream<W, B> {
     type Item = W;
 
     ghost can_next = { can_take B.can_next };
@@ -39,7 +38,7 @@ impl<W: LittleEndian, B: Iterator<Item = u8>> Iterator for WordStream<W, B> {
             return None;
         }
         let size = W::SIZE;
-        let (word, count) = take_word::<W, B>(&mut self.bytes);
+        let (word, count) = self.bytes.take_word::<W>();
         if count < size {
             self.ended = true;
             if count == 0 {
