@@ -1,10 +1,9 @@
 -- Coefficients of an element of a level of the tower by shifts of its word.
-use Rattle.std.proofs.Common.{◌≡◌, ℕ, suc, ◌+◌, ◌*◌, ◌-◌, ◌/◌, ◌%◌, ◌^◌, ◌<◌, ◌≤◌, sym, ◌∙◌, ap, ap₂, refl, subst, arith}
+use Rattle.std.proofs.Common.{◌≡◌, ℕ, ◌+◌, ◌*◌, ◌-◌, ◌%◌, ◌^◌, ◌<◌, ◌≤◌, ◌∙◌, ap, refl, arith}
 use Rattle.std.proofs.lemmas.Nat.{pow_pos}
 use Rattle.std.proofs.Math.Arith.{digits_lt}
 use Rattle.std.proofs.Math.Pow.{mod-mod-pow, pow_mono}
-use native.Mathlib.Nat.{mod-eq_of_lt, mul-add, mul-one}
-use Rattle.bf_base.specs.Chunks.{chunk}
+use native.Mathlib.Nat.{mod-eq_of_lt}
 use Rattle.bf_space.specs.LevelSpaces.{dimension_bits}
 use Rattle.bf_space.proofs.Spaces.{put_fits}
 

@@ -1,7 +1,7 @@
 -- Elements as vectors: what one coefficient more makes of the coefficients so far.
 use Rattle.std.proofs.Common.{◌≡◌, ◌≢◌, ℕ, zero, suc, ◌+◌, ◌*◌, ◌-◌, ◌/◌, ◌%◌, ◌^◌, ◌<◌, ◌≤◌, refl, sym, ◌∙◌, ap, ap₂, arith, List, [], ◌∷◌, ◌++◌, length, map, Option, Some, subst, take, get_or, replicate, set}
-use Rattle.std.proofs.lemmas.Nat.{mod-pow-add, shr_high, pow-add, pow_pos}
-use native.Mathlib.Nat.{mul-add, mul-add-mod_self_left, zero-add, mod-eq_of_lt, mod-lt, mul-suc, mul-zero, mul_assoc, add-mul-mod_self_right, div-one}
+use Rattle.std.proofs.lemmas.Nat.{shr_high, pow-add, pow_pos}
+use native.Mathlib.Nat.{mul-add, mul-add-mod_self_left, zero-add, mod-eq_of_lt, mod-lt, mul-suc, mul-zero, div-one}
 use native.Mathlib.Numerals.{add-one}
 use lib.Arith.{digits_lt}
 use Rattle.std.proofs.Math.Pow.{pow_mono}

@@ -1,6 +1,6 @@
 -- Levels of the tower as vector spaces over levels inside them: an element of the lower level multiplies an element of the upper
 -- coefficient by coefficient. It stands here since that implementation of the traits cites it.
-use Rattle.std.proofs.Common.{◌≡◌, ◌⊎◌, inl, inr, ℕ, zero, suc, ◌+◌, ◌-◌, ◌*◌, ◌/◌, ◌%◌, ◌^◌, ◌<◌, ◌≤◌, refl, sym, ◌∙◌, ap, subst, arith}
+use Rattle.std.proofs.Common.{◌≡◌, ◌⊎◌, inl, inr, ℕ, zero, suc, ◌+◌, ◌-◌, ◌*◌, ◌/◌, ◌%◌, ◌^◌, ◌<◌, ◌≤◌, sym, ◌∙◌, ap, subst, arith}
 use Rattle.std.proofs.lemmas.Bool.{cases_lt}
 use Rattle.std.proofs.lemmas.Nat.{shr-shr, shr_high, pow-add, pow_pos}
 use native.Mathlib.Nat.{div-add-mod, mod-lt, mul-add, zero-add, pow-suc}

@@ -14,4 +14,4 @@ pub use crate::extension::{
 pub use crate::kernel::SpaceOver;
 pub use crate::levels::CoefficientsOf;
 pub use crate::powers::{HasPowers, Powers};
-pub use crate::space::{BasedVectorSpace, BasisCoefficients};
+pub use crate::space::{BasedVectorSpace, BasisCoefficients, BasisCoefficientsSlice};

@@ -3,6 +3,7 @@ ghost use Rattle.std.specs.Prelude.{◌≡◌, ◌≢◌, ◌↔◌, ◌*◌, �
 ghost use Rattle.std.proofs.Common.{lit<};
 ghost use Rattle.std.specs.Array.{FillsFrom};
 ghost use Rattle.std.specs.List.{flat_map};
+ghost use Rattle.std.specs.Mem.{FitsInMemory};
 ghost use Rattle.bf_space.specs.OneCoefficient.{scales_one_coefficient};
 ghost use Rattle.bf_base.specs.BitRing.{bits_ring};
 ghost use Rattle.bf_base.specs.Chunks.{chunk, chunks};
@@ -14,6 +15,7 @@ use bf_base::traits::PrimeCharacteristicRing;
 use bf_base::{Gf2, Kernel, Word};
 use bf_element::{Element, Poly64, Poly192, element_of_word, word_of};
 use std::alloc::{AllocError, Allocator};
+use std::slice;
 
 /// A ring whose elements are vectors over the ring `F`. Coefficient i of an element is chunk i of its representation, of as
 /// many bits as an element of `F` has, the lowest first. Each field is a space of dimension 1 over itself.
@@ -137,6 +139,16 @@ pub trait BasisCoefficients<F: PrimeCharacteristicRing>: BasedVectorSpace<F> {
         ensures { map F.repr (listed result) ≡ chunks F.width Self.DIMENSION (Self.repr self.now) };
 }
 
+/// A vector space whose elements lend their coefficients where they lie. Each field lends an element as the one coefficient of
+/// itself.
+pub trait BasisCoefficientsSlice<F: PrimeCharacteristicRing>: BasedVectorSpace<F> {
+    /// The coefficients, the lowest first. Their type has to fit in memory, as every type of a program does; generic code, which
+    /// does not know the type, passes the condition on.
+    fn as_basis_coefficients_slice(&self) -> &[F]
+        requires { FitsInMemory F.row }
+        ensures { map F.repr result.now ≡ chunks F.width Self.DIMENSION (Self.repr self.now) };
+}
+
 /// The array of an element's coefficients, of which there are `N`.
 pub(crate) fn coefficients_of<F: PrimeCharacteristicRing, E: BasedVectorSpace<F>, const N: usize>(
     element: &E,
@@ -209,6 +221,18 @@ impl BasisCoefficients<Gf2> for Gf2 {
 
     fn as_basis_coefficients(&self) -> [Gf2; 1] {
         [*self]
+    }
+}
+
+impl<R: Word, K: Kernel<R>> BasisCoefficientsSlice<Element<R, K>> for Element<R, K> {
+    fn as_basis_coefficients_slice(&self) -> &[Element<R, K>] {
+        slice::from_ref(self)
+    }
+}
+
+impl BasisCoefficientsSlice<Gf2> for Gf2 {
+    fn as_basis_coefficients_slice(&self) -> &[Gf2] {
+        slice::from_ref(self)
     }
 }
 

@@ -1,4 +1,3 @@
-use Rattle.std.proofs.Common.{◌≡◌}
 use Rattle.bf_space.proofs.Spaces.{ListedSoFar}
 use Rattle.bf_space.proofs.space.coefficients_of.Given as goal
 
