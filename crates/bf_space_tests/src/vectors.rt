@@ -1,13 +1,23 @@
 // Elements as vectors: coefficients, their text, and Frobenius's map.
+ghost use Rattle.std.specs.Mem.{FitsInMemory};
+
 use crate::products::cubic;
 use bf_base::Gf2;
 use bf_base::traits::{Field, PrimeCharacteristicRing, TowerLevel};
 use bf_element::{BinaryField8, Ghash128, Poly64, Poly192};
 use bf_space::{
-    AlgebraIdentity, BasedVectorSpace, BasisCoefficients, ExtensionField, HasFrobenius, HasPowers,
-    PackedFieldExtension,
+    AlgebraIdentity, BasedVectorSpace, BasisCoefficients, BasisCoefficientsSlice, ExtensionField,
+    HasFrobenius, HasPowers, PackedFieldExtension,
 };
 use std::test::Fail;
+
+/// Whether the element lends itself as its only coefficient.
+fn lends_itself<F: Field + BasisCoefficientsSlice<F>>(element: F) -> bool
+    requires { FitsInMemory F.row }
+{
+    let lent = <F as BasisCoefficientsSlice<F>>::as_basis_coefficients_slice(&element);
+    lent.len() == 1 && lent[0] == element
+}
 
 /// Whether the element over its own field is its only coefficient.
 fn is_line<F: Field + BasedVectorSpace<F>>(element: F) -> bool {
@@ -162,5 +172,7 @@ fn fields_over_themselves(rt: HostRuntime) {
             && is_line(Poly64::new(0x53))
             && is_line(Ghash128::new(0x53))
             && is_line(cubic(1, 2, 3))
+            && lends_itself(Gf2::ONE)
+            && lends_itself(cubic(1, 2, 3))
     );
 }

@@ -41,8 +41,8 @@ pub use bf_packed::{Packed, WiderField};
 pub use bf_packing::{PackedField, PackedFieldPow2, PackedValue};
 pub use bf_poly_basis as poly_basis;
 pub use bf_space::{
-    AlgebraIdentity, BasedVectorSpace, BasisCoefficients, ExtensionField, HasFrobenius, HasPowers,
-    HasSubfield, PackedFieldExtension, Powers,
+    AlgebraIdentity, BasedVectorSpace, BasisCoefficients, BasisCoefficientsSlice, ExtensionField,
+    HasFrobenius, HasPowers, HasSubfield, PackedFieldExtension, Powers,
 };
 pub use bf_transcript::{
     CanObserve, Recorder, Transcript, TranscriptError, TranscriptField, TypeTag,
