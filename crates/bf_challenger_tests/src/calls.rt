@@ -54,7 +54,7 @@ fn reply_of(row: &[u64; 4]) -> Reply<BinaryField32> {
 }
 
 // Whether the replies are those of the first rows.
-pub fn replies_are(replies: &[Reply<BinaryField32>]) -> bool {
+pub(crate) fn replies_are(replies: &[Reply<BinaryField32>]) -> bool {
     if replies.len() > CALLS.len() {
         return false;
     }
@@ -79,7 +79,10 @@ fn runs(alloc: Global, calls: &[Call<BinaryField32>]) -> bool
 }
 
 // The calls of the first rows.
-pub fn calls_of_rows(alloc: Global, count: usize) -> Result<Vec<Call<BinaryField32>>, AllocError>
+pub(crate) fn calls_of_rows(
+    alloc: Global,
+    count: usize,
+) -> Result<Vec<Call<BinaryField32>>, AllocError>
     requires { count ≤ 257 }
     ensures { IfOk result (λ calls. All MayCall calls.items) }
 {
