@@ -6,45 +6,107 @@
 
 pub mod laws;
 
-pub use bf_aes::{ByteLanes, ByteMatrix, LinearizedPoly8b, RijndaelMaps, columns_are_transposed};
+pub use bf_aes::ByteLanes;
+pub use bf_aes::ByteMatrix;
+pub use bf_aes::LinearizedPoly8b;
+pub use bf_aes::RijndaelMaps;
+pub use bf_aes::columns_are_transposed;
 pub use bf_base::Gf2;
-pub use bf_base::traits::{
-    Algebra, DotProduct, Field, PrimeCharacteristicRing, Represented, TowerLevel,
-};
-pub use bf_basis::{LinearMap, to_polynomial_slice_64, to_tower_slice_64};
-pub use bf_bitslice::{
-    Lanes, PackedGf2, PackedGf2x8, PackedGf2x16, PackedGf2x32, PackedGf2x64, PackedGf2x128,
-    PackedGf2x256, PackedGf2x512,
-};
-pub use bf_bitslice_words::{M128, M256, M512, Underlier, Word};
-pub use bf_byte_challenger::{
-    ByteChallenger, ByteHasher32, ChallengerError, HashChallenger, Sha256Hasher,
-};
-pub use bf_bytes::{
-    ByteStream, LittleEndian, Packable, ParallelByteStreams, ParallelU32Streams,
-    ParallelU64Streams, RawDataSerializable, U32Stream, U64Stream, into_byte_stream,
-    into_parallel_byte_streams, into_parallel_u32_streams, into_parallel_u64_streams,
-    into_u32_stream, into_u64_stream,
-};
+pub use bf_base::traits::Algebra;
+pub use bf_base::traits::DotProduct;
+pub use bf_base::traits::Field;
+pub use bf_base::traits::PrimeCharacteristicRing;
+pub use bf_base::traits::Represented;
+pub use bf_base::traits::TowerLevel;
+pub use bf_basis::LinearMap;
+pub use bf_basis::to_polynomial_slice_64;
+pub use bf_basis::to_tower_slice_64;
+pub use bf_bitslice::Lanes;
+pub use bf_bitslice::PackedGf2;
+pub use bf_bitslice::PackedGf2x8;
+pub use bf_bitslice::PackedGf2x16;
+pub use bf_bitslice::PackedGf2x32;
+pub use bf_bitslice::PackedGf2x64;
+pub use bf_bitslice::PackedGf2x128;
+pub use bf_bitslice::PackedGf2x256;
+pub use bf_bitslice::PackedGf2x512;
+pub use bf_bitslice_words::M128;
+pub use bf_bitslice_words::M256;
+pub use bf_bitslice_words::M512;
+pub use bf_bitslice_words::Underlier;
+pub use bf_bitslice_words::Word;
+pub use bf_byte_challenger::ByteChallenger;
+pub use bf_byte_challenger::ByteHasher32;
+pub use bf_byte_challenger::ChallengerError;
+pub use bf_byte_challenger::HashChallenger;
+pub use bf_byte_challenger::Sha256Hasher;
+pub use bf_bytes::ByteStream;
+pub use bf_bytes::LittleEndian;
+pub use bf_bytes::Packable;
+pub use bf_bytes::ParallelByteStreams;
+pub use bf_bytes::ParallelU32Streams;
+pub use bf_bytes::ParallelU64Streams;
+pub use bf_bytes::RawDataSerializable;
+pub use bf_bytes::U32Stream;
+pub use bf_bytes::U64Stream;
+pub use bf_bytes::into_byte_stream;
+pub use bf_bytes::into_parallel_byte_streams;
+pub use bf_bytes::into_parallel_u32_streams;
+pub use bf_bytes::into_parallel_u64_streams;
+pub use bf_bytes::into_u32_stream;
+pub use bf_bytes::into_u64_stream;
 pub use bf_calc as calc;
-pub use bf_challenger::{
-    BinaryChallenger, CanSample, CanSampleBits, CanSampleUniformBits, Digest, FieldChallenger,
-    GrindingChallenger, Hash, MerkleCap,
-};
+pub use bf_challenger::BinaryChallenger;
+pub use bf_challenger::Call;
+pub use bf_challenger::CanSample;
+pub use bf_challenger::CanSampleBits;
+pub use bf_challenger::CanSampleUniformBits;
+pub use bf_challenger::Digest;
+pub use bf_challenger::FieldChallenger;
+pub use bf_challenger::GrindError;
+pub use bf_challenger::GrindingChallenger;
+pub use bf_challenger::Hash;
+pub use bf_challenger::MerkleCap;
+pub use bf_challenger::Reply;
+pub use bf_challenger::run_calls;
 pub use bf_divisible::Divisible;
-pub use bf_element::{
-    BinaryField2, BinaryField4, BinaryField8, BinaryField16, BinaryField32, BinaryField64,
-    BinaryField128, Ghash128, PackedGhash128, PackedRijndael8b, Poly64, Poly192, Rijndael8b,
-};
-pub use bf_integers::{PrimeField, PrimeField32, PrimeField64, QuotientMap};
-pub use bf_packed::{Packed, WiderField};
-pub use bf_packing::{PackedField, PackedFieldPow2, PackedValue};
+pub use bf_element::BinaryField2;
+pub use bf_element::BinaryField4;
+pub use bf_element::BinaryField8;
+pub use bf_element::BinaryField16;
+pub use bf_element::BinaryField32;
+pub use bf_element::BinaryField64;
+pub use bf_element::BinaryField128;
+pub use bf_element::Ghash128;
+pub use bf_element::PackedGhash128;
+pub use bf_element::PackedRijndael8b;
+pub use bf_element::Poly64;
+pub use bf_element::Poly192;
+pub use bf_element::Rijndael8b;
+pub use bf_integers::PrimeField;
+pub use bf_integers::PrimeField32;
+pub use bf_integers::PrimeField64;
+pub use bf_integers::QuotientMap;
+pub use bf_packed::Packed;
+pub use bf_packed::WiderField;
+pub use bf_packing::PackedField;
+pub use bf_packing::PackedFieldPow2;
+pub use bf_packing::PackedValue;
 pub use bf_poly_basis as poly_basis;
-pub use bf_space::{
-    AlgebraIdentity, BasedVectorSpace, BasisCoefficients, BasisCoefficientsSlice, ExtensionField,
-    HasFrobenius, HasPowers, HasSubfield, PackedFieldExtension, Powers,
-};
-pub use bf_transcript::{
-    CanObserve, Recorder, Transcript, TranscriptError, TranscriptField, TypeTag,
-};
+pub use bf_space::AlgebraIdentity;
+pub use bf_space::BasedVectorSpace;
+pub use bf_space::BasisCoefficients;
+pub use bf_space::BasisCoefficientsSlice;
+pub use bf_space::ExtensionField;
+pub use bf_space::HasFrobenius;
+pub use bf_space::HasPowers;
+pub use bf_space::HasSubfield;
+pub use bf_space::PackedFieldExtension;
+pub use bf_space::Powers;
+pub use bf_transcript::CanObserve;
+pub use bf_transcript::Recorder;
+pub use bf_transcript::Transcript;
+pub use bf_transcript::TranscriptError;
+pub use bf_transcript::TranscriptField;
+pub use bf_transcript::TypeTag;
 pub use bf_transform::over;
