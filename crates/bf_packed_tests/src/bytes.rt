@@ -33,11 +33,6 @@ pub(crate) fn bytes_3(first: u8, step: u8) -> PackedRijndael8b<3> {
     packing!(3, first, step)
 }
 
-/// The packing of 16 lanes that are `first`, `first + step`, .. modulo 256.
-pub(crate) fn bytes_16(first: u8, step: u8) -> PackedRijndael8b<16> {
-    packing!(16, first, step)
-}
-
 /// The packing of 17 lanes that are `first`, `first + step`, .. modulo 256.
 pub(crate) fn bytes_17(first: u8, step: u8) -> PackedRijndael8b<17> {
     packing!(17, first, step)

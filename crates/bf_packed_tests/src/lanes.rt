@@ -1,5 +1,5 @@
 // Which lane is which: slices, closures, single lanes, blocks, draws.
-use crate::bytes::{bytes_0, bytes_1, bytes_3, bytes_16, bytes_17};
+use crate::bytes::{bytes_0, bytes_1, bytes_3, bytes_17};
 use bf_aes::RijndaelMaps;
 use bf_base::traits::PrimeCharacteristicRing;
 use bf_element::{PackedRijndael8b, Rijndael8b};
@@ -33,10 +33,6 @@ fn slices_agree_at_3(x: PackedRijndael8b<3>) -> bool {
     slices_agree!(3, x)
 }
 
-fn slices_agree_at_16(x: PackedRijndael8b<16>) -> bool {
-    slices_agree!(16, x)
-}
-
 fn slices_agree_at_17(x: PackedRijndael8b<17>) -> bool {
     slices_agree!(17, x)
 }
@@ -44,8 +40,7 @@ fn slices_agree_at_17(x: PackedRijndael8b<17>) -> bool {
 #[test]
 fn slices(rt: HostRuntime) {
     assert!(rt; slices_agree_at_0(bytes_0(11, 5)) && slices_agree_at_1(bytes_1(11, 5)));
-    assert!(rt; slices_agree_at_3(bytes_3(11, 5)) && slices_agree_at_16(bytes_16(11, 5)));
-    assert!(rt; slices_agree_at_17(bytes_17(11, 5)));
+    assert!(rt; slices_agree_at_3(bytes_3(11, 5)) && slices_agree_at_17(bytes_17(11, 5)));
 }
 
 #[test]

@@ -1,5 +1,5 @@
 // The operators of packings of bytes, lane by lane: with a packing, with a byte, with a bit, on either side.
-use crate::bytes::{bytes_0, bytes_1, bytes_3, bytes_16, bytes_17};
+use crate::bytes::{bytes_0, bytes_1, bytes_3, bytes_17};
 use bf_aes::RijndaelMaps;
 use bf_base::Gf2;
 use bf_base::traits::PrimeCharacteristicRing;
@@ -34,10 +34,6 @@ fn agree_at_3(x: PackedRijndael8b<3>, y: PackedRijndael8b<3>) -> bool {
     lanes_agree!(x, y)
 }
 
-fn agree_at_16(x: PackedRijndael8b<16>, y: PackedRijndael8b<16>) -> bool {
-    lanes_agree!(x, y)
-}
-
 fn agree_at_17(x: PackedRijndael8b<17>, y: PackedRijndael8b<17>) -> bool {
     lanes_agree!(x, y)
 }
@@ -47,12 +43,11 @@ fn packings_go_lane_by_lane(rt: HostRuntime) {
     assert!(rt; agree_at_0(bytes_0(3, 7), bytes_0(250, 101)));
     assert!(rt; agree_at_1(bytes_1(0x57, 7), bytes_1(0x83, 101)));
     assert!(rt; agree_at_3(bytes_3(3, 7), bytes_3(250, 101)));
-    assert!(rt; agree_at_16(bytes_16(3, 7), bytes_16(250, 101)));
     assert!(rt; agree_at_17(bytes_17(3, 7), bytes_17(250, 101)));
 }
 
 // Whether the assigning operators, differences and negation agree with sums and products.
-fn assigned(x: PackedRijndael8b<16>, y: PackedRijndael8b<16>) -> bool {
+fn assigned(x: PackedRijndael8b<3>, y: PackedRijndael8b<3>) -> bool {
     let (mut added, mut subtracted, mut multiplied) = (x, x, x);
     added += y;
     subtracted -= y;
@@ -100,7 +95,7 @@ fn bit_stands_before(x: PackedRijndael8b<3>, bit: Gf2) -> bool {
 
 #[test]
 fn assigning_operators(rt: HostRuntime) {
-    assert!(rt; assigned(bytes_16(3, 7), bytes_16(250, 101)));
+    assert!(rt; assigned(bytes_3(3, 7), bytes_3(250, 101)));
 }
 
 #[test]
