@@ -4,9 +4,11 @@
 mod cubic;
 mod draws;
 mod kernel;
+mod reading;
 mod subfield;
 mod texts;
 mod triple;
 
 pub use crate::kernel::CubicKernel;
+pub use crate::reading::ReadWord;
 pub use crate::triple::Triple;

@@ -5,8 +5,9 @@ use bf_element::{
     BinaryField2, BinaryField4, BinaryField8, BinaryField16, BinaryField32, BinaryField64,
     BinaryField128, Ghash128, Poly64, Poly192, Rijndael8b,
 };
-use serde::{Deserialize, Serialize};
-use std::alloc::Global;
+use serde::{Deserialize, DeserializeOwned, Serialize};
+use serde_json::{Error, Value};
+use std::alloc::{AllocError, Global};
 
 // Whether the text is read as an element, which is written as that text again.
 fn returns<'a, E: Copy + Serialize + Deserialize<'a>>(alloc: Global, text: &'a str) -> bool {
@@ -24,14 +25,61 @@ fn is_refused<'a, E: Copy + Deserialize<'a>>(alloc: Global, text: &'a str) -> bo
 }
 
 // Whether the refusal says that the value is out of range.
+fn says_out_of_range(alloc: Global, error: &Error) -> bool {
+    match format!(in alloc; "{error}") {
+        Ok(said) => said.as_str().starts_with("Value is out of range"),
+        Err(_) => false,
+    }
+}
+
 fn is_out_of_range<'a, E: Copy + Deserialize<'a>>(alloc: Global, text: &'a str) -> bool {
     match serde_json::from_str::<E>(alloc, text) {
         Ok(_) => false,
-        Err(error) => match format!(in alloc; "{error}") {
-            Ok(said) => said.as_str().starts_with("Value is out of range"),
-            Err(_) => false,
-        },
+        Err(error) => says_out_of_range(alloc, &error),
     }
+}
+
+// The same where the element borrows nothing of what it is read from.
+fn is_out_of_range_owned<E: Copy + DeserializeOwned>(alloc: Global, text: &str) -> bool {
+    match Value::from_str(alloc, text) {
+        Ok(value) => match serde_json::from_value::<E>(alloc, value) {
+            Ok(_) => false,
+            Err(error) => says_out_of_range(alloc, &error),
+        },
+        Err(_) => false,
+    }
+}
+
+// The numbers from `first` to `last`, a space after each.
+fn numbers_between(alloc: Global, first: u8, last: u8) -> Result<String, AllocError> {
+    let mut texts = String::new(alloc);
+    for number in first..=last {
+        texts.push_str(format!(in alloc; "{number} ")?.as_str())?;
+    }
+    Ok(texts)
+}
+
+// Whether each of the numbers is read and written again.
+fn all_return<'a, E: Copy + Serialize + Deserialize<'a>>(alloc: Global, texts: &'a str) -> bool {
+    for text in texts.split_whitespace() {
+        if !returns::<E>(alloc, text) {
+            return false;
+        }
+    }
+    true
+}
+
+// Whether each of the numbers is refused as out of range, by both ways of reading it.
+fn are_out_of_range<'a, E: Copy + Deserialize<'a> + DeserializeOwned>(
+    alloc: Global,
+    texts: &'a str,
+) -> bool {
+    for text in texts.split_whitespace() {
+        if !is_out_of_range::<E>(alloc, text) || !is_out_of_range_owned::<E>(alloc, text) {
+            return false;
+        }
+    }
+    true
 }
 
 #[test]
@@ -64,17 +112,34 @@ fn polynomial_bases_as_numbers(rt: HostRuntime) {
     );
 }
 
+// Each number of a byte, at the fields that a byte stores with bits to spare.
 #[test]
-fn numbers_past_the_field(rt: HostRuntime) {
+fn numbers_of_the_field(rt: HostRuntime) -> Result<(), AllocError> {
     let alloc = rt.alloc();
+    let of_1_bit = numbers_between(alloc, 0, 1)?;
+    let of_2_bits = numbers_between(alloc, 0, 3)?;
+    let of_4_bits = numbers_between(alloc, 0, 15)?;
+    assert!(rt; of_1_bit.as_str() == "0 1 " && of_2_bits.as_str() == "0 1 2 3 ");
     assert!(rt;
-        is_out_of_range::<Gf2>(alloc, "2")
-            && is_out_of_range::<Gf2>(alloc, "255")
-            && is_out_of_range::<BinaryField2>(alloc, "4")
-            && is_out_of_range::<BinaryField2>(alloc, "7")
-            && is_out_of_range::<BinaryField4>(alloc, "16")
-            && is_out_of_range::<BinaryField4>(alloc, "255")
+        all_return::<Gf2>(alloc, of_1_bit.as_str())
+            && all_return::<BinaryField2>(alloc, of_2_bits.as_str())
+            && all_return::<BinaryField4>(alloc, of_4_bits.as_str())
     );
+    Ok(())
+}
+
+#[test]
+fn numbers_past_the_field(rt: HostRuntime) -> Result<(), AllocError> {
+    let alloc = rt.alloc();
+    let past_1_bit = numbers_between(alloc, 2, 255)?;
+    let past_2_bits = numbers_between(alloc, 4, 255)?;
+    let past_4_bits = numbers_between(alloc, 16, 255)?;
+    assert!(rt;
+        are_out_of_range::<Gf2>(alloc, past_1_bit.as_str())
+            && are_out_of_range::<BinaryField2>(alloc, past_2_bits.as_str())
+            && are_out_of_range::<BinaryField4>(alloc, past_4_bits.as_str())
+    );
+    Ok(())
 }
 
 #[test]

@@ -1,8 +1,10 @@
 // Elements as text, and as numbers for `serde`: those of the word that stores them.
-ghost use Rattle.std.specs.Prelude.{◌≡◌, ◌<◌, ◌^◌, ◌↔◌, IfSome, IsSome};
+ghost use Rattle.std.specs.Prelude.{◌≡◌, ◌<◌, ◌^◌, ◌↔◌, IfOk, IfSome, IsSome};
+ghost use Rattle.serde.specs.Steps.{Gives};
 
 use crate::element::Element;
 use bf_base::{Kernel, Word};
+use bf_poly192::ReadWord;
 use serde::{
     Described, Deserialize, DeserializeOwned, Deserializer, Format, Serialize, Serializer,
 };
@@ -46,26 +48,26 @@ fn element_in_range<R: Word, K: Kernel<R>>(repr: R) -> Option<Element<R, K>>
     }
 }
 
-// A number with a bit above the field is refused.
-impl<'de, R: Word + Deserialize<'de>, K: Kernel<R>> Deserialize<'de> for Element<R, K> {
+// What is read is an element's word, and a number with a bit above the field is refused.
+impl<'de, R: ReadWord, K: Kernel<R>> Deserialize<'de> for Element<R, K> {
     fn deserialize<F: Format>(
         alloc: Global,
         from: &mut Deserializer<'de, '_, F>,
-    ) -> Result<Element<R, K>, F::Error> {
-        let repr = R::deserialize(alloc, from)?;
-        match element_in_range(repr) {
-            Some(element) => Ok(element),
-            None => Err(from.custom("Value is out of range")),
-        }
+    ) -> Result<Element<R, K>, F::Error>
+        ensures { IfOk result (λ x. IfSome (R.event x.repr) (λ e. Gives F.gives from.old e from.new)) }
+    {
+        Self::deserialize_owned(alloc, from)
     }
 }
 
-impl<R: Word + DeserializeOwned, K: Kernel<R>> DeserializeOwned for Element<R, K> {
+impl<R: ReadWord, K: Kernel<R>> DeserializeOwned for Element<R, K> {
     fn deserialize_owned<F: Format>(
         alloc: Global,
         from: &mut Deserializer<'_, '_, F>,
-    ) -> Result<Element<R, K>, F::Error> {
-        let repr = R::deserialize_owned(alloc, from)?;
+    ) -> Result<Element<R, K>, F::Error>
+        ensures { IfOk result (λ x. IfSome (R.event x.repr) (λ e. Gives F.gives from.old e from.new)) }
+    {
+        let repr = R::read(alloc, from)?;
         match element_in_range(repr) {
             Some(element) => Ok(element),
             None => Err(from.custom("Value is out of range")),
