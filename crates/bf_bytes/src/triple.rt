@@ -3,6 +3,7 @@ ghost use Rattle.std.specs.Prelude.{◌≡◌, ◌<◌, ◌*◌, ◌^◌, ◌+�
 ghost use Rattle.std.proofs.Common.{lit<};
 
 use crate::little_endian::{LittleEndian, put_byte, read_byte};
+use bf_element::Coefficients;
 use bf_poly192::Triple;
 
 impl LittleEndian for Triple {
@@ -92,6 +93,45 @@ impl LittleEndian for Triple {
             c1: 0,
             c2: 0,
         }
+    }
+
+    fn slice_of(bytes: &[u8; 24]) -> &[u8] {
+        bytes
+    }
+
+    ghost size_law = { refl };
+
+    ghost wide_law = { lit< tt };
+}
+
+// The coefficients that store an element of `Poly192` are written and read as their words.
+impl LittleEndian for Coefficients {
+    const SIZE: usize = 24;
+
+    ghost SIZE = { 24 };
+
+    type Bytes = [u8; 24];
+
+    ghost listed = { λ bytes. bytes };
+
+    fn to_bytes(self) -> [u8; 24] {
+        self.words().to_bytes()
+    }
+
+    fn byte(self, i: usize) -> u8 {
+        self.words().byte(i)
+    }
+
+    fn with_byte(self, i: usize, byte: u8) -> Coefficients {
+        Coefficients::of_words(self.words().with_byte(i, byte))
+    }
+
+    fn wide(self, k: usize) -> u64 {
+        self.words().wide(k)
+    }
+
+    fn of_wide(n: u64) -> Coefficients {
+        Coefficients::of_words(Triple::of_wide(n))
     }
 
     fn slice_of(bytes: &[u8; 24]) -> &[u8] {

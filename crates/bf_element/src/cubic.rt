@@ -5,11 +5,12 @@ ghost use Rattle.bf_base.specs.Remainder.{mul_mod, poly64_modulus};
 ghost use Rattle.bf_cubic.specs.Cubic.{cubic};
 ghost use Rattle.bf_element.specs.Element.{repr_of};
 
-use crate::element::Element;
+use crate::element::{Coefficients, Element};
 use crate::names::{Poly64, Poly192};
-use bf_base::Kernel;
 use bf_base::traits::{Algebra, TowerLevel};
-use bf_poly192::{CubicKernel, Triple};
+use bf_base::{Contains, Kernel};
+use bf_poly::Poly64Kernel;
+use bf_poly192::CubicKernel;
 use std::ops::{Div, DivAssign};
 
 impl Poly192 {
@@ -17,24 +18,22 @@ impl Poly192 {
     pub fn new(coefficients: [Poly64; 3]) -> Poly192
         ensures { chunks 64 3 (repr_of result) ≡ map repr_of coefficients }
     {
-        let [c0, c1, c2] = coefficients;
-        Element::of_word(Triple {
-            c0: c0.to_repr(),
-            c1: c1.to_repr(),
-            c2: c2.to_repr(),
-        })
+        Element::of_word(Coefficients::new(coefficients))
     }
 
     /// The coefficients [c0, c1, c2] of the element c0 + c1 y + c2 y².
     pub fn coefficients(self) -> [Poly64; 3]
         ensures { map repr_of result ≡ chunks 64 3 (repr_of self) }
     {
-        let word = self.word();
-        [
-            Poly64::from_repr(word.c0),
-            Poly64::from_repr(word.c1),
-            Poly64::from_repr(word.c2),
-        ]
+        self.word().array()
+    }
+
+    /// The coefficients [c0, c1, c2] where they lie.
+    #[inline]
+    pub fn coefficient_slice(&self) -> &[Poly64]
+        ensures { map repr_of result.now ≡ chunks 64 3 (repr_of self.now) }
+    {
+        self.stored().as_slice()
     }
 
     /// The product, by products of coefficients. It is what `*` gives.
@@ -49,7 +48,7 @@ impl Poly192 {
         ensures zero { repr_of self ≡ 0 → repr_of result ≡ 0 }
         ensures inverse { repr_of self ≢ 0 → cubic 64 (mul_mod 64 poly64_modulus) (repr_of self) (repr_of result) ≡ 1 }
     {
-        Element::of_word(CubicKernel::invert(self.word()))
+        Element::of_word(<CubicKernel as Kernel<Coefficients>>::invert(self.word()))
     }
 }
 
@@ -57,11 +56,9 @@ impl From<Poly64> for Poly192 {
     ghost from_gives = { λ x r. repr_of r ≡ repr_of x };
 
     fn from(element: Poly64) -> Poly192 {
-        Element::of_word(Triple {
-            c0: element.to_repr(),
-            c1: 0,
-            c2: 0,
-        })
+        Element::of_word(<CubicKernel as Contains<Coefficients, u64, Poly64Kernel>>::embed(
+            element.to_repr(),
+        ))
     }
 }
 

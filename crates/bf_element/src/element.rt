@@ -2,11 +2,15 @@
 ghost use Rattle.std.specs.Prelude.{◌≡◌, ◌<◌, ◌%◌, ◌^◌, ℕ};
 
 mod bits;
+mod coefficients;
+mod cubic_traits;
+mod cubic_word;
 mod operators;
 mod ring;
 mod stored;
 mod texts;
 
+pub use crate::element::coefficients::Coefficients;
 pub use crate::element::stored::{element_of_word, word_of};
 use bf_base::{Gf2, Kernel, Word};
 use std::alloc::AllocError;
@@ -72,6 +76,14 @@ impl<R: Word, K: Kernel<R>> Element<R, K> {
         ensures { result ≡ self.now.repr }
     {
         self.repr
+    }
+
+    // The word that stores the element, where it lies.
+    #[inline]
+    pub(crate) fn stored(&self) -> &R
+        ensures { result.now ≡ self.now.repr }
+    {
+        &self.repr
     }
 }
 

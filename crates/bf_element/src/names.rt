@@ -1,9 +1,9 @@
 // The fields by their names.
-use crate::element::{Element, HasPacking};
+use crate::element::{Coefficients, Element, HasPacking};
 use bf_base::Unsigned;
 use bf_packed::Packed;
 use bf_poly::{GhashKernel, Poly64Kernel, RijndaelKernel};
-use bf_poly192::{CubicKernel, Triple};
+use bf_poly192::CubicKernel;
 use bf_tower::{Bits2, Bits4, Bits8, Bits16, Bits32, Bits64, Bits128, Level, Tower};
 
 /// An element of GF(2^2), level 1 of Wiedemann's tower. Its representation is `low + high * 2` for the element
@@ -55,9 +55,9 @@ pub type Poly64 = Element<u64, Poly64Kernel>;
 pub type Ghash128 = Element<u128, GhashKernel>;
 
 /// An element of the cubic extension of [`Poly64`] by a root y of y³ + y + 1, which is primitive over GF(2) (R. Lidl and
-/// H. Niederreiter, Finite Fields, table C). The element c0 + c1 y + c2 y² is stored as the words of c0, c1 and c2; its
+/// H. Niederreiter, Finite Fields, table C). The element c0 + c1 y + c2 y² is stored as [c0, c1, c2]; its
 /// representation is the number c0 + c1 2^64 + c2 2^128, and its order compares c0 first.
-pub type Poly192 = Element<Triple, CubicKernel>;
+pub type Poly192 = Element<Coefficients, CubicKernel>;
 
 /// `N` bytes of AES, whose operations go lane by lane.
 pub type PackedRijndael8b<const N: usize> = Packed<Rijndael8b, N>;
@@ -83,6 +83,6 @@ impl HasPacking<u128> for GhashKernel {
     type Packing = PackedGhash128;
 }
 
-impl HasPacking<Triple> for CubicKernel {
+impl HasPacking<Coefficients> for CubicKernel {
     type Packing = Poly192;
 }

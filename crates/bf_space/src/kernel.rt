@@ -9,6 +9,7 @@ ghost use Rattle.bf_cubic.proofs.CubicRing.{chunk-cubic};
 ghost use Rattle.bf_space.specs.OneCoefficient.{scales_one_coefficient};
 
 use bf_base::{Kernel, Word};
+use bf_element::Coefficients;
 use bf_poly::Poly64Kernel;
 use bf_poly192::{CubicKernel, Triple};
 
@@ -99,5 +100,30 @@ impl SpaceOver<Triple, u64, Poly64Kernel> for CubicKernel {
                 c2: coefficient,
             },
         }
+    }
+}
+
+// The coefficients that store an element of `Poly192` are those of its words.
+impl SpaceOver<Coefficients, u64, Poly64Kernel> for CubicKernel {
+    const DIMENSION: usize = 3;
+
+    ghost DIMENSION = { 3 };
+
+    ghost dimension_law = { lit< tt };
+
+    ghost space_law = { refl };
+
+    ghost scale_law = { chunk-cubic 64 (mul_mod 64 poly64_modulus) poly64_ring };
+
+    fn coefficient(x: Coefficients, i: usize) -> u64 {
+        <CubicKernel as SpaceOver<Triple, u64, Poly64Kernel>>::coefficient(x.words(), i)
+    }
+
+    fn with_coefficient(x: Coefficients, i: usize, coefficient: u64) -> Coefficients {
+        Coefficients::of_words(<CubicKernel as SpaceOver<
+            Triple,
+            u64,
+            Poly64Kernel,
+        >>::with_coefficient(x.words(), i, coefficient))
     }
 }

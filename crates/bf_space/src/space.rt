@@ -140,7 +140,7 @@ pub trait BasisCoefficients<F: PrimeCharacteristicRing>: BasedVectorSpace<F> {
 }
 
 /// A vector space whose elements lend their coefficients where they lie. Each field lends an element as the one coefficient of
-/// itself.
+/// itself, and `Poly192` its three coefficients over `Poly64`.
 pub trait BasisCoefficientsSlice<F: PrimeCharacteristicRing>: BasedVectorSpace<F> {
     /// The coefficients, the lowest first. Their type has to fit in memory, as every type of a program does; generic code, which
     /// does not know the type, passes the condition on.
@@ -233,6 +233,12 @@ impl<R: Word, K: Kernel<R>> BasisCoefficientsSlice<Element<R, K>> for Element<R,
 impl BasisCoefficientsSlice<Gf2> for Gf2 {
     fn as_basis_coefficients_slice(&self) -> &[Gf2] {
         slice::from_ref(self)
+    }
+}
+
+impl BasisCoefficientsSlice<Poly64> for Poly192 {
+    fn as_basis_coefficients_slice(&self) -> &[Poly64] {
+        self.coefficient_slice()
     }
 }
 

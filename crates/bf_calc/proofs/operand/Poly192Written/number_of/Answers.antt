@@ -1,12 +1,13 @@
 -- The parts of the number are the coefficients, coefficient 0 the highest.
 use Rattle.std.proofs.Common.{◌∙◌}
+use Rattle.bf_element.specs.Coefficients.{stored_words}
 use Rattle.bf_element.specs.Element.{repr_of}
 use Rattle.bf_calc.proofs.CoefficientLemmas.{coefficient-at, number-written}
 use Rattle.bf_calc.proofs.operand.Poly192Written.number_of.Goals as goal
 
 pub returns : goal.returns
 returns c =
-    let word = c.args.self.repr in
+    let word = stored_words c.args.self.repr in
     let fits = word.in_range in
     let parts = c.coefficients.result in
     let first = coefficient-at repr_of parts word.c0 word.c1 word.c2 0 c.index-coefficients-0.result fits.first fits.second fits.third c.coefficients.ensures in
