@@ -1,5 +1,6 @@
 -- Lemmas on joined words, which the impls of blocks name.
 use Rattle.std.proofs.Common.{◌≡◌, ℕ, ◌+◌, ◌*◌, ◌/◌, ◌%◌, ◌^◌, ◌<◌, suc, zero, true, List, [], ◌∷◌, length, get_or, set, refl, sym, ap, ap₂, ◌∙◌, arith, subst, length-set, get_or-set_same, get_or-set_other}
+use Rattle.std.specs.Prelude.{◌-◌, replicate}
 use Rattle.std.specs.Bool.{nat_eq, nat_lt}
 use Rattle.std.specs.List.{list_all}
 use Rattle.std.proofs.lemmas.Bool.{and_parts, and_from}
@@ -7,6 +8,7 @@ use Rattle.std.proofs.lemmas.Bool.{eqb-true, lt-ltb, ltb-true}
 use Rattle.std.proofs.lemmas.Bool.Decides.{nat_tests}
 use Rattle.std.proofs.Math.Nat.{div-one, zero-div}
 use Rattle.std.proofs.lemmas.Nat.{pow_pos, pow-add, shr-shr, mod_low, shr_high, mul-add-lt}
+use Rattle.std.proofs.lemmas.List.{length-replicate}
 use native.Mathlib.Nat.{mod-eq_of_lt}
 use Rattle.bf_bitslice_words.specs.Parts.{joined, part_at, parts_of, is_whole, IsWithPart}
 
@@ -129,3 +131,34 @@ pub whole-set : (width count : ℕ) (words : List ℕ) → is_whole width count 
 whole-set width count words whole i v fits =
     whole_from width count (set words i v) (length-set words i v ∙ whole-length width count words whole)
     (set_below width words (whole-below width count words whole) i v fits)
+
+-- a word that is repeated
+pub whole-replicate : (width count v : ℕ) → v < 2 ^ width → is_whole width count (replicate count v) ≡ true
+whole-replicate width count v fits = whole_from width count (replicate count v) (length-replicate count v) (each count)
+  where
+    each : (n i : ℕ) → get_or (replicate n v) i 0 < 2 ^ width
+    each zero i = pow_pos width
+    each (suc n) zero = fits
+    each (suc n) (suc i) = each n i
+
+pub joined-zeros : (width count : ℕ) → joined width (replicate count 0) ≡ 0
+joined-zeros width zero = refl
+joined-zeros width (suc count) = ap (λ (x : ℕ). x * 2 ^ width + 0) (joined-zeros width count) ∙ nothing (2 ^ width)
+  where
+    nothing : (n : ℕ) → 0 * n + 0 ≡ 0
+    nothing n = omega arith
+
+pub joined-ones : (width count : ℕ) → joined width (replicate count (2 ^ width - 1)) ≡ 2 ^ (width * count) - 1
+joined-ones width zero = let none : width * 0 ≡ 0 = omega arith in ap (λ (x : ℕ). 2 ^ x - 1) (sym none)
+joined-ones width (suc count) =
+    let places : width * suc count ≡ width * count + width = omega arith in
+    let whole : 2 ^ (width * suc count) ≡ 2 ^ (width * count) * 2 ^ width = ap (λ (x : ℕ). 2 ^ x) places ∙ pow-add 2 (width * count) width in
+    let below = ap (λ (x : ℕ). x * 2 ^ width + (2 ^ width - 1)) (joined-ones width count) in
+    let some = pow_pos width in
+    let more = pow_pos (width * count) in
+    below ∙ ones_more (2 ^ (width * count)) (2 ^ width) more some ∙ ap (λ (x : ℕ). x - 1) (sym whole)
+  where
+    ones_more : (a b : ℕ) → 0 < a → 0 < b → (a - 1) * b + (b - 1) ≡ a * b - 1
+    ones_more (suc a) (suc b) _ _ = grind arith
+    ones_more zero b less _ = absurd (omega arith)
+    ones_more (suc a) zero _ less = absurd (omega arith)

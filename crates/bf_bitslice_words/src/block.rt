@@ -1,8 +1,8 @@
 // Blocks of words.
-ghost use Rattle.std.specs.Prelude.{◌≡◌, ◌<◌, ℕ, IsTrue, refl, replicate, slice_index};
-ghost use Rattle.std.proofs.Common.{lit<, rules, ◌^◌, ◌-◌};
+ghost use Rattle.std.specs.Prelude.{◌≡◌, ◌<◌, ◌*◌, ◌^◌, ℕ, IsTrue, refl, replicate, slice_index};
+ghost use Rattle.std.proofs.Common.{lit<, rules, ◌-◌};
 ghost use Rattle.bf_bitslice_words.specs.Parts.{HasFirstBlocks, HasSecondBlocks, IsBlockSize, is_whole, joined};
-ghost use Rattle.bf_bitslice_words.specs.Joined.{same_from_joined, whole_joined-lt};
+ghost use Rattle.bf_bitslice_words.specs.Joined.{joined-ones, joined-zeros, same_from_joined, whole-replicate, whole_joined-lt};
 
 use crate::bits::even_word;
 use crate::sealed::Sealed;
@@ -64,6 +64,42 @@ impl<const N: usize> Default for Block<N> {
 
 impl<const N: usize> Sealed for Block<N> {}
 
+/// Stands for the numbers of words that a block may have.
+pub struct Lengths;
+
+/// Says of a number of words that it is a power of two, and that a row may have so many.
+pub trait Length<const N: usize> {
+    ghost log: { ℕ };
+
+    ghost count_law: { N ≡ 2 ^ log };
+
+    ghost narrow_law: { 64 * N < 2 ^ 32 };
+}
+
+impl Length<2> for Lengths {
+    ghost log = { 1 };
+
+    ghost count_law = { refl };
+
+    ghost narrow_law = { lit< tt };
+}
+
+impl Length<4> for Lengths {
+    ghost log = { 2 };
+
+    ghost count_law = { refl };
+
+    ghost narrow_law = { lit< tt };
+}
+
+impl Length<8> for Lengths {
+    ghost log = { 3 };
+
+    ghost count_law = { refl };
+
+    ghost narrow_law = { lit< tt };
+}
+
 // Both results of interleaving each word of the one block with that of the other, all words at once in the lanes of a
 // vector.
 #[inline]
@@ -93,32 +129,35 @@ fn interleave_lanes<const N: usize>(
     )
 }
 
-impl Underlier for Block<2> {
+impl<const N: usize> Underlier for Block<N>
+where
+    Lengths: Length<N>,
+{
     type Word = u64;
 
     ghost number = { λ x. joined 64 x.words };
 
-    ghost is_whole = { λ x. is_whole 64 2 x.words };
+    ghost is_whole = { λ x. is_whole 64 N x.words };
 
-    ghost log_words = { 1 };
+    ghost log_words = { bound-1.log };
 
-    const WORD_COUNT: usize = 2;
+    const WORD_COUNT: usize = N;
 
-    ghost WORD_COUNT = { 2 };
+    ghost WORD_COUNT = { N };
 
-    const BITS: usize = 128;
+    const BITS: usize = 64 * N;
 
-    ghost BITS = { 128 };
+    ghost BITS = { 64 * N };
 
-    const ZERO: Block<2> = Block { words: [0; 2] };
+    const ZERO: Block<N> = Block { words: [0; N] };
 
-    ghost ZERO = { record { words = replicate 2 0 } };
+    ghost ZERO = { record { words = replicate N 0 } };
 
-    const ONES: Block<2> = Block {
-        words: [u64::MAX; 2],
+    const ONES: Block<N> = Block {
+        words: [u64::MAX; N],
     };
 
-    ghost ONES = { record { words = replicate 2 (2 ^ 64 - 1) } };
+    ghost ONES = { record { words = replicate N (2 ^ 64 - 1) } };
 
     fn words(&self) -> &[u64] {
         let _row = self.checked();
@@ -135,12 +174,14 @@ impl Underlier for Block<2> {
         self.words[i] = word;
     }
 
-    fn checked(&self) -> Block<2> {
-        let _word = self.words[0];
+    fn checked(&self) -> Block<N> {
+        // Nothing is computed: of an operation on lanes it is known that each lane is a number of 64 bits.
+        let lanes = Simd::<u64, N>::from_array(self.words);
+        let _same = (lanes & lanes).to_array();
         *self
     }
 
-    fn interleave_in_words(&self, other: &Block<2>, block: u32) -> (Block<2>, Block<2>) {
+    fn interleave_in_words(&self, other: &Block<N>, block: u32) -> (Block<N>, Block<N>) {
         let _left = self.checked();
         let _right = other.checked();
         let (first, second) = interleave_lanes(self, other, block);
@@ -149,181 +190,23 @@ impl Underlier for Block<2> {
         (first, second)
     }
 
-    ghost words_law = { refl };
+    ghost words_law = { bound-1.count_law };
 
     ghost bits_law = { refl };
 
-    ghost narrow_law = { lit< tt };
+    ghost narrow_law = { bound-1.narrow_law };
 
-    ghost zero_whole = { refl };
+    ghost zero_whole = { whole-replicate 64 N 0 (lit< tt) };
 
-    ghost zero_number = { refl };
+    ghost zero_number = { joined-zeros 64 N };
 
-    ghost ones_whole = { refl };
+    ghost ones_whole = { whole-replicate 64 N (2 ^ 64 - 1) (lit< tt) };
 
-    ghost ones_number = { refl };
+    ghost ones_number = { joined-ones 64 N };
 
-    ghost range_law = { λ x whole. whole_joined-lt 64 2 x.words whole };
+    ghost range_law = { λ x whole. whole_joined-lt 64 N x.words whole };
 
-    ghost same_law = { λ x y left right same i. record { words = same_from_joined 64 2 x.words y.words left right same i } };
-
-    ghost eq_law = { Prim.search rules };
-
-    ghost default_law = { λ r is i. record { words = is i } };
-}
-
-impl Underlier for Block<4> {
-    type Word = u64;
-
-    ghost number = { λ x. joined 64 x.words };
-
-    ghost is_whole = { λ x. is_whole 64 4 x.words };
-
-    ghost log_words = { 2 };
-
-    const WORD_COUNT: usize = 4;
-
-    ghost WORD_COUNT = { 4 };
-
-    const BITS: usize = 256;
-
-    ghost BITS = { 256 };
-
-    const ZERO: Block<4> = Block { words: [0; 4] };
-
-    ghost ZERO = { record { words = replicate 4 0 } };
-
-    const ONES: Block<4> = Block {
-        words: [u64::MAX; 4],
-    };
-
-    ghost ONES = { record { words = replicate 4 (2 ^ 64 - 1) } };
-
-    fn words(&self) -> &[u64] {
-        let _row = self.checked();
-        &self.words
-    }
-
-    fn word(&self, i: usize) -> u64 {
-        let _row = self.checked();
-        self.words[i]
-    }
-
-    fn set_word(&mut self, i: usize, word: u64) {
-        let _row = self.checked();
-        self.words[i] = word;
-    }
-
-    fn checked(&self) -> Block<4> {
-        let _word = self.words[0];
-        *self
-    }
-
-    fn interleave_in_words(&self, other: &Block<4>, block: u32) -> (Block<4>, Block<4>) {
-        let _left = self.checked();
-        let _right = other.checked();
-        let (first, second) = interleave_lanes(self, other, block);
-        let _first = first.checked();
-        let _second = second.checked();
-        (first, second)
-    }
-
-    ghost words_law = { refl };
-
-    ghost bits_law = { refl };
-
-    ghost narrow_law = { lit< tt };
-
-    ghost zero_whole = { refl };
-
-    ghost zero_number = { refl };
-
-    ghost ones_whole = { refl };
-
-    ghost ones_number = { refl };
-
-    ghost range_law = { λ x whole. whole_joined-lt 64 4 x.words whole };
-
-    ghost same_law = { λ x y left right same i. record { words = same_from_joined 64 4 x.words y.words left right same i } };
-
-    ghost eq_law = { Prim.search rules };
-
-    ghost default_law = { λ r is i. record { words = is i } };
-}
-
-impl Underlier for Block<8> {
-    type Word = u64;
-
-    ghost number = { λ x. joined 64 x.words };
-
-    ghost is_whole = { λ x. is_whole 64 8 x.words };
-
-    ghost log_words = { 3 };
-
-    const WORD_COUNT: usize = 8;
-
-    ghost WORD_COUNT = { 8 };
-
-    const BITS: usize = 512;
-
-    ghost BITS = { 512 };
-
-    const ZERO: Block<8> = Block { words: [0; 8] };
-
-    ghost ZERO = { record { words = replicate 8 0 } };
-
-    const ONES: Block<8> = Block {
-        words: [u64::MAX; 8],
-    };
-
-    ghost ONES = { record { words = replicate 8 (2 ^ 64 - 1) } };
-
-    fn words(&self) -> &[u64] {
-        let _row = self.checked();
-        &self.words
-    }
-
-    fn word(&self, i: usize) -> u64 {
-        let _row = self.checked();
-        self.words[i]
-    }
-
-    fn set_word(&mut self, i: usize, word: u64) {
-        let _row = self.checked();
-        self.words[i] = word;
-    }
-
-    fn checked(&self) -> Block<8> {
-        let _word = self.words[0];
-        *self
-    }
-
-    fn interleave_in_words(&self, other: &Block<8>, block: u32) -> (Block<8>, Block<8>) {
-        let _left = self.checked();
-        let _right = other.checked();
-        let (first, second) = interleave_lanes(self, other, block);
-        let _first = first.checked();
-        let _second = second.checked();
-        (first, second)
-    }
-
-    ghost words_law = { refl };
-
-    ghost bits_law = { refl };
-
-    ghost narrow_law = { lit< tt };
-
-    ghost zero_whole = { refl };
-
-    ghost zero_number = { refl };
-
-    ghost ones_whole = { refl };
-
-    ghost ones_number = { refl };
-
-    ghost range_law = { λ x whole. whole_joined-lt 64 8 x.words whole };
-
-    ghost same_law = { λ x y left right same i. record { words = same_from_joined 64 8 x.words y.words left right same i } };
+    ghost same_law = { λ x y left right same i. record { words = same_from_joined 64 N x.words y.words left right same i } };
 
     ghost eq_law = { Prim.search rules };
 

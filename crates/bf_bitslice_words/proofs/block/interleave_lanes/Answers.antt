@@ -1,10 +1,9 @@
-use Rattle.std.proofs.Common.{◌≡◌, ◌<◌, ◌≤◌, ℕ, ◌∙◌, List, [], ◌∷◌, length, get_or, sym, subst, ap, ap₂, arith, rules}
+use Rattle.std.proofs.Common.{◌≡◌, ◌<◌, ℕ, ◌∙◌, List, [], ◌∷◌, length, get_or, sym, subst, ap, arith, rules}
 use Rattle.std.specs.Prelude.{replicate}
-use Rattle.std.specs.Simd.Lanes.{Each1, Each2, zip2}
+use Rattle.std.specs.Simd.Lanes.{Each1, zip2}
 use Rattle.std.proofs.lemmas.List.{get_or-replicate, length-replicate}
 use Rattle.std.proofs.lemmas.Simd.{Each2-splat, get_or-zip2, length-zip2}
 use Rattle.bf_bitslice_words.specs.Parts.{HasFirstBlocks, HasSecondBlocks}
-use Rattle.bf_bitslice_words.proofs.BlockLemmas.{block_some}
 use Rattle.bf_bitslice_words.proofs.LaneLemmas.{first_even, first_odd, second_even, second_odd}
 use Rattle.bf_bitslice_words.proofs.block.interleave_lanes.Goals as goal
 

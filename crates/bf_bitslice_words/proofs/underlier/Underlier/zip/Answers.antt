@@ -1,5 +1,4 @@
-use Rattle.std.proofs.Common.{◌≡◌, ◌<◌, ℕ, true, sym, subst, arith, rules}
-use Rattle.bf_bitslice_words.specs.Parts.{IsZipped}
+use Rattle.std.proofs.Common.{◌≡◌, ◌<◌, true, sym, subst, arith, rules}
 use Rattle.bf_bitslice_words.proofs.WordLists.{more_zipped}
 use Rattle.bf_bitslice_words.proofs.underlier.Underlier.zip.Goals as goal
 

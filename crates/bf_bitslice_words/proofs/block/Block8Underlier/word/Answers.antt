@@ -1,6 +1,0 @@
-use Rattle.std.proofs.Common.{sym}
-use Rattle.bf_bitslice_words.specs.Joined.{joined-part, whole-below}
-use Rattle.bf_bitslice_words.proofs.block.Block8Underlier.word.Goals as goal
-
-pub returns : goal.returns
-returns c = sym (joined-part 64 c.args.self.now.words (whole-below 64 8 c.args.self.now.words c.checked-row.ensures.whole) c.args.i)
