@@ -1,5 +1,5 @@
 -- Lists of calls of a challenger that are made one after the other.
-use Rattle.std.proofs.Common.{◌≡◌, ◌<◌, ◌+◌, ℕ, suc, Bool, false, true, Err, IsErrAnd, Ok, Result, List, [], ◌∷◌, ◌++◌, add-one, ap, ap₂, get_or, length, map, refl, sym, take, ◌∙◌}
+use Rattle.std.proofs.Common.{◌≡◌, ◌<◌, ◌+◌, ℕ, Bool, false, true, Err, IsErrAnd, Ok, Result, List, [], ◌∷◌, ◌++◌, add-one, ap, ap₂, get_or, length, refl, sym, take, ◌∙◌}
 use Rattle.std.proofs.Math.Seq.{take-suc}
 use Rattle.std.proofs.lemmas.Bool.{false≢true}
 use Rattle.std.proofs.lemmas.Grind.{flat_map-append}

@@ -7,7 +7,8 @@ use bf_element::{
 };
 use bf_integers::{PrimeField32, PrimeField64, QuotientMap};
 use bf_space::{
-    AlgebraIdentity, BasedVectorSpace, BasisCoefficients, ExtensionField, HasFrobenius, HasSubfield,
+    AlgebraIdentity, BasedVectorSpace, BasisCoefficients, BasisCoefficientsSlice, ExtensionField,
+    HasFrobenius, HasSubfield,
 };
 use std::test::Fail;
 
@@ -32,6 +33,12 @@ fn bytes_are_coefficients(element: BinaryField32) -> bool {
         && c2.to_repr() == 3
         && c3.to_repr() == 4
         && again == element
+}
+
+/// Whether the element lends the coefficients `c0`, `c1` and `c2`, and no more.
+fn lends(element: Poly192, c0: u64, c1: u64, c2: u64) -> bool {
+    let lent = <Poly192 as BasisCoefficientsSlice<Poly64>>::as_basis_coefficients_slice(&element);
+    lent.len() == 3 && lent[0].to_repr() == c0 && lent[1].to_repr() == c1 && lent[2].to_repr() == c2
 }
 
 /// The element as one of 16 bits.
@@ -69,6 +76,16 @@ fn chunks_are_coefficients(rt: HostRuntime) {
                 == field_128((1 << 127) | (1 << 126))
             && BinaryField2::from_repr(2) * field_128(1 << 127)
                 == field_128((1 << 127) | (1 << 126))
+    );
+}
+
+#[test]
+fn coefficients_are_lent(rt: HostRuntime) {
+    let y = Poly192::new([Poly64::new(u64::MAX), Poly64::new(2), Poly64::new(1 << 63)]);
+    assert!(rt;
+        lends(y, u64::MAX, 2, 1 << 63)
+            && lends(y + y, 0, 0, 0)
+            && lends(Poly192::from(Poly64::new(7)), 7, 0, 0)
     );
 }
 

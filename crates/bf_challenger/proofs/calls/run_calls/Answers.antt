@@ -1,6 +1,5 @@
-use Rattle.std.proofs.Common.{◌≡◌, ◌++◌, ◌∷◌, [], ◌∙◌, ◌≤◌, ◌+◌, ◌-◌, arith, false, length, rules, subst, sym, take, vec_capacity, vec_len}
-use Rattle.bf_byte_challenger.specs.Guarded.{failed_of, inner_of}
-use Rattle.bf_byte_challenger.specs.GuardedAnswers.{GuardedAnswer}
+use Rattle.std.proofs.Common.{◌≡◌, ◌++◌, ◌∷◌, [], ◌∙◌, ◌+◌, rules, subst, sym, take}
+use Rattle.bf_byte_challenger.specs.Guarded.{inner_of}
 use Rattle.bf_challenger.specs.Calls.{answers, AppendsReplies}
 use Rattle.bf_challenger.specs.Challengers.{guarded_of}
 use Rattle.bf_challenger.proofs.CallLists.{refused_in_list, called_next, nothing_called, nothing_replied, replied_next}

@@ -1,4 +1,4 @@
-use Rattle.std.proofs.Common.{◌<◌, ℕ, arith}
+use Rattle.std.proofs.Common.{◌<◌, arith}
 use Rattle.bf_challenger.specs.Grinding.{candidate_count}
 use Rattle.bf_challenger.proofs.Candidates.{candidate_lt}
 use Rattle.bf_challenger.proofs.challenger.BinaryChallenger.first_passing.Goals as goal
