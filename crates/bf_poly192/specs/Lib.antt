@@ -1,3 +1,4 @@
 pub mod Field
 pub mod Fits
+pub mod Steps
 pub mod Triple

@@ -1,7 +1,8 @@
-// Words as `serde` reads them: an integer is the number that stands there.
-ghost use Rattle.std.specs.Prelude.{IfOk, IfSome, None, Option, Some};
-ghost use Rattle.serde.specs.Event.{Event, unsigned};
-ghost use Rattle.serde.specs.Steps.{Gives};
+// Words as `serde` reads them: an integer is the number that stands there, and three words are an array of three numbers.
+ghost use Rattle.std.specs.Prelude.{IfOk, List, [], ◌∷◌, None};
+ghost use Rattle.serde.specs.Event.{Event, seq_begins, seq_ends, unsigned};
+ghost use Rattle.serde.specs.Steps.{Begins};
+ghost use Rattle.bf_poly192.specs.Steps.{GivesEach};
 
 use crate::triple::Triple;
 use bf_base::Word;
@@ -10,49 +11,54 @@ use std::alloc::Global;
 
 /// A word that says what `serde` read as it. `serde`'s own trait says nothing of that at a type parameter.
 pub trait ReadWord: Word + DeserializeOwned {
-    // What stands where the word is read, if that is one number.
-    ghost event: { Self → Option Event };
+    // What stands where the word is read.
+    ghost events: { Self → List Event };
 
     /// The word that stands next. It fails where none stands there, or a number that is too large for it.
     fn read<F: Format>(alloc: Global, from: &mut Deserializer<'_, '_, F>) -> Result<Self, F::Error>
-        ensures { IfOk result (λ word. IfSome (event word) (λ e. Gives F.gives from.old e from.new)) };
+        ensures { IfOk result (λ word. GivesEach F.gives F.stays from.old (events word) from.new) };
 }
 
 impl ReadWord for u8 {
-    ghost event = { λ word. Some (unsigned word) };
+    ghost events = { λ word. unsigned word ∷ [] };
 
+    #[tactic(auto, using(crate::proofs::Steps::one_number))]
     fn read<F: Format>(alloc: Global, from: &mut Deserializer<'_, '_, F>) -> Result<u8, F::Error> {
         u8::deserialize_owned(alloc, from)
     }
 }
 
 impl ReadWord for u16 {
-    ghost event = { λ word. Some (unsigned word) };
+    ghost events = { λ word. unsigned word ∷ [] };
 
+    #[tactic(auto, using(crate::proofs::Steps::one_number))]
     fn read<F: Format>(alloc: Global, from: &mut Deserializer<'_, '_, F>) -> Result<u16, F::Error> {
         u16::deserialize_owned(alloc, from)
     }
 }
 
 impl ReadWord for u32 {
-    ghost event = { λ word. Some (unsigned word) };
+    ghost events = { λ word. unsigned word ∷ [] };
 
+    #[tactic(auto, using(crate::proofs::Steps::one_number))]
     fn read<F: Format>(alloc: Global, from: &mut Deserializer<'_, '_, F>) -> Result<u32, F::Error> {
         u32::deserialize_owned(alloc, from)
     }
 }
 
 impl ReadWord for u64 {
-    ghost event = { λ word. Some (unsigned word) };
+    ghost events = { λ word. unsigned word ∷ [] };
 
+    #[tactic(auto, using(crate::proofs::Steps::one_number))]
     fn read<F: Format>(alloc: Global, from: &mut Deserializer<'_, '_, F>) -> Result<u64, F::Error> {
         u64::deserialize_owned(alloc, from)
     }
 }
 
 impl ReadWord for u128 {
-    ghost event = { λ word. Some (unsigned word) };
+    ghost events = { λ word. unsigned word ∷ [] };
 
+    #[tactic(auto, using(crate::proofs::Steps::one_number))]
     fn read<F: Format>(
         alloc: Global,
         from: &mut Deserializer<'_, '_, F>,
@@ -61,14 +67,27 @@ impl ReadWord for u128 {
     }
 }
 
-// Three words are an array, which is more than one number.
+// The number that stands next in an array.
+#[tactic(auto, using(crate::proofs::Steps::number_after_a_look))]
+fn read_item<F: Format>(from: &mut Deserializer<'_, '_, F>) -> Result<u64, F::Error>
+    ensures { IfOk result (λ number. Begins F.gives F.stays from.old (unsigned number) from.new) }
+{
+    from.expect_item()?;
+    from.u64()
+}
+
 impl ReadWord for Triple {
-    ghost event = { λ word. None };
+    ghost events = { λ word. seq_begins None ∷ unsigned word.c0 ∷ unsigned word.c1 ∷ unsigned word.c2 ∷ seq_ends ∷ [] };
 
     fn read<F: Format>(
-        alloc: Global,
+        _alloc: Global,
         from: &mut Deserializer<'_, '_, F>,
     ) -> Result<Triple, F::Error> {
-        Triple::deserialize_owned(alloc, from)
+        from.begin_seq()?;
+        let c0 = read_item(from)?;
+        let c1 = read_item(from)?;
+        let c2 = read_item(from)?;
+        from.expect_end()?;
+        Ok(Triple { c0, c1, c2 })
     }
 }

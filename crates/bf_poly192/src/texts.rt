@@ -2,6 +2,7 @@
 ghost use Rattle.std.specs.Prelude.{◌++◌, [], ◌∷◌, Some, codes};
 ghost use Rattle.std.specs.Fmt.{decimal};
 
+use crate::reading::ReadWord;
 use crate::triple::Triple;
 use serde::{
     Described, Deserialize, DeserializeOwned, Deserializer, Format, Serialize, Serializer,
@@ -32,8 +33,7 @@ impl<'de> Deserialize<'de> for Triple {
         alloc: Global,
         from: &mut Deserializer<'de, '_, F>,
     ) -> Result<Triple, F::Error> {
-        let [c0, c1, c2] = <[u64; 3]>::deserialize(alloc, from)?;
-        Ok(Triple { c0, c1, c2 })
+        Triple::read(alloc, from)
     }
 }
 
@@ -42,7 +42,6 @@ impl DeserializeOwned for Triple {
         alloc: Global,
         from: &mut Deserializer<'_, '_, F>,
     ) -> Result<Triple, F::Error> {
-        let [c0, c1, c2] = <[u64; 3]>::deserialize_owned(alloc, from)?;
-        Ok(Triple { c0, c1, c2 })
+        Triple::read(alloc, from)
     }
 }

@@ -151,6 +151,8 @@ fn numbers_past_the_word(rt: HostRuntime) {
             && is_refused::<BinaryField8>(alloc, "256")
             && is_refused::<BinaryField64>(alloc, "18446744073709551616")
             && is_refused::<Poly192>(alloc, "[1,2]")
+            && is_refused::<Poly192>(alloc, "[1,2,3,4]")
+            && is_refused::<Poly192>(alloc, "1")
             && is_refused::<LinearizedPoly8b>(alloc, "[0,1,2,3,4,5,6,256]")
     );
 }

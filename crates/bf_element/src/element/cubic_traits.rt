@@ -100,7 +100,7 @@ impl<'de> Deserialize<'de> for Coefficients {
         alloc: Global,
         from: &mut Deserializer<'de, '_, F>,
     ) -> Result<Coefficients, F::Error> {
-        Ok(Coefficients::of_words(Triple::deserialize(alloc, from)?))
+        Coefficients::read(alloc, from)
     }
 }
 
@@ -109,19 +109,18 @@ impl DeserializeOwned for Coefficients {
         alloc: Global,
         from: &mut Deserializer<'_, '_, F>,
     ) -> Result<Coefficients, F::Error> {
-        Ok(Coefficients::of_words(Triple::deserialize_owned(alloc, from)?))
+        Coefficients::read(alloc, from)
     }
 }
 
-// The coefficients are an array, which is more than one number.
 impl ReadWord for Coefficients {
-    ghost event = { λ x. None };
+    ghost events = { λ x. ⟦<Triple as ReadWord>⟧.events (stored_words x) };
 
     fn read<F: Format>(
         alloc: Global,
         from: &mut Deserializer<'_, '_, F>,
     ) -> Result<Coefficients, F::Error> {
-        Coefficients::deserialize_owned(alloc, from)
+        Ok(Coefficients::of_words(Triple::read(alloc, from)?))
     }
 }
 

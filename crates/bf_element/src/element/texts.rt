@@ -1,6 +1,6 @@
 // Elements as text, and as numbers for `serde`: those of the word that stores them.
 ghost use Rattle.std.specs.Prelude.{◌≡◌, ◌<◌, ◌^◌, ◌↔◌, IfOk, IfSome, IsSome};
-ghost use Rattle.serde.specs.Steps.{Gives};
+ghost use Rattle.bf_poly192.specs.Steps.{GivesEach};
 
 use crate::element::Element;
 use bf_base::{Kernel, Word};
@@ -54,7 +54,7 @@ impl<'de, R: ReadWord, K: Kernel<R>> Deserialize<'de> for Element<R, K> {
         alloc: Global,
         from: &mut Deserializer<'de, '_, F>,
     ) -> Result<Element<R, K>, F::Error>
-        ensures { IfOk result (λ x. IfSome (R.event x.repr) (λ e. Gives F.gives from.old e from.new)) }
+        ensures { IfOk result (λ x. GivesEach F.gives F.stays from.old (R.events x.repr) from.new) }
     {
         Self::deserialize_owned(alloc, from)
     }
@@ -65,7 +65,7 @@ impl<R: ReadWord, K: Kernel<R>> DeserializeOwned for Element<R, K> {
         alloc: Global,
         from: &mut Deserializer<'_, '_, F>,
     ) -> Result<Element<R, K>, F::Error>
-        ensures { IfOk result (λ x. IfSome (R.event x.repr) (λ e. Gives F.gives from.old e from.new)) }
+        ensures { IfOk result (λ x. GivesEach F.gives F.stays from.old (R.events x.repr) from.new) }
     {
         let repr = R::read(alloc, from)?;
         match element_in_range(repr) {
