@@ -4,7 +4,7 @@ use Rattle.std.proofs.Math.Nat.{div-div-eq-div-mul}
 use Rattle.std.proofs.Math.ListN.{drop_of_length-le}
 use Rattle.std.proofs.lemmas.List.{append-nil, length-drop}
 use Rattle.std.proofs.lemmas.Nat.{mul-le, pow-add}
-use native.Mathlib.Nat.{mul-add, suc-mul}
+use native.Mathlib.Nat.{div-one, mul-add, suc-mul}
 use Rattle.std.specs.Iterator.{Count, IsFinite, Yields, size as items}
 use Rattle.bf_base.specs.Chunks.{chunk, chunks}
 use Rattle.bf_bytes.specs.Bytes.{TakesUpTo, low_bytes, number_of_bytes}
@@ -18,6 +18,10 @@ chunk-above : (g n a : ℕ) → chunk 8 n (a / 2 ^ (8 * g)) ≡ chunk 8 (g + n) 
 chunk-above g n a =
     ap (λ (k : ℕ). k % 2 ^ 8) (div-div-eq-div-mul a (2 ^ (8 * g)) (2 ^ (8 * n))
     ∙ ap (λ (k : ℕ). a / k) (sym (ap (λ (k : ℕ). 2 ^ k) (mul-add 8 g n) ∙ pow-add 2 (8 * g) (8 * n))))
+
+-- the lowest word is read without a shift
+pub low_word : (k n : ℕ) → k ≡ 0 → n % 2 ^ 64 ≡ chunk 64 k n
+low_word k n first = sym (ap (λ (i : ℕ). n / 2 ^ (64 * i) % 2 ^ 64) first ∙ ap (λ (m : ℕ). m % 2 ^ 64) (div-one n))
 
 -- the word of eight bytes from a whole word on
 pub word_of_eight : (g a n : ℕ) → g % 8 ≡ 0 → n ≡ chunk 64 (g / 8) a % 2 ^ 64 → n ≡ number_of_bytes (low_bytes 8 (a / 2 ^ (8 * g)))

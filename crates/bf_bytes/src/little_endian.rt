@@ -64,11 +64,17 @@ fn byte_of(n: u128, i: usize) -> u8
 
 /// Word `k` of 64 bits of an integer of at most 16 bytes, counted from the lowest.
 #[inline]
+#[tactic(auto, using(crate::proofs::Wide::low_word))]
 pub(crate) fn wide_of<U: Unsigned>(word: U, k: usize) -> u64
     requires { k < 2 }
     ensures { result ≡ chunk 64 k (U.number word) }
 {
-    ((word.to_u128() >> (64 * k)) & 0xffff_ffff_ffff_ffff) as u64
+    let number = word.to_u128();
+    if k == 0 {
+        (number % 0x1_0000_0000_0000_0000) as u64
+    } else {
+        (number >> 64) as u64
+    }
 }
 
 // What a byte is worth as byte `i` of a number.
