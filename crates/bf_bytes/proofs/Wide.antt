@@ -50,8 +50,10 @@ module _ {S E : Type 0} (next_gives : S → Option E → S → Type 0) (size : �
   comes_pending s x is = ([], refl, append-nil (bytes_pending size repr s.pending s.given) ∙ ap (λ p. bytes_pending size repr p s.given) is)
 
   pub comes_next : (s : ByteStream S E) (x : E) (e : S) → s.pending ≡ None → IsWithin size s.pending s.given → next_gives s.elements (Some x) e
-      → Comes s x s.given e
-  comes_next s x e none within step = (x ∷ [], (e, step, refl), first_bytes size repr s.pending s.given x _ none within refl)
+      → Comes s x 0 e
+  comes_next s x e none within step =
+      let start : s.given ≡ 0 = subst (λ p. IsWithin size p s.given) none within in
+      subst (λ (g : ℕ). Comes s x g e) start (x ∷ [], (e, step, refl), first_bytes size repr s.pending s.given x _ none within refl)
 
   -- the stream whose next bytes are those of x from place g on
   abbrev state_at : E → ℕ → S → ByteStream S E
@@ -136,17 +138,15 @@ module _ {S E : Type 0} (next_gives : S → Option E → S → Type 0) (size : �
         (omega (arith, now, less), λ whole. (subst (λ e. IsFinite (remaining e)) (sym same) finite, omega (arith, now, then, less, bound, eight)))
 
     -- and after the first word of an element that was taken
-    pub less_left : (s t : ByteStream S E) (x : E) (e : S) (n : ℕ) → n ≡ 8 → s.pending ≡ None → IsWithin size s.pending s.given → s.given + 8 ≤ size
-        → t.elements ≡ e → bytes_pending size repr t.pending t.given ≡ drop (s.given + 8) (low_bytes size (repr x))
+    pub less_left : (s t : ByteStream S E) (x : E) (e : S) (n : ℕ) → n ≡ 8 → 0 + 8 ≤ size → t.elements ≡ e
+        → bytes_pending size repr t.pending t.given ≡ drop (0 + 8) (low_bytes size (repr x))
         → IsFinite (remaining e) → (remaining e).bound < (remaining s.elements).bound
         → (8 ≤ items (byte_count remaining size repr s))
         × (8 ≡ n → IsFinite (byte_count remaining size repr t) × (items (byte_count remaining size repr t) + n ≤ items (byte_count remaining size repr s)))
-    less_left s t x e n eight none within room same left finite fewer =
-        let start : s.given ≡ 0 = subst (λ p. IsWithin size p s.given) none within in
-        let then : length (bytes_pending size repr t.pending t.given) ≡ length (drop (s.given + 8) (low_bytes size (repr x))) = ap length left in
-        let less = left_after s.given x room in
-        let all : length (drop s.given (low_bytes size (repr x))) ≡ size =
-        ap (λ (k : ℕ). length (drop k (low_bytes size (repr x)))) start ∙ length-chunks 8 size (repr x) in
+    less_left s t x e n eight room same left finite fewer =
+        let then : length (bytes_pending size repr t.pending t.given) ≡ length (drop (0 + 8) (low_bytes size (repr x))) = ap length left in
+        let less = left_after 0 x room in
+        let all : length (drop 0 (low_bytes size (repr x))) ≡ size = length-chunks 8 size (repr x) in
         let bound : (remaining t.elements).bound * size ≡ (remaining e).bound * size = ap (λ u. (remaining u).bound * size) same in
         let more : suc (remaining e).bound * size ≤ (remaining s.elements).bound * size =
         mul-le (suc (remaining e).bound) size (remaining s.elements).bound size fewer (omega arith) in

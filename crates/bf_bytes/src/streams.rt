@@ -50,25 +50,26 @@ impl<I: Drop, E: RawDataSerializable> ByteStream<I, E> {
         byte
     }
 
-    // The next eight bytes of an element as a word, of which whole words were given.
+    // The next eight bytes of an element as a word, of which as many as `given` were given, which are whole words. Where none
+    // was given, `given` is a literal, so that in the machine code the place of the word is a constant.
     #[inline]
-    fn give_wide<W: LittleEndian>(&mut self, element: E) -> W
+    fn give_wide<W: LittleEndian>(&mut self, element: E, given: usize) -> W
         requires eight { W.SIZE ≡ 8 }
-        requires whole { self.old.given % 8 ≡ 0 }
-        requires within { self.old.given + 8 ≤ E.NUM_BYTES }
+        requires whole { given % 8 ≡ 0 }
+        requires within { given + 8 ≤ E.NUM_BYTES }
         ensures source { self.new.elements ≡ self.old.elements }
         ensures inside { IsWithin E.NUM_BYTES self.new.pending self.new.given }
-        ensures word { W.number result ≡ number_of_bytes (low_bytes 8 (E.repr element / 2 ^ (8 * self.old.given))) }
-        ensures left { bytes_pending E.NUM_BYTES E.repr self.new.pending self.new.given ≡ drop (self.old.given + 8) (low_bytes E.NUM_BYTES (E.repr element)) }
+        ensures word { W.number result ≡ number_of_bytes (low_bytes 8 (E.repr element / 2 ^ (8 * given))) }
+        ensures left { bytes_pending E.NUM_BYTES E.repr self.new.pending self.new.given ≡ drop (given + 8) (low_bytes E.NUM_BYTES (E.repr element)) }
     {
         let size = E::NUM_BYTES;
-        let word = W::of_wide(element.wide(self.given / 8));
-        if self.given + 8 == size {
+        let word = W::of_wide(element.wide(given / 8));
+        if given + 8 == size {
             self.pending = None;
             self.given = 0;
         } else {
             self.pending = Some(element);
-            self.given += 8;
+            self.given = given + 8;
         }
         word
     }
@@ -106,9 +107,9 @@ impl<I: Iterator<Item = E>, E: RawDataSerializable> ByteSource for ByteStream<I,
             return take_word::<W, ByteStream<I, E>>(self);
         }
         match self.pending {
-            Some(element) => (self.give_wide(element), 8),
+            Some(element) => (self.give_wide(element, self.given), 8),
             None => match self.elements.next() {
-                Some(element) => (self.give_wide(element), 8),
+                Some(element) => (self.give_wide(element, 0), 8),
                 None => (W::ZERO, 0),
             },
         }

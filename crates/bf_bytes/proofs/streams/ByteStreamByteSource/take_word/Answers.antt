@@ -31,9 +31,8 @@ returns-in-Some-next-clause-taken g c =
     let s = c.args.self.now in
     let size = g.E.RawDataSerializable.NUM_BYTES in
     let words : size % 8 ≡ 0 = omega (arith, c.if-NUM_BYTES-ne0.false, c.NUM_BYTES.ensures) in
-    let start = subst (λ p. IsWithin size p s.given) c.in-None.is c.requires.1 in
-    let room : s.given + 8 ≤ size = omega (arith, words, start, g.met.E.RawDataSerializable.bytes_law) in
-    word_taken g.I.Iterator.next_gives size g.E.Represented.repr s c.give_wide-in-Some-next.new.self c.in-Some-next.element s.given c.next.new.self
+    let room : 0 + 8 ≤ size = omega (arith, words, g.met.E.RawDataSerializable.bytes_law) in
+    word_taken g.I.Iterator.next_gives size g.E.Represented.repr s c.give_wide-in-Some-next.new.self c.in-Some-next.element 0 c.next.new.self
     (comes_next g.I.Iterator.next_gives size g.E.Represented.repr s c.in-Some-next.element c.next.new.self c.in-None.is c.requires.1 c.in-Some-next.ensures.steps)
     room c.give_wide-in-Some-next.ensures.source c.give_wide-in-Some-next.ensures.left g.W.LittleEndian.SIZE _
     (omega (arith, c.if-SIZE-ne8.false, c.SIZE.ensures)) c.give_wide-in-Some-next.ensures.word
@@ -43,12 +42,11 @@ returns-in-Some-next-clause-ends g c =
     let s = c.args.self.now in
     let size = g.E.RawDataSerializable.NUM_BYTES in
     let words : size % 8 ≡ 0 = omega (arith, c.if-NUM_BYTES-ne0.false, c.NUM_BYTES.ensures) in
-    let start = subst (λ p. IsWithin size p s.given) c.in-None.is c.requires.1 in
-    let room : s.given + 8 ≤ size = omega (arith, words, start, g.met.E.RawDataSerializable.bytes_law) in
+    let room : 0 + 8 ≤ size = omega (arith, words, g.met.E.RawDataSerializable.bytes_law) in
     λ finite.
     let after = c.in-Some-next.ensures.goes.on finite in
     less_left g.I.Iterator.next_gives size g.E.Represented.repr g.I.Iterator.remaining s c.give_wide-in-Some-next.new.self c.in-Some-next.element c.next.new.self
-    g.W.LittleEndian.SIZE (omega (arith, c.if-SIZE-ne8.false, c.SIZE.ensures)) c.in-None.is c.requires.1 room c.give_wide-in-Some-next.ensures.source
+    g.W.LittleEndian.SIZE (omega (arith, c.if-SIZE-ne8.false, c.SIZE.ensures)) room c.give_wide-in-Some-next.ensures.source
     c.give_wide-in-Some-next.ensures.left after.1 after.2
 
 pub returns-in-None-next-clause-taken : goal.returns-in-None-next-clause-taken
