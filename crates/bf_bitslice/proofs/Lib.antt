@@ -1,3 +1,4 @@
 mod LaneAccess
 mod Rounds
+mod EightRows
 mod LaneLists

@@ -1,19 +1,16 @@
 -- The rounds of a transposition, over the numbers of the rows.
-use Rattle.std.proofs.Common.{◌≡◌, ◌≢◌, ℕ, ◌+◌, ◌*◌, ◌/◌, ◌%◌, ◌<◌, ◌≤◌, ◌-◌, suc, zero, List, length, get_or, map, set, refl, sym, ap, ap₂, ◌∙◌, lit<, arith, subst, inl, inr, ◌⊎◌, get_or-set_same, get_or-set_other}
+use Rattle.std.proofs.Common.{◌≡◌, ◌≢◌, ℕ, ◌+◌, ◌*◌, ◌/◌, ◌%◌, ◌<◌, ◌≤◌, ◌-◌, suc, zero, List, length, get_or, map, replicate, set, refl, sym, ap, ap₂, ◌∙◌, lit<, arith, subst, inl, inr, ◌⊎◌, get_or-set_same, get_or-set_other}
 use Rattle.std.specs.Int.{bit_at}
 use Rattle.std.proofs.lemmas.Bool.{cases_eq, cases_lt}
-use Rattle.std.proofs.lemmas.List.{get_or-map, length-map, length-set, map-set}
-use Rattle.std.proofs.lemmas.Nat.{div-mul-add, mul-le}
+use Rattle.std.proofs.lemmas.List.{get_or-map, get_or-replicate, length-map, length-replicate, length-set, map-set}
+use Rattle.std.proofs.lemmas.Nat.{div-add-mod', div-mul-add, div_below, mod-mul-add, mul-le, pow-add, pow_pos}
 use Rattle.std.proofs.Math.Nat.{add-mul, div-one, div-eq_of_lt, mul_assoc}
 use native.Mathlib.Nat.{mod-lt, mod-eq_of_lt}
-use Rattle.bf_bitslice_words.specs.Parts.{HasFirstBlocks, HasSecondBlocks}
-use Rattle.bf_bitslice_words.proofs.BlockPlaces.{before_quotient, even_mixed, mixed, next_quotient, odd_is_above, odd_mixed, same_mixed}
+use Rattle.bf_bitslice_words.specs.Parts.{HasFirstBlocks, HasSecondBlocks, IsBlockSize}
+use Rattle.bf_bitslice_words.proofs.BlockPlaces.{even_mixed, mixed, next_quotient, odd_is_above, odd_mixed, same_mixed}
 use Rattle.bf_bitslice_words.proofs.BlockLemmas.{even_has_room}
-use Rattle.bf_bitslice.specs.Lanes.{AreExchanged, AreTransposed}
-use Rattle.bf_bitslice.specs.Rounds.{IsRoundTo}
-
-below_it : (a b : ℕ) → a < b + 1 → a ≢ b → a < b
-below_it a b h other = grind arith
+use Rattle.bf_bitslice.specs.Lanes.{AreTransposed}
+use Rattle.bf_bitslice.specs.Rounds.{AreMixed, IsMixed, IsPairExchanged, IsPassTo, first_row}
 
 parity : (a : ℕ) → (a % 2 ≡ 0) ⊎ (a % 2 ≡ 1)
 parity a = grind arith
@@ -21,73 +18,67 @@ parity a = grind arith
 next_parity_odd : (s i : ℕ) → 0 < s → i / s % 2 ≡ 0 → (i + s) / s % 2 ≡ 1
 next_parity_odd s i some even = let next = next_quotient s i some in omega arith
 
-before_parity_even : (s i : ℕ) → 0 < s → i / s % 2 ≡ 1 → (i - s) / s % 2 ≡ 0
-before_parity_even s i some odd = let before = before_quotient s i some (odd_is_above s i some odd) in omega arith
+-- ---- a round in one pair of rows
 
-pub round_begins : (width s : ℕ) (old : List ℕ) → IsRoundTo width s 0 old old
-round_begins width s old = record {
-  even_done = λ r less even below. absurd (omega arith);
-  even_left = λ r less even more. refl;
-  odd_done = λ r less odd below. absurd (omega arith);
-  odd_left = λ r less odd more. refl;
-}
+place : (old : List ℕ) (a b c d : ℕ) → a ≡ c → b ≡ d → bit_at (get_or old a 0) b ≡ bit_at (get_or old c 0) d
+place old a b c d first second = ap₂ (λ (x y : ℕ). bit_at (get_or old x 0) y) first second
 
--- an odd row is written with the even row below it
-pub round_passes : (width s n : ℕ) (old now : List ℕ) → 0 < s → n / s % 2 ≡ 1 → IsRoundTo width s n old now → IsRoundTo width s (n + 1) old now
-round_passes width s n old now some odd_n so_far = record {
-  even_done = λ r less even below. so_far.even_done r less even (not_it r n even odd_n below);
-  even_left = λ r less even more. so_far.even_left r less even (omega arith);
-  odd_done = λ r less odd below. so_far.odd_done r less odd (not_it (r - s) n (before_parity_even s r some odd) odd_n below);
-  odd_left = λ r less odd more. so_far.odd_left r less odd (omega arith);
-}
+twice : (s : ℕ) → s + s ≡ 2 * s
+twice s = omega arith
+
+-- the upper row of a pair after its round
+pub upper_mixed : (width s r x y z : ℕ) (old : List ℕ) → 0 < s → r / s % 2 ≡ 0
+    → IsMixed width s old r x → IsMixed width s old (r + s) y → HasFirstBlocks width s x y z → IsMixed width (2 * s) old r z
+upper_mixed width s r x y z old some even upper lower first = subst (λ (t : ℕ). IsMixed width t old r z) (twice s) at
   where
-    not_it : (a b : ℕ) → a / s % 2 ≡ 0 → b / s % 2 ≡ 1 → a < b + 1 → a < b
-    not_it a b even odd less = cases (cases_eq a b)
+    at : IsMixed width (s + s) old r z
+    at j lane = cases (parity (j / s))
       where
-        cases : (a ≡ b) ⊎ (a ≢ b) → a < b
-        cases (inl is) = let same : a / s % 2 ≡ b / s % 2 = ap (λ (x : ℕ). x / s % 2) is in absurd (omega arith)
-        cases (inr other) = grind arith
+        cases : (j / s % 2 ≡ 0) ⊎ (j / s % 2 ≡ 1) → bit_at z j ≡ bit_at (get_or old (mixed (s + s) r j) 0) (mixed (s + s) j r)
+        cases (inl also) =
+            (first j lane).0 also ∙ upper j lane
+            ∙ place old (mixed s r j) (mixed s j r) (mixed (s + s) r j) (mixed (s + s) j r) (same_mixed s r j some (even ∙ sym also)) (same_mixed s j r some (also ∙ sym even))
+        cases (inr odd) =
+            let above = odd_is_above s j some odd in
+            (first j lane).1 odd ∙ lower (j - s) (omega arith)
+            ∙ place old (mixed s (r + s) (j - s)) (mixed s (j - s) (r + s)) (mixed (s + s) r j) (mixed (s + s) j r) (even_mixed s r j some even odd above) (odd_mixed s j r some odd even above)
 
-apart : (a b : ℕ) → a < b → b ≢ a
-apart a b less is = absurd (omega arith)
+-- and the lower one
+pub lower_mixed : (width q s r x y z : ℕ) (old : List ℕ) → 0 < s → width ≡ q * (2 * s) → r / s % 2 ≡ 0
+    → IsMixed width s old r x → IsMixed width s old (r + s) y → HasSecondBlocks width s x y z → IsMixed width (2 * s) old (r + s) z
+lower_mixed width q s r x y z old some is even upper lower second = subst (λ (t : ℕ). IsMixed width t old (r + s) z) (twice s) at
+  where
+    next : (r + s) / s % 2 ≡ 1
+    next = next_parity_odd s r some even
 
-pub round_pairs : (width s n x y : ℕ) (old now : List ℕ) → 0 < s → length now ≡ width → n + s < width → n / s % 2 ≡ 0
+    back : r + s - s ≡ r
+    back = omega arith
+
+    at : IsMixed width (s + s) old (r + s) z
+    at j lane = cases (parity (j / s))
+      where
+        cases : (j / s % 2 ≡ 0) ⊎ (j / s % 2 ≡ 1) → bit_at z j ≡ bit_at (get_or old (mixed (s + s) (r + s) j) 0) (mixed (s + s) j (r + s))
+        cases (inl also) =
+            (second j lane).0 also ∙ upper (j + s) (even_has_room width q s j some is lane also)
+            ∙ place old (mixed s r (j + s)) (mixed s (j + s) r) (mixed (s + s) (r + s) j) (mixed (s + s) j (r + s))
+            (ap (λ (a : ℕ). mixed s a (j + s)) (sym back) ∙ odd_mixed s (r + s) j some next also (omega arith))
+            (ap (λ (a : ℕ). mixed s (j + s) a) (sym back) ∙ even_mixed s j (r + s) some also next (omega arith))
+        cases (inr odd) =
+            (second j lane).1 odd ∙ lower j lane
+            ∙ place old (mixed s (r + s) j) (mixed s j (r + s)) (mixed (s + s) (r + s) j) (mixed (s + s) j (r + s)) (same_mixed s (r + s) j some (next ∙ sym odd)) (same_mixed s j (r + s) some (odd ∙ sym next))
+
+-- ---- a pair is written
+
+pair_set : (width s n x y : ℕ) (now : List ℕ) → 0 < s → length now ≡ width → n + s < width
     → HasFirstBlocks width s (get_or now n 0) (get_or now (n + s) 0) x
     → HasSecondBlocks width s (get_or now n 0) (get_or now (n + s) 0) y
-    → IsRoundTo width s n old now → IsRoundTo width s (n + 1) old (set (set now n x) (n + s) y)
-round_pairs width s n x y old now some long room even_n first second so_far = record {
-  even_done = λ r less even below. even_cases r less even below (cases_eq r n);
-  even_left = λ r less even more.
-      other r (λ is. absurd (omega arith)) (λ is. mixed_up r n even is) ∙ so_far.even_left r less even (omega arith);
-  odd_done = λ r less odd below. odd_cases r less odd below (cases_eq r (n + s));
-  odd_left = λ r less odd more.
-      let above = odd_is_above s r some odd in
-      other r (λ is. same_parity r n odd is) (λ is. absurd (omega arith)) ∙ so_far.odd_left r less odd (omega arith);
+    → IsPairExchanged width s n now (set (set now n x) (n + s) y)
+pair_set width s n x y now some long room first second = record {
+  first = subst (HasFirstBlocks width s (get_or now n 0) (get_or now (n + s) 0)) (sym at_left) first;
+  second = subst (HasSecondBlocks width s (get_or now n 0) (get_or now (n + s) 0)) (sym at_right) second;
+  others = λ r a b. get_or-set_other (set now n x) (n + s) r y 0 b ∙ get_or-set_other now n r x 0 a;
 }
   where
-    next : List ℕ
-    next = set (set now n x) (n + s) y
-
-    left_is : get_or now n 0 ≡ get_or old n 0
-    left_is = so_far.even_left n (omega arith) even_n (omega arith)
-
-    right_is : get_or now (n + s) 0 ≡ get_or old (n + s) 0
-    right_is = so_far.odd_left (n + s) room (next_parity_odd s n some even_n) (omega arith)
-
-    other : (r : ℕ) → r ≢ n → r ≢ n + s → get_or (set (set now n x) (n + s) y) r 0 ≡ get_or now r 0
-    other r a b = get_or-set_other (set now n x) (n + s) r y 0 b ∙ get_or-set_other now n r x 0 a
-
-    mixed_up : (r m : ℕ) → r / s % 2 ≡ 0 → r ≡ n + s → ⊥
-    mixed_up r m even is =
-        let odd = next_parity_odd s n some even_n in
-        let same : r / s % 2 ≡ (n + s) / s % 2 = ap (λ (z : ℕ). z / s % 2) is in
-        omega arith
-
-    same_parity : (r m : ℕ) → r / s % 2 ≡ 1 → r ≡ n → ⊥
-    same_parity r m odd is =
-        let same : r / s % 2 ≡ n / s % 2 = ap (λ (z : ℕ). z / s % 2) is in
-        omega arith
-
     at_left : get_or (set (set now n x) (n + s) y) n 0 ≡ x
     at_left =
         get_or-set_other (set now n x) (n + s) n y 0 (λ is. absurd (omega arith))
@@ -96,179 +87,330 @@ round_pairs width s n x y old now some long room even_n first second so_far = re
     at_right : get_or (set (set now n x) (n + s) y) (n + s) 0 ≡ y
     at_right = let kept = length-set now n x in get_or-set_same (set now n x) (n + s) y 0 (omega arith)
 
-    even_cases : (r : ℕ) → r < width → r / s % 2 ≡ 0 → r < n + 1 → (r ≡ n) ⊎ (r ≢ n)
-        → HasFirstBlocks width s (get_or old r 0) (get_or old (r + s) 0) (get_or (set (set now n x) (n + s) y) r 0)
-    even_cases r less even below (inl is) =
-        subst (λ (z : ℕ). HasFirstBlocks width s (get_or old z 0) (get_or old (z + s) 0) (get_or (set (set now n x) (n + s) y) z 0)) (sym is)
-        (subst (λ (z : ℕ). HasFirstBlocks width s (get_or old n 0) (get_or old (n + s) 0) z) (sym at_left)
-        (subst (λ (z : ℕ). HasFirstBlocks width s z (get_or old (n + s) 0) x) left_is
-        (subst (λ (z : ℕ). HasFirstBlocks width s (get_or now n 0) z x) right_is first)))
-    even_cases r less even below (inr differs) =
-        subst (HasFirstBlocks width s (get_or old r 0) (get_or old (r + s) 0)) (sym (other r differs (mixed_up r n even)))
-        (so_far.even_done r less even (below_it r n below differs))
+pub pair_written : {A : Type 0} (rows : List A) (num : A → ℕ) (width s n : ℕ) (a b x y : A)
+    → 0 < s → length rows ≡ width → n + s < width
+    → a ≡ get_or rows n a → b ≡ get_or rows (n + s) b
+    → HasFirstBlocks width s (num a) (num b) (num x) → HasSecondBlocks width s (num a) (num b) (num y)
+    → IsPairExchanged width s n (map num rows) (map num (set (set rows n x) (n + s) y))
+pair_written rows num width s n a b x y some long less at_n at_m first second =
+    let upper : get_or (map num rows) n 0 ≡ num a = get_or-map num rows n a 0 (omega arith) ∙ ap num (sym at_n) in
+    let lower : get_or (map num rows) (n + s) 0 ≡ num b = get_or-map num rows (n + s) b 0 (omega arith) ∙ ap num (sym at_m) in
+    let numbers : map num (set (set rows n x) (n + s) y) ≡ set (set (map num rows) n (num x)) (n + s) (num y) =
+    map-set num (set rows n x) (n + s) y ∙ ap (λ (z : List ℕ). set z (n + s) (num y)) (map-set num rows n x) in
+    subst (IsPairExchanged width s n (map num rows)) (sym numbers)
+    (pair_set width s n (num x) (num y) (map num rows) some (length-map rows num ∙ long) less
+    (subst (λ (z : ℕ). HasFirstBlocks width s z (get_or (map num rows) (n + s) 0) (num x)) (sym upper)
+    (subst (λ (z : ℕ). HasFirstBlocks width s (num a) z (num x)) (sym lower) first))
+    (subst (λ (z : ℕ). HasSecondBlocks width s z (get_or (map num rows) (n + s) 0) (num y)) (sym upper)
+    (subst (λ (z : ℕ). HasSecondBlocks width s (num a) z (num y)) (sym lower) second)))
 
-    odd_cases : (r : ℕ) → r < width → r / s % 2 ≡ 1 → r - s < n + 1 → (r ≡ n + s) ⊎ (r ≢ n + s)
-        → HasSecondBlocks width s (get_or old (r - s) 0) (get_or old r 0) (get_or (set (set now n x) (n + s) y) r 0)
-    odd_cases r less odd below (inl is) =
-        let back : n + s - s ≡ n = omega arith in
-        subst (λ (z : ℕ). HasSecondBlocks width s (get_or old (z - s) 0) (get_or old z 0) (get_or (set (set now n x) (n + s) y) z 0)) (sym is)
-        (subst (λ (z : ℕ). HasSecondBlocks width s (get_or old z 0) (get_or old (n + s) 0) (get_or (set (set now n x) (n + s) y) (n + s) 0)) (sym back)
-        (subst (HasSecondBlocks width s (get_or old n 0) (get_or old (n + s) 0)) (sym at_right)
-        (subst (λ (z : ℕ). HasSecondBlocks width s z (get_or old (n + s) 0) y) left_is
-        (subst (λ (z : ℕ). HasSecondBlocks width s (get_or now n 0) z y) right_is second))))
-    odd_cases r less odd below (inr differs) =
-        let above = odd_is_above s r some odd in
-        subst (HasSecondBlocks width s (get_or old (r - s) 0) (get_or old r 0)) (sym (other r (same_parity r n odd) differs))
-        (so_far.odd_done r less odd (below_it (r - s) n below (λ is. differs (omega arith))))
+-- ---- rows that are s apart, and how far each of them is
 
--- at its end the blocks are exchanged
-pub round_ends : (width q s : ℕ) (old now : List ℕ) → 0 < s → width ≡ q * (2 * s) → IsRoundTo width s width old now → AreExchanged width s old now
-round_ends width q s old now some is so_far i j row lane = (
-  λ same. same_cases same (parity (i / s)),
-  λ even odd. (so_far.even_done i row even row j lane).1 odd,
-  λ odd even. (so_far.odd_done i row odd (omega arith) j lane).0 even,
-)
+-- Row number k of those from row i on has come to blocks of `levels` k lanes, and all other rows are those of `before`.
+pub record AreAt (width s i : ℕ) (old before now levels : List ℕ) : Type 0 where
+  pub at : (k : ℕ) → k < length levels → IsMixed width (get_or levels k 0) old (i + k * s) (get_or now (i + k * s) 0)
+  pub others : (r : ℕ) → ((k : ℕ) → k < length levels → r ≢ i + k * s) → get_or now r 0 ≡ get_or before r 0
+
+apart : (s i j k : ℕ) → 0 < s → j ≢ k → i + j * s ≢ i + k * s
+apart s i j k some other is = other (sym (number j) ∙ ap (λ (x : ℕ). (x + 0) / s) same ∙ number k)
   where
-    same_cases : i / s % 2 ≡ j / s % 2 → (i / s % 2 ≡ 0) ⊎ (i / s % 2 ≡ 1) → bit_at (get_or now i 0) j ≡ bit_at (get_or old i 0) j
-    same_cases same (inl even) = (so_far.even_done i row even row j lane).0 (sym same ∙ even)
-    same_cases same (inr odd) = (so_far.odd_done i row odd (omega arith) j lane).1 (sym same ∙ odd)
+    number : (x : ℕ) → (x * s + 0) / s ≡ x
+    number x = div-mul-add x s 0 some
 
--- the rows after the rounds below s: each lane comes from the place whose low parts are exchanged
-abbrev pub AreMixed : ℕ → ℕ → List ℕ → List ℕ → Type 0
-AreMixed width s old now =
-    (i j : ℕ) → i < width → j < width → bit_at (get_or now i 0) j ≡ bit_at (get_or old (mixed s i j) 0) (mixed s j i)
+    same : j * s ≡ k * s
+    same = omega arith
+
+pub pair_step : (width q s i d e k m : ℕ) (old before mid now levels : List ℕ) → 0 < s → 0 < d → width ≡ q * (2 * d) → e ≡ 2 * d
+    → k < length levels → m < length levels → i + k * s + d ≡ i + m * s → (i + k * s) / d % 2 ≡ 0
+    → get_or levels k 0 ≡ d → get_or levels m 0 ≡ d
+    → IsPairExchanged width d (i + k * s) mid now → AreAt width s i old before mid levels
+    → AreAt width s i old before now (set (set levels k e) m e)
+pair_step width q s i d e k m old before mid now levels step some is double in_k in_m next even level_k level_m pair so_far = record {
+  at = λ j less. cases j (inside j less) (cases_eq j m) (cases_eq j k);
+  others = λ r out.
+      pair.others r (out k (outside k in_k)) (λ here. out m (outside m in_m) (here ∙ next))
+      ∙ so_far.others r (λ j less. out j (outside j less));
+}
+  where
+    long : length (set (set levels k e) m e) ≡ length levels
+    long = length-set (set levels k e) m e ∙ length-set levels k e
+
+    inside : (j : ℕ) → j < length (set (set levels k e) m e) → j < length levels
+    inside j less = subst (λ (z : ℕ). j < z) long less
+
+    outside : (j : ℕ) → j < length levels → j < length (set (set levels k e) m e)
+    outside j less = subst (λ (z : ℕ). j < z) (sym long) less
+
+    different : k ≢ m
+    different is_same = let same : k * s ≡ m * s = ap (λ (x : ℕ). x * s) is_same in absurd (omega arith)
+
+    upper : IsMixed width d old (i + k * s) (get_or mid (i + k * s) 0)
+    upper = subst (λ (l : ℕ). IsMixed width l old (i + k * s) (get_or mid (i + k * s) 0)) level_k (so_far.at k in_k)
+
+    lower : IsMixed width d old (i + k * s + d) (get_or mid (i + k * s + d) 0)
+    lower =
+        subst (λ (n : ℕ). IsMixed width d old n (get_or mid n 0)) (sym next)
+        (subst (λ (l : ℕ). IsMixed width l old (i + m * s) (get_or mid (i + m * s) 0)) level_m (so_far.at m in_m))
+
+    first : IsMixed width (2 * d) old (i + k * s) (get_or now (i + k * s) 0)
+    first = upper_mixed width d (i + k * s) _ _ _ old some even upper lower pair.first
+
+    second : IsMixed width (2 * d) old (i + m * s) (get_or now (i + m * s) 0)
+    second =
+        subst (λ (n : ℕ). IsMixed width (2 * d) old n (get_or now n 0)) next
+        (lower_mixed width q d (i + k * s) _ _ _ old some is even upper lower pair.second)
+
+    level : (j l : ℕ) → get_or (set (set levels k e) m e) j 0 ≡ l → IsMixed width l old (i + j * s) (get_or now (i + j * s) 0)
+        → IsMixed width (get_or (set (set levels k e) m e) j 0) old (i + j * s) (get_or now (i + j * s) 0)
+    level j l is_l there = subst (λ (z : ℕ). IsMixed width z old (i + j * s) (get_or now (i + j * s) 0)) (sym is_l) there
+
+    at_m : get_or (set (set levels k e) m e) m 0 ≡ 2 * d
+    at_m = get_or-set_same (set levels k e) m e 0 (subst (λ (z : ℕ). m < z) (sym (length-set levels k e)) in_m) ∙ double
+
+    at_k : get_or (set (set levels k e) m e) k 0 ≡ 2 * d
+    at_k = get_or-set_other (set levels k e) m k e 0 different ∙ get_or-set_same levels k e 0 in_k ∙ double
+
+    cases : (j : ℕ) → j < length levels → (j ≡ m) ⊎ (j ≢ m) → (j ≡ k) ⊎ (j ≢ k)
+        → IsMixed width (get_or (set (set levels k e) m e) j 0) old (i + j * s) (get_or now (i + j * s) 0)
+    cases j less (inl here) other =
+        subst (λ (x : ℕ). IsMixed width (get_or (set (set levels k e) m e) x 0) old (i + x * s) (get_or now (i + x * s) 0)) (sym here)
+        (level m (2 * d) at_m second)
+    cases j less (inr not_m) (inl here) =
+        subst (λ (x : ℕ). IsMixed width (get_or (set (set levels k e) m e) x 0) old (i + x * s) (get_or now (i + x * s) 0)) (sym here)
+        (level k (2 * d) at_k first)
+    cases j less (inr not_m) (inr not_k) =
+        level j (get_or levels j 0) (get_or-set_other (set levels k e) m j e 0 not_m ∙ get_or-set_other levels k j e 0 not_k)
+        (subst (IsMixed width (get_or levels j 0) old (i + j * s))
+        (sym (pair.others (i + j * s) (apart s i j k step not_k) (λ there. apart s i j m step not_m (there ∙ next))))
+        (so_far.at j less))
+
+-- ---- the upper rows of the pairs among them
+
+upper_block : (d c i : ℕ) → c * (2 * d) ≤ i → i < c * (2 * d) + d → i / d % 2 ≡ 0
+upper_block d c i low high =
+    let twofold = mul_assoc c 2 d in
+    let here : i ≡ c * 2 * d + (i - c * (2 * d)) = omega arith in
+    let block : i / d ≡ c * 2 = ap (λ (x : ℕ). x / d) here ∙ div-mul-add (c * 2) d (i - c * (2 * d)) (omega arith) in
+    omega (arith, block)
+
+-- t is n times 2 * d, and row k of those that are s apart lies in the upper half of pair number j of blocks of d rows
+pub upper_row : (s t i d n j k : ℕ) → 0 < s → first_row s t i ≡ i → t ≡ n * (2 * d) → j * (2 * d) ≤ k * s → k * s + s ≤ j * (2 * d) + d
+    → (i + k * s) / d % 2 ≡ 0
+upper_row s t i d n j k some first is low high =
+    let below : i % s < s = mod-lt i some in
+    let spread = add-mul (i / t * n) j (2 * d) in
+    let assoc = mul_assoc (i / t) n (2 * d) in
+    let whole : i / t * t ≡ i / t * (n * (2 * d)) = ap (λ (x : ℕ). i / t * x) is in
+    upper_block d (i / t * n + j) (i + k * s) (omega (arith, spread, assoc, whole, first, low)) (omega (arith, spread, assoc, whole, first, below, high))
+
+-- ---- the rows that belong together
+
+module _ (s t count : ℕ) (some : 0 < s) (is : t ≡ count * s) where
+  -- the first of them is that of each
+  first_of : (i k : ℕ) → first_row s t i ≡ i → k < count → first_row s t (i + k * s) ≡ i
+  first_of i k first less =
+      let low : i % s < s = mod-lt i some in
+      let more = mul-le (k + 1) s count s (omega arith) (omega arith) in
+      let spread = add-mul k 1 s in
+      let inside : k * s + i % s < t = omega (arith, more, spread, is) in
+      let split = add-mul (i / t * count) k s in
+      let assoc = mul_assoc (i / t) count s in
+      let whole : i / t * t ≡ i / t * (count * s) = ap (λ (x : ℕ). i / t * x) is in
+      let here : i + k * s ≡ i / t * t + (k * s + i % s) = omega (arith, first) in
+      let there : i + k * s ≡ (i / t * count + k) * s + i % s = omega (arith, first, split, assoc, whole) in
+      let quotient : (i + k * s) / t ≡ i / t = ap (λ (x : ℕ). x / t) here ∙ div-mul-add (i / t) t (k * s + i % s) inside in
+      let remainder : (i + k * s) % s ≡ i % s = ap (λ (x : ℕ). x % s) there ∙ mod-mul-add (i / t * count + k) s (i % s) low in
+      ap₂ (λ (x y : ℕ). x * t + y) quotient remainder ∙ first
+
+  -- each of them is some times s below the first
+  below_first : (r : ℕ) → 0 < count → (k : ℕ) × (k < count) × (r ≡ first_row s t r + k * s)
+  below_first r any = (r % t / s, div_below (r % t) s count some (subst (λ (x : ℕ). r % t < x) is (mod-lt r full)), there)
+    where
+      full : 0 < t
+      full = let more = mul-le 1 s count s any (omega arith) in omega (arith, more, is)
+
+      there : r ≡ first_row s t r + r % t / s * s
+      there =
+          let whole = div-add-mod' r t in
+          let part = div-add-mod' (r % t) s in
+          let low : r % t % s < s = mod-lt (r % t) some in
+          let split = add-mul (r / t * count) (r % t / s) s in
+          let assoc = mul_assoc (r / t) count s in
+          let turned : r / t * t ≡ r / t * (count * s) = ap (λ (x : ℕ). r / t * x) is in
+          let place : r ≡ (r / t * count + r % t / s) * s + r % t % s = omega (arith, whole, part, split, assoc, turned) in
+          let same : r % s ≡ r % t % s = ap (λ (x : ℕ). x % s) place ∙ mod-mul-add (r / t * count + r % t / s) s (r % t % s) low in
+          omega (arith, whole, part, same)
+
+  pub group_first : (c i : ℕ) → 0 < count → c * t ≤ i → i < c * t + s → first_row s t i ≡ i
+  group_first c i any low high =
+      let more = mul-le 1 s count s any (omega arith) in
+      let here : i ≡ c * t + (i - c * t) = omega arith in
+      let assoc = mul_assoc c count s in
+      let whole : c * t ≡ c * (count * s) = ap (λ (x : ℕ). c * x) is in
+      let there : i ≡ c * count * s + (i - c * t) = omega (arith, assoc, whole) in
+      let quotient : i / t ≡ c = ap (λ (x : ℕ). x / t) here ∙ div-mul-add c t (i - c * t) (omega (arith, more, is)) in
+      let remainder : i % s ≡ i - c * t = ap (λ (x : ℕ). x % s) there ∙ mod-mul-add (c * count) s (i - c * t) (omega arith) in
+      let turned : i / t * t ≡ c * t = ap (λ (x : ℕ). x * t) quotient in
+      omega (arith, turned, remainder)
+
+  -- ---- a pass over all rows
+
+  pub pass_begins : (width : ℕ) (old now : List ℕ) → AreMixed width s old now → IsPassTo width s t 0 old now
+  pass_begins width old now so_far = record {
+    done = λ r less below. absurd (omega arith);
+    left = λ r less more. so_far r less;
+  }
+
+  pub pass_ends : (width n : ℕ) (old now : List ℕ) → 0 < count → n ≡ width → IsPassTo width s t n old now → AreMixed width t old now
+  pass_ends width n old now any whole so_far r less =
+      let place = (below_first r any).2 in so_far.done r less (omega (arith, place, whole))
+
+  -- a pass goes by the rows whose first row is above them
+  pub group_passes : (width c n : ℕ) (old now : List ℕ) → 0 < count → n ≡ c * t + s → IsPassTo width s t n old now → IsPassTo width s t ((c + 1) * t) old now
+  group_passes width c n old now any at so_far = record {
+    done = λ r less below. so_far.done r less (not_above r below);
+    left = λ r less more.
+        let full = mul-le 1 s count s any (omega arith) in
+        let spread = add-mul c 1 t in
+        so_far.left r less (omega (arith, full, spread, is, at, more));
+  }
+    where
+      not_above : (r : ℕ) → first_row s t r < (c + 1) * t → first_row s t r < n
+      not_above r below = cases (cases_lt c (r / t))
+        where
+          cases : (c < r / t) ⊎ (r / t ≤ c) → first_row s t r < n
+          cases (inl more) = let up = mul-le (c + 1) t (r / t) t (omega arith) (omega arith) in absurd (omega (arith, up, below))
+          cases (inr less) =
+              let up = mul-le (r / t) t c t less (omega arith) in
+              let low : r % s < s = mod-lt r some in
+              omega (arith, up, low, at)
+
+  pub rows_begin : (width i : ℕ) (old before : List ℕ) → first_row s t i ≡ i → (k : ℕ) × (k + 1 ≡ count) × (i + k * s < width)
+      → IsPassTo width s t i old before → AreAt width s i old before before (replicate count s)
+  rows_begin width i old before first room so_far = record {
+    at = λ k less. here k (subst (λ (z : ℕ). k < z) (length-replicate count s) less);
+    others = λ r out. refl;
+  }
+    where
+      here : (k : ℕ) → k < count → IsMixed width (get_or (replicate count s) k 0) old (i + k * s) (get_or before (i + k * s) 0)
+      here k less =
+          let up = mul-le k s room.0 s (omega (arith, room.1)) (omega arith) in
+          let is_first = first_of i k first less in
+          subst (λ (l : ℕ). IsMixed width l old (i + k * s) (get_or before (i + k * s) 0)) (sym (get_or-replicate count k s 0 less))
+          (so_far.left (i + k * s) (omega (arith, up, room.2)) (omega (arith, is_first)))
+
+  pub rows_end : (width i : ℕ) (old before now levels : List ℕ) → first_row s t i ≡ i → 0 < count → levels ≡ replicate count t
+      → AreAt width s i old before now levels → IsPassTo width s t i old before → IsPassTo width s t (i + 1) old now
+  rows_end width i old before now levels first any all rows so_far = record {
+    done = λ r less below. cases r less below (cases_eq (first_row s t r) i);
+    left = λ r less more.
+        subst (IsMixed width s old r) (sym (kept r (λ is_first. absurd (omega (arith, is_first, more))))) (so_far.left r less (omega arith));
+  }
+    where
+      long : length levels ≡ count
+      long = ap length all ∙ length-replicate count t
+
+      kept : (r : ℕ) → first_row s t r ≢ i → get_or now r 0 ≡ get_or before r 0
+      kept r other =
+          rows.others r (λ k less here.
+          other (ap (first_row s t) here ∙ first_of i k first (subst (λ (z : ℕ). k < z) long less)))
+
+      reached : (k : ℕ) → k < count → IsMixed width t old (i + k * s) (get_or now (i + k * s) 0)
+      reached k less =
+          subst (λ (l : ℕ). IsMixed width l old (i + k * s) (get_or now (i + k * s) 0))
+          (ap (λ (z : List ℕ). get_or z k 0) all ∙ get_or-replicate count k t 0 less)
+          (rows.at k (subst (λ (z : ℕ). k < z) (sym long) less))
+
+      cases : (r : ℕ) → r < width → first_row s t r < i + 1 → (first_row s t r ≡ i) ⊎ (first_row s t r ≢ i) → IsMixed width t old r (get_or now r 0)
+      cases r less below (inl is_first) =
+          let found = below_first r any in
+          let here : i + found.0 * s ≡ r = omega (arith, found.2, is_first) in
+          subst (λ (z : ℕ). IsMixed width t old z (get_or now z 0)) here (reached found.0 found.1)
+      cases r less below (inr other) =
+          let lower : first_row s t r < i = grind arith in
+          subst (IsMixed width t old r) (sym (kept r other)) (so_far.done r less lower)
+
+-- ---- the lengths of blocks
+
+doubled : (width s : ℕ) → IsBlockSize width s → 2 * s < width → IsBlockSize width (2 * s)
+doubled width s size less =
+    let turned : 2 * s ≡ s * 2 = omega arith in
+    (size.0 + 1, turned ∙ ap (λ (x : ℕ). x * 2) size.1 ∙ sym (pow-add 2 size.0 1), less)
+
+pub twofold_size : (width s i : ℕ) → IsBlockSize width s → i + 7 * s < width → IsBlockSize width (2 * s)
+twofold_size width s i size inside = doubled width s size (omega arith)
+
+pub fourfold_size : (width s i : ℕ) → IsBlockSize width s → i + 7 * s < width → IsBlockSize width (4 * s)
+fourfold_size width s i size inside =
+    let four : 2 * (2 * s) ≡ 4 * s = omega arith in
+    subst (IsBlockSize width) four (doubled width (2 * s) (doubled width s size (omega arith)) (omega arith))
+
+pub fourfold_inside : (width s : ℕ) → IsBlockSize width s → 8 * s ≤ width → IsBlockSize width (4 * s)
+fourfold_inside width s size fits =
+    let some : 0 < s = subst (λ (x : ℕ). 0 < x) (sym size.1) (pow_pos size.0) in
+    fourfold_size width s 0 size (omega arith)
+
+pub eightfold_fits : (width q s : ℕ) → width ≡ q * (2 * (4 * s)) → width ≡ q * (8 * s)
+eightfold_fits width q s is =
+    let eight : 2 * (4 * s) ≡ 8 * s = omega arith in
+    is ∙ ap (λ (x : ℕ). q * x) eight
+
+pub place_is : (width d m : ℕ) {n : ℕ} {before after : List ℕ} → n ≡ m → IsPairExchanged width d n before after → IsPairExchanged width d m before after
+place_is width d m {n} {before} {after} is pair = subst (λ (x : ℕ). IsPairExchanged width d x before after) is pair
+
+-- ---- two rows, one round
+
+pub pair_done : (width q s i : ℕ) (old before now : List ℕ) → 0 < s → width ≡ q * (2 * s) → first_row s (2 * s) i ≡ i → i + s < width
+    → IsPairExchanged width s i before now → IsPassTo width s (2 * s) i old before → IsPassTo width s (2 * s) (i + 1) old now
+pair_done width q s i old before now some is first inside pair so_far =
+    let none : i ≡ i + 0 * s = omega arith in
+    rows_end s (2 * s) 2 some refl width i old before now (set (set (replicate 2 s) 0 (2 * s)) 1 (2 * s)) first (lit< tt) refl
+    (pair_step width q s i s (2 * s) 0 1 old before before now (replicate 2 s) some some is refl (lit< tt) (lit< tt) (omega arith)
+    (upper_row s (2 * s) i s 1 0 0 some first (omega arith) (omega arith) (omega arith)) refl refl
+    (subst (λ (n : ℕ). IsPairExchanged width s n before now) none pair)
+    (rows_begin s (2 * s) 2 some refl width i old before first (1, refl, omega arith) so_far))
+    so_far
+
+-- ---- groups of rows
+
+pub groups_fill : (width t c : ℕ) → c < width / t → c * t + t ≤ width
+groups_fill width t c less =
+    let whole = div-add-mod' width t in
+    let up = mul-le (c + 1) t (width / t) t (omega arith) (omega arith) in
+    let spread = add-mul c 1 t in
+    omega (arith, whole, up, spread)
+
+pub groups_are : (width q t c : ℕ) → 0 < t → width ≡ q * t → c ≡ width / t → c * t ≡ width
+groups_are width q t c some is all =
+    let none : q * t + 0 ≡ q * t = omega arith in
+    let count : width / t ≡ q = ap (λ (x : ℕ). x / t) (is ∙ sym none) ∙ div-mul-add q t 0 some in
+    ap (λ (x : ℕ). x * t) (all ∙ count) ∙ sym is
+
+-- ---- all rounds
 
 pub nothing_mixed : (width : ℕ) (rows : List ℕ) → AreMixed width 1 rows rows
-nothing_mixed width rows i j row lane = ap₂ (λ (x y : ℕ). bit_at (get_or rows x 0) y) (sym (one i j)) (sym (one j i))
+nothing_mixed width rows i row j lane = ap₂ (λ (x y : ℕ). bit_at (get_or rows x 0) y) (sym (one i j)) (sym (one j i))
   where
     one : (a b : ℕ) → mixed 1 a b ≡ a
     one a b = let whole = div-one a in let none : b % 1 < 1 = mod-lt b (lit< tt) in omega arith
 
-pub one_more_round : (width q s : ℕ) (old mid now : List ℕ) → 0 < s → width ≡ q * (2 * s) → AreMixed width s old mid → AreExchanged width s mid now
-    → AreMixed width (s + s) old now
-one_more_round width q s old mid now some is so_far round i j row lane = cases (parity (i / s)) (parity (j / s))
-  where
-    from : (a b : ℕ) → mixed s a b ≡ mixed (s + s) i j → mixed s b a ≡ mixed (s + s) j i
-        → bit_at (get_or old (mixed s a b) 0) (mixed s b a) ≡ bit_at (get_or old (mixed (s + s) i j) 0) (mixed (s + s) j i)
-    from a b first second = ap₂ (λ (x y : ℕ). bit_at (get_or old x 0) y) first second
-
-    same : i / s % 2 ≡ j / s % 2 → bit_at (get_or now i 0) j ≡ bit_at (get_or old (mixed (s + s) i j) 0) (mixed (s + s) j i)
-    same is_same = (round i j row lane).0 is_same ∙ so_far i j row lane ∙ from i j (same_mixed s i j some is_same) (same_mixed s j i some (sym is_same))
-
-    cases : (i / s % 2 ≡ 0) ⊎ (i / s % 2 ≡ 1) → (j / s % 2 ≡ 0) ⊎ (j / s % 2 ≡ 1)
-        → bit_at (get_or now i 0) j ≡ bit_at (get_or old (mixed (s + s) i j) 0) (mixed (s + s) j i)
-    cases (inl even) (inl also) = same (even ∙ sym also)
-    cases (inr odd) (inr also) = same (odd ∙ sym also)
-    cases (inl even) (inr odd) =
-        let above = odd_is_above s j some odd in
-        (round i j row lane).1 even odd ∙ so_far (i + s) (j - s) (even_has_room width q s i some is row even) (omega arith)
-        ∙ from (i + s) (j - s) (even_mixed s i j some even odd above) (odd_mixed s j i some odd even above)
-    cases (inr odd) (inl even) =
-        let above = odd_is_above s i some odd in
-        (round i j row lane).2 odd even ∙ so_far (i - s) (j + s) (omega arith) (even_has_room width q s j some is lane even)
-        ∙ from (i - s) (j + s) (odd_mixed s i j some odd even above) (even_mixed s j i some even odd above)
-
-pub all_mixed : (width : ℕ) (old now : List ℕ) → AreMixed width width old now → AreTransposed width old now
-all_mixed width old now so_far i j row lane =
-    so_far i j row lane ∙ ap₂ (λ (x y : ℕ). bit_at (get_or old x 0) y) (whole i j row lane) (whole j i lane row)
+pub all_mixed : (width s : ℕ) (old now : List ℕ) → s ≡ width → AreMixed width s old now → AreTransposed width old now
+all_mixed width s old now all so_far i j row lane =
+    subst (λ (z : ℕ). AreMixed width z old now) all so_far i row j lane
+    ∙ ap₂ (λ (x y : ℕ). bit_at (get_or old x 0) y) (whole i j row lane) (whole j i lane row)
   where
     whole : (a b : ℕ) → a < width → b < width → mixed width a b ≡ b
     whole a b first second =
         let none : a / width * width ≡ 0 * width = ap (λ (x : ℕ). x * width) (div-eq_of_lt first) in
-        let all : b % width ≡ b = mod-eq_of_lt second in
+        let all_of_it : b % width ≡ b = mod-eq_of_lt second in
         omega arith
 
--- ---- in the terms of the code
-
-pub pair_written : {A : Type 0} (rows : List A) (num : A → ℕ) (width s n m : ℕ) (a b x y : A) (old : List ℕ)
-    → 0 < s → length rows ≡ width → m ≡ n + s → m < width → n < width → n / s % 2 ≡ 0
-    → a ≡ get_or rows n a → b ≡ get_or rows m b
-    → HasFirstBlocks width s (num a) (num b) (num x) → HasSecondBlocks width s (num a) (num b) (num y)
-    → IsRoundTo width s n old (map num rows) → IsRoundTo width s (n + 1) old (map num (set (set rows n x) m y))
-pair_written rows num width s n m a b x y old some long is less before even at_n at_m first second so_far =
-    let upper : get_or (map num rows) n 0 ≡ num a = get_or-map num rows n a 0 (omega arith) ∙ ap num (sym at_n) in
-    let lower : get_or (map num rows) m 0 ≡ num b = get_or-map num rows m b 0 (omega arith) ∙ ap num (sym at_m) in
-    let lower_is : get_or (map num rows) (n + s) 0 ≡ num b = ap (λ (z : ℕ). get_or (map num rows) z 0) (sym is) ∙ lower in
-    let numbers : map num (set (set rows n x) m y) ≡ set (set (map num rows) n (num x)) (n + s) (num y) =
-    map-set num (set rows n x) m y ∙ ap₂ (λ (z : List ℕ) (k : ℕ). set z k (num y)) (map-set num rows n x) is in
-    subst (IsRoundTo width s (n + 1) old) (sym numbers)
-    (round_pairs width s n (num x) (num y) old (map num rows) some (length-map rows num ∙ long) (subst (λ (z : ℕ). z < width) is less) even
-    (subst (λ (z : ℕ). HasFirstBlocks width s z (get_or (map num rows) (n + s) 0) (num x)) (sym upper)
-    (subst (λ (z : ℕ). HasFirstBlocks width s (num a) z (num x)) (sym lower_is) first))
-    (subst (λ (z : ℕ). HasSecondBlocks width s z (get_or (map num rows) (n + s) 0) (num y)) (sym upper)
-    (subst (λ (z : ℕ). HasSecondBlocks width s (num a) z (num y)) (sym lower_is) second))
-    so_far)
-
-pub round_ended : (width q s n : ℕ) (old now : List ℕ) → 0 < s → width ≡ q * (2 * s) → n ≡ width → IsRoundTo width s n old now
-    → AreExchanged width s old now
-round_ended width q s n old now some is whole so_far =
-    round_ends width q s old now some is (subst (λ (z : ℕ). IsRoundTo width s z old now) whole so_far)
-
-pub next_round : (width q s t : ℕ) (old mid now : List ℕ) → 0 < s → width ≡ q * (2 * s) → t ≡ s + s → AreMixed width s old mid
-    → AreExchanged width s mid now → AreMixed width t old now
-next_round width q s t old mid now some is double so_far round =
-    subst (λ (z : ℕ). AreMixed width z old now) (sym double) (one_more_round width q s old mid now some is so_far round)
-
-pub rounds_ended : (width s : ℕ) (old now : List ℕ) → s ≡ width → AreMixed width s old now → AreTransposed width old now
-rounds_ended width s old now whole so_far = all_mixed width old now (subst (λ (z : ℕ). AreMixed width z old now) whole so_far)
+pub same_length : (width s t : ℕ) (old now : List ℕ) → s ≡ t → AreMixed width s old now → AreMixed width t old now
+same_length width s t old now is = subst (λ (z : ℕ). AreMixed width z old now) is
 
 pub double_fits : (width q s : ℕ) → width ≡ q * (2 * s) → s < width → s * 2 ≤ width
 double_fits width zero s is less = absurd (omega arith)
 double_fits width (suc q) s is less = let more = mul-le 1 (2 * s) (suc q) (2 * s) (omega arith) (omega arith) in omega (arith, more, is)
 
--- ---- blocks of rows, two by two
-
-pub pairs_are : (width q s : ℕ) → 0 < s → width ≡ q * (2 * s) → width / (2 * s) ≡ q
-pairs_are width q s some is =
-    let none : q * (2 * s) + 0 ≡ q * (2 * s) = omega arith in
-    ap (λ (x : ℕ). x / (2 * s)) (is ∙ sym none) ∙ div-mul-add q (2 * s) 0 (omega arith)
-
--- the pairs of blocks fill the rows
-pub pairs_fill : (width q s pair : ℕ) → 0 < s → width ≡ q * (2 * s) → pair < width / (2 * s) → pair * (2 * s) + 2 * s ≤ width
-pairs_fill width q s pair some is less =
-    let double : 0 < 2 * s = omega arith in
-    let count : width / (2 * s) ≡ q = pairs_are width q s some is in
-    let below : pair < q = omega arith in
-    let more = mul-le (pair + 1) (2 * s) q (2 * s) (omega arith) (omega arith) in
-    let spread = add-mul pair 1 (2 * s) in
-    omega (arith, more, spread, is)
-
-block_of : (s c i : ℕ) → c * s ≤ i → i < c * s + s → i / s ≡ c
-block_of s c i low high =
-    let place : i ≡ c * s + (i - c * s) = omega arith in
-    ap (λ (x : ℕ). x / s) place ∙ div-mul-add c s (i - c * s) (omega arith)
-
-twice_times : (pair s : ℕ) → pair * (2 * s) ≡ pair * 2 * s
-twice_times pair s = sym (mul_assoc pair 2 s)
-
-pub upper_block : (s pair i : ℕ) → pair * (2 * s) ≤ i → i < pair * (2 * s) + s → i / s % 2 ≡ 0
-upper_block s pair i low high =
-    let place = twice_times pair s in
-    let block = block_of s (pair * 2) i (omega arith) (omega arith) in
-    omega (arith, block)
-
-lower_block : (s pair i : ℕ) → pair * (2 * s) + s ≤ i → i < pair * (2 * s) + s + s → i / s % 2 ≡ 1
-lower_block s pair i low high =
-    let place = twice_times pair s in
-    let spread = add-mul (pair * 2) 1 s in
-    let block = block_of s (pair * 2 + 1) i (omega arith) (omega arith) in
-    omega (arith, block)
-
--- a round passes the rows of a lower block: they were written with those of the upper one
-pub block_passes : (width s pair n : ℕ) (old now : List ℕ) → 0 < s → n ≡ pair * (2 * s) + s
-    → IsRoundTo width s n old now → IsRoundTo width s ((pair + 1) * (2 * s)) old now
-block_passes width s pair n old now some is so_far =
-    let spread = add-mul pair 1 (2 * s) in
-    record {
-      even_done = λ r less even below. so_far.even_done r less even (not_lower r even (omega (arith, spread, below)));
-      even_left = λ r less even more. so_far.even_left r less even (omega (arith, spread, more, is));
-      odd_done = λ r less odd below. so_far.odd_done r less odd (not_lower (r - s) (before_parity_even s r some odd) (omega (arith, spread, below)));
-      odd_left = λ r less odd more. so_far.odd_left r less odd (omega (arith, spread, more, is));
-    }
-  where
-    not_lower : (r : ℕ) → r / s % 2 ≡ 0 → r < pair * (2 * s) + s + s → r < n
-    not_lower r even below = cases (cases_lt r n)
-      where
-        cases : (r < n) ⊎ (n ≤ r) → r < n
-        cases (inl h) = h
-        cases (inr h) = let odd = lower_block s pair r (omega (arith, is, h)) below in absurd (omega (arith, odd, even))
+pub eightfold_inside : (width s : ℕ) → s ≤ width / 8 → 8 * s ≤ width
+eightfold_inside width s less = let whole = div-add-mod' width 8 in omega arith

@@ -1,5 +1,5 @@
 -- Lanes. Lane i of packed bits is bit i of their number, which is bit i modulo W of word i divided by W.
-use Rattle.std.specs.Prelude.{◌≡◌, ◌≢◌, ◌<◌, ℕ, ◌+◌, ◌-◌, ◌/◌, ◌%◌, ◌^◌, List, slice_index, drop, bit_and}
+use Rattle.std.specs.Prelude.{◌≡◌, ◌≢◌, ◌<◌, ℕ, ◌%◌, ◌^◌, List, slice_index, drop, bit_and}
 use Rattle.bf_bitslice_words.specs.Parts.{parts_of}
 use Rattle.std.specs.Int.{bit_at}
 
@@ -15,15 +15,6 @@ lanes_from width next n = drop next (lanes_of width n)
 abbrev pub IsWithLane : ℕ → ℕ → ℕ → ℕ → ℕ → Type 0
 IsWithLane width before lane value after =
     (bit_at after lane ≡ value) × ((j : ℕ) → j < width → j ≢ lane → bit_at after j ≡ bit_at before j)
-
--- The blocks of `block` lanes beside the diagonal are exchanged: where one of i and j lies in an odd block and the other in
--- an even one, lane j of row i is that of the row and lane with both moved to the other block.
-abbrev pub AreExchanged : ℕ → ℕ → List ℕ → List ℕ → Type 0
-AreExchanged width block before after =
-    (i j : ℕ) → i < width → j < width
-    → (i / block % 2 ≡ j / block % 2 → bit_at (slice_index after i) j ≡ bit_at (slice_index before i) j)
-    × (i / block % 2 ≡ 0 → j / block % 2 ≡ 1 → bit_at (slice_index after i) j ≡ bit_at (slice_index before (i + block)) (j - block))
-    × (i / block % 2 ≡ 1 → j / block % 2 ≡ 0 → bit_at (slice_index after i) j ≡ bit_at (slice_index before (i - block)) (j + block))
 
 -- lane j of row i of the one is lane i of row j of the other
 abbrev pub AreTransposed : ℕ → List ℕ → List ℕ → Type 0

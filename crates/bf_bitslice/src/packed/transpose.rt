@@ -1,8 +1,8 @@
 // Blocks of lanes interleaved, and rows and columns of bits exchanged.
 ghost use Rattle.std.specs.Prelude.{◌≡◌, ◌≤◌, ◌<◌, ◌+◌, ◌*◌, ◌/◌, ◌%◌, ◌^◌, ℕ, List, length, map};
 ghost use Rattle.bf_bitslice_words.specs.Parts.{HasFirstBlocks, HasSecondBlocks, IsBlockSize};
-ghost use Rattle.bf_bitslice.specs.Lanes.{AreExchanged, AreTransposed};
-ghost use Rattle.bf_bitslice.specs.Rounds.{IsRoundTo};
+ghost use Rattle.bf_bitslice.specs.Lanes.{AreTransposed};
+ghost use Rattle.bf_bitslice.specs.Rounds.{AreMixed, IsPairExchanged, IsPassTo, first_row};
 
 use crate::packed::{PackedGf2, value};
 use bf_bitslice_words::{Underlier, Word, interleave_words};
@@ -28,88 +28,143 @@ fn interleave_blocks<U: Underlier>(
     }
 }
 
-// The row `block` below row `i`, which lies in an even block.
-#[inline(always)]
-fn lower_row<U: Underlier>(i: usize, block: usize) -> usize
-    requires block { IsBlockSize U.BITS block }
-    requires inside { i < U.BITS }
-    requires even { i / block % 2 ≡ 0 }
-    ensures value { result ≡ i + block }
-    ensures inside { result < U.BITS }
-{
-    i + block
-}
-
-// Row `i`, which lies in an even block, and the row `block` below it are interleaved.
+// Row `i` and the row `block` below it are interleaved.
 #[inline(always)]
 fn exchange_pair<U: Underlier>(rows: &mut [PackedGf2<U>], block: usize, i: usize)
     requires block { IsBlockSize U.BITS block }
     requires square { length rows.old ≡ U.BITS }
-    requires inside { i < U.BITS }
-    requires even { i / block % 2 ≡ 0 }
-    ensures { (old : List ℕ) → IsRoundTo U.BITS block i old (map (λ x. U.number x.bits) rows.old) → IsRoundTo U.BITS block (i + 1) old (map (λ x. U.number x.bits) rows.new) }
+    requires inside { i + block < U.BITS }
+    ensures { IsPairExchanged U.BITS block i (map (λ x. U.number x.bits) rows.old) (map (λ x. U.number x.bits) rows.new) }
 {
-    let other = lower_row::<U>(i, block);
+    let other = i + block;
     let (first, second) = interleave_blocks(&rows[i], &rows[other], block);
     rows[i] = first;
     rows[other] = second;
 }
 
-// The first row of two blocks of rows.
+// Row `k` of the eight rows from row `i` on that are `block` apart.
 #[inline(always)]
-fn first_of_two<U: Underlier>(block: usize, pair: usize) -> usize
-    requires block { IsBlockSize U.BITS block }
-    requires inside { pair < U.BITS / (2 * block) }
-    ensures value { result ≡ pair * (2 * block) }
-    ensures inside { result + 2 * block ≤ U.BITS }
+fn row_of_eight<U: Underlier>(i: usize, block: usize, k: usize) -> usize
+    requires inside { i + 7 * block < U.BITS }
+    requires eight { k < 8 }
+    ensures { result ≡ i + k * block }
 {
-    pair * (2 * block)
+    i + k * block
 }
 
-// The rows of two blocks, which are number `pair` of all pairs of blocks: each row of the upper block is interleaved with
-// that in its place in the lower block.
+// Three rounds, by blocks of `block`, of twice and of four times as many lanes, for the eight rows from row `i` on that are
+// `block` apart: no other row has a part in what becomes of them. In the machine code they stay in registers.
 #[inline(always)]
-fn exchange_two_blocks<U: Underlier>(rows: &mut [PackedGf2<U>], block: usize, pair: usize)
+fn exchange_eight<U: Underlier>(rows: &mut [PackedGf2<U>], block: usize, i: usize)
     requires block { IsBlockSize U.BITS block }
     requires square { length rows.old ≡ U.BITS }
-    requires inside { pair < U.BITS / (2 * block) }
-    ensures { (old : List ℕ) → IsRoundTo U.BITS block (pair * (2 * block)) old (map (λ x. U.number x.bits) rows.old) → IsRoundTo U.BITS block ((pair + 1) * (2 * block)) old (map (λ x. U.number x.bits) rows.new) }
+    requires first { first_row block (8 * block) i ≡ i }
+    requires inside { i + 7 * block < U.BITS }
+    ensures { (old : List ℕ) → IsPassTo U.BITS block (8 * block) i old (map (λ x. U.number x.bits) rows.old) → IsPassTo U.BITS block (8 * block) (i + 1) old (map (λ x. U.number x.bits) rows.new) }
 {
-    let start = first_of_two::<U>(block, pair);
+    let one = row_of_eight::<U>(i, block, 1);
+    let two = row_of_eight::<U>(i, block, 2);
+    let three = row_of_eight::<U>(i, block, 3);
+    let four = row_of_eight::<U>(i, block, 4);
+    let five = row_of_eight::<U>(i, block, 5);
+    let six = row_of_eight::<U>(i, block, 6);
+    exchange_pair(rows, block, i);
+    exchange_pair(rows, block, two);
+    exchange_pair(rows, block, four);
+    exchange_pair(rows, block, six);
+    exchange_pair(rows, 2 * block, i);
+    exchange_pair(rows, 2 * block, one);
+    exchange_pair(rows, 2 * block, four);
+    exchange_pair(rows, 2 * block, five);
+    exchange_pair(rows, 4 * block, i);
+    exchange_pair(rows, 4 * block, one);
+    exchange_pair(rows, 4 * block, two);
+    exchange_pair(rows, 4 * block, three);
+}
+
+// The rows of eight blocks, which are number `group` of all groups of eight.
+#[inline(always)]
+fn exchange_eight_blocks<U: Underlier>(rows: &mut [PackedGf2<U>], block: usize, group: usize)
+    requires block { IsBlockSize U.BITS block }
+    requires square { length rows.old ≡ U.BITS }
+    requires inside { group < U.BITS / (8 * block) }
+    ensures { (old : List ℕ) → IsPassTo U.BITS block (8 * block) (group * (8 * block)) old (map (λ x. U.number x.bits) rows.old) → IsPassTo U.BITS block (8 * block) ((group + 1) * (8 * block)) old (map (λ x. U.number x.bits) rows.new) }
+{
+    let start = group * (8 * block);
+    for i in start..start + block {
+        exchange_eight(rows, block, i);
+    }
+}
+
+// The rows of two blocks, which are number `group` of all pairs: each row of the upper block is interleaved with that in
+// its place in the lower block.
+#[inline(always)]
+fn exchange_two_blocks<U: Underlier>(rows: &mut [PackedGf2<U>], block: usize, group: usize)
+    requires block { IsBlockSize U.BITS block }
+    requires square { length rows.old ≡ U.BITS }
+    requires inside { group < U.BITS / (2 * block) }
+    ensures { (old : List ℕ) → IsPassTo U.BITS block (2 * block) (group * (2 * block)) old (map (λ x. U.number x.bits) rows.old) → IsPassTo U.BITS block (2 * block) ((group + 1) * (2 * block)) old (map (λ x. U.number x.bits) rows.new) }
+{
+    let start = group * (2 * block);
     for i in start..start + block {
         exchange_pair(rows, block, i);
+    }
+}
+
+// Three rounds of a transposition, by blocks of `block`, of twice and of four times as many lanes.
+#[inline(always)]
+fn three_rounds<U: Underlier>(rows: &mut [PackedGf2<U>], block: usize)
+    requires block { IsBlockSize U.BITS block }
+    requires square { length rows.old ≡ U.BITS }
+    requires fits { 8 * block ≤ U.BITS }
+    ensures { (old : List ℕ) → AreMixed U.BITS block old (map (λ x. U.number x.bits) rows.old) → AreMixed U.BITS (8 * block) old (map (λ x. U.number x.bits) rows.new) }
+{
+    for group in 0..U::BITS / (8 * block) {
+        exchange_eight_blocks(rows, block, group);
     }
 }
 
 // One round of a transposition: in each pair of rows that are `block` apart, the odd blocks of the upper row and the even
 // ones of the lower row are exchanged.
 #[inline(always)]
-fn exchange_blocks<U: Underlier>(rows: &mut [PackedGf2<U>], block: usize)
+fn one_round<U: Underlier>(rows: &mut [PackedGf2<U>], block: usize)
     requires block { IsBlockSize U.BITS block }
     requires square { length rows.old ≡ U.BITS }
-    ensures { AreExchanged U.BITS block (map (λ x. U.number x.bits) rows.old) (map (λ x. U.number x.bits) rows.new) }
+    ensures { (old : List ℕ) → AreMixed U.BITS block old (map (λ x. U.number x.bits) rows.old) → AreMixed U.BITS (2 * block) old (map (λ x. U.number x.bits) rows.new) }
 {
-    for pair in 0..U::BITS / (2 * block) {
-        exchange_two_blocks(rows, block, pair);
+    for group in 0..U::BITS / (2 * block) {
+        exchange_two_blocks(rows, block, group);
     }
 }
 
-// The same round. Each length up to a word of 64 bits stands as a literal, so that in the machine code shifts and masks are
+// The same three rounds. The lengths that they begin at stand as literals, so that in the machine code shifts and masks are
 // constants.
-fn exchange_blocks_of_constant<U: Underlier>(rows: &mut [PackedGf2<U>], block: usize)
+fn three_rounds_of_constant<U: Underlier>(rows: &mut [PackedGf2<U>], block: usize)
     requires block { IsBlockSize U.BITS block }
     requires square { length rows.old ≡ U.BITS }
-    ensures { AreExchanged U.BITS block (map (λ x. U.number x.bits) rows.old) (map (λ x. U.number x.bits) rows.new) }
+    requires fits { 8 * block ≤ U.BITS }
+    ensures { (old : List ℕ) → AreMixed U.BITS block old (map (λ x. U.number x.bits) rows.old) → AreMixed U.BITS (8 * block) old (map (λ x. U.number x.bits) rows.new) }
 {
     match block {
-        1 => exchange_blocks(rows, 1),
-        2 => exchange_blocks(rows, 2),
-        4 => exchange_blocks(rows, 4),
-        8 => exchange_blocks(rows, 8),
-        16 => exchange_blocks(rows, 16),
-        32 => exchange_blocks(rows, 32),
-        64 => exchange_blocks(rows, 64),
-        _ => exchange_blocks(rows, block),
+        1 => three_rounds(rows, 1),
+        8 => three_rounds(rows, 8),
+        64 => three_rounds(rows, 64),
+        _ => three_rounds(rows, block),
+    }
+}
+
+// The same round. The lengths that are left after rounds by threes stand as literals.
+fn one_round_of_constant<U: Underlier>(rows: &mut [PackedGf2<U>], block: usize)
+    requires block { IsBlockSize U.BITS block }
+    requires square { length rows.old ≡ U.BITS }
+    ensures { (old : List ℕ) → AreMixed U.BITS block old (map (λ x. U.number x.bits) rows.old) → AreMixed U.BITS (2 * block) old (map (λ x. U.number x.bits) rows.new) }
+{
+    match block {
+        8 => one_round(rows, 8),
+        16 => one_round(rows, 16),
+        64 => one_round(rows, 64),
+        128 => one_round(rows, 128),
+        _ => one_round(rows, block),
     }
 }
 
@@ -132,14 +187,19 @@ impl<U: Underlier> PackedGf2<U> {
     }
 
     /// Transposes the square matrix whose rows these are: lane j of new row i is lane i of old row j. It asks for `WIDTH`
-    /// rows. Each round exchanges blocks of twice the lanes of the round before, over all pairs of rows.
+    /// rows. Each round exchanges blocks of twice the lanes of the round before, over all pairs of rows; three rounds are done
+    /// at once for eight rows each, while as many are left.
     pub fn transpose(rows: &mut [PackedGf2<U>])
         requires { length rows.old ≡ U.BITS }
         ensures { AreTransposed U.BITS (map (λ x. U.number x.bits) rows.old) (map (λ x. U.number x.bits) rows.new) }
     {
         let mut block = 1;
+        while block <= U::BITS / 8 {
+            three_rounds_of_constant(rows, block);
+            block *= 8;
+        }
         while block < U::BITS {
-            exchange_blocks_of_constant(rows, block);
+            one_round_of_constant(rows, block);
             block *= 2;
         }
     }

@@ -1,28 +1,21 @@
-use Rattle.std.proofs.Common.{ℕ, map, sym, subst, arith}
-use Rattle.bf_bitslice_words.proofs.BlockLemmas.{block_some}
-use Rattle.bf_bitslice.specs.Rounds.{IsRoundTo}
-use Rattle.bf_bitslice.proofs.Rounds.{block_passes, upper_block}
+use Rattle.std.proofs.Common.{◌*◌, ◌+◌, refl, lit<, arith}
+use Rattle.bf_bitslice_words.proofs.BlockLemmas.{block_divides, block_some}
+use Rattle.bf_bitslice.proofs.LaneAccess.{row_bits}
+use Rattle.bf_bitslice.proofs.Rounds.{group_first, group_passes, groups_fill, pair_done}
 use Rattle.bf_bitslice.proofs.packed.transpose.exchange_two_blocks.Goals as goal
 
-pub loop-i-init : goal.loop-i-init
-loop-i-init g c = λ old so_far.
-    subst (λ (z : ℕ). IsRoundTo g.U.Underlier.BITS c.args.block z old (map (λ x. g.U.Underlier.number x.bits) c.args.rows.now)) (sym c.first_of_two-start.ensures.value) so_far
-
-pub exchange_pair-requires-clause-inside : goal.exchange_pair-requires-clause-inside
-exchange_pair-requires-clause-inside g c =
-    let room = c.first_of_two-start.ensures.inside in
-    omega (arith, room)
-
-pub exchange_pair-requires-clause-even : goal.exchange_pair-requires-clause-even
-exchange_pair-requires-clause-even g c =
-    let value = c.first_of_two-start.ensures.value in
-    upper_block c.args.block c.args.pair c.loop-i.i (omega (arith, value)) (omega (arith, value))
-
 pub loop-i-preserved : goal.loop-i-preserved
-loop-i-preserved g c = λ old so_far. c.exchange_pair.ensures old (c.loop-i.invariant old so_far)
+loop-i-preserved g c = λ old so_far.
+    let power =
+    row_bits g.U.Underlier.BITS g.U.Word.Word.BITS g.U.Underlier.WORD_COUNT g.U.Word.Word.log_bits g.U.Underlier.log_words
+    g.met.U.Underlier.bits_law g.met.U.Word.Word.bits_law g.met.U.Underlier.words_law in
+    let divides = block_divides g.U.Underlier.BITS (g.U.Word.Word.log_bits + g.U.Underlier.log_words) c.args.block power c.requires.block in
+    let some = block_some g.U.Underlier.BITS c.args.block c.requires.block in
+    let room = groups_fill g.U.Underlier.BITS (2 * c.args.block) c.args.group c.requires.inside in
+    let first = group_first c.args.block (2 * c.args.block) 2 some refl c.args.group c.loop-i.i (lit< tt) (omega arith) (omega arith) in
+    pair_done g.U.Underlier.BITS divides.0 c.args.block c.loop-i.i old _ _ some divides.1 first (omega (arith, room)) c.exchange_pair.ensures (c.loop-i.invariant old so_far)
 
 pub returns : goal.returns
 returns g c = λ old so_far.
-    let value = c.first_of_two-start.ensures.value in
-    block_passes g.U.Underlier.BITS c.args.block c.args.pair c.loop-i.i old _ (block_some g.U.Underlier.BITS c.args.block c.requires.block)
-    (omega (arith, value)) (c.loop-i.invariant old so_far)
+    group_passes c.args.block (2 * c.args.block) 2 (block_some g.U.Underlier.BITS c.args.block c.requires.block) refl
+    g.U.Underlier.BITS c.args.group c.loop-i.i old _ (lit< tt) (omega arith) (c.loop-i.invariant old so_far)
