@@ -1,4 +1,5 @@
 mod LaneAccess
+mod RoundPairs
 mod Rounds
 mod EightRows
 mod LaneLists

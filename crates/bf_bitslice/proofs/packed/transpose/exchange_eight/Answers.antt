@@ -39,7 +39,20 @@ returns g c = λ old so_far.
     let none : c.args.i ≡ c.args.i + 0 * c.args.block = omega arith in
     eight_done g.U.Underlier.BITS divides.0 c.args.block c.args.i old (map (λ x. g.U.Underlier.number x.bits) c.args.rows.now)
     (block_some g.U.Underlier.BITS c.args.block c.requires.block)
-    (eightfold_fits g.U.Underlier.BITS divides.0 c.args.block divides.1) c.requires.first _ _ _ _ _ _ _ _ _ _ _ _ c.requires.inside
+    (eightfold_fits g.U.Underlier.BITS divides.0 c.args.block divides.1) c.requires.first
+    (map (λ x. g.U.Underlier.number x.bits) c.exchange_pair.new.rows)
+    (map (λ x. g.U.Underlier.number x.bits) c.exchange_pair-2.new.rows)
+    (map (λ x. g.U.Underlier.number x.bits) c.exchange_pair-3.new.rows)
+    (map (λ x. g.U.Underlier.number x.bits) c.exchange_pair-4.new.rows)
+    (map (λ x. g.U.Underlier.number x.bits) c.exchange_pair-5.new.rows)
+    (map (λ x. g.U.Underlier.number x.bits) c.exchange_pair-6.new.rows)
+    (map (λ x. g.U.Underlier.number x.bits) c.exchange_pair-7.new.rows)
+    (map (λ x. g.U.Underlier.number x.bits) c.exchange_pair-8.new.rows)
+    (map (λ x. g.U.Underlier.number x.bits) c.exchange_pair-9.new.rows)
+    (map (λ x. g.U.Underlier.number x.bits) c.exchange_pair-10.new.rows)
+    (map (λ x. g.U.Underlier.number x.bits) c.exchange_pair-11.new.rows)
+    (map (λ x. g.U.Underlier.number x.bits) c.exchange_pair-12.new.rows)
+    c.requires.inside
     (place_is g.U.Underlier.BITS c.args.block (c.args.i + 0 * c.args.block) none c.exchange_pair.ensures)
     (place_is g.U.Underlier.BITS c.args.block (c.args.i + 2 * c.args.block) c.row_of_eight-two.ensures c.exchange_pair-2.ensures)
     (place_is g.U.Underlier.BITS c.args.block (c.args.i + 4 * c.args.block) c.row_of_eight-four.ensures c.exchange_pair-3.ensures)

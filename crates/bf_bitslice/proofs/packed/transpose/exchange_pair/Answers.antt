@@ -1,5 +1,5 @@
 use Rattle.bf_bitslice_words.proofs.BlockLemmas.{block_some}
-use Rattle.bf_bitslice.proofs.Rounds.{pair_written}
+use Rattle.bf_bitslice.proofs.RoundPairs.{pair_written}
 use Rattle.bf_bitslice.proofs.packed.transpose.exchange_pair.Goals as goal
 
 pub returns : goal.returns
