@@ -53,7 +53,7 @@ fn row_of_eight<U: Underlier>(i: usize, block: usize, k: usize) -> usize
 }
 
 // Three rounds, by blocks of `block`, of twice and of four times as many lanes, for the eight rows from row `i` on that are
-// `block` apart: no other row has a part in what becomes of them. In the machine code they stay in registers.
+// `block` apart: no other row has a part in what becomes of them. The compiler keeps them in registers from pair to pair.
 #[inline(always)]
 fn exchange_eight<U: Underlier>(rows: &mut [PackedGf2<U>], block: usize, i: usize)
     requires block { IsBlockSize U.BITS block }
