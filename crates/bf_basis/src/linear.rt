@@ -1,5 +1,5 @@
 // Any linear map of 128 bits, given by the images of its bits, by its values at digits to base 16.
-ghost use Rattle.std.specs.Prelude.{◌≡◌, ℕ, ◌*◌, ◌/◌, ◌%◌, ◌^◌, ◌<◌, ◌≤◌, List, slice_index};
+ghost use Rattle.std.specs.Prelude.{◌≡◌, ℕ, ◌+◌, ◌*◌, ◌/◌, ◌%◌, ◌^◌, ◌<◌, ◌≤◌, List, bit_xor, slice_index};
 ghost use Rattle.bf_base.specs.LinearMaps.{IsTheLinearMapOf, linear_image};
 ghost use Rattle.bf_basis.specs.LinearMap.{sum_of_values};
 
@@ -33,16 +33,31 @@ impl LinearMap {
 }
 
 /// The sum of the values of a linear map at the low digits of `x` to base 16. Entry 16 i + d is the value at d 16^i, and there are
-/// 32 digits at most.
-#[inline]
-#[tactic(auto, using(crate::proofs::DigitMaps::sum_of_values_none, crate::proofs::DigitMaps::sum_of_values_more))]
+/// 32 digits at most. It is part of its caller's code, so that where the number of digits is a constant, no loop is left.
+#[inline(always)]
 pub fn sum_of_values(values: &[u128; 512], x: u128, digits: usize) -> u128
     requires { digits ≤ 32 }
     ensures { result ≡ sum_of_values digits values.now x }
 {
+    if digits <= 16 {
+        sum_in_word(values, x, 0, digits)
+    } else {
+        sum_in_word(values, x, 0, 16) ^ sum_in_word(values, x, 16, digits - 16)
+    }
+}
+
+// The sum of the values at `digits` digits of `x` from digit `first` on, which lie in one word of 64 bits: a digit of such a word is a
+// shift and a mask, and one of 128 bits takes a shift of two words.
+#[inline(always)]
+fn sum_in_word(values: &[u128; 512], x: u128, first: usize, digits: usize) -> u128
+    requires first { first ≤ 16 }
+    requires one_word { digits ≤ 16 }
+    ensures { bit_xor (sum_of_values first values.now x) result ≡ sum_of_values (first + digits) values.now x }
+{
+    let word = ((x >> (4 * first)) % 0x1_0000_0000_0000_0000) as u64;
     let mut sum = 0;
     for i in 0..digits {
-        sum ^= values[16 * i + ((x >> (4 * i)) % 16) as usize];
+        sum ^= values[16 * (first + i) + ((word >> (4 * i)) % 16) as usize];
     }
     sum
 }
