@@ -93,11 +93,12 @@ impl<R: Unsigned, L: Level<R>> Kernel<R> for Tower<L> {
     fn reduce_squarings(x: R, count: usize) -> (R, usize) {
         let bits = Self::bits();
         let rest = count % bits;
-        if rest < bits / 2 {
-            square_by_tables::<R, L>(x, rest)
+        let (element, fewer) = if rest < bits / 2 {
+            (x, rest)
         } else {
-            square_by_tables::<R, L>(L::conjugate(x), rest - bits / 2)
-        }
+            (L::conjugate(x), rest - bits / 2)
+        };
+        square_by_tables::<R, L>(element, fewer)
     }
 
     #[inline]
