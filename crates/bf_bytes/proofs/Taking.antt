@@ -1,10 +1,9 @@
 -- Bytes that are read one after the other.
-use Rattle.std.proofs.Common.{◌≡◌, ℕ, zero, suc, ◌+◌, ◌*◌, ◌%◌, ◌^◌, ◌<◌, ◌≤◌, refl, sym, ◌∙◌, ap, ap₂, arith, List, [], ◌∷◌, ◌++◌, length, take, get_or, Option, Some, subst}
+use Rattle.std.proofs.Common.{◌≡◌, ℕ, zero, suc, ◌+◌, ◌*◌, ◌%◌, ◌^◌, ◌<◌, ◌≤◌, refl, sym, ◌∙◌, ap, ap₂, arith, List, [], ◌∷◌, ◌++◌, length, Option, Some, subst}
 use Rattle.std.proofs.Math.Pow.{pow_mono}
 use Rattle.std.proofs.Math.Nat.{lt_of_lt_of_le}
-use Rattle.std.proofs.Math.Seq.{take-suc}
 use Rattle.std.proofs.lemmas.Nat.{mod-pow-add, pow-add, pow_pos}
-use Rattle.std.proofs.lemmas.List.{length-append, length-take-le}
+use Rattle.std.proofs.lemmas.List.{length-append}
 use native.Mathlib.Nat.{mod-eq_of_lt, mul-suc, mul_assoc, mul_comm}
 use native.Mathlib.Numerals.{add-one}
 use Rattle.std.specs.Iterator.{Yields}
@@ -23,18 +22,28 @@ yields_append next_gives [] ys s t u same others = subst (λ p. Yields next_give
 yields_append next_gives (x ∷ xs) ys s t u begun others =
     (begun.0, begun.1, yields_append next_gives xs ys begun.0 t u begun.2 others)
 
--- one byte more, above the others
+-- a byte is worth 256 times as much as the one below it
+pub next_place : (n : ℕ) → 2 ^ (8 * suc n) ≡ 256 * 2 ^ (8 * n)
+next_place n = ap (λ (k : ℕ). 2 ^ k) (mul-suc 8 n ∙ omega arith) ∙ pow-add 2 8 (8 * n)
+
+-- bytes above others are worth more
+pub number-append : (xs ys : List ℕ) → number_of_bytes (xs ++ ys) ≡ number_of_bytes ys * 2 ^ (8 * length xs) + number_of_bytes xs
+unfolding number_of_bytes
+number-append [] ys = omega arith
+number-append (x ∷ xs) ys =
+    let n = number_of_bytes ys in
+    let worth : n * 2 ^ (8 * suc (length xs)) ≡ 256 * (n * 2 ^ (8 * length xs)) =
+    ap (λ (p : ℕ). n * p) (next_place (length xs)) ∙ sym (mul_assoc n 256 (2 ^ (8 * length xs)))
+    ∙ ap (λ (p : ℕ). p * 2 ^ (8 * length xs)) (mul_comm n 256) ∙ mul_assoc 256 n (2 ^ (8 * length xs)) in
+    let rest = number-append xs ys in
+    omega (arith, worth, rest)
+
+-- one byte more
 pub number-more : (bs : List ℕ) (b : ℕ) → number_of_bytes (bs ++ b ∷ []) ≡ b * 2 ^ (8 * length bs) + number_of_bytes bs
 unfolding number_of_bytes
-number-more [] b = omega arith
-number-more (c ∷ bs) b =
-    let place : 2 ^ (8 * suc (length bs)) ≡ 256 * 2 ^ (8 * length bs) =
-    ap (λ (k : ℕ). 2 ^ k) (mul-suc 8 (length bs) ∙ omega arith) ∙ pow-add 2 8 (8 * length bs) in
-    let worth : b * 2 ^ (8 * suc (length bs)) ≡ 256 * (b * 2 ^ (8 * length bs)) =
-    ap (λ (p : ℕ). b * p) place ∙ sym (mul_assoc b 256 (2 ^ (8 * length bs)))
-    ∙ ap (λ (p : ℕ). p * 2 ^ (8 * length bs)) (mul_comm b 256) ∙ mul_assoc 256 b (2 ^ (8 * length bs)) in
-    let rest = number-more bs b in
-    omega (arith, worth, rest)
+number-more bs b =
+    let one : b + 256 * 0 ≡ b = omega arith in
+    number-append bs (b ∷ []) ∙ ap (λ (n : ℕ). n * 2 ^ (8 * length bs) + number_of_bytes bs) one
 
 -- the bytes so far, from the state `start` to the state `now`, and their number
 pub record Reading {S : Type 0} (next_gives : S → Option ℕ → S → Type 0) (start : S) (i number : ℕ) (now : S) : Type 0 where
@@ -95,23 +104,3 @@ pub same_again : (count width a b : ℕ) (bytes : List ℕ) → a < 2 ^ width �
     → bytes ≡ low_bytes count a → b ≡ a
 same_again count width a b bytes fits room is same =
     is ∙ ap (λ ys. number_of_bytes ys % 2 ^ width) same ∙ given_back count width a fits room
-
--- ---- the bytes of a list, one after the other
-
--- the number of the first i bytes
-pub record FirstBytes (bytes : List ℕ) (i number : ℕ) : Type 0 where
-  pub below : number < 2 ^ (8 * i)
-  pub is : number ≡ number_of_bytes (take i bytes)
-
-pub first_none : (bytes : List ℕ) (number : ℕ) → number ≡ 0 → FirstBytes bytes 0 number
-unfolding number_of_bytes
-first_none bytes number none = record { below = subst (λ (n : ℕ). n < 2 ^ (8 * 0)) (sym none) (pow_pos 0); is = none }
-
-pub first_more : (bytes : List ℕ) (i number more b : ℕ) → FirstBytes bytes i number → i < length bytes → b ≡ get_or bytes i 0 → b < 2 ^ 8
-    → more ≡ b * 2 ^ (8 * i) + number → FirstBytes bytes (i + 1) more
-first_more bytes i number more b begun within at fits is = record {
-  below = more-lt 8 i more b number begun.below fits is;
-  is = is ∙ ap₂ (λ (n k : ℕ). b * 2 ^ (8 * k) + n) begun.is (sym (length-take-le i bytes (omega (arith, within))))
-      ∙ sym (number-more (take i bytes) b)
-      ∙ ap number_of_bytes (sym (ap (λ (k : ℕ). take k bytes) (add-one i) ∙ take-suc bytes i 0 within ∙ ap (λ y. take i bytes ++ y ∷ []) (sym at)));
-}

@@ -3,7 +3,7 @@ ghost use Rattle.std.specs.Prelude.{◌≤◌};
 ghost use Rattle.std.proofs.Common.{lit<, lit≤, subst};
 
 use crate::little_endian::{LittleEndian, read_byte, wide_of};
-use crate::reading::{word_from_iter, word_of_bytes};
+use crate::reading::word_from_iter;
 use crate::serializable::{Packable, RawDataSerializable};
 use bf_base::traits::TowerLevel;
 use bf_base::{Gf2, Kernel, Word};
@@ -39,7 +39,7 @@ impl<R: LittleEndian, K: Kernel<R>> RawDataSerializable for Element<R, K> {
 
     #[inline]
     fn from_le_bytes(bytes: R::Bytes) -> Element<R, K> {
-        element_of_word(word_of_bytes::<R>(R::slice_of(&bytes)))
+        element_of_word(R::from_bytes(bytes))
     }
 
     fn from_le_byte_iter<I: Iterator<Item = u8>>(iter: I) -> Option<Element<R, K>> {
@@ -80,7 +80,7 @@ impl RawDataSerializable for Gf2 {
 
     #[inline]
     fn from_le_bytes(bytes: [u8; 1]) -> Gf2 {
-        Gf2::from_repr(word_of_bytes::<u8>(&bytes))
+        Gf2::from_repr(u8::from_bytes(bytes))
     }
 
     fn from_le_byte_iter<I: Iterator<Item = u8>>(iter: I) -> Option<Gf2> {

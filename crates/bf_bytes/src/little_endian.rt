@@ -1,5 +1,5 @@
 // Stored words by their bytes, the lowest first.
-ghost use Rattle.std.specs.Prelude.{◌≡◌, ◌<◌, ◌≤◌, ◌+◌, ◌*◌, ◌^◌, ◌%◌, ℕ, List, length, refl};
+ghost use Rattle.std.specs.Prelude.{◌≡◌, ◌<◌, ◌≤◌, ◌+◌, ◌*◌, ◌^◌, ◌%◌, ℕ, List, refl};
 ghost use Rattle.std.proofs.Common.{lit<};
 ghost use Rattle.bf_base.specs.Chunks.{chunk};
 ghost use Rattle.bf_bytes.specs.Bytes.{low_bytes, number_of_bytes};
@@ -43,10 +43,9 @@ pub trait LittleEndian: Word {
     fn of_wide(n: u64) -> Self
         ensures { Self.number result ≡ n % 2 ^ Self.bits };
 
-    /// The bytes of an array as a slice.
-    fn slice_of(bytes: &Self::Bytes) -> &[u8]
-        ensures same { result.now ≡ listed bytes.now }
-        ensures long { length result.now ≡ SIZE };
+    /// The word of its bytes, the lowest first.
+    fn from_bytes(bytes: Self::Bytes) -> Self
+        ensures { Self.number result ≡ number_of_bytes (listed bytes) };
 
     ghost size_law: { Self.bits ≡ 8 * SIZE };
 
@@ -140,8 +139,10 @@ impl LittleEndian for u8 {
         u8::of_u128(u128::from(n))
     }
 
-    fn slice_of(bytes: &[u8; 1]) -> &[u8] {
-        bytes
+    #[inline]
+    #[tactic(auto, using(crate::proofs::WordBytes::of_one))]
+    fn from_bytes(bytes: [u8; 1]) -> u8 {
+        u8::from_le_bytes(bytes)
     }
 
     ghost size_law = { refl };
@@ -181,8 +182,10 @@ impl LittleEndian for u16 {
         u16::of_u128(u128::from(n))
     }
 
-    fn slice_of(bytes: &[u8; 2]) -> &[u8] {
-        bytes
+    #[inline]
+    #[tactic(auto, using(crate::proofs::WordBytes::of_two))]
+    fn from_bytes(bytes: [u8; 2]) -> u16 {
+        u16::from_le_bytes(bytes)
     }
 
     ghost size_law = { refl };
@@ -222,8 +225,10 @@ impl LittleEndian for u32 {
         u32::of_u128(u128::from(n))
     }
 
-    fn slice_of(bytes: &[u8; 4]) -> &[u8] {
-        bytes
+    #[inline]
+    #[tactic(auto, using(crate::proofs::WordBytes::of_four))]
+    fn from_bytes(bytes: [u8; 4]) -> u32 {
+        u32::from_le_bytes(bytes)
     }
 
     ghost size_law = { refl };
@@ -263,8 +268,10 @@ impl LittleEndian for u64 {
         u64::of_u128(u128::from(n))
     }
 
-    fn slice_of(bytes: &[u8; 8]) -> &[u8] {
-        bytes
+    #[inline]
+    #[tactic(auto, using(crate::proofs::WordBytes::of_eight))]
+    fn from_bytes(bytes: [u8; 8]) -> u64 {
+        u64::from_le_bytes(bytes)
     }
 
     ghost size_law = { refl };
@@ -304,8 +311,10 @@ impl LittleEndian for u128 {
         u128::of_u128(u128::from(n))
     }
 
-    fn slice_of(bytes: &[u8; 16]) -> &[u8] {
-        bytes
+    #[inline]
+    #[tactic(auto, using(crate::proofs::WordBytes::of_sixteen))]
+    fn from_bytes(bytes: [u8; 16]) -> u128 {
+        u128::from_le_bytes(bytes)
     }
 
     ghost size_law = { refl };

@@ -33,6 +33,18 @@ pub(crate) fn take_word<R: LittleEndian, I: Iterator<Item = u8>>(iter: &mut I) -
     (word, R::SIZE)
 }
 
+/// [`take_word`], out of the way of a caller that seldom needs it.
+#[cold]
+#[inline(never)]
+pub(crate) fn take_word_apart<R: LittleEndian, I: Iterator<Item = u8>>(iter: &mut I) -> (R, usize)
+    requires { I.can_next iter.old }
+    ensures taken { (bytes : List ℕ) × TakesUpTo I.next_gives iter.old R.SIZE bytes iter.new × (result.1 ≡ length bytes) × (R.number result.0 ≡ number_of_bytes bytes) }
+    ensures goes_on { result.1 ≡ R.SIZE → I.can_next iter.new }
+    ensures ends { IsFinite (I.remaining iter.old) → (result.1 ≤ size (I.remaining iter.old)) × (result.1 ≡ R.SIZE → IsFinite (I.remaining iter.new) × (size (I.remaining iter.new) + R.SIZE ≤ size (I.remaining iter.old))) }
+{
+    take_word(iter)
+}
+
 // The next byte of an iterator. A loop that calls `next` itself would have to know that the iterator ends.
 #[inline]
 fn next_byte<I: Iterator<Item = u8>>(iter: &mut I) -> Option<u8>
@@ -42,16 +54,4 @@ fn next_byte<I: Iterator<Item = u8>>(iter: &mut I) -> Option<u8>
     ensures fits { IfSome result (λ byte. byte < 2 ^ 8) }
 {
     iter.next()
-}
-
-/// The word of its bytes, the lowest first.
-pub(crate) fn word_of_bytes<R: LittleEndian>(bytes: &[u8]) -> R
-    requires { length bytes.now ≡ R.SIZE }
-    ensures { R.number result ≡ number_of_bytes bytes.now }
-{
-    let mut word = R::ZERO;
-    for i in 0..bytes.len() {
-        word = word.with_byte(i, bytes[i]);
-    }
-    word
 }

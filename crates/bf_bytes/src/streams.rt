@@ -6,7 +6,7 @@ ghost use Rattle.bf_bytes.specs.Streams.{byte_count, bytes_pending, GivesByte, I
 ghost use Rattle.bf_bytes.specs.Bytes.{low_bytes, number_of_bytes, TakesUpTo};
 
 use crate::little_endian::LittleEndian;
-use crate::reading::take_word;
+use crate::reading::{take_word, take_word_apart};
 use crate::serializable::RawDataSerializable;
 
 /// A source of bytes that are taken as whole words.
@@ -100,14 +100,16 @@ impl<I: Iterator<Item = E>, E: RawDataSerializable> Iterator for ByteStream<I, E
 }
 
 impl<I: Iterator<Item = E>, E: RawDataSerializable> ByteSource for ByteStream<I, E> {
-    // Words of eight bytes are taken at once where elements are made of such.
+    // Words of eight bytes are taken at once where elements are made of such. The bytes from within a word are taken out of line:
+    // with them in line the compiler does not see that an element gives its words one after the other.
     #[inline]
     fn take_word<W: LittleEndian>(&mut self) -> (W, usize) {
-        if W::SIZE != 8 || E::NUM_BYTES % 8 != 0 || self.given % 8 != 0 {
+        if W::SIZE != 8 || E::NUM_BYTES % 8 != 0 {
             return take_word::<W, ByteStream<I, E>>(self);
         }
         match self.pending {
-            Some(element) => (self.give_wide(element, self.given), 8),
+            Some(element) if self.given % 8 == 0 => (self.give_wide(element, self.given), 8),
+            Some(_) => take_word_apart::<W, ByteStream<I, E>>(self),
             None => match self.elements.next() {
                 Some(element) => (self.give_wide(element, 0), 8),
                 None => (W::ZERO, 0),

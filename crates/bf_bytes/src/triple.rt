@@ -95,8 +95,13 @@ impl LittleEndian for Triple {
         }
     }
 
-    fn slice_of(bytes: &[u8; 24]) -> &[u8] {
-        bytes
+    fn from_bytes(bytes: [u8; 24]) -> Triple {
+        let (words, _) = bytes[..].as_chunks::<8>();
+        Triple {
+            c0: u64::from_le_bytes(words[0]),
+            c1: u64::from_le_bytes(words[1]),
+            c2: u64::from_le_bytes(words[2]),
+        }
     }
 
     ghost size_law = { refl };
@@ -134,8 +139,8 @@ impl LittleEndian for Coefficients {
         Coefficients::of_words(Triple::of_wide(n))
     }
 
-    fn slice_of(bytes: &[u8; 24]) -> &[u8] {
-        bytes
+    fn from_bytes(bytes: [u8; 24]) -> Coefficients {
+        Coefficients::of_words(Triple::from_bytes(bytes))
     }
 
     ghost size_law = { refl };

@@ -1,4 +1,4 @@
-use Rattle.std.proofs.Common.{◌≡◌, ℕ, ◌*◌, ◌%◌, ◌^◌, ◌∙◌, ap, ap₂, arith}
+use Rattle.std.proofs.Common.{ℕ, ◌*◌, ◌%◌, ◌^◌, ◌∙◌, ap, ap₂, arith}
 use Rattle.bf_bytes.proofs.Wide.{none_after, word_of_eight}
 use Rattle.bf_bytes.proofs.streams.ByteStream.give_wide.Goals as goal
 

@@ -9,7 +9,7 @@ returns-in-Some-clause-taken g c =
     let s = c.args.self.now in
     let size = g.E.RawDataSerializable.NUM_BYTES in
     let words : size % 8 ≡ 0 = omega (arith, c.if-NUM_BYTES-ne0.false, c.NUM_BYTES.ensures) in
-    let whole : s.given % 8 ≡ 0 = omega (arith, c.if-self-ne0.false) in
+    let whole : s.given % 8 ≡ 0 = omega (arith, c.if-self-eq0.true) in
     let within : s.given < size = subst (λ p. IsWithin size p s.given) c.in-Some.is c.requires.1 in
     word_taken g.I.Iterator.next_gives size g.E.Represented.repr s c.give_wide.new.self c.in-Some.element s.given s.elements
     (comes_pending g.I.Iterator.next_gives size g.E.Represented.repr s c.in-Some.element c.in-Some.is) (room_within size s.given words whole within)
@@ -20,7 +20,7 @@ returns-in-Some-clause-ends g c =
     let s = c.args.self.now in
     let size = g.E.RawDataSerializable.NUM_BYTES in
     let words : size % 8 ≡ 0 = omega (arith, c.if-NUM_BYTES-ne0.false, c.NUM_BYTES.ensures) in
-    let whole : s.given % 8 ≡ 0 = omega (arith, c.if-self-ne0.false) in
+    let whole : s.given % 8 ≡ 0 = omega (arith, c.if-self-eq0.true) in
     let within : s.given < size = subst (λ p. IsWithin size p s.given) c.in-Some.is c.requires.1 in
     less_pending g.I.Iterator.next_gives size g.E.Represented.repr g.I.Iterator.remaining s c.give_wide.new.self c.in-Some.element g.W.LittleEndian.SIZE
     (omega (arith, c.if-SIZE-ne8.false, c.SIZE.ensures)) c.in-Some.is (room_within size s.given words whole within) c.give_wide.ensures.source
