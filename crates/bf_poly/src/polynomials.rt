@@ -20,8 +20,8 @@ use std::marker::PhantomData;
 /// The field of polynomials modulo `M`, which is the level `L` of the tower in another basis.
 pub struct Polynomials<M, L>(PhantomData<M>, PhantomData<L>);
 
-// From so many squarings on the way through the tower is faster.
-const MANY_SQUARINGS: usize = 16;
+// From so many squarings on the way through the tower is faster, in both fields of polynomials.
+const MANY_SQUARINGS: usize = 8;
 
 impl<R: Unsigned, L: Level<R>, M: Modulus<R, L>> Kernel<R> for Polynomials<M, L> {
     ghost width = { M.width };
