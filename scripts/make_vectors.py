@@ -38,8 +38,9 @@ PARTS = [(128, 64), (128, 8), (64, 32), (64, 8), (32, 16), (16, 8), (256, 128), 
 # The fields and the lengths of the streams, and the pairs of levels and how many of their views.
 STREAMED = ["gf2", "t4", "t16", "t32", "p64", "g128", "p192"]
 STREAMS = [0, 3, 5]
-VIEWED = [("t16", "t8"), ("t32", "t16"), ("t64", "t8"), ("t128", "t64")]
-VIEWS = 3
+LEVELS = ["t8", "t16", "t32", "t64", "t128"]
+VIEWED = [(upper, lower) for upper in LEVELS for lower in LEVELS[: LEVELS.index(upper)]]
+VIEWS = 2
 SUBFIELD = 6
 # The operators between two fields: their name, and in how many ways each is computed. A sum is a difference too.
 OPERATORS = {"*": ("products", 2), "+": ("sums", 5), "-": ("sums", 5)}
@@ -103,7 +104,7 @@ CALLS = {
     "rows of bits": 66,
     "packings": 18,
     "streams": 77,
-    "views": 60,
+    "views": 92,
     "no calls": 33,
 }
 HEAD = """\

@@ -38,7 +38,6 @@ use crate::algebras::{ghash_call, poly64_call};
 use crate::fault::Fault;
 use crate::fields::{field_call, value_at_x};
 use crate::streams::level_call;
-use crate::views::view_call;
 use bf_base::Gf2;
 use bf_element::{
     BinaryField2, BinaryField4, BinaryField8, BinaryField16, BinaryField32, BinaryField64,
@@ -61,11 +60,6 @@ fn answer(alloc: Global, name: &str, call: &[&str]) -> Result<Vec<u128>, Fault> 
         "g128/t32" => ghash_call::<u32, Bits32>(alloc, call),
         "g128/t64" => ghash_call::<u64, Bits64>(alloc, call),
         "g128/t128" => ghash_call::<u128, Bits128>(alloc, call),
-        "t16/t8" => view_call::<BinaryField16, BinaryField8>(alloc, call),
-        "t32/t16" => view_call::<BinaryField32, BinaryField16>(alloc, call),
-        "t64/t8" => view_call::<BinaryField64, BinaryField8>(alloc, call),
-        "t128/t64" => view_call::<BinaryField128, BinaryField64>(alloc, call),
-        "t128/t2" => view_call::<BinaryField128, BinaryField2>(alloc, call),
         "streams/gf2" => level_call::<Gf2>(alloc, call),
         "streams/t4" => level_call::<BinaryField4>(alloc, call),
         "streams/t16" => level_call::<BinaryField16>(alloc, call),
@@ -88,6 +82,7 @@ fn answer(alloc: Global, name: &str, call: &[&str]) -> Result<Vec<u128>, Fault> 
         | "to_matrix" => bytes::mapped(alloc, name, call),
         "transpose" | "interleave" | "parts" => bits::rearranged(alloc, name, call),
         "byte_lanes" | "ghash_lanes" => packed::computed(alloc, name, call),
+        _ if name.contains('/') => views::viewed(alloc, name, call),
         _ => Ok(vec![in alloc; number(alloc, name, call)?]?),
     }
 }

@@ -2,11 +2,32 @@
 use crate::fault::Fault;
 use crate::reading::{count, element, number_of};
 use bf_base::traits::TowerLevel;
+use bf_element::{
+    BinaryField2, BinaryField8, BinaryField16, BinaryField32, BinaryField64, BinaryField128,
+};
 use bf_space::{BasedVectorSpace, ExtensionField, HasFrobenius};
 use std::alloc::Global;
 
+/// The answer to a call of a level and a smaller one, whose names the call's has with a stroke between them.
+pub(crate) fn viewed(alloc: Global, name: &str, call: &[&str]) -> Result<Vec<u128>, Fault> {
+    match name {
+        "t16/t8" => view_call::<BinaryField16, BinaryField8>(alloc, call),
+        "t32/t8" => view_call::<BinaryField32, BinaryField8>(alloc, call),
+        "t32/t16" => view_call::<BinaryField32, BinaryField16>(alloc, call),
+        "t64/t8" => view_call::<BinaryField64, BinaryField8>(alloc, call),
+        "t64/t16" => view_call::<BinaryField64, BinaryField16>(alloc, call),
+        "t64/t32" => view_call::<BinaryField64, BinaryField32>(alloc, call),
+        "t128/t8" => view_call::<BinaryField128, BinaryField8>(alloc, call),
+        "t128/t16" => view_call::<BinaryField128, BinaryField16>(alloc, call),
+        "t128/t32" => view_call::<BinaryField128, BinaryField32>(alloc, call),
+        "t128/t64" => view_call::<BinaryField128, BinaryField64>(alloc, call),
+        "t128/t2" => view_call::<BinaryField128, BinaryField2>(alloc, call),
+        _ => Err(Fault::Line),
+    }
+}
+
 /// What a view of an element over a smaller level gives, or an operator with an element of it on the right.
-pub(crate) fn view_call<U, L>(alloc: Global, call: &[&str]) -> Result<Vec<u128>, Fault>
+fn view_call<U, L>(alloc: Global, call: &[&str]) -> Result<Vec<u128>, Fault>
 where
     U: HasFrobenius<L> + TowerLevel,
     L: TowerLevel,
