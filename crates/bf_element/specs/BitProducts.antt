@@ -1,5 +1,5 @@
 -- Bits in a field, where they are the numbers 0 and 1. It stands here since an implementation of a trait cites it.
-use Rattle.std.proofs.Common.{◌≡◌, ℕ, ◌^◌, ◌<◌, ◌≤◌, refl, sym, ◌∙◌, arith}
+use Rattle.std.proofs.Common.{◌≡◌, ℕ, ◌^◌, ◌<◌, sym, ◌∙◌}
 use Rattle.std.proofs.lemmas.Nat.{pow_below}
 use native.Mathlib.Nat.{mod-eq_of_lt}
 use Rattle.bf_base.specs.BitRing.{two_cases}

@@ -12,6 +12,34 @@ fn prints<E: Display + Copy>(alloc: Global, element: E, want: &str) -> bool {
     }
 }
 
+// Numbers whose last 19 digits begin with zeros, and the greatest.
+#[test]
+fn numbers_of_several_groups(rt: HostRuntime) {
+    let alloc = rt.alloc();
+    assert!(rt;
+        prints(alloc, Ghash128::from_repr(1 << 64), "18446744073709551616")
+            && prints(
+                alloc,
+                Ghash128::from_repr(100_000_000_000_000_000_000_000_000_000_000_000_007),
+                "100000000000000000000000000000000000007"
+            )
+            && prints(
+                alloc,
+                Ghash128::from_repr(u128::MAX),
+                "340282366920938463463374607431768211455"
+            )
+    );
+    match format!(in alloc;
+        "{:<5}|{:+}|{:04}",
+        Poly64::new(7),
+        Poly64::new(7),
+        Poly64::new(7)
+    ) {
+        Ok(text) => assert!(rt; text.as_str() == "7    |+7|0007"),
+        Err(_) => assert!(rt; false),
+    }
+}
+
 #[test]
 fn elements_as_text(rt: HostRuntime) {
     let alloc = rt.alloc();

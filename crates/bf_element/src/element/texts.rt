@@ -1,10 +1,12 @@
-// Elements as text, and as numbers for `serde`: those of the word that stores them.
-ghost use Rattle.std.specs.Prelude.{◌≡◌, ◌<◌, ◌^◌, ◌↔◌, IfOk, IfSome, IsSome};
+// Elements as text, and as numbers for `serde`.
+ghost use Rattle.std.specs.Prelude.{◌≡◌, ◌<◌, ◌^◌, ◌↔◌, IfOk, IfSome, IsSome, Some};
+ghost use Rattle.std.specs.Fmt.{decimal, styled_decimal};
 ghost use Rattle.bf_poly192.specs.Steps.{GivesEach};
 
-use crate::element::Element;
-use bf_base::{Kernel, Word};
+use crate::element::{Coefficients, Element};
+use bf_base::{Kernel, Unsigned, Word};
 use bf_poly192::ReadWord;
+use bf_texts::write_decimal;
 use serde::{
     Described, Deserialize, DeserializeOwned, Deserializer, Format, Serialize, Serializer,
 };
@@ -12,11 +14,20 @@ use std::alloc::Global;
 use std::fmt;
 use std::marker::PhantomData;
 
-// The representation in decimal, and of the cubic extension `A + B*y + C*y^2`.
-impl<R: Word + fmt::Display, K: Kernel<R>> fmt::Display for Element<R, K> {
-    ghost output = { λ x. R.output x.repr };
+// The representation in decimal.
+impl<R: Unsigned, K: Kernel<R>> fmt::Display for Element<R, K> {
+    ghost output = { λ x. Some (decimal (R.number x.repr)) };
 
-    ghost styled_output = { λ x s. R.styled_output x.repr s };
+    ghost styled_output = { λ x s. Some (styled_decimal s (R.number x.repr)) };
+
+    fn fmt<W: fmt::Write>(&self, f: &mut fmt::Formatter<W>) -> fmt::Result {
+        write_decimal(self.repr.to_u128(), f)
+    }
+}
+
+// The cubic extension, as `A + B*y + C*y^2`.
+impl<K: Kernel<Coefficients>> fmt::Display for Element<Coefficients, K> {
+    ghost output = { λ x. ⟦<Coefficients as fmt::Display>⟧.output x.repr };
 
     fn fmt<W: fmt::Write>(&self, f: &mut fmt::Formatter<W>) -> fmt::Result {
         fmt::Display::fmt(&self.repr, f)
