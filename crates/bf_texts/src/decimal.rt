@@ -11,7 +11,7 @@ const DIGITS: usize = 40;
 // The greatest power of ten of 64 bits.
 const GROUP: u128 = 10_000_000_000_000_000_000;
 
-// What 2^64 is more than `GROUP`, in parts of `GROUP` / 2^64, rounded down.
+// 2^64 is `GROUP` times 1 + `FRACTION` / 2^64, which is rounded down.
 const FRACTION: u128 = 15_581_492_618_384_294_730;
 
 /// Writes `n` in decimal under the options of `f`, as `Display` of an integer does. An error is the writer's.
