@@ -1,13 +1,13 @@
 -- The tables of GF(2^8), each checked whole by computation, and the rule that each follows.
-use Rattle.std.proofs.Common.{◌≡◌, ◌≢◌, ℕ, zero, suc, ◌+◌, ◌<◌, Bool, true, ◌&&◌, eqb, ltb, drop, get_or, refl, sym, ◌∙◌, ap, ap₂, arith, lit<}
+use Rattle.std.proofs.Common.{◌≡◌, ◌≢◌, ℕ, zero, suc, ◌+◌, ◌-◌, ◌<◌, Bool, true, ◌&&◌, eqb, ltb, drop, get_or, refl, sym, ◌∙◌, ap, ap₂, arith, lit<}
 use Rattle.std.proofs.lemmas.Bool.{and_parts, eqb-true, ltb-true}
 use Rattle.std.specs.Prelude.{slice_index}
 use Rattle.bf_base.specs.Quadratic.{quadratic}
 use Rattle.bf_base.specs.Tower.{root, tower_mul}
 use Rattle.bf_base.proofs.RingLemmas.{times-zero, zero-times}
-use Rattle.bf_base.proofs.PowerLemmas.{power-add}
+use Rattle.bf_base.proofs.PowerLemmas.{one-times, power-add}
 use Rattle.bf_base.proofs.TowerRing.{tower_ring}
-use Rattle.bf_tables.specs.Tables.{EntriesArePowers, EntriesAreLogarithms}
+use Rattle.bf_tables.specs.Tables.{EntriesArePowers, EntriesAreLogarithms, power_of_generator}
 use Rattle.bf_tables.specs.declared.tables.literals.TheConstants.{EXP, INVERSES, LOG, ROOTS, ROOT_PRODUCTS, SQUARES}
 use Rattle.bf_base.proofs.TableChecks.{passes, passes_at, tabulates, tabulates_at, repeats, repeats_at}
 
@@ -49,6 +49,27 @@ product_of_logarithms a b a_fits b_fits a_nonzero b_nonzero =
     entries_are_powers (slice_index LOG a + slice_index LOG b) (omega (arith, of_a.0, of_b.0))
     ∙ power-add 8 1 (tower_mul 3) (tower_ring 3) (lit< tt) 0x13 (slice_index LOG a) (slice_index LOG b)
     ∙ ap₂ (tower_mul 3) of_a.1 of_b.1
+
+-- the order of 0x13 divides 255
+order : power_of_generator 255 ≡ 1
+order = sym (entries_are_powers 255 (lit< tt))
+
+-- the entry at the difference of two logarithms, to which the order is added, is the quotient
+pub quotient_of_logarithms : (a d : ℕ) → a < 256 → d < 256 → a ≢ 0 → d ≢ 0
+    → tower_mul 3 d (slice_index EXP (slice_index LOG a + (255 - slice_index LOG d))) ≡ a
+quotient_of_logarithms a d a_fits d_fits a_nonzero d_nonzero =
+    let of_a = entries_are_logarithms a (omega arith) a_fits in
+    let of_d = entries_are_logarithms d (omega arith) d_fits in
+    let difference = slice_index LOG a + (255 - slice_index LOG d) in
+    let whole : slice_index LOG d + difference ≡ 255 + slice_index LOG a = omega (arith, of_d.0) in
+    let sum_of : (m n : ℕ) → power_of_generator (m + n) ≡ tower_mul 3 (power_of_generator m) (power_of_generator n) =
+    power-add 8 1 (tower_mul 3) (tower_ring 3) (lit< tt) 0x13 in
+    ap₂ (tower_mul 3) (sym of_d.1) (entries_are_powers difference (omega (arith, of_a.0)))
+    ∙ sym (sum_of (slice_index LOG d) difference)
+    ∙ ap power_of_generator whole
+    ∙ sum_of 255 (slice_index LOG a)
+    ∙ ap₂ (tower_mul 3) order of_a.1
+    ∙ one-times 8 1 (tower_mul 3) (tower_ring 3) a a_fits
 
 pub tower_mul_8-zero : (a : ℕ) → tower_mul 3 a 0 ≡ 0
 tower_mul_8-zero a = times-zero 8 1 (tower_mul 3) (tower_ring 3) a

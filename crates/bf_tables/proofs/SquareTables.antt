@@ -1,5 +1,5 @@
 -- The byte tables of squares and of square roots, each checked whole by computation, and what their sums are.
-use Rattle.std.proofs.Common.{◌≡◌, ℕ, ◌^◌, ◌<◌, true, refl, sym, ◌∙◌, ap, ap₂, lit≤}
+use Rattle.std.proofs.Common.{◌≡◌, ℕ, ◌^◌, ◌<◌, true, refl, sym, ◌∙◌, ap, ap₂}
 use Rattle.std.specs.Prelude.{bit_xor}
 use native.Mathlib.Nat.{mod-eq_of_lt}
 use Rattle.bf_base.specs.Tower.{tower_mul}

@@ -65,6 +65,19 @@ pub fn multiply_8(a: u8, b: u8) -> u8
     if a == 0 || b == 0 { 0 } else { product }
 }
 
+/// The quotient of an element of GF(2^8) by a divisor, which must not be 0: 0x13 to the power of the difference of their
+/// logarithms, to which the order 255 of 0x13 is added, and 0 where `a` is 0, which has no logarithm.
+#[inline]
+pub fn divide_8(a: u8, divisor: u8) -> u8
+    requires { divisor ≢ 0 }
+    ensures { tower_mul 3 divisor result ≡ a }
+{
+    let quotient = power_entry(
+        logarithm_entry(a) as usize + (255 - logarithm_entry(divisor) as usize),
+    );
+    if a == 0 { 0 } else { quotient }
+}
+
 /// The square of an element of GF(2^8).
 #[inline]
 pub fn square_8(a: u8) -> u8
