@@ -9,12 +9,11 @@ use Rattle.bf_base.specs.Norm.{conjugate, norm}
 use Rattle.bf_base.specs.Powers.{repeated_square}
 use Rattle.bf_base.specs.Quadratic.{low_half, high_half, pair}
 use Rattle.bf_base.specs.Tower.{root, tower_mul}
-use Rattle.bf_base.proofs.Norms.{norm-of_zero}
-use Rattle.bf_base.proofs.QuadraticProducts.{pair-low}
+use Rattle.bf_base.proofs.PowerLemmas.{times-one}
 use Rattle.bf_base.proofs.QuadraticRing.{low_half-lt, high_half-lt, low_half-pair, high_half-pair, pair-halves, pair-lt}
-use Rattle.bf_base.proofs.RingLemmas.{times-zero, times_left_comm}
+use Rattle.bf_base.proofs.RingLemmas.{times_left_comm}
 use Rattle.bf_base.proofs.TowerFrobenius.{tower_repeated_square-half}
-use Rattle.bf_base.proofs.TowerInverse.{tower_norm-lt, tower_norm-zero, tower_mul-conjugate_over_norm}
+use Rattle.bf_base.proofs.TowerInverse.{tower_inverse, tower_norm-lt, tower_norm-zero, tower_mul-conjugate_over_norm, tower_mul-inverse}
 use Rattle.bf_base.proofs.TowerProducts.{tower_mul-square, tower_mul-root_suc}
 use Rattle.bf_base.proofs.TowerRing.{tower_ring, bits_double}
 
@@ -84,28 +83,38 @@ norm_by_conjugate k a0 a1 =
     ((tower_ring k).over_sum a0 a0 (tower_mul k (root k) a1)
     ∙ ap (bit_xor (tower_mul k a0 a0)) (times_left_comm (2 ^ k) 1 (tower_mul k) (tower_ring k) a0 (root k) a1))
 
--- of 0 the inverse of the norm is 0, and so are both halves
-pub inverse_of_zero : (k a norm' over_norm x y r : ℕ) → norm' ≡ norm (2 ^ k) (tower_mul k) (root k) a
-    → (norm' ≡ 0 → over_norm ≡ 0) → r ≡ pair (2 ^ k) (tower_mul k x over_norm) (tower_mul k y over_norm) → a ≡ 0 → r ≡ 0
-inverse_of_zero k a norm' over_norm x y r is_norm zero_over is_pair zero =
+-- the product by the inverse of a divisor is the quotient
+pub product_of_inverse : (k d over x r : ℕ) → x < 2 ^ 2 ^ k → tower_mul k d over ≡ 1 → r ≡ tower_mul k x over
+    → tower_mul k d r ≡ x
+product_of_inverse k d over x r fits inverts is =
     let ring = tower_ring k in
-    let none =
-    zero_over (is_norm ∙ ap (norm (2 ^ k) (tower_mul k) (root k)) zero ∙ norm-of_zero (2 ^ k) (tower_mul k) ring (root k)) in
-    is_pair ∙ ap (λ (n : ℕ). pair (2 ^ k) (tower_mul k x n) (tower_mul k y n)) none
-    ∙ ap₂ (pair (2 ^ k)) (times-zero (2 ^ k) 1 (tower_mul k) ring x) (times-zero (2 ^ k) 1 (tower_mul k) ring y)
-    ∙ pair-low (2 ^ k) 0
+    ap (tower_mul k d) is ∙ times_left_comm (2 ^ k) 1 (tower_mul k) ring d x over ∙ ap (tower_mul k x) inverts
+    ∙ times-one (2 ^ k) 1 (tower_mul k) ring x fits
 
-pub inverse_of_nonzero : (k a norm' over_norm r : ℕ) → a < 2 ^ 2 ^ suc k → norm' ≡ norm (2 ^ k) (tower_mul k) (root k) a
-    → (norm' ≢ 0 → tower_mul k norm' over_norm ≡ 1)
-    → r ≡ pair (2 ^ k)
-    (tower_mul k (bit_xor (low_half (2 ^ k) a) (tower_mul k (root k) (high_half (2 ^ k) a))) over_norm)
-    (tower_mul k (high_half (2 ^ k) a) over_norm)
-    → a ≢ 0 → tower_mul (suc k) a r ≡ 1
-inverse_of_nonzero k a norm' over_norm r fits is_norm inverts is_pair nonzero =
-    ap (tower_mul (suc k) a) is_pair
-    ∙ tower_mul-conjugate_over_norm k a over_norm
-    (ap (λ (n : ℕ). tower_mul k n over_norm) (sym is_norm)
-    ∙ inverts (λ none. nonzero (tower_norm-zero k a fits (sym is_norm ∙ none))))
+-- the quotient is the product by the inverse of the divisor
+quotient_is : (k d over x q : ℕ) → q < 2 ^ 2 ^ k → tower_mul k d over ≡ 1 → tower_mul k d q ≡ x → q ≡ tower_mul k x over
+quotient_is k d over x q fits inverts is =
+    let ring = tower_ring k in
+    sym (times-one (2 ^ k) 1 (tower_mul k) ring q fits) ∙ ap (tower_mul k q) (sym inverts)
+    ∙ times_left_comm (2 ^ k) 1 (tower_mul k) ring q d over ∙ sym (ring.assoc d q over)
+    ∙ ap (λ (y : ℕ). tower_mul k y over) is
+
+pub norm_is_nonzero : (k a norm' : ℕ) → a < 2 ^ 2 ^ suc k → norm' ≡ norm (2 ^ k) (tower_mul k) (root k) a → a ≢ 0 → norm' ≢ 0
+norm_is_nonzero k a norm' fits is_norm nonzero none = nonzero (tower_norm-zero k a fits (sym is_norm ∙ none))
+
+-- the quotients of the halves of the conjugate by the norm are the halves of the inverse
+pub inverse_of_quotients : (k a norm' q0 q1 r : ℕ) → a < 2 ^ 2 ^ suc k → norm' ≡ norm (2 ^ k) (tower_mul k) (root k) a
+    → q0 < 2 ^ 2 ^ k → q1 < 2 ^ 2 ^ k
+    → tower_mul k norm' q0 ≡ bit_xor (low_half (2 ^ k) a) (tower_mul k (root k) (high_half (2 ^ k) a))
+    → tower_mul k norm' q1 ≡ high_half (2 ^ k) a
+    → r ≡ pair (2 ^ k) q0 q1 → a ≢ 0 → tower_mul (suc k) a r ≡ 1
+inverse_of_quotients k a norm' q0 q1 r fits is_norm q0_fits q1_fits first second is_pair nonzero =
+    let over = tower_inverse k norm' in
+    let norm_fits = norm_is_element k a norm' is_norm in
+    let inverts = tower_mul-inverse k norm' norm_fits (norm_is_nonzero k a norm' fits is_norm nonzero) in
+    ap (tower_mul (suc k) a)
+    (is_pair ∙ ap₂ (pair (2 ^ k)) (quotient_is k norm' over _ q0 q0_fits inverts first) (quotient_is k norm' over _ q1 q1_fits inverts second))
+    ∙ tower_mul-conjugate_over_norm k a over (ap (λ (n : ℕ). tower_mul k n over) (sym is_norm) ∙ inverts)
 
 -- ---- the level by its number
 

@@ -1,5 +1,5 @@
 -- Repeated squares by tables: they are computed in words of 128 bits, at a level whose elements fit its own words.
-use Rattle.std.proofs.Common.{◌≡◌, ℕ, ◌%◌, ◌^◌, ◌<◌, ◌≤◌, sym, ◌∙◌, ap, ap₂, subst, lit<}
+use Rattle.std.proofs.Common.{◌≡◌, ℕ, ◌%◌, ◌^◌, ◌<◌, ◌≤◌, ◌∙◌, ap, ap₂, lit<}
 use native.Mathlib.Nat.{lt_of_lt_of_le, mod-eq_of_lt, pow-le-pow_right}
 use Rattle.bf_base.specs.Powers.{repeated_square}
 use Rattle.bf_base.specs.Tower.{tower_mul}

@@ -6,7 +6,7 @@ ghost use Rattle.std.proofs.Common.{lit≤};
 use crate::extension::Extension;
 use crate::level::Level;
 use crate::quadratic;
-use bf_tables::{invert_8, multiply_8, multiply_by_root_8, sqrt_8, square_8};
+use bf_tables::{divide_8, invert_8, multiply_8, multiply_by_root_8, sqrt_8, square_8};
 
 /// The level of 1 bit, GF(2), on which the others are built.
 pub struct Bits1;
@@ -289,6 +289,11 @@ impl Level<u8> for Bits8 {
     #[inline]
     fn invert(x: u8) -> u8 {
         invert_8(x)
+    }
+
+    #[inline]
+    fn divide_both(x: u8, y: u8, divisor: u8) -> (u8, u8) {
+        (divide_8(x, divisor), divide_8(y, divisor))
     }
 
     #[inline]

@@ -55,6 +55,26 @@ pub trait Level<R: Unsigned> {
         ensures zero { R.number x ≡ 0 → R.number result ≡ 0 }
         ensures inverse { R.number x ≢ 0 → tower_mul LEVEL (R.number x) (R.number result) ≡ 1 };
 
+    /// The quotients of two elements by a divisor, which must not be 0.
+    #[inline]
+    #[tactic(auto, using(crate::proofs::Halves::product_lt, crate::proofs::Halves::product_of_inverse))]
+    fn divide_both(x: R, y: R, divisor: R) -> (R, R)
+        requires first { R.number x < 2 ^ 2 ^ LEVEL }
+        requires second { R.number y < 2 ^ 2 ^ LEVEL }
+        requires divisor { R.number divisor < 2 ^ 2 ^ LEVEL }
+        requires nonzero { R.number divisor ≢ 0 }
+        ensures first_fits { R.number result.0 < 2 ^ 2 ^ LEVEL }
+        ensures second_fits { R.number result.1 < 2 ^ 2 ^ LEVEL }
+        ensures first { tower_mul LEVEL (R.number divisor) (R.number result.0) ≡ R.number x }
+        ensures second { tower_mul LEVEL (R.number divisor) (R.number result.1) ≡ R.number y }
+    {
+        let over_divisor = Self::invert(divisor);
+        (
+            Self::multiply(x, over_divisor),
+            Self::multiply(y, over_divisor),
+        )
+    }
+
     /// The square root of an element, whose square is the element.
     fn sqrt(x: R) -> R
         requires { R.number x < 2 ^ 2 ^ LEVEL }

@@ -111,7 +111,7 @@ pub fn norm_of<R: Unsigned, E: Extension<R>>(a: R) -> E::Half
 /// The inverse of an element, its conjugate (a0 + t a1) + a1 X over its norm, and 0 for 0. The norm of an element but 0 is
 /// not 0.
 #[inline]
-#[tactic(auto, using(crate::proofs::Halves::product_lt, crate::proofs::Halves::norm_is_element))]
+#[tactic(auto, using(crate::proofs::Halves::product_lt, crate::proofs::Halves::sum_lt, crate::proofs::Halves::high_lt, crate::proofs::Halves::norm_is_element))]
 pub fn invert<R: Unsigned, E: Extension<R>>(a: R) -> R
     requires { R.number a < 2 ^ 2 ^ suc E.Below.LEVEL }
     ensures fits { R.number result < 2 ^ 2 ^ suc E.Below.LEVEL }
@@ -122,9 +122,7 @@ pub fn invert<R: Unsigned, E: Extension<R>>(a: R) -> R
         return R::ZERO;
     }
     let (low, high) = (E::low(a), E::high(a));
-    let over_norm = E::Below::invert(norm_of::<R, E>(a));
-    E::join(
-        E::Below::multiply(low.xor(E::Below::multiply_by_root(high)), over_norm),
-        E::Below::multiply(high, over_norm),
-    )
+    let conjugate_low = low.xor(E::Below::multiply_by_root(high));
+    let halves = E::Below::divide_both(conjugate_low, high, norm_of::<R, E>(a));
+    E::join(halves.0, halves.1)
 }

@@ -1,6 +1,4 @@
-use Rattle.std.proofs.Common.{◌≡◌, ℕ, ◌^◌, ◌<◌, sym, ◌∙◌, subst}
-use Rattle.bf_base.specs.Powers.{repeated_square}
-use Rattle.bf_base.specs.Tower.{tower_mul}
+use Rattle.std.proofs.Common.{ℕ, ◌^◌, ◌<◌, sym, ◌∙◌, subst}
 use Rattle.bf_base.proofs.TowerLaws.{squarings_none}
 use Rattle.bf_tower.proofs.Squarings.{squarings_in_word, squarings_lt}
 use Rattle.bf_tower.proofs.tower.square_by_tables.Goals as goal
