@@ -2,8 +2,4 @@
 #![tactic(auto)]
 
 #[cfg(test)]
-mod matrices;
-#[cfg(test)]
-mod products;
-#[cfg(test)]
-mod sbox;
+mod tests;

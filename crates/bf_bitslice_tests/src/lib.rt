@@ -3,14 +3,4 @@
 #![tactic(auto)]
 
 #[cfg(test)]
-mod closures;
-#[cfg(test)]
-mod memory;
-#[cfg(test)]
-mod parts;
-#[cfg(test)]
-mod rows;
-#[cfg(test)]
-mod squares;
-#[cfg(test)]
-mod text;
+mod tests;

@@ -3,10 +3,4 @@
 #![tactic(auto)]
 
 #[cfg(test)]
-mod guarded;
-#[cfg(test)]
-mod hash_challenger;
-#[cfg(test)]
-mod memory;
-#[cfg(test)]
-mod sha256;
+mod tests;

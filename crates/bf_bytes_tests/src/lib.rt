@@ -3,10 +3,4 @@
 #![tactic(auto)]
 
 #[cfg(test)]
-mod bytes;
-#[cfg(test)]
-mod parallel;
-#[cfg(test)]
-mod short;
-#[cfg(test)]
-mod streams;
+mod tests;

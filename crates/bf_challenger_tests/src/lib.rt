@@ -3,20 +3,4 @@
 #![tactic(auto)]
 
 #[cfg(test)]
-mod calls;
-#[cfg(test)]
-mod doubles;
-#[cfg(test)]
-mod grinding;
-#[cfg(test)]
-mod hashed;
-#[cfg(test)]
-mod lengths;
-#[cfg(test)]
-mod many_calls;
-#[cfg(test)]
-mod memory;
-#[cfg(test)]
-mod scripts;
-#[cfg(test)]
-mod texts;
+mod tests;

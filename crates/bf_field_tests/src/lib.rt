@@ -3,24 +3,4 @@
 #![tactic(auto)]
 
 #[cfg(test)]
-mod debug;
-#[cfg(test)]
-mod evaluate;
-#[cfg(test)]
-mod fields;
-#[cfg(test)]
-mod generators;
-#[cfg(test)]
-mod polynomial_128;
-#[cfg(test)]
-mod polynomial_64;
-#[cfg(test)]
-mod roots_of_levels;
-#[cfg(test)]
-mod tower_high;
-#[cfg(test)]
-mod tower_low;
-#[cfg(test)]
-mod tower_middle;
-#[cfg(test)]
-mod two_routes;
+mod tests;

@@ -3,10 +3,4 @@
 #![tactic(auto)]
 
 #[cfg(test)]
-mod change_of_basis;
-#[cfg(test)]
-mod linear_map;
-#[cfg(test)]
-mod mixed_operands;
-#[cfg(test)]
-mod numbers;
+mod tests;

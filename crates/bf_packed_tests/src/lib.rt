@@ -3,14 +3,4 @@
 #![tactic(auto)]
 
 #[cfg(test)]
-mod bytes;
-#[cfg(test)]
-mod ghash;
-#[cfg(test)]
-mod lanes;
-#[cfg(test)]
-mod maps;
-#[cfg(test)]
-mod operators;
-#[cfg(test)]
-mod quotients;
+mod tests;

@@ -3,8 +3,4 @@
 #![tactic(auto)]
 
 #[cfg(test)]
-mod memory;
-#[cfg(test)]
-mod packing;
-#[cfg(test)]
-mod rings;
+mod tests;

@@ -3,8 +3,4 @@
 #![tactic(auto)]
 
 #[cfg(test)]
-mod drawn;
-#[cfg(test)]
-mod low_stages;
-#[cfg(test)]
-mod slices;
+mod tests;

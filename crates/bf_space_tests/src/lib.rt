@@ -4,12 +4,4 @@
 #![tactic(auto)]
 
 #[cfg(test)]
-mod generator;
-#[cfg(test)]
-mod memory;
-#[cfg(test)]
-mod products;
-#[cfg(test)]
-mod vectors;
-#[cfg(test)]
-mod views;
+mod tests;

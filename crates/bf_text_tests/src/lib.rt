@@ -3,8 +3,4 @@
 #![tactic(auto)]
 
 #[cfg(test)]
-mod draws;
-#[cfg(test)]
-mod numbers;
-#[cfg(test)]
-mod texts;
+mod tests;

@@ -3,12 +3,4 @@
 #![tactic(auto)]
 
 #[cfg(test)]
-mod carryless;
-#[cfg(test)]
-mod change_of_basis;
-#[cfg(test)]
-mod linear_maps;
-#[cfg(test)]
-mod tower_tables;
-#[cfg(test)]
-mod two_elements;
+mod tests;

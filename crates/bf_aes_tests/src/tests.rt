@@ -1,0 +1,3 @@
+mod matrices;
+mod products;
+mod sbox;

@@ -1,0 +1,6 @@
+mod closures;
+mod memory;
+mod parts;
+mod rows;
+mod squares;
+mod text;

@@ -1,0 +1,4 @@
+mod guarded;
+mod hash_challenger;
+mod memory;
+mod sha256;

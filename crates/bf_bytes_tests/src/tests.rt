@@ -1,0 +1,4 @@
+mod bytes;
+mod parallel;
+mod short;
+mod streams;

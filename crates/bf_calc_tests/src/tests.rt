@@ -1,0 +1,5 @@
+mod ends;
+mod faults;
+mod lines;
+mod memory;
+mod runs;

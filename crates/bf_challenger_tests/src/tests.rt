@@ -1,0 +1,9 @@
+mod calls;
+mod doubles;
+mod grinding;
+mod hashed;
+mod lengths;
+mod many_calls;
+mod memory;
+mod scripts;
+mod texts;

@@ -1,0 +1,226 @@
+// Searches for witnesses: over SHA-256, over doubles that sample one byte always or refuse, and the texts of the errors.
+use super::scripts::{SCRIPT_8, SCRIPT_16, SCRIPT_32, SCRIPT_64, SCRIPT_128, SCRIPT_POLY_64};
+use bf_base::Unsigned;
+use bf_base::traits::{Field, PrimeCharacteristicRing, TowerLevel};
+use bf_byte_challenger::{ChallengerError, HashChallenger, Sha256Hasher};
+use bf_challenger::{BinaryChallenger, CanSample, CanSampleBits, GrindError, GrindingChallenger};
+use bf_challenger_doubles::{Copies, Double, Seen};
+use bf_element::{
+    BinaryField8, BinaryField16, BinaryField32, BinaryField64, BinaryField128, Poly64,
+};
+use bf_transcript::{ByteLevel, CanObserve, Transcript};
+use std::alloc::{Allocator, Global};
+use std::cell::Cell;
+use std::test::Fail;
+
+// An initial state as eight bytes from the lowest, the least witness of eight bits at `BinaryField16`, and the element that is
+// sampled after it, by the Rust crate p3-binary-field 0.8.0. The states were drawn by splitmix64 from the seed 7.
+static LEAST_WITNESSES: [(u64, u16, u16); 16] = [
+    (0x63cb_e1e4_5932_0dd7, 0x022a, 0xf127),
+    (0x044c_3cd7_f43c_661c, 0x0087, 0xede7),
+    (0xe698_4080_bab1_2a02, 0x0133, 0x87a0),
+    (0x953a_eb70_673e_29cb, 0x002d, 0x3c07),
+    (0x73d3_3b66_6a1e_21da, 0x0119, 0xdebd),
+    (0x3fda_be86_cbbe_aa11, 0x0034, 0x7d66),
+    (0x77cb_c4a1_33c2_d0f6, 0x0042, 0x8732),
+    (0x53fc_d651_3d02_befe, 0x015f, 0xe0c5),
+    (0x225e_c07a_9950_6761, 0x0385, 0x36a6),
+    (0x69c3_a276_8879_5369, 0x009f, 0x814b),
+    (0x1a82_e79b_05b5_faeb, 0x016d, 0x4e48),
+    (0xf5ba_4eb7_28dd_632c, 0x0143, 0x0849),
+    (0xeb03_54df_4a45_b34e, 0x005d, 0xf26c),
+    (0xdf0f_9924_a301_6430, 0x0108, 0x7ad7),
+    (0xdd2f_9b2d_0b5f_15e6, 0x0122, 0x6277),
+    (0x8c5c_906b_1aeb_85f8, 0x008a, 0xa993),
+];
+
+fn finds_least(alloc: Global, state: u64, witness: u16, next: u16) -> bool {
+    let Ok(state) = Vec::from_slice(alloc, &state.to_le_bytes()) else {
+        return false;
+    };
+    let mut challenger: BinaryChallenger<BinaryField16, HashChallenger<Sha256Hasher>> =
+        BinaryChallenger::from_hasher(state, Sha256Hasher);
+    let found = challenger.grind(8);
+    let sampled: Result<BinaryField16, ChallengerError> = challenger.sample();
+    found == Ok(BinaryField16::from_repr(witness)) && sampled == Ok(BinaryField16::from_repr(next))
+}
+
+fn finds_each_least(alloc: Global) -> bool {
+    for row in 0..16 {
+        let (state, witness, next) = LEAST_WITNESSES[row];
+        if !finds_least(alloc, state, witness, next) {
+            return false;
+        }
+    }
+    true
+}
+
+#[test]
+fn least_witnesses(rt: HostRuntime) {
+    assert!(rt; finds_each_least(rt.alloc()));
+}
+
+// Whether the call of a row has the row's answer.
+fn answers<F: ByteLevel>(
+    challenger: &mut BinaryChallenger<F, HashChallenger<Sha256Hasher>>,
+    row: &[u128; 4],
+) -> bool {
+    let bits = (row[1] % 64) as usize;
+    let operand = F::from_repr(F::Repr::of_u128(row[2]));
+    match row[0] {
+        0 => challenger.observe(operand).is_ok(),
+        1 => {
+            match challenger.sample_element() {
+                Ok(element) => element.to_repr().to_u128() == row[3],
+                Err(_) => false,
+            }
+        }
+        2 => {
+            match challenger.sample_bits(bits) {
+                Ok(number) => number as u128 == row[3],
+                Err(_) => false,
+            }
+        }
+        3 => challenger.check_witness(bits, operand) == Ok(row[3] == 1),
+        _ => {
+            if bits > 0 && (bits + 8 > F::bits() || bits > 56) {
+                return false;
+            }
+            match challenger.grind(bits) {
+                Ok(element) => element.to_repr().to_u128() == row[3],
+                Err(_) => false,
+            }
+        }
+    }
+}
+
+fn answers_script<F: ByteLevel>(alloc: Global, script: &[[u128; 4]]) -> bool {
+    let mut challenger: BinaryChallenger<F, HashChallenger<Sha256Hasher>> =
+        BinaryChallenger::from_hasher(Vec::new(alloc), Sha256Hasher);
+    for row in 0..script.len() {
+        if !answers(&mut challenger, &script[row]) {
+            return false;
+        }
+    }
+    true
+}
+
+#[test]
+fn scripts_of_calls(rt: HostRuntime) {
+    assert!(rt;
+        answers_script::<BinaryField8>(rt.alloc(), &SCRIPT_8)
+            && answers_script::<BinaryField16>(rt.alloc(), &SCRIPT_16)
+            && answers_script::<BinaryField32>(rt.alloc(), &SCRIPT_32)
+            && answers_script::<BinaryField64>(rt.alloc(), &SCRIPT_64)
+            && answers_script::<BinaryField128>(rt.alloc(), &SCRIPT_128)
+            && answers_script::<Poly64>(rt.alloc(), &SCRIPT_POLY_64)
+    );
+}
+
+type OverDouble<'a> = BinaryChallenger<BinaryField16, Double<'a>>;
+
+fn has_seen(seen: &Cell<Seen>, observed: u32, sampled: u32, bytes: u64) -> bool {
+    seen.get()
+        == Seen {
+            observed,
+            sampled,
+            bytes,
+        }
+}
+
+fn samples(challenger: &mut OverDouble<'_>, wanted: u16) -> bool {
+    let sampled: Result<BinaryField16, ChallengerError> = challenger.sample();
+    !challenger.failed() && sampled == Ok(BinaryField16::from_repr(wanted))
+}
+
+// No byte call reaches the challenger, and none of it is refused later.
+fn refused_copy() -> bool {
+    let seen = Cell::new(Seen::default());
+    let mut challenger: OverDouble<'_> = BinaryChallenger::new(Double::new(
+        &seen,
+        7,
+        2,
+        Copies::Refused,
+    ));
+    challenger.grind(8) == Err(GrindError::Memory)
+        && has_seen(&seen, 0, 0, 0)
+        && samples(&mut challenger, 0x0707)
+}
+
+fn refusing_copy(calls_left: u32, observed: u32, sampled: u32) -> bool {
+    let seen = Cell::new(Seen::default());
+    let mut challenger: OverDouble<'_> = BinaryChallenger::new(Double::new(
+        &seen,
+        7,
+        2,
+        Copies::RefusingAfter(calls_left),
+    ));
+    challenger.grind(8) == Err(GrindError::Memory)
+        && has_seen(&seen, observed, sampled, 0)
+        && samples(&mut challenger, 0x0707)
+}
+
+// All 65,536 elements are tried, each by two bytes and eight samples; the last four are 0xfffc to 0xffff.
+fn no_witness() -> bool {
+    let seen = Cell::new(Seen::default());
+    let mut challenger: OverDouble<'_> = BinaryChallenger::new(Double::constant(&seen, 255));
+    challenger.grind(8) == Err(GrindError::NoWitness)
+        && has_seen(&seen, 131_072, 524_288, 0xfcff_fdff_feff_ffff)
+        && samples(&mut challenger, 0xffff)
+}
+
+// The first candidate passes, and no other is tried.
+fn first_candidate() -> bool {
+    let seen = Cell::new(Seen::default());
+    let mut challenger: OverDouble<'_> = BinaryChallenger::new(Double::constant(&seen, 0));
+    challenger.grind(8) == Ok(BinaryField16::ZERO)
+        && has_seen(&seen, 2, 8, 0)
+        && samples(&mut challenger, 0)
+}
+
+// For no bits nothing is asked of the challenger, not a copy either.
+fn no_bits() -> bool {
+    let seen = Cell::new(Seen::default());
+    let mut challenger: OverDouble<'_> = BinaryChallenger::new(Double::new(
+        &seen,
+        255,
+        0,
+        Copies::Refused,
+    ));
+    challenger.grind(0) == Ok(BinaryField16::ZERO)
+        && has_seen(&seen, 0, 0, 0)
+        && !challenger.failed()
+}
+
+#[test]
+fn searches_over_doubles(rt: HostRuntime) {
+    assert!(rt;
+        refused_copy()
+            && refusing_copy(0, 0, 0)
+            && refusing_copy(1, 1, 0)
+            && refusing_copy(9, 2, 7)
+            && no_witness()
+            && first_candidate()
+            && no_bits()
+    );
+}
+
+/// Whether `{}` prints `text` of the error.
+fn reads<A: Allocator>(alloc: A, error: GrindError, text: &str) -> Result<bool, Fail> {
+    let printed = format!(in alloc; "{error}")?;
+    Ok(printed.as_str() == text)
+}
+
+#[test]
+fn errors_read_as_sentences(rt: HostRuntime) -> Result<(), Fail> {
+    assert!(rt;
+        reads(rt.alloc(), GrindError::NoWitness, "no candidate passes")?
+            && reads(rt.alloc(), GrindError::Memory, "out of memory")?
+            && reads(
+                rt.alloc(),
+                GrindError::from(ChallengerError::Failed),
+                "the challenger has failed"
+            )?
+    );
+    Ok(())
+}

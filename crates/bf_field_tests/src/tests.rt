@@ -1,0 +1,11 @@
+mod debug;
+mod evaluate;
+mod fields;
+mod generators;
+mod polynomial_128;
+mod polynomial_64;
+mod roots_of_levels;
+mod tower_high;
+mod tower_low;
+mod tower_middle;
+mod two_routes;

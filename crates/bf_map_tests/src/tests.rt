@@ -1,0 +1,4 @@
+mod change_of_basis;
+mod linear_map;
+mod mixed_operands;
+mod numbers;

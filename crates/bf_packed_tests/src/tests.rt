@@ -1,0 +1,6 @@
+mod bytes;
+mod ghash;
+mod lanes;
+mod maps;
+mod operators;
+mod quotients;

@@ -1,0 +1,3 @@
+mod drawn;
+mod low_stages;
+mod slices;

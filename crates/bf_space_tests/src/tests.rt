@@ -1,0 +1,5 @@
+mod generator;
+mod memory;
+mod products;
+mod vectors;
+mod views;

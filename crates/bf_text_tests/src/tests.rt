@@ -1,0 +1,3 @@
+mod draws;
+mod numbers;
+mod texts;
