@@ -1,5 +1,5 @@
 -- The words of a block are numbers of 64 bits, since those of an operation on its lanes are.
-use Rattle.std.proofs.Common.{◌≡◌, ℕ, zero, suc, ◌^◌, ◌<◌, List, [], ◌∷◌, get_or, subst, Fits, w64}
+use Rattle.std.proofs.Common.{ℕ, zero, suc, ◌^◌, ◌<◌, List, [], ◌∷◌, get_or, subst, Fits, w64}
 use Rattle.std.specs.Prelude.{bit_and}
 use Rattle.std.specs.Int.Bits.{and_self}
 use Rattle.std.specs.Simd.Lanes.{Each1, zip2}

@@ -1,6 +1,8 @@
 // Machine words as rows of bits.
 ghost use Rattle.std.specs.Prelude.{◌≡◌, ◌↔◌, ◌<◌, ◌≤◌, ◌-◌, ◌*◌, ◌/◌, ◌%◌, ◌^◌, ℕ, IsTrue, bit_and, bit_or, bit_xor, count_ones, refl};
-ghost use Rattle.std.proofs.Common.{lit≤, rules};
+ghost use Rattle.std.proofs.Common.{lit<, lit≤, rules};
+ghost use Rattle.std.specs.Mem.{FitsInMemory};
+ghost use Rattle.bf_bitslice_words.specs.Operators.{Gives};
 
 use crate::sealed::Sealed;
 use rand::distr::SampleStandard;
@@ -46,7 +48,10 @@ pub trait Word: Sealed
 
     /// How many bits of the word are set.
     fn count_ones(self) -> u32
-        ensures { result ≡ count_ones (number self) };
+        ensures { result ≡ count_ones (number self) }
+    {
+        u64::count_ones(self.to_u64())
+    }
 
     /// The number of the word, which is below 2 to the power `BITS`.
     fn to_u64(self) -> u64
@@ -57,45 +62,58 @@ pub trait Word: Sealed
     fn from_u64(n: u64) -> Self
         ensures { number result ≡ n % 2 ^ BITS };
 
-    ghost bits_law: { BITS ≡ 2 ^ log_bits };
+    // What an impl gives of sizes, and the parts of that. A word takes few bytes, which is asked of the elements of a slice.
+    ghost sizes_law: { (BITS ≡ 2 ^ log_bits) × (BITS ≤ 64) × (BITS ≡ 8 * (BITS / 8)) × FitsInMemory Self.row };
 
-    ghost narrow_law: { BITS ≤ 64 };
+    ghost bits_law: { BITS ≡ 2 ^ log_bits } = { sizes_law.0 };
 
-    ghost bytes_law: { BITS ≡ 8 * (BITS / 8) };
+    ghost narrow_law: { BITS ≤ 64 } = { sizes_law.1 };
 
-    ghost zero_number: { number ZERO ≡ 0 };
+    ghost bytes_law: { BITS ≡ 8 * (BITS / 8) } = { sizes_law.2 };
 
-    ghost ones_number: { number ONES ≡ 2 ^ BITS - 1 };
+    ghost room_law: { FitsInMemory Self.row } = { sizes_law.3 };
 
-    ghost same_law: { (x y : Self) → number x ≡ number y → x ≡ y };
+    // What an impl gives of numbers, and the parts of that.
+    ghost numbers_law: { (number ZERO ≡ 0) × (number ONES ≡ 2 ^ BITS - 1) × ((x y : Self) → number x ≡ number y → x ≡ y) };
+
+    ghost zero_number: { number ZERO ≡ 0 } = { numbers_law.0 };
+
+    ghost ones_number: { number ONES ≡ 2 ^ BITS - 1 } = { numbers_law.1 };
+
+    ghost same_law: { (x y : Self) → number x ≡ number y → x ≡ y } = { numbers_law.2 };
 
     ghost eq_law: { (x y : Self) → IsTrue (Self.PartialEq.eq x y) ↔ (number x ≡ number y) };
 
     ghost default_law: { (r : Self) → Self.is_default r → number r ≡ 0 };
 
-    ghost can_and_law: { (x y : Self) → Self.can_bitand x y };
+    // What an impl gives of operators, and the parts of that, one law an operator: a proof finds a law by its own shape.
+    ghost operators_law: { (x y : Self) → Gives number (Self.can_bitand x y) (λ r. Self.bitand_gives x y r) (bit_and (number x) (number y)) × Gives number (Self.can_bitor x y) (λ r. Self.bitor_gives x y r) (bit_or (number x) (number y)) × Gives number (Self.can_bitxor x y) (λ r. Self.bitxor_gives x y r) (bit_xor (number x) (number y)) × Gives number (Self.can_not x) (λ r. Self.not_gives x r) (2 ^ BITS - 1 - number x) };
 
-    ghost and_law: { (x y r : Self) → Self.bitand_gives x y r → number r ≡ bit_and (number x) (number y) };
+    ghost shifts_law: { (x : Self) (k : ℕ) → Gives number (k < BITS → Self.can_shl x k) (λ r. Self.shl_gives x k r) (number x * 2 ^ k % 2 ^ BITS) × Gives number (k < BITS → Self.can_shr x k) (λ r. Self.shr_gives x k r) (number x / 2 ^ k) };
 
-    ghost can_or_law: { (x y : Self) → Self.can_bitor x y };
+    ghost can_and_law: { (x y : Self) → Self.can_bitand x y } = { λ x y. (operators_law x y).0.0 };
 
-    ghost or_law: { (x y r : Self) → Self.bitor_gives x y r → number r ≡ bit_or (number x) (number y) };
+    ghost and_law: { (x y r : Self) → Self.bitand_gives x y r → number r ≡ bit_and (number x) (number y) } = { λ x y. (operators_law x y).0.1 };
 
-    ghost can_xor_law: { (x y : Self) → Self.can_bitxor x y };
+    ghost can_or_law: { (x y : Self) → Self.can_bitor x y } = { λ x y. (operators_law x y).1.0 };
 
-    ghost xor_law: { (x y r : Self) → Self.bitxor_gives x y r → number r ≡ bit_xor (number x) (number y) };
+    ghost or_law: { (x y r : Self) → Self.bitor_gives x y r → number r ≡ bit_or (number x) (number y) } = { λ x y. (operators_law x y).1.1 };
 
-    ghost can_not_law: { (x : Self) → Self.can_not x };
+    ghost can_xor_law: { (x y : Self) → Self.can_bitxor x y } = { λ x y. (operators_law x y).2.0 };
 
-    ghost not_law: { (x r : Self) → Self.not_gives x r → number r ≡ 2 ^ BITS - 1 - number x };
+    ghost xor_law: { (x y r : Self) → Self.bitxor_gives x y r → number r ≡ bit_xor (number x) (number y) } = { λ x y. (operators_law x y).2.1 };
 
-    ghost can_shl_law: { (x : Self) (k : ℕ) → k < BITS → Self.can_shl x k };
+    ghost can_not_law: { (x : Self) → Self.can_not x } = { λ x. (operators_law x x).3.0 };
 
-    ghost shl_law: { (x : Self) (k : ℕ) (r : Self) → Self.shl_gives x k r → number r ≡ number x * 2 ^ k % 2 ^ BITS };
+    ghost not_law: { (x r : Self) → Self.not_gives x r → number r ≡ 2 ^ BITS - 1 - number x } = { λ x. (operators_law x x).3.1 };
 
-    ghost can_shr_law: { (x : Self) (k : ℕ) → k < BITS → Self.can_shr x k };
+    ghost can_shl_law: { (x : Self) (k : ℕ) → k < BITS → Self.can_shl x k } = { λ x k. (shifts_law x k).0.0 };
 
-    ghost shr_law: { (x : Self) (k : ℕ) (r : Self) → Self.shr_gives x k r → number r ≡ number x / 2 ^ k };
+    ghost shl_law: { (x : Self) (k : ℕ) (r : Self) → Self.shl_gives x k r → number r ≡ number x * 2 ^ k % 2 ^ BITS } = { λ x k. (shifts_law x k).0.1 };
+
+    ghost can_shr_law: { (x : Self) (k : ℕ) → k < BITS → Self.can_shr x k } = { λ x k. (shifts_law x k).1.0 };
+
+    ghost shr_law: { (x : Self) (k : ℕ) (r : Self) → Self.shr_gives x k r → number r ≡ number x / 2 ^ k } = { λ x k. (shifts_law x k).1.1 };
 }
 
 impl Sealed for u8 {}
@@ -117,10 +135,6 @@ impl Word for u8 {
 
     ghost ONES = { 2 ^ 8 - 1 };
 
-    fn count_ones(self) -> u32 {
-        u8::count_ones(self)
-    }
-
     fn to_u64(self) -> u64 {
         u64::from(self)
     }
@@ -129,45 +143,17 @@ impl Word for u8 {
         (n % 0x100) as u8
     }
 
-    ghost bits_law = { refl };
+    ghost sizes_law = { (refl, lit≤ tt, refl, lit< tt) };
 
-    ghost narrow_law = { lit≤ tt };
-
-    ghost bytes_law = { refl };
-
-    ghost zero_number = { refl };
-
-    ghost ones_number = { refl };
-
-    ghost same_law = { λ x y e. e };
+    ghost numbers_law = { (refl, refl, λ x y e. e) };
 
     ghost eq_law = { Prim.search rules };
 
     ghost default_law = { λ r is. is };
 
-    ghost can_and_law = { λ x y. tt };
+    ghost operators_law = { λ x y. ((tt, λ r is. is), (tt, λ r is. is), (tt, λ r is. is), (tt, λ r is. is)) };
 
-    ghost and_law = { λ x y r is. is };
-
-    ghost can_or_law = { λ x y. tt };
-
-    ghost or_law = { λ x y r is. is };
-
-    ghost can_xor_law = { λ x y. tt };
-
-    ghost xor_law = { λ x y r is. is };
-
-    ghost can_not_law = { λ x. tt };
-
-    ghost not_law = { λ x r is. is };
-
-    ghost can_shl_law = { λ x k fits. fits };
-
-    ghost shl_law = { λ x k r is. is };
-
-    ghost can_shr_law = { λ x k fits. fits };
-
-    ghost shr_law = { λ x k r is. is };
+    ghost shifts_law = { λ x k. ((λ fits. fits, λ r is. is), (λ fits. fits, λ r is. is)) };
 }
 
 impl Sealed for u16 {}
@@ -189,10 +175,6 @@ impl Word for u16 {
 
     ghost ONES = { 2 ^ 16 - 1 };
 
-    fn count_ones(self) -> u32 {
-        u16::count_ones(self)
-    }
-
     fn to_u64(self) -> u64 {
         u64::from(self)
     }
@@ -201,45 +183,17 @@ impl Word for u16 {
         (n % 0x1_0000) as u16
     }
 
-    ghost bits_law = { refl };
+    ghost sizes_law = { (refl, lit≤ tt, refl, lit< tt) };
 
-    ghost narrow_law = { lit≤ tt };
-
-    ghost bytes_law = { refl };
-
-    ghost zero_number = { refl };
-
-    ghost ones_number = { refl };
-
-    ghost same_law = { λ x y e. e };
+    ghost numbers_law = { (refl, refl, λ x y e. e) };
 
     ghost eq_law = { Prim.search rules };
 
     ghost default_law = { λ r is. is };
 
-    ghost can_and_law = { λ x y. tt };
+    ghost operators_law = { λ x y. ((tt, λ r is. is), (tt, λ r is. is), (tt, λ r is. is), (tt, λ r is. is)) };
 
-    ghost and_law = { λ x y r is. is };
-
-    ghost can_or_law = { λ x y. tt };
-
-    ghost or_law = { λ x y r is. is };
-
-    ghost can_xor_law = { λ x y. tt };
-
-    ghost xor_law = { λ x y r is. is };
-
-    ghost can_not_law = { λ x. tt };
-
-    ghost not_law = { λ x r is. is };
-
-    ghost can_shl_law = { λ x k fits. fits };
-
-    ghost shl_law = { λ x k r is. is };
-
-    ghost can_shr_law = { λ x k fits. fits };
-
-    ghost shr_law = { λ x k r is. is };
+    ghost shifts_law = { λ x k. ((λ fits. fits, λ r is. is), (λ fits. fits, λ r is. is)) };
 }
 
 impl Sealed for u32 {}
@@ -261,10 +215,6 @@ impl Word for u32 {
 
     ghost ONES = { 2 ^ 32 - 1 };
 
-    fn count_ones(self) -> u32 {
-        u32::count_ones(self)
-    }
-
     fn to_u64(self) -> u64 {
         u64::from(self)
     }
@@ -273,45 +223,17 @@ impl Word for u32 {
         (n % 0x1_0000_0000) as u32
     }
 
-    ghost bits_law = { refl };
+    ghost sizes_law = { (refl, lit≤ tt, refl, lit< tt) };
 
-    ghost narrow_law = { lit≤ tt };
-
-    ghost bytes_law = { refl };
-
-    ghost zero_number = { refl };
-
-    ghost ones_number = { refl };
-
-    ghost same_law = { λ x y e. e };
+    ghost numbers_law = { (refl, refl, λ x y e. e) };
 
     ghost eq_law = { Prim.search rules };
 
     ghost default_law = { λ r is. is };
 
-    ghost can_and_law = { λ x y. tt };
+    ghost operators_law = { λ x y. ((tt, λ r is. is), (tt, λ r is. is), (tt, λ r is. is), (tt, λ r is. is)) };
 
-    ghost and_law = { λ x y r is. is };
-
-    ghost can_or_law = { λ x y. tt };
-
-    ghost or_law = { λ x y r is. is };
-
-    ghost can_xor_law = { λ x y. tt };
-
-    ghost xor_law = { λ x y r is. is };
-
-    ghost can_not_law = { λ x. tt };
-
-    ghost not_law = { λ x r is. is };
-
-    ghost can_shl_law = { λ x k fits. fits };
-
-    ghost shl_law = { λ x k r is. is };
-
-    ghost can_shr_law = { λ x k fits. fits };
-
-    ghost shr_law = { λ x k r is. is };
+    ghost shifts_law = { λ x k. ((λ fits. fits, λ r is. is), (λ fits. fits, λ r is. is)) };
 }
 
 impl Sealed for u64 {}
@@ -333,10 +255,6 @@ impl Word for u64 {
 
     ghost ONES = { 2 ^ 64 - 1 };
 
-    fn count_ones(self) -> u32 {
-        u64::count_ones(self)
-    }
-
     fn to_u64(self) -> u64 {
         self
     }
@@ -345,43 +263,15 @@ impl Word for u64 {
         n
     }
 
-    ghost bits_law = { refl };
+    ghost sizes_law = { (refl, lit≤ tt, refl, lit< tt) };
 
-    ghost narrow_law = { lit≤ tt };
-
-    ghost bytes_law = { refl };
-
-    ghost zero_number = { refl };
-
-    ghost ones_number = { refl };
-
-    ghost same_law = { λ x y e. e };
+    ghost numbers_law = { (refl, refl, λ x y e. e) };
 
     ghost eq_law = { Prim.search rules };
 
     ghost default_law = { λ r is. is };
 
-    ghost can_and_law = { λ x y. tt };
+    ghost operators_law = { λ x y. ((tt, λ r is. is), (tt, λ r is. is), (tt, λ r is. is), (tt, λ r is. is)) };
 
-    ghost and_law = { λ x y r is. is };
-
-    ghost can_or_law = { λ x y. tt };
-
-    ghost or_law = { λ x y r is. is };
-
-    ghost can_xor_law = { λ x y. tt };
-
-    ghost xor_law = { λ x y r is. is };
-
-    ghost can_not_law = { λ x. tt };
-
-    ghost not_law = { λ x r is. is };
-
-    ghost can_shl_law = { λ x k fits. fits };
-
-    ghost shl_law = { λ x k r is. is };
-
-    ghost can_shr_law = { λ x k fits. fits };
-
-    ghost shr_law = { λ x k r is. is };
+    ghost shifts_law = { λ x k. ((λ fits. fits, λ r is. is), (λ fits. fits, λ r is. is)) };
 }
