@@ -1,12 +1,23 @@
 // Words as rows of one word.
-ghost use Rattle.std.specs.Prelude.{◌≡◌, refl};
+ghost use Rattle.std.specs.Prelude.{◌≡◌, map, refl};
 ghost use Rattle.std.proofs.Common.{lit<, rules, ◌^◌, ◌-◌};
 ghost use Rattle.std.specs.Bool.{nat_lt};
 ghost use Rattle.std.proofs.lemmas.Bool.{ltb-true};
+ghost use Rattle.bf_bitslice_words.specs.Parts.{parts_of};
 
 use crate::bits::interleave_word;
 use crate::underlier::Underlier;
+use crate::word::Word;
 use std::slice;
+
+// The word of a row of one.
+#[inline]
+fn only_word<W: Word>(word: &W) -> &[W]
+    ensures { map W.number result.now ≡ parts_of W.BITS 1 (W.number word.now) }
+{
+    let _fits = word.to_u64();
+    slice::from_ref(word)
+}
 
 impl Underlier for u8 {
     type Word = u8;
@@ -34,8 +45,7 @@ impl Underlier for u8 {
     ghost ONES = { 2 ^ 8 - 1 };
 
     fn words(&self) -> &[u8] {
-        let _word = *self;
-        slice::from_ref(self)
+        only_word(self)
     }
 
     fn word(&self, _i: usize) -> u8 {
@@ -103,8 +113,7 @@ impl Underlier for u16 {
     ghost ONES = { 2 ^ 16 - 1 };
 
     fn words(&self) -> &[u16] {
-        let _word = *self;
-        slice::from_ref(self)
+        only_word(self)
     }
 
     fn word(&self, _i: usize) -> u16 {
@@ -172,8 +181,7 @@ impl Underlier for u32 {
     ghost ONES = { 2 ^ 32 - 1 };
 
     fn words(&self) -> &[u32] {
-        let _word = *self;
-        slice::from_ref(self)
+        only_word(self)
     }
 
     fn word(&self, _i: usize) -> u32 {
@@ -241,8 +249,7 @@ impl Underlier for u64 {
     ghost ONES = { 2 ^ 64 - 1 };
 
     fn words(&self) -> &[u64] {
-        let _word = *self;
-        slice::from_ref(self)
+        only_word(self)
     }
 
     fn word(&self, _i: usize) -> u64 {
