@@ -2,7 +2,7 @@
 use Rattle.std.proofs.Common.{◌≡◌, ◌≢◌, ℕ, ◌+◌, ◌*◌, ◌/◌, ◌%◌, ◌^◌, ◌<◌, ◌≤◌, ◌-◌, suc, true, List, get_or, refl, sym, ap, ◌∙◌, lit<, arith, subst, inl, inr, ◌⊎◌}
 use Rattle.std.specs.Int.{bit_at}
 use Rattle.std.proofs.lemmas.Bool.{cases_eq, cases_lt}
-use Rattle.std.proofs.lemmas.Nat.{div-add-mod', div_below, mod-pow-add, mul-le, ones-le, ones_cat, pow-add, pow_pos}
+use Rattle.std.proofs.lemmas.Nat.{div-add-mod', div-mul-add, div_below, mod-pow-add, mul-le, ones-le, ones_cat, pow-add, pow_pos}
 use Rattle.std.proofs.Math.Nat.{add-mul, mul-add, mul_assoc, mul_comm, add-mul-div_right, add-mul-mod_self_right, div-div-eq-div-mul}
 use Rattle.std.proofs.Math.Pow.{pow_mono}
 use Rattle.std.specs.Prelude.{count_ones}
@@ -11,7 +11,7 @@ use native.Mathlib.Nat.{mod-lt}
 use Rattle.bf_bitslice_words.specs.Joined.{joined-part, whole-below}
 use Rattle.bf_bitslice_words.specs.Parts.{HasEvenBlocks, HasFirstBlocks, HasSecondBlocks, IsBlockSize, IsWithPart, is_whole, joined, part_at}
 use Rattle.bf_bitslice_words.proofs.BlockPlaces.{odd_is_above}
-use Rattle.bf_bitslice_words.proofs.LaneLemmas.{bit_at_mod, lane-part}
+use Rattle.bf_bitslice_words.proofs.LaneLemmas.{bit_at_mod, lane-part, power_some}
 
 below_it : (a b : ℕ) → a < b + 1 → a ≢ b → a < b
 below_it a b h other = grind arith
@@ -69,76 +69,10 @@ parity_inside w q block k r some is =
 pub lanes_of : (w x k r j : ℕ) → r < w → w * k + r ≡ j → bit_at x j ≡ bit_at (part_at w x k) r
 lanes_of w x k r j less is = ap (bit_at x) (sym is) ∙ sym (lane-part w x k r less)
 
-pub first_in_words : (w q block count left right x : ℕ) → 0 < block → 0 < w → w ≡ q * (2 * block)
-    → ((k : ℕ) → k < count → HasFirstBlocks w block (part_at w left k) (part_at w right k) (part_at w x k))
-    → HasFirstBlocks (w * count) block left right x
-first_in_words w q block count left right x some wide is each j less =
-    let inside : j % w < w = mod-lt j wide in
-    let here = place-split w j in
-    let part : j / w < count = div_below j w count wide (subst (λ (n : ℕ). j < n) (mul_comm w count) less) in
-    let parity : j / block % 2 ≡ j % w / block % 2 = ap (λ (n : ℕ). n / block % 2) (sym here) ∙ parity_inside w q block (j / w) (j % w) some is in
-    let word = each (j / w) part (j % w) inside in (
-      λ even. lanes_of w x (j / w) (j % w) j inside here ∙ word.0 (sym parity ∙ even) ∙ sym (lanes_of w left (j / w) (j % w) j inside here),
-      λ odd.
-          let above = odd_is_above block (j % w) some (sym parity ∙ odd) in
-          lanes_of w x (j / w) (j % w) j inside here ∙ word.1 (sym parity ∙ odd)
-          ∙ sym (lanes_of w right (j / w) (j % w - block) (j - block) (omega arith) (omega arith)),
-    )
-
-pub second_in_words : (w q block count left right x : ℕ) → 0 < block → 0 < w → w ≡ q * (2 * block)
-    → ((k : ℕ) → k < count → HasSecondBlocks w block (part_at w left k) (part_at w right k) (part_at w x k))
-    → HasSecondBlocks (w * count) block left right x
-second_in_words w q block count left right x some wide is each j less =
-    let inside : j % w < w = mod-lt j wide in
-    let here = place-split w j in
-    let part : j / w < count = div_below j w count wide (subst (λ (n : ℕ). j < n) (mul_comm w count) less) in
-    let parity : j / block % 2 ≡ j % w / block % 2 = ap (λ (n : ℕ). n / block % 2) (sym here) ∙ parity_inside w q block (j / w) (j % w) some is in
-    let word = each (j / w) part (j % w) inside in (
-      λ even.
-          let room = even_has_room w q block (j % w) some is inside (sym parity ∙ even) in
-          lanes_of w x (j / w) (j % w) j inside here ∙ word.0 (sym parity ∙ even)
-          ∙ sym (lanes_of w left (j / w) (j % w + block) (j + block) room (omega arith)),
-      λ odd. lanes_of w x (j / w) (j % w) j inside here ∙ word.1 (sym parity ∙ odd) ∙ sym (lanes_of w right (j / w) (j % w) j inside here),
-    )
-
-pub first_of_words : (w m count left right x : ℕ) → 0 < w → 0 < m
-    → ((k : ℕ) → k < count → (k / m % 2 ≡ 0 → part_at w x k ≡ part_at w left k) × (k / m % 2 ≡ 1 → part_at w x k ≡ part_at w right (k - m)))
-    → HasFirstBlocks (w * count) (w * m) left right x
-first_of_words w m count left right x wide some each j less =
-    let inside : j % w < w = mod-lt j wide in
-    let here = place-split w j in
-    let part : j / w < count = div_below j w count wide (subst (λ (n : ℕ). j < n) (mul_comm w count) less) in
-    let block : j / (w * m) % 2 ≡ j / w / m % 2 = ap (λ (n : ℕ). n % 2) (sym (div-div-eq-div-mul j w m)) in
-    let word = each (j / w) part in (
-      λ even. lanes_of w x (j / w) (j % w) j inside here ∙ ap (λ (n : ℕ). bit_at n (j % w)) (word.0 (sym block ∙ even)) ∙ sym (lanes_of w left (j / w) (j % w) j inside here),
-      λ odd.
-          let above = odd_is_above m (j / w) some (sym block ∙ odd) in
-          let back : j / w - m + m ≡ j / w = omega arith in
-          let before = mul-add w (j / w - m) m in
-          let whole : w * (j / w - m + m) ≡ w * (j / w) = ap (λ (n : ℕ). w * n) back in
-          lanes_of w x (j / w) (j % w) j inside here ∙ ap (λ (n : ℕ). bit_at n (j % w)) (word.1 (sym block ∙ odd))
-          ∙ sym (lanes_of w right (j / w - m) (j % w) (j - w * m) inside (omega arith)),
-    )
-
-pub second_of_words : (w m count left right x : ℕ) → 0 < w → 0 < m
-    → ((k : ℕ) → k < count → (k / m % 2 ≡ 0 → part_at w x k ≡ part_at w left (k + m)) × (k / m % 2 ≡ 1 → part_at w x k ≡ part_at w right k))
-    → HasSecondBlocks (w * count) (w * m) left right x
-second_of_words w m count left right x wide some each j less =
-    let inside : j % w < w = mod-lt j wide in
-    let here = place-split w j in
-    let part : j / w < count = div_below j w count wide (subst (λ (n : ℕ). j < n) (mul_comm w count) less) in
-    let block : j / (w * m) % 2 ≡ j / w / m % 2 = ap (λ (n : ℕ). n % 2) (sym (div-div-eq-div-mul j w m)) in
-    let word = each (j / w) part in
-    let after = mul-add w (j / w) m in (
-      λ even. lanes_of w x (j / w) (j % w) j inside here ∙ ap (λ (n : ℕ). bit_at n (j % w)) (word.0 (sym block ∙ even))
-          ∙ sym (lanes_of w left (j / w + m) (j % w) (j + w * m) inside (omega arith)),
-      λ odd. lanes_of w x (j / w) (j % w) j inside here ∙ ap (λ (n : ℕ). bit_at n (j % w)) (word.1 (sym block ∙ odd)) ∙ sym (lanes_of w right (j / w) (j % w) j inside here),
-    )
-
 -- ---- what a block size says
 
 pub block_some : (width block : ℕ) → IsBlockSize width block → 0 < block
-block_some width block size = subst (λ (x : ℕ). 0 < x) (sym size.1) (pow_pos size.0)
+block_some width block size = power_some size.0 block size.1
 
 lower_power : (k a : ℕ) → 2 ^ k < 2 ^ a → k < a
 lower_power k a less = cases (cases_lt k a)
@@ -153,6 +87,81 @@ block_divides width log block power size =
       2 ^ (log - suc size.0),
       power ∙ double_divides size.0 log (lower_power size.0 log below) ∙ ap (λ (x : ℕ). 2 ^ (log - suc size.0) * (2 * x)) (sym size.1),
     )
+
+-- a difference and what was taken
+same_place : (k m : ℕ) → m ≤ k → k - m + m ≡ k
+same_place k m more = omega arith
+
+-- what holds of each place of each word holds of each place
+by_word : (w count width : ℕ) (P : ℕ → Type 0) → 0 < w → width ≡ w * count → ((k r : ℕ) → k < count → r < w → P (w * k + r))
+    → (j : ℕ) → j < width → P j
+by_word w count width P wide is each j less =
+    let part : j / w < count = div_below j w count wide (subst (λ (n : ℕ). j < n) (is ∙ mul_comm w count) less) in
+    subst P (place-split w j) (each (j / w) (j % w) part (mod-lt j wide))
+
+-- bits of two numbers are alike if they are so in the words where they stand
+carried : (w x y k l r s i j : ℕ) → r < w → s < w → w * k + r ≡ i → w * l + s ≡ j → bit_at (part_at w x k) r ≡ bit_at (part_at w y l) s
+    → bit_at x i ≡ bit_at y j
+carried w x y k l r s i j inside there from to same = lanes_of w x k r i inside from ∙ same ∙ sym (lanes_of w y l s j there to)
+
+-- blocks that lie in words
+module _ (w log block count left right x : ℕ) (power : w ≡ 2 ^ log) (size : IsBlockSize w block) where
+  some_block : 0 < block
+  some_block = block_some w block size
+
+  divides : (q : ℕ) × (w ≡ q * (2 * block))
+  divides = block_divides w log block power size
+
+  parity : (k r : ℕ) → (w * k + r) / block % 2 ≡ r / block % 2
+  parity k r = parity_inside w divides.0 block k r some_block divides.1
+
+  pub first_in_words : ((k : ℕ) → k < count → HasFirstBlocks w block (part_at w left k) (part_at w right k) (part_at w x k))
+      → HasFirstBlocks (w * count) block left right x
+  first_in_words each = by_word w count (w * count) _ (power_some log w power) refl (λ k r part inside. (
+    λ even. carried w x left k k r r _ _ inside inside refl refl ((each k part r inside).0 (sym (parity k r) ∙ even)),
+    λ odd.
+        let above = odd_is_above block r some_block (sym (parity k r) ∙ odd) in
+        carried w x right k k r (r - block) _ _ inside (omega arith) refl (omega arith) ((each k part r inside).1 (sym (parity k r) ∙ odd)),
+  ))
+
+  pub second_in_words : ((k : ℕ) → k < count → HasSecondBlocks w block (part_at w left k) (part_at w right k) (part_at w x k))
+      → HasSecondBlocks (w * count) block left right x
+  second_in_words each = by_word w count (w * count) _ (power_some log w power) refl (λ k r part inside. (
+    λ even.
+        let room = even_has_room w divides.0 block r some_block divides.1 inside (sym (parity k r) ∙ even) in
+        carried w x left k k r (r + block) _ _ inside room refl (omega arith) ((each k part r inside).0 (sym (parity k r) ∙ even)),
+    λ odd. carried w x right k k r r _ _ inside inside refl refl ((each k part r inside).1 (sym (parity k r) ∙ odd)),
+  ))
+
+-- blocks of words
+module _ (w m count width left right x : ℕ) (wide : 0 < w) (some : 0 < m) (is : width ≡ w * count) where
+  block_of : (k r : ℕ) → r < w → (w * k + r) / (w * m) % 2 ≡ k / m % 2
+  block_of k r inside =
+      ap (λ (n : ℕ). n % 2) (sym (div-div-eq-div-mul (w * k + r) w m))
+      ∙ ap (λ (n : ℕ). n / m % 2) (ap (λ (n : ℕ). (n + r) / w) (mul_comm w k) ∙ div-mul-add k w r inside)
+
+  pub first_of_words : ((k : ℕ) → k < count → (k / m % 2 ≡ 0 → part_at w x k ≡ part_at w left k) × (k / m % 2 ≡ 1 → part_at w x k ≡ part_at w right (k - m)))
+      → HasFirstBlocks width (w * m) left right x
+  first_of_words each = by_word w count width _ wide is (λ k r part inside. (
+    λ even. carried w x left k k r r _ _ inside inside refl refl (ap (λ (n : ℕ). bit_at n r) ((each k part).0 (sym (block_of k r inside) ∙ even))),
+    λ odd.
+        let is_odd = sym (block_of k r inside) ∙ odd in
+        let above = odd_is_above m k some is_odd in
+        let before = mul-add w (k - m) m in
+        let whole : w * (k - m + m) ≡ w * k = ap (λ (n : ℕ). w * n) (same_place k m above) in
+        carried w x right k (k - m) r r _ _ inside inside refl (omega arith) (ap (λ (n : ℕ). bit_at n r) ((each k part).1 is_odd)),
+  ))
+
+  pub second_of_words : ((k : ℕ) → k < count → (k / m % 2 ≡ 0 → part_at w x k ≡ part_at w left (k + m)) × (k / m % 2 ≡ 1 → part_at w x k ≡ part_at w right k))
+      → HasSecondBlocks width (w * m) left right x
+  second_of_words each = by_word w count width _ wide is (λ k r part inside. (
+    λ even.
+        let after = mul-add w k m in
+        carried w x left k (k + m) r r _ _ inside inside refl (omega arith) (ap (λ (n : ℕ). bit_at n r) ((each k part).0 (sym (block_of k r inside) ∙ even))),
+    λ odd. carried w x right k k r r _ _ inside inside refl refl (ap (λ (n : ℕ). bit_at n r) ((each k part).1 (sym (block_of k r inside) ∙ odd))),
+  ))
+
+-- ---- words of blocks, and their room
 
 pub even_in_word : (w block n m : ℕ) → w ≤ 64 → HasEvenBlocks 64 block n → m ≡ n % 2 ^ w → HasEvenBlocks w block m
 even_in_word w block n m narrow even is j less = ap (λ (x : ℕ). bit_at x j) is ∙ bit_at_mod n w j less ∙ even j (omega arith)
@@ -184,28 +193,16 @@ ones_fit w n i = ones-le (w * (i + 1)) (n % 2 ^ (w * (i + 1))) (mod-lt n (pow_po
 pub places_up : (w i count : ℕ) → i < count → w * (i + 1) ≤ w * count
 places_up w i count less = mul-le w (i + 1) w count (omega arith) (omega arith)
 
--- ---- the words of two blocks interleaved, each with that in its place
+-- ---- the words of blocks are the parts of their numbers
 
-pub first_in_joined : (count block : ℕ) (left right x : List ℕ) → IsBlockSize 64 block
+pub of_joined : (H : ℕ → ℕ → ℕ → Type 0) (count : ℕ) (left right x : List ℕ)
     → is_whole 64 count left ≡ true → is_whole 64 count right ≡ true → is_whole 64 count x ≡ true
-    → ((k : ℕ) → k < count → HasFirstBlocks 64 block (get_or left k 0) (get_or right k 0) (get_or x k 0))
-    → HasFirstBlocks (64 * count) block (joined 64 left) (joined 64 right) (joined 64 x)
-first_in_joined count block left right x size l r w each =
-    let divides = block_divides 64 6 block refl size in
-    first_in_words 64 divides.0 block count (joined 64 left) (joined 64 right) (joined 64 x) (block_some 64 block size) (lit< tt) divides.1
-    (λ k less.
-    subst (λ (z : ℕ). HasFirstBlocks 64 block (part_at 64 (joined 64 left) k) (part_at 64 (joined 64 right) k) z) (sym (joined-part 64 x (whole-below 64 count x w) k))
-    (subst (λ (z : ℕ). HasFirstBlocks 64 block (part_at 64 (joined 64 left) k) z (get_or x k 0)) (sym (joined-part 64 right (whole-below 64 count right r) k))
-    (subst (λ (z : ℕ). HasFirstBlocks 64 block z (get_or right k 0) (get_or x k 0)) (sym (joined-part 64 left (whole-below 64 count left l) k)) (each k less))))
-
-pub second_in_joined : (count block : ℕ) (left right x : List ℕ) → IsBlockSize 64 block
-    → is_whole 64 count left ≡ true → is_whole 64 count right ≡ true → is_whole 64 count x ≡ true
-    → ((k : ℕ) → k < count → HasSecondBlocks 64 block (get_or left k 0) (get_or right k 0) (get_or x k 0))
-    → HasSecondBlocks (64 * count) block (joined 64 left) (joined 64 right) (joined 64 x)
-second_in_joined count block left right x size l r w each =
-    let divides = block_divides 64 6 block refl size in
-    second_in_words 64 divides.0 block count (joined 64 left) (joined 64 right) (joined 64 x) (block_some 64 block size) (lit< tt) divides.1
-    (λ k less.
-    subst (λ (z : ℕ). HasSecondBlocks 64 block (part_at 64 (joined 64 left) k) (part_at 64 (joined 64 right) k) z) (sym (joined-part 64 x (whole-below 64 count x w) k))
-    (subst (λ (z : ℕ). HasSecondBlocks 64 block (part_at 64 (joined 64 left) k) z (get_or x k 0)) (sym (joined-part 64 right (whole-below 64 count right r) k))
-    (subst (λ (z : ℕ). HasSecondBlocks 64 block z (get_or right k 0) (get_or x k 0)) (sym (joined-part 64 left (whole-below 64 count left l) k)) (each k less))))
+    → ((k : ℕ) → k < count → H (get_or left k 0) (get_or right k 0) (get_or x k 0))
+    → (k : ℕ) → k < count → H (part_at 64 (joined 64 left) k) (part_at 64 (joined 64 right) k) (part_at 64 (joined 64 x) k)
+of_joined H count left right x l r w each k less =
+    subst (λ (z : ℕ). H (part_at 64 (joined 64 left) k) (part_at 64 (joined 64 right) k) z) (part x w)
+    (subst (λ (z : ℕ). H (part_at 64 (joined 64 left) k) z (get_or x k 0)) (part right r)
+    (subst (λ (z : ℕ). H z (get_or right k 0) (get_or x k 0)) (part left l) (each k less)))
+  where
+    part : (words : List ℕ) → is_whole 64 count words ≡ true → get_or words k 0 ≡ part_at 64 (joined 64 words) k
+    part words whole = sym (joined-part 64 words (whole-below 64 count words whole) k)

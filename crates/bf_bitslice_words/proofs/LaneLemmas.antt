@@ -5,7 +5,7 @@ use Rattle.std.specs.Int.{bit_at}
 use Rattle.std.proofs.lemmas.Nat.{pow_pos, shr-shr, shr_split, xor_shr, xor_mod, and_shr, and_mod, and_mask, div_below}
 use Rattle.std.proofs.lemmas.Nat.Bits.{bit_at_cat_low, bit_at_cat_high, bit_at_and, bit_at_xor, bit_at-zero, bit_at-lt, bit_at_above, ones_shr, same_from_bits_below}
 use native.Mathlib.Nat.{mod-lt}
-use Rattle.bf_bitslice_words.specs.Parts.{HasEvenBlocks, IsWithField, difference, part_at}
+use Rattle.bf_bitslice_words.specs.Parts.{HasEvenBlocks, HasFirstBlocks, HasSecondBlocks, IsWithField, difference, part_at}
 use Rattle.bf_bitslice_words.proofs.BlockPlaces.{before_quotient, odd_is_above}
 use Rattle.std.proofs.lemmas.Bool.{cases_lt}
 
@@ -27,9 +27,9 @@ part_xor w a b i = ap (λ (x : ℕ). x % 2 ^ w) (xor_shr a b (w * i)) ∙ xor_mo
 pub part_and : (w a b i : ℕ) → part_at w (bit_and a b) i ≡ bit_and (part_at w a i) (part_at w b i)
 part_and w a b i = ap (λ (x : ℕ). x % 2 ^ w) (and_shr a b (w * i)) ∙ and_mod (a / 2 ^ (w * i)) (b / 2 ^ (w * i)) w
 
--- a place is its part and its place in there
-pub place-split : (w j : ℕ) → w * (j / w) + j % w ≡ j
-place-split w j = omega arith
+-- a power of two is not 0
+pub power_some : (k n : ℕ) → n ≡ 2 ^ k → 0 < n
+power_some k n is = subst (λ (x : ℕ). 0 < x) (sym is) (pow_pos k)
 
 -- numbers of equal parts are equal
 pub same_from_parts : (w count a b : ℕ) → 0 < w → a < 2 ^ (w * count) → b < 2 ^ (w * count)
@@ -57,14 +57,14 @@ min_one x y less is = omega arith
 min_zero : (x y : ℕ) → y ≡ 0 → min x y ≡ 0
 min_zero x y is = omega arith
 
-pub even_difference : (w s kept left right j : ℕ) → HasEvenBlocks w s kept → j < w → j / s % 2 ≡ 0
+even_difference : (w s kept left right j : ℕ) → HasEvenBlocks w s kept → j < w → j / s % 2 ≡ 0
     → bit_at (difference s kept left right) j ≡ (bit_at left (s + j) + bit_at right j) % 2
 even_difference w s kept left right j even less is =
     bit_at_and (bit_xor (left / 2 ^ s) right) kept j
     ∙ min_one (bit_at (bit_xor (left / 2 ^ s) right) j) (bit_at kept j) (bit_at-lt (bit_xor (left / 2 ^ s) right) j) (even j less ∙ omega arith)
     ∙ bit_at_xor (left / 2 ^ s) right j ∙ ap (λ (x : ℕ). (x + bit_at right j) % 2) (bit_at_shr left s j)
 
-pub odd_difference : (w s kept left right j : ℕ) → HasEvenBlocks w s kept → j < w → j / s % 2 ≡ 1
+odd_difference : (w s kept left right j : ℕ) → HasEvenBlocks w s kept → j < w → j / s % 2 ≡ 1
     → bit_at (difference s kept left right) j ≡ 0
 odd_difference w s kept left right j even less is =
     bit_at_and (bit_xor (left / 2 ^ s) right) kept j
@@ -80,7 +80,7 @@ alone : (x y : ℕ) → x < 2 → y ≡ 0 → (x + y) % 2 ≡ x
 alone x y p q = omega arith
 
 -- the first result of the exchange: even blocks of the left operand, and below each odd block the even one of the right
-pub first_even : (w s kept left right j : ℕ) → 0 < s → HasEvenBlocks w s kept → j < w → j / s % 2 ≡ 0
+first_even : (w s kept left right j : ℕ) → 0 < s → HasEvenBlocks w s kept → j < w → j / s % 2 ≡ 0
     → bit_at (bit_xor left (difference s kept left right * 2 ^ s % 2 ^ w)) j ≡ bit_at left j
 first_even w s kept left right j some even less is =
     bit_at_xor left (difference s kept left right * 2 ^ s % 2 ^ w) j
@@ -94,7 +94,7 @@ first_even w s kept left right j some even less is =
         bit_at_shl_high (difference s kept left right) s j more
         ∙ odd_difference w s kept left right (j - s) even (omega arith) (omega arith)
 
-pub first_odd : (w s kept left right j : ℕ) → 0 < s → HasEvenBlocks w s kept → j < w → j / s % 2 ≡ 1
+first_odd : (w s kept left right j : ℕ) → 0 < s → HasEvenBlocks w s kept → j < w → j / s % 2 ≡ 1
     → bit_at (bit_xor left (difference s kept left right * 2 ^ s % 2 ^ w)) j ≡ bit_at right (j - s)
 first_odd w s kept left right j some even less is =
     let more = odd_is_above s j some is in
@@ -107,7 +107,7 @@ first_odd w s kept left right j some even less is =
     ∙ ap (λ (x : ℕ). (bit_at left x + bit_at right (j - s)) % 2) place)
     ∙ twice (bit_at left j) (bit_at right (j - s)) (bit_at-lt left j) (bit_at-lt right (j - s))
 
-pub second_even : (w s kept left right j : ℕ) → HasEvenBlocks w s kept → j < w → j / s % 2 ≡ 0
+second_even : (w s kept left right j : ℕ) → HasEvenBlocks w s kept → j < w → j / s % 2 ≡ 0
     → bit_at (bit_xor right (difference s kept left right)) j ≡ bit_at left (j + s)
 second_even w s kept left right j even less is =
     bit_at_xor right (difference s kept left right) j
@@ -115,11 +115,19 @@ second_even w s kept left right j even less is =
     ∙ twice_right (bit_at left (s + j)) (bit_at right j) (bit_at-lt left (s + j)) (bit_at-lt right j)
     ∙ ap (bit_at left) (omega arith)
 
-pub second_odd : (w s kept left right j : ℕ) → HasEvenBlocks w s kept → j < w → j / s % 2 ≡ 1
+second_odd : (w s kept left right j : ℕ) → HasEvenBlocks w s kept → j < w → j / s % 2 ≡ 1
     → bit_at (bit_xor right (difference s kept left right)) j ≡ bit_at right j
 second_odd w s kept left right j even less is =
     bit_at_xor right (difference s kept left right) j
     ∙ alone (bit_at right j) (bit_at (difference s kept left right) j) (bit_at-lt right j) (odd_difference w s kept left right j even less is)
+
+pub first_blocks : (w s kept left right : ℕ) → 0 < s → HasEvenBlocks w s kept
+    → HasFirstBlocks w s left right (bit_xor left (difference s kept left right * 2 ^ s % 2 ^ w))
+first_blocks w s kept left right some even j less =
+    (first_even w s kept left right j some even less, first_odd w s kept left right j some even less)
+
+pub second_blocks : (w s kept left right : ℕ) → HasEvenBlocks w s kept → HasSecondBlocks w s left right (bit_xor right (difference s kept left right))
+second_blocks w s kept left right even j less = (second_even w s kept left right j even less, second_odd w s kept left right j even less)
 
 -- a run of bits replaced by its difference from them
 pub field_bits : (w s m word value : ℕ) → s + m ≤ w

@@ -4,7 +4,7 @@ use Rattle.std.specs.Simd.Lanes.{Each1, zip2}
 use Rattle.std.proofs.lemmas.List.{get_or-replicate, length-replicate}
 use Rattle.std.proofs.lemmas.Simd.{Each2-splat, get_or-zip2, length-zip2}
 use Rattle.bf_bitslice_words.specs.Parts.{HasFirstBlocks, HasSecondBlocks}
-use Rattle.bf_bitslice_words.proofs.LaneLemmas.{first_even, first_odd, second_even, second_odd}
+use Rattle.bf_bitslice_words.proofs.LaneLemmas.{first_blocks, second_blocks}
 use Rattle.bf_bitslice_words.proofs.block.interleave_lanes.Goals as goal
 
 every : {A : Type 0} (P : A → Type 0) → ((x : A) → P x) → (xs : List A) → Each1 P xs
@@ -61,29 +61,13 @@ second_at f1 f2 f3 f4 l r n b e k left right less =
     ∙ ap (f4 (get_or r k 0)) (change_at f1 f2 f3 l r n b e k left right less)
 
 pub returns-clause-first : goal.returns-clause-first
-returns-clause-first g c = λ k less.
-    let left : length c.args.left.now.words ≡ g.row.N = search rules in
-    let right : length c.args.right.now.words ≡ g.row.N = search rules in
-    let even = c.even_word-even.result in
-    let l = get_or c.args.left.now.words k 0 in
-    let r = get_or c.args.right.now.words k 0 in
-    subst (HasFirstBlocks 64 c.args.block l r)
-    (sym (first_at _ _ _ _ _ c.args.left.now.words c.args.right.now.words g.row.N c.args.block even k left right less))
-    (λ j inside. (
-      first_even 64 c.args.block even l r j c.even_word-even.ensures.some c.even_word-even.ensures.even inside,
-      first_odd 64 c.args.block even l r j c.even_word-even.ensures.some c.even_word-even.ensures.even inside,
-    ))
+returns-clause-first g c k less =
+    subst (HasFirstBlocks 64 c.args.block _ _)
+    (sym (first_at _ _ _ _ _ c.args.left.now.words c.args.right.now.words g.row.N c.args.block c.even_word-even.result k (search rules) (search rules) less))
+    (first_blocks 64 c.args.block c.even_word-even.result _ _ c.even_word-even.ensures.some c.even_word-even.ensures.even)
 
 pub returns-clause-second : goal.returns-clause-second
-returns-clause-second g c = λ k less.
-    let left : length c.args.left.now.words ≡ g.row.N = search rules in
-    let right : length c.args.right.now.words ≡ g.row.N = search rules in
-    let even = c.even_word-even.result in
-    let l = get_or c.args.left.now.words k 0 in
-    let r = get_or c.args.right.now.words k 0 in
-    subst (HasSecondBlocks 64 c.args.block l r)
-    (sym (second_at _ _ _ _ c.args.left.now.words c.args.right.now.words g.row.N c.args.block even k left right less))
-    (λ j inside. (
-      second_even 64 c.args.block even l r j c.even_word-even.ensures.even inside,
-      second_odd 64 c.args.block even l r j c.even_word-even.ensures.even inside,
-    ))
+returns-clause-second g c k less =
+    subst (HasSecondBlocks 64 c.args.block _ _)
+    (sym (second_at _ _ _ _ c.args.left.now.words c.args.right.now.words g.row.N c.args.block c.even_word-even.result k (search rules) (search rules) less))
+    (second_blocks 64 c.args.block c.even_word-even.result _ _ c.even_word-even.ensures.even)

@@ -1,7 +1,7 @@
-use Rattle.std.proofs.Common.{◌≡◌, ◌<◌, ◌+◌, ◌-◌, ◌*◌, ◌/◌, ◌%◌, ℕ, true, sym, subst, arith, rules}
-use Rattle.std.proofs.lemmas.Nat.{pow_pos}
-use Rattle.bf_bitslice_words.specs.Parts.{HasFirstBlocks, HasSecondBlocks, part_at}
+use Rattle.std.proofs.Common.{◌≡◌, ◌<◌, ◌+◌, ◌-◌, ◌/◌, ◌%◌, ℕ, true, sym, subst, arith, rules}
+use Rattle.bf_bitslice_words.specs.Parts.{part_at}
 use Rattle.bf_bitslice_words.proofs.BlockLemmas.{block_some, first_of_words, more_parts, second_of_words}
+use Rattle.bf_bitslice_words.proofs.LaneLemmas.{power_some}
 use Rattle.bf_bitslice_words.proofs.rows.interleave_words.Goals as goal
 
 pub loop-i-init : goal.loop-i-init
@@ -37,20 +37,10 @@ loop-i-preserved g c =
 
 pub returns-clause-first : goal.returns-clause-first
 returns-clause-first g c =
-    let row = g.U.Underlier in
-    let word = g.U.Word.Word in
-    let bits = g.met.U.Underlier.bits_law in
-    let some : 0 < word.BITS = subst (λ (n : ℕ). 0 < n) (sym g.met.U.Word.Word.bits_law) (pow_pos word.log_bits) in
-    subst (λ (n : ℕ). HasFirstBlocks n (word.BITS * c.args.block) (row.number c.args.left.now) (row.number c.args.right.now) (row.number c.loop-i.first)) (sym bits)
-    (first_of_words word.BITS c.args.block row.WORD_COUNT (row.number c.args.left.now) (row.number c.args.right.now) (row.number c.loop-i.first)
-    some (block_some row.WORD_COUNT c.args.block c.requires) (λ k less. let here : k < c.loop-i.i = omega arith in c.loop-i.invariant.first k here))
+    first_of_words g.U.Word.Word.BITS c.args.block g.U.Underlier.WORD_COUNT g.U.Underlier.BITS _ _ _ (power_some _ _ g.met.U.Word.Word.bits_law)
+    (block_some _ _ c.requires) g.met.U.Underlier.bits_law (λ k less. let here : k < c.loop-i.i = omega arith in c.loop-i.invariant.first k here)
 
 pub returns-clause-second : goal.returns-clause-second
 returns-clause-second g c =
-    let row = g.U.Underlier in
-    let word = g.U.Word.Word in
-    let bits = g.met.U.Underlier.bits_law in
-    let some : 0 < word.BITS = subst (λ (n : ℕ). 0 < n) (sym g.met.U.Word.Word.bits_law) (pow_pos word.log_bits) in
-    subst (λ (n : ℕ). HasSecondBlocks n (word.BITS * c.args.block) (row.number c.args.left.now) (row.number c.args.right.now) (row.number c.loop-i.second)) (sym bits)
-    (second_of_words word.BITS c.args.block row.WORD_COUNT (row.number c.args.left.now) (row.number c.args.right.now) (row.number c.loop-i.second)
-    some (block_some row.WORD_COUNT c.args.block c.requires) (λ k less. let here : k < c.loop-i.i = omega arith in c.loop-i.invariant.second k here))
+    second_of_words g.U.Word.Word.BITS c.args.block g.U.Underlier.WORD_COUNT g.U.Underlier.BITS _ _ _ (power_some _ _ g.met.U.Word.Word.bits_law)
+    (block_some _ _ c.requires) g.met.U.Underlier.bits_law (λ k less. let here : k < c.loop-i.i = omega arith in c.loop-i.invariant.second k here)

@@ -1,13 +1,14 @@
-use Rattle.std.proofs.Common.{◌<◌, ℕ, subst, sym, arith}
-use Rattle.std.proofs.lemmas.Nat.{mul-le, pow_pos}
+use Rattle.std.proofs.Common.{arith}
+use Rattle.std.proofs.lemmas.Nat.{mul-le}
 use Rattle.bf_bitslice_words.proofs.BlockLemmas.{room_for_words}
+use Rattle.bf_bitslice_words.proofs.LaneLemmas.{power_some}
 use Rattle.bf_bitslice_words.proofs.rows.second_word.Goals as goal
 
 pub overflow_add-i : goal.overflow_add-i
 overflow_add-i g c =
     let row = g.U.Underlier in
     let word = g.U.Word.Word in
-    let some : 0 < word.BITS = subst (λ (n : ℕ). 0 < n) (sym g.met.U.Word.Word.bits_law) (pow_pos word.log_bits) in
+    let some = power_some _ _ g.met.U.Word.Word.bits_law in
     let room = room_for_words row.WORD_COUNT row.log_words c.args.block c.args.i g.met.U.Underlier.words_law c.requires.block c.requires.inside c.if-i-block-eq0.true in
     let least = mul-le 1 row.WORD_COUNT word.BITS row.WORD_COUNT (omega (arith, some)) (omega arith) in
     let bits = g.met.U.Underlier.bits_law in
