@@ -13,13 +13,7 @@ pub fn bits_xor<U: Underlier>(left: &U, right: &U) -> U
     ensures number { U.number result ≡ bit_xor (U.number left.now) (U.number right.now) }
     ensures whole { IsTrue (U.is_whole result) }
 {
-    let mut sum = U::ZERO;
-    for i in 0..U::WORD_COUNT {
-        let upper = left.word(i);
-        let lower = right.word(i);
-        sum.set_word(i, upper ^ lower);
-    }
-    sum
+    left.zip(*right, |x, y| x ^ y)
 }
 
 /// The bits that are set in both rows.
@@ -30,13 +24,7 @@ pub fn bits_and<U: Underlier>(left: &U, right: &U) -> U
     ensures number { U.number result ≡ bit_and (U.number left.now) (U.number right.now) }
     ensures whole { IsTrue (U.is_whole result) }
 {
-    let mut product = U::ZERO;
-    for i in 0..U::WORD_COUNT {
-        let upper = left.word(i);
-        let lower = right.word(i);
-        product.set_word(i, upper & lower);
-    }
-    product
+    left.zip(*right, |x, y| x & y)
 }
 
 /// How many bits of the row are set.
