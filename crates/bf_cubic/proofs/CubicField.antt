@@ -10,10 +10,10 @@ use Rattle.bf_base.specs.Field.{HasInverses, IsField}
 use Rattle.bf_base.specs.Powers.{repeated_square}
 use Rattle.bf_base.specs.Ring.{IsRing}
 use Rattle.bf_base.specs.Chunks.{chunk}
-use Rattle.bf_cubic.proofs.CubicRing.{chunk_below, cubic_ring, cubic-scales, cubic-triples, product_0, product_1, product_2, same₃, second-triple, third-triple, triple-chunks, triple-low, triple-lt}
+use Rattle.bf_cubic.proofs.CubicRing.{chunk_below, cubic_ring, cubic-scales, cubic-triples, product_0, product_of_three, same₃, sums, second-triple, third-triple, triple-chunks, triple-low, triple-lt}
 use Rattle.bf_base.proofs.FieldLemmas.{divisor-zero, field_frobenius, no_zero_divisors}
 use Rattle.bf_base.proofs.PowerLemmas.{one-times, square_xor, repeated_square-add, repeated_square-lt, repeated_square-mod, repeated_square-none, repeated_square_more, times-one}
-use Rattle.bf_base.proofs.RingLemmas.{sum_times, times-zero, times_left_comm, xor_cancel, xor_left_comm, xor_nothing, zero-times}
+use Rattle.bf_base.proofs.RingLemmas.{sum_times, times-zero, times_left_comm, xor_cancel, xor_nothing, zero-times}
 
 -- ---- the polynomial has no root
 
@@ -91,37 +91,14 @@ module _ (width : ℕ) (times : ℕ → ℕ → ℕ) (ring : IsRing width 1 time
   pub adjugate_2-lt : (a0 a1 a2 : ℕ) → adjugate_2 a0 a1 a2 < 2 ^ width
   adjugate_2-lt a0 a1 a2 = xor_lt width _ _ (xor_lt width _ _ (ring.below a1 a1) (ring.below a2 a2)) (ring.below a0 a2)
 
-  adjugate-second : (a0 a1 a2 : ℕ)
-      → product_1 width times ring a0 a1 a2 (adjugate_0 a0 a1 a2) (adjugate_1 a0 a1 a2) (adjugate_2 a0 a1 a2) ≡ 0
-  adjugate-second a0 a1 a2 =
-      simp (
-        ring.over_sum,
-        ring.assoc,
-        ring.comm,
-        times_left_comm width 1 times ring,
-        xor_assoc,
-        xor_comm,
-        xor_left_comm,
-        xor_self,
-        xor_cancel,
-        xor_zero_r,
-      )
-
-  adjugate-third : (a0 a1 a2 : ℕ)
-      → product_2 width times ring a0 a1 a2 (adjugate_0 a0 a1 a2) (adjugate_1 a0 a1 a2) (adjugate_2 a0 a1 a2) ≡ 0
-  adjugate-third a0 a1 a2 =
-      simp (
-        ring.over_sum,
-        ring.assoc,
-        ring.comm,
-        times_left_comm width 1 times ring,
-        xor_assoc,
-        xor_comm,
-        xor_left_comm,
-        xor_self,
-        xor_cancel,
-        xor_zero_r,
-      )
+  -- the product with the adjugate has the norm alone
+  norm_alone : (a0 a1 a2 : ℕ)
+      → product_of_three width times ring a0 a1 a2 (adjugate_0 a0 a1 a2) (adjugate_1 a0 a1 a2) (adjugate_2 a0 a1 a2)
+      ≡ triple width (cubic_norm a0 a1 a2) 0 0
+  norm_alone a0 a1 a2 =
+      same₃ (triple width) refl
+      (simp (ring.over_sum, ring.comm, times_left_comm width 1 times ring, sums))
+      (simp (ring.over_sum, ring.comm, times_left_comm width 1 times ring, sums))
 
   pub times_adjugate : (a0 a1 a2 : ℕ) → a0 < 2 ^ width → a1 < 2 ^ width → a2 < 2 ^ width
       → cubic width times (triple width a0 a1 a2) (triple width (adjugate_0 a0 a1 a2) (adjugate_1 a0 a1 a2) (adjugate_2 a0 a1 a2))
@@ -129,7 +106,7 @@ module _ (width : ℕ) (times : ℕ → ℕ → ℕ) (ring : IsRing width 1 time
   times_adjugate a0 a1 a2 fits0 fits1 fits2 =
       cubic-triples width times ring a0 a1 a2 _ _ _ fits0 fits1 fits2 (adjugate_0-lt a0 a1 a2) (adjugate_1-lt a0 a1 a2)
       (adjugate_2-lt a0 a1 a2)
-      ∙ same₃ (triple width) refl (adjugate-second a0 a1 a2) (adjugate-third a0 a1 a2)
+      ∙ norm_alone a0 a1 a2
 
   pub norm-lt : (a0 a1 a2 : ℕ) → cubic_norm a0 a1 a2 < 2 ^ width
   norm-lt a0 a1 a2 =
@@ -143,8 +120,7 @@ module _ (width : ℕ) (times : ℕ → ℕ → ℕ) (ring : IsRing width 1 time
       cubic-triples width times ring a0 a1 a2 a1 a2 0 fits0 fits1 fits2 fits1 fits2 (pow_pos width)
       ∙ same₃ (triple width)
       (simp (times-zero width 1 times ring, xor_zero_r))
-      (simp (times-zero width 1 times ring, ring.comm, xor_assoc, xor_comm, xor_left_comm, xor_zero_r))
-      (simp (times-zero width 1 times ring, ring.comm, xor_self, xor_zero_r))
+      (simp (times-zero width 1 times ring, ring.comm, sums)) (simp (times-zero width 1 times ring, ring.comm, sums))
 
   -- a multiple of the adjugate by the inverse of the norm is the inverse
   pub scaled_adjugate : 0 < width → (a0 a1 a2 m : ℕ) → a0 < 2 ^ width → a1 < 2 ^ width → a2 < 2 ^ width → m < 2 ^ width
@@ -173,15 +149,7 @@ module _ (width : ℕ) (times : ℕ → ℕ → ℕ) (field : IsField width time
   linear_norm : (a0 a1 : ℕ) → cubic_norm width times field.ring a0 a1 0
       ≡ bit_xor (bit_xor (times a0 (times a0 a0)) (times a0 (times a1 a1))) (times a1 (times a1 a1))
   linear_norm a0 a1 =
-      simp (
-        zero-times width 1 times field.ring,
-        times-zero width 1 times field.ring,
-        field.ring.over_sum,
-        xor_assoc,
-        xor_comm,
-        xor_left_comm,
-        xor_zero_r,
-      )
+      simp (zero-times width 1 times field.ring, times-zero width 1 times field.ring, field.ring.over_sum, sums)
 
   -- where a0 is x a1, it is (x³ + x + 1) a1³
   norm_of_multiple : (x a1 : ℕ)
@@ -352,9 +320,7 @@ module _ (width : ℕ) (times : ℕ → ℕ → ℕ) (ring : IsRing width 1 time
   cubic-square a0 a1 a2 fits0 fits1 fits2 =
       cubic-triples width times ring a0 a1 a2 a0 a1 a2 fits0 fits1 fits2 fits0 fits1 fits2
       ∙ same₃ (triple width)
-      (simp (ring.comm, xor_assoc, xor_self, xor_zero_r))
-      (simp (ring.comm, xor_assoc, xor_comm, xor_left_comm, xor_self, xor_cancel, xor_zero_r))
-      (simp (ring.comm, xor_assoc, xor_comm, xor_left_comm, xor_self, xor_cancel, xor_zero_r))
+      (simp (ring.comm, sums)) (simp (ring.comm, sums)) (simp (ring.comm, sums))
 
   -- one squaring more
   square_once : (n a x y z : ℕ) → x < 2 ^ width → y < 2 ^ width → z < 2 ^ width

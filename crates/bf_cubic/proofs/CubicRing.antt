@@ -15,6 +15,9 @@ use Rattle.bf_base.proofs.QuadraticProducts.{pair-low}
 use Rattle.bf_base.proofs.QuadraticRing.{high_half-pair, low_half-pair, pair-halves, pair-lt, pair_xor}
 use Rattle.bf_base.proofs.RingLemmas.{sum_times, times-zero, xor_cancel, xor_left_comm, zero-times}
 
+-- terms of a sum in any order, of which two equal ones leave nothing
+pub ruleset sums = (xor_assoc, xor_comm, xor_left_comm, xor_self, xor_cancel, xor_zero_r)
+
 -- ---- coefficients
 
 pub same₃ : (f : ℕ → ℕ → ℕ → ℕ) → {x x' y y' z z' : ℕ} → x ≡ x' → y ≡ y' → z ≡ z' → f x y z ≡ f x' y' z'
@@ -199,92 +202,38 @@ module _ (width : ℕ) (times : ℕ → ℕ → ℕ) (ring : IsRing width 1 time
       subst (λ (x : ℕ). x < 2 ^ (width + width + width)) (sym (cubic-chunks a b))
       (triple-lt width _ _ _ (product_0-lt _ _ _ _ _ _) (product_1-lt _ _ _ _ _ _) (product_2-lt _ _ _ _ _ _))
 
-  product_0-comm : (a0 a1 a2 b0 b1 b2 : ℕ) → product_0 a0 a1 a2 b0 b1 b2 ≡ product_0 b0 b1 b2 a0 a1 a2
-  product_0-comm a0 a1 a2 b0 b1 b2 = simp (ring.comm, xor_assoc, xor_comm, xor_left_comm)
-
-  product_1-comm : (a0 a1 a2 b0 b1 b2 : ℕ) → product_1 a0 a1 a2 b0 b1 b2 ≡ product_1 b0 b1 b2 a0 a1 a2
-  product_1-comm a0 a1 a2 b0 b1 b2 = simp (ring.comm, xor_assoc, xor_comm, xor_left_comm)
-
-  product_2-comm : (a0 a1 a2 b0 b1 b2 : ℕ) → product_2 a0 a1 a2 b0 b1 b2 ≡ product_2 b0 b1 b2 a0 a1 a2
-  product_2-comm a0 a1 a2 b0 b1 b2 = simp (ring.comm, xor_assoc, xor_comm, xor_left_comm)
+  products-comm : (a0 a1 a2 b0 b1 b2 : ℕ) → product_of_three a0 a1 a2 b0 b1 b2 ≡ product_of_three b0 b1 b2 a0 a1 a2
+  products-comm a0 a1 a2 b0 b1 b2 =
+      same₃ (triple width) (simp (ring.comm, sums)) (simp (ring.comm, sums)) (simp (ring.comm, sums))
 
   cubic_comm : (a b : ℕ) → cubic width times a b ≡ cubic width times b a
   cubic_comm a b =
-      cubic-chunks a b
-      ∙ same₃ (triple width) (product_0-comm _ _ _ _ _ _) (product_1-comm _ _ _ _ _ _) (product_2-comm _ _ _ _ _ _)
-      ∙ sym (cubic-chunks b a)
+      cubic-chunks a b ∙ products-comm _ _ _ _ _ _ ∙ sym (cubic-chunks b a)
 
-  product_0-assoc : (a0 a1 a2 b0 b1 b2 c0 c1 c2 : ℕ)
-      → product_0 (product_0 a0 a1 a2 b0 b1 b2) (product_1 a0 a1 a2 b0 b1 b2) (product_2 a0 a1 a2 b0 b1 b2) c0 c1 c2
-      ≡ product_0 a0 a1 a2 (product_0 b0 b1 b2 c0 c1 c2) (product_1 b0 b1 b2 c0 c1 c2) (product_2 b0 b1 b2 c0 c1 c2)
-  product_0-assoc a0 a1 a2 b0 b1 b2 c0 c1 c2 =
-      simp (
-        sum_times width 1 times ring,
-        ring.over_sum,
-        ring.assoc,
-        xor_assoc,
-        xor_comm,
-        xor_left_comm,
-        xor_self,
-        xor_cancel,
-        xor_zero_r,
-      )
-
-  product_1-assoc : (a0 a1 a2 b0 b1 b2 c0 c1 c2 : ℕ)
-      → product_1 (product_0 a0 a1 a2 b0 b1 b2) (product_1 a0 a1 a2 b0 b1 b2) (product_2 a0 a1 a2 b0 b1 b2) c0 c1 c2
-      ≡ product_1 a0 a1 a2 (product_0 b0 b1 b2 c0 c1 c2) (product_1 b0 b1 b2 c0 c1 c2) (product_2 b0 b1 b2 c0 c1 c2)
-  product_1-assoc a0 a1 a2 b0 b1 b2 c0 c1 c2 =
-      simp (
-        sum_times width 1 times ring,
-        ring.over_sum,
-        ring.assoc,
-        xor_assoc,
-        xor_comm,
-        xor_left_comm,
-        xor_self,
-        xor_cancel,
-        xor_zero_r,
-      )
-
-  product_2-assoc : (a0 a1 a2 b0 b1 b2 c0 c1 c2 : ℕ)
-      → product_2 (product_0 a0 a1 a2 b0 b1 b2) (product_1 a0 a1 a2 b0 b1 b2) (product_2 a0 a1 a2 b0 b1 b2) c0 c1 c2
-      ≡ product_2 a0 a1 a2 (product_0 b0 b1 b2 c0 c1 c2) (product_1 b0 b1 b2 c0 c1 c2) (product_2 b0 b1 b2 c0 c1 c2)
-  product_2-assoc a0 a1 a2 b0 b1 b2 c0 c1 c2 =
-      simp (
-        sum_times width 1 times ring,
-        ring.over_sum,
-        ring.assoc,
-        xor_assoc,
-        xor_comm,
-        xor_left_comm,
-        xor_self,
-        xor_cancel,
-        xor_zero_r,
-      )
+  products-assoc : (a0 a1 a2 b0 b1 b2 c0 c1 c2 : ℕ)
+      → product_of_three (product_0 a0 a1 a2 b0 b1 b2) (product_1 a0 a1 a2 b0 b1 b2) (product_2 a0 a1 a2 b0 b1 b2) c0 c1 c2
+      ≡ product_of_three a0 a1 a2 (product_0 b0 b1 b2 c0 c1 c2) (product_1 b0 b1 b2 c0 c1 c2) (product_2 b0 b1 b2 c0 c1 c2)
+  products-assoc a0 a1 a2 b0 b1 b2 c0 c1 c2 =
+      same₃ (triple width)
+      (simp (sum_times width 1 times ring, ring.over_sum, ring.assoc, sums))
+      (simp (sum_times width 1 times ring, ring.over_sum, ring.assoc, sums))
+      (simp (sum_times width 1 times ring, ring.over_sum, ring.assoc, sums))
 
   cubic_assoc : (a b c : ℕ) → cubic width times (cubic width times a b) c ≡ cubic width times a (cubic width times b c)
   cubic_assoc a b c =
       ap (λ (x : ℕ). cubic width times x c) (cubic-chunks a b)
       ∙ cubic-triple_left _ _ _ c (product_0-lt _ _ _ _ _ _) (product_1-lt _ _ _ _ _ _) (product_2-lt _ _ _ _ _ _)
-      ∙ same₃ (triple width) (product_0-assoc _ _ _ _ _ _ _ _ _) (product_1-assoc _ _ _ _ _ _ _ _ _)
-      (product_2-assoc _ _ _ _ _ _ _ _ _)
+      ∙ products-assoc _ _ _ _ _ _ _ _ _
       ∙ sym (cubic-triple_right a _ _ _ (product_0-lt _ _ _ _ _ _) (product_1-lt _ _ _ _ _ _) (product_2-lt _ _ _ _ _ _))
       ∙ ap (λ (x : ℕ). cubic width times a x) (sym (cubic-chunks b c))
 
-  product_0-over_sum : (a0 a1 a2 b0 b1 b2 c0 c1 c2 : ℕ)
-      → product_0 a0 a1 a2 (bit_xor b0 c0) (bit_xor b1 c1) (bit_xor b2 c2)
-      ≡ bit_xor (product_0 a0 a1 a2 b0 b1 b2) (product_0 a0 a1 a2 c0 c1 c2)
-  product_0-over_sum a0 a1 a2 b0 b1 b2 c0 c1 c2 = simp (ring.over_sum, xor_assoc, xor_comm, xor_left_comm)
-
-  product_1-over_sum : (a0 a1 a2 b0 b1 b2 c0 c1 c2 : ℕ)
-      → product_1 a0 a1 a2 (bit_xor b0 c0) (bit_xor b1 c1) (bit_xor b2 c2)
-      ≡ bit_xor (product_1 a0 a1 a2 b0 b1 b2) (product_1 a0 a1 a2 c0 c1 c2)
-  product_1-over_sum a0 a1 a2 b0 b1 b2 c0 c1 c2 = simp (ring.over_sum, xor_assoc, xor_comm, xor_left_comm)
-
-  product_2-over_sum : (a0 a1 a2 b0 b1 b2 c0 c1 c2 : ℕ)
-      → product_2 a0 a1 a2 (bit_xor b0 c0) (bit_xor b1 c1) (bit_xor b2 c2)
-      ≡ bit_xor (product_2 a0 a1 a2 b0 b1 b2) (product_2 a0 a1 a2 c0 c1 c2)
-  product_2-over_sum a0 a1 a2 b0 b1 b2 c0 c1 c2 = simp (ring.over_sum, xor_assoc, xor_comm, xor_left_comm)
+  products-over_sum : (a0 a1 a2 b0 b1 b2 c0 c1 c2 : ℕ)
+      → product_of_three a0 a1 a2 (bit_xor b0 c0) (bit_xor b1 c1) (bit_xor b2 c2)
+      ≡ triple width (bit_xor (product_0 a0 a1 a2 b0 b1 b2) (product_0 a0 a1 a2 c0 c1 c2))
+      (bit_xor (product_1 a0 a1 a2 b0 b1 b2) (product_1 a0 a1 a2 c0 c1 c2))
+      (bit_xor (product_2 a0 a1 a2 b0 b1 b2) (product_2 a0 a1 a2 c0 c1 c2))
+  products-over_sum a0 a1 a2 b0 b1 b2 c0 c1 c2 =
+      same₃ (triple width) (simp (ring.over_sum, sums)) (simp (ring.over_sum, sums)) (simp (ring.over_sum, sums))
 
   cubic_over_sum : (a b c : ℕ) → cubic width times a (bit_xor b c)
       ≡ bit_xor (cubic width times a b) (cubic width times a c)
@@ -292,8 +241,7 @@ module _ (width : ℕ) (times : ℕ → ℕ → ℕ) (ring : IsRing width 1 time
       cubic-chunks a (bit_xor b c)
       ∙ same₃ (product_of_three (chunk width 0 a) (chunk width 1 a) (chunk width 2 a))
       (chunk_xor width 0 b c) (chunk_xor width 1 b c) (chunk_xor width 2 b c)
-      ∙ same₃ (triple width) (product_0-over_sum _ _ _ _ _ _ _ _ _) (product_1-over_sum _ _ _ _ _ _ _ _ _)
-      (product_2-over_sum _ _ _ _ _ _ _ _ _)
+      ∙ products-over_sum _ _ _ _ _ _ _ _ _
       ∙ sym (triple_sum width _ _ _ _ _ _ (product_0-lt _ _ _ _ _ _) (product_0-lt _ _ _ _ _ _)
       (product_1-lt _ _ _ _ _ _) (product_1-lt _ _ _ _ _ _))
       ∙ sym (ap₂ bit_xor (cubic-chunks a b) (cubic-chunks a c))
