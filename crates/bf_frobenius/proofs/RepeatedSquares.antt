@@ -1,8 +1,9 @@
 -- Sums of entries are repeated squares: at 128 bits from map to map, and at a lower level since its elements are elements
 -- of 128 bits.
-use Rattle.std.proofs.Common.{◌≡◌, ◌≢◌, ℕ, zero, suc, ◌+◌, ◌*◌, ◌/◌, ◌%◌, ◌^◌, ◌<◌, ◌≤◌, ◌-◌, true, List, length, get_or, refl, sym, ◌∙◌, ap, subst, arith, lit<}
+use Rattle.std.proofs.Common.{◌≡◌, ◌≢◌, ℕ, zero, suc, ◌+◌, ◌*◌, ◌/◌, ◌%◌, ◌^◌, ◌<◌, ◌≤◌, ◌-◌, true, List, length, get_or, sym, ◌∙◌, ap, subst, arith, lit<}
+use Rattle.std.proofs.Math.Nat.{two-pow-succ}
 use Rattle.std.proofs.lemmas.Bool.{eqb-true}
-use Rattle.std.proofs.lemmas.Nat.{mod-pow-add, pow-add, pow_below, pow_pos}
+use Rattle.std.proofs.lemmas.Nat.{mod-pow-add, pow_below, pow_pos}
 use native.Mathlib.Nat.{mod-eq_of_lt, one-mul, pow-le-pow_right, zero-add, zero-mul}
 use Rattle.bf_base.specs.LinearMaps.{linear_image}
 use Rattle.bf_base.specs.Powers.{repeated_square}
@@ -11,20 +12,14 @@ use Rattle.bf_base.proofs.AdditiveMaps.{KeepsSums, maps_agree, agree_on_powers-t
 use Rattle.bf_base.proofs.BasisColumns.{sum_of_columns, sum_of_columns-sum}
 use Rattle.bf_base.proofs.LinearMapLemmas.{linear_image-columns}
 use Rattle.bf_base.proofs.PowerLemmas.{square_xor, repeated_square-add, repeated_square-lt, repeated_square_square, repeated_square-none}
-use Rattle.bf_base.proofs.TableChecks.{passes, passes_at}
+use Rattle.bf_base.proofs.TableChecks.{passes_at}
 use Rattle.bf_base.proofs.TowerProducts.{level-lt, tower_mul-low}
 use Rattle.bf_base.proofs.TowerRing.{tower_ring}
 use Rattle.bf_basis.specs.LinearMap.{sum_of_values}
 use Rattle.bf_basis.proofs.DigitMaps.{sum_of_values_is}
 use Rattle.bf_basis.proofs.TabledMaps.{Hold, digit_value}
 use Rattle.bf_tables.proofs.Squares.{square_of, square_of_is}
-use Rattle.bf_frobenius.specs.declared.literals.squared_1.TheConstants.{SQUARED_1}
-use Rattle.bf_frobenius.specs.declared.literals.squared_2.TheConstants.{SQUARED_2}
-use Rattle.bf_frobenius.specs.declared.literals.squared_4.TheConstants.{SQUARED_4}
-use Rattle.bf_frobenius.specs.declared.literals.squared_8.TheConstants.{SQUARED_8}
-use Rattle.bf_frobenius.specs.declared.literals.squared_16.TheConstants.{SQUARED_16}
-use Rattle.bf_frobenius.specs.declared.literals.squared_32.TheConstants.{SQUARED_32}
-use Rattle.bf_frobenius.proofs.TableFacts.{columns_in, map_of, is_twice, entry_passes, holds_values, holds_1, holds_2, holds_4, holds_8, holds_16, holds_32, squares, twice_2, twice_4, twice_8, twice_16, twice_32}
+use Rattle.bf_frobenius.proofs.TableFacts.{columns_in, map_of, is_twice, entry_passes, holds_values, table_at, holds, squares, doubles}
 
 -- ---- at 128 bits
 
@@ -36,11 +31,11 @@ map_keeps : (table : List ℕ) → KeepsSums (map_of table)
 unfolding map_of
 map_keeps table = sum_of_columns-sum (columns_in 32 table)
 
-once : IsSquaring 1 SQUARED_1
+once : IsSquaring 1 (table_at 0)
 once x fits =
-    maps_agree (map_of SQUARED_1) (λ b. tower_mul 7 b b) (map_keeps SQUARED_1)
+    maps_agree (map_of (table_at 0)) (λ b. tower_mul 7 b b) (map_keeps (table_at 0))
     (square_xor 128 1 (tower_mul 7) (tower_ring 7)) 128
-    (λ i below. agree_on_powers-true (map_of SQUARED_1) (square_of 7) 128 squares i below ∙ square_of_is 7 (2 ^ i)) x fits
+    (λ i below. agree_on_powers-true (map_of (table_at 0)) (square_of 7) 128 squares i below ∙ square_of_is 7 (2 ^ i)) x fits
     ∙ sym (repeated_square-none 128 1 (tower_mul 7) (tower_ring 7) (tower_mul 7 x x) ((tower_ring 7).below x x))
     ∙ repeated_square_square 128 1 (tower_mul 7) (tower_ring 7) 0 x
 
@@ -59,20 +54,13 @@ twice n first second agree of_first x fits =
     keeps : KeepsSums map_twice
     keeps a b = ap (map_of first) (map_keeps first a b) ∙ map_keeps first (map_of first a) (map_of first b)
 
-two : IsSquaring 2 SQUARED_2
-two = twice 1 SQUARED_1 SQUARED_2 twice_2 once
-
-four : IsSquaring 4 SQUARED_4
-four = twice 2 SQUARED_2 SQUARED_4 twice_4 two
-
-eight : IsSquaring 8 SQUARED_8
-eight = twice 4 SQUARED_4 SQUARED_8 twice_8 four
-
-sixteen : IsSquaring 16 SQUARED_16
-sixteen = twice 8 SQUARED_8 SQUARED_16 twice_16 eight
-
-thirty_two : IsSquaring 32 SQUARED_32
-thirty_two = twice 16 SQUARED_16 SQUARED_32 twice_32 sixteen
+-- the table of each step, from the one before it
+squares_at : (step : ℕ) → step < 6 → IsSquaring (2 ^ step) (table_at step)
+squares_at zero below = once
+squares_at (suc step) below =
+    subst (λ (n : ℕ). IsSquaring n (table_at (suc step))) (sym (two-pow-succ step))
+    (twice (2 ^ step) (table_at step) (table_at (suc step)) (doubles step (omega (arith, below)))
+    (squares_at step (omega (arith, below))))
 
 -- ---- at every level
 
@@ -121,29 +109,12 @@ entries n table size pass is k digits x few whole fits =
     wide : x < 2 ^ 128
     wide = subst (λ (level : ℕ). x < 2 ^ 2 ^ level) (sym above) (level-lt (7 - k) k x fits)
 
-pub squared_1 : (k digits x : ℕ) → k ≤ 7 → 2 ^ k ≡ 4 * digits → x < 2 ^ 2 ^ k
-    → sum_of_values digits SQUARED_1 x ≡ repeated_square 1 (tower_mul k) 1 x
-squared_1 = entries 1 SQUARED_1 refl holds_1 once
-
-pub squared_2 : (k digits x : ℕ) → k ≤ 7 → 2 ^ k ≡ 4 * digits → x < 2 ^ 2 ^ k
-    → sum_of_values digits SQUARED_2 x ≡ repeated_square 1 (tower_mul k) 2 x
-squared_2 = entries 2 SQUARED_2 refl holds_2 two
-
-pub squared_4 : (k digits x : ℕ) → k ≤ 7 → 2 ^ k ≡ 4 * digits → x < 2 ^ 2 ^ k
-    → sum_of_values digits SQUARED_4 x ≡ repeated_square 1 (tower_mul k) 4 x
-squared_4 = entries 4 SQUARED_4 refl holds_4 four
-
-pub squared_8 : (k digits x : ℕ) → k ≤ 7 → 2 ^ k ≡ 4 * digits → x < 2 ^ 2 ^ k
-    → sum_of_values digits SQUARED_8 x ≡ repeated_square 1 (tower_mul k) 8 x
-squared_8 = entries 8 SQUARED_8 refl holds_8 eight
-
-pub squared_16 : (k digits x : ℕ) → k ≤ 7 → 2 ^ k ≡ 4 * digits → x < 2 ^ 2 ^ k
-    → sum_of_values digits SQUARED_16 x ≡ repeated_square 1 (tower_mul k) 16 x
-squared_16 = entries 16 SQUARED_16 refl holds_16 sixteen
-
-pub squared_32 : (k digits x : ℕ) → k ≤ 7 → 2 ^ k ≡ 4 * digits → x < 2 ^ 2 ^ k
-    → sum_of_values digits SQUARED_32 x ≡ repeated_square 1 (tower_mul k) 32 x
-squared_32 = entries 32 SQUARED_32 refl holds_32 thirty_two
+-- the table of 2^step squarings at the digits of an element of level k
+pub squared : (step : ℕ) (table : List ℕ) → step < 6 → table_at step ≡ table → (k digits x : ℕ) → k ≤ 7 → 2 ^ k ≡ 4 * digits
+    → x < 2 ^ 2 ^ k → sum_of_values digits table x ≡ repeated_square 1 (tower_mul k) (2 ^ step) x
+squared step table below is k digits x few whole fits =
+    ap (λ (t : List ℕ). sum_of_values digits t x) (sym is)
+    ∙ entries (2 ^ step) (table_at step) (holds step).0 (holds step).1 (squares_at step below) k digits x few whole fits
 
 -- ---- the loop over the bits of a count
 

@@ -26,6 +26,7 @@ fn digits_of(level: usize) -> usize
 // The table of 2^step squarings, which serves every level: the entries at the digits of an element add up to the element squared 2^step
 // times.
 #[inline(always)]
+#[tactic(auto, using(crate::proofs::RepeatedSquares::squared))]
 fn table_of(step: usize) -> &'static [u128; 512]
     requires { step < 6 }
     ensures { (k digits x : ℕ) → k ≤ 7 → 2 ^ k ≡ 4 * digits → x < 2 ^ 2 ^ k

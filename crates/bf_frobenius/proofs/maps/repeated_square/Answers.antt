@@ -1,4 +1,4 @@
-use Rattle.std.proofs.Common.{◌≡◌, ℕ, ◌+◌, ◌%◌, ◌^◌, ◌<◌, sym, ◌∙◌, ap, subst, arith}
+use Rattle.std.proofs.Common.{◌≡◌, ℕ, ◌%◌, ◌^◌, ◌<◌, sym, ◌∙◌, ap, subst, arith}
 use Rattle.bf_base.specs.Powers.{repeated_square}
 use Rattle.bf_base.specs.Tower.{tower_mul}
 use Rattle.bf_base.proofs.PowerLemmas.{repeated_square-lt}
