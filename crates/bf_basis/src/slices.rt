@@ -6,6 +6,7 @@ ghost use Rattle.bf_base.specs.Remainder.{ghash_modulus, poly64_modulus};
 use crate::basis::{to_polynomial_64, to_polynomial_128, to_tower_64, to_tower_128};
 
 /// Replaces each element of 64 bits by its image, a polynomial modulo x^64 + x^4 + x^3 + x + 1.
+#[tactic(auto, using(crate::proofs::SliceSteps::value_written))]
 pub fn to_polynomial_slice_64(xs: &mut [u64])
     ensures { xs.new ≡ map (basis_image 64 poly64_modulus poly64_images) xs.old }
 {
@@ -24,6 +25,7 @@ pub fn to_tower_slice_64(xs: &mut [u64])
 }
 
 /// Replaces each element of 128 bits by its image, a polynomial modulo x^128 + x^7 + x^2 + x + 1.
+#[tactic(auto, using(crate::proofs::SliceSteps::value_written))]
 pub fn to_polynomial_slice_128(xs: &mut [u128])
     ensures { xs.new ≡ map (basis_image 128 ghash_modulus ghash_images) xs.old }
 {
