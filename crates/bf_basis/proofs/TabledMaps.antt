@@ -30,16 +30,12 @@ tabled rows columns table x pass size whole =
     ∙ ap (λ (n : ℕ). sum_of_columns columns (x % 2 ^ n)) (sym whole)
     ∙ sum_of_columns-mod columns x
 
--- the entry of a byte, where there is but one
-pub byte_entry : (columns table : List ℕ) (x : ℕ) → tabulates_map columns table ≡ true → length table ≡ 256 → x < 256
-    → get_or table x 0 ≡ sum_of_columns columns x
-unfolding tabulates_map
-byte_entry columns table x pass size fits =
-    let first : x / 256 ≡ 0 = omega arith in
-    let byte : x % 256 * 1 ≡ x = omega arith in
-    entries_hold (λ y. y) (sum_of_columns columns) table pass x (subst (λ (n : ℕ). x < n) (sym size) fits)
-    ∙ ap (λ (j : ℕ). sum_of_columns columns (x % 256 * 2 ^ (8 * j))) first
-    ∙ ap (sum_of_columns columns) byte
+-- the sum over the table of a byte is the byte's entry
+pub one_entry : (table : List ℕ) (x : ℕ) → x < 256 → get_or table x 0 ≡ sum_of_entries 1 table x
+unfolding sum_of_entries
+one_entry table x fits =
+    let byte : x ≡ 256 * 0 + x / 1 % 256 = omega (arith, fits) in
+    ap (slice_index table) byte ∙ sym (xor_zero_r (slice_index table (256 * 0 + x / 1 % 256))) ∙ xor_comm (slice_index table (256 * 0 + x / 1 % 256)) 0
 
 -- the columns stand in the table at the powers of two of each byte
 unfoldable pub columns_in : ℕ → List ℕ → List ℕ

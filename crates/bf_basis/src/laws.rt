@@ -5,6 +5,7 @@ ghost use Rattle.bf_base.specs.Remainder.{aes_modulus, ghash_modulus, mul_mod, p
 
 /// States that the change of basis at 8 bits is an isomorphism, so that the polynomials modulo x^8 + x^4 + x^3 + x + 1 are
 /// a field.
+#[tactic(auto, using(crate::proofs::Isomorphisms::change_8))]
 pub fn isomorphism_8()
     ensures roots { AreRoots 8 aes_modulus aes_images }
     ensures isomorphism { IsIsomorphism 3 8 aes_modulus aes_images }
@@ -13,6 +14,7 @@ pub fn isomorphism_8()
 
 /// States that the change of basis at 64 bits is an isomorphism, so that the polynomials modulo x^64 + x^4 + x^3 + x + 1 are
 /// a field.
+#[tactic(auto, using(crate::proofs::Isomorphisms::change_64))]
 pub fn isomorphism_64()
     ensures roots { AreRoots 64 poly64_modulus poly64_images }
     ensures isomorphism { IsIsomorphism 6 64 poly64_modulus poly64_images }
@@ -21,6 +23,7 @@ pub fn isomorphism_64()
 
 /// States that the change of basis at 128 bits is an isomorphism, so that the polynomials modulo
 /// x^128 + x^7 + x^2 + x + 1 are a field.
+#[tactic(auto, using(crate::proofs::Isomorphisms::change_128))]
 pub fn isomorphism_128()
     ensures roots { AreRoots 128 ghash_modulus ghash_images }
     ensures isomorphism { IsIsomorphism 7 128 ghash_modulus ghash_images }

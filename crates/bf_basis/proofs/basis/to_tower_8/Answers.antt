@@ -1,9 +1,11 @@
-use Rattle.std.proofs.Common.{refl, arith}
-use Rattle.bf_basis.proofs.Isomorphisms.{element_8, only_8}
+use Rattle.std.proofs.Common.{arith}
+use Rattle.bf_basis.proofs.Isomorphisms.{change_8}
+use Rattle.bf_basis.proofs.TabledMaps.{one_entry}
+use Rattle.bf_basis.specs.declared.literals.to_tower_8.TheConstants.{TO_TOWER_8}
 use Rattle.bf_basis.proofs.basis.to_tower_8.Goals as goal
 
 pub returns-clause-image : goal.returns-clause-image
-returns-clause-image c = element_8 c.args.x _ (omega arith) refl
+returns-clause-image c = change_8.element c.args.x _ (omega arith) (one_entry TO_TOWER_8 c.args.x (omega arith))
 
 pub returns-clause-only : goal.returns-clause-only
-returns-clause-only c = only_8 _ c.args.x (omega arith) (element_8 c.args.x _ (omega arith) refl)
+returns-clause-only c = change_8.only c.args.x _ (omega arith) (omega arith) (one_entry TO_TOWER_8 c.args.x (omega arith))
