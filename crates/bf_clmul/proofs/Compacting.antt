@@ -1,5 +1,5 @@
 -- The bits at the even places of a word, moved together, are the carryless root of those bits, since both sides keep sums.
-use Rattle.std.proofs.Common.{◌≡◌, ℕ, ◌+◌, ◌*◌, ◌/◌, ◌%◌, ◌^◌, ◌<◌, true, refl, sym, ◌∙◌, ap, ap₂, arith, lit≤}
+use Rattle.std.proofs.Common.{◌≡◌, ℕ, ◌+◌, ◌*◌, ◌/◌, ◌%◌, ◌^◌, ◌<◌, true, List, [], ◌∷◌, refl, sym, ◌∙◌, ap, ap₂, arith, lit≤}
 use Rattle.std.specs.Prelude.{bit_xor, bit_and}
 use Rattle.std.proofs.lemmas.Nat.{and_mask, xor_shr, shl_whole}
 use native.Mathlib.Nat.{mul_assoc}
@@ -8,6 +8,7 @@ use Rattle.bf_base.proofs.CarrylessProduct.{xor_exchange, xor_shl, carryless_shl
 use Rattle.bf_base.proofs.AdditiveMaps.{KeepsSums, maps_agree, agree_on_powers, agree_on_powers-true}
 use Rattle.bf_clmul.specs.Compact.{compact_step, even_places_64, even_places_128}
 use Rattle.bf_clmul.proofs.Classes.{xor_and}
+use Rattle.bf_clmul.proofs.FieldSteps.{steps, steps-sum}
 use Rattle.bf_clmul.proofs.Squares.{square_sum}
 
 -- ---- a word
@@ -15,50 +16,28 @@ use Rattle.bf_clmul.proofs.Squares.{square_sum}
 pub masked-sum : (m : ℕ) → KeepsSums (λ x. bit_and x m)
 masked-sum m a b = xor_and a b m
 
-step-sum : (f : ℕ → ℕ) → KeepsSums f → (s m : ℕ) → KeepsSums (λ x. compact_step s m (f x))
-step-sum f f_sum s m a b =
-    ap (compact_step s m) (f_sum a b)
-    ∙ ap (λ (z : ℕ). bit_and (bit_xor (bit_xor (f a) (f b)) z) m) (xor_shr (f a) (f b) s)
-    ∙ ap (λ (z : ℕ). bit_and z m) (xor_exchange (f a) (f b) (f a / 2 ^ s) (f b / 2 ^ s))
-    ∙ xor_and (bit_xor (f a) (f a / 2 ^ s)) (bit_xor (f b) (f b / 2 ^ s)) m
+step-sum : (s m : ℕ) → KeepsSums (compact_step s m)
+step-sum s m a b =
+    ap (λ (z : ℕ). bit_and (bit_xor (bit_xor a b) z) m) (xor_shr a b s)
+    ∙ ap (λ (z : ℕ). bit_and z m) (xor_exchange a b (a / 2 ^ s) (b / 2 ^ s))
+    ∙ xor_and (bit_xor a (a / 2 ^ s)) (bit_xor b (b / 2 ^ s)) m
 
-unfoldable pairs_of : ℕ → ℕ
-pairs_of x = compact_step 1 0x3333_3333_3333_3333 (bit_and x even_places_64)
+-- the shifts and masks of the code
+abbrev joins : List (ℕ × ℕ)
+joins =
+    (1, 0x3333_3333_3333_3333) ∷ (2, 0x0f0f_0f0f_0f0f_0f0f) ∷ (4, 0x00ff_00ff_00ff_00ff) ∷ (8, 0x0000_ffff_0000_ffff)
+    ∷ (16, 0xffff_ffff) ∷ []
 
-unfoldable nibbles_of : ℕ → ℕ
-nibbles_of x = compact_step 2 0x0f0f_0f0f_0f0f_0f0f (pairs_of x)
-
-unfoldable bytes_of : ℕ → ℕ
-bytes_of x = compact_step 4 0x00ff_00ff_00ff_00ff (nibbles_of x)
-
-unfoldable halves_of : ℕ → ℕ
-halves_of x = compact_step 8 0x0000_ffff_0000_ffff (bytes_of x)
-
-unfoldable compact : ℕ → ℕ
-compact x = compact_step 16 0xffff_ffff (halves_of x)
-
-pairs_of-sum : KeepsSums pairs_of
-unfolding pairs_of
-pairs_of-sum = step-sum (λ x. bit_and x even_places_64) (masked-sum even_places_64) 1 0x3333_3333_3333_3333
-
-nibbles_of-sum : KeepsSums nibbles_of
-unfolding nibbles_of
-nibbles_of-sum = step-sum pairs_of pairs_of-sum 2 0x0f0f_0f0f_0f0f_0f0f
-
-bytes_of-sum : KeepsSums bytes_of
-unfolding bytes_of
-bytes_of-sum = step-sum nibbles_of nibbles_of-sum 4 0x00ff_00ff_00ff_00ff
-
-halves_of-sum : KeepsSums halves_of
-unfolding halves_of
-halves_of-sum = step-sum bytes_of bytes_of-sum 8 0x0000_ffff_0000_ffff
+abbrev compact : ℕ → ℕ
+compact x = steps compact_step joins (bit_and x even_places_64)
 
 compact-sum : KeepsSums compact
-unfolding compact
-compact-sum = step-sum halves_of halves_of-sum 16 0xffff_ffff
+compact-sum a b =
+    ap (steps compact_step joins) (masked-sum even_places_64 a b)
+    ∙ steps-sum compact_step step-sum joins (bit_and a even_places_64) (bit_and b even_places_64)
 
 powers_agree : agree_on_powers (λ x. carryless (compact x) (compact x)) (λ x. bit_and x even_places_64) 64 ≡ true
-unfolding compact halves_of bytes_of nibbles_of pairs_of carryless carryless_in
+unfolding steps carryless carryless_in
 powers_agree = refl
 
 compact-square : (x : ℕ) → x < 2 ^ 64 → carryless (compact x) (compact x) ≡ bit_and x even_places_64
@@ -73,7 +52,7 @@ pub compact_word : (x b c d e : ℕ) → x < 2 ^ 64
     → c ≡ compact_step 2 0x0f0f_0f0f_0f0f_0f0f b → d ≡ compact_step 4 0x00ff_00ff_00ff_00ff c
     → e ≡ compact_step 8 0x0000_ffff_0000_ffff d
     → carryless (compact_step 16 0xffff_ffff e) (compact_step 16 0xffff_ffff e) ≡ bit_and x even_places_64
-unfolding compact halves_of bytes_of nibbles_of pairs_of
+unfolding steps
 compact_word x b c d e fits of_b of_c of_d of_e =
     ap (λ (z : ℕ). carryless (compact_step 16 0xffff_ffff z) (compact_step 16 0xffff_ffff z))
     (of_e

@@ -7,6 +7,7 @@ pub mod Chains
 pub mod Classes
 pub mod KaratsubaLemmas
 pub mod TailFolds
+pub mod FieldSteps
 pub mod Squares
 pub mod NibbleSquares
 pub mod ModularProducts

@@ -1,5 +1,5 @@
 -- A carryless square is the word with its bits spread, since squaring keeps sums; and squares by halves.
-use Rattle.std.proofs.Common.{◌≡◌, ℕ, ◌+◌, ◌*◌, ◌%◌, ◌^◌, ◌<◌, true, refl, sym, ◌∙◌, ap, ap₂, lit≤}
+use Rattle.std.proofs.Common.{◌≡◌, ℕ, ◌+◌, ◌*◌, ◌%◌, ◌^◌, ◌<◌, true, List, [], ◌∷◌, refl, sym, ◌∙◌, ap, ap₂, lit≤}
 use Rattle.std.specs.Prelude.{bit_xor, bit_and}
 use Rattle.std.proofs.lemmas.Nat.{xor_comm, xor_mod, shl_whole}
 use native.Mathlib.Nat.{mul_assoc}
@@ -10,6 +10,7 @@ use Rattle.bf_base.proofs.CarrylessProduct.{xor_exchange, xor_shl, carryless_com
 use Rattle.bf_base.proofs.AdditiveMaps.{KeepsSums, maps_agree, agree_on_powers, agree_on_powers-true}
 use Rattle.bf_clmul.specs.Spread.{spread_step}
 use Rattle.bf_clmul.proofs.Classes.{xor_and}
+use Rattle.bf_clmul.proofs.FieldSteps.{steps, steps-sum}
 use Rattle.bf_clmul.proofs.Halves.{split_xor}
 
 -- ---- a square keeps sums
@@ -25,67 +26,37 @@ square_sum a b =
 
 -- ---- spreading keeps sums
 
-step-sum : (s m a b : ℕ) → spread_step s m (bit_xor a b) ≡ bit_xor (spread_step s m a) (spread_step s m b)
+step-sum : (s m : ℕ) → KeepsSums (spread_step s m)
 step-sum s m a b =
     ap (λ (z : ℕ). bit_and (bit_xor (bit_xor a b) z) m)
     (ap (λ (z : ℕ). z % 2 ^ 64) (sym (xor_shl s a b)) ∙ xor_mod (a * 2 ^ s) (b * 2 ^ s) 64)
     ∙ ap (λ (z : ℕ). bit_and z m) (xor_exchange a b (a * 2 ^ s % 2 ^ 64) (b * 2 ^ s % 2 ^ 64))
     ∙ xor_and (bit_xor a (a * 2 ^ s % 2 ^ 64)) (bit_xor b (b * 2 ^ s % 2 ^ 64)) m
 
-then_step : (f : ℕ → ℕ) → KeepsSums f → (s m : ℕ) → KeepsSums (λ x. spread_step s m (f x))
-then_step f f_sum s m a b = ap (spread_step s m) (f_sum a b) ∙ step-sum s m (f a) (f b)
+-- the shifts and masks of the code
+abbrev moves : List (ℕ × ℕ)
+moves =
+    (16, 0x0000_ffff_0000_ffff) ∷ (8, 0x00ff_00ff_00ff_00ff) ∷ (4, 0x0f0f_0f0f_0f0f_0f0f) ∷ (2, 0x3333_3333_3333_3333)
+    ∷ (1, 0x5555_5555_5555_5555) ∷ []
 
--- the steps of the code, each named for what it leaves together
-unfoldable halves_apart : ℕ → ℕ
-halves_apart = spread_step 16 0x0000_ffff_0000_ffff
-
-unfoldable bytes_apart : ℕ → ℕ
-bytes_apart x = spread_step 8 0x00ff_00ff_00ff_00ff (halves_apart x)
-
-unfoldable nibbles_apart : ℕ → ℕ
-nibbles_apart x = spread_step 4 0x0f0f_0f0f_0f0f_0f0f (bytes_apart x)
-
-unfoldable pairs_apart : ℕ → ℕ
-pairs_apart x = spread_step 2 0x3333_3333_3333_3333 (nibbles_apart x)
-
-unfoldable spread : ℕ → ℕ
-spread x = spread_step 1 0x5555_5555_5555_5555 (pairs_apart x)
-
-halves_apart-sum : KeepsSums halves_apart
-unfolding halves_apart
-halves_apart-sum = step-sum 16 0x0000_ffff_0000_ffff
-
-bytes_apart-sum : KeepsSums bytes_apart
-unfolding bytes_apart
-bytes_apart-sum = then_step halves_apart halves_apart-sum 8 0x00ff_00ff_00ff_00ff
-
-nibbles_apart-sum : KeepsSums nibbles_apart
-unfolding nibbles_apart
-nibbles_apart-sum = then_step bytes_apart bytes_apart-sum 4 0x0f0f_0f0f_0f0f_0f0f
-
-pairs_apart-sum : KeepsSums pairs_apart
-unfolding pairs_apart
-pairs_apart-sum = then_step nibbles_apart nibbles_apart-sum 2 0x3333_3333_3333_3333
-
-spread-sum : KeepsSums spread
-unfolding spread
-spread-sum = then_step pairs_apart pairs_apart-sum 1 0x5555_5555_5555_5555
+abbrev spread : ℕ → ℕ
+spread = steps spread_step moves
 
 -- at the 32 powers of two they are squares, by computation
 powers_agree : agree_on_powers spread (λ x. carryless x x) 32 ≡ true
-unfolding spread pairs_apart nibbles_apart bytes_apart halves_apart carryless carryless_in
+unfolding steps carryless carryless_in
 powers_agree = refl
 
 spread-square : (x : ℕ) → x < 2 ^ 32 → spread x ≡ carryless x x
 spread-square =
-    maps_agree spread (λ x. carryless x x) spread-sum square_sum 32
+    maps_agree spread (λ x. carryless x x) (steps-sum spread_step step-sum moves) square_sum 32
     (agree_on_powers-true spread (λ x. carryless x x) 32 powers_agree)
 
 -- the steps one after another, as the code calls them
 pub spread_32 : (x a b c d e : ℕ) → x < 2 ^ 32 → a ≡ spread_step 16 0x0000_ffff_0000_ffff x
     → b ≡ spread_step 8 0x00ff_00ff_00ff_00ff a → c ≡ spread_step 4 0x0f0f_0f0f_0f0f_0f0f b
     → d ≡ spread_step 2 0x3333_3333_3333_3333 c → e ≡ spread_step 1 0x5555_5555_5555_5555 d → e ≡ carryless x x
-unfolding spread pairs_apart nibbles_apart bytes_apart halves_apart
+unfolding steps
 spread_32 x a b c d e fits of_a of_b of_c of_d of_e =
     of_e
     ∙ ap (spread_step 1 0x5555_5555_5555_5555)
