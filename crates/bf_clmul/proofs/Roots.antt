@@ -1,8 +1,8 @@
 -- The square root of a polynomial modulo another from its even part and its odd part.
-use Rattle.std.proofs.Common.{◌≡◌, ℕ, ◌+◌, ◌*◌, ◌/◌, ◌%◌, ◌^◌, ◌<◌, ◌≤◌, true, refl, sym, ◌∙◌, ap, ap₂, arith, lit<}
+use Rattle.std.proofs.Common.{◌≡◌, ℕ, ◌+◌, ◌*◌, ◌/◌, ◌%◌, ◌^◌, ◌<◌, ◌≤◌, true, refl, sym, ◌∙◌, ap, ap₂, arith, lit<, lit≤}
 use Rattle.std.specs.Prelude.{bit_xor, bit_and}
 use Rattle.std.proofs.lemmas.Nat.{and_le_l, xor_comm, xor_lt, xor_mod, xor_shr, shl-shr, shr-shr, shr_split, mul-mod_first, pow_pos}
-use native.Mathlib.Nat.{mod-lt, mod-eq_of_lt}
+use native.Mathlib.Nat.{lt_of_lt_of_le, mod-lt, mod-eq_of_lt, pow-le-pow_right}
 use lib.Bits.{xor_assoc, xor_shifted}
 use Rattle.bf_base.specs.Carryless.{carryless, carryless_in}
 use Rattle.bf_base.specs.Remainder.{HasDegree, rem, rem_in, mul_mod, poly64_modulus, ghash_modulus}
@@ -17,6 +17,14 @@ use Rattle.bf_clmul.specs.Compact.{even_places_64, even_places_128, ones_32, roo
 use Rattle.bf_clmul.proofs.Classes.{xor_and}
 
 -- ---- any width
+
+-- the root of x is the sum of the root e of its even part and the product p of the root o of its odd part by s, which squares to the
+-- polynomial x
+abbrev pub RootOfParts : ℕ → ℕ → ℕ → ℕ → ℕ → Type 0
+RootOfParts width half modulus mask s =
+    (x e o p : ℕ) → x < 2 ^ width → e < 2 ^ half → o < 2 ^ half → carryless e e ≡ bit_and x mask
+    → carryless o o ≡ bit_and (x / 2) mask → p ≡ mul_mod width modulus s o
+    → mul_mod width modulus (bit_xor e p) (bit_xor e p) ≡ x
 
 module _ (width modulus : ℕ) (wide : 1 < width) (degree : HasDegree width modulus) (mask : ℕ) where
   -- the square of what squares to the bits z of an element is z
@@ -39,21 +47,22 @@ module _ (width modulus : ℕ) (wide : 1 < width) (degree : HasDegree width modu
       ∙ sym (xor_double (bit_and (a / 2) mask) (bit_and (b / 2) mask)))
       ∙ xor_exchange (bit_and a mask) (bit_and b mask) _ _
 
-  pub root_of_parts : (s : ℕ) → mul_mod width modulus s s ≡ 2
-      → agree_on_powers (λ x. bit_xor (bit_and x mask) (bit_and (x / 2) mask * 2)) (λ x. x) width ≡ true → (x e o p : ℕ)
-      → x < 2 ^ width → e < 2 ^ width → o < 2 ^ width → 2 < 2 ^ width → carryless e e ≡ bit_and x mask
-      → carryless o o ≡ bit_and (x / 2) mask → p ≡ mul_mod width modulus s o
-      → mul_mod width modulus (bit_xor e p) (bit_xor e p) ≡ x
-  root_of_parts s is_root agree x e o p x_fits e_fits o_fits two_fits of_e of_o of_p =
+  pub root_of_parts : (half s : ℕ) → half ≤ width → 2 < 2 ^ width → mul_mod width modulus s s ≡ 2
+      → agree_on_powers (λ x. bit_xor (bit_and x mask) (bit_and (x / 2) mask * 2)) (λ x. x) width ≡ true
+      → RootOfParts width half modulus mask s
+  root_of_parts half s few two_fits is_root agree x e o p x_fits e_fits o_fits of_e of_o of_p =
       square_xor width 1 (mul_mod width modulus) ring e p
       ∙ ap₂ bit_xor
-      (square_of e (bit_and x mask) e_fits (omega (arith, even_le)) of_e)
+      (square_of e (bit_and x mask) (wider e e_fits) (omega (arith, even_le)) of_e)
       (ap (λ (y : ℕ). mul_mod width modulus y y) of_p ∙ square_times width 1 (mul_mod width modulus) ring s o
-      ∙ ap₂ (mul_mod width modulus) is_root (square_of o (bit_and (x / 2) mask) o_fits (omega (arith, odd_le)) of_o)
+      ∙ ap₂ (mul_mod width modulus) is_root (square_of o (bit_and (x / 2) mask) (wider o o_fits) (omega (arith, odd_le)) of_o)
       ∙ times_x (bit_and (x / 2) mask) (omega (arith, odd_le)) two_fits)
       ∙ maps_agree (λ y. bit_xor (bit_and y mask) (bit_and (y / 2) mask * 2)) (λ y. y) parts_sum (λ a b. refl) width
       (agree_on_powers-true (λ y. bit_xor (bit_and y mask) (bit_and (y / 2) mask * 2)) (λ y. y) width agree) x x_fits
     where
+      wider : (y : ℕ) → y < 2 ^ half → y < 2 ^ width
+      wider y below = lt_of_lt_of_le below (pow-le-pow_right (lit< tt) few)
+
       ring : IsRing width 1 (mul_mod width modulus)
       ring = mul_mod_ring width modulus (omega arith) degree
 
@@ -71,18 +80,19 @@ shifted_split n h =
     ∙ xor_shifted (h * 2 ^ n / 2 ^ (n + n)) (n + n) (h * 2 ^ n % 2 ^ (n + n)) (mod-lt (h * 2 ^ n) (pow_pos (n + n)))
     ∙ shr_split (h * 2 ^ n) (n + n)
 
--- ---- 64 bits
+-- ---- 64 and 128 bits
 
-root_squared_64 : mul_mod 64 poly64_modulus root_of_x_64 root_of_x_64 ≡ 2
+roots_squared : (mul_mod 64 poly64_modulus root_of_x_64 root_of_x_64 ≡ 2) × (mul_mod 128 ghash_modulus root_of_x_128 root_of_x_128 ≡ 2)
 unfolding mul_mod rem rem_in carryless carryless_in
-root_squared_64 = refl
+roots_squared = (refl, refl)
 
-pub root_64 : (x e o p : ℕ) → x < 2 ^ 64 → e < 2 ^ 32 → o < 2 ^ 32 → carryless e e ≡ bit_and x even_places_64
-    → carryless o o ≡ bit_and (x / 2) even_places_64 → p ≡ mul_mod 64 poly64_modulus root_of_x_64 o
-    → mul_mod 64 poly64_modulus (bit_xor e p) (bit_xor e p) ≡ x
-root_64 x e o p x_fits e_fits o_fits of_e of_o of_p =
-    root_of_parts 64 poly64_modulus (lit< tt) refl even_places_64 root_of_x_64 root_squared_64 refl x e o p x_fits
-    (omega arith) (omega arith) (lit< tt) of_e of_o of_p
+pub root_64 : RootOfParts 64 32 poly64_modulus even_places_64 root_of_x_64
+root_64 =
+    root_of_parts 64 poly64_modulus (lit< tt) refl even_places_64 32 root_of_x_64 (lit≤ tt) (lit< tt) roots_squared.0 refl
+
+pub root_128 : RootOfParts 128 64 ghash_modulus even_places_128 root_of_x_128
+root_128 =
+    root_of_parts 128 ghash_modulus (lit< tt) refl even_places_128 64 root_of_x_128 (lit≤ tt) (lit< tt) roots_squared.1 refl
 
 -- ---- the product by the root of 64 bits
 
@@ -142,18 +152,7 @@ product_by_terms o t r fits of_t of_r =
     word : (z : ℕ) → z % 2 ^ 64 < 2 ^ 64
     word z = mod-lt z (lit< tt)
 
--- ---- 128 bits
-
-root_squared_128 : mul_mod 128 ghash_modulus root_of_x_128 root_of_x_128 ≡ 2
-unfolding mul_mod rem rem_in carryless carryless_in
-root_squared_128 = refl
-
-pub root_128 : (x e o p : ℕ) → x < 2 ^ 128 → e < 2 ^ 64 → o < 2 ^ 64 → carryless e e ≡ bit_and x even_places_128
-    → carryless o o ≡ bit_and (x / 2) even_places_128 → p ≡ mul_mod 128 ghash_modulus root_of_x_128 o
-    → mul_mod 128 ghash_modulus (bit_xor e p) (bit_xor e p) ≡ x
-root_128 x e o p x_fits e_fits o_fits of_e of_o of_p =
-    root_of_parts 128 ghash_modulus (lit< tt) refl even_places_128 root_of_x_128 root_squared_128 refl x e o p x_fits
-    (omega arith) (omega arith) (lit< tt) of_e of_o of_p
+-- ---- the product by the root of 128 bits
 
 -- the product by a double word, from the products by its words
 pub product_by_words : (s0 s1 o low high r : ℕ) → s0 < 2 ^ 64 → s1 * 2 ^ 64 + s0 < 2 ^ 128 → o < 2 ^ 64 → low < 2 ^ 128
