@@ -111,28 +111,24 @@ module _ (w t : ℕ) (degree : HasDegree w (bit_xor (1 * 2 ^ w) t)) where
 
 -- ---- the two moduli
 
-pub tail_low_64 : (h : ℕ) → h < 2 ^ 64
-    → bit_xor (bit_xor (bit_xor (h * 2 ^ 4 % 2 ^ 64) (h * 2 ^ 3 % 2 ^ 64)) (h * 2 ^ 1 % 2 ^ 64)) h
-    ≡ carryless h poly64_tail % 2 ^ 64
-tail_low_64 = tail_low 64 4 3 1
+-- of a modulus x^w and the tail with the terms a, b, d and 0: the product by the tail, below x^w and past it, and the remainder by it
+pub record IsFold (w modulus t a b d a' b' d' : ℕ) : Type 0 where
+  pub low : (h : ℕ) → h < 2 ^ w
+      → bit_xor (bit_xor (bit_xor (h * 2 ^ a % 2 ^ w) (h * 2 ^ b % 2 ^ w)) (h * 2 ^ d % 2 ^ w)) h ≡ carryless h t % 2 ^ w
+  pub high : (h : ℕ) → h < 2 ^ w → bit_xor (bit_xor (h / 2 ^ a') (h / 2 ^ b')) (h / 2 ^ d') ≡ carryless h t / 2 ^ w
+  pub remainder : (low high : ℕ) → low < 2 ^ w → high < 2 ^ w
+      → rem w modulus (high * 2 ^ w + low) ≡ bit_xor (bit_xor low (carryless high t % 2 ^ w)) (carryless (carryless high t / 2 ^ w) t % 2 ^ w)
 
-pub tail_high_64 : (h : ℕ) → h < 2 ^ 64
-    → bit_xor (bit_xor (h / 2 ^ 60) (h / 2 ^ 61)) (h / 2 ^ 63) ≡ carryless h poly64_tail / 2 ^ 64
-tail_high_64 h fits = tail_high 64 4 3 1 60 61 63 h fits refl refl refl
+fold : (w a b d a' b' d' n : ℕ) → a' + a ≡ w → b' + b ≡ w → d' + d ≡ w → tail a b d < 2 ^ n → n + n ≤ w
+    → HasDegree w (bit_xor (1 * 2 ^ w) (tail a b d)) → IsFold w (bit_xor (1 * 2 ^ w) (tail a b d)) (tail a b d) a b d a' b' d'
+fold w a b d a' b' d' n e_a e_b e_d small half degree = record {
+  low = tail_low w a b d;
+  high = λ h fits. tail_high w a b d a' b' d' h fits e_a e_b e_d;
+  remainder = λ low high. fold_twice w (tail a b d) degree n low high small half;
+}
 
-pub fold_64 : (low high : ℕ) → low < 2 ^ 64 → high < 2 ^ 64 → rem 64 poly64_modulus (high * 2 ^ 64 + low)
-    ≡ bit_xor (bit_xor low (carryless high poly64_tail % 2 ^ 64)) (carryless (carryless high poly64_tail / 2 ^ 64) poly64_tail % 2 ^ 64)
-fold_64 low high = fold_twice 64 poly64_tail refl 5 low high (lit< tt) (lit≤ tt)
+pub fold_64 : IsFold 64 poly64_modulus poly64_tail 4 3 1 60 61 63
+fold_64 = fold 64 4 3 1 60 61 63 5 refl refl refl (lit< tt) (lit≤ tt) refl
 
-pub tail_low_128 : (h : ℕ) → h < 2 ^ 128
-    → bit_xor (bit_xor (bit_xor (h * 2 ^ 7 % 2 ^ 128) (h * 2 ^ 2 % 2 ^ 128)) (h * 2 ^ 1 % 2 ^ 128)) h
-    ≡ carryless h ghash_tail % 2 ^ 128
-tail_low_128 = tail_low 128 7 2 1
-
-pub tail_high_128 : (h : ℕ) → h < 2 ^ 128
-    → bit_xor (bit_xor (h / 2 ^ 121) (h / 2 ^ 126)) (h / 2 ^ 127) ≡ carryless h ghash_tail / 2 ^ 128
-tail_high_128 h fits = tail_high 128 7 2 1 121 126 127 h fits refl refl refl
-
-pub fold_128 : (low high : ℕ) → low < 2 ^ 128 → high < 2 ^ 128 → rem 128 ghash_modulus (high * 2 ^ 128 + low)
-    ≡ bit_xor (bit_xor low (carryless high ghash_tail % 2 ^ 128)) (carryless (carryless high ghash_tail / 2 ^ 128) ghash_tail % 2 ^ 128)
-fold_128 low high = fold_twice 128 ghash_tail refl 8 low high (lit< tt) (lit≤ tt)
+pub fold_128 : IsFold 128 ghash_modulus ghash_tail 7 2 1 121 126 127
+fold_128 = fold 128 7 2 1 121 126 127 8 refl refl refl (lit< tt) (lit≤ tt) refl

@@ -10,7 +10,7 @@ ghost use Rattle.bf_base.specs.Remainder.{ghash_modulus, poly64_modulus, rem};
 ghost use Rattle.bf_clmul.specs.Tail.{ghash_tail, poly64_tail};
 
 /// The low word of the product by x^4 + x^3 + x + 1.
-#[tactic(auto, using(crate::proofs::TailFolds::tail_low_64))]
+#[tactic(auto, using(crate::proofs::TailFolds::fold_64))]
 fn times_tail_64(h: u64) -> u64
     ensures { result ≡ carryless h poly64_tail % 2 ^ 64 }
 {
@@ -18,7 +18,7 @@ fn times_tail_64(h: u64) -> u64
 }
 
 /// What of that product lies past the word.
-#[tactic(auto, using(crate::proofs::TailFolds::tail_high_64))]
+#[tactic(auto, using(crate::proofs::TailFolds::fold_64))]
 fn spill_64(h: u64) -> u64
     ensures { result ≡ carryless h poly64_tail / 2 ^ 64 }
 {
@@ -26,6 +26,7 @@ fn spill_64(h: u64) -> u64
 }
 
 /// The remainder of `high x^64 + low` modulo x^64 + x^4 + x^3 + x + 1.
+#[tactic(auto, using(crate::proofs::TailFolds::fold_64))]
 pub fn reduce_64(low: u64, high: u64) -> u64
     ensures { result ≡ rem 64 poly64_modulus (high * 2 ^ 64 + low) }
 {
@@ -33,7 +34,7 @@ pub fn reduce_64(low: u64, high: u64) -> u64
 }
 
 /// The low double word of the product by x^7 + x^2 + x + 1.
-#[tactic(auto, using(crate::proofs::TailFolds::tail_low_128))]
+#[tactic(auto, using(crate::proofs::TailFolds::fold_128))]
 fn times_tail_128(h: u128) -> u128
     ensures { result ≡ carryless h ghash_tail % 2 ^ 128 }
 {
@@ -41,7 +42,7 @@ fn times_tail_128(h: u128) -> u128
 }
 
 /// What of that product lies past the double word.
-#[tactic(auto, using(crate::proofs::TailFolds::tail_high_128))]
+#[tactic(auto, using(crate::proofs::TailFolds::fold_128))]
 fn spill_128(h: u128) -> u128
     ensures { result ≡ carryless h ghash_tail / 2 ^ 128 }
 {
@@ -50,6 +51,7 @@ fn spill_128(h: u128) -> u128
 
 /// The remainder of `high x^128 + low` modulo x^128 + x^7 + x^2 + x + 1, the modulus of GHASH (NIST SP 800-38D), where
 /// bit i is the coefficient of x^i.
+#[tactic(auto, using(crate::proofs::TailFolds::fold_128))]
 pub fn reduce_128(low: u128, high: u128) -> u128
     ensures { result ≡ rem 128 ghash_modulus (high * 2 ^ 128 + low) }
 {
