@@ -5,12 +5,12 @@ use Rattle.std.specs.Prelude.{bit_xor}
 use Rattle.std.proofs.lemmas.Nat.{xor_comm, xor_lt, pow_pos, pow_below}
 use native.Mathlib.Nat.{mod-eq_of_lt}
 use lib.Bits.{xor_assoc, xor_self, xor_zero_r}
-use Rattle.bf_cubic.specs.Cubic.{CubicFrobenius, CubicIsField, NoFieldHasACubicRoot, cubic, triple}
+use Rattle.bf_cubic.specs.Cubic.{CubicFrobenius, CubicIsField, CubicIsRing, NoFieldHasACubicRoot, cubic, triple}
 use Rattle.bf_base.specs.Field.{HasInverses, IsField}
 use Rattle.bf_base.specs.Powers.{repeated_square}
 use Rattle.bf_base.specs.Ring.{IsRing}
 use Rattle.bf_base.specs.Chunks.{chunk}
-use Rattle.bf_cubic.proofs.CubicRing.{chunk_below, cubic_ring, cubic-scales, cubic-triples, product_0, product_of_three, same₃, sums, second-triple, third-triple, triple-chunks, triple-low, triple-lt}
+use Rattle.bf_cubic.proofs.CubicRing.{chunk_below, cubic_is_ring, cubic_ring, cubic-scales, cubic-triples, product_0, product_of_three, same₃, sums, second-triple, third-triple, triple-chunks, triple-low, triple-lt}
 use Rattle.bf_base.proofs.FieldLemmas.{divisor-zero, field_frobenius, no_zero_divisors}
 use Rattle.bf_base.proofs.PowerLemmas.{one-times, square_xor, repeated_square-add, repeated_square-lt, repeated_square-mod, repeated_square-none, repeated_square_more, times-one}
 use Rattle.bf_base.proofs.RingLemmas.{sum_times, times-zero, times_left_comm, xor_cancel, xor_nothing, zero-times}
@@ -412,3 +412,13 @@ cubic_frobenius width times field wide leaves c0 c1 c2 fits0 fits1 fits2 =
     ∙ square_once width times ring (width / 3 * 3) (triple width c0 c1 c2) _ _ _ (low c0) (low c1) (low c2)
     (cubic_rounds width times ring wide (width / 3) c0 c1 c2 fits0 fits1 fits2)
     ∙ same₃ (triple width) (back c0 fits0) (back c2 fits2) (ap₂ bit_xor (back c1 fits1) (back c2 fits2))
+
+-- the laws of the extension
+pub record CubicLaws : Type 0 where
+  pub ring : CubicIsRing
+  pub no_root : NoFieldHasACubicRoot
+  pub field : CubicIsField
+  pub frobenius : CubicFrobenius
+
+pub cubic_laws : CubicLaws
+cubic_laws = record { ring = cubic_is_ring; no_root = no_field_has_a_cubic_root; field = cubic_is_field; frobenius = cubic_frobenius }
