@@ -11,8 +11,19 @@ use Rattle.bf_base.proofs.AdditiveMaps.{KeepsSums}
 use Rattle.bf_base.proofs.BasisColumns.{sum_of_columns, sum_of_columns-append, sum_of_columns-mod, sum_of_columns-nothing, sum_of_columns-sum}
 use Rattle.bf_base.proofs.ByteTableSums.{entries_hold, entry_passes, sum_of_entries_is}
 use Rattle.bf_base.proofs.CarrylessProduct.{xor_shl}
-use Rattle.bf_base.proofs.LinearMapLemmas.{linear_image-columns, the_linear_map}
+use Rattle.bf_base.proofs.LinearMapLemmas.{image_enters, image_stays, images_end, linear_image-columns, the_linear_map}
 use Rattle.bf_base.proofs.TableChecks.{passes}
+
+-- ---- a sum of images, one after another
+
+-- where no bit is left, the sum is whole
+pub no_bit_left : (images : List ℕ) (place sum rest : ℕ) → rest ≡ 0 → bit_xor sum (linear_image (drop place images) rest) ≡ sum
+no_bit_left images place sum rest none =
+    ap (λ (bits : ℕ). bit_xor sum (linear_image (drop place images) bits)) none
+    ∙ ap (bit_xor sum) (linear_image-columns (drop place images) 0 ∙ sum_of_columns-nothing (drop place images)) ∙ xor_zero_r sum
+
+-- the steps of such a sum and its two ends
+pub ruleset image_steps = (image_enters, image_stays, images_end, no_bit_left)
 
 -- ---- a table that is a literal
 

@@ -76,6 +76,7 @@ pub(crate) fn values_at_digits(images: &[u128; 128]) -> [u128; 512]
 
 /// The image of `bits` by the linear map whose image of bit j is `images[j]`: the sum of the images at the set bits. It ends with the
 /// highest of them.
+#[tactic(auto, using(crate::proofs::TabledMaps::image_steps))]
 pub fn sum_of_images(images: &[u128], bits: u128) -> u128
     ensures { result ≡ linear_image images.now bits }
 {
