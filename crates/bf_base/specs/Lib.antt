@@ -7,6 +7,7 @@ pub mod Chunks
 pub mod Field
 pub mod LinearMaps
 pub mod Norm
+pub mod Operators
 pub mod Orders
 pub mod Powers
 pub mod Quadratic

@@ -1,6 +1,7 @@
 // The field of two elements. A sum is exclusive or, a product is and.
 ghost use Rattle.std.specs.Prelude.{◌≡◌, ◌≢◌, ◌<◌, ◌*◌, ◌%◌, ℕ, ◌↔◌, IsTrue, bit_xor, refl};
 ghost use Rattle.std.proofs.Common.{lit<, lit≤, rules};
+ghost use Rattle.bf_base.specs.Operators.{given};
 ghost use Rattle.bf_base.specs.Powers.{sum_of, product_of};
 ghost use Rattle.bf_base.specs.Tower.{tower_mul};
 
@@ -222,37 +223,11 @@ impl PrimeCharacteristicRing for Gf2 {
 
     ghost from_law = { same_bit };
 
-    ghost can_add_assign_law = { λ x y. tt };
+    ghost operators_law = { λ x y. (given, given, given, given, given) };
 
-    ghost add_assign_law = { λ x y r is. is };
+    ghost totals_law = { λ xs. (given, given) };
 
-    ghost can_sub_law = { λ x y. tt };
-
-    ghost sub_law = { λ x y r is. is };
-
-    ghost can_sub_assign_law = { λ x y. tt };
-
-    ghost sub_assign_law = { λ x y r is. is };
-
-    ghost can_mul_assign_law = { λ x y. tt };
-
-    ghost mul_assign_law = { λ x y r is. is };
-
-    ghost can_neg_law = { λ x. tt };
-
-    ghost neg_law = { λ x r is. is };
-
-    ghost sum_complete_law = { λ r. tt };
-
-    ghost product_complete_law = { λ r. tt };
-
-    ghost can_sum_law = { λ xs. tt };
-
-    ghost sum_law = { λ xs r is. is };
-
-    ghost can_product_law = { λ xs. tt };
-
-    ghost product_law = { λ xs r is. is };
+    ghost complete_law = { λ r. (tt, tt) };
 }
 
 impl Field for Gf2 {

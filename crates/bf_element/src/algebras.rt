@@ -1,5 +1,6 @@
 // Levels of the tower as algebras over the levels below them: an element of the lower level is the same number in the upper.
 ghost use Rattle.std.specs.Prelude.{◌≡◌, ◌<◌, ◌^◌, ℕ, refl};
+ghost use Rattle.bf_base.specs.Operators.{given};
 ghost use Rattle.bf_element.specs.LevelProducts.{product_inside};
 ghost use Rattle.bf_element.specs.Element.{repr_of};
 
@@ -23,29 +24,7 @@ impl<S: Unsigned, J: Below<u16, Tower<Bits16>, S>> Algebra<Element<S, Tower<J>>>
 
     ghost image_from_law = { λ x r is. is };
 
-    ghost can_add_image_law = { λ x y. tt };
-
-    ghost add_image_law = { λ x y r is. is };
-
-    ghost can_add_assign_image_law = { λ x y. tt };
-
-    ghost add_assign_image_law = { λ x y r is. is };
-
-    ghost can_sub_image_law = { λ x y. tt };
-
-    ghost sub_image_law = { λ x y r is. is };
-
-    ghost can_sub_assign_image_law = { λ x y. tt };
-
-    ghost sub_assign_image_law = { λ x y r is. is };
-
-    ghost can_mul_image_law = { λ x y. tt };
-
-    ghost mul_image_law = { λ x y r is. is };
-
-    ghost can_mul_assign_image_law = { λ x y. tt };
-
-    ghost mul_assign_image_law = { λ x y r is. is };
+    ghost operators_law = { λ x y. (given, given, given, given, given, given) };
 }
 
 impl<S: Unsigned, J: Below<u32, Tower<Bits32>, S>> Algebra<Element<S, Tower<J>>> for BinaryField32 {
@@ -61,29 +40,7 @@ impl<S: Unsigned, J: Below<u32, Tower<Bits32>, S>> Algebra<Element<S, Tower<J>>>
 
     ghost image_from_law = { λ x r is. is };
 
-    ghost can_add_image_law = { λ x y. tt };
-
-    ghost add_image_law = { λ x y r is. is };
-
-    ghost can_add_assign_image_law = { λ x y. tt };
-
-    ghost add_assign_image_law = { λ x y r is. is };
-
-    ghost can_sub_image_law = { λ x y. tt };
-
-    ghost sub_image_law = { λ x y r is. is };
-
-    ghost can_sub_assign_image_law = { λ x y. tt };
-
-    ghost sub_assign_image_law = { λ x y r is. is };
-
-    ghost can_mul_image_law = { λ x y. tt };
-
-    ghost mul_image_law = { λ x y r is. is };
-
-    ghost can_mul_assign_image_law = { λ x y. tt };
-
-    ghost mul_assign_image_law = { λ x y r is. is };
+    ghost operators_law = { λ x y. (given, given, given, given, given, given) };
 }
 
 impl<S: Unsigned, J: Below<u64, Tower<Bits64>, S>> Algebra<Element<S, Tower<J>>> for BinaryField64 {
@@ -99,29 +56,7 @@ impl<S: Unsigned, J: Below<u64, Tower<Bits64>, S>> Algebra<Element<S, Tower<J>>>
 
     ghost image_from_law = { λ x r is. is };
 
-    ghost can_add_image_law = { λ x y. tt };
-
-    ghost add_image_law = { λ x y r is. is };
-
-    ghost can_add_assign_image_law = { λ x y. tt };
-
-    ghost add_assign_image_law = { λ x y r is. is };
-
-    ghost can_sub_image_law = { λ x y. tt };
-
-    ghost sub_image_law = { λ x y r is. is };
-
-    ghost can_sub_assign_image_law = { λ x y. tt };
-
-    ghost sub_assign_image_law = { λ x y r is. is };
-
-    ghost can_mul_image_law = { λ x y. tt };
-
-    ghost mul_image_law = { λ x y r is. is };
-
-    ghost can_mul_assign_image_law = { λ x y. tt };
-
-    ghost mul_assign_image_law = { λ x y r is. is };
+    ghost operators_law = { λ x y. (given, given, given, given, given, given) };
 }
 
 impl<S: Unsigned, J: Below<u128, Tower<Bits128>, S>> Algebra<Element<S, Tower<J>>>
@@ -138,27 +73,5 @@ impl<S: Unsigned, J: Below<u128, Tower<Bits128>, S>> Algebra<Element<S, Tower<J>
 
     ghost image_from_law = { λ x r is. is };
 
-    ghost can_add_image_law = { λ x y. tt };
-
-    ghost add_image_law = { λ x y r is. is };
-
-    ghost can_add_assign_image_law = { λ x y. tt };
-
-    ghost add_assign_image_law = { λ x y r is. is };
-
-    ghost can_sub_image_law = { λ x y. tt };
-
-    ghost sub_image_law = { λ x y r is. is };
-
-    ghost can_sub_assign_image_law = { λ x y. tt };
-
-    ghost sub_assign_image_law = { λ x y r is. is };
-
-    ghost can_mul_image_law = { λ x y. tt };
-
-    ghost mul_image_law = { λ x y r is. is };
-
-    ghost can_mul_assign_image_law = { λ x y. tt };
-
-    ghost mul_assign_image_law = { λ x y r is. is };
+    ghost operators_law = { λ x y. (given, given, given, given, given, given) };
 }

@@ -1,6 +1,7 @@
 // What the cubic extension of `Poly64` has of its own, and how `Poly64` lies in it: an element is coefficient 0.
 ghost use Rattle.std.specs.Prelude.{◌≡◌, ◌≢◌, ◌<◌, ◌^◌, ℕ, map, refl};
 ghost use Rattle.bf_base.specs.Chunks.{chunks};
+ghost use Rattle.bf_base.specs.Operators.{given};
 ghost use Rattle.bf_base.specs.Remainder.{mul_mod, poly64_modulus};
 ghost use Rattle.bf_cubic.specs.Cubic.{cubic};
 ghost use Rattle.bf_element.specs.Element.{repr_of};
@@ -102,27 +103,5 @@ impl Algebra<Poly64> for Poly192 {
 
     ghost image_from_law = { λ x r is. is };
 
-    ghost can_add_image_law = { λ x y. tt };
-
-    ghost add_image_law = { λ x y r is. is };
-
-    ghost can_add_assign_image_law = { λ x y. tt };
-
-    ghost add_assign_image_law = { λ x y r is. is };
-
-    ghost can_sub_image_law = { λ x y. tt };
-
-    ghost sub_image_law = { λ x y r is. is };
-
-    ghost can_sub_assign_image_law = { λ x y. tt };
-
-    ghost sub_assign_image_law = { λ x y r is. is };
-
-    ghost can_mul_image_law = { λ x y. tt };
-
-    ghost mul_image_law = { λ x y r is. is };
-
-    ghost can_mul_assign_image_law = { λ x y. tt };
-
-    ghost mul_assign_image_law = { λ x y r is. is };
+    ghost operators_law = { λ x y. (given, given, given, given, given, given) };
 }

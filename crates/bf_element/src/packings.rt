@@ -2,6 +2,7 @@
 // stands in every lane.
 ghost use Rattle.std.specs.Prelude.{◌≡◌, ℕ, bit_xor, map, replicate};
 ghost use Rattle.bf_base.specs.Basis.{basis_image, ghash_images};
+ghost use Rattle.bf_base.specs.Operators.{algebra_gives};
 ghost use Rattle.bf_base.specs.Remainder.{ghash_modulus, mul_mod};
 ghost use Rattle.bf_element.specs.Element.{repr_of};
 ghost use Rattle.bf_packed.specs.Packed.{lanes_of};
@@ -106,27 +107,7 @@ impl Algebra<BinaryField128> for PackedGhash128 {
 
     ghost image_from_law = { λ x r is. ap (joined 128) is };
 
-    ghost can_add_image_law = { λ x y. tt };
-
-    ghost add_image_law = { λ x y r is. sum_with_every 128 _ repr_of (λ z. z.in_range) 4 (basis_image 128 ghash_modulus ghash_images (repr_of y)) (isomorphic_128.homomorphism.below (repr_of y)) (lanes_of x) (lanes_of r) x.long is };
-
-    ghost can_add_assign_image_law = { λ x y. tt };
-
-    ghost add_assign_image_law = { λ x y r is. sum_with_every 128 _ repr_of (λ z. z.in_range) 4 (basis_image 128 ghash_modulus ghash_images (repr_of y)) (isomorphic_128.homomorphism.below (repr_of y)) (lanes_of x) (lanes_of r) x.long is };
-
-    ghost can_sub_image_law = { λ x y. tt };
-
-    ghost sub_image_law = { λ x y r is. sum_with_every 128 _ repr_of (λ z. z.in_range) 4 (basis_image 128 ghash_modulus ghash_images (repr_of y)) (isomorphic_128.homomorphism.below (repr_of y)) (lanes_of x) (lanes_of r) x.long is };
-
-    ghost can_sub_assign_image_law = { λ x y. tt };
-
-    ghost sub_assign_image_law = { λ x y r is. sum_with_every 128 _ repr_of (λ z. z.in_range) 4 (basis_image 128 ghash_modulus ghash_images (repr_of y)) (isomorphic_128.homomorphism.below (repr_of y)) (lanes_of x) (lanes_of r) x.long is };
-
-    ghost can_mul_image_law = { λ x y. tt };
-
-    ghost mul_image_law = { λ x y r is. product_with_every 128 _ repr_of (λ z. z.in_range) 1 (mul_mod 128 ghash_modulus) field_128.ring 4 (basis_image 128 ghash_modulus ghash_images (repr_of y)) (isomorphic_128.homomorphism.below (repr_of y)) (lanes_of x) (lanes_of r) x.long is };
-
-    ghost can_mul_assign_image_law = { λ x y. tt };
-
-    ghost mul_assign_image_law = { λ x y r is. product_with_every 128 _ repr_of (λ z. z.in_range) 1 (mul_mod 128 ghash_modulus) field_128.ring 4 (basis_image 128 ghash_modulus ghash_images (repr_of y)) (isomorphic_128.homomorphism.below (repr_of y)) (lanes_of x) (lanes_of r) x.long is };
+    ghost operators_law = { λ x y. algebra_gives
+        (λ r is. sum_with_every 128 _ repr_of (λ z. z.in_range) 4 (basis_image 128 ghash_modulus ghash_images (repr_of y)) (isomorphic_128.homomorphism.below (repr_of y)) (lanes_of x) (lanes_of r) x.long is)
+        (λ r is. product_with_every 128 _ repr_of (λ z. z.in_range) 1 (mul_mod 128 ghash_modulus) field_128.ring 4 (basis_image 128 ghash_modulus ghash_images (repr_of y)) (isomorphic_128.homomorphism.below (repr_of y)) (lanes_of x) (lanes_of r) x.long is) };
 }

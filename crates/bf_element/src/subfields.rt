@@ -2,6 +2,7 @@
 // change of basis; the level that is the field of polynomials in the tower's basis has the change back too.
 ghost use Rattle.std.specs.Prelude.{◌≡◌, ◌<◌, ◌^◌, ℕ, bit_xor};
 ghost use Rattle.bf_base.specs.Basis.{basis_image};
+ghost use Rattle.bf_base.specs.Operators.{given};
 ghost use Rattle.bf_base.specs.Remainder.{mul_mod};
 ghost use Rattle.bf_element.specs.Element.{repr_of};
 
@@ -142,27 +143,5 @@ impl<
 
     ghost image_from_law = { λ x r is. is };
 
-    ghost can_add_image_law = { λ x y. tt };
-
-    ghost add_image_law = { λ x y r is. is };
-
-    ghost can_add_assign_image_law = { λ x y. tt };
-
-    ghost add_assign_image_law = { λ x y r is. is };
-
-    ghost can_sub_image_law = { λ x y. tt };
-
-    ghost sub_image_law = { λ x y r is. is };
-
-    ghost can_sub_assign_image_law = { λ x y. tt };
-
-    ghost sub_assign_image_law = { λ x y r is. is };
-
-    ghost can_mul_image_law = { λ x y. tt };
-
-    ghost mul_image_law = { λ x y r is. is };
-
-    ghost can_mul_assign_image_law = { λ x y. tt };
-
-    ghost mul_assign_image_law = { λ x y r is. is };
+    ghost operators_law = { λ x y. (given, given, given, given, given, given) };
 }

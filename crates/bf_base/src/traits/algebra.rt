@@ -1,6 +1,7 @@
 // Rings that another ring embeds in.
 ghost use Rattle.std.specs.Prelude.{◌≡◌, ◌≢◌, ◌<◌, ◌^◌, ℕ, bit_xor, refl};
 ghost use Rattle.std.proofs.Common.{ap};
+ghost use Rattle.bf_base.specs.Operators.{Gives};
 
 use crate::traits::ring::PrimeCharacteristicRing;
 use std::ops::{Add, AddAssign, Mul, MulAssign, Sub, SubAssign};
@@ -30,29 +31,38 @@ pub trait Algebra<F: PrimeCharacteristicRing>: PrimeCharacteristicRing
     // What the conversion and the operators give, the second bound of each name being the one over `F`.
     ghost image_from_law: { (x : F) (r : Self) → Self.From-2.from_gives x r → Self.repr r ≡ image (F.repr x) };
 
-    ghost can_add_image_law: { (x : Self) (y : F) → Self.Add-2.can_add x y };
+    ghost operators_law: { (x : Self) (y : F) → let sum = bit_xor (Self.repr x) (image (F.repr y)) in let product = Self.product (Self.repr x) (image (F.repr y)) in
+        Gives (Self.Add-2.can_add x y) (Self.Add-2.add_gives x y) Self.repr sum
+        × Gives (Self.AddAssign-2.can_add_assign x y) (Self.AddAssign-2.add_assign_gives x y) Self.repr sum
+        × Gives (Self.Sub-2.can_sub x y) (Self.Sub-2.sub_gives x y) Self.repr sum
+        × Gives (Self.SubAssign-2.can_sub_assign x y) (Self.SubAssign-2.sub_assign_gives x y) Self.repr sum
+        × Gives (Self.Mul-2.can_mul x y) (Self.Mul-2.mul_gives x y) Self.repr product
+        × Gives (Self.MulAssign-2.can_mul_assign x y) (Self.MulAssign-2.mul_assign_gives x y) Self.repr product };
 
-    ghost add_image_law: { (x : Self) (y : F) (r : Self) → Self.Add-2.add_gives x y r → Self.repr r ≡ bit_xor (Self.repr x) (image (F.repr y)) };
+    // The same, each as a law of its own, which is how a proof about a generic ring finds it.
+    ghost can_add_image_law: { (x : Self) (y : F) → Self.Add-2.can_add x y } = { λ x y. (operators_law x y).0.0 };
 
-    ghost can_add_assign_image_law: { (x : Self) (y : F) → Self.AddAssign-2.can_add_assign x y };
+    ghost add_image_law: { (x : Self) (y : F) (r : Self) → Self.Add-2.add_gives x y r → Self.repr r ≡ bit_xor (Self.repr x) (image (F.repr y)) } = { λ x y. (operators_law x y).0.1 };
 
-    ghost add_assign_image_law: { (x : Self) (y : F) (r : Self) → Self.AddAssign-2.add_assign_gives x y r → Self.repr r ≡ bit_xor (Self.repr x) (image (F.repr y)) };
+    ghost can_add_assign_image_law: { (x : Self) (y : F) → Self.AddAssign-2.can_add_assign x y } = { λ x y. (operators_law x y).1.0 };
 
-    ghost can_sub_image_law: { (x : Self) (y : F) → Self.Sub-2.can_sub x y };
+    ghost add_assign_image_law: { (x : Self) (y : F) (r : Self) → Self.AddAssign-2.add_assign_gives x y r → Self.repr r ≡ bit_xor (Self.repr x) (image (F.repr y)) } = { λ x y. (operators_law x y).1.1 };
 
-    ghost sub_image_law: { (x : Self) (y : F) (r : Self) → Self.Sub-2.sub_gives x y r → Self.repr r ≡ bit_xor (Self.repr x) (image (F.repr y)) };
+    ghost can_sub_image_law: { (x : Self) (y : F) → Self.Sub-2.can_sub x y } = { λ x y. (operators_law x y).2.0 };
 
-    ghost can_sub_assign_image_law: { (x : Self) (y : F) → Self.SubAssign-2.can_sub_assign x y };
+    ghost sub_image_law: { (x : Self) (y : F) (r : Self) → Self.Sub-2.sub_gives x y r → Self.repr r ≡ bit_xor (Self.repr x) (image (F.repr y)) } = { λ x y. (operators_law x y).2.1 };
 
-    ghost sub_assign_image_law: { (x : Self) (y : F) (r : Self) → Self.SubAssign-2.sub_assign_gives x y r → Self.repr r ≡ bit_xor (Self.repr x) (image (F.repr y)) };
+    ghost can_sub_assign_image_law: { (x : Self) (y : F) → Self.SubAssign-2.can_sub_assign x y } = { λ x y. (operators_law x y).3.0 };
 
-    ghost can_mul_image_law: { (x : Self) (y : F) → Self.Mul-2.can_mul x y };
+    ghost sub_assign_image_law: { (x : Self) (y : F) (r : Self) → Self.SubAssign-2.sub_assign_gives x y r → Self.repr r ≡ bit_xor (Self.repr x) (image (F.repr y)) } = { λ x y. (operators_law x y).3.1 };
 
-    ghost mul_image_law: { (x : Self) (y : F) (r : Self) → Self.Mul-2.mul_gives x y r → Self.repr r ≡ Self.product (Self.repr x) (image (F.repr y)) };
+    ghost can_mul_image_law: { (x : Self) (y : F) → Self.Mul-2.can_mul x y } = { λ x y. (operators_law x y).4.0 };
 
-    ghost can_mul_assign_image_law: { (x : Self) (y : F) → Self.MulAssign-2.can_mul_assign x y };
+    ghost mul_image_law: { (x : Self) (y : F) (r : Self) → Self.Mul-2.mul_gives x y r → Self.repr r ≡ Self.product (Self.repr x) (image (F.repr y)) } = { λ x y. (operators_law x y).4.1 };
 
-    ghost mul_assign_image_law: { (x : Self) (y : F) (r : Self) → Self.MulAssign-2.mul_assign_gives x y r → Self.repr r ≡ Self.product (Self.repr x) (image (F.repr y)) };
+    ghost can_mul_assign_image_law: { (x : Self) (y : F) → Self.MulAssign-2.can_mul_assign x y } = { λ x y. (operators_law x y).5.0 };
+
+    ghost mul_assign_image_law: { (x : Self) (y : F) (r : Self) → Self.MulAssign-2.mul_assign_gives x y r → Self.repr r ≡ Self.product (Self.repr x) (image (F.repr y)) } = { λ x y. (operators_law x y).5.1 };
 }
 
 impl<R: PrimeCharacteristicRing> Algebra<R> for R {
@@ -68,27 +78,12 @@ impl<R: PrimeCharacteristicRing> Algebra<R> for R {
 
     ghost image_from_law = { λ x r is. ap R.repr is };
 
-    ghost can_add_image_law = { R.can_add_law };
-
-    ghost add_image_law = { R.add_law };
-
-    ghost can_add_assign_image_law = { R.can_add_assign_law };
-
-    ghost add_assign_image_law = { R.add_assign_law };
-
-    ghost can_sub_image_law = { R.can_sub_law };
-
-    ghost sub_image_law = { R.sub_law };
-
-    ghost can_sub_assign_image_law = { R.can_sub_assign_law };
-
-    ghost sub_assign_image_law = { R.sub_assign_law };
-
-    ghost can_mul_image_law = { R.can_mul_law };
-
-    ghost mul_image_law = { R.mul_law };
-
-    ghost can_mul_assign_image_law = { R.can_mul_assign_law };
-
-    ghost mul_assign_image_law = { R.mul_assign_law };
+    ghost operators_law = { λ x y. (
+      (R.can_add_law x y, R.add_law x y),
+      (R.can_add_assign_law x y, R.add_assign_law x y),
+      (R.can_sub_law x y, R.sub_law x y),
+      (R.can_sub_assign_law x y, R.sub_assign_law x y),
+      (R.can_mul_law x y, R.mul_law x y),
+      (R.can_mul_assign_law x y, R.mul_assign_law x y),
+    ) };
 }

@@ -2,6 +2,7 @@
 ghost use Rattle.std.specs.Prelude.{◌≡◌, ◌↔◌, ◌*◌, ◌%◌, ◌==◌, ℕ, length, IsTrue, IfOk, bit_xor, replicate, List, if◌then◌else◌};
 ghost use Rattle.bf_base.specs.declared.gf2.Gf2.{Gf2};
 ghost use Rattle.bf_base.specs.Bit.{repr_of};
+ghost use Rattle.bf_base.specs.Operators.{Gives};
 ghost use Rattle.bf_base.specs.Powers.{power, repeated_square, sum_of, product_of, dot_of, parity};
 
 use crate::gf2::Gf2;
@@ -239,38 +240,53 @@ pub trait PrimeCharacteristicRing: Represented
 
     ghost from_law: { (x : Gf2) (r : Self) → Self.from_gives x r → Self.repr r ≡ repr_of x * Self.unit };
 
-    ghost can_add_assign_law: { (x y : Self) → Self.can_add_assign x y };
+    // What the operators give beside those of `Represented`, and what the sum and the product of an iterator's elements give, which
+    // are of all of them.
+    ghost operators_law: { (x y : Self) →
+        Gives (Self.can_add_assign x y) (Self.add_assign_gives x y) Self.repr (bit_xor (Self.repr x) (Self.repr y))
+        × Gives (Self.can_sub x y) (Self.sub_gives x y) Self.repr (bit_xor (Self.repr x) (Self.repr y))
+        × Gives (Self.can_sub_assign x y) (Self.sub_assign_gives x y) Self.repr (bit_xor (Self.repr x) (Self.repr y))
+        × Gives (Self.can_mul_assign x y) (Self.mul_assign_gives x y) Self.repr (Self.product (Self.repr x) (Self.repr y))
+        × Gives (Self.can_neg x) (Self.neg_gives x) Self.repr (Self.repr x) };
 
-    ghost add_assign_law: { (x y r : Self) → Self.add_assign_gives x y r → Self.repr r ≡ bit_xor (Self.repr x) (Self.repr y) };
+    ghost totals_law: { (xs : List Self) →
+        Gives (Self.can_sum xs) (Self.sum_gives xs) Self.repr (sum_of Self.repr xs)
+        × Gives (Self.can_product xs) (Self.product_gives xs) Self.repr (product_of Self.unit Self.product Self.repr xs) };
 
-    ghost can_sub_law: { (x y : Self) → Self.can_sub x y };
+    ghost complete_law: { (r : Self) → Self.Sum.is_complete r × Self.Product.is_complete r };
 
-    ghost sub_law: { (x y r : Self) → Self.sub_gives x y r → Self.repr r ≡ bit_xor (Self.repr x) (Self.repr y) };
+    // The same, each as a law of its own, which is how a proof about a generic ring finds it.
+    ghost can_add_assign_law: { (x y : Self) → Self.can_add_assign x y } = { λ x y. (operators_law x y).0.0 };
 
-    ghost can_sub_assign_law: { (x y : Self) → Self.can_sub_assign x y };
+    ghost add_assign_law: { (x y r : Self) → Self.add_assign_gives x y r → Self.repr r ≡ bit_xor (Self.repr x) (Self.repr y) } = { λ x y. (operators_law x y).0.1 };
 
-    ghost sub_assign_law: { (x y r : Self) → Self.sub_assign_gives x y r → Self.repr r ≡ bit_xor (Self.repr x) (Self.repr y) };
+    ghost can_sub_law: { (x y : Self) → Self.can_sub x y } = { λ x y. (operators_law x y).1.0 };
 
-    ghost can_mul_assign_law: { (x y : Self) → Self.can_mul_assign x y };
+    ghost sub_law: { (x y r : Self) → Self.sub_gives x y r → Self.repr r ≡ bit_xor (Self.repr x) (Self.repr y) } = { λ x y. (operators_law x y).1.1 };
 
-    ghost mul_assign_law: { (x y r : Self) → Self.mul_assign_gives x y r → Self.repr r ≡ Self.product (Self.repr x) (Self.repr y) };
+    ghost can_sub_assign_law: { (x y : Self) → Self.can_sub_assign x y } = { λ x y. (operators_law x y).2.0 };
 
-    ghost can_neg_law: { (x : Self) → Self.can_neg x };
+    ghost sub_assign_law: { (x y r : Self) → Self.sub_assign_gives x y r → Self.repr r ≡ bit_xor (Self.repr x) (Self.repr y) } = { λ x y. (operators_law x y).2.1 };
 
-    ghost neg_law: { (x r : Self) → Self.neg_gives x r → Self.repr r ≡ Self.repr x };
+    ghost can_mul_assign_law: { (x y : Self) → Self.can_mul_assign x y } = { λ x y. (operators_law x y).3.0 };
 
-    // The sum and the product of an iterator's elements are of all of them.
-    ghost sum_complete_law: { (r : Self) → Self.Sum.is_complete r };
+    ghost mul_assign_law: { (x y r : Self) → Self.mul_assign_gives x y r → Self.repr r ≡ Self.product (Self.repr x) (Self.repr y) } = { λ x y. (operators_law x y).3.1 };
 
-    ghost product_complete_law: { (r : Self) → Self.Product.is_complete r };
+    ghost can_neg_law: { (x : Self) → Self.can_neg x } = { λ x. (operators_law x x).4.0 };
 
-    ghost can_sum_law: { (xs : List Self) → Self.can_sum xs };
+    ghost neg_law: { (x r : Self) → Self.neg_gives x r → Self.repr r ≡ Self.repr x } = { λ x. (operators_law x x).4.1 };
 
-    ghost sum_law: { (xs : List Self) (r : Self) → Self.sum_gives xs r → Self.repr r ≡ sum_of Self.repr xs };
+    ghost sum_complete_law: { (r : Self) → Self.Sum.is_complete r } = { λ r. (complete_law r).0 };
 
-    ghost can_product_law: { (xs : List Self) → Self.can_product xs };
+    ghost product_complete_law: { (r : Self) → Self.Product.is_complete r } = { λ r. (complete_law r).1 };
 
-    ghost product_law: { (xs : List Self) (r : Self) → Self.product_gives xs r → Self.repr r ≡ product_of Self.unit Self.product Self.repr xs };
+    ghost can_sum_law: { (xs : List Self) → Self.can_sum xs } = { λ xs. (totals_law xs).0.0 };
+
+    ghost sum_law: { (xs : List Self) (r : Self) → Self.sum_gives xs r → Self.repr r ≡ sum_of Self.repr xs } = { λ xs. (totals_law xs).0.1 };
+
+    ghost can_product_law: { (xs : List Self) → Self.can_product xs } = { λ xs. (totals_law xs).1.0 };
+
+    ghost product_law: { (xs : List Self) (r : Self) → Self.product_gives xs r → Self.repr r ≡ product_of Self.unit Self.product Self.repr xs } = { λ xs. (totals_law xs).1.1 };
 }
 
 /// The dot product of arrays, which every ring has.

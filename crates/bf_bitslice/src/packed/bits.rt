@@ -3,6 +3,7 @@ ghost use Rattle.std.specs.Prelude.{◌-◌, ◌*◌, ◌^◌};
 ghost use Rattle.std.proofs.Common.{◌∙◌, ap};
 ghost use Rattle.std.specs.Prelude.{bit_xor};
 ghost use native.Mathlib.Nat.{one-mul};
+ghost use Rattle.bf_base.specs.Operators.{algebra_gives};
 ghost use Rattle.bf_bitslice.specs.EveryLane.{every_product, every_same, every_sum, times_every};
 ghost use Rattle.bf_bitslice.specs.Lanes.{lane_product};
 
@@ -26,27 +27,7 @@ impl<U: Underlier> Algebra<Gf2> for PackedGf2<U> {
 
     ghost image_from_law = { λ x r is. is };
 
-    ghost can_add_image_law = { λ x y. tt };
-
-    ghost add_image_law = { λ x y r is. is };
-
-    ghost can_add_assign_image_law = { λ x y. tt };
-
-    ghost add_assign_image_law = { λ x y r is. is };
-
-    ghost can_sub_image_law = { λ x y. tt };
-
-    ghost sub_image_law = { λ x y r is. is };
-
-    ghost can_sub_assign_image_law = { λ x y. tt };
-
-    ghost sub_assign_image_law = { λ x y r is. is };
-
-    ghost can_mul_image_law = { λ x y. tt };
-
-    ghost mul_image_law = { λ x y r is. is ∙ times_every U.BITS (U.number x.bits) (repr_of y) (U.range_law x.bits x.in_range) y.in_range };
-
-    ghost can_mul_assign_image_law = { λ x y. tt };
-
-    ghost mul_assign_image_law = { λ x y r is. is ∙ times_every U.BITS (U.number x.bits) (repr_of y) (U.range_law x.bits x.in_range) y.in_range };
+    ghost operators_law = { λ x y. algebra_gives
+        (λ r is. is)
+        (λ r is. is ∙ times_every U.BITS (U.number x.bits) (repr_of y) (U.range_law x.bits x.in_range) y.in_range) };
 }

@@ -2,6 +2,7 @@
 ghost use Rattle.std.specs.Prelude.{◌≡◌, ◌-◌, ◌*◌, ◌^◌, IsTrue, refl};
 ghost use mathlib.Core.HLevel.{is_prop→PathP};
 ghost use Rattle.std.proofs.Math.Bool.{Bool-set};
+ghost use Rattle.bf_base.specs.Operators.{given};
 ghost use Rattle.bf_base.specs.Powers.{product_of, sum_of};
 ghost use Rattle.bf_bitslice.specs.BitsRing.{bits_ring, equal_numbers, ones_fit};
 ghost use Rattle.bf_bitslice.specs.Lanes.{lane_product};
@@ -87,35 +88,9 @@ impl<U: Underlier> PrimeCharacteristicRing for PackedGf2<U> {
 
     ghost from_law = { λ x r is. is };
 
-    ghost can_add_assign_law = { λ x y. tt };
+    ghost operators_law = { λ x y. (given, given, given, given, given) };
 
-    ghost add_assign_law = { λ x y r is. is };
+    ghost totals_law = { λ xs. (given, given) };
 
-    ghost can_sub_law = { λ x y. tt };
-
-    ghost sub_law = { λ x y r is. is };
-
-    ghost can_sub_assign_law = { λ x y. tt };
-
-    ghost sub_assign_law = { λ x y r is. is };
-
-    ghost can_mul_assign_law = { λ x y. tt };
-
-    ghost mul_assign_law = { λ x y r is. is };
-
-    ghost can_neg_law = { λ x. tt };
-
-    ghost neg_law = { λ x r is. is };
-
-    ghost sum_complete_law = { λ r. tt };
-
-    ghost product_complete_law = { λ r. tt };
-
-    ghost can_sum_law = { λ xs. tt };
-
-    ghost sum_law = { λ xs r is. is };
-
-    ghost can_product_law = { λ xs. tt };
-
-    ghost product_law = { λ xs r is. is };
+    ghost complete_law = { λ r. (tt, tt) };
 }

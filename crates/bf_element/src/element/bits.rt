@@ -2,6 +2,7 @@
 // algebra over GF(2).
 ghost use Rattle.std.specs.Prelude.{◌≡◌, ◌<◌, ◌^◌, ℕ, bit_xor, refl};
 ghost use Rattle.bf_base.specs.Bit.{repr_of as bit_of};
+ghost use Rattle.bf_base.specs.Operators.{given};
 ghost use Rattle.bf_element.specs.BitProducts.{bit_product};
 ghost use Rattle.bf_element.specs.Element.{repr_of};
 
@@ -106,27 +107,5 @@ impl<R: Word, K: Kernel<R>> Algebra<Gf2> for Element<R, K> {
 
     ghost image_from_law = { λ x r is. is };
 
-    ghost can_add_image_law = { λ x y. tt };
-
-    ghost add_image_law = { λ x y r is. is };
-
-    ghost can_add_assign_image_law = { λ x y. tt };
-
-    ghost add_assign_image_law = { λ x y r is. is };
-
-    ghost can_sub_image_law = { λ x y. tt };
-
-    ghost sub_image_law = { λ x y r is. is };
-
-    ghost can_sub_assign_image_law = { λ x y. tt };
-
-    ghost sub_assign_image_law = { λ x y r is. is };
-
-    ghost can_mul_image_law = { λ x y. tt };
-
-    ghost mul_image_law = { λ x y r is. is };
-
-    ghost can_mul_assign_image_law = { λ x y. tt };
-
-    ghost mul_assign_image_law = { λ x y r is. is };
+    ghost operators_law = { λ x y. (given, given, given, given, given, given) };
 }

@@ -1,6 +1,7 @@
 // The traits of rings and fields, for the elements of every field at once.
 ghost use Rattle.std.specs.Prelude.{◌≡◌, ◌≢◌, ◌<◌, ◌%◌, ◌^◌, ℕ, refl};
 ghost use Rattle.std.proofs.Common.{sym, subst, ◌∙◌};
+ghost use Rattle.bf_base.specs.Operators.{given};
 ghost use Rattle.bf_base.specs.Orders.{HasFullOrder};
 ghost use Rattle.bf_base.specs.Powers.{repeated_square};
 ghost use Rattle.bf_element.specs.Range.{one_in_range, word_in_range, word_number, zero_in_range};
@@ -128,37 +129,11 @@ impl<R: Word, K: Kernel<R>> PrimeCharacteristicRing for Element<R, K> {
 
     ghost from_law = { λ x r is. is_times_one (R.number r.repr) (bit_of x) is };
 
-    ghost can_add_assign_law = { λ x y. tt };
+    ghost operators_law = { λ x y. (given, given, given, given, given) };
 
-    ghost add_assign_law = { λ x y r is. is };
+    ghost totals_law = { λ xs. (given, given) };
 
-    ghost can_sub_law = { λ x y. tt };
-
-    ghost sub_law = { λ x y r is. is };
-
-    ghost can_sub_assign_law = { λ x y. tt };
-
-    ghost sub_assign_law = { λ x y r is. is };
-
-    ghost can_mul_assign_law = { λ x y. tt };
-
-    ghost mul_assign_law = { λ x y r is. is };
-
-    ghost can_neg_law = { λ x. tt };
-
-    ghost neg_law = { λ x r is. is };
-
-    ghost sum_complete_law = { λ r. tt };
-
-    ghost product_complete_law = { λ r. tt };
-
-    ghost can_sum_law = { λ xs. tt };
-
-    ghost sum_law = { λ xs r is. is };
-
-    ghost can_product_law = { λ xs. tt };
-
-    ghost product_law = { λ xs r is. is };
+    ghost complete_law = { λ r. (tt, tt) };
 }
 
 impl<R: Word, K: HasPacking<R>> Field for Element<R, K> {

@@ -2,6 +2,7 @@
 ghost use Rattle.std.specs.Prelude.{◌≡◌, ◌*◌, bit_xor, map, replicate};
 ghost use Rattle.std.proofs.Common.{◌∙◌, ap};
 ghost use native.Mathlib.Nat.{one-mul};
+ghost use Rattle.bf_base.specs.Operators.{algebra_gives};
 ghost use Rattle.bf_packing.proofs.LaneRing.{lanes_ring};
 ghost use Rattle.bf_packing.specs.Lanes.{joined, lane_by_lane, lane_product};
 ghost use Rattle.bf_packed.specs.BitImages.{bit_fits, bit_product, bit_same, bit_sum};
@@ -105,27 +106,7 @@ impl<F: WiderField, const N: usize> Algebra<Gf2> for Packed<F, N> {
 
     ghost image_from_law = { λ x r is. ap (joined F.width) is ∙ every_bit F.width F.unit N (bit_of x) x.in_range };
 
-    ghost can_add_image_law = { λ x y. tt };
-
-    ghost add_image_law = { λ x y r is. sum_with_every F.width _ F.repr F.range_law N (bit_of y * F.unit) (bit_fits F.width F.unit F.unit_fits (bit_of y) y.in_range) x.lanes r.lanes x.long is ∙ ap (bit_xor (joined F.width (map F.repr x.lanes))) (every_bit F.width F.unit N (bit_of y) y.in_range) };
-
-    ghost can_add_assign_image_law = { λ x y. tt };
-
-    ghost add_assign_image_law = { λ x y r is. sum_with_every F.width _ F.repr F.range_law N (bit_of y * F.unit) (bit_fits F.width F.unit F.unit_fits (bit_of y) y.in_range) x.lanes r.lanes x.long is ∙ ap (bit_xor (joined F.width (map F.repr x.lanes))) (every_bit F.width F.unit N (bit_of y) y.in_range) };
-
-    ghost can_sub_image_law = { λ x y. tt };
-
-    ghost sub_image_law = { λ x y r is. sum_with_every F.width _ F.repr F.range_law N (bit_of y * F.unit) (bit_fits F.width F.unit F.unit_fits (bit_of y) y.in_range) x.lanes r.lanes x.long is ∙ ap (bit_xor (joined F.width (map F.repr x.lanes))) (every_bit F.width F.unit N (bit_of y) y.in_range) };
-
-    ghost can_sub_assign_image_law = { λ x y. tt };
-
-    ghost sub_assign_image_law = { λ x y r is. sum_with_every F.width _ F.repr F.range_law N (bit_of y * F.unit) (bit_fits F.width F.unit F.unit_fits (bit_of y) y.in_range) x.lanes r.lanes x.long is ∙ ap (bit_xor (joined F.width (map F.repr x.lanes))) (every_bit F.width F.unit N (bit_of y) y.in_range) };
-
-    ghost can_mul_image_law = { λ x y. tt };
-
-    ghost mul_image_law = { λ x y r is. product_with_every F.width _ F.repr F.range_law F.unit F.product F.ring_law N (bit_of y * F.unit) (bit_fits F.width F.unit F.unit_fits (bit_of y) y.in_range) x.lanes r.lanes x.long is ∙ ap (lane_product F.width F.product N (joined F.width (map F.repr x.lanes))) (every_bit F.width F.unit N (bit_of y) y.in_range) };
-
-    ghost can_mul_assign_image_law = { λ x y. tt };
-
-    ghost mul_assign_image_law = { λ x y r is. product_with_every F.width _ F.repr F.range_law F.unit F.product F.ring_law N (bit_of y * F.unit) (bit_fits F.width F.unit F.unit_fits (bit_of y) y.in_range) x.lanes r.lanes x.long is ∙ ap (lane_product F.width F.product N (joined F.width (map F.repr x.lanes))) (every_bit F.width F.unit N (bit_of y) y.in_range) };
+    ghost operators_law = { λ x y. algebra_gives
+        (λ r is. sum_with_every F.width _ F.repr F.range_law N (bit_of y * F.unit) (bit_fits F.width F.unit F.unit_fits (bit_of y) y.in_range) x.lanes r.lanes x.long is ∙ ap (bit_xor (joined F.width (map F.repr x.lanes))) (every_bit F.width F.unit N (bit_of y) y.in_range))
+        (λ r is. product_with_every F.width _ F.repr F.range_law F.unit F.product F.ring_law N (bit_of y * F.unit) (bit_fits F.width F.unit F.unit_fits (bit_of y) y.in_range) x.lanes r.lanes x.long is ∙ ap (lane_product F.width F.product N (joined F.width (map F.repr x.lanes))) (every_bit F.width F.unit N (bit_of y) y.in_range)) };
 }

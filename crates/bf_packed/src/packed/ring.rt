@@ -2,6 +2,7 @@
 ghost use Rattle.std.specs.Prelude.{◌≡◌, map, refl, replicate};
 ghost use Rattle.std.proofs.Common.{sym, ◌∙◌, ap};
 ghost use Rattle.std.proofs.lemmas.List.{length-replicate};
+ghost use Rattle.bf_base.specs.Operators.{given, ring_gives};
 ghost use Rattle.bf_packing.specs.Lanes.{joined};
 ghost use Rattle.bf_packed.specs.LaneLists.{equal_lanes, every_bit, every_zero, number_of_every, product_number, sum_number};
 
@@ -48,35 +49,12 @@ impl<F: WiderField, const N: usize> PrimeCharacteristicRing for Packed<F, N> {
 
     ghost from_law = { λ x r is. ap (joined F.width) is ∙ every_bit F.width F.unit N (bit_of x) x.in_range };
 
-    ghost can_add_assign_law = { λ x y. tt };
+    ghost operators_law = { λ x y. ring_gives
+        (λ r is. sum_number F.width _ F.repr F.range_law x.lanes y.lanes r.lanes (x.long ∙ sym y.long) is)
+        (λ r is. product_number F.width _ F.repr F.range_law F.unit F.product F.ring_law N x.lanes y.lanes r.lanes x.long y.long is)
+        (λ r is. ap (joined F.width) is) };
 
-    ghost add_assign_law = { λ x y r is. sum_number F.width _ F.repr F.range_law x.lanes y.lanes r.lanes (x.long ∙ sym y.long) is };
+    ghost totals_law = { λ xs. (given, given) };
 
-    ghost can_sub_law = { λ x y. tt };
-
-    ghost sub_law = { λ x y r is. sum_number F.width _ F.repr F.range_law x.lanes y.lanes r.lanes (x.long ∙ sym y.long) is };
-
-    ghost can_sub_assign_law = { λ x y. tt };
-
-    ghost sub_assign_law = { λ x y r is. sum_number F.width _ F.repr F.range_law x.lanes y.lanes r.lanes (x.long ∙ sym y.long) is };
-
-    ghost can_mul_assign_law = { λ x y. tt };
-
-    ghost mul_assign_law = { λ x y r is. product_number F.width _ F.repr F.range_law F.unit F.product F.ring_law N x.lanes y.lanes r.lanes x.long y.long is };
-
-    ghost can_neg_law = { λ x. tt };
-
-    ghost neg_law = { λ x r is. ap (joined F.width) is };
-
-    ghost sum_complete_law = { λ r. tt };
-
-    ghost product_complete_law = { λ r. tt };
-
-    ghost can_sum_law = { λ xs. tt };
-
-    ghost sum_law = { λ xs r is. is };
-
-    ghost can_product_law = { λ xs. tt };
-
-    ghost product_law = { λ xs r is. is };
+    ghost complete_law = { λ r. (tt, tt) };
 }

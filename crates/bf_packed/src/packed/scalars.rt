@@ -3,6 +3,7 @@
 ghost use Rattle.std.specs.Prelude.{◌≡◌, bit_xor, map, refl, replicate};
 ghost use Rattle.std.proofs.Common.{sym, ◌∙◌, ap};
 ghost use Rattle.std.proofs.lemmas.List.{length-replicate};
+ghost use Rattle.bf_base.specs.Operators.{algebra_gives};
 ghost use Rattle.bf_base.specs.Powers.{product_of, sum_of};
 ghost use Rattle.bf_packing.specs.Lanes.{joined, lane_by_lane, lane_product};
 ghost use Rattle.bf_packed.specs.LaneLists.{every_product, every_same, every_sum, number_of_every, product_number, sum_number};
@@ -103,27 +104,7 @@ impl<F: WiderField, const N: usize> Algebra<F> for Packed<F, N> {
 
     ghost image_from_law = { λ x r is. ap (λ xs. joined F.width (map F.repr xs)) is ∙ number_of_every F.width _ F.repr F.range_law N x };
 
-    ghost can_add_image_law = { λ x y. tt };
-
-    ghost add_image_law = { λ x y r is. sum_number F.width _ F.repr F.range_law x.lanes (replicate N y) r.lanes (x.long ∙ sym (length-replicate N y)) is ∙ ap (bit_xor (joined F.width (map F.repr x.lanes))) (number_of_every F.width _ F.repr F.range_law N y) };
-
-    ghost can_add_assign_image_law = { λ x y. tt };
-
-    ghost add_assign_image_law = { λ x y r is. sum_number F.width _ F.repr F.range_law x.lanes (replicate N y) r.lanes (x.long ∙ sym (length-replicate N y)) is ∙ ap (bit_xor (joined F.width (map F.repr x.lanes))) (number_of_every F.width _ F.repr F.range_law N y) };
-
-    ghost can_sub_image_law = { λ x y. tt };
-
-    ghost sub_image_law = { λ x y r is. sum_number F.width _ F.repr F.range_law x.lanes (replicate N y) r.lanes (x.long ∙ sym (length-replicate N y)) is ∙ ap (bit_xor (joined F.width (map F.repr x.lanes))) (number_of_every F.width _ F.repr F.range_law N y) };
-
-    ghost can_sub_assign_image_law = { λ x y. tt };
-
-    ghost sub_assign_image_law = { λ x y r is. sum_number F.width _ F.repr F.range_law x.lanes (replicate N y) r.lanes (x.long ∙ sym (length-replicate N y)) is ∙ ap (bit_xor (joined F.width (map F.repr x.lanes))) (number_of_every F.width _ F.repr F.range_law N y) };
-
-    ghost can_mul_image_law = { λ x y. tt };
-
-    ghost mul_image_law = { λ x y r is. product_number F.width _ F.repr F.range_law F.unit F.product F.ring_law N x.lanes (replicate N y) r.lanes x.long (length-replicate N y) is ∙ ap (lane_product F.width F.product N (joined F.width (map F.repr x.lanes))) (number_of_every F.width _ F.repr F.range_law N y) };
-
-    ghost can_mul_assign_image_law = { λ x y. tt };
-
-    ghost mul_assign_image_law = { λ x y r is. product_number F.width _ F.repr F.range_law F.unit F.product F.ring_law N x.lanes (replicate N y) r.lanes x.long (length-replicate N y) is ∙ ap (lane_product F.width F.product N (joined F.width (map F.repr x.lanes))) (number_of_every F.width _ F.repr F.range_law N y) };
+    ghost operators_law = { λ x y. algebra_gives
+        (λ r is. sum_number F.width _ F.repr F.range_law x.lanes (replicate N y) r.lanes (x.long ∙ sym (length-replicate N y)) is ∙ ap (bit_xor (joined F.width (map F.repr x.lanes))) (number_of_every F.width _ F.repr F.range_law N y))
+        (λ r is. product_number F.width _ F.repr F.range_law F.unit F.product F.ring_law N x.lanes (replicate N y) r.lanes x.long (length-replicate N y) is ∙ ap (lane_product F.width F.product N (joined F.width (map F.repr x.lanes))) (number_of_every F.width _ F.repr F.range_law N y)) };
 }

@@ -2,6 +2,7 @@
 // written over their bound runs at it.
 ghost use Rattle.std.specs.Prelude.{◌≡◌, ◌<◌, ◌*◌, bit_and, bit_xor, refl};
 ghost use Rattle.std.proofs.Common.{lit<, rules, sym, ◌∙◌};
+ghost use Rattle.bf_base.specs.Operators.{given, ring_gives};
 ghost use Rattle.bf_base.specs.Powers.{sum_of, product_of};
 ghost use Rattle.bf_packing_tests.specs.FourLanes.{lane_product};
 
@@ -189,37 +190,14 @@ impl PrimeCharacteristicRing for FourLanes {
 
     ghost from_law = { λ x r is. is };
 
-    ghost can_add_assign_law = { λ x y. tt };
+    ghost operators_law = { λ x y. ring_gives
+        (λ r is. is)
+        (λ r is. is ∙ sym (lane_product-and x.bits y.bits x.in_range y.in_range))
+        (λ r is. is) };
 
-    ghost add_assign_law = { λ x y r is. is };
+    ghost totals_law = { λ xs. (given, given) };
 
-    ghost can_sub_law = { λ x y. tt };
-
-    ghost sub_law = { λ x y r is. is };
-
-    ghost can_sub_assign_law = { λ x y. tt };
-
-    ghost sub_assign_law = { λ x y r is. is };
-
-    ghost can_mul_assign_law = { λ x y. tt };
-
-    ghost mul_assign_law = { λ x y r is. is ∙ sym (lane_product-and x.bits y.bits x.in_range y.in_range) };
-
-    ghost can_neg_law = { λ x. tt };
-
-    ghost neg_law = { λ x r is. is };
-
-    ghost sum_complete_law = { λ r. tt };
-
-    ghost product_complete_law = { λ r. tt };
-
-    ghost can_sum_law = { λ xs. tt };
-
-    ghost sum_law = { λ xs r is. is };
-
-    ghost can_product_law = { λ xs. tt };
-
-    ghost product_law = { λ xs r is. is };
+    ghost complete_law = { λ r. (tt, tt) };
 }
 
 #[test]
