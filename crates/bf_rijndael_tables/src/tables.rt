@@ -6,6 +6,8 @@ ghost use Rattle.bf_rijndael_tables.specs.declared.tables.literals.TheConstants.
 
 mod literals;
 
+use bf_base::byte_tables::entry;
+
 // The entry of EXP at `exponent`.
 #[inline]
 fn power_entry(exponent: usize) -> u8
@@ -23,30 +25,6 @@ fn logarithm_entry(a: u8) -> u16
     literals::LOG[a as usize]
 }
 
-// The entry of INVERSES at `a`.
-#[inline]
-fn inverse_entry(a: u8) -> u8
-    ensures { result ≡ slice_index INVERSES a }
-{
-    literals::INVERSES[a as usize]
-}
-
-// The entry of SQUARES at `a`.
-#[inline]
-fn square_entry(a: u8) -> u8
-    ensures { result ≡ slice_index SQUARES a }
-{
-    literals::SQUARES[a as usize]
-}
-
-// The entry of ROOTS at `a`.
-#[inline]
-fn root_entry(a: u8) -> u8
-    ensures { result ≡ slice_index ROOTS a }
-{
-    literals::ROOTS[a as usize]
-}
-
 /// The product of two bytes: 0x88 to the power of the sum of their logarithms. That of 0 is so large that EXP has 0 at each sum
 /// with it, so that no operand is asked whether it is 0.
 #[inline]
@@ -61,7 +39,7 @@ pub fn multiply(a: u8, b: u8) -> u8
 pub fn square(a: u8) -> u8
     ensures { result ≡ mul_mod 8 aes_modulus a a }
 {
-    square_entry(a)
+    entry(&literals::SQUARES, a)
 }
 
 /// The inverse of a byte, and 0 for 0.
@@ -70,7 +48,7 @@ pub fn invert(a: u8) -> u8
     ensures zero { a ≡ 0 → result ≡ 0 }
     ensures inverse { a ≢ 0 → mul_mod 8 aes_modulus a result ≡ 1 }
 {
-    inverse_entry(a)
+    entry(&literals::INVERSES, a)
 }
 
 /// The square root of a byte. Every byte has one.
@@ -78,5 +56,5 @@ pub fn invert(a: u8) -> u8
 pub fn sqrt(a: u8) -> u8
     ensures { mul_mod 8 aes_modulus result result ≡ a }
 {
-    root_entry(a)
+    entry(&literals::ROOTS, a)
 }

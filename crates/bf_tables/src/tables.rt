@@ -6,6 +6,8 @@ ghost use Rattle.bf_tables.specs.declared.tables.literals.TheConstants.{EXP, INV
 
 mod literals;
 
+use bf_base::byte_tables::entry;
+
 // The entry of EXP at `exponent`.
 #[inline]
 pub(crate) fn power_entry(exponent: usize) -> u8
@@ -15,53 +17,15 @@ pub(crate) fn power_entry(exponent: usize) -> u8
     literals::EXP[exponent]
 }
 
-// The entry of LOG at `a`.
-#[inline]
-fn logarithm_entry(a: u8) -> u8
-    ensures { result ≡ slice_index LOG a }
-{
-    literals::LOG[a as usize]
-}
-
-// The entry of INVERSES at `a`.
-#[inline]
-fn inverse_entry(a: u8) -> u8
-    ensures { result ≡ slice_index INVERSES a }
-{
-    literals::INVERSES[a as usize]
-}
-
-// The entry of SQUARES at `a`.
-#[inline]
-fn square_entry(a: u8) -> u8
-    ensures { result ≡ slice_index SQUARES a }
-{
-    literals::SQUARES[a as usize]
-}
-
-// The entry of ROOTS at `a`.
-#[inline]
-fn root_entry(a: u8) -> u8
-    ensures { result ≡ slice_index ROOTS a }
-{
-    literals::ROOTS[a as usize]
-}
-
-// The entry of ROOT_PRODUCTS at `a`.
-#[inline]
-fn root_product_entry(a: u8) -> u8
-    ensures { result ≡ slice_index ROOT_PRODUCTS a }
-{
-    literals::ROOT_PRODUCTS[a as usize]
-}
-
 /// The product of two elements of GF(2^8): 0x13 to the power of the sum of their logarithms, and 0 where an operand is 0,
 /// which has no logarithm.
 #[inline]
 pub fn multiply_8(a: u8, b: u8) -> u8
     ensures { result ≡ tower_mul 3 a b }
 {
-    let product = power_entry(logarithm_entry(a) as usize + logarithm_entry(b) as usize);
+    let product = power_entry(
+        entry(&literals::LOG, a) as usize + entry(&literals::LOG, b) as usize,
+    );
     if a == 0 || b == 0 { 0 } else { product }
 }
 
@@ -73,7 +37,7 @@ pub fn divide_8(a: u8, divisor: u8) -> u8
     ensures { tower_mul 3 divisor result ≡ a }
 {
     let quotient = power_entry(
-        logarithm_entry(a) as usize + (255 - logarithm_entry(divisor) as usize),
+        entry(&literals::LOG, a) as usize + (255 - entry(&literals::LOG, divisor) as usize),
     );
     if a == 0 { 0 } else { quotient }
 }
@@ -83,7 +47,7 @@ pub fn divide_8(a: u8, divisor: u8) -> u8
 pub fn square_8(a: u8) -> u8
     ensures { result ≡ tower_mul 3 a a }
 {
-    square_entry(a)
+    entry(&literals::SQUARES, a)
 }
 
 /// The inverse of an element of GF(2^8), and 0 for 0.
@@ -92,7 +56,7 @@ pub fn invert_8(a: u8) -> u8
     ensures zero { a ≡ 0 → result ≡ 0 }
     ensures inverse { a ≢ 0 → tower_mul 3 a result ≡ 1 }
 {
-    inverse_entry(a)
+    entry(&literals::INVERSES, a)
 }
 
 /// The square root of an element of GF(2^8). Every element has one.
@@ -100,7 +64,7 @@ pub fn invert_8(a: u8) -> u8
 pub fn sqrt_8(a: u8) -> u8
     ensures { tower_mul 3 result result ≡ a }
 {
-    root_entry(a)
+    entry(&literals::ROOTS, a)
 }
 
 /// The product of an element of GF(2^8) by the root that level 3 adjoins.
@@ -108,7 +72,7 @@ pub fn sqrt_8(a: u8) -> u8
 pub fn multiply_by_root_8(a: u8) -> u8
     ensures { result ≡ tower_mul 3 (root 3) a }
 {
-    root_product_entry(a)
+    entry(&literals::ROOT_PRODUCTS, a)
 }
 
 /// States that the tables of powers and of logarithms hold what they are named for: entry e of EXP is 0x13 to the power

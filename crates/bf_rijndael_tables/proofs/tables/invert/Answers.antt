@@ -5,4 +5,4 @@ use Rattle.bf_rijndael_tables.proofs.tables.invert.Goals as goal
 
 pub returns-clause-inverse : goal.returns-clause-inverse
 returns-clause-inverse c nonzero =
-    ap (mul_mod 8 aes_modulus c.args.a) c.inverse_entry.ensures ∙ inverses_at c.args.a (omega arith) nonzero
+    ap (mul_mod 8 aes_modulus c.args.a) c.entry.ensures ∙ inverses_at c.args.a (omega arith) nonzero

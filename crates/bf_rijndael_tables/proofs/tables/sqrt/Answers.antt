@@ -4,4 +4,4 @@ use Rattle.bf_rijndael_tables.proofs.ByteTables.{roots_at}
 use Rattle.bf_rijndael_tables.proofs.tables.sqrt.Goals as goal
 
 pub returns : goal.returns
-returns c = ap (λ (x : ℕ). mul_mod 8 aes_modulus x x) c.root_entry.ensures ∙ roots_at c.args.a (omega arith)
+returns c = ap (λ (x : ℕ). mul_mod 8 aes_modulus x x) c.entry.ensures ∙ roots_at c.args.a (omega arith)

@@ -13,5 +13,5 @@ pub returns-else-a-eq0 : goal.returns-else-a-eq0
 returns-else-a-eq0 c =
     ap (tower_mul 3 c.args.divisor)
     (c.power_entry-quotient.ensures
-    ∙ ap₂ (λ (x y : ℕ). slice_index EXP (x + (255 - y))) c.logarithm_entry.ensures c.logarithm_entry-2.ensures)
+    ∙ ap₂ (λ (x y : ℕ). slice_index EXP (x + (255 - y))) c.entry.ensures c.entry-2.ensures)
     ∙ quotient_of_logarithms c.args.a c.args.divisor (omega arith) (omega arith) c.if-a-eq0.false c.requires

@@ -16,5 +16,5 @@ returns-then-b-eq0 c =
 pub returns-else-b-eq0 : goal.returns-else-b-eq0
 returns-else-b-eq0 c =
     c.power_entry-product.ensures
-    ∙ ap₂ (λ (x y : ℕ). slice_index EXP (x + y)) c.logarithm_entry.ensures c.logarithm_entry-2.ensures
+    ∙ ap₂ (λ (x y : ℕ). slice_index EXP (x + y)) c.entry.ensures c.entry-2.ensures
     ∙ product_of_logarithms c.args.a c.args.b (omega arith) (omega arith) c.if-b-eq0.false.0 c.if-b-eq0.false.1

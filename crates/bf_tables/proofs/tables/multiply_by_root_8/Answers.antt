@@ -3,4 +3,4 @@ use Rattle.bf_tables.proofs.ByteTables.{root_products_at}
 use Rattle.bf_tables.proofs.tables.multiply_by_root_8.Goals as goal
 
 pub returns : goal.returns
-returns c = c.root_product_entry.ensures ∙ root_products_at c.args.a (omega arith)
+returns c = c.entry.ensures ∙ root_products_at c.args.a (omega arith)

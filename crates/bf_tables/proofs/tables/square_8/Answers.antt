@@ -3,4 +3,4 @@ use Rattle.bf_tables.proofs.ByteTables.{squares_at}
 use Rattle.bf_tables.proofs.tables.square_8.Goals as goal
 
 pub returns : goal.returns
-returns c = c.square_entry.ensures ∙ squares_at c.args.a (omega arith)
+returns c = c.entry.ensures ∙ squares_at c.args.a (omega arith)
