@@ -18,6 +18,10 @@ pub map-replicate : {A : Type 0} → (repr : A → ℕ) (n : ℕ) (x : A) → ma
 map-replicate repr zero x = refl
 map-replicate repr (suc n) x = ap (λ (xs : List ℕ). repr x ∷ xs) (map-replicate repr n x)
 
+-- the same of lanes that are known to hold one element, whose number is known
+pub map-every : {A : Type 0} → (repr : A → ℕ) (n a : ℕ) (x : A) (xs : List A) → xs ≡ replicate n x → repr x ≡ a → map repr xs ≡ replicate n a
+map-every repr n a x xs every is = ap (map repr) every ∙ map-replicate repr n x ∙ ap (replicate n) is
+
 module _ (width : ℕ) where
   pub every_below : (n a : ℕ) → a < 2 ^ width → joined width (replicate n a) < 2 ^ (n * width)
   unfolding joined

@@ -1,12 +1,10 @@
-use Rattle.std.proofs.Common.{ℕ, map, replicate, ◌∙◌, ap}
+use Rattle.std.proofs.Common.{◌≡◌, ◌∙◌, ap}
 use Rattle.bf_packing.specs.Lanes.{joined}
-use Rattle.bf_packed.specs.LaneLists.{every_zero, number_of_every}
+use Rattle.bf_packed.specs.LaneLists.{every_zero, map-every}
 use Rattle.bf_packed.proofs.packed.operators.PackedSum.sum.Goals as goal
 
 pub sum_of_items-requires-clause-starts : goal.sum_of_items-requires-clause-starts
 sum_of_items-requires-clause-starts g c =
     let ring = g.F.Represented in
-    ap (λ xs. joined ring.width (map ring.repr xs)) c.broadcast.ensures
-    ∙ number_of_every ring.width _ ring.repr ring.range_law g.row.N c.ZERO.result
-    ∙ ap (λ (a : ℕ). joined ring.width (replicate g.row.N a))
-    (ap ring.repr c.ZERO.ensures ∙ g.met.F.PrimeCharacteristicRing.zero_law) ∙ every_zero ring.width g.row.N
+    let number : ring.repr c.ZERO.result ≡ 0 = ap ring.repr c.ZERO.ensures ∙ g.met.F.PrimeCharacteristicRing.zero_law in
+    ap (joined ring.width) (map-every ring.repr g.row.N 0 c.ZERO.result _ c.broadcast.ensures number) ∙ every_zero ring.width g.row.N
