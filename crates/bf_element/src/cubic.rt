@@ -6,12 +6,11 @@ ghost use Rattle.bf_base.specs.Remainder.{mul_mod, poly64_modulus};
 ghost use Rattle.bf_cubic.specs.Cubic.{cubic};
 ghost use Rattle.bf_element.specs.Element.{repr_of};
 
-use crate::element::{Coefficients, Element};
+use crate::element::{Coefficients, CubicKernel, Element};
 use crate::names::{Poly64, Poly192};
 use bf_base::traits::{Algebra, TowerLevel};
 use bf_base::{Contains, Kernel};
 use bf_poly::Poly64Kernel;
-use bf_poly192::CubicKernel;
 use std::ops::{Div, DivAssign};
 
 impl Poly192 {

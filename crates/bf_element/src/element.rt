@@ -11,6 +11,7 @@ mod stored;
 mod texts;
 
 pub use crate::element::coefficients::Coefficients;
+pub use crate::element::cubic_word::CubicKernel;
 pub use crate::element::stored::{element_of_word, word_of};
 use bf_base::{Gf2, Kernel, Word};
 use std::alloc::AllocError;

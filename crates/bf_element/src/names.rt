@@ -1,9 +1,8 @@
 // The fields by their names.
-use crate::element::{Coefficients, Element, HasPacking};
+use crate::element::{Coefficients, CubicKernel, Element, HasPacking};
 use bf_base::Unsigned;
 use bf_packed::Packed;
 use bf_poly::{GhashKernel, Poly64Kernel, RijndaelKernel};
-use bf_poly192::CubicKernel;
 use bf_tower::{Bits2, Bits4, Bits8, Bits16, Bits32, Bits64, Bits128, Level, Tower};
 
 /// An element of GF(2^2), level 1 of Wiedemann's tower. Its representation is `low + high * 2` for the element

@@ -1,30 +1,21 @@
 -- Three words as one number.
-use Rattle.std.specs.Prelude.{◌≡◌, ◌↔◌, ℕ, ◌^◌, ◌<◌}
+use Rattle.std.specs.Prelude.{◌≡◌, ◌↔◌, ℕ, ◌^◌, ◌<◌, List, [], ◌∷◌, None}
+use Rattle.serde.specs.Event.{Event, seq_begins, seq_ends, unsigned}
 use Rattle.std.proofs.Common.{sym, ◌∙◌, ap}
-use Rattle.std.proofs.lemmas.Nat.{pow_pos}
 use mathlib.Core.HLevel.{is_prop→PathP}
 use native.Mathlib.Bridge.{le_prop}
 use Rattle.bf_cubic.specs.Cubic.{triple}
 use Rattle.bf_base.specs.Chunks.{chunk}
-use Rattle.bf_cubic.proofs.CubicRing.{chunk_below, first-triple, second-triple, third-triple}
+use Rattle.bf_cubic.proofs.CubicRing.{first-triple, second-triple, third-triple}
 use Rattle.bf_poly192.specs.declared.triple.Triple.{Triple}
 
 -- the number of three words, the first lowest
 abbrev pub number_of : Triple → ℕ
 number_of x = triple 64 x.c0 x.c1 x.c2
 
--- the words of the low 192 bits of a number
-abbrev pub words_of : ℕ → Triple
-words_of n = record {
-  c0 = chunk 64 0 n;
-  c1 = chunk 64 1 n;
-  c2 = chunk 64 2 n;
-  in_range = record { first = chunk_below 64 0 n; second = chunk_below 64 1 n; third = chunk_below 64 2 n };
-}
-
--- the words of a coefficient without the others
-abbrev pub low_word : (c : ℕ) → c < 2 ^ 64 → Triple
-low_word c fits = record { c0 = c; c1 = 0; c2 = 0; in_range = record { first = fits; second = pow_pos 64; third = pow_pos 64 } }
+-- what stands where three words are read: an array of three numbers
+abbrev pub events_of : Triple → List Event
+events_of x = seq_begins None ∷ unsigned x.c0 ∷ unsigned x.c1 ∷ unsigned x.c2 ∷ seq_ends ∷ []
 
 -- words of one number are one
 pub same_number : (x y : Triple) → number_of x ≡ number_of y → x ≡ y

@@ -57,6 +57,23 @@ pub fn automorphism_192(x: Triple) -> Triple
     }
 }
 
+/// An element and a number of squarings below 192, which give of it what `count` squarings give of `x`: 64 squarings are the
+/// automorphism over GF(2^64), which takes y to y².
+#[inline]
+pub fn reduce_squarings_192(x: Triple, count: usize) -> (Triple, usize)
+    ensures few { result.1 < 192 }
+    ensures squarings { repeated_square 1 (cubic 64 (mul_mod 64 poly64_modulus)) result.1 (number_of result.0) ≡ repeated_square 1 (cubic 64 (mul_mod 64 poly64_modulus)) count (number_of x) }
+{
+    let rest = count % 192;
+    if rest < 64 {
+        (x, rest)
+    } else if rest < 128 {
+        (automorphism_192(x), rest - 64)
+    } else {
+        (automorphism_192(automorphism_192(x)), rest - 128)
+    }
+}
+
 /// The square root.
 #[inline]
 pub fn sqrt_192(x: Triple) -> Triple

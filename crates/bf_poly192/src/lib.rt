@@ -3,12 +3,10 @@
 
 mod cubic;
 mod draws;
-mod kernel;
 mod reading;
-mod subfield;
 mod texts;
 mod triple;
 
-pub use crate::kernel::CubicKernel;
+pub use crate::cubic::{invert_192, multiply_192, reduce_squarings_192, sqrt_192, square_192};
 pub use crate::reading::ReadWord;
 pub use crate::triple::Triple;

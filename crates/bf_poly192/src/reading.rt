@@ -1,8 +1,9 @@
 // Words as `serde` reads them: an integer is the number that stands there, and three words are an array of three numbers.
-ghost use Rattle.std.specs.Prelude.{IfOk, List, [], ◌∷◌, None};
-ghost use Rattle.serde.specs.Event.{Event, seq_begins, seq_ends, unsigned};
+ghost use Rattle.std.specs.Prelude.{IfOk, List, [], ◌∷◌};
+ghost use Rattle.serde.specs.Event.{Event, unsigned};
 ghost use Rattle.serde.specs.Steps.{Begins};
 ghost use Rattle.bf_poly192.specs.Steps.{GivesEach};
+ghost use Rattle.bf_poly192.specs.Triple.{events_of};
 
 use crate::triple::Triple;
 use bf_base::Word;
@@ -76,13 +77,11 @@ fn read_item<F: Format>(from: &mut Deserializer<'_, '_, F>) -> Result<u64, F::Er
     from.u64()
 }
 
-impl ReadWord for Triple {
-    ghost events = { λ word. seq_begins None ∷ unsigned word.c0 ∷ unsigned word.c1 ∷ unsigned word.c2 ∷ seq_ends ∷ [] };
-
-    fn read<F: Format>(
-        _alloc: Global,
-        from: &mut Deserializer<'_, '_, F>,
-    ) -> Result<Triple, F::Error> {
+impl Triple {
+    /// The three words that stand next, as an array of three numbers. It fails where no such array stands there.
+    pub fn read<F: Format>(from: &mut Deserializer<'_, '_, F>) -> Result<Triple, F::Error>
+        ensures { IfOk result (λ words. GivesEach F.gives F.stays from.old (events_of words) from.new) }
+    {
         from.begin_seq()?;
         let c0 = read_item(from)?;
         let c1 = read_item(from)?;

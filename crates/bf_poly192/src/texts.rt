@@ -2,12 +2,8 @@
 ghost use Rattle.std.specs.Prelude.{◌++◌, [], ◌∷◌, Some, codes};
 ghost use Rattle.std.specs.Fmt.{decimal};
 
-use crate::reading::ReadWord;
 use crate::triple::Triple;
-use serde::{
-    Described, Deserialize, DeserializeOwned, Deserializer, Format, Serialize, Serializer,
-};
-use std::alloc::Global;
+use serde::{Described, Serialize, Serializer};
 use std::fmt;
 
 impl fmt::Display for Triple {
@@ -25,23 +21,5 @@ impl Described for Triple {
 impl Serialize for Triple {
     fn serialize<S: Serializer>(&self, out: &mut S) -> Result<(), S::Error> {
         [self.c0, self.c1, self.c2].serialize(out)
-    }
-}
-
-impl<'de> Deserialize<'de> for Triple {
-    fn deserialize<F: Format>(
-        alloc: Global,
-        from: &mut Deserializer<'de, '_, F>,
-    ) -> Result<Triple, F::Error> {
-        Triple::read(alloc, from)
-    }
-}
-
-impl DeserializeOwned for Triple {
-    fn deserialize_owned<F: Format>(
-        alloc: Global,
-        from: &mut Deserializer<'_, '_, F>,
-    ) -> Result<Triple, F::Error> {
-        Triple::read(alloc, from)
     }
 }

@@ -6,12 +6,13 @@ ghost use Rattle.bf_base.specs.Chunks.{chunk};
 ghost use Rattle.bf_base.specs.Remainder.{mul_mod, poly64_modulus};
 ghost use Rattle.bf_base.proofs.RemainderRing.{poly64_ring};
 ghost use Rattle.bf_cubic.proofs.CubicRing.{chunk-cubic};
+ghost use Rattle.bf_poly192.specs.Triple.{number_of};
 ghost use Rattle.bf_space.specs.OneCoefficient.{scales_one_coefficient};
 
 use bf_base::{Kernel, Word};
-use bf_element::Coefficients;
+use bf_element::{Coefficients, CubicKernel};
 use bf_poly::Poly64Kernel;
-use bf_poly192::{CubicKernel, Triple};
+use bf_poly192::Triple;
 
 /// A field `Self`, stored in `R`, whose elements are vectors over the field `J`, stored in `S`: coefficient i of an element is
 /// chunk i of its number, of as many bits as an element of `J` has, the lowest first. Every field is a space of dimension 1 over
@@ -63,47 +64,7 @@ impl<R: Word, K: Kernel<R>> SpaceOver<R, R, K> for K {
     }
 }
 
-impl SpaceOver<Triple, u64, Poly64Kernel> for CubicKernel {
-    const DIMENSION: usize = 3;
-
-    ghost DIMENSION = { 3 };
-
-    ghost dimension_law = { lit< tt };
-
-    ghost space_law = { refl };
-
-    ghost scale_law = { chunk-cubic 64 (mul_mod 64 poly64_modulus) poly64_ring };
-
-    fn coefficient(x: Triple, i: usize) -> u64 {
-        match i {
-            0 => x.c0,
-            1 => x.c1,
-            _ => x.c2,
-        }
-    }
-
-    fn with_coefficient(x: Triple, i: usize, coefficient: u64) -> Triple {
-        match i {
-            0 => Triple {
-                c0: coefficient,
-                c1: 0,
-                c2: 0,
-            },
-            1 => Triple {
-                c0: x.c0,
-                c1: coefficient,
-                c2: 0,
-            },
-            _ => Triple {
-                c0: x.c0,
-                c1: x.c1,
-                c2: coefficient,
-            },
-        }
-    }
-}
-
-// The coefficients that store an element of `Poly192` are those of its words.
+// Three coefficients, which stand in three words.
 impl SpaceOver<Coefficients, u64, Poly64Kernel> for CubicKernel {
     const DIMENSION: usize = 3;
 
@@ -116,14 +77,36 @@ impl SpaceOver<Coefficients, u64, Poly64Kernel> for CubicKernel {
     ghost scale_law = { chunk-cubic 64 (mul_mod 64 poly64_modulus) poly64_ring };
 
     fn coefficient(x: Coefficients, i: usize) -> u64 {
-        <CubicKernel as SpaceOver<Triple, u64, Poly64Kernel>>::coefficient(x.words(), i)
+        let words = x.words();
+        match i {
+            0 => words.c0,
+            1 => words.c1,
+            _ => words.c2,
+        }
     }
 
     fn with_coefficient(x: Coefficients, i: usize, coefficient: u64) -> Coefficients {
-        Coefficients::of_words(<CubicKernel as SpaceOver<
-            Triple,
-            u64,
-            Poly64Kernel,
-        >>::with_coefficient(x.words(), i, coefficient))
+        Coefficients::of_words(put_word(x.words(), i, coefficient))
+    }
+}
+
+// The words with `word` in place `i`, at words which are 0 from there on.
+fn put_word(words: Triple, i: usize, word: u64) -> Triple
+    requires place { i < 3 }
+    requires below { number_of words < 2 ^ (64 * i) }
+    ensures { number_of result ≡ word * 2 ^ (64 * i) + number_of words }
+{
+    match i {
+        0 => Triple::of_low(word),
+        1 => Triple {
+            c0: words.c0,
+            c1: word,
+            c2: 0,
+        },
+        _ => Triple {
+            c0: words.c0,
+            c1: words.c1,
+            c2: word,
+        },
     }
 }

@@ -4,7 +4,7 @@ ghost use Rattle.std.proofs.Common.{ap, rules};
 ghost use Rattle.std.specs.Cmp.{on_equiv, on_per, on_po, on_total, partial_order_from_own_ties};
 ghost use Rattle.std.specs.Cmp.Rules.{comparing};
 ghost use Rattle.bf_element.specs.Coefficients.{stored_words};
-ghost use Rattle.bf_poly192.specs.Triple.{same_number, words_law};
+ghost use Rattle.bf_poly192.specs.Triple.{events_of, same_number, words_law};
 
 use crate::element::Coefficients;
 use bf_poly192::{ReadWord, Triple};
@@ -114,13 +114,13 @@ impl DeserializeOwned for Coefficients {
 }
 
 impl ReadWord for Coefficients {
-    ghost events = { λ x. ⟦<Triple as ReadWord>⟧.events (stored_words x) };
+    ghost events = { λ x. events_of (stored_words x) };
 
     fn read<F: Format>(
-        alloc: Global,
+        _alloc: Global,
         from: &mut Deserializer<'_, '_, F>,
     ) -> Result<Coefficients, F::Error> {
-        Ok(Coefficients::of_words(Triple::read(alloc, from)?))
+        Ok(Coefficients::of_words(Triple::read(from)?))
     }
 }
 

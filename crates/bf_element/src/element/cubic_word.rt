@@ -10,7 +10,7 @@ ghost use Rattle.bf_element.specs.Coefficients.{coefficients_of_number, same_coe
 use crate::element::{Coefficients, Element};
 use bf_base::{Contains, Joins, Kernel, Word};
 use bf_poly::Poly64Kernel;
-use bf_poly192::{CubicKernel, Triple};
+use bf_poly192::{Triple, invert_192, multiply_192, reduce_squarings_192, sqrt_192, square_192};
 use std::marker::PhantomData;
 
 impl Word for Coefficients {
@@ -74,11 +74,14 @@ impl Word for Coefficients {
     }
 
     fn of_index(i: usize) -> Coefficients {
-        Coefficients::of_words(Triple::of_index(i))
+        Coefficients::of_words(Triple::of_low(i as u64))
     }
 
     ghost eq_law = { λ x y. words_law (stored_words x) (stored_words y) (Prim.search rules) };
 }
+
+/// The cubic extension of GF(2^64), which adjoins a root y of y³ + y + 1.
+pub struct CubicKernel;
 
 impl Kernel<Coefficients> for CubicKernel {
     ghost width = { 192 };
@@ -129,33 +132,33 @@ impl Kernel<Coefficients> for CubicKernel {
 
     #[inline]
     fn multiply(x: Coefficients, y: Coefficients) -> Coefficients {
-        Coefficients::of_words(<CubicKernel as Kernel<Triple>>::multiply(x.words(), y.words()))
+        Coefficients::of_words(multiply_192(x.words(), y.words()))
     }
 
     #[inline]
     fn square(x: Coefficients) -> Coefficients {
-        Coefficients::of_words(<CubicKernel as Kernel<Triple>>::square(x.words()))
+        Coefficients::of_words(square_192(x.words()))
     }
 
     #[inline]
     fn invert(x: Coefficients) -> Coefficients {
-        Coefficients::of_words(<CubicKernel as Kernel<Triple>>::invert(x.words()))
+        Coefficients::of_words(invert_192(x.words()))
     }
 
     #[inline]
     fn sqrt(x: Coefficients) -> Coefficients {
-        Coefficients::of_words(<CubicKernel as Kernel<Triple>>::sqrt(x.words()))
+        Coefficients::of_words(sqrt_192(x.words()))
     }
 
     #[inline]
     fn reduce_squarings(x: Coefficients, count: usize) -> (Coefficients, usize) {
-        let (words, rest) = <CubicKernel as Kernel<Triple>>::reduce_squarings(x.words(), count);
+        let (words, rest) = reduce_squarings_192(x.words(), count);
         (Coefficients::of_words(words), rest)
     }
 
     #[inline]
     fn no_products() -> (Coefficients, Coefficients) {
-        let zero = Coefficients::of_words(Triple::ZERO);
+        let zero = Coefficients::of_words(Triple::of_low(0));
         (zero, zero)
     }
 
@@ -195,7 +198,7 @@ impl Contains<Coefficients, u64, Poly64Kernel> for CubicKernel {
 
     #[inline]
     fn embed(x: u64) -> Coefficients {
-        Coefficients::of_words(<CubicKernel as Contains<Triple, u64, Poly64Kernel>>::embed(x))
+        Coefficients::of_words(Triple::of_low(x))
     }
 }
 

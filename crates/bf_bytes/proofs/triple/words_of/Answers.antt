@@ -1,7 +1,7 @@
 use Rattle.std.proofs.Common.{ℕ, ◌∙◌, ap₂, arith}
 use Rattle.bf_base.specs.Quadratic.{pair}
 use Rattle.bf_bytes.proofs.WordBytes.{of_three_words}
-use Rattle.bf_bytes.proofs.triple.TripleLittleEndian.from_bytes.Goals as goal
+use Rattle.bf_bytes.proofs.triple.words_of.Goals as goal
 
 pub returns : goal.returns
 returns c =

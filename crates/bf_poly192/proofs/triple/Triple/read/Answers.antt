@@ -1,5 +1,5 @@
 use Rattle.bf_poly192.proofs.Steps.{three_numbers}
-use Rattle.bf_poly192.proofs.reading.TripleReadWord.read.Goals as goal
+use Rattle.bf_poly192.proofs.triple.Triple.read.Goals as goal
 
 pub returns : goal.returns
 returns g c =

@@ -4,9 +4,9 @@ use Rattle.bf_base.specs.Powers.{repeated_square}
 use Rattle.bf_base.specs.Remainder.{mul_mod, poly64_modulus}
 use Rattle.bf_base.proofs.FieldLemmas.{field_repeated_square-mod_bits}
 use Rattle.bf_base.proofs.PowerLemmas.{repeated_square-add}
-use Rattle.bf_poly192.specs.Field.{field_192, fits_192}
+use Rattle.bf_poly192.specs.Field.{field_192}
 use Rattle.bf_poly192.specs.Triple.{number_of}
-use Rattle.bf_poly192.proofs.kernel.CubicKernelKernelTriple.reduce_squarings.Goals as goal
+use Rattle.bf_poly192.proofs.cubic.reduce_squarings_192.Goals as goal
 
 -- as many squarings again, of an element squared before
 after : (first rest count x y : ℕ) → first + rest ≡ count % 192
@@ -36,12 +36,3 @@ returns-else-rest-lt128-clause-squarings c =
     (omega (arith, c.if-rest-lt128.false))
     (twice.ensures ∙ ap (repeated_square 1 times 64) once.ensures
     ∙ sym (repeated_square-add 192 1 times field_192.ring 64 64 (number_of c.args.x)))
-
-pub returns-then-rest-lt64-clause-fits : goal.returns-then-rest-lt64-clause-fits
-returns-then-rest-lt64-clause-fits c = fits_192 c.args.x
-
-pub returns-then-rest-lt128-clause-fits : goal.returns-then-rest-lt128-clause-fits
-returns-then-rest-lt128-clause-fits c = fits_192 c.automorphism_192.result
-
-pub returns-else-rest-lt128-clause-fits : goal.returns-else-rest-lt128-clause-fits
-returns-else-rest-lt128-clause-fits c = fits_192 c.automorphism_192-else-rest-lt128-2.result

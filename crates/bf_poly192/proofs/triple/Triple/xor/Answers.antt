@@ -1,7 +1,7 @@
 use Rattle.std.proofs.Common.{sym}
 use Rattle.std.proofs.lemmas.Nat.{xor_lt}
 use Rattle.bf_cubic.proofs.CubicRing.{triple_sum}
-use Rattle.bf_poly192.proofs.triple.TripleWord.xor.Goals as goal
+use Rattle.bf_poly192.proofs.triple.Triple.xor.Goals as goal
 
 pub invariant_of-result : goal.invariant_of-result
 invariant_of-result c =
