@@ -19,6 +19,21 @@ pub struct Seen {
     pub bytes: u64,
 }
 
+impl Seen {
+    /// What a double has seen where `observed` bytes were observed, the last eight of them in `bytes`, and `sampled` were sampled.
+    pub fn new(observed: u32, sampled: u32, bytes: u64) -> Seen
+        ensures observed { result.observed ≡ observed }
+        ensures sampled { result.sampled ≡ sampled }
+        ensures bytes { result.bytes ≡ bytes }
+    {
+        Seen {
+            observed,
+            sampled,
+            bytes,
+        }
+    }
+}
+
 /// How a double answers `try_clone`.
 #[derive(Clone, Copy, Debug, PartialEq, Eq)]
 pub enum Copies {

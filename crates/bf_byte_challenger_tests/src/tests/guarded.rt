@@ -5,15 +5,6 @@ use std::alloc::Allocator;
 use std::cell::Cell;
 use std::test::Fail;
 
-fn has_seen(seen: &Cell<Seen>, observed: u32, sampled: u32, bytes: u64) -> bool {
-    seen.get()
-        == Seen {
-            observed,
-            sampled,
-            bytes,
-        }
-}
-
 /// Whether each call answers that the challenger has failed.
 fn only_fails(guarded: &mut Guarded<Double<'_>>) -> bool {
     let mut bytes = [0; 2];
@@ -33,7 +24,7 @@ fn third_call_refused() -> bool {
     let answer = guarded.observe_bytes(&[1, 2, 3, 4]);
     answer == Err(ChallengerError::Memory)
         && only_fails(&mut guarded)
-        && has_seen(&seen, 2, 0, 0x0102)
+        && seen.get() == Seen::new(2, 0, 0x0102)
 }
 
 fn fifth_call_refused() -> bool {
@@ -41,7 +32,9 @@ fn fifth_call_refused() -> bool {
     let double = Double::new(&seen, 5, 4, Copies::RefusingAfter(9));
     let mut guarded = Guarded::new(double);
     let answer = guarded.sample_u64();
-    answer == Err(ChallengerError::Memory) && only_fails(&mut guarded) && has_seen(&seen, 0, 4, 0)
+    answer == Err(ChallengerError::Memory)
+        && only_fails(&mut guarded)
+        && seen.get() == Seen::new(0, 4, 0)
 }
 
 // A copy of a challenger that has failed has failed, and one that is made to fail has.
@@ -66,7 +59,7 @@ fn copies_fail_alike() -> bool {
         && answer == Err(ChallengerError::Memory)
         && after
         && bytes == [5, 5]
-        && has_seen(&seen, 0, 2, 0)
+        && seen.get() == Seen::new(0, 2, 0)
 }
 
 // Where a copy is refused, the challenger goes on.
@@ -76,7 +69,7 @@ fn refused_copies_change_nothing() -> bool {
     guarded.try_clone().is_err()
         && guarded.sample_u64() == Ok(u64::MAX)
         && guarded.sample_u64() == Err(ChallengerError::Memory)
-        && has_seen(&seen, 0, 8, 0)
+        && seen.get() == Seen::new(0, 8, 0)
 }
 
 #[test]
@@ -105,13 +98,20 @@ fn helpers_stop() -> bool {
     let sampled = samples_word(&mut double, 0);
     let before = double.refused();
     let refused = observe_bytes(&mut double, &[8, 9]).is_err();
-    observed && sampled && !before && refused && double.refused() && has_seen(&seen, 2, 8, 0x0809)
+    observed
+        && sampled
+        && !before
+        && refused
+        && double.refused()
+        && seen.get() == Seen::new(2, 8, 0x0809)
 }
 
 fn constant_doubles_sample(byte: u8, word: u64) -> bool {
     let seen = Cell::new(Seen::default());
     let mut double = Double::constant(&seen, byte);
-    samples_word(&mut double, word) && double.try_clone().is_ok() && has_seen(&seen, 0, 8, 0)
+    samples_word(&mut double, word)
+        && double.try_clone().is_ok()
+        && seen.get() == Seen::new(0, 8, 0)
 }
 
 #[test]

@@ -11,15 +11,6 @@ use std::alloc::{AllocError, Global};
 use std::cell::Cell;
 use std::test::Fail;
 
-fn has_seen(seen: &Cell<Seen>, observed: u32, sampled: u32, bytes: u64) -> bool {
-    seen.get()
-        == Seen {
-            observed,
-            sampled,
-            bytes,
-        }
-}
-
 struct Tree;
 
 fn digests_observed(alloc: Global) -> Result<bool, AllocError> {
@@ -28,11 +19,13 @@ fn digests_observed(alloc: Global) -> Result<bool, AllocError> {
         Double::constant(&seen, 0),
     );
     let words: Hash<Tree, u64, 1> = Hash::from([0x0102]);
-    let first = challenger.observe(words).is_ok() && has_seen(&seen, 8, 0, 0x0201_0000_0000_0000);
+    let first = challenger.observe(words).is_ok()
+        && seen.get() == Seen::new(8, 0, 0x0201_0000_0000_0000);
     let bytes: Hash<Tree, u8, 3> = Hash::from([4, 5, 6]);
-    let second = challenger.observe(bytes).is_ok() && has_seen(&seen, 11, 0, 0x0405_06);
+    let second = challenger.observe(bytes).is_ok() && seen.get() == Seen::new(11, 0, 0x0405_06);
     let cap: MerkleCap<Tree, [u8; 2]> = MerkleCap::new(Vec::from_slice(alloc, &[[1, 2], [3, 4]])?);
-    let third = challenger.observe(&cap).is_ok() && has_seen(&seen, 15, 0, 0x0405_0601_0203_04);
+    let third = challenger.observe(&cap).is_ok()
+        && seen.get() == Seen::new(15, 0, 0x0405_0601_0203_04);
     let fourth = challenger.observe(cap).is_ok() && seen.get().observed == 19;
     Ok(first && second && third && fourth)
 }
@@ -64,7 +57,7 @@ fn third_call_refused() -> bool {
     let mut challenger = BinaryChallenger::new(Double::new(&seen, 5, 2, Copies::RefusingAfter(9)));
     challenger.observe(BinaryField32::from_repr(0x0403_0201)) == Err(ChallengerError::Memory)
         && only_fails(&mut challenger)
-        && has_seen(&seen, 2, 0, 0x0102)
+        && seen.get() == Seen::new(2, 0, 0x0102)
 }
 
 fn fifth_call_refused() -> bool {
@@ -72,7 +65,7 @@ fn fifth_call_refused() -> bool {
     let mut challenger = BinaryChallenger::new(Double::new(&seen, 5, 4, Copies::RefusingAfter(9)));
     challenger.sample_bits(12) == Err(ChallengerError::Memory)
         && only_fails(&mut challenger)
-        && has_seen(&seen, 0, 4, 0)
+        && seen.get() == Seen::new(0, 4, 0)
 }
 
 #[test]

@@ -119,15 +119,6 @@ fn scripts_of_calls(rt: HostRuntime) {
 
 type OverDouble<'a> = BinaryChallenger<BinaryField16, Double<'a>>;
 
-fn has_seen(seen: &Cell<Seen>, observed: u32, sampled: u32, bytes: u64) -> bool {
-    seen.get()
-        == Seen {
-            observed,
-            sampled,
-            bytes,
-        }
-}
-
 fn samples(challenger: &mut OverDouble<'_>, wanted: u16) -> bool {
     let sampled: Result<BinaryField16, ChallengerError> = challenger.sample();
     !challenger.failed() && sampled == Ok(BinaryField16::from_repr(wanted))
@@ -143,7 +134,7 @@ fn refused_copy() -> bool {
         Copies::Refused,
     ));
     challenger.grind(8) == Err(GrindError::Memory)
-        && has_seen(&seen, 0, 0, 0)
+        && seen.get() == Seen::new(0, 0, 0)
         && samples(&mut challenger, 0x0707)
 }
 
@@ -156,7 +147,7 @@ fn refusing_copy(calls_left: u32, observed: u32, sampled: u32) -> bool {
         Copies::RefusingAfter(calls_left),
     ));
     challenger.grind(8) == Err(GrindError::Memory)
-        && has_seen(&seen, observed, sampled, 0)
+        && seen.get() == Seen::new(observed, sampled, 0)
         && samples(&mut challenger, 0x0707)
 }
 
@@ -165,7 +156,7 @@ fn no_witness() -> bool {
     let seen = Cell::new(Seen::default());
     let mut challenger: OverDouble<'_> = BinaryChallenger::new(Double::constant(&seen, 255));
     challenger.grind(8) == Err(GrindError::NoWitness)
-        && has_seen(&seen, 131_072, 524_288, 0xfcff_fdff_feff_ffff)
+        && seen.get() == Seen::new(131_072, 524_288, 0xfcff_fdff_feff_ffff)
         && samples(&mut challenger, 0xffff)
 }
 
@@ -174,7 +165,7 @@ fn first_candidate() -> bool {
     let seen = Cell::new(Seen::default());
     let mut challenger: OverDouble<'_> = BinaryChallenger::new(Double::constant(&seen, 0));
     challenger.grind(8) == Ok(BinaryField16::ZERO)
-        && has_seen(&seen, 2, 8, 0)
+        && seen.get() == Seen::new(2, 8, 0)
         && samples(&mut challenger, 0)
 }
 
@@ -188,7 +179,7 @@ fn no_bits() -> bool {
         Copies::Refused,
     ));
     challenger.grind(0) == Ok(BinaryField16::ZERO)
-        && has_seen(&seen, 0, 0, 0)
+        && seen.get() == Seen::new(0, 0, 0)
         && !challenger.failed()
 }
 
