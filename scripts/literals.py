@@ -1,6 +1,18 @@
 """Writing files of literals, and comparing them with what is there."""
 
+import pathlib
 import sys
+
+CRATES = pathlib.Path(__file__).resolve().parent.parent / "crates"
+
+
+def image(columns, x):
+    """The value of a linear map at x: the sum of its columns at the set bits of x."""
+    total = 0
+    for place, column in enumerate(columns):
+        if x >> place & 1:
+            total ^= column
+    return total
 
 
 def array(comment, name, kind, values, digits, in_a_line):
@@ -11,8 +23,14 @@ def array(comment, name, kind, values, digits, in_a_line):
     return f"// {comment}\n#[rattlefmt::skip]\npub(crate) static {name}: [{kind}; {len(values)}] = [\n{body}];\n"
 
 
-def write(path, head, arrays):
-    """Writes the file, or with the argument `--check` says whether it is what would be written."""
+def byte_arrays(values_of):
+    """Arrays of bytes, of which each name is given with its comment and its values."""
+    return [array(comment, name, "u8", values, 2, 16) for name, (comment, values) in values_of.items()]
+
+
+def write(place, head, arrays):
+    """Writes the file at `place` in crates/, or with the argument `--check` says whether it is what would be written."""
+    path = CRATES / place
     text = "\n".join([head, *arrays])
     if "--check" in sys.argv[1:]:
         with open(path, encoding="utf-8") as file:

@@ -6,8 +6,6 @@ polynomial basis sends bit j to the product of the images of the roots over the 
 matrix over the field of two elements.
 """
 
-from pathlib import Path
-
 import literals
 
 FIELDS = [
@@ -87,37 +85,28 @@ def inverse_of(columns):
     return inverse
 
 
-def apply(columns, x):
-    total = 0
-    for place, column in enumerate(columns):
-        if x >> place & 1:
-            total ^= column
-    return total
-
-
 def byte_table(columns):
     """The values at each byte in each place."""
-    return [apply(columns[8 * place : 8 * place + 8], byte) for place in range(len(columns) // 8) for byte in range(256)]
+    return [literals.image(columns[8 * place : 8 * place + 8], byte) for place in range(len(columns) // 8) for byte in range(256)]
 
 
-def write(folder, name, head, comment, width, columns):
+def write(name, head, comment, width, columns):
     in_a_line = {8: 16, 64: 4, 128: 6}[width]
     table = literals.array(comment, f"{name}_{width}".upper(), f"u{width}", byte_table(columns), width // 4, in_a_line)
     head = f"// {head} Written by scripts/make_basis.py; do not edit.\n"
-    literals.write(folder / f"{name}_{width}.rt", head, [table])
+    literals.write(f"bf_basis/src/literals/{name}_{width}.rt", head, [table])
 
 
 def main():
-    folder = Path(__file__).resolve().parent.parent / "crates/bf_basis/src/literals"
     for width, modulus, images, words in FIELDS:
         columns = columns_of(width, modulus, images)
         inverse = inverse_of(columns)
-        assert all(apply(columns, column) == 1 << place for place, column in enumerate(inverse))
-        assert all(apply(inverse, column) == 1 << place for place, column in enumerate(columns))
+        assert all(literals.image(columns, column) == 1 << place for place, column in enumerate(inverse))
+        assert all(literals.image(inverse, column) == 1 << place for place, column in enumerate(columns))
         to_polynomial = f"From the tower to polynomials modulo {words}."
         to_tower = f"From polynomials modulo {words} to the tower."
-        write(folder, "to_polynomial", to_polynomial, "Entry 256 j + b is the image of b 2^(8 j).", width, columns)
-        write(folder, "to_tower", to_tower, "Entry 256 j + b has the image b 2^(8 j).", width, inverse)
+        write("to_polynomial", to_polynomial, "Entry 256 j + b is the image of b 2^(8 j).", width, columns)
+        write("to_tower", to_tower, "Entry 256 j + b has the image b 2^(8 j).", width, inverse)
 
 
 if __name__ == "__main__":

@@ -5,8 +5,6 @@ The vector 0 is 1, and v^2 + v of each other vector v is the one before. Of the 
 even one is taken.
 """
 
-import pathlib
-
 import literals
 import tower
 
@@ -48,8 +46,7 @@ def main():
     head = "// The Cantor vectors. Written by scripts/make_cantor.py; do not edit.\n"
     comment = "The Cantor vector of the place."
     arrays = [literals.array(comment, "VECTORS", "u128", vectors, 32, 2)]
-    top = pathlib.Path(__file__).resolve().parent.parent
-    literals.write(top / "crates/bf_tables/src/cantor/literals.rt", head, arrays)
+    literals.write("bf_tables/src/cantor/literals.rt", head, arrays)
 
 
 if __name__ == "__main__":

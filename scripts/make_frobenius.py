@@ -5,35 +5,23 @@ With --check it compares instead. Entry 16 r + d of a table is d * 16 ** r squar
 a number is the sum of one entry for each of its digits to base 16.
 """
 
-import pathlib
-
 import literals
 import tower
 
 LEVEL = 7
 
 
-def apply(columns, x):
-    """The sum of the columns at the set bits of x."""
-    total = 0
-    for place, column in enumerate(columns):
-        if x >> place & 1:
-            total ^= column
-    return total
-
-
 def main():
-    folder = pathlib.Path(__file__).resolve().parent.parent / "crates/bf_frobenius/src/literals"
     columns = [tower.square(LEVEL, 1 << place) for place in range(1 << LEVEL)]
     count = 1
     while count < 1 << (LEVEL - 1):
-        table = [apply(columns, digit << 4 * row) for row in range(32) for digit in range(16)]
+        table = [literals.image(columns, digit << 4 * row) for row in range(32) for digit in range(16)]
         squarings = "once" if count == 1 else f"{count} times"
         comment = f"Entry 16 r + d is d 16^r squared {squarings} in GF(2^128)."
         head = "// Repeated squares by digits to base 16. Written by scripts/make_frobenius.py; do not edit.\n"
         array = literals.array(comment, f"SQUARED_{count}", "u128", table, 32, 3)
-        literals.write(folder / f"squared_{count}.rt", head, [array])
-        columns = [apply(columns, column) for column in columns]
+        literals.write(f"bf_frobenius/src/literals/squared_{count}.rt", head, [array])
+        columns = [literals.image(columns, column) for column in columns]
         count *= 2
     # The last map would be the conjugation, 64 squarings: it is computed from the halves.
 

@@ -5,8 +5,6 @@ With --check it compares instead. Entry 256 * j + b of a table is the value at b
 sum of one entry for each of its bytes.
 """
 
-import pathlib
-
 import literals
 import tower
 
@@ -29,9 +27,8 @@ def write(path, head, name, phrase, value):
 
 
 def main():
-    folder = pathlib.Path(__file__).resolve().parent.parent / "crates/bf_tables/src/linear"
-    write(folder / "squares.rt", "Squares by bytes.", "SQUARES", "square", tower.square)
-    write(folder / "roots.rt", "Square roots by bytes.", "ROOTS", "square root", tower.square_root)
+    write("bf_tables/src/linear/squares.rt", "Squares by bytes.", "SQUARES", "square", tower.square)
+    write("bf_tables/src/linear/roots.rt", "Square roots by bytes.", "ROOTS", "square root", tower.square_root)
 
 
 if __name__ == "__main__":

@@ -5,8 +5,6 @@ With --check it compares instead. Squaring several times keeps sums, so that it 
 x: entry j of a map's columns is x^j, squared as many times as the map's name says.
 """
 
-import pathlib
-
 import literals
 from make_basis import FIELDS, multiply
 
@@ -27,9 +25,8 @@ def main():
         columns = [squared(width, modulus, 1 << place, count) for place in range(width)]
         comment = f"Entry j is x^j, squared {count} times."
         arrays.append(literals.array(comment, f"SQUARED_{count}_TIMES", f"u{width}", columns, width // 4, 3))
-    path = pathlib.Path(__file__).resolve().parent.parent / "crates/bf_clmul/src/power_maps/literals.rt"
     head = f"// Power maps modulo {words}. Written by scripts/make_power_maps.py; do not edit.\n"
-    literals.write(path, head, arrays)
+    literals.write("bf_clmul/src/power_maps/literals.rt", head, arrays)
 
 
 if __name__ == "__main__":

@@ -1,8 +1,6 @@
 #!/usr/bin/env python3
 """Writes the tables of the bytes of AES, crates/bf_rijndael_tables/src/tables/literals.rt. With --check it compares instead."""
 
-import pathlib
-
 import literals
 
 MODULUS = 0x11B
@@ -34,19 +32,18 @@ def main():
     roots = [squares.index(a) for a in range(256)]
     inverses = [0] + [powers[UNITS - logarithms[a]] for a in range(1, 256)]
     head = "// Tables of the bytes of AES. Written by scripts/make_rijndael.py; do not edit.\n"
-    arrays = [
-        literals.array(
-            "0x88 to the power of the place, which is 0 from 511 on.", "EXP", "u8", powers + [0] * (NONE + 1), 2, 16
-        ),
-        literals.array(
-            "The exponent below 255 of which EXP has the place; 511 at 0.", "LOG", "u16", logarithms, 4, 12
-        ),
-        literals.array("The inverse of the place; 0 at 0.", "INVERSES", "u8", inverses, 2, 16),
-        literals.array("The square of the place.", "SQUARES", "u8", squares, 2, 16),
-        literals.array("The square root of the place.", "ROOTS", "u8", roots, 2, 16),
-    ]
-    top = pathlib.Path(__file__).resolve().parent.parent
-    literals.write(top / "crates/bf_rijndael_tables/src/tables/literals.rt", head, arrays)
+    powers_and_none = powers + [0] * (NONE + 1)
+    exp = ("0x88 to the power of the place, which is 0 from 511 on.", powers_and_none)
+    log = literals.array(
+        "The exponent below 255 of which EXP has the place; 511 at 0.", "LOG", "u16", logarithms, 4, 12
+    )
+    maps = {
+        "INVERSES": ("The inverse of the place; 0 at 0.", inverses),
+        "SQUARES": ("The square of the place.", squares),
+        "ROOTS": ("The square root of the place.", roots),
+    }
+    arrays = [*literals.byte_arrays({"EXP": exp}), log, *literals.byte_arrays(maps)]
+    literals.write("bf_rijndael_tables/src/tables/literals.rt", head, arrays)
 
 
 if __name__ == "__main__":

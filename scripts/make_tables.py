@@ -1,8 +1,6 @@
 #!/usr/bin/env python3
 """Writes the tables of the 8-bit level, crates/bf_tables/src/tables/literals.rt. With --check it compares instead."""
 
-import pathlib
-
 import literals
 import tower
 
@@ -25,16 +23,15 @@ def main():
     head = (
         "// Tables of GF(2^8), level 3 of the tower. Written by scripts/make_tables.py; do not edit.\n"
     )
-    arrays = [
-        literals.array("0x13 to the power of the place.", "EXP", "u8", powers, 2, 16),
-        literals.array("The exponent below 255 of which EXP has the place; 0 at 0.", "LOG", "u8", logarithms, 2, 16),
-        literals.array("The inverse of the place; 0 at 0.", "INVERSES", "u8", inverses, 2, 16),
-        literals.array("The square of the place.", "SQUARES", "u8", squares, 2, 16),
-        literals.array("The square root of the place.", "ROOTS", "u8", roots, 2, 16),
-        literals.array("The place times the root that level 3 adjoins.", "ROOT_PRODUCTS", "u8", products, 2, 16),
-    ]
-    top = pathlib.Path(__file__).resolve().parent.parent
-    literals.write(top / "crates/bf_tables/src/tables/literals.rt", head, arrays)
+    tables = {
+        "EXP": ("0x13 to the power of the place.", powers),
+        "LOG": ("The exponent below 255 of which EXP has the place; 0 at 0.", logarithms),
+        "INVERSES": ("The inverse of the place; 0 at 0.", inverses),
+        "SQUARES": ("The square of the place.", squares),
+        "ROOTS": ("The square root of the place.", roots),
+        "ROOT_PRODUCTS": ("The place times the root that level 3 adjoins.", products),
+    }
+    literals.write("bf_tables/src/tables/literals.rt", head, literals.byte_arrays(tables))
 
 
 if __name__ == "__main__":
