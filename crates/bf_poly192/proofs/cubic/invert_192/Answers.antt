@@ -1,4 +1,4 @@
-use Rattle.std.proofs.Common.{◌≡◌, ℕ, refl, sym, ◌∙◌, ap, lit<}
+use Rattle.std.proofs.Common.{◌≡◌, ℕ, refl, sym, ◌∙◌, ap, lit<, rules}
 use Rattle.std.specs.Prelude.{bit_xor}
 use Rattle.bf_base.specs.Remainder.{mul_mod, poly64_modulus}
 use Rattle.bf_base.specs.Chunks.{chunk}
@@ -19,18 +19,7 @@ returns-clause-zero c =
     let none =
     adjugate_of_zero 64 (mul_mod 64 poly64_modulus) field_64.ring c.invert_by_tower-scale.result x.c0 x.c1 x.c2 z0 z1 z2
     ∙ triple-low 64 0 in
-    cc (
-      none,
-      c.square_mod_64-s0.ensures,
-      c.square_mod_64-s1.ensures,
-      c.square_mod_64-s2.ensures,
-      c.multiply_mod_64-p01.ensures,
-      c.multiply_mod_64-p02.ensures,
-      c.multiply_mod_64-p12.ensures,
-      c.multiply_mod_64-c0.ensures,
-      c.multiply_mod_64-c1.ensures,
-      c.multiply_mod_64-c2.ensures,
-    )
+    search (none, rules)
 
 pub returns-clause-inverse : goal.returns-clause-inverse
 returns-clause-inverse c =
@@ -40,17 +29,7 @@ returns-clause-inverse c =
     let times = mul_mod 64 poly64_modulus in
     let n = cubic_norm 64 (mul_mod 64 poly64_modulus) field_64.ring x.c0 x.c1 x.c2 in
     let norm_is : bit_xor (bit_xor c.multiply_mod_64-n0.result c.multiply_mod_64-n1.result) c.multiply_mod_64-n2.result ≡ n =
-    cc (
-      c.square_mod_64-s0.ensures,
-      c.square_mod_64-s1.ensures,
-      c.square_mod_64-s2.ensures,
-      c.multiply_mod_64-p01.ensures,
-      c.multiply_mod_64-p02.ensures,
-      c.multiply_mod_64-p12.ensures,
-      c.multiply_mod_64-n0.ensures,
-      c.multiply_mod_64-n1.ensures,
-      c.multiply_mod_64-n2.ensures,
-    ) in
+    search rules in
     let unit : times n c.invert_by_tower-scale.result ≡ 1 =
     ap (λ (k : ℕ). times k c.invert_by_tower-scale.result) (sym norm_is)
     ∙ c.invert_by_tower-scale.ensures.inverse
@@ -58,15 +37,4 @@ returns-clause-inverse c =
     let whole =
     scaled_adjugate 64 (mul_mod 64 poly64_modulus) field_64.ring (lit< tt) x.c0 x.c1 x.c2 c.invert_by_tower-scale.result r.first r.second
     r.third c.invert_by_tower-scale.type_inv unit in
-    cc (
-      whole,
-      c.square_mod_64-s0.ensures,
-      c.square_mod_64-s1.ensures,
-      c.square_mod_64-s2.ensures,
-      c.multiply_mod_64-p01.ensures,
-      c.multiply_mod_64-p02.ensures,
-      c.multiply_mod_64-p12.ensures,
-      c.multiply_mod_64-c0.ensures,
-      c.multiply_mod_64-c1.ensures,
-      c.multiply_mod_64-c2.ensures,
-    )
+    search (whole, rules)

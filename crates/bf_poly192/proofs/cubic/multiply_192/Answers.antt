@@ -1,3 +1,4 @@
+use Rattle.std.proofs.Common.{rules}
 use Rattle.std.proofs.lemmas.Nat.{xor_lt}
 use Rattle.bf_base.specs.Remainder.{mul_mod, poly64_modulus}
 use Rattle.bf_base.proofs.RemainderRing.{poly64_ring}
@@ -25,12 +26,4 @@ returns c =
     let rule =
     karatsuba 64 (mul_mod 64 poly64_modulus) poly64_ring x.c0 x.c1 x.c2 y.c0 y.c1 y.c2 x.in_range.first x.in_range.second
     x.in_range.third y.in_range.first y.in_range.second y.in_range.third in
-    cc (
-      rule,
-      c.multiply_mod_64-p0.ensures,
-      c.multiply_mod_64-p1.ensures,
-      c.multiply_mod_64-p2.ensures,
-      c.multiply_mod_64-p01.ensures,
-      c.multiply_mod_64-p02.ensures,
-      c.multiply_mod_64-p12.ensures,
-    )
+    search (rule, rules)
