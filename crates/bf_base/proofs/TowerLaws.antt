@@ -15,17 +15,6 @@ use Rattle.bf_base.proofs.TowerRing.{tower_ring}
 pub tower_field : TowerIsField
 tower_field k = record { ring = tower_ring k; inverses = tower_inverses k; squarings_return = squarings_return k }
 
-pub tower_basis : (k : ℕ) → IsBasisOf k (2 ^ k) (tower_mul k) (λ a. a)
-tower_basis k =
-    record {
-      below = λ a fits. fits;
-      one_image = refl;
-      sum_image = λ a b. refl;
-      product_image = λ a b. refl;
-      one_to_one = λ a b a_fits b_fits same. same;
-      onto = λ b fits. (b, fits, refl);
-    }
-
 -- a number is itself times the one
 pub is_times_one : (a b : ℕ) → a ≡ b → a ≡ b * 1
 is_times_one a b e = e ∙ sym (mul-one b)

@@ -1,6 +1,6 @@
 -- The laws of the field of two elements, level 0 of the tower, by cases on its bits. They stand here since the field's
 -- own implementation of the traits cites them.
-use Rattle.std.proofs.Common.{◌≡◌, ℕ, zero, suc, ◌*◌, ◌%◌, ◌<◌, ◌≢◌, refl, sym, ◌∙◌, ap, arith, lit<}
+use Rattle.std.proofs.Common.{◌≡◌, ℕ, zero, suc, ◌*◌, ◌%◌, ◌^◌, ◌<◌, ◌≢◌, refl, sym, ◌∙◌, ap, arith, lit<}
 use Rattle.std.specs.Prelude.{bit_and, bit_xor}
 use Rattle.std.proofs.lemmas.Nat.{xor_mod}
 use native.Mathlib.Nat.{mod-lt, mul_comm, mul_assoc, zero-mul, one-mul, mul-one, mod-eq_of_lt}
@@ -98,9 +98,9 @@ bit_field =
 pub one_is_nonzero : ◌≢◌ {A = ℕ} 1 0
 one_is_nonzero e = absurd (omega (arith, e))
 
--- the bits are their own basis
-pub bit_basis : IsBasisOf 0 1 (tower_mul 0) (λ a. a)
-bit_basis =
+-- a level is its own basis
+pub level_basis : (k : ℕ) → IsBasisOf k (2 ^ k) (tower_mul k) (λ a. a)
+level_basis k =
     record {
       below = λ a fits. fits;
       one_image = refl;

@@ -275,7 +275,7 @@ impl Field for Gf2 {
 impl Sealed for Gf2 {}
 
 impl TowerLevel for Gf2 {
-    ghost use Rattle.bf_base.specs.BitRing.{bit_basis, bit_cantor, bit_cantor_image, bit_no_root};
+    ghost use Rattle.bf_base.specs.BitRing.{bit_cantor, bit_cantor_image, bit_no_root, level_basis};
 
     type Repr = u8;
 
@@ -307,7 +307,7 @@ impl TowerLevel for Gf2 {
 
     ghost room_law = { lit≤ tt };
 
-    ghost basis_law = { bit_basis };
+    ghost basis_law = { level_basis 0 };
 
     ghost cantor_law = { bit_cantor };
 

@@ -2,11 +2,12 @@
 ghost use Rattle.std.specs.Prelude.{◌≡◌, ◌<◌, ◌≤◌, ◌*◌, ◌%◌, ◌/◌, ◌^◌, ℕ, refl};
 ghost use Rattle.std.proofs.lemmas.Nat.{pow_pos};
 ghost use native.Mathlib.Nat.{mod-lt};
+ghost use Rattle.bf_base.specs.BitRing.{level_basis};
 ghost use Rattle.bf_base.specs.Powers.{repeated_square};
 ghost use Rattle.bf_base.specs.Tower.{root, tower_mul};
 ghost use Rattle.bf_base.specs.TowerBasis.{tower_generator};
 ghost use Rattle.bf_base.proofs.TowerBasisLemmas.{generator_lt, generator_nonzero};
-ghost use Rattle.bf_base.proofs.TowerLaws.{tower_basis, tower_field};
+ghost use Rattle.bf_base.proofs.TowerLaws.{tower_field};
 ghost use Rattle.bf_tables.specs.Cantor.{cantor_vector};
 ghost use Rattle.bf_tables.proofs.LevelLaws.{at_most_four, level_cantor, level_generator};
 
@@ -147,7 +148,7 @@ impl<R: Unsigned, L: Level<R>> LevelKernel<R> for Tower<L> {
 
     ghost bits_law = { refl };
 
-    ghost basis_law = { tower_basis L.LEVEL };
+    ghost basis_law = { level_basis L.LEVEL };
 
     ghost cantor_law = { level_cantor L.LEVEL L.few };
 
