@@ -16,6 +16,7 @@ pub fn tower_is_ring()
 
 /// States that every level of the tower is a field: each element but 0 has an inverse. The polynomial whose root the
 /// next level adjoins has no root in the level, since the root that the level adjoined and its inverse have the trace 1.
+#[tactic(auto, using(crate::proofs::TowerFacts::tower_facts))]
 pub fn tower_is_field()
     ensures inverses { NonzeroHasInverse }
     ensures no_root { NoLevelHasARoot }
