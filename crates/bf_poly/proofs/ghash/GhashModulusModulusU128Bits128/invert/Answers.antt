@@ -1,18 +1,13 @@
-use Rattle.std.proofs.Common.{◌∙◌, ℕ, ◌-◌, ◌^◌, ap, refl, arith, lit<}
-use Rattle.bf_base.specs.Powers.{power}
+use Rattle.std.proofs.Common.{arith, lit<}
 use Rattle.bf_base.specs.Remainder.{ghash_modulus, mul_mod}
-use Rattle.bf_base.proofs.FieldLemmas.{power-inverts}
-use Rattle.bf_base.proofs.RemainderRing.{mul_mod_ring}
 use Rattle.bf_basis.proofs.Isomorphisms.{field_128}
-use Rattle.bf_clmul.proofs.Chains.{power_of_zero}
+use Rattle.bf_poly.proofs.Fermat.{inverts}
 use Rattle.bf_poly.proofs.ghash.GhashModulusModulusU128Bits128.invert.Goals as goal
 
 pub returns-clause-zero : goal.returns-clause-zero
-returns-clause-zero c zero =
-    c.invert_mod_128.ensures ∙ ap (λ (x : ℕ). power 1 (mul_mod 128 ghash_modulus) x (2 ^ 128 - 2)) zero
-    ∙ power_of_zero 128 (mul_mod 128 ghash_modulus) (mul_mod_ring 128 ghash_modulus (lit< tt) refl) (lit< tt) (2 ^ 128 - 2) (lit< tt)
+returns-clause-zero c =
+    (inverts 128 (mul_mod 128 ghash_modulus) field_128 (lit< tt) (lit< tt) (lit< tt) c.args.x _ (omega arith) c.invert_mod_128.ensures).zero
 
 pub returns-clause-inverse : goal.returns-clause-inverse
-returns-clause-inverse c nonzero =
-    ap (mul_mod 128 ghash_modulus c.args.x) c.invert_mod_128.ensures
-    ∙ power-inverts 128 (mul_mod 128 ghash_modulus) field_128 (lit< tt) c.args.x (omega arith) nonzero
+returns-clause-inverse c =
+    (inverts 128 (mul_mod 128 ghash_modulus) field_128 (lit< tt) (lit< tt) (lit< tt) c.args.x _ (omega arith) c.invert_mod_128.ensures).inverse
