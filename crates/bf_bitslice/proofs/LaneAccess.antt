@@ -2,13 +2,13 @@
 use Rattle.std.proofs.Common.{◌≡◌, ◌≢◌, ℕ, ◌+◌, ◌*◌, ◌/◌, ◌%◌, ◌^◌, ◌<◌, ◌≤◌, ◌-◌, sym, ap, ap₂, ◌∙◌, lit<, arith, subst, inl, inr, ◌⊎◌}
 use Rattle.std.specs.Int.{bit_at}
 use Rattle.std.proofs.lemmas.Bool.{cases_eq, cases_lt}
-use Rattle.std.proofs.lemmas.Nat.{div-mul-add, div_below, pow-add, pow_below}
+use Rattle.std.proofs.lemmas.Nat.{div-mul-add, div_below, pow-add, pow_below, pow_pos}
 use Rattle.std.proofs.lemmas.Nat.Bits.{bit_at_lowest}
 use Rattle.std.proofs.Math.Nat.{mul_comm}
 use Rattle.std.proofs.Math.Pow.{pow_mono}
 use native.Mathlib.Nat.{mod-lt, mod-eq_of_lt}
 use Rattle.bf_bitslice_words.specs.Parts.{IsBlockSize, IsWithField, IsWithPart, part_at}
-use Rattle.bf_bitslice_words.proofs.BlockLemmas.{lanes_of, place-split}
+use Rattle.bf_bitslice_words.proofs.BlockLemmas.{block_divides, lanes_of, place-split}
 use Rattle.bf_bitslice.specs.Lanes.{IsWithLane}
 
 pub part_below : (w count j : ℕ) → 0 < w → j < w * count → j / w < count
@@ -78,6 +78,12 @@ whole_words w a block width some power size more =
     let count : block / w ≡ 2 ^ words.0 = ap (λ (x : ℕ). x / w) (words.1 ∙ omega arith) ∙ div-mul-add (2 ^ words.0) w 0 some in
     ap (λ (x : ℕ). w * x) count ∙ mul_comm w (2 ^ words.0) ∙ sym words.1
 
+-- so are the words that the code counts, which names the bits of a word
+pub block_of_words : (w a block width : ℕ) {bits : ℕ} → w ≡ 2 ^ a → IsBlockSize width block → bits ≡ w → bits ≤ block → w * (block / bits) ≡ block
+block_of_words w a block width {bits} power size is more =
+    ap (λ (z : ℕ). w * (block / z)) is
+    ∙ whole_words w a block width (subst (λ (n : ℕ). 0 < n) (sym power) (pow_pos a)) power size (subst (λ (z : ℕ). z ≤ block) is more)
+
 pub word_block : (w a count block : ℕ) → 0 < w → w ≡ 2 ^ a → IsBlockSize (w * count) block → w ≤ block → IsBlockSize count (block / w)
 word_block w a count block some power size more =
     let words = words_of_block w a block (w * count) power size more in
@@ -86,6 +92,11 @@ word_block w a count block some power size more =
 
 pub row_bits : (bits w count a b : ℕ) → bits ≡ w * count → w ≡ 2 ^ a → count ≡ 2 ^ b → bits ≡ 2 ^ (a + b)
 row_bits bits w count a b is word words = is ∙ ap₂ (λ (x y : ℕ). x * y) word words ∙ sym (pow-add 2 a b)
+
+-- a row is a whole number of two blocks
+pub row_divides : (bits w count a b block : ℕ) → bits ≡ w * count → w ≡ 2 ^ a → count ≡ 2 ^ b → IsBlockSize bits block
+    → (q : ℕ) × (bits ≡ q * (2 * block))
+row_divides bits w count a b block is word words size = block_divides bits (a + b) block (row_bits bits w count a b is word words) size
 
 -- ---- in the terms of the code, which names the word and the place in it
 

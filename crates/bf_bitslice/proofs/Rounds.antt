@@ -294,6 +294,15 @@ groups_are width q t c some is all =
     let count : width / t ≡ q = ap (λ (x : ℕ). x / t) (is ∙ sym none) ∙ div-mul-add q t 0 some in
     ap (λ (x : ℕ). x * t) (all ∙ count) ∙ sym is
 
+-- so a pass by all groups is one over all rows
+pub groups_end : (s count width q : ℕ) {bits c : ℕ} (old now : List ℕ) → 0 < s → 0 < count → width ≡ q * (count * s) → bits ≡ width
+    → c ≡ bits / (count * s) → IsPassTo width s (count * s) (c * (count * s)) old now → AreMixed width (count * s) old now
+groups_end s count width q {bits} {c} old now some any is row all so_far =
+    let more = mul-le 1 s count s any (omega arith) in
+    let last : c ≡ width / (count * s) = all ∙ ap (λ (x : ℕ). x / (count * s)) row in
+    pass_ends s (count * s) count some refl width (c * (count * s)) old now any
+    (groups_are width q (count * s) c (omega (arith, some, more)) is last) so_far
+
 -- ---- all rounds
 
 pub nothing_mixed : (width : ℕ) (rows : List ℕ) → AreMixed width 1 rows rows
@@ -312,6 +321,13 @@ all_mixed width s old now all so_far i j row lane =
         let none : a / width * width ≡ 0 * width = ap (λ (x : ℕ). x * width) (div-eq_of_lt first) in
         let all_of_it : b % width ≡ b = mod-eq_of_lt second in
         omega arith
+
+-- rounds that begin at blocks of t lanes are rounds that begin at s, which is the same length
+pub rounds_from : (width times s t : ℕ) (before now : List ℕ) → s ≡ t
+    → ((old : List ℕ) → AreMixed width t old before → AreMixed width (times * t) old now)
+    → (old : List ℕ) → AreMixed width s old before → AreMixed width (times * s) old now
+rounds_from width times s t before now is rounds =
+    subst (λ (z : ℕ). (old : List ℕ) → AreMixed width z old before → AreMixed width (times * z) old now) (sym is) rounds
 
 pub same_length : (width s t : ℕ) (old now : List ℕ) → s ≡ t → AreMixed width s old now → AreMixed width t old now
 same_length width s t old now is = subst (λ (z : ℕ). AreMixed width z old now) is

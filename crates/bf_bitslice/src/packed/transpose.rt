@@ -139,6 +139,7 @@ fn one_round<U: Underlier>(rows: &mut [PackedGf2<U>], block: usize)
 
 // The same three rounds. The lengths that they begin at stand as literals, so that in the machine code shifts and masks are
 // constants.
+#[tactic(auto, using(crate::proofs::Rounds::rounds_from))]
 fn three_rounds_of_constant<U: Underlier>(rows: &mut [PackedGf2<U>], block: usize)
     requires block { IsBlockSize U.BITS block }
     requires square { length rows.old ≡ U.BITS }
@@ -154,6 +155,7 @@ fn three_rounds_of_constant<U: Underlier>(rows: &mut [PackedGf2<U>], block: usiz
 }
 
 // The same round. The lengths that are left after rounds by threes stand as literals.
+#[tactic(auto, using(crate::proofs::Rounds::rounds_from))]
 fn one_round_of_constant<U: Underlier>(rows: &mut [PackedGf2<U>], block: usize)
     requires block { IsBlockSize U.BITS block }
     requires square { length rows.old ≡ U.BITS }
