@@ -1,59 +1,77 @@
 -- Three rounds at once on eight rows.
-use Rattle.std.proofs.Common.{◌≡◌, ℕ, ◌+◌, ◌*◌, ◌<◌, ◌≤◌, List, get_or, length, replicate, set, refl, sym, ap, ◌∙◌, lit<, arith}
-use Rattle.std.proofs.Math.Nat.{mul_assoc}
+use Rattle.std.proofs.Common.{◌≡◌, ℕ, ◌+◌, ◌*◌, ◌/◌, ◌%◌, ◌<◌, ◌≤◌, ◌&&◌, Bool, true, eqb, ltb, List, get_or, length, replicate, set, refl, sym, ap, subst, ◌∙◌, lit<, arith}
+use Rattle.std.proofs.lemmas.Bool.Decides.{nat_tests}
+use Rattle.std.proofs.lemmas.Nat.{div-add-mod', mul-le}
+use Rattle.std.proofs.Math.Nat.{add-mul, mul_assoc}
 use Rattle.bf_bitslice.specs.Rounds.{IsPairExchanged, IsPassTo, first_row}
-use Rattle.bf_bitslice.proofs.Rounds.{AreAt, pair_step, rows_begin, rows_end, upper_row}
+use Rattle.bf_bitslice.proofs.Rounds.{AreAt, pair_step, place_is, rows_begin, rows_end, upper_row}
+
+-- of eight rows, in pairs that are b rows apart, row k is an upper one
+abbrev is_upper : ℕ → ℕ → Bool
+is_upper b k = ltb (k + b) 8 && eqb (8 / (2 * b) * (2 * b)) 8 && ltb (k % (2 * b)) b
 
 module _ (width q s i : ℕ) (old before : List ℕ) (some : 0 < s) (is : width ≡ q * (8 * s)) (first : first_row s (8 * s) i ≡ i) where
-  -- Rows k and m of the eight, which are d apart, come from blocks of d lanes to blocks of e: pair number j of n.
-  step : (d e n j k m : ℕ) (mid now levels : List ℕ) → 0 < d → e ≡ 2 * d → 8 * s ≡ n * (2 * d)
-      → k < length levels → m < length levels → i + k * s + d ≡ i + m * s → j * (2 * d) ≤ k * s → k * s + s ≤ j * (2 * d) + d
-      → get_or levels k 0 ≡ d → get_or levels m 0 ≡ d
-      → IsPairExchanged width d (i + k * s) mid now → AreAt width s i old before mid levels → AreAt width s i old before now (set (set levels k e) m e)
-  step d e n j k m mid now levels lanes double count in_k in_m next low high level_k level_m =
-      pair_step width (q * n) s i d e k m old before mid now levels some lanes
-      (is ∙ ap (λ (x : ℕ). q * x) count ∙ sym (mul_assoc q n (2 * d)))
-      double in_k in_m next (upper_row s (8 * s) i d n j k some first count low high) level_k level_m
+  -- Rows k and k + b of the eight come from blocks of b * s lanes to blocks of twice as many.
+  step : (b k : ℕ) {d p : ℕ} {mid now levels : List ℕ} → is_upper b k ≡ true → length levels ≡ 8 → get_or levels k 0 ≡ b * s
+      → get_or levels (k + b) 0 ≡ b * s → d ≡ b * s → p ≡ i + k * s → IsPairExchanged width d p mid now
+      → AreAt width s i old before mid levels → AreAt width s i old before now (set (set levels k (2 * b * s)) (k + b) (2 * b * s))
+  step b k {d} {p} {mid} {now} {levels} upper size level_k level_m lanes place pair so_far =
+      pair_step width (q * (8 / (2 * b))) s i (b * s) (2 * b * s) k (k + b) old before mid now levels some many
+      (is ∙ ap (λ (x : ℕ). q * x) count ∙ sym (mul_assoc q (8 / (2 * b)) (2 * (b * s))))
+      double (omega (arith, facts.0)) (omega (arith, facts.0)) (omega (arith, add-mul k b s))
+      (upper_row s (8 * s) i (b * s) (8 / (2 * b)) (k / (2 * b)) k some first count low high) level_k level_m
+      (place_is width (b * s) (i + k * s) place (subst (λ (x : ℕ). IsPairExchanged width x p mid now) lanes pair))
+      so_far
+    where
+      facts : (k + b < 8) × (8 / (2 * b) * (2 * b) ≡ 8) × (k % (2 * b) < b)
+      facts = grind (arith, nat_tests)
 
-  first_round : (r0 r1 r2 r3 r4 : List ℕ)
-      → IsPairExchanged width s (i + 0 * s) r0 r1 → IsPairExchanged width s (i + 2 * s) r1 r2 → IsPairExchanged width s (i + 4 * s) r2 r3 → IsPairExchanged width s (i + 6 * s) r3 r4
-      → AreAt width s i old before r0 (replicate 8 s) → AreAt width s i old before r4 (replicate 8 (2 * s))
-  first_round r0 r1 r2 r3 r4 p0 p1 p2 p3 so_far =
-      step s (2 * s) 4 3 6 7 r3 r4 _ (omega arith) (omega arith) (omega arith) (lit< tt) (lit< tt) (omega arith) (omega arith) (omega arith) refl refl p3
-      (step s (2 * s) 4 2 4 5 r2 r3 _ (omega arith) (omega arith) (omega arith) (lit< tt) (lit< tt) (omega arith) (omega arith) (omega arith) refl refl p2
-      (step s (2 * s) 4 1 2 3 r1 r2 _ (omega arith) (omega arith) (omega arith) (lit< tt) (lit< tt) (omega arith) (omega arith) (omega arith) refl refl p1
-      (step s (2 * s) 4 0 0 1 r0 r1 _ (omega arith) (omega arith) (omega arith) (lit< tt) (lit< tt) (omega arith) (omega arith) (omega arith) refl refl p0 so_far)))
+      many : 0 < b * s
+      many = let more = mul-le 1 s b s (omega (arith, facts.2)) (omega arith) in omega (arith, more, some)
 
-  second_round : (r0 r1 r2 r3 r4 : List ℕ)
-      → IsPairExchanged width (2 * s) (i + 0 * s) r0 r1 → IsPairExchanged width (2 * s) (i + 1 * s) r1 r2 → IsPairExchanged width (2 * s) (i + 4 * s) r2 r3 → IsPairExchanged width (2 * s) (i + 5 * s) r3 r4
-      → AreAt width s i old before r0 (replicate 8 (2 * s)) → AreAt width s i old before r4 (replicate 8 (4 * s))
-  second_round r0 r1 r2 r3 r4 p0 p1 p2 p3 so_far =
-      step (2 * s) (4 * s) 2 1 5 7 r3 r4 _ (omega arith) (omega arith) (omega arith) (lit< tt) (lit< tt) (omega arith) (omega arith) (omega arith) refl refl p3
-      (step (2 * s) (4 * s) 2 1 4 6 r2 r3 _ (omega arith) (omega arith) (omega arith) (lit< tt) (lit< tt) (omega arith) (omega arith) (omega arith) refl refl p2
-      (step (2 * s) (4 * s) 2 0 1 3 r1 r2 _ (omega arith) (omega arith) (omega arith) (lit< tt) (lit< tt) (omega arith) (omega arith) (omega arith) refl refl p1
-      (step (2 * s) (4 * s) 2 0 0 2 r0 r1 _ (omega arith) (omega arith) (omega arith) (lit< tt) (lit< tt) (omega arith) (omega arith) (omega arith) refl refl p0 so_far)))
+      double : 2 * b * s ≡ 2 * (b * s)
+      double = mul_assoc 2 b s
 
-  third_round : (r0 r1 r2 r3 r4 : List ℕ)
-      → IsPairExchanged width (4 * s) (i + 0 * s) r0 r1 → IsPairExchanged width (4 * s) (i + 1 * s) r1 r2 → IsPairExchanged width (4 * s) (i + 2 * s) r2 r3 → IsPairExchanged width (4 * s) (i + 3 * s) r3 r4
-      → AreAt width s i old before r0 (replicate 8 (4 * s)) → AreAt width s i old before r4 (replicate 8 (8 * s))
-  third_round r0 r1 r2 r3 r4 p0 p1 p2 p3 so_far =
-      step (4 * s) (8 * s) 1 0 3 7 r3 r4 _ (omega arith) (omega arith) (omega arith) (lit< tt) (lit< tt) (omega arith) (omega arith) (omega arith) refl refl p3
-      (step (4 * s) (8 * s) 1 0 2 6 r2 r3 _ (omega arith) (omega arith) (omega arith) (lit< tt) (lit< tt) (omega arith) (omega arith) (omega arith) refl refl p2
-      (step (4 * s) (8 * s) 1 0 1 5 r1 r2 _ (omega arith) (omega arith) (omega arith) (lit< tt) (lit< tt) (omega arith) (omega arith) (omega arith) refl refl p1
-      (step (4 * s) (8 * s) 1 0 0 4 r0 r1 _ (omega arith) (omega arith) (omega arith) (lit< tt) (lit< tt) (omega arith) (omega arith) (omega arith) refl refl p0 so_far)))
+      spread : (x : ℕ) → x * (2 * b) * s ≡ x * (2 * (b * s))
+      spread x = mul_assoc x (2 * b) s ∙ ap (λ (y : ℕ). x * y) double
+
+      count : 8 * s ≡ 8 / (2 * b) * (2 * (b * s))
+      count = ap (λ (x : ℕ). x * s) (sym facts.1) ∙ spread (8 / (2 * b))
+
+      low : k / (2 * b) * (2 * (b * s)) ≤ k * s
+      low =
+          let whole = div-add-mod' k (2 * b) in
+          let up = mul-le (k / (2 * b) * (2 * b)) s k s (omega (arith, whole)) (omega arith) in
+          omega (arith, up, spread (k / (2 * b)))
+
+      high : k * s + s ≤ k / (2 * b) * (2 * (b * s)) + b * s
+      high =
+          let whole = div-add-mod' k (2 * b) in
+          let up = mul-le (k + 1) s (k / (2 * b) * (2 * b) + b) s (omega (arith, whole, facts.2)) (omega arith) in
+          omega (arith, up, spread (k / (2 * b)), add-mul k 1 s, add-mul (k / (2 * b) * (2 * b)) b s)
 
   -- after all twelve pairs, in the order of the code
-  pub eight_done : (r1 r2 r3 r4 r5 r6 r7 r8 r9 r10 r11 r12 : List ℕ) → i + 7 * s < width
-      → IsPairExchanged width s (i + 0 * s) before r1 → IsPairExchanged width s (i + 2 * s) r1 r2
-      → IsPairExchanged width s (i + 4 * s) r2 r3 → IsPairExchanged width s (i + 6 * s) r3 r4
-      → IsPairExchanged width (2 * s) (i + 0 * s) r4 r5 → IsPairExchanged width (2 * s) (i + 1 * s) r5 r6
-      → IsPairExchanged width (2 * s) (i + 4 * s) r6 r7 → IsPairExchanged width (2 * s) (i + 5 * s) r7 r8
-      → IsPairExchanged width (4 * s) (i + 0 * s) r8 r9 → IsPairExchanged width (4 * s) (i + 1 * s) r9 r10
-      → IsPairExchanged width (4 * s) (i + 2 * s) r10 r11 → IsPairExchanged width (4 * s) (i + 3 * s) r11 r12
+  pub eight_done : {one two three four five six : ℕ} {r1 r2 r3 r4 r5 r6 r7 r8 r9 r10 r11 r12 : List ℕ} → i + 7 * s < width
+      → one ≡ i + 1 * s → two ≡ i + 2 * s → three ≡ i + 3 * s → four ≡ i + 4 * s → five ≡ i + 5 * s → six ≡ i + 6 * s
+      → IsPairExchanged width s i before r1 → IsPairExchanged width s two r1 r2
+      → IsPairExchanged width s four r2 r3 → IsPairExchanged width s six r3 r4
+      → IsPairExchanged width (2 * s) i r4 r5 → IsPairExchanged width (2 * s) one r5 r6
+      → IsPairExchanged width (2 * s) four r6 r7 → IsPairExchanged width (2 * s) five r7 r8
+      → IsPairExchanged width (4 * s) i r8 r9 → IsPairExchanged width (4 * s) one r9 r10
+      → IsPairExchanged width (4 * s) two r10 r11 → IsPairExchanged width (4 * s) three r11 r12
       → IsPassTo width s (8 * s) i old before → IsPassTo width s (8 * s) (i + 1) old r12
-  eight_done r1 r2 r3 r4 r5 r6 r7 r8 r9 r10 r11 r12 inside p1 p2 p3 p4 p5 p6 p7 p8 p9 p10 p11 p12 so_far =
-      let begun = rows_begin s (8 * s) 8 some refl width i old before first (7, refl, inside) so_far in
-      let once = first_round before r1 r2 r3 r4 p1 p2 p3 p4 begun in
-      let twice = second_round r4 r5 r6 r7 r8 p5 p6 p7 p8 once in
-      let thrice = third_round r8 r9 r10 r11 r12 p9 p10 p11 p12 twice in
-      rows_end s (8 * s) 8 some refl width i old before r12 (replicate 8 (8 * s)) first (lit< tt) refl thrice so_far
+  eight_done inside one two three four five six p1 p2 p3 p4 p5 p6 p7 p8 p9 p10 p11 p12 so_far =
+      let none : i ≡ i + 0 * s = omega arith in
+      let lanes : s ≡ 1 * s = omega arith in
+      let begun = subst (λ (z : ℕ). AreAt width s i old before before (replicate 8 z)) lanes
+      (rows_begin s (8 * s) 8 some refl width i old before first (7, refl, inside) so_far) in
+      let once =
+      step 1 6 refl refl refl refl lanes six p4 (step 1 4 refl refl refl refl lanes four p3
+      (step 1 2 refl refl refl refl lanes two p2 (step 1 0 refl refl refl refl lanes none p1 begun))) in
+      let twice =
+      step 2 5 refl refl refl refl refl five p8 (step 2 4 refl refl refl refl refl four p7
+      (step 2 1 refl refl refl refl refl one p6 (step 2 0 refl refl refl refl refl none p5 once))) in
+      let thrice =
+      step 4 3 refl refl refl refl refl three p12 (step 4 2 refl refl refl refl refl two p11
+      (step 4 1 refl refl refl refl refl one p10 (step 4 0 refl refl refl refl refl none p9 twice))) in
+      rows_end s (8 * s) 8 some refl width i old before _ _ first (lit< tt) refl thrice so_far

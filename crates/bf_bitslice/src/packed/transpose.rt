@@ -52,6 +52,16 @@ fn row_of_eight<U: Underlier>(i: usize, block: usize, k: usize) -> usize
     i + k * block
 }
 
+// Does nothing: by its contract the lengths of the second and the third of three rounds are lengths of blocks, which the eight
+// exchanges of those rounds ask for.
+#[inline(always)]
+fn lengths_of_eight<U: Underlier>(i: usize, block: usize)
+    requires block { IsBlockSize U.BITS block }
+    requires inside { i + 7 * block < U.BITS }
+    ensures twofold { IsBlockSize U.BITS (2 * block) }
+    ensures fourfold { IsBlockSize U.BITS (4 * block) }
+{}
+
 // Three rounds, by blocks of `block`, of twice and of four times as many lanes, for the eight rows from row `i` on that are
 // `block` apart: no other row has a part in what becomes of them. The compiler keeps them in registers from pair to pair.
 #[inline(always)]
@@ -62,6 +72,7 @@ fn exchange_eight<U: Underlier>(rows: &mut [PackedGf2<U>], block: usize, i: usiz
     requires inside { i + 7 * block < U.BITS }
     ensures { (old : List ℕ) → IsPassTo U.BITS block (8 * block) i old (map (λ x. U.number x.bits) rows.old) → IsPassTo U.BITS block (8 * block) (i + 1) old (map (λ x. U.number x.bits) rows.new) }
 {
+    lengths_of_eight::<U>(i, block);
     let one = row_of_eight::<U>(i, block, 1);
     let two = row_of_eight::<U>(i, block, 2);
     let three = row_of_eight::<U>(i, block, 3);

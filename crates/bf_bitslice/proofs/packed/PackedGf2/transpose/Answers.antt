@@ -1,8 +1,7 @@
 use Rattle.std.proofs.Common.{◌≡◌, ◌<◌, ◌≤◌, ◌+◌, ◌*◌, ℕ, ◌∙◌, ap, sym, subst, refl, arith, rules}
 use Rattle.std.proofs.lemmas.Nat.{pow-add, pow_pos}
-use Rattle.bf_bitslice_words.proofs.BlockLemmas.{block_divides}
 use Rattle.bf_bitslice_words.specs.Parts.{IsBlockSize}
-use Rattle.bf_bitslice.proofs.LaneAccess.{row_bits}
+use Rattle.bf_bitslice.proofs.LaneAccess.{row_bits, row_divides}
 use Rattle.bf_bitslice.proofs.Rounds.{all_mixed, double_fits, nothing_mixed, same_length}
 use Rattle.bf_bitslice.proofs.packed.PackedGf2.transpose.Goals as goal
 
@@ -26,12 +25,11 @@ loop-block-preserved g c =
 
 pub loop-block-2-preserved : goal.loop-block-2-preserved
 loop-block-2-preserved g c =
-    let power =
-    row_bits g.U.Underlier.BITS g.U.Word.Word.BITS g.U.Underlier.WORD_COUNT g.U.Word.Word.log_bits g.U.Underlier.log_words
-    g.met.U.Underlier.bits_law g.met.U.Word.Word.bits_law g.met.U.Underlier.words_law in
     let less : c.loop-block-2.block < g.U.Underlier.BITS = search rules in
     let size : IsBlockSize g.U.Underlier.BITS c.loop-block-2.block = (c.loop-block-2.invariant.0, c.loop-block-2.invariant.1, less) in
-    let divides = block_divides g.U.Underlier.BITS (g.U.Word.Word.log_bits + g.U.Underlier.log_words) c.loop-block-2.block power size in (
+    let divides =
+    row_divides g.U.Underlier.BITS _ _ _ _ c.loop-block-2.block g.met.U.Underlier.bits_law g.met.U.Word.Word.bits_law g.met.U.Underlier.words_law
+    size in (
       c.loop-block-2.invariant.0 + 1,
       ap (λ (z : ℕ). z * 2) c.loop-block-2.invariant.1 ∙ sym (pow-add 2 c.loop-block-2.invariant.0 1),
       double_fits g.U.Underlier.BITS divides.0 c.loop-block-2.block divides.1 less,

@@ -1,15 +1,14 @@
-use Rattle.std.proofs.Common.{◌*◌, ◌+◌, refl, lit<, arith}
-use Rattle.bf_bitslice_words.proofs.BlockLemmas.{block_divides, block_some}
-use Rattle.bf_bitslice.proofs.LaneAccess.{row_bits}
+use Rattle.std.proofs.Common.{◌*◌, refl, lit<, arith}
+use Rattle.bf_bitslice_words.proofs.BlockLemmas.{block_some}
+use Rattle.bf_bitslice.proofs.LaneAccess.{row_divides}
 use Rattle.bf_bitslice.proofs.Rounds.{group_first, group_passes, groups_fill, pair_done}
 use Rattle.bf_bitslice.proofs.packed.transpose.exchange_two_blocks.Goals as goal
 
 pub loop-i-preserved : goal.loop-i-preserved
 loop-i-preserved g c = λ old so_far.
-    let power =
-    row_bits g.U.Underlier.BITS g.U.Word.Word.BITS g.U.Underlier.WORD_COUNT g.U.Word.Word.log_bits g.U.Underlier.log_words
-    g.met.U.Underlier.bits_law g.met.U.Word.Word.bits_law g.met.U.Underlier.words_law in
-    let divides = block_divides g.U.Underlier.BITS (g.U.Word.Word.log_bits + g.U.Underlier.log_words) c.args.block power c.requires.block in
+    let divides =
+    row_divides g.U.Underlier.BITS _ _ _ _ c.args.block g.met.U.Underlier.bits_law g.met.U.Word.Word.bits_law g.met.U.Underlier.words_law
+    c.requires.block in
     let some = block_some g.U.Underlier.BITS c.args.block c.requires.block in
     let room = groups_fill g.U.Underlier.BITS (2 * c.args.block) c.args.group c.requires.inside in
     let first = group_first c.args.block (2 * c.args.block) 2 some refl c.args.group c.loop-i.i (lit< tt) (omega arith) (omega arith) in

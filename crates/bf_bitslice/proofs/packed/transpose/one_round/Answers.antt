@@ -1,8 +1,8 @@
+use Rattle.std.proofs.Common.{lit<, arith}
 use Rattle.bf_bitslice_words.proofs.BlockLemmas.{block_some}
 use Rattle.bf_bitslice.proofs.LaneAccess.{row_divides}
 use Rattle.bf_bitslice.proofs.Rounds.{groups_end}
 use Rattle.bf_bitslice.proofs.packed.transpose.one_round.Goals as goal
-use Rattle.std.proofs.Common.{lit<, arith}
 
 pub loop-group-preserved : goal.loop-group-preserved
 loop-group-preserved g c = λ old so_far. c.exchange_two_blocks.ensures old (c.loop-group.invariant old so_far)

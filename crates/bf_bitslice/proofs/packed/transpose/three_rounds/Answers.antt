@@ -1,8 +1,8 @@
+use Rattle.std.proofs.Common.{lit<, arith, ◌*◌}
 use Rattle.bf_bitslice_words.proofs.BlockLemmas.{block_some}
 use Rattle.bf_bitslice.proofs.LaneAccess.{row_divides}
 use Rattle.bf_bitslice.proofs.Rounds.{eightfold_fits, fourfold_inside, groups_end}
 use Rattle.bf_bitslice.proofs.packed.transpose.three_rounds.Goals as goal
-use Rattle.std.proofs.Common.{lit<, arith, ◌*◌}
 
 pub loop-group-preserved : goal.loop-group-preserved
 loop-group-preserved g c = λ old so_far. c.exchange_eight_blocks.ensures old (c.loop-group.invariant old so_far)
