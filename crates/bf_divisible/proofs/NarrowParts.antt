@@ -8,7 +8,7 @@ use Rattle.std.proofs.lemmas.Nat.Bits.{same_from_bits_below}
 use native.Mathlib.Nat.{mod-lt}
 use Rattle.bf_bitslice_words.specs.Parts.{IsWithField, IsWithPart, part_at}
 use Rattle.bf_bitslice_words.proofs.BlockLemmas.{place-split, places_up}
-use Rattle.bf_bitslice_words.proofs.LaneLemmas.{lane-part}
+use Rattle.bf_bitslice_words.proofs.LaneLemmas.{lane-part, power_some}
 use Rattle.bf_divisible.specs.Narrow.{Divides}
 
 pub part_at-lt : (w n i : ℕ) → part_at w n i < 2 ^ w
@@ -107,6 +107,23 @@ place_inside w c wide words bits index some is all inside =
 
 pub place_fits : (w c wide index : ℕ) → 0 < c → wide ≡ w * c → w * (index % c) + w ≤ wide
 place_fits w c wide index some is = let up = places_up w (index % c) c (mod-lt index some) in omega (arith, up, is)
+
+-- the same of what the code has read of the bits of a word and of a narrow one
+module _ (w wide log index : ℕ) {x y : ℕ} (power : wide ≡ 2 ^ log) (divides : Divides w wide) (is_wide : x ≡ wide) (is_narrow : y ≡ w) where
+  count : 0 < wide / w
+  count = count_some w wide (power_some log wide power) divides
+
+  in_word : wide / w ≡ x / y
+  in_word = sym (ap₂ (λ (a b : ℕ). a / b) is_wide is_narrow)
+
+  pub word_inside : (words bits : ℕ) → bits ≡ wide * words → w * index < bits → index / (x / y) < words
+  word_inside words bits all inside =
+      subst (λ (z : ℕ). index / z < words) in_word (place_inside w (wide / w) wide words bits index count divides all inside)
+
+  pub start_fits : {z : ℕ} → z ≡ w → z * (index % (x / y)) + w ≤ wide
+  start_fits {z} is =
+      subst (λ (a : ℕ). z * (index % a) + w ≤ wide) in_word
+      (subst (λ (a : ℕ). a * (index % (wide / w)) + w ≤ wide) (sym is) (place_fits w (wide / w) wide index count divides))
 
 pub narrow_fits : (w wide v : ℕ) → 0 < wide / w → Divides w wide → v < 2 ^ w → v < 2 ^ wide
 narrow_fits w wide v some divides fits =

@@ -1,11 +1,11 @@
 -- Parts of several narrow words, read and written word by word.
-use Rattle.std.proofs.Common.{◌≡◌, ◌≢◌, ℕ, ◌+◌, ◌*◌, ◌/◌, ◌^◌, ◌<◌, ◌≤◌, sym, ap, ◌∙◌, arith, refl, subst, inl, inr, ◌⊎◌}
+use Rattle.std.proofs.Common.{◌≡◌, ◌≢◌, ℕ, ◌+◌, ◌*◌, ◌/◌, ◌^◌, ◌<◌, ◌≤◌, sym, ap, ◌∙◌, arith, refl, subst, inl, inr, ◌⊎◌, Fits, w64}
 use Rattle.std.proofs.lemmas.Bool.{cases_eq, cases_lt}
 use Rattle.std.proofs.lemmas.Nat.{mul-le}
 use Rattle.std.proofs.Math.Nat.{mul-div_cancel_left}
 use Rattle.bf_bitslice_words.specs.Parts.{IsWithPart, part_at}
 use Rattle.bf_bitslice_words.proofs.BlockLemmas.{places_up}
-use Rattle.bf_bitslice_words.proofs.LaneLemmas.{same_from_parts}
+use Rattle.bf_bitslice_words.proofs.LaneLemmas.{power_some, same_from_parts}
 use Rattle.bf_divisible.proofs.NarrowParts.{part_at-lt, part_of_part}
 
 turned : (c i k : ℕ) → i * c + k ≡ c * i + k
@@ -53,6 +53,13 @@ narrow_small w c part ratio bits i k some is all less within =
     let inside = narrow_inside w c part ratio bits i k some is all less within in
     let up = mul-le 1 (i * c + k) w (i * c + k) (omega (arith, some)) (omega arith) in
     omega (arith, inside, up)
+
+-- so neither it nor the product in it leaves the numbers of the code, which has read the count of words
+pub place_counted : (w log c part ratio bits i k : ℕ) {count : ℕ} → w ≡ 2 ^ log → part ≡ w * c → bits ≡ part * ratio → bits < 2 ^ 32
+    → i < ratio → k < c → count ≡ c → Fits w64 (i * count) × Fits w64 (i * count + k)
+place_counted w log c part ratio bits i k power is all narrow less within read =
+    let small = narrow_small w c part ratio bits i k (power_some log w power) is all less within in
+    subst (λ (z : ℕ). Fits w64 (i * z) × Fits w64 (i * z + k)) (sym read) (omega (arith, small, narrow), omega (arith, small, narrow))
 
 pub narrow_index : (c ratio total i k : ℕ) → total ≡ c * ratio → i < ratio → k < c → i * c + k < total
 narrow_index c ratio total i k all less within = let up = places_up c i ratio less in omega (arith, up, within, all)

@@ -1,5 +1,5 @@
-use Rattle.std.proofs.Common.{◌<◌, ◌/◌, ◌%◌, ◌^◌, ℕ, ◌∙◌, ap, sym, subst}
-use Rattle.std.proofs.lemmas.Nat.{pow_pos}
+use Rattle.std.proofs.Common.{◌/◌, ◌%◌, ◌^◌, ℕ, ◌∙◌, ap}
+use Rattle.bf_bitslice_words.proofs.LaneLemmas.{power_some}
 use Rattle.bf_divisible.proofs.NarrowParts.{count_some, read_part}
 use Rattle.bf_divisible.proofs.narrow.narrow_word.Goals as goal
 
@@ -8,7 +8,7 @@ returns g c =
     let wide = g.U.Word.Word.BITS in
     let w = g.W.Word.BITS in
     let word = g.U.Word.Word.number in
-    let some : 0 < wide = subst (λ (n : ℕ). 0 < n) (sym g.met.U.Word.Word.bits_law) (pow_pos g.U.Word.Word.log_bits) in
+    let some = power_some _ _ g.met.U.Word.Word.bits_law in
     read_part w (wide / w) wide (g.U.Underlier.number c.args.row.now) c.args.index c.narrow_place-i.result.0 c.narrow_place-i.result.1
     (word c.word-word.result) (word c.shr.result) (g.W.Word.number c.from_u64.result) (count_some w wide some c.requires.divides)
     c.requires.divides c.narrow_place-i.ensures.word c.narrow_place-i.ensures.start c.word-word.ensures

@@ -1,7 +1,7 @@
-use Rattle.std.proofs.Common.{◌≡◌, ◌<◌, ◌/◌, ◌%◌, ◌^◌, ℕ, ◌∙◌, ap, sym, subst}
-use Rattle.std.proofs.lemmas.Nat.{pow_pos}
+use Rattle.std.proofs.Common.{◌≡◌, ◌/◌, ◌%◌, ◌^◌, ℕ, ◌∙◌, ap, subst}
 use native.Mathlib.Nat.{mod-eq_of_lt}
 use Rattle.bf_bitslice_words.specs.Parts.{IsWithField}
+use Rattle.bf_bitslice_words.proofs.LaneLemmas.{power_some}
 use Rattle.bf_divisible.proofs.NarrowParts.{count_some, narrow_fits, write_part}
 use Rattle.bf_divisible.proofs.narrow.set_narrow_word.Goals as goal
 
@@ -11,7 +11,7 @@ returns-clause-replaced g c =
     let w = g.W.Word.BITS in
     let word = g.U.Word.Word.number in
     let v = g.W.Word.number c.args.word in
-    let some : 0 < wide = subst (λ (n : ℕ). 0 < n) (sym g.met.U.Word.Word.bits_law) (pow_pos g.U.Word.Word.log_bits) in
+    let some = power_some _ _ g.met.U.Word.Word.bits_law in
     let count = count_some w wide some c.requires.divides in
     let fits = narrow_fits w wide v count c.requires.divides c.to_u64.ensures.fits in
     let value : word c.from_u64-value.result ≡ v =

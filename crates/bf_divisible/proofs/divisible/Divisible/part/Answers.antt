@@ -1,7 +1,7 @@
-use Rattle.std.proofs.Common.{◌≡◌, ◌<◌, ◌+◌, ◌*◌, ℕ, ◌∙◌, ap, sym, subst, arith, rules}
-use Rattle.std.proofs.lemmas.Nat.{pow_pos}
+use Rattle.std.proofs.Common.{◌≡◌, ◌<◌, ◌+◌, ◌*◌, ℕ, ◌∙◌, ap, arith, rules}
 use Rattle.bf_bitslice_words.specs.Parts.{part_at}
 use Rattle.bf_bitslice_words.proofs.BlockLemmas.{more_parts}
+use Rattle.bf_bitslice_words.proofs.LaneLemmas.{power_some}
 use Rattle.bf_divisible.proofs.WideParts.{is_part}
 use Rattle.bf_divisible.proofs.divisible.Divisible.part.Goals as goal
 
@@ -20,7 +20,7 @@ loop-k-preserved g c =
 pub returns-clause-value : goal.returns-clause-value
 returns-clause-value g c =
     let word = g.V.Word.Word in
-    let some : 0 < word.BITS = subst (λ (n : ℕ). 0 < n) (sym g.met.V.Word.Word.bits_law) (pow_pos word.log_bits) in
+    let some = power_some _ _ g.met.V.Word.Word.bits_law in
     is_part word.BITS g.V.Underlier.WORD_COUNT g.V.Underlier.BITS (g.Self.Underlier.number c.args.self.now) c.args.i
     (g.V.Underlier.number c.loop-k.part) some g.met.V.Underlier.bits_law (g.V.Underlier.range_law c.loop-k.part c.loop-k.invariant.1)
     (λ j less. let here : j < c.loop-k.k = omega arith in c.loop-k.invariant.0 j here)

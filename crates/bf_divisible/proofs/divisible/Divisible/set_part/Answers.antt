@@ -1,5 +1,5 @@
-use Rattle.std.proofs.Common.{◌≡◌, ◌<◌, ◌*◌, ◌/◌, ℕ, ap, sym, subst, arith, rules}
-use Rattle.std.proofs.lemmas.Nat.{pow_pos}
+use Rattle.std.proofs.Common.{◌≡◌, ◌*◌, ◌/◌, ℕ, ap, subst, arith, rules}
+use Rattle.bf_bitslice_words.proofs.LaneLemmas.{power_some}
 use Rattle.bf_divisible.proofs.WideParts.{IsWrittenTo, more_written, narrow_count, nothing_written, part_replaced}
 use Rattle.bf_divisible.proofs.divisible.Divisible.set_part.Goals as goal
 
@@ -27,7 +27,7 @@ returns-clause-replaced g c =
     let wide = g.Self.Word.Word.BITS in
     let before = g.Self.Underlier.number c.args.self.now in
     let now = g.Self.Underlier.number c.loop-k.self in
-    let some : 0 < w = subst (λ (n : ℕ). 0 < n) (sym g.met.V.Word.Word.bits_law) (pow_pos word.log_bits) in
+    let some = power_some _ _ g.met.V.Word.Word.bits_law in
     let total = narrow_count w wide g.Self.Underlier.WORD_COUNT (wide / w) g.Self.Divisible.RATIO g.V.Underlier.WORD_COUNT
     g.Self.Underlier.BITS g.V.Underlier.BITS some g.met.Self.Underlier.bits_law g.met.Self.Divisible.divides_law g.met.V.Underlier.bits_law
     g.met.Self.Divisible.ratio_law in
