@@ -2,13 +2,14 @@
 use Rattle.std.proofs.Common.{◌≡◌, ◌≢◌, ℕ, ◌+◌, ◌*◌, ◌/◌, ◌%◌, ◌^◌, ◌<◌, ◌≤◌, ◌-◌, sym, ap, ap₂, ◌∙◌, lit<, arith, subst, inl, inr, ◌⊎◌}
 use Rattle.std.specs.Int.{bit_at}
 use Rattle.std.proofs.lemmas.Bool.{cases_eq, cases_lt}
-use Rattle.std.proofs.lemmas.Nat.{div-mul-add, div_below, pow-add, pow_below, pow_pos}
+use Rattle.std.proofs.lemmas.Nat.{div-mul-add, div_below, pow-add, pow_below}
 use Rattle.std.proofs.lemmas.Nat.Bits.{bit_at_lowest}
 use Rattle.std.proofs.Math.Nat.{mul_comm}
 use Rattle.std.proofs.Math.Pow.{pow_mono}
 use native.Mathlib.Nat.{mod-lt, mod-eq_of_lt}
 use Rattle.bf_bitslice_words.specs.Parts.{IsBlockSize, IsWithField, IsWithPart, part_at}
 use Rattle.bf_bitslice_words.proofs.BlockLemmas.{block_divides, lanes_of, place-split}
+use Rattle.bf_bitslice_words.proofs.LaneLemmas.{power_some}
 use Rattle.bf_bitslice.specs.Lanes.{IsWithLane}
 
 pub part_below : (w count j : ℕ) → 0 < w → j < w * count → j / w < count
@@ -82,7 +83,7 @@ whole_words w a block width some power size more =
 pub block_of_words : (w a block width : ℕ) {bits : ℕ} → w ≡ 2 ^ a → IsBlockSize width block → bits ≡ w → bits ≤ block → w * (block / bits) ≡ block
 block_of_words w a block width {bits} power size is more =
     ap (λ (z : ℕ). w * (block / z)) is
-    ∙ whole_words w a block width (subst (λ (n : ℕ). 0 < n) (sym power) (pow_pos a)) power size (subst (λ (z : ℕ). z ≤ block) is more)
+    ∙ whole_words w a block width (power_some a w power) power size (subst (λ (z : ℕ). z ≤ block) is more)
 
 pub word_block : (w a count block : ℕ) → 0 < w → w ≡ 2 ^ a → IsBlockSize (w * count) block → w ≤ block → IsBlockSize count (block / w)
 word_block w a count block some power size more =

@@ -1,11 +1,11 @@
-use Rattle.std.proofs.Common.{◌<◌, ◌%◌, ℕ, ◌∙◌, ap, sym, subst}
-use Rattle.std.proofs.lemmas.Nat.{pow_pos}
+use Rattle.std.proofs.Common.{◌%◌, ℕ, ◌∙◌, ap}
+use Rattle.bf_bitslice_words.proofs.LaneLemmas.{power_some}
 use Rattle.bf_bitslice.proofs.LaneAccess.{lane_get_at}
 use Rattle.bf_bitslice.proofs.packed.PackedGf2.get.Goals as goal
 
 pub returns : goal.returns
 returns g c =
-    let some : 0 < g.U.Word.Word.BITS = subst (λ (n : ℕ). 0 < n) (sym g.met.U.Word.Word.bits_law) (pow_pos g.U.Word.Word.log_bits) in
+    let some = power_some _ _ g.met.U.Word.Word.bits_law in
     lane_get_at g.U.Word.Word.BITS (g.U.Underlier.number c.args.self.now.bits) c.args.lane c.place_of-index.result.0 c.place_of-index.result.1
     (g.U.Word.Word.number c.word-word.result) (g.U.Word.Word.number c.field-bit.result) _ some c.place_of-index.ensures.word
     c.place_of-index.ensures.bit c.word-word.ensures c.field-bit.ensures

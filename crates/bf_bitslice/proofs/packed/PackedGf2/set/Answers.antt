@@ -1,14 +1,14 @@
 use Rattle.std.proofs.Common.{◌≡◌, ◌<◌, ◌%◌, ◌*◌, ◌^◌, ℕ, ◌∙◌, sym, subst, arith}
-use Rattle.std.proofs.lemmas.Nat.{pow_pos}
 use native.Mathlib.Nat.{mod-eq_of_lt}
 use Rattle.bf_base.specs.Bit.{repr_of}
+use Rattle.bf_bitslice_words.proofs.LaneLemmas.{power_some}
 use Rattle.bf_bitslice.specs.Lanes.{IsWithLane}
 use Rattle.bf_bitslice.proofs.LaneAccess.{lane_set_at, two_fit}
 use Rattle.bf_bitslice.proofs.packed.PackedGf2.set.Goals as goal
 
 pub returns : goal.returns
 returns g c =
-    let some : 0 < g.U.Word.Word.BITS = subst (λ (n : ℕ). 0 < n) (sym g.met.U.Word.Word.bits_law) (pow_pos g.U.Word.Word.log_bits) in
+    let some = power_some _ _ g.met.U.Word.Word.bits_law in
     let word = g.U.Word.Word in
     let n = g.U.Underlier.number c.args.self.now.bits in
     let r = g.U.Underlier.number c.set_word.new.self in

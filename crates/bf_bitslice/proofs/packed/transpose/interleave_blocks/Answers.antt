@@ -1,12 +1,12 @@
-use Rattle.std.proofs.Common.{◌≤◌, ◌<◌, ◌/◌, ℕ, sym, subst}
-use Rattle.std.proofs.lemmas.Nat.{pow_pos}
+use Rattle.std.proofs.Common.{◌≤◌, ◌/◌, ℕ, sym, subst}
 use Rattle.bf_bitslice_words.specs.Parts.{IsBlockSize}
+use Rattle.bf_bitslice_words.proofs.LaneLemmas.{power_some}
 use Rattle.bf_bitslice.proofs.LaneAccess.{block_of_words, word_block}
 use Rattle.bf_bitslice.proofs.packed.transpose.interleave_blocks.Goals as goal
 
 pub interleave_words-first-requires : goal.interleave_words-first-requires
 interleave_words-first-requires g c =
-    let some : 0 < g.U.Word.Word.BITS = subst (λ (n : ℕ). 0 < n) (sym g.met.U.Word.Word.bits_law) (pow_pos g.U.Word.Word.log_bits) in
+    let some = power_some _ _ g.met.U.Word.Word.bits_law in
     let more : g.U.Word.Word.BITS ≤ c.args.block = subst (λ (z : ℕ). z ≤ c.args.block) c.BITS-word_bits.ensures c.if-block-word_bits.false in
     subst (λ (z : ℕ). IsBlockSize g.U.Underlier.WORD_COUNT (c.args.block / z)) (sym c.BITS-word_bits.ensures)
     (word_block g.U.Word.Word.BITS g.U.Word.Word.log_bits g.U.Underlier.WORD_COUNT c.args.block some g.met.U.Word.Word.bits_law
