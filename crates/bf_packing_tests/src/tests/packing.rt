@@ -6,7 +6,9 @@ ghost use Rattle.bf_base.specs.Operators.{given, ring_gives};
 ghost use Rattle.bf_base.specs.Powers.{sum_of, product_of};
 ghost use Rattle.bf_packing_tests.specs.FourLanes.{lane_product};
 
-use super::rings::{even_integers_are_zero, is_idempotent, odd_integers_are_one};
+use super::rings::{
+    even_integers_are_zero, is_idempotent, nothing_is_neutral, odd_integers_are_one,
+};
 use bf_base::Gf2;
 use bf_base::traits::{
     DotProduct, PrimeCharacteristicRing, Represented, TowerLevel, product_of_items, sum_of_items,
@@ -202,19 +204,10 @@ impl PrimeCharacteristicRing for FourLanes {
 
 #[test]
 fn calls_by_the_bound_at_a_packing(rt: HostRuntime) {
+    assert!(rt; nothing_is_neutral::<FourLanes>());
     assert!(rt; odd_integers_are_one::<FourLanes>());
     assert!(rt; even_integers_are_zero::<FourLanes>());
     assert!(rt; is_idempotent(FourLanes { bits: 0b0110 }));
-}
-
-#[test]
-fn no_packings_sum_to_zero_and_multiply_to_one(rt: HostRuntime) {
-    let none: [FourLanes; 0] = [];
-    assert!(rt;
-        none.iter().copied().sum::<FourLanes>() == FourLanes::ZERO
-            && none.iter().copied().product::<FourLanes>() == FourLanes::ONE
-            && FourLanes::dot_product_of_slices(&none, &none) == FourLanes::ZERO
-    );
 }
 
 #[test]

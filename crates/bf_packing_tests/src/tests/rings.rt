@@ -1,4 +1,4 @@
-// The calls that a ring has by its bound: integers by their parity, and elements that are their own squares.
+// The calls that a ring has by its bound: integers by their parity, elements that are their own squares, and no elements.
 use bf_base::Gf2;
 use bf_base::traits::PrimeCharacteristicRing;
 
@@ -50,8 +50,17 @@ pub(crate) fn is_idempotent<R: PrimeCharacteristicRing>(x: R) -> bool {
         && x.mul_2exp_u64(1) == R::ZERO
 }
 
+/// Whether no elements sum to 0 and multiply to 1, and no products sum to 0.
+pub(crate) fn nothing_is_neutral<R: PrimeCharacteristicRing>() -> bool {
+    let none: [R; 0] = [];
+    none.iter().copied().sum::<R>() == R::ZERO
+        && none.iter().copied().product::<R>() == R::ONE
+        && R::dot_product_of_slices(&none, &none) == R::ZERO
+}
+
 #[test]
 fn calls_by_the_bound_at_two_elements(rt: HostRuntime) {
+    assert!(rt; nothing_is_neutral::<Gf2>());
     assert!(rt; odd_integers_are_one::<Gf2>());
     assert!(rt; even_integers_are_zero::<Gf2>());
     assert!(rt; is_idempotent(Gf2::ONE) && is_idempotent(Gf2::ZERO));
