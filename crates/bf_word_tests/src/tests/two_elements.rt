@@ -52,16 +52,6 @@ fn there_is_one_bit(rt: HostRuntime) {
 }
 
 #[test]
-fn nothing_sums_to_zero_and_multiplies_to_one(rt: HostRuntime) {
-    let none: [Gf2; 0] = [];
-    assert!(rt;
-        none.iter().copied().sum::<Gf2>() == Gf2::ZERO
-            && none.iter().copied().product::<Gf2>() == Gf2::ONE
-            && Gf2::dot_product_of_slices(&none, &none) == Gf2::ZERO
-    );
-}
-
-#[test]
 fn sums_and_products_of_three_bits(rt: HostRuntime) {
     let (zero, one) = (Gf2::ZERO, Gf2::ONE);
     assert!(rt;
