@@ -1,4 +1,5 @@
 // The challenger over SHA-256, against digests from outside.
+use super::sha256::OF_NOTHING;
 use bf_byte_challenger::{
     ByteChallenger, HashChallenger, Sha256Hasher, observe_bytes, runs_join, sample_bytes,
     sample_u64,
@@ -6,13 +7,8 @@ use bf_byte_challenger::{
 use std::alloc::{AllocError, Allocator, Global};
 use std::test::Fail;
 
-// The digest of no byte, and the digest of that digest.
-static DIGEST_OF_NOTHING: [u8; 32] = [
-    0xe3, 0xb0, 0xc4, 0x42, 0x98, 0xfc, 0x1c, 0x14, 0x9a, 0xfb, 0xf4, 0xc8, 0x99, 0x6f, 0xb9, 0x24,
-    0x27, 0xae, 0x41, 0xe4, 0x64, 0x9b, 0x93, 0x4c, 0xa4, 0x95, 0x99, 0x1b, 0x78, 0x52, 0xb8, 0x55,
-];
-
-static DIGEST_OF_THAT: [u8; 32] = [
+// The digest of the digest of no byte.
+static OF_DIGEST: [u8; 32] = [
     0x5d, 0xf6, 0xe0, 0xe2, 0x76, 0x13, 0x59, 0xd3, 0x0a, 0x82, 0x75, 0x05, 0x8e, 0x29, 0x9f, 0xcc,
     0x03, 0x81, 0x53, 0x45, 0x45, 0xf5, 0x5c, 0xf4, 0x3e, 0x41, 0x98, 0x3f, 0x5d, 0x4c, 0x94, 0x56,
 ];
@@ -44,8 +40,8 @@ fn samples_from_the_end_are<C: ByteChallenger>(
 fn digests_are_sampled_from_their_ends(rt: HostRuntime) -> Result<(), Fail> {
     let mut challenger = fresh(rt.alloc());
     assert!(rt;
-        samples_from_the_end_are(&mut challenger, &DIGEST_OF_NOTHING)?
-            && samples_from_the_end_are(&mut challenger, &DIGEST_OF_THAT)?
+        samples_from_the_end_are(&mut challenger, &OF_NOTHING)?
+            && samples_from_the_end_are(&mut challenger, &OF_DIGEST)?
     );
     Ok(())
 }
@@ -128,10 +124,8 @@ fn mixed_calls_and_several_at_once(rt: HostRuntime) -> Result<(), Fail> {
 // Byte k of the initial state of length n is 7 k + n modulo 256.
 fn initial_state<A: Allocator>(alloc: A, len: usize) -> Result<Vec<u8, A>, AllocError> {
     let mut state = Vec::with_capacity(alloc, len)?;
-    let mut byte = (len % 256) as u8;
-    for _ in 0..len {
-        state.push(byte)?;
-        byte = byte.wrapping_add(7);
+    for place in 0..len {
+        state.push((place.wrapping_mul(7).wrapping_add(len) % 256) as u8)?;
     }
     Ok(state)
 }
