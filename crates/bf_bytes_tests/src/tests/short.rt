@@ -30,9 +30,7 @@ fn short_iterators(rt: HostRuntime) {
             && needs_all::<BinaryField8>()
             && needs_all::<BinaryField16>()
             && needs_all::<BinaryField32>()
-    );
-    assert!(rt;
-        needs_all::<BinaryField64>()
+            && needs_all::<BinaryField64>()
             && needs_all::<BinaryField128>()
             && needs_all::<Rijndael8b>()
             && needs_all::<Poly64>()
