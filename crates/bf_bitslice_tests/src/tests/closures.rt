@@ -6,6 +6,30 @@ use bf_bitslice_words::{M128, M256, M512, Underlier};
 use rand::rngs::SmallRng;
 use rand::{RngExt, SeedableRng};
 
+// How often a closure was called, and whether its arguments were 0, 1, 2 and so on.
+#[derive(Clone, Copy)]
+struct Calls {
+    count: usize,
+    in_order: bool,
+}
+
+impl Calls {
+    const NONE: Calls = Calls {
+        count: 0,
+        in_order: true,
+    };
+
+    fn note(&mut self, argument: usize) {
+        self.in_order = self.in_order && argument == self.count;
+        self.count = self.count.wrapping_add(1);
+    }
+
+    // Whether the arguments were the numbers below `count`, each once and in order.
+    fn counted_to(&self, count: usize) -> bool {
+        self.in_order && self.count == count
+    }
+}
+
 // Whether each third lane alone is 1.
 fn has_each_third_lane(packed: PackedGf2x512) -> bool {
     let mut lane: usize = 0;
@@ -20,26 +44,22 @@ fn has_each_third_lane(packed: PackedGf2x512) -> bool {
 
 #[test]
 fn lanes_are_asked_for_in_order(rt: HostRuntime) {
-    let mut calls: usize = 0;
-    let mut in_order = true;
+    let mut calls = Calls::NONE;
     let packed = PackedGf2x512::from_fn(|lane| {
-        in_order = in_order && lane == calls;
-        calls = calls.wrapping_add(1);
+        calls.note(lane);
         Gf2::from_bool(lane % 3 == 0)
     });
-    assert!(rt; calls == 512 && in_order && has_each_third_lane(packed));
+    assert!(rt; calls.counted_to(512) && has_each_third_lane(packed));
 }
 
 #[test]
 fn words_are_asked_for_in_order(rt: HostRuntime) {
-    let mut calls: usize = 0;
-    let mut in_order = true;
+    let mut calls = Calls::NONE;
     let block = M256::from_words_fn(|i| {
-        in_order = in_order && i == calls;
-        calls = calls.wrapping_add(1);
+        calls.note(i);
         i as u64
     });
-    assert!(rt; calls == 4 && in_order && block == M256::from_words([0, 1, 2, 3]));
+    assert!(rt; calls.counted_to(4) && block == M256::from_words([0, 1, 2, 3]));
 }
 
 #[test]

@@ -25,6 +25,13 @@ fn splits<U: Divisible<V>, V: Underlier>(row: U) -> bool {
     all && lane == U::BITS && again == packed
 }
 
+// Whether the row splits into words of each width.
+fn splits_into_words<U: Divisible<u8> + Divisible<u16> + Divisible<u32> + Divisible<u64>>(
+    row: U,
+) -> bool {
+    splits::<U, u8>(row) && splits::<U, u16>(row) && splits::<U, u32>(row) && splits::<U, u64>(row)
+}
+
 #[test]
 fn words_split_into_narrower_words(rt: HostRuntime) {
     assert!(rt;
@@ -42,26 +49,10 @@ fn blocks_split_into_words(rt: HostRuntime) {
     let low = M128::from_words([0xfedc_ba98_7654_3210, 0x0f1e_2d3c_4b5a_6978]);
     let middle = M256::from_words_fn(|i| 0xfedc_ba98_7654_3210 >> (i % 64));
     let high = M512::from_words_fn(|i| 0xfedc_ba98_7654_3210 >> (i % 64));
+    assert!(rt; splits_into_words(low));
+    assert!(rt; splits_into_words(middle) && splits::<M256, M128>(middle));
     assert!(rt;
-        splits::<M128, u8>(low)
-            && splits::<M128, u16>(low)
-            && splits::<M128, u32>(low)
-            && splits::<M128, u64>(low)
-    );
-    assert!(rt;
-        splits::<M256, u8>(middle)
-            && splits::<M256, u16>(middle)
-            && splits::<M256, u32>(middle)
-            && splits::<M256, u64>(middle)
-            && splits::<M256, M128>(middle)
-    );
-    assert!(rt;
-        splits::<M512, u8>(high)
-            && splits::<M512, u16>(high)
-            && splits::<M512, u32>(high)
-            && splits::<M512, u64>(high)
-            && splits::<M512, M128>(high)
-            && splits::<M512, M256>(high)
+        splits_into_words(high) && splits::<M512, M128>(high) && splits::<M512, M256>(high)
     );
 }
 
