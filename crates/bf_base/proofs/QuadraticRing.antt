@@ -47,6 +47,9 @@ pair_xor width low high low' high' fits fits' = sym (xor_block width high high' 
 
 -- ---- the product
 
+-- what brings the terms of two sums into one order
+ruleset sums = (xor_assoc, xor_comm, xor_left_comm)
+
 module _ (width : ℕ) (times : ℕ → ℕ → ℕ) (ring : IsRing width 1 times) (t : ℕ) where
   -- the low half and the high half of the product of (a0, a1) and (b0, b1)
   abbrev pub low_product : ℕ → ℕ → ℕ → ℕ → ℕ
@@ -86,28 +89,13 @@ module _ (width : ℕ) (times : ℕ → ℕ → ℕ) (ring : IsRing width 1 time
       → low_product (low_product a0 a1 b0 b1) (high_product a0 a1 b0 b1) c0 c1
       ≡ low_product a0 a1 (low_product b0 b1 c0 c1) (high_product b0 b1 c0 c1)
   low_assoc a0 a1 b0 b1 c0 c1 =
-      simp (
-        sum_times width 1 times ring,
-        ring.over_sum,
-        ring.assoc,
-        times_left_comm width 1 times ring,
-        xor_assoc,
-        xor_left_comm,
-      )
+      simp (sum_times width 1 times ring, ring.over_sum, ring.assoc, times_left_comm width 1 times ring, sums)
 
   high_assoc : (a0 a1 b0 b1 c0 c1 : ℕ)
       → high_product (low_product a0 a1 b0 b1) (high_product a0 a1 b0 b1) c0 c1
       ≡ high_product a0 a1 (low_product b0 b1 c0 c1) (high_product b0 b1 c0 c1)
   high_assoc a0 a1 b0 b1 c0 c1 =
-      simp (
-        sum_times width 1 times ring,
-        ring.over_sum,
-        ring.assoc,
-        times_left_comm width 1 times ring,
-        xor_assoc,
-        xor_comm,
-        xor_left_comm,
-      )
+      simp (sum_times width 1 times ring, ring.over_sum, ring.assoc, times_left_comm width 1 times ring, sums)
 
   -- ---- the laws
 

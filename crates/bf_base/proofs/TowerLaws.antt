@@ -1,9 +1,8 @@
 -- The tower's laws in the form in which the levels' types cite them.
-use Rattle.std.proofs.Common.{◌≡◌, ℕ, ◌+◌, ◌*◌, ◌%◌, ◌^◌, ◌<◌, refl, sym, ◌∙◌, ap, ap₂}
+use Rattle.std.proofs.Common.{◌≡◌, ℕ, ◌+◌, ◌*◌, ◌%◌, ◌^◌, ◌<◌, sym, ◌∙◌, ap, ap₂}
 use native.Mathlib.Nat.{mul-one}
 use Rattle.bf_base.specs.Powers.{repeated_square}
 use Rattle.bf_base.specs.Tower.{tower_mul}
-use Rattle.bf_base.specs.TowerBasis.{IsBasisOf}
 use Rattle.bf_base.specs.TowerField.{TowerIsField}
 use Rattle.bf_base.proofs.PowerLemmas.{repeated_square-add, repeated_square-none, repeated_square_more}
 use Rattle.bf_base.proofs.TowerFrobenius.{tower_repeated_square-mod_bits}
