@@ -1,11 +1,8 @@
+mod answers;
 mod debug;
 mod evaluate;
 mod fields;
 mod generators;
-mod polynomial_128;
-mod polynomial_64;
-mod roots_of_levels;
-mod tower_high;
-mod tower_low;
-mod tower_middle;
+mod polynomials;
+mod tower;
 mod two_routes;

@@ -34,8 +34,10 @@ pub(crate) fn t128(repr: u128) -> BinaryField128 {
     BinaryField128::from_repr(repr)
 }
 
-/// Whether the operators at two elements, of which the second is not 0, give this sum and this product.
-pub(crate) fn operators_give<F: Field>(x: F, y: F, sum: F, product: F) -> bool {
+/// Whether the row has two elements, of which the second is not 0, and what the operators, the sum and the product of the
+/// two give.
+pub(crate) fn operators_give<F: Field>(row: [F; 4]) -> bool {
+    let [x, y, sum, product] = row;
     if y.is_zero() {
         return false;
     }
@@ -55,9 +57,10 @@ pub(crate) fn operators_give<F: Field>(x: F, y: F, sum: F, product: F) -> bool {
         && x * y == product
         && product / y == x
         && product * y.inverse() == x
+        && pair_gives([x, y], sum, product)
 }
 
-/// Whether the calls of a field are right at 0 and 1.
+/// Whether the calls of a field are right at 0 and 1, and those of no elements.
 pub(crate) fn corners_hold<F: Field>() -> bool {
     F::ZERO.try_inverse().is_none()
         && F::ONE.try_inverse() == Some(F::ONE)
@@ -67,10 +70,11 @@ pub(crate) fn corners_hold<F: Field>() -> bool {
         && F::default() == F::ZERO
         && F::from(Gf2::ONE) == F::ONE
         && F::bits() == F::order()
+        && nothing_is_neutral::<F>()
 }
 
 /// Whether the sum and the product of no elements are 0 and 1, and the sum of no products is 0.
-pub(crate) fn nothing_is_neutral<F: Field>() -> bool {
+fn nothing_is_neutral<F: Field>() -> bool {
     let none: [F; 0] = [];
     none.iter().copied().sum::<F>() == F::ZERO
         && none.iter().copied().product::<F>() == F::ONE
@@ -89,4 +93,25 @@ pub(crate) fn root_is<F: Field>(element: F, root: F) -> bool {
         && element.try_sqrt() == Some(root)
         && element.exp_power_of_2(usize::MAX) == root
         && element.exp_power_of_2(F::bits()) == element
+}
+
+/// Whether quotients by `element`, which is not 0, its inverse and its square root are right.
+pub(crate) fn inverse_and_root_hold<F: TowerLevel>(element: F) -> bool {
+    let bits = F::bits();
+    if element.is_zero() || bits == 0 {
+        return false;
+    }
+    let root = F::ONE.mul_alpha();
+    let mut quotient = root / element;
+    let is_quotient = quotient * element == root;
+    quotient /= element;
+    is_quotient
+        && quotient * element.square() == root
+        && element * element.inverse() == F::ONE
+        && root_is(element, element.exp_power_of_2(bits - 1))
+}
+
+/// Whether the square of `element`, and its product by itself, is this.
+pub(crate) fn square_is<F: Field>(element: F, square: F) -> bool {
+    element.square() == square && element * element == square
 }
