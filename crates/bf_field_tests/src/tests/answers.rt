@@ -3,6 +3,7 @@ use super::fields::{corners_hold, operators_give, root_is, square_is};
 use bf_base::traits::{DotProduct, Field, TowerLevel};
 
 /// Values of one field. Where a row has operands, the results stand last.
+#[derive(Clone, Copy)]
 pub(crate) struct Answers<F> {
     /// Two elements, of which the second is not 0, their sum and their product.
     pub(crate) operators: [[F; 4]; 2],

@@ -20,10 +20,6 @@ fn returns<'a, E: Copy + Serialize + Deserialize<'a>>(alloc: Global, text: &'a s
     }
 }
 
-fn is_refused<'a, E: Copy + Deserialize<'a>>(alloc: Global, text: &'a str) -> bool {
-    serde_json::from_str::<E>(alloc, text).is_err()
-}
-
 // Whether the refusal says that the value is out of range.
 fn says_out_of_range(alloc: Global, error: &Error) -> bool {
     match format!(in alloc; "{error}") {
@@ -82,77 +78,65 @@ fn are_out_of_range<'a, E: Copy + Deserialize<'a> + DeserializeOwned>(
     true
 }
 
-#[test]
-fn levels_as_numbers(rt: HostRuntime) {
-    let alloc = rt.alloc();
-    assert!(rt;
-        returns::<Gf2>(alloc, "0")
-            && returns::<Gf2>(alloc, "1")
-            && returns::<BinaryField2>(alloc, "3")
-            && returns::<BinaryField4>(alloc, "15")
-            && returns::<BinaryField8>(alloc, "255")
-            && returns::<BinaryField16>(alloc, "65535")
-    );
-    assert!(rt;
-        returns::<BinaryField32>(alloc, "4294967295")
-            && returns::<BinaryField64>(alloc, "18446744073709551615")
-            && returns::<BinaryField128>(alloc, "18446744073709551615")
-    );
-}
-
-#[test]
-fn polynomial_bases_as_numbers(rt: HostRuntime) {
-    let alloc = rt.alloc();
-    assert!(rt;
-        returns::<Rijndael8b>(alloc, "254")
-            && returns::<Poly64>(alloc, "18446744073709551614")
-            && returns::<Ghash128>(alloc, "18446744073709551614")
-            && returns::<Poly192>(alloc, "[1,0,18446744073709551615]")
-            && returns::<LinearizedPoly8b>(alloc, "[0,1,2,3,4,5,128,255]")
-    );
+// Whether the numbers of the field are read and written again, and those past it are refused as out of range.
+fn ends_between<'a, E: Copy + Serialize + Deserialize<'a> + DeserializeOwned>(
+    alloc: Global,
+    of_field: &'a str,
+    past_field: &'a str,
+) -> bool {
+    all_return::<E>(alloc, of_field) && are_out_of_range::<E>(alloc, past_field)
 }
 
 // Each number of a byte, at the fields that a byte stores with bits to spare.
 #[test]
-fn numbers_of_the_field(rt: HostRuntime) -> Result<(), AllocError> {
+fn numbers_of_a_byte(rt: HostRuntime) -> Result<(), AllocError> {
     let alloc = rt.alloc();
     let of_1_bit = numbers_between(alloc, 0, 1)?;
+    let past_1_bit = numbers_between(alloc, 2, 255)?;
     let of_2_bits = numbers_between(alloc, 0, 3)?;
+    let past_2_bits = numbers_between(alloc, 4, 255)?;
     let of_4_bits = numbers_between(alloc, 0, 15)?;
+    let past_4_bits = numbers_between(alloc, 16, 255)?;
     assert!(rt; of_1_bit.as_str() == "0 1 " && of_2_bits.as_str() == "0 1 2 3 ");
     assert!(rt;
-        all_return::<Gf2>(alloc, of_1_bit.as_str())
-            && all_return::<BinaryField2>(alloc, of_2_bits.as_str())
-            && all_return::<BinaryField4>(alloc, of_4_bits.as_str())
+        ends_between::<Gf2>(alloc, of_1_bit.as_str(), past_1_bit.as_str())
+            && ends_between::<BinaryField2>(alloc, of_2_bits.as_str(), past_2_bits.as_str())
+            && ends_between::<BinaryField4>(alloc, of_4_bits.as_str(), past_4_bits.as_str())
     );
     Ok(())
 }
 
-#[test]
-fn numbers_past_the_field(rt: HostRuntime) -> Result<(), AllocError> {
-    let alloc = rt.alloc();
-    let past_1_bit = numbers_between(alloc, 2, 255)?;
-    let past_2_bits = numbers_between(alloc, 4, 255)?;
-    let past_4_bits = numbers_between(alloc, 16, 255)?;
-    assert!(rt;
-        are_out_of_range::<Gf2>(alloc, past_1_bit.as_str())
-            && are_out_of_range::<BinaryField2>(alloc, past_2_bits.as_str())
-            && are_out_of_range::<BinaryField4>(alloc, past_4_bits.as_str())
-    );
-    Ok(())
+// Whether each of the first texts is read and written again, and each of the second is refused.
+fn takes<'a, E: Copy + Serialize + Deserialize<'a>>(
+    alloc: Global,
+    taken: &'a str,
+    refused: &'a str,
+) -> bool {
+    for text in refused.split_whitespace() {
+        if serde_json::from_str::<E>(alloc, text).is_ok() {
+            return false;
+        }
+    }
+    all_return::<E>(alloc, taken)
 }
 
+// The greatest numbers and some others, and numbers past the word, below 0 and of too many and too few coefficients.
 #[test]
-fn numbers_past_the_word(rt: HostRuntime) {
+fn numbers_at_both_ends(rt: HostRuntime) {
     let alloc = rt.alloc();
     assert!(rt;
-        is_refused::<Gf2>(alloc, "256")
-            && is_refused::<Gf2>(alloc, "-1")
-            && is_refused::<BinaryField8>(alloc, "256")
-            && is_refused::<BinaryField64>(alloc, "18446744073709551616")
-            && is_refused::<Poly192>(alloc, "[1,2]")
-            && is_refused::<Poly192>(alloc, "[1,2,3,4]")
-            && is_refused::<Poly192>(alloc, "1")
-            && is_refused::<LinearizedPoly8b>(alloc, "[0,1,2,3,4,5,6,256]")
+        takes::<Gf2>(alloc, "0 1", "256 -1")
+            && returns::<BinaryField2>(alloc, "3")
+            && returns::<BinaryField4>(alloc, "15")
+            && takes::<BinaryField8>(alloc, "255", "256")
+            && returns::<BinaryField16>(alloc, "65535")
+            && returns::<BinaryField32>(alloc, "4294967295")
+            && takes::<BinaryField64>(alloc, "18446744073709551615", "18446744073709551616")
+            && returns::<BinaryField128>(alloc, "18446744073709551615")
+            && returns::<Rijndael8b>(alloc, "254")
+            && returns::<Poly64>(alloc, "18446744073709551614")
+            && returns::<Ghash128>(alloc, "18446744073709551614")
+            && takes::<Poly192>(alloc, "[1,0,18446744073709551615]", "[1,2] [1,2,3,4] 1")
+            && takes::<LinearizedPoly8b>(alloc, "[0,1,2,3,4,5,128,255]", "[0,1,2,3,4,5,6,256]")
     );
 }
