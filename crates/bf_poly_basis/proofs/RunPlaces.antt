@@ -1,5 +1,5 @@
 -- Places of a run of sixteen, in pairs that differ in one bit.
-use Rattle.std.proofs.Common.{◌≡◌, ◌≢◌, ℕ, zero, suc, ◌+◌, ◌-◌, ◌*◌, ◌/◌, ◌%◌, ◌^◌, ◌<◌, arith}
+use Rattle.std.proofs.Common.{◌≡◌, ◌≢◌, ℕ, zero, suc, ◌+◌, ◌-◌, ◌*◌, ◌/◌, ◌%◌, ◌^◌, ◌<◌, arith, rules}
 use Rattle.std.specs.Int.{bit_at}
 use Rattle.bf_stages.specs.Stages.{lower_place, upper_place}
 
@@ -28,62 +28,10 @@ pub record PairPlaces (j n : ℕ) : Type 0 where
 
 pub pair_places : (j n : ℕ) → j < 4 → n < 8 → PairPlaces j n
 unfolding lower_place
-pair_places zero n few small =
-    record {
-      upper_fits = omega arith;
-      lower_lower = omega arith;
-      upper_lower = omega arith;
-      lower_block = omega arith;
-      upper_block = omega arith;
-      block_fits = omega arith;
-      lower_bit = omega arith;
-      upper_bit = omega arith;
-      lower_pair = omega arith;
-      upper_pair = omega arith;
-      others = λ q lower upper. omega arith;
-    }
-pair_places (suc zero) n few small =
-    record {
-      upper_fits = omega arith;
-      lower_lower = omega arith;
-      upper_lower = omega arith;
-      lower_block = omega arith;
-      upper_block = omega arith;
-      block_fits = omega arith;
-      lower_bit = omega arith;
-      upper_bit = omega arith;
-      lower_pair = omega arith;
-      upper_pair = omega arith;
-      others = λ q lower upper. omega arith;
-    }
-pair_places (suc (suc zero)) n few small =
-    record {
-      upper_fits = omega arith;
-      lower_lower = omega arith;
-      upper_lower = omega arith;
-      lower_block = omega arith;
-      upper_block = omega arith;
-      block_fits = omega arith;
-      lower_bit = omega arith;
-      upper_bit = omega arith;
-      lower_pair = omega arith;
-      upper_pair = omega arith;
-      others = λ q lower upper. omega arith;
-    }
-pair_places (suc (suc (suc zero))) n few small =
-    record {
-      upper_fits = omega arith;
-      lower_lower = omega arith;
-      upper_lower = omega arith;
-      lower_block = omega arith;
-      upper_block = omega arith;
-      block_fits = omega arith;
-      lower_bit = omega arith;
-      upper_bit = omega arith;
-      lower_pair = omega arith;
-      upper_pair = omega arith;
-      others = λ q lower upper. omega arith;
-    }
+pair_places zero n few small = search (arith, rules)
+pair_places (suc zero) n few small = search (arith, rules)
+pair_places (suc (suc zero)) n few small = search (arith, rules)
+pair_places (suc (suc (suc zero))) n few small = search (arith, rules)
 pair_places (suc (suc (suc (suc j)))) n few small = absurd (omega (arith, few))
 
 -- ---- places of a run
@@ -99,44 +47,8 @@ pub record RunPlaces (j q : ℕ) : Type 0 where
 
 pub run_places : (j q : ℕ) → j < 4 → q < 16 → RunPlaces j q
 unfolding lower_place upper_place
-run_places zero q few small =
-    record {
-      pair_fits = omega arith;
-      lower_fits = omega arith;
-      upper_fits = omega arith;
-      block_fits = omega arith;
-      block_below_8 = omega arith;
-      in_transform = λ run. omega arith;
-      bit_in_transform = λ run. omega arith;
-    }
-run_places (suc zero) q few small =
-    record {
-      pair_fits = omega arith;
-      lower_fits = omega arith;
-      upper_fits = omega arith;
-      block_fits = omega arith;
-      block_below_8 = omega arith;
-      in_transform = λ run. omega arith;
-      bit_in_transform = λ run. omega arith;
-    }
-run_places (suc (suc zero)) q few small =
-    record {
-      pair_fits = omega arith;
-      lower_fits = omega arith;
-      upper_fits = omega arith;
-      block_fits = omega arith;
-      block_below_8 = omega arith;
-      in_transform = λ run. omega arith;
-      bit_in_transform = λ run. omega arith;
-    }
-run_places (suc (suc (suc zero))) q few small =
-    record {
-      pair_fits = omega arith;
-      lower_fits = omega arith;
-      upper_fits = omega arith;
-      block_fits = omega arith;
-      block_below_8 = omega arith;
-      in_transform = λ run. omega arith;
-      bit_in_transform = λ run. omega arith;
-    }
+run_places zero q few small = search (arith, rules)
+run_places (suc zero) q few small = search (arith, rules)
+run_places (suc (suc zero)) q few small = search (arith, rules)
+run_places (suc (suc (suc zero))) q few small = search (arith, rules)
 run_places (suc (suc (suc (suc j)))) q few small = absurd (omega (arith, few))
