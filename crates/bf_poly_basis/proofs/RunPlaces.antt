@@ -1,5 +1,5 @@
 -- Places of a run of sixteen, in pairs that differ in one bit.
-use Rattle.std.proofs.Common.{◌≡◌, ◌≢◌, ℕ, zero, suc, ◌+◌, ◌-◌, ◌*◌, ◌/◌, ◌%◌, ◌^◌, ◌<◌, arith, rules}
+use Rattle.std.proofs.Common.{◌≡◌, ◌≢◌, ℕ, zero, suc, ◌+◌, ◌-◌, ◌*◌, ◌/◌, ◌%◌, ◌^◌, ◌<◌, ◌≤◌, ◌∙◌, ap, arith, rules}
 use Rattle.std.specs.Int.{bit_at}
 use Rattle.bf_stages.specs.Stages.{lower_place, upper_place}
 
@@ -33,6 +33,14 @@ pair_places (suc zero) n few small = search (arith, rules)
 pair_places (suc (suc zero)) n few small = search (arith, rules)
 pair_places (suc (suc (suc zero))) n few small = search (arith, rules)
 pair_places (suc (suc (suc (suc j)))) n few small = absurd (omega (arith, few))
+
+-- the upper place of a pair of the run that begins at `start` is inside of the values
+pub upper_inside : {pair lower half count now : ℕ} (j start : ℕ) → j < 4 → pair < 8 → start + 16 ≤ count
+    → lower ≡ 2 * pair - pair % half → half ≡ 2 ^ j → now ≡ count → start + lower + half < now
+upper_inside {pair} {lower} {half} j start few small whole is half_is same =
+    let room = (pair_places j pair few small).upper_fits in
+    let at = is ∙ ap (λ (h : ℕ). 2 * pair - pair % h) half_is in
+    omega (arith, room, whole, at, half_is, same)
 
 -- ---- places of a run
 

@@ -2,29 +2,20 @@ use Rattle.std.proofs.Common.{ℕ, ◌+◌, ◌-◌, ◌*◌, ◌/◌, ◌%◌, 
 use Rattle.std.specs.Prelude.{bit_xor, slice_index}
 use Rattle.std.proofs.Math.Seq.{lt-length-set}
 use Rattle.bf_poly_basis.specs.LowStages.{ghash_product}
-use Rattle.bf_poly_basis.proofs.RunPlaces.{pair_places}
+use Rattle.bf_poly_basis.proofs.RunPlaces.{upper_inside}
 use Rattle.bf_poly_basis.proofs.RunStages.{stage_ends, stage_starts, stage_step}
 use Rattle.bf_poly_basis.proofs.low_stages.run_stage.Goals as goal
 
 pub bounds-values-upper : goal.bounds-values-upper
 bounds-values-upper c =
-    let small : c.loop-pair.pair < 8 = omega arith in
-    let room = (pair_places c.args.bit c.loop-pair.pair c.requires.bit small).upper_fits in
-    let whole = c.requires.whole in
-    let lower = c.lower_of.ensures ∙ ap (λ (h : ℕ). 2 * c.loop-pair.pair - c.loop-pair.pair % h) c.half_of-half.ensures in
-    let same = c.loop-pair.invariant.1.same_length in
-    let half = c.half_of-half.ensures in
-    omega (arith, room, whole, lower, same, half)
+    upper_inside c.args.bit c.args.start c.requires.bit (omega arith) c.requires.whole c.lower_of.ensures c.half_of-half.ensures
+    c.loop-pair.invariant.1.same_length
 
 pub bounds-values-upper-in-loop-pair : goal.bounds-values-upper-in-loop-pair
 bounds-values-upper-in-loop-pair c =
-    let small : c.loop-pair.pair < 8 = omega arith in
-    let room = (pair_places c.args.bit c.loop-pair.pair c.requires.bit small).upper_fits in
-    let whole = c.requires.whole in
-    let lower = c.lower_of.ensures ∙ ap (λ (h : ℕ). 2 * c.loop-pair.pair - c.loop-pair.pair % h) c.half_of-half.ensures in
-    let same = c.loop-pair.invariant.1.same_length in
-    let half = c.half_of-half.ensures in
-    lt-length-set c.loop-pair.values (c.args.start + c.lower_of.result) _ (omega (arith, room, whole, lower, same, half))
+    lt-length-set c.loop-pair.values (c.args.start + c.lower_of.result) _
+    (upper_inside c.args.bit c.args.start c.requires.bit (omega arith) c.requires.whole c.lower_of.ensures c.half_of-half.ensures
+    c.loop-pair.invariant.1.same_length)
 
 pub loop-pair-init : goal.loop-pair-init
 loop-pair-init c = (
