@@ -124,60 +124,46 @@ fn samples(challenger: &mut OverDouble<'_>, wanted: u16) -> bool {
     !challenger.failed() && sampled == Ok(BinaryField16::from_repr(wanted))
 }
 
-// No byte call reaches the challenger, and none of it is refused later.
-fn refused_copy() -> bool {
+// Whether a search whose copy is refused, or refuses a byte call, ends without memory after so many byte calls of the copy. None
+// of them reaches the challenger, so that its own two are granted later.
+fn search_is_refused(copies: Copies, observed: u32, sampled: u32) -> bool {
     let seen = Cell::new(Seen::default());
-    let mut challenger: OverDouble<'_> = BinaryChallenger::new(Double::new(
-        &seen,
-        7,
-        2,
-        Copies::Refused,
-    ));
-    challenger.grind(8) == Err(GrindError::Memory)
-        && seen.get() == Seen::new(0, 0, 0)
-        && samples(&mut challenger, 0x0707)
-}
-
-fn refusing_copy(calls_left: u32, observed: u32, sampled: u32) -> bool {
-    let seen = Cell::new(Seen::default());
-    let mut challenger: OverDouble<'_> = BinaryChallenger::new(Double::new(
-        &seen,
-        7,
-        2,
-        Copies::RefusingAfter(calls_left),
-    ));
+    let double = Double::new(&seen, 7, 2, copies);
+    let mut challenger: OverDouble<'_> = BinaryChallenger::new(double);
     challenger.grind(8) == Err(GrindError::Memory)
         && seen.get() == Seen::new(observed, sampled, 0)
         && samples(&mut challenger, 0x0707)
 }
 
+// Whether a search over a double that refuses nothing has this answer after these byte calls, and the challenger then samples
+// `next`.
+fn search_gives(
+    byte: u8,
+    answer: Result<BinaryField16, GrindError>,
+    calls: Seen,
+    next: u16,
+) -> bool {
+    let seen = Cell::new(Seen::default());
+    let mut challenger: OverDouble<'_> = BinaryChallenger::new(Double::constant(&seen, byte));
+    challenger.grind(8) == answer && seen.get() == calls && samples(&mut challenger, next)
+}
+
 // All 65,536 elements are tried, each by two bytes and eight samples; the last four are 0xfffc to 0xffff.
 fn no_witness() -> bool {
-    let seen = Cell::new(Seen::default());
-    let mut challenger: OverDouble<'_> = BinaryChallenger::new(Double::constant(&seen, 255));
-    challenger.grind(8) == Err(GrindError::NoWitness)
-        && seen.get() == Seen::new(131_072, 524_288, 0xfcff_fdff_feff_ffff)
-        && samples(&mut challenger, 0xffff)
+    let calls = Seen::new(131_072, 524_288, 0xfcff_fdff_feff_ffff);
+    search_gives(255, Err(GrindError::NoWitness), calls, 0xffff)
 }
 
 // The first candidate passes, and no other is tried.
 fn first_candidate() -> bool {
-    let seen = Cell::new(Seen::default());
-    let mut challenger: OverDouble<'_> = BinaryChallenger::new(Double::constant(&seen, 0));
-    challenger.grind(8) == Ok(BinaryField16::ZERO)
-        && seen.get() == Seen::new(2, 8, 0)
-        && samples(&mut challenger, 0)
+    search_gives(0, Ok(BinaryField16::ZERO), Seen::new(2, 8, 0), 0)
 }
 
 // For no bits nothing is asked of the challenger, not a copy either.
 fn no_bits() -> bool {
     let seen = Cell::new(Seen::default());
-    let mut challenger: OverDouble<'_> = BinaryChallenger::new(Double::new(
-        &seen,
-        255,
-        0,
-        Copies::Refused,
-    ));
+    let double = Double::new(&seen, 255, 0, Copies::Refused);
+    let mut challenger: OverDouble<'_> = BinaryChallenger::new(double);
     challenger.grind(0) == Ok(BinaryField16::ZERO)
         && seen.get() == Seen::new(0, 0, 0)
         && !challenger.failed()
@@ -186,10 +172,10 @@ fn no_bits() -> bool {
 #[test]
 fn searches_over_doubles(rt: HostRuntime) {
     assert!(rt;
-        refused_copy()
-            && refusing_copy(0, 0, 0)
-            && refusing_copy(1, 1, 0)
-            && refusing_copy(9, 2, 7)
+        search_is_refused(Copies::Refused, 0, 0)
+            && search_is_refused(Copies::RefusingAfter(0), 0, 0)
+            && search_is_refused(Copies::RefusingAfter(1), 1, 0)
+            && search_is_refused(Copies::RefusingAfter(9), 2, 7)
             && no_witness()
             && first_candidate()
             && no_bits()

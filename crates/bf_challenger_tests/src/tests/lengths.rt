@@ -11,10 +11,8 @@ use std::test::Fail;
 // Byte k of the bytes of length n is 7 k + n modulo 256.
 fn some_bytes(alloc: Global, len: usize) -> Result<Vec<u8>, AllocError> {
     let mut bytes = Vec::with_capacity(alloc, len)?;
-    let mut byte = (len % 256) as u8;
-    for _ in 0..len {
-        bytes.push(byte)?;
-        byte = byte.wrapping_add(7);
+    for place in 0..len {
+        bytes.push((place.wrapping_mul(7).wrapping_add(len) % 256) as u8)?;
     }
     Ok(bytes)
 }

@@ -1,55 +1,19 @@
 // Seeds as elements, elements as bytes, and tags. Expected values follow from the representations that stand beside them.
+use bf_base::Unsigned;
 use bf_base::traits::TowerLevel;
 use bf_element::{BinaryField8, BinaryField16, BinaryField128, Poly64};
 use bf_transcript::{Recorder, TranscriptError, TranscriptField, TypeTag};
 use std::alloc::{AllocError, Global};
 use std::test::Fail;
 
-fn seed_8_is(alloc: Global, seed: &[u8], wanted: &[u8]) -> bool {
-    let mut recorder = Recorder::new(alloc);
-    if BinaryField8::observe_seed(&mut recorder, seed).is_err() {
-        return false;
-    }
-    let items: &[BinaryField8] = recorder.items();
-    if items.len() != wanted.len() {
+// Whether the elements that are observed of the seed have these representations, in order.
+fn seed_is<F: TranscriptField>(alloc: Global, seed: &[u8], wanted: &[u128]) -> bool {
+    let mut recorder: Recorder<F> = Recorder::new(alloc);
+    if F::observe_seed(&mut recorder, seed).is_err() || recorder.items().len() != wanted.len() {
         return false;
     }
     for place in 0..wanted.len() {
-        if items[place].to_repr() != wanted[place] {
-            return false;
-        }
-    }
-    true
-}
-
-fn seed_16_is(alloc: Global, seed: &[u8], wanted: &[u16]) -> bool {
-    let mut recorder = Recorder::new(alloc);
-    if BinaryField16::observe_seed(&mut recorder, seed).is_err() {
-        return false;
-    }
-    let items: &[BinaryField16] = recorder.items();
-    if items.len() != wanted.len() {
-        return false;
-    }
-    for place in 0..wanted.len() {
-        if items[place].to_repr() != wanted[place] {
-            return false;
-        }
-    }
-    true
-}
-
-fn seed_128_is(alloc: Global, seed: &[u8], wanted: &[u128]) -> bool {
-    let mut recorder = Recorder::new(alloc);
-    if BinaryField128::observe_seed(&mut recorder, seed).is_err() {
-        return false;
-    }
-    let items: &[BinaryField128] = recorder.items();
-    if items.len() != wanted.len() {
-        return false;
-    }
-    for place in 0..wanted.len() {
-        if items[place].to_repr() != wanted[place] {
+        if recorder.items()[place].to_repr().to_u128() != wanted[place] {
             return false;
         }
     }
@@ -63,11 +27,11 @@ static TWENTY: [u8; 20] = [
 #[test]
 fn seeds_as_elements(rt: HostRuntime) {
     assert!(rt;
-        seed_8_is(rt.alloc(), &[1, 2, 3], &[3, 0, 0, 0, 0, 0, 0, 0, 1, 2, 3])
-            && seed_8_is(rt.alloc(), &[], &[0, 0, 0, 0, 0, 0, 0, 0])
-            && seed_16_is(rt.alloc(), &[1], &[1, 0, 0, 0, 1])
-            && seed_16_is(rt.alloc(), &[1, 0], &[2, 0, 0, 0, 1])
-            && seed_128_is(
+        seed_is::<BinaryField8>(rt.alloc(), &[1, 2, 3], &[3, 0, 0, 0, 0, 0, 0, 0, 1, 2, 3])
+            && seed_is::<BinaryField8>(rt.alloc(), &[], &[0, 0, 0, 0, 0, 0, 0, 0])
+            && seed_is::<BinaryField16>(rt.alloc(), &[1], &[1, 0, 0, 0, 1])
+            && seed_is::<BinaryField16>(rt.alloc(), &[1, 0], &[2, 0, 0, 0, 1])
+            && seed_is::<BinaryField128>(
                 rt.alloc(),
                 &TWENTY,
                 &[20, 0x0f0e_0d0c_0b0a_0908_0706_0504_0302_0100, 0x1312_1110]
