@@ -20,12 +20,24 @@ use Rattle.bf_transcript.specs.BigEndian.{be_bytes}
 place : (i : ℕ) → 2 ^ (8 * (i + 1)) ≡ 256 * 2 ^ (8 * i)
 place i = ap (λ (k : ℕ). 2 ^ k) (omega arith) ∙ pow-add 2 8 (8 * i)
 
-pub byte_more-lt : (i number b : ℕ) → number < 2 ^ (8 * i) → b < 256 → number * 256 + b < 2 ^ (8 * (i + 1))
+byte_more-lt : (i number b : ℕ) → number < 2 ^ (8 * i) → b < 256 → number * 256 + b < 2 ^ (8 * (i + 1))
 byte_more-lt i number b below fits = let is = place i in omega (arith, is, below, fits)
 
-pub byte_more-fits : (i number b : ℕ) → i < 16 → number < 2 ^ (8 * i) → b < 256 → number * 256 + b < 2 ^ 128
+byte_more-fits : (i number b : ℕ) → i < 16 → number < 2 ^ (8 * i) → b < 256 → number * 256 + b < 2 ^ 128
 byte_more-fits i number b few below fits =
     lt_of_lt_of_le (byte_more-lt i number b below fits) (pow_mono {j = 128} (omega (arith, few)))
+
+-- so that a word of 128 bits has room for 16 bytes, of which `before` are there and `byte` is the next
+module _ {i number before : ℕ} (few : i < 16) (below : number < 2 ^ (8 * i)) (is : number ≡ before) where
+  pub room_for : {b : ℕ} → b < 256 → number * 256 + b < 2 ^ 128
+  room_for {b} fits = byte_more-fits i number b few below fits
+
+  -- the number with the byte
+  pub grown : {b after now : ℕ} → b < 256 → after ≡ before * 256 + b → now ≡ number * 256 + b → (now < 2 ^ (8 * (i + 1))) × (now ≡ after)
+  grown {b} fits next sum = (
+    subst (λ (x : ℕ). x < 2 ^ (8 * (i + 1))) (sym sum) (byte_more-lt i number b below fits),
+    sum ∙ ap (λ (n : ℕ). n * 256 + b) is ∙ sym next,
+  )
 
 pub number_of_none : number_of_bytes [] ≡ 0
 unfolding number_of_bytes
@@ -164,6 +176,12 @@ pub number_held : (number width bits : ℕ) → width ≤ bits → number % 2 ^ 
 number_held number width bits room =
     let split : bits - width + width ≡ bits = omega (arith, room) in
     sym (ap (λ (k : ℕ). number % 2 ^ k % 2 ^ width) split) ∙ mod-mod-pow number (bits - width) width
+
+-- so is the number of an element, which a word holds
+pub held : {repr word number value : ℕ} (width bits : ℕ) → width ≤ bits → repr ≡ word % 2 ^ width → word ≡ number % 2 ^ bits
+    → number ≡ value → repr ≡ value % 2 ^ width
+held {value = value} width bits room is_repr is_word is =
+    is_repr ∙ ap (λ (n : ℕ). n % 2 ^ width) (is_word ∙ ap (λ (n : ℕ). n % 2 ^ bits) is) ∙ number_held value width bits room
 
 -- ---- the highest byte first
 

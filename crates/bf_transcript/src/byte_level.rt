@@ -1,5 +1,5 @@
 // Fields whose elements are written in at most 16 bytes.
-ghost use Rattle.std.specs.Prelude.{◌≡◌, ◌≤◌, ◌*◌, ◌%◌, ◌^◌, length, reverse, take, drop, ◌-◌};
+ghost use Rattle.std.specs.Prelude.{◌≡◌, ◌<◌, ◌≤◌, ◌+◌, ◌*◌, ◌%◌, ◌^◌, length, reverse, take, drop, ◌-◌};
 ghost use Rattle.std.proofs.Common.{lit≤};
 ghost use Rattle.bf_bytes.specs.Bytes.{low_bytes, number_of_bytes};
 ghost use Rattle.bf_transcript.specs.BigEndian.{be_bytes};
@@ -12,6 +12,15 @@ use bf_element::{Element, HasPacking};
 /// The most bytes that an element of a `ByteLevel` has.
 pub(crate) const MOST_BYTES: usize = 16;
 
+// The number with another byte, which becomes its lowest.
+#[inline]
+fn with_byte(number: u128, byte: u8) -> u128
+    requires { number * 256 + byte < 2 ^ 128 }
+    ensures { result ≡ number * 256 + byte }
+{
+    number * 256 + u128::from(byte)
+}
+
 /// The number of at most 16 bytes, the lowest first.
 fn number_of_low_first(bytes: &[u8]) -> u128
     requires { length bytes.now ≤ 16 }
@@ -19,7 +28,7 @@ fn number_of_low_first(bytes: &[u8]) -> u128
 {
     let mut number: u128 = 0;
     for i in 0..bytes.len() {
-        number = number * 256 + u128::from(bytes[bytes.len() - 1 - i]);
+        number = with_byte(number, bytes[bytes.len() - 1 - i]);
     }
     number
 }
@@ -31,7 +40,7 @@ fn number_of_high_first(bytes: &[u8]) -> u128
 {
     let mut number: u128 = 0;
     for i in 0..bytes.len() {
-        number = number * 256 + u128::from(bytes[i]);
+        number = with_byte(number, bytes[i]);
     }
     number
 }

@@ -1,7 +1,7 @@
-use Rattle.std.proofs.Common.{◌≡◌, ◌-◌, ◌+◌, ◌*◌, ◌∙◌, ℕ, ap, arith, drop, length, sym, lit<}
+use Rattle.std.proofs.Common.{◌≡◌, ◌-◌, ◌∙◌, ℕ, ap, arith, drop, length, sym, lit<}
 use Rattle.std.proofs.lemmas.List.{drop_all}
 use Rattle.bf_bytes.specs.Bytes.{number_of_bytes}
-use Rattle.bf_transcript.proofs.LowBytes.{byte_more-fits, byte_more-lt, number_of_last, number_of_none}
+use Rattle.bf_transcript.proofs.LowBytes.{grown, number_of_last, number_of_none, room_for}
 use Rattle.bf_transcript.proofs.byte_level.number_of_low_first.Goals as goal
 
 pub loop-i-init : goal.loop-i-init
@@ -10,27 +10,17 @@ loop-i-init c = record {
   is = sym (ap number_of_bytes (drop_all (length c.args.bytes.now - 0) c.args.bytes.now (omega arith)) ∙ number_of_none);
 }
 
-pub overflow_mul-number : goal.overflow_mul-number
-overflow_mul-number c =
-    let fits = byte_more-fits c.loop-i.i c.loop-i.number 0 (omega (arith, c.requires, c.loop-i-test.true)) c.loop-i.invariant.below (lit< tt) in
-    omega (arith, fits)
-
-pub overflow_add-number : goal.overflow_add-number
-overflow_add-number c =
-    let fits =
-    byte_more-fits c.loop-i.i c.loop-i.number c.from.result (omega (arith, c.requires, c.loop-i-test.true)) c.loop-i.invariant.below
-    (omega (arith, c.from.ensures, c.type_inv.bytes (length c.args.bytes.now - 1 - c.loop-i.i))) in
-    omega (arith, fits)
+pub with_byte-number-requires : goal.with_byte-number-requires
+with_byte-number-requires c =
+    room_for (omega (arith, c.requires, c.loop-i-test.true)) c.loop-i.invariant.below c.loop-i.invariant.is
+    (omega (arith, c.type_inv.bytes (length c.args.bytes.now - 1 - c.loop-i.i)))
 
 pub loop-i-preserved : goal.loop-i-preserved
-loop-i-preserved c = record {
-  below = byte_more-lt c.loop-i.i c.loop-i.number c.from.result c.loop-i.invariant.below
-      (omega (arith, c.from.ensures, c.type_inv.bytes (length c.args.bytes.now - 1 - c.loop-i.i)));
-  is =
-      ap (λ (n : ℕ). n * 256 + c.from.result) c.loop-i.invariant.is
-      ∙ ap (λ (b : ℕ). number_of_bytes (drop (length c.args.bytes.now - c.loop-i.i) c.args.bytes.now) * 256 + b) c.from.ensures
-      ∙ sym (number_of_last c.args.bytes.now c.loop-i.i c.loop-i-test.true);
-}
+loop-i-preserved c =
+    let more =
+    grown (omega (arith, c.requires, c.loop-i-test.true)) c.loop-i.invariant.below c.loop-i.invariant.is
+    (omega (arith, c.type_inv.bytes (length c.args.bytes.now - 1 - c.loop-i.i))) (number_of_last c.args.bytes.now c.loop-i.i c.loop-i-test.true) c.with_byte-number.ensures in
+    record { below = more.0; is = more.1 }
 
 pub returns : goal.returns
 returns c =
