@@ -1,5 +1,4 @@
-use Rattle.std.proofs.Common.{◌<◌, subst, sym}
-use Rattle.std.specs.Iterator.{IsFinite, size}
+use Rattle.bf_bytes.proofs.Progress.{progress_on}
 use Rattle.bf_bytes.proofs.Rows.{row_begun, row_taken}
 use Rattle.bf_bytes.proofs.Streaming.{fewer_left}
 use Rattle.bf_bytes.proofs.parallel.ParallelByteStreamsIterator.next.Goals as goal
@@ -13,24 +12,13 @@ returns-in-Some-next-clause-steps g c =
 
 pub returns-in-Some-next-clause-goes : goal.returns-in-Some-next-clause-goes
 returns-in-Some-next-clause-goes g c =
-    let step = c.in-Some-next.ensures.goes in
-    let same = sym c.give-in-Some-next.ensures.source in
-    let can = subst g.I.Iterator.can_next same step.keeps in
-    let within = c.give-in-Some-next.ensures.within in
-    record {
-      on = λ finite.
-          let inner = step.on finite in (
-            (can, within),
-            subst (λ s. IsFinite (g.I.Iterator.remaining s)) same inner.1,
-            fewer_left g.E.RawDataSerializable.NUM_BYTES (λ row. 0) (size (g.I.Iterator.remaining c.args.self.now.elements))
-                (size (g.I.Iterator.remaining c.give-in-Some-next.new.self.elements)) c.args.self.now.given c.give-in-Some-next.new.self.given
-                c.args.self.now.pending c.give-in-Some-next.new.self.pending c.in-Some-next.row 0
-                (subst (λ s. size (g.I.Iterator.remaining s) < size (g.I.Iterator.remaining c.args.self.now.elements)) same inner.2) c.requires.1 c.in-None.is
-                c.give-in-Some-next.ensures.fewer,
-          );
-      keeps = (can, within);
-      rests = λ finite. tt;
-    }
+    progress_on c.in-Some-next.ensures.goes c.give-in-Some-next.ensures.source (λ can. (can, c.give-in-Some-next.ensures.within))
+    (λ finite. finite)
+    (λ finite less. (
+      finite,
+      fewer_left g.E.RawDataSerializable.NUM_BYTES (λ row. 0) _ _ _ _ _ _ c.in-Some-next.row 0 less c.requires.1 c.in-None.is
+          c.give-in-Some-next.ensures.fewer,
+    ))
 
 pub returns-in-Some-clause-steps : goal.returns-in-Some-clause-steps
 returns-in-Some-clause-steps g c =
