@@ -1,8 +1,9 @@
 // A byte challenger that is used no further once a call was refused.
-ghost use Rattle.std.specs.Prelude.{◌≡◌, ℕ, false, true, length, IfErr, IfOk, OnErr, OnOk};
+ghost use Rattle.std.specs.Prelude.{◌≡◌, ℕ, false, true, length, Err, IfErr, IfOk, Ok, OnErr, OnOk};
 ghost use Rattle.std.specs.Int.{from_le_bytes, w64};
 ghost use Rattle.bf_byte_challenger.specs.ByteCalls.{bytes_sampled, observing, sampling, state_after};
 ghost use Rattle.bf_byte_challenger.specs.GuardedAnswers.{GuardedAnswer};
+ghost use Rattle.bf_byte_challenger.specs.declared.error.ChallengerError.TheVariants.{Memory};
 
 use crate::byte_challenger::ByteChallenger;
 use crate::byte_runs::{observe_bytes, sample_bytes, sample_u64};
@@ -56,13 +57,7 @@ impl<C: ByteChallenger> Guarded<C> {
         if self.has_failed {
             return Err(ChallengerError::Failed);
         }
-        match observe_bytes(&mut self.inner, bytes) {
-            Ok(()) => Ok(()),
-            Err(_) => {
-                self.has_failed = true;
-                Err(ChallengerError::Memory)
-            }
-        }
+        remembered(observe_bytes(&mut self.inner, bytes), &mut self.has_failed)
     }
 
     /// Samples as many bytes as `bytes` has, in order, and writes them there. After a failure what `bytes` holds is left open.
@@ -74,13 +69,7 @@ impl<C: ByteChallenger> Guarded<C> {
         if self.has_failed {
             return Err(ChallengerError::Failed);
         }
-        match sample_bytes(&mut self.inner, bytes) {
-            Ok(()) => Ok(()),
-            Err(_) => {
-                self.has_failed = true;
-                Err(ChallengerError::Memory)
-            }
-        }
+        remembered(sample_bytes(&mut self.inner, bytes), &mut self.has_failed)
     }
 
     /// Samples eight bytes and reads them as a number, lowest byte first.
@@ -92,13 +81,7 @@ impl<C: ByteChallenger> Guarded<C> {
         if self.has_failed {
             return Err(ChallengerError::Failed);
         }
-        match sample_u64(&mut self.inner) {
-            Ok(word) => Ok(word),
-            Err(_) => {
-                self.has_failed = true;
-                Err(ChallengerError::Memory)
-            }
-        }
+        remembered(sample_u64(&mut self.inner), &mut self.has_failed)
     }
 
     /// A copy with the same state, which has failed exactly where this one has. It fails where memory was refused, and this one
@@ -111,5 +94,20 @@ impl<C: ByteChallenger> Guarded<C> {
             inner: self.inner.try_clone()?,
             has_failed: self.has_failed,
         })
+    }
+}
+
+// The answer of a call of the challenger below, where a refusal is one of memory and is remembered.
+#[inline]
+fn remembered<T>(answer: Result<T, AllocError>, has_failed: &mut bool) -> Result<T, ChallengerError>
+    ensures ok { IfOk answer (λ value. (result ≡ Ok value) × (has_failed.new ≡ has_failed.old)) }
+    ensures err { IfErr answer (λ _. (result ≡ Err Memory) × (has_failed.new ≡ true)) }
+{
+    match answer {
+        Ok(value) => Ok(value),
+        Err(_) => {
+            *has_failed = true;
+            Err(ChallengerError::Memory)
+        }
     }
 }
