@@ -86,47 +86,62 @@ pub trait Digest: Drop {
         ensures answer { GuardedAnswer false (failed_of guarded.new) (C.has_refused (inner_of guarded.new)) result };
 }
 
-impl<const N: usize> Digest for [u8; N] {
+/// A word of a digest: a byte, or a word of 64 bits, which is observed as eight bytes from the lowest.
+pub trait DigestWord: Copy {
+    // The bytes of words.
+    ghost bytes: { List Self → List ℕ };
+
+    /// Observes the bytes of the words, in a challenger that has not failed.
+    fn observe_words<C: ByteChallenger>(
+        words: &[Self],
+        guarded: &mut Guarded<C>,
+    ) -> Result<(), ChallengerError>
+        requires { failed_of guarded.old ≡ false }
+        ensures ok { OnOk result (C.state (inner_of guarded.new) ≡ state_after C.observed C.sampled (observing (bytes words.now)) (C.state (inner_of guarded.old))) }
+        ensures answer { GuardedAnswer false (failed_of guarded.new) (C.has_refused (inner_of guarded.new)) result };
+}
+
+impl DigestWord for u8 {
     ghost bytes = { λ words. words };
 
-    fn observe_in<C: ByteChallenger>(
-        &self,
+    fn observe_words<C: ByteChallenger>(
+        words: &[u8],
         guarded: &mut Guarded<C>,
     ) -> Result<(), ChallengerError> {
-        guarded.observe_bytes(self)
+        guarded.observe_bytes(words)
     }
 }
 
-impl<const N: usize> Digest for [u64; N] {
+impl DigestWord for u64 {
     ghost bytes = { λ words. flat_map (λ w. low_bytes 8 w) words };
 
-    fn observe_in<C: ByteChallenger>(
-        &self,
+    fn observe_words<C: ByteChallenger>(
+        words: &[u64],
         guarded: &mut Guarded<C>,
     ) -> Result<(), ChallengerError> {
-        observe_words(guarded, self)
+        observe_words(guarded, words)
     }
 }
 
-impl<G, const N: usize> Digest for Hash<G, u8, N> {
-    ghost bytes = { λ hash. words_of hash };
+impl<W: DigestWord, const N: usize> Digest for [W; N] {
+    ghost bytes = { λ words. W.bytes words };
 
     fn observe_in<C: ByteChallenger>(
         &self,
         guarded: &mut Guarded<C>,
     ) -> Result<(), ChallengerError> {
-        guarded.observe_bytes(&self.words)
+        W::observe_words(self, guarded)
     }
 }
 
-impl<G, const N: usize> Digest for Hash<G, u64, N> {
-    ghost bytes = { λ hash. flat_map (λ w. low_bytes 8 w) (words_of hash) };
+impl<G, W: DigestWord, const N: usize> Digest for Hash<G, W, N> {
+    ghost bytes = { λ hash. W.bytes (words_of hash) };
 
     fn observe_in<C: ByteChallenger>(
         &self,
         guarded: &mut Guarded<C>,
     ) -> Result<(), ChallengerError> {
-        observe_words(guarded, &self.words)
+        W::observe_words(&self.words, guarded)
     }
 }
 
@@ -145,39 +160,20 @@ fn observe_digests<D: Digest, C: ByteChallenger>(
     Ok(())
 }
 
-impl<G, const N: usize, F: ByteLevel, Inner: ByteChallenger> CanObserve<Hash<G, u8, N>>
-    for BinaryChallenger<F, Inner> {
+impl<G, W: DigestWord, const N: usize, F: ByteLevel, Inner: ByteChallenger> CanObserve<
+    Hash<G, W, N>,
+> for BinaryChallenger<F, Inner> {
     ghost State = { Inner.State };
 
     ghost state = { λ challenger. Inner.state (inner_of (guarded_of challenger)) };
 
-    ghost observed = { λ state value. state_after Inner.observed Inner.sampled (observing (words_of value)) state };
+    ghost observed = { λ state value. state_after Inner.observed Inner.sampled (observing (W.bytes (words_of value))) state };
 
     ghost may_leave = { λ _ _. Unit {0} };
 
     ghost may_stay = { λ _. tt };
 
-    fn observe(&mut self, value: Hash<G, u8, N>) -> Result<(), ChallengerError> {
-        if self.guarded.failed() {
-            return Err(ChallengerError::Failed);
-        }
-        value.observe_in(&mut self.guarded)
-    }
-}
-
-impl<G, const N: usize, F: ByteLevel, Inner: ByteChallenger> CanObserve<Hash<G, u64, N>>
-    for BinaryChallenger<F, Inner> {
-    ghost State = { Inner.State };
-
-    ghost state = { λ challenger. Inner.state (inner_of (guarded_of challenger)) };
-
-    ghost observed = { λ state value. state_after Inner.observed Inner.sampled (observing (flat_map (λ w. low_bytes 8 w) (words_of value))) state };
-
-    ghost may_leave = { λ _ _. Unit {0} };
-
-    ghost may_stay = { λ _. tt };
-
-    fn observe(&mut self, value: Hash<G, u64, N>) -> Result<(), ChallengerError> {
+    fn observe(&mut self, value: Hash<G, W, N>) -> Result<(), ChallengerError> {
         if self.guarded.failed() {
             return Err(ChallengerError::Failed);
         }

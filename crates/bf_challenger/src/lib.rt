@@ -14,7 +14,7 @@ mod witness;
 pub use crate::algebra::FieldChallenger;
 pub use crate::calls::{Call, Reply, run_calls};
 pub use crate::challenger::BinaryChallenger;
-pub use crate::digest::{Digest, Hash, MerkleCap};
+pub use crate::digest::{Digest, DigestWord, Hash, MerkleCap};
 pub use crate::elements::{CanSampleBits, CanSampleUniformBits};
 pub use crate::error::GrindError;
 pub use crate::sample::CanSample;
