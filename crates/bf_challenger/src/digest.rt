@@ -58,21 +58,6 @@ impl<G, D: Drop, A: Allocator> MerkleCap<G, D, A> {
     }
 }
 
-// Observes the words, each as eight bytes from the lowest.
-fn observe_words<C: ByteChallenger>(
-    guarded: &mut Guarded<C>,
-    words: &[u64],
-) -> Result<(), ChallengerError>
-    requires { failed_of guarded.old ≡ false }
-    ensures ok { OnOk result (C.state (inner_of guarded.new) ≡ state_after C.observed C.sampled (observing (flat_map (λ w. low_bytes 8 w) words.now)) (C.state (inner_of guarded.old))) }
-    ensures answer { GuardedAnswer false (failed_of guarded.new) (C.has_refused (inner_of guarded.new)) result }
-{
-    'words: for index in 0..words.len() {
-        guarded.observe_bytes(&words[index].to_le_bytes())?;
-    }
-    Ok(())
-}
-
 /// A digest that is observed as a list of bytes: an array of bytes, an array of words of 64 bits, each as eight bytes from the
 /// lowest, or a `Hash` of either.
 pub trait Digest: Drop {
@@ -119,7 +104,10 @@ impl DigestWord for u64 {
         words: &[u64],
         guarded: &mut Guarded<C>,
     ) -> Result<(), ChallengerError> {
-        observe_words(guarded, words)
+        'words: for index in 0..words.len() {
+            guarded.observe_bytes(&words[index].to_le_bytes())?;
+        }
+        Ok(())
     }
 }
 

@@ -3,7 +3,7 @@ use Rattle.std.specs.List.{flat_map}
 use Rattle.bf_byte_challenger.specs.ByteCalls.{observing, state_after}
 use Rattle.bf_byte_challenger.specs.Guarded.{failed_of, inner_of}
 use Rattle.bf_bytes.specs.Bytes.{low_bytes}
-use Rattle.bf_challenger.proofs.digest.observe_words.Given as goal
+use Rattle.bf_challenger.proofs.digest.U64DigestWord.observe_words.Given as goal
 
 -- the words before the index were observed, and nothing has failed
 abbrev pub invariant-words : goal.invariant-words

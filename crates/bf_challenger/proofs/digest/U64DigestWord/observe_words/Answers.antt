@@ -6,7 +6,7 @@ use Rattle.bf_byte_challenger.specs.Guarded.{inner_of}
 use Rattle.bf_bytes.specs.Bytes.{low_bytes}
 use Rattle.bf_bytes.proofs.WordBytes.{eight_bytes}
 use Rattle.bf_challenger.proofs.ManyCalls.{none_observed, one_more_observed}
-use Rattle.bf_challenger.proofs.digest.observe_words.Goals as goal
+use Rattle.bf_challenger.proofs.digest.U64DigestWord.observe_words.Goals as goal
 
 pub words-init : goal.words-init
 words-init g c = record { goes_on = c.requires; run = none_observed _ _ _ }
