@@ -270,7 +270,8 @@ fn products_by_the_definition(rt: HostRuntime) {
 #[test]
 fn products_by_the_root(rt: HostRuntime) {
     assert!(rt;
-        t16(0x6e50).mul_alpha() == t16(0xa66e)
+        t2(2).mul_alpha() == t2(3)
+            && t16(0x6e50).mul_alpha() == t16(0xa66e)
             && t32(0x08ec_6337).mul_alpha() == t32(0x0f3f_08ec)
             && t64(0x1e1b_1ca9_cdd7_2794).mul_alpha() == t64(0x6b60_398f_1e1b_1ca9)
             && t128(0xa36f_d7d2_cfba_5218_13de_d505_5760_09e8).mul_alpha()
@@ -307,12 +308,13 @@ fn representations(rt: HostRuntime) {
 }
 
 #[test]
-fn other_rows_of_eight_bits(rt: HostRuntime) {
+fn other_rows_of_eight_and_sixteen_bits(rt: HostRuntime) {
     assert!(rt;
         operators_give([t8(0x13), t8(0x13), t8(0), t8(0x43)])
             && pair_gives([t8(0x1c), t8(0)], t8(0x1c), t8(0))
             && t8(0) * t8(0x13) == t8(0)
             && t8(0x41).exp_power_of_2(3) == t8(0x14)
+            && t16(0x0100).exp_power_of_2(16) == t16(0x0100)
     );
 }
 
