@@ -1,5 +1,5 @@
 -- The byte tables of squares and of square roots, each checked whole by computation, and what their sums are.
-use Rattle.std.proofs.Common.{◌≡◌, ℕ, ◌^◌, ◌<◌, true, refl, sym, ◌∙◌, ap, ap₂}
+use Rattle.std.proofs.Common.{◌≡◌, ℕ, List, ◌*◌, ◌^◌, ◌<◌, true, refl, sym, ◌∙◌, ap, ap₂}
 use Rattle.std.specs.Prelude.{bit_xor}
 use native.Mathlib.Nat.{mod-eq_of_lt}
 use Rattle.bf_base.specs.Tower.{tower_mul}
@@ -9,7 +9,7 @@ use Rattle.bf_base.specs.ByteTables.{sum_of_entries}
 use Rattle.bf_tables.specs.Linear.{IsAdditive}
 use Rattle.bf_tables.specs.declared.linear.roots.TheConstants.{ROOTS_16, ROOTS_32, ROOTS_64}
 use Rattle.bf_tables.specs.declared.linear.squares.TheConstants.{SQUARES_16, SQUARES_32, SQUARES_64}
-use Rattle.bf_base.proofs.ByteTableSums.{entries_hold, entry_passes, sum_of_entries_is}
+use Rattle.bf_base.proofs.ByteTableSums.{HoldValues, entries_hold, entry_passes, sum_of_entries_is}
 use Rattle.bf_tables.proofs.Squares.{root_product, square_of, square_of_is, squares_joined}
 use Rattle.bf_base.proofs.TableChecks.{passes}
 
@@ -24,6 +24,13 @@ same_additive a b = refl
 
 -- ---- squares
 
+-- the sum of a table of squares is the square
+squared : (k n : ℕ) (table : List ℕ) (x : ℕ) → HoldValues (λ y. y) (square_of k) (256 * n) table → x < 2 ^ (8 * n)
+    → sum_of_entries n table x ≡ tower_mul k x x
+squared k n table x values fits =
+    sum_of_entries_is (λ y. y) (square_of k) same_additive (square_of_additive k) table n x values
+    ∙ ap (square_of k) (mod-eq_of_lt fits) ∙ square_of_is k x
+
 squares_16_pass : passes (entry_passes (λ x. x) (square_of 4)) 0 SQUARES_16 ≡ true
 unfolding passes entry_passes square_of squares_joined root_product
 squares_16_pass = refl
@@ -37,24 +44,23 @@ unfolding passes entry_passes square_of squares_joined root_product
 squares_64_pass = refl
 
 pub squares_16 : (x : ℕ) → x < 2 ^ 16 → sum_of_entries 2 SQUARES_16 x ≡ tower_mul 4 x x
-squares_16 x fits =
-    sum_of_entries_is (λ y. y) (square_of 4) same_additive (square_of_additive 4) SQUARES_16 2 x
-    (entries_hold (λ y. y) (square_of 4) SQUARES_16 squares_16_pass)
-    ∙ ap (square_of 4) (mod-eq_of_lt fits) ∙ square_of_is 4 x
+squares_16 x = squared 4 2 SQUARES_16 x (entries_hold (λ y. y) (square_of 4) SQUARES_16 squares_16_pass)
 
 pub squares_32 : (x : ℕ) → x < 2 ^ 32 → sum_of_entries 4 SQUARES_32 x ≡ tower_mul 5 x x
-squares_32 x fits =
-    sum_of_entries_is (λ y. y) (square_of 5) same_additive (square_of_additive 5) SQUARES_32 4 x
-    (entries_hold (λ y. y) (square_of 5) SQUARES_32 squares_32_pass)
-    ∙ ap (square_of 5) (mod-eq_of_lt fits) ∙ square_of_is 5 x
+squares_32 x = squared 5 4 SQUARES_32 x (entries_hold (λ y. y) (square_of 5) SQUARES_32 squares_32_pass)
 
 pub squares_64 : (x : ℕ) → x < 2 ^ 64 → sum_of_entries 8 SQUARES_64 x ≡ tower_mul 6 x x
-squares_64 x fits =
-    sum_of_entries_is (λ y. y) (square_of 6) same_additive (square_of_additive 6) SQUARES_64 8 x
-    (entries_hold (λ y. y) (square_of 6) SQUARES_64 squares_64_pass)
-    ∙ ap (square_of 6) (mod-eq_of_lt fits) ∙ square_of_is 6 x
+squares_64 x = squared 6 8 SQUARES_64 x (entries_hold (λ y. y) (square_of 6) SQUARES_64 squares_64_pass)
 
 -- ---- square roots
+
+-- the sum of a table of roots is the root
+rooted : (k n : ℕ) (table : List ℕ) (x : ℕ) → HoldValues (square_of k) (λ y. y) (256 * n) table → x < 2 ^ (8 * n)
+    → tower_mul k (sum_of_entries n table x) (sum_of_entries n table x) ≡ x
+rooted k n table x values fits =
+    sym (square_of_is k (sum_of_entries n table x))
+    ∙ sum_of_entries_is (square_of k) (λ y. y) (square_of_additive k) same_additive table n x values
+    ∙ mod-eq_of_lt fits
 
 roots_16_pass : passes (entry_passes (square_of 4) (λ x. x)) 0 ROOTS_16 ≡ true
 unfolding passes entry_passes square_of squares_joined root_product
@@ -69,22 +75,10 @@ unfolding passes entry_passes square_of squares_joined root_product
 roots_64_pass = refl
 
 pub roots_16 : (x : ℕ) → x < 2 ^ 16 → tower_mul 4 (sum_of_entries 2 ROOTS_16 x) (sum_of_entries 2 ROOTS_16 x) ≡ x
-roots_16 x fits =
-    sym (square_of_is 4 (sum_of_entries 2 ROOTS_16 x))
-    ∙ sum_of_entries_is (square_of 4) (λ y. y) (square_of_additive 4) same_additive ROOTS_16 2 x
-    (entries_hold (square_of 4) (λ y. y) ROOTS_16 roots_16_pass)
-    ∙ mod-eq_of_lt fits
+roots_16 x = rooted 4 2 ROOTS_16 x (entries_hold (square_of 4) (λ y. y) ROOTS_16 roots_16_pass)
 
 pub roots_32 : (x : ℕ) → x < 2 ^ 32 → tower_mul 5 (sum_of_entries 4 ROOTS_32 x) (sum_of_entries 4 ROOTS_32 x) ≡ x
-roots_32 x fits =
-    sym (square_of_is 5 (sum_of_entries 4 ROOTS_32 x))
-    ∙ sum_of_entries_is (square_of 5) (λ y. y) (square_of_additive 5) same_additive ROOTS_32 4 x
-    (entries_hold (square_of 5) (λ y. y) ROOTS_32 roots_32_pass)
-    ∙ mod-eq_of_lt fits
+roots_32 x = rooted 5 4 ROOTS_32 x (entries_hold (square_of 5) (λ y. y) ROOTS_32 roots_32_pass)
 
 pub roots_64 : (x : ℕ) → x < 2 ^ 64 → tower_mul 6 (sum_of_entries 8 ROOTS_64 x) (sum_of_entries 8 ROOTS_64 x) ≡ x
-roots_64 x fits =
-    sym (square_of_is 6 (sum_of_entries 8 ROOTS_64 x))
-    ∙ sum_of_entries_is (square_of 6) (λ y. y) (square_of_additive 6) same_additive ROOTS_64 8 x
-    (entries_hold (square_of 6) (λ y. y) ROOTS_64 roots_64_pass)
-    ∙ mod-eq_of_lt fits
+roots_64 x = rooted 6 8 ROOTS_64 x (entries_hold (square_of 6) (λ y. y) ROOTS_64 roots_64_pass)
