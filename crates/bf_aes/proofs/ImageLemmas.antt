@@ -1,16 +1,11 @@
 -- Images one after the other, and of one map after another.
 use Rattle.std.proofs.Common.{◌≡◌, ℕ, zero, suc, ◌+◌, ◌^◌, ◌<◌, ◌≤◌, List, [], ◌∷◌, ◌++◌, drop, length, map, take, refl, sym, ◌∙◌, ap, ap₂, subst, arith}
-use Rattle.std.specs.Prelude.{bit_xor, slice_index, slice_index_or, slice_set}
+use Rattle.std.specs.Prelude.{bit_xor, slice_index, slice_set}
 use Rattle.std.proofs.lemmas.List.{append-nil, drop_all, length-map, take_all}
 use Rattle.std.proofs.lemmas.List.Edits.{map_over_more}
 use Rattle.bf_base.specs.LinearMaps.{linear_image}
 use Rattle.bf_base.proofs.LinearMapLemmas.{the_linear_map}
-
--- an entry of a list, whatever stands for those past its end
-same_entry : {A : Type 0} → (xs : List A) (i : ℕ) (d e : A) → i < length xs → slice_index_or xs i d ≡ slice_index_or xs i e
-same_entry [] i d e within = absurd (omega (arith, within))
-same_entry (x ∷ xs) zero d e within = refl
-same_entry (x ∷ xs) (suc i) d e within = same_entry xs i d e (omega (arith, within))
+use Rattle.bf_packed.proofs.LanePoints.{same_entry}
 
 pub entry_of_map : (f : ℕ → ℕ) (xs : List ℕ) (i : ℕ) → i < length xs → slice_index (map f xs) i ≡ f (slice_index xs i)
 entry_of_map f [] i within = absurd (omega (arith, within))

@@ -2,7 +2,7 @@
 use Rattle.std.proofs.Common.{◌≡◌, ◌≢◌, ◌⊎◌, inl, inr, ℕ, zero, suc, ◌+◌, ◌<◌, ◌≤◌, List, [], ◌∷◌, length, map, refl, sym, ◌∙◌, ap₂, subst, arith}
 use Rattle.std.specs.Prelude.{slice_index_or, slice_set}
 use Rattle.std.proofs.lemmas.List.{get_or-set_same, get_or-set_other}
-use native.Mathlib.Nat.{eq-or-lt_of_le}
+use native.Mathlib.Nat.{eq-or-lt_of_le, le_refl}
 use Rattle.bf_packing.specs.Lanes.{lane_by_lane}
 
 -- an entry of a list, whatever stands for those past its end
@@ -26,12 +26,32 @@ lanes_done {A} T xs i v within before now k d below = pick (eq-or-lt_of_le (omeg
         subst (T k) (sym (get_or-set_other xs i k v d other)) (before k d less)
 
 -- and the lanes from i + 1 on are as they were
-pub lanes_left : {A : Type 0} → (xs ys : List A) (i : ℕ) (v : A)
+lanes_left : {A : Type 0} → (xs ys : List A) (i : ℕ) (v : A)
     → ((k : ℕ) (d : A) → i ≤ k → slice_index_or ys k d ≡ slice_index_or xs k d)
     → (k : ℕ) (d : A) → i + 1 ≤ k → slice_index_or (slice_set ys i v) k d ≡ slice_index_or xs k d
 lanes_left xs ys i v before k d above =
     let other : k ≢ i = λ same. absurd (omega (arith, above, same)) in
     get_or-set_other ys i k v d other ∙ before k d (omega (arith, above))
+
+-- what a loop over lanes has done before lane i: it has written the lanes below i, and the others are as they were
+pub record Written {A : Type 0} (P : ℕ → A → A → Type 0) (old now : List A) (i : ℕ) : Type 0 where
+  pub done : (k : ℕ) (d : A) → k < i → (e : A) → P k (slice_index_or old k e) (slice_index_or now k d)
+  pub left : (k : ℕ) (d : A) → i ≤ k → slice_index_or now k d ≡ slice_index_or old k d
+
+pub none_written : {A : Type 0} → (P : ℕ → A → A → Type 0) (lanes : List A) → Written P lanes lanes 0
+none_written P lanes = record {
+  done = λ k d below. absurd (omega (arith, below));
+  left = λ k d above. refl;
+}
+
+-- and then lane i too, of which x was read
+pub lane_written : {A : Type 0} → (P : ℕ → A → A → Type 0) (old now : List A) (i : ℕ) (x r : A) → length now ≡ length old
+    → i < length old → x ≡ slice_index_or now i x → Written P old now i → P i x r → Written P old (slice_set now i r) (i + 1)
+lane_written {A} P old now i x r long within is before given = record {
+  done = lanes_done (λ k v. (e : A) → P k (slice_index_or old k e) v) now i r (omega (arith, long, within)) before.done
+      (λ e. subst (λ v. P i v r) (is ∙ before.left i x (le_refl i) ∙ same_entry old i x e within) given);
+  left = lanes_left old now i r before.left;
+}
 
 -- lists whose numbers agree with an operation at each lane
 pub lanes_agree : {A : Type 0} → (repr : A → ℕ) (op : ℕ → ℕ → ℕ) (xs ys rs : List A) → length rs ≡ length xs

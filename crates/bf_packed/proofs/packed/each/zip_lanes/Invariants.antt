@@ -1,9 +1,7 @@
-use Rattle.std.proofs.Common.{◌≡◌, ◌<◌, ◌≤◌, ℕ}
 use Rattle.std.specs.Prelude.{slice_index_or}
+use Rattle.bf_packed.proofs.LanePoints.{Written}
 use Rattle.bf_packed.proofs.packed.each.zip_lanes.Given as goal
 
--- the lanes before this one are written, and the others are as they were
 abbrev pub invariant-loop-lane : goal.invariant-loop-lane
 invariant-loop-lane g l =
-    ((k : ℕ) (d : _) → k < l.lane → (e : _) → goal.O-post g l.operation (slice_index_or l.fn.left k e) (slice_index_or l.right k e) (slice_index_or l.left k d))
-    × ((k : ℕ) (d : _) → l.lane ≤ k → slice_index_or l.left k d ≡ slice_index_or l.fn.left k d)
+    Written (λ k x v. (e : _) → goal.O-post g l.operation x (slice_index_or l.fn.right k e) v) l.fn.left l.left l.lane
