@@ -49,11 +49,16 @@ fn interleaved_by_two_and_by_four(rt: HostRuntime) {
 fn products_of_four(rt: HostRuntime) {
     let x = four([1 << 127, 3, 0, u128::MAX]);
     let two = Ghash128::new(2);
-    assert!(rt; lanes_are(x * two, [0x87, 6, 0, u128::MAX << 1 ^ 0x87]));
+    let (sum, product) = (x + two, x * two);
     assert!(rt;
-        x * two == two * x && x * PackedGhash128::from(two) == x * two && x + two == two + x
+        lanes_are(product, [0x87, 6, 0, u128::MAX << 1 ^ 0x87])
+            && two * x == product
+            && x * PackedGhash128::from(two) == product
+            && two + x == sum
+            && two - x == x - two
+            && x * Gf2::ONE == x
+            && Gf2::ZERO * x == PackedGhash128::ZERO
     );
-    assert!(rt; x * Gf2::ONE == x && Gf2::ZERO * x == PackedGhash128::ZERO && two - x == x - two);
 }
 
 #[test]
@@ -61,8 +66,15 @@ fn beside_the_tower(rt: HostRuntime) {
     let x = four([1 << 127, 3, 0, u128::MAX]);
     let element = BinaryField128::from_repr(0x13);
     let image = Ghash128::from(element);
-    assert!(rt; x * element == x * image && x + element == x + image && x - element == x + image);
-    assert!(rt; element * x == x * image && element + x == x + image && element - x == x + image);
+    let (sum, product) = (x + image, x * image);
+    assert!(rt;
+        x * element == product
+            && x + element == sum
+            && x - element == sum
+            && element * x == product
+            && element + x == sum
+            && element - x == sum
+    );
 }
 
 #[test]
@@ -70,7 +82,11 @@ fn inverses_of_four(rt: HostRuntime) {
     let x = four([0, 1, 2, 1 << 127]);
     let inverses = x.invert_or_zero();
     let lanes = inverses.as_slice();
-    assert!(rt; lanes[0] == Ghash128::ZERO && lanes[1] == Ghash128::ONE);
-    assert!(rt; Ghash128::new(2).try_inverse() == Some(lanes[2]));
-    assert!(rt; x.frobenius(3) == x.square().square().square() && x.frobenius(128) == x);
+    assert!(rt;
+        lanes[0] == Ghash128::ZERO
+            && lanes[1] == Ghash128::ONE
+            && Ghash128::new(2).try_inverse() == Some(lanes[2])
+            && x.frobenius(3) == x.square().square().square()
+            && x.frobenius(128) == x
+    );
 }

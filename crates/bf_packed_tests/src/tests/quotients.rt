@@ -1,5 +1,5 @@
 // Quotients of packings of bytes, by packings and by bytes.
-use super::bytes::bytes_3;
+use super::bytes::bytes;
 use bf_aes::RijndaelMaps;
 use bf_base::traits::{Field, PrimeCharacteristicRing};
 use bf_element::{PackedRijndael8b, Rijndael8b};
@@ -26,13 +26,16 @@ fn is_divided_by(x: PackedRijndael8b<3>, byte: Rijndael8b) -> bool {
 
 #[test]
 fn by_packings(rt: HostRuntime) {
-    let (x, y) = (bytes_3(0x57, 7), bytes_3(1, 2));
+    let (x, y) = (bytes(0x57, 7), bytes(1, 2));
     let quotient = divided(x, y);
-    assert!(rt; quotient == Some(x * y.invert_or_zero()) && divided(y, x - x) == None);
-    assert!(rt; divided(x * y, y) == Some(x));
+    assert!(rt;
+        quotient == Some(x * y.invert_or_zero())
+            && divided(y, x - x) == None
+            && divided(x * y, y) == Some(x)
+    );
 }
 
 #[test]
 fn by_bytes(rt: HostRuntime) {
-    assert!(rt; is_divided_by(bytes_3(0x57, 7), Rijndael8b::from_byte(0x83)));
+    assert!(rt; is_divided_by(bytes(0x57, 7), Rijndael8b::from_byte(0x83)));
 }
