@@ -1,8 +1,8 @@
 // The answer to a line, and the table of the fields that it may name.
 ghost use Rattle.std.specs.Prelude.{◌≡◌};
 ghost use Rattle.std.specs.Str.{is_utf8};
-ghost use Rattle.bf_calc.specs.Answer.{answer_of, of_field};
-ghost use Rattle.bf_calc.specs.Fields.{field_named};
+ghost use Rattle.bf_calc.specs.Answer.{answer_of, of_field, of_rest};
+ghost use Rattle.bf_calc.specs.Fields.{field_named, tower_level};
 ghost use Rattle.bf_calc.specs.Words.{words};
 ghost use Rattle.bf_calc.specs.Text.{answer_bytes, text_of};
 
@@ -10,11 +10,9 @@ use crate::calculation::answer_in;
 use crate::names::Fault;
 use crate::text::Answer;
 use crate::words::next_word;
-use bf_base::Gf2;
-use bf_element::{
-    BinaryField2, BinaryField4, BinaryField8, BinaryField16, BinaryField32, BinaryField64,
-    BinaryField128, Ghash128, Poly64, Poly192, Rijndael8b,
-};
+use bf_base::{Gf2, Unsigned};
+use bf_element::{Element, Ghash128, Poly64, Poly192, Rijndael8b};
+use bf_tower::{Bits2, Bits4, Bits8, Bits16, Bits32, Bits64, Bits128, Level, Tower};
 
 /// The answer to a line: the result of its operation as hexadecimal text, `none` for the inverse of 0, or `error` and
 /// the number of what is wrong with it. It takes no memory.
@@ -52,17 +50,24 @@ fn in_field_named(name: &[u8], rest: &[u8]) -> Result<Answer, Fault>
 {
     match name {
         b"gf2" => answer_in::<Gf2>(rest),
-        b"t2" => answer_in::<BinaryField2>(rest),
-        b"t4" => answer_in::<BinaryField4>(rest),
-        b"t8" => answer_in::<BinaryField8>(rest),
-        b"t16" => answer_in::<BinaryField16>(rest),
-        b"t32" => answer_in::<BinaryField32>(rest),
-        b"t64" => answer_in::<BinaryField64>(rest),
-        b"t128" => answer_in::<BinaryField128>(rest),
+        b"t2" => in_level::<u8, Bits2>(rest),
+        b"t4" => in_level::<u8, Bits4>(rest),
+        b"t8" => in_level::<u8, Bits8>(rest),
+        b"t16" => in_level::<u16, Bits16>(rest),
+        b"t32" => in_level::<u32, Bits32>(rest),
+        b"t64" => in_level::<u64, Bits64>(rest),
+        b"t128" => in_level::<u128, Bits128>(rest),
         b"r8" => answer_in::<Rijndael8b>(rest),
         b"p64" => answer_in::<Poly64>(rest),
         b"g128" => answer_in::<Ghash128>(rest),
         b"p192" => answer_in::<Poly192>(rest),
         _ => Err(Fault::Field),
     }
+}
+
+// The answer to what follows the name of a level of the tower.
+fn in_level<R: Unsigned, L: Level<R>>(rest: &[u8]) -> Result<Answer, Fault>
+    ensures { text_of result ≡ of_rest (tower_level L.LEVEL) (words rest.now) }
+{
+    answer_in::<Element<R, Tower<L>>>(rest)
 }

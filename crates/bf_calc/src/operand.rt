@@ -2,16 +2,15 @@
 ghost use Rattle.std.specs.Prelude.{◌≡◌, ◌≤◌, ◌^◌, ◌<◌, ℕ};
 ghost use Rattle.std.proofs.Common.{lit≤};
 ghost use Rattle.std.proofs.Math.Nat.{le_trans};
+ghost use Rattle.std.proofs.Math.Pow.{pow_mono};
 ghost use Rattle.bf_calc.specs.Fields.{lowest_first, undivided};
 ghost use Rattle.bf_calc.specs.Number.{value_of};
 
 use crate::number::Number;
 use bf_base::traits::{Field, TowerLevel};
 use bf_base::{Gf2, Unsigned};
-use bf_element::{
-    BinaryField2, BinaryField4, BinaryField8, BinaryField16, BinaryField32, BinaryField64,
-    BinaryField128, Ghash128, Poly64, Poly192, Rijndael8b,
-};
+use bf_element::{Element, Ghash128, Poly64, Poly192, Rijndael8b};
+use bf_tower::{Level, Tower};
 
 /// A field whose elements lines may write.
 pub(crate) trait Written: Field {
@@ -56,32 +55,8 @@ impl Undivided for Gf2 {
     ghost word_law = { lit≤ tt };
 }
 
-impl Undivided for BinaryField2 {
-    ghost word_law = { lit≤ tt };
-}
-
-impl Undivided for BinaryField4 {
-    ghost word_law = { lit≤ tt };
-}
-
-impl Undivided for BinaryField8 {
-    ghost word_law = { lit≤ tt };
-}
-
-impl Undivided for BinaryField16 {
-    ghost word_law = { lit≤ tt };
-}
-
-impl Undivided for BinaryField32 {
-    ghost word_law = { lit≤ tt };
-}
-
-impl Undivided for BinaryField64 {
-    ghost word_law = { lit≤ tt };
-}
-
-impl Undivided for BinaryField128 {
-    ghost word_law = { lit≤ tt };
+impl<R: Unsigned, L: Level<R>> Undivided for Element<R, Tower<L>> {
+    ghost word_law = { pow_mono {i = L.LEVEL} {j = 7} L.few };
 }
 
 impl Undivided for Rijndael8b {
