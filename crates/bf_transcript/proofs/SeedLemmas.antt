@@ -167,7 +167,7 @@ module _ {E S : Type 0} (size : ℕ) (repr : E → ℕ) (observed : S → E → 
   )
 
   -- two runs, one after the other: the bytes of both
-  pub observes_both : (first second : List ℕ) (now next : S) → Observes size repr observed first old now
+  observes_both : (first second : List ℕ) (now next : S) → Observes size repr observed first old now
       → Observes size repr observed second now next → Observes size repr observed (first ++ second) old next
   observes_both first second now next before after = (
     before.0 ++ after.0,
@@ -176,7 +176,7 @@ module _ {E S : Type 0} (size : ℕ) (repr : E → ℕ) (observed : S → E → 
   )
 
   -- the second of which failed
-  pub observes_part_of_both : (may_leave : S → S → Type 0) (first second : List ℕ) (now left : S)
+  observes_part_of_both : (may_leave : S → S → Type 0) (first second : List ℕ) (now left : S)
       → Observes size repr observed first old now → ObservesPart size repr observed may_leave second now left
       → ObservesPart size repr observed may_leave (first ++ second) old left
   observes_part_of_both may_leave first second now left before after = (
@@ -192,7 +192,7 @@ module _ {E S : Type 0} (size : ℕ) (repr : E → ℕ) (observed : S → E → 
   )
 
   -- or the first
-  pub observes_part_of_first : (may_leave : S → S → Type 0) (first second : List ℕ) (left : S)
+  observes_part_of_first : (may_leave : S → S → Type 0) (first second : List ℕ) (left : S)
       → ObservesPart size repr observed may_leave first old left
       → ObservesPart size repr observed may_leave (first ++ second) old left
   observes_part_of_first may_leave first second left part = (
@@ -204,6 +204,27 @@ module _ {E S : Type 0} (size : ℕ) (repr : E → ℕ) (observed : S → E → 
     ),
     part.2,
   )
+
+  -- the length of the bytes, of which `header` is the eight, and the bytes: a seed
+  pub seed_observed : (header : List ℕ) (now next : S) → header ≡ low_bytes 8 (length bytes) → Observes size repr observed (padded size header) old now
+      → Observes size repr observed (padded size bytes) now next → Observes size repr observed (seed_bytes size bytes) old next
+  seed_observed header now next is before after =
+      subst (λ head. Observes size repr observed (padded size head ++ padded size bytes) old next) is
+      (observes_both (padded size header) (padded size bytes) now next before after)
+
+  pub seed_part_of_both : (may_leave : S → S → Type 0) (header : List ℕ) (now left : S) → header ≡ low_bytes 8 (length bytes)
+      → Observes size repr observed (padded size header) old now → ObservesPart size repr observed may_leave (padded size bytes) now left
+      → ObservesPart size repr observed may_leave (seed_bytes size bytes) old left
+  seed_part_of_both may_leave header now left is before after =
+      subst (λ head. ObservesPart size repr observed may_leave (padded size head ++ padded size bytes) old left) is
+      (observes_part_of_both may_leave (padded size header) (padded size bytes) now left before after)
+
+  pub seed_part_of_first : (may_leave : S → S → Type 0) (header : List ℕ) (left : S) → header ≡ low_bytes 8 (length bytes)
+      → ObservesPart size repr observed may_leave (padded size header) old left
+      → ObservesPart size repr observed may_leave (seed_bytes size bytes) old left
+  seed_part_of_first may_leave header left is part =
+      subst (λ head. ObservesPart size repr observed may_leave (padded size head ++ padded size bytes) old left) is
+      (observes_part_of_first may_leave (padded size header) (padded size bytes) left part)
 
 -- a seed has some bytes: those of its length
 pub seed_is_long : (size : ℕ) (seed : List ℕ) → 0 < length (seed_bytes size seed)

@@ -3,7 +3,7 @@ use Rattle.std.proofs.Common.{◌∙◌, [], arith, length, refl, rules, subst}
 use Rattle.bf_bytes.proofs.WordBytes.{eight_bytes}
 use Rattle.bf_bytes.specs.Bytes.{low_bytes}
 use Rattle.bf_transcript.specs.Seeds.{Observes, ObservesPart, padded}
-use Rattle.bf_transcript.proofs.SeedLemmas.{neither_begins, on_err-with, on_ok-with, observes_both, observes_part_of_both, observes_part_of_first, seed_is_long}
+use Rattle.bf_transcript.proofs.SeedLemmas.{neither_begins, on_err-with, on_ok-with, seed_is_long, seed_observed, seed_part_of_both, seed_part_of_first}
 use Rattle.bf_transcript.proofs.field.TranscriptField.observe_seed.Goals as goal
 
 pub returns-then-failed-clause-err : goal.returns-then-failed-clause-err
@@ -19,14 +19,10 @@ returns-then-failed-clause-apart g c other fits differ xs ys of_seed of_other =
 
 pub returns-in_err-observe_padded-clause-err : goal.returns-in_err-observe_padded-clause-err
 returns-in_err-observe_padded-clause-err g c =
-    let size = g.Self.RawDataSerializable.NUM_BYTES in
-    let head = c.to_le_bytes-header.ensures ∙ eight_bytes (length c.args.seed.now) in
     let part =
-    observes_part_of_first size g.Self.Represented.repr g.C.CanObserve.observed c.args.seed.now (g.C.CanObserve.state c.args.challenger.now)
-    g.C.CanObserve.may_leave (padded size (low_bytes 8 (length c.args.seed.now))) (padded size c.args.seed.now)
-    (g.C.CanObserve.state c.observe_padded.new.challenger)
-    (subst (λ bytes. ObservesPart size g.Self.Represented.repr g.C.CanObserve.observed g.C.CanObserve.may_leave (padded size bytes)
-    (g.C.CanObserve.state c.args.challenger.now) (g.C.CanObserve.state c.observe_padded.new.challenger)) head c.in_err-observe_padded.ensures.err) in
+    seed_part_of_first g.Self.RawDataSerializable.NUM_BYTES g.Self.Represented.repr g.C.CanObserve.observed c.args.seed.now
+    (g.C.CanObserve.state c.args.challenger.now) g.C.CanObserve.may_leave _ (g.C.CanObserve.state c.observe_padded.new.challenger)
+    (c.to_le_bytes-header.ensures ∙ eight_bytes (length c.args.seed.now)) c.in_err-observe_padded.ensures.err in
     search (rules, part)
 
 pub returns-in_err-observe_padded-clause-apart : goal.returns-in_err-observe_padded-clause-apart
@@ -35,28 +31,20 @@ returns-in_err-observe_padded-clause-apart g c other fits differ xs ys of_seed o
 
 pub returns-clause-ok : goal.returns-clause-ok
 returns-clause-ok g c =
-    let size = g.Self.RawDataSerializable.NUM_BYTES in
-    let head = c.to_le_bytes-header.ensures ∙ eight_bytes (length c.args.seed.now) in
-    let before =
-    subst (λ bytes. Observes size g.Self.Represented.repr g.C.CanObserve.observed (padded size bytes)
-    (g.C.CanObserve.state c.args.challenger.now) (g.C.CanObserve.state c.observe_padded.new.challenger)) head c.in_ok-observe_padded.ensures.ok in
     on_ok-with c.observe_padded-2.result
-    (observes_both size g.Self.Represented.repr g.C.CanObserve.observed c.args.seed.now (g.C.CanObserve.state c.args.challenger.now)
-    (padded size (low_bytes 8 (length c.args.seed.now))) (padded size c.args.seed.now) (g.C.CanObserve.state c.observe_padded.new.challenger)
-    (g.C.CanObserve.state c.observe_padded-2.new.challenger) before)
+    (seed_observed g.Self.RawDataSerializable.NUM_BYTES g.Self.Represented.repr g.C.CanObserve.observed c.args.seed.now
+    (g.C.CanObserve.state c.args.challenger.now) _ (g.C.CanObserve.state c.observe_padded.new.challenger)
+    (g.C.CanObserve.state c.observe_padded-2.new.challenger) (c.to_le_bytes-header.ensures ∙ eight_bytes (length c.args.seed.now))
+    c.in_ok-observe_padded.ensures.ok)
     c.observe_padded-2.ensures.ok
 
 pub returns-clause-err : goal.returns-clause-err
 returns-clause-err g c =
-    let size = g.Self.RawDataSerializable.NUM_BYTES in
-    let head = c.to_le_bytes-header.ensures ∙ eight_bytes (length c.args.seed.now) in
-    let before =
-    subst (λ bytes. Observes size g.Self.Represented.repr g.C.CanObserve.observed (padded size bytes)
-    (g.C.CanObserve.state c.args.challenger.now) (g.C.CanObserve.state c.observe_padded.new.challenger)) head c.in_ok-observe_padded.ensures.ok in
     on_err-with c.observe_padded-2.result
-    (observes_part_of_both size g.Self.Represented.repr g.C.CanObserve.observed c.args.seed.now (g.C.CanObserve.state c.args.challenger.now)
-    g.C.CanObserve.may_leave (padded size (low_bytes 8 (length c.args.seed.now))) (padded size c.args.seed.now)
-    (g.C.CanObserve.state c.observe_padded.new.challenger) (g.C.CanObserve.state c.observe_padded-2.new.challenger) before)
+    (seed_part_of_both g.Self.RawDataSerializable.NUM_BYTES g.Self.Represented.repr g.C.CanObserve.observed c.args.seed.now
+    (g.C.CanObserve.state c.args.challenger.now) g.C.CanObserve.may_leave _ (g.C.CanObserve.state c.observe_padded.new.challenger)
+    (g.C.CanObserve.state c.observe_padded-2.new.challenger) (c.to_le_bytes-header.ensures ∙ eight_bytes (length c.args.seed.now))
+    c.in_ok-observe_padded.ensures.ok)
     c.observe_padded-2.ensures.err
 
 pub returns-clause-apart : goal.returns-clause-apart
