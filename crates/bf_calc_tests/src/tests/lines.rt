@@ -269,43 +269,43 @@ fn line_is_answered(alloc: Global, line: &[u8], want: &[u8]) -> Result<bool, All
     )
 }
 
+/// Whether each line is answered as it stands beside it.
+fn lines_are_answered(alloc: Global, rows: &[(&[u8], &[u8])]) -> Result<bool, AllocError> {
+    for (line, want) in rows {
+        if !line_is_answered(alloc, *line, *want)? {
+            return Ok(false);
+        }
+    }
+    Ok(true)
+}
+
 #[test]
 fn lines_by_hand(rt: HostRuntime) -> Result<(), Fail> {
-    for (line, want) in &BY_HAND {
-        assert!(rt; line_is_answered(rt.alloc(), *line, *want)?);
-    }
+    assert!(rt; lines_are_answered(rt.alloc(), &BY_HAND)?);
     Ok(())
 }
 
 #[test]
 fn lines_of_another_implementation(rt: HostRuntime) -> Result<(), Fail> {
-    for (line, want) in &REFERENCE {
-        assert!(rt; line_is_answered(rt.alloc(), *line, *want)?);
-    }
+    assert!(rt; lines_are_answered(rt.alloc(), &REFERENCE)?);
     Ok(())
 }
 
 #[test]
 fn polynomials_are_calculated_modulo_their_modulus(rt: HostRuntime) -> Result<(), Fail> {
-    for (line, want) in &POLYNOMIALS {
-        assert!(rt; line_is_answered(rt.alloc(), *line, *want)?);
-    }
+    assert!(rt; lines_are_answered(rt.alloc(), &POLYNOMIALS)?);
     Ok(())
 }
 
 #[test]
 fn three_coefficients_stand_lowest_first(rt: HostRuntime) -> Result<(), Fail> {
-    for (line, want) in &COEFFICIENTS {
-        assert!(rt; line_is_answered(rt.alloc(), *line, *want)?);
-    }
+    assert!(rt; lines_are_answered(rt.alloc(), &COEFFICIENTS)?);
     Ok(())
 }
 
 #[test]
 fn a_line_that_is_no_text_is_refused_before_all_else(rt: HostRuntime) -> Result<(), Fail> {
-    for (line, want) in &ENCODINGS {
-        assert!(rt; line_is_answered(rt.alloc(), *line, *want)?);
-    }
+    assert!(rt; lines_are_answered(rt.alloc(), &ENCODINGS)?);
     Ok(())
 }
 
