@@ -27,18 +27,17 @@ fn inverse_is(element: Poly192, inverse: Poly192) -> bool {
 /// Whether operators with an element of the ring below agree with those of its embedding.
 fn embeds<A: Algebra<Poly64>>(left: A, right: Poly64) -> bool {
     let image = <A as From<Poly64>>::from(right);
-    let mut sum = left;
-    sum += right;
-    let mut difference = left;
-    difference -= right;
-    let mut product = left;
-    product *= right;
-    left + right == left + image
+    let (sum, product) = (left + image, left * image);
+    let (mut added, mut subtracted, mut multiplied) = (left, left, left);
+    added += right;
+    subtracted -= right;
+    multiplied *= right;
+    left + right == sum
         && left - right == left - image
-        && left * right == left * image
-        && sum == left + image
-        && difference == left - image
-        && product == left * image
+        && left * right == product
+        && added == sum
+        && subtracted == sum
+        && multiplied == product
 }
 
 #[test]

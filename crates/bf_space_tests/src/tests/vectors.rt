@@ -26,16 +26,6 @@ fn is_line<F: Field + BasedVectorSpace<F>>(element: F) -> bool {
         && <F as HasFrobenius<F>>::frobenius(&element) == element
 }
 
-/// `count` times Frobenius's map over `Poly64`.
-fn frobenius(element: Poly192, count: usize) -> Poly192 {
-    <Poly192 as HasFrobenius<Poly64>>::repeated_frobenius(&element, count)
-}
-
-/// The element as one of `Poly64`.
-fn base(element: Poly192) -> Option<Poly64> {
-    <Poly192 as ExtensionField<Poly64>>::as_base(&element)
-}
-
 /// Coefficient i over `Poly64`.
 fn coefficient(element: Poly192, i: usize) -> Option<Poly64> {
     if i < 3 {
@@ -45,13 +35,19 @@ fn coefficient(element: Poly192, i: usize) -> Option<Poly64> {
     }
 }
 
-/// Whether Frobenius's map takes `element` to `image`, and three of them return it.
+/// Whether Frobenius's map over `F` takes `element` to `image`, and three of them return it.
+fn frobenius_takes<F: Field, E: ExtensionField<F>>(element: E, image: E) -> bool {
+    HasFrobenius::<F>::frobenius(&element) == image
+        && HasFrobenius::<F>::repeated_frobenius(&element, 1) == image
+        && HasFrobenius::<F>::repeated_frobenius(&element, 2)
+            == HasFrobenius::<F>::repeated_frobenius(&image, 1)
+        && HasFrobenius::<F>::repeated_frobenius(&element, 3) == element
+        && HasFrobenius::<F>::repeated_frobenius(&element, usize::MAX) == element
+}
+
+/// The same over `Poly64`.
 fn frobenius_is(element: Poly192, image: Poly192) -> bool {
-    <Poly192 as HasFrobenius<Poly64>>::frobenius(&element) == image
-        && frobenius(element, 1) == image
-        && frobenius(element, 2) == frobenius(image, 1)
-        && frobenius(element, 3) == element
-        && frobenius(element, usize::MAX) == element
+    frobenius_takes::<Poly64, Poly192>(element, image)
 }
 
 #[test]
@@ -64,21 +60,33 @@ fn frobenius_of_the_root(rt: HostRuntime) {
     );
 }
 
+/// Whether the inverse of 0 by Frobenius's map over `F` is 0, and that of `element` is `inverse`.
+fn inverses_are<F: Field, E: ExtensionField<F>>(element: E, inverse: E) -> bool {
+    HasFrobenius::<F>::pseudo_inv(&E::ZERO) == E::ZERO
+        && HasFrobenius::<F>::pseudo_inv(&element) == inverse
+}
+
 #[test]
 fn inverses_of_nothing_and_of_the_root(rt: HostRuntime) {
-    assert!(rt;
-        <Poly192 as HasFrobenius<Poly64>>::pseudo_inv(&cubic(0, 0, 0)) == cubic(0, 0, 0)
-            && <Poly192 as HasFrobenius<Poly64>>::pseudo_inv(&cubic(0, 1, 0)) == cubic(1, 0, 1)
-    );
+    assert!(rt; inverses_are::<Poly64, Poly192>(cubic(0, 1, 0), cubic(1, 0, 1)));
+}
+
+/// Whether `base` is the element of `F` that `element` is, and None where that lies outside.
+fn base_is<F: Field, E: ExtensionField<F>>(element: E, base: Option<F>) -> bool {
+    element.as_base() == base && element.is_in_basefield() == base.is_some()
+}
+
+/// The same over `Poly64`.
+fn poly64_is(element: Poly192, base: Option<Poly64>) -> bool {
+    base_is::<Poly64, Poly192>(element, base)
 }
 
 #[test]
 fn elements_of_the_field_below(rt: HostRuntime) {
     assert!(rt;
-        base(cubic(9, 0, 0)) == Some(Poly64::new(9))
-            && base(cubic(9, 1, 0)).is_none()
-            && base(cubic(9, 0, 1)).is_none()
-            && !<Poly192 as ExtensionField<Poly64>>::is_in_basefield(&cubic(9, 0, 1))
+        poly64_is(cubic(9, 0, 0), Some(Poly64::new(9)))
+            && poly64_is(cubic(9, 1, 0), None)
+            && poly64_is(cubic(9, 0, 1), None)
     );
 }
 
@@ -141,20 +149,20 @@ fn powers_of_an_element(rt: HostRuntime) {
     assert!(rt; expected == x.exp_u64(9));
 }
 
+/// Whether a packing of `x` has it as its only lane, to which `y` is added to give `sum`.
+fn has_one_lane<F: Field, E: ExtensionField<F>>(x: E, y: E, sum: E) -> bool
+    requires { FitsInMemory E.row }
+{
+    let mut packing = <E as PackedFieldExtension<F, E>>::from_ext_slice(&[x]);
+    <E as PackedFieldExtension<F, E>>::add_assign_lane(&mut packing, 0, y);
+    packing == sum
+        && <E as PackedFieldExtension<F, E>>::extract(&packing, 0) == packing
+        && <E as PackedFieldExtension<F, E>>::from_ext_fn(|_| x) == x
+}
+
 #[test]
 fn packings_have_one_lane(rt: HostRuntime) {
-    let x = cubic(1, 2, 3);
-    let mut packing = <Poly192 as PackedFieldExtension<Poly64, Poly192>>::from_ext_slice(&[x]);
-    <Poly192 as PackedFieldExtension<Poly64, Poly192>>::add_assign_lane(
-        &mut packing,
-        0,
-        cubic(1, 0, 0),
-    );
-    assert!(rt;
-        packing == cubic(0, 2, 3)
-            && <Poly192 as PackedFieldExtension<Poly64, Poly192>>::extract(&packing, 0) == packing
-            && <Poly192 as PackedFieldExtension<Poly64, Poly192>>::from_ext_fn(|_| x) == x
-    );
+    assert!(rt; has_one_lane::<Poly64, Poly192>(cubic(1, 2, 3), cubic(1, 0, 0), cubic(0, 2, 3)));
 }
 
 #[test]

@@ -1,6 +1,6 @@
 // Levels of the tower as vectors over the levels inside them, and the integers as elements of GF(2).
 use bf_base::Gf2;
-use bf_base::traits::{PrimeCharacteristicRing, TowerLevel};
+use bf_base::traits::{Field, PrimeCharacteristicRing, TowerLevel};
 use bf_element::{
     BinaryField2, BinaryField8, BinaryField16, BinaryField32, BinaryField64, BinaryField128,
     Ghash128, Poly64, Poly192,
@@ -58,12 +58,16 @@ fn in_field_of_four(number: u128) -> bool {
     one == all && all
 }
 
-/// Whether Frobenius's map over the field of 8 bits is the power 256, and eight of them the power 2^64.
+/// Whether Frobenius's map over `F` takes `element` to `image`, and `count` of them return it.
+fn frobenius_takes<F: Field, E: ExtensionField<F>>(element: E, image: E, count: usize) -> bool {
+    HasFrobenius::<F>::frobenius(&element) == image
+        && HasFrobenius::<F>::repeated_frobenius(&element, count) == element
+}
+
+/// Whether Frobenius's map over the field of 8 bits is the power 256, and eight of them the power 2^64; and so with 32 bits.
 fn frobenius_is_power(element: BinaryField64) -> bool {
-    <BinaryField64 as HasFrobenius<BinaryField8>>::frobenius(&element) == element.exp_u64(256)
-        && <BinaryField64 as HasFrobenius<BinaryField8>>::repeated_frobenius(&element, 8) == element
-        && <BinaryField64 as HasFrobenius<BinaryField32>>::frobenius(&element)
-            == element.exp_power_of_2(32)
+    frobenius_takes::<BinaryField8, BinaryField64>(element, element.exp_u64(256), 8)
+        && frobenius_takes::<BinaryField32, BinaryField64>(element, element.exp_power_of_2(32), 2)
 }
 
 #[test]
