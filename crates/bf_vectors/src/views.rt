@@ -1,29 +1,61 @@
 // Levels of the tower as vectors over the levels inside them.
 use crate::fault::Fault;
 use crate::reading::{count, element, number_of};
+use bf_base::Unsigned;
 use bf_base::traits::TowerLevel;
-use bf_element::{
-    BinaryField2, BinaryField8, BinaryField16, BinaryField32, BinaryField64, BinaryField128,
-};
-use bf_space::{BasedVectorSpace, ExtensionField, HasFrobenius};
+use bf_element::{BinaryField16, BinaryField32, BinaryField64, BinaryField128, Element};
+use bf_space::{BasedVectorSpace, CoefficientsOf, ExtensionField, HasFrobenius};
+use bf_tower::{Bits2, Bits8, Bits16, Bits32, Bits64, Bits128, Tower};
 use std::alloc::Global;
 
 /// The answer to a call of a level and a smaller one, whose names the call's has with a stroke between them.
 pub(crate) fn viewed(alloc: Global, name: &str, call: &[&str]) -> Result<Vec<u128>, Fault> {
     match name {
-        "t16/t8" => view_call::<BinaryField16, BinaryField8>(alloc, call),
-        "t32/t8" => view_call::<BinaryField32, BinaryField8>(alloc, call),
-        "t32/t16" => view_call::<BinaryField32, BinaryField16>(alloc, call),
-        "t64/t8" => view_call::<BinaryField64, BinaryField8>(alloc, call),
-        "t64/t16" => view_call::<BinaryField64, BinaryField16>(alloc, call),
-        "t64/t32" => view_call::<BinaryField64, BinaryField32>(alloc, call),
-        "t128/t8" => view_call::<BinaryField128, BinaryField8>(alloc, call),
-        "t128/t16" => view_call::<BinaryField128, BinaryField16>(alloc, call),
-        "t128/t32" => view_call::<BinaryField128, BinaryField32>(alloc, call),
-        "t128/t64" => view_call::<BinaryField128, BinaryField64>(alloc, call),
-        "t128/t2" => view_call::<BinaryField128, BinaryField2>(alloc, call),
+        "t16/t8" => over_16::<u8, Bits8>(alloc, call),
+        "t32/t8" => over_32::<u8, Bits8>(alloc, call),
+        "t32/t16" => over_32::<u16, Bits16>(alloc, call),
+        "t64/t8" => over_64::<u8, Bits8>(alloc, call),
+        "t64/t16" => over_64::<u16, Bits16>(alloc, call),
+        "t64/t32" => over_64::<u32, Bits32>(alloc, call),
+        "t128/t8" => over_128::<u8, Bits8>(alloc, call),
+        "t128/t16" => over_128::<u16, Bits16>(alloc, call),
+        "t128/t32" => over_128::<u32, Bits32>(alloc, call),
+        "t128/t64" => over_128::<u64, Bits64>(alloc, call),
+        "t128/t2" => over_128::<u8, Bits2>(alloc, call),
         _ => Err(Fault::Line),
     }
+}
+
+/// What a view of an element of 16 bits gives.
+fn over_16<S: Unsigned, J: CoefficientsOf<u16, Bits16, S>>(
+    alloc: Global,
+    call: &[&str],
+) -> Result<Vec<u128>, Fault> {
+    view_call::<BinaryField16, Element<S, Tower<J>>>(alloc, call)
+}
+
+/// What a view of an element of 32 bits gives.
+fn over_32<S: Unsigned, J: CoefficientsOf<u32, Bits32, S>>(
+    alloc: Global,
+    call: &[&str],
+) -> Result<Vec<u128>, Fault> {
+    view_call::<BinaryField32, Element<S, Tower<J>>>(alloc, call)
+}
+
+/// What a view of an element of 64 bits gives.
+fn over_64<S: Unsigned, J: CoefficientsOf<u64, Bits64, S>>(
+    alloc: Global,
+    call: &[&str],
+) -> Result<Vec<u128>, Fault> {
+    view_call::<BinaryField64, Element<S, Tower<J>>>(alloc, call)
+}
+
+/// What a view of an element of 128 bits gives.
+fn over_128<S: Unsigned, J: CoefficientsOf<u128, Bits128, S>>(
+    alloc: Global,
+    call: &[&str],
+) -> Result<Vec<u128>, Fault> {
+    view_call::<BinaryField128, Element<S, Tower<J>>>(alloc, call)
 }
 
 /// What a view of an element over a smaller level gives, or an operator with an element of it on the right.
