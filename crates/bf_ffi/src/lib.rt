@@ -4,13 +4,9 @@
 #![tactic(auto)]
 
 mod ghash;
-mod level128;
-mod level16;
-mod level32;
-mod level64;
-mod level8;
 mod poly192;
 mod poly64;
 mod rijndael;
 mod slices;
+mod tower;
 mod words;
