@@ -280,32 +280,14 @@ fn lines_are_answered(alloc: Global, rows: &[(&[u8], &[u8])]) -> Result<bool, Al
 }
 
 #[test]
-fn lines_by_hand(rt: HostRuntime) -> Result<(), Fail> {
-    assert!(rt; lines_are_answered(rt.alloc(), &BY_HAND)?);
-    Ok(())
-}
-
-#[test]
-fn lines_of_another_implementation(rt: HostRuntime) -> Result<(), Fail> {
-    assert!(rt; lines_are_answered(rt.alloc(), &REFERENCE)?);
-    Ok(())
-}
-
-#[test]
-fn polynomials_are_calculated_modulo_their_modulus(rt: HostRuntime) -> Result<(), Fail> {
-    assert!(rt; lines_are_answered(rt.alloc(), &POLYNOMIALS)?);
-    Ok(())
-}
-
-#[test]
-fn three_coefficients_stand_lowest_first(rt: HostRuntime) -> Result<(), Fail> {
-    assert!(rt; lines_are_answered(rt.alloc(), &COEFFICIENTS)?);
-    Ok(())
-}
-
-#[test]
-fn a_line_that_is_no_text_is_refused_before_all_else(rt: HostRuntime) -> Result<(), Fail> {
-    assert!(rt; lines_are_answered(rt.alloc(), &ENCODINGS)?);
+fn lines_of_the_tables(rt: HostRuntime) -> Result<(), Fail> {
+    assert!(rt;
+        lines_are_answered(rt.alloc(), &BY_HAND)?
+            && lines_are_answered(rt.alloc(), &REFERENCE)?
+            && lines_are_answered(rt.alloc(), &POLYNOMIALS)?
+            && lines_are_answered(rt.alloc(), &COEFFICIENTS)?
+            && lines_are_answered(rt.alloc(), &ENCODINGS)?
+    );
     Ok(())
 }
 
