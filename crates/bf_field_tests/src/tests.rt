@@ -4,5 +4,6 @@ mod evaluate;
 mod fields;
 mod generators;
 mod polynomials;
+mod rows;
 mod tower;
 mod two_routes;

@@ -1,89 +1,144 @@
-// What one field answers, as values, and whether the library answers the same: the calls are the same in every field.
-use super::fields::{corners_hold, operators_give, root_is, square_is};
+// What one field answers, by representations, and whether the library answers the same. The calls are the same in every field and
+// are made in one function a subject, so that each field is named once: where a function is called at a field, the check has to
+// show that the field has the laws of the bound.
+use super::fields::{
+    corners_hold, element, inverse_and_root_hold, operators_give, root_is, square_is,
+};
+use super::generators::generator_is_full;
 use bf_base::traits::{DotProduct, Field, TowerLevel};
 
-/// Values of one field. Where a row has operands, the results stand last.
-#[derive(Clone, Copy)]
-pub(crate) struct Answers<F> {
+/// What a field answers. Where a row has operands, the results stand last.
+pub(crate) struct Answers {
     /// Two elements, of which the second is not 0, their sum and their product.
-    pub(crate) operators: [[F; 4]; 2],
-    /// Elements x, y, z and t, and x z + y t.
-    pub(crate) dot_product: [F; 5],
+    pub(crate) operators: &'static [[u128; 4]],
+    /// What x z + y t is for the four elements that `hold` is given.
+    pub(crate) dot_product: u128,
     /// An element, and its powers to 2, 3 and 4.
-    pub(crate) powers: [F; 4],
+    pub(crate) powers: [u128; 4],
     /// An element, and its square.
-    pub(crate) square: [F; 2],
+    pub(crate) squares: &'static [[u128; 2]],
     /// An element, and its inverse.
-    pub(crate) inverse: [F; 2],
+    pub(crate) inverse: [u128; 2],
     /// An element, and its square root.
-    pub(crate) roots: [[F; 2]; 2],
-    /// The root that the level adjoins, in the field's basis, and its conjugate over the level below.
-    pub(crate) alpha: [F; 2],
-    /// An element, its product by that root, and its conjugate.
-    pub(crate) by_alpha: [F; 3],
-    /// The generator of the elements other than 0.
-    pub(crate) generator: F,
-    /// The last vector of the Cantor basis.
-    pub(crate) last_cantor: F,
+    pub(crate) roots: [[u128; 2]; 2],
+    /// An element, a count, and what so many squarings give.
+    pub(crate) squarings: &'static [(u128, usize, u128)],
+    /// Elements other than 0, whose inverses and roots have to agree with products.
+    pub(crate) samples: &'static [u128],
+    /// The root that the level adjoins, in the field's basis, and in the tower its conjugate over the level below.
+    pub(crate) alpha: [u128; 2],
+    /// In the tower an element, its product by that root, and its conjugate.
+    pub(crate) by_alpha: [u128; 3],
+    /// In the tower an element, and its product by that root.
+    pub(crate) more_by_alpha: &'static [[u128; 2]],
+    /// In the tower the generator of the elements other than 0.
+    pub(crate) generator: u128,
+    /// In the tower the last vector of the Cantor basis.
+    pub(crate) last_cantor: u128,
     /// The bits, and their binary logarithm.
     pub(crate) bits: [usize; 2],
 }
 
-impl<F: TowerLevel> Answers<F> {
-    /// Whether the library gives all of these.
-    pub(crate) fn hold(&self) -> bool {
-        self.operators_hold() && self.functions_hold() && self.level_holds()
+impl Answers {
+    /// Whether the field `F` gives all of these; `T` is its level of the tower, by whose elements some rows are written. Four
+    /// elements come as an array, whose type says that as many fit in memory.
+    pub(crate) fn hold<F: TowerLevel + From<T>, T: TowerLevel>(&self, elements: [F; 4]) -> bool {
+        corners_hold::<F>()
+            && self.operators_hold(elements)
+            && self.functions_hold::<F>()
+            && self.samples_hold::<F>()
+            && self.level_holds::<F, T>()
+            && self.constants_hold::<F, T>()
     }
 
     /// Whether operators, sums, products and dot products of elements are these.
-    fn operators_hold(&self) -> bool {
-        let [first, second] = self.operators;
-        let [x, y, z, t, dot_product] = self.dot_product;
-        corners_hold::<F>()
-            && operators_give(first)
-            && operators_give(second)
-            && F::dot_product(&[x, y], &[z, t]) == dot_product
+    fn operators_hold<F: TowerLevel>(&self, elements: [F; 4]) -> bool {
+        for row in self.operators {
+            if !operators_give::<F>([
+                element(row[0]),
+                element(row[1]),
+                element(row[2]),
+                element(row[3]),
+            ]) {
+                return false;
+            }
+        }
+        let [x, y, z, t] = elements;
+        F::dot_product(&[x, y], &[z, t]) == element(self.dot_product)
     }
 
-    /// Whether powers, squares, inverses and square roots are these.
-    fn functions_hold(&self) -> bool {
-        let [element, square] = self.square;
+    /// Whether powers, squares, inverses, square roots and repeated squares are these.
+    fn functions_hold<F: TowerLevel>(&self) -> bool {
+        for row in self.squares {
+            if !square_is::<F>(element(row[0]), element(row[1])) {
+                return false;
+            }
+        }
+        for row in self.squarings {
+            let (x, count, wanted) = *row;
+            if element::<F>(x).exp_power_of_2(count) != element(wanted) {
+                return false;
+            }
+        }
+        let [x, square, cube, fourth] = self.powers;
         let [divisor, inverse] = self.inverse;
         let [[first, first_root], [second, second_root]] = self.roots;
-        powers_are(self.powers)
-            && square_is(element, square)
-            && divisor.try_inverse() == Some(inverse)
-            && root_is(first, first_root)
-            && root_is(second, second_root)
+        powers_are::<F>(element(x), element(square), element(cube), element(fourth))
+            && element::<F>(divisor).try_inverse() == Some(element(inverse))
+            && root_is::<F>(element(first), element(first_root))
+            && root_is::<F>(element(second), element(second_root))
     }
 
-    /// Whether the level is this one of the tower: its root, the conjugates over the level below, and the constants.
-    fn level_holds(&self) -> bool {
-        let [alpha, conjugate_of_alpha] = self.alpha;
-        let [element, product, conjugate] = self.by_alpha;
+    /// Whether inverses and roots of the samples agree with products.
+    fn samples_hold<F: TowerLevel>(&self) -> bool {
+        for sample in self.samples {
+            if !inverse_and_root_hold::<F>(element(*sample)) {
+                return false;
+            }
+        }
+        true
+    }
+
+    /// Whether the level is this one of the tower: its root, and the conjugates over the level below.
+    fn level_holds<F: TowerLevel + From<T>, T: TowerLevel>(&self) -> bool {
+        for row in self.more_by_alpha {
+            if image::<F, T>(row[0]).mul_alpha() != image::<F, T>(row[1]) {
+                return false;
+            }
+        }
+        let alpha = element::<F>(self.alpha[0]);
+        let x = image::<F, T>(self.by_alpha[0]);
+        let product = image::<F, T>(self.by_alpha[1]);
         F::ONE.mul_alpha() == alpha
-            && conjugate_is(alpha, conjugate_of_alpha)
-            && element.mul_alpha() == product
-            && element * alpha == product
-            && conjugate_is(element, conjugate)
-            && F::GENERATOR == self.generator
-            && self.vectors_hold()
-            && self.bits == [F::bits(), F::LOG_BITS]
+            && conjugate_is(alpha, image::<F, T>(self.alpha[1]))
+            && x.mul_alpha() == product
+            && x * alpha == product
+            && conjugate_is(x, image::<F, T>(self.by_alpha[2]))
     }
 
-    /// Whether the first and the last vector of the Cantor basis are 1 and this one.
-    fn vectors_hold(&self) -> bool {
+    /// Whether the generator, which is that of the tower, the first vector of the Cantor basis, which is 1, its last vector, and
+    /// the numbers of bits are these.
+    fn constants_hold<F: TowerLevel + From<T>, T: TowerLevel>(&self) -> bool {
         let bits = F::bits();
         if bits == 0 {
             return false;
         }
-        F::cantor_basis(0) == F::ONE && F::cantor_basis(bits - 1) == self.last_cantor
+        F::GENERATOR == image::<F, T>(self.generator)
+            && F::GENERATOR == F::from(T::GENERATOR)
+            && generator_is_full::<F>()
+            && F::cantor_basis(0) == F::ONE
+            && F::cantor_basis(bits - 1) == image::<F, T>(self.last_cantor)
+            && self.bits == [bits, F::LOG_BITS]
     }
 }
 
+/// The element whose tower representation is the number.
+fn image<F: From<T>, T: TowerLevel>(number: u128) -> F {
+    F::from(element::<T>(number))
+}
+
 /// Whether these are an element and its powers to 2, 3 and 4. Two squarings give the last of them.
-fn powers_are<F: Field>(powers: [F; 4]) -> bool {
-    let [x, square, cube, fourth] = powers;
+fn powers_are<F: Field>(x: F, square: F, cube: F, fourth: F) -> bool {
     x.exp_u64(0) == F::ONE
         && x.exp_u64(1) == x
         && x.exp_u64(2) == square

@@ -1,5 +1,5 @@
 // The text that `{:?}` prints of an element: the name of its type, and its number.
-use super::fields::{t2, t4, t8, t16, t32, t64, t128};
+use super::tower::{t2, t4, t8, t16, t32, t64, t128};
 use bf_base::Gf2;
 use bf_base::traits::PrimeCharacteristicRing;
 use bf_element::{Ghash128, Poly64};

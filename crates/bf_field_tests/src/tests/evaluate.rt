@@ -1,39 +1,63 @@
 // Values of polynomials, those of the library and those of a function that a user writes over the bound. Made by hand, by
 // representation: 2 is the root that the level of two bits adjoins, whose square is 3.
-use super::fields::{t2, t8};
+use super::fields::element;
 use bf_base::Gf2;
-use bf_base::traits::{Field, PrimeCharacteristicRing};
+use bf_base::traits::{Field, TowerLevel};
+use bf_element::{BinaryField2, BinaryField8};
 use bf_transform::over;
+use std::alloc::{AllocError, Allocator, Global};
+use std::test::Fail;
 
-/// Whether the values are right that do not depend on the field: of no coefficients, and at 0, where `first` is the first
-/// coefficient.
-fn corner_values_hold<F: Field>(coefficients: &[F], first: F, x: F) -> bool {
+/// Coefficients, a point, and the value of the polynomial there.
+type Row = (&'static [u128], u128, u128);
+
+// The lowest coefficient stands first.
+static AT_TWO_BITS: [Row; 2] = [(&[1, 1, 1], 2, 0), (&[1, 0, 1], 2, 2)];
+
+// The square of 2 is 3, and 5 + 3 is 6.
+static AT_EIGHT_BITS: [Row; 5] = [
+    (&[5, 0, 1], 2, 6),
+    (&[1, 0, 5], 2, 0xe),
+    (&[0xb4], 2, 0xb4),
+    (&[5, 0, 1], 0x10, 0x44),
+    (&[5, 0xb4], 0x14, 0x47),
+];
+
+// The highest coefficient stands first.
+static BY_HORNER_AT_ONE_BIT: [Row; 4] = [
+    (&[], 1, 0),
+    (&[1, 0, 1, 1], 1, 1),
+    (&[1, 0, 1, 1], 0, 1),
+    (&[1, 1], 1, 0),
+];
+
+// (X + 1) (X + 2) = X² + 3 X + 2 for the elements 1 and 2, whose product is 2 and whose sum is 3.
+static BY_HORNER_AT_EIGHT_BITS: [Row; 3] = [
+    (&[1, 3, 2], 1, 0),
+    (&[1, 3, 2], 2, 0),
+    (&[1, 3, 2], 0, 2),
+];
+
+/// The elements of these representations.
+fn elements<F: TowerLevel, A: Allocator>(
+    alloc: A,
+    numbers: &[u128],
+) -> Result<Vec<F, A>, AllocError> {
+    let mut elements = Vec::new(alloc);
+    for number in numbers {
+        elements.push(element(*number))?;
+    }
+    Ok(elements)
+}
+
+/// Whether the value of the polynomial is `value`; at 0 it is the first coefficient, and 0 for no coefficients.
+fn value_is<F: Field>(coefficients: &[F], x: F, value: F) -> bool {
     let none: [F; 0] = [];
-    over::evaluate(&none, x) == F::ZERO && over::evaluate(coefficients, F::ZERO) == first
-}
-
-#[test]
-fn values_at_two_bits(rt: HostRuntime) {
-    let coefficients = [t2(1), t2(1), t2(1)];
-    assert!(rt;
-        corner_values_hold(&coefficients, t2(1), t2(2))
-            && over::evaluate(&coefficients, t2(2)) == t2(0)
-            && over::evaluate(&[t2(1), t2(0), t2(1)], t2(2)) == t2(2)
-    );
-}
-
-#[test]
-fn values_at_eight_bits(rt: HostRuntime) {
-    let (coefficients, x) = ([t8(5), t8(0), t8(1)], t8(2));
-    assert!(rt;
-        corner_values_hold(&coefficients, t8(5), x)
-            && over::evaluate(&coefficients, x) == t8(5) + x * x
-            && over::evaluate(&coefficients, x) == t8(6)
-            && over::evaluate(&[t8(1), t8(0), t8(5)], x) == t8(0xe)
-            && over::evaluate(&[t8(0xb4)], x) == t8(0xb4)
-            && over::evaluate(&coefficients, t8(0x10)) == t8(0x44)
-            && over::evaluate(&[t8(5), t8(0xb4)], t8(0x14)) == t8(0x47)
-    );
+    let is_first = match coefficients.first() {
+        Some(first) => over::evaluate(coefficients, F::ZERO) == *first,
+        None => false,
+    };
+    is_first && over::evaluate(coefficients, x) == value && over::evaluate(&none, x) == F::ZERO
 }
 
 /// The value of a polynomial at a point by Horner's rule; the coefficient of the highest power stands first.
@@ -45,24 +69,35 @@ fn value_of<F: Field>(coefficients: &[F], point: F) -> F {
     value
 }
 
-#[test]
-fn values_over_the_bound_at_two_elements(rt: HostRuntime) {
-    let (zero, one) = (Gf2::ZERO, Gf2::ONE);
-    assert!(rt;
-        value_of(&[], one) == zero
-            && value_of(&[one, zero, one, one], one) == one
-            && value_of(&[one, zero, one, one], zero) == one
-            && value_of(&[one, one], one) == zero
-    );
+/// Whether the values of the library's function and those by Horner's rule are these.
+fn values_are<F: TowerLevel>(
+    alloc: Global,
+    rows: &[Row],
+    by_horner: &[Row],
+) -> Result<bool, AllocError> {
+    for row in rows {
+        let (numbers, x, value) = *row;
+        let coefficients = elements::<F, Global>(alloc, numbers)?;
+        if !value_is(coefficients.as_slice(), element(x), element(value)) {
+            return Ok(false);
+        }
+    }
+    for row in by_horner {
+        let (numbers, x, value) = *row;
+        let coefficients = elements::<F, Global>(alloc, numbers)?;
+        if value_of(coefficients.as_slice(), element(x)) != element(value) {
+            return Ok(false);
+        }
+    }
+    Ok(true)
 }
 
-// (X + 1) (X + 2) = X² + 3 X + 2 for the elements 1 and 2, whose product is 2 and whose sum is 3.
 #[test]
-fn values_over_the_bound_at_eight_bits(rt: HostRuntime) {
-    let coefficients = [t8(1), t8(3), t8(2)];
+fn values_of_polynomials(rt: HostRuntime) -> Result<(), Fail> {
     assert!(rt;
-        value_of(&coefficients, t8(1)) == t8(0)
-            && value_of(&coefficients, t8(2)) == t8(0)
-            && value_of(&coefficients, t8(0)) == t8(2)
+        values_are::<Gf2>(rt.alloc(), &[], &BY_HORNER_AT_ONE_BIT)?
+            && values_are::<BinaryField2>(rt.alloc(), &AT_TWO_BITS, &[])?
+            && values_are::<BinaryField8>(rt.alloc(), &AT_EIGHT_BITS, &BY_HORNER_AT_EIGHT_BITS)?
     );
+    Ok(())
 }

@@ -1,37 +1,10 @@
-// What the tests of the fields share: elements of the tower by their representation, and calls that every field has.
-use bf_base::Gf2;
+// Calls that every field has, and elements by their representation.
 use bf_base::traits::{DotProduct, Field, PrimeCharacteristicRing, TowerLevel};
-use bf_element::{
-    BinaryField2, BinaryField4, BinaryField8, BinaryField16, BinaryField32, BinaryField64,
-    BinaryField128,
-};
+use bf_base::{Gf2, Unsigned};
 
-pub(crate) fn t2(repr: u8) -> BinaryField2 {
-    BinaryField2::from_repr(repr)
-}
-
-pub(crate) fn t4(repr: u8) -> BinaryField4 {
-    BinaryField4::from_repr(repr)
-}
-
-pub(crate) fn t8(repr: u8) -> BinaryField8 {
-    BinaryField8::from_repr(repr)
-}
-
-pub(crate) fn t16(repr: u16) -> BinaryField16 {
-    BinaryField16::from_repr(repr)
-}
-
-pub(crate) fn t32(repr: u32) -> BinaryField32 {
-    BinaryField32::from_repr(repr)
-}
-
-pub(crate) fn t64(repr: u64) -> BinaryField64 {
-    BinaryField64::from_repr(repr)
-}
-
-pub(crate) fn t128(repr: u128) -> BinaryField128 {
-    BinaryField128::from_repr(repr)
+/// The element of this representation; bits above the field are dropped.
+pub(crate) fn element<F: TowerLevel>(number: u128) -> F {
+    F::from_repr(F::Repr::of_u128(number))
 }
 
 /// Whether the row has two elements, of which the second is not 0, and what the operators, the sum and the product of the
@@ -57,11 +30,12 @@ pub(crate) fn operators_give<F: Field>(row: [F; 4]) -> bool {
         && x * y == product
         && product / y == x
         && product * y.inverse() == x
-        && pair_gives([x, y], sum, product)
+        && all_give(&[x, y], sum, product)
 }
 
 /// Whether the calls of a field are right at 0 and 1, and those of no elements.
 pub(crate) fn corners_hold<F: Field>() -> bool {
+    let none: [F; 0] = [];
     F::ZERO.try_inverse().is_none()
         && F::ONE.try_inverse() == Some(F::ONE)
         && F::ZERO.try_sqrt() == Some(F::ZERO)
@@ -70,20 +44,13 @@ pub(crate) fn corners_hold<F: Field>() -> bool {
         && F::default() == F::ZERO
         && F::from(Gf2::ONE) == F::ONE
         && F::bits() == F::order()
-        && nothing_is_neutral::<F>()
-}
-
-/// Whether the sum and the product of no elements are 0 and 1, and the sum of no products is 0.
-fn nothing_is_neutral<F: Field>() -> bool {
-    let none: [F; 0] = [];
-    none.iter().copied().sum::<F>() == F::ZERO
-        && none.iter().copied().product::<F>() == F::ONE
+        && all_give(&none, F::ZERO, F::ONE)
         && F::dot_product(&none, &none) == F::ZERO
 }
 
-/// Whether the elements of `left` have this sum and this product.
-pub(crate) fn pair_gives<F: Field>(left: [F; 2], sum: F, product: F) -> bool {
-    left.iter().copied().sum::<F>() == sum && left.iter().copied().product::<F>() == product
+/// Whether the elements have this sum and this product.
+pub(crate) fn all_give<F: Field>(elements: &[F], sum: F, product: F) -> bool {
+    elements.iter().copied().sum::<F>() == sum && elements.iter().copied().product::<F>() == product
 }
 
 /// Whether `root` is the square root of `element`. As many squarings as there are bits give the element back, and one less give

@@ -1,7 +1,6 @@
 // The orders of the generators above 16 bits: an element whose powers by the quotients of the group's order by its primes are
 // not 1 generates all.
 use bf_base::traits::Field;
-use bf_element::{BinaryField32, BinaryField64, BinaryField128, Ghash128, Poly64};
 
 /// The primes of 2^32 - 1.
 static PRIMES_OF_32: [u64; 5] = [3, 5, 17, 257, 65537];
@@ -48,28 +47,12 @@ fn order_is_full<F: Field>(element: F) -> bool {
     order_is(norm, u64::MAX, &PRIMES_OF_64) && product_is(&PRIMES_ABOVE_64, (1 << 64) + 1)
 }
 
-#[test]
-fn the_generator_of_thirty_two_bits(rt: HostRuntime) {
-    assert!(rt; order_is(BinaryField32::GENERATOR, u64::from(u32::MAX), &PRIMES_OF_32));
-}
-
-#[test]
-fn the_generators_of_sixty_four_bits(rt: HostRuntime) {
-    assert!(rt;
-        order_is(BinaryField64::GENERATOR, u64::MAX, &PRIMES_OF_64)
-            && order_is(Poly64::GENERATOR, u64::MAX, &PRIMES_OF_64)
-    );
-}
-
-#[test]
-fn the_generators_of_a_hundred_and_twenty_eight_bits(rt: HostRuntime) {
-    assert!(rt; order_is_full(BinaryField128::GENERATOR) && order_is_full(Ghash128::GENERATOR));
-}
-
-#[test]
-fn the_generators_are_images_of_those_of_the_tower(rt: HostRuntime) {
-    assert!(rt;
-        Poly64::GENERATOR == Poly64::from(BinaryField64::GENERATOR)
-            && Ghash128::GENERATOR == Ghash128::from(BinaryField128::GENERATOR)
-    );
+/// Whether the generator generates all elements but 0, in a field of 32, 64 or 128 bits. Up to 16 bits that is a law of the field.
+pub(crate) fn generator_is_full<F: Field>() -> bool {
+    match F::bits() {
+        32 => order_is(F::GENERATOR, u64::from(u32::MAX), &PRIMES_OF_32),
+        64 => order_is(F::GENERATOR, u64::MAX, &PRIMES_OF_64),
+        128 => order_is_full(F::GENERATOR),
+        bits => bits <= 16,
+    }
 }

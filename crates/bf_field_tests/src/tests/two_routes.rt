@@ -33,20 +33,21 @@ fn products_agree_128(x: u128, y: u128) -> bool {
     x * y == x.reference_mul(y)
 }
 
+/// Whether the inverse of an element is the image of the inverse of its image in the tower.
+fn inverses_agree<P: TowerLevel + From<T>, T: TowerLevel + From<P>>(x: P) -> bool {
+    let through_the_tower = match T::from(x).try_inverse() {
+        Some(inverse) => Some(P::from(inverse)),
+        None => None,
+    };
+    x.try_inverse() == through_the_tower
+}
+
 fn inverses_agree_64(x: u64) -> bool {
-    let x = Poly64::new(x);
-    x.try_inverse()
-        == BinaryField64::from(x)
-            .try_inverse()
-            .map(|y| Poly64::from(y))
+    inverses_agree::<Poly64, BinaryField64>(Poly64::new(x))
 }
 
 fn inverses_agree_128(x: u128) -> bool {
-    let x = Ghash128::new(x);
-    x.try_inverse()
-        == BinaryField128::from(x)
-            .try_inverse()
-            .map(|y| Ghash128::from(y))
+    inverses_agree::<Ghash128, BinaryField128>(Ghash128::new(x))
 }
 
 #[test]
