@@ -116,12 +116,11 @@ inverse_of_quotients k a norm' q0 q1 r fits is_norm q0_fits q1_fits first second
     (is_pair ∙ ap₂ (pair (2 ^ k)) (quotient_is k norm' over _ q0 q0_fits inverts first) (quotient_is k norm' over _ q1 q1_fits inverts second))
     ∙ tower_mul-conjugate_over_norm k a over (ap (λ (n : ℕ). tower_mul k n over) (sym is_norm) ∙ inverts)
 
--- ---- the level by its number
+-- ---- conjugates
 
 -- half as many squarings as the level has bits conjugate
-pub conjugate_is_squarings : (n k a r : ℕ) → n ≡ suc k → r ≡ conjugate (2 ^ k) (tower_mul k) (root k) a
-    → r ≡ repeated_square 1 (tower_mul n) (2 ^ n / 2) a
-conjugate_is_squarings n k a r next is =
+pub conjugate_is_squarings : (k a r : ℕ) → r ≡ conjugate (2 ^ k) (tower_mul k) (root k) a
+    → r ≡ repeated_square 1 (tower_mul (suc k)) (2 ^ suc k / 2) a
+conjugate_is_squarings k a r is =
     let half : 2 ^ suc k / 2 ≡ 2 ^ k = omega (arith, pow-suc 2 k) in
     is ∙ sym (tower_repeated_square-half k a) ∙ ap (λ (m : ℕ). repeated_square 1 (tower_mul (suc k)) m a) (sym half)
-    ∙ ap (λ (m : ℕ). repeated_square 1 (tower_mul m) (2 ^ m / 2) a) (sym next)

@@ -2,17 +2,15 @@
 //! one below a root X of X² + t X + 1, where t is the root adjoined below, and 1 over GF(2).
 #![tactic(auto)]
 
-mod bytes;
 mod extension;
 mod level;
+mod levels;
 pub mod quadratic;
 mod subfields;
 mod tower;
-mod wide;
 
-pub use crate::bytes::{Bits1, Bits2, Bits4, Bits8};
 pub use crate::extension::Extension;
 pub use crate::level::Level;
+pub use crate::levels::{Bits1, Bits2, Bits4, Bits8, Bits16, Bits32, Bits64, Bits128};
 pub use crate::subfields::LiesIn;
 pub use crate::tower::Tower;
-pub use crate::wide::{Bits16, Bits32, Bits64, Bits128};

@@ -1,8 +1,9 @@
 // Arithmetic in a quadratic extension of a level of the tower by a root X of X² + t X + 1, where t is the root that the
 // level adjoined. Every level above GF(2) is such an extension of the level below; what is computed from the halves of an
 // element stands here once for all of them.
-ghost use Rattle.std.specs.Prelude.{◌≡◌, ◌≢◌, ◌<◌, ◌^◌, ℕ, suc, bit_xor};
+ghost use Rattle.std.specs.Prelude.{◌≡◌, ◌≢◌, ◌<◌, ◌^◌, ◌/◌, ℕ, suc, bit_xor};
 ghost use Rattle.bf_base.specs.Norm.{conjugate, norm};
+ghost use Rattle.bf_base.specs.Powers.{repeated_square};
 ghost use Rattle.bf_base.specs.Quadratic.{pair};
 ghost use Rattle.bf_base.specs.Tower.{root, tower_mul};
 
@@ -88,11 +89,13 @@ pub fn divide_by_root<R: Unsigned, E: Extension<R>>(a: R) -> R
     E::join(high.xor(E::Below::multiply_by_root(low)), low)
 }
 
-/// The conjugate of an element, in which the other root X + t of the polynomial stands for X: (a0 + t a1) + a1 X.
+/// The conjugate of an element, in which the other root X + t of the polynomial stands for X: (a0 + t a1) + a1 X. It is the
+/// element squared half as many times as it has bits.
 #[inline]
-#[tactic(auto, using(crate::proofs::Halves::product_lt, crate::proofs::Halves::sum_lt))]
+#[tactic(auto, using(crate::proofs::Halves::product_lt, crate::proofs::Halves::sum_lt, crate::proofs::Halves::conjugate_is_squarings))]
 pub fn conjugate_of<R: Unsigned, E: Extension<R>>(a: R) -> R
-    ensures { R.number result ≡ conjugate (2 ^ E.Below.LEVEL) (tower_mul E.Below.LEVEL) (root E.Below.LEVEL) (R.number a) }
+    ensures conjugate { R.number result ≡ conjugate (2 ^ E.Below.LEVEL) (tower_mul E.Below.LEVEL) (root E.Below.LEVEL) (R.number a) }
+    ensures squarings { let k = suc E.Below.LEVEL in R.number result ≡ repeated_square 1 (tower_mul k) (2 ^ k / 2) (R.number a) }
 {
     let (low, high) = (E::low(a), E::high(a));
     E::join(low.xor(E::Below::multiply_by_root(high)), high)

@@ -2,10 +2,9 @@
 ghost use Rattle.std.specs.Prelude.{◌≡◌, ◌<◌, ◌≤◌, ◌^◌, ℕ};
 ghost use Rattle.std.proofs.Common.{lit≤};
 
-use crate::bytes::{Bits2, Bits8};
 use crate::level::Level;
+use crate::levels::{Bits2, Bits8, Bits16, Bits32, Bits64, Bits128};
 use crate::tower::Tower;
-use crate::wide::{Bits16, Bits32, Bits64, Bits128};
 use bf_base::{Contains, Joins, LevelKernel, Unsigned};
 
 /// A level of the tower that lies inside the field `K`, in the basis of the field. Operators between the two replace the element

@@ -1,6 +1,0 @@
-use Rattle.std.proofs.Common.{refl}
-use Rattle.bf_tower.proofs.Halves.{conjugate_is_squarings}
-use Rattle.bf_tower.proofs.wide.Bits128LevelU128.conjugate.Goals as goal
-
-pub returns : goal.returns
-returns c = conjugate_is_squarings 7 6 c.args.x _ refl c.conjugate_of.ensures
