@@ -1,1 +1,2 @@
 pub mod Fermat
+pub mod Sums

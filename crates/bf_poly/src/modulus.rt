@@ -73,10 +73,6 @@ pub trait Modulus<R: Unsigned, L: Level<R>> {
         ensures fits { R.number result < 2 ^ width }
         ensures image { basis_image width modulus images (R.number result) ≡ R.number x };
 
-    /// The sum of no products, as its low and its high word.
-    fn no_products() -> (R, R)
-        ensures { reduced result.0 result.1 ≡ 0 };
-
     /// The sum of two words, and the carryless product of `x` and `y`, whose remainder is not taken yet.
     fn add_product(low: R, high: R, x: R, y: R) -> (R, R)
         ensures { reduced result.0 result.1 ≡ bit_xor (reduced low high) (mul_mod width modulus (R.number x) (R.number y)) };
@@ -88,6 +84,8 @@ pub trait Modulus<R: Unsigned, L: Level<R>> {
     ghost bits_law: { width ≡ R.bits };
 
     ghost level_law: { LEVEL ≡ L.LEVEL };
+
+    ghost reduced_zero: { reduced R.ZERO R.ZERO ≡ 0 };
 
     ghost reduced_fits: { (low high : R) → reduced low high < 2 ^ width };
 

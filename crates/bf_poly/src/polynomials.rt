@@ -89,7 +89,7 @@ impl<R: Unsigned, L: Level<R>, M: Modulus<R, L>> Kernel<R> for Polynomials<M, L>
 
     #[inline]
     fn no_products() -> (R, R) {
-        M::no_products()
+        (R::ZERO, R::ZERO)
     }
 
     #[inline]

@@ -3,11 +3,9 @@ ghost use Rattle.std.specs.Prelude.{◌≡◌, ◌<◌, ◌≤◌, ◌^◌, ℕ}
 ghost use Rattle.std.proofs.Common.{lit≤};
 ghost use Rattle.bf_base.specs.Basis.{basis_image};
 
-use crate::ghash::GhashKernel;
+use crate::moduli::{GhashKernel, Poly64Kernel, RijndaelKernel};
 use crate::modulus::Modulus;
-use crate::poly64::Poly64Kernel;
 use crate::polynomials::Polynomials;
-use crate::rijndael::RijndaelKernel;
 use bf_base::{Contains, LevelKernel, Unsigned};
 use bf_tower::{Bits8, Bits16, Bits32, Bits64, Bits128, Level, Tower};
 

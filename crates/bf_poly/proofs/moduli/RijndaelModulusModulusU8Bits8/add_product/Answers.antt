@@ -3,7 +3,7 @@ use Rattle.std.specs.Prelude.{bit_xor}
 use Rattle.std.proofs.lemmas.Nat.{xor_mod}
 use native.Mathlib.Nat.{mod-eq_of_lt}
 use Rattle.bf_basis.proofs.Isomorphisms.{field_8}
-use Rattle.bf_poly.proofs.rijndael.RijndaelModulusModulusU8Bits8.add_product.Goals as goal
+use Rattle.bf_poly.proofs.moduli.RijndaelModulusModulusU8Bits8.add_product.Goals as goal
 
 -- a product is a byte
 pub returns : goal.returns
