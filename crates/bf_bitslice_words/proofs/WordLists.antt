@@ -5,7 +5,6 @@ use Rattle.std.proofs.lemmas.Bool.{cases_eq}
 use Rattle.std.proofs.Math.Nat.{div-one}
 use Rattle.std.proofs.lemmas.List.{length-append, map-append}
 use Rattle.std.proofs.lemmas.Nat.{shr-shr}
-use native.Mathlib.Nat.{zero-add}
 use native.Mathlib.Numerals.{add-one}
 use Rattle.bf_bitslice_words.specs.Parts.{IsWithPart, IsZipped, part_at, parts_of}
 
@@ -43,14 +42,11 @@ parts-written w count i n v r inside written =
     ∙ ap₂ (λ (xs : List ℕ) (x : ℕ). xs ++ x ∷ [])
     (parts-same w i r n (λ k less. written.1 k (omega arith) (λ is. absurd (omega arith)))) written.0
 
-fills_more : {S A : Type 0} (R : S → ℕ → A → S → Type 0) (s : S) (i : ℕ) (xs : List A) (t u : S) (x : A)
-    → FillsFrom R s i xs t → R t (i + length xs) x u → FillsFrom R s i (xs ++ x ∷ []) u
-fills_more R s i [] t u x same step =
-    let none : i + 0 ≡ i = omega arith in
-    (u, subst (λ p. R p i x u) (sym same) (subst (λ k. R t k x u) none step), refl)
-fills_more R s i (y ∷ ys) t u x fills step =
-    let next : i + suc (length ys) ≡ i + 1 + length ys = omega arith in
-    (fills.0, fills.1, fills_more R fills.0 (i + 1) ys t u x fills.2 (subst (λ k. R t k x u) next step))
+-- what calls gave, and what one call more gives
+fills_more : {S A : Type 0} (R : S → ℕ → A → S → Type 0) (s : S) (i : ℕ) (xs : List A) (t u : S) (x : A) (k : ℕ) → k ≡ i + length xs
+    → FillsFrom R s i xs t → R t k x u → FillsFrom R s i (xs ++ x ∷ []) u
+fills_more R s i [] t u x k last same step = (u, subst (λ p. R p i x u) (sym same) (subst (λ n. R t n x u) (omega arith) step), refl)
+fills_more R s i (y ∷ ys) t u x k last fills step = (fills.0, fills.1, fills_more R fills.0 (i + 1) ys t u x k (omega arith) fills.2 step)
 
 -- the first i words of a row are those that calls gave, from the state `start` to the state `now`
 pub record Filled {S A : Type 0} (w : ℕ) (number : A → ℕ) (step : S → ℕ → A → S → Type 0) (start : S) (i row : ℕ) (now : S) : Type 0 where
@@ -67,7 +63,7 @@ module _ {S A : Type 0} (w : ℕ) (number : A → ℕ) (step : S → ℕ → A �
       → step now i word next → IsWithPart w count n i (number word) r → Filled w number step start (i + 1) r next
   more_filled count i n r now next word begun inside called written = record {
     taken = begun.taken ++ word ∷ [];
-    fills = fills_more step start 0 begun.taken now next word begun.fills (subst (λ k. step now k word next) (sym begun.long ∙ sym (zero-add (length begun.taken))) called);
+    fills = fills_more step start 0 begun.taken now next word i (omega (arith, begun.long)) begun.fills called;
     long = length-append begun.taken (word ∷ []) ∙ ap (λ (n : ℕ). n + 1) begun.long;
     are = map-append number begun.taken (word ∷ []) ∙ ap (λ ys. ys ++ number word ∷ []) begun.are
         ∙ sym (parts-written w count i n (number word) r inside written);
