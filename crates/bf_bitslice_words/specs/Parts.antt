@@ -1,5 +1,5 @@
 -- A number as words, the lowest first. Bit i of a number, `bit_at n i` of std, is its lane i.
-use Rattle.std.specs.Prelude.{◌≡◌, ◌≢◌, ◌<◌, ◌≤◌, ◌-◌, bit_and, bit_xor, ℕ, ◌+◌, ◌*◌, ◌/◌, ◌%◌, ◌^◌, suc, zero, Bool, ◌&&◌, List, [], ◌∷◌, length}
+use Rattle.std.specs.Prelude.{◌≡◌, ◌≢◌, ◌<◌, ◌≤◌, ◌-◌, bit_and, bit_xor, ℕ, ◌+◌, ◌*◌, ◌/◌, ◌%◌, ◌^◌, suc, zero, Bool, true, ◌&&◌, List, [], ◌∷◌, length}
 use Rattle.std.specs.Bool.{nat_eq, nat_lt}
 use Rattle.std.specs.Int.{bit_at}
 use Rattle.std.specs.List.{list_all}
@@ -17,6 +17,11 @@ part_at width n i = n / 2 ^ (width * i) % 2 ^ width
 abbrev pub parts_of : ℕ → ℕ → ℕ → List ℕ
 parts_of width zero n = []
 parts_of width (suc count) n = n % 2 ^ width ∷ parts_of width count (n / 2 ^ width)
+
+-- a row has its words, and its number is n
+pub record IsRowOf {R : Type 0} (of : R → ℕ) (is_whole : R → Bool) (n : ℕ) (row : R) : Type 0 where
+  pub number : of row ≡ n
+  pub whole : is_whole row ≡ true
 
 -- of `count` parts of `width` bits, part i of the number r is v, and every other part is that of n
 abbrev pub IsWithPart : ℕ → ℕ → ℕ → ℕ → ℕ → ℕ → Type 0

@@ -1,6 +1,6 @@
 // Rows word by word: sums, products, counts, and blocks of two rows interleaved.
 ghost use Rattle.std.specs.Prelude.{◌≡◌, ◌<◌, ◌+◌, ◌-◌, ◌*◌, ◌/◌, ◌%◌, IsTrue, bit_and, bit_xor, count_ones};
-ghost use Rattle.bf_bitslice_words.specs.Parts.{HasFirstBlocks, HasSecondBlocks, IsBlockSize, part_at};
+ghost use Rattle.bf_bitslice_words.specs.Parts.{HasFirstBlocks, HasSecondBlocks, IsBlockSize, IsRowOf, part_at};
 
 use crate::underlier::Underlier;
 use crate::word::Word;
@@ -10,8 +10,7 @@ use crate::word::Word;
 pub fn bits_xor<U: Underlier>(left: &U, right: &U) -> U
     requires left_whole { IsTrue (U.is_whole left.now) }
     requires right_whole { IsTrue (U.is_whole right.now) }
-    ensures number { U.number result ≡ bit_xor (U.number left.now) (U.number right.now) }
-    ensures whole { IsTrue (U.is_whole result) }
+    ensures { IsRowOf U.number U.is_whole (bit_xor (U.number left.now) (U.number right.now)) result }
 {
     left.zip(*right, |x, y| x ^ y)
 }
@@ -21,8 +20,7 @@ pub fn bits_xor<U: Underlier>(left: &U, right: &U) -> U
 pub fn bits_and<U: Underlier>(left: &U, right: &U) -> U
     requires left_whole { IsTrue (U.is_whole left.now) }
     requires right_whole { IsTrue (U.is_whole right.now) }
-    ensures number { U.number result ≡ bit_and (U.number left.now) (U.number right.now) }
-    ensures whole { IsTrue (U.is_whole result) }
+    ensures { IsRowOf U.number U.is_whole (bit_and (U.number left.now) (U.number right.now)) result }
 {
     left.zip(*right, |x, y| x & y)
 }
