@@ -1,11 +1,11 @@
 -- The bits of parts of a number, of a number with a run of bits replaced, and of two numbers whose blocks are exchanged.
-use Rattle.std.proofs.Common.{◌≡◌, ℕ, ◌+◌, ◌*◌, ◌/◌, ◌%◌, ◌^◌, ◌<◌, ◌≤◌, ◌-◌, min, sym, ap, ap₂, ◌∙◌, arith, inl, inr, ◌⊎◌, subst}
+use Rattle.std.proofs.Common.{◌≡◌, ℕ, ◌+◌, ◌*◌, ◌/◌, ◌%◌, ◌^◌, ◌<◌, ◌≤◌, ◌-◌, Bool, true, min, sym, ap, ap₂, ◌∙◌, arith, inl, inr, ◌⊎◌, subst}
 use Rattle.std.specs.Prelude.{bit_and, bit_xor}
 use Rattle.std.specs.Int.{bit_at}
 use Rattle.std.proofs.lemmas.Nat.{pow_pos, shr-shr, shr_split, xor_shr, xor_mod, and_shr, and_mod, and_mask, div_below}
 use Rattle.std.proofs.lemmas.Nat.Bits.{bit_at_cat_low, bit_at_cat_high, bit_at_and, bit_at_xor, bit_at-zero, bit_at-lt, bit_at_above, ones_shr, same_from_bits_below}
 use native.Mathlib.Nat.{mod-lt}
-use Rattle.bf_bitslice_words.specs.Parts.{HasEvenBlocks, HasFirstBlocks, HasSecondBlocks, IsWithField, IsZipped, difference, part_at}
+use Rattle.bf_bitslice_words.specs.Parts.{HasEvenBlocks, HasFirstBlocks, HasSecondBlocks, IsRowOf, IsWithField, IsZipped, difference, part_at}
 use Rattle.bf_bitslice_words.proofs.BlockPlaces.{before_quotient, odd_is_above}
 use Rattle.std.proofs.lemmas.Bool.{cases_lt}
 
@@ -164,7 +164,7 @@ field_bits w s m word value fits = (inside, below, above)
         ∙ bit_at_above (bit_xor (word / 2 ^ s) value % 2 ^ m) m (j - s) (mod-lt (bit_xor (word / 2 ^ s) value) (pow_pos m)) (omega arith))
 
 -- what an operation that goes bit by bit gives of words it gives of rows of them
-pub same_as_zipped : {A : Type 0} (w count bits left right result : ℕ) (number : A → ℕ) (gives : A → A → A → Type 0) (op : ℕ → ℕ → ℕ)
+same_as_zipped : {A : Type 0} (w count bits left right result : ℕ) (number : A → ℕ) (gives : A → A → A → Type 0) (op : ℕ → ℕ → ℕ)
     → 0 < w → bits ≡ w * count → ((a b : ℕ) → a < 2 ^ bits → b < 2 ^ bits → op a b < 2 ^ bits)
     → ((a b i : ℕ) → part_at w (op a b) i ≡ op (part_at w a i) (part_at w b i))
     → left < 2 ^ bits → right < 2 ^ bits → result < 2 ^ bits
@@ -173,6 +173,17 @@ same_as_zipped w count bits left right result number gives op some is fits parts
     same_from_parts w count result (op left right) some
     (subst (λ (n : ℕ). result < 2 ^ n) is result_fits) (subst (λ (n : ℕ). op left right < 2 ^ n) is (fits left right left_fits right_fits))
     (λ i less. let word = zipped i less in sym word.6 ∙ law word.0 word.1 word.2 word.5 ∙ ap₂ op word.3 word.4 ∙ sym (parts left right i))
+
+pub row_of_zipped : {R A : Type 0} (of : R → ℕ) (is_whole : R → Bool) (w count bits : ℕ) (left right row : R) (number : A → ℕ) (gives : A → A → A → Type 0)
+    (op : ℕ → ℕ → ℕ) → 0 < w → bits ≡ w * count → ((a b : ℕ) → a < 2 ^ bits → b < 2 ^ bits → op a b < 2 ^ bits)
+    → ((a b i : ℕ) → part_at w (op a b) i ≡ op (part_at w a i) (part_at w b i))
+    → ((x : R) → is_whole x ≡ true → of x < 2 ^ bits) → is_whole left ≡ true → is_whole right ≡ true → is_whole row ≡ true
+    → ((x y z : A) → gives x y z → number z ≡ op (number x) (number y)) → IsZipped w number gives count (of left) (of right) (of row)
+    → IsRowOf of is_whole (op (of left) (of right)) row
+row_of_zipped of is_whole w count bits left right row number gives op some is fits parts range left_whole right_whole whole law zipped = record {
+  number = same_as_zipped w count bits (of left) (of right) (of row) number gives op some is fits parts (range left left_whole) (range right right_whole) (range row whole) law zipped;
+  whole = whole;
+}
 
 -- the lowest bits, as the highest moved down
 pub low_ones : (w m : ℕ) → m ≤ w → (2 ^ w - 1) / 2 ^ (w - m) ≡ 2 ^ m - 1
