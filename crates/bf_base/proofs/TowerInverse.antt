@@ -8,10 +8,9 @@ use Rattle.bf_base.specs.Quadratic.{low_half, high_half, pair}
 use Rattle.bf_base.specs.Norm.{conjugate, norm}
 use Rattle.bf_base.specs.Tower.{root, tower_mul}
 use Rattle.bf_base.proofs.RingLemmas.{zero-times, times-zero}
-use Rattle.bf_base.proofs.TowerRing.{tower_ring, bits_double}
+use Rattle.bf_base.proofs.TowerRing.{tower_ring, bits_double, halves-lt}
 use Rattle.bf_base.proofs.TowerTraces.{tower_inverses, tower_no_root}
 use Rattle.bf_base.proofs.FieldLemmas.{inverse-unique, no_zero_divisors}
-use Rattle.bf_base.proofs.QuadraticRing.{pair-lt}
 use Rattle.bf_base.proofs.QuadraticProducts.{pair-low}
 use Rattle.bf_base.proofs.Norms.{norm-lt, norm-of_zero, norm-zero, quadratic-conjugate, quadratic-inverse}
 
@@ -35,9 +34,7 @@ tower_inverse-suc k a = refl
 pub tower_inverse-lt : (k a : ℕ) → tower_inverse k a < 2 ^ 2 ^ k
 unfolding tower_inverse
 tower_inverse-lt zero a = mod-lt a (lit< tt)
-tower_inverse-lt (suc k) a =
-    subst (λ (x : ℕ). tower_inverse (suc k) a < 2 ^ x) (bits_double k)
-    (pair-lt (2 ^ k) _ _ ((tower_ring k).below _ _) ((tower_ring k).below _ _))
+tower_inverse-lt (suc k) a = halves-lt k _ _ ((tower_ring k).below _ _) ((tower_ring k).below _ _)
 
 -- a norm of the tower is below the level's bound, and 0 only at 0
 pub tower_norm-lt : (k a : ℕ) → norm (2 ^ k) (tower_mul k) (root k) a < 2 ^ 2 ^ k

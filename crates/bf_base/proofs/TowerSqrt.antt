@@ -1,17 +1,17 @@
 -- The square root of an element of the tower by recursion on the level. Squaring is (r0 + r1 X)² =
 -- (r0² + r1²) + t r1² X, so r1² is a1 / t, and r0² is a0 + a1 / t.
-use Rattle.std.proofs.Common.{◌≡◌, ℕ, zero, suc, ◌*◌, ◌%◌, ◌^◌, ◌<◌, refl, sym, ◌∙◌, ap, subst, lit<}
+use Rattle.std.proofs.Common.{◌≡◌, ℕ, zero, suc, ◌*◌, ◌%◌, ◌^◌, ◌<◌, refl, sym, ◌∙◌, ap, lit<}
 use Rattle.std.specs.Prelude.{bit_xor}
 use Rattle.std.proofs.lemmas.Nat.{xor_lt}
 use native.Mathlib.Nat.{mod-lt, mod-eq_of_lt}
 use Rattle.bf_base.specs.Quadratic.{low_half, high_half, pair}
 use Rattle.bf_base.specs.Tower.{root, tower_mul}
 use Rattle.bf_base.specs.TowerField.{root_inverse}
-use Rattle.bf_base.proofs.TowerRing.{tower_ring, bits_double}
+use Rattle.bf_base.proofs.TowerRing.{tower_ring, bits_double, halves-lt}
 use Rattle.bf_base.specs.BitRing.{two_cases}
 use Rattle.bf_base.proofs.TowerTraces.{tower_inverses, root_inverse_is}
 use Rattle.bf_base.proofs.FieldLemmas.{square-injective}
-use Rattle.bf_base.proofs.QuadraticRing.{low_half-lt, pair-lt}
+use Rattle.bf_base.proofs.QuadraticRing.{low_half-lt}
 use Rattle.bf_base.proofs.QuadraticProducts.{quadratic-sqrt}
 
 -- the number of level k whose square is the element
@@ -32,9 +32,7 @@ tower_sqrt-suc k a = refl
 pub tower_sqrt-lt : (k a : ℕ) → tower_sqrt k a < 2 ^ 2 ^ k
 unfolding tower_sqrt
 tower_sqrt-lt zero a = mod-lt a (lit< tt)
-tower_sqrt-lt (suc k) a =
-    subst (λ (x : ℕ). tower_sqrt (suc k) a < 2 ^ x) (bits_double k)
-    (pair-lt (2 ^ k) _ _ (tower_sqrt-lt k _) (tower_sqrt-lt k _))
+tower_sqrt-lt (suc k) a = halves-lt k _ _ (tower_sqrt-lt k _) (tower_sqrt-lt k _)
 
 -- the square of the root is the element
 pub tower_mul-sqrt : (k a : ℕ) → tower_mul k (tower_sqrt k a) (tower_sqrt k a) ≡ a % 2 ^ 2 ^ k
