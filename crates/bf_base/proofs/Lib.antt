@@ -10,6 +10,7 @@ pub mod CarrylessFacts
 pub mod CarrylessPairs
 pub mod CarrylessProduct
 pub mod DotLemmas
+pub mod EightCases
 pub mod FieldLemmas
 pub mod LinearMapLemmas
 pub mod Norms

@@ -1,5 +1,5 @@
 -- What holds of a level of the tower holds of the field that is the level in another basis.
-use Rattle.std.proofs.Common.{◌≡◌, ◌≢◌, ℕ, zero, suc, ◌%◌, ◌^◌, ◌<◌, ◌≤◌, sym, ◌∙◌, ap, ap₂, subst, arith, lit<}
+use Rattle.std.proofs.Common.{◌≡◌, ◌≢◌, ℕ, ◌%◌, ◌^◌, ◌<◌, ◌≤◌, sym, ◌∙◌, ap, ap₂, subst, arith, lit<}
 use Rattle.std.specs.Prelude.{bit_xor}
 use Rattle.std.proofs.lemmas.Nat.{pow_pos, pow_below, xor_lt}
 use native.Mathlib.Nat.{mod-lt}
@@ -8,6 +8,7 @@ use Rattle.bf_base.specs.Orders.{AreCantorVectors}
 use Rattle.bf_base.specs.Ring.{IsRing}
 use Rattle.bf_base.specs.Tower.{root, tower_mul}
 use Rattle.bf_base.specs.TowerBasis.{AreEvenCantorVectors, IsBasisOf, tower_generator}
+use Rattle.bf_base.proofs.EightCases.{eight_cases}
 use Rattle.bf_base.proofs.RingLemmas.{times-mod, mod-times}
 use Rattle.bf_base.proofs.TowerRing.{tower_ring}
 use Rattle.bf_base.proofs.TowerTraces.{tower_no_root}
@@ -65,24 +66,13 @@ module _ (k width : ℕ) (times : ℕ → ℕ → ℕ) (basis : ℕ → ℕ) (ri
 
 -- ---- the generators
 
--- a property of each of the eight levels
-eight_levels : (P : ℕ → Type 0) → P 0 → P 1 → P 2 → P 3 → P 4 → P 5 → P 6 → P 7 → (k : ℕ) → k ≤ 7 → P k
-eight_levels P p0 p1 p2 p3 p4 p5 p6 p7 zero few = p0
-eight_levels P p0 p1 p2 p3 p4 p5 p6 p7 (suc zero) few = p1
-eight_levels P p0 p1 p2 p3 p4 p5 p6 p7 (suc (suc zero)) few = p2
-eight_levels P p0 p1 p2 p3 p4 p5 p6 p7 (suc (suc (suc zero))) few = p3
-eight_levels P p0 p1 p2 p3 p4 p5 p6 p7 (suc (suc (suc (suc zero)))) few = p4
-eight_levels P p0 p1 p2 p3 p4 p5 p6 p7 (suc (suc (suc (suc (suc zero))))) few = p5
-eight_levels P p0 p1 p2 p3 p4 p5 p6 p7 (suc (suc (suc (suc (suc (suc zero)))))) few = p6
-eight_levels P p0 p1 p2 p3 p4 p5 p6 p7 (suc (suc (suc (suc (suc (suc (suc zero))))))) few = p7
-eight_levels P p0 p1 p2 p3 p4 p5 p6 p7 (suc (suc (suc (suc (suc (suc (suc (suc k)))))))) few = absurd (omega (arith, few))
-
 pub generator_lt : (k : ℕ) → k ≤ 7 → tower_generator k < 2 ^ 2 ^ k
-generator_lt =
-    eight_levels (λ k. tower_generator k < 2 ^ 2 ^ k) (lit< tt) (lit< tt) (lit< tt) (lit< tt) (lit< tt) (lit< tt) (lit< tt) (lit< tt)
+generator_lt k few =
+    eight_cases (λ k. tower_generator k < 2 ^ 2 ^ k) (lit< tt) (lit< tt) (lit< tt) (lit< tt) (lit< tt) (lit< tt) (lit< tt) (lit< tt)
+    k (omega (arith, few))
 
 pub generator_nonzero : (k : ℕ) → k ≤ 7 → tower_generator k ≢ 0
-generator_nonzero =
-    eight_levels (λ k. tower_generator k ≢ 0) (λ e. absurd (omega (arith, e))) (λ e. absurd (omega (arith, e)))
+generator_nonzero k few =
+    eight_cases (λ k. tower_generator k ≢ 0) (λ e. absurd (omega (arith, e))) (λ e. absurd (omega (arith, e)))
     (λ e. absurd (omega (arith, e))) (λ e. absurd (omega (arith, e))) (λ e. absurd (omega (arith, e)))
-    (λ e. absurd (omega (arith, e))) (λ e. absurd (omega (arith, e))) (λ e. absurd (omega (arith, e)))
+    (λ e. absurd (omega (arith, e))) (λ e. absurd (omega (arith, e))) (λ e. absurd (omega (arith, e))) k (omega (arith, few))
