@@ -92,9 +92,7 @@ impl<F: Laned, const N: usize> Add<Packed<F, N>> for Packed<F, N> {
 
     #[inline]
     fn add(self, other: Packed<F, N>) -> Packed<F, N> {
-        let mut lanes = self.lanes;
-        zip_lanes(lanes.as_mut_slice(), other.lanes.as_slice(), sum::<F>);
-        Packed { lanes }
+        self.zip(other, sum::<F>)
     }
 }
 
@@ -111,7 +109,7 @@ impl<F: Laned, const N: usize> Mul<Packed<F, N>> for Packed<F, N> {
     }
 }
 
-// The operators as functions, which `zip_lanes` takes.
+// The operators as functions, which `zip` and `zip_lanes` take.
 #[inline]
 fn sum<F: Represented>(x: F, y: F) -> F
     ensures { F.repr result ≡ bit_xor (F.repr x) (F.repr y) }

@@ -1,5 +1,20 @@
-// Loops over lanes: one of two slices, and one of a slice alone.
+// Loops over lanes: one of two slices or packings, and one of a slice alone.
 ghost use Rattle.std.specs.Prelude.{◌≡◌, ◌<◌, ℕ, length, slice_index_or};
+
+use crate::packed::Packed;
+
+impl<F: Copy, const N: usize> Packed<F, N> {
+    // What `operation` gives for the lanes of both, place by place.
+    #[inline]
+    pub(crate) fn zip<O: Fn(F, F) -> F>(self, other: Packed<F, N>, operation: O) -> Packed<F, N>
+        requires { O.IsAlwaysCallable operation }
+        ensures { (k : ℕ) (d : F) → k < N → O.post operation (slice_index_or self.lanes k d) (slice_index_or other.lanes k d) (slice_index_or result.lanes k d) }
+    {
+        let mut lanes = self.lanes;
+        zip_lanes(lanes.as_mut_slice(), other.lanes.as_slice(), operation);
+        Packed { lanes }
+    }
+}
 
 // Replaces each element of `left` by what `operation` gives for it and the element of `right` at its place.
 #[inline]

@@ -2,7 +2,6 @@
 ghost use Rattle.std.specs.Prelude.{◌≡◌, ◌≢◌, ◌<◌, ℕ, map, replicate, slice_index_or};
 ghost use Rattle.bf_packing.specs.Lanes.{lane_by_lane};
 
-use crate::packed::each::zip_lanes;
 use crate::packed::maps::inverse_or_zero;
 use crate::packed::{Packed, WiderField};
 use bf_base::traits::Field;
@@ -18,9 +17,7 @@ impl<F: WiderField, const N: usize> Div<Packed<F, N>> for Packed<F, N> {
 
     #[inline]
     fn div(self, other: Packed<F, N>) -> Packed<F, N> {
-        let mut lanes = self.lanes;
-        zip_lanes(lanes.as_mut_slice(), other.lanes.as_slice(), quotient::<F>);
-        Packed { lanes }
+        self.zip(other, quotient::<F>)
     }
 }
 
