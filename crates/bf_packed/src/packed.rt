@@ -5,17 +5,15 @@ ghost use Rattle.std.proofs.lemmas.List.{length-replicate};
 ghost use Rattle.bf_packing.specs.Lanes.{joined, lane_by_lane, lane_product};
 ghost use Rattle.bf_packed.specs.LaneLists.{every_below, every_zero, lanes_below, lanes_same, map-replicate, product_number, sum_number};
 
-mod bits;
 mod draws;
 mod each;
 mod interleaved;
 mod lanes;
-mod left;
 mod maps;
 mod operators;
 mod quotients;
 mod ring;
-mod scalars;
+mod values;
 
 use crate::packed::each::zip_lanes;
 use bf_base::Gf2;

@@ -1,5 +1,5 @@
 use Rattle.bf_packed.specs.LaneLists.{map-every}
-use Rattle.bf_packed.proofs.packed.scalars.PackedProduct.product.Goals as goal
+use Rattle.bf_packed.proofs.packed.values.PackedProduct.product.Goals as goal
 
 pub returns : goal.returns
 returns g c =
