@@ -1,5 +1,5 @@
 // The integer types of Rust, by the parity of a number and by the numbers 0 and 1.
-ghost use Rattle.std.specs.Prelude.{◌≡◌, ◌≢◌, ◌↔◌, ℕ, ℤ, pos, IsTrue, IsNone, IfSome};
+ghost use Rattle.std.specs.Prelude.{◌≡◌, ◌≢◌, ◌⊎◌, ◌↔◌, ℕ, ℤ, pos, IsTrue, IsNone, IfSome};
 ghost use Rattle.bf_base.specs.Bit.{repr_of};
 ghost use Rattle.bf_base.specs.Powers.{parity};
 
@@ -15,10 +15,21 @@ pub trait Integer: Copy {
     fn is_odd(self) -> bool
         ensures { IsTrue result ↔ (parity (value self) ≡ 1) };
 
+    /// Whether the number is 0 or 1.
+    fn is_bit(self) -> bool
+        ensures { IsTrue result ↔ ((value self ≡ pos 0) ⊎ (value self ≡ pos 1)) };
+
     /// The element of GF(2) that 0 or 1 is, and None for any other number.
-    fn as_bit(self) -> Option<Gf2>
+    final fn as_bit(self) -> Option<Gf2>
         ensures none { IsNone result ↔ ((value self ≢ pos 0) × (value self ≢ pos 1)) }
-        ensures bit { IfSome result (λ bit. value self ≡ pos (repr_of bit)) };
+        ensures bit { IfSome result (λ bit. value self ≡ pos (repr_of bit)) }
+    {
+        if self.is_bit() {
+            Some(Gf2::from_bool(self.is_odd()))
+        } else {
+            None
+        }
+    }
 }
 
 impl Integer for u8 {
@@ -28,12 +39,8 @@ impl Integer for u8 {
         self % 2 != 0
     }
 
-    fn as_bit(self) -> Option<Gf2> {
-        match self {
-            0 => Some(Gf2::ZERO),
-            1 => Some(Gf2::ONE),
-            _ => None,
-        }
+    fn is_bit(self) -> bool {
+        self == 0 || self == 1
     }
 }
 
@@ -44,12 +51,8 @@ impl Integer for u16 {
         self % 2 != 0
     }
 
-    fn as_bit(self) -> Option<Gf2> {
-        match self {
-            0 => Some(Gf2::ZERO),
-            1 => Some(Gf2::ONE),
-            _ => None,
-        }
+    fn is_bit(self) -> bool {
+        self == 0 || self == 1
     }
 }
 
@@ -60,12 +63,8 @@ impl Integer for u32 {
         self % 2 != 0
     }
 
-    fn as_bit(self) -> Option<Gf2> {
-        match self {
-            0 => Some(Gf2::ZERO),
-            1 => Some(Gf2::ONE),
-            _ => None,
-        }
+    fn is_bit(self) -> bool {
+        self == 0 || self == 1
     }
 }
 
@@ -76,12 +75,8 @@ impl Integer for u64 {
         self % 2 != 0
     }
 
-    fn as_bit(self) -> Option<Gf2> {
-        match self {
-            0 => Some(Gf2::ZERO),
-            1 => Some(Gf2::ONE),
-            _ => None,
-        }
+    fn is_bit(self) -> bool {
+        self == 0 || self == 1
     }
 }
 
@@ -92,12 +87,8 @@ impl Integer for u128 {
         self % 2 != 0
     }
 
-    fn as_bit(self) -> Option<Gf2> {
-        match self {
-            0 => Some(Gf2::ZERO),
-            1 => Some(Gf2::ONE),
-            _ => None,
-        }
+    fn is_bit(self) -> bool {
+        self == 0 || self == 1
     }
 }
 
@@ -108,12 +99,8 @@ impl Integer for usize {
         self % 2 != 0
     }
 
-    fn as_bit(self) -> Option<Gf2> {
-        match self {
-            0 => Some(Gf2::ZERO),
-            1 => Some(Gf2::ONE),
-            _ => None,
-        }
+    fn is_bit(self) -> bool {
+        self == 0 || self == 1
     }
 }
 
@@ -124,12 +111,8 @@ impl Integer for i8 {
         self % 2 != 0
     }
 
-    fn as_bit(self) -> Option<Gf2> {
-        match self {
-            0 => Some(Gf2::ZERO),
-            1 => Some(Gf2::ONE),
-            _ => None,
-        }
+    fn is_bit(self) -> bool {
+        self == 0 || self == 1
     }
 }
 
@@ -140,12 +123,8 @@ impl Integer for i16 {
         self % 2 != 0
     }
 
-    fn as_bit(self) -> Option<Gf2> {
-        match self {
-            0 => Some(Gf2::ZERO),
-            1 => Some(Gf2::ONE),
-            _ => None,
-        }
+    fn is_bit(self) -> bool {
+        self == 0 || self == 1
     }
 }
 
@@ -156,12 +135,8 @@ impl Integer for i32 {
         self % 2 != 0
     }
 
-    fn as_bit(self) -> Option<Gf2> {
-        match self {
-            0 => Some(Gf2::ZERO),
-            1 => Some(Gf2::ONE),
-            _ => None,
-        }
+    fn is_bit(self) -> bool {
+        self == 0 || self == 1
     }
 }
 
@@ -172,12 +147,8 @@ impl Integer for i64 {
         self % 2 != 0
     }
 
-    fn as_bit(self) -> Option<Gf2> {
-        match self {
-            0 => Some(Gf2::ZERO),
-            1 => Some(Gf2::ONE),
-            _ => None,
-        }
+    fn is_bit(self) -> bool {
+        self == 0 || self == 1
     }
 }
 
@@ -188,12 +159,8 @@ impl Integer for i128 {
         self % 2 != 0
     }
 
-    fn as_bit(self) -> Option<Gf2> {
-        match self {
-            0 => Some(Gf2::ZERO),
-            1 => Some(Gf2::ONE),
-            _ => None,
-        }
+    fn is_bit(self) -> bool {
+        self == 0 || self == 1
     }
 }
 
@@ -204,11 +171,7 @@ impl Integer for isize {
         self % 2 != 0
     }
 
-    fn as_bit(self) -> Option<Gf2> {
-        match self {
-            0 => Some(Gf2::ZERO),
-            1 => Some(Gf2::ONE),
-            _ => None,
-        }
+    fn is_bit(self) -> bool {
+        self == 0 || self == 1
     }
 }
