@@ -1,5 +1,6 @@
 // Prime fields, of which GF(2) is the one here, and their elements as integers.
-ghost use Rattle.std.specs.Prelude.{◌≡◌, ◌≢◌, ◌⊎◌, ◌*◌, ◌↔◌, ℕ, pos, IsNone, IfSome};
+ghost use Rattle.std.specs.Prelude.{◌≡◌, ◌≢◌, ◌≤◌, ◌⊎◌, ◌*◌, ◌↔◌, ℕ, pos, IsNone, IfSome};
+ghost use Rattle.std.proofs.Common.{lit≤};
 ghost use Rattle.bf_base.specs.Powers.{parity};
 
 use crate::integer::Integer;
@@ -80,13 +81,16 @@ pub trait PrimeField32: PrimeField64 {
 
     /// The element as the integer from 0 on and below the prime.
     fn as_canonical_u32(&self) -> u32
-        ensures { result ≡ Self.repr self.now };
+        ensures { result ≡ Self.repr self.now }
+    {
+        self.as_canonical_u64() as u32
+    }
+
+    ghost width_law: { Self.width ≤ 32 };
 }
 
 impl PrimeField32 for Gf2 {
     const ORDER_U32: u32 = 2;
 
-    fn as_canonical_u32(&self) -> u32 {
-        self.to_repr() as u32
-    }
+    ghost width_law = { lit≤ tt };
 }
