@@ -80,7 +80,7 @@ REFUSED = [
     "t16/t8 as_base 10000",
     "t8/t16 coefficients 1",
 ]
-# How many calls stand under each heading.
+# How many calls stand under the heading of each field.
 CALLS = {
     "gf2": 27,
     "t2": 28,
@@ -93,24 +93,25 @@ CALLS = {
     "r8": 33,
     "p64": 42,
     "g128": 45,
-    "operators between two fields": 30,
-    "values of polynomials at x": 6,
-    "masked products": 64,
-    "changes of basis": 72,
-    "a linear map": 1,
-    "slices": 18,
-    "low stages": 12,
-    "maps of bytes": 42,
-    "rows of bits": 66,
-    "packings": 18,
-    "streams": 77,
-    "views": 92,
-    "no calls": 33,
 }
 HEAD = """\
 # Calls of the library, and in stdout their answers by the Rust crate p3-binary-field 0.8.0; drawn from the seed {seed}.
 # Written by scripts/make_vectors.py; do not edit.
 """
+
+
+# What gives the calls under each heading after those of the fields, and how many they are, in the order of this file.
+SECTIONS = {}
+
+
+def section(name, count):
+    """Keeps a function that gives the calls under a heading."""
+
+    def keep(calls):
+        SECTIONS[name] = calls, count
+        return calls
+
+    return keep
 
 
 def number(text):
@@ -174,6 +175,7 @@ def field_calls(vectors, field):
     return [*constants(vectors, field), *products(vectors, field), *dot_products(vectors, field)]
 
 
+@section("operators between two fields", 30)
 def mixed(vectors):
     """What an operator gives at an element and one of a level of the tower on its right."""
     rows = vectors["change_of_basis"]["mixed"][-MIXED:]
@@ -184,6 +186,7 @@ def mixed(vectors):
             yield f"{left}/{right} {operators} {number(row[left])} {number(row[right])}", listed([row[name]] * ways)
 
 
+@section("values of polynomials at x", 6)
 def values_at_x(vectors):
     """The values at x of polynomials over the field of GHASH."""
     for row in vectors["dot_powers_of_x"]:
@@ -191,6 +194,7 @@ def values_at_x(vectors):
             yield f"dot_powers_of_x {listed(row['values'])}", number(row["sum"])
 
 
+@section("masked products", 64)
 def masked_products(vectors):
     """The all ones of each pair of classes, and the first row that was drawn; `masked_products` is of x, 0 and x."""
     kept = {}
@@ -220,6 +224,7 @@ def conversions(vectors, name):
     return rows + drawn
 
 
+@section("changes of basis", 72)
 def changes_of_basis(vectors):
     for name, bits in (("r8", 8), ("p64", 64), ("g128", 128)):
         for tower, polynomial in conversions(vectors, name):
@@ -254,6 +259,7 @@ def results_of(row):
     return results
 
 
+@section("a linear map", 1)
 def linear_maps(vectors):
     """A map that was drawn. Of its results the vectors have the SHA-256."""
     row = vectors["try_apply_linear_map_into"][0]
@@ -261,6 +267,7 @@ def linear_maps(vectors):
     yield call, listed(results_of(row))
 
 
+@section("slices", 18)
 def slices(vectors):
     """Products of slices by a scalar, and butterflies, which give both slices, the low one first."""
     for length in SLICES:
@@ -272,6 +279,7 @@ def slices(vectors):
             yield call, listed(row["lo_out"] + row["hi_out"])
 
 
+@section("low stages", 12)
 def low_stages(vectors):
     """Runs of the low stages, by twiddles that were drawn and by those of Cantor points."""
     for row in vectors["low_stages_forward"]:
@@ -285,6 +293,7 @@ def digits_of(text):
     return [text[at : at + 2] for at in range(0, len(text), 2)]
 
 
+@section("maps of bytes", 42)
 def byte_maps(vectors):
     """Matrices of 8 by 8 bits, linearized polynomials, and the maps of elements of the byte field."""
     for row in vectors["byte_matrix"][-BYTE_MAPS:]:
@@ -315,6 +324,7 @@ def rows_of(numbers, bits):
     return listed([word for number in numbers for word in words_of(number, bits)])
 
 
+@section("rows of bits", 66)
 def rows_of_bits(vectors):
     """Rows of bits transposed, up to 128 of them, interleaved by every block length, and cut into parts."""
     for row in vectors["packed_gf2"]:
@@ -331,6 +341,7 @@ def rows_of_bits(vectors):
             yield f"parts {wide:x} {narrow:x} {rows_of([row['x']], wide)}", rows_of(row["parts"], narrow)
 
 
+@section("packings", 18)
 def packings(vectors):
     """Sixteen bytes of AES lane by lane, and four elements of the field of GHASH."""
     for row in vectors["packed_rijndael8b"]["cases"][-BYTE_MAPS:]:
@@ -349,6 +360,7 @@ def numbers_of(field, texts):
     return [text[at : at + 16] for text in texts for at in range(0, 48, 16)] if field == "p192" else texts
 
 
+@section("streams", 77)
 def streams(vectors):
     """Elements as bytes and words, one after the other, and the text of the first of them."""
     rows = [row for row in vectors["streams"] if row["field"] in STREAMED and len(row["in"]) in STREAMS]
@@ -362,6 +374,7 @@ def streams(vectors):
             yield f"{call} text {listed(numbers_of(row['field'], [x]))}", listed([f"{ord(letter):x}" for letter in text])
 
 
+@section("views", 92)
 def views(vectors):
     """Elements as vectors over a smaller level, the operators with an element of it, and the powers of its number."""
     for pair in vectors["extension_views"]:
@@ -381,23 +394,16 @@ def views(vectors):
         yield f"t128/t2 as_base {x}", listed([row["as_subfield"]] if row["as_subfield"] else [])
 
 
+@section("no calls", 33)
+def refused(_):
+    """Lines that are answered by a word."""
+    return [(line, "error") for line in REFUSED]
+
+
 def chosen(vectors):
     """The calls and their answers under each heading."""
-    sections = {field: field_calls(vectors, field) for field in TOWER + POLYNOMIAL}
-    sections["operators between two fields"] = list(mixed(vectors))
-    sections["values of polynomials at x"] = list(values_at_x(vectors))
-    sections["masked products"] = list(masked_products(vectors))
-    sections["changes of basis"] = list(changes_of_basis(vectors))
-    sections["a linear map"] = list(linear_maps(vectors))
-    sections["slices"] = list(slices(vectors))
-    sections["low stages"] = list(low_stages(vectors))
-    sections["maps of bytes"] = list(byte_maps(vectors))
-    sections["rows of bits"] = list(rows_of_bits(vectors))
-    sections["packings"] = list(packings(vectors))
-    sections["streams"] = list(streams(vectors))
-    sections["views"] = list(views(vectors))
-    sections["no calls"] = [(line, "error") for line in REFUSED]
-    return sections
+    of_fields = {field: field_calls(vectors, field) for field in TOWER + POLYNOMIAL}
+    return of_fields | {name: list(calls(vectors)) for name, (calls, _) in SECTIONS.items()}
 
 
 def texts_of(sections, seed):
@@ -427,7 +433,8 @@ def check():
     sections = read(calls, answers)
     if texts_of(sections, seed) != (calls, answers):
         sys.exit("stdin and stdout are not in the form that this script writes")
-    if {name: len(rows) for name, rows in sections.items()} != CALLS:
+    expected = CALLS | {name: count for name, (_, count) in SECTIONS.items()}
+    if {name: len(rows) for name, rows in sections.items()} != expected:
         sys.exit("there are not as many calls under each heading as are kept")
     for name, rows in sections.items():
         form = "error" if name == "no calls" else "-|[0-9a-f]+(,[0-9a-f]+)*"
