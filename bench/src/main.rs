@@ -37,6 +37,16 @@ macro_rules! sides {
 #[cfg(feature = "rust_crate")]
 use p3_binary_field as rust;
 
+// A function of ours, and the field of the Rust crate whose functions stand beside it.
+macro_rules! level {
+    ($ours:ident, $theirs:ident) => {
+        sides!(
+            ours::$ours(),
+            theirs::field::<theirs::Level<rust::$theirs>>()
+        )
+    };
+}
+
 fn main() -> ExitCode {
     let usage = "bench [SAMPLES] [MILLISECONDS] [tower|polynomials]";
     let mut arguments = std::env::args().skip(1);
@@ -78,49 +88,25 @@ struct Report {
 impl Report {
     fn tower(&mut self) {
         print_heading("Fields of the tower");
-        self.field(&sides!(
-            ours::field8(),
-            theirs::field::<theirs::Level<rust::BinaryField8>>()
-        ));
-        self.field(&sides!(
-            ours::field16(),
-            theirs::field::<theirs::Level<rust::BinaryField16>>()
-        ));
-        self.field(&sides!(
-            ours::field32(),
-            theirs::field::<theirs::Level<rust::BinaryField32>>()
-        ));
-        self.field(&sides!(
-            ours::field64(),
-            theirs::field::<theirs::Level<rust::BinaryField64>>()
-        ));
-        self.field(&sides!(
-            ours::field128(),
-            theirs::field::<theirs::Level<rust::BinaryField128>>()
-        ));
+        self.field(&level!(field8, BinaryField8));
+        self.field(&level!(field16, BinaryField16));
+        self.field(&level!(field32, BinaryField32));
+        self.field(&level!(field64, BinaryField64));
+        self.field(&level!(field128, BinaryField128));
     }
 
     fn fields_of_polynomials(&mut self) {
         print_heading("Rijndael8b");
-        self.field(&sides!(
-            ours::rijndael(),
-            theirs::field::<theirs::Level<rust::Rijndael8b>>()
-        ));
+        self.field(&level!(rijndael, Rijndael8b));
         self.bytes(&sides!(
             ours::apply_matrix as ByteMap,
             theirs::apply_matrix as ByteMap
         ));
         print_heading("Poly64");
-        self.field(&sides!(
-            ours::poly64(),
-            theirs::field::<theirs::Level<rust::Poly64>>()
-        ));
+        self.field(&level!(poly64, Poly64));
         self.basis(&sides!(ours::basis64(), theirs::basis64()));
         print_heading("Ghash128");
-        self.field(&sides!(
-            ours::ghash128(),
-            theirs::field::<theirs::Level<rust::Ghash128>>()
-        ));
+        self.field(&level!(ghash128, Ghash128));
         self.basis(&sides!(ours::basis128(), theirs::basis128()));
         print_heading("Poly192");
         self.field(&sides!(

@@ -1,226 +1,114 @@
 //! The functions of the static library. It takes a slice as a pointer and a length, and 128 bits as two numbers of 64,
-//! low half first, which is how a `u128` lies in memory here.
+//! low half first, which is how a `u128` lies in memory here. It asks only that the slices of one call have one length,
+//! which is 1,024 at a dot product.
 
 use crate::arithmetic::{Arithmetic, Cubic, Polynomials};
 
-macro_rules! ours {
-    ($name:ident, $word:ty, $multiply:ident, $chain:ident, $square:ident, $inverse:ident, $square_root:ident) => {
+/// The function of this name, which takes operands of these types.
+macro_rules! library {
+    ($name:expr, $($operand:ty),*) => {{
         unsafe extern "C" {
-            fn $multiply(
-                left: *const $word,
-                left_length: usize,
-                right: *const $word,
-                right_length: usize,
-                products: *mut $word,
-                products_length: usize,
-            );
-            fn $chain(factors: *const $word, length: usize, product: *mut $word);
-            fn $square(
-                words: *const $word,
-                length: usize,
-                squares: *mut $word,
-                squares_length: usize,
-            );
-            fn $inverse(
-                words: *const $word,
-                length: usize,
-                inverses: *mut $word,
-                inverses_length: usize,
-            );
-            fn $square_root(
-                words: *const $word,
-                length: usize,
-                roots: *mut $word,
-                roots_length: usize,
-            );
+            #[link_name = $name]
+            fn function($(_: $operand),*);
         }
+        function
+    }};
+}
 
-        pub fn $name() -> Arithmetic<$word> {
-            // SAFETY, of each call: the pointers and lengths are those of slices, and the library asks only that the
-            // slices of one call have one length.
-            Arithmetic {
-                multiply: |x, y, out| unsafe {
-                    assert!(x.len() == out.len() && y.len() == out.len());
-                    $multiply(
-                        x.as_ptr(),
-                        x.len(),
-                        y.as_ptr(),
-                        y.len(),
-                        out.as_mut_ptr(),
-                        out.len(),
-                    )
-                },
-                chain: |x, product| unsafe { $chain(x.as_ptr(), x.len(), product) },
-                square: |x, out| unsafe {
-                    assert_eq!(x.len(), out.len());
-                    $square(x.as_ptr(), x.len(), out.as_mut_ptr(), out.len())
-                },
-                inverse: |x, out| unsafe {
-                    assert_eq!(x.len(), out.len());
-                    $inverse(x.as_ptr(), x.len(), out.as_mut_ptr(), out.len())
-                },
-                square_root: |x, out| unsafe {
-                    assert_eq!(x.len(), out.len());
-                    $square_root(x.as_ptr(), x.len(), out.as_mut_ptr(), out.len())
-                },
-            }
+/// A function that reads one slice and writes another.
+macro_rules! unary {
+    ($word:ty, $name:expr) => {
+        |words, out| {
+            let function = library!($name, *const $word, usize, *mut $word, usize);
+            let length = words.len();
+            assert_eq!(length, out.len());
+            // SAFETY: the pointers are those of slices of this length.
+            unsafe { function(words.as_ptr(), length, out.as_mut_ptr(), length) }
         }
     };
 }
 
-ours!(
-    field8,
-    u8,
-    bf_multiply_8,
-    bf_chain_8,
-    bf_square_8,
-    bf_inverse_8,
-    bf_square_root_8
-);
-ours!(
-    rijndael,
-    u8,
-    bf_multiply_rijndael,
-    bf_chain_rijndael,
-    bf_square_rijndael,
-    bf_inverse_rijndael,
-    bf_square_root_rijndael
-);
-ours!(
-    field16,
-    u16,
-    bf_multiply_16,
-    bf_chain_16,
-    bf_square_16,
-    bf_inverse_16,
-    bf_square_root_16
-);
-ours!(
-    field32,
-    u32,
-    bf_multiply_32,
-    bf_chain_32,
-    bf_square_32,
-    bf_inverse_32,
-    bf_square_root_32
-);
-ours!(
-    field64,
-    u64,
-    bf_multiply_64,
-    bf_chain_64,
-    bf_square_64,
-    bf_inverse_64,
-    bf_square_root_64
-);
-ours!(
-    field128,
-    u128,
-    bf_multiply_128,
-    bf_chain_128,
-    bf_square_128,
-    bf_inverse_128,
-    bf_square_root_128
-);
-ours!(
-    poly64,
-    u64,
-    bf_multiply_poly64,
-    bf_chain_poly64,
-    bf_square_poly64,
-    bf_inverse_poly64,
-    bf_square_root_poly64
-);
-ours!(
-    ghash128,
-    u128,
-    bf_multiply_ghash128,
-    bf_chain_ghash128,
-    bf_square_ghash128,
-    bf_inverse_ghash128,
-    bf_square_root_ghash128
-);
-
-ours!(
-    poly192,
-    Cubic,
-    bf_multiply_poly192,
-    bf_chain_poly192,
-    bf_square_poly192,
-    bf_inverse_poly192,
-    bf_square_root_poly192
-);
-
-macro_rules! polynomials {
-    ($name:ident, $word:ty, $dot_product:ident, $from_tower:ident, $to_tower:ident, $from_slice:ident, $to_slice:ident, $linear_map:expr) => {
-        unsafe extern "C" {
-            fn $dot_product(
-                left: *const $word,
-                left_length: usize,
-                right: *const $word,
-                right_length: usize,
-                product: *mut $word,
-            );
-            fn $from_tower(
-                words: *const $word,
-                length: usize,
-                images: *mut $word,
-                images_length: usize,
-            );
-            fn $to_tower(
-                words: *const $word,
-                length: usize,
-                elements: *mut $word,
-                elements_length: usize,
-            );
-            fn $from_slice(words: *mut $word, length: usize);
-            fn $to_slice(words: *mut $word, length: usize);
+/// A function that changes a slice.
+macro_rules! in_place {
+    ($word:ty, $name:expr) => {
+        |words| {
+            let function = library!($name, *mut $word, usize);
+            // SAFETY: the pointer and the length are those of a slice.
+            unsafe { function(words.as_mut_ptr(), words.len()) }
         }
+    };
+}
 
-        pub fn $name() -> Polynomials<$word> {
-            // SAFETY, of each call: the pointers and lengths are those of slices, and the library asks only that the
-            // slices of one call have one length, which is 1,024 at the dot product.
+/// The functions of fields, by the end of their names.
+macro_rules! fields {
+    ($($field:ident: $word:ty = $end:literal;)*) => {$(
+        pub fn $field() -> Arithmetic<$word> {
+            Arithmetic {
+                multiply: |x, y, out| {
+                    let function = library!(
+                        concat!("bf_multiply_", $end),
+                        *const $word, usize, *const $word, usize, *mut $word, usize
+                    );
+                    let length = out.len();
+                    assert!(x.len() == length && y.len() == length);
+                    let (x, y, out) = (x.as_ptr(), y.as_ptr(), out.as_mut_ptr());
+                    // SAFETY: the pointers are those of slices of this length.
+                    unsafe { function(x, length, y, length, out, length) }
+                },
+                chain: |factors, product| {
+                    let function =
+                        library!(concat!("bf_chain_", $end), *const $word, usize, *mut $word);
+                    // SAFETY: the pointers are those of a slice and of a word.
+                    unsafe { function(factors.as_ptr(), factors.len(), product) }
+                },
+                square: unary!($word, concat!("bf_square_", $end)),
+                inverse: unary!($word, concat!("bf_inverse_", $end)),
+                square_root: unary!($word, concat!("bf_square_root_", $end)),
+            }
+        }
+    )*};
+}
+
+fields! {
+    field8: u8 = "8";
+    field16: u16 = "16";
+    field32: u32 = "32";
+    field64: u64 = "64";
+    field128: u128 = "128";
+    rijndael: u8 = "rijndael";
+    poly64: u64 = "poly64";
+    ghash128: u128 = "ghash128";
+    poly192: Cubic = "poly192";
+}
+
+/// What two fields of polynomials have besides, by the end of the names.
+macro_rules! bases {
+    ($($basis:ident: $word:ty = $end:literal, $linear_map:expr;)*) => {$(
+        pub fn $basis() -> Polynomials<$word> {
             Polynomials {
-                dot_product: |x, y, product| unsafe {
+                dot_product: |x, y, product| {
+                    let function = library!(
+                        concat!("bf_dot_product_", $end),
+                        *const $word, usize, *const $word, usize, *mut $word
+                    );
                     assert!(x.len() == 1024 && y.len() == 1024);
-                    $dot_product(x.as_ptr(), x.len(), y.as_ptr(), y.len(), product)
+                    // SAFETY: the pointers are those of slices of this length and of a word.
+                    unsafe { function(x.as_ptr(), 1024, y.as_ptr(), 1024, product) }
                 },
-                from_tower: |x, out| unsafe {
-                    assert_eq!(x.len(), out.len());
-                    $from_tower(x.as_ptr(), x.len(), out.as_mut_ptr(), out.len())
-                },
-                to_tower: |x, out| unsafe {
-                    assert_eq!(x.len(), out.len());
-                    $to_tower(x.as_ptr(), x.len(), out.as_mut_ptr(), out.len())
-                },
-                from_tower_slice: |words| unsafe { $from_slice(words.as_mut_ptr(), words.len()) },
-                to_tower_slice: |words| unsafe { $to_slice(words.as_mut_ptr(), words.len()) },
+                from_tower: unary!($word, concat!("bf_from_tower_", $end)),
+                to_tower: unary!($word, concat!("bf_to_tower_", $end)),
+                from_tower_slice: in_place!($word, concat!("bf_from_tower_slice_", $end)),
+                to_tower_slice: in_place!($word, concat!("bf_to_tower_slice_", $end)),
                 linear_map: $linear_map,
             }
         }
-    };
+    )*};
 }
 
-polynomials!(
-    basis64,
-    u64,
-    bf_dot_product_poly64,
-    bf_from_tower_poly64,
-    bf_to_tower_poly64,
-    bf_from_tower_slice_poly64,
-    bf_to_tower_slice_poly64,
-    None
-);
-polynomials!(
-    basis128,
-    u128,
-    bf_dot_product_ghash128,
-    bf_from_tower_ghash128,
-    bf_to_tower_ghash128,
-    bf_from_tower_slice_ghash128,
-    bf_to_tower_slice_ghash128,
-    Some(linear_map)
-);
+bases! {
+    basis64: u64 = "poly64", None;
+    basis128: u128 = "ghash128", Some(linear_map);
+}
 
 unsafe extern "C" {
     fn bf_apply_matrix(images: *const [u8; 8], bytes: *mut u8, length: usize);
