@@ -3,10 +3,7 @@
 //! number; a word of 128 bits is two of 64, low half first, and one of 192 bits three, the coefficient of 1 first.
 #![tactic(auto)]
 
-mod ghash;
-mod poly192;
-mod poly64;
-mod rijndael;
+mod arithmetic;
+mod linear;
 mod slices;
-mod tower;
 mod words;

@@ -1,7 +1,7 @@
 use Rattle.std.proofs.Common.{◌≡◌, ℕ, ◌<◌, get_or}
 use Rattle.bf_basis.specs.LinearMap.{byte_map_of}
 use Rattle.bf_ffi.specs.Words.{wide_number}
-use Rattle.bf_ffi.proofs.ghash.apply.Given as goal
+use Rattle.bf_ffi.proofs.linear.apply.Given as goal
 
 abbrev pub invariant-loop-i : goal.invariant-loop-i
 invariant-loop-i l =

@@ -1,7 +1,7 @@
 use Rattle.std.proofs.Common.{ℕ, ◌<◌, ◌≤◌, List, [], ◌∷◌, ◌++◌, length, map, sym, ◌∙◌, ap, ap₂, arith, rules}
 use Rattle.std.proofs.lemmas.List.{map_more, take_all, take_more_set}
 use Rattle.bf_ffi.specs.Words.{wide_number}
-use Rattle.bf_ffi.proofs.ghash.numbers.Goals as goal
+use Rattle.bf_ffi.proofs.linear.numbers.Goals as goal
 
 pub loop-place-preserved : goal.loop-place-preserved
 loop-place-preserved c =

@@ -1,44 +1,81 @@
-// GF(2^128) in the polynomial basis, modulo x^128 + x^7 + x^2 + x + 1, in words of 128 bits, each two of 64, low half first:
-// bit i is the coefficient of x^i.
-ghost use Rattle.std.specs.Prelude.{◌≡◌, length, fold, map, EachIndex};
-ghost use Rattle.bf_base.specs.Basis.{basis_image, ghash_images};
+// What some fields have besides: the dot products and the changes of basis of two fields of polynomials, the linear maps of GHASH's,
+// and the matrices of 8 by 8 bits over the byte field of AES.
+ghost use Rattle.std.specs.Prelude.{◌≡◌, length, map, slice_index, EachIndex};
+ghost use Rattle.bf_base.specs.Basis.{basis_image, ghash_images, poly64_images};
 ghost use Rattle.bf_base.specs.LinearMaps.{linear_image};
 ghost use Rattle.bf_base.specs.Powers.{dot_of};
-ghost use Rattle.bf_base.specs.Remainder.{mul_mod, ghash_modulus};
+ghost use Rattle.bf_base.specs.Remainder.{ghash_modulus, mul_mod, poly64_modulus};
 ghost use Rattle.bf_basis.specs.LinearMap.{byte_map_of};
-ghost use Rattle.bf_ffi.specs.Words.{Each, IsInverseOrZero, wide_at, wide_number};
+ghost use Rattle.bf_ffi.specs.Words.{Each, wide_at, wide_number};
 
 use crate::slices;
 use crate::words::Wide;
+use bf_aes::ByteMatrix;
 use bf_base::traits::{PrimeCharacteristicRing, TowerLevel};
-use bf_basis::ByteMap;
-use bf_element::{BinaryField128, Ghash128};
+use bf_basis::{ByteMap, to_polynomial_slice_64, to_tower_slice_64};
+use bf_element::{BinaryField64, BinaryField128, Ghash128, Poly64};
 
-/// Writes the product of the elements at each index.
+/// Writes the dot product of two slices of 1,024 elements.
 #[unsafe(no_mangle)]
-pub extern "C" fn bf_multiply_ghash128(left: &[Wide], right: &[Wide], products: &mut [Wide])
-    requires left_fits { length left.now ≡ length products.old }
-    requires right_fits { length right.now ≡ length products.old }
-    ensures { EachIndex products.new (λ k. wide_at products.new k ≡ mul_mod 128 ghash_modulus (wide_at left.now k) (wide_at right.now k)) }
+pub extern "C" fn bf_dot_product_poly64(left: &[u64], right: &[u64], product: &mut u64)
+    requires left_length { length left.now ≡ 1024 }
+    requires right_length { length right.now ≡ 1024 }
+    ensures { product.new ≡ dot_of (mul_mod 64 poly64_modulus) (λ n. n) left.now right.now }
 {
-    slices::multiply::<Ghash128, Wide>(left, right, products);
+    let mut left_elements = [Poly64::ZERO; 1024];
+    let mut right_elements = [Poly64::ZERO; 1024];
+    slices::read(left, &mut left_elements);
+    slices::read(right, &mut right_elements);
+    let sum = Poly64::dot_product_of_slices(&left_elements, &right_elements);
+    *product = sum.to_bits();
 }
 
-/// Multiplies `product` by each factor in turn, so that each product waits for the one before.
+/// Writes the polynomial that is the image of the element of the tower at each index.
 #[unsafe(no_mangle)]
-pub extern "C" fn bf_chain_ghash128(factors: &[Wide], product: &mut Wide)
-    ensures { wide_number product.new ≡ fold (λ x factor. mul_mod 128 ghash_modulus x (wide_number factor)) (wide_number product.old) factors.now }
+pub extern "C" fn bf_from_tower_poly64(words: &[u64], images: &mut [u64])
+    requires { length words.now ≡ length images.old }
+    ensures { EachIndex images.new (λ k. slice_index images.new k ≡ basis_image 64 poly64_modulus poly64_images (slice_index words.now k)) }
 {
-    slices::chain::<Ghash128, Wide>(factors, product);
+    slices::each(words, images, poly64_of_tower);
 }
 
-/// Writes the square of the element at each index.
+/// Writes the element of the tower whose image is the polynomial at each index.
 #[unsafe(no_mangle)]
-pub extern "C" fn bf_square_ghash128(words: &[Wide], squares: &mut [Wide])
-    requires { length words.now ≡ length squares.old }
-    ensures { EachIndex squares.new (λ k. wide_at squares.new k ≡ mul_mod 128 ghash_modulus (wide_at words.now k) (wide_at words.now k)) }
+pub extern "C" fn bf_to_tower_poly64(words: &[u64], elements: &mut [u64])
+    requires { length words.now ≡ length elements.old }
+    ensures { EachIndex elements.new (λ k. basis_image 64 poly64_modulus poly64_images (slice_index elements.new k) ≡ slice_index words.now k) }
 {
-    slices::square::<Ghash128, Wide>(words, squares);
+    slices::each(words, elements, tower_of_poly64);
+}
+
+/// Replaces each element of the tower by its image, a polynomial.
+#[unsafe(no_mangle)]
+pub extern "C" fn bf_from_tower_slice_poly64(words: &mut [u64])
+    ensures { words.new ≡ map (basis_image 64 poly64_modulus poly64_images) words.old }
+{
+    to_polynomial_slice_64(words);
+}
+
+/// Replaces each polynomial by the element of the tower whose image it is.
+#[unsafe(no_mangle)]
+pub extern "C" fn bf_to_tower_slice_poly64(words: &mut [u64])
+    ensures { map (basis_image 64 poly64_modulus poly64_images) words.new ≡ words.old }
+{
+    to_tower_slice_64(words);
+}
+
+// The polynomial that is the image of an element of the tower.
+fn poly64_of_tower(bits: u64) -> u64
+    ensures { result ≡ basis_image 64 poly64_modulus poly64_images bits }
+{
+    Poly64::from(BinaryField64::from_repr(bits)).to_bits()
+}
+
+// The element of the tower whose image is a polynomial.
+fn tower_of_poly64(bits: u64) -> u64
+    ensures { basis_image 64 poly64_modulus poly64_images result ≡ bits }
+{
+    BinaryField64::from(Poly64::new(bits)).to_repr()
 }
 
 /// Writes the dot product of two slices of 1,024 elements.
@@ -56,31 +93,13 @@ pub extern "C" fn bf_dot_product_ghash128(left: &[Wide], right: &[Wide], product
     *product = Wide::new(sum.to_bits());
 }
 
-/// Writes the inverse of the element at each index, and 0 where that is 0.
-#[unsafe(no_mangle)]
-pub extern "C" fn bf_inverse_ghash128(words: &[Wide], inverses: &mut [Wide])
-    requires { length words.now ≡ length inverses.old }
-    ensures { EachIndex inverses.new (λ k. IsInverseOrZero (mul_mod 128 ghash_modulus) (wide_at words.now k) (wide_at inverses.new k)) }
-{
-    slices::invert::<Ghash128, Wide>(words, inverses);
-}
-
-/// Writes the square root of the element at each index.
-#[unsafe(no_mangle)]
-pub extern "C" fn bf_square_root_ghash128(words: &[Wide], roots: &mut [Wide])
-    requires { length words.now ≡ length roots.old }
-    ensures { EachIndex roots.new (λ k. mul_mod 128 ghash_modulus (wide_at roots.new k) (wide_at roots.new k) ≡ wide_at words.now k) }
-{
-    slices::square_root::<Ghash128, Wide>(words, roots);
-}
-
 /// Writes the polynomial that is the image of the element of the tower at each index.
 #[unsafe(no_mangle)]
 pub extern "C" fn bf_from_tower_ghash128(words: &[Wide], images: &mut [Wide])
     requires { length words.now ≡ length images.old }
     ensures { EachIndex images.new (λ k. wide_at images.new k ≡ basis_image 128 ghash_modulus ghash_images (wide_at words.now k)) }
 {
-    slices::each(words, images, from_tower);
+    slices::each(words, images, ghash_of_tower);
 }
 
 /// Writes the element of the tower whose image is the polynomial at each index.
@@ -89,7 +108,7 @@ pub extern "C" fn bf_to_tower_ghash128(words: &[Wide], elements: &mut [Wide])
     requires { length words.now ≡ length elements.old }
     ensures { EachIndex elements.new (λ k. basis_image 128 ghash_modulus ghash_images (wide_at elements.new k) ≡ wide_at words.now k) }
 {
-    slices::each(words, elements, to_tower);
+    slices::each(words, elements, tower_of_ghash);
 }
 
 /// Replaces each element of the tower by its image, a polynomial.
@@ -97,7 +116,7 @@ pub extern "C" fn bf_to_tower_ghash128(words: &[Wide], elements: &mut [Wide])
 pub extern "C" fn bf_from_tower_slice_ghash128(words: &mut [Wide])
     ensures { EachIndex words.new (λ k. wide_at words.new k ≡ basis_image 128 ghash_modulus ghash_images (wide_at words.old k)) }
 {
-    slices::each_in_place(words, from_tower);
+    slices::each_in_place(words, ghash_of_tower);
 }
 
 /// Replaces each polynomial by the element of the tower whose image it is.
@@ -105,7 +124,7 @@ pub extern "C" fn bf_from_tower_slice_ghash128(words: &mut [Wide])
 pub extern "C" fn bf_to_tower_slice_ghash128(words: &mut [Wide])
     ensures { EachIndex words.new (λ k. basis_image 128 ghash_modulus ghash_images (wide_at words.new k) ≡ wide_at words.old k) }
 {
-    slices::each_in_place(words, to_tower);
+    slices::each_in_place(words, tower_of_ghash);
 }
 
 /// Writes the value at each word of the linear map that takes bit j to `images[j]`.
@@ -142,15 +161,23 @@ fn numbers(words: &[Wide]) -> [u128; 128]
 }
 
 // The polynomial that is the image of an element of the tower.
-fn from_tower(word: Wide) -> Wide
+fn ghash_of_tower(word: Wide) -> Wide
     ensures { wide_number result ≡ basis_image 128 ghash_modulus ghash_images (wide_number word) }
 {
     Wide::new(Ghash128::from(BinaryField128::from_repr(word.number())).to_bits())
 }
 
 // The element of the tower whose image is a polynomial.
-fn to_tower(word: Wide) -> Wide
+fn tower_of_ghash(word: Wide) -> Wide
     ensures { basis_image 128 ghash_modulus ghash_images (wide_number result) ≡ wide_number word }
 {
     Wide::new(BinaryField128::from(Ghash128::new(word.number())).to_repr())
+}
+
+/// Replaces each byte by what the matrix of eight images makes of it, image b that of bit b.
+#[unsafe(no_mangle)]
+pub extern "C" fn bf_apply_matrix(images: &[u8; 8], bytes: &mut [u8])
+    ensures { bytes.new ≡ map (linear_image images.now) bytes.old }
+{
+    ByteMatrix::from_images(*images).apply_slice(bytes);
 }

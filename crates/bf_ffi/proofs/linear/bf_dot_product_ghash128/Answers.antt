@@ -3,7 +3,7 @@ use Rattle.bf_base.specs.Remainder.{mul_mod, ghash_modulus}
 use Rattle.bf_element.specs.Element.{repr_of}
 use Rattle.bf_ffi.specs.Words.{wide_number}
 use Rattle.bf_ffi.proofs.HeldElements.{dot_of-held}
-use Rattle.bf_ffi.proofs.ghash.bf_dot_product_ghash128.Goals as goal
+use Rattle.bf_ffi.proofs.linear.bf_dot_product_ghash128.Goals as goal
 
 pub returns : goal.returns
 returns c =

@@ -2,7 +2,7 @@ use Rattle.std.proofs.Common.{rules, ◌∙◌}
 use Rattle.bf_base.specs.Remainder.{mul_mod, poly64_modulus}
 use Rattle.bf_element.specs.Element.{repr_of}
 use Rattle.bf_ffi.proofs.HeldElements.{dot_of-held}
-use Rattle.bf_ffi.proofs.poly64.bf_dot_product_poly64.Goals as goal
+use Rattle.bf_ffi.proofs.linear.bf_dot_product_poly64.Goals as goal
 
 pub returns : goal.returns
 returns c =

@@ -1,6 +1,6 @@
 use Rattle.std.proofs.Common.{◌≡◌, length, map, take}
 use Rattle.bf_ffi.specs.Words.{wide_number}
-use Rattle.bf_ffi.proofs.ghash.numbers.Given as goal
+use Rattle.bf_ffi.proofs.linear.numbers.Given as goal
 
 -- the places before hold their numbers
 abbrev pub invariant-loop-place : goal.invariant-loop-place
