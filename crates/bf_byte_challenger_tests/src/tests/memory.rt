@@ -45,16 +45,15 @@ fn sample_alike<C: ByteChallenger, D: ByteChallenger>(
     Ok(true)
 }
 
-// In a full heap a challenger with an empty output is refused what grows: the input by a byte, a copy of an input that is not
-// empty, and a digest as the new input where there was no room for one. What it samples later is as if those calls had not been.
-fn refusals_change_nothing(
-    alloc: Global,
-    heap: &LocalHeap,
+type InHeap<'a> = HashChallenger<Sha256Hasher, &'a LocalHeap>;
+
+// With an empty output a challenger in a full heap is refused what grows: the input by a byte, a copy of an input that is not
+// empty, and a digest as the new input where there was no room for one.
+fn refuses_what_grows(
+    challenger: &mut InHeap<'_>,
+    model: &mut HashChallenger<Sha256Hasher>,
     len: usize,
 ) -> Result<bool, AllocError> {
-    let mut model = challenger_over(alloc, len)?;
-    let mut challenger = challenger_over(heap, len)?;
-    let blocks = blocks_of_all(alloc, heap)?;
     let copied = challenger.try_clone().is_ok();
     let silent = !challenger.refused();
     let observed = challenger.observe_byte(7).is_ok();
@@ -62,30 +61,14 @@ fn refusals_change_nothing(
         Ok(byte) => byte == model.sample_byte()? && len >= 32,
         Err(_) => len < 32,
     };
-    let noted = challenger.refused();
-    drop(blocks);
-    let copy_refused = challenger.try_clone()?.refused();
-    Ok(
-        copied == (len == 0)
-            && silent
-            && !observed
-            && sampled
-            && noted
-            && !copy_refused
-            && sample_alike(&mut challenger, &mut model)?,
-    )
+    Ok(copied == (len == 0) && silent && !observed && sampled)
 }
 
-// The same in the middle of a digest, where a sample needs no memory.
-fn refusals_keep_the_output(
-    alloc: Global,
-    heap: &LocalHeap,
-    len: usize,
+// In the middle of a digest, where a sample needs no memory, it is refused a copy, a byte once the input is full, and several.
+fn refuses_within_a_digest(
+    challenger: &mut InHeap<'_>,
+    model: &mut HashChallenger<Sha256Hasher>,
 ) -> Result<bool, AllocError> {
-    let mut model = challenger_over(alloc, len)?;
-    let mut challenger = challenger_over(heap, len)?;
-    let first = challenger.sample_byte()? == model.sample_byte()?;
-    let blocks = blocks_of_all(alloc, heap)?;
     let copied = challenger.try_clone().is_ok();
     let mut refused = false;
     for _ in 0..1024 {
@@ -95,16 +78,29 @@ fn refusals_keep_the_output(
         }
         model.observe_byte(7)?;
     }
-    let several = observe_bytes(&mut challenger, &[1, 2, 3]).is_ok();
+    Ok(!copied && refused && observe_bytes(challenger, &[1, 2, 3]).is_err())
+}
+
+// What a challenger samples after calls that were refused is as if those had not been, which a model with ample memory shows.
+fn refusals_change_nothing(
+    alloc: Global,
+    heap: &LocalHeap,
+    len: usize,
+    is_within_a_digest: bool,
+) -> Result<bool, AllocError> {
+    let mut model = challenger_over(alloc, len)?;
+    let mut challenger = challenger_over(heap, len)?;
+    let first = !is_within_a_digest || challenger.sample_byte()? == model.sample_byte()?;
+    let blocks = blocks_of_all(alloc, heap)?;
+    let refused = if is_within_a_digest {
+        refuses_within_a_digest(&mut challenger, &mut model)?
+    } else {
+        refuses_what_grows(&mut challenger, &mut model, len)?
+    };
+    let noted = challenger.refused();
     drop(blocks);
-    Ok(
-        first
-            && !copied
-            && refused
-            && !several
-            && challenger.refused()
-            && sample_alike(&mut challenger, &mut model)?,
-    )
+    let copy_refused = challenger.try_clone()?.refused();
+    Ok(first && refused && noted && !copy_refused && sample_alike(&mut challenger, &mut model)?)
 }
 
 #[test]
@@ -112,8 +108,8 @@ fn refused_calls_keep_the_buffers(rt: HostRuntime) -> Result<(), Fail> {
     let heap = LocalHeap::new(rt.alloc(), 4096)?;
     for len in 0..100usize {
         assert!(rt;
-            refusals_change_nothing(rt.alloc(), &heap, len)?
-                && refusals_keep_the_output(rt.alloc(), &heap, len)?
+            refusals_change_nothing(rt.alloc(), &heap, len, false)?
+                && refusals_change_nothing(rt.alloc(), &heap, len, true)?
                 && heap.used() == 0,
             "{len} bytes"
         );
