@@ -1,5 +1,5 @@
 #!/usr/bin/env python3
-"""Writes the byte tables of the changes of basis: crates/bf_basis/src/literals/*.rt.
+"""Writes the byte tables of the changes of basis: crates/bf_basis/src/literals/{to_polynomial,to_tower}.rt.
 
 With --check it compares instead. Entry 256 * j + b of a table is the value at b * 256 ** j. The map from the tower to a
 polynomial basis sends bit j to the product of the images of the roots over the set bits of j; the map back is the inverse
@@ -90,23 +90,23 @@ def byte_table(columns):
     return [literals.image(columns[8 * place : 8 * place + 8], byte) for place in range(len(columns) // 8) for byte in range(256)]
 
 
-def write(name, head, comment, width, columns):
-    in_a_line = {8: 16, 64: 4, 128: 6}[width]
-    table = literals.array(comment, f"{name}_{width}".upper(), f"u{width}", byte_table(columns), width // 4, in_a_line)
+def write(name, head, tables):
     head = f"// {head} Written by scripts/make_basis.py; do not edit.\n"
-    literals.write(f"bf_basis/src/literals/{name}_{width}.rt", head, [table])
+    arrays = [literals.array(comment, f"{name}_{width}".upper(), width, byte_table(columns)) for comment, width, columns in tables]
+    literals.write(f"bf_basis/src/literals/{name}.rt", head, arrays)
 
 
 def main():
+    to_polynomial, to_tower = [], []
     for width, modulus, images, words in FIELDS:
         columns = columns_of(width, modulus, images)
         inverse = inverse_of(columns)
         assert all(literals.image(columns, column) == 1 << place for place, column in enumerate(inverse))
         assert all(literals.image(inverse, column) == 1 << place for place, column in enumerate(columns))
-        to_polynomial = f"From the tower to polynomials modulo {words}."
-        to_tower = f"From polynomials modulo {words} to the tower."
-        write("to_polynomial", to_polynomial, "Entry 256 j + b is the image of b 2^(8 j).", width, columns)
-        write("to_tower", to_tower, "Entry 256 j + b has the image b 2^(8 j).", width, inverse)
+        to_polynomial.append((f"Entry 256 j + b is the image of b 2^(8 j) modulo {words}.", width, columns))
+        to_tower.append((f"Entry 256 j + b has the image b 2^(8 j) modulo {words}.", width, inverse))
+    write("to_polynomial", "From the tower to polynomials, by bytes.", to_polynomial)
+    write("to_tower", "From polynomials to the tower, by bytes.", to_tower)
 
 
 if __name__ == "__main__":

@@ -45,7 +45,7 @@ def main():
         vectors.append(even_solution(rows, vectors[-1]))
     head = "// The Cantor vectors. Written by scripts/make_cantor.py; do not edit.\n"
     comment = "The Cantor vector of the place."
-    arrays = [literals.array(comment, "VECTORS", "u128", vectors, 32, 2)]
+    arrays = [literals.array(comment, "VECTORS", 128, vectors)]
     literals.write("bf_tables/src/cantor/literals.rt", head, arrays)
 
 

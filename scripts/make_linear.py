@@ -1,5 +1,5 @@
 #!/usr/bin/env python3
-"""Writes the byte tables of squares and of square roots, crates/bf_tables/src/linear/{squares,roots}.rt.
+"""Writes the byte tables of squares and of square roots, crates/bf_tables/src/linear/literals.rt.
 
 With --check it compares instead. Entry 256 * j + b of a table is the value at b * 256 ** j, so the value at a number is the
 sum of one entry for each of its bytes.
@@ -8,7 +8,7 @@ sum of one entry for each of its bytes.
 import literals
 import tower
 
-LEVELS = [(4, 12), (5, 8), (6, 4)]
+LEVELS = [4, 5, 6]
 
 
 def byte_table(level, value):
@@ -16,19 +16,21 @@ def byte_table(level, value):
     return [value(level, byte << 8 * place) for place in range((1 << level) // 8) for byte in range(256)]
 
 
-def write(path, head, name, phrase, value):
-    arrays = []
-    for level, in_a_line in LEVELS:
+def arrays(name, phrase, value):
+    """A table for each level."""
+    made = []
+    for level in LEVELS:
         bits = 1 << level
         comment = f"Entry 256 j + b is the {phrase} of b 2^(8 j) in GF(2^{bits})."
-        table = byte_table(level, value)
-        arrays.append(literals.array(comment, f"{name}_{bits}", f"u{bits}", table, bits // 4, in_a_line))
-    literals.write(path, f"// {head} Written by scripts/make_linear.py; do not edit.\n", arrays)
+        made.append(literals.array(comment, f"{name}_{bits}", bits, byte_table(level, value)))
+    return made
 
 
 def main():
-    write("bf_tables/src/linear/squares.rt", "Squares by bytes.", "SQUARES", "square", tower.square)
-    write("bf_tables/src/linear/roots.rt", "Square roots by bytes.", "ROOTS", "square root", tower.square_root)
+    head = "// Squares and square roots by bytes. Written by scripts/make_linear.py; do not edit.\n"
+    squares = arrays("SQUARES", "square", tower.square)
+    roots = arrays("ROOTS", "square root", tower.square_root)
+    literals.write("bf_tables/src/linear/literals.rt", head, squares + roots)
 
 
 if __name__ == "__main__":

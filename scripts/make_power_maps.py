@@ -24,7 +24,7 @@ def main():
     for count in COUNTS:
         columns = [squared(width, modulus, 1 << place, count) for place in range(width)]
         comment = f"Entry j is x^j, squared {count} times."
-        arrays.append(literals.array(comment, f"SQUARED_{count}_TIMES", f"u{width}", columns, width // 4, 3))
+        arrays.append(literals.array(comment, f"SQUARED_{count}_TIMES", width, columns))
     head = f"// Power maps modulo {words}. Written by scripts/make_power_maps.py; do not edit.\n"
     literals.write("bf_clmul/src/power_maps/literals.rt", head, arrays)
 

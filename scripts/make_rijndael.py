@@ -33,17 +33,14 @@ def main():
     inverses = [0] + [powers[UNITS - logarithms[a]] for a in range(1, 256)]
     head = "// Tables of the bytes of AES. Written by scripts/make_rijndael.py; do not edit.\n"
     powers_and_none = powers + [0] * (NONE + 1)
-    exp = ("0x88 to the power of the place, which is 0 from 511 on.", powers_and_none)
-    log = literals.array(
-        "The exponent below 255 of which EXP has the place; 511 at 0.", "LOG", "u16", logarithms, 4, 12
-    )
+    exp = literals.array("0x88 to the power of the place, which is 0 from 511 on.", "EXP", 8, powers_and_none)
+    log = literals.array("The exponent below 255 of which EXP has the place; 511 at 0.", "LOG", 16, logarithms)
     maps = {
         "INVERSES": ("The inverse of the place; 0 at 0.", inverses),
         "SQUARES": ("The square of the place.", squares),
         "ROOTS": ("The square root of the place.", roots),
     }
-    arrays = [*literals.byte_arrays({"EXP": exp}), log, *literals.byte_arrays(maps)]
-    literals.write("bf_rijndael_tables/src/tables/literals.rt", head, arrays)
+    literals.write("bf_rijndael_tables/src/tables/literals.rt", head, [exp, log, *literals.arrays(8, maps)])
 
 
 if __name__ == "__main__":

@@ -31,7 +31,7 @@ def main():
         "ROOTS": ("The square root of the place.", roots),
         "ROOT_PRODUCTS": ("The place times the root that level 3 adjoins.", products),
     }
-    literals.write("bf_tables/src/tables/literals.rt", head, literals.byte_arrays(tables))
+    literals.write("bf_tables/src/tables/literals.rt", head, literals.arrays(8, tables))
 
 
 if __name__ == "__main__":

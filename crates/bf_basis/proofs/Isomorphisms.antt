@@ -11,12 +11,8 @@ use Rattle.bf_base.proofs.BasisColumns.{sum_of_columns, length-level_columns}
 use Rattle.bf_base.proofs.BasisIsomorphism.{basis_image-columns, homomorphism, basis_image-injective, basis_image-undoes, isomorphism, isomorphic-field}
 use Rattle.bf_base.proofs.TableChecks.{passes_at}
 use Rattle.bf_base.specs.ByteTables.{sum_of_entries}
-use Rattle.bf_basis.specs.declared.literals.to_polynomial_8.TheConstants.{TO_POLYNOMIAL_8}
-use Rattle.bf_basis.specs.declared.literals.to_polynomial_64.TheConstants.{TO_POLYNOMIAL_64}
-use Rattle.bf_basis.specs.declared.literals.to_polynomial_128.TheConstants.{TO_POLYNOMIAL_128}
-use Rattle.bf_basis.specs.declared.literals.to_tower_8.TheConstants.{TO_TOWER_8}
-use Rattle.bf_basis.specs.declared.literals.to_tower_64.TheConstants.{TO_TOWER_64}
-use Rattle.bf_basis.specs.declared.literals.to_tower_128.TheConstants.{TO_TOWER_128}
+use Rattle.bf_basis.specs.declared.literals.to_polynomial.TheConstants.{TO_POLYNOMIAL_8, TO_POLYNOMIAL_64, TO_POLYNOMIAL_128}
+use Rattle.bf_basis.specs.declared.literals.to_tower.TheConstants.{TO_TOWER_8, TO_TOWER_64, TO_TOWER_128}
 use Rattle.bf_basis.proofs.TabledMaps.{columns_in, length-columns_in, tabled}
 use Rattle.bf_basis.proofs.TableFacts.{image_columns, undoes, is_root, ChangePasses, changes_pass}
 

@@ -7,12 +7,8 @@ use Rattle.bf_base.specs.Carryless.{carryless, carryless_in}
 use Rattle.bf_base.specs.Remainder.{rem, rem_in, mul_mod, aes_modulus, poly64_modulus, ghash_modulus}
 use Rattle.bf_base.proofs.AdditiveMaps.{agree_on_powers}
 use Rattle.bf_base.proofs.BasisColumns.{sum_of_columns, level_columns, doubled}
-use Rattle.bf_basis.specs.declared.literals.to_polynomial_8.TheConstants.{TO_POLYNOMIAL_8}
-use Rattle.bf_basis.specs.declared.literals.to_polynomial_64.TheConstants.{TO_POLYNOMIAL_64}
-use Rattle.bf_basis.specs.declared.literals.to_polynomial_128.TheConstants.{TO_POLYNOMIAL_128}
-use Rattle.bf_basis.specs.declared.literals.to_tower_8.TheConstants.{TO_TOWER_8}
-use Rattle.bf_basis.specs.declared.literals.to_tower_64.TheConstants.{TO_TOWER_64}
-use Rattle.bf_basis.specs.declared.literals.to_tower_128.TheConstants.{TO_TOWER_128}
+use Rattle.bf_basis.specs.declared.literals.to_polynomial.TheConstants.{TO_POLYNOMIAL_8, TO_POLYNOMIAL_64, TO_POLYNOMIAL_128}
+use Rattle.bf_basis.specs.declared.literals.to_tower.TheConstants.{TO_TOWER_8, TO_TOWER_64, TO_TOWER_128}
 use Rattle.bf_base.proofs.ByteTableSums.{entry_passes}
 use Rattle.bf_base.proofs.TableChecks.{passes}
 use Rattle.bf_basis.proofs.TabledMaps.{columns_in, tabulates_map}

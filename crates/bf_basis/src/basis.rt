@@ -5,12 +5,8 @@ ghost use Rattle.std.specs.Prelude.{◌≡◌, ℕ, ◌^◌, ◌<◌};
 ghost use Rattle.bf_base.specs.Basis.{aes_images, basis_image, ghash_images, poly64_images};
 ghost use Rattle.bf_base.specs.Remainder.{aes_modulus, ghash_modulus, poly64_modulus};
 
-use crate::literals::to_polynomial_8::TO_POLYNOMIAL_8;
-use crate::literals::to_polynomial_64::TO_POLYNOMIAL_64;
-use crate::literals::to_polynomial_128::TO_POLYNOMIAL_128;
-use crate::literals::to_tower_8::TO_TOWER_8;
-use crate::literals::to_tower_64::TO_TOWER_64;
-use crate::literals::to_tower_128::TO_TOWER_128;
+use crate::literals::to_polynomial::{TO_POLYNOMIAL_8, TO_POLYNOMIAL_64, TO_POLYNOMIAL_128};
+use crate::literals::to_tower::{TO_TOWER_8, TO_TOWER_64, TO_TOWER_128};
 use bf_base::byte_tables::{sum_of_entries_64, sum_of_entries_128};
 
 /// The polynomial modulo x^8 + x^4 + x^3 + x + 1 that is the image of an element of 8 bits.

@@ -6,12 +6,7 @@ use Rattle.bf_base.proofs.AdditiveMaps.{agree_on_powers}
 use Rattle.bf_base.proofs.BasisColumns.{sum_of_columns}
 use Rattle.bf_base.proofs.TableChecks.{passes}
 use Rattle.bf_tables.proofs.Squares.{root_product, square_of, squares_joined}
-use Rattle.bf_frobenius.specs.declared.literals.squared_1.TheConstants.{SQUARED_1}
-use Rattle.bf_frobenius.specs.declared.literals.squared_2.TheConstants.{SQUARED_2}
-use Rattle.bf_frobenius.specs.declared.literals.squared_4.TheConstants.{SQUARED_4}
-use Rattle.bf_frobenius.specs.declared.literals.squared_8.TheConstants.{SQUARED_8}
-use Rattle.bf_frobenius.specs.declared.literals.squared_16.TheConstants.{SQUARED_16}
-use Rattle.bf_frobenius.specs.declared.literals.squared_32.TheConstants.{SQUARED_32}
+use Rattle.bf_frobenius.specs.declared.literals.TheConstants.{SQUARED_1, SQUARED_2, SQUARED_4, SQUARED_8, SQUARED_16, SQUARED_32}
 
 -- the columns of the map stand in each row at 1, 2, 4 and 8
 unfoldable pub columns_in : ℕ → List ℕ → List ℕ

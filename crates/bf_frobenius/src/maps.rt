@@ -5,12 +5,7 @@ ghost use Rattle.bf_base.specs.Powers.{repeated_square};
 ghost use Rattle.bf_base.specs.Tower.{tower_mul};
 ghost use Rattle.bf_basis.specs.LinearMap.{sum_of_values};
 
-use crate::literals::squared_1::SQUARED_1;
-use crate::literals::squared_2::SQUARED_2;
-use crate::literals::squared_4::SQUARED_4;
-use crate::literals::squared_8::SQUARED_8;
-use crate::literals::squared_16::SQUARED_16;
-use crate::literals::squared_32::SQUARED_32;
+use crate::literals::{SQUARED_1, SQUARED_2, SQUARED_4, SQUARED_8, SQUARED_16, SQUARED_32};
 use bf_basis::sum_of_values;
 
 // The digits to base 16 of an element of a level.

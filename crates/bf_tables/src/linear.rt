@@ -3,8 +3,7 @@
 ghost use Rattle.std.specs.Prelude.{◌≡◌};
 ghost use Rattle.bf_base.specs.Tower.{tower_mul};
 
-mod roots;
-mod squares;
+mod literals;
 
 use bf_base::byte_tables::{sum_of_entries_16, sum_of_entries_32, sum_of_entries_64};
 
@@ -13,7 +12,7 @@ use bf_base::byte_tables::{sum_of_entries_16, sum_of_entries_32, sum_of_entries_
 pub fn square_16(x: u16) -> u16
     ensures { result ≡ tower_mul 4 x x }
 {
-    sum_of_entries_16(&squares::SQUARES_16, x)
+    sum_of_entries_16(&literals::SQUARES_16, x)
 }
 
 /// The square of an element of GF(2^32), level 5 of the tower.
@@ -21,7 +20,7 @@ pub fn square_16(x: u16) -> u16
 pub fn square_32(x: u32) -> u32
     ensures { result ≡ tower_mul 5 x x }
 {
-    sum_of_entries_32(&squares::SQUARES_32, x)
+    sum_of_entries_32(&literals::SQUARES_32, x)
 }
 
 /// The square of an element of GF(2^64), level 6 of the tower.
@@ -29,7 +28,7 @@ pub fn square_32(x: u32) -> u32
 pub fn square_64(x: u64) -> u64
     ensures { result ≡ tower_mul 6 x x }
 {
-    sum_of_entries_64(&squares::SQUARES_64, x)
+    sum_of_entries_64(&literals::SQUARES_64, x)
 }
 
 /// The square root of an element of GF(2^16). Every element has one.
@@ -37,7 +36,7 @@ pub fn square_64(x: u64) -> u64
 pub fn sqrt_16(x: u16) -> u16
     ensures { tower_mul 4 result result ≡ x }
 {
-    sum_of_entries_16(&roots::ROOTS_16, x)
+    sum_of_entries_16(&literals::ROOTS_16, x)
 }
 
 /// The square root of an element of GF(2^32). Every element has one.
@@ -45,7 +44,7 @@ pub fn sqrt_16(x: u16) -> u16
 pub fn sqrt_32(x: u32) -> u32
     ensures { tower_mul 5 result result ≡ x }
 {
-    sum_of_entries_32(&roots::ROOTS_32, x)
+    sum_of_entries_32(&literals::ROOTS_32, x)
 }
 
 /// The square root of an element of GF(2^64). Every element has one.
@@ -53,5 +52,5 @@ pub fn sqrt_32(x: u32) -> u32
 pub fn sqrt_64(x: u64) -> u64
     ensures { tower_mul 6 result result ≡ x }
 {
-    sum_of_entries_64(&roots::ROOTS_64, x)
+    sum_of_entries_64(&literals::ROOTS_64, x)
 }

@@ -1,7 +1,7 @@
 use Rattle.std.proofs.Common.{arith}
 use Rattle.bf_basis.proofs.Isomorphisms.{change_8}
 use Rattle.bf_basis.proofs.TabledMaps.{one_entry}
-use Rattle.bf_basis.specs.declared.literals.to_tower_8.TheConstants.{TO_TOWER_8}
+use Rattle.bf_basis.specs.declared.literals.to_tower.TheConstants.{TO_TOWER_8}
 use Rattle.bf_basis.proofs.basis.to_tower_8.Goals as goal
 
 pub returns-clause-image : goal.returns-clause-image
