@@ -10,14 +10,12 @@ mod byte_map;
 mod laws;
 mod linear;
 mod literals;
-mod slices;
 
 pub use crate::basis::{
-    to_polynomial_8, to_polynomial_64, to_polynomial_128, to_tower_8, to_tower_64, to_tower_128,
+    to_polynomial_8, to_polynomial_64, to_polynomial_128, to_polynomial_slice_64,
+    to_polynomial_slice_128, to_tower_8, to_tower_64, to_tower_128, to_tower_slice_64,
+    to_tower_slice_128,
 };
 pub use crate::byte_map::ByteMap;
 pub use crate::laws::{isomorphism_8, isomorphism_64, isomorphism_128};
 pub use crate::linear::{LinearMap, images_give_linear_map, sum_of_images, sum_of_values};
-pub use crate::slices::{
-    to_polynomial_slice_64, to_polynomial_slice_128, to_tower_slice_64, to_tower_slice_128,
-};
