@@ -7,7 +7,7 @@ use Rattle.bf_base.proofs.PowerLemmas.{square_xor}
 use Rattle.bf_base.proofs.TowerRing.{tower_ring}
 use Rattle.bf_base.specs.ByteTables.{sum_of_entries}
 use Rattle.bf_tables.specs.Linear.{IsAdditive}
-use Rattle.bf_tables.specs.declared.linear.literals.TheConstants.{ROOTS_16, ROOTS_32, ROOTS_64, SQUARES_16, SQUARES_32, SQUARES_64}
+use Rattle.bf_tables.specs.declared.tables.linear.TheConstants.{ROOTS_16, ROOTS_32, ROOTS_64, SQUARES_16, SQUARES_32, SQUARES_64}
 use Rattle.bf_base.proofs.ByteTableSums.{HoldValues, entries_hold, entry_passes, sum_of_entries_is}
 use Rattle.bf_tables.proofs.Squares.{root_product, square_of, square_of_is, squares_joined}
 use Rattle.bf_base.proofs.TableChecks.{passes}

@@ -5,13 +5,12 @@
 mod cantor;
 mod columns;
 mod generators;
-mod linear;
 mod tables;
 
 pub use crate::cantor::{cantor_vector, cantor_vectors_are_solutions};
 pub use crate::columns::columns_give_maps;
 pub use crate::generators::generators_have_full_order;
-pub use crate::linear::{sqrt_16, sqrt_32, sqrt_64, square_16, square_32, square_64};
 pub use crate::tables::{
-    divide_8, invert_8, multiply_8, multiply_by_root_8, sqrt_8, square_8, tables_are_powers,
+    divide_8, invert_8, multiply_8, multiply_by_root_8, sqrt_8, sqrt_16, sqrt_32, sqrt_64,
+    square_8, square_16, square_32, square_64, tables_are_powers,
 };

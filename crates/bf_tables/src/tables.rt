@@ -1,12 +1,15 @@
-// GF(2^8), level 3 of the tower, by tables: a product is 0x13 to the power of the sum of the logarithms of its operands.
+// GF(2^8), level 3 of the tower, by tables: a product is 0x13 to the power of the sum of the logarithms of its operands. Squares and
+// square roots of elements of 16 to 64 bits are additive, so the value at a number is the sum of one table entry for each of its
+// bytes. At 128 bits such tables would take 64 KB each and gain nothing.
 ghost use Rattle.std.specs.Prelude.{◌≡◌, ◌≢◌, ◌<◌, slice_index};
 ghost use Rattle.bf_base.specs.Tower.{root, tower_mul};
 ghost use Rattle.bf_tables.specs.Tables.{EntriesArePowers, EntriesAreLogarithms, ZeroHasLogarithmZero};
 ghost use Rattle.bf_tables.specs.declared.tables.literals.TheConstants.{EXP, INVERSES, LOG, ROOTS, ROOT_PRODUCTS, SQUARES};
 
+mod linear;
 mod literals;
 
-use bf_base::byte_tables::entry;
+use bf_base::byte_tables::{entry, sum_of_entries_16, sum_of_entries_32, sum_of_entries_64};
 
 // The entry of EXP at `exponent`.
 #[inline]
@@ -73,6 +76,54 @@ pub fn multiply_by_root_8(a: u8) -> u8
     ensures { result ≡ tower_mul 3 (root 3) a }
 {
     entry(&literals::ROOT_PRODUCTS, a)
+}
+
+/// The square of an element of GF(2^16), level 4 of the tower.
+#[inline]
+pub fn square_16(x: u16) -> u16
+    ensures { result ≡ tower_mul 4 x x }
+{
+    sum_of_entries_16(&linear::SQUARES_16, x)
+}
+
+/// The square of an element of GF(2^32), level 5 of the tower.
+#[inline]
+pub fn square_32(x: u32) -> u32
+    ensures { result ≡ tower_mul 5 x x }
+{
+    sum_of_entries_32(&linear::SQUARES_32, x)
+}
+
+/// The square of an element of GF(2^64), level 6 of the tower.
+#[inline]
+pub fn square_64(x: u64) -> u64
+    ensures { result ≡ tower_mul 6 x x }
+{
+    sum_of_entries_64(&linear::SQUARES_64, x)
+}
+
+/// The square root of an element of GF(2^16). Every element has one.
+#[inline]
+pub fn sqrt_16(x: u16) -> u16
+    ensures { tower_mul 4 result result ≡ x }
+{
+    sum_of_entries_16(&linear::ROOTS_16, x)
+}
+
+/// The square root of an element of GF(2^32). Every element has one.
+#[inline]
+pub fn sqrt_32(x: u32) -> u32
+    ensures { tower_mul 5 result result ≡ x }
+{
+    sum_of_entries_32(&linear::ROOTS_32, x)
+}
+
+/// The square root of an element of GF(2^64). Every element has one.
+#[inline]
+pub fn sqrt_64(x: u64) -> u64
+    ensures { tower_mul 6 result result ≡ x }
+{
+    sum_of_entries_64(&linear::ROOTS_64, x)
 }
 
 /// States that the tables of powers and of logarithms hold what they are named for: entry e of EXP is 0x13 to the power
