@@ -1,14 +1,11 @@
 -- The levels of up to 8 bits inside the level of 8 bits: products, inverses and roots of their elements are the same there.
 use Rattle.std.proofs.Common.{◌≡◌, ◌≢◌, ℕ, suc, ◌+◌, ◌*◌, ◌%◌, ◌^◌, ◌<◌, refl, sym, zero, ◌∙◌, ap, subst, arith, lit<}
 use Rattle.std.proofs.lemmas.Nat.{pow_pos}
-use native.Mathlib.Nat.{mod-lt, mod-eq_of_lt, one-mul}
+use native.Mathlib.Nat.{mod-lt, mod-eq_of_lt}
 use Rattle.bf_base.specs.BitRing.{two_cases, bit_times_itself}
-use Rattle.bf_base.specs.Powers.{repeated_square}
 use Rattle.bf_base.specs.Tower.{root, tower_mul}
 use Rattle.bf_base.proofs.FieldLemmas.{inverse-unique}
-use Rattle.bf_base.proofs.PowerLemmas.{one-times, repeated_square-lt, repeated_square_square}
 use Rattle.bf_base.proofs.RingLemmas.{times-mod, mod-times}
-use Rattle.bf_base.proofs.TowerLaws.{squarings_more}
 use Rattle.bf_base.proofs.TowerProducts.{level-lt, tower_mul-low, tower_mul-root_zero}
 use Rattle.bf_base.proofs.TowerRing.{tower_ring}
 use Rattle.bf_base.proofs.TowerInverse.{tower_inverse, tower_inverse-lt, tower_mul-inverse}
@@ -57,23 +54,6 @@ low_inverse_lt j k (suc a) r fits r_fits none inverts =
     subst (λ (x : ℕ). x < 2 ^ 2 ^ k) (sym (low_inverse j k (suc a) r fits r_fits nonzero (inverts nonzero)))
     (tower_inverse-lt k (suc a))
 
--- ---- squarings
-
--- one squaring
-pub repeated_square_once : (k a r : ℕ) → r ≡ tower_mul k a a → r ≡ repeated_square 1 (tower_mul k) 1 a
-unfolding repeated_square
-repeated_square_once k a r is =
-    let ring = tower_ring k in
-    is ∙ sym (one-times (2 ^ k) 1 (tower_mul k) ring (tower_mul k a a) (ring.below a a))
-    ∙ repeated_square_square (2 ^ k) 1 (tower_mul k) ring 0 a
-
--- and one more of a value that is of the level above too
-pub repeated_square_once_more : (j k n a value r : ℕ) → value ≡ repeated_square 1 (tower_mul k) n a → r ≡ tower_mul (j + k) value value
-    → r ≡ repeated_square 1 (tower_mul k) (n + 1) a
-repeated_square_once_more j k n a value r so_far is =
-    let fits = subst (λ (x : ℕ). x < 2 ^ 2 ^ k) (sym so_far) (repeated_square-lt (2 ^ k) 1 (tower_mul k) (tower_ring k) n a) in
-    squarings_more k n a value r so_far (is ∙ tower_mul-low j k value value fits fits)
-
 -- ---- bits
 
 pub bit_times : (x y : ℕ) → x % 2 * (y % 2) ≡ tower_mul 0 x y
@@ -86,10 +66,6 @@ bit_square x = two_cases (λ d. d ≡ d * d) refl refl (x % 2) (mod-lt x (lit< t
 
 pub bit_by_root : (x : ℕ) → x % 2 ≡ tower_mul 0 (root 0) x
 bit_by_root x = sym (tower_mul-root_zero x)
-
-pub bit_conjugate : (x : ℕ) → x % 2 ≡ repeated_square 1 (tower_mul 0) 0 x
-unfolding repeated_square tower_mul
-bit_conjugate x = sym (one-mul (x % 2))
 
 pub bit_inverts : (x : ℕ) → x < 2 → x ≢ 0 → tower_mul 0 x x ≡ 1
 bit_inverts = bit_times_itself

@@ -45,8 +45,16 @@ pub trait Level<R: Unsigned> {
         ensures { R.number result ≡ tower_mul LEVEL (root LEVEL) (R.number x) };
 
     /// The conjugate over the level below: the element squared half as many times as it has bits.
+    #[inline]
     fn conjugate(x: R) -> R
-        ensures { R.number result ≡ repeated_square 1 (tower_mul LEVEL) (2 ^ LEVEL / 2) (R.number x) };
+        ensures { R.number result ≡ repeated_square 1 (tower_mul LEVEL) (2 ^ LEVEL / 2) (R.number x) }
+    {
+        let mut conjugate = Self::truncate(x);
+        for turn in 0..(1usize << Self::LEVEL) / 2 {
+            conjugate = Self::square(conjugate);
+        }
+        conjugate
+    }
 
     /// The inverse of an element, by which the product is 1, and 0 for 0.
     fn invert(x: R) -> R

@@ -82,12 +82,6 @@ impl Level<u8> for Bits1 {
     }
 
     #[inline]
-    #[tactic(auto, using(crate::proofs::LowLevels::bit_conjugate))]
-    fn conjugate(x: u8) -> u8 {
-        x % 2
-    }
-
-    #[inline]
     #[tactic(auto, using(crate::proofs::LowLevels::bit_inverts))]
     fn invert(x: u8) -> u8 {
         x
@@ -161,11 +155,6 @@ impl Level<u8> for Bits2 {
     #[inline]
     fn multiply_by_root(x: u8) -> u8 {
         multiply_8(2, x % 4)
-    }
-
-    #[inline]
-    fn conjugate(x: u8) -> u8 {
-        square_8(x % 4)
     }
 
     #[inline]
@@ -243,11 +232,6 @@ impl Level<u8> for Bits4 {
     }
 
     #[inline]
-    fn conjugate(x: u8) -> u8 {
-        square_8(square_8(x % 16))
-    }
-
-    #[inline]
     fn invert(x: u8) -> u8 {
         invert_8(x)
     }
@@ -319,11 +303,6 @@ impl Level<u8> for Bits8 {
     #[inline]
     fn multiply_by_root(x: u8) -> u8 {
         multiply_by_root_8(x)
-    }
-
-    #[inline]
-    fn conjugate(x: u8) -> u8 {
-        square_8(square_8(square_8(square_8(x))))
     }
 
     #[inline]
