@@ -1,6 +1,6 @@
-// The three fields of polynomials: at 8 bits by tables of the bytes of AES, at 64 and 128 bits by carryless products and their
-// remainders.
-ghost use Rattle.std.specs.Prelude.{◌≡◌, ◌≢◌, ◌<◌, ◌%◌, ◌*◌, ◌+◌, ◌^◌, refl};
+// The three fields of polynomials, and the levels of the tower that each contains. At 8 bits their arithmetic is by tables of the
+// bytes of AES, at 64 and 128 bits by carryless products and their remainders.
+ghost use Rattle.std.specs.Prelude.{◌≡◌, ◌≢◌, ◌<◌, ◌≤◌, ◌%◌, ◌*◌, ◌+◌, ◌^◌, refl};
 ghost use Rattle.std.proofs.Common.{lit<, lit≤};
 ghost use native.Mathlib.Nat.{mod-lt};
 ghost use Rattle.bf_base.specs.Basis.{aes_images, ghash_images, poly64_images};
@@ -11,6 +11,7 @@ ghost use Rattle.bf_basis.proofs.RootImages.{ghash_alpha, ghash_generator, poly6
 
 use crate::modulus::Modulus;
 use crate::polynomials::Polynomials;
+use crate::subfields::EmbedsIn;
 use bf_basis::{
     to_polynomial_8, to_polynomial_64, to_polynomial_128, to_tower_8, to_tower_64, to_tower_128,
 };
@@ -19,7 +20,7 @@ use bf_clmul::{
     reduce_64, reduce_128, split_128, sqrt_mod_64, sqrt_mod_128, square_mod_64, square_mod_128,
 };
 use bf_rijndael_tables::{invert, multiply, sqrt, square};
-use bf_tower::{Bits8, Bits64, Bits128};
+use bf_tower::{Bits8, Bits16, Bits32, Bits64, Bits128};
 
 /// x^8 + x^4 + x^3 + x + 1, the modulus of AES (FIPS 197, section 4.2).
 pub struct RijndaelModulus;
@@ -122,6 +123,10 @@ impl Modulus<u8, Bits8> for RijndaelModulus {
     ghost alpha_is = { rijndael_alpha };
 }
 
+impl EmbedsIn<u8, RijndaelKernel, u8> for Bits8 {
+    ghost lies_law = { lit≤ tt };
+}
+
 impl Modulus<u64, Bits64> for Poly64Modulus {
     ghost width = { 64 };
 
@@ -205,6 +210,22 @@ impl Modulus<u64, Bits64> for Poly64Modulus {
     ghost alpha_is = { poly64_alpha };
 }
 
+impl EmbedsIn<u64, Poly64Kernel, u8> for Bits8 {
+    ghost lies_law = { lit≤ tt };
+}
+
+impl EmbedsIn<u64, Poly64Kernel, u16> for Bits16 {
+    ghost lies_law = { lit≤ tt };
+}
+
+impl EmbedsIn<u64, Poly64Kernel, u32> for Bits32 {
+    ghost lies_law = { lit≤ tt };
+}
+
+impl EmbedsIn<u64, Poly64Kernel, u64> for Bits64 {
+    ghost lies_law = { lit≤ tt };
+}
+
 impl Modulus<u128, Bits128> for GhashModulus {
     ghost width = { 128 };
 
@@ -286,4 +307,24 @@ impl Modulus<u128, Bits128> for GhashModulus {
     ghost generator_is = { ghash_generator };
 
     ghost alpha_is = { ghash_alpha };
+}
+
+impl EmbedsIn<u128, GhashKernel, u8> for Bits8 {
+    ghost lies_law = { lit≤ tt };
+}
+
+impl EmbedsIn<u128, GhashKernel, u16> for Bits16 {
+    ghost lies_law = { lit≤ tt };
+}
+
+impl EmbedsIn<u128, GhashKernel, u32> for Bits32 {
+    ghost lies_law = { lit≤ tt };
+}
+
+impl EmbedsIn<u128, GhashKernel, u64> for Bits64 {
+    ghost lies_law = { lit≤ tt };
+}
+
+impl EmbedsIn<u128, GhashKernel, u128> for Bits128 {
+    ghost lies_law = { lit≤ tt };
 }
