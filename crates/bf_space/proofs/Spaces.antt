@@ -1,7 +1,7 @@
 -- Elements as vectors: what one coefficient more makes of the coefficients so far.
 use Rattle.std.proofs.Common.{◌≡◌, ◌≢◌, ℕ, zero, suc, ◌+◌, ◌*◌, ◌-◌, ◌/◌, ◌%◌, ◌^◌, ◌<◌, ◌≤◌, refl, sym, ◌∙◌, ap, ap₂, arith, List, [], ◌∷◌, ◌++◌, length, map, Option, Some, subst, take, get_or, replicate, set}
 use Rattle.std.proofs.lemmas.Nat.{shr_high, pow-add, pow_pos}
-use native.Mathlib.Nat.{mul-add, mul-add-mod_self_left, zero-add, mod-eq_of_lt, mod-lt, mul-suc, mul-zero, div-one}
+use native.Mathlib.Nat.{mul-add, mul-add-mod_self_left, mod-eq_of_lt, mod-lt, mul-suc, mul-zero, div-one}
 use native.Mathlib.Numerals.{add-one}
 use lib.Arith.{digits_lt}
 use Rattle.std.proofs.Math.Pow.{pow_mono}
@@ -65,14 +65,11 @@ chunks-whole width a fits = ap (λ x. x ∷ []) (sym (chunk-whole width a fits))
 
 -- ---- calls that give the coefficients one after the other
 
-pub fills_more : {S A : Type 0} (R : S → ℕ → A → S → Type 0) (s : S) (i : ℕ) (xs : List A) (t u : S) (x : A)
-    → FillsFrom R s i xs t → R t (i + length xs) x u → FillsFrom R s i (xs ++ x ∷ []) u
-fills_more R s i [] t u x same step =
-    let none : i + 0 ≡ i = omega arith in
-    (u, subst (λ p. R p i x u) (sym same) (subst (λ k. R t k x u) none step), refl)
-fills_more R s i (y ∷ ys) t u x fills step =
-    let next : i + suc (length ys) ≡ i + 1 + length ys = omega arith in
-    (fills.0, fills.1, fills_more R fills.0 (i + 1) ys t u x fills.2 (subst (λ k. R t k x u) next step))
+-- what calls gave, and what one call more gives
+fills_more : {S A : Type 0} (R : S → ℕ → A → S → Type 0) (s : S) (i : ℕ) (xs : List A) (t u : S) (x : A) (k : ℕ) → k ≡ i + length xs
+    → FillsFrom R s i xs t → R t k x u → FillsFrom R s i (xs ++ x ∷ []) u
+fills_more R s i [] t u x k last same step = (u, subst (λ p. R p i x u) (sym same) (subst (λ n. R t n x u) (omega arith) step), refl)
+fills_more R s i (y ∷ ys) t u x k last fills step = (fills.0, fills.1, fills_more R fills.0 (i + 1) ys t u x k (omega arith) fills.2 step)
 
 -- the calls of an iterator, which know no index
 pub fills-yields : {S A : Type 0} (next_gives : S → Option A → S → Type 0) (s : S) (i : ℕ) (xs : List A) (t : S)
@@ -108,14 +105,18 @@ pub record Coefficients {S A : Type 0} (width : ℕ) (repr : A → ℕ) (step : 
   pub are : map repr taken ≡ chunks width i element
 
 module _ {S A : Type 0} (width : ℕ) (repr : A → ℕ) (step : S → ℕ → A → S → Type 0) (start : S) where
-  pub no_coefficients : (element : ℕ) → element ≡ 0 → Coefficients width repr step start 0 element start
-  no_coefficients element nothing = record {
-    below = subst (λ (n : ℕ). n < 2 ^ (width * 0)) (sym nothing) (pow_pos (width * 0));
+  pub no_coefficients : {E : Type 0} (of : E → ℕ) (none element : E) → element ≡ none → of none ≡ 0 → Coefficients width repr step start 0 (of element) start
+  no_coefficients of none element is nothing = record {
+    below = subst (λ (n : ℕ). n < 2 ^ (width * 0)) (sym (ap of is ∙ nothing)) (pow_pos (width * 0));
     taken = [];
     fills = refl;
     long = refl;
-    are = sym (chunks-none width element);
+    are = sym (chunks-none width (of element));
   }
+
+  -- the element has no bit where the next coefficient goes
+  pub element_below : (i element : ℕ) (now : S) → Coefficients width repr step start i element now → element < 2 ^ (width * i)
+  element_below i element now begun = begun.below
 
   pub more_coefficients : (i x a : ℕ) (now next : S) (c : A) → Coefficients width repr step start i x now
       → repr c < 2 ^ width → step now i c next → a ≡ repr c * 2 ^ (width * i) + x
@@ -123,7 +124,7 @@ module _ {S A : Type 0} (width : ℕ) (repr : A → ℕ) (step : S → ℕ → A
   more_coefficients i x a now next c begun fits called is = record {
     below = more-lt width i a (repr c) x begun.below fits is;
     taken = begun.taken ++ c ∷ [];
-    fills = fills_more step start 0 begun.taken now next c begun.fills (subst (λ k. step now k c next) (sym begun.long ∙ sym (zero-add (length begun.taken))) called);
+    fills = fills_more step start 0 begun.taken now next c i (omega (arith, begun.long)) begun.fills called;
     long = length-append begun.taken (c ∷ []) ∙ ap (λ (n : ℕ). n + 1) begun.long;
     are = map-append repr begun.taken (c ∷ []) ∙ ap (λ ys. ys ++ repr c ∷ []) begun.are
         ∙ sym (chunks-more width i a (repr c) x begun.below fits is);
@@ -135,7 +136,7 @@ pub one_item_more : {S A : Type 0} (next_gives : S → Option A → S → Type 0
     → (ys : List A) × Yields next_gives s ys u × (length ys ≡ suc n)
 one_item_more next_gives s t u i xs x n fills last long = (
   xs ++ x ∷ [],
-  fills-yields next_gives s i (xs ++ x ∷ []) u (fills_more (λ p k y q. next_gives p (Some y) q) s i xs t u x fills last),
+  fills-yields next_gives s i (xs ++ x ∷ []) u (fills_more (λ p k y q. next_gives p (Some y) q) s i xs t u x _ refl fills last),
   length-append xs (x ∷ []) ∙ add-one (length xs) ∙ ap suc long,
 )
 

@@ -79,6 +79,7 @@ pub trait BasedVectorSpace<F: PrimeCharacteristicRing>: PrimeCharacteristicRing 
     }
 
     /// The element whose coefficient i is `f(i)`. `f` is called for 0, 1, .., below the dimension, in order, each once.
+    #[tactic(auto, using(crate::proofs::Spaces::element_below))]
     final fn from_basis_coefficients_fn<G: FnMut(usize) -> F>(mut f: G) -> Self
         requires { G.IsAlwaysCallable f }
         ensures { (coefficients : List F) × (last : G) × FillsFrom G.step f 0 coefficients last × (map F.repr coefficients ≡ chunks F.width DIMENSION (Self.repr result)) }
@@ -92,6 +93,7 @@ pub trait BasedVectorSpace<F: PrimeCharacteristicRing>: PrimeCharacteristicRing 
 
     /// The element of the coefficients that `iter` gives, the lowest first, and None where they are not as many as the
     /// dimension. It takes at most one item more than that, also of an iterator without end.
+    #[tactic(auto, using(crate::proofs::Spaces::element_below))]
     final fn from_basis_coefficients_iter<I: Iterator<Item = F>>(mut iter: I) -> Option<Self>
         requires { I.can_next iter }
         ensures { (coefficients : List F) × TakesOneMore I.next_gives iter DIMENSION coefficients × (IsNone result ↔ (length coefficients ≢ DIMENSION)) × IfSome result (λ x. map F.repr coefficients ≡ chunks F.width DIMENSION (Self.repr x)) }

@@ -6,12 +6,7 @@ use Rattle.bf_space.proofs.space.BasedVectorSpace.from_basis_coefficients_iter.G
 
 pub loop-i-init : goal.loop-i-init
 loop-i-init g c =
-    let nothing = ap g.Self.Represented.repr c.ZERO-element.ensures ∙ g.met.Self.PrimeCharacteristicRing.zero_law in
-    (c.requires, no_coefficients g.F.Represented.width g.F.Represented.repr _ _ _ nothing)
-
-pub with_basis_coefficient-element-requires-clause-below :
-    goal.with_basis_coefficient-element-requires-clause-below
-with_basis_coefficient-element-requires-clause-below g c = c.loop-i.invariant.1.below
+    (c.requires, no_coefficients _ _ _ _ g.Self.Represented.repr _ _ c.ZERO-element.ensures g.met.Self.PrimeCharacteristicRing.zero_law)
 
 pub returns-in-None : goal.returns-in-None
 returns-in-None g c =
