@@ -66,28 +66,22 @@ module _ {S E : Type 0} {width : ℕ} (next_gives : S → Option (List E) → S 
   abbrev pending_in : ℕ → ParallelByteStreams S E width → List ℕ
   pending_in j s = bytes_pending size (column repr j) s.pending s.given
 
-  pub row_taken : (elements next now : S) (pending new : Option (List E)) (given place : ℕ) (row : List E) (bytes : List ℕ) → pending ≡ None → IsWithin size pending given
-      → next_gives elements (Some row) next → now ≡ next
-      → ((j : ℕ) → j < width → bytes_pending size (column repr j) (Some row) given ≡ slice_index bytes j ∷ bytes_pending size (column repr j) new place)
-      → (taken : List (List E)) × Yields next_gives elements taken now
-      × ((j : ℕ) → j < width → bytes_pending size (column repr j) pending given ++ joined_bytes size (column repr j) taken
-      ≡ slice_index bytes j ∷ bytes_pending size (column repr j) new place)
-  row_taken elements next now pending new given place row bytes none within step same left = (
-    row ∷ [],
-    (next, step, sym same),
-    (λ j stream. first_bytes size (column repr j) pending given row _ none within (left j stream)),
-  )
+  -- the bytes that come first of a row, in each column
+  abbrev FirstOf : List E → ℕ → List ℕ → ParallelByteStreams S E width → Type 0
+  FirstOf row given bytes t =
+      (j : ℕ) → j < width → bytes_pending size (column repr j) (Some row) given ≡ slice_index bytes j ∷ pending_in j t
 
-  pub row_begun : (elements now : S) (pending new : Option (List E)) (given place : ℕ) (row : List E) (bytes : List ℕ) → pending ≡ Some row → now ≡ elements
-      → ((j : ℕ) → j < width → bytes_pending size (column repr j) (Some row) given ≡ slice_index bytes j ∷ bytes_pending size (column repr j) new place)
-      → (taken : List (List E)) × Yields next_gives elements taken now
-      × ((j : ℕ) → j < width → bytes_pending size (column repr j) pending given ++ joined_bytes size (column repr j) taken
-      ≡ slice_index bytes j ∷ bytes_pending size (column repr j) new place)
-  row_begun elements now pending new given place row bytes is same left = (
+  pub row_taken : (s t : ParallelByteStreams S E width) (next : S) (row : List E) (bytes : List ℕ) → s.pending ≡ None → IsWithin size s.pending s.given
+      → next_gives s.elements (Some row) next → t.elements ≡ next → FirstOf row s.given bytes t → GivesRow next_gives width size repr s (Some bytes) t
+  row_taken s t next row bytes none within step same left =
+      (row ∷ [], (next, step, sym same), (λ j stream. first_bytes size (column repr j) s.pending s.given row _ none within (left j stream)))
+
+  pub row_begun : (s t : ParallelByteStreams S E width) (row : List E) (bytes : List ℕ) → s.pending ≡ Some row → t.elements ≡ s.elements
+      → FirstOf row s.given bytes t → GivesRow next_gives width size repr s (Some bytes) t
+  row_begun s t row bytes is same left = (
     [],
     sym same,
-    (λ j stream.
-        append-nil (bytes_pending size (column repr j) pending given) ∙ ap (λ p. bytes_pending size (column repr j) p given) is ∙ left j stream),
+    (λ j stream. append-nil (pending_in j s) ∙ ap (λ p. bytes_pending size (column repr j) p s.given) is ∙ left j stream),
   )
 
   run_gives : (s : ParallelByteStreams S E width) (rows : List (List ℕ)) (t : ParallelByteStreams S E width) → Yields (GivesRow next_gives width size repr) s rows t

@@ -39,18 +39,33 @@ drop-chunks width (suc n) i a within = by_place (drop-chunks width n i a) (cases
         (sym (drop_of_length-le (chunks width n a ++ chunk width n a ∷ [])
         (omega (arith, is, long, length-append (chunks width n a) (chunk width n a ∷ [])))))
 
--- a byte of an element, and its last one
+-- a byte of an element
 pub byte_given : (size given a b : ℕ) → given < size → b ≡ chunk 8 given a → drop given (low_bytes size a) ≡ b ∷ drop (given + 1) (low_bytes size a)
 byte_given size given a b within is =
     drop-chunks 8 size given a within ∙ ap (λ (x : ℕ). x ∷ drop (given + 1) (low_bytes size a)) (sym is)
 
-pub last_byte_given : (size given a b : ℕ) → given + 1 ≡ size → b ≡ chunk 8 given a → drop given (low_bytes size a) ≡ b ∷ []
-last_byte_given size given a b last is =
-    byte_given size given a b (omega (arith, last)) is
-    ∙ ap (λ ys. b ∷ ys) (drop_of_length-le (low_bytes size a) (omega (arith, last, length-chunks 8 size a)))
+-- after the last byte of an element none is left
+pub none_after : (size given a : ℕ) → given ≡ size → [] ≡ drop given (low_bytes size a)
+none_after size given a last = sym (drop_of_length-le (low_bytes size a) (omega (arith, last, length-chunks 8 size a)))
 
 pub chunk-zero : (i : ℕ) → chunk 8 i 0 ≡ 0
 chunk-zero i = ap (λ (n : ℕ). n % 2 ^ 8) (zero-div (2 ^ (8 * i)))
+
+-- what is pending of an element of `whole` bytes is pending of one of `size`, where these are equal
+module _ {E : Type 0} (size whole : ℕ) (repr : E → ℕ) (pending : Option E) (place : ℕ) (same : whole ≡ size) where
+  pub rest_within : IsWithin whole pending place → IsWithin size pending place
+  rest_within within = subst (λ n. IsWithin n pending place) same within
+
+  pub rest_left : (x : E) (given : ℕ) → bytes_pending whole repr pending place ≡ drop given (low_bytes whole (repr x))
+      → bytes_pending size repr pending place ≡ drop given (low_bytes size (repr x))
+  rest_left x given left = subst (λ n. bytes_pending n repr pending place ≡ drop given (low_bytes n (repr x))) same left
+
+  -- one byte, and what is pending then
+  pub first_given : (x : E) (given b : ℕ) → given < size → b ≡ chunk 8 given (repr x)
+      → bytes_pending whole repr pending place ≡ drop (given + 1) (low_bytes whole (repr x))
+      → bytes_pending size repr (Some x) given ≡ b ∷ bytes_pending size repr pending place
+  first_given x given b within is left =
+      byte_given size given (repr x) b within is ∙ ap (λ ys. b ∷ ys) (sym (rest_left x (given + 1) left))
 
 module _ {E : Type 0} (size : ℕ) (repr : E → ℕ) where
   pub nothing_pending : (pending : Option E) (given : ℕ) → pending ≡ None → bytes_pending size repr pending given ≡ []
@@ -87,12 +102,11 @@ module _ {E : Type 0} (size : ℕ) (repr : E → ℕ) where
       ∙ ap (λ zs. zs ++ joined_bytes size repr ys) first ∙ ap (λ zs. b ∷ zs) others
 
 module _ {S E : Type 0} (next_gives : S → Option E → S → Type 0) (size : ℕ) (repr : E → ℕ) where
-  pub element_taken : (elements next now : S) (pending new : Option E) (given place : ℕ) (x : E) (b : ℕ) → pending ≡ None → IsWithin size pending given
-      → next_gives elements (Some x) next → now ≡ next → bytes_pending size repr (Some x) given ≡ b ∷ bytes_pending size repr new place
-      → (taken : List E) × Yields next_gives elements taken now
-      × (bytes_pending size repr pending given ++ joined_bytes size repr taken ≡ b ∷ bytes_pending size repr new place)
-  element_taken elements next now pending new given place x b none within step same left =
-      (x ∷ [], (next, step, sym same), first_bytes size repr pending given x _ none within left)
+  pub element_taken : (s t : ByteStream S E) (next : S) (x : E) (b : ℕ) → s.pending ≡ None → IsWithin size s.pending s.given
+      → next_gives s.elements (Some x) next → t.elements ≡ next
+      → bytes_pending size repr (Some x) s.given ≡ b ∷ bytes_pending size repr t.pending t.given → GivesByte next_gives size repr s (Some b) t
+  element_taken s t next x b none within step same left =
+      (x ∷ [], (next, step, sym same), first_bytes size repr s.pending s.given x _ none within left)
 
   -- ---- all that a stream gives
 

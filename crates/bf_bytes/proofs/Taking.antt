@@ -1,14 +1,14 @@
 -- Bytes that are read one after the other.
-use Rattle.std.proofs.Common.{◌≡◌, ℕ, zero, suc, ◌+◌, ◌*◌, ◌%◌, ◌^◌, ◌<◌, ◌≤◌, refl, sym, ◌∙◌, ap, ap₂, arith, List, [], ◌∷◌, ◌++◌, length, Option, Some, subst}
+use Rattle.std.proofs.Common.{◌≡◌, ℕ, zero, suc, ◌+◌, ◌*◌, ◌%◌, ◌^◌, ◌<◌, ◌≤◌, refl, sym, ◌∙◌, ap, ap₂, arith, List, [], ◌∷◌, ◌++◌, length, Option, None, Some, inl, inr, subst}
 use Rattle.std.proofs.Math.Pow.{pow_mono}
 use Rattle.std.proofs.Math.Nat.{lt_of_lt_of_le}
 use Rattle.std.proofs.lemmas.Nat.{mod-pow-add, pow-add, pow_pos}
 use Rattle.std.proofs.lemmas.List.{length-append}
 use native.Mathlib.Nat.{mod-eq_of_lt, mul-suc, mul_assoc, mul_comm}
 use native.Mathlib.Numerals.{add-one}
-use Rattle.std.specs.Iterator.{Yields}
+use Rattle.std.specs.Iterator.{Count, IsFinite, Yields, size}
 use Rattle.bf_base.specs.Chunks.{chunk, chunks}
-use Rattle.bf_bytes.specs.Bytes.{low_bytes, number_of_bytes}
+use Rattle.bf_bytes.specs.Bytes.{TakesUpTo, low_bytes, number_of_bytes}
 use Rattle.bf_space.proofs.Spaces.{more-lt}
 
 pub yields_more : {S A : Type 0} (next_gives : S → Option A → S → Type 0) (s : S) (xs : List A) (t u : S) (x : A)
@@ -21,6 +21,21 @@ pub yields_append : {S A : Type 0} (next_gives : S → Option A → S → Type 0
 yields_append next_gives [] ys s t u same others = subst (λ p. Yields next_gives p ys u) (sym same) others
 yields_append next_gives (x ∷ xs) ys s t u begun others =
     (begun.0, begun.1, yields_append next_gives xs ys begun.0 t u begun.2 others)
+
+-- what was taken of a source that ended before n items, of one that gave n, and how much the former had
+module _ {S A : Type 0} (next_gives : S → Option A → S → Type 0) (says : List A → Type 0) (start now : S) (taken : List A) (i n : ℕ) where
+  pub few_taken : (end : S) → Yields next_gives start taken now → length taken ≡ i → says taken → i < n → next_gives now None end
+      → (items : List A) × TakesUpTo next_gives start n items end × (i ≡ length items) × says items
+  few_taken end yields long is few step = (taken, inl ((now, yields, step), omega (arith, long, few)), sym long, is)
+
+  pub all_taken : (count : ℕ) → Yields next_gives start taken now → length taken ≡ i → says taken → i ≡ n → count ≡ n
+      → (items : List A) × TakesUpTo next_gives start n items now × (count ≡ length items) × says items
+  all_taken count yields long is all counted = (taken, inr (yields, long ∙ all), counted ∙ sym (long ∙ all), is)
+
+pub few_left : (before now end : Count) (i n : ℕ) → i < n → (IsFinite before → IsFinite now × (size now + i ≤ size before)) → IsFinite before
+    → (i ≤ size before) × (i ≡ n → IsFinite end × (size end + n ≤ size before))
+few_left before now end i n few counted finite =
+    let left = (counted finite).1 in (omega (arith, left), (λ whole. absurd (omega (arith, whole, few))))
 
 -- a byte is worth 256 times as much as the one below it
 pub next_place : (n : ℕ) → 2 ^ (8 * suc n) ≡ 256 * 2 ^ (8 * n)

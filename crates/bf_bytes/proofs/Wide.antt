@@ -1,7 +1,6 @@
 -- Eight bytes of an element that a stream gives at once.
 use Rattle.std.proofs.Common.{◌≡◌, ℕ, zero, suc, ◌+◌, ◌*◌, ◌/◌, ◌%◌, ◌^◌, ◌<◌, ◌≤◌, inl, inr, refl, sym, ◌∙◌, ap, arith, List, [], ◌∷◌, ◌++◌, drop, length, subst, Option, Some, None}
 use Rattle.std.proofs.Math.Nat.{div-div-eq-div-mul}
-use Rattle.std.proofs.Math.ListN.{drop_of_length-le}
 use Rattle.std.proofs.lemmas.List.{append-nil, length-drop}
 use Rattle.std.proofs.lemmas.Nat.{mul-le, pow-add}
 use native.Mathlib.Nat.{div-one, mul-add, suc-mul}
@@ -31,10 +30,6 @@ word_of_eight g a n whole is =
   where
     twice : (m : ℕ) → m % 2 ^ 64 % 2 ^ 64 ≡ m % 2 ^ 64
     twice m = omega arith
-
--- after the last eight bytes of an element none is left
-pub none_after : (size g a : ℕ) → g + 8 ≡ size → [] ≡ drop (g + 8) (low_bytes size a)
-none_after size g a last = sym (drop_of_length-le (low_bytes size a) (omega (arith, last, length-chunks 8 size a)))
 
 -- an element of whole words has room for a word where one begins within it
 pub room_within : (size g : ℕ) → size % 8 ≡ 0 → g % 8 ≡ 0 → g < size → g + 8 ≤ size

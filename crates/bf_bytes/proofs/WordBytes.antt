@@ -1,46 +1,53 @@
 -- The library's bytes of a word are its bytes in positional notation.
-use Rattle.std.proofs.Common.{◌≡◌, ℕ, zero, suc, ◌+◌, ◌*◌, ◌/◌, ◌%◌, ◌^◌, ◌<◌, ◌≤◌, refl, sym, ◌∙◌, ap, ap₂, arith, List, [], ◌∷◌, drop, get_or, length, slice_index, take}
-use Rattle.std.specs.Int.{byte_worth, from_le_bytes, sum_through, to_le_bytes, w16, w32, w64, w128}
+use Rattle.std.proofs.Common.{◌≡◌, ℕ, zero, suc, ◌+◌, ◌*◌, ◌/◌, ◌%◌, ◌^◌, ◌<◌, ◌≤◌, refl, sym, ◌∙◌, ap, ap₂, arith, List, [], ◌∷◌, ◌++◌, drop, get_or, length, slice_index, take}
+use Rattle.std.specs.Int.{byte_at, byte_worth, bytes_low_first, from_le_bytes, sum_through, to_le_bytes, w16, w32, w64, w128}
 use Rattle.std.specs.Simd.{first_chunks}
 use Rattle.std.proofs.Math.Seq.{take-suc}
 use Rattle.std.proofs.lemmas.List.{length-drop, length-take-le, take-append-drop, take_all}
 use Rattle.std.proofs.Math.Nat.{add_comm}
 use native.Mathlib.Nat.{div-one}
 use Rattle.bf_bytes.specs.Bytes.{low_bytes, number_of_bytes}
-use Rattle.bf_base.specs.Chunks.{chunks}
+use Rattle.bf_base.specs.Chunks.{chunk, chunks}
 use Rattle.bf_base.specs.Quadratic.{pair}
 use Rattle.bf_bytes.proofs.Taking.{next_place, number-append, number-more}
 use Rattle.bf_cubic.specs.Cubic.{triple}
 use Rattle.bf_space.proofs.Spaces.{chunks-whole}
 
--- byte 0 is read without a shift
-unshifted : (n : ℕ) (rest : List ℕ) → n % 256 ∷ rest ≡ n / 1 % 256 ∷ rest
-unshifted n rest = ap (λ (x : ℕ). x % 256 ∷ rest) (sym (div-one n))
-
 pub one_byte : (n : ℕ) → n < 2 ^ 8 → n ∷ [] ≡ low_bytes 1 n
 one_byte n fits = chunks-whole 8 n fits
-
-pub two_bytes : (n : ℕ) → to_le_bytes w16 n ≡ low_bytes 2 n
-unfolding chunks
-two_bytes n = unshifted n _
-
-pub four_bytes : (n : ℕ) → to_le_bytes w32 n ≡ low_bytes 4 n
-unfolding chunks
-four_bytes n = unshifted n _
-
-pub eight_bytes : (n : ℕ) → to_le_bytes w64 n ≡ low_bytes 8 n
-unfolding chunks
-eight_bytes n = unshifted n _
-
-pub sixteen_bytes : (n : ℕ) → to_le_bytes w128 n ≡ low_bytes 16 n
-unfolding chunks
-sixteen_bytes n = unshifted n _
-
--- ---- and a word of its bytes is their number
 
 pow-256 : (n : ℕ) → 256 ^ n ≡ 2 ^ (8 * n)
 pow-256 zero = refl
 pow-256 (suc n) = let below = pow-256 n in let place = next_place n in omega (arith, below, place)
+
+-- byte 0 is read without a shift
+byte_is : (i n : ℕ) → byte_at i n ≡ chunk 8 i n
+byte_is zero n = ap (λ (x : ℕ). x % 256) (sym (div-one n))
+byte_is (suc i) n = ap (λ (p : ℕ). n / p % 256) (pow-256 (suc i))
+
+-- the bytes from byte i on, the last of them apart
+last_apart : (k i j n : ℕ) → j ≡ i + k → bytes_low_first i (suc k) n ≡ bytes_low_first i k n ++ byte_at j n ∷ []
+last_apart zero i j n last = ap (λ (m : ℕ). byte_at m n ∷ []) (omega arith)
+last_apart (suc k) i j n last = ap (λ ys. byte_at i n ∷ ys) (last_apart k (suc i) j n (omega arith))
+
+bytes_are : (k n : ℕ) → bytes_low_first 0 k n ≡ low_bytes k n
+unfolding chunks
+bytes_are zero n = refl
+bytes_are (suc k) n = last_apart k 0 k n (omega arith) ∙ ap₂ (λ (ys : List ℕ) (b : ℕ). ys ++ b ∷ []) (bytes_are k n) (byte_is k n)
+
+pub two_bytes : (n : ℕ) → to_le_bytes w16 n ≡ low_bytes 2 n
+two_bytes n = bytes_are 2 n
+
+pub four_bytes : (n : ℕ) → to_le_bytes w32 n ≡ low_bytes 4 n
+four_bytes n = bytes_are 4 n
+
+pub eight_bytes : (n : ℕ) → to_le_bytes w64 n ≡ low_bytes 8 n
+eight_bytes n = bytes_are 8 n
+
+pub sixteen_bytes : (n : ℕ) → to_le_bytes w128 n ≡ low_bytes 16 n
+sixteen_bytes n = bytes_are 16 n
+
+-- ---- and a word of its bytes is their number
 
 -- the sum of the first bytes, each worth what its place says
 summed : (bs : List ℕ) (n : ℕ) → n < length bs → sum_through (λ i. byte_worth i (get_or bs i 0)) n ≡ number_of_bytes (take (suc n) bs)

@@ -4,11 +4,15 @@ use Rattle.std.specs.declared.option.Option.{Option}
 use Rattle.std.specs.declared.option.Option.TheVariants.{None}
 use Rattle.std.specs.Iterator.{Count, Yields, count_map}
 use Rattle.bf_bytes.specs.declared.parallel.ParallelByteStreams.{ParallelByteStreams}
-use Rattle.bf_bytes.specs.Streams.{bytes_pending, joined_bytes}
+use Rattle.bf_bytes.specs.Streams.{IsWithin, bytes_pending, joined_bytes}
 
 -- the representation of entry j of a row of elements
 abbrev pub column : {E : Type 0} → (E → ℕ) → ℕ → List E → ℕ
 column repr j row = slice_index (map repr row) j
+
+-- a call is allowed where one of the source is
+abbrev pub can_give_rows : {S E : Type 0} {width : ℕ} → (S → Type 0) → ℕ → ParallelByteStreams S E width → Type 0
+can_give_rows can_next size s = can_next s.elements × IsWithin size s.pending s.given
 
 module _ {S E : Type 0} (next_gives : S → Option (List E) → S → Type 0) (width size : ℕ) (repr : E → ℕ) where
   -- A call from s took some rows of the source. In each of the `width` streams, the bytes that were pending, and those of the

@@ -24,6 +24,10 @@ bytes_pending size repr pending given = option_bytes (λ x. drop given (low_byte
 abbrev pub IsWithin : {E : Type 0} → ℕ → Option E → ℕ → Type 0
 IsWithin size pending given = MatchOption pending (given ≡ 0) (λ _. given < size)
 
+-- a call is allowed where one of the source is
+abbrev pub can_give : {S E : Type 0} → (S → Type 0) → ℕ → ByteStream S E → Type 0
+can_give can_next size s = can_next s.elements × IsWithin size s.pending s.given
+
 module _ {S E : Type 0} (next_gives : S → Option E → S → Type 0) (size : ℕ) (repr : E → ℕ) where
   -- A call from s took some elements of the source. The bytes that were pending, and those of these elements, are the byte that
   -- was given and the bytes that are pending then. No byte comes only where none is pending and the source ends.

@@ -2,10 +2,14 @@
 use Rattle.std.specs.Prelude.{◌≡◌, ℕ, ◌<◌, ◌≤◌, ◌⊎◌, Bool, true, false, List, [], ◌∷◌, ◌++◌, length, map, slice_index, MatchOption}
 use Rattle.std.specs.declared.option.Option.{Option}
 use Rattle.std.specs.declared.option.Option.TheVariants.{None}
-use Rattle.std.specs.Iterator.{Count, Yields, YieldsThen, count_unless}
+use Rattle.std.specs.Iterator.{Count, Drains, IsFinite, Yields, YieldsThen, count_unless}
+use Rattle.bf_bytes.specs.declared.parallel.ParallelByteStreams.{ParallelByteStreams}
 use Rattle.bf_bytes.specs.declared.parallel_words.ParallelWordStreams.{ParallelWordStreams}
+use Rattle.bf_bytes.specs.declared.streams.ByteStream.{ByteStream}
 use Rattle.bf_bytes.specs.declared.words.WordStream.{WordStream}
 use Rattle.bf_bytes.specs.Bytes.{number_of_bytes}
+use Rattle.bf_bytes.specs.Parallel.{AreJoinedRows, GivesRow, can_give_rows, row_count}
+use Rattle.bf_bytes.specs.Streams.{GivesByte, byte_count, can_give, joined_bytes}
 
 -- the word of at most n bytes has their number: bytes that are missing are 0
 abbrev pub IsWord : {W : Type 0} → (W → ℕ) → W → List ℕ → Type 0
@@ -69,3 +73,23 @@ word_count remaining s = count_unless s.ended (remaining s.bytes)
 -- each row of words has a row of bytes
 abbrev pub word_row_count : {S W : Type 0} {width : ℕ} → (S → Count) → ParallelWordStreams W S width → Count
 word_row_count remaining s = count_unless s.ended (remaining s.rows)
+
+-- A stream of the words of elements may be called where the source of the elements may, and it ends where that does. What a whole run
+-- of it gives are the words of the bytes of all elements.
+module _ {S E W : Type 0} (can_next : S → Type 0) (next_gives : S → Option E → S → Type 0) (remaining : S → Count) (size : ℕ) (repr : E → ℕ) (n : ℕ)
+    (number : W → ℕ) where
+  pub record StreamsWords (elements : S) (stream : WordStream W (ByteStream S E)) : Type 0 where
+    pub can : can_next elements → can_take (can_give can_next size) stream
+    pub ends : IsFinite (remaining elements) → IsFinite (word_count (byte_count remaining size repr) stream)
+    pub items : (words : List W) → Drains (GivesWord (GivesByte next_gives size repr) n number) stream words
+        → (given : List E) × Drains next_gives elements given × AreWords number n (joined_bytes size repr given) words
+
+-- the same of streams side by side
+module _ {S E W : Type 0} (can_next : S → Type 0) (next_gives : S → Option (List E) → S → Type 0) (remaining : S → Count) (width size : ℕ) (repr : E → ℕ)
+    (n : ℕ) (number : W → ℕ) where
+  pub record StreamsWordRows (elements : S) (streams : ParallelWordStreams W (ParallelByteStreams S E width) width) : Type 0 where
+    pub can : can_next elements → can_take_rows (can_give_rows can_next size) streams
+    pub ends : IsFinite (remaining elements) → IsFinite (word_row_count (row_count remaining size) streams)
+    pub items : (words : List (List W)) → Drains (GivesWordRow (GivesRow next_gives width size repr) n number) streams words
+        → (given : List (List E)) × (rows : List (List ℕ)) × Drains next_gives elements given × AreJoinedRows width size repr given rows
+        × AreWordRows width number n rows words

@@ -3,9 +3,10 @@ ghost use Rattle.std.specs.Prelude.{◌≡◌, ◌<◌, ◌∷◌, ℕ, List, So
 ghost use Rattle.std.specs.Iterator.{Drains, IsFinite};
 ghost use Rattle.bf_base.specs.Chunks.{chunk};
 ghost use Rattle.bf_bytes.specs.Streams.{IsWithin, bytes_pending};
-ghost use Rattle.bf_bytes.specs.Parallel.{AreJoinedRows, GivesRow, column, row_count};
+ghost use Rattle.bf_bytes.specs.Parallel.{AreJoinedRows, GivesRow, can_give_rows, column, row_count};
 
 use crate::serializable::RawDataSerializable;
+use crate::streams::pending_of;
 
 /// The bytes of `N` streams of elements side by side: each item has one byte of each stream, in which the bytes of its elements
 /// follow one another, each element from its lowest byte on.
@@ -29,13 +30,9 @@ impl<I: Drop, E: RawDataSerializable, const N: usize> ParallelByteStreams<I, E, 
     {
         let size = E::NUM_BYTES;
         let bytes = bytes_of_row(&row, self.given);
-        if self.given + 1 == size {
-            self.pending = None;
-            self.given = 0;
-        } else {
-            self.pending = Some(row);
-            self.given += 1;
-        }
+        let (pending, given) = pending_of(row, self.given + 1, size);
+        self.pending = pending;
+        self.given = given;
         bytes
     }
 }
@@ -57,7 +54,7 @@ impl<I: Iterator<Item = [E; N]>, E: RawDataSerializable, const N: usize> Iterato
     for ParallelByteStreams<I, E, N> {
     type Item = [u8; N];
 
-    ghost can_next = { λ s. I.can_next s.elements × IsWithin E.NUM_BYTES s.pending s.given };
+    ghost can_next = { can_give_rows I.can_next E.NUM_BYTES };
 
     ghost next_gives = { GivesRow I.next_gives N E.NUM_BYTES E.repr };
 
@@ -85,7 +82,7 @@ pub fn into_parallel_byte_streams<
     E: RawDataSerializable,
     const N: usize,
 >(elements: I) -> ParallelByteStreams<I, E, N>
-    ensures can { I.can_next elements → I.can_next result.elements × IsWithin E.NUM_BYTES result.pending result.given }
+    ensures can { I.can_next elements → can_give_rows I.can_next E.NUM_BYTES result }
     ensures ends { IsFinite (I.remaining elements) → IsFinite (row_count I.remaining E.NUM_BYTES result) }
     ensures items { (rows : List (List ℕ)) → Drains (GivesRow I.next_gives N E.NUM_BYTES E.repr) result rows → (given : List (List E)) × Drains I.next_gives elements given × AreJoinedRows N E.NUM_BYTES E.repr given rows }
 {

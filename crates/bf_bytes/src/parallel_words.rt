@@ -1,9 +1,8 @@
 // Streams of the words that bytes make, side by side: an item has one word a stream.
 ghost use Rattle.std.specs.Prelude.{◌≡◌, ◌<◌, ◌≤◌, ◌+◌, ◌*◌, ◌^◌, ℕ, List, length, map, slice_index};
-ghost use Rattle.std.specs.Iterator.{Drains, IsFinite, MakesProgress, size};
+ghost use Rattle.std.specs.Iterator.{IsFinite, MakesProgress, size};
 ghost use Rattle.bf_bytes.specs.Bytes.{TakesUpTo};
-ghost use Rattle.bf_bytes.specs.Parallel.{AreJoinedRows, GivesRow};
-ghost use Rattle.bf_bytes.specs.Words.{AreWordRows, GivesWordRow, IsWordRow, can_take_rows, word_row_count};
+ghost use Rattle.bf_bytes.specs.Words.{GivesWordRow, IsWordRow, StreamsWordRows, can_take_rows, word_row_count};
 
 use crate::little_endian::LittleEndian;
 use crate::parallel::{ParallelByteStreams, into_parallel_byte_streams};
@@ -119,9 +118,7 @@ pub fn into_parallel_word_streams<
     E: RawDataSerializable,
     const N: usize,
 >(elements: I) -> ParallelWordStreams<W, ParallelByteStreams<I, E, N>, N>
-    ensures can { I.can_next elements → can_take_rows ⟦<ParallelByteStreams<I, E, N> as Iterator>⟧.can_next result }
-    ensures ends { IsFinite (I.remaining elements) → IsFinite (word_row_count ⟦<ParallelByteStreams<I, E, N> as Iterator>⟧.remaining result) }
-    ensures items { (words : List (List W)) → Drains (GivesWordRow (GivesRow I.next_gives N E.NUM_BYTES E.repr) W.SIZE W.number) result words → (given : List (List E)) × (rows : List (List ℕ)) × Drains I.next_gives elements given × AreJoinedRows N E.NUM_BYTES E.repr given rows × AreWordRows N W.number W.SIZE rows words }
+    ensures { StreamsWordRows I.can_next I.next_gives I.remaining N E.NUM_BYTES E.repr W.SIZE W.number elements result }
 {
     ParallelWordStreams {
         rows: into_parallel_byte_streams(elements),
@@ -136,9 +133,7 @@ pub fn into_parallel_u32_streams<
     E: RawDataSerializable,
     const N: usize,
 >(elements: I) -> ParallelU32Streams<I, E, N>
-    ensures can { I.can_next elements → can_take_rows ⟦<ParallelByteStreams<I, E, N> as Iterator>⟧.can_next result }
-    ensures ends { IsFinite (I.remaining elements) → IsFinite (word_row_count ⟦<ParallelByteStreams<I, E, N> as Iterator>⟧.remaining result) }
-    ensures items { (words : List (List ℕ)) → Drains (GivesWordRow (GivesRow I.next_gives N E.NUM_BYTES E.repr) 4 (λ w. w)) result words → (given : List (List E)) × (rows : List (List ℕ)) × Drains I.next_gives elements given × AreJoinedRows N E.NUM_BYTES E.repr given rows × AreWordRows N (λ w. w) 4 rows words }
+    ensures { StreamsWordRows I.can_next I.next_gives I.remaining N E.NUM_BYTES E.repr 4 (λ w. w) elements result }
 {
     into_parallel_word_streams(elements)
 }
@@ -149,9 +144,7 @@ pub fn into_parallel_u64_streams<
     E: RawDataSerializable,
     const N: usize,
 >(elements: I) -> ParallelU64Streams<I, E, N>
-    ensures can { I.can_next elements → can_take_rows ⟦<ParallelByteStreams<I, E, N> as Iterator>⟧.can_next result }
-    ensures ends { IsFinite (I.remaining elements) → IsFinite (word_row_count ⟦<ParallelByteStreams<I, E, N> as Iterator>⟧.remaining result) }
-    ensures items { (words : List (List ℕ)) → Drains (GivesWordRow (GivesRow I.next_gives N E.NUM_BYTES E.repr) 8 (λ w. w)) result words → (given : List (List E)) × (rows : List (List ℕ)) × Drains I.next_gives elements given × AreJoinedRows N E.NUM_BYTES E.repr given rows × AreWordRows N (λ w. w) 8 rows words }
+    ensures { StreamsWordRows I.can_next I.next_gives I.remaining N E.NUM_BYTES E.repr 8 (λ w. w) elements result }
 {
     into_parallel_word_streams(elements)
 }

@@ -2,7 +2,7 @@
 ghost use Rattle.std.specs.Prelude.{◌≡◌, ◌<◌, ◌≤◌, ◌+◌, ◌*◌, ◌/◌, ◌%◌, ◌^◌, ℕ, List, ◌∷◌, Some, drop, length};
 ghost use Rattle.std.specs.Iterator.{Drains, IsFinite, size};
 ghost use Rattle.bf_base.specs.Chunks.{chunk};
-ghost use Rattle.bf_bytes.specs.Streams.{byte_count, bytes_pending, GivesByte, IsWithin, joined_bytes};
+ghost use Rattle.bf_bytes.specs.Streams.{byte_count, bytes_pending, can_give, GivesByte, IsWithin, joined_bytes};
 ghost use Rattle.bf_bytes.specs.Bytes.{low_bytes, number_of_bytes, TakesUpTo};
 
 use crate::little_endian::LittleEndian;
@@ -29,6 +29,20 @@ pub struct ByteStream<I, E> {
     given: usize,
 }
 
+/// An element of which some bytes were given, and how many, where `given` of its `size` bytes were: none where all were.
+#[inline]
+pub(crate) fn pending_of<E: Drop>(element: E, given: usize, size: usize) -> (Option<E>, usize)
+    requires { given ≤ size }
+    ensures within { IsWithin size result.0 result.1 }
+    ensures left { (repr : E → ℕ) → bytes_pending size repr result.0 result.1 ≡ drop given (low_bytes size (repr element)) }
+{
+    if given == size {
+        (None, 0)
+    } else {
+        (Some(element), given)
+    }
+}
+
 impl<I: Drop, E: RawDataSerializable> ByteStream<I, E> {
     // The next byte of an element, of which as many as `given` were given.
     #[inline]
@@ -40,13 +54,9 @@ impl<I: Drop, E: RawDataSerializable> ByteStream<I, E> {
     {
         let size = E::NUM_BYTES;
         let byte = element.byte(self.given);
-        if self.given + 1 == size {
-            self.pending = None;
-            self.given = 0;
-        } else {
-            self.pending = Some(element);
-            self.given += 1;
-        }
+        let (pending, given) = pending_of(element, self.given + 1, size);
+        self.pending = pending;
+        self.given = given;
         byte
     }
 
@@ -64,13 +74,9 @@ impl<I: Drop, E: RawDataSerializable> ByteStream<I, E> {
     {
         let size = E::NUM_BYTES;
         let word = W::of_wide(element.wide(given / 8));
-        if given + 8 == size {
-            self.pending = None;
-            self.given = 0;
-        } else {
-            self.pending = Some(element);
-            self.given = given + 8;
-        }
+        let (pending, after) = pending_of(element, given + 8, size);
+        self.pending = pending;
+        self.given = after;
         word
     }
 }
@@ -78,7 +84,7 @@ impl<I: Drop, E: RawDataSerializable> ByteStream<I, E> {
 impl<I: Iterator<Item = E>, E: RawDataSerializable> Iterator for ByteStream<I, E> {
     type Item = u8;
 
-    ghost can_next = { λ s. I.can_next s.elements × IsWithin E.NUM_BYTES s.pending s.given };
+    ghost can_next = { can_give I.can_next E.NUM_BYTES };
 
     ghost next_gives = { GivesByte I.next_gives E.NUM_BYTES E.repr };
 
@@ -92,10 +98,6 @@ impl<I: Iterator<Item = E>, E: RawDataSerializable> Iterator for ByteStream<I, E
                 None => None,
             },
         }
-    }
-
-    fn size_hint(&self) -> (usize, Option<usize>) {
-        (0, None)
     }
 }
 
@@ -123,7 +125,7 @@ impl<I: Iterator<Item = E>, E: RawDataSerializable> ByteSource for ByteStream<I,
 pub fn into_byte_stream<I: Iterator<Item = E>, E: RawDataSerializable>(
     elements: I,
 ) -> ByteStream<I, E>
-    ensures can { I.can_next elements → I.can_next result.elements × IsWithin E.NUM_BYTES result.pending result.given }
+    ensures can { I.can_next elements → can_give I.can_next E.NUM_BYTES result }
     ensures ends { IsFinite (I.remaining elements) → IsFinite (byte_count I.remaining E.NUM_BYTES E.repr result) }
     ensures items { (bytes : List ℕ) → Drains (GivesByte I.next_gives E.NUM_BYTES E.repr) result bytes → (given : List E) × Drains I.next_gives elements given × (bytes ≡ joined_bytes E.NUM_BYTES E.repr given) }
 {

@@ -1,8 +1,6 @@
 // Streams of the words that bytes make.
-ghost use Rattle.std.specs.Prelude.{◌≡◌, ℕ, List, false};
-ghost use Rattle.std.specs.Iterator.{Drains, IsFinite};
-ghost use Rattle.bf_bytes.specs.Streams.{GivesByte, joined_bytes};
-ghost use Rattle.bf_bytes.specs.Words.{AreWords, GivesWord, can_take, word_count};
+ghost use Rattle.std.specs.Prelude.{◌≡◌, false};
+ghost use Rattle.bf_bytes.specs.Words.{GivesWord, StreamsWords, can_take, word_count};
 
 use crate::little_endian::LittleEndian;
 use crate::serializable::RawDataSerializable;
@@ -47,10 +45,6 @@ impl<W: LittleEndian, B: ByteSource> Iterator for WordStream<W, B> {
         }
         Some(word)
     }
-
-    fn size_hint(&self) -> (usize, Option<usize>) {
-        (0, None)
-    }
 }
 
 /// The words of the bytes of the elements of an iterator: their bytes are joined, one element after the other, and cut into
@@ -58,9 +52,7 @@ impl<W: LittleEndian, B: ByteSource> Iterator for WordStream<W, B> {
 pub fn into_word_stream<W: LittleEndian, I: Iterator<Item = E>, E: RawDataSerializable>(
     elements: I,
 ) -> WordStream<W, ByteStream<I, E>>
-    ensures can { I.can_next elements → can_take ⟦<ByteStream<I, E> as Iterator>⟧.can_next result }
-    ensures ends { IsFinite (I.remaining elements) → IsFinite (word_count ⟦<ByteStream<I, E> as Iterator>⟧.remaining result) }
-    ensures items { (words : List W) → Drains (GivesWord (GivesByte I.next_gives E.NUM_BYTES E.repr) W.SIZE W.number) result words → (given : List E) × Drains I.next_gives elements given × AreWords W.number W.SIZE (joined_bytes E.NUM_BYTES E.repr given) words }
+    ensures { StreamsWords I.can_next I.next_gives I.remaining E.NUM_BYTES E.repr W.SIZE W.number elements result }
 {
     WordStream {
         bytes: into_byte_stream(elements),
@@ -73,9 +65,7 @@ pub fn into_word_stream<W: LittleEndian, I: Iterator<Item = E>, E: RawDataSerial
 pub fn into_u32_stream<I: Iterator<Item = E>, E: RawDataSerializable>(
     elements: I,
 ) -> U32Stream<I, E>
-    ensures can { I.can_next elements → can_take ⟦<ByteStream<I, E> as Iterator>⟧.can_next result }
-    ensures ends { IsFinite (I.remaining elements) → IsFinite (word_count ⟦<ByteStream<I, E> as Iterator>⟧.remaining result) }
-    ensures items { (words : List ℕ) → Drains (GivesWord (GivesByte I.next_gives E.NUM_BYTES E.repr) 4 (λ w. w)) result words → (given : List E) × Drains I.next_gives elements given × AreWords (λ w. w) 4 (joined_bytes E.NUM_BYTES E.repr given) words }
+    ensures { StreamsWords I.can_next I.next_gives I.remaining E.NUM_BYTES E.repr 4 (λ w. w) elements result }
 {
     into_word_stream(elements)
 }
@@ -84,9 +74,7 @@ pub fn into_u32_stream<I: Iterator<Item = E>, E: RawDataSerializable>(
 pub fn into_u64_stream<I: Iterator<Item = E>, E: RawDataSerializable>(
     elements: I,
 ) -> U64Stream<I, E>
-    ensures can { I.can_next elements → can_take ⟦<ByteStream<I, E> as Iterator>⟧.can_next result }
-    ensures ends { IsFinite (I.remaining elements) → IsFinite (word_count ⟦<ByteStream<I, E> as Iterator>⟧.remaining result) }
-    ensures items { (words : List ℕ) → Drains (GivesWord (GivesByte I.next_gives E.NUM_BYTES E.repr) 8 (λ w. w)) result words → (given : List E) × Drains I.next_gives elements given × AreWords (λ w. w) 8 (joined_bytes E.NUM_BYTES E.repr given) words }
+    ensures { StreamsWords I.can_next I.next_gives I.remaining E.NUM_BYTES E.repr 8 (λ w. w) elements result }
 {
     into_word_stream(elements)
 }

@@ -1,5 +1,7 @@
-use Rattle.std.proofs.Common.{◌≡◌, ◌<◌, ◌+◌, ◌*◌, ◌^◌, ◌∙◌, ap, sym, subst, arith, inl, inr, ℕ, length, map, slice_index}
+use Rattle.std.proofs.Common.{◌≡◌, ◌<◌, ◌+◌, ◌*◌, ◌^◌, ◌∙◌, ap, sym, subst, arith, ℕ, length, map, slice_index}
 use Rattle.std.proofs.lemmas.List.{length-replicate, length-set}
+use Rattle.bf_bytes.specs.Words.{IsWordRow}
+use Rattle.bf_bytes.proofs.Taking.{all_taken, few_left, few_taken}
 use Rattle.bf_bytes.proofs.Rows.{no_rows, row_read, word_at, word_put, zero_row}
 use Rattle.bf_bytes.proofs.parallel_words.take_words.Goals as goal
 
@@ -46,21 +48,19 @@ loop-i-preserved g c = (
   c.loop-j.invariant.0,
 )
 
-pub returns-in-None-clause-taken : goal.returns-in-None-clause-taken
-returns-in-None-clause-taken g c =
+pub returns-in-None : goal.returns-in-None
+returns-in-None g c =
     let done = c.loop-i.invariant.1 in
-    let few : c.loop-i.i < g.W.LittleEndian.SIZE = omega (arith, c.loop-i-test.true, c.SIZE-i-end.ensures) in
-    let long = done.long in
-    (done.taken, inl ((c.loop-i.rows, done.yields, c.in-None.ensures.steps), omega (arith, long, few)), sym long, done.are)
-
-pub returns-in-None-clause-ends : goal.returns-in-None-clause-ends
-returns-in-None-clause-ends g c =
-    let few : c.loop-i.i < g.W.LittleEndian.SIZE = omega (arith, c.loop-i-test.true, c.SIZE-i-end.ensures) in
-    λ finite. (let before = c.loop-i.invariant.2 finite in omega (arith, before.1), λ whole. absurd (omega (arith, whole, few)))
+    record {
+      taken =
+          few_taken g.B.Iterator.next_gives (IsWordRow g.row.N g.W.Word.number c.loop-i.words) _ c.loop-i.rows done.taken c.loop-i.i g.W.LittleEndian.SIZE _ done.yields done.long done.are
+          (omega (arith, c.loop-i-test.true, c.SIZE-i-end.ensures)) c.in-None.ensures.steps;
+      goes_on = λ whole. absurd (omega (arith, whole, c.loop-i-test.true, c.SIZE-i-end.ensures));
+      ends = few_left _ _ _ c.loop-i.i g.W.LittleEndian.SIZE (omega (arith, c.loop-i-test.true, c.SIZE-i-end.ensures)) c.loop-i.invariant.2;
+    }
 
 pub returns-clause-taken : goal.returns-clause-taken
 returns-clause-taken g c =
     let done = c.loop-i.invariant.1 in
-    let all : c.loop-i.i ≡ g.W.LittleEndian.SIZE = omega (arith, c.loop-i-test.false, c.loop-i.auto.i-end, c.SIZE-i-end.ensures) in
-    let long = done.long ∙ all in
-    (done.taken, inr (done.yields, long), c.SIZE.ensures ∙ sym long, done.are)
+    all_taken g.B.Iterator.next_gives (IsWordRow g.row.N g.W.Word.number c.loop-i.words) _ _ done.taken c.loop-i.i g.W.LittleEndian.SIZE _ done.yields done.long done.are
+    (omega (arith, c.loop-i-test.false, c.loop-i.auto.i-end, c.SIZE-i-end.ensures)) c.SIZE.ensures

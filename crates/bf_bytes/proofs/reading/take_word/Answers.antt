@@ -1,5 +1,6 @@
-use Rattle.std.proofs.Common.{◌≡◌, ◌<◌, ◌∙◌, sym, ap, arith, inl, inr}
-use Rattle.bf_bytes.proofs.Taking.{byte_read, nothing_read}
+use Rattle.std.proofs.Common.{◌≡◌, ◌<◌, ◌∙◌, sym, ap, arith}
+use Rattle.bf_bytes.specs.Bytes.{number_of_bytes}
+use Rattle.bf_bytes.proofs.Taking.{all_taken, byte_read, few_left, few_taken, nothing_read}
 use Rattle.bf_bytes.proofs.reading.take_word.Goals as goal
 
 pub loop-i-init : goal.loop-i-init
@@ -21,21 +22,19 @@ loop-i-preserved g c = (
       let before = c.loop-i.invariant.2 finite in let step = c.in-Some.ensures.goes.on before.0 in (step.1, omega (arith, before.1, step.2))),
 )
 
-pub returns-in-None-clause-taken : goal.returns-in-None-clause-taken
-returns-in-None-clause-taken g c =
+pub returns-in-None : goal.returns-in-None
+returns-in-None g c =
     let done = c.loop-i.invariant.1 in
-    let few : c.loop-i.i < g.R.LittleEndian.SIZE = omega (arith, c.loop-i-test.true, c.SIZE-i-end.ensures) in
-    let long = done.long in
-    (done.taken, inl ((c.loop-i.iter, done.yields, c.in-None.ensures.steps), omega (arith, long, few)), sym long, sym done.is)
-
-pub returns-in-None-clause-ends : goal.returns-in-None-clause-ends
-returns-in-None-clause-ends g c =
-    let few : c.loop-i.i < g.R.LittleEndian.SIZE = omega (arith, c.loop-i-test.true, c.SIZE-i-end.ensures) in
-    λ finite. (let before = c.loop-i.invariant.2 finite in omega (arith, before.1), λ whole. absurd (omega (arith, whole, few)))
+    record {
+      taken =
+          few_taken g.I.Iterator.next_gives (λ bytes. g.R.Word.number c.loop-i.word ≡ number_of_bytes bytes) _ c.loop-i.iter done.taken c.loop-i.i g.R.LittleEndian.SIZE _ done.yields
+          done.long (sym done.is) (omega (arith, c.loop-i-test.true, c.SIZE-i-end.ensures)) c.in-None.ensures.steps;
+      goes_on = λ whole. absurd (omega (arith, whole, c.loop-i-test.true, c.SIZE-i-end.ensures));
+      ends = few_left _ _ _ c.loop-i.i g.R.LittleEndian.SIZE (omega (arith, c.loop-i-test.true, c.SIZE-i-end.ensures)) c.loop-i.invariant.2;
+    }
 
 pub returns-clause-taken : goal.returns-clause-taken
 returns-clause-taken g c =
     let done = c.loop-i.invariant.1 in
-    let all : c.loop-i.i ≡ g.R.LittleEndian.SIZE = omega (arith, c.loop-i-test.false, c.loop-i.auto.i-end, c.SIZE-i-end.ensures) in
-    let long = done.long ∙ all in
-    (done.taken, inr (done.yields, long), c.SIZE.ensures ∙ sym long, sym done.is)
+    all_taken g.I.Iterator.next_gives (λ bytes. g.R.Word.number c.loop-i.word ≡ number_of_bytes bytes) _ _ done.taken c.loop-i.i g.R.LittleEndian.SIZE _ done.yields done.long
+    (sym done.is) (omega (arith, c.loop-i-test.false, c.loop-i.auto.i-end, c.SIZE-i-end.ensures)) c.SIZE.ensures

@@ -1,12 +1,11 @@
-use Rattle.std.proofs.Common.{arith}
-use Rattle.bf_bytes.proofs.Streaming.{byte_given, last_byte_given}
+use Rattle.bf_bytes.proofs.Streaming.{first_given, rest_within}
 use Rattle.bf_bytes.proofs.streams.ByteStream.give.Goals as goal
 
-pub returns-then-self-size-clause-left : goal.returns-then-self-size-clause-left
-returns-then-self-size-clause-left g c =
-    last_byte_given g.E.RawDataSerializable.NUM_BYTES c.args.self.now.given (g.E.Represented.repr c.args.element) c.byte-byte.result
-    (omega (arith, c.if-self-size.true, c.NUM_BYTES-size.ensures)) c.byte-byte.ensures
+pub returns-clause-within : goal.returns-clause-within
+returns-clause-within g c =
+    rest_within g.E.RawDataSerializable.NUM_BYTES _ g.E.Represented.repr _ _ c.NUM_BYTES-size.ensures c.pending_of-pending.ensures.within
 
-pub returns-else-self-size-clause-left : goal.returns-else-self-size-clause-left
-returns-else-self-size-clause-left g c =
-    byte_given g.E.RawDataSerializable.NUM_BYTES c.args.self.now.given (g.E.Represented.repr c.args.element) c.byte-byte.result c.requires c.byte-byte.ensures
+pub returns-clause-left : goal.returns-clause-left
+returns-clause-left g c =
+    first_given g.E.RawDataSerializable.NUM_BYTES _ g.E.Represented.repr _ _ c.NUM_BYTES-size.ensures c.args.element c.args.self.now.given
+    c.byte-byte.result c.requires c.byte-byte.ensures (c.pending_of-pending.ensures.left g.E.Represented.repr)
