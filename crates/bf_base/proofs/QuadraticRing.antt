@@ -99,11 +99,6 @@ module _ (width : ℕ) (times : ℕ → ℕ → ℕ) (ring : IsRing width 1 time
 
   -- ---- the laws
 
-  quadratic_below : (a b : ℕ) → quadratic width times t a b < 2 ^ (width + width)
-  quadratic_below a b =
-      subst (λ (x : ℕ). x < 2 ^ (width + width)) (sym (quadratic-halves a b))
-      (pair-lt width _ _ (low_product-lt _ _ _ _) (high_product-lt _ _ _ _))
-
   pub quadratic_comm : (a b : ℕ) → quadratic width times t a b ≡ quadratic width times t b a
   quadratic_comm a b =
       quadratic-halves a b
@@ -184,7 +179,10 @@ module _ (width : ℕ) (times : ℕ → ℕ → ℕ) (ring : IsRing width 1 time
 
   pub quadratic_ring : 0 < width → IsRing (width + width) 1 (quadratic width times t)
   quadratic_ring wide = record {
-    below = quadratic_below;
+    below =
+        λ a b.
+        subst (λ (x : ℕ). x < 2 ^ (width + width)) (sym (quadratic-halves a b))
+        (pair-lt width _ _ (low_product-lt _ _ _ _) (high_product-lt _ _ _ _));
     comm = quadratic_comm;
     assoc = quadratic_assoc;
     over_sum = quadratic_over_sum;
