@@ -2,6 +2,7 @@
 -- implementation of the traits cites them.
 use Rattle.std.proofs.Common.{◌≡◌, ◌≢◌, ℕ, zero, suc, ◌+◌, ◌*◌, ◌/◌, ◌%◌, ◌^◌, ◌<◌, ◌↔◌, Bool, true, List, [], ◌∷◌, length, map, replicate, refl, sym, ◌∙◌, ap, ap₂, subst, arith}
 use Rattle.std.specs.Prelude.{bit_xor}
+use Rattle.std.proofs.lemmas.List.{length-replicate}
 use Rattle.std.proofs.lemmas.Nat.{mod_low, pow_pos, shr_high, xor_block}
 use lib.Pointwise.{pointwise, pointwise_decides}
 use native.Mathlib.Nat.{add-zero, one-mul, zero-mul}
@@ -124,52 +125,50 @@ module _ (width : ℕ) where
     pub number_of_every : (n : ℕ) (x : A) → joined width (map repr (replicate n x)) ≡ joined width (replicate n (repr x))
     number_of_every n x = ap (joined width) (map-replicate repr n x)
 
-    lanes_sum : (xs ys : List A) → length xs ≡ length ys
-        → joined width (lane_by_lane bit_xor (map repr xs) (map repr ys))
-        ≡ bit_xor (joined width (map repr xs)) (joined width (map repr ys))
+    -- also with lanes that are of another kind
+    lanes_sum : (B : Type 0) (other : B → ℕ) → ((y : B) → other y < 2 ^ width) → (xs : List A) (ys : List B) → length xs ≡ length ys
+        → joined width (lane_by_lane bit_xor (map repr xs) (map other ys))
+        ≡ bit_xor (joined width (map repr xs)) (joined width (map other ys))
     unfolding joined
-    lanes_sum [] [] long = refl
-    lanes_sum [] (y ∷ ys) long = absurd (omega (arith, long))
-    lanes_sum (x ∷ xs) [] long = absurd (omega (arith, long))
-    lanes_sum (x ∷ xs) (y ∷ ys) long =
-        ap (λ (h : ℕ). h * 2 ^ width + bit_xor (repr x) (repr y)) (lanes_sum xs ys (omega (arith, long)))
-        ∙ sym (xor_block width _ _ (repr x) (repr y) (fits x) (fits y))
+    lanes_sum B other also [] [] long = refl
+    lanes_sum B other also [] (y ∷ ys) long = absurd (omega (arith, long))
+    lanes_sum B other also (x ∷ xs) [] long = absurd (omega (arith, long))
+    lanes_sum B other also (x ∷ xs) (y ∷ ys) long =
+        ap (λ (h : ℕ). h * 2 ^ width + bit_xor (repr x) (other y)) (lanes_sum B other also xs ys (omega (arith, long)))
+        ∙ sym (xor_block width _ _ (repr x) (other y) (fits x) (also y))
 
     -- the number of a sum by lanes
     pub sum_number : (xs ys rs : List A) → length xs ≡ length ys
         → map repr rs ≡ lane_by_lane bit_xor (map repr xs) (map repr ys)
         → joined width (map repr rs) ≡ bit_xor (joined width (map repr xs)) (joined width (map repr ys))
-    sum_number xs ys rs long is = ap (joined width) is ∙ lanes_sum xs ys long
-
-    lanes_plus_every : (v : ℕ) → v < 2 ^ width → (n : ℕ) (xs : List A) → length xs ≡ n
-        → joined width (lane_by_lane bit_xor (map repr xs) (replicate n v))
-        ≡ bit_xor (joined width (map repr xs)) (joined width (replicate n v))
-    unfolding joined
-    lanes_plus_every v v_fits zero [] long = refl
-    lanes_plus_every v v_fits zero (x ∷ xs) long = absurd (omega (arith, long))
-    lanes_plus_every v v_fits (suc n) [] long = absurd (omega (arith, long))
-    lanes_plus_every v v_fits (suc n) (x ∷ xs) long =
-        ap (λ (h : ℕ). h * 2 ^ width + bit_xor (repr x) v) (lanes_plus_every v v_fits n xs (omega (arith, long)))
-        ∙ sym (xor_block width _ _ (repr x) v (fits x) v_fits)
+    sum_number xs ys rs long is = ap (joined width) is ∙ lanes_sum A repr fits xs ys long
 
     -- and of the sum with a number in every lane
     pub sum_with_every : (n v : ℕ) → v < 2 ^ width → (xs rs : List A) → length xs ≡ n
         → map repr rs ≡ lane_by_lane bit_xor (map repr xs) (replicate n v)
         → joined width (map repr rs) ≡ bit_xor (joined width (map repr xs)) (joined width (replicate n v))
-    sum_with_every n v v_fits xs rs long is = ap (joined width) is ∙ lanes_plus_every v v_fits n xs long
+    sum_with_every n v v_fits xs rs long is =
+        let every : map (λ (y : ℕ). v) (replicate n v) ≡ replicate n v = map-replicate (λ (y : ℕ). v) n v in
+        ap (joined width) is
+        ∙ subst (λ (vs : List ℕ). joined width (lane_by_lane bit_xor (map repr xs) vs) ≡ bit_xor (joined width (map repr xs)) (joined width vs))
+        every (lanes_sum ℕ (λ y. v) (λ y. v_fits) xs (replicate n v) (long ∙ sym (length-replicate n v)))
 
     module _ (unit : ℕ) (times : ℕ → ℕ → ℕ) (ring : IsRing width unit times) where
-      lanes_times : (xs ys : List A) → length xs ≡ length ys
-          → joined width (lane_by_lane times (map repr xs) (map repr ys))
-          ≡ lane_product width times (length xs) (joined width (map repr xs)) (joined width (map repr ys))
+      lanes_times : (B : Type 0) (other : B → ℕ) → ((y : B) → other y < 2 ^ width) → (n : ℕ) (xs : List A) (ys : List B)
+          → length xs ≡ n → length ys ≡ n
+          → joined width (lane_by_lane times (map repr xs) (map other ys))
+          ≡ lane_product width times n (joined width (map repr xs)) (joined width (map other ys))
       unfolding joined lane_product
-      lanes_times [] [] long = refl
-      lanes_times [] (y ∷ ys) long = absurd (omega (arith, long))
-      lanes_times (x ∷ xs) [] long = absurd (omega (arith, long))
-      lanes_times (x ∷ xs) (y ∷ ys) long =
-          ap (λ (h : ℕ). h * 2 ^ width + times (repr x) (repr y)) (lanes_times xs ys (omega (arith, long)))
-          ∙ sym (product_more unit times ring (length xs) (joined width (map repr xs)) (repr x) (joined width (map repr ys))
-          (repr y) (fits x) (fits y))
+      lanes_times B other also zero [] [] x_long y_long = refl
+      lanes_times B other also zero [] (y ∷ ys) x_long y_long = absurd (omega (arith, y_long))
+      lanes_times B other also zero (x ∷ xs) ys x_long y_long = absurd (omega (arith, x_long))
+      lanes_times B other also (suc n) [] ys x_long y_long = absurd (omega (arith, x_long))
+      lanes_times B other also (suc n) (x ∷ xs) [] x_long y_long = absurd (omega (arith, y_long))
+      lanes_times B other also (suc n) (x ∷ xs) (y ∷ ys) x_long y_long =
+          ap (λ (h : ℕ). h * 2 ^ width + times (repr x) (other y))
+          (lanes_times B other also n xs ys (omega (arith, x_long)) (omega (arith, y_long)))
+          ∙ sym (product_more unit times ring n (joined width (map repr xs)) (repr x) (joined width (map other ys)) (other y)
+          (fits x) (also y))
 
       -- the number of a product by lanes
       pub product_number : (n : ℕ) (xs ys rs : List A) → length xs ≡ n → length ys ≡ n
@@ -177,23 +176,14 @@ module _ (width : ℕ) where
           → joined width (map repr rs)
           ≡ lane_product width times n (joined width (map repr xs)) (joined width (map repr ys))
       product_number n xs ys rs x_long y_long is =
-          ap (joined width) is ∙ lanes_times xs ys (x_long ∙ sym y_long)
-          ∙ ap (λ (k : ℕ). lane_product width times k (joined width (map repr xs)) (joined width (map repr ys))) x_long
-
-      times_every : (v : ℕ) → v < 2 ^ width → (n : ℕ) (xs : List A) → length xs ≡ n
-          → joined width (lane_by_lane times (map repr xs) (replicate n v))
-          ≡ lane_product width times n (joined width (map repr xs)) (joined width (replicate n v))
-      unfolding joined lane_product
-      times_every v v_fits zero [] long = refl
-      times_every v v_fits zero (x ∷ xs) long = absurd (omega (arith, long))
-      times_every v v_fits (suc n) [] long = absurd (omega (arith, long))
-      times_every v v_fits (suc n) (x ∷ xs) long =
-          ap (λ (h : ℕ). h * 2 ^ width + times (repr x) v) (times_every v v_fits n xs (omega (arith, long)))
-          ∙ sym (product_more unit times ring n (joined width (map repr xs)) (repr x) (joined width (replicate n v)) v (fits x)
-          v_fits)
+          ap (joined width) is ∙ lanes_times A repr fits n xs ys x_long y_long
 
       -- and of the product with a number in every lane
       pub product_with_every : (n v : ℕ) → v < 2 ^ width → (xs rs : List A) → length xs ≡ n
           → map repr rs ≡ lane_by_lane times (map repr xs) (replicate n v)
           → joined width (map repr rs) ≡ lane_product width times n (joined width (map repr xs)) (joined width (replicate n v))
-      product_with_every n v v_fits xs rs long is = ap (joined width) is ∙ times_every v v_fits n xs long
+      product_with_every n v v_fits xs rs long is =
+          let every : map (λ (y : ℕ). v) (replicate n v) ≡ replicate n v = map-replicate (λ (y : ℕ). v) n v in
+          ap (joined width) is
+          ∙ subst (λ (vs : List ℕ). joined width (lane_by_lane times (map repr xs) vs) ≡ lane_product width times n (joined width (map repr xs)) (joined width vs))
+          every (lanes_times ℕ (λ y. v) (λ y. v_fits) n xs (replicate n v) long (length-replicate n v))
