@@ -1,7 +1,7 @@
 // Vectors of zeros over heaps of a given size, at fields and at a packing.
-use super::packing::FourLanes;
 use bf_base::Gf2;
 use bf_base::traits::PrimeCharacteristicRing;
+use bf_bitslice::PackedGf2x8;
 use bf_element::{
     BinaryField2, BinaryField4, BinaryField8, BinaryField16, BinaryField32, BinaryField64,
     BinaryField128, Ghash128, Poly64,
@@ -47,7 +47,7 @@ fn zeros_are_granted_or_refused(rt: HostRuntime) -> Result<(), Fail> {
     for len in 0..258usize {
         assert!(rt;
             zeros_are_as_wanted::<Gf2>(&large, &small, len, 16)?
-                && zeros_are_as_wanted::<FourLanes>(&large, &small, len, 16)?
+                && zeros_are_as_wanted::<PackedGf2x8>(&large, &small, len, 16)?
                 && zeros_are_as_wanted::<BinaryField128>(&large, &small, len, 1)?,
             "{len} zeros"
         );
