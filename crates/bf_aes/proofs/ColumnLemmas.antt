@@ -9,19 +9,8 @@ use lib.Arith.{digits_lt}
 use lib.Bits.{xor_zero_r}
 use Rattle.bf_base.specs.Basis.{sum_below}
 use Rattle.bf_base.proofs.BasisSums.{bit_at-mod, sum_below-same}
+use Rattle.bf_base.proofs.EightCases.{eight_cases}
 use Rattle.bf_aes.specs.Columns.{column, columns}
-
--- what holds of 0 to 7 holds of each number below 8
-pub eight_cases : (P : ℕ → Type 0) → P 0 → P 1 → P 2 → P 3 → P 4 → P 5 → P 6 → P 7 → (j : ℕ) → j < 8 → P j
-eight_cases P a b c d e f g h zero within = a
-eight_cases P a b c d e f g h (suc zero) within = b
-eight_cases P a b c d e f g h (suc (suc zero)) within = c
-eight_cases P a b c d e f g h (suc (suc (suc zero))) within = d
-eight_cases P a b c d e f g h (suc (suc (suc (suc zero)))) within = e
-eight_cases P a b c d e f g h (suc (suc (suc (suc (suc zero))))) within = f
-eight_cases P a b c d e f g h (suc (suc (suc (suc (suc (suc zero)))))) within = g
-eight_cases P a b c d e f g h (suc (suc (suc (suc (suc (suc (suc zero))))))) within = h
-eight_cases P a b c d e f g h (suc (suc (suc (suc (suc (suc (suc (suc j)))))))) within = absurd (omega (arith, within))
 
 -- ---- a number by its bits
 

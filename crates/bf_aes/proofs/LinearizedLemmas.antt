@@ -11,7 +11,7 @@ use Rattle.bf_base.proofs.PowerLemmas.{repeated_square_xor}
 use Rattle.bf_base.proofs.RingLemmas.{xor_left_comm}
 use Rattle.bf_basis.proofs.Isomorphisms.{field_8}
 use Rattle.bf_aes.specs.Linearized.{linearized_value}
-use Rattle.bf_aes.proofs.ColumnLemmas.{eight_cases}
+use Rattle.bf_base.proofs.EightCases.{eight_cases}
 
 abbrev pub KeepsSums : (ℕ → ℕ) → Type 0
 KeepsSums g = (a b : ℕ) → g (bit_xor a b) ≡ bit_xor (g a) (g b)
