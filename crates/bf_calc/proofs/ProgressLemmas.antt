@@ -1,11 +1,12 @@
 -- How runs that follow one another join.
 use Rattle.std.proofs.Common.{◌≡◌, ℕ, ◌+◌, ◌-◌, ◌≤◌, ◌<◌, length, length-append, List, [], ◌∷◌, ◌++◌, Option, refl, sym, ap, ◌∙◌, append_assoc, append-nil, take, drop, take-append-drop, arith, inl, inr}
 use Rattle.std.proofs.lemmas.List.{drop-take}
-use Rattle.std.specs.Prelude.{Result, Ok, Err, OnErr, IfErr}
+use Rattle.std.specs.Prelude.{Result, Ok, Err, OnOk, OnErr, IfErr, ⊤}
 use Rattle.std.specs.Io.KnownBytes.{Appends, Consumes, IsAtEnd, Keeps}
 use Rattle.std.proofs.KnownBytes.{Appends-nil, Appends-trans, Consumes-trans, Consumes-kept}
 use Rattle.std.proofs.lemmas.List.Elements.{All-nil, All-cons, All-append}
 use Rattle.std.proofs.lemmas.List.Concat.{flat_map-append}
+use Rattle.std.proofs.lemmas.Result.{on_ok_weaker, on_err_weaker}
 use Rattle.bf_calc.specs.Answer.{answer_of}
 use Rattle.bf_calc.specs.Lines.{with_feed, unlines, IsLine, finished, answers_to, answers}
 use Rattle.bf_calc.proofs.LineLemmas.{answers-unlines, finished-unlines}
@@ -173,7 +174,7 @@ module _ (r0 r1 : Option (List ℕ)) {w0 w1 : Option (List ℕ)} (read line left
   consumed_all : (r2 : Option (List ℕ)) → Consumes r1 r2 [] → Consumes r0 r2 read
   consumed_all r2 none = rw append-nil at (Consumes-trans r0 r1 r2 read [] consumed none)
 
-  pub AnswersAll-end : (r2 w2 : Option (List ℕ)) → Consumes r1 r2 [] → IsAtEnd r2
+  AnswersAll-end : (r2 w2 : Option (List ℕ)) → Consumes r1 r2 [] → IsAtEnd r2
       → Appends w1 w2 (left ++ answers line) → AnswersAll r0 r2 w0 w2
   AnswersAll-end r2 w2 none at_end appended = record {
     read = read;
@@ -182,13 +183,25 @@ module _ (r0 r1 : Option (List ℕ)) {w0 w1 : Option (List ℕ)} (read line left
     appended = AnswersLines-all w2 answered appended;
   }
 
-  pub AnswersFront-end : (r2 w2 : Option (List ℕ)) → Consumes r1 r2 [] → IsAtEnd r2
+  AnswersFront-end : (r2 w2 : Option (List ℕ)) → Consumes r1 r2 [] → IsAtEnd r2
       → GainsFront w1 w2 (left ++ answers line) → AnswersFront r0 r2 w0 w2
   AnswersFront-end r2 w2 none at_end front = record {
     read = read;
     consumed = consumed_all r2 none;
     front = inr (at_end, AnswersLines-last answered front);
   }
+
+  -- a read of no byte, with room for some, finds the end, and the last line is answered there
+  pub Answers-last : (r2 w2 : Option (List ℕ)) {E : Type 0} (result : Result ⊤ E) (count : ℕ) (given last : List ℕ)
+      → count ≡ 0 → Consumes r1 r2 (take count given) × (count ≡ 0 → 0 < length given → IsAtEnd r2) → 0 < length given → last ≡ line
+      → OnOk result (Appends w1 w2 (left ++ answers last)) → OnErr result (GainsFront w1 w2 (left ++ answers last))
+      → OnOk result (AnswersAll r0 r2 w0 w2) × OnErr result (AnswersFront r0 r2 w0 w2)
+  Answers-last r2 w2 result count given last zero bytes room same ok err =
+      let none : Consumes r1 r2 [] = rw zero at bytes.0 in
+      let at_end = bytes.1 zero room in (
+        on_ok_weaker result (λ appended. AnswersAll-end r2 w2 none at_end (rw same at appended)) ok,
+        on_err_weaker result (λ front. AnswersFront-end r2 w2 none at_end (rw same at front)) err,
+      )
 
   pub AnswersFront-next : (r2 : Option (List ℕ)) {w2 : Option (List ℕ)} {last rest : List ℕ} (chunk : List ℕ) → Consumes r1 r2 chunk
       → AnswersLines w1 w2 left last (line ++ chunk) rest → AnswersFront r0 r2 w0 w2

@@ -2,11 +2,10 @@
 use Rattle.std.proofs.Common.{◌≡◌, ◌≢◌, ◌<◌, ℕ, ◌++◌, [], length, take, length-take, ◌∙◌, arith}
 use Rattle.std.proofs.KnownBytes.{Consumes-nil, Consumes-trans}
 use Rattle.std.proofs.lemmas.List.Elements.{All-nil}
-use Rattle.std.proofs.lemmas.Result.{on_ok_weaker, on_err_weaker}
 use Rattle.bf_calc.specs.Watched.{inner_of}
 use Rattle.bf_calc.specs.declared.error.RunError.{RunError}
 use Rattle.bf_calc.specs.declared.error.RunError.TheVariants.{Memory}
-use Rattle.bf_calc.proofs.ProgressLemmas.{OnErr-from, IfErr-from, GaveSome-next, AnswersLines-none, AnswersAll-end, AnswersFront-end, AnswersLines-next, AnswersFront-next, AnswersFront-kept}
+use Rattle.bf_calc.proofs.ProgressLemmas.{OnErr-from, IfErr-from, GaveSome-next, AnswersLines-none, Answers-last, AnswersLines-next, AnswersFront-next, AnswersFront-kept}
 use Rattle.bf_calc.proofs.engine.run.Goals as goal
 
 pub reads-init : goal.reads-init
@@ -21,20 +20,12 @@ reads-init g c = record {
 pub returns-in-Ok-eq0-clause-ok : goal.returns-in-Ok-eq0-clause-ok
 returns-in-Ok-eq0-clause-ok g c =
     let so_far = c.reads.invariant.answered in
-    let read = c.in-Ok-eq0.ensures.bytes in
-    on_ok_weaker c.finish.result
-    (λ appended. AnswersAll-end _ (g.R.Read.remaining (inner_of c.reads.reader)) so_far.0 c.reads.line.items _ so_far.1 so_far.2 _ _
-    (rw c.in-Ok-eq0.field-0-test at read.0) (read.1 c.in-Ok-eq0.field-0-test (omega arith)) (rw c.as_slice.ensures.value at appended))
-    c.finish.ensures.ok
+    (Answers-last _ (g.R.Read.remaining (inner_of c.reads.reader)) so_far.0 c.reads.line.items _ so_far.1 so_far.2 _ _ c.finish.result _ _ _ c.in-Ok-eq0.field-0-test c.in-Ok-eq0.ensures.bytes (omega arith) c.as_slice.ensures.value c.finish.ensures.ok c.finish.ensures.err).0
 
 pub returns-in-Ok-eq0-clause-err : goal.returns-in-Ok-eq0-clause-err
 returns-in-Ok-eq0-clause-err g c =
     let so_far = c.reads.invariant.answered in
-    let read = c.in-Ok-eq0.ensures.bytes in
-    on_err_weaker c.finish.result
-    (λ front. AnswersFront-end _ (g.R.Read.remaining (inner_of c.reads.reader)) so_far.0 c.reads.line.items _ so_far.1 so_far.2 _ _
-    (rw c.in-Ok-eq0.field-0-test at read.0) (read.1 c.in-Ok-eq0.field-0-test (omega arith)) (rw c.as_slice.ensures.value at front))
-    c.finish.ensures.err
+    (Answers-last _ (g.R.Read.remaining (inner_of c.reads.reader)) so_far.0 c.reads.line.items _ so_far.1 so_far.2 _ _ c.finish.result _ _ _ c.in-Ok-eq0.field-0-test c.in-Ok-eq0.ensures.bytes (omega arith) c.as_slice.ensures.value c.finish.ensures.ok c.finish.ensures.err).1
 
 pub reads-preserved : goal.reads-preserved
 reads-preserved g c =
