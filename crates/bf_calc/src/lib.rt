@@ -1,7 +1,7 @@
 //! The program's calculator: lines are read to the end of a reader, and each is answered by what its operation gives.
 //!
 //! A line names a field, an operation and operands. [`answer`] gives the answer to one line, and [`run`] those to all lines
-//! of a reader.
+//! of a reader. [`run_program`] is the program that does so.
 //!
 //! # The format
 //!
@@ -34,6 +34,7 @@ mod names;
 mod number;
 mod operand;
 mod outbox;
+mod program;
 mod text;
 mod watched;
 mod words;
@@ -44,5 +45,6 @@ pub use crate::laws::{
     element_is_read_back, faults_in_order, inverse_and_root, text_is_read_back, words_by_spaces,
 };
 pub use crate::line::answer;
+pub use crate::program::run_program;
 pub use crate::text::Answer;
 pub use crate::watched::Watched;
