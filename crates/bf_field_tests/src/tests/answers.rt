@@ -11,7 +11,9 @@ use bf_base::traits::{DotProduct, Field, TowerLevel};
 pub(crate) struct Answers {
     /// Two elements, of which the second is not 0, their sum and their product.
     pub(crate) operators: &'static [[u128; 4]],
-    /// What x z + y t is for the four elements that `hold` is given.
+    /// Four elements x, y, z and t, which `hold` is given.
+    pub(crate) factors: [u128; 4],
+    /// What x z + y t is for these.
     pub(crate) dot_product: u128,
     /// An element, and its powers to 2, 3 and 4.
     pub(crate) powers: [u128; 4],
@@ -40,11 +42,11 @@ pub(crate) struct Answers {
 }
 
 impl Answers {
-    /// Whether the field `F` gives all of these; `T` is its level of the tower, by whose elements some rows are written. Four
-    /// elements come as an array, whose type says that as many fit in memory.
-    pub(crate) fn hold<F: TowerLevel + From<T>, T: TowerLevel>(&self, elements: [F; 4]) -> bool {
+    /// Whether the field `F` gives all of these; `T` is its level of the tower, by whose elements some rows are written. The
+    /// factors come as elements in an array, whose type says that four fit in memory.
+    pub(crate) fn hold<F: TowerLevel + From<T>, T: TowerLevel>(&self, factors: [F; 4]) -> bool {
         corners_hold::<F>()
-            && self.operators_hold(elements)
+            && self.operators_hold(factors)
             && self.functions_hold::<F>()
             && self.samples_hold::<F>()
             && self.level_holds::<F, T>()
@@ -52,7 +54,7 @@ impl Answers {
     }
 
     /// Whether operators, sums, products and dot products of elements are these.
-    fn operators_hold<F: TowerLevel>(&self, elements: [F; 4]) -> bool {
+    fn operators_hold<F: TowerLevel>(&self, factors: [F; 4]) -> bool {
         for row in self.operators {
             if !operators_give::<F>([
                 element(row[0]),
@@ -63,7 +65,7 @@ impl Answers {
                 return false;
             }
         }
-        let [x, y, z, t] = elements;
+        let [x, y, z, t] = factors;
         F::dot_product(&[x, y], &[z, t]) == element(self.dot_product)
     }
 

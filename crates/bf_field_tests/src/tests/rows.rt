@@ -5,6 +5,7 @@ use super::answers::Answers;
 // the conjugate, and the norm of either is 1.
 pub(crate) static BITS_2: Answers = Answers {
     operators: &[[2, 2, 0, 3], [3, 2, 1, 1]],
+    factors: [3, 2, 0, 1],
     dot_product: 2,
     powers: [2, 3, 1, 2],
     squares: &[[3, 2]],
@@ -22,6 +23,7 @@ pub(crate) static BITS_2: Answers = Answers {
 
 pub(crate) static BITS_4: Answers = Answers {
     operators: &[[4, 4, 0, 9], [0xe, 0xa, 4, 2]],
+    factors: [8, 0, 5, 8],
     dot_product: 6,
     powers: [4, 9, 0xa, 6],
     squares: &[[4, 9]],
@@ -44,6 +46,7 @@ pub(crate) static BITS_8: Answers = Answers {
         [0x13, 0x13, 0, 0x43],
         [0, 0x13, 0x13, 0],
     ],
+    factors: [0x1c, 0, 0x5c, 0xdd],
     dot_product: 0xab,
     powers: [0xb9, 0xd3, 0xcd, 0xbd],
     squares: &[[0x0c, 0x0e], [2, 3]],
@@ -64,6 +67,7 @@ pub(crate) static BITS_16: Answers = Answers {
         [0x0100, 0x0100, 0x0000, 0x1001],
         [0x0394, 0x1656, 0x15c2, 0x466f],
     ],
+    factors: [0x0394, 0x1656, 0xef43, 0x8ece],
     dot_product: 0x333f,
     powers: [0xa0fa, 0xe9ec, 0x191c, 0x7308],
     squares: &[[0x27bb, 0xfc18]],
@@ -84,6 +88,7 @@ pub(crate) static BITS_32: Answers = Answers {
         [0x0001_0000, 0x0001_0000, 0x0000_0000, 0x0100_0001],
         [0x5898_0818, 0xcb29_7ba2, 0x93b1_73ba, 0xf0b3_f32c],
     ],
+    factors: [0x5898_0818, 0xcb29_7ba2, 0x0831_ddad, 0x0000_0000],
     dot_product: 0x8495_2af2,
     powers: [0xca9b_8429, 0x581f_2a72, 0x7c9b_5743, 0x420e_024d],
     squares: &[[0x42e4_3fa7, 0x42ca_c28f]],
@@ -108,6 +113,12 @@ pub(crate) static BITS_64: Answers = Answers {
             0x0bd3_c073_4030_8824,
             0xfa11_0740_f20d_b002,
         ],
+    ],
+    factors: [
+        0x987f_ade8_6862_ca84,
+        0x93ac_6d9b_2852_42a0,
+        0x5340_6819_b174_d6bc,
+        0xa685_efd7_ff39_b425,
     ],
     dot_product: 0x54d4_3fb0_47f7_8e8e,
     powers: [
@@ -150,6 +161,12 @@ pub(crate) static BITS_128: Answers = Answers {
             0x01af_a56f_3fd7_f009_d691_c22f_3e01_a2f9,
             0x01af_a56f_3fd7_f009_d691_c22f_3e01_a2f8,
         ],
+    ],
+    factors: [
+        0x01af_a56f_3fd7_f009_d691_c22f_3e01_a2f8,
+        1,
+        0xc60a_5869_6e77_10af_6c9d_283b_7774_311b,
+        0x70fa_633a_8f5f_90db_5dbc_40b1_451d_adb4,
     ],
     dot_product: 0x8420_098a_14c8_fa48_7bb4_180f_32e8_39bc,
     powers: [
@@ -206,6 +223,12 @@ pub(crate) static POLY_64: Answers = Answers {
             0x19ae_41e4_20ef_c29f,
         ],
     ],
+    factors: [
+        0xab96_f3c5_d0f4_d733,
+        0x5232_43da_1995_08d3,
+        0xdf42_3e64_c1ab_6575,
+        0x6ef6_1238_c0b5_588d,
+    ],
     dot_product: 0x3b01_5029_8dfd_c26e,
     powers: [
         0x64af_d6b8_b7ed_4c2b,
@@ -247,6 +270,12 @@ pub(crate) static GHASH_128: Answers = Answers {
             0xcb65_46c6_090d_9161_0257_08ed_95a3_7f62,
             0xdd1c_553a_1a27_731b_0330_cf92_4388_1d66,
         ],
+    ],
+    factors: [
+        0x54ad_8cf3_6dba_defa_35df_88ee_dfca_b5e0,
+        0x9fc8_ca35_64b7_4f9b_3788_8003_4a69_ca82,
+        0xba2f_15d5_015e_80be_b90a_2673_0838_3675,
+        0xf7bc_398f_bd0d_8ad2_5237_5e3e_0142_4f81,
     ],
     dot_product: 0xbf00_5f23_7e5d_db73_4885_9473_3d8c_7302,
     powers: [
