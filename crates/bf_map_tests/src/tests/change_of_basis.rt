@@ -1,22 +1,23 @@
 // The change of basis between the tower and `Poly64` and `Ghash128`, element by element and into vectors. The images of
 // the roots are those of the Rust crate p3-binary-field 0.8.0.
-use bf_base::traits::{Field, PrimeCharacteristicRing, TowerLevel};
+use bf_base::Unsigned;
+use bf_base::traits::TowerLevel;
 use bf_element::{BinaryField8, BinaryField64, BinaryField128, Ghash128, Poly64};
 use linked_list_allocator::LocalHeap;
 use std::test::Fail;
 
 /// An element of the tower, and its image.
-static IMAGES_64: [(u64, u64); 3] = [(0, 0), (1, 1), (1 << 32, 0x3f2a_7c50_1e89_8bcd)];
+static IMAGES_64: [[u128; 2]; 3] = [[0, 0], [1, 1], [1 << 32, 0x3f2a_7c50_1e89_8bcd]];
 
 /// An element of the tower, and its image.
-static IMAGES_128: [(u128, u128); 4] = [
-    (0, 0),
-    (1, 1),
-    (2, 0x295a_c0b1_f473_1af9_676a_ac9f_a4b2_0b08),
-    (1 << 64, 0x9cfc_a256_33f9_993f_4e1f_5110_70b2_3e78),
+static IMAGES_128: [[u128; 2]; 4] = [
+    [0, 0],
+    [1, 1],
+    [2, 0x295a_c0b1_f473_1af9_676a_ac9f_a4b2_0b08],
+    [1 << 64, 0x9cfc_a256_33f9_993f_4e1f_5110_70b2_3e78],
 ];
 
-static SAMPLES_64: [u64; 5] = [1, 2, 1 << 63, 0xab96_f3c5_d0f4_d733, u64::MAX];
+static SAMPLES_64: [u128; 5] = [1, 2, 1 << 63, 0xab96_f3c5_d0f4_d733, 0xffff_ffff_ffff_ffff];
 
 static SAMPLES_128: [u128; 5] = [
     1,
@@ -26,82 +27,71 @@ static SAMPLES_128: [u128; 5] = [
     u128::MAX,
 ];
 
+/// The element of this representation.
+fn element<F: TowerLevel>(number: u128) -> F {
+    F::from_repr(F::Repr::of_u128(number))
+}
+
 /// Whether these are the images of the elements, place by place.
-fn are_images_64(images: &[Poly64], elements: &[BinaryField64]) -> bool {
+pub(crate) fn are_images<P: TowerLevel + From<T>, T: TowerLevel>(
+    images: &[P],
+    elements: &[T],
+) -> bool {
     for (image, element) in images.iter().zip(elements) {
-        if *image != Poly64::from(*element) {
+        if *image != P::from(*element) {
             return false;
         }
     }
     images.len() == elements.len()
 }
 
-/// Whether these are the images of the elements, place by place.
-fn are_images_128(images: &[Ghash128], elements: &[BinaryField128]) -> bool {
-    for (image, element) in images.iter().zip(elements) {
-        if *image != Ghash128::from(*element) {
+/// Whether each row is an element of the tower and its image, which goes back to it.
+fn images_are<P: TowerLevel + From<T>, T: TowerLevel + From<P>>(rows: &[[u128; 2]]) -> bool {
+    for row in rows {
+        let (x, image) = (element::<T>(row[0]), element::<P>(row[1]));
+        if P::from(x) != image || T::from(image) != x {
             return false;
         }
     }
-    images.len() == elements.len()
+    true
+}
+
+/// Whether each element is that of its image, and its square has the image's square as its image.
+fn squares_agree<P: TowerLevel + From<T>, T: TowerLevel + From<P>>(samples: &[u128]) -> bool {
+    for sample in samples {
+        let x = element::<T>(*sample);
+        let image = P::from(x);
+        if T::from(image) != x || P::from(x.square()) != image.square() {
+            return false;
+        }
+    }
+    true
+}
+
+/// Whether each Cantor vector is the image of that of the tower.
+fn cantor_vectors_agree<P: TowerLevel + From<T>, T: TowerLevel>() -> bool {
+    for i in 0..P::bits() {
+        if i >= T::bits() || P::cantor_basis(i) != P::from(T::cantor_basis(i)) {
+            return false;
+        }
+    }
+    P::bits() == T::bits()
+}
+
+/// Whether the change of basis is right at these elements and at the Cantor vectors.
+fn changes_basis<P: TowerLevel + From<T>, T: TowerLevel + From<P>>(
+    images: &[[u128; 2]],
+    samples: &[u128],
+) -> bool {
+    images_are::<P, T>(images) && squares_agree::<P, T>(samples) && cantor_vectors_agree::<P, T>()
 }
 
 #[test]
-fn images_of_sixty_four_bits(rt: HostRuntime) {
-    for &(element, image) in IMAGES_64.iter() {
-        let (element, image) = (BinaryField64::from_repr(element), Poly64::new(image));
-        assert!(rt; Poly64::from(element) == image && BinaryField64::from(image) == element);
-    }
-}
-
-#[test]
-fn images_of_a_hundred_and_twenty_eight_bits(rt: HostRuntime) {
-    for &(element, image) in IMAGES_128.iter() {
-        let (element, image) = (BinaryField128::from_repr(element), Ghash128::new(image));
-        assert!(rt; Ghash128::from(element) == image && BinaryField128::from(image) == element);
-    }
-}
-
-#[test]
-fn squares_of_sixty_four_bits_have_squares_as_images(rt: HostRuntime) {
-    for &bits in SAMPLES_64.iter() {
-        let element = BinaryField64::from_repr(bits);
-        let image = Poly64::from(element);
-        assert!(rt;
-            BinaryField64::from(image) == element
-                && Poly64::from(element.square()) == image.square(),
-            "{bits}"
-        );
-    }
-}
-
-#[test]
-fn squares_of_a_hundred_and_twenty_eight_bits_have_squares_as_images(rt: HostRuntime) {
-    for &bits in SAMPLES_128.iter() {
-        let element = BinaryField128::from_repr(bits);
-        let image = Ghash128::from(element);
-        assert!(rt;
-            BinaryField128::from(image) == element
-                && Ghash128::from(element.square()) == image.square(),
-            "{bits}"
-        );
-    }
-}
-
-#[test]
-fn cantor_vectors_are_images_of_those_of_the_tower(rt: HostRuntime) {
-    for i in 0..64 {
-        assert!(rt;
-            Poly64::cantor_basis(i) == Poly64::from(BinaryField64::cantor_basis(i)),
-            "{i}"
-        );
-    }
-    for i in 0..128 {
-        assert!(rt;
-            Ghash128::cantor_basis(i) == Ghash128::from(BinaryField128::cantor_basis(i)),
-            "{i}"
-        );
-    }
+fn elements_and_their_images(rt: HostRuntime) {
+    assert!(rt;
+        changes_basis::<Poly64, BinaryField64>(&IMAGES_64, &SAMPLES_64)
+            && changes_basis::<Ghash128, BinaryField128>(&IMAGES_128, &SAMPLES_128)
+    );
 }
 
 // A narrow element is one of the level as wide as the field, with zeros above.
@@ -114,44 +104,30 @@ fn images_of_eight_bits(rt: HostRuntime) {
     );
 }
 
+// Each small heap has room for two images.
 #[test]
-fn vectors_of_images_of_sixty_four_bits(rt: HostRuntime) -> Result<(), Fail> {
-    let elements = [
-        BinaryField64::from_repr(1 << 32),
-        BinaryField64::from_repr(0),
-        BinaryField64::from_repr(u64::MAX),
-    ];
-    let images = Poly64::from_tower_vec(rt.alloc(), &elements)?;
-    assert!(rt; are_images_64(images.as_slice(), &elements));
+fn vectors_of_images(rt: HostRuntime) -> Result<(), Fail> {
+    let narrow = [1 << 32, 0, u64::MAX].map(BinaryField64::from_repr);
+    let wide = [2, 0, u128::MAX].map(BinaryField128::from_repr);
+    let polynomials = Poly64::from_tower_vec(rt.alloc(), &narrow)?;
+    let hashes = Ghash128::from_tower_vec(rt.alloc(), &wide)?;
+    assert!(rt;
+        are_images(polynomials.as_slice(), &narrow) && are_images(hashes.as_slice(), &wide)
+    );
     let large = LocalHeap::new(rt.alloc(), 1024)?;
     let small = LocalHeap::new(rt.alloc(), 16)?;
+    let wider = LocalHeap::new(rt.alloc(), 32)?;
     for len in 0..4usize {
-        let images = Poly64::from_tower_vec(&large, &elements[..len])?;
-        let refused = Poly64::from_tower_vec(&small, &elements[..len]).is_err();
+        let granted = Poly64::from_tower_vec(&large, &narrow[..len])?.len() == len
+            && Ghash128::from_tower_vec(&large, &wide[..len])?.len() == len;
+        let refused = Poly64::from_tower_vec(&small, &narrow[..len]).is_err();
+        let wide_refused = Ghash128::from_tower_vec(&wider, &wide[..len]).is_err();
         assert!(rt;
-            images.len() == len && refused == (len > 2) && small.used() == 0,
-            "{len} elements"
-        );
-    }
-    Ok(())
-}
-
-#[test]
-fn vectors_of_images_of_a_hundred_and_twenty_eight_bits(rt: HostRuntime) -> Result<(), Fail> {
-    let elements = [
-        BinaryField128::from_repr(2),
-        BinaryField128::from_repr(0),
-        BinaryField128::from_repr(u128::MAX),
-    ];
-    let images = Ghash128::from_tower_vec(rt.alloc(), &elements)?;
-    assert!(rt; are_images_128(images.as_slice(), &elements));
-    let large = LocalHeap::new(rt.alloc(), 1024)?;
-    let small = LocalHeap::new(rt.alloc(), 32)?;
-    for len in 0..4usize {
-        let images = Ghash128::from_tower_vec(&large, &elements[..len])?;
-        let refused = Ghash128::from_tower_vec(&small, &elements[..len]).is_err();
-        assert!(rt;
-            images.len() == len && refused == (len > 2) && small.used() == 0,
+            granted
+                && refused == (len > 2)
+                && wide_refused == refused
+                && small.used() == 0
+                && wider.used() == 0,
             "{len} elements"
         );
     }

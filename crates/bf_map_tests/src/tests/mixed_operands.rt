@@ -1,9 +1,9 @@
-// The operators of the polynomial bases with an element of the tower on the right, and of two levels of the tower with either
-// on the right.
+// The operators of the polynomial bases with an element of the tower on the right, of the cubic extension with one of the field
+// below, and of two levels of the tower with either on the right.
 use bf_base::traits::{Algebra, PrimeCharacteristicRing, TowerLevel};
 use bf_element::{
     BinaryField2, BinaryField8, BinaryField16, BinaryField32, BinaryField64, BinaryField128,
-    Ghash128, Poly64,
+    Ghash128, Poly64, Poly192,
 };
 
 /// Whether the operators with `narrow` on the right give what they give with its image.
@@ -24,51 +24,35 @@ fn operators_take<A: Algebra<F>, F: PrimeCharacteristicRing>(left: A, narrow: F)
 }
 
 #[test]
-fn elements_on_the_right_of_sixty_four_bits(rt: HostRuntime) {
-    let left = Poly64::new(0xab96_f3c5_d0f4_d733);
-    assert!(rt;
-        operators_take(left, BinaryField8::from_repr(0xa7))
-            && operators_take(left, BinaryField16::from_repr(0xc0a7))
-            && operators_take(left, BinaryField32::from_repr(0x8000_c0a7))
-            && operators_take(left, BinaryField64::from_repr(0x4000_0000_8000_c0a7))
-            && operators_take(left, Poly64::new(7))
-    );
+fn elements_on_the_right(rt: HostRuntime) {
+    let poly = Poly64::new(0xab96_f3c5_d0f4_d733);
+    let ghash = Ghash128::new(0x54ad_8cf3_6dba_defa_35df_88ee_dfca_b5e0);
+    let cubic = Poly192::new([1 << 63, u64::MAX, 5].map(Poly64::new));
+    let t8 = BinaryField8::from_repr(0xa7);
+    let t16 = BinaryField16::from_repr(0xc0a7);
+    let t32 = BinaryField32::from_repr(0x8000_c0a7);
+    let t64 = BinaryField64::from_repr(0x4000_0000_8000_c0a7);
+    let t128 = BinaryField128::from_repr((1 << 127) | 0xc0a7);
+    assert!(rt; operators_take(poly, t8) && operators_take(ghash, t8));
+    assert!(rt; operators_take(poly, t16) && operators_take(ghash, t16));
+    assert!(rt; operators_take(poly, t32) && operators_take(ghash, t32));
+    assert!(rt; operators_take(poly, t64) && operators_take(ghash, t64));
+    assert!(rt; operators_take(poly, Poly64::new(7)) && operators_take(ghash, Ghash128::new(7)));
+    assert!(rt; operators_take(ghash, t128) && operators_take(cubic, Poly64::new(2)));
 }
 
 #[test]
-fn elements_on_the_right_of_a_hundred_and_twenty_eight_bits(rt: HostRuntime) {
-    let left = Ghash128::new(0x54ad_8cf3_6dba_defa_35df_88ee_dfca_b5e0);
-    assert!(rt;
-        operators_take(left, BinaryField8::from_repr(0xa7))
-            && operators_take(left, BinaryField16::from_repr(0xc0a7))
-            && operators_take(left, BinaryField32::from_repr(0x8000_c0a7))
-            && operators_take(left, BinaryField64::from_repr(0x4000_0000_8000_c0a7))
-            && operators_take(left, BinaryField128::from_repr((1 << 127) | 0xc0a7))
-            && operators_take(left, Ghash128::new(7))
-    );
-}
-
-#[test]
-fn eight_bits_beside_sixteen(rt: HostRuntime) {
-    let (narrow, wide) = (
-        BinaryField8::from_repr(0xa7),
-        BinaryField16::from_repr(0x9c05),
-    );
-    let image = BinaryField16::from(narrow);
-    assert!(rt; image.to_repr() == 0x00a7);
-    assert!(rt; narrow + wide == image + wide && wide + narrow == wide + image);
-    assert!(rt; narrow - wide == image - wide && wide - narrow == wide - image);
-    assert!(rt; narrow * wide == image * wide && wide * narrow == wide * image);
-}
-
-#[test]
-fn two_bits_beside_a_hundred_and_twenty_eight(rt: HostRuntime) {
-    let narrow = BinaryField2::from_repr(3);
-    let wide = BinaryField128::from_repr(0x54ad_8cf3_6dba_defa_35df_88ee_dfca_b5e0);
-    let image = BinaryField128::from(narrow);
-    assert!(rt; image.to_repr() == 3);
-    assert!(rt; narrow + wide == image + wide && wide - narrow == wide - image);
-    assert!(rt; narrow * wide == image * wide && wide * narrow == wide * image);
+fn two_levels(rt: HostRuntime) {
+    let (t2, t8) = (BinaryField2::from_repr(3), BinaryField8::from_repr(0xa7));
+    let t16 = BinaryField16::from_repr(0x9c05);
+    let t128 = BinaryField128::from_repr(0x54ad_8cf3_6dba_defa_35df_88ee_dfca_b5e0);
+    let (image_2, image_8) = (BinaryField128::from(t2), BinaryField16::from(t8));
+    assert!(rt; image_2.to_repr() == 3 && image_8.to_repr() == 0x00a7);
+    assert!(rt; t8 + t16 == image_8 + t16 && t16 + t8 == t16 + image_8);
+    assert!(rt; t8 - t16 == image_8 - t16 && t16 - t8 == t16 - image_8);
+    assert!(rt; t8 * t16 == image_8 * t16 && t16 * t8 == t16 * image_8);
+    assert!(rt; t2 + t128 == image_2 + t128 && t128 - t2 == t128 - image_2);
+    assert!(rt; t2 * t128 == image_2 * t128 && t128 * t2 == t128 * image_2);
 }
 
 #[test]
