@@ -1,5 +1,5 @@
 // Searches for witnesses: over SHA-256, over doubles that sample one byte always or refuse, and the texts of the errors.
-use super::scripts::{SCRIPT_8, SCRIPT_16, SCRIPT_32, SCRIPT_64, SCRIPT_128, SCRIPT_POLY_64};
+use super::scripts::SCRIPTS;
 use bf_base::Unsigned;
 use bf_base::traits::{Field, PrimeCharacteristicRing, TowerLevel};
 use bf_byte_challenger::{ChallengerError, HashChallenger, Sha256Hasher};
@@ -108,12 +108,12 @@ fn answers_script<F: ByteLevel>(alloc: Global, script: &[[u128; 4]]) -> bool {
 #[test]
 fn scripts_of_calls(rt: HostRuntime) {
     assert!(rt;
-        answers_script::<BinaryField8>(rt.alloc(), &SCRIPT_8)
-            && answers_script::<BinaryField16>(rt.alloc(), &SCRIPT_16)
-            && answers_script::<BinaryField32>(rt.alloc(), &SCRIPT_32)
-            && answers_script::<BinaryField64>(rt.alloc(), &SCRIPT_64)
-            && answers_script::<BinaryField128>(rt.alloc(), &SCRIPT_128)
-            && answers_script::<Poly64>(rt.alloc(), &SCRIPT_POLY_64)
+        answers_script::<BinaryField8>(rt.alloc(), SCRIPTS[0])
+            && answers_script::<BinaryField16>(rt.alloc(), SCRIPTS[1])
+            && answers_script::<BinaryField32>(rt.alloc(), SCRIPTS[2])
+            && answers_script::<BinaryField64>(rt.alloc(), SCRIPTS[3])
+            && answers_script::<BinaryField128>(rt.alloc(), SCRIPTS[4])
+            && answers_script::<Poly64>(rt.alloc(), SCRIPTS[5])
     );
 }
 
