@@ -1,6 +1,6 @@
 // Products, quotients and orders of `Poly192`, alone and with `Poly64`.
 use bf_base::Gf2;
-use bf_base::traits::{Algebra, Field, PrimeCharacteristicRing};
+use bf_base::traits::{Field, PrimeCharacteristicRing};
 use bf_element::{Poly64, Poly192};
 
 /// The element of these coefficients, the lowest first.
@@ -22,22 +22,6 @@ fn inverse_is(element: Poly192, inverse: Poly192) -> bool {
         && element.invert_or_zero() == inverse
         && !element.is_zero()
         && element.inverse() == inverse
-}
-
-/// Whether operators with an element of the ring below agree with those of its embedding.
-fn embeds<A: Algebra<Poly64>>(left: A, right: Poly64) -> bool {
-    let image = <A as From<Poly64>>::from(right);
-    let (sum, product) = (left + image, left * image);
-    let (mut added, mut subtracted, mut multiplied) = (left, left, left);
-    added += right;
-    subtracted -= right;
-    multiplied *= right;
-    left + right == sum
-        && left - right == left - image
-        && left * right == product
-        && added == sum
-        && subtracted == sum
-        && multiplied == product
 }
 
 #[test]
@@ -73,8 +57,7 @@ fn operators_with_the_field_below(rt: HostRuntime) {
     let mut quotient = product;
     quotient /= right;
     assert!(rt;
-        embeds::<Poly192>(left, right)
-            && left * right == product
+        left * right == product
             && right * left == product
             && right + left == left + right
             && right - left == left - right

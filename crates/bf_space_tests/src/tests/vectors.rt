@@ -35,19 +35,26 @@ fn coefficient(element: Poly192, i: usize) -> Option<Poly64> {
     }
 }
 
-/// Whether Frobenius's map over `F` takes `element` to `image`, and three of them return it.
-fn frobenius_takes<F: Field, E: ExtensionField<F>>(element: E, image: E) -> bool {
-    HasFrobenius::<F>::frobenius(&element) == image
+/// Whether Frobenius's map over `F` takes `element` to `image`, and `degree` of them return it.
+pub(crate) fn frobenius_takes<F: Field, E: ExtensionField<F>>(
+    element: E,
+    image: E,
+    degree: usize,
+) -> bool {
+    degree != 0
+        && HasFrobenius::<F>::frobenius(&element) == image
+        && HasFrobenius::<F>::repeated_frobenius(&element, 0) == element
         && HasFrobenius::<F>::repeated_frobenius(&element, 1) == image
         && HasFrobenius::<F>::repeated_frobenius(&element, 2)
             == HasFrobenius::<F>::repeated_frobenius(&image, 1)
-        && HasFrobenius::<F>::repeated_frobenius(&element, 3) == element
-        && HasFrobenius::<F>::repeated_frobenius(&element, usize::MAX) == element
+        && HasFrobenius::<F>::repeated_frobenius(&element, degree) == element
+        && HasFrobenius::<F>::repeated_frobenius(&element, usize::MAX)
+            == HasFrobenius::<F>::repeated_frobenius(&element, usize::MAX % degree)
 }
 
 /// The same over `Poly64`.
 fn frobenius_is(element: Poly192, image: Poly192) -> bool {
-    frobenius_takes::<Poly64, Poly192>(element, image)
+    frobenius_takes::<Poly64, Poly192>(element, image, 3)
 }
 
 #[test]

@@ -1,4 +1,5 @@
 // Levels of the tower as vectors over the levels inside them, and the integers as elements of GF(2).
+use super::vectors::frobenius_takes;
 use bf_base::Gf2;
 use bf_base::traits::{Field, PrimeCharacteristicRing, TowerLevel};
 use bf_element::{
@@ -8,7 +9,7 @@ use bf_element::{
 use bf_integers::{PrimeField32, PrimeField64, QuotientMap};
 use bf_space::{
     AlgebraIdentity, BasedVectorSpace, BasisCoefficients, BasisCoefficientsSlice, ExtensionField,
-    HasFrobenius, HasSubfield,
+    HasSubfield,
 };
 use std::test::Fail;
 
@@ -56,12 +57,6 @@ fn in_field_of_four(number: u128) -> bool {
         element,
     ]);
     one == all && all
-}
-
-/// Whether Frobenius's map over `F` takes `element` to `image`, and `count` of them return it.
-fn frobenius_takes<F: Field, E: ExtensionField<F>>(element: E, image: E, count: usize) -> bool {
-    HasFrobenius::<F>::frobenius(&element) == image
-        && HasFrobenius::<F>::repeated_frobenius(&element, count) == element
 }
 
 /// Whether Frobenius's map over the field of 8 bits is the power 256, and eight of them the power 2^64; and so with 32 bits.
