@@ -1,5 +1,5 @@
 // Bits as text, and as numbers for `serde`: 0 or 1.
-ghost use Rattle.std.specs.Prelude.{◌≡◌, ◌<◌, ◌↔◌, IfOk, IsOk, Some};
+ghost use Rattle.std.specs.Prelude.{◌≡◌, ◌<◌, ◌↔◌, IfOk, IfSome, IsSome, Some};
 ghost use Rattle.std.specs.Fmt.{decimal};
 ghost use Rattle.serde.specs.Event.{unsigned};
 ghost use Rattle.serde.specs.Steps.{Gives};
@@ -31,16 +31,12 @@ impl Serialize for Gf2 {
     }
 }
 
-// The bit that a number which was read is, and an error where it is neither 0 nor 1.
-fn bit_in_range<F: Format>(repr: u8, from: &Deserializer<'_, '_, F>) -> Result<Gf2, F::Error>
-    ensures range { IsOk result ↔ (repr < 2) }
-    ensures value { IfOk result (λ x. x.repr ≡ repr) }
+// The bit that a number is, and None where it is neither 0 nor 1.
+fn bit_in_range(repr: u8) -> Option<Gf2>
+    ensures range { IsSome result ↔ (repr < 2) }
+    ensures value { IfSome result (λ x. x.repr ≡ repr) }
 {
-    if repr < 2 {
-        Ok(Gf2 { repr })
-    } else {
-        Err(from.custom("Value is out of range"))
-    }
+    if repr < 2 { Some(Gf2 { repr }) } else { None }
 }
 
 // The bit is the number that was read: 0 or 1, and any other number is refused.
@@ -51,8 +47,7 @@ impl<'de> Deserialize<'de> for Gf2 {
     ) -> Result<Gf2, F::Error>
         ensures { IfOk result (λ x. Gives F.gives from.old (unsigned x.repr) from.new) }
     {
-        let repr = u8::deserialize(alloc, from)?;
-        bit_in_range(repr, from)
+        Self::deserialize_owned(alloc, from)
     }
 }
 
@@ -64,6 +59,9 @@ impl DeserializeOwned for Gf2 {
         ensures { IfOk result (λ x. Gives F.gives from.old (unsigned x.repr) from.new) }
     {
         let repr = u8::deserialize_owned(alloc, from)?;
-        bit_in_range(repr, from)
+        match bit_in_range(repr) {
+            Some(bit) => Ok(bit),
+            None => Err(from.custom("Value is out of range")),
+        }
     }
 }
