@@ -6,7 +6,7 @@ use native.Mathlib.Nat.{mul_assoc}
 use Rattle.bf_base.specs.Carryless.{carryless, carryless_in}
 use Rattle.bf_base.proofs.CarrylessProduct.{xor_exchange, xor_shl, carryless_shl, shl_carryless}
 use Rattle.bf_base.proofs.AdditiveMaps.{KeepsSums, maps_agree, agree_on_powers, agree_on_powers-true}
-use Rattle.bf_clmul.specs.Compact.{compact_step, even_places_64, even_places_128}
+use Rattle.bf_clmul.specs.Compact.{compact_step, even_places}
 use Rattle.bf_clmul.proofs.Classes.{xor_and}
 use Rattle.bf_clmul.proofs.FieldSteps.{steps, steps-sum}
 use Rattle.bf_clmul.proofs.Squares.{square_sum}
@@ -29,29 +29,29 @@ joins =
     ∷ (16, 0xffff_ffff) ∷ []
 
 abbrev compact : ℕ → ℕ
-compact x = steps compact_step joins (bit_and x even_places_64)
+compact x = steps compact_step joins (bit_and x (even_places 64))
 
 compact-sum : KeepsSums compact
 compact-sum a b =
-    ap (steps compact_step joins) (masked-sum even_places_64 a b)
-    ∙ steps-sum compact_step step-sum joins (bit_and a even_places_64) (bit_and b even_places_64)
+    ap (steps compact_step joins) (masked-sum (even_places 64) a b)
+    ∙ steps-sum compact_step step-sum joins (bit_and a (even_places 64)) (bit_and b (even_places 64))
 
-powers_agree : agree_on_powers (λ x. carryless (compact x) (compact x)) (λ x. bit_and x even_places_64) 64 ≡ true
+powers_agree : agree_on_powers (λ x. carryless (compact x) (compact x)) (λ x. bit_and x (even_places 64)) 64 ≡ true
 unfolding steps carryless carryless_in
 powers_agree = refl
 
-compact-square : (x : ℕ) → x < 2 ^ 64 → carryless (compact x) (compact x) ≡ bit_and x even_places_64
+compact-square : (x : ℕ) → x < 2 ^ 64 → carryless (compact x) (compact x) ≡ bit_and x (even_places 64)
 compact-square =
-    maps_agree (λ x. carryless (compact x) (compact x)) (λ x. bit_and x even_places_64)
-    (λ a b. ap (λ (z : ℕ). carryless z z) (compact-sum a b) ∙ square_sum (compact a) (compact b)) (masked-sum even_places_64) 64
-    (agree_on_powers-true (λ x. carryless (compact x) (compact x)) (λ x. bit_and x even_places_64) 64 powers_agree)
+    maps_agree (λ x. carryless (compact x) (compact x)) (λ x. bit_and x (even_places 64))
+    (λ a b. ap (λ (z : ℕ). carryless z z) (compact-sum a b) ∙ square_sum (compact a) (compact b)) (masked-sum (even_places 64)) 64
+    (agree_on_powers-true (λ x. carryless (compact x) (compact x)) (λ x. bit_and x (even_places 64)) 64 powers_agree)
 
 -- the steps one after another, as the code calls them
 pub compact_word : (x b c d e : ℕ) → x < 2 ^ 64
-    → b ≡ compact_step 1 0x3333_3333_3333_3333 (bit_and x even_places_64)
+    → b ≡ compact_step 1 0x3333_3333_3333_3333 (bit_and x (even_places 64))
     → c ≡ compact_step 2 0x0f0f_0f0f_0f0f_0f0f b → d ≡ compact_step 4 0x00ff_00ff_00ff_00ff c
     → e ≡ compact_step 8 0x0000_ffff_0000_ffff d
-    → carryless (compact_step 16 0xffff_ffff e) (compact_step 16 0xffff_ffff e) ≡ bit_and x even_places_64
+    → carryless (compact_step 16 0xffff_ffff e) (compact_step 16 0xffff_ffff e) ≡ bit_and x (even_places 64)
 unfolding steps
 compact_word x b c d e fits of_b of_c of_d of_e =
     ap (λ (z : ℕ). carryless (compact_step 16 0xffff_ffff z) (compact_step 16 0xffff_ffff z))
@@ -65,29 +65,29 @@ compact_word x b c d e fits of_b of_c of_d of_e =
 
 -- the even places of the words are those of the double word
 split_mask : (x : ℕ) → x < 2 ^ 128
-    → bit_xor (bit_and (x / 2 ^ 64) even_places_64 * 2 ^ 64) (bit_and (bit_and x 0xffff_ffff_ffff_ffff) even_places_64)
-    ≡ bit_and x even_places_128
+    → bit_xor (bit_and (x / 2 ^ 64) (even_places 64) * 2 ^ 64) (bit_and (bit_and x 0xffff_ffff_ffff_ffff) (even_places 64))
+    ≡ bit_and x (even_places 128)
 split_mask =
     maps_agree
-    (λ x. bit_xor (bit_and (x / 2 ^ 64) even_places_64 * 2 ^ 64) (bit_and (bit_and x 0xffff_ffff_ffff_ffff) even_places_64))
-    (λ x. bit_and x even_places_128) sums (masked-sum even_places_128) 128
+    (λ x. bit_xor (bit_and (x / 2 ^ 64) (even_places 64) * 2 ^ 64) (bit_and (bit_and x 0xffff_ffff_ffff_ffff) (even_places 64)))
+    (λ x. bit_and x (even_places 128)) sums (masked-sum (even_places 128)) 128
     (agree_on_powers-true
-    (λ x. bit_xor (bit_and (x / 2 ^ 64) even_places_64 * 2 ^ 64) (bit_and (bit_and x 0xffff_ffff_ffff_ffff) even_places_64))
-    (λ x. bit_and x even_places_128) 128 refl)
+    (λ x. bit_xor (bit_and (x / 2 ^ 64) (even_places 64) * 2 ^ 64) (bit_and (bit_and x 0xffff_ffff_ffff_ffff) (even_places 64)))
+    (λ x. bit_and x (even_places 128)) 128 refl)
   where
-    sums : KeepsSums (λ x. bit_xor (bit_and (x / 2 ^ 64) even_places_64 * 2 ^ 64) (bit_and (bit_and x 0xffff_ffff_ffff_ffff) even_places_64))
+    sums : KeepsSums (λ x. bit_xor (bit_and (x / 2 ^ 64) (even_places 64) * 2 ^ 64) (bit_and (bit_and x 0xffff_ffff_ffff_ffff) (even_places 64)))
     sums a b =
         ap₂ bit_xor
-        (ap (λ (z : ℕ). bit_and z even_places_64 * 2 ^ 64) (xor_shr a b 64)
-        ∙ ap (λ (z : ℕ). z * 2 ^ 64) (xor_and (a / 2 ^ 64) (b / 2 ^ 64) even_places_64)
-        ∙ sym (xor_shl 64 (bit_and (a / 2 ^ 64) even_places_64) (bit_and (b / 2 ^ 64) even_places_64)))
-        (ap (λ (z : ℕ). bit_and z even_places_64) (xor_and a b 0xffff_ffff_ffff_ffff)
-        ∙ xor_and (bit_and a 0xffff_ffff_ffff_ffff) (bit_and b 0xffff_ffff_ffff_ffff) even_places_64)
-        ∙ xor_exchange (bit_and (a / 2 ^ 64) even_places_64 * 2 ^ 64) (bit_and (b / 2 ^ 64) even_places_64 * 2 ^ 64) _ _
+        (ap (λ (z : ℕ). bit_and z (even_places 64) * 2 ^ 64) (xor_shr a b 64)
+        ∙ ap (λ (z : ℕ). z * 2 ^ 64) (xor_and (a / 2 ^ 64) (b / 2 ^ 64) (even_places 64))
+        ∙ sym (xor_shl 64 (bit_and (a / 2 ^ 64) (even_places 64)) (bit_and (b / 2 ^ 64) (even_places 64))))
+        (ap (λ (z : ℕ). bit_and z (even_places 64)) (xor_and a b 0xffff_ffff_ffff_ffff)
+        ∙ xor_and (bit_and a 0xffff_ffff_ffff_ffff) (bit_and b 0xffff_ffff_ffff_ffff) (even_places 64))
+        ∙ xor_exchange (bit_and (a / 2 ^ 64) (even_places 64) * 2 ^ 64) (bit_and (b / 2 ^ 64) (even_places 64) * 2 ^ 64) _ _
 
 pub compact_double_word : (x x0 x1 low high : ℕ) → x < 2 ^ 128 → x0 < 2 ^ 64 → high < 2 ^ 32 → x ≡ x1 * 2 ^ 64 + x0
-    → carryless low low ≡ bit_and x0 even_places_64 → carryless high high ≡ bit_and x1 even_places_64
-    → carryless (bit_xor (high * 2 ^ 32 % 2 ^ 64) low) (bit_xor (high * 2 ^ 32 % 2 ^ 64) low) ≡ bit_and x even_places_128
+    → carryless low low ≡ bit_and x0 (even_places 64) → carryless high high ≡ bit_and x1 (even_places 64)
+    → carryless (bit_xor (high * 2 ^ 32 % 2 ^ 64) low) (bit_xor (high * 2 ^ 32 % 2 ^ 64) low) ≡ bit_and x (even_places 128)
 compact_double_word x x0 x1 low high fits low_fits high_fits of_x of_low of_high =
     let is_low : x0 ≡ x % 2 ^ 64 = omega arith in
     let is_high : x1 ≡ x / 2 ^ 64 = omega arith in
@@ -96,6 +96,6 @@ compact_double_word x x0 x1 low high fits low_fits high_fits of_x of_low of_high
     ∙ ap₂ bit_xor
     (carryless_shl 32 (high * 2 ^ 32) high ∙ ap (λ (z : ℕ). z * 2 ^ 32) (shl_carryless 32 high high)
     ∙ mul_assoc (carryless high high) (2 ^ 32) (2 ^ 32)
-    ∙ ap (λ (z : ℕ). z * 2 ^ 64) (of_high ∙ ap (λ (z : ℕ). bit_and z even_places_64) is_high))
-    (of_low ∙ ap (λ (z : ℕ). bit_and z even_places_64) (is_low ∙ sym (and_mask x 64)))
+    ∙ ap (λ (z : ℕ). z * 2 ^ 64) (of_high ∙ ap (λ (z : ℕ). bit_and z (even_places 64)) is_high))
+    (of_low ∙ ap (λ (z : ℕ). bit_and z (even_places 64)) (is_low ∙ sym (and_mask x 64)))
     ∙ split_mask x fits

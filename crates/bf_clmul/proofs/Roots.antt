@@ -13,7 +13,7 @@ use Rattle.bf_base.proofs.PowerLemmas.{square_xor, square_times}
 use Rattle.bf_base.proofs.RingLemmas.{xor_left_comm}
 use Rattle.bf_base.proofs.RemainderLaws.{rem_small}
 use Rattle.bf_base.proofs.RemainderRing.{mul_mod-rem, mul_mod_ring}
-use Rattle.bf_clmul.specs.Compact.{even_places_64, even_places_128, ones_32, root_of_x_64, root_of_x_128}
+use Rattle.bf_clmul.specs.Compact.{even_places, ones, root_of_x_64, root_of_x_128}
 use Rattle.bf_clmul.proofs.Classes.{xor_and}
 
 -- ---- any width
@@ -86,13 +86,13 @@ roots_squared : (mul_mod 64 poly64_modulus root_of_x_64 root_of_x_64 ≡ 2) × (
 unfolding mul_mod rem rem_in carryless carryless_in
 roots_squared = (refl, refl)
 
-pub root_64 : RootOfParts 64 32 poly64_modulus even_places_64 root_of_x_64
+pub root_64 : RootOfParts 64 32 poly64_modulus (even_places 64) root_of_x_64
 root_64 =
-    root_of_parts 64 poly64_modulus (lit< tt) refl even_places_64 32 root_of_x_64 (lit≤ tt) (lit< tt) roots_squared.0 refl
+    root_of_parts 64 poly64_modulus (lit< tt) refl (even_places 64) 32 root_of_x_64 (lit≤ tt) (lit< tt) roots_squared.0 refl
 
-pub root_128 : RootOfParts 128 64 ghash_modulus even_places_128 root_of_x_128
+pub root_128 : RootOfParts 128 64 ghash_modulus (even_places 128) root_of_x_128
 root_128 =
-    root_of_parts 128 ghash_modulus (lit< tt) refl even_places_128 64 root_of_x_128 (lit≤ tt) (lit< tt) roots_squared.1 refl
+    root_of_parts 128 ghash_modulus (lit< tt) refl (even_places 128) 64 root_of_x_128 (lit≤ tt) (lit< tt) roots_squared.1 refl
 
 -- ---- the product by the root of 64 bits
 
@@ -112,25 +112,25 @@ with_shift k t = bit_xor t (t * 2 ^ k % 2 ^ 64)
 
 -- the doubling steps make a run of 32 ones, and no bit leaves the word
 pub times_ones : (s : ℕ) → s < 2 ^ 32
-    → with_shift 16 (with_shift 8 (with_shift 4 (with_shift 2 (with_shift 1 s)))) ≡ carryless ones_32 s
+    → with_shift 16 (with_shift 8 (with_shift 4 (with_shift 2 (with_shift 1 s)))) ≡ carryless (ones 32) s
 times_ones s fits =
     times_shifted 16 0xffff s _ (times_shifted 8 0xff s _ (times_shifted 4 0xf s _ (times_shifted 2 3 s _
     (times_shifted 1 1 s s (sym (ap (λ (z : ℕ). z % 2 ^ 64) (one_carryless s) ∙ mod-eq_of_lt (omega arith)))))))
-    ∙ mod-eq_of_lt (carryless_lt 32 32 ones_32 s (lit< tt) fits)
+    ∙ mod-eq_of_lt (carryless_lt 32 32 (ones 32) s (lit< tt) fits)
 
 -- the root is a run of ones and two terms
-root_terms : (s : ℕ) → carryless root_of_x_64 s ≡ bit_xor (bit_xor (carryless ones_32 s * 2 ^ 32) (s * 2 ^ 3)) (s * 2 ^ 1)
+root_terms : (s : ℕ) → carryless root_of_x_64 s ≡ bit_xor (bit_xor (carryless (ones 32) s * 2 ^ 32) (s * 2 ^ 3)) (s * 2 ^ 1)
 root_terms s =
-    sum_carryless (bit_xor (ones_32 * 2 ^ 32) (1 * 2 ^ 3)) (1 * 2 ^ 1) s
+    sum_carryless (bit_xor ((ones 32) * 2 ^ 32) (1 * 2 ^ 3)) (1 * 2 ^ 1) s
     ∙ ap₂ bit_xor
-    (sum_carryless (ones_32 * 2 ^ 32) (1 * 2 ^ 3) s ∙ ap₂ bit_xor (shl_carryless 32 ones_32 s) (term 3))
+    (sum_carryless ((ones 32) * 2 ^ 32) (1 * 2 ^ 3) s ∙ ap₂ bit_xor (shl_carryless 32 (ones 32) s) (term 3))
     (term 1)
   where
     term : (k : ℕ) → carryless (1 * 2 ^ k) s ≡ s * 2 ^ k
     term k = shl_carryless k 1 s ∙ ap (λ (z : ℕ). z * 2 ^ k) (one_carryless s)
 
 -- so the product by the root, from the product by the ones
-pub product_by_terms : (o t r : ℕ) → o < 2 ^ 32 → t ≡ carryless ones_32 o
+pub product_by_terms : (o t r : ℕ) → o < 2 ^ 32 → t ≡ carryless (ones 32) o
     → r ≡ rem 64 poly64_modulus
     (t / 2 ^ 32 * 2 ^ 64 + bit_xor (bit_xor (t * 2 ^ 32 % 2 ^ 64) (o * 2 ^ 3 % 2 ^ 64)) (o * 2 ^ 1 % 2 ^ 64))
     → r ≡ mul_mod 64 poly64_modulus root_of_x_64 o

@@ -1,21 +1,17 @@
 -- One step of moving the bits at the even places of a word together.
-use Rattle.std.specs.Prelude.{ℕ, ◌/◌, ◌^◌, bit_and, bit_xor}
+use Rattle.std.specs.Prelude.{ℕ, ◌-◌, ◌/◌, ◌%◌, ◌^◌, bit_and, bit_xor}
 
 -- a word and its shift to the right, and of both the places of the mask
 abbrev pub compact_step : ℕ → ℕ → ℕ → ℕ
 compact_step shift mask x = bit_and (bit_xor x (x / 2 ^ shift)) mask
 
--- the even places below 64
-abbrev pub even_places_64 : ℕ
-even_places_64 = 0x5555_5555_5555_5555
+-- the even places below a width of at most 128
+abbrev pub even_places : ℕ → ℕ
+even_places width = 0x5555_5555_5555_5555_5555_5555_5555_5555 % 2 ^ width
 
--- the even places below 128
-abbrev pub even_places_128 : ℕ
-even_places_128 = 0x5555_5555_5555_5555_5555_5555_5555_5555
-
--- x^31 + .. + x + 1
-abbrev pub ones_32 : ℕ
-ones_32 = 0xffff_ffff
+-- x^(n - 1) + .. + x + 1
+abbrev pub ones : ℕ → ℕ
+ones n = 2 ^ n - 1
 
 -- the square root of x modulo x^64 + x^4 + x^3 + x + 1
 abbrev pub root_of_x_64 : ℕ

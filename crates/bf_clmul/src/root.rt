@@ -5,7 +5,7 @@
 ghost use Rattle.std.specs.Prelude.{◌≡◌, ◌<◌, bit_and};
 ghost use Rattle.bf_base.specs.Carryless.{carryless};
 ghost use Rattle.bf_base.specs.Remainder.{ghash_modulus, mul_mod, poly64_modulus};
-ghost use Rattle.bf_clmul.specs.Compact.{compact_step, even_places_64, even_places_128, ones_32, root_of_x_64, root_of_x_128};
+ghost use Rattle.bf_clmul.specs.Compact.{compact_step, even_places, ones, root_of_x_64, root_of_x_128};
 
 use crate::fold::{reduce_64, reduce_128};
 use crate::product::multiply_64_twice;
@@ -25,7 +25,7 @@ fn join_fields(x: u64, shift: u32, mask: u64) -> u64
 /// . a . b . c . d . e . f . g . h  ->  . . a b . . c d . . e f . . g h  ->  . . . . a b c d . . . . e f g h  ->  ..
 /// ```
 pub fn compact_64(x: u64) -> u32
-    ensures { carryless result result ≡ bit_and x even_places_64 }
+    ensures { carryless result result ≡ bit_and x (even_places 64) }
 {
     let bits = x & 0x5555_5555_5555_5555;
     let pairs = join_fields(bits, 1, 0x3333_3333_3333_3333);
@@ -37,7 +37,7 @@ pub fn compact_64(x: u64) -> u32
 
 /// The bits at the even places of a double word: the carryless root of those bits.
 pub fn compact_128(x: u128) -> u64
-    ensures { carryless result result ≡ bit_and x even_places_128 }
+    ensures { carryless result result ≡ bit_and x (even_places 128) }
 {
     let (low, high) = split_128(x);
     ((compact_64(high) as u64) << 32) ^ (compact_64(low) as u64)
@@ -45,7 +45,7 @@ pub fn compact_128(x: u128) -> u64
 
 /// The product of a half word by x^31 + .. + x + 1, which is the product of the x^k + 1 for k = 1, 2, 4, 8 and 16.
 fn times_ones_32(half: u32) -> u64
-    ensures { result ≡ carryless ones_32 half }
+    ensures { result ≡ carryless (ones 32) half }
 {
     let word = half as u64;
     let by_2_ones = word ^ (word << 1);
