@@ -4,17 +4,13 @@
 //! p3-binary-field 0.8.0 gave to them. The lines were drawn from the seed 20261122. scripts/make_lines.py writes both files.
 #![tactic(auto)]
 
-use bf_calc::{Watched, run};
+use bf_calc::{Watched, run_program};
 use std::process::ExitCode;
 
 fn main(rt: HostRuntime) -> ExitCode {
-    let mut reader = Watched::new(rt.stdin());
-    let mut writer = Watched::new(rt.stdout());
-    match run(rt.alloc(), &mut reader, &mut writer) {
-        Ok(()) => ExitCode::SUCCESS,
-        Err(fault) => {
-            let _ = eprint!(rt; "{}", fault.line());
-            ExitCode::FAILURE
-        }
-    }
+    run_program(
+        &rt,
+        &mut Watched::new(rt.stdin()),
+        &mut Watched::new(rt.stdout()),
+    )
 }

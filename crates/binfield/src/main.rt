@@ -1,17 +1,13 @@
 //! Answers one field operation a line: reads standard input, and writes standard output.
 #![tactic(auto)]
 
-use binary_field::calc::{Watched, run};
+use binary_field::calc::{Watched, run_program};
 use std::process::ExitCode;
 
 fn main(rt: HostRuntime) -> ExitCode {
-    let mut reader = Watched::new(rt.stdin());
-    let mut writer = Watched::new(rt.stdout());
-    match run(rt.alloc(), &mut reader, &mut writer) {
-        Ok(()) => ExitCode::SUCCESS,
-        Err(fault) => {
-            let _ = eprint!(rt; "{}", fault.line());
-            ExitCode::FAILURE
-        }
-    }
+    run_program(
+        &rt,
+        &mut Watched::new(rt.stdin()),
+        &mut Watched::new(rt.stdout()),
+    )
 }
