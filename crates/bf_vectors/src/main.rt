@@ -20,7 +20,6 @@
 //! scripts/make_vectors.py writes both.
 #![tactic(auto)]
 
-mod algebras;
 mod basis;
 mod bits;
 mod bytes;
@@ -29,21 +28,13 @@ mod fields;
 mod linear_map;
 mod masked;
 mod packed;
+mod pairs;
 mod reading;
 mod slices;
 mod streams;
-mod views;
 
-use crate::algebras::{ghash_call, poly64_call};
 use crate::fault::Fault;
-use crate::fields::{field_call, value_at_x};
-use crate::streams::level_call;
-use bf_base::Gf2;
-use bf_element::{
-    BinaryField2, BinaryField4, BinaryField8, BinaryField16, BinaryField32, BinaryField64,
-    BinaryField128, Ghash128, Poly64, Rijndael8b,
-};
-use bf_tower::{Bits8, Bits16, Bits32, Bits64, Bits128};
+use crate::fields::Asked;
 use std::alloc::{AllocError, Global};
 use std::fmt::Write;
 use std::io;
@@ -51,21 +42,6 @@ use std::io;
 /// The answer to a call.
 fn answer(alloc: Global, name: &str, call: &[&str]) -> Result<Vec<u128>, Fault> {
     match name {
-        "p64/t8" => poly64_call::<u8, Bits8>(alloc, call),
-        "p64/t16" => poly64_call::<u16, Bits16>(alloc, call),
-        "p64/t32" => poly64_call::<u32, Bits32>(alloc, call),
-        "p64/t64" => poly64_call::<u64, Bits64>(alloc, call),
-        "g128/t8" => ghash_call::<u8, Bits8>(alloc, call),
-        "g128/t16" => ghash_call::<u16, Bits16>(alloc, call),
-        "g128/t32" => ghash_call::<u32, Bits32>(alloc, call),
-        "g128/t64" => ghash_call::<u64, Bits64>(alloc, call),
-        "g128/t128" => ghash_call::<u128, Bits128>(alloc, call),
-        "streams/gf2" => level_call::<Gf2>(alloc, call),
-        "streams/t4" => level_call::<BinaryField4>(alloc, call),
-        "streams/t16" => level_call::<BinaryField16>(alloc, call),
-        "streams/t32" => level_call::<BinaryField32>(alloc, call),
-        "streams/p64" => level_call::<Poly64>(alloc, call),
-        "streams/g128" => level_call::<Ghash128>(alloc, call),
         "streams/p192" => streams::cubic_call(alloc, call),
         "linear_map" => linear_map::sample(alloc, call),
         "masked_products" => masked::products(alloc, call),
@@ -82,28 +58,14 @@ fn answer(alloc: Global, name: &str, call: &[&str]) -> Result<Vec<u128>, Fault> 
         | "to_matrix" => bytes::mapped(alloc, name, call),
         "transpose" | "interleave" | "parts" => bits::rearranged(alloc, name, call),
         "byte_lanes" | "ghash_lanes" => packed::computed(alloc, name, call),
-        _ if name.contains('/') => views::viewed(alloc, name, call),
-        _ => Ok(vec![in alloc; number(alloc, name, call)?]?),
-    }
-}
-
-/// The answer to a call that gives one number.
-fn number(alloc: Global, name: &str, call: &[&str]) -> Result<u128, Fault> {
-    match name {
-        "gf2" => field_call::<Gf2>(alloc, call),
-        "t2" => field_call::<BinaryField2>(alloc, call),
-        "t4" => field_call::<BinaryField4>(alloc, call),
-        "t8" => field_call::<BinaryField8>(alloc, call),
-        "t16" => field_call::<BinaryField16>(alloc, call),
-        "t32" => field_call::<BinaryField32>(alloc, call),
-        "t64" => field_call::<BinaryField64>(alloc, call),
-        "t128" => field_call::<BinaryField128>(alloc, call),
-        "r8" => field_call::<Rijndael8b>(alloc, call),
-        "p64" => field_call::<Poly64>(alloc, call),
-        "g128" => field_call::<Ghash128>(alloc, call),
-        "dot_powers_of_x" => value_at_x(alloc, call),
-        "masked_product" => masked::product(call),
-        _ => basis::changed(name, call),
+        "dot_powers_of_x" => fields::value_at_x(alloc, call),
+        "masked_product" => Ok(vec![in alloc; masked::product(call)?]?),
+        _ if name.starts_with("to_") => Ok(vec![in alloc; basis::changed(name, call)?]?),
+        _ if name.contains('/') => match name.strip_prefix("streams/") {
+            Some(field) => fields::answer(alloc, field, Asked::Stream, call),
+            None => pairs::answer(alloc, name, call),
+        },
+        _ => fields::answer(alloc, name, Asked::Value, call),
     }
 }
 

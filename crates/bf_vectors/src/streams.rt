@@ -7,8 +7,8 @@ use bf_element::{Poly64, Poly192};
 use std::alloc::Global;
 use std::fmt::Display;
 
-/// A stream of elements of a level or of a field of polynomials, or their text.
-pub(crate) fn level_call<F: TowerLevel + RawDataSerializable + Display>(
+/// A stream of elements of a field whose elements are words, or their text.
+pub(crate) fn field_call<F: TowerLevel + RawDataSerializable + Display>(
     alloc: Global,
     call: &[&str],
 ) -> Result<Vec<u128>, Fault> {

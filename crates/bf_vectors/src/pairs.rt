@@ -1,16 +1,29 @@
-// Levels of the tower as vectors over the levels inside them.
+// Two fields, one of which has the other inside: the operators of the two fields of polynomials with an element of a level of
+// the tower on the right, and levels as vectors over the levels inside them.
 use crate::fault::Fault;
 use crate::reading::{count, element, number_of};
 use bf_base::Unsigned;
-use bf_base::traits::TowerLevel;
-use bf_element::{BinaryField16, BinaryField32, BinaryField64, BinaryField128, Element};
+use bf_base::traits::{Algebra, TowerLevel};
+use bf_element::{
+    BinaryField16, BinaryField32, BinaryField64, BinaryField128, Element, Ghash128, Poly64,
+};
+use bf_poly::{EmbedsIn, GhashKernel, Poly64Kernel};
 use bf_space::{BasedVectorSpace, CoefficientsOf, ExtensionField, HasFrobenius};
 use bf_tower::{Bits2, Bits8, Bits16, Bits32, Bits64, Bits128, Tower};
 use std::alloc::Global;
 
-/// The answer to a call of a level and a smaller one, whose names the call's has with a stroke between them.
-pub(crate) fn viewed(alloc: Global, name: &str, call: &[&str]) -> Result<Vec<u128>, Fault> {
+/// The answer to a call of two fields, whose names the call's has with a stroke between them.
+pub(crate) fn answer(alloc: Global, name: &str, call: &[&str]) -> Result<Vec<u128>, Fault> {
     match name {
+        "p64/t8" => over_poly64::<u8, Bits8>(alloc, call),
+        "p64/t16" => over_poly64::<u16, Bits16>(alloc, call),
+        "p64/t32" => over_poly64::<u32, Bits32>(alloc, call),
+        "p64/t64" => over_poly64::<u64, Bits64>(alloc, call),
+        "g128/t8" => over_ghash::<u8, Bits8>(alloc, call),
+        "g128/t16" => over_ghash::<u16, Bits16>(alloc, call),
+        "g128/t32" => over_ghash::<u32, Bits32>(alloc, call),
+        "g128/t64" => over_ghash::<u64, Bits64>(alloc, call),
+        "g128/t128" => over_ghash::<u128, Bits128>(alloc, call),
         "t16/t8" => over_16::<u8, Bits8>(alloc, call),
         "t32/t8" => over_32::<u8, Bits8>(alloc, call),
         "t32/t16" => over_32::<u16, Bits16>(alloc, call),
@@ -24,6 +37,22 @@ pub(crate) fn viewed(alloc: Global, name: &str, call: &[&str]) -> Result<Vec<u12
         "t128/t2" => over_128::<u8, Bits2>(alloc, call),
         _ => Err(Fault::Line),
     }
+}
+
+/// The sums or the products of an element of `Poly64` and one of a level.
+fn over_poly64<S: Unsigned, L: EmbedsIn<u64, Poly64Kernel, S>>(
+    alloc: Global,
+    call: &[&str],
+) -> Result<Vec<u128>, Fault> {
+    algebra_call::<Poly64, Element<S, Tower<L>>>(alloc, call)
+}
+
+/// The sums or the products of an element of `Ghash128` and one of a level.
+fn over_ghash<S: Unsigned, L: EmbedsIn<u128, GhashKernel, S>>(
+    alloc: Global,
+    call: &[&str],
+) -> Result<Vec<u128>, Fault> {
+    algebra_call::<Ghash128, Element<S, Tower<L>>>(alloc, call)
 }
 
 /// What a view of an element of 16 bits gives.
@@ -56,6 +85,54 @@ fn over_128<S: Unsigned, J: CoefficientsOf<u128, Bits128, S>>(
     call: &[&str],
 ) -> Result<Vec<u128>, Fault> {
     view_call::<BinaryField128, Element<S, Tower<J>>>(alloc, call)
+}
+
+/// The sum in three ways, one of which adds what `From` makes of the right operand, and the difference in two.
+fn sums<R, F>(left: R, right: F) -> [u128; 5]
+where
+    R: Algebra<F> + TowerLevel,
+    F: TowerLevel,
+{
+    let mut sum = left;
+    sum += right;
+    let mut difference = left;
+    difference -= right;
+    [
+        number_of(left + right),
+        number_of(sum),
+        number_of(left + R::from(right)),
+        number_of(left - right),
+        number_of(difference),
+    ]
+}
+
+/// The product in two ways.
+fn products<R, F>(left: R, right: F) -> [u128; 2]
+where
+    R: Algebra<F> + TowerLevel,
+    F: TowerLevel,
+{
+    let mut product = left;
+    product *= right;
+    [number_of(left * right), number_of(product)]
+}
+
+/// The sums or the products of an element and one of a level.
+fn algebra_call<R, F>(alloc: Global, call: &[&str]) -> Result<Vec<u128>, Fault>
+where
+    R: Algebra<F> + TowerLevel,
+    F: TowerLevel,
+{
+    let [operators, left, right] = *call else {
+        return Err(Fault::Line);
+    };
+    let left: R = element(left)?;
+    let right: F = element(right)?;
+    match operators {
+        "sums" => Ok(Vec::from_array(alloc, sums(left, right))?),
+        "products" => Ok(Vec::from_array(alloc, products(left, right))?),
+        _ => Err(Fault::Line),
+    }
 }
 
 /// What a view of an element over a smaller level gives, or an operator with an element of it on the right.
