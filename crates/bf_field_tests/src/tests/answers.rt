@@ -2,7 +2,7 @@
 // are made in one function a subject, so that each field is named once: where a function is called at a field, the check has to
 // show that the field has the laws of the bound.
 use super::fields::{
-    corners_hold, element, inverse_and_root_hold, operators_give, root_is, square_is,
+    all_give, corners_hold, element, inverse_and_root_hold, operators_give, root_is, square_is,
 };
 use super::generators::generator_is_full;
 use bf_base::traits::{DotProduct, Field, TowerLevel};
@@ -53,7 +53,7 @@ impl Answers {
             && self.constants_hold::<F, T>()
     }
 
-    /// Whether operators, sums, products and dot products of elements are these.
+    /// Whether operators, sums, products and dot products of elements are these; the product of a list with a zero is 0.
     fn operators_hold<F: TowerLevel>(&self, factors: [F; 4]) -> bool {
         for row in self.operators {
             if !operators_give::<F>([
@@ -66,7 +66,8 @@ impl Answers {
             }
         }
         let [x, y, z, t] = factors;
-        F::dot_product(&[x, y], &[z, t]) == element(self.dot_product)
+        all_give(&[x, F::ZERO], x, F::ZERO)
+            && F::dot_product(&[x, y], &[z, t]) == element(self.dot_product)
     }
 
     /// Whether powers, squares, inverses, square roots and repeated squares are these.

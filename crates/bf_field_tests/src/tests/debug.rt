@@ -3,12 +3,12 @@ use super::tower::{t2, t4, t8, t16, t32, t64, t128};
 use bf_base::Gf2;
 use bf_base::traits::PrimeCharacteristicRing;
 use bf_element::{Ghash128, Poly64};
-use std::alloc::Allocator;
+use std::alloc::{AllocError, Global};
 use std::fmt::Debug;
 use std::test::Fail;
 
 /// Whether `{:?}` prints `text` of `value`.
-fn prints<T: Debug, A: Allocator>(alloc: A, value: &T, text: &str) -> Result<bool, Fail> {
+fn prints<T: Debug>(alloc: Global, value: &T, text: &str) -> Result<bool, AllocError> {
     let printed = format!(in alloc; "{value:?}")?;
     Ok(printed.as_str() == text)
 }

@@ -1,9 +1,10 @@
 // Values of polynomials, those of the library and those of a function that a user writes over the bound. Made by hand, by
 // representation: 2 is the root that the level of two bits adjoins, whose square is 3.
 use super::fields::element;
-use bf_base::Gf2;
 use bf_base::traits::{Field, TowerLevel};
-use bf_element::{BinaryField2, BinaryField8};
+use bf_base::{Gf2, Unsigned};
+use bf_element::Element;
+use bf_tower::{Bits2, Bits8, Level, Tower};
 use bf_transform::over;
 use std::alloc::{AllocError, Allocator, Global};
 use std::test::Fail;
@@ -69,6 +70,20 @@ fn value_of<F: Field>(coefficients: &[F], point: F) -> F {
     value
 }
 
+/// Whether the library's function gives the value of the row.
+fn evaluates<F: TowerLevel>(alloc: Global, row: &Row) -> Result<bool, AllocError> {
+    let (numbers, x, value) = *row;
+    let coefficients = elements::<F, Global>(alloc, numbers)?;
+    Ok(value_is(coefficients.as_slice(), element(x), element(value)))
+}
+
+/// Whether Horner's rule gives the value of the row.
+fn evaluates_by_horner<F: TowerLevel>(alloc: Global, row: &Row) -> Result<bool, AllocError> {
+    let (numbers, x, value) = *row;
+    let coefficients = elements::<F, Global>(alloc, numbers)?;
+    Ok(value_of(coefficients.as_slice(), element(x)) == element(value))
+}
+
 /// Whether the values of the library's function and those by Horner's rule are these.
 fn values_are<F: TowerLevel>(
     alloc: Global,
@@ -76,28 +91,33 @@ fn values_are<F: TowerLevel>(
     by_horner: &[Row],
 ) -> Result<bool, AllocError> {
     for row in rows {
-        let (numbers, x, value) = *row;
-        let coefficients = elements::<F, Global>(alloc, numbers)?;
-        if !value_is(coefficients.as_slice(), element(x), element(value)) {
+        if !evaluates::<F>(alloc, row)? {
             return Ok(false);
         }
     }
     for row in by_horner {
-        let (numbers, x, value) = *row;
-        let coefficients = elements::<F, Global>(alloc, numbers)?;
-        if value_of(coefficients.as_slice(), element(x)) != element(value) {
+        if !evaluates_by_horner::<F>(alloc, row)? {
             return Ok(false);
         }
     }
     Ok(true)
 }
 
+/// The same in a level of the tower.
+fn level_values_are<R: Unsigned, L: Level<R>>(
+    alloc: Global,
+    rows: &[Row],
+    by_horner: &[Row],
+) -> Result<bool, AllocError> {
+    values_are::<Element<R, Tower<L>>>(alloc, rows, by_horner)
+}
+
 #[test]
 fn values_of_polynomials(rt: HostRuntime) -> Result<(), Fail> {
     assert!(rt;
         values_are::<Gf2>(rt.alloc(), &[], &BY_HORNER_AT_ONE_BIT)?
-            && values_are::<BinaryField2>(rt.alloc(), &AT_TWO_BITS, &[])?
-            && values_are::<BinaryField8>(rt.alloc(), &AT_EIGHT_BITS, &BY_HORNER_AT_EIGHT_BITS)?
+            && level_values_are::<u8, Bits2>(rt.alloc(), &AT_TWO_BITS, &[])?
+            && level_values_are::<u8, Bits8>(rt.alloc(), &AT_EIGHT_BITS, &BY_HORNER_AT_EIGHT_BITS)?
     );
     Ok(())
 }

@@ -11,26 +11,28 @@ pub(crate) fn element<F: TowerLevel>(number: u128) -> F {
 /// two give.
 pub(crate) fn operators_give<F: Field>(row: [F; 4]) -> bool {
     let [x, y, sum, product] = row;
-    if y.is_zero() {
-        return false;
-    }
+    sum_is(x, y, sum) && product_is(x, y, product) && all_give(&[x, y], sum, product)
+}
+
+/// Whether `+` and `-`, which are one operation, give this sum.
+fn sum_is<F: Field>(x: F, y: F, sum: F) -> bool {
     let mut value = x;
     value += y;
     let is_sum = value == sum;
     value -= y;
+    is_sum && value == x && x + y == sum && x - y == sum && -x == x
+}
+
+/// Whether `y` is not 0, `*` gives this product, and `/` gives `x` back.
+fn product_is<F: Field>(x: F, y: F, product: F) -> bool {
+    if y.is_zero() {
+        return false;
+    }
+    let mut value = x;
     value *= y;
     let is_product = value == product;
     value /= y;
-    is_sum
-        && is_product
-        && value == x
-        && x + y == sum
-        && x - y == sum
-        && -x == x
-        && x * y == product
-        && product / y == x
-        && product * y.inverse() == x
-        && all_give(&[x, y], sum, product)
+    is_product && value == x && x * y == product && product / y == x && product * y.inverse() == x
 }
 
 /// Whether the calls of a field are right at 0 and 1, and those of no elements.
@@ -50,7 +52,15 @@ pub(crate) fn corners_hold<F: Field>() -> bool {
 
 /// Whether the elements have this sum and this product.
 pub(crate) fn all_give<F: Field>(elements: &[F], sum: F, product: F) -> bool {
-    elements.iter().copied().sum::<F>() == sum && elements.iter().copied().product::<F>() == product
+    sum_of_all(elements) == sum && product_of_all(elements) == product
+}
+
+fn sum_of_all<F: Field>(elements: &[F]) -> F {
+    elements.iter().copied().sum()
+}
+
+fn product_of_all<F: Field>(elements: &[F]) -> F {
+    elements.iter().copied().product()
 }
 
 /// Whether `root` is the square root of `element`. As many squarings as there are bits give the element back, and one less give
@@ -65,17 +75,20 @@ pub(crate) fn root_is<F: Field>(element: F, root: F) -> bool {
 /// Whether quotients by `element`, which is not 0, its inverse and its square root are right.
 pub(crate) fn inverse_and_root_hold<F: TowerLevel>(element: F) -> bool {
     let bits = F::bits();
-    if element.is_zero() || bits == 0 {
+    bits != 0
+        && quotient_is_right(F::ONE.mul_alpha(), element)
+        && root_is(element, element.exp_power_of_2(bits - 1))
+}
+
+/// Whether `divisor` is not 0, and the quotient by it and its inverse agree with products.
+fn quotient_is_right<F: Field>(dividend: F, divisor: F) -> bool {
+    if divisor.is_zero() {
         return false;
     }
-    let root = F::ONE.mul_alpha();
-    let mut quotient = root / element;
-    let is_quotient = quotient * element == root;
-    quotient /= element;
-    is_quotient
-        && quotient * element.square() == root
-        && element * element.inverse() == F::ONE
-        && root_is(element, element.exp_power_of_2(bits - 1))
+    let mut quotient = dividend / divisor;
+    let is_quotient = quotient * divisor == dividend;
+    quotient /= divisor;
+    is_quotient && quotient * divisor.square() == dividend && divisor * divisor.inverse() == F::ONE
 }
 
 /// Whether the square of `element`, and its product by itself, is this.

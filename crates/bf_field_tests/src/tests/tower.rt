@@ -1,15 +1,18 @@
 // What each field answers, and what the types of the tower's levels have of their own. A level by itself is a field of the tower;
 // the two fields of polynomials have corners of the reduction among their rows, and where a row names elements of the tower, they
 // have their images.
-use super::fields::{all_give, element};
+use super::answers::Answers;
 use super::rows::{
     BITS_2, BITS_4, BITS_8, BITS_16, BITS_32, BITS_64, BITS_128, GHASH_128, POLY_64,
 };
 use bf_base::traits::{Field, TowerLevel};
+use bf_base::{LevelKernel, Unsigned};
 use bf_element::{
     BinaryField2, BinaryField4, BinaryField8, BinaryField16, BinaryField32, BinaryField64,
-    BinaryField128, Ghash128, Poly64,
+    BinaryField128, Element, HasPacking,
 };
+use bf_poly::{GhashKernel, Poly64Kernel};
+use bf_tower::{Bits2, Bits4, Bits8, Bits16, Bits32, Bits64, Bits128, Level, Tower};
 
 pub(crate) fn t2(repr: u8) -> BinaryField2 {
     BinaryField2::from_repr(repr)
@@ -39,25 +42,46 @@ pub(crate) fn t128(repr: u128) -> BinaryField128 {
     BinaryField128::from_repr(repr)
 }
 
+/// The element of a field with this number.
+fn of_kernel<R: Unsigned, K: LevelKernel<R> + HasPacking<R>>(number: u128) -> Element<R, K> {
+    Element::from_repr(R::of_u128(number))
+}
+
+/// Whether the field of the kernel `K`, whose level of the tower is `L`, gives all of the answers.
+fn field_answers<R, L, K>(answers: &Answers, factors: [Element<R, K>; 4]) -> bool
+where
+    R: Unsigned,
+    L: Level<R>,
+    K: LevelKernel<R> + HasPacking<R>,
+    Element<R, K>: From<Element<R, Tower<L>>>,
+{
+    answers.hold::<Element<R, K>, Element<R, Tower<L>>>(factors)
+}
+
 #[test]
 fn answers_of_the_levels(rt: HostRuntime) {
     assert!(rt;
-        BITS_2.hold::<BinaryField2, BinaryField2>(BITS_2.factors.map(element))
-            && BITS_4.hold::<BinaryField4, BinaryField4>(BITS_4.factors.map(element))
-            && BITS_8.hold::<BinaryField8, BinaryField8>(BITS_8.factors.map(element))
-            && all_give(&[t8(0x1c), t8(0)], t8(0x1c), t8(0))
-            && BITS_16.hold::<BinaryField16, BinaryField16>(BITS_16.factors.map(element))
-            && BITS_32.hold::<BinaryField32, BinaryField32>(BITS_32.factors.map(element))
-            && BITS_64.hold::<BinaryField64, BinaryField64>(BITS_64.factors.map(element))
-            && BITS_128.hold::<BinaryField128, BinaryField128>(BITS_128.factors.map(element))
+        field_answers::<u8, Bits2, Tower<Bits2>>(&BITS_2, BITS_2.factors.map(of_kernel))
+            && field_answers::<u8, Bits4, Tower<Bits4>>(&BITS_4, BITS_4.factors.map(of_kernel))
+            && field_answers::<u8, Bits8, Tower<Bits8>>(&BITS_8, BITS_8.factors.map(of_kernel))
+            && field_answers::<u16, Bits16, Tower<Bits16>>(&BITS_16, BITS_16.factors.map(of_kernel))
+            && field_answers::<u32, Bits32, Tower<Bits32>>(&BITS_32, BITS_32.factors.map(of_kernel))
+            && field_answers::<u64, Bits64, Tower<Bits64>>(&BITS_64, BITS_64.factors.map(of_kernel))
+            && field_answers::<u128, Bits128, Tower<Bits128>>(
+                &BITS_128,
+                BITS_128.factors.map(of_kernel)
+            )
     );
 }
 
 #[test]
 fn answers_of_the_fields_of_polynomials(rt: HostRuntime) {
     assert!(rt;
-        POLY_64.hold::<Poly64, BinaryField64>(POLY_64.factors.map(element))
-            && GHASH_128.hold::<Ghash128, BinaryField128>(GHASH_128.factors.map(element))
+        field_answers::<u64, Bits64, Poly64Kernel>(&POLY_64, POLY_64.factors.map(of_kernel))
+            && field_answers::<u128, Bits128, GhashKernel>(
+                &GHASH_128,
+                GHASH_128.factors.map(of_kernel)
+            )
     );
 }
 

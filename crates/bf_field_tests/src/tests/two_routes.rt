@@ -1,7 +1,9 @@
 // Products and inverses of 64 and 128 bits by one route against another: products by the polynomial basis against those by
 // halves, and inverses by chains against those of the tower.
-use bf_base::traits::{Field, TowerLevel};
-use bf_element::{BinaryField64, BinaryField128, Ghash128, Poly64};
+use super::polynomials::{g128, p64};
+use super::tower::{t64, t128};
+use bf_base::traits::Field;
+use bf_element::{BinaryField64, BinaryField128};
 
 /// How many pairs are drawn.
 const DRAWS: usize = 200;
@@ -21,27 +23,38 @@ fn wide(state: u64) -> u128 {
     ((state as u128) << 64) ^ (next(state) as u128)
 }
 
-/// Whether the inverse of an element is the image of the inverse of its image in the tower.
-fn inverses_agree<P: TowerLevel + From<T>, T: TowerLevel + From<P>>(x: P) -> bool {
-    let through_the_tower = match T::from(x).try_inverse() {
+/// Whether the inverse is the image of the inverse in the tower.
+fn is_image<P: From<T> + PartialEq + Copy, T: Copy>(
+    inverse: Option<P>,
+    in_the_tower: Option<T>,
+) -> bool {
+    let image = match in_the_tower {
         Some(inverse) => Some(P::from(inverse)),
         None => None,
     };
-    x.try_inverse() == through_the_tower
+    inverse == image
 }
 
 /// Whether the product of the numbers, and the inverse of the first, are the same by both routes.
 fn agree_64(x: u64, y: u64) -> bool {
-    let (left, right) = (BinaryField64::from_repr(x), BinaryField64::from_repr(y));
+    let (left, right) = (t64(x), t64(y));
+    let element = p64(x);
     left * right == left.reference_mul(right)
-        && inverses_agree::<Poly64, BinaryField64>(Poly64::new(x))
+        && is_image(
+            element.try_inverse(),
+            BinaryField64::from(element).try_inverse(),
+        )
 }
 
 /// The same with 128 bits.
 fn agree_128(x: u128, y: u128) -> bool {
-    let (left, right) = (BinaryField128::from_repr(x), BinaryField128::from_repr(y));
+    let (left, right) = (t128(x), t128(y));
+    let element = g128(x);
     left * right == left.reference_mul(right)
-        && inverses_agree::<Ghash128, BinaryField128>(Ghash128::new(x))
+        && is_image(
+            element.try_inverse(),
+            BinaryField128::from(element).try_inverse(),
+        )
 }
 
 #[test]
