@@ -1,2 +1,3 @@
+pub mod CantorSums
 pub mod Horner
 pub mod ImageValues
