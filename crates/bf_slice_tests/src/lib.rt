@@ -1,4 +1,4 @@
-//! Tests of products of slices by a scalar, of butterflies, and of the low stages of an additive transform. The crate has
+//! Tests of products of slices by a scalar, of butterflies, of the low stages of an additive transform, and of the whole one. The crate has
 //! nothing to call.
 #![tactic(auto)]
 

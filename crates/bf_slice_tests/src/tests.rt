@@ -1,3 +1,4 @@
 mod drawn;
 mod low_stages;
 mod slices;
+mod transform;
