@@ -6,6 +6,7 @@
 
 pub mod laws;
 
+pub use bf_additive as transform;
 pub use bf_aes::ByteLanes;
 pub use bf_aes::ByteMatrix;
 pub use bf_aes::LinearizedPoly8b;
