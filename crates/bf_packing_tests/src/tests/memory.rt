@@ -1,27 +1,36 @@
 // Vectors of zeros over heaps of a given size, at fields and at a packing.
-use bf_base::Gf2;
 use bf_base::traits::PrimeCharacteristicRing;
+use bf_base::{Gf2, Kernel, Word};
 use bf_bitslice::PackedGf2x8;
-use bf_element::{
-    BinaryField2, BinaryField4, BinaryField8, BinaryField16, BinaryField32, BinaryField64,
-    BinaryField128, Ghash128, Poly64,
-};
+use bf_element::Element;
+use bf_poly::{GhashKernel, Poly64Kernel};
+use bf_tower::{Bits2, Bits4, Bits8, Bits16, Bits32, Bits64, Bits128, Tower};
 use linked_list_allocator::LocalHeap;
-use std::alloc::Allocator;
+use std::alloc::{AllocError, Allocator, Global};
 use std::test::Fail;
+
+/// Whether all of the elements are 0.
+fn are_zeros<R: PrimeCharacteristicRing>(elements: &[R]) -> bool {
+    for element in elements {
+        if *element != R::ZERO {
+            return false;
+        }
+    }
+    true
+}
 
 /// Whether `alloc` grants `len` elements, all of them 0.
 fn zeros_are_granted<R: PrimeCharacteristicRing, A: Allocator>(
     alloc: A,
     len: usize,
-) -> Result<bool, Fail> {
+) -> Result<bool, AllocError> {
     let zeros = R::zero_vec(alloc, len)?;
-    for zero in zeros.as_slice() {
-        if *zero != R::ZERO {
-            return Ok(false);
-        }
-    }
-    Ok(zeros.len() == len)
+    Ok(zeros.len() == len && are_zeros(zeros.as_slice()))
+}
+
+/// Whether two zeros of the field of a kernel are granted.
+fn two_are_granted<R: Word, K: Kernel<R>>(alloc: Global) -> Result<bool, AllocError> {
+    zeros_are_granted::<Element<R, K>, Global>(alloc, 2)
 }
 
 /// Whether `large` grants `len` zeros, and `small`, which has room for `room` of them, grants no more and gets back what it
@@ -31,13 +40,23 @@ fn zeros_are_as_wanted<R: PrimeCharacteristicRing>(
     small: &LocalHeap,
     len: usize,
     room: usize,
-) -> Result<bool, Fail> {
+) -> Result<bool, AllocError> {
     let granted = R::zero_vec(small, len).is_ok();
     Ok(
         zeros_are_granted::<R, &LocalHeap>(large, len)?
             && granted == (len <= room)
             && small.used() == 0,
     )
+}
+
+/// The same at the field of a kernel.
+fn elements_are_as_wanted<R: Word, K: Kernel<R>>(
+    large: &LocalHeap,
+    small: &LocalHeap,
+    len: usize,
+    room: usize,
+) -> Result<bool, AllocError> {
+    zeros_are_as_wanted::<Element<R, K>>(large, small, len, room)
 }
 
 #[test]
@@ -48,7 +67,7 @@ fn zeros_are_granted_or_refused(rt: HostRuntime) -> Result<(), Fail> {
         assert!(rt;
             zeros_are_as_wanted::<Gf2>(&large, &small, len, 16)?
                 && zeros_are_as_wanted::<PackedGf2x8>(&large, &small, len, 16)?
-                && zeros_are_as_wanted::<BinaryField128>(&large, &small, len, 1)?,
+                && elements_are_as_wanted::<u128, Tower<Bits128>>(&large, &small, len, 1)?,
             "{len} zeros"
         );
     }
@@ -58,14 +77,17 @@ fn zeros_are_granted_or_refused(rt: HostRuntime) -> Result<(), Fail> {
 
 #[test]
 fn two_zeros_of_each_field(rt: HostRuntime) -> Result<(), Fail> {
-    assert!(rt; zeros_are_granted::<BinaryField2, _>(rt.alloc(), 2)?);
-    assert!(rt; zeros_are_granted::<BinaryField4, _>(rt.alloc(), 2)?);
-    assert!(rt; zeros_are_granted::<BinaryField8, _>(rt.alloc(), 2)?);
-    assert!(rt; zeros_are_granted::<BinaryField16, _>(rt.alloc(), 2)?);
-    assert!(rt; zeros_are_granted::<BinaryField32, _>(rt.alloc(), 2)?);
-    assert!(rt; zeros_are_granted::<BinaryField64, _>(rt.alloc(), 2)?);
-    assert!(rt; zeros_are_granted::<BinaryField128, _>(rt.alloc(), 2)?);
-    assert!(rt; zeros_are_granted::<Poly64, _>(rt.alloc(), 2)?);
-    assert!(rt; zeros_are_granted::<Ghash128, _>(rt.alloc(), 2)?);
+    let alloc = rt.alloc();
+    assert!(rt;
+        two_are_granted::<u8, Tower<Bits2>>(alloc)?
+            && two_are_granted::<u8, Tower<Bits4>>(alloc)?
+            && two_are_granted::<u8, Tower<Bits8>>(alloc)?
+            && two_are_granted::<u16, Tower<Bits16>>(alloc)?
+            && two_are_granted::<u32, Tower<Bits32>>(alloc)?
+            && two_are_granted::<u64, Tower<Bits64>>(alloc)?
+            && two_are_granted::<u128, Tower<Bits128>>(alloc)?
+            && two_are_granted::<u64, Poly64Kernel>(alloc)?
+            && two_are_granted::<u128, GhashKernel>(alloc)?
+    );
     Ok(())
 }

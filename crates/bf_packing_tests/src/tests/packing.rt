@@ -1,16 +1,11 @@
 // A packing of eight lanes of GF(2), which is a ring and no field: that what is written over the rings' bound runs at it.
-use super::rings::{
-    even_integers_are_zero, is_idempotent, nothing_is_neutral, odd_integers_are_one,
-};
+use super::rings::calls_hold;
 use bf_base::traits::{DotProduct, PrimeCharacteristicRing};
 use bf_bitslice::PackedGf2x8;
 
 #[test]
 fn calls_by_the_bound_at_a_packing(rt: HostRuntime) {
-    assert!(rt; nothing_is_neutral::<PackedGf2x8>());
-    assert!(rt; odd_integers_are_one::<PackedGf2x8>());
-    assert!(rt; even_integers_are_zero::<PackedGf2x8>());
-    assert!(rt; is_idempotent(PackedGf2x8::new(0b0110)));
+    assert!(rt; calls_hold(PackedGf2x8::new(0b0110), PackedGf2x8::new(0b1111_0000)));
 }
 
 #[test]
