@@ -1,4 +1,5 @@
 mod change_of_basis;
+mod fields;
 mod linear_map;
 mod mixed_operands;
 mod numbers;

@@ -1,9 +1,15 @@
 // The change of basis between the tower and `Poly64` and `Ghash128`, element by element and into vectors. The images of
 // the roots are those of the Rust crate p3-binary-field 0.8.0.
-use bf_base::Unsigned;
+use super::fields;
 use bf_base::traits::TowerLevel;
-use bf_element::{BinaryField8, BinaryField64, BinaryField128, Ghash128, Poly64};
+use bf_base::{LevelKernel, Unsigned};
+use bf_element::{
+    BinaryField8, BinaryField64, BinaryField128, Element, Ghash128, HasPacking, Poly64,
+};
+use bf_poly::{GhashKernel, Poly64Kernel};
+use bf_tower::{Bits64, Bits128, Level, Tower};
 use linked_list_allocator::LocalHeap;
+use std::alloc::AllocError;
 use std::test::Fail;
 
 /// An element of the tower, and its image.
@@ -33,7 +39,7 @@ fn element<F: TowerLevel>(number: u128) -> F {
 }
 
 /// Whether these are the images of the elements, place by place.
-pub(crate) fn are_images<P: TowerLevel + From<T>, T: TowerLevel>(
+pub(crate) fn are_images<P: PartialEq + From<T> + Copy, T: Copy>(
     images: &[P],
     elements: &[T],
 ) -> bool {
@@ -86,29 +92,70 @@ fn changes_basis<P: TowerLevel + From<T>, T: TowerLevel + From<P>>(
     images_are::<P, T>(images) && squares_agree::<P, T>(samples) && cantor_vectors_agree::<P, T>()
 }
 
+/// The same for the field of the kernel `K`, whose level of the tower is `L`.
+fn field_changes_basis<R, L, K>(images: &[[u128; 2]], samples: &[u128]) -> bool
+where
+    R: Unsigned,
+    L: Level<R>,
+    K: LevelKernel<R> + HasPacking<R>,
+    Element<R, K>: From<Element<R, Tower<L>>>,
+    Element<R, Tower<L>>: From<Element<R, K>>,
+{
+    changes_basis::<Element<R, K>, Element<R, Tower<L>>>(images, samples)
+}
+
 #[test]
 fn elements_and_their_images(rt: HostRuntime) {
     assert!(rt;
-        changes_basis::<Poly64, BinaryField64>(&IMAGES_64, &SAMPLES_64)
-            && changes_basis::<Ghash128, BinaryField128>(&IMAGES_128, &SAMPLES_128)
+        field_changes_basis::<u64, Bits64, Poly64Kernel>(&IMAGES_64, &SAMPLES_64)
+            && field_changes_basis::<u128, Bits128, GhashKernel>(&IMAGES_128, &SAMPLES_128)
     );
 }
 
 // A narrow element is one of the level as wide as the field, with zeros above.
 #[test]
 fn images_of_eight_bits(rt: HostRuntime) {
-    let narrow = BinaryField8::from_repr(0xa7);
+    let narrow: BinaryField8 = fields::element(0xa7);
+    let wide_64: BinaryField64 = fields::element(0xa7);
+    let wide_128: BinaryField128 = fields::element(0xa7);
     assert!(rt;
-        Poly64::from(narrow) == Poly64::from(BinaryField64::from_repr(0xa7))
-            && Ghash128::from(narrow) == Ghash128::from(BinaryField128::from_repr(0xa7))
+        Poly64::from(narrow) == Poly64::from(wide_64)
+            && Ghash128::from(narrow) == Ghash128::from(wide_128)
     );
+}
+
+// Whether there is room for the images in the heap, and all are there.
+fn grants(
+    heap: &LocalHeap,
+    narrow: &[BinaryField64],
+    wide: &[BinaryField128],
+) -> Result<bool, AllocError> {
+    Ok(
+        Poly64::from_tower_vec(heap, narrow)?.len() == narrow.len()
+            && Ghash128::from_tower_vec(heap, wide)?.len() == wide.len(),
+    )
+}
+
+// Whether both heaps refuse the images exactly where there are more than two, and are as empty as before.
+fn refuses_three(
+    heaps: [&LocalHeap; 2],
+    narrow: &[BinaryField64],
+    wide: &[BinaryField128],
+) -> bool {
+    let [small, wider] = heaps;
+    let refused = Poly64::from_tower_vec(small, narrow).is_err();
+    let wide_refused = Ghash128::from_tower_vec(wider, wide).is_err();
+    refused == (narrow.len() > 2)
+        && wide_refused == refused
+        && small.used() == 0
+        && wider.used() == 0
 }
 
 // Each small heap has room for two images.
 #[test]
 fn vectors_of_images(rt: HostRuntime) -> Result<(), Fail> {
-    let narrow = [1 << 32, 0, u64::MAX].map(BinaryField64::from_repr);
-    let wide = [2, 0, u128::MAX].map(BinaryField128::from_repr);
+    let narrow: [BinaryField64; 3] = [1 << 32, 0, u64::MAX as u128].map(fields::element);
+    let wide: [BinaryField128; 3] = [2, 0, u128::MAX].map(fields::element);
     let polynomials = Poly64::from_tower_vec(rt.alloc(), &narrow)?;
     let hashes = Ghash128::from_tower_vec(rt.alloc(), &wide)?;
     assert!(rt;
@@ -118,16 +165,9 @@ fn vectors_of_images(rt: HostRuntime) -> Result<(), Fail> {
     let small = LocalHeap::new(rt.alloc(), 16)?;
     let wider = LocalHeap::new(rt.alloc(), 32)?;
     for len in 0..4usize {
-        let granted = Poly64::from_tower_vec(&large, &narrow[..len])?.len() == len
-            && Ghash128::from_tower_vec(&large, &wide[..len])?.len() == len;
-        let refused = Poly64::from_tower_vec(&small, &narrow[..len]).is_err();
-        let wide_refused = Ghash128::from_tower_vec(&wider, &wide[..len]).is_err();
         assert!(rt;
-            granted
-                && refused == (len > 2)
-                && wide_refused == refused
-                && small.used() == 0
-                && wider.used() == 0,
+            grants(&large, &narrow[..len], &wide[..len])?
+                && refuses_three([&small, &wider], &narrow[..len], &wide[..len]),
             "{len} elements"
         );
     }

@@ -1,14 +1,14 @@
 // Linear maps over slices, against sums of images bit by bit.
 use super::change_of_basis::are_images;
-use bf_base::traits::{Field, PrimeCharacteristicRing, TowerLevel};
+use super::fields::{element, generator, number_of};
 use bf_element::{BinaryField128, Ghash128, LEAST_TABLED};
-use std::alloc::{AllocError, Allocator};
+use std::alloc::{AllocError, Global};
 use std::test::Fail;
 
 // The powers of x + 1, each of which is another image.
 fn powers() -> [Ghash128; 128] {
-    let mut images = [Ghash128::ZERO; 128];
-    let mut power = Ghash128::ONE;
+    let mut images = [Ghash128::new(0); 128];
+    let mut power = Ghash128::new(1);
     for bit in 0..128 {
         images[bit] = power;
         power *= Ghash128::new(3);
@@ -18,26 +18,28 @@ fn powers() -> [Ghash128; 128] {
 
 // The images of the bits under the change of basis.
 fn images_of_bits() -> [Ghash128; 128] {
-    let mut images = [Ghash128::ZERO; 128];
-    let mut element = 1;
+    let mut images = [Ghash128::new(0); 128];
+    let mut number = 1;
     for bit in 0..128 {
-        images[bit] = Ghash128::from(BinaryField128::from_repr(element));
-        element <<= 1;
+        let element: BinaryField128 = element(number);
+        images[bit] = Ghash128::from(element);
+        number <<= 1;
     }
     images
 }
 
 // The elements of one bit, and then the powers of the generator, `len` together.
-fn elements<A: Allocator>(alloc: A, len: usize) -> Result<Vec<BinaryField128, A>, AllocError> {
+fn elements(alloc: Global, len: usize) -> Result<Vec<BinaryField128>, AllocError> {
     let mut elements = Vec::with_capacity(alloc, len)?;
     let mut bit: u128 = 1;
-    let mut power = BinaryField128::ONE;
+    let mut power: BinaryField128 = element(1);
+    let factor: BinaryField128 = generator();
     for _ in 0..len {
         if bit == 0 {
             elements.push(power)?;
-            power *= BinaryField128::GENERATOR;
+            power *= factor;
         } else {
-            elements.push(BinaryField128::from_repr(bit))?;
+            elements.push(element(bit))?;
             bit <<= 1;
         }
     }
@@ -46,8 +48,8 @@ fn elements<A: Allocator>(alloc: A, len: usize) -> Result<Vec<BinaryField128, A>
 
 // The sum of the images at the set bits of `element`.
 fn sum_of_images(images: &[Ghash128; 128], element: BinaryField128) -> Ghash128 {
-    let mut sum = Ghash128::ZERO;
-    let mut rest = element.to_repr();
+    let mut sum = Ghash128::new(0);
+    let mut rest = number_of(element);
     for image in images.iter() {
         if rest & 1 == 1 {
             sum += *image;
@@ -103,7 +105,7 @@ fn every_element_is_mapped(rt: HostRuntime) -> Result<(), Fail> {
     let images = powers();
     for len in [LEAST_TABLED, LEAST_TABLED + 1] {
         let input = elements(rt.alloc(), len)?;
-        let mut output = vec![in rt.alloc(); Ghash128::ZERO; input.len()]?;
+        let mut output = vec![in rt.alloc(); Ghash128::new(0); input.len()]?;
         let answer = Ghash128::try_apply_linear_map_into(
             &images,
             input.as_slice(),
@@ -120,7 +122,7 @@ fn every_element_is_mapped(rt: HostRuntime) -> Result<(), Fail> {
 #[test]
 fn the_change_of_basis_is_such_a_map(rt: HostRuntime) -> Result<(), Fail> {
     let input = elements(rt.alloc(), LEAST_TABLED)?;
-    let mut output = vec![in rt.alloc(); Ghash128::ZERO; input.len()]?;
+    let mut output = vec![in rt.alloc(); Ghash128::new(0); input.len()]?;
     let answer = Ghash128::try_apply_linear_map_into(
         &images_of_bits(),
         input.as_slice(),

@@ -1,7 +1,6 @@
 // The polynomial basis of 128 bits over plain numbers: the images of two roots both ways, and the slice forms against the scalar
 // ones at each place and length.
-use bf_base::traits::TowerLevel;
-use bf_element::BinaryField128;
+use super::fields::{element, number_of};
 use bf_poly_basis::{from_tower, from_tower_slice, mul, square, to_tower, to_tower_slice};
 
 /// An element of the tower, and its image.
@@ -17,11 +16,11 @@ static ELEMENTS: [u128; 5] = [2, 1 << 64, 0, u128::MAX, 1];
 /// Whether the first `length` values are the images of the elements, and the others the elements themselves.
 fn are_changed(values: &[u128; 5], length: usize) -> bool {
     for place in 0..5 {
-        let element = ELEMENTS[place];
+        let number = ELEMENTS[place];
         let wanted = if place < length {
-            from_tower(BinaryField128::from_repr(element))
+            from_tower(element(number))
         } else {
-            element
+            number
         };
         if values[place] != wanted {
             return false;
@@ -32,11 +31,8 @@ fn are_changed(values: &[u128; 5], length: usize) -> bool {
 
 #[test]
 fn the_roots_have_their_images(rt: HostRuntime) {
-    for &(element, image) in IMAGES.iter() {
-        assert!(rt;
-            from_tower(BinaryField128::from_repr(element)) == image
-                && to_tower(image).to_repr() == element
-        );
+    for &(number, image) in IMAGES.iter() {
+        assert!(rt; from_tower(element(number)) == image && number_of(to_tower(image)) == number);
     }
 }
 
