@@ -1,4 +1,5 @@
 mod calls;
+mod challengers;
 mod doubles;
 mod grinding;
 mod hashed;

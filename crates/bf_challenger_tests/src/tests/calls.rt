@@ -2,32 +2,37 @@
 ghost use Rattle.std.specs.Prelude.{◌≤◌, All, IfOk};
 ghost use Rattle.bf_challenger.specs.Calls.{MayCall};
 
+use super::challengers::{Hashed, element, hashed};
 use super::many_calls::CALLS;
-use bf_base::traits::TowerLevel;
-use bf_byte_challenger::{ChallengerError, HashChallenger, Sha256Hasher};
+use bf_byte_challenger::{ByteChallenger, ChallengerError};
 use bf_challenger::{BinaryChallenger, Call, Reply, run_calls};
 use bf_challenger_doubles::{Copies, Double, Seen};
-use bf_element::{BinaryField8, BinaryField32};
-use bf_transcript::Transcript;
-use std::alloc::{AllocError, Global};
+use bf_element::{BinaryField8, BinaryField32, Element};
+use bf_transcript::{ShortWord, Transcript, TranscriptKernel};
+use std::alloc::{AllocError, Allocator, Global};
 use std::cell::Cell;
 use std::test::Fail;
 
+/// What `run_calls` answers, at a kernel.
+pub(crate) fn run<R: ShortWord, K: TranscriptKernel<R>, Inner: ByteChallenger, A: Allocator>(
+    challenger: &mut BinaryChallenger<Element<R, K>, Inner>,
+    calls: &[Call<Element<R, K>>],
+    replies: &mut Vec<Reply<Element<R, K>>, A>,
+) -> Result<(), ChallengerError>
+    requires { All MayCall calls.now }
+{
+    run_calls(challenger, calls, replies)
+}
+
 fn bits_and_element(alloc: Global) -> bool {
-    let mut challenger: BinaryChallenger<BinaryField8, HashChallenger<Sha256Hasher>> =
-        BinaryChallenger::from_hasher(Vec::new(alloc), Sha256Hasher);
+    let mut challenger: Hashed<BinaryField8> = hashed(alloc);
     let mut replies = Vec::new(alloc);
-    run_calls(
+    run(
         &mut challenger,
         &[Call::SampleBits(12), Call::Sample],
         &mut replies,
     ) == Ok(())
-        && replies.as_slice()
-            == [
-                Reply::Bits(0x855),
-                Reply::Element(BinaryField8::from_repr(0x4c)),
-            ]
-            .as_slice()
+        && replies.as_slice() == [Reply::Bits(0x855), Reply::Element(element(0x4c))].as_slice()
 }
 
 // The call of a row.
@@ -35,7 +40,7 @@ fn call_of(row: &[u64; 4]) -> Call<BinaryField32>
     ensures { MayCall result }
 {
     let bits = (row[1] % 64) as usize;
-    let operand = BinaryField32::from_repr((row[2] % 0x1_0000_0000) as u32);
+    let operand = element((row[2] % 0x1_0000_0000) as u128);
     match row[0] {
         0 => Call::Observe(operand),
         1 => Call::Sample,
@@ -47,7 +52,7 @@ fn call_of(row: &[u64; 4]) -> Call<BinaryField32>
 fn reply_of(row: &[u64; 4]) -> Reply<BinaryField32> {
     match row[0] {
         0 => Reply::Done,
-        1 => Reply::Element(BinaryField32::from_repr((row[3] % 0x1_0000_0000) as u32)),
+        1 => Reply::Element(element((row[3] % 0x1_0000_0000) as u128)),
         2 => Reply::Bits(row[3] as usize),
         _ => Reply::Passed(row[3] == 1),
     }
@@ -69,10 +74,9 @@ pub(crate) fn replies_are(replies: &[Reply<BinaryField32>]) -> bool {
 fn runs(alloc: Global, calls: &[Call<BinaryField32>]) -> bool
     requires { All MayCall calls.now }
 {
-    let mut challenger: BinaryChallenger<BinaryField32, HashChallenger<Sha256Hasher>> =
-        BinaryChallenger::from_hasher(Vec::new(alloc), Sha256Hasher);
+    let mut challenger: Hashed<BinaryField32> = hashed(alloc);
     let mut replies = Vec::new(alloc);
-    run_calls(&mut challenger, calls, &mut replies).is_ok()
+    run(&mut challenger, calls, &mut replies).is_ok()
         && !challenger.failed()
         && replies.len() == calls.len()
         && replies_are(replies.as_slice())
@@ -111,11 +115,11 @@ fn refused_call(alloc: Global) -> bool {
         Double::new(&seen, 5, 6, Copies::Refused),
     );
     let mut replies = Vec::new(alloc);
-    let operand = BinaryField32::from_repr(0x0403_0201);
+    let operand = element(0x0403_0201);
     let calls = [Call::Observe(operand), Call::Sample, Call::SampleBits(3)];
-    let answer = run_calls(&mut challenger, &calls, &mut replies);
+    let answer = run(&mut challenger, &calls, &mut replies);
     let made = replies.as_slice() == [Reply::Done].as_slice();
-    let after = run_calls(&mut challenger, &[], &mut replies);
+    let after = run(&mut challenger, &[], &mut replies);
     answer == Err(ChallengerError::Memory)
         && made
         && after == Err(ChallengerError::Failed)

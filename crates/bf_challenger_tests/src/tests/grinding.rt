@@ -1,15 +1,19 @@
 // Searches for witnesses: over SHA-256, over doubles that sample one byte always or refuse, and the texts of the errors.
+use super::challengers::{
+    Hashed, check_witness, element, grind, grind_fails, grinds, hashed, observe, sample_bits,
+    samples,
+};
 use super::scripts::SCRIPTS;
 use bf_base::Unsigned;
-use bf_base::traits::{Field, PrimeCharacteristicRing, TowerLevel};
-use bf_byte_challenger::{ChallengerError, HashChallenger, Sha256Hasher};
-use bf_challenger::{BinaryChallenger, CanSample, CanSampleBits, GrindError, GrindingChallenger};
+use bf_base::traits::TowerLevel;
+use bf_byte_challenger::{ByteChallenger, ChallengerError, Sha256Hasher};
+use bf_challenger::{BinaryChallenger, GrindError};
 use bf_challenger_doubles::{Copies, Double, Seen};
-use bf_element::{
-    BinaryField8, BinaryField16, BinaryField32, BinaryField64, BinaryField128, Poly64,
-};
-use bf_transcript::{ByteLevel, CanObserve, Transcript};
-use std::alloc::{Allocator, Global};
+use bf_element::{BinaryField16, Element};
+use bf_poly::Poly64Kernel;
+use bf_tower::{Bits8, Bits16, Bits32, Bits64, Bits128, Tower};
+use bf_transcript::{ByteLevel, ShortWord, Transcript, TranscriptKernel};
+use std::alloc::{AllocError, Global};
 use std::cell::Cell;
 use std::test::Fail;
 
@@ -34,21 +38,23 @@ static LEAST_WITNESSES: [(u64, u16, u16); 16] = [
     (0x8c5c_906b_1aeb_85f8, 0x008a, 0xa993),
 ];
 
-fn finds_least(alloc: Global, state: u64, witness: u16, next: u16) -> bool {
+fn finds_least<R: ShortWord, K: TranscriptKernel<R>>(
+    alloc: Global,
+    state: u64,
+    witness: u128,
+    next: u128,
+) -> bool {
     let Ok(state) = Vec::from_slice(alloc, &state.to_le_bytes()) else {
         return false;
     };
-    let mut challenger: BinaryChallenger<BinaryField16, HashChallenger<Sha256Hasher>> =
-        BinaryChallenger::from_hasher(state, Sha256Hasher);
-    let found = challenger.grind(8);
-    let sampled: Result<BinaryField16, ChallengerError> = challenger.sample();
-    found == Ok(BinaryField16::from_repr(witness)) && sampled == Ok(BinaryField16::from_repr(next))
+    let mut challenger: Hashed<Element<R, K>> = BinaryChallenger::from_hasher(state, Sha256Hasher);
+    grinds(&mut challenger, 8, witness) && samples(&mut challenger, next)
 }
 
 fn finds_each_least(alloc: Global) -> bool {
     for row in 0..16 {
         let (state, witness, next) = LEAST_WITNESSES[row];
-        if !finds_least(alloc, state, witness, next) {
+        if !finds_least::<u16, Tower<Bits16>>(alloc, state, witness as u128, next as u128) {
             return false;
         }
     }
@@ -60,43 +66,43 @@ fn least_witnesses(rt: HostRuntime) {
     assert!(rt; finds_each_least(rt.alloc()));
 }
 
+// Whether `sample_element` answers the element of this representation.
+fn samples_element<F: ByteLevel, Inner: ByteChallenger>(
+    challenger: &mut BinaryChallenger<F, Inner>,
+    wanted: u128,
+) -> bool {
+    match challenger.sample_element() {
+        Ok(element) => element.to_repr().to_u128() == wanted,
+        Err(_) => false,
+    }
+}
+
 // Whether the call of a row has the row's answer.
-fn answers<F: ByteLevel>(
-    challenger: &mut BinaryChallenger<F, HashChallenger<Sha256Hasher>>,
+fn answers<R: ShortWord, K: TranscriptKernel<R>, Inner: ByteChallenger>(
+    challenger: &mut BinaryChallenger<Element<R, K>, Inner>,
     row: &[u128; 4],
 ) -> bool {
     let bits = (row[1] % 64) as usize;
-    let operand = F::from_repr(F::Repr::of_u128(row[2]));
+    let operand = element(row[2]);
     match row[0] {
-        0 => challenger.observe(operand).is_ok(),
-        1 => {
-            match challenger.sample_element() {
-                Ok(element) => element.to_repr().to_u128() == row[3],
-                Err(_) => false,
-            }
-        }
+        0 => observe(challenger, operand).is_ok(),
+        1 => samples_element(challenger, row[3]),
         2 => {
-            match challenger.sample_bits(bits) {
+            match sample_bits(challenger, bits) {
                 Ok(number) => number as u128 == row[3],
                 Err(_) => false,
             }
         }
-        3 => challenger.check_witness(bits, operand) == Ok(row[3] == 1),
-        _ => {
-            if bits > 0 && (bits + 8 > F::bits() || bits > 56) {
-                return false;
-            }
-            match challenger.grind(bits) {
-                Ok(element) => element.to_repr().to_u128() == row[3],
-                Err(_) => false,
-            }
-        }
+        3 => check_witness(challenger, bits, operand) == Ok(row[3] == 1),
+        _ => grinds(challenger, bits, row[3]),
     }
 }
 
-fn answers_script<F: ByteLevel>(alloc: Global, script: &[[u128; 4]]) -> bool {
-    let mut challenger: BinaryChallenger<F, HashChallenger<Sha256Hasher>> =
-        BinaryChallenger::from_hasher(Vec::new(alloc), Sha256Hasher);
+fn answers_script<R: ShortWord, K: TranscriptKernel<R>>(
+    alloc: Global,
+    script: &[[u128; 4]],
+) -> bool {
+    let mut challenger: Hashed<Element<R, K>> = hashed(alloc);
     for row in 0..script.len() {
         if !answers(&mut challenger, &script[row]) {
             return false;
@@ -108,20 +114,19 @@ fn answers_script<F: ByteLevel>(alloc: Global, script: &[[u128; 4]]) -> bool {
 #[test]
 fn scripts_of_calls(rt: HostRuntime) {
     assert!(rt;
-        answers_script::<BinaryField8>(rt.alloc(), SCRIPTS[0])
-            && answers_script::<BinaryField16>(rt.alloc(), SCRIPTS[1])
-            && answers_script::<BinaryField32>(rt.alloc(), SCRIPTS[2])
-            && answers_script::<BinaryField64>(rt.alloc(), SCRIPTS[3])
-            && answers_script::<BinaryField128>(rt.alloc(), SCRIPTS[4])
-            && answers_script::<Poly64>(rt.alloc(), SCRIPTS[5])
+        answers_script::<u8, Tower<Bits8>>(rt.alloc(), SCRIPTS[0])
+            && answers_script::<u16, Tower<Bits16>>(rt.alloc(), SCRIPTS[1])
+            && answers_script::<u32, Tower<Bits32>>(rt.alloc(), SCRIPTS[2])
+            && answers_script::<u64, Tower<Bits64>>(rt.alloc(), SCRIPTS[3])
+            && answers_script::<u128, Tower<Bits128>>(rt.alloc(), SCRIPTS[4])
+            && answers_script::<u64, Poly64Kernel>(rt.alloc(), SCRIPTS[5])
     );
 }
 
 type OverDouble<'a> = BinaryChallenger<BinaryField16, Double<'a>>;
 
-fn samples(challenger: &mut OverDouble<'_>, wanted: u16) -> bool {
-    let sampled: Result<BinaryField16, ChallengerError> = challenger.sample();
-    !challenger.failed() && sampled == Ok(BinaryField16::from_repr(wanted))
+fn goes_on_with(challenger: &mut OverDouble<'_>, wanted: u128) -> bool {
+    !challenger.failed() && samples(challenger, wanted)
 }
 
 // Whether a search whose copy is refused, or refuses a byte call, ends without memory after so many byte calls of the copy. None
@@ -130,9 +135,9 @@ fn search_is_refused(copies: Copies, observed: u32, sampled: u32) -> bool {
     let seen = Cell::new(Seen::default());
     let double = Double::new(&seen, 7, 2, copies);
     let mut challenger: OverDouble<'_> = BinaryChallenger::new(double);
-    challenger.grind(8) == Err(GrindError::Memory)
+    grind_fails(&mut challenger, 8, GrindError::Memory)
         && seen.get() == Seen::new(observed, sampled, 0)
-        && samples(&mut challenger, 0x0707)
+        && goes_on_with(&mut challenger, 0x0707)
 }
 
 // Whether a search over a double that refuses nothing has this answer after these byte calls, and the challenger then samples
@@ -141,11 +146,13 @@ fn search_gives(
     byte: u8,
     answer: Result<BinaryField16, GrindError>,
     calls: Seen,
-    next: u16,
+    next: u128,
 ) -> bool {
     let seen = Cell::new(Seen::default());
     let mut challenger: OverDouble<'_> = BinaryChallenger::new(Double::constant(&seen, byte));
-    challenger.grind(8) == answer && seen.get() == calls && samples(&mut challenger, next)
+    grind(&mut challenger, 8) == Some(answer)
+        && seen.get() == calls
+        && goes_on_with(&mut challenger, next)
 }
 
 // All 65,536 elements are tried, each by two bytes and eight samples; the last four are 0xfffc to 0xffff.
@@ -156,7 +163,7 @@ fn no_witness() -> bool {
 
 // The first candidate passes, and no other is tried.
 fn first_candidate() -> bool {
-    search_gives(0, Ok(BinaryField16::ZERO), Seen::new(2, 8, 0), 0)
+    search_gives(0, Ok(element(0)), Seen::new(2, 8, 0), 0)
 }
 
 // For no bits nothing is asked of the challenger, not a copy either.
@@ -164,9 +171,7 @@ fn no_bits() -> bool {
     let seen = Cell::new(Seen::default());
     let double = Double::new(&seen, 255, 0, Copies::Refused);
     let mut challenger: OverDouble<'_> = BinaryChallenger::new(double);
-    challenger.grind(0) == Ok(BinaryField16::ZERO)
-        && seen.get() == Seen::new(0, 0, 0)
-        && !challenger.failed()
+    grinds(&mut challenger, 0, 0) && seen.get() == Seen::new(0, 0, 0) && !challenger.failed()
 }
 
 #[test]
@@ -183,7 +188,7 @@ fn searches_over_doubles(rt: HostRuntime) {
 }
 
 /// Whether `{}` prints `text` of the error.
-fn reads<A: Allocator>(alloc: A, error: GrindError, text: &str) -> Result<bool, Fail> {
+fn reads(alloc: Global, error: GrindError, text: &str) -> Result<bool, AllocError> {
     let printed = format!(in alloc; "{error}")?;
     Ok(printed.as_str() == text)
 }

@@ -1,106 +1,152 @@
 // Challengers over SHA-256, from an empty state. The digest of no byte ends in .. 4c a4 95 99 1b 78 52 b8 55.
-use bf_base::traits::TowerLevel;
-use bf_byte_challenger::{ChallengerError, HashChallenger, Sha256Hasher};
-use bf_challenger::{
-    BinaryChallenger, CanSample, CanSampleBits, CanSampleUniformBits, FieldChallenger,
-    GrindingChallenger,
+ghost use Rattle.std.specs.Prelude.{◌<◌};
+
+use super::challengers::{
+    Hashed, check_witness, element, hashed, number_of, observe, sample, sample_bits, samples,
 };
-use bf_element::{BinaryField8, BinaryField16, Poly64, Poly192};
-use bf_transcript::CanObserve;
+use bf_base::Word;
+use bf_byte_challenger::ChallengerError;
+use bf_challenger::{CanSample, CanSampleUniformBits, FieldChallenger};
+use bf_element::{
+    BinaryField8, BinaryField16, Coefficients, CubicKernel, Element, Poly64, Poly192,
+};
+use bf_poly::Poly64Kernel;
+use bf_space::SpaceOver;
+use bf_transcript::{ByteLevel, ShortWord, TranscriptKernel};
 use std::alloc::Global;
 use std::test::Fail;
 
-type Over8 = BinaryChallenger<BinaryField8, HashChallenger<Sha256Hasher>>;
-
-type Over16 = BinaryChallenger<BinaryField16, HashChallenger<Sha256Hasher>>;
-
-type Over64 = BinaryChallenger<Poly64, HashChallenger<Sha256Hasher>>;
-
-fn over_8(alloc: Global) -> Over8 {
-    BinaryChallenger::from_hasher(Vec::new(alloc), Sha256Hasher)
+fn over_8(alloc: Global) -> Hashed<BinaryField8> {
+    hashed(alloc)
 }
 
-fn samples_8(challenger: &mut Over8, wanted: u8) -> Result<bool, ChallengerError> {
-    let element: BinaryField8 = challenger.sample()?;
-    Ok(element.to_repr() == wanted)
+// What `sample` of an element of a space over the field answers.
+fn sample_in_space<R, K, S, J>(
+    challenger: &mut Hashed<Element<S, J>>,
+) -> Result<Element<R, K>, ChallengerError>
+where
+    R: Word,
+    K: SpaceOver<R, S, J>,
+    S: ShortWord,
+    J: TranscriptKernel<S>,
+{
+    challenger.sample()
 }
 
 fn sampled_first(alloc: Global) -> Result<bool, ChallengerError> {
-    let mut challenger: Over16 = BinaryChallenger::from_hasher(Vec::new(alloc), Sha256Hasher);
-    let element: BinaryField16 = challenger.sample()?;
-    let mut wide: Over64 = BinaryChallenger::from_hasher(Vec::new(alloc), Sha256Hasher);
-    let cubic: Poly192 = wide.sample()?;
+    let mut over_16: Hashed<BinaryField16> = hashed(alloc);
+    let mut over_64: Hashed<Poly64> = hashed(alloc);
+    let cubic: Poly192 = sample_in_space(&mut over_64)?;
+    let wanted = [
+        0xa495_991b_7852_b855,
+        0x27ae_41e4_649b_934c,
+        0x9afb_f4c8_996f_b924,
+    ];
     Ok(
-        samples_8(&mut over_8(alloc), 0x55)?
-            && element.to_repr() == 0xb855
-            && cubic
-                == Poly192::new([
-                    Poly64::new(0xa495_991b_7852_b855),
-                    Poly64::new(0x27ae_41e4_649b_934c),
-                    Poly64::new(0x9afb_f4c8_996f_b924),
-                ]),
+        samples(&mut over_8(alloc), 0x55)
+            && samples(&mut over_16, 0xb855)
+            && cubic == Poly192::new(wanted.map(Poly64::new)),
     )
+}
+
+// What `sample_uniform_bits` answers.
+fn sample_uniform_bits<F: ByteLevel>(
+    challenger: &mut Hashed<F>,
+    bits: usize,
+) -> Result<usize, ChallengerError>
+    requires { bits < 64 }
+{
+    challenger.sample_uniform_bits(bits)
+}
+
+/// The same at a kernel.
+fn sample_uniform_bits_at<R: ShortWord, K: TranscriptKernel<R>>(
+    challenger: &mut Hashed<Element<R, K>>,
+    bits: usize,
+) -> Result<usize, ChallengerError>
+    requires { bits < 64 }
+{
+    sample_uniform_bits(challenger, bits)
 }
 
 // For no bits too, eight bytes are sampled.
 fn bits_sampled(alloc: Global) -> Result<bool, ChallengerError> {
     let mut none = over_8(alloc);
-    let zero = none.sample_bits(0)?;
+    let zero = sample_bits(&mut none, 0)?;
     let mut uniform = over_8(alloc);
     Ok(
-        over_8(alloc).sample_bits(12)? == 0x855
-            && uniform.sample_uniform_bits(12)? == 0x855
+        sample_bits(&mut over_8(alloc), 12)? == 0x855
+            && sample_uniform_bits_at(&mut uniform, 12)? == 0x855
             && zero == 0
-            && samples_8(&mut none, 0x4c)?
-            && samples_8(&mut uniform, 0x4c)?,
+            && samples(&mut none, 0x4c)
+            && samples(&mut uniform, 0x4c),
     )
 }
 
 fn samples_after_observing(alloc: Global) -> Result<bool, ChallengerError> {
     let mut challenger = over_8(alloc);
     for byte in [0x61, 0x62, 0x63] {
-        challenger.observe(BinaryField8::from_repr(byte))?;
+        observe(&mut challenger, element(byte))?;
     }
-    Ok(samples_8(&mut challenger, 0xad)? && samples_8(&mut challenger, 0x15)?)
+    Ok(samples(&mut challenger, 0xad) && samples(&mut challenger, 0x15))
 }
 
-fn copies_sample_alike(alloc: Global) -> Result<bool, ChallengerError> {
+fn copies_sample_alike(alloc: Global) -> bool {
     let mut challenger = over_8(alloc);
     match challenger.try_clone() {
-        Ok(mut copy) => Ok(samples_8(&mut copy, 0x55)? && samples_8(&mut challenger, 0x55)?),
-        Err(_) => Ok(false),
+        Ok(mut copy) => samples(&mut copy, 0x55) && samples(&mut challenger, 0x55),
+        Err(_) => false,
     }
 }
 
 // A check of no bits reads nothing; one of eight bits is an observed element and eight samples.
 fn witnesses_checked(alloc: Global) -> Result<bool, ChallengerError> {
     let mut challenger = over_8(alloc);
-    let none = challenger.check_witness(0, BinaryField8::from_repr(7))?;
+    let none = check_witness(&mut challenger, 0, element(7))?;
     let mut other = over_8(alloc);
-    other.observe(BinaryField8::from_repr(7))?;
-    let low = other.sample_bits(8)?;
+    observe(&mut other, element(7))?;
+    let low = sample_bits(&mut other, 8)?;
     let mut third = over_8(alloc);
-    let some = third.check_witness(8, BinaryField8::from_repr(7))?;
-    let next: BinaryField8 = other.sample()?;
+    let some = check_witness(&mut third, 8, element(7))?;
+    let next = sample(&mut other)?;
     Ok(
-        none && samples_8(&mut challenger, 0x55)?
+        none && samples(&mut challenger, 0x55)
             && some == (low == 0)
-            && samples_8(&mut third, next.to_repr())?,
+            && samples(&mut third, number_of(next)),
     )
+}
+
+// Whether an element of a space is observed as its coefficients, which have these representations, and sampled as as many.
+fn is_taken_by_coefficients<R, K, S, J>(
+    alloc: Global,
+    vector: Element<R, K>,
+    coefficients: &[u128],
+) -> Result<bool, ChallengerError>
+where
+    R: Word,
+    K: SpaceOver<R, S, J>,
+    S: ShortWord,
+    J: TranscriptKernel<S>,
+{
+    let mut whole: Hashed<Element<S, J>> = hashed(alloc);
+    whole.observe_algebra_element(vector)?;
+    let mut parts: Hashed<Element<S, J>> = hashed(alloc);
+    for coefficient in coefficients {
+        observe(&mut parts, element(*coefficient))?;
+    }
+    let sampled: Element<R, K> = whole.sample_algebra_element()?;
+    let wanted: Element<R, K> = sample_in_space(&mut parts)?;
+    Ok(sampled == wanted)
 }
 
 // An element of the cubic extension is observed as its three coefficients, and sampled as three.
 fn algebra_elements(alloc: Global) -> Result<bool, ChallengerError> {
-    let element = Poly192::new([Poly64::new(1), Poly64::new(2), Poly64::new(3)]);
-    let mut whole: Over64 = BinaryChallenger::from_hasher(Vec::new(alloc), Sha256Hasher);
-    whole.observe_algebra_element(element)?;
-    let mut parts: Over64 = BinaryChallenger::from_hasher(Vec::new(alloc), Sha256Hasher);
-    for word in [1, 2, 3] {
-        parts.observe(Poly64::new(word))?;
-    }
-    let sampled: Poly192 = whole.sample_algebra_element()?;
-    let wanted: Poly192 = parts.sample()?;
-    Ok(sampled == wanted)
+    let vector = Poly192::new([Poly64::new(1), Poly64::new(2), Poly64::new(3)]);
+    is_taken_by_coefficients::<Coefficients, CubicKernel, u64, Poly64Kernel>(
+        alloc,
+        vector,
+        &[1, 2, 3],
+    )
 }
 
 #[test]
@@ -109,7 +155,7 @@ fn answers_over_sha256(rt: HostRuntime) -> Result<(), Fail> {
         sampled_first(rt.alloc()) == Ok(true)
             && bits_sampled(rt.alloc()) == Ok(true)
             && samples_after_observing(rt.alloc()) == Ok(true)
-            && copies_sample_alike(rt.alloc()) == Ok(true)
+            && copies_sample_alike(rt.alloc())
             && witnesses_checked(rt.alloc()) == Ok(true)
             && algebra_elements(rt.alloc()) == Ok(true)
     );

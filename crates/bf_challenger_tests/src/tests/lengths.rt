@@ -1,10 +1,13 @@
 // Seeds, texts and initial states of 0 to 257 bytes, with ample memory.
+use super::challengers::{Hashed, sample};
+use super::texts::encode;
 use bf_base::Unsigned;
 use bf_base::traits::TowerLevel;
-use bf_byte_challenger::{ChallengerError, HashChallenger, Sha256Hasher};
-use bf_challenger::{BinaryChallenger, CanSample};
-use bf_element::{BinaryField8, BinaryField16, BinaryField32, BinaryField128};
-use bf_transcript::{Recorder, Transcript, TranscriptField};
+use bf_byte_challenger::Sha256Hasher;
+use bf_challenger::BinaryChallenger;
+use bf_element::{BinaryField32, Element};
+use bf_tower::{Bits8, Bits16, Bits32, Bits128, Tower};
+use bf_transcript::{Recorder, ShortWord, Transcript, TranscriptField, TranscriptKernel};
 use std::alloc::{AllocError, Global};
 use std::test::Fail;
 
@@ -52,12 +55,17 @@ fn seed_is_observed<F: TranscriptField>(alloc: Global, seed: &[u8]) -> bool {
     place >= header && place - header >= seed.len() && place - header - seed.len() < size
 }
 
+/// The same at a kernel.
+fn seed_is_observed_at<R: ShortWord, K: TranscriptKernel<R>>(alloc: Global, seed: &[u8]) -> bool {
+    seed_is_observed::<Element<R, K>>(alloc, seed)
+}
+
 fn seeds_of_all_lengths(alloc: Global) -> Result<bool, AllocError> {
     for len in 0..258 {
         let seed = some_bytes(alloc, len)?;
-        if !seed_is_observed::<BinaryField8>(alloc, seed.as_slice())
-            || !seed_is_observed::<BinaryField32>(alloc, seed.as_slice())
-            || !seed_is_observed::<BinaryField128>(alloc, seed.as_slice())
+        if !seed_is_observed_at::<u8, Tower<Bits8>>(alloc, seed.as_slice())
+            || !seed_is_observed_at::<u32, Tower<Bits32>>(alloc, seed.as_slice())
+            || !seed_is_observed_at::<u128, Tower<Bits128>>(alloc, seed.as_slice())
         {
             return Ok(false);
         }
@@ -75,7 +83,7 @@ fn seeds(rt: HostRuntime) -> Result<(), Fail> {
 fn texts_of_all_lengths(alloc: Global) -> Result<bool, AllocError> {
     let mut out = Vec::new(alloc);
     for number in 0..257u16 {
-        BinaryField16::from_repr(number).encode(&mut out)?;
+        encode::<u16, Tower<Bits16>, Global>(number as u128, &mut out)?;
         let len = 2 * (number as usize + 1);
         let bytes = number.to_be_bytes();
         if out.len() != len || out[len - 2] != bytes[0] || out[len - 1] != bytes[1] {
@@ -86,12 +94,13 @@ fn texts_of_all_lengths(alloc: Global) -> Result<bool, AllocError> {
 }
 
 fn samples_alike(alloc: Global, len: usize) -> Result<bool, AllocError> {
-    let mut challenger: BinaryChallenger<BinaryField32, HashChallenger<Sha256Hasher>> =
-        BinaryChallenger::from_hasher(some_bytes(alloc, len)?, Sha256Hasher);
+    let mut challenger: Hashed<BinaryField32> = BinaryChallenger::from_hasher(
+        some_bytes(alloc, len)?,
+        Sha256Hasher,
+    );
     let mut copy = challenger.try_clone()?;
-    let first: Result<BinaryField32, ChallengerError> = challenger.sample();
-    let second: Result<BinaryField32, ChallengerError> = copy.sample();
-    Ok(first.is_ok() && first == second)
+    let first = sample(&mut challenger);
+    Ok(first.is_ok() && first == sample(&mut copy))
 }
 
 fn copies_of_all_lengths(alloc: Global) -> Result<bool, AllocError> {

@@ -2,25 +2,21 @@
 ghost use Rattle.std.specs.Prelude.{All};
 ghost use Rattle.bf_challenger.specs.Calls.{MayCall};
 
-use super::calls::{calls_of_rows, replies_are};
-use bf_base::traits::TowerLevel;
+use super::calls::{calls_of_rows, replies_are, run};
+use super::challengers::{Hashed, element, grind_fails, number_of, sample};
+use super::texts::{encode, observe_seed};
 use bf_byte_challenger::{ChallengerError, HashChallenger, Sha256Hasher};
-use bf_challenger::{
-    BinaryChallenger, Call, CanSample, GrindError, GrindingChallenger, Reply, run_calls,
-};
-use bf_element::{BinaryField8, BinaryField16, BinaryField32, BinaryField128};
-use bf_transcript::{CanObserve, Recorder, Transcript, TranscriptField};
+use bf_challenger::{BinaryChallenger, Call, GrindError, Reply};
+use bf_element::{BinaryField8, BinaryField16, BinaryField32};
+use bf_tower::{Bits128, Tower};
+use bf_transcript::{CanObserve, Recorder, Transcript};
 use linked_list_allocator::LocalHeap;
 use std::alloc::{AllocError, Global};
 use std::test::Fail;
 
-// A recorder in a full heap keeps what it has, a beginning of the seed's elements, and fails from then on.
-fn recorder_keeps_its_list(heap: &LocalHeap) -> bool {
-    let seed = [9; 200];
-    let mut recorder = Recorder::new(heap);
-    let answer = BinaryField8::observe_seed(&mut recorder, &seed);
-    let kept = recorder.items().len();
-    for place in 0..kept {
+// Whether the elements begin those of a seed of 200 bytes, each of which is 9.
+fn begins_seed(elements: &[BinaryField8]) -> bool {
+    for place in 0..elements.len() {
         let wanted = if place == 0 {
             200
         } else if place < 8 {
@@ -28,25 +24,34 @@ fn recorder_keeps_its_list(heap: &LocalHeap) -> bool {
         } else {
             9
         };
-        if recorder.items()[place].to_repr() != wanted {
+        if number_of(elements[place]) != wanted {
             return false;
         }
     }
-    answer == Err(ChallengerError::Memory)
+    true
+}
+
+// A recorder in a full heap keeps what it has, a beginning of the seed's elements, and fails from then on.
+fn recorder_keeps_its_list(heap: &LocalHeap) -> bool {
+    let seed = [9; 200];
+    let mut recorder: Recorder<BinaryField8, &LocalHeap> = Recorder::new(heap);
+    let answer = observe_seed(&mut recorder, &seed);
+    let kept = recorder.items().len();
+    begins_seed(recorder.items())
+        && answer == Err(ChallengerError::Memory)
         && recorder.failed()
         && kept < 208
-        && recorder.observe(BinaryField8::from_repr(1)) == Err(ChallengerError::Failed)
-        && BinaryField8::observe_seed(&mut recorder, &[]) == Err(ChallengerError::Failed)
+        && recorder.observe(element(1)) == Err(ChallengerError::Failed)
+        && observe_seed(&mut recorder, &[]) == Err(ChallengerError::Failed)
         && recorder.items().len() == kept
 }
 
 // Elements are appended while there is room; the first that is refused leaves all as it was.
 fn encode_keeps_its_bytes(heap: &LocalHeap) -> Result<bool, AllocError> {
     let mut out = Vec::from_slice(heap, &[1, 2, 3])?;
-    let element = BinaryField128::from_repr(7);
     for _ in 0..64 {
         let before = out.len();
-        if element.encode(&mut out).is_err() {
+        if encode::<u128, Tower<Bits128>, &LocalHeap>(7, &mut out).is_err() {
             return Ok(out.len() == before && before >= 3 && out[2] == 3);
         }
         if out.len() != before + 16 {
@@ -59,14 +64,15 @@ fn encode_keeps_its_bytes(heap: &LocalHeap) -> Result<bool, AllocError> {
 // There is room for the challenger and for no copy of it. It then samples as one that did not search.
 fn search_keeps_the_challenger(alloc: Global, heap: &LocalHeap) -> Result<bool, AllocError> {
     let state = [5; 100];
-    let mut model: BinaryChallenger<BinaryField16, HashChallenger<Sha256Hasher>> =
-        BinaryChallenger::from_hasher(Vec::from_slice(alloc, &state)?, Sha256Hasher);
+    let mut model: Hashed<BinaryField16> = BinaryChallenger::from_hasher(
+        Vec::from_slice(alloc, &state)?,
+        Sha256Hasher,
+    );
     let mut challenger: BinaryChallenger<BinaryField16, HashChallenger<Sha256Hasher, &LocalHeap>> =
         BinaryChallenger::from_hasher(Vec::from_slice(heap, &state)?, Sha256Hasher);
-    let answer = challenger.grind(8);
-    let wanted: Result<BinaryField16, ChallengerError> = model.sample();
-    let sampled: Result<BinaryField16, ChallengerError> = challenger.sample();
-    Ok(answer == Err(GrindError::Memory) && wanted.is_ok() && sampled == wanted)
+    let is_refused = grind_fails(&mut challenger, 8, GrindError::Memory);
+    let wanted = sample(&mut model);
+    Ok(is_refused && wanted.is_ok() && sample(&mut challenger) == wanted)
 }
 
 /// How a list of calls ended.
@@ -89,7 +95,7 @@ fn run_in(heap: &LocalHeap, calls: &[Call<BinaryField32>]) -> Result<Ending, All
     let mut challenger: BinaryChallenger<BinaryField32, HashChallenger<Sha256Hasher, &LocalHeap>> =
         BinaryChallenger::from_hasher(Vec::new(heap), Sha256Hasher);
     let mut replies = Vec::from_slice(heap, &[Reply::Passed(true)])?;
-    let answer = run_calls(&mut challenger, calls, &mut replies);
+    let answer = run(&mut challenger, calls, &mut replies);
     let kept = replies.len();
     if kept == 0 || replies[0] != Reply::Passed(true) || !replies_are(&replies.as_slice()[1..]) {
         return Ok(Ending::Wrong);
@@ -98,7 +104,7 @@ fn run_in(heap: &LocalHeap, calls: &[Call<BinaryField32>]) -> Result<Ending, All
         let whole = kept == calls.len() + 1 && !challenger.failed();
         return Ok(if whole { Ending::Whole } else { Ending::Wrong });
     }
-    let after = run_calls(&mut challenger, &[], &mut replies);
+    let after = run(&mut challenger, &[], &mut replies);
     let fails = answer == Err(ChallengerError::Memory)
         && challenger.failed()
         && after == Err(ChallengerError::Failed)

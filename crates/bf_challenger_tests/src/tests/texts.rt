@@ -1,13 +1,27 @@
 // Seeds as elements, elements as bytes, and tags. Expected values follow from the representations that stand beside them.
+use super::challengers::{element, number_of};
 use bf_base::Unsigned;
 use bf_base::traits::TowerLevel;
-use bf_element::{BinaryField8, BinaryField16, BinaryField128, Poly64};
-use bf_transcript::{Recorder, TranscriptError, TranscriptField, TypeTag};
-use std::alloc::{AllocError, Global};
+use bf_byte_challenger::ChallengerError;
+use bf_element::Element;
+use bf_poly::Poly64Kernel;
+use bf_tower::{Bits8, Bits16, Bits128, Tower};
+use bf_transcript::{
+    Recorder, ShortWord, TranscriptError, TranscriptField, TranscriptKernel, TypeTag,
+};
+use std::alloc::{AllocError, Allocator, Global};
 use std::test::Fail;
 
+/// What `observe_seed` answers.
+pub(crate) fn observe_seed<R: ShortWord, K: TranscriptKernel<R>, A: Allocator>(
+    recorder: &mut Recorder<Element<R, K>, A>,
+    seed: &[u8],
+) -> Result<(), ChallengerError> {
+    Element::observe_seed(recorder, seed)
+}
+
 // Whether the elements that are observed of the seed have these representations, in order.
-fn seed_is<F: TranscriptField>(alloc: Global, seed: &[u8], wanted: &[u128]) -> bool {
+fn elements_are<F: TranscriptField>(alloc: Global, seed: &[u8], wanted: &[u128]) -> bool {
     let mut recorder: Recorder<F> = Recorder::new(alloc);
     if F::observe_seed(&mut recorder, seed).is_err() || recorder.items().len() != wanted.len() {
         return false;
@@ -20,6 +34,15 @@ fn seed_is<F: TranscriptField>(alloc: Global, seed: &[u8], wanted: &[u128]) -> b
     true
 }
 
+/// The same at a kernel.
+fn seed_is<R: ShortWord, K: TranscriptKernel<R>>(
+    alloc: Global,
+    seed: &[u8],
+    wanted: &[u128],
+) -> bool {
+    elements_are::<Element<R, K>>(alloc, seed, wanted)
+}
+
 static TWENTY: [u8; 20] = [
     0, 1, 2, 3, 4, 5, 6, 7, 8, 9, 10, 11, 12, 13, 14, 15, 16, 17, 18, 19,
 ];
@@ -27,11 +50,11 @@ static TWENTY: [u8; 20] = [
 #[test]
 fn seeds_as_elements(rt: HostRuntime) {
     assert!(rt;
-        seed_is::<BinaryField8>(rt.alloc(), &[1, 2, 3], &[3, 0, 0, 0, 0, 0, 0, 0, 1, 2, 3])
-            && seed_is::<BinaryField8>(rt.alloc(), &[], &[0, 0, 0, 0, 0, 0, 0, 0])
-            && seed_is::<BinaryField16>(rt.alloc(), &[1], &[1, 0, 0, 0, 1])
-            && seed_is::<BinaryField16>(rt.alloc(), &[1, 0], &[2, 0, 0, 0, 1])
-            && seed_is::<BinaryField128>(
+        seed_is::<u8, Tower<Bits8>>(rt.alloc(), &[1, 2, 3], &[3, 0, 0, 0, 0, 0, 0, 0, 1, 2, 3])
+            && seed_is::<u8, Tower<Bits8>>(rt.alloc(), &[], &[0, 0, 0, 0, 0, 0, 0, 0])
+            && seed_is::<u16, Tower<Bits16>>(rt.alloc(), &[1], &[1, 0, 0, 0, 1])
+            && seed_is::<u16, Tower<Bits16>>(rt.alloc(), &[1, 0], &[2, 0, 0, 0, 1])
+            && seed_is::<u128, Tower<Bits128>>(
                 rt.alloc(),
                 &TWENTY,
                 &[20, 0x0f0e_0d0c_0b0a_0908_0706_0504_0302_0100, 0x1312_1110]
@@ -39,22 +62,38 @@ fn seeds_as_elements(rt: HostRuntime) {
     );
 }
 
+/// Appends the bytes of the element of this representation.
+pub(crate) fn encode<R: ShortWord, K: TranscriptKernel<R>, A: Allocator>(
+    number: u128,
+    out: &mut Vec<u8, A>,
+) -> Result<(), AllocError> {
+    element::<R, K>(number).encode(out)
+}
+
 fn encoded_is(alloc: Global) -> Result<bool, AllocError> {
     let mut out = Vec::from_slice(alloc, &[7])?;
-    BinaryField16::from_repr(0xa5c3).encode(&mut out)?;
-    BinaryField8::from_repr(9).encode(&mut out)?;
+    encode::<u16, Tower<Bits16>, Global>(0xa5c3, &mut out)?;
+    encode::<u8, Tower<Bits8>, Global>(9, &mut out)?;
     Ok(out.as_slice() == [7, 0xa5, 0xc3, 9].as_slice())
 }
 
+// The representation of the element whose bytes these are.
+fn decode<R: ShortWord, K: TranscriptKernel<R>>(bytes: &[u8]) -> Result<u128, TranscriptError> {
+    match Element::<R, K>::decode(bytes) {
+        Ok(element) => Ok(number_of(element)),
+        Err(error) => Err(error),
+    }
+}
+
 fn decoded_are() -> bool {
-    BinaryField16::decode(&[0xa5])
+    decode::<u16, Tower<Bits16>>(&[0xa5])
         == Err(TranscriptError::Short {
             needed: 2,
             found: 1,
         })
-        && BinaryField8::decode(&[0xa5, 9]) == Ok(BinaryField8::from_repr(0xa5))
-        && BinaryField16::decode(&[0xa5, 0xc3, 1]) == Ok(BinaryField16::from_repr(0xa5c3))
-        && Poly64::decode(&[0, 0, 0, 0, 0, 0, 2, 1]) == Ok(Poly64::from_repr(0x0201))
+        && decode::<u8, Tower<Bits8>>(&[0xa5, 9]) == Ok(0xa5)
+        && decode::<u16, Tower<Bits16>>(&[0xa5, 0xc3, 1]) == Ok(0xa5c3)
+        && decode::<u64, Poly64Kernel>(&[0, 0, 0, 0, 0, 0, 2, 1]) == Ok(0x0201)
 }
 
 fn too_few_bytes_are_refused() -> bool {
@@ -63,7 +102,7 @@ fn too_few_bytes_are_refused() -> bool {
             needed: 16,
             found: len,
         });
-        if BinaryField128::decode(&TWENTY[..len]) != wanted {
+        if decode::<u128, Tower<Bits128>>(&TWENTY[..len]) != wanted {
             return false;
         }
     }
@@ -76,14 +115,19 @@ fn elements_as_bytes(rt: HostRuntime) -> Result<(), Fail> {
     Ok(())
 }
 
+// The tag of an algebra over the field of a kernel.
+fn algebra_tag<R: ShortWord, K: TranscriptKernel<R>>(degree: usize, basis: [u8; 32]) -> TypeTag {
+    Element::<R, K>::algebra_tag(degree, basis)
+}
+
 fn tags_are() -> bool {
-    Poly64::algebra_tag(1, [0; 32])
+    algebra_tag::<u64, Poly64Kernel>(1, [0; 32])
         == TypeTag::BinaryPoly {
             bits: 64,
             degree: 1,
             basis: [0; 32],
         }
-        && BinaryField16::algebra_tag(3, [5; 32])
+        && algebra_tag::<u16, Tower<Bits16>>(3, [5; 32])
             == TypeTag::BinaryTower {
                 bits: 16,
                 degree: 3,
