@@ -6,5 +6,5 @@ fn main() {
         .expect("run.sh sets BF_FFI_FOLDER to the folder of libbf_ffi.a");
     println!("cargo::rerun-if-changed={folder}/libbf_ffi.a");
     println!("cargo::rustc-link-search=native={folder}");
-    println!("cargo::rustc-link-lib=static=bf_ffi");
+    println!("cargo::rustc-link-lib=static=binary_field_c");
 }

@@ -3,14 +3,14 @@
 # processor that the library is built for. See README.md.
 set -eu
 here=$(cd "$(dirname "$0")" && pwd)
-crate=$(cd "$here/../crates/bf_ffi" && pwd)
+crate=$(cd "$here/../crates/binary_field_c" && pwd)
 RT=${RT:-rt}
 
 mkdir -p "$here/target"
 log="$here/target/lib.log"
 if ! (cd "$crate" && "$RT" lib ${CPU:+--cpu "$CPU"}) > "$log" 2>&1; then
     tail -n 40 "$log" >&2
-    echo "run.sh: bf_ffi was not built; all of its output is in $log" >&2
+    echo "run.sh: binary_field_c was not built; all of its output is in $log" >&2
     exit 1
 fi
 

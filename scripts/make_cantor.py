@@ -1,5 +1,5 @@
 #!/usr/bin/env python3
-"""Writes the Cantor vectors, crates/bf_tables/src/cantor/literals.rt. With --check it compares instead.
+"""Writes the Cantor vectors, crates/word_tables/src/cantor/literals.rt. With --check it compares instead.
 
 The vector 0 is 1, and v^2 + v of each other vector v is the one before. Of the two solutions, which differ by 1, the
 even one is taken.
@@ -46,7 +46,7 @@ def main():
     head = "// The Cantor vectors. Written by scripts/make_cantor.py; do not edit.\n"
     comment = "The Cantor vector of the place."
     arrays = [literals.array(comment, "VECTORS", 128, vectors)]
-    literals.write("bf_tables/src/cantor/literals.rt", head, arrays)
+    literals.write("word_tables/src/cantor/literals.rt", head, arrays)
 
 
 if __name__ == "__main__":

@@ -1,5 +1,5 @@
 #!/usr/bin/env python3
-"""Writes the byte tables of squares and of square roots, crates/bf_tables/src/tables/linear.rt.
+"""Writes the byte tables of squares and of square roots, crates/word_tables/src/tables/linear.rt.
 
 With --check it compares instead. Entry 256 * j + b of a table is the value at b * 256 ** j, so the value at a number is the
 sum of one entry for each of its bytes.
@@ -30,7 +30,7 @@ def main():
     head = "// Squares and square roots by bytes. Written by scripts/make_linear.py; do not edit.\n"
     squares = arrays("SQUARES", "square", tower.square)
     roots = arrays("ROOTS", "square root", tower.square_root)
-    literals.write("bf_tables/src/tables/linear.rt", head, squares + roots)
+    literals.write("word_tables/src/tables/linear.rt", head, squares + roots)
 
 
 if __name__ == "__main__":

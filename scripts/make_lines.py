@@ -1,5 +1,5 @@
 #!/usr/bin/env python3
-"""Writes the lines that crates/bf_lines is run on and the answers that it has to print: its files stdin and stdout.
+"""Writes the lines that crates/replay_lines is run on and the answers that it has to print: its files stdin and stdout.
 
     make_lines.py LINES ANSWERS
 
@@ -20,7 +20,7 @@ OPERATIONS = ["add", "mul", "square", "inv", "sqrt"]
 ERRORS = [f"error {number}" for number in range(1, 7)]
 ANSWERED = 57
 REFUSED = 20
-FOLDER = pathlib.Path(__file__).resolve().parent.parent / "crates/bf_lines"
+FOLDER = pathlib.Path(__file__).resolve().parent.parent / "crates/replay_lines"
 
 
 def kind_of(line, answer):

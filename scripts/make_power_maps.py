@@ -1,5 +1,5 @@
 #!/usr/bin/env python3
-"""Writes the columns of the power maps of GHASH, crates/bf_clmul/src/power_maps/literals.rt.
+"""Writes the columns of the power maps of GHASH, crates/word_carryless/src/power_maps/literals.rt.
 
 With --check it compares instead. Squaring several times keeps sums, so that it is the linear map of its values at the powers of
 x: entry j of a map's columns is x^j, squared as many times as the map's name says.
@@ -26,7 +26,7 @@ def main():
         comment = f"Entry j is x^j, squared {count} times."
         arrays.append(literals.array(comment, f"SQUARED_{count}_TIMES", width, columns))
     head = f"// Power maps modulo {words}. Written by scripts/make_power_maps.py; do not edit.\n"
-    literals.write("bf_clmul/src/power_maps/literals.rt", head, arrays)
+    literals.write("word_carryless/src/power_maps/literals.rt", head, arrays)
 
 
 if __name__ == "__main__":

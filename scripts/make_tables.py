@@ -1,5 +1,5 @@
 #!/usr/bin/env python3
-"""Writes the tables of the 8-bit level, crates/bf_tables/src/tables/literals.rt. With --check it compares instead."""
+"""Writes the tables of the 8-bit level, crates/word_tables/src/tables/literals.rt. With --check it compares instead."""
 
 import literals
 import tower
@@ -31,7 +31,7 @@ def main():
         "ROOTS": ("The square root of the place.", roots),
         "ROOT_PRODUCTS": ("The place times the root that level 3 adjoins.", products),
     }
-    literals.write("bf_tables/src/tables/literals.rt", head, literals.arrays(8, tables))
+    literals.write("word_tables/src/tables/literals.rt", head, literals.arrays(8, tables))
 
 
 if __name__ == "__main__":

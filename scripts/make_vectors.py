@@ -1,5 +1,5 @@
 #!/usr/bin/env python3
-"""Writes the calls that crates/bf_vectors is run on and the answers that it has to print: its files stdin and stdout.
+"""Writes the calls that crates/replay_calls is run on and the answers that it has to print: its files stdin and stdout.
 
     make_vectors.py VECTORS
 
@@ -17,7 +17,7 @@ import pathlib
 import re
 import sys
 
-FOLDER = pathlib.Path(__file__).resolve().parent.parent / "crates/bf_vectors"
+FOLDER = pathlib.Path(__file__).resolve().parent.parent / "crates/replay_calls"
 TOWER = ["gf2", "t2", "t4", "t8", "t16", "t32", "t64", "t128"]
 POLYNOMIAL = ["r8", "p64", "g128"]
 # How many rows are kept of the products by the root, of the repeated squarings, of the elements that change their basis,

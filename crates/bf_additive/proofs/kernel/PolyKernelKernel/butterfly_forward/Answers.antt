@@ -1,6 +1,0 @@
-use Rattle.bf_additive.proofs.Values.{forward_low}
-use Rattle.bf_additive.proofs.kernel.PolyKernelKernel.butterfly_forward.Goals as goal
-
-pub returns-clause-values : goal.returns-clause-values
-returns-clause-values c =
-    forward_low c.args.s c.args.lo.now c.args.hi.now _ _ c.butterfly_forward.ensures.low c.butterfly_forward.ensures.high

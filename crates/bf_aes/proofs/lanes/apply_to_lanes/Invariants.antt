@@ -1,9 +1,0 @@
-use Rattle.std.proofs.Common.{◌≡◌}
-use Rattle.bf_base.specs.LinearMaps.{linear_image}
-use Rattle.bf_element.specs.Element.{repr_of}
-use Rattle.bf_aes.specs.Matrix.{images_of}
-use Rattle.bf_packed.proofs.LanePoints.{Written}
-use Rattle.bf_aes.proofs.lanes.apply_to_lanes.Given as goal
-
-abbrev pub invariant-loop-lane : goal.invariant-loop-lane
-invariant-loop-lane l = Written (λ k x v. repr_of v ≡ linear_image (images_of l.matrix) (repr_of x)) l.fn.lanes l.lanes l.lane

@@ -1,7 +1,0 @@
-use Rattle.std.proofs.Common.{◌≡◌}
-use Rattle.bf_base.specs.ByteTables.{sum_of_entries}
-use Rattle.bf_base.proofs.byte_tables.sum_of_entries_128.Given as goal
-
--- the entries of the bytes before byte i are in the sum
-abbrev pub invariant-loop-i : goal.invariant-loop-i
-invariant-loop-i l = l.sum ≡ sum_of_entries l.i l.table l.x

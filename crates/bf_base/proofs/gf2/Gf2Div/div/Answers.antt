@@ -1,5 +1,0 @@
-use Rattle.bf_base.specs.BitRing.{bit_over_bit}
-use Rattle.bf_base.proofs.gf2.Gf2Div.div.Goals as goal
-
-pub returns : goal.returns
-returns c = bit_over_bit c.args.self.repr c.args.self.in_range c.args._other.repr c.args._other.in_range c.requires

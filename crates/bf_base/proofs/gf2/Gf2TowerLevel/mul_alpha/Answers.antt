@@ -1,6 +1,0 @@
-use Rattle.std.proofs.Common.{sym}
-use Rattle.bf_base.specs.BitRing.{root_zero-times}
-use Rattle.bf_base.proofs.gf2.Gf2TowerLevel.mul_alpha.Goals as goal
-
-pub returns : goal.returns
-returns c = sym (root_zero-times c.args.self.repr c.args.self.in_range)

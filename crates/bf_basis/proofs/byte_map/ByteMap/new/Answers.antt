@@ -1,6 +1,0 @@
-use Rattle.bf_basis.specs.LinearMap.{byte_map_of}
-use Rattle.bf_basis.proofs.byte_map.ByteMap.new.Goals as goal
-
-pub returns : goal.returns
-unfolding byte_map_of
-returns c x = c.table_of.ensures x

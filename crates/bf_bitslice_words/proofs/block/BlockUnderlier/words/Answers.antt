@@ -1,7 +1,0 @@
-use Rattle.std.proofs.Common.{◌∙◌}
-use Rattle.std.proofs.lemmas.List.{map-id}
-use Rattle.bf_bitslice_words.specs.Joined.{parts_of_whole}
-use Rattle.bf_bitslice_words.proofs.block.BlockUnderlier.words.Goals as goal
-
-pub returns : goal.returns
-returns g c = map-id c.args.self.now.words ∙ parts_of_whole 64 g.row.N c.args.self.now.words c.checked-row.ensures.whole

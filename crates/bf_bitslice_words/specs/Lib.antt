@@ -1,3 +1,0 @@
-pub mod Joined
-pub mod Operators
-pub mod Parts

@@ -1,6 +1,0 @@
--- What operators on words give.
-use Rattle.std.specs.Prelude.{◌≡◌, ℕ}
-
--- an operator can be called, and each value that it gives has the number n
-abbrev pub Gives : {A : Type 0} → (A → ℕ) → Type 0 → (A → Type 0) → ℕ → Type 0
-Gives {A} number can gives n = can × ((r : A) → gives r → number r ≡ n)

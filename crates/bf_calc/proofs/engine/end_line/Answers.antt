@@ -1,7 +1,0 @@
--- A refused growth writes nothing.
-use Rattle.bf_calc.specs.Outbox.{waiting}
-use Rattle.bf_calc.proofs.ProgressLemmas.{GainsFront-none}
-use Rattle.bf_calc.proofs.engine.end_line.Goals as goal
-
-pub returns-then-is_err-clause-err : goal.returns-then-is_err-clause-err
-returns-then-is_err-clause-err g c = GainsFront-none _ (waiting c.args.outbox.now)

@@ -1,9 +1,0 @@
--- The bytes of both words side by side.
-use Rattle.std.proofs.Common.{sym, arith}
-use Rattle.bf_calc.proofs.NumberLemmas.{bytes-joined}
-use Rattle.bf_calc.proofs.number.Number.to_bytes.Goals as goal
-
-pub returns : goal.returns
-returns c =
-    rw (c.copy_from_slice.ensures.after, c.to_be_bytes.ensures, c.copy_from_slice-2.ensures.after, c.to_be_bytes-2.ensures)
-    (sym (bytes-joined 8 16 c.args.self.high c.args.self.low (omega arith)))

@@ -1,9 +1,0 @@
--- The number so far is that of the bytes so far.
-use Rattle.std.proofs.Common.{◌≡◌, ◌<◌, ◌^◌, ◌*◌, ◌+◌, fold, take}
-use Rattle.bf_calc.proofs.number.joined.Given as goal
-
-abbrev pub invariant-loop-byte : goal.invariant-loop-byte
-invariant-loop-byte l = record {
-  fits : l.number < 256 ^ l.byte-index;
-  read : l.number ≡ fold (λ n byte. n * 256 + byte) 0 (take l.byte-index l.bytes);
-}

@@ -1,4 +1,0 @@
-pub mod CallLists
-pub mod Candidates
-pub mod Checks
-pub mod ManyCalls

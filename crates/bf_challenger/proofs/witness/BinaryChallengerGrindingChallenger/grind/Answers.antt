@@ -1,6 +1,0 @@
-use Rattle.bf_challenger.proofs.Checks.{nothing_checked}
-use Rattle.bf_challenger.proofs.witness.BinaryChallengerGrindingChallenger.grind.Goals as goal
-
-pub returns-then-bits-eq0-clause-state : goal.returns-then-bits-eq0-clause-state
-returns-then-bits-eq0-clause-state g c =
-    nothing_checked _ _ g.F.RawDataSerializable.NUM_BYTES c.args.bits (g.F.Represented.repr c.ZERO.result) _ c.if-bits-eq0.true

@@ -1,8 +1,0 @@
-use Rattle.std.proofs.Common.{◌≡◌, ◌%◌, ◌^◌, ◌++◌, map, take, drop}
-use Rattle.bf_base.specs.Carryless.{carryless}
-use Rattle.bf_clmul.proofs.masked.masked_products.Given as goal
-
--- the words before the index are products, the others are as they were
-abbrev pub invariant-loop-x : goal.invariant-loop-x
-invariant-loop-x l =
-    l.xs ≡ map (λ x. carryless x l.y % 2 ^ 64) (take l.x-index l.fn.xs) ++ drop l.x-index l.fn.xs

@@ -1,8 +1,0 @@
-use Rattle.std.proofs.Common.{arith}
-use Rattle.bf_clmul.proofs.ModularProducts.{reduced_128}
-use Rattle.bf_clmul.proofs.modular.multiply_mod_128.Goals as goal
-
-pub returns : goal.returns
-returns c =
-    reduced_128 c.args.x c.args.y c.multiply_128-low.result.0 c.multiply_128-low.result.1 c.reduce_128.result (omega arith)
-    (omega arith) c.multiply_128-low.ensures c.reduce_128.ensures

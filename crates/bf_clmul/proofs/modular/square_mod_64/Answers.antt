@@ -1,8 +1,0 @@
-use Rattle.std.proofs.Common.{arith, sym, ◌∙◌}
-use Rattle.bf_clmul.proofs.ModularProducts.{reduced_64}
-use Rattle.bf_clmul.proofs.modular.square_mod_64.Goals as goal
-
-pub returns : goal.returns
-returns c =
-    reduced_64 c.args.x c.args.x c.split_128-low.result.0 c.split_128-low.result.1 c.reduce_64.result (omega arith)
-    (omega arith) (sym c.carryless_square_64.ensures ∙ c.split_128-low.ensures) c.reduce_64.ensures

@@ -1,8 +1,0 @@
-use Rattle.bf_clmul.proofs.NibbleSquares.{low_in_table, low_looked_up}
-use Rattle.bf_clmul.proofs.nibbles.low_squares.Goals as goal
-
-pub swizzle : goal.swizzle
-swizzle c = low_in_table c.args.bytes c.fits-bytes.0
-
-pub returns : goal.returns
-returns c = low_looked_up c.args.bytes c.fits-bytes.0

@@ -1,5 +1,0 @@
-use Rattle.bf_clmul.proofs.NibbleSquares.{number_of}
-use Rattle.bf_clmul.proofs.nibbles.number_of.Goals as goal
-
-pub returns : goal.returns
-returns c = number_of c.args.bytes c.fits-bytes.0 c.fits-bytes.1

@@ -1,6 +1,0 @@
-use Rattle.std.proofs.Common.{◌∙◌, arith}
-use Rattle.bf_clmul.proofs.KaratsubaLemmas.{carryless_32}
-use Rattle.bf_clmul.proofs.product.multiply_32.Goals as goal
-
-pub returns : goal.returns
-returns c = c.multiply_low_64.ensures ∙ carryless_32 c.args.x c.args.y (omega arith) (omega arith)

@@ -1,8 +1,0 @@
-use Rattle.std.proofs.Common.{arith}
-use Rattle.bf_clmul.proofs.NibbleSquares.{carryless_square_128}
-use Rattle.bf_clmul.proofs.square.carryless_square_128.Goals as goal
-
-pub returns : goal.returns
-returns c =
-    carryless_square_128 c.args.x c.number_of.result c.number_of-2.result c.bytes_of-bytes.result c.low_squares.result c.high_squares.result
-    (omega arith) c.bytes_of-bytes.ensures c.low_squares.ensures c.high_squares.ensures c.number_of.ensures c.number_of-2.ensures

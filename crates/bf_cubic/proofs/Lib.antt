@@ -1,2 +1,0 @@
-pub mod CubicField
-pub mod CubicRing

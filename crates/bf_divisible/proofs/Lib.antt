@@ -1,3 +1,0 @@
-pub mod NarrowParts
-pub mod WideParts
-pub mod PartLists

@@ -1,6 +1,0 @@
-use Rattle.std.proofs.Common.{arith}
-use Rattle.bf_element.specs.Coefficients.{chunks_stored}
-use Rattle.bf_element.proofs.element.coefficients.Coefficients.new.Goals as goal
-
-pub returns : goal.returns
-returns c = chunks_stored (record { coefficients = c.args.coefficients; three = omega arith })

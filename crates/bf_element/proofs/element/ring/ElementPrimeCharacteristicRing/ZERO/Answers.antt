@@ -1,5 +1,0 @@
-use Rattle.bf_element.specs.Element.{same_word}
-use Rattle.bf_element.proofs.element.ring.ElementPrimeCharacteristicRing.ZERO.Goals as goal
-
-pub returns : goal.returns
-returns g c = same_word _ _ c.ZERO.ensures

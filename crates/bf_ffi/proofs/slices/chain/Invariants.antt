@@ -1,8 +1,0 @@
-use Rattle.std.proofs.Common.{◌≡◌, take, fold}
-use Rattle.bf_ffi.proofs.slices.chain.Given as goal
-
-abbrev pub invariant-loop-factor : goal.invariant-loop-factor
-invariant-loop-factor g l =
-    g.R.Represented.repr l.value
-    ≡ fold (λ x factor. g.R.Represented.product x (g.W.Word.number factor)) (g.W.Word.number l.fn.product)
-    (take l.factor-index l.factors)

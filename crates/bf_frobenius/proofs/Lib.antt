@@ -1,2 +1,0 @@
-pub mod TableFacts
-pub mod RepeatedSquares

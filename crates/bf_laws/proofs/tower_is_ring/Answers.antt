@@ -1,5 +1,0 @@
-use Rattle.bf_base.proofs.TowerRing.{tower_ring}
-use Rattle.bf_laws.proofs.tower_is_ring.Goals as goal
-
-pub returns : goal.returns
-returns c = tower_ring

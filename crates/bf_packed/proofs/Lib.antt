@@ -1,2 +1,0 @@
-mod Blocks
-pub mod LanePoints

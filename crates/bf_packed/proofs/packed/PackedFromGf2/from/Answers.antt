@@ -1,9 +1,0 @@
-use Rattle.std.proofs.Common.{map, replicate, ◌∙◌, ap}
-use Rattle.bf_packed.specs.LaneLists.{map-replicate}
-use Rattle.bf_packed.proofs.packed.PackedFromGf2.from.Goals as goal
-
-pub returns : goal.returns
-returns g c =
-    ap (map g.F.Represented.repr) c.broadcast.ensures
-    ∙ map-replicate g.F.Represented.repr g.row.N c.from_prime_subfield.result
-    ∙ ap (replicate g.row.N) c.from_prime_subfield.ensures

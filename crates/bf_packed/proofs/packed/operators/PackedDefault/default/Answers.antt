@@ -1,8 +1,0 @@
-use Rattle.std.proofs.Common.{map, replicate, ◌∙◌, ap}
-use Rattle.bf_packed.specs.LaneLists.{map-replicate}
-use Rattle.bf_packed.proofs.packed.operators.PackedDefault.default.Goals as goal
-
-pub returns : goal.returns
-returns g c =
-    ap (map g.F.Represented.repr) c.broadcast.ensures ∙ map-replicate g.F.Represented.repr g.row.N c.ZERO.result
-    ∙ ap (replicate g.row.N) (ap g.F.Represented.repr c.ZERO.ensures ∙ g.met.F.PrimeCharacteristicRing.zero_law)

@@ -1,8 +1,0 @@
-use Rattle.bf_packed.specs.LaneLists.{map-every}
-use Rattle.bf_packed.proofs.packed.values.PackedSum.sum.Goals as goal
-
-pub returns : goal.returns
-returns g c =
-    let items = c.sum_of_items in
-    let lanes = map-every g.F.Represented.repr g.row.N _ items.result _ c.broadcast.ensures items.ensures.2 in
-    record { ran = (items.ensures.0, (λ complete. items.ensures.1), lanes) }

@@ -1,4 +1,0 @@
-pub mod BitImages
-pub mod Inverses
-pub mod LaneLists
-pub mod Packed

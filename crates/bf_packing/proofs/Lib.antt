@@ -1,2 +1,0 @@
-pub mod LaneAnswers
-pub mod LaneRing

@@ -1,5 +1,0 @@
-use Rattle.bf_packing.specs.OneLane.{one_lane_interleaved}
-use Rattle.bf_packing.proofs.packing.AnyPackedFieldPow2.interleave.Goals as goal
-
-pub returns : goal.returns
-returns g c = one_lane_interleaved c.args.self.now c.args.other c.args._block_len c.requires.block c.requires.room

@@ -1,9 +1,0 @@
-use Rattle.std.proofs.Common.{refl, arith}
-use Rattle.bf_base.specs.Remainder.{ghash_modulus}
-use Rattle.bf_poly.proofs.Sums.{product_added}
-use Rattle.bf_poly.proofs.moduli.GhashModulusModulusU128Bits128.add_product.Goals as goal
-
-pub returns : goal.returns
-returns c =
-    product_added 128 ghash_modulus refl c.args.low c.args.high c.args.x c.args.y _ _ (omega arith) (omega arith) (omega arith) (omega arith)
-    c.multiply_128-product_low.ensures

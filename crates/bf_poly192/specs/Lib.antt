@@ -1,4 +1,0 @@
-pub mod Field
-pub mod Fits
-pub mod Steps
-pub mod Triple

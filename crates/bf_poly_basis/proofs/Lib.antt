@@ -1,4 +1,0 @@
-mod LowRuns
-mod RunPlaces
-mod RunStages
-mod SliceLemmas

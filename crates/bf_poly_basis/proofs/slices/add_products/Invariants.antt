@@ -1,8 +1,0 @@
-use Rattle.std.proofs.Common.{◌≡◌}
-use Rattle.bf_poly_basis.specs.Slices.{add_multiple}
-use Rattle.bf_poly_basis.proofs.SliceLemmas.{zipped}
-use Rattle.bf_poly_basis.proofs.slices.add_products.Given as goal
-
--- the places before have their products added
-abbrev pub invariant-loop-place : goal.invariant-loop-place
-invariant-loop-place l = l.values ≡ zipped (add_multiple l.fn.scalar) l.place l.fn.values l.others

@@ -1,4 +1,0 @@
-pub mod LowStages
-pub mod Runs
-pub mod Slices
-pub mod Twiddles

@@ -1,5 +1,0 @@
-use Rattle.bf_space.proofs.Spaces.{chunks-whole}
-use Rattle.bf_space.proofs.space.Gf2BasisCoefficients.as_basis_coefficients.Goals as goal
-
-pub returns : goal.returns
-returns c = chunks-whole 1 c.args.self.now.repr c.args.self.now.in_range

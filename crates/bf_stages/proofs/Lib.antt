@@ -1,3 +1,0 @@
-pub mod CantorValues
-pub mod Places
-pub mod StageSums

@@ -1,2 +1,0 @@
-pub mod Cantor
-pub mod Stages

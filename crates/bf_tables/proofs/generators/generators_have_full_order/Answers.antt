@@ -1,5 +1,0 @@
-use Rattle.bf_tables.proofs.Orders.{generators_have_full_order}
-use Rattle.bf_tables.proofs.generators.generators_have_full_order.Goals as goal
-
-pub returns : goal.returns
-returns c = generators_have_full_order

@@ -1,7 +1,0 @@
-use Rattle.std.proofs.Common.{◌∙◌, ap, arith}
-use Rattle.bf_base.specs.Tower.{tower_mul}
-use Rattle.bf_tables.proofs.ByteTables.{inverses_at}
-use Rattle.bf_tables.proofs.tables.invert_8.Goals as goal
-
-pub returns-clause-inverse : goal.returns-clause-inverse
-returns-clause-inverse c nonzero = ap (tower_mul 3 c.args.a) c.entry.ensures ∙ inverses_at c.args.a (omega arith) nonzero

@@ -1,6 +1,0 @@
-use Rattle.std.proofs.Common.{◌∙◌, arith}
-use Rattle.bf_tables.proofs.SquareTables.{squares_16}
-use Rattle.bf_tables.proofs.tables.square_16.Goals as goal
-
-pub returns : goal.returns
-returns c = c.sum_of_entries_16.ensures ∙ squares_16 c.args.x (omega arith)

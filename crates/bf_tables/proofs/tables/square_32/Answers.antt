@@ -1,6 +1,0 @@
-use Rattle.std.proofs.Common.{◌∙◌, arith}
-use Rattle.bf_tables.proofs.SquareTables.{squares_32}
-use Rattle.bf_tables.proofs.tables.square_32.Goals as goal
-
-pub returns : goal.returns
-returns c = c.sum_of_entries_32.ensures ∙ squares_32 c.args.x (omega arith)

@@ -1,9 +1,0 @@
--- The generators of the tower's levels of up to 16 bits: elements of which every element but 0 is a power.
-use Rattle.std.specs.Prelude.{ℕ, ◌^◌, ◌≤◌}
-use Rattle.bf_base.specs.Orders.{HasFullOrder}
-use Rattle.bf_base.specs.Tower.{tower_mul}
-use Rattle.bf_base.specs.TowerBasis.{tower_generator}
-
--- they have the full order
-abbrev pub GeneratorsHaveFullOrder : Type 0
-GeneratorsHaveFullOrder = (k : ℕ) → k ≤ 4 → HasFullOrder (2 ^ k) (tower_mul k) (tower_generator k)

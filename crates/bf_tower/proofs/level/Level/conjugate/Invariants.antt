@@ -1,8 +1,0 @@
-use Rattle.std.proofs.Common.{◌≡◌}
-use Rattle.bf_base.specs.Powers.{repeated_square}
-use Rattle.bf_base.specs.Tower.{tower_mul}
-use Rattle.bf_tower.proofs.level.Level.conjugate.Given as goal
-
--- the squarings so far
-abbrev pub invariant-loop-turn : goal.invariant-loop-turn
-invariant-loop-turn g l = g.R.Word.number l.conjugate ≡ repeated_square 1 (tower_mul g.Self.Level.LEVEL) l.turn (g.R.Word.number l.fn.x)

@@ -1,5 +1,0 @@
-use Rattle.bf_tower.proofs.LowLevels.{cut_product}
-use Rattle.bf_tower.proofs.levels.Bits4LevelU8.square.Goals as goal
-
-pub returns : goal.returns
-returns c = cut_product 1 2 c.args.x c.args.x _ c.square_8.ensures

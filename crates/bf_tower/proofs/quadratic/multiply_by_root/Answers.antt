@@ -1,7 +1,0 @@
-use Rattle.bf_base.proofs.TowerProducts.{tower_mul-root_suc}
-use Rattle.bf_tower.proofs.quadratic.multiply_by_root.Goals as goal
-
-pub returns : goal.returns
-returns g c =
-    let by_root = tower_mul-root_suc g.E.Below.Level.LEVEL (g.R.Word.number c.args.a) in
-    cc (by_root, c.low-low.ensures, c.high-high.ensures, c.multiply_by_root.ensures, c.xor.ensures, c.join.ensures)

@@ -1,8 +1,0 @@
-use Rattle.std.proofs.Common.{rules}
-use Rattle.bf_base.proofs.TowerProducts.{tower_mul-karatsuba}
-use Rattle.bf_tower.proofs.quadratic.reference_multiply.Goals as goal
-
-pub returns : goal.returns
-returns g c =
-    let karatsuba = tower_mul-karatsuba g.E.Below.Level.LEVEL (g.R.Word.number c.args.a) (g.R.Word.number c.args.b) in
-    search (karatsuba, rules)

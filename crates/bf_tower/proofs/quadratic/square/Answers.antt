@@ -1,8 +1,0 @@
-use Rattle.std.proofs.Common.{rules}
-use Rattle.bf_base.proofs.TowerProducts.{tower_mul-square}
-use Rattle.bf_tower.proofs.quadratic.square.Goals as goal
-
-pub returns : goal.returns
-returns g c =
-    let square = tower_mul-square g.E.Below.Level.LEVEL (g.R.Word.number c.args.a) in
-    search (square, rules)

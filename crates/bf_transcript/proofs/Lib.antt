@@ -1,2 +1,0 @@
-pub mod LowBytes
-pub mod SeedLemmas

@@ -1,5 +1,0 @@
-use Rattle.bf_transcript.proofs.LowBytes.{held}
-use Rattle.bf_transcript.proofs.byte_level.ByteLevel.of_low_first.Goals as goal
-
-pub returns : goal.returns
-returns g c = held _ _ g.met.Self.TowerLevel.room_law c.from_repr.ensures c.of_u128.ensures c.number_of_low_first.ensures

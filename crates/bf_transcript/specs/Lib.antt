@@ -1,4 +1,0 @@
-pub mod BigEndian
-pub mod Recorders
-pub mod Seeds
-pub mod Tags

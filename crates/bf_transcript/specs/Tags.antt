@@ -1,9 +1,0 @@
--- Tags of algebras.
-use Rattle.std.specs.Prelude.{ℕ, Bool, true, false, List}
-use Rattle.bf_transcript.specs.declared.tag.TypeTag.{TypeTag}
-use Rattle.bf_transcript.specs.declared.tag.TypeTag.TheVariants.{BinaryTower, BinaryPoly}
-
--- the tag of an algebra over a field of so many bits, which is in a polynomial basis or a level of the tower
-abbrev pub tag_of : Bool → ℕ → ℕ → List ℕ → TypeTag
-tag_of true bits degree basis = BinaryPoly bits degree basis
-tag_of false bits degree basis = BinaryTower bits degree basis

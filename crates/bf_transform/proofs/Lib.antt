@@ -1,3 +1,0 @@
-pub mod CantorSums
-pub mod Horner
-pub mod ImageValues

@@ -1,0 +1,421 @@
+// What every field has: products, chains of products, squares, inverses and square roots, one field after the other: an exported
+// function has no type parameter, so that each field has its own five. A word of 8 to 64 bits is one number, one of 128 bits is two
+// of 64, low half first, and one of 192 bits three, the coefficient of 1 first.
+ghost use Rattle.std.specs.Prelude.{◌≡◌, length, fold, slice_index, EachIndex};
+ghost use Rattle.field_base.specs.Remainder.{aes_modulus, ghash_modulus, mul_mod, poly64_modulus};
+ghost use Rattle.field_base.specs.Tower.{tower_mul};
+ghost use Rattle.word_cubic.specs.Cubic.{cubic};
+ghost use Rattle.field_base.specs.Field.{IsInverseOrZero};
+ghost use Rattle.binary_field_c.specs.Words.{cubic_at, cubic_number, wide_at, wide_number};
+
+use crate::slices;
+use crate::words::{Cubic, Wide};
+use field_element::{
+    BinaryField8, BinaryField16, BinaryField32, BinaryField64, BinaryField128, Ghash128, Poly64,
+    Poly192, Rijndael8b,
+};
+
+/// Writes the product of the elements at each index.
+#[unsafe(no_mangle)]
+pub extern "C" fn bf_multiply_8(left: &[u8], right: &[u8], products: &mut [u8])
+    requires left_fits { length left.now ≡ length products.old }
+    requires right_fits { length right.now ≡ length products.old }
+    ensures { EachIndex products.new (λ k. slice_index products.new k ≡ tower_mul 3 (slice_index left.now k) (slice_index right.now k)) }
+{
+    slices::multiply::<BinaryField8, u8>(left, right, products);
+}
+
+/// Multiplies `product` by each factor in turn, so that each product waits for the one before.
+#[unsafe(no_mangle)]
+pub extern "C" fn bf_chain_8(factors: &[u8], product: &mut u8)
+    ensures { product.new ≡ fold (tower_mul 3) product.old factors.now }
+{
+    slices::chain::<BinaryField8, u8>(factors, product);
+}
+
+/// Writes the square of the element at each index.
+#[unsafe(no_mangle)]
+pub extern "C" fn bf_square_8(words: &[u8], squares: &mut [u8])
+    requires { length words.now ≡ length squares.old }
+    ensures { EachIndex squares.new (λ k. slice_index squares.new k ≡ tower_mul 3 (slice_index words.now k) (slice_index words.now k)) }
+{
+    slices::square::<BinaryField8, u8>(words, squares);
+}
+
+/// Writes the inverse of the element at each index, and 0 where that is 0.
+#[unsafe(no_mangle)]
+pub extern "C" fn bf_inverse_8(words: &[u8], inverses: &mut [u8])
+    requires { length words.now ≡ length inverses.old }
+    ensures { EachIndex inverses.new (λ k. IsInverseOrZero (tower_mul 3) (slice_index words.now k) (slice_index inverses.new k)) }
+{
+    slices::invert::<BinaryField8, u8>(words, inverses);
+}
+
+/// Writes the square root of the element at each index.
+#[unsafe(no_mangle)]
+pub extern "C" fn bf_square_root_8(words: &[u8], roots: &mut [u8])
+    requires { length words.now ≡ length roots.old }
+    ensures { EachIndex roots.new (λ k. tower_mul 3 (slice_index roots.new k) (slice_index roots.new k) ≡ slice_index words.now k) }
+{
+    slices::square_root::<BinaryField8, u8>(words, roots);
+}
+
+/// Writes the product of the elements at each index.
+#[unsafe(no_mangle)]
+pub extern "C" fn bf_multiply_16(left: &[u16], right: &[u16], products: &mut [u16])
+    requires left_fits { length left.now ≡ length products.old }
+    requires right_fits { length right.now ≡ length products.old }
+    ensures { EachIndex products.new (λ k. slice_index products.new k ≡ tower_mul 4 (slice_index left.now k) (slice_index right.now k)) }
+{
+    slices::multiply::<BinaryField16, u16>(left, right, products);
+}
+
+/// Multiplies `product` by each factor in turn, so that each product waits for the one before.
+#[unsafe(no_mangle)]
+pub extern "C" fn bf_chain_16(factors: &[u16], product: &mut u16)
+    ensures { product.new ≡ fold (tower_mul 4) product.old factors.now }
+{
+    slices::chain::<BinaryField16, u16>(factors, product);
+}
+
+/// Writes the square of the element at each index.
+#[unsafe(no_mangle)]
+pub extern "C" fn bf_square_16(words: &[u16], squares: &mut [u16])
+    requires { length words.now ≡ length squares.old }
+    ensures { EachIndex squares.new (λ k. slice_index squares.new k ≡ tower_mul 4 (slice_index words.now k) (slice_index words.now k)) }
+{
+    slices::square::<BinaryField16, u16>(words, squares);
+}
+
+/// Writes the inverse of the element at each index, and 0 where that is 0.
+#[unsafe(no_mangle)]
+pub extern "C" fn bf_inverse_16(words: &[u16], inverses: &mut [u16])
+    requires { length words.now ≡ length inverses.old }
+    ensures { EachIndex inverses.new (λ k. IsInverseOrZero (tower_mul 4) (slice_index words.now k) (slice_index inverses.new k)) }
+{
+    slices::invert::<BinaryField16, u16>(words, inverses);
+}
+
+/// Writes the square root of the element at each index.
+#[unsafe(no_mangle)]
+pub extern "C" fn bf_square_root_16(words: &[u16], roots: &mut [u16])
+    requires { length words.now ≡ length roots.old }
+    ensures { EachIndex roots.new (λ k. tower_mul 4 (slice_index roots.new k) (slice_index roots.new k) ≡ slice_index words.now k) }
+{
+    slices::square_root::<BinaryField16, u16>(words, roots);
+}
+
+/// Writes the product of the elements at each index.
+#[unsafe(no_mangle)]
+pub extern "C" fn bf_multiply_32(left: &[u32], right: &[u32], products: &mut [u32])
+    requires left_fits { length left.now ≡ length products.old }
+    requires right_fits { length right.now ≡ length products.old }
+    ensures { EachIndex products.new (λ k. slice_index products.new k ≡ tower_mul 5 (slice_index left.now k) (slice_index right.now k)) }
+{
+    slices::multiply::<BinaryField32, u32>(left, right, products);
+}
+
+/// Multiplies `product` by each factor in turn, so that each product waits for the one before.
+#[unsafe(no_mangle)]
+pub extern "C" fn bf_chain_32(factors: &[u32], product: &mut u32)
+    ensures { product.new ≡ fold (tower_mul 5) product.old factors.now }
+{
+    slices::chain::<BinaryField32, u32>(factors, product);
+}
+
+/// Writes the square of the element at each index.
+#[unsafe(no_mangle)]
+pub extern "C" fn bf_square_32(words: &[u32], squares: &mut [u32])
+    requires { length words.now ≡ length squares.old }
+    ensures { EachIndex squares.new (λ k. slice_index squares.new k ≡ tower_mul 5 (slice_index words.now k) (slice_index words.now k)) }
+{
+    slices::square::<BinaryField32, u32>(words, squares);
+}
+
+/// Writes the inverse of the element at each index, and 0 where that is 0.
+#[unsafe(no_mangle)]
+pub extern "C" fn bf_inverse_32(words: &[u32], inverses: &mut [u32])
+    requires { length words.now ≡ length inverses.old }
+    ensures { EachIndex inverses.new (λ k. IsInverseOrZero (tower_mul 5) (slice_index words.now k) (slice_index inverses.new k)) }
+{
+    slices::invert::<BinaryField32, u32>(words, inverses);
+}
+
+/// Writes the square root of the element at each index.
+#[unsafe(no_mangle)]
+pub extern "C" fn bf_square_root_32(words: &[u32], roots: &mut [u32])
+    requires { length words.now ≡ length roots.old }
+    ensures { EachIndex roots.new (λ k. tower_mul 5 (slice_index roots.new k) (slice_index roots.new k) ≡ slice_index words.now k) }
+{
+    slices::square_root::<BinaryField32, u32>(words, roots);
+}
+
+/// Writes the product of the elements at each index.
+#[unsafe(no_mangle)]
+pub extern "C" fn bf_multiply_64(left: &[u64], right: &[u64], products: &mut [u64])
+    requires left_fits { length left.now ≡ length products.old }
+    requires right_fits { length right.now ≡ length products.old }
+    ensures { EachIndex products.new (λ k. slice_index products.new k ≡ tower_mul 6 (slice_index left.now k) (slice_index right.now k)) }
+{
+    slices::multiply::<BinaryField64, u64>(left, right, products);
+}
+
+/// Multiplies `product` by each factor in turn, so that each product waits for the one before.
+#[unsafe(no_mangle)]
+pub extern "C" fn bf_chain_64(factors: &[u64], product: &mut u64)
+    ensures { product.new ≡ fold (tower_mul 6) product.old factors.now }
+{
+    slices::chain::<BinaryField64, u64>(factors, product);
+}
+
+/// Writes the square of the element at each index.
+#[unsafe(no_mangle)]
+pub extern "C" fn bf_square_64(words: &[u64], squares: &mut [u64])
+    requires { length words.now ≡ length squares.old }
+    ensures { EachIndex squares.new (λ k. slice_index squares.new k ≡ tower_mul 6 (slice_index words.now k) (slice_index words.now k)) }
+{
+    slices::square::<BinaryField64, u64>(words, squares);
+}
+
+/// Writes the inverse of the element at each index, and 0 where that is 0.
+#[unsafe(no_mangle)]
+pub extern "C" fn bf_inverse_64(words: &[u64], inverses: &mut [u64])
+    requires { length words.now ≡ length inverses.old }
+    ensures { EachIndex inverses.new (λ k. IsInverseOrZero (tower_mul 6) (slice_index words.now k) (slice_index inverses.new k)) }
+{
+    slices::invert::<BinaryField64, u64>(words, inverses);
+}
+
+/// Writes the square root of the element at each index.
+#[unsafe(no_mangle)]
+pub extern "C" fn bf_square_root_64(words: &[u64], roots: &mut [u64])
+    requires { length words.now ≡ length roots.old }
+    ensures { EachIndex roots.new (λ k. tower_mul 6 (slice_index roots.new k) (slice_index roots.new k) ≡ slice_index words.now k) }
+{
+    slices::square_root::<BinaryField64, u64>(words, roots);
+}
+
+/// Writes the product of the elements at each index.
+#[unsafe(no_mangle)]
+pub extern "C" fn bf_multiply_128(left: &[Wide], right: &[Wide], products: &mut [Wide])
+    requires left_fits { length left.now ≡ length products.old }
+    requires right_fits { length right.now ≡ length products.old }
+    ensures { EachIndex products.new (λ k. wide_at products.new k ≡ tower_mul 7 (wide_at left.now k) (wide_at right.now k)) }
+{
+    slices::multiply::<BinaryField128, Wide>(left, right, products);
+}
+
+/// Multiplies `product` by each factor in turn, so that each product waits for the one before.
+#[unsafe(no_mangle)]
+pub extern "C" fn bf_chain_128(factors: &[Wide], product: &mut Wide)
+    ensures { wide_number product.new ≡ fold (λ x factor. tower_mul 7 x (wide_number factor)) (wide_number product.old) factors.now }
+{
+    slices::chain::<BinaryField128, Wide>(factors, product);
+}
+
+/// Writes the square of the element at each index.
+#[unsafe(no_mangle)]
+pub extern "C" fn bf_square_128(words: &[Wide], squares: &mut [Wide])
+    requires { length words.now ≡ length squares.old }
+    ensures { EachIndex squares.new (λ k. wide_at squares.new k ≡ tower_mul 7 (wide_at words.now k) (wide_at words.now k)) }
+{
+    slices::square::<BinaryField128, Wide>(words, squares);
+}
+
+/// Writes the inverse of the element at each index, and 0 where that is 0.
+#[unsafe(no_mangle)]
+pub extern "C" fn bf_inverse_128(words: &[Wide], inverses: &mut [Wide])
+    requires { length words.now ≡ length inverses.old }
+    ensures { EachIndex inverses.new (λ k. IsInverseOrZero (tower_mul 7) (wide_at words.now k) (wide_at inverses.new k)) }
+{
+    slices::invert::<BinaryField128, Wide>(words, inverses);
+}
+
+/// Writes the square root of the element at each index.
+#[unsafe(no_mangle)]
+pub extern "C" fn bf_square_root_128(words: &[Wide], roots: &mut [Wide])
+    requires { length words.now ≡ length roots.old }
+    ensures { EachIndex roots.new (λ k. tower_mul 7 (wide_at roots.new k) (wide_at roots.new k) ≡ wide_at words.now k) }
+{
+    slices::square_root::<BinaryField128, Wide>(words, roots);
+}
+
+/// Writes the product of the elements at each index.
+#[unsafe(no_mangle)]
+pub extern "C" fn bf_multiply_rijndael(left: &[u8], right: &[u8], products: &mut [u8])
+    requires left_fits { length left.now ≡ length products.old }
+    requires right_fits { length right.now ≡ length products.old }
+    ensures { EachIndex products.new (λ k. slice_index products.new k ≡ mul_mod 8 aes_modulus (slice_index left.now k) (slice_index right.now k)) }
+{
+    slices::multiply::<Rijndael8b, u8>(left, right, products);
+}
+
+/// Multiplies `product` by each factor in turn, so that each product waits for the one before.
+#[unsafe(no_mangle)]
+pub extern "C" fn bf_chain_rijndael(factors: &[u8], product: &mut u8)
+    ensures { product.new ≡ fold (mul_mod 8 aes_modulus) product.old factors.now }
+{
+    slices::chain::<Rijndael8b, u8>(factors, product);
+}
+
+/// Writes the square of the element at each index.
+#[unsafe(no_mangle)]
+pub extern "C" fn bf_square_rijndael(words: &[u8], squares: &mut [u8])
+    requires { length words.now ≡ length squares.old }
+    ensures { EachIndex squares.new (λ k. slice_index squares.new k ≡ mul_mod 8 aes_modulus (slice_index words.now k) (slice_index words.now k)) }
+{
+    slices::square::<Rijndael8b, u8>(words, squares);
+}
+
+/// Writes the inverse of the element at each index, and 0 where that is 0.
+#[unsafe(no_mangle)]
+pub extern "C" fn bf_inverse_rijndael(words: &[u8], inverses: &mut [u8])
+    requires { length words.now ≡ length inverses.old }
+    ensures { EachIndex inverses.new (λ k. IsInverseOrZero (mul_mod 8 aes_modulus) (slice_index words.now k) (slice_index inverses.new k)) }
+{
+    slices::invert::<Rijndael8b, u8>(words, inverses);
+}
+
+/// Writes the square root of the element at each index.
+#[unsafe(no_mangle)]
+pub extern "C" fn bf_square_root_rijndael(words: &[u8], roots: &mut [u8])
+    requires { length words.now ≡ length roots.old }
+    ensures { EachIndex roots.new (λ k. mul_mod 8 aes_modulus (slice_index roots.new k) (slice_index roots.new k) ≡ slice_index words.now k) }
+{
+    slices::square_root::<Rijndael8b, u8>(words, roots);
+}
+
+/// Writes the product of the elements at each index.
+#[unsafe(no_mangle)]
+pub extern "C" fn bf_multiply_poly64(left: &[u64], right: &[u64], products: &mut [u64])
+    requires left_fits { length left.now ≡ length products.old }
+    requires right_fits { length right.now ≡ length products.old }
+    ensures { EachIndex products.new (λ k. slice_index products.new k ≡ mul_mod 64 poly64_modulus (slice_index left.now k) (slice_index right.now k)) }
+{
+    slices::multiply::<Poly64, u64>(left, right, products);
+}
+
+/// Multiplies `product` by each factor in turn, so that each product waits for the one before.
+#[unsafe(no_mangle)]
+pub extern "C" fn bf_chain_poly64(factors: &[u64], product: &mut u64)
+    ensures { product.new ≡ fold (mul_mod 64 poly64_modulus) product.old factors.now }
+{
+    slices::chain::<Poly64, u64>(factors, product);
+}
+
+/// Writes the square of the element at each index.
+#[unsafe(no_mangle)]
+pub extern "C" fn bf_square_poly64(words: &[u64], squares: &mut [u64])
+    requires { length words.now ≡ length squares.old }
+    ensures { EachIndex squares.new (λ k. slice_index squares.new k ≡ mul_mod 64 poly64_modulus (slice_index words.now k) (slice_index words.now k)) }
+{
+    slices::square::<Poly64, u64>(words, squares);
+}
+
+/// Writes the inverse of the element at each index, and 0 where that is 0.
+#[unsafe(no_mangle)]
+pub extern "C" fn bf_inverse_poly64(words: &[u64], inverses: &mut [u64])
+    requires { length words.now ≡ length inverses.old }
+    ensures { EachIndex inverses.new (λ k. IsInverseOrZero (mul_mod 64 poly64_modulus) (slice_index words.now k) (slice_index inverses.new k)) }
+{
+    slices::invert::<Poly64, u64>(words, inverses);
+}
+
+/// Writes the square root of the element at each index.
+#[unsafe(no_mangle)]
+pub extern "C" fn bf_square_root_poly64(words: &[u64], roots: &mut [u64])
+    requires { length words.now ≡ length roots.old }
+    ensures { EachIndex roots.new (λ k. mul_mod 64 poly64_modulus (slice_index roots.new k) (slice_index roots.new k) ≡ slice_index words.now k) }
+{
+    slices::square_root::<Poly64, u64>(words, roots);
+}
+
+/// Writes the product of the elements at each index.
+#[unsafe(no_mangle)]
+pub extern "C" fn bf_multiply_ghash128(left: &[Wide], right: &[Wide], products: &mut [Wide])
+    requires left_fits { length left.now ≡ length products.old }
+    requires right_fits { length right.now ≡ length products.old }
+    ensures { EachIndex products.new (λ k. wide_at products.new k ≡ mul_mod 128 ghash_modulus (wide_at left.now k) (wide_at right.now k)) }
+{
+    slices::multiply::<Ghash128, Wide>(left, right, products);
+}
+
+/// Multiplies `product` by each factor in turn, so that each product waits for the one before.
+#[unsafe(no_mangle)]
+pub extern "C" fn bf_chain_ghash128(factors: &[Wide], product: &mut Wide)
+    ensures { wide_number product.new ≡ fold (λ x factor. mul_mod 128 ghash_modulus x (wide_number factor)) (wide_number product.old) factors.now }
+{
+    slices::chain::<Ghash128, Wide>(factors, product);
+}
+
+/// Writes the square of the element at each index.
+#[unsafe(no_mangle)]
+pub extern "C" fn bf_square_ghash128(words: &[Wide], squares: &mut [Wide])
+    requires { length words.now ≡ length squares.old }
+    ensures { EachIndex squares.new (λ k. wide_at squares.new k ≡ mul_mod 128 ghash_modulus (wide_at words.now k) (wide_at words.now k)) }
+{
+    slices::square::<Ghash128, Wide>(words, squares);
+}
+
+/// Writes the inverse of the element at each index, and 0 where that is 0.
+#[unsafe(no_mangle)]
+pub extern "C" fn bf_inverse_ghash128(words: &[Wide], inverses: &mut [Wide])
+    requires { length words.now ≡ length inverses.old }
+    ensures { EachIndex inverses.new (λ k. IsInverseOrZero (mul_mod 128 ghash_modulus) (wide_at words.now k) (wide_at inverses.new k)) }
+{
+    slices::invert::<Ghash128, Wide>(words, inverses);
+}
+
+/// Writes the square root of the element at each index.
+#[unsafe(no_mangle)]
+pub extern "C" fn bf_square_root_ghash128(words: &[Wide], roots: &mut [Wide])
+    requires { length words.now ≡ length roots.old }
+    ensures { EachIndex roots.new (λ k. mul_mod 128 ghash_modulus (wide_at roots.new k) (wide_at roots.new k) ≡ wide_at words.now k) }
+{
+    slices::square_root::<Ghash128, Wide>(words, roots);
+}
+
+/// Writes the product of the elements at each index.
+#[unsafe(no_mangle)]
+pub extern "C" fn bf_multiply_poly192(left: &[Cubic], right: &[Cubic], products: &mut [Cubic])
+    requires left_fits { length left.now ≡ length products.old }
+    requires right_fits { length right.now ≡ length products.old }
+    ensures { EachIndex products.new (λ k. cubic_at products.new k ≡ cubic 64 (mul_mod 64 poly64_modulus) (cubic_at left.now k) (cubic_at right.now k)) }
+{
+    slices::multiply::<Poly192, Cubic>(left, right, products);
+}
+
+/// Multiplies `product` by each factor in turn, so that each product waits for the one before.
+#[unsafe(no_mangle)]
+pub extern "C" fn bf_chain_poly192(factors: &[Cubic], product: &mut Cubic)
+    ensures { cubic_number product.new ≡ fold (λ x factor. cubic 64 (mul_mod 64 poly64_modulus) x (cubic_number factor)) (cubic_number product.old) factors.now }
+{
+    slices::chain::<Poly192, Cubic>(factors, product);
+}
+
+/// Writes the square of the element at each index.
+#[unsafe(no_mangle)]
+pub extern "C" fn bf_square_poly192(words: &[Cubic], squares: &mut [Cubic])
+    requires { length words.now ≡ length squares.old }
+    ensures { EachIndex squares.new (λ k. cubic_at squares.new k ≡ cubic 64 (mul_mod 64 poly64_modulus) (cubic_at words.now k) (cubic_at words.now k)) }
+{
+    slices::square::<Poly192, Cubic>(words, squares);
+}
+
+/// Writes the inverse of the element at each index, and 0 where that is 0.
+#[unsafe(no_mangle)]
+pub extern "C" fn bf_inverse_poly192(words: &[Cubic], inverses: &mut [Cubic])
+    requires { length words.now ≡ length inverses.old }
+    ensures { EachIndex inverses.new (λ k. IsInverseOrZero (cubic 64 (mul_mod 64 poly64_modulus)) (cubic_at words.now k) (cubic_at inverses.new k)) }
+{
+    slices::invert::<Poly192, Cubic>(words, inverses);
+}
+
+/// Writes the square root of the element at each index.
+#[unsafe(no_mangle)]
+pub extern "C" fn bf_square_root_poly192(words: &[Cubic], roots: &mut [Cubic])
+    requires { length words.now ≡ length roots.old }
+    ensures { EachIndex roots.new (λ k. cubic 64 (mul_mod 64 poly64_modulus) (cubic_at roots.new k) (cubic_at roots.new k) ≡ cubic_at words.now k) }
+{
+    slices::square_root::<Poly192, Cubic>(words, roots);
+}

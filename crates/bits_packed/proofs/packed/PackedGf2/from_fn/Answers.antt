@@ -1,0 +1,28 @@
+use Rattle.std.proofs.Common.{◌≡◌, ◌<◌, ℕ, refl, ◌∙◌, ap, arith, rules}
+use denote.Param.Always.{mut_next}
+use Rattle.field_base.specs.Bit.{bit_number}
+use Rattle.bits_rows.proofs.WordLists.{more_filled, nothing_filled}
+use Rattle.bits_packed.specs.Lanes.{bits_of}
+use Rattle.bits_packed.proofs.LaneLists.{lane_is_part}
+use Rattle.bits_packed.proofs.packed.PackedGf2.from_fn.Goals as goal
+
+pub loop-lane-init : goal.loop-lane-init
+loop-lane-init g c = (c.requires, nothing_filled 1 bit_number _ _ _)
+
+pub loop-lane-preserved : goal.loop-lane-preserved
+loop-lane-preserved g c =
+    let inside : c.loop-lane.lane < g.U.Underlier.BITS = search rules in (
+      mut_next g.F.FnMut _ _ _ _ _ c.f.ensures refl c.loop-lane.invariant.0,
+      more_filled 1 bit_number _ _ g.U.Underlier.BITS c.loop-lane.lane _ _ _ _ c.f.result c.loop-lane.invariant.1 inside c.f.ensures
+          (lane_is_part g.U.Underlier.BITS _ c.loop-lane.lane _ _ c.set.ensures),
+    )
+
+pub returns : goal.returns
+returns g c =
+    let done = c.loop-lane.invariant.1 in
+    let all : c.loop-lane.lane ≡ g.U.Underlier.BITS = omega arith in (
+      done.taken,
+      c.loop-lane.f,
+      done.fills,
+      done.are ∙ ap (λ (n : ℕ). bits_of n (g.U.Underlier.number c.loop-lane.packed.bits)) all,
+    )

@@ -1,0 +1,16 @@
+use Rattle.std.proofs.Common.{lit<, arith, ◌*◌}
+use Rattle.bits_rows.proofs.BlockLemmas.{block_some}
+use Rattle.bits_packed.proofs.LaneAccess.{row_divides}
+use Rattle.bits_packed.proofs.Rounds.{eightfold_fits, fourfold_inside, groups_end}
+use Rattle.bits_packed.proofs.packed.transpose.three_rounds.Goals as goal
+
+pub loop-group-preserved : goal.loop-group-preserved
+loop-group-preserved g c = λ old so_far. c.exchange_eight_blocks.ensures old (c.loop-group.invariant old so_far)
+
+pub returns : goal.returns
+returns g c = λ old so_far.
+    let divides =
+    row_divides g.U.Underlier.BITS _ _ _ _ (4 * c.args.block) g.met.U.Underlier.bits_law g.met.U.Word.Word.bits_law g.met.U.Underlier.words_law
+    (fourfold_inside g.U.Underlier.BITS c.args.block c.requires.block c.requires.fits) in
+    groups_end c.args.block 8 g.U.Underlier.BITS divides.0 old _ (block_some g.U.Underlier.BITS c.args.block c.requires.block) (lit< tt)
+    (eightfold_fits g.U.Underlier.BITS divides.0 c.args.block divides.1) c.BITS.ensures (omega arith) (c.loop-group.invariant old so_far)

@@ -1,0 +1,60 @@
+// The lanes of packed bits, one after the other.
+ghost use Rattle.std.specs.Prelude.{◌≡◌, ◌-◌, List, map};
+ghost use Rattle.std.specs.Array.{FillsFrom};
+ghost use Rattle.std.specs.Iterator.{YieldsFirstBy, at_most};
+ghost use Rattle.field_base.specs.Bit.{bit_number};
+ghost use Rattle.bits_packed.specs.Lanes.{lanes_from, bits_of};
+
+use crate::packed::PackedGf2;
+use bits_rows::Underlier;
+use field_base::Gf2;
+
+/// The lanes of packed bits that are left, the lowest first.
+#[derive(Drop)]
+pub struct Lanes<U: Underlier> {
+    packed: PackedGf2<U>,
+    next: usize,
+}
+
+impl<U: Underlier> Iterator for Lanes<U> {
+    type Item = Gf2;
+
+    ghost next_gives = { YieldsFirstBy bit_number (λ s. lanes_from U.BITS s.next (U.number s.packed.bits)) };
+
+    ghost remaining = { λ s. at_most (U.BITS - s.next) };
+
+    #[inline]
+    fn next(&mut self) -> Option<Gf2> {
+        if self.next >= U::BITS {
+            return None;
+        }
+        let lane = self.packed.get(self.next);
+        self.next += 1;
+        Some(lane)
+    }
+}
+
+impl<U: Underlier> PackedGf2<U> {
+    /// The lanes, lane 0 first.
+    #[inline]
+    pub fn lanes(self) -> Lanes<U>
+        ensures { lanes_from U.BITS result.next (U.number result.packed.bits) ≡ bits_of U.BITS (U.number self.bits) }
+    {
+        Lanes {
+            packed: self,
+            next: 0,
+        }
+    }
+
+    /// The packed bits whose lane i is `f(i)`. `f` is called for 0, 1, .., below `WIDTH`, in order, each once.
+    pub fn from_fn<F: FnMut(usize) -> Gf2>(mut f: F) -> PackedGf2<U>
+        requires { F.IsAlwaysCallable f }
+        ensures { (lanes : List Gf2) × (last : F) × FillsFrom F.step f 0 lanes last × (map bit_number lanes ≡ bits_of U.BITS (U.number result.bits)) }
+    {
+        let mut packed = PackedGf2::new(U::ZERO);
+        for lane in 0..U::BITS {
+            packed.set(lane, f(lane));
+        }
+        packed
+    }
+}

@@ -1,0 +1,28 @@
+-- The parts of rows, one row after the other.
+use Rattle.std.proofs.Common.{◌≡◌, ℕ, ◌+◌, ◌<◌, List, [], ◌∷◌, ◌++◌, length, map, sym, ap, ap₂, ◌∙◌, get_or, take}
+use Rattle.std.specs.List.{flat_map}
+use Rattle.std.proofs.Math.Seq.{take-suc}
+use Rattle.std.proofs.lemmas.Grind.{flat_map-append}
+use Rattle.std.proofs.lemmas.List.{append-nil, append_assoc, map-append}
+use native.Mathlib.Numerals.{add-one}
+use Rattle.bits_rows.specs.Parts.{part_at, parts_of}
+use Rattle.bits_rows.proofs.WordLists.{parts-next}
+
+-- one part more of the row that is being taken apart
+pub part_pushed : {A : Type 0} (number : A → ℕ) (width i n : ℕ) (items new : List A) (part : A) (begun : List ℕ) → new ≡ items ++ part ∷ []
+    → map number items ≡ begun ++ parts_of width i n → number part ≡ part_at width n i → map number new ≡ begun ++ parts_of width (i + 1) n
+part_pushed number width i n items new part begun is so_far value =
+    ap (map number) is ∙ map-append number items (part ∷ []) ∙ ap₂ (λ ys y. ys ++ y ∷ []) so_far value
+    ∙ append_assoc begun (parts_of width i n) (part_at width n i ∷ []) ∙ ap (λ ys. begun ++ ys) (sym (parts-next width i n))
+
+pub nothing_pushed : {A : Type 0} (xs : List A) → xs ≡ xs ++ []
+nothing_pushed xs = sym (append-nil xs)
+
+-- what all rows give, and one row more
+pub row_pushed : {A B : Type 0} (f : A → List B) (rows : List A) (place : ℕ) (row : A) (all : List B) → place < length rows
+    → row ≡ get_or rows place row → all ≡ flat_map f (take place rows) ++ f row → all ≡ flat_map f (take (place + 1) rows)
+row_pushed f rows place row all inside is so_far =
+    so_far
+    ∙ sym (ap (λ (n : ℕ). flat_map f (take n rows)) (add-one place)
+    ∙ ap (flat_map f) (take-suc rows place row inside ∙ ap (λ y. take place rows ++ y ∷ []) (sym is)) ∙ flat_map-append f (take place rows) (row ∷ [])
+    ∙ ap (λ ys. flat_map f (take place rows) ++ ys) (append-nil (f row)))

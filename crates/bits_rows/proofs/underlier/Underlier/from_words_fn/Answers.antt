@@ -1,0 +1,34 @@
+use Rattle.std.proofs.Common.{◌≡◌, ◌<◌, ℕ, true, refl, ◌∙◌, ap, sym, subst, arith, rules}
+use denote.Param.Always.{mut_next}
+use Rattle.bits_rows.specs.Parts.{parts_of}
+use Rattle.bits_rows.proofs.WordLists.{more_filled, nothing_filled}
+use Rattle.bits_rows.proofs.underlier.Underlier.from_words_fn.Goals as goal
+
+pub loop-i-init : goal.loop-i-init
+loop-i-init g c = (
+  c.requires,
+  nothing_filled g.Self.Word.Word.BITS g.Self.Word.Word.number _ _ _,
+  subst (λ x. g.Self.Underlier.is_whole x ≡ true) (sym c.ZERO-row.ensures) g.Self.Underlier.zero_whole,
+)
+
+pub loop-i-preserved : goal.loop-i-preserved
+loop-i-preserved g c =
+    let inside : c.loop-i.i < g.Self.Underlier.WORD_COUNT = search rules in (
+      mut_next g.F.FnMut _ _ _ _ _ c.f.ensures refl c.loop-i.invariant.0,
+      more_filled g.Self.Word.Word.BITS g.Self.Word.Word.number _ _ g.Self.Underlier.WORD_COUNT c.loop-i.i _ _ _ _ c.f.result
+          c.loop-i.invariant.1 inside c.f.ensures c.set_word.ensures.replaced,
+      c.set_word.ensures.whole,
+    )
+
+pub returns-clause-filled : goal.returns-clause-filled
+returns-clause-filled g c =
+    let done = c.loop-i.invariant.1 in
+    let all : c.loop-i.i ≡ g.Self.Underlier.WORD_COUNT = omega arith in (
+      done.taken,
+      c.loop-i.f,
+      done.fills,
+      done.are ∙ ap (λ (n : ℕ). parts_of g.Self.Word.Word.BITS n (g.Self.Underlier.number c.loop-i.row)) all,
+    )
+
+pub returns-clause-whole : goal.returns-clause-whole
+returns-clause-whole g c = c.loop-i.invariant.2

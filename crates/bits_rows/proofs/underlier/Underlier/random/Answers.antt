@@ -1,0 +1,11 @@
+use Rattle.std.proofs.Common.{◌<◌, rules}
+use Rattle.bits_rows.proofs.WordLists.{more_filled}
+use Rattle.bits_rows.proofs.underlier.Underlier.random.Goals as goal
+
+pub loop-i-preserved : goal.loop-i-preserved
+loop-i-preserved g c =
+    let inside : c.loop-i.i < g.Self.Underlier.WORD_COUNT = search rules in (
+      more_filled g.Self.Word.Word.BITS g.Self.Word.Word.number _ _ g.Self.Underlier.WORD_COUNT c.loop-i.i _ _ _ _ c.sample_standard-word.result
+          c.loop-i.invariant.0 inside c.sample_standard-word.ensures.drawn c.set_word.ensures.replaced,
+      c.set_word.ensures.whole,
+    )

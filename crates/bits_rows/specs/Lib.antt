@@ -1,0 +1,4 @@
+pub mod Joined
+pub mod Operators
+pub mod Parts
+pub mod Narrow

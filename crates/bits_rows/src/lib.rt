@@ -1,0 +1,23 @@
+//! Words, blocks of words, and the parts of either: rows of 8 to 512 bits, each of which stands for one number.
+#![tactic(auto)]
+
+mod bits;
+mod block;
+mod divisible;
+mod narrow;
+mod pairs;
+mod rows;
+mod sealed;
+mod underlier;
+mod word;
+mod words;
+
+pub use crate::bits::{
+    even_word, field, interleave_word, join_even_blocks, join_odd_blocks, with_field,
+};
+pub use crate::block::{Block, M128, M256, M512};
+pub use crate::divisible::Divisible;
+pub use crate::narrow::{narrow_word, set_narrow_word};
+pub use crate::rows::{bits_and, bits_xor, count_bits, interleave_words};
+pub use crate::underlier::Underlier;
+pub use crate::word::Word;

@@ -1,0 +1,137 @@
+// What packed bits are stored in: one word, or a block of words.
+ghost use Rattle.std.specs.Prelude.{◌≡◌, ◌↔◌, ◌<◌, ◌-◌, ◌*◌, ◌^◌, ℕ, Bool, IsTrue, List, map};
+ghost use Rattle.std.specs.Array.{FillsFrom};
+ghost use Rattle.bits_rows.specs.Parts.{HasFirstBlocks, HasSecondBlocks, IsBlockSize, IsWithPart, IsZipped, part_at, parts_of};
+
+use crate::sealed::Sealed;
+use crate::word::Word;
+use rand::distr::SampleStandard;
+use rand_core::Rng;
+use std::fmt::Debug;
+use std::hash::Hash;
+
+/// A row of bits that is stored in words: a word itself, or one of the blocks `M128`, `M256` and `M512`. It stands for
+/// one number, whose lowest bits are those of the first word: bit j of word i is bit `W * i + j` of the number, for
+/// words of `W` bits.
+pub trait Underlier: Sealed + Copy + Debug + Default + PartialEq + Eq + Hash {
+    /// The words that the row is stored in.
+    type Word: Word;
+
+    // The number of a row, and whether it has its words and each is a number of their bits. There are 2 to the power
+    // `log_words` of them.
+    ghost number: { Self → ℕ };
+
+    ghost is_whole: { Self → Bool };
+
+    ghost log_words: { ℕ };
+
+    /// How many words a row has.
+    const WORD_COUNT: usize;
+
+    ghost WORD_COUNT: { ℕ };
+
+    /// How many bits a row has.
+    const BITS: usize;
+
+    ghost BITS: { ℕ };
+
+    /// The row without a set bit.
+    const ZERO: Self;
+
+    ghost ZERO: { Self };
+
+    /// The row whose bits are all set.
+    const ONES: Self;
+
+    ghost ONES: { Self };
+
+    ghost zero_whole: { IsTrue (is_whole ZERO) };
+
+    ghost zero_number: { number ZERO ≡ 0 };
+
+    ghost ones_whole: { IsTrue (is_whole ONES) };
+
+    ghost ones_number: { number ONES ≡ 2 ^ BITS - 1 };
+
+    ghost range_law: { (x : Self) → IsTrue (is_whole x) → number x < 2 ^ BITS };
+
+    ghost same_law: { (x y : Self) → IsTrue (is_whole x) → IsTrue (is_whole y) → number x ≡ number y → x ≡ y };
+
+    /// The words, the lowest first.
+    fn words(&self) -> &[Self::Word]
+        ensures { map Self.Word.number result.now ≡ parts_of Self.Word.BITS WORD_COUNT (number self.now) };
+
+    /// Word `i`, counted from the lowest. It asks for `i` below `WORD_COUNT`.
+    fn word(&self, i: usize) -> Self::Word
+        requires { i < WORD_COUNT }
+        ensures { Self.Word.number result ≡ part_at Self.Word.BITS (number self.now) i };
+
+    /// Writes word `i`, counted from the lowest, and keeps the others. It asks for `i` below `WORD_COUNT`.
+    fn set_word(&mut self, i: usize, word: Self::Word)
+        requires { i < WORD_COUNT }
+        ensures replaced { IsWithPart Self.Word.BITS WORD_COUNT (number self.old) i (Self.Word.number word) (number self.new) }
+        ensures whole { IsTrue (is_whole self.new) };
+
+    /// The row itself, each of whose words is a number of its bits.
+    fn checked(&self) -> Self
+        ensures same { result ≡ self.now }
+        ensures whole { IsTrue (is_whole self.now) };
+
+    /// Both results of interleaving the row and the other by blocks of `block` bits. It asks for a power of two below the
+    /// bits of a word.
+    fn interleave_in_words(&self, other: &Self, block: u32) -> (Self, Self)
+        requires { IsBlockSize Self.Word.BITS block }
+        ensures first { HasFirstBlocks BITS block (number self.now) (number other.now) (number result.0) }
+        ensures second { HasSecondBlocks BITS block (number self.now) (number other.now) (number result.1) }
+        ensures first_whole { IsTrue (is_whole result.0) }
+        ensures second_whole { IsTrue (is_whole result.1) };
+
+    /// The row whose word i is `f(i)`. `f` is called for 0, 1, .., below `WORD_COUNT`, in order, each once.
+    final fn from_words_fn<F: FnMut(usize) -> Self::Word>(mut f: F) -> Self
+        requires { F.IsAlwaysCallable f }
+        ensures filled { (words : List Self.Word) × (last : F) × FillsFrom F.step f 0 words last × (map Self.Word.number words ≡ parts_of Self.Word.BITS WORD_COUNT (number result)) }
+        ensures whole { IsTrue (is_whole result) }
+    {
+        let mut row = Self::ZERO;
+        for i in 0..Self::WORD_COUNT {
+            row.set_word(i, f(i));
+        }
+        row
+    }
+
+    /// The row whose word i is `f` of word i of this row and word i of the other.
+    final fn zip<F: Fn(Self::Word, Self::Word) -> Self::Word>(self, other: Self, f: F) -> Self
+        requires { F.IsAlwaysCallable f }
+        ensures each { IsZipped Self.Word.BITS Self.Word.number (λ x y z. F.post f x y z) WORD_COUNT (number self) (number other) (number result) }
+        ensures whole { IsTrue (is_whole result) }
+    {
+        let mut row = Self::ZERO;
+        for i in 0..Self::WORD_COUNT {
+            row.set_word(i, f(self.word(i), other.word(i)));
+        }
+        row
+    }
+
+    /// A row each of whose words is drawn, word 0 first.
+    final fn random<R: Rng>(rng: &mut R) -> Self
+        ensures drawn { (words : List Self.Word) × FillsFrom (λ s i word t. Self.Word.draws s word t) (R.stream rng.old) 0 words (R.stream rng.new) × (map Self.Word.number words ≡ parts_of Self.Word.BITS WORD_COUNT (number result)) }
+        ensures whole { IsTrue (is_whole result) }
+    {
+        let mut row = Self::ZERO;
+        for i in 0..Self::WORD_COUNT {
+            let word = Self::Word::sample_standard(rng);
+            row.set_word(i, word);
+        }
+        row
+    }
+
+    ghost words_law: { WORD_COUNT ≡ 2 ^ log_words };
+
+    ghost bits_law: { BITS ≡ Self.Word.BITS * WORD_COUNT };
+
+    ghost narrow_law: { BITS < 2 ^ 32 };
+
+    ghost eq_law: { (x y : Self) → IsTrue (Self.PartialEq.eq x y) ↔ (x ≡ y) };
+
+    ghost default_law: { (r : Self) → Self.is_default r → r ≡ ZERO };
+}

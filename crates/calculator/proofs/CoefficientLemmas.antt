@@ -1,0 +1,119 @@
+-- Three coefficients of 64 bits, as one number and as text.
+use Rattle.std.proofs.Common.{◌≡◌, ℕ, zero, suc, ◌+◌, ◌*◌, ◌/◌, ◌%◌, ◌^◌, ◌<◌, ◌≤◌, List, [], ◌∷◌, ◌++◌, get_or, map, Some, refl, sym, subst, ◌∙◌, ap, arith, lit<}
+use Rattle.std.specs.Prelude.{bit_or}
+use Rattle.std.specs.Option.{option_map}
+use Rattle.std.specs.Int.{bytes_high_first}
+use Rattle.std.proofs.Math.ListN.{get_or-map}
+use Rattle.std.proofs.Math.Nat.{mod-eq_of_lt, pow-suc, pow-le-pow_right}
+use Rattle.std.proofs.lemmas.Nat.{or_shifted, pow-add}
+use Rattle.hex.specs.Hex.{lower_digits, encode_with}
+use Rattle.field_base.specs.Chunks.{chunk, chunks}
+use Rattle.field_base.specs.Remainder.{aes_modulus, poly64_modulus, ghash_modulus}
+use Rattle.word_cubic.specs.Cubic.{triple}
+use Rattle.word_cubic.proofs.CubicRing.{same₃, chunk_below, chunks-triple, first-triple, second-triple, third-triple, triple-chunks, triple-lt}
+use Rattle.calculator.specs.Digits.{low_digits}
+use Rattle.calculator.specs.Elements.{CoefficientsStandInOrder, ElementIsReadBack}
+use Rattle.calculator.specs.Fields.{FieldOf, bytes_of, lowest_first, tower_level, polynomials_modulo, cubic_extension, field_named}
+use Rattle.calculator.proofs.DigitLemmas.{encode_with-bytes, operand_value-hex_text}
+use Rattle.calculator.proofs.NamedFields.{of_named}
+use Rattle.calculator.proofs.NumberLemmas.{bytes-joined}
+
+-- ---- the number that is written and that of the element
+
+lowest_first-triple : (c0 c1 c2 : ℕ) → c0 < 2 ^ 64 → c1 < 2 ^ 64 → c2 < 2 ^ 64
+    → lowest_first (triple 64 c0 c1 c2) ≡ triple 64 c2 c1 c0
+lowest_first-triple c0 c1 c2 fits0 fits1 fits2 =
+    same₃ (triple 64) (third-triple 64 c0 c1 c2 fits0 fits1 fits2) (second-triple 64 c0 c1 c2 fits0 fits1)
+    (first-triple 64 c0 c1 c2 fits0)
+
+-- the element of the coefficients that a number writes
+pub element-written : (element high low c0 c1 c2 : ℕ) → element < 2 ^ 192 → chunks 64 3 element ≡ c0 ∷ c1 ∷ c2 ∷ []
+    → high < 2 ^ 64 → low < 2 ^ 128 → c0 ≡ high % 2 ^ 64 → c1 ≡ low / 2 ^ 64 % 2 ^ 64 → c2 ≡ low % 2 ^ 64 % 2 ^ 64
+    → element ≡ lowest_first (high * 2 ^ 128 + low)
+unfolding chunks
+element-written element high low c0 c1 c2 fits parts high_fits low_fits first second third =
+    let written = high * 2 ^ 128 + low in
+    let place0 : chunk 64 0 element ≡ chunk 64 2 written = ap (λ (l : List ℕ). get_or l 0 0) parts ∙ omega (arith, first) in
+    let place1 : chunk 64 1 element ≡ chunk 64 1 written = ap (λ (l : List ℕ). get_or l 1 0) parts ∙ omega (arith, second) in
+    let place2 : chunk 64 2 element ≡ chunk 64 0 written = ap (λ (l : List ℕ). get_or l 2 0) parts ∙ omega (arith, third) in
+    sym (mod-eq_of_lt fits) ∙ sym (triple-chunks 64 element) ∙ same₃ (triple 64) place0 place1 place2
+
+-- a coefficient of the list of all three
+pub coefficient-at : {A : Type 0} (f : A → ℕ) (parts : List A) (c0 c1 c2 i : ℕ) (other : A) → c0 < 2 ^ 64 → c1 < 2 ^ 64 → c2 < 2 ^ 64
+    → map f parts ≡ chunks 64 3 (triple 64 c0 c1 c2) → f (get_or parts i other) ≡ get_or (c0 ∷ c1 ∷ c2 ∷ []) i (f other)
+coefficient-at f parts c0 c1 c2 i other fits0 fits1 fits2 same =
+    sym (get_or-map f parts i other)
+    ∙ ap (λ (l : List ℕ). get_or l i (f other)) (same ∙ chunks-triple 64 c0 c1 c2 fits0 fits1 fits2)
+
+-- the number that writes the coefficients of an element
+pub number-written : (high middle low c0 c1 c2 : ℕ) → c0 < 2 ^ 64 → c1 < 2 ^ 64 → c2 < 2 ^ 64 → high ≡ c0 → middle ≡ c1 → low ≡ c2
+    → high * 2 ^ 128 + bit_or (middle * 2 ^ 64 % 2 ^ 128) low ≡ lowest_first (triple 64 c0 c1 c2)
+number-written high middle low c0 c1 c2 fits0 fits1 fits2 first second third =
+    let kept : middle * 2 ^ 64 % 2 ^ 128 ≡ middle * 2 ^ 64 = omega (arith, second) in
+    let joined : bit_or (middle * 2 ^ 64 % 2 ^ 128) low ≡ middle * 2 ^ 64 + low =
+    ap (λ (n : ℕ). bit_or n low) kept ∙ or_shifted middle 64 low (omega (arith, third)) in
+    let whole : high * 2 ^ 128 + bit_or (middle * 2 ^ 64 % 2 ^ 128) low ≡ triple 64 c2 c1 c0 =
+    omega (arith, joined, first, second, third) in
+    whole ∙ sym (lowest_first-triple c0 c1 c2 fits0 fits1 fits2)
+
+-- ---- elements are read back
+
+abbrev TurnsBack : FieldOf → Type 0
+TurnsBack field = (x : ℕ) → x < 2 ^ field.bits → (field.order x < 2 ^ field.bits) × (field.order (field.order x) ≡ x)
+
+tower-back : (k : ℕ) → TurnsBack (tower_level k)
+tower-back k x fits = (fits, refl)
+
+polynomials-back : (bits modulus : ℕ) → TurnsBack (polynomials_modulo bits modulus)
+polynomials-back bits modulus x fits = (fits, refl)
+
+cubic-back : TurnsBack cubic_extension
+cubic-back x fits =
+    let below = λ (i : ℕ). chunk_below 64 i x in (
+      triple-lt 64 (chunk 64 2 x) (chunk 64 1 x) (chunk 64 0 x) (below 2) (below 1) (below 0),
+      lowest_first-triple (chunk 64 2 x) (chunk 64 1 x) (chunk 64 0 x) (below 2) (below 1) (below 0)
+          ∙ triple-chunks 64 x ∙ mod-eq_of_lt fits,
+    )
+
+named-back : (name : List ℕ) (field : FieldOf) → field_named name ≡ Some field → TurnsBack field
+named-back =
+    of_named TurnsBack tower-back (polynomials-back 8 aes_modulus) (polynomials-back 64 poly64_modulus)
+    (polynomials-back 128 ghash_modulus) cubic-back
+
+bytes-pow : (count : ℕ) → 256 ^ count ≡ 2 ^ (8 * count)
+bytes-pow zero = refl
+bytes-pow (suc count) =
+    let next : 8 * suc count ≡ 8 * count + 8 = omega arith in
+    pow-suc 256 count ∙ ap (λ (n : ℕ). n * 256) (bytes-pow count)
+    ∙ sym (ap (λ (n : ℕ). 2 ^ n) next ∙ pow-add 2 (8 * count) 8)
+
+pub element-read_back : ElementIsReadBack
+element-read_back name field is x fits =
+    let back = named-back name field is x fits in
+    let room : 2 ^ field.bits ≤ 2 ^ (8 * bytes_of field) = pow-le-pow_right {n = 2} (lit< tt) {i = field.bits} {j = 8 * bytes_of field} (omega arith) in
+    let fits_bytes : field.order x < 256 ^ bytes_of field =
+    subst (λ (m : ℕ). field.order x < m) (sym (bytes-pow (bytes_of field))) (omega (arith, back.0, room)) in
+    ap (option_map field.order) (operand_value-hex_text (bytes_of field) (field.order x) fits_bytes) ∙ ap Some back.1
+
+-- ---- the text of coefficients
+
+encode_with-append : (table front back : List ℕ) → encode_with table (front ++ back) ≡ encode_with table front ++ encode_with table back
+unfolding encode_with
+encode_with-append table [] back = refl
+encode_with-append table (byte ∷ front) back = rw (encode_with-append table front back) refl
+
+pub coefficients-in_order : CoefficientsStandInOrder
+unfolding low_digits
+coefficients-in_order c0 c1 c2 fits0 fits1 fits2 =
+    let text = λ (count n : ℕ). sym (encode_with-bytes count n) in
+    let low = c1 * 256 ^ 8 + c2 in
+    let written : lowest_first (triple 64 c0 c1 c2) ≡ c0 * 256 ^ 16 + low =
+    lowest_first-triple c0 c1 c2 fits0 fits1 fits2 ∙ omega arith in
+    let all : bytes_high_first 24 (c0 * 256 ^ 16 + low) ≡ bytes_high_first 8 c0 ++ bytes_high_first 16 low =
+    bytes-joined 8 16 c0 low (omega arith) in
+    let last : bytes_high_first 16 low ≡ bytes_high_first 8 c1 ++ bytes_high_first 8 c2 = bytes-joined 8 8 c1 c2 fits2 in
+    ap (low_digits 48) written ∙ text 24 (c0 * 256 ^ 16 + low) ∙ ap (encode_with lower_digits) all
+    ∙ encode_with-append lower_digits (bytes_high_first 8 c0) (bytes_high_first 16 low)
+    ∙ (λ i. encode_with-bytes 8 c0 i ++ (ap (encode_with lower_digits) last
+    ∙ encode_with-append lower_digits (bytes_high_first 8 c1) (bytes_high_first 8 c2)
+    ∙ (λ j. encode_with-bytes 8 c1 j ++ encode_with-bytes 8 c2 j)) i)

@@ -1,0 +1,185 @@
+//! Reading lines and writing their answers.
+ghost use Rattle.std.specs.Prelude.{◌≡◌, ℕ, false, List, [], ◌∷◌, ◌++◌, OnOk, OnErr, IfErr};
+ghost use Rattle.calculator.specs.Answer.{answer_of};
+ghost use Rattle.std.specs.Io.KnownBytes.{Appends};
+ghost use Rattle.calculator.specs.Lines.{lines, answers, finished, IsLine, AreLinesOf, IsFinished};
+ghost use Rattle.calculator.specs.Outbox.{waiting};
+ghost use Rattle.calculator.specs.Progress.{Takes, AnswersLines, AnswersAll, AnswersFront, GainsFront, GaveSome};
+ghost use Rattle.calculator.specs.RunError.{FailedEnds, FailedWriter};
+ghost use Rattle.calculator.specs.Watched.{watched_inner, has_failed};
+ghost use Rattle.calculator.specs.declared.error.RunError.TheVariants.{Memory};
+
+use crate::error::RunError;
+use crate::line::answer;
+use crate::outbox::Outbox;
+use crate::watched::Watched;
+use memchr::memchr;
+use std::alloc::Allocator;
+use std::io::{Read, Write};
+
+const CHUNK: usize = 8192;
+
+/// Reads `reader` to its end, and writes the answer to each line and a line feed to `writer`.
+///
+/// A line ends with a line feed; a last line without one counts if it has a byte. Memory is taken
+/// only for a line that goes past what one read gave. At the end the writer is flushed.
+///
+/// `Read` and `Write` come only where that end has failed, and `Memory` only where a growth was
+/// refused for a line of which a byte was read. No failure is tried again. After one, what was
+/// written is a beginning of the answers to the lines that were read; a line is read with its line
+/// feed or the end of the input.
+pub fn run<A: Allocator, R: Read, W: Write>(
+    alloc: A,
+    reader: &mut Watched<R>,
+    writer: &mut Watched<W>,
+) -> Result<(), RunError>
+    requires reader { has_failed reader.old ≡ false }
+    requires writer { has_failed writer.old ≡ false }
+    ensures ok { OnOk result (AnswersAll
+        (R.remaining (watched_inner reader.old)) (R.remaining (watched_inner reader.new))
+        (W.contents (watched_inner writer.old)) (W.contents (watched_inner writer.new))) }
+    ensures err { OnErr result (AnswersFront
+        (R.remaining (watched_inner reader.old)) (R.remaining (watched_inner reader.new))
+        (W.contents (watched_inner writer.old)) (W.contents (watched_inner writer.new))) }
+    ensures failed { FailedEnds result (has_failed reader.new) (has_failed writer.new) }
+    ensures memory { IfErr result (λ fault. fault ≡ Memory → GaveSome
+        (R.remaining (watched_inner reader.old)) (R.remaining (watched_inner reader.new))) }
+{
+    let mut chunk = [0; CHUNK];
+    let mut line = Vec::new(alloc);
+    let mut outbox = Outbox::new();
+    'reads: loop {
+        match reader.read(&mut chunk) {
+            Ok(0) => return finish(line.as_slice(), &mut outbox, writer),
+            Ok(count) => answer_lines(&chunk[..count], &mut line, &mut outbox, writer)?,
+            Err(_) => return Err(RunError::Read),
+        }
+    }
+}
+
+// Answers the lines that end in `chunk`. `line` has the bytes of the line that has not ended.
+fn answer_lines<A: Allocator, W: Write>(
+    chunk: &[u8],
+    line: &mut Vec<u8, A>,
+    outbox: &mut Outbox,
+    writer: &mut Watched<W>,
+) -> Result<(), RunError>
+    requires line { IsLine line.old.items }
+    requires writer { has_failed writer.old ≡ false }
+    ensures ok { OnOk result (AnswersLines (W.contents (watched_inner writer.old))
+        (W.contents (watched_inner writer.new)) (waiting outbox.old) (waiting outbox.new)
+        (line.old.items ++ chunk.now) line.new.items) }
+    ensures line { OnOk result (IsLine line.new.items) }
+    ensures err { OnErr result ((left rest : List ℕ) × AnswersLines
+        (W.contents (watched_inner writer.old)) (W.contents (watched_inner writer.new))
+        (waiting outbox.old) left (line.old.items ++ chunk.now) rest) }
+    ensures failed { FailedEnds result false (has_failed writer.new) }
+{
+    let mut start = 0;
+    'lines: while let Some(len) = memchr(b'\n', &chunk[start..]) {
+        end_line(&chunk[start..start + len], line, outbox, writer)?;
+        start += len + 1;
+    }
+    match line.extend_from_slice(&chunk[start..]) {
+        Ok(()) => Ok(()),
+        Err(_) => Err(RunError::Memory),
+    }
+}
+
+// Answers `line` with `tail` behind it, and empties `line`.
+fn end_line<A: Allocator, W: Write>(
+    tail: &[u8],
+    line: &mut Vec<u8, A>,
+    outbox: &mut Outbox,
+    writer: &mut Watched<W>,
+) -> Result<(), RunError>
+    requires { has_failed writer.old ≡ false }
+    ensures ok { OnOk result (Takes (W.contents (watched_inner writer.old))
+        (W.contents (watched_inner writer.new))
+        (waiting outbox.old ++ (answer_of (line.old.items ++ tail.now) ++ 10 ∷ []))
+        (waiting outbox.new)) }
+    ensures empty { OnOk result (line.new.items ≡ []) }
+    ensures err { OnErr result (GainsFront (W.contents (watched_inner writer.old))
+        (W.contents (watched_inner writer.new)) (waiting outbox.old)) }
+    ensures failed { FailedEnds result false (has_failed writer.new) }
+{
+    if line.is_empty() {
+        return answer_line(tail, outbox, writer);
+    }
+    if line.extend_from_slice(tail).is_err() {
+        return Err(RunError::Memory);
+    }
+    answer_line(line.as_slice(), outbox, writer)?;
+    line.clear();
+    Ok(())
+}
+
+// Puts the answer to `line` behind what waits.
+fn answer_line<W: Write>(
+    line: &[u8],
+    outbox: &mut Outbox,
+    writer: &mut Watched<W>,
+) -> Result<(), RunError>
+    requires { has_failed writer.old ≡ false }
+    ensures ok { OnOk result (Takes (W.contents (watched_inner writer.old))
+        (W.contents (watched_inner writer.new)) (waiting outbox.old ++ (answer_of line.now ++ 10 ∷ []))
+        (waiting outbox.new)) }
+    ensures err { OnErr result (GainsFront (W.contents (watched_inner writer.old))
+        (W.contents (watched_inner writer.new)) (waiting outbox.old)) }
+    ensures failed { FailedWriter result (has_failed writer.new) }
+{
+    outbox.push_line(answer(line).as_bytes(), writer)
+}
+
+// Answers the last line, if it has a byte.
+fn answer_last<W: Write>(
+    line: &[u8],
+    outbox: &mut Outbox,
+    writer: &mut Watched<W>,
+) -> Result<(), RunError>
+    requires line { IsLine line.now }
+    requires writer { has_failed writer.old ≡ false }
+    ensures ok { OnOk result (Takes (W.contents (watched_inner writer.old))
+        (W.contents (watched_inner writer.new)) (waiting outbox.old ++ answers line.now)
+        (waiting outbox.new)) }
+    ensures err { OnErr result (GainsFront (W.contents (watched_inner writer.old))
+        (W.contents (watched_inner writer.new)) (waiting outbox.old)) }
+    ensures failed { FailedWriter result (has_failed writer.new) }
+{
+    if line.is_empty() {
+        Ok(())
+    } else {
+        answer_line(line, outbox, writer)
+    }
+}
+
+// Answers the last line, and writes all that waits.
+fn finish<W: Write>(
+    line: &[u8],
+    outbox: &mut Outbox,
+    writer: &mut Watched<W>,
+) -> Result<(), RunError>
+    requires line { IsLine line.now }
+    requires writer { has_failed writer.old ≡ false }
+    ensures ok { OnOk result (Appends (W.contents (watched_inner writer.old))
+        (W.contents (watched_inner writer.new)) (waiting outbox.old ++ answers line.now)) }
+    ensures err { OnErr result (GainsFront (W.contents (watched_inner writer.old))
+        (W.contents (watched_inner writer.new)) (waiting outbox.old ++ answers line.now)) }
+    ensures failed { FailedWriter result (has_failed writer.new) }
+{
+    answer_last(line, outbox, writer)?;
+    outbox.write_to(writer)?;
+    match writer.flush() {
+        Ok(()) => Ok(()),
+        Err(_) => Err(RunError::Write),
+    }
+}
+
+/// What a line is: no line has a line feed, and the lines of any bytes, each with its line feed,
+/// join to those bytes, with a line feed after them where the last line has none.
+///
+/// Of any bytes those up to the last line feed have ended.
+pub fn lines_law()
+    ensures lines { (bytes : List ℕ) → AreLinesOf (lines bytes) bytes }
+    ensures finished { (bytes : List ℕ) → IsFinished (finished bytes) bytes }
+{}

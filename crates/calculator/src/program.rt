@@ -1,0 +1,34 @@
+//! The program, over the streams that it is given.
+ghost use Rattle.std.specs.Prelude.{◌≡◌, ◌≢◌, false};
+ghost use Rattle.std.specs.Process.{exit_status};
+ghost use Rattle.calculator.specs.Progress.{AnswersAll, AnswersFront};
+ghost use Rattle.calculator.specs.Watched.{watched_inner, has_failed};
+
+use crate::engine::run;
+use crate::watched::Watched;
+use std::io::{Read, Write};
+use std::process::ExitCode;
+
+/// Answers the lines of `reader` to `writer`, as [`run`]. Where that fails, standard error says why, and the program's status is 1.
+pub fn run_program<H: Alloc + Eprint, R: Read, W: Write>(
+    rt: &H,
+    reader: &mut Watched<R>,
+    writer: &mut Watched<W>,
+) -> ExitCode
+    requires reader { has_failed reader.old ≡ false }
+    requires writer { has_failed writer.old ≡ false }
+    ensures ok { exit_status result ≡ 0 → AnswersAll
+        (R.remaining (watched_inner reader.old)) (R.remaining (watched_inner reader.new))
+        (W.contents (watched_inner writer.old)) (W.contents (watched_inner writer.new)) }
+    ensures err { exit_status result ≢ 0 → AnswersFront
+        (R.remaining (watched_inner reader.old)) (R.remaining (watched_inner reader.new))
+        (W.contents (watched_inner writer.old)) (W.contents (watched_inner writer.new)) }
+{
+    match run(rt.alloc(), reader, writer) {
+        Ok(()) => ExitCode::SUCCESS,
+        Err(fault) => {
+            let _ = eprint!(rt; "{}", fault.line());
+            ExitCode::FAILURE
+        }
+    }
+}

@@ -1,0 +1,46 @@
+-- Images one after the other, and of one map after another.
+use Rattle.std.proofs.Common.{◌≡◌, ℕ, zero, suc, ◌+◌, ◌^◌, ◌<◌, ◌≤◌, List, [], ◌∷◌, ◌++◌, drop, length, map, take, refl, sym, ◌∙◌, ap, ap₂, subst, arith}
+use Rattle.std.specs.Prelude.{bit_xor, slice_index, slice_set}
+use Rattle.std.proofs.lemmas.List.{append-nil, drop_all, length-map, take_all}
+use Rattle.std.proofs.lemmas.List.Edits.{map_over_more}
+use Rattle.field_base.specs.LinearMaps.{linear_image}
+use Rattle.field_base.proofs.LinearMapLemmas.{the_linear_map}
+use Rattle.packed_lanes.proofs.LanePoints.{same_entry}
+
+pub entry_of_map : (f : ℕ → ℕ) (xs : List ℕ) (i : ℕ) → i < length xs → slice_index (map f xs) i ≡ f (slice_index xs i)
+entry_of_map f [] i within = absurd (omega (arith, within))
+entry_of_map f (x ∷ xs) zero within = refl
+entry_of_map f (x ∷ xs) (suc i) within = entry_of_map f xs i (omega (arith, within))
+
+-- one place more is written over
+pub place_written : (f : ℕ → ℕ) (xs ys : List ℕ) (i v : ℕ) → i < length xs → i < length ys
+    → ys ≡ map f (take i xs) ++ drop i xs → v ≡ f (slice_index ys i)
+    → slice_set ys i v ≡ map f (take (i + 1) xs) ++ drop (i + 1) xs
+place_written f xs ys i v within also so_far is =
+    ap (slice_set ys i) is
+    ∙ map_over_more f xs ys i (slice_index ys i) within so_far (same_entry ys i 0 (slice_index ys i) also)
+
+pub all_written : (f : ℕ → ℕ) (xs ys : List ℕ) (i : ℕ) → length xs ≤ i → ys ≡ map f (take i xs) ++ drop i xs → ys ≡ map f xs
+all_written f xs ys i past so_far =
+    so_far ∙ ap₂ (λ (front back : List ℕ). map f front ++ back) (take_all i xs past) (drop_all i xs past)
+    ∙ append-nil (map f xs)
+
+-- the map whose images are the images of images is the one map after the other
+pub one_after_other : (outer first both : List ℕ) → both ≡ map (linear_image outer) first → (x : ℕ) → x < 2 ^ length first
+    → linear_image both x ≡ linear_image outer (linear_image first x)
+one_after_other outer first both is x fits =
+    sym ((the_linear_map both).only (λ y. linear_image outer (linear_image first y)) keeps agrees x
+    (subst (λ (n : ℕ). x < 2 ^ n) (sym long) fits))
+  where
+    long : length both ≡ length first
+    long = ap length is ∙ length-map first (linear_image outer)
+
+    keeps : (a b : ℕ) → linear_image outer (linear_image first (bit_xor a b))
+        ≡ bit_xor (linear_image outer (linear_image first a)) (linear_image outer (linear_image first b))
+    keeps a b = ap (linear_image outer) ((the_linear_map first).of_sum a b) ∙ (the_linear_map outer).of_sum _ _
+
+    agrees : (j : ℕ) → j < length both → linear_image outer (linear_image first (2 ^ j)) ≡ slice_index both j
+    agrees j below =
+        let within : j < length first = omega (arith, below, long) in
+        ap (linear_image outer) ((the_linear_map first).of_bit j within)
+        ∙ sym (entry_of_map (linear_image outer) first j within) ∙ ap (λ (xs : List ℕ). slice_index xs j) (sym is)

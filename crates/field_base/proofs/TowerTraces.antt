@@ -1,0 +1,89 @@
+-- At every level of the tower the adjoined root and its inverse have the trace 1, 2 ^ k squarings return each element,
+-- and each element but 0 has an inverse.
+use Rattle.std.proofs.Common.{◌≡◌, ℕ, zero, suc, ◌*◌, ◌%◌, ◌^◌, ◌<◌, refl, sym, ◌∙◌, ap, subst, arith, lit<}
+use Rattle.std.proofs.lemmas.Nat.{pow_pos}
+use native.Mathlib.Nat.{mod-lt, one-mul}
+use Rattle.field_base.specs.Field.{HasInverses}
+use Rattle.field_base.specs.Quadratic.{high_half, pair, quadratic}
+use Rattle.field_base.specs.Powers.{repeated_square, sum_of_squarings}
+use Rattle.field_base.specs.Tower.{root, tower_mul}
+use Rattle.field_base.specs.TowerField.{trace, root_inverse, TracesAreOne, RootInverse, NoLevelHasARoot, NonzeroHasInverse, SquaringsReturn}
+use Rattle.field_base.proofs.TowerRing.{tower_ring, bits_double}
+use Rattle.field_base.specs.BitRing.{two_cases}
+use Rattle.field_base.proofs.Norms.{quadratic-inverses}
+use Rattle.field_base.proofs.QuadraticTraces.{HasUnitTraces, quadratic-no_root, quadratic-trace, quadratic-unit_traces}
+
+-- ---- level 0
+
+bits_repeated_square : (a : ℕ) → repeated_square 1 (tower_mul 0) 1 a ≡ a % 2
+unfolding repeated_square tower_mul
+bits_repeated_square a = two_cases (λ x. (1 * x) % 2 * ((1 * x) % 2) ≡ x) refl refl (a % 2) (mod-lt a (lit< tt))
+
+bits_traces : HasUnitTraces 1 (tower_mul 0) (root 0) (root_inverse 0)
+unfolding repeated_square sum_of_squarings tower_mul root root_inverse
+bits_traces = record {
+  wide = lit< tt;
+  t_fits = lit< tt;
+  s_fits = lit< tt;
+  unit = refl;
+  returns = bits_repeated_square;
+  t_trace = refl;
+  s_trace = refl;
+}
+
+bits_inverses : HasInverses 1 (tower_mul 0)
+unfolding tower_mul
+bits_inverses zero fits nonzero = absurd (nonzero refl)
+bits_inverses (suc zero) fits nonzero = (1, lit< tt, refl)
+bits_inverses (suc (suc a)) fits nonzero = absurd (omega arith)
+
+-- ---- every level
+
+pub tower_traces : (k : ℕ) → HasUnitTraces (2 ^ k) (tower_mul k) (root k) (root_inverse k)
+unfolding tower_mul root root_inverse
+tower_traces zero = bits_traces
+tower_traces (suc k) =
+    subst (λ (x : ℕ). HasUnitTraces x (quadratic (2 ^ k) (tower_mul k) (root k)) (2 ^ 2 ^ k) (pair (2 ^ k) (root k) 1))
+    (bits_double k)
+    (quadratic-unit_traces (2 ^ k) (tower_mul k) (tower_ring k) (root k) (root_inverse k) (tower_traces k))
+
+pub tower_no_root : NoLevelHasARoot
+tower_no_root k x = quadratic-no_root (2 ^ k) (tower_mul k) (tower_ring k) (root k) (root_inverse k) (tower_traces k) x
+
+pub tower_inverses : NonzeroHasInverse
+unfolding tower_mul
+tower_inverses zero = bits_inverses
+tower_inverses (suc k) =
+    subst (λ (x : ℕ). HasInverses x (quadratic (2 ^ k) (tower_mul k) (root k))) (bits_double k)
+    (quadratic-inverses (2 ^ k) (tower_mul k) (tower_ring k) (root k) (pow_pos k) (tower_inverses k) (tower_no_root k))
+
+pub traces_are_one : TracesAreOne
+traces_are_one k = ((tower_traces k).t_trace, (tower_traces k).s_trace)
+
+pub root_inverse_is : RootInverse
+root_inverse_is k = (tower_traces k).unit
+
+pub squarings_return : SquaringsReturn
+squarings_return k a = (tower_traces k).returns a
+
+pub root-lt : (k : ℕ) → root k < 2 ^ 2 ^ k
+root-lt k = (tower_traces k).t_fits
+
+pub root_inverse-lt : (k : ℕ) → root_inverse k < 2 ^ 2 ^ k
+root_inverse-lt k = (tower_traces k).s_fits
+
+-- the trace by recursion: a bit is its own trace, and an element of the next level has that of t times its high half
+pub trace-zero : (a : ℕ) → trace 0 a ≡ a % 2
+unfolding repeated_square sum_of_squarings tower_mul
+trace-zero a = one-mul (a % 2)
+
+pub trace-suc : (k a : ℕ) → trace (suc k) a ≡ trace k (tower_mul k (root k) (high_half (2 ^ k) a))
+unfolding tower_mul
+trace-suc k a =
+    ap (λ (x : ℕ). sum_of_squarings 1 (quadratic (2 ^ k) (tower_mul k) (root k)) x a) (sym (bits_double k))
+    ∙ quadratic-trace (2 ^ k) (tower_mul k) (tower_ring k) (root k) (root_inverse k) (tower_traces k) a
+
+-- the trace is 0 or 1
+pub trace-lt : (k a : ℕ) → trace k a < 2
+trace-lt zero a = subst (λ (x : ℕ). x < 2) (sym (trace-zero a)) (mod-lt a (lit< tt))
+trace-lt (suc k) a = subst (λ (x : ℕ). x < 2) (sym (trace-suc k a)) (trace-lt k (tower_mul k (root k) (high_half (2 ^ k) a)))

@@ -1,0 +1,111 @@
+-- The library's bytes of a word are its bytes in positional notation.
+use Rattle.std.proofs.Common.{◌≡◌, ℕ, zero, suc, ◌+◌, ◌*◌, ◌/◌, ◌%◌, ◌^◌, ◌<◌, ◌≤◌, refl, sym, ◌∙◌, ap, ap₂, arith, List, [], ◌∷◌, ◌++◌, drop, get_or, length, slice_index, take}
+use Rattle.std.specs.Int.{byte_at, byte_worth, bytes_low_first, from_le_bytes, sum_through, to_le_bytes, w16, w32, w64, w128}
+use Rattle.std.specs.Simd.{first_chunks}
+use Rattle.std.proofs.Math.Seq.{take-suc}
+use Rattle.std.proofs.lemmas.List.{length-drop, length-take-le, take-append-drop, take_all}
+use Rattle.std.proofs.Math.Nat.{add_comm}
+use native.Mathlib.Nat.{div-one}
+use Rattle.field_bytes.specs.Bytes.{low_bytes, number_of_bytes}
+use Rattle.field_base.specs.Chunks.{chunk, chunks}
+use Rattle.field_base.specs.Quadratic.{pair}
+use Rattle.field_bytes.proofs.Taking.{next_place, number-append, number-more}
+use Rattle.word_cubic.specs.Cubic.{triple}
+use Rattle.field_space.proofs.Spaces.{chunks-whole}
+
+pub one_byte : (n : ℕ) → n < 2 ^ 8 → n ∷ [] ≡ low_bytes 1 n
+one_byte n fits = chunks-whole 8 n fits
+
+pow-256 : (n : ℕ) → 256 ^ n ≡ 2 ^ (8 * n)
+pow-256 zero = refl
+pow-256 (suc n) = let below = pow-256 n in let place = next_place n in omega (arith, below, place)
+
+-- byte 0 is read without a shift
+byte_is : (i n : ℕ) → byte_at i n ≡ chunk 8 i n
+byte_is zero n = ap (λ (x : ℕ). x % 256) (sym (div-one n))
+byte_is (suc i) n = ap (λ (p : ℕ). n / p % 256) (pow-256 (suc i))
+
+-- the bytes from byte i on, the last of them apart
+last_apart : (k i j n : ℕ) → j ≡ i + k → bytes_low_first i (suc k) n ≡ bytes_low_first i k n ++ byte_at j n ∷ []
+last_apart zero i j n last = ap (λ (m : ℕ). byte_at m n ∷ []) (omega arith)
+last_apart (suc k) i j n last = ap (λ ys. byte_at i n ∷ ys) (last_apart k (suc i) j n (omega arith))
+
+bytes_are : (k n : ℕ) → bytes_low_first 0 k n ≡ low_bytes k n
+unfolding chunks
+bytes_are zero n = refl
+bytes_are (suc k) n = last_apart k 0 k n (omega arith) ∙ ap₂ (λ (ys : List ℕ) (b : ℕ). ys ++ b ∷ []) (bytes_are k n) (byte_is k n)
+
+pub two_bytes : (n : ℕ) → to_le_bytes w16 n ≡ low_bytes 2 n
+two_bytes n = bytes_are 2 n
+
+pub four_bytes : (n : ℕ) → to_le_bytes w32 n ≡ low_bytes 4 n
+four_bytes n = bytes_are 4 n
+
+pub eight_bytes : (n : ℕ) → to_le_bytes w64 n ≡ low_bytes 8 n
+eight_bytes n = bytes_are 8 n
+
+pub sixteen_bytes : (n : ℕ) → to_le_bytes w128 n ≡ low_bytes 16 n
+sixteen_bytes n = bytes_are 16 n
+
+-- ---- and a word of its bytes is their number
+
+-- the sum of the first bytes, each worth what its place says
+summed : (bs : List ℕ) (n : ℕ) → n < length bs → sum_through (λ i. byte_worth i (get_or bs i 0)) n ≡ number_of_bytes (take (suc n) bs)
+unfolding number_of_bytes
+summed [] zero within = absurd (omega (arith, within))
+summed (b ∷ bs) zero within = omega arith
+summed bs (suc n) within =
+    let b = get_or bs (suc n) 0 in
+    let long : length (take (suc n) bs) ≡ suc n = length-take-le (suc n) bs (omega (arith, within)) in
+    ap₂ (λ (s p : ℕ). s + b * p) (summed bs n (omega (arith, within))) (pow-256 (suc n))
+    ∙ add_comm (number_of_bytes (take (suc n) bs)) (b * 2 ^ (8 * suc n))
+    ∙ ap (λ (k : ℕ). b * 2 ^ (8 * k) + number_of_bytes (take (suc n) bs)) (sym long)
+    ∙ sym (number-more (take (suc n) bs) b) ∙ ap number_of_bytes (sym (take-suc bs (suc n) 0 within))
+
+of_bytes : (bs : List ℕ) (n : ℕ) → length bs ≡ suc n → sum_through (λ i. byte_worth i (get_or bs i 0)) n ≡ number_of_bytes bs
+of_bytes bs n long =
+    summed bs n (omega (arith, long)) ∙ ap number_of_bytes (take_all (suc n) bs (omega (arith, long)))
+
+pub of_one : (bs : List ℕ) → length bs ≡ 1 → slice_index bs 0 ≡ number_of_bytes bs
+of_one bs long = of_bytes bs 0 long
+
+pub of_two : (bs : List ℕ) → length bs ≡ 2 → from_le_bytes w16 bs ≡ number_of_bytes bs
+of_two bs long = of_bytes bs 1 long
+
+pub of_four : (bs : List ℕ) → length bs ≡ 4 → from_le_bytes w32 bs ≡ number_of_bytes bs
+of_four bs long = of_bytes bs 3 long
+
+pub of_eight : (bs : List ℕ) → length bs ≡ 8 → from_le_bytes w64 bs ≡ number_of_bytes bs
+of_eight bs long = of_bytes bs 7 long
+
+pub of_sixteen : (bs : List ℕ) → length bs ≡ 16 → from_le_bytes w128 bs ≡ number_of_bytes bs
+of_sixteen bs long = of_bytes bs 15 long
+
+-- the first word and what is above it
+above_eight : (bs : List ℕ) → 8 ≤ length bs → number_of_bytes bs ≡ pair 64 (number_of_bytes (take 8 bs)) (number_of_bytes (drop 8 bs))
+above_eight bs room =
+    ap number_of_bytes (sym (take-append-drop 8 bs)) ∙ number-append (take 8 bs) (drop 8 bs)
+    ∙ ap (λ (k : ℕ). number_of_bytes (drop 8 bs) * 2 ^ (8 * k) + number_of_bytes (take 8 bs)) (length-take-le 8 bs room)
+    ∙ omega arith
+
+eight_first : (bs : List ℕ) → 8 ≤ length bs → from_le_bytes w64 (take 8 bs) ≡ number_of_bytes (take 8 bs)
+eight_first bs room = of_eight (take 8 bs) (length-take-le 8 bs room)
+
+-- three words of 24 bytes
+pub of_three_words : (bs d : List ℕ) (words : List (List ℕ)) → length bs ≡ 24 → words ≡ first_chunks 8 (length bs / 8) bs
+    → triple 64 (from_le_bytes w64 (get_or words 0 d)) (from_le_bytes w64 (get_or words 1 d)) (from_le_bytes w64 (get_or words 2 d))
+    ≡ number_of_bytes bs
+of_three_words bs d words long is =
+    ap (λ ws. triple 64 (from_le_bytes w64 (get_or ws 0 d)) (from_le_bytes w64 (get_or ws 1 d)) (from_le_bytes w64 (get_or ws 2 d)))
+    (is ∙ ap (λ (k : ℕ). first_chunks 8 (k / 8) bs) long)
+    ∙ ap₂ (λ (x y : ℕ). pair 64 x y) (eight_first bs (omega (arith, long)))
+    (ap₂ (λ (x y : ℕ). pair 64 x y) (eight_first (drop 8 bs) (omega (arith, rest)))
+    (eight_first (drop 8 (drop 8 bs)) (omega (arith, last)) ∙ ap number_of_bytes (take_all 8 (drop 8 (drop 8 bs)) (omega (arith, last))))
+    ∙ sym (above_eight (drop 8 bs) (omega (arith, rest))))
+    ∙ sym (above_eight bs (omega (arith, long)))
+  where
+    rest : length (drop 8 bs) ≡ 16
+    rest = omega (arith, long, length-drop 8 bs)
+
+    last : length (drop 8 (drop 8 bs)) ≡ 8
+    last = omega (arith, rest, length-drop 8 (drop 8 bs))

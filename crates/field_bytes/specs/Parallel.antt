@@ -1,0 +1,34 @@
+-- What streams of bytes side by side give: each item is a row, with one entry a stream.
+use Rattle.std.specs.Prelude.{◌≡◌, ℕ, ◌+◌, ◌*◌, ◌<◌, List, ◌∷◌, ◌++◌, length, map, slice_index, MatchOption}
+use Rattle.std.specs.declared.option.Option.{Option}
+use Rattle.std.specs.declared.option.Option.TheVariants.{None}
+use Rattle.std.specs.Iterator.{Count, Yields, count_map}
+use Rattle.field_bytes.specs.declared.parallel.ParallelByteStreams.{ParallelByteStreams}
+use Rattle.field_bytes.specs.Streams.{IsWithin, bytes_pending, joined_bytes}
+
+-- the representation of entry j of a row of elements
+abbrev pub entry_of_row : {E : Type 0} → (E → ℕ) → ℕ → List E → ℕ
+entry_of_row repr j row = slice_index (map repr row) j
+
+-- a call is allowed where one of the source is
+abbrev pub can_give_rows : {S E : Type 0} {width : ℕ} → (S → Type 0) → ℕ → ParallelByteStreams S E width → Type 0
+can_give_rows can_next size s = can_next s.elements × IsWithin size s.pending s.given
+
+module _ {S E : Type 0} (next_gives : S → Option (List E) → S → Type 0) (width size : ℕ) (repr : E → ℕ) where
+  -- A call from s took some rows of the source. In each of the `width` streams, the bytes that were pending, and those of the
+  -- elements of these rows, are the byte that was given and the bytes that are pending then.
+  abbrev pub GivesRow : ParallelByteStreams S E width → Option (List ℕ) → ParallelByteStreams S E width → Type 0
+  GivesRow s r t = MatchOption r
+      ((s.pending ≡ None) × (t.pending ≡ None) × next_gives s.elements None t.elements)
+      (λ bytes. (taken : List (List E)) × Yields next_gives s.elements taken t.elements
+      × ((j : ℕ) → j < width → bytes_pending size (entry_of_row repr j) s.pending s.given ++ joined_bytes size (entry_of_row repr j) taken
+      ≡ slice_index bytes j ∷ bytes_pending size (entry_of_row repr j) t.pending t.given))
+
+-- at most `size` rows of bytes for each row that is left in the source, and those that are pending
+abbrev pub row_count : {S E : Type 0} {width : ℕ} → (S → Count) → ℕ → ParallelByteStreams S E width → Count
+row_count remaining size s = count_map (λ n. n * size + length (bytes_pending size (λ row. 0) s.pending s.given)) (remaining s.elements)
+
+-- in each of the `width` streams, the bytes of the rows are those of the elements of that stream, one after the other
+abbrev pub AreJoinedRows : {E : Type 0} → ℕ → ℕ → (E → ℕ) → List (List E) → List (List ℕ) → Type 0
+AreJoinedRows width size repr elements rows =
+    (j : ℕ) → j < width → map (λ row. slice_index row j) rows ≡ joined_bytes size (entry_of_row repr j) elements

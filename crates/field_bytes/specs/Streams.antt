@@ -1,0 +1,42 @@
+-- What streams of bytes and of words give.
+use Rattle.std.specs.Prelude.{◌≡◌, ℕ, ◌+◌, ◌*◌, ◌<◌, List, [], ◌∷◌, ◌++◌, length, drop, MatchOption}
+use Rattle.std.specs.declared.option.Option.{Option}
+use Rattle.std.specs.declared.option.Option.TheVariants.{None, Some}
+use Rattle.std.specs.Iterator.{Count, Yields, count_map}
+use Rattle.std.specs.List.{flat_map}
+use Rattle.field_bytes.specs.declared.streams.ByteStream.{ByteStream}
+use Rattle.field_bytes.specs.Bytes.{low_bytes}
+
+-- the bytes of all elements, one element after the other, of `size` bytes each
+abbrev pub joined_bytes : {E : Type 0} → ℕ → (E → ℕ) → List E → List ℕ
+joined_bytes size repr elements = flat_map (λ x. low_bytes size (repr x)) elements
+
+-- those of an element that may be there
+abbrev pub option_bytes : {E : Type 0} → (E → List ℕ) → Option E → List ℕ
+option_bytes bytes None = []
+option_bytes bytes (Some x) = bytes x
+
+-- those of an element of which the first `given` were given, and none where there is no such element
+abbrev pub bytes_pending : {E : Type 0} → ℕ → (E → ℕ) → Option E → ℕ → List ℕ
+bytes_pending size repr pending given = option_bytes (λ x. drop given (low_bytes size (repr x))) pending
+
+-- the next byte is one of an element's
+abbrev pub IsWithin : {E : Type 0} → ℕ → Option E → ℕ → Type 0
+IsWithin size pending given = MatchOption pending (given ≡ 0) (λ _. given < size)
+
+-- a call is allowed where one of the source is
+abbrev pub can_give : {S E : Type 0} → (S → Type 0) → ℕ → ByteStream S E → Type 0
+can_give can_next size s = can_next s.elements × IsWithin size s.pending s.given
+
+module _ {S E : Type 0} (next_gives : S → Option E → S → Type 0) (size : ℕ) (repr : E → ℕ) where
+  -- A call from s took some elements of the source. The bytes that were pending, and those of these elements, are the byte that
+  -- was given and the bytes that are pending then. No byte comes only where none is pending and the source ends.
+  abbrev pub GivesByte : ByteStream S E → Option ℕ → ByteStream S E → Type 0
+  GivesByte s r t = MatchOption r
+      ((bytes_pending size repr s.pending s.given ≡ []) × (bytes_pending size repr t.pending t.given ≡ []) × next_gives s.elements None t.elements)
+      (λ b. (taken : List E) × Yields next_gives s.elements taken t.elements
+      × (bytes_pending size repr s.pending s.given ++ joined_bytes size repr taken ≡ b ∷ bytes_pending size repr t.pending t.given))
+
+-- at most `size` bytes for each element that is left in the source, and those that are pending
+abbrev pub byte_count : {S E : Type 0} → (S → Count) → ℕ → (E → ℕ) → ByteStream S E → Count
+byte_count remaining size repr s = count_map (λ n. n * size + length (bytes_pending size repr s.pending s.given)) (remaining s.elements)

@@ -1,0 +1,94 @@
+// Streams of the bytes of elements side by side: an item has one byte a stream.
+ghost use Rattle.std.specs.Prelude.{◌≡◌, ◌<◌, ◌∷◌, ℕ, List, Some, slice_index};
+ghost use Rattle.std.specs.Iterator.{Drains, IsFinite};
+ghost use Rattle.field_base.specs.Chunks.{chunk};
+ghost use Rattle.field_bytes.specs.Streams.{IsWithin, bytes_pending};
+ghost use Rattle.field_bytes.specs.Parallel.{AreJoinedRows, GivesRow, can_give_rows, entry_of_row, row_count};
+
+use crate::serializable::RawDataSerializable;
+use crate::streams::pending_of;
+
+/// The bytes of `N` streams of elements side by side: each item has one byte of each stream, in which the bytes of its elements
+/// follow one another, each element from its lowest byte on.
+#[derive(Drop)]
+pub struct ParallelByteStreams<I, E, const N: usize> {
+    elements: I,
+    // The row of elements of which some bytes were given, and how many.
+    pending: Option<[E; N]>,
+    given: usize,
+}
+
+impl<I: Drop, E: RawDataSerializable, const N: usize> ParallelByteStreams<I, E, N> {
+    // The next bytes of a row of elements, of which as many as `given` were given of each.
+    #[inline]
+    fn give(&mut self, row: [E; N]) -> [u8; N]
+        requires { self.old.given < E.NUM_BYTES }
+        ensures source { self.new.elements ≡ self.old.elements }
+        ensures within { IsWithin E.NUM_BYTES self.new.pending self.new.given }
+        ensures fewer { bytes_pending E.NUM_BYTES (λ x. 0) (Some row) self.old.given ≡ 0 ∷ bytes_pending E.NUM_BYTES (λ x. 0) self.new.pending self.new.given }
+        ensures left { (j : ℕ) → j < N → bytes_pending E.NUM_BYTES (entry_of_row E.repr j) (Some row) self.old.given ≡ slice_index result j ∷ bytes_pending E.NUM_BYTES (entry_of_row E.repr j) self.new.pending self.new.given }
+    {
+        let size = E::NUM_BYTES;
+        let bytes = bytes_of_row(&row, self.given);
+        let (pending, given) = pending_of(row, self.given + 1, size);
+        self.pending = pending;
+        self.given = given;
+        bytes
+    }
+}
+
+// Byte `place` of each element of a row.
+#[inline]
+fn bytes_of_row<E: RawDataSerializable, const N: usize>(row: &[E; N], place: usize) -> [u8; N]
+    requires { place < E.NUM_BYTES }
+    ensures { (j : ℕ) → j < N → slice_index result j ≡ chunk 8 place (entry_of_row E.repr j row.now) }
+{
+    let mut bytes = [0; N];
+    for j in 0..N {
+        bytes[j] = row[j].byte(place);
+    }
+    bytes
+}
+
+impl<I: Iterator<Item = [E; N]>, E: RawDataSerializable, const N: usize> Iterator
+    for ParallelByteStreams<I, E, N> {
+    type Item = [u8; N];
+
+    ghost can_next = { can_give_rows I.can_next E.NUM_BYTES };
+
+    ghost next_gives = { GivesRow I.next_gives N E.NUM_BYTES E.repr };
+
+    ghost remaining = { row_count I.remaining E.NUM_BYTES };
+
+    fn next(&mut self) -> Option<[u8; N]> {
+        match self.pending {
+            Some(row) => Some(self.give(row)),
+            None => match self.elements.next() {
+                Some(row) => Some(self.give(row)),
+                None => None,
+            },
+        }
+    }
+
+    fn size_hint(&self) -> (usize, Option<usize>) {
+        (0, None)
+    }
+}
+
+/// The bytes of `N` streams of elements side by side, of an iterator that gives an element of each at a time. The streams end
+/// where the iterator does.
+pub fn into_parallel_byte_streams<
+    I: Iterator<Item = [E; N]>,
+    E: RawDataSerializable,
+    const N: usize,
+>(elements: I) -> ParallelByteStreams<I, E, N>
+    ensures can { I.can_next elements → can_give_rows I.can_next E.NUM_BYTES result }
+    ensures ends { IsFinite (I.remaining elements) → IsFinite (row_count I.remaining E.NUM_BYTES result) }
+    ensures items { (rows : List (List ℕ)) → Drains (GivesRow I.next_gives N E.NUM_BYTES E.repr) result rows → (given : List (List E)) × Drains I.next_gives elements given × AreJoinedRows N E.NUM_BYTES E.repr given rows }
+{
+    ParallelByteStreams {
+        elements,
+        pending: None,
+        given: 0,
+    }
+}

@@ -1,0 +1,80 @@
+// The operators of packings with an element on the left: one of the packing's field, and one of `BinaryField128` for packings of
+// `Ghash128`. It, or its image, stands in every lane.
+ghost use Rattle.std.specs.Prelude.{◌≡◌, bit_xor, map, replicate};
+ghost use Rattle.field_base.specs.Basis.{basis_image, ghash_images};
+ghost use Rattle.field_base.specs.Remainder.{ghash_modulus, mul_mod};
+ghost use Rattle.field_element.specs.Element.{repr_of};
+ghost use Rattle.packed_lanes.specs.Packed.{lanes_of};
+ghost use Rattle.packed_lanes.specs.Lanes.{lane_by_lane};
+
+use crate::element::{Element, HasPacking};
+use crate::names::{BinaryField128, PackedGhash128};
+use field_base::Stored;
+use packed_lanes::Packed;
+use std::ops::{Add, Mul, Sub};
+
+impl<R: Stored, K: HasPacking<R>, const N: usize> Add<Packed<Element<R, K>, N>> for Element<R, K> {
+    type Output = Packed<Element<R, K>, N>;
+
+    ghost add_gives = { λ x y r. map repr_of (lanes_of r) ≡ lane_by_lane bit_xor (map repr_of (lanes_of y)) (map repr_of (replicate N x)) };
+
+    #[inline]
+    fn add(self, other: Packed<Element<R, K>, N>) -> Packed<Element<R, K>, N> {
+        other + self
+    }
+}
+
+impl<R: Stored, K: HasPacking<R>, const N: usize> Sub<Packed<Element<R, K>, N>> for Element<R, K> {
+    type Output = Packed<Element<R, K>, N>;
+
+    ghost sub_gives = { λ x y r. map repr_of (lanes_of r) ≡ lane_by_lane bit_xor (map repr_of (lanes_of y)) (map repr_of (replicate N x)) };
+
+    #[inline]
+    fn sub(self, other: Packed<Element<R, K>, N>) -> Packed<Element<R, K>, N> {
+        other - self
+    }
+}
+
+impl<R: Stored, K: HasPacking<R>, const N: usize> Mul<Packed<Element<R, K>, N>> for Element<R, K> {
+    type Output = Packed<Element<R, K>, N>;
+
+    ghost mul_gives = { λ x y r. map repr_of (lanes_of r) ≡ lane_by_lane K.product (map repr_of (lanes_of y)) (map repr_of (replicate N x)) };
+
+    #[inline]
+    fn mul(self, other: Packed<Element<R, K>, N>) -> Packed<Element<R, K>, N> {
+        other * self
+    }
+}
+
+impl Add<PackedGhash128> for BinaryField128 {
+    type Output = PackedGhash128;
+
+    ghost add_gives = { λ x y r. map repr_of (lanes_of r) ≡ lane_by_lane bit_xor (map repr_of (lanes_of y)) (replicate 4 (basis_image 128 ghash_modulus ghash_images (repr_of x))) };
+
+    #[inline]
+    fn add(self, other: PackedGhash128) -> PackedGhash128 {
+        other + self
+    }
+}
+
+impl Sub<PackedGhash128> for BinaryField128 {
+    type Output = PackedGhash128;
+
+    ghost sub_gives = { λ x y r. map repr_of (lanes_of r) ≡ lane_by_lane bit_xor (map repr_of (lanes_of y)) (replicate 4 (basis_image 128 ghash_modulus ghash_images (repr_of x))) };
+
+    #[inline]
+    fn sub(self, other: PackedGhash128) -> PackedGhash128 {
+        other - self
+    }
+}
+
+impl Mul<PackedGhash128> for BinaryField128 {
+    type Output = PackedGhash128;
+
+    ghost mul_gives = { λ x y r. map repr_of (lanes_of r) ≡ lane_by_lane (mul_mod 128 ghash_modulus) (map repr_of (lanes_of y)) (replicate 4 (basis_image 128 ghash_modulus ghash_images (repr_of x))) };
+
+    #[inline]
+    fn mul(self, other: PackedGhash128) -> PackedGhash128 {
+        other * self
+    }
+}

@@ -1,0 +1,177 @@
+// The integer types of Rust, by the parity of a number and by the numbers 0 and 1.
+ghost use Rattle.std.specs.Prelude.{◌≡◌, ◌≢◌, ◌⊎◌, ◌↔◌, ℕ, ℤ, pos, IsTrue, IsNone, IfSome};
+ghost use Rattle.field_base.specs.Bit.{bit_number};
+ghost use Rattle.field_base.specs.Powers.{parity};
+
+use field_base::Gf2;
+use field_base::traits::PrimeCharacteristicRing;
+
+/// An integer type of Rust.
+pub trait Integer: Copy {
+    // The whole number that a value is.
+    ghost value: { Self → ℤ };
+
+    /// Whether the number is odd.
+    fn is_odd(self) -> bool
+        ensures { IsTrue result ↔ (parity (value self) ≡ 1) };
+
+    /// Whether the number is 0 or 1.
+    fn is_bit(self) -> bool
+        ensures { IsTrue result ↔ ((value self ≡ pos 0) ⊎ (value self ≡ pos 1)) };
+
+    /// The element of GF(2) that 0 or 1 is, and None for any other number.
+    final fn as_bit(self) -> Option<Gf2>
+        ensures none { IsNone result ↔ ((value self ≢ pos 0) × (value self ≢ pos 1)) }
+        ensures bit { IfSome result (λ bit. value self ≡ pos (bit_number bit)) }
+    {
+        if self.is_bit() {
+            Some(Gf2::from_bool(self.is_odd()))
+        } else {
+            None
+        }
+    }
+}
+
+impl Integer for u8 {
+    ghost value = { λ n. pos n };
+
+    fn is_odd(self) -> bool {
+        self % 2 != 0
+    }
+
+    fn is_bit(self) -> bool {
+        self == 0 || self == 1
+    }
+}
+
+impl Integer for u16 {
+    ghost value = { λ n. pos n };
+
+    fn is_odd(self) -> bool {
+        self % 2 != 0
+    }
+
+    fn is_bit(self) -> bool {
+        self == 0 || self == 1
+    }
+}
+
+impl Integer for u32 {
+    ghost value = { λ n. pos n };
+
+    fn is_odd(self) -> bool {
+        self % 2 != 0
+    }
+
+    fn is_bit(self) -> bool {
+        self == 0 || self == 1
+    }
+}
+
+impl Integer for u64 {
+    ghost value = { λ n. pos n };
+
+    fn is_odd(self) -> bool {
+        self % 2 != 0
+    }
+
+    fn is_bit(self) -> bool {
+        self == 0 || self == 1
+    }
+}
+
+impl Integer for u128 {
+    ghost value = { λ n. pos n };
+
+    fn is_odd(self) -> bool {
+        self % 2 != 0
+    }
+
+    fn is_bit(self) -> bool {
+        self == 0 || self == 1
+    }
+}
+
+impl Integer for usize {
+    ghost value = { λ n. pos n };
+
+    fn is_odd(self) -> bool {
+        self % 2 != 0
+    }
+
+    fn is_bit(self) -> bool {
+        self == 0 || self == 1
+    }
+}
+
+impl Integer for i8 {
+    ghost value = { λ n. n };
+
+    fn is_odd(self) -> bool {
+        self % 2 != 0
+    }
+
+    fn is_bit(self) -> bool {
+        self == 0 || self == 1
+    }
+}
+
+impl Integer for i16 {
+    ghost value = { λ n. n };
+
+    fn is_odd(self) -> bool {
+        self % 2 != 0
+    }
+
+    fn is_bit(self) -> bool {
+        self == 0 || self == 1
+    }
+}
+
+impl Integer for i32 {
+    ghost value = { λ n. n };
+
+    fn is_odd(self) -> bool {
+        self % 2 != 0
+    }
+
+    fn is_bit(self) -> bool {
+        self == 0 || self == 1
+    }
+}
+
+impl Integer for i64 {
+    ghost value = { λ n. n };
+
+    fn is_odd(self) -> bool {
+        self % 2 != 0
+    }
+
+    fn is_bit(self) -> bool {
+        self == 0 || self == 1
+    }
+}
+
+impl Integer for i128 {
+    ghost value = { λ n. n };
+
+    fn is_odd(self) -> bool {
+        self % 2 != 0
+    }
+
+    fn is_bit(self) -> bool {
+        self == 0 || self == 1
+    }
+}
+
+impl Integer for isize {
+    ghost value = { λ n. n };
+
+    fn is_odd(self) -> bool {
+        self % 2 != 0
+    }
+
+    fn is_bit(self) -> bool {
+        self == 0 || self == 1
+    }
+}

@@ -1,0 +1,22 @@
+-- The items of the iterator of powers, by induction on how many are taken.
+use Rattle.std.proofs.Common.{◌≡◌, ℕ, suc, List, [], ◌∷◌, map, length, refl, ◌∙◌, ap, ap₂}
+use Rattle.std.specs.Iterator.{Yields}
+use Rattle.field_space.specs.declared.powers.Powers.{Powers}
+use Rattle.field_space.specs.PowerItems.{ArePowersOf, GivesNextPower, powers_from}
+use Rattle.field_base.specs.Powers.{power}
+
+module _ {R : Type 0} (repr : R → ℕ) (unit : ℕ) (times : ℕ → ℕ → ℕ) where
+  items_from : (a k : ℕ) (s : Powers R) → repr s.base ≡ a → repr s.current ≡ power unit times a k
+      → (xs : List R) (rest : Powers R) → Yields (GivesNextPower repr times) s xs rest
+      → map repr xs ≡ powers_from unit times a k (length xs)
+  unfolding power powers_from
+  items_from a k s base current [] rest yields = refl
+  items_from a k s base current (x ∷ xs) rest yields =
+      let next = yields.0 in
+      let gave = yields.1 in
+      ap₂ (λ y ys. y ∷ ys) (ap repr gave.0 ∙ current)
+      (items_from a (suc k) next (ap repr gave.1 ∙ base) (gave.2 ∙ ap₂ times current base) xs rest yields.2)
+
+  pub powers_of : (s : Powers R) (a : ℕ) → repr s.base ≡ a → repr s.current ≡ unit → ArePowersOf repr unit times a s
+  unfolding power
+  powers_of s a base current = items_from a 0 s base current

@@ -1,0 +1,47 @@
+// The powers of an element, one after the other.
+ghost use Rattle.std.specs.Prelude.{◌≡◌};
+ghost use Rattle.field_space.specs.PowerItems.{ArePowersOf, GivesNextPower};
+
+use field_base::traits::{PrimeCharacteristicRing, Represented};
+
+/// The powers x^0, x^1, x^2, .. of an element x, without end. Its items are taken by a count, as `powers.take(n)`.
+#[derive(Clone, Drop)]
+pub struct Powers<R> {
+    base: R,
+    current: R,
+}
+
+impl<R: Represented> Powers<R> {
+    /// The powers of `base`, from the one on.
+    pub(crate) fn of(base: R, one: R) -> Powers<R>
+        ensures base { result.base ≡ base }
+        ensures current { result.current ≡ one }
+    {
+        Powers { base, current: one }
+    }
+}
+
+impl<R: Represented> Iterator for Powers<R> {
+    type Item = R;
+
+    ghost next_gives = { GivesNextPower R.repr R.product };
+
+    fn next(&mut self) -> Option<R> {
+        let item = self.current;
+        self.current = item * self.base;
+        Some(item)
+    }
+}
+
+/// The powers of an element, which every ring has.
+pub trait HasPowers: PrimeCharacteristicRing {
+    /// The powers of the element from the power of 0 on, which is 1.
+    fn powers(&self) -> Powers<Self>
+        ensures { ArePowersOf Self.repr Self.unit Self.product (Self.repr self.now) result };
+}
+
+impl<R: PrimeCharacteristicRing> HasPowers for R {
+    fn powers(&self) -> Powers<R> {
+        Powers::of(*self, R::ONE)
+    }
+}

@@ -1,0 +1,4 @@
+mod Blocks
+pub mod LanePoints
+pub mod LaneAnswers
+pub mod LaneRing

@@ -1,0 +1,8 @@
+use Rattle.std.proofs.Common.{map, replicate, ◌∙◌, ap}
+use Rattle.packed_lanes.specs.LaneLists.{map-replicate}
+use Rattle.packed_lanes.proofs.packed.operators.PackedDefault.default.Goals as goal
+
+pub returns : goal.returns
+returns g c =
+    ap (map g.F.Represented.repr) c.broadcast.ensures ∙ map-replicate g.F.Represented.repr g.row.N c.ZERO.result
+    ∙ ap (replicate g.row.N) (ap g.F.Represented.repr c.ZERO.ensures ∙ g.met.F.PrimeCharacteristicRing.zero_law)

@@ -1,0 +1,10 @@
+use Rattle.std.proofs.Common.{◌≡◌, ◌∙◌, ap}
+use Rattle.packed_lanes.specs.Lanes.{joined}
+use Rattle.packed_lanes.specs.LaneLists.{map-every}
+use Rattle.packed_lanes.proofs.packed.operators.PackedProduct.product.Goals as goal
+
+pub product_of_items-requires-clause-starts : goal.product_of_items-requires-clause-starts
+product_of_items-requires-clause-starts g c =
+    let ring = g.F.Represented in
+    let number : ring.repr c.ONE.result ≡ ring.unit = ap ring.repr c.ONE.ensures ∙ g.met.F.PrimeCharacteristicRing.one_law in
+    ap (joined ring.width) (map-every ring.repr g.row.N ring.unit c.ONE.result _ c.broadcast.ensures number)

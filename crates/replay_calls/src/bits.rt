@@ -1,0 +1,166 @@
+// Packed bits, as the words of their rows, the lowest first: rows transposed and interleaved, and their parts.
+ghost use Rattle.std.specs.Prelude.{◌≡◌, ◌<◌, ◌^◌};
+
+use crate::fault::Fault;
+use crate::reading::{count, word};
+use bits_packed::PackedGf2;
+use bits_rows::{Divisible, M128, M256, M512, Underlier, Word};
+use std::alloc::Global;
+
+/// What a call of packed bits gives: the words of the rows, one row after the other.
+pub(crate) fn rearranged(alloc: Global, name: &str, call: &[&str]) -> Result<Vec<u128>, Fault> {
+    match *call {
+        [width, rows] if name == "transpose" => transpose_of_width(alloc, width, rows),
+        [width, log, rows] if name == "interleave" => {
+            interleave_of_width(alloc, width, count(log)?, rows)
+        }
+        [wide, narrow, row] if name == "parts" => match wide {
+            "100" => of_256(alloc, narrow, row),
+            "200" => of_512(alloc, narrow, row),
+            _ => of_128(alloc, wide, narrow, row),
+        },
+        _ => Err(Fault::Line),
+    }
+}
+
+fn transpose_of_width(alloc: Global, width: &str, rows: &str) -> Result<Vec<u128>, Fault> {
+    match width {
+        "8" => transposed::<u8>(alloc, rows),
+        "10" => transposed::<u16>(alloc, rows),
+        "20" => transposed::<u32>(alloc, rows),
+        "40" => transposed::<u64>(alloc, rows),
+        "80" => transposed::<M128>(alloc, rows),
+        _ => Err(Fault::Line),
+    }
+}
+
+fn interleave_of_width(
+    alloc: Global,
+    width: &str,
+    log: usize,
+    rows: &str,
+) -> Result<Vec<u128>, Fault> {
+    match width {
+        "8" => interleaved::<u8>(alloc, log, rows),
+        "10" => interleaved::<u16>(alloc, log, rows),
+        "20" => interleaved::<u32>(alloc, log, rows),
+        "40" => interleaved::<u64>(alloc, log, rows),
+        "80" => interleaved::<M128>(alloc, log, rows),
+        "100" => interleaved::<M256>(alloc, log, rows),
+        "200" => interleaved::<M512>(alloc, log, rows),
+        _ => Err(Fault::Line),
+    }
+}
+
+fn of_128(alloc: Global, wide: &str, narrow: &str, row: &str) -> Result<Vec<u128>, Fault> {
+    match (wide, narrow) {
+        ("80", "40") => parts::<M128, u64>(alloc, row),
+        ("80", "8") => parts::<M128, u8>(alloc, row),
+        ("40", "20") => parts::<u64, u32>(alloc, row),
+        ("40", "8") => parts::<u64, u8>(alloc, row),
+        ("20", "10") => parts::<u32, u16>(alloc, row),
+        ("10", "8") => parts::<u16, u8>(alloc, row),
+        _ => Err(Fault::Line),
+    }
+}
+
+fn of_256(alloc: Global, narrow: &str, row: &str) -> Result<Vec<u128>, Fault> {
+    match narrow {
+        "80" => parts::<M256, M128>(alloc, row),
+        "20" => parts::<M256, u32>(alloc, row),
+        _ => Err(Fault::Line),
+    }
+}
+
+fn of_512(alloc: Global, narrow: &str, row: &str) -> Result<Vec<u128>, Fault> {
+    match narrow {
+        "100" => parts::<M512, M256>(alloc, row),
+        "80" => parts::<M512, M128>(alloc, row),
+        "40" => parts::<M512, u64>(alloc, row),
+        "10" => parts::<M512, u16>(alloc, row),
+        _ => Err(Fault::Line),
+    }
+}
+
+/// The rows whose words a list writes. The words have to be those of whole rows.
+fn rows<U: Underlier>(alloc: Global, list: &str) -> Result<Vec<U>, Fault> {
+    let mut rows = Vec::new(alloc);
+    let mut row = U::ZERO;
+    let mut place = 0;
+    for text in list.split(',') {
+        let written = word(text)?;
+        if place == U::WORD_COUNT {
+            rows.push(row)?;
+            place = 0;
+        }
+        if place < U::WORD_COUNT {
+            row.set_word(place, <U::Word as Word>::from_u64(written));
+            place += 1;
+        }
+    }
+    if place != U::WORD_COUNT {
+        return Err(Fault::Line);
+    }
+    rows.push(row)?;
+    Ok(rows)
+}
+
+/// Writes the words of a row behind an answer.
+fn show<U: Underlier>(answer: &mut Vec<u128>, row: &U) -> Result<(), Fault> {
+    for i in 0..U::WORD_COUNT {
+        answer.push(u128::from(row.word(i).to_u64()))?;
+    }
+    Ok(())
+}
+
+/// The rows transposed, of which there have to be as many as a row has bits.
+fn transposed<U: Underlier>(alloc: Global, list: &str) -> Result<Vec<u128>, Fault> {
+    let listed: Vec<U> = rows(alloc, list)?;
+    let mut packed = Vec::new(alloc);
+    for row in listed.as_slice() {
+        packed.push(PackedGf2::new(*row))?;
+    }
+    if packed.len() != U::BITS {
+        return Err(Fault::Line);
+    }
+    PackedGf2::<U>::transpose(packed.as_mut_slice());
+    let mut answer = Vec::new(alloc);
+    for row in packed.as_slice() {
+        show(&mut answer, &row.to_bits())?;
+    }
+    Ok(answer)
+}
+
+/// Two rows interleaved by blocks of 2^log lanes.
+fn interleaved<U: Underlier>(alloc: Global, log: usize, list: &str) -> Result<Vec<u128>, Fault> {
+    let listed: Vec<U> = rows(alloc, list)?;
+    let [left, right] = *listed.as_slice() else {
+        return Err(Fault::Line);
+    };
+    if log > 9 || block_of(log) > U::BITS {
+        return Err(Fault::Line);
+    }
+    let (first, second) = PackedGf2::new(left).interleave(PackedGf2::new(right), block_of(log));
+    let mut answer = Vec::new(alloc);
+    show(&mut answer, &first.to_bits())?;
+    show(&mut answer, &second.to_bits())?;
+    Ok(answer)
+}
+
+/// The lanes of a block.
+fn block_of(log: usize) -> usize
+    requires { log < 10 }
+    ensures { result ≡ 2 ^ log }
+{
+    1 << log
+}
+
+/// The parts of one row.
+fn parts<U: Divisible<V>, V: Underlier>(alloc: Global, list: &str) -> Result<Vec<u128>, Fault> {
+    let listed: Vec<U> = rows(alloc, list)?;
+    let mut answer = Vec::new(alloc);
+    for part in U::split_copied(alloc, listed.as_slice())?.as_slice() {
+        show(&mut answer, part)?;
+    }
+    Ok(answer)
+}

@@ -1,0 +1,83 @@
+// Elements as bytes, as streams of bytes and words, and as text.
+use crate::fault::Fault;
+use crate::reading::{elements, word};
+use field_base::traits::TowerLevel;
+use field_bytes::{RawDataSerializable, into_byte_stream, into_u32_stream, into_u64_stream};
+use field_element::{Poly64, Poly192};
+use std::alloc::Global;
+use std::fmt::Display;
+
+/// A stream of elements of a field whose elements are words, or their text.
+pub(crate) fn field_call<F: TowerLevel + RawDataSerializable + Display>(
+    alloc: Global,
+    call: &[&str],
+) -> Result<Vec<u128>, Fault> {
+    let [kind, list] = *call else {
+        return Err(Fault::Line);
+    };
+    let listed: Vec<F> = elements(alloc, list)?;
+    stream(alloc, kind, listed.as_slice())
+}
+
+/// The same of elements of `Poly192`, each by three numbers, coefficient 0 first.
+pub(crate) fn cubic_call(alloc: Global, call: &[&str]) -> Result<Vec<u128>, Fault> {
+    let [kind, list] = *call else {
+        return Err(Fault::Line);
+    };
+    let listed = cubics(alloc, list)?;
+    stream(alloc, kind, listed.as_slice())
+}
+
+/// The elements of `Poly192` whose coefficients a list writes.
+fn cubics(alloc: Global, list: &str) -> Result<Vec<Poly192>, Fault> {
+    let mut cubics = Vec::new(alloc);
+    let mut numbers = list.split(',');
+    if list != "-" {
+        for _ in list.split(',').step_by(3) {
+            let mut coefficients = [Poly64::new(0); 3];
+            for place in 0..3usize {
+                if let Some(number) = numbers.next() {
+                    coefficients[place] = Poly64::new(word(number)?);
+                }
+            }
+            cubics.push(Poly192::new(coefficients))?;
+        }
+    }
+    Ok(cubics)
+}
+
+/// The items of a stream of elements, or their text.
+fn stream<E: RawDataSerializable + Display>(
+    alloc: Global,
+    kind: &str,
+    elements: &[E],
+) -> Result<Vec<u128>, Fault> {
+    let mut items = Vec::new(alloc);
+    let elements = elements.iter().copied();
+    match kind {
+        "bytes" => {
+            for byte in into_byte_stream(elements) {
+                items.push(u128::from(byte))?;
+            }
+        }
+        "u32" => {
+            for word in into_u32_stream(elements) {
+                items.push(u128::from(word))?;
+            }
+        }
+        "u64" => {
+            for word in into_u64_stream(elements) {
+                items.push(u128::from(word))?;
+            }
+        }
+        "text" => {
+            for element in elements {
+                for byte in format!(in alloc; "{element}")?.as_bytes() {
+                    items.push(u128::from(*byte))?;
+                }
+            }
+        }
+        _ => return Err(Fault::Line),
+    }
+    Ok(items)
+}

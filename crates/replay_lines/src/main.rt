@@ -1,0 +1,16 @@
+//! Answers one field operation a line, as the program `binfield` does, and is run on 3,540 lines.
+//!
+//! The file `stdin` has the lines, some of which are malformed or no UTF-8, and `stdout` has the answers that the Rust crate
+//! p3-binary-field 0.8.0 gave to them. The lines were drawn from the seed 20261122. scripts/make_lines.py writes both files.
+#![tactic(auto)]
+
+use calculator::{Watched, run_program};
+use std::process::ExitCode;
+
+fn main(rt: HostRuntime) -> ExitCode {
+    run_program(
+        &rt,
+        &mut Watched::new(rt.stdin()),
+        &mut Watched::new(rt.stdout()),
+    )
+}

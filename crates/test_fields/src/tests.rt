@@ -1,0 +1,3 @@
+mod aes;
+mod fields;
+mod maps;

@@ -1,0 +1,2 @@
+mod byte_challengers;
+mod challengers;

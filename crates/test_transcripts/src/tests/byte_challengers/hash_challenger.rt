@@ -1,0 +1,156 @@
+// The challenger over SHA-256, against digests from outside.
+use super::sha256::OF_NOTHING;
+use std::alloc::{AllocError, Allocator, Global};
+use std::test::Fail;
+use transcript_bytes::{
+    ByteChallenger, HashChallenger, Sha256Hasher, observe_bytes, runs_join, sample_bytes,
+    sample_u64,
+};
+
+// The digest of the digest of no byte.
+static OF_DIGEST: [u8; 32] = [
+    0x5d, 0xf6, 0xe0, 0xe2, 0x76, 0x13, 0x59, 0xd3, 0x0a, 0x82, 0x75, 0x05, 0x8e, 0x29, 0x9f, 0xcc,
+    0x03, 0x81, 0x53, 0x45, 0x45, 0xf5, 0x5c, 0xf4, 0x3e, 0x41, 0x98, 0x3f, 0x5d, 0x4c, 0x94, 0x56,
+];
+
+// From the initial state 1, 2, 3: byte i is sampled after byte i was observed where i leaves 3 modulo 7. By Python's hashlib.
+static MIXED: [u8; 40] = [
+    129, 251, 28, 7, 14, 182, 229, 59, 202, 66, 32, 128, 85, 100, 250, 255, 22, 14, 218, 44, 235,
+    230, 245, 159, 139, 71, 126, 196, 238, 98, 41, 35, 221, 234, 14, 64, 253, 246, 15, 22,
+];
+
+fn fresh(alloc: Global) -> HashChallenger<Sha256Hasher> {
+    HashChallenger::new(Vec::new(alloc), Sha256Hasher)
+}
+
+/// Whether the next samples are these bytes, from the last of them down.
+fn samples_from_the_end_are<C: ByteChallenger>(
+    challenger: &mut C,
+    digest: &[u8; 32],
+) -> Result<bool, AllocError> {
+    for place in 0..32 {
+        if challenger.sample_byte()? != digest[31 - place] {
+            return Ok(false);
+        }
+    }
+    Ok(!challenger.refused())
+}
+
+#[test]
+fn digests_are_sampled_from_their_ends(rt: HostRuntime) -> Result<(), Fail> {
+    let mut challenger = fresh(rt.alloc());
+    assert!(rt;
+        samples_from_the_end_are(&mut challenger, &OF_NOTHING)?
+            && samples_from_the_end_are(&mut challenger, &OF_DIGEST)?
+    );
+    Ok(())
+}
+
+fn samples_after_observing(alloc: Global) -> Result<bool, AllocError> {
+    let mut challenger = fresh(alloc);
+    for byte in [0x61, 0x62, 0x63] {
+        challenger.observe_byte(byte)?;
+    }
+    Ok(challenger.sample_byte()? == 0xad && challenger.sample_byte()? == 0x15)
+}
+
+// The digest of the digest of no byte followed by 0x61 ends in 0xb4.
+fn observing_drops_the_output(alloc: Global) -> Result<bool, AllocError> {
+    let mut challenger = fresh(alloc);
+    let first = challenger.sample_byte()?;
+    challenger.observe_byte(0x61)?;
+    Ok(first == 0x55 && challenger.sample_byte()? == 0xb4 && challenger.sample_byte()? == 0xe0)
+}
+
+// A copy, and the original after it, sample what the original would have.
+fn copies_sample_alike(alloc: Global) -> Result<bool, AllocError> {
+    let mut challenger = fresh(alloc);
+    let mut first = challenger.try_clone()?;
+    let firsts = first.sample_byte()? == 0x55 && challenger.sample_byte()? == 0x55;
+    let mut second = challenger.try_clone()?;
+    second.observe_byte(0x61)?;
+    Ok(
+        firsts
+            && second.sample_byte()? == 0xb4
+            && first.sample_byte()? == 0xb8
+            && challenger.sample_byte()? == 0xb8,
+    )
+}
+
+#[test]
+fn observing_and_copying(rt: HostRuntime) -> Result<(), Fail> {
+    runs_join::<HashChallenger<Sha256Hasher>>();
+    assert!(rt;
+        samples_after_observing(rt.alloc())?
+            && observing_drops_the_output(rt.alloc())?
+            && copies_sample_alike(rt.alloc())?
+    );
+    Ok(())
+}
+
+fn mixed_calls_are_as_wanted(alloc: Global) -> Result<bool, AllocError> {
+    let initial_state = Vec::from_slice(alloc, &[1, 2, 3])?;
+    let mut challenger = HashChallenger::new(initial_state, Sha256Hasher);
+    for place in 0..40 {
+        if place % 7 == 3 {
+            challenger.observe_byte(place as u8)?;
+        }
+        if challenger.sample_byte()? != MIXED[place] {
+            return Ok(false);
+        }
+    }
+    Ok(true)
+}
+
+// Eight samples as a word, and then the two bytes below them in the digest.
+fn several_at_once(alloc: Global) -> Result<bool, AllocError> {
+    let mut challenger = fresh(alloc);
+    let word = sample_u64(&mut challenger)?;
+    let mut rest = [0; 2];
+    sample_bytes(&mut challenger, &mut rest)?;
+    let mut observer = fresh(alloc);
+    observe_bytes(&mut observer, b"abc")?;
+    let mut after = [0; 2];
+    sample_bytes(&mut observer, &mut after)?;
+    Ok(word == 0xa495991b7852b855 && rest == [0x4c, 0x93] && after == [0xad, 0x15])
+}
+
+#[test]
+fn mixed_calls_and_several_at_once(rt: HostRuntime) -> Result<(), Fail> {
+    assert!(rt; mixed_calls_are_as_wanted(rt.alloc())? && several_at_once(rt.alloc())?);
+    Ok(())
+}
+
+// Byte k of the initial state of length n is 7 k + n modulo 256.
+fn initial_state<A: Allocator>(alloc: A, len: usize) -> Result<Vec<u8, A>, AllocError> {
+    let mut state = Vec::with_capacity(alloc, len)?;
+    for place in 0..len {
+        state.push((place.wrapping_mul(7).wrapping_add(len) % 256) as u8)?;
+    }
+    Ok(state)
+}
+
+// From initial states of 0 to 257 bytes: a sample, n modulo 256 observed, another sample. The samples are folded into one number,
+// 31 times the number so far plus both as a big-endian number, modulo 2^32.
+fn samples_of_all_lengths(alloc: Global) -> Result<u32, AllocError> {
+    let mut folded: u32 = 0;
+    for len in 0..258usize {
+        let mut challenger = HashChallenger::new(
+            initial_state(alloc, len)?,
+            Sha256Hasher,
+        ).try_clone()?;
+        let first = challenger.sample_byte()?;
+        challenger.observe_byte((len % 256) as u8)?;
+        let second = challenger.sample_byte()?;
+        let pair = (first as u32) << 8 | second as u32;
+        folded = folded.wrapping_mul(31).wrapping_add(pair);
+    }
+    Ok(folded)
+}
+
+// The number is of Python's hashlib.
+#[test]
+fn initial_states_of_all_lengths(rt: HostRuntime) -> Result<(), Fail> {
+    assert!(rt; samples_of_all_lengths(rt.alloc())? == 0x67aae910);
+    Ok(())
+}

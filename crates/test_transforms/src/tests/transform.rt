@@ -1,0 +1,224 @@
+// The whole transform against worked rows and against the values of polynomials at its points, and its inverse.
+use super::drawn::{fill, next_number};
+use field_base::traits::{PrimeCharacteristicRing, TowerLevel};
+use field_element::Ghash128;
+use linked_list_allocator::LocalHeap;
+use std::alloc::{AllocError, Allocator, Global};
+use std::test::Fail;
+use transform_whole::{forward, inverse, over};
+
+// Runs the transform of 2^m values for an m from 4 to 10, or returns false.
+fn forward_of<A: Allocator>(
+    alloc: A,
+    values: &mut [u128],
+    m: usize,
+    z: u128,
+    products: &mut u64,
+) -> Result<bool, AllocError> {
+    if m < 4 || m > 10 || values.len() != 1 << m || *products > 1000 {
+        return Ok(false);
+    }
+    forward(alloc, values, z, products)?;
+    Ok(true)
+}
+
+// Runs the inverse of that.
+fn inverse_of(values: &mut [u128], m: usize, z: u128, products: &mut u64) -> bool {
+    if m < 4 || m > 10 || values.len() != 1 << m || *products > 1000 {
+        return false;
+    }
+    inverse(values, z, products);
+    true
+}
+
+fn are_same(values: &[u128], others: &[u128]) -> bool {
+    values == others
+}
+
+// Whether the first eight values are the first of those that are wanted, the next eight the second, and so on.
+fn eights_are(values: &[u128], wanted: &[u128]) -> bool {
+    for (place, value) in values.iter().enumerate() {
+        if wanted.get(place / 8) != Some(value) {
+            return false;
+        }
+    }
+    true
+}
+
+// What the transform leaves of a 1 at one place and 0 at the others, with z = 0.
+struct Row {
+    stages: usize,
+    places: usize,
+    one_at: usize,
+    // The values, each at eight places in a row.
+    values: &'static [u128],
+    pairs: u64,
+}
+
+static ROWS: [Row; 3] = [
+    Row {
+        stages: 4,
+        places: 16,
+        one_at: 0,
+        values: &[1, 1],
+        pairs: 32,
+    },
+    Row {
+        stages: 5,
+        places: 32,
+        one_at: 16,
+        values: &[0, 0, 1, 1],
+        pairs: 80,
+    },
+    Row {
+        stages: 5,
+        places: 32,
+        one_at: 8,
+        values: &[
+            0,
+            1,
+            0x295a_c0b1_f473_1af9_676a_ac9f_a4b2_0b08,
+            0x295a_c0b1_f473_1af9_676a_ac9f_a4b2_0b09,
+        ],
+        pairs: 80,
+    },
+];
+
+// Whether the transform leaves the values of the row, and counts its pairs.
+fn row_holds(alloc: Global, row: &Row) -> Result<bool, AllocError> {
+    let mut places = [0; 32];
+    if row.places > 32 || row.one_at > 31 {
+        return Ok(false);
+    }
+    places[row.one_at] = 1;
+    let values = &mut places[..row.places];
+    let mut products = 0;
+    let runs = forward_of(alloc, values, row.stages, 0, &mut products)?;
+    Ok(runs && products == row.pairs && eights_are(values, row.values))
+}
+
+#[test]
+fn rows_of_the_transform(rt: HostRuntime) -> Result<(), Fail> {
+    for row in ROWS.iter() {
+        assert!(rt; row_holds(rt.alloc(), row)?);
+    }
+    let mut values = [0; 16];
+    values[1] = 1;
+    let mut products = 5;
+    let runs = forward_of(rt.alloc(), &mut values, 4, 2, &mut products)?;
+    assert!(rt; runs && values[0] == 2 && values[1] == 3 && products == 37);
+    let mut ones = [1; 32];
+    let mut undone = 0;
+    let runs = inverse_of(&mut ones, 5, 0, &mut undone);
+    assert!(rt; runs && ones[0] == 1 && are_same(&ones[1..], &[0; 31]) && undone == 80);
+    Ok(())
+}
+
+// z, and the Cantor vectors at the set bits of a place below 2^10.
+fn point(z: u128, place: usize) -> Ghash128 {
+    let mut point = Ghash128::new(z);
+    for bit in 0..10 {
+        if place >> bit & 1 == 1 {
+            point += Ghash128::cantor_basis(bit);
+        }
+    }
+    point
+}
+
+// Whether each place holds the value of the polynomial at its point.
+fn places_hold(values: &[u128], coefficients: &[Ghash128], z: u128) -> bool {
+    for (place, value) in values.iter().enumerate() {
+        if over::evaluate_cantor(coefficients, point(z, place)).to_bits() != *value {
+            return false;
+        }
+    }
+    true
+}
+
+// Whether the transform of so many drawn values, which are 2^m, leaves the values of their polynomial, and its inverse takes them
+// back.
+fn transform_agrees(alloc: Global, m: usize, count: usize, z: u128) -> Result<bool, AllocError> {
+    if count > 1024 {
+        return Ok(false);
+    }
+    let mut places = [0; 1024];
+    fill(&mut places, 7);
+    let drawn = places;
+    let values = &mut places[..count];
+    let mut coefficients = Vec::new(alloc);
+    for value in values.iter() {
+        coefficients.push(Ghash128::new(*value))?;
+    }
+    let mut products = 0;
+    let runs = forward_of(alloc, values, m, z, &mut products)?
+        && places_hold(values, coefficients.as_slice(), z);
+    let mut undone = 0;
+    Ok(
+        runs && inverse_of(values, m, z, &mut undone)
+            && undone == products
+            && are_same(values, &drawn[..count]),
+    )
+}
+
+// The same for each m from 4 to 10.
+fn transforms_agree(alloc: Global) -> Result<bool, AllocError> {
+    let mut state = 11;
+    for m in 4..11 {
+        if !transform_agrees(alloc, m, 1 << m, next_number(&mut state))? {
+            return Ok(false);
+        }
+    }
+    Ok(true)
+}
+
+#[test]
+fn transforms_give_values_at_their_points(rt: HostRuntime) -> Result<(), Fail> {
+    assert!(rt; transforms_agree(rt.alloc())?);
+    Ok(())
+}
+
+// The coefficient times the s_j(x) at the set bits of its number, which is below 16.
+fn term(coefficient: Ghash128, number: usize, x: Ghash128) -> Ghash128 {
+    let mut term = coefficient;
+    let mut factor = x;
+    for j in 0..4_usize {
+        if number >> j & 1 == 1 {
+            term = term * factor;
+        }
+        factor = factor * factor + factor;
+    }
+    term
+}
+
+// Whether the first coefficients, for each number of them, have the sum of their terms as their value.
+fn lists_hold(coefficients: &[Ghash128], x: Ghash128) -> bool {
+    let mut sum = Ghash128::ZERO;
+    for (number, coefficient) in coefficients.iter().enumerate() {
+        if over::evaluate_cantor(&coefficients[..number], x) != sum {
+            return false;
+        }
+        sum = sum + term(*coefficient, number, x);
+    }
+    over::evaluate_cantor(coefficients, x) == sum
+}
+
+#[test]
+fn lists_of_any_length(rt: HostRuntime) {
+    let mut drawn = [0; 16];
+    fill(&mut drawn, 12);
+    let holds = lists_hold(&drawn.map(Ghash128::new), Ghash128::new(drawn[3]));
+    assert!(rt; holds);
+}
+
+#[test]
+fn memory_of_the_transform(rt: HostRuntime) -> Result<(), Fail> {
+    let large = LocalHeap::new(rt.alloc(), 1024)?;
+    let small = LocalHeap::new(rt.alloc(), 32)?;
+    let mut values = [1; 16];
+    let mut products = 9;
+    let refused = forward_of(&small, &mut values, 4, 3, &mut products).is_err();
+    assert!(rt; refused && values == [1; 16] && products == 9 && small.used() == 0);
+    let granted = forward_of(&large, &mut values, 4, 3, &mut products).is_ok();
+    assert!(rt; granted && products == 41 && large.used() == 0);
+    Ok(())
+}

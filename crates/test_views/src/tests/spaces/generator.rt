@@ -1,0 +1,88 @@
+// The order of the generator: an element whose powers by the quotients of 2^192 - 1 by its primes are not 1 generates all.
+use field_base::traits::{Field, PrimeCharacteristicRing};
+use field_element::Poly192;
+
+/// The primes of 2^192 - 1, as often as they divide it.
+static PRIMES: [u64; 16] = [
+    3,
+    3,
+    5,
+    7,
+    13,
+    17,
+    97,
+    193,
+    241,
+    257,
+    641,
+    673,
+    65537,
+    6_700_417,
+    22_253_377,
+    0xffff_ffff_0000_0001,
+];
+
+/// A number of 192 bits, by its words, the lowest first.
+type Words = [u64; 3];
+
+/// 2^192 - 1.
+const ORDER: Words = [u64::MAX, u64::MAX, u64::MAX];
+
+/// The quotient and the remainder of `high` 2^64 + `low` by `divisor`, for `high` below it.
+fn step(high: u64, low: u64, divisor: u64) -> Option<(u64, u64)> {
+    if divisor == 0 {
+        return None;
+    }
+    let number = (u128::from(high) << 64) | u128::from(low);
+    let quotient = number / u128::from(divisor);
+    let rest = number % u128::from(divisor);
+    Some(((quotient % (1 << 64)) as u64, (rest % (1 << 64)) as u64))
+}
+
+/// The quotient by `divisor`, and None where it does not divide.
+fn quotient(number: Words, divisor: u64) -> Option<Words> {
+    let (high, rest) = step(0, number[2], divisor)?;
+    let (middle, rest) = step(rest, number[1], divisor)?;
+    let (low, rest) = step(rest, number[0], divisor)?;
+    if rest == 0 {
+        Some([low, middle, high])
+    } else {
+        None
+    }
+}
+
+/// The element to the power of a number.
+fn power(element: Poly192, exponent: Words) -> Poly192 {
+    let shifted = element.exp_power_of_2(64);
+    element.exp_u64(exponent[0])
+        * shifted.exp_u64(exponent[1])
+        * shifted.exp_power_of_2(64).exp_u64(exponent[2])
+}
+
+/// Whether no quotient of the order by one of the primes is an exponent that gives 1.
+fn order_is_full(element: Poly192) -> bool {
+    for prime in PRIMES.iter() {
+        match quotient(ORDER, *prime) {
+            Some(exponent) if !power(element, exponent).is_one() => {}
+            _ => return false,
+        }
+    }
+    power(element, ORDER).is_one()
+}
+
+#[test]
+fn the_primes_multiply_to_the_order(rt: HostRuntime) {
+    let mut rest = Some(ORDER);
+    for prime in PRIMES.iter() {
+        rest = match rest {
+            Some(number) => quotient(number, *prime),
+            None => None,
+        };
+    }
+    assert!(rt; rest == Some([1, 0, 0]));
+}
+
+#[test]
+fn the_generator_has_full_order(rt: HostRuntime) {
+    assert!(rt; order_is_full(Poly192::GENERATOR) && !order_is_full(Poly192::ONE));
+}

@@ -1,0 +1,12 @@
+-- What a contract sees of a guarded byte challenger.
+use Rattle.std.specs.Prelude.{Bool}
+use Rattle.transcript_bytes.specs.declared.byte_challenger.ByteChallenger
+use Rattle.transcript_bytes.specs.declared.guarded.Guarded.{Guarded}
+
+-- the challenger that is guarded
+abbrev pub guarded_inner : {C : Type 0} {c : ByteChallenger.Ghosts C} → Guarded C c → C
+guarded_inner guarded = guarded.inner
+
+-- whether a call has failed
+abbrev pub guarded_failed : {C : Type 0} {c : ByteChallenger.Ghosts C} → Guarded C c → Bool
+guarded_failed guarded = guarded.has_failed

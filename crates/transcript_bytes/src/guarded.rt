@@ -1,0 +1,113 @@
+// A byte challenger that is used no further once a call was refused.
+ghost use Rattle.std.specs.Prelude.{◌≡◌, ℕ, false, true, length, Err, IfErr, IfOk, Ok, OnErr, OnOk};
+ghost use Rattle.std.specs.Int.{from_le_bytes, w64};
+ghost use Rattle.transcript_bytes.specs.ByteCalls.{bytes_sampled, observing, sampling, state_after};
+ghost use Rattle.transcript_bytes.specs.GuardedAnswers.{GuardedAnswer};
+ghost use Rattle.transcript_bytes.specs.declared.error.ChallengerError.TheVariants.{Memory};
+
+use crate::byte_challenger::ByteChallenger;
+use crate::byte_runs::{observe_bytes, sample_bytes, sample_u64};
+use crate::error::ChallengerError;
+use std::alloc::AllocError;
+
+/// A byte challenger that is used no further once a call was refused: that call answers `Memory`, and each later one `Failed`. So
+/// no state that an unfinished call left is ever read.
+#[derive(Drop)]
+pub struct Guarded<C: ByteChallenger> {
+    inner: C,
+    has_failed: bool,
+    ghost fails_if_refused: { has_failed ≡ false → C.has_refused inner ≡ false },
+}
+
+impl<C: ByteChallenger> Guarded<C> {
+    ghost use Rattle.transcript_bytes.specs.Guarded.{guarded_failed, guarded_inner};
+
+    /// Guards `inner`, which has not refused. No call has failed yet.
+    pub fn new(inner: C) -> Guarded<C>
+        requires { C.has_refused inner ≡ false }
+        ensures inner { guarded_inner result ≡ inner }
+        ensures failed { guarded_failed result ≡ false }
+    {
+        Guarded {
+            inner,
+            has_failed: false,
+        }
+    }
+
+    /// Whether a call has failed.
+    pub fn failed(&self) -> bool
+        ensures { result ≡ guarded_failed self.now }
+    {
+        self.has_failed
+    }
+
+    /// Makes this a challenger that has failed, for a caller that was refused memory on its own account.
+    pub fn fail(&mut self)
+        ensures inner { guarded_inner self.new ≡ guarded_inner self.old }
+        ensures failed { guarded_failed self.new ≡ true }
+    {
+        self.has_failed = true;
+    }
+
+    /// Observes the bytes in order.
+    pub fn observe_bytes(&mut self, bytes: &[u8]) -> Result<(), ChallengerError>
+        ensures ok { OnOk result (C.state (guarded_inner self.new) ≡ state_after C.observed C.sampled (observing bytes.now) (C.state (guarded_inner self.old))) }
+        ensures answer { GuardedAnswer (guarded_failed self.old) (guarded_failed self.new) (C.has_refused (guarded_inner self.new)) result }
+    {
+        if self.has_failed {
+            return Err(ChallengerError::Failed);
+        }
+        remembered(observe_bytes(&mut self.inner, bytes), &mut self.has_failed)
+    }
+
+    /// Samples as many bytes as `bytes` has, in order, and writes them there. After a failure what `bytes` holds is left open.
+    pub fn sample_bytes(&mut self, bytes: &mut [u8]) -> Result<(), ChallengerError>
+        ensures ok { OnOk result (C.state (guarded_inner self.new) ≡ state_after C.observed C.sampled (sampling (length bytes.old)) (C.state (guarded_inner self.old))) }
+        ensures bytes { OnOk result (bytes.new ≡ bytes_sampled C.observed C.sampled (sampling (length bytes.old)) (C.state (guarded_inner self.old))) }
+        ensures answer { GuardedAnswer (guarded_failed self.old) (guarded_failed self.new) (C.has_refused (guarded_inner self.new)) result }
+    {
+        if self.has_failed {
+            return Err(ChallengerError::Failed);
+        }
+        remembered(sample_bytes(&mut self.inner, bytes), &mut self.has_failed)
+    }
+
+    /// Samples eight bytes and reads them as a number, lowest byte first.
+    pub fn sample_u64(&mut self) -> Result<u64, ChallengerError>
+        ensures ok { OnOk result (C.state (guarded_inner self.new) ≡ state_after C.observed C.sampled (sampling 8) (C.state (guarded_inner self.old))) }
+        ensures word { IfOk result (λ word. word ≡ from_le_bytes w64 (bytes_sampled C.observed C.sampled (sampling 8) (C.state (guarded_inner self.old)))) }
+        ensures answer { GuardedAnswer (guarded_failed self.old) (guarded_failed self.new) (C.has_refused (guarded_inner self.new)) result }
+    {
+        if self.has_failed {
+            return Err(ChallengerError::Failed);
+        }
+        remembered(sample_u64(&mut self.inner), &mut self.has_failed)
+    }
+
+    /// A copy with the same state, which has failed exactly where this one has. It fails where memory was refused, and this one
+    /// then is as before.
+    pub fn try_clone(&self) -> Result<Guarded<C>, AllocError>
+        ensures state { IfOk result (λ copy. C.state (guarded_inner copy) ≡ C.state (guarded_inner self.now)) }
+        ensures failed { IfOk result (λ copy. guarded_failed copy ≡ guarded_failed self.now) }
+    {
+        Ok(Guarded {
+            inner: self.inner.try_clone()?,
+            has_failed: self.has_failed,
+        })
+    }
+}
+
+// The answer of a call of the challenger below, where a refusal is one of memory and is remembered.
+#[inline]
+fn remembered<T>(answer: Result<T, AllocError>, has_failed: &mut bool) -> Result<T, ChallengerError>
+    ensures ok { IfOk answer (λ value. (result ≡ Ok value) × (has_failed.new ≡ has_failed.old)) }
+    ensures err { IfErr answer (λ _. (result ≡ Err Memory) × (has_failed.new ≡ true)) }
+{
+    match answer {
+        Ok(value) => Ok(value),
+        Err(_) => {
+            *has_failed = true;
+            Err(ChallengerError::Memory)
+        }
+    }
+}

@@ -1,0 +1,6 @@
+pub mod CallLists
+pub mod Candidates
+pub mod Checks
+pub mod ManyCalls
+pub mod LowBytes
+pub mod SeedLemmas

@@ -1,0 +1,15 @@
+use Rattle.std.proofs.Common.{◌≡◌, false, take}
+use Rattle.std.specs.List.{flat_map}
+use Rattle.transcript_bytes.specs.ByteCalls.{observing, state_after}
+use Rattle.transcript_bytes.specs.Guarded.{guarded_failed, guarded_inner}
+use Rattle.field_bytes.specs.Bytes.{low_bytes}
+use Rattle.transcript_elements.proofs.digest.U64DigestWord.observe_words.Given as goal
+
+-- the words before the index were observed, and nothing has failed
+abbrev pub invariant-words : goal.invariant-words
+invariant-words g l = record {
+  goes_on : guarded_failed l.guarded ≡ false;
+  run : g.C.ByteChallenger.state (guarded_inner l.guarded)
+      ≡ state_after g.C.ByteChallenger.observed g.C.ByteChallenger.sampled (observing (flat_map (λ w. low_bytes 8 w) (take l.index l.words)))
+      (g.C.ByteChallenger.state (guarded_inner l.initial.guarded));
+}

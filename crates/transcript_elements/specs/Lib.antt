@@ -1,0 +1,9 @@
+pub mod Calls
+pub mod Challengers
+pub mod Digests
+pub mod Grinding
+pub mod Sampled
+pub mod BigEndian
+pub mod Recorders
+pub mod Seeds
+pub mod Tags

@@ -1,0 +1,211 @@
+// Digests and caps of Merkle trees, and how they are observed.
+ghost use Rattle.std.specs.Prelude.{◌≡◌, ℕ, false, length, List, OnOk};
+ghost use Rattle.std.specs.List.{flat_map};
+ghost use Rattle.transcript_bytes.specs.ByteCalls.{observing, state_after};
+ghost use Rattle.transcript_bytes.specs.Guarded.{guarded_failed, guarded_inner};
+ghost use Rattle.transcript_bytes.specs.GuardedAnswers.{GuardedAnswer};
+ghost use Rattle.field_bytes.specs.Bytes.{low_bytes};
+ghost use Rattle.transcript_elements.specs.Challengers.{guarded_of};
+ghost use Rattle.transcript_elements.specs.Digests.{roots_of, words_of};
+
+use crate::challenger::BinaryChallenger;
+use crate::{ByteLevel, CanObserve};
+use std::alloc::{Allocator, Global};
+use std::marker::PhantomData;
+use transcript_bytes::{ByteChallenger, ChallengerError, Guarded};
+
+/// A digest of `N` words of the hash `G`.
+#[derive(Clone, Copy, Debug, PartialEq, Eq)]
+pub struct Hash<G, W, const N: usize> {
+    words: [W; N],
+    of: PhantomData<G>,
+}
+
+impl<G, W: Copy, const N: usize> From<[W; N]> for Hash<G, W, N> {
+    ghost from_gives = { λ words hash. words_of hash ≡ words };
+
+    fn from(words: [W; N]) -> Hash<G, W, N> {
+        Hash {
+            words,
+            of: PhantomData,
+        }
+    }
+}
+
+/// The roots of the trees that a Merkle tree of the hash `G` is cut into below its top.
+#[derive(Drop)]
+pub struct MerkleCap<G, D: Drop, A: Allocator = Global> {
+    roots: Vec<D, A>,
+    of: PhantomData<G>,
+}
+
+impl<G, D: Drop, A: Allocator> MerkleCap<G, D, A> {
+    /// The cap of these roots.
+    pub fn new(roots: Vec<D, A>) -> MerkleCap<G, D, A>
+        ensures { roots_of result ≡ roots.items }
+    {
+        MerkleCap {
+            roots,
+            of: PhantomData,
+        }
+    }
+
+    /// The roots.
+    pub fn roots(&self) -> &[D]
+        ensures { result.now ≡ roots_of self.now }
+    {
+        self.roots.as_slice()
+    }
+}
+
+/// A digest that is observed as a list of bytes: an array of bytes, an array of words of 64 bits, each as eight bytes from the
+/// lowest, or a `Hash` of either.
+pub trait Digest: Drop {
+    // The bytes.
+    ghost bytes: { Self → List ℕ };
+
+    /// Observes the bytes, in a challenger that has not failed.
+    fn observe_in<C: ByteChallenger>(&self, guarded: &mut Guarded<C>) -> Result<(), ChallengerError>
+        requires { guarded_failed guarded.old ≡ false }
+        ensures ok { OnOk result (C.state (guarded_inner guarded.new) ≡ state_after C.observed C.sampled (observing (bytes self.now)) (C.state (guarded_inner guarded.old))) }
+        ensures answer { GuardedAnswer false (guarded_failed guarded.new) (C.has_refused (guarded_inner guarded.new)) result };
+}
+
+/// A word of a digest: a byte, or a word of 64 bits, which is observed as eight bytes from the lowest.
+pub trait DigestWord: Copy {
+    // The bytes of words.
+    ghost bytes: { List Self → List ℕ };
+
+    /// Observes the bytes of the words, in a challenger that has not failed.
+    fn observe_words<C: ByteChallenger>(
+        words: &[Self],
+        guarded: &mut Guarded<C>,
+    ) -> Result<(), ChallengerError>
+        requires { guarded_failed guarded.old ≡ false }
+        ensures ok { OnOk result (C.state (guarded_inner guarded.new) ≡ state_after C.observed C.sampled (observing (bytes words.now)) (C.state (guarded_inner guarded.old))) }
+        ensures answer { GuardedAnswer false (guarded_failed guarded.new) (C.has_refused (guarded_inner guarded.new)) result };
+}
+
+impl DigestWord for u8 {
+    ghost bytes = { λ words. words };
+
+    fn observe_words<C: ByteChallenger>(
+        words: &[u8],
+        guarded: &mut Guarded<C>,
+    ) -> Result<(), ChallengerError> {
+        guarded.observe_bytes(words)
+    }
+}
+
+impl DigestWord for u64 {
+    ghost bytes = { λ words. flat_map (λ w. low_bytes 8 w) words };
+
+    fn observe_words<C: ByteChallenger>(
+        words: &[u64],
+        guarded: &mut Guarded<C>,
+    ) -> Result<(), ChallengerError> {
+        'words: for index in 0..words.len() {
+            guarded.observe_bytes(&words[index].to_le_bytes())?;
+        }
+        Ok(())
+    }
+}
+
+impl<W: DigestWord, const N: usize> Digest for [W; N] {
+    ghost bytes = { λ words. W.bytes words };
+
+    fn observe_in<C: ByteChallenger>(
+        &self,
+        guarded: &mut Guarded<C>,
+    ) -> Result<(), ChallengerError> {
+        W::observe_words(self, guarded)
+    }
+}
+
+impl<G, W: DigestWord, const N: usize> Digest for Hash<G, W, N> {
+    ghost bytes = { λ hash. W.bytes (words_of hash) };
+
+    fn observe_in<C: ByteChallenger>(
+        &self,
+        guarded: &mut Guarded<C>,
+    ) -> Result<(), ChallengerError> {
+        W::observe_words(&self.words, guarded)
+    }
+}
+
+// Observes the digests in order.
+fn observe_digests<D: Digest, C: ByteChallenger>(
+    guarded: &mut Guarded<C>,
+    digests: &[D],
+) -> Result<(), ChallengerError>
+    requires { guarded_failed guarded.old ≡ false }
+    ensures ok { OnOk result (C.state (guarded_inner guarded.new) ≡ state_after C.observed C.sampled (observing (flat_map D.bytes digests.now)) (C.state (guarded_inner guarded.old))) }
+    ensures answer { GuardedAnswer false (guarded_failed guarded.new) (C.has_refused (guarded_inner guarded.new)) result }
+{
+    'digests: for index in 0..digests.len() {
+        digests[index].observe_in(guarded)?;
+    }
+    Ok(())
+}
+
+impl<G, W: DigestWord, const N: usize, F: ByteLevel, Inner: ByteChallenger> CanObserve<
+    Hash<G, W, N>,
+> for BinaryChallenger<F, Inner> {
+    ghost State = { Inner.State };
+
+    ghost state = { λ challenger. Inner.state (guarded_inner (guarded_of challenger)) };
+
+    ghost observed = { λ state value. state_after Inner.observed Inner.sampled (observing (W.bytes (words_of value))) state };
+
+    ghost may_leave = { λ _ _. Unit {0} };
+
+    ghost may_stay = { λ _. tt };
+
+    fn observe(&mut self, value: Hash<G, W, N>) -> Result<(), ChallengerError> {
+        if self.guarded.failed() {
+            return Err(ChallengerError::Failed);
+        }
+        value.observe_in(&mut self.guarded)
+    }
+}
+
+impl<'a, G, D: Digest, A: Allocator, F: ByteLevel, Inner: ByteChallenger> CanObserve<
+    &'a MerkleCap<G, D, A>,
+> for BinaryChallenger<F, Inner> {
+    ghost State = { Inner.State };
+
+    ghost state = { λ challenger. Inner.state (guarded_inner (guarded_of challenger)) };
+
+    ghost observed = { λ state cap. state_after Inner.observed Inner.sampled (observing (flat_map D.bytes (roots_of cap.now))) state };
+
+    ghost may_leave = { λ _ _. Unit {0} };
+
+    ghost may_stay = { λ _. tt };
+
+    fn observe(&mut self, cap: &'a MerkleCap<G, D, A>) -> Result<(), ChallengerError> {
+        if self.guarded.failed() {
+            return Err(ChallengerError::Failed);
+        }
+        observe_digests(&mut self.guarded, cap.roots())
+    }
+}
+
+impl<G, D: Digest, A: Allocator, F: ByteLevel, Inner: ByteChallenger> CanObserve<MerkleCap<G, D, A>>
+    for BinaryChallenger<F, Inner> {
+    ghost State = { Inner.State };
+
+    ghost state = { λ challenger. Inner.state (guarded_inner (guarded_of challenger)) };
+
+    ghost observed = { λ state cap. state_after Inner.observed Inner.sampled (observing (flat_map D.bytes (roots_of cap))) state };
+
+    ghost may_leave = { λ _ _. Unit {0} };
+
+    ghost may_stay = { λ _. tt };
+
+    fn observe(&mut self, cap: MerkleCap<G, D, A>) -> Result<(), ChallengerError> {
+        if self.guarded.failed() {
+            return Err(ChallengerError::Failed);
+        }
+        observe_digests(&mut self.guarded, cap.roots())
+    }
+}

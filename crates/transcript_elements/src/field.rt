@@ -1,0 +1,158 @@
+// Fields whose elements go into transcripts.
+ghost use Rattle.std.specs.Prelude.{◌≡◌, ◌≢◌, ◌*◌, ◌++◌, ◌<◌, ◌^◌, ◌↔◌, Bool, false, true, IfErr, IfOk, IsErr, List, length, OnErr, OnOk, refl, ℕ, take, Ok};
+ghost use Rattle.std.proofs.Common.{◌∙◌};
+ghost use Rattle.transcript_bytes.specs.GuardedAnswers.{GuardedAnswer};
+ghost use Rattle.transcript_elements.specs.BigEndian.{be_bytes};
+ghost use Rattle.transcript_elements.specs.Seeds.{AreOfSeed, NeitherBegins, Observes, ObservesPart, seed_bytes};
+ghost use Rattle.transcript_elements.specs.Tags.{tag_of};
+
+use crate::byte_level::{ByteLevel, MOST_BYTES, ShortWord};
+use crate::error::TranscriptError;
+use crate::observe::CanObserve;
+use crate::seeds::observe_padded;
+use crate::tag::TypeTag;
+use field_base::LevelKernel;
+use field_element::{Element, HasPacking};
+use std::alloc::{AllocError, Allocator};
+use transcript_bytes::ChallengerError;
+use word_polynomial::Poly64Kernel;
+use word_tower::{Bits8, Bits16, Bits32, Bits64, Bits128, Tower};
+
+/// A field whose elements are whole bytes, as a transcript takes them: strings of bytes as elements, elements as text, and tags of
+/// the algebras over it.
+pub trait TranscriptField: ByteLevel {
+    // Whether the field is in a polynomial basis, and no level of the tower.
+    ghost IN_POLYNOMIAL_BASIS: { Bool };
+
+    /// The tag of an algebra over the field.
+    fn algebra_tag(degree: usize, basis: [u8; 32]) -> TypeTag
+        ensures { result ≡ tag_of IN_POLYNOMIAL_BASIS Self.width degree basis };
+
+    ghost whole_law: { Self.width ≡ 8 * Self.NUM_BYTES };
+
+    /// Observes a string of bytes: its length as eight bytes, the lowest first, and then the bytes; both are cut into elements and
+    /// filled with zeros to whole ones, and an element's first byte is its lowest. So of two strings that differ neither has
+    /// elements that begin the other's. It fails where the transcript does, and elements before that were observed.
+    final fn observe_seed<C: CanObserve<Self>>(
+        challenger: &mut C,
+        seed: &[u8],
+    ) -> Result<(), ChallengerError>
+        ensures ok { OnOk result (Observes Self.NUM_BYTES Self.repr C.observed (seed_bytes Self.NUM_BYTES seed.now) (C.state challenger.old) (C.state challenger.new)) }
+        ensures err { OnErr result (ObservesPart Self.NUM_BYTES Self.repr C.observed C.may_leave (seed_bytes Self.NUM_BYTES seed.now) (C.state challenger.old) (C.state challenger.new)) }
+        ensures answer { GuardedAnswer (C.has_failed challenger.old) (C.has_failed challenger.new) (C.has_refused challenger.new) result }
+        ensures apart { (other : List ℕ) → length other < 2 ^ 64 → other ≢ seed.now → (xs ys : List Self) → AreOfSeed Self.NUM_BYTES Self.repr seed.now xs → AreOfSeed Self.NUM_BYTES Self.repr other ys → NeitherBegins xs ys }
+    {
+        let header = (seed.len() as u64).to_le_bytes();
+        if challenger.failed() {
+            return Err(ChallengerError::Failed);
+        }
+        observe_padded::<Self, C>(challenger, &header)?;
+        observe_padded::<Self, C>(challenger, seed)
+    }
+
+    /// Appends the bytes of the representation, the highest first. Where memory is refused `out` is as before.
+    final fn encode<A: Allocator>(&self, out: &mut Vec<u8, A>) -> Result<(), AllocError>
+        ensures ok { OnOk result (out.new.items ≡ out.old.items ++ be_bytes Self.NUM_BYTES (Self.repr self.now)) }
+        ensures err { OnErr result (out.new.items ≡ out.old.items) }
+    {
+        let bytes = self.high_first();
+        out.extend_from_slice(&bytes[MOST_BYTES - Self::NUM_BYTES..])
+    }
+
+    /// The element whose bytes, the highest first, `bytes` begins with; what follows them is ignored. It fails where there are
+    /// fewer bytes than an element has.
+    final fn decode(bytes: &[u8]) -> Result<Self, TranscriptError>
+        ensures ok { IfOk result (λ x. be_bytes Self.NUM_BYTES (Self.repr x) ≡ take Self.NUM_BYTES bytes.now) }
+        ensures encoded { (x : Self) (rest : List ℕ) → bytes.now ≡ be_bytes Self.NUM_BYTES (Self.repr x) ++ rest → result ≡ Ok x }
+        ensures short { IsErr result ↔ (length bytes.now < Self.NUM_BYTES) }
+        ensures err { IfErr result (λ error. error ≡ TranscriptError.Short Self.NUM_BYTES (length bytes.now)) }
+    {
+        if bytes.len() < Self::NUM_BYTES {
+            return Err(TranscriptError::Short {
+                needed: Self::NUM_BYTES,
+                found: bytes.len(),
+            });
+        }
+        Ok(Self::of_high_first(&bytes[..Self::NUM_BYTES]))
+    }
+}
+
+/// A kernel of a field whose elements go into transcripts.
+pub trait TranscriptKernel<R: ShortWord>: LevelKernel<R> + HasPacking<R> {
+    /// Whether the field is in a polynomial basis, and no level of the tower.
+    const IN_POLYNOMIAL_BASIS: bool;
+
+    ghost IN_POLYNOMIAL_BASIS: { Bool };
+
+    ghost whole_law: { Self.width ≡ R.bits };
+}
+
+impl<R: ShortWord, K: TranscriptKernel<R>> TranscriptField for Element<R, K> {
+    ghost IN_POLYNOMIAL_BASIS = { K.IN_POLYNOMIAL_BASIS };
+
+    ghost whole_law = { K.whole_law ∙ R.size_law };
+
+    fn algebra_tag(degree: usize, basis: [u8; 32]) -> TypeTag {
+        if K::IN_POLYNOMIAL_BASIS {
+            TypeTag::BinaryPoly {
+                bits: K::bits(),
+                degree,
+                basis,
+            }
+        } else {
+            TypeTag::BinaryTower {
+                bits: K::bits(),
+                degree,
+                basis,
+            }
+        }
+    }
+}
+
+impl TranscriptKernel<u8> for Tower<Bits8> {
+    const IN_POLYNOMIAL_BASIS: bool = false;
+
+    ghost IN_POLYNOMIAL_BASIS = { false };
+
+    ghost whole_law = { refl };
+}
+
+impl TranscriptKernel<u16> for Tower<Bits16> {
+    const IN_POLYNOMIAL_BASIS: bool = false;
+
+    ghost IN_POLYNOMIAL_BASIS = { false };
+
+    ghost whole_law = { refl };
+}
+
+impl TranscriptKernel<u32> for Tower<Bits32> {
+    const IN_POLYNOMIAL_BASIS: bool = false;
+
+    ghost IN_POLYNOMIAL_BASIS = { false };
+
+    ghost whole_law = { refl };
+}
+
+impl TranscriptKernel<u64> for Tower<Bits64> {
+    const IN_POLYNOMIAL_BASIS: bool = false;
+
+    ghost IN_POLYNOMIAL_BASIS = { false };
+
+    ghost whole_law = { refl };
+}
+
+impl TranscriptKernel<u128> for Tower<Bits128> {
+    const IN_POLYNOMIAL_BASIS: bool = false;
+
+    ghost IN_POLYNOMIAL_BASIS = { false };
+
+    ghost whole_law = { refl };
+}
+
+impl TranscriptKernel<u64> for Poly64Kernel {
+    const IN_POLYNOMIAL_BASIS: bool = true;
+
+    ghost IN_POLYNOMIAL_BASIS = { true };
+
+    ghost whole_law = { refl };
+}

@@ -1,0 +1,33 @@
+//! Transcripts over elements of binary fields: what observes values, how an element and a string of bytes are handed to it, the
+//! tags of algebras, a recorder of what was observed, and challengers. Every call of a challenger is a list of calls of bytes on an
+//! inner challenger, and its answer follows from the bytes that are sampled.
+#![tactic(auto)]
+
+mod algebra;
+mod byte_level;
+mod calls;
+mod challenger;
+mod digest;
+mod elements;
+mod error;
+mod field;
+mod observe;
+mod recorder;
+mod sample;
+mod seeds;
+mod tag;
+mod witness;
+
+pub use crate::algebra::FieldChallenger;
+pub use crate::byte_level::{ByteLevel, ShortWord};
+pub use crate::calls::{Call, Reply, run_calls};
+pub use crate::challenger::BinaryChallenger;
+pub use crate::digest::{Digest, DigestWord, Hash, MerkleCap};
+pub use crate::elements::{CanSampleBits, CanSampleUniformBits};
+pub use crate::error::{GrindError, TranscriptError};
+pub use crate::field::{TranscriptField, TranscriptKernel};
+pub use crate::observe::{CanObserve, Transcript};
+pub use crate::recorder::Recorder;
+pub use crate::sample::CanSample;
+pub use crate::tag::TypeTag;
+pub use crate::witness::GrindingChallenger;

@@ -1,0 +1,29 @@
+// Strings of bytes as elements.
+ghost use Rattle.std.specs.Prelude.{◌≡◌, false, OnErr, OnOk};
+ghost use Rattle.transcript_bytes.specs.GuardedAnswers.{GuardedAnswer};
+ghost use Rattle.transcript_elements.specs.Seeds.{Observes, ObservesPart, padded};
+
+use crate::field::TranscriptField;
+use crate::observe::CanObserve;
+use transcript_bytes::ChallengerError;
+
+/// Observes bytes as elements, the first bytes in the first element and the first of them its lowest; zeros fill the last element.
+/// It fails where the transcript does, and elements before that were observed.
+pub(crate) fn observe_padded<F: TranscriptField, C: CanObserve<F>>(
+    challenger: &mut C,
+    bytes: &[u8],
+) -> Result<(), ChallengerError>
+    requires { C.has_failed challenger.old ≡ false }
+    ensures ok { OnOk result (Observes F.NUM_BYTES F.repr C.observed (padded F.NUM_BYTES bytes.now) (C.state challenger.old) (C.state challenger.new)) }
+    ensures err { OnErr result (ObservesPart F.NUM_BYTES F.repr C.observed C.may_leave (padded F.NUM_BYTES bytes.now) (C.state challenger.old) (C.state challenger.new)) }
+    ensures answer { GuardedAnswer false (C.has_failed challenger.new) (C.has_refused challenger.new) result }
+{
+    let size = F::NUM_BYTES;
+    let mut rest = bytes;
+    'elements: while rest.len() > 0 {
+        let (first, others) = rest.split_at(size.min(rest.len()));
+        challenger.observe(F::of_low_first(first))?;
+        rest = others;
+    }
+    Ok(())
+}

@@ -1,0 +1,7 @@
+mod LowRuns
+mod RunPlaces
+mod RunStages
+mod SliceLemmas
+pub mod CantorValues
+pub mod Places
+pub mod StageSums

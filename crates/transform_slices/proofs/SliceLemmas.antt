@@ -1,0 +1,90 @@
+-- Loops that change a list place by place by another list, and the product by a scalar as a linear map.
+use Rattle.std.proofs.Common.{◌≡◌, ℕ, zero, suc, ◌+◌, ◌%◌, ◌^◌, ◌<◌, ◌≤◌, List, [], ◌∷◌, ◌++◌, length, take, drop, get_or, refl, sym, ◌∙◌, ap, ap₂, subst, arith, append-nil}
+use Rattle.std.specs.Prelude.{bit_xor}
+use Rattle.std.specs.Simd.Lanes.{zip2}
+use Rattle.std.proofs.Math.ListN.{set}
+use Rattle.std.proofs.lemmas.List.{drop_all, take_all}
+use Rattle.std.proofs.lemmas.Nat.{pow_pos}
+use Rattle.std.proofs.lemmas.Simd.{length-zip2}
+use native.Mathlib.Nat.{mod-lt, suc_inj}
+use native.Mathlib.Numerals.{add-one}
+use lib.Bits.{xor_assoc, xor_self, xor_zero_r}
+use Rattle.field_base.specs.LinearMaps.{linear_image}
+use Rattle.field_base.specs.Remainder.{ghash_modulus, mul_mod}
+use Rattle.field_base.proofs.BasisColumns.{sum_of_columns-mod}
+use Rattle.field_base.proofs.LinearMapLemmas.{linear_image-columns, the_linear_map}
+use Rattle.field_base.proofs.RemainderRing.{ghash_ring}
+use Rattle.field_base.proofs.RingLemmas.{times-mod}
+use Rattle.transform_slices.specs.Slices.{add_multiple, ButterfliesRestore}
+
+-- ---- two lists, place by place
+
+-- what a loop has made of xs: f x y at the places below n, and x from there on
+abbrev pub zipped : (ℕ → ℕ → ℕ) → ℕ → List ℕ → List ℕ → List ℕ
+zipped f n xs ys = zip2 f (take n xs) (take n ys) ++ drop n xs
+
+next : (f : ℕ → ℕ → ℕ) (n : ℕ) (xs ys : List ℕ) → n < length xs → length xs ≡ length ys
+    → set (zipped f n xs ys) n (f (get_or (zipped f n xs ys) n 0) (get_or ys n 0)) ≡ zipped f (suc n) xs ys
+next f n [] ys within same = absurd (omega arith)
+next f n (x ∷ xs) [] within same = absurd (omega arith)
+next f zero (x ∷ xs) (y ∷ ys) within same = refl
+next f (suc n) (x ∷ xs) (y ∷ ys) within same = ap (λ (zs : List ℕ). f x y ∷ zs) (next f n xs ys (omega arith) (suc_inj same))
+
+-- one place more
+pub zipped_step : (f : ℕ → ℕ → ℕ) (n : ℕ) (xs ys zs : List ℕ) (r : ℕ) → n < length xs → length xs ≡ length ys
+    → zs ≡ zipped f n xs ys → r ≡ f (get_or zs n 0) (get_or ys n 0) → set zs n r ≡ zipped f (n + 1) xs ys
+zipped_step f n xs ys zs r within same so_far is =
+    ap (set zs n) is ∙ ap (λ (l : List ℕ). set l n (f (get_or l n 0) (get_or ys n 0))) so_far
+    ∙ next f n xs ys within same ∙ ap (λ (m : ℕ). zipped f m xs ys) (sym (add-one n))
+
+-- past the last place the loop is done
+pub zipped_end : (f : ℕ → ℕ → ℕ) (n : ℕ) (xs ys zs : List ℕ) → length xs ≤ n → length xs ≡ length ys → zs ≡ zipped f n xs ys
+    → zs ≡ zip2 f xs ys
+zipped_end f n xs ys zs past same so_far =
+    let past_other : length ys ≤ n = omega arith in
+    so_far
+    ∙ ap (λ (l : List ℕ). zip2 f (take n xs) (take n ys) ++ l) (drop_all n xs past)
+    ∙ append-nil (zip2 f (take n xs) (take n ys))
+    ∙ ap₂ (zip2 f) (take_all n xs past) (take_all n ys past_other)
+
+-- ---- butterflies
+
+-- what is added twice is gone
+undo : (g : ℕ → ℕ) (xs ys : List ℕ) → length xs ≡ length ys
+    → zip2 (λ x y. bit_xor x (g y)) (zip2 (λ x y. bit_xor x (g y)) xs ys) ys ≡ xs
+undo g [] ys same = refl
+undo g (x ∷ xs) [] same = absurd (omega arith)
+undo g (x ∷ xs) (y ∷ ys) same =
+    ap₂ (λ (z : ℕ) (zs : List ℕ). z ∷ zs)
+    (xor_assoc x (g y) (g y) ∙ ap (bit_xor x) (xor_self (g y)) ∙ xor_zero_r x) (undo g xs ys (suc_inj same))
+
+pub butterflies_restore : ButterfliesRestore
+butterflies_restore scalar lo hi lo' hi' lo'' hi'' same forward inverse = (low, high)
+  where
+    length_low : length lo' ≡ length lo
+    length_low = ap length forward.low ∙ length-zip2 (add_multiple scalar) lo hi same
+
+    high : hi'' ≡ hi
+    high =
+        inverse.high ∙ ap (λ (l : List ℕ). zip2 bit_xor l lo') forward.high
+        ∙ undo (λ y. y) hi lo' (sym same ∙ sym length_low)
+
+    low : lo'' ≡ lo
+    low =
+        inverse.low ∙ ap₂ (zip2 (add_multiple scalar)) forward.low high ∙ undo (mul_mod 128 ghash_modulus scalar) lo hi same
+
+-- ---- the product by a scalar
+
+-- the images of a linear map that takes each bit to its product by the scalar give the product, also of wider numbers
+pub multiples_map : (scalar : ℕ) (images : List ℕ) → length images ≡ 128
+    → ((j : ℕ) → j < 128 → get_or images j 0 ≡ mul_mod 128 ghash_modulus scalar (2 ^ j))
+    → (x : ℕ) → linear_image images x ≡ mul_mod 128 ghash_modulus scalar x
+multiples_map scalar images whole are x =
+    linear_image-columns images x ∙ sym (sum_of_columns-mod images x) ∙ sym (linear_image-columns images (x % 2 ^ length images))
+    ∙ sym ((the_linear_map images).only (mul_mod 128 ghash_modulus scalar) (ghash_ring.over_sum scalar)
+    (λ j below. sym (are j (subst (λ (n : ℕ). j < n) whole below))) (x % 2 ^ length images) narrow)
+    ∙ ap (λ (n : ℕ). mul_mod 128 ghash_modulus scalar (x % 2 ^ n)) whole
+    ∙ times-mod 128 1 (mul_mod 128 ghash_modulus) ghash_ring scalar x
+  where
+    narrow : x % 2 ^ length images < 2 ^ length images
+    narrow = mod-lt x (pow_pos (length images))

@@ -1,0 +1,147 @@
+// The four lowest stages of an additive transform, fused over runs of sixteen places.
+ghost use Rattle.std.specs.Prelude.{◌≡◌, ◌≢◌, ℕ, ◌+◌, ◌-◌, ◌*◌, ◌%◌, ◌/◌, ◌^◌, ◌<◌, ◌≤◌, [], length, take, drop, slice_index, bit_xor, IfOk};
+ghost use Rattle.field_base.specs.LinearMaps.{linear_image};
+ghost use Rattle.transform_slices.specs.LowStages.{ghash_cantor_vector, ghash_product, HoldSums, HoldValues, values_from};
+ghost use Rattle.transform_slices.specs.Cantor.{AreCantorTwiddles};
+ghost use Rattle.transform_slices.specs.Stages.{stage, sum_of_factors};
+ghost use Rattle.transform_slices.specs.Runs.{AreLowSums, run_factor};
+
+use std::alloc::{AllocError, Allocator};
+use word_basis::sum_of_images;
+use word_carryless::multiply_mod_128;
+
+/// The stages that `LowStageTwiddles::forward` runs.
+pub const LOW_STAGES: usize = 4;
+
+/// The twiddles of the four lowest stages of an additive transform: a shift for each stage, and a basis. The twiddle of stage
+/// j at place p is shift j, and element t of the basis for each set bit t of p >> (j + 1).
+#[derive(Drop)]
+pub struct LowStageTwiddles<A: Allocator> {
+    shifts: [u128; 4],
+    basis: Vec<u128, A>,
+    ghost basis_fits: { 3 ≤ length basis.items },
+}
+
+impl<A: Allocator> LowStageTwiddles<A> {
+    ghost use Rattle.transform_slices.specs.Twiddles.{basis_of, shifts_of};
+
+    /// The twiddles with the first four of `shifts`, and with a copy of `basis` in a vector from `alloc`. There have to be at
+    /// least four shifts, and at least three elements of the basis. It fails only where the allocator refuses.
+    pub fn new(alloc: A, shifts: &[u128], basis: &[u128]) -> Result<LowStageTwiddles<A>, AllocError>
+        requires shifts { 4 ≤ length shifts.now }
+        requires basis { 3 ≤ length basis.now }
+        ensures { IfOk result (λ twiddles. (shifts_of twiddles ≡ take 4 shifts.now) × (basis_of twiddles ≡ basis.now)) }
+    {
+        let basis = Vec::from_slice(alloc, basis)?;
+        Ok(LowStageTwiddles {
+            shifts: [shifts[0], shifts[1], shifts[2], shifts[3]],
+            basis,
+        })
+    }
+
+    /// Runs stages 3, 2, 1 and 0 over each run of sixteen values, the first of which is run `first_run` of the transform: its
+    /// place i is place p = 16 first_run + i. The length has to be a multiple of 16, and where there are values, the number of
+    /// the last run has to be below 2 to the power of three less than the elements of the basis. It takes no memory.
+    ///
+    /// Place p then holds the sum, over k below 16, of value k of its run times the product of the factors of place p at the set
+    /// bits j of k, which are the twiddles plus bit j of p. Where the shifts are s_j(z) and element t of the basis is Cantor
+    /// vector t + 1, that is the value of a polynomial at z plus the Cantor vectors at the set bits of p: the polynomial with the
+    /// values of the run as coefficients, in the basis of the products of the s_j (s_0(x) = x, s_(j + 1)(x) = s_j(x)^2 + s_j(x)).
+    pub fn forward(&self, values: &mut [u128], first_run: usize)
+        requires whole { length values.old % 16 ≡ 0 }
+        requires numbered { values.old ≢ [] → first_run + length values.old / 16 ≤ 2 ^ (length (basis_of self.now) - 3) }
+        ensures length { length values.new ≡ length values.old }
+        ensures sums { HoldSums (shifts_of self.now) (basis_of self.now) first_run values.old values.new }
+        ensures values { (z : ℕ) → AreCantorTwiddles 128 ghash_product ghash_cantor_vector z 4 (shifts_of self.now) (basis_of self.now) → HoldValues z first_run values.old values.new }
+    {
+        let low = sums_of_three(&self.basis);
+        let mut number = first_run as u128;
+        let mut twiddles = with_images(&self.shifts, &self.basis, number);
+        for run in 0..values.len() / 16 {
+            transform_run(values, 16 * run, &twiddles, &low);
+            let next = number + 1;
+            twiddles = with_images(&twiddles, &self.basis, number ^ next);
+            number = next;
+        }
+    }
+}
+
+// The sums of the first three elements of the basis, place b that at the set bits of b.
+fn sums_of_three(basis: &[u128]) -> [u128; 8]
+    ensures { AreLowSums basis.now result }
+{
+    let mut sums = [0; 8];
+    for place in 0..8 {
+        sums[place] = sum_of_images(basis, place as u128);
+    }
+    sums
+}
+
+// The twiddles with, added to twiddle j, the elements of the basis at the set bits of `bits`, of which bit t stands for element
+// t + 3 - j: between the bits of a run's number and bit j of a place there are the 3 - j that say where in the run it lies.
+fn with_images(twiddles: &[u128; 4], basis: &[u128], bits: u128) -> [u128; 4]
+    requires { 3 ≤ length basis.now }
+    ensures { (j : ℕ) → j < 4 → slice_index result j ≡ bit_xor (slice_index twiddles.now j) (linear_image (drop (3 - j) basis.now) bits) }
+{
+    [
+        twiddles[0] ^ sum_of_images(&basis[3..], bits),
+        twiddles[1] ^ sum_of_images(&basis[2..], bits),
+        twiddles[2] ^ sum_of_images(&basis[1..], bits),
+        twiddles[3] ^ sum_of_images(basis, bits),
+    ]
+}
+
+// The four stages of the run of sixteen values from `start` on, by its twiddles and the sums of three elements of the basis.
+fn transform_run(values: &mut [u128], start: usize, twiddles: &[u128; 4], low: &[u128; 8])
+    requires { start + 16 ≤ length values.old }
+    ensures length { length values.new ≡ length values.old }
+    ensures run { (q : ℕ) → q < 16 → slice_index values.new (start + q) ≡ sum_of_factors ghash_product (λ j. run_factor twiddles.now low.now j q) 4 (values_from values.old start) }
+    ensures before { (p : ℕ) → p < start → slice_index values.new p ≡ slice_index values.old p }
+    ensures behind { (p : ℕ) → start + 16 ≤ p → slice_index values.new p ≡ slice_index values.old p }
+{
+    run_stage(values, start, 3, twiddles, low);
+    run_stage(values, start, 2, twiddles, low);
+    run_stage(values, start, 1, twiddles, low);
+    run_stage(values, start, 0, twiddles, low);
+}
+
+// One stage of that run, pair by pair: two places whose numbers differ in the bit of the stage alone are a pair.
+#[inline]
+fn run_stage(values: &mut [u128], start: usize, bit: usize, twiddles: &[u128; 4], low: &[u128; 8])
+    requires bit { bit < 4 }
+    requires whole { start + 16 ≤ length values.old }
+    ensures length { length values.new ≡ length values.old }
+    ensures run { (q : ℕ) → q < 16 → slice_index values.new (start + q) ≡ stage ghash_product (run_factor twiddles.now low.now) bit (values_from values.old start) q }
+    ensures before { (p : ℕ) → p < start → slice_index values.new p ≡ slice_index values.old p }
+    ensures behind { (p : ℕ) → start + 16 ≤ p → slice_index values.new p ≡ slice_index values.old p }
+{
+    let half = half_of(bit);
+    for pair in 0..8 {
+        let lower = start + lower_of(pair, half);
+        let upper = lower + half;
+        let scalar = twiddles[bit] ^ low[pair / half];
+        let hi = values[upper];
+        let lo = values[lower] ^ multiply_mod_128(scalar, hi);
+        values[lower] = lo;
+        values[upper] = hi ^ lo;
+    }
+}
+
+// Half the places of a block of a stage, whose pairs are as far apart.
+#[inline]
+fn half_of(bit: usize) -> usize
+    requires { bit < 4 }
+    ensures { result ≡ 2 ^ bit }
+{
+    1 << bit
+}
+
+// The lower place of a pair, whose blocks have twice `half` places.
+#[inline]
+fn lower_of(pair: usize, half: usize) -> usize
+    requires few { pair < 8 }
+    requires above { 0 < half }
+    ensures { result ≡ 2 * pair - pair % half }
+{
+    2 * pair - pair % half
+}

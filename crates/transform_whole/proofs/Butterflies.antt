@@ -1,0 +1,105 @@
+-- Butterflies of a block whose halves are two slices.
+use Rattle.std.proofs.Common.{◌≡◌, ℕ, ◌+◌, ◌<◌, List, ◌++◌, length, map, sym, ◌∙◌, ap, ap₂, subst, arith}
+use Rattle.std.specs.Prelude.{bit_xor, slice_index}
+use Rattle.std.specs.Simd.Lanes.{zip2}
+use Rattle.std.proofs.lemmas.List.{get_or-append-add, get_or_append_left, length-map, map-append}
+use Rattle.std.proofs.lemmas.Simd.{get_or-zip2, length-zip2}
+use lib.Bits.{xor_assoc, xor_self, xor_zero_r}
+use Rattle.transform_slices.specs.LowStages.{ghash_product}
+use Rattle.transform_slices.specs.Slices.{add_multiple, IsForward, IsInverse}
+use Rattle.transform_whole.specs.Stages.{IsButterfly}
+
+-- what is added twice is gone
+pub twice : (x y : ℕ) → bit_xor (bit_xor x y) y ≡ x
+twice x y = xor_assoc x y y ∙ ap (bit_xor x) (xor_self y) ∙ xor_zero_r x
+
+-- ---- numbers
+
+module _ (n : ℕ) (xs ys : List ℕ) (long : length xs ≡ n) where
+  pub read_lower : (r : ℕ) → r < n → slice_index (xs ++ ys) r ≡ slice_index xs r
+  read_lower r below = let within : r < length xs = omega arith in get_or_append_left xs ys 0 r within
+
+  pub read_upper : (r : ℕ) → slice_index (xs ++ ys) (n + r) ≡ slice_index ys r
+  read_upper r = ap (λ (m : ℕ). slice_index (xs ++ ys) (m + r)) (sym long) ∙ get_or-append-add xs ys r 0
+
+read_both : (f : ℕ → ℕ → ℕ) (n : ℕ) (xs ys : List ℕ) → length xs ≡ n → length ys ≡ n → (r : ℕ) → r < n
+    → slice_index (zip2 f xs ys) r ≡ f (slice_index xs r) (slice_index ys r)
+read_both f n xs ys long long' r below =
+    let left : r < length xs = omega arith in
+    let right : r < length ys = omega arith in
+    get_or-zip2 f xs ys r 0 0 0 left right
+
+module _ (t n : ℕ) (lo hi lo' hi' : List ℕ) (low : length lo ≡ n) (high : length hi ≡ n) where
+  pub forward_numbers : IsForward t lo hi lo' hi' → IsButterfly t n (slice_index (lo ++ hi)) (slice_index (lo' ++ hi'))
+  forward_numbers is =
+      record {
+        lower =
+            λ r below.
+            read_lower n lo' hi' low' r below ∙ ap (λ (l : List ℕ). slice_index l r) is.low
+            ∙ read_both (add_multiple t) n lo hi low high r below
+            ∙ ap₂ (λ (x y : ℕ). bit_xor x (ghash_product t y)) (sym (read_lower n lo hi low r below)) (sym (read_upper n lo hi low r));
+        upper =
+            λ r below.
+            read_upper n lo' hi' low' r ∙ ap (λ (l : List ℕ). slice_index l r) is.high
+            ∙ read_both bit_xor n hi lo' high low' r below
+            ∙ ap₂ bit_xor (sym (read_upper n lo hi low r)) (sym (read_lower n lo' hi' low' r below));
+      }
+    where
+      low' : length lo' ≡ n
+      low' = ap length is.low ∙ length-zip2 (add_multiple t) lo hi (low ∙ sym high) ∙ low
+
+  pub inverse_numbers : IsInverse t lo hi lo' hi' → IsButterfly t n (slice_index (lo' ++ hi')) (slice_index (lo ++ hi))
+  inverse_numbers is =
+      record {
+        lower =
+            λ r below.
+            read_lower n lo hi low r below
+            ∙ sym (ap (λ (x : ℕ). bit_xor x (ghash_product t (slice_index hi' r))) (low_read r below)
+            ∙ twice (slice_index lo r) (ghash_product t (slice_index hi' r)))
+            ∙ ap₂ (λ (x y : ℕ). bit_xor x (ghash_product t y)) (sym (read_lower n lo' hi' low' r below)) (sym (read_upper n lo' hi' low' r));
+        upper =
+            λ r below.
+            read_upper n lo hi low r
+            ∙ sym (ap (λ (x : ℕ). bit_xor x (slice_index lo r)) (high_read r below) ∙ twice (slice_index hi r) (slice_index lo r))
+            ∙ ap₂ bit_xor (sym (read_upper n lo' hi' low' r)) (sym (read_lower n lo hi low r below));
+      }
+    where
+      high' : length hi' ≡ n
+      high' = ap length is.high ∙ length-zip2 bit_xor hi lo (high ∙ sym low) ∙ high
+
+      low' : length lo' ≡ n
+      low' = ap length is.low ∙ length-zip2 (add_multiple t) lo hi' (low ∙ sym high') ∙ low
+
+      high_read : (r : ℕ) → r < n → slice_index hi' r ≡ bit_xor (slice_index hi r) (slice_index lo r)
+      high_read r below = ap (λ (l : List ℕ). slice_index l r) is.high ∙ read_both bit_xor n hi lo high low r below
+
+      low_read : (r : ℕ) → r < n → slice_index lo' r ≡ bit_xor (slice_index lo r) (ghash_product t (slice_index hi' r))
+      low_read r below = ap (λ (l : List ℕ). slice_index l r) is.low ∙ read_both (add_multiple t) n lo hi' low high' r below
+
+-- ---- elements, by their values
+
+module _ {A : Type 0} (value : A → ℕ) (t n : ℕ) (block lo hi lo' hi' : List A) (parts : block ≡ lo ++ hi) (low : length lo ≡ n) (high : length hi ≡ n) where
+  low_count : length (map value lo) ≡ n
+  low_count = length-map lo value ∙ low
+
+  high_count : length (map value hi) ≡ n
+  high_count = length-map hi value ∙ high
+
+  before : map value block ≡ map value lo ++ map value hi
+  before = ap (map value) parts ∙ map-append value lo hi
+
+  pub forward_values : IsForward t (map value lo) (map value hi) (map value lo') (map value hi')
+      → IsButterfly t n (slice_index (map value block)) (slice_index (map value (lo' ++ hi')))
+  forward_values is =
+      subst (λ (l : List ℕ). IsButterfly t n (slice_index l) (slice_index (map value (lo' ++ hi')))) (sym before)
+      (subst (λ (l : List ℕ). IsButterfly t n (slice_index (map value lo ++ map value hi)) (slice_index l))
+      (sym (map-append value lo' hi'))
+      (forward_numbers t n (map value lo) (map value hi) (map value lo') (map value hi') low_count high_count is))
+
+  pub inverse_values : IsInverse t (map value lo) (map value hi) (map value lo') (map value hi')
+      → IsButterfly t n (slice_index (map value (lo' ++ hi'))) (slice_index (map value block))
+  inverse_values is =
+      subst (λ (l : List ℕ). IsButterfly t n (slice_index (map value (lo' ++ hi'))) (slice_index l)) (sym before)
+      (subst (λ (l : List ℕ). IsButterfly t n (slice_index l) (slice_index (map value lo ++ map value hi)))
+      (sym (map-append value lo' hi'))
+      (inverse_numbers t n (map value lo) (map value hi) (map value lo') (map value hi') low_count high_count is))

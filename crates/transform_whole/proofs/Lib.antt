@@ -1,0 +1,10 @@
+pub mod BlockStages
+pub mod Butterflies
+pub mod Counts
+pub mod OnlyStages
+pub mod Values
+pub mod WholeStages
+pub mod Written
+pub mod CantorSums
+pub mod Horner
+pub mod ImageValues

@@ -1,0 +1,221 @@
+-- What all the stages leave has one origin.
+use Rattle.std.proofs.Common.{◌≡◌, ℕ, zero, suc, ◌+◌, ◌-◌, ◌*◌, ◌/◌, ◌%◌, ◌^◌, ◌<◌, ◌≤◌, List, [], ◌∷◌, length, map, take, refl, sym, ◌∙◌, ap, ap₂, subst, arith}
+use Rattle.std.specs.Prelude.{bit_xor, slice_index}
+use Rattle.std.specs.Int.{bit_at}
+use Rattle.std.proofs.Math.Nat.{two-pow-succ}
+use Rattle.std.proofs.lemmas.List.{ext_get_or}
+use Rattle.std.proofs.lemmas.Nat.{div-mul-add, mod-mul-add, pow_pos, xor_lt}
+use native.Mathlib.Nat.{mod-eq_of_lt}
+use lib.Bits.{xor_assoc, xor_zero_r}
+use Rattle.field_base.specs.BitRing.{two_cases}
+use Rattle.field_base.specs.LinearMaps.{linear_image}
+use Rattle.field_base.proofs.RemainderRing.{ghash_ring}
+use Rattle.field_base.proofs.RingLemmas.{sum_times, xor_cancel}
+use Rattle.transform_slices.specs.Stages.{factor, lower_place, stage, stages, upper_place}
+use Rattle.transform_slices.specs.Cantor.{AreCantorTwiddles, point, polynomial_value}
+use Rattle.transform_slices.specs.LowStages.{ghash_cantor_vector, ghash_product, HoldSums}
+use Rattle.transform_whole.specs.Transform.{AreOnlyCoefficients, HoldPolynomialValues}
+use Rattle.transform_whole.proofs.Butterflies.{twice}
+use Rattle.transform_whole.proofs.Counts.{one_exponent}
+use Rattle.transform_whole.proofs.WholeStages.{AreLeft, AreUndone, SplitPlace, end_before, low_stages_are, split_place, stages_are_values, whole_blocks}
+
+-- ---- both places of a pair
+
+-- places q 2 ^ (j + 1) + r and 2 ^ j further, for r below 2 ^ j
+record BothPlaces (j q r : ℕ) : Type 0 where
+  low_quotient : (q * 2 ^ suc j + r) / 2 ^ suc j ≡ q
+  high_quotient : (q * 2 ^ suc j + (2 ^ j + r)) / 2 ^ suc j ≡ q
+  low_rest : (q * 2 ^ suc j + r) % 2 ^ j ≡ r
+  high_rest : (q * 2 ^ suc j + (2 ^ j + r)) % 2 ^ j ≡ r
+  low_bit : bit_at (q * 2 ^ suc j + r) j ≡ 0
+  high_bit : bit_at (q * 2 ^ suc j + (2 ^ j + r)) j ≡ 1
+
+both_places : (j q r : ℕ) → r < 2 ^ j → BothPlaces j q r
+both_places j q r below =
+    let size = two-pow-succ j in
+    let low : q * 2 ^ suc j + r ≡ q * 2 * 2 ^ j + r = ap (λ (s : ℕ). q * s + r) size ∙ omega arith in
+    let high : q * 2 ^ suc j + (2 ^ j + r) ≡ (q * 2 + 1) * 2 ^ j + r = ap (λ (s : ℕ). q * s + (2 ^ j + r)) size ∙ omega arith in
+    record {
+      low_quotient = div-mul-add q (2 ^ suc j) r (omega (arith, size));
+      high_quotient = div-mul-add q (2 ^ suc j) (2 ^ j + r) (omega (arith, size));
+      low_rest = ap (λ (n : ℕ). n % 2 ^ j) low ∙ mod-mul-add (q * 2) (2 ^ j) r below;
+      high_rest = ap (λ (n : ℕ). n % 2 ^ j) high ∙ mod-mul-add (q * 2 + 1) (2 ^ j) r below;
+      low_bit = ap (λ (n : ℕ). n / 2 ^ j % 2) low ∙ ap (λ (n : ℕ). n % 2) (div-mul-add (q * 2) (2 ^ j) r below) ∙ omega arith;
+      high_bit = ap (λ (n : ℕ). n / 2 ^ j % 2) high ∙ ap (λ (n : ℕ). n % 2) (div-mul-add (q * 2 + 1) (2 ^ j) r below) ∙ omega arith;
+    }
+
+-- ---- one stage has one origin
+
+module _ (shifts basis : List ℕ) (j q r : ℕ) (below : r < 2 ^ j) (a : ℕ → ℕ) (fits : (p : ℕ) → a p < 2 ^ 128) where
+  places : BothPlaces j q r
+  places = both_places j q r below
+
+  t : ℕ
+  t = bit_xor (slice_index shifts j) (linear_image basis q)
+
+  at_low : stage ghash_product (factor shifts basis) j a (q * 2 ^ suc j + r)
+      ≡ bit_xor (a (q * 2 ^ suc j + r)) (ghash_product (bit_xor (slice_index shifts j) (linear_image basis q)) (a (q * 2 ^ suc j + (2 ^ j + r))))
+  unfolding stage factor upper_place lower_place
+  at_low =
+      ap₂ (λ (x y : ℕ). bit_xor x y)
+      (ap₂ (λ (n s : ℕ). a (n * 2 ^ suc j + s)) places.low_quotient places.low_rest)
+      (ap₂ ghash_product
+      (ap₂ (λ (n d : ℕ). bit_xor (bit_xor (slice_index shifts j) (linear_image basis n)) d) places.low_quotient places.low_bit
+      ∙ xor_zero_r (bit_xor (slice_index shifts j) (linear_image basis q)))
+      (ap₂ (λ (n s : ℕ). a (n * 2 ^ suc j + s + 2 ^ j)) places.low_quotient places.low_rest ∙ ap a order))
+    where
+      order : q * 2 ^ suc j + r + 2 ^ j ≡ q * 2 ^ suc j + (2 ^ j + r)
+      order = omega arith
+
+  at_high : stage ghash_product (factor shifts basis) j a (q * 2 ^ suc j + (2 ^ j + r))
+      ≡ bit_xor (stage ghash_product (factor shifts basis) j a (q * 2 ^ suc j + r)) (a (q * 2 ^ suc j + (2 ^ j + r)))
+  unfolding stage factor upper_place lower_place
+  at_high =
+      ap₂ (λ (x y : ℕ). bit_xor x y)
+      (ap₂ (λ (n s : ℕ). a (n * 2 ^ suc j + s)) places.high_quotient places.high_rest)
+      (ap₂ ghash_product
+      (ap₂ (λ (n d : ℕ). bit_xor (bit_xor (slice_index shifts j) (linear_image basis n)) d) places.high_quotient places.high_bit)
+      (ap₂ (λ (n s : ℕ). a (n * 2 ^ suc j + s + 2 ^ j)) places.high_quotient places.high_rest ∙ ap a order))
+      ∙ ap (bit_xor (a (q * 2 ^ suc j + r)))
+      (sum_times 128 1 ghash_product ghash_ring (bit_xor (slice_index shifts j) (linear_image basis q)) 1 (a (q * 2 ^ suc j + (2 ^ j + r)))
+      ∙ ap (bit_xor (ghash_product (bit_xor (slice_index shifts j) (linear_image basis q)) (a (q * 2 ^ suc j + (2 ^ j + r)))))
+      (ghash_ring.one (a (q * 2 ^ suc j + (2 ^ j + r))) ∙ mod-eq_of_lt (fits (q * 2 ^ suc j + (2 ^ j + r)))))
+      ∙ sym (xor_assoc (a (q * 2 ^ suc j + r)) (ghash_product (bit_xor (slice_index shifts j) (linear_image basis q)) (a (q * 2 ^ suc j + (2 ^ j + r))))
+      (a (q * 2 ^ suc j + (2 ^ j + r))))
+      ∙ ap (λ (x : ℕ). bit_xor x (a (q * 2 ^ suc j + (2 ^ j + r)))) (sym at_low)
+    where
+      order : q * 2 ^ suc j + r + 2 ^ j ≡ q * 2 ^ suc j + (2 ^ j + r)
+      order = omega arith
+
+module _ (shifts basis : List ℕ) where
+  -- both values of a pair, from what the stage made of them
+  pair_origin : (j q r : ℕ) → r < 2 ^ j → (a b : ℕ → ℕ) → ((p : ℕ) → a p < 2 ^ 128) → ((p : ℕ) → b p < 2 ^ 128)
+      → stage ghash_product (factor shifts basis) j a (q * 2 ^ suc j + r) ≡ stage ghash_product (factor shifts basis) j b (q * 2 ^ suc j + r)
+      → stage ghash_product (factor shifts basis) j a (q * 2 ^ suc j + (2 ^ j + r))
+      ≡ stage ghash_product (factor shifts basis) j b (q * 2 ^ suc j + (2 ^ j + r))
+      → (a (q * 2 ^ suc j + r) ≡ b (q * 2 ^ suc j + r)) × (a (q * 2 ^ suc j + (2 ^ j + r)) ≡ b (q * 2 ^ suc j + (2 ^ j + r)))
+  pair_origin j q r below a b fits fits' low high = (lower, upper)
+    where
+      of_high : (c : ℕ → ℕ) → ((p : ℕ) → c p < 2 ^ 128) → bit_xor (stage ghash_product (factor shifts basis) j c (q * 2 ^ suc j + r))
+          (stage ghash_product (factor shifts basis) j c (q * 2 ^ suc j + (2 ^ j + r))) ≡ c (q * 2 ^ suc j + (2 ^ j + r))
+      of_high c c_fits =
+          ap (bit_xor (stage ghash_product (factor shifts basis) j c (q * 2 ^ suc j + r))) (at_high shifts basis j q r below c c_fits)
+          ∙ xor_cancel (stage ghash_product (factor shifts basis) j c (q * 2 ^ suc j + r)) (c (q * 2 ^ suc j + (2 ^ j + r)))
+
+      upper : a (q * 2 ^ suc j + (2 ^ j + r)) ≡ b (q * 2 ^ suc j + (2 ^ j + r))
+      upper = sym (of_high a fits) ∙ ap₂ bit_xor low high ∙ of_high b fits'
+
+      of_low : (c : ℕ → ℕ) → ((p : ℕ) → c p < 2 ^ 128) → bit_xor (stage ghash_product (factor shifts basis) j c (q * 2 ^ suc j + r))
+          (ghash_product (bit_xor (slice_index shifts j) (linear_image basis q)) (c (q * 2 ^ suc j + (2 ^ j + r)))) ≡ c (q * 2 ^ suc j + r)
+      of_low c c_fits =
+          ap (λ (x : ℕ). bit_xor x (ghash_product (bit_xor (slice_index shifts j) (linear_image basis q)) (c (q * 2 ^ suc j + (2 ^ j + r)))))
+          (at_low shifts basis j q r below c c_fits)
+          ∙ twice (c (q * 2 ^ suc j + r)) (ghash_product (bit_xor (slice_index shifts j) (linear_image basis q)) (c (q * 2 ^ suc j + (2 ^ j + r))))
+
+      lower : a (q * 2 ^ suc j + r) ≡ b (q * 2 ^ suc j + r)
+      lower =
+          sym (of_low a fits)
+          ∙ ap₂ (λ (x y : ℕ). bit_xor x (ghash_product (bit_xor (slice_index shifts j) (linear_image basis q)) y)) low upper
+          ∙ of_low b fits'
+
+  stage_origin : (m n : ℕ) → n < m → (a b : ℕ → ℕ) → ((p : ℕ) → a p < 2 ^ 128) → ((p : ℕ) → b p < 2 ^ 128)
+      → ((k : ℕ) → k < 2 ^ m → stage ghash_product (factor shifts basis) n a k ≡ stage ghash_product (factor shifts basis) n b k)
+      → (p : ℕ) → p < 2 ^ m → a p ≡ b p
+  stage_origin m n below a b fits fits' same p inside =
+      two_cases (λ d. bit_at p n ≡ d → a p ≡ b p)
+      (λ none.
+      let at : p ≡ p / 2 ^ suc n * 2 ^ suc n + p % 2 ^ n = omega (arith, split.place, ap (λ (d : ℕ). d * 2 ^ n) none) in
+      ap a at ∙ both.0 ∙ ap b (sym at))
+      (λ one.
+      let at : p ≡ p / 2 ^ suc n * 2 ^ suc n + (2 ^ n + p % 2 ^ n) = omega (arith, split.place, ap (λ (d : ℕ). d * 2 ^ n) one) in
+      ap a at ∙ both.1 ∙ ap b (sym at))
+      (bit_at p n) split.bit refl
+    where
+      split : SplitPlace n p
+      split = split_place n p
+
+      all : 2 ^ m ≡ 2 ^ (m - suc n) * 2 ^ suc n
+      all = whole_blocks shifts basis m n below
+
+      end : p / 2 ^ suc n * 2 ^ suc n + 2 ^ suc n ≤ 2 ^ m
+      end = let room = end_before n (2 ^ (m - suc n)) p (omega (arith, all, inside)) in omega (arith, room, all)
+
+      size : 2 ^ suc n ≡ 2 ^ n + 2 ^ n
+      size = two-pow-succ n
+
+      both : (a (p / 2 ^ suc n * 2 ^ suc n + p % 2 ^ n) ≡ b (p / 2 ^ suc n * 2 ^ suc n + p % 2 ^ n))
+          × (a (p / 2 ^ suc n * 2 ^ suc n + (2 ^ n + p % 2 ^ n)) ≡ b (p / 2 ^ suc n * 2 ^ suc n + (2 ^ n + p % 2 ^ n)))
+      both =
+          let small = split.low in
+          let low : p / 2 ^ suc n * 2 ^ suc n + p % 2 ^ n < 2 ^ m = omega (arith, end, size, small) in
+          let high : p / 2 ^ suc n * 2 ^ suc n + (2 ^ n + p % 2 ^ n) < 2 ^ m = omega (arith, end, size, small) in
+          pair_origin n (p / 2 ^ suc n) (p % 2 ^ n) small a b fits fits' (same _ low) (same _ high)
+
+  stage-lt : (n : ℕ) (a : ℕ → ℕ) → ((p : ℕ) → a p < 2 ^ 128) → (p : ℕ) → stage ghash_product (factor shifts basis) n a p < 2 ^ 128
+  unfolding stage
+  stage-lt n a fits p =
+      xor_lt 128 (a (lower_place n p)) (ghash_product (factor shifts basis n p) (a (upper_place n p))) (fits (lower_place n p))
+      (ghash_ring.below (factor shifts basis n p) (a (upper_place n p)))
+
+  pub stages_origin : (m n : ℕ) → n ≤ m → (a b : ℕ → ℕ) → ((p : ℕ) → a p < 2 ^ 128) → ((p : ℕ) → b p < 2 ^ 128)
+      → ((k : ℕ) → k < 2 ^ m
+      → stages ghash_product (factor shifts basis) n a k % 2 ^ 128 ≡ stages ghash_product (factor shifts basis) n b k % 2 ^ 128)
+      → (p : ℕ) → p < 2 ^ m → a p ≡ b p
+  unfolding stages
+  stages_origin m zero within a b fits fits' same p inside =
+      sym (mod-eq_of_lt (fits p)) ∙ same p inside ∙ mod-eq_of_lt (fits' p)
+  stages_origin m (suc n) within a b fits fits' same p inside =
+      stage_origin m n (omega arith) a b fits fits'
+      (stages_origin m n (omega arith) (stage ghash_product (factor shifts basis) n a) (stage ghash_product (factor shifts basis) n b)
+      (stage-lt n a fits) (stage-lt n b fits') same)
+      p inside
+
+-- ---- whole transforms, of the m for which there are 2 ^ m values
+
+module _ (shifts basis : List ℕ) (z : ℕ) (twiddles : AreCantorTwiddles 128 ghash_product ghash_cantor_vector z 40 shifts basis) (long : length basis ≡ 39) (m : ℕ) (few : m ≤ 40) where
+  -- all stages take the coefficients to the values
+  values_of : (coefficients values : List ℕ) → length coefficients ≡ 2 ^ m
+      → ((p : ℕ) → p < 2 ^ m → slice_index values p ≡ stages ghash_product (factor shifts basis) m (slice_index coefficients) p % 2 ^ 128)
+      → HoldPolynomialValues z coefficients values
+  values_of coefficients values whole are n is p inside =
+      let same : m ≡ n = one_exponent m n (sym whole ∙ is) in
+      let here : p < 2 ^ m = subst (λ (k : ℕ). p < 2 ^ k) (sym same) inside in
+      are p here ∙ stages_are_values shifts basis z twiddles long m coefficients p few here
+      ∙ ap (λ (k : ℕ). polynomial_value ghash_product k (slice_index coefficients) (point 128 ghash_cantor_vector z p)) same
+
+  pub forward_leaves : (enough : 4 ≤ m) (low_shifts low_basis old now new : List ℕ) → low_shifts ≡ take 4 shifts → low_basis ≡ take (m - 1) basis
+      → length old ≡ 2 ^ m → length now ≡ 2 ^ m → AreLeft shifts basis m 4 old now → HoldSums low_shifts low_basis 0 now new
+      → HoldPolynomialValues z old new
+  forward_leaves enough low_shifts low_basis old now new are_shifts are_basis whole whole' left sums =
+      values_of old new whole
+      (λ p inside.
+      low_stages_are shifts basis z twiddles long m enough few now new whole'
+      (subst (λ (b : List ℕ). HoldSums (take 4 shifts) b 0 now new) are_basis
+      (subst (λ (s : List ℕ). HoldSums s low_basis 0 now new) are_shifts sums))
+      p inside
+      ∙ ap (λ (v : ℕ). v % 2 ^ 128) (left p inside))
+
+  pub inverse_leaves : (old new : List ℕ) → length old ≡ 2 ^ m → length new ≡ 2 ^ m → ((p : ℕ) → slice_index old p < 2 ^ 128)
+      → ((p : ℕ) → slice_index new p < 2 ^ 128) → AreUndone shifts basis m m old new → AreOnlyCoefficients z old new
+  inverse_leaves old new whole whole' fits fits' undone =
+      record {
+        have = values_of new old whole' (λ p inside. sym (ap (λ (v : ℕ). v % 2 ^ 128) (undone p inside) ∙ mod-eq_of_lt (fits p)));
+        only =
+            λ others as_long others_fit hold.
+            let count : length others ≡ 2 ^ m = as_long ∙ whole in
+            ext_get_or 0 others new (count ∙ sym whole')
+            (λ p below.
+            let here : p < 2 ^ m = omega (arith, count, below) in
+            stages_origin shifts basis m m (omega arith) (slice_index others) (slice_index new) others_fit fits'
+            (λ k inside.
+            stages_are_values shifts basis z twiddles long m others k few inside
+            ∙ sym (hold m count k inside)
+            ∙ sym (ap (λ (v : ℕ). v % 2 ^ 128) (undone k inside) ∙ mod-eq_of_lt (fits k)))
+            p here);
+      }
+
+-- the values of elements
+pub values_fit : {A : Type 0} (value : A → ℕ) → ((x : A) → value x < 2 ^ 128) → (xs : List A) (p : ℕ) → slice_index (map value xs) p < 2 ^ 128
+values_fit value fits [] p = pow_pos 128
+values_fit value fits (x ∷ xs) zero = fits x
+values_fit value fits (x ∷ xs) (suc p) = values_fit value fits xs p

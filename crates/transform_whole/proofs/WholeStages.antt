@@ -1,0 +1,287 @@
+-- All the stages of a transform, and what they leave.
+use Rattle.std.proofs.Common.{◌≡◌, ℕ, zero, suc, ◌+◌, ◌-◌, ◌*◌, ◌/◌, ◌%◌, ◌^◌, ◌<◌, ◌≤◌, List, length, take, refl, sym, ◌∙◌, ap, ap₂, subst, arith, lit<, lit≤}
+use Rattle.std.specs.Prelude.{bit_xor, slice_index}
+use Rattle.std.specs.Int.{bit_at}
+use Rattle.std.proofs.Math.Nat.{div-add-mod, div-eq_of_lt, div-lt_iff_lt-mul, mul-le-mul_right, pow-le-pow_right, two-pow-succ}
+use Rattle.std.proofs.lemmas.List.{get_or-take}
+use Rattle.std.proofs.lemmas.Nat.{pow-add, pow_pos}
+use Rattle.std.proofs.lemmas.Nat.Bits.{bit_at-lt}
+use native.Mathlib.Nat.{mod-eq_of_lt, mod-lt}
+use lib.Bits.{xor_assoc, xor_comm, xor_zero_r}
+use lib.Seq.{length-take-le}
+use Rattle.field_base.specs.Basis.{basis_image, ghash_images}
+use Rattle.field_base.specs.BitRing.{two_cases}
+use Rattle.field_base.specs.LinearMaps.{linear_image}
+use Rattle.field_base.specs.Orders.{AreCantorVectors}
+use Rattle.field_base.specs.Remainder.{ghash_modulus}
+use Rattle.field_base.proofs.BasisFields.{isomorphic_basis}
+use Rattle.field_base.proofs.RemainderRing.{ghash_ring}
+use Rattle.field_base.proofs.RingLemmas.{sum_times}
+use Rattle.field_base.proofs.TowerBasisLemmas.{basis-cantor}
+use Rattle.word_basis.proofs.Isomorphisms.{isomorphic_128}
+use Rattle.word_tables.specs.Cantor.{cantor_vector}
+use Rattle.word_tables.proofs.LevelLaws.{level_cantor}
+use Rattle.transform_slices.specs.Cantor.{AreCantorTwiddles, point, polynomial_value}
+use Rattle.transform_slices.specs.Stages.{factor, lower_place, stage, stages, upper_place}
+use Rattle.transform_slices.proofs.CantorValues.{factors_are_subspace_values, sums_are_values}
+use Rattle.transform_slices.proofs.Places.{next_quotient}
+use Rattle.transform_slices.proofs.StageSums.{stages_sum, sum_of_factors-same, sum_of_factors-values}
+use Rattle.transform_slices.specs.LowStages.{ghash_cantor_vector, ghash_product, HoldSums, values_from}
+use Rattle.transform_whole.specs.Stages.{IsStage}
+
+-- ---- places
+
+-- a place by its block of stage j, its bit j, and its place in the half
+pub record SplitPlace (j p : ℕ) : Type 0 where
+  pub bit : bit_at p j < 2
+  pub low : p % 2 ^ j < 2 ^ j
+  pub place : p ≡ p / 2 ^ suc j * 2 ^ suc j + (bit_at p j * 2 ^ j + p % 2 ^ j)
+
+pub split_place : (j p : ℕ) → SplitPlace j p
+split_place j p =
+    let half = div-add-mod p (2 ^ j) in
+    let whole = div-add-mod (p / 2 ^ j) 2 in
+    let quotient = next_quotient p j in
+    let size = two-pow-succ j in
+    record {
+      bit = bit_at-lt p j;
+      low = mod-lt p (pow_pos j);
+      place = joined (p / 2 ^ j) (p / 2 ^ suc j) (2 ^ j) (2 ^ suc j) (p % 2 ^ j) quotient size (sym half);
+    }
+  where
+    joined : (whole q h s r : ℕ) → q ≡ whole / 2 → s ≡ h + h → p ≡ h * whole + r → p ≡ q * s + (whole % 2 * h + r)
+    joined whole q h s r is size parts =
+        let again : whole ≡ q * 2 + whole % 2 = omega (arith, is) in
+        parts ∙ ap (λ (w : ℕ). h * w + r) again
+        ∙ (let same : h * (q * 2 + whole % 2) + r ≡ q * (h + h) + (whole % 2 * h + r) = omega arith in same)
+        ∙ ap (λ (n : ℕ). q * n + (whole % 2 * h + r)) (sym size)
+
+-- both places of a pair are before the end of the blocks
+module _ (j blocks p : ℕ) (inside : p < blocks * 2 ^ suc j) where
+  pub block_before : p / 2 ^ suc j < blocks
+  block_before = (div-lt_iff_lt-mul (pow_pos (suc j))).1 inside
+
+  pub end_before : p / 2 ^ suc j * 2 ^ suc j + 2 ^ suc j ≤ blocks * 2 ^ suc j
+  end_before =
+      let room : suc (p / 2 ^ suc j) * 2 ^ suc j ≤ blocks * 2 ^ suc j = mul-le-mul_right (2 ^ suc j) block_before in
+      let one : suc (p / 2 ^ suc j) * 2 ^ suc j ≡ p / 2 ^ suc j * 2 ^ suc j + 2 ^ suc j = omega arith in
+      omega (arith, room, one)
+
+  pub lower_inside : lower_place j p < blocks * 2 ^ suc j
+  unfolding lower_place
+  lower_inside =
+      let small = (split_place j p).low in
+      let size = two-pow-succ j in
+      let end = end_before in
+      omega (arith, small, size, end)
+
+  pub upper_inside : upper_place j p < blocks * 2 ^ suc j
+  unfolding upper_place lower_place
+  upper_inside =
+      let small = (split_place j p).low in
+      let size = two-pow-succ j in
+      let end = end_before in
+      omega (arith, small, size, end)
+
+-- ---- one stage
+
+stage-same : (f : ℕ → ℕ → ℕ) (j blocks : ℕ) (a b : ℕ → ℕ) → ((k : ℕ) → k < blocks * 2 ^ suc j → a k ≡ b k)
+    → (p : ℕ) → p < blocks * 2 ^ suc j → stage ghash_product f j a p ≡ stage ghash_product f j b p
+unfolding stage
+stage-same f j blocks a b same p inside =
+    ap₂ (λ (x y : ℕ). bit_xor x (ghash_product (f j p) y)) (same (lower_place j p) (lower_inside j blocks p inside))
+    (same (upper_place j p) (upper_inside j blocks p inside))
+
+module _ (shifts basis : List ℕ) where
+  by_quotient : (j p q : ℕ) → p / 2 ^ j ≡ q / 2 ^ j → factor shifts basis j p ≡ factor shifts basis j q
+  unfolding factor
+  by_quotient j p q same =
+      ap₂ (λ (block bit : ℕ). bit_xor (bit_xor (slice_index shifts j) (linear_image basis block)) bit)
+      (next_quotient p j ∙ ap (λ (n : ℕ). n / 2) same ∙ sym (next_quotient q j))
+      (ap (λ (n : ℕ). n % 2) same)
+
+  -- butterflies in all blocks are the stage
+  pub stage-is : (j blocks : ℕ) (a b : List ℕ) → ((p : ℕ) → slice_index a p < 2 ^ 128) → IsStage shifts basis j blocks a b → (p : ℕ)
+      → p < blocks * 2 ^ suc j → slice_index b p ≡ stage ghash_product (factor shifts basis) j (slice_index a) p
+  unfolding stage factor upper_place lower_place
+  stage-is j blocks a b fits is p inside =
+      two_cases
+      (λ d. bit_at p j ≡ d → slice_index b p ≡ bit_xor (slice_index a (q * 2 ^ suc j + r))
+      (ghash_product (bit_xor t (bit_at p j)) (slice_index a (q * 2 ^ suc j + r + 2 ^ j))))
+      at_lower at_upper (bit_at p j) split.bit refl
+    where
+      q : ℕ
+      q = p / 2 ^ suc j
+
+      r : ℕ
+      r = p % 2 ^ j
+
+      t : ℕ
+      t = bit_xor (slice_index shifts j) (linear_image basis (p / 2 ^ suc j))
+
+      split : SplitPlace j p
+      split = split_place j p
+
+      at_lower : bit_at p j ≡ 0 → slice_index b p ≡ bit_xor (slice_index a (q * 2 ^ suc j + r))
+          (ghash_product (bit_xor t (bit_at p j)) (slice_index a (q * 2 ^ suc j + r + 2 ^ j)))
+      at_lower none =
+          let at : p ≡ q * 2 ^ suc j + r = omega (arith, split.place, ap (λ (d : ℕ). d * 2 ^ j) none) in
+          let other : q * 2 ^ suc j + (2 ^ j + r) ≡ q * 2 ^ suc j + r + 2 ^ j = omega arith in
+          ap (slice_index b) at ∙ (is q (block_before j blocks p inside)).lower r split.low
+          ∙ ap₂ (λ (f : ℕ) (k : ℕ). bit_xor (slice_index a (q * 2 ^ suc j + r)) (ghash_product f (slice_index a k)))
+          (sym (ap (bit_xor t) none ∙ xor_zero_r t)) other
+
+      at_upper : bit_at p j ≡ 1 → slice_index b p ≡ bit_xor (slice_index a (q * 2 ^ suc j + r))
+          (ghash_product (bit_xor t (bit_at p j)) (slice_index a (q * 2 ^ suc j + r + 2 ^ j)))
+      at_upper one =
+          let at : p ≡ q * 2 ^ suc j + (2 ^ j + r) = omega (arith, split.place, ap (λ (d : ℕ). d * 2 ^ j) one) in
+          let other : q * 2 ^ suc j + (2 ^ j + r) ≡ q * 2 ^ suc j + r + 2 ^ j = omega arith in
+          let high : ℕ = slice_index a (q * 2 ^ suc j + (2 ^ j + r)) in
+          let low : ℕ = slice_index a (q * 2 ^ suc j + r) in
+          let block = is q (block_before j blocks p inside) in
+          ap (slice_index b) at ∙ block.upper r split.low ∙ ap (bit_xor high) (block.lower r split.low)
+          ∙ xor_comm high (bit_xor low (ghash_product t high)) ∙ xor_assoc low (ghash_product t high) high
+          ∙ ap (bit_xor low)
+          (sym (sum_times 128 1 ghash_product ghash_ring t 1 high
+          ∙ ap (bit_xor (ghash_product t high)) (ghash_ring.one high ∙ mod-eq_of_lt (fits (q * 2 ^ suc j + (2 ^ j + r)))))
+          ∙ ap₂ (λ (f : ℕ) (k : ℕ). ghash_product f (slice_index a k)) (ap (bit_xor t) (sym one)) other)
+
+  -- ---- stages one after another, of 2 ^ m places
+
+  pub whole_blocks : (m n : ℕ) → n < m → 2 ^ m ≡ 2 ^ (m - suc n) * 2 ^ suc n
+  whole_blocks m n below =
+      let parts : m ≡ m - suc n + suc n = omega arith in
+      ap (λ (e : ℕ). 2 ^ e) parts ∙ pow-add 2 (m - suc n) (suc n)
+
+  stage-here : (m n : ℕ) → n < m → (a b : ℕ → ℕ) → ((k : ℕ) → k < 2 ^ m → a k ≡ b k) → (p : ℕ) → p < 2 ^ m
+      → stage ghash_product (factor shifts basis) n a p ≡ stage ghash_product (factor shifts basis) n b p
+  stage-here m n below a b same p inside =
+      let all = whole_blocks m n below in
+      stage-same (factor shifts basis) n (2 ^ (m - suc n)) a b (λ k within. same k (omega (arith, all, within))) p
+      (omega (arith, all, inside))
+
+  stages-same : (m n : ℕ) → n ≤ m → (a b : ℕ → ℕ) → ((k : ℕ) → k < 2 ^ m → a k ≡ b k) → (p : ℕ) → p < 2 ^ m
+      → stages ghash_product (factor shifts basis) n a p ≡ stages ghash_product (factor shifts basis) n b p
+  unfolding stages
+  stages-same m zero within a b same p inside = same p inside
+  stages-same m (suc n) within a b same p inside =
+      stages-same m n (omega arith) (stage ghash_product (factor shifts basis) n a) (stage ghash_product (factor shifts basis) n b)
+      (λ k below. stage-here m n (omega arith) a b same k below) p inside
+
+  -- the stages below n that are left take what is there to what all of them take the coefficients to
+  abbrev pub AreLeft : ℕ → ℕ → List ℕ → List ℕ → Type 0
+  AreLeft m n old now =
+      (p : ℕ) → p < 2 ^ m
+      → stages ghash_product (factor shifts basis) n (slice_index now) p
+      ≡ stages ghash_product (factor shifts basis) m (slice_index old) p
+
+  pub left_step : (m n blocks : ℕ) (old now next : List ℕ) → n < m → blocks ≡ 2 ^ (m - suc n) → ((p : ℕ) → slice_index now p < 2 ^ 128)
+      → IsStage shifts basis n blocks now next → AreLeft m (suc n) old now → AreLeft m n old next
+  unfolding stages
+  left_step m n blocks old now next below count fits is left p inside =
+      stages-same m n (omega arith) (slice_index next) (stage ghash_product (factor shifts basis) n (slice_index now))
+      (λ k within. stage-is n blocks now next fits is k (reach k within)) p inside
+      ∙ left p inside
+    where
+      reach : (k : ℕ) → k < 2 ^ m → k < blocks * 2 ^ suc n
+      reach k within = let all = whole_blocks m n below ∙ ap (λ (c : ℕ). c * 2 ^ suc n) (sym count) in omega (arith, all, within)
+
+  -- the stages below n take what is there to the values
+  abbrev pub AreUndone : ℕ → ℕ → List ℕ → List ℕ → Type 0
+  AreUndone m n old now =
+      (p : ℕ) → p < 2 ^ m → stages ghash_product (factor shifts basis) n (slice_index now) p ≡ slice_index old p
+
+  pub undone_step : (m n blocks : ℕ) (old now next : List ℕ) → n < m → blocks ≡ 2 ^ (m - suc n) → ((p : ℕ) → slice_index next p < 2 ^ 128)
+      → IsStage shifts basis n blocks next now → AreUndone m n old now → AreUndone m (suc n) old next
+  unfolding stages
+  undone_step m n blocks old now next below count fits is undone p inside =
+      stages-same m n (omega arith) (stage ghash_product (factor shifts basis) n (slice_index next)) (slice_index now)
+      (λ k within. sym (stage-is n blocks next now fits is k (reach k within))) p inside
+      ∙ undone p inside
+    where
+      reach : (k : ℕ) → k < 2 ^ m → k < blocks * 2 ^ suc n
+      reach k within = let all = whole_blocks m n below ∙ ap (λ (c : ℕ). c * 2 ^ suc n) (sym count) in omega (arith, all, within)
+
+  pub undone_start : (m : ℕ) (old : List ℕ) → AreUndone m 0 old old
+  unfolding stages
+  undone_start m old p inside = refl
+
+  -- ---- values
+
+  module _ (z : ℕ) (twiddles : AreCantorTwiddles 128 ghash_product ghash_cantor_vector z 40 shifts basis) (long : length basis ≡ 39) where
+    vectors : AreCantorVectors 128 ghash_product ghash_cantor_vector
+    vectors =
+        basis-cantor 7 128 ghash_product (basis_image 128 ghash_modulus ghash_images) ghash_ring
+        (isomorphic_basis 7 128 ghash_modulus ghash_images isomorphic_128) cantor_vector (level_cantor 7 (omega arith)) refl
+
+    reached : (m p : ℕ) → m ≤ 40 → p < 2 ^ m → p < 2 ^ suc (length basis)
+    reached m p few inside =
+        let most : 2 ^ m ≤ 2 ^ suc (length basis) = pow-le-pow_right (lit< tt) (omega arith) in omega (arith, most, inside)
+
+    fewer : (m : ℕ) → m ≤ 40 → AreCantorTwiddles 128 ghash_product ghash_cantor_vector z m shifts basis
+    fewer m few =
+        record {
+          stages_fit = omega arith;
+          basis_fits = twiddles.basis_fits;
+          shifts_are = λ j below. twiddles.shifts_are j (omega arith);
+          basis_is = twiddles.basis_is;
+        }
+
+    pub stages_are_values : (m : ℕ) (c : List ℕ) (p : ℕ) → m ≤ 40 → p < 2 ^ m
+        → stages ghash_product (factor shifts basis) m (slice_index c) p % 2 ^ 128
+        ≡ polynomial_value ghash_product m (slice_index c) (point 128 ghash_cantor_vector z p)
+    stages_are_values m c p few inside =
+        stages_sum 128 ghash_product (lit< tt) ghash_ring (factor shifts basis) by_quotient m (slice_index c) p
+        ∙ sum_of_factors-values ghash_product (λ j. factor shifts basis j p) m (λ k. slice_index c (p / 2 ^ m * 2 ^ m + k)) (slice_index c)
+        (λ k below. ap (slice_index c) (ap (λ (q : ℕ). q * 2 ^ m + k) (div-eq_of_lt inside) ∙ (let same : 0 * 2 ^ m + k ≡ k = omega arith in same)))
+        ∙ sums_are_values 128 ghash_product ghash_cantor_vector (lit< tt) ghash_ring vectors z m shifts basis (fewer m few) (slice_index c) p
+        (reached m p few inside)
+
+    -- the low twiddles have the same factors
+    module _ (m : ℕ) (enough : 4 ≤ m) (few : m ≤ 40) where
+      low_basis : length (take (m - 1) basis) ≡ m - 1
+      low_basis = length-take-le (m - 1) basis (omega arith)
+
+      low_twiddles : AreCantorTwiddles 128 ghash_product ghash_cantor_vector z 4 (take 4 shifts) (take (m - 1) basis)
+      low_twiddles =
+          record {
+            stages_fit = lit≤ tt;
+            basis_fits = omega (arith, low_basis);
+            shifts_are = λ j below. get_or-take 4 shifts j 0 below ∙ twiddles.shifts_are j (omega arith);
+            basis_is =
+                λ t below.
+                let within : t < m - 1 = omega (arith, low_basis, below) in
+                get_or-take (m - 1) basis t 0 within ∙ twiddles.basis_is t (omega arith);
+          }
+
+      low_factor : (j p : ℕ) → j < 4 → p < 2 ^ m → factor (take 4 shifts) (take (m - 1) basis) j p ≡ factor shifts basis j p
+      low_factor j p below inside =
+          factors_are_subspace_values 128 ghash_product ghash_cantor_vector (lit< tt) ghash_ring vectors z 4 (take 4 shifts)
+          (take (m - 1) basis) low_twiddles j p below wide
+          ∙ sym (factors_are_subspace_values 128 ghash_product ghash_cantor_vector (lit< tt) ghash_ring vectors z 40 shifts basis
+          twiddles j p (omega arith) (reached m p few inside))
+        where
+          bits : suc (length (take (m - 1) basis)) ≡ m
+          bits = omega (arith, low_basis)
+
+          wide : p < 2 ^ suc (length (take (m - 1) basis))
+          wide = subst (λ (n : ℕ). p < 2 ^ n) (sym bits) inside
+
+      pub low_stages_are : (now new : List ℕ) → length now ≡ 2 ^ m → HoldSums (take 4 shifts) (take (m - 1) basis) 0 now new
+          → (p : ℕ) → p < 2 ^ m
+          → slice_index new p ≡ stages ghash_product (factor shifts basis) 4 (slice_index now) p % 2 ^ 128
+      low_stages_are now new whole sums p inside =
+          let at : p ≡ 16 * (p / 16) + p % 16 = omega arith in
+          let within : p % 16 < 16 = omega arith in
+          let here : 16 * (p / 16) + p % 16 < length now = omega (arith, at, inside, whole) in
+          ap (slice_index new) at ∙ sums (p / 16) (p % 16) within here
+          ∙ sum_of_factors-same ghash_product
+          (λ j. factor (take 4 shifts) (take (m - 1) basis) j (16 * (0 + p / 16) + p % 16)) (λ j. factor shifts basis j p) 4
+          (values_from now (16 * (p / 16)))
+          (λ j below.
+          let same : 16 * (0 + p / 16) + p % 16 ≡ p = omega arith in
+          ap (factor (take 4 shifts) (take (m - 1) basis) j) same ∙ low_factor j p below inside)
+          ∙ sum_of_factors-values ghash_product (λ j. factor shifts basis j p) 4 (values_from now (16 * (p / 16)))
+          (λ k. slice_index now (p / 2 ^ 4 * 2 ^ 4 + k))
+          (λ k below. let same : 16 * (p / 16) + k ≡ p / 2 ^ 4 * 2 ^ 4 + k = omega arith in ap (slice_index now) same)
+          ∙ sym (stages_sum 128 ghash_product (lit< tt) ghash_ring (factor shifts basis) by_quotient 4 (slice_index now) p)

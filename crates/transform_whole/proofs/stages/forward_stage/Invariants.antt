@@ -1,0 +1,11 @@
+use Rattle.std.proofs.Common.{◌≡◌, suc, ◌+◌, ◌*◌, ◌^◌, length, map}
+use Rattle.transform_whole.proofs.BlockStages.{BlocksSoFar, forward_in}
+use Rattle.transform_whole.proofs.stages.forward_stage.Given as goal
+
+-- the blocks before have their butterflies, and each counted its pairs
+abbrev pub invariant-loop-block : goal.invariant-loop-block
+invariant-loop-block g l =
+    (length l.values ≡ length l.fn.values)
+    × BlocksSoFar (2 ^ suc l.stage) (forward_in l.twiddles.shifts l.twiddles.basis l.stage) l.block
+    (map g.K.Kernel.value l.fn.values) (map g.K.Kernel.value l.values)
+    × (g.K.Kernel.count l.kernel ≡ g.K.Kernel.count l.fn.kernel + l.block * 2 ^ l.stage)

@@ -1,0 +1,134 @@
+// Whole transforms.
+ghost use Rattle.std.specs.Prelude.{◌≡◌, ℕ, ◌+◌, ◌-◌, ◌*◌, ◌^◌, ◌<◌, ◌≤◌, IfErr, IfOk, length, map, slice_index, take};
+ghost use Rattle.transform_whole.specs.Transform.{AreOnlyCoefficients, CountsPairs, FitsTransform, HasStages, HoldPolynomialValues};
+ghost use Rattle.transform_slices.specs.LowStages.{ghash_cantor_vector, ghash_product};
+ghost use Rattle.transform_slices.specs.Twiddles.{basis_of, shifts_of};
+ghost use Rattle.transform_slices.specs.Cantor.{AreCantorTwiddles};
+
+use crate::kernel::{Kernel, PolyKernel};
+use crate::stages::{forward_stage, inverse_stage};
+use crate::twiddles::Twiddles;
+use std::alloc::{AllocError, Allocator};
+use transform_slices::{LOW_STAGES, LowStageTwiddles};
+
+/// Leaves at each place p the value, at point p, of the polynomial with the coefficients `values` in the basis of the products of
+/// the s_j: point p is `z`, and Cantor vector b for each set bit b of p. The length of `values` has to be 2^m for an m from 4 to 40.
+/// `products` rises by the m * 2^(m - 1) pairs of places that are computed, each with one product, and has to fit 64 bits after it.
+/// Where `alloc` refuses the twiddles, it fails, and leaves `values` and `products` untouched.
+pub fn forward<A: Allocator>(
+    alloc: A,
+    values: &mut [u128],
+    z: u128,
+    products: &mut u64,
+) -> Result<(), AllocError>
+    requires { FitsTransform (length values.old) products.old }
+    ensures length { length values.new ≡ length values.old }
+    ensures values { IfOk result (λ _. HoldPolynomialValues z values.old values.new) }
+    ensures count { IfOk result (λ _. CountsPairs (length values.old) products.old products.new) }
+    ensures refused { IfErr result (λ _. (values.new ≡ values.old) × (products.new ≡ products.old)) }
+{
+    numbers_fit(values);
+    let mut kernel = PolyKernel {
+        products: *products,
+    };
+    forward_with(alloc, &mut kernel, values, z)?;
+    *products = kernel.products;
+    Ok(())
+}
+
+/// Replaces the values at the points by the coefficients of their polynomial, of which there is one list: with the same `z` it
+/// takes back what `forward` did. It asks what `forward` asks, and takes no memory; `products` rises by as much.
+pub fn inverse(values: &mut [u128], z: u128, products: &mut u64)
+    requires { FitsTransform (length values.old) products.old }
+    ensures length { length values.new ≡ length values.old }
+    ensures coefficients { AreOnlyCoefficients z values.old values.new }
+    ensures count { CountsPairs (length values.old) products.old products.new }
+{
+    numbers_fit(values);
+    let mut kernel = PolyKernel {
+        products: *products,
+    };
+    inverse_with(&mut kernel, values, z);
+    *products = kernel.products;
+}
+
+/// The transform `forward` by any kernel: nothing but the kernel computes on its elements. The length of `values` has to be 2^m
+/// for an m from 4 to 40, and the kernel's count and the m * 2^(m - 1) pairs of places together have to fit 64 bits; the count
+/// rises by those pairs. Where `alloc` refuses the twiddles, it fails, and leaves `values` and the kernel untouched.
+pub fn forward_with<K: Kernel, A: Allocator>(
+    alloc: A,
+    kernel: &mut K,
+    values: &mut [K::Elem],
+    z: u128,
+) -> Result<(), AllocError>
+    requires { FitsTransform (length values.old) (K.count kernel.old) }
+    ensures length { length values.new ≡ length values.old }
+    ensures values { IfOk result (λ _. HoldPolynomialValues z (map K.value values.old) (map K.value values.new)) }
+    ensures count { IfOk result (λ _. CountsPairs (length values.old) (K.count kernel.old) (K.count kernel.new)) }
+    ensures refused { IfErr result (λ _. (values.new ≡ values.old) × (kernel.new ≡ kernel.old)) }
+{
+    let stages = stages_of(values.len());
+    let twiddles = Twiddles::new(z);
+    let low = LowStageTwiddles::new(alloc, &twiddles.shifts, &twiddles.basis[..stages - 1])?;
+    forward_stages(kernel, values, stages, &twiddles, &low, z);
+    Ok(())
+}
+
+/// The transform `inverse` by any kernel: nothing but the kernel computes on its elements. It asks what `forward_with` asks, and
+/// takes no memory; the kernel's count rises by m * 2^(m - 1), as many pairs of places as there are.
+pub fn inverse_with<K: Kernel>(kernel: &mut K, values: &mut [K::Elem], z: u128)
+    requires { FitsTransform (length values.old) (K.count kernel.old) }
+    ensures length { length values.new ≡ length values.old }
+    ensures coefficients { AreOnlyCoefficients z (map K.value values.old) (map K.value values.new) }
+    ensures count { CountsPairs (length values.old) (K.count kernel.old) (K.count kernel.new) }
+{
+    let stages = stages_of(values.len());
+    let twiddles = Twiddles::new(z);
+    for stage in 0..stages {
+        inverse_stage(kernel, values, stage, &twiddles);
+    }
+}
+
+// The stages of a transform of so many values: the m for which there are 2^m.
+fn stages_of(count: usize) -> usize
+    requires { (m : ℕ) × HasStages m count }
+    ensures stages { HasStages result count }
+    ensures only { (m : ℕ) → count ≡ 2 ^ m → m ≡ result }
+{
+    for stages in 4..40 {
+        if count == 1 << stages {
+            return stages;
+        }
+    }
+    40
+}
+
+// The stages of the forward transform, from the highest down: those from the fourth on by butterflies, and the lowest in runs.
+fn forward_stages<K: Kernel, A: Allocator>(
+    kernel: &mut K,
+    values: &mut [K::Elem],
+    stages: usize,
+    twiddles: &Twiddles,
+    low: &LowStageTwiddles<A>,
+    z: u128,
+)
+    requires stages { HasStages stages (length values.old) }
+    requires room { K.count kernel.old + stages * 2 ^ (stages - 1) < 2 ^ 64 }
+    requires twiddles { AreCantorTwiddles 128 ghash_product ghash_cantor_vector z 40 twiddles.now.shifts twiddles.now.basis }
+    requires reach { length twiddles.now.basis ≡ 39 }
+    requires shifts { shifts_of low.now ≡ take 4 twiddles.now.shifts }
+    requires basis { basis_of low.now ≡ take (stages - 1) twiddles.now.basis }
+    ensures length { length values.new ≡ length values.old }
+    ensures values { HoldPolynomialValues z (map K.value values.old) (map K.value values.new) }
+    ensures count { K.count kernel.new ≡ K.count kernel.old + stages * 2 ^ (stages - 1) }
+{
+    for stage in (LOW_STAGES..stages).rev() {
+        forward_stage(kernel, values, stage, twiddles);
+    }
+    kernel.low_forward(low, values, 0);
+}
+
+// States that the values are numbers of 128 bits: what a contract may say of a slice's numbers is known where they are read.
+fn numbers_fit(values: &[u128])
+    ensures { (p : ℕ) → slice_index values.now p < 2 ^ 128 }
+{}

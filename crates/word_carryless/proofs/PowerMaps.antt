@@ -1,0 +1,147 @@
+-- The power maps of GHASH: columns that are the values of a number of squarings, those of longer maps from shorter ones.
+use Rattle.std.proofs.Common.{◌≡◌, ℕ, ◌+◌, ◌-◌, ◌*◌, ◌/◌, ◌%◌, ◌^◌, ◌<◌, true, List, length, drop, get_or, refl, sym, ◌∙◌, ap, lit<}
+use Rattle.std.specs.Prelude.{bit_and, bit_xor}
+use Rattle.std.proofs.lemmas.Nat.{and_mask}
+use native.Mathlib.Nat.{mod-eq_of_lt, mod-lt, one-mul, zero-mul}
+use lib.Bits.{and_zero_r, xor_assoc}
+use Rattle.field_base.specs.BitRing.{two_cases}
+use Rattle.field_base.specs.Carryless.{carryless, carryless_in}
+use Rattle.field_base.specs.LinearMaps.{linear_image}
+use Rattle.field_base.specs.Powers.{repeated_square}
+use Rattle.field_base.specs.Remainder.{rem, rem_in, mul_mod, ghash_modulus}
+use Rattle.field_base.specs.Ring.{IsRing}
+use Rattle.field_base.proofs.AdditiveMaps.{KeepsSums, maps_agree, agree_on_powers, agree_on_powers-true}
+use Rattle.field_base.proofs.BasisColumns.{sum_of_columns, sum_of_columns-sum}
+use Rattle.field_base.proofs.LinearMapLemmas.{image_from, linear_image-columns}
+use Rattle.field_base.proofs.PowerLemmas.{one-times, repeated_square-add, repeated_square-lt, square_xor}
+use Rattle.field_base.proofs.RemainderRing.{mul_mod_ring}
+use Rattle.word_carryless.specs.declared.power_maps.literals.TheConstants.{SQUARED_3_TIMES, SQUARED_7_TIMES, SQUARED_14_TIMES, SQUARED_28_TIMES, SQUARED_63_TIMES}
+
+-- ---- one column after another
+
+-- a column under a mask of a bit, as the code makes it
+pub masked_column : (column bits : ℕ) → column < 2 ^ 128
+    → bit_and column ((0 + (2 ^ 128 - bit_and bits 1)) % 2 ^ 128) ≡ bits % 2 * column
+masked_column column bits fits =
+    ap (λ (d : ℕ). bit_and column ((0 + (2 ^ 128 - d)) % 2 ^ 128)) (and_mask bits 1)
+    ∙ two_cases (λ d. bit_and column ((0 + (2 ^ 128 - d)) % 2 ^ 128) ≡ d * column)
+    (and_zero_r column ∙ sym (zero-mul column))
+    (and_mask column 128 ∙ mod-eq_of_lt fits ∙ sym (one-mul column))
+    (bits % 2) (mod-lt bits (lit< tt))
+
+-- a column enters the sum
+pub column_enters : (columns : List ℕ) (place sum rest : ℕ) → place < length columns
+    → bit_xor (bit_xor sum (rest % 2 * get_or columns place 0)) (linear_image (drop (place + 1) columns) (rest / 2))
+    ≡ bit_xor sum (linear_image (drop place columns) rest)
+column_enters columns place sum rest within =
+    xor_assoc sum (rest % 2 * get_or columns place 0) _ ∙ ap (bit_xor sum) (sym (image_from columns place rest within))
+
+-- ---- the maps
+
+ring : IsRing 128 1 (mul_mod 128 ghash_modulus)
+ring = mul_mod_ring 128 ghash_modulus (lit< tt) refl
+
+abbrev squared : ℕ → ℕ → ℕ
+squared = repeated_square 1 (mul_mod 128 ghash_modulus)
+
+-- f keeps sums and squares n times
+abbrev IsPowerMap : ℕ → (ℕ → ℕ) → Type 0
+IsPowerMap n f = KeepsSums f × ((x : ℕ) → x < 2 ^ 128 → f x ≡ squared n x)
+
+unfoldable square : ℕ → ℕ
+square x = mul_mod 128 ghash_modulus x x
+
+once : IsPowerMap 1 square
+unfolding square repeated_square
+once = (
+  λ a b. square_xor 128 1 (mul_mod 128 ghash_modulus) ring a b,
+  λ x fits. sym (ap (λ (y : ℕ). mul_mod 128 ghash_modulus y y) (one-times 128 1 (mul_mod 128 ghash_modulus) ring x fits)),
+)
+
+composed : (m n : ℕ) (f g : ℕ → ℕ) → IsPowerMap m f → IsPowerMap n g → IsPowerMap (m + n) (λ x. f (g x))
+composed m n f g is_f is_g = (
+  λ a b. ap f (is_g.0 a b) ∙ is_f.0 (g a) (g b),
+  λ x fits. ap f (is_g.1 x fits)
+      ∙ is_f.1 (squared n x) (repeated_square-lt 128 1 (mul_mod 128 ghash_modulus) ring n x)
+      ∙ sym (repeated_square-add 128 1 (mul_mod 128 ghash_modulus) ring m n x),
+)
+
+-- columns that agree with such a map at the powers of two give it
+by_columns : (n : ℕ) (f : ℕ → ℕ) (columns : List ℕ) → IsPowerMap n f → agree_on_powers (sum_of_columns columns) f 128 ≡ true
+    → IsPowerMap n (sum_of_columns columns)
+by_columns n f columns is_f agree = (
+  sum_of_columns-sum columns,
+  λ x fits. maps_agree (sum_of_columns columns) f (sum_of_columns-sum columns) is_f.0 128
+      (agree_on_powers-true (sum_of_columns columns) f 128 agree) x fits
+      ∙ is_f.1 x fits,
+)
+
+abbrev by_3 : ℕ → ℕ
+by_3 = sum_of_columns SQUARED_3_TIMES
+
+abbrev by_7 : ℕ → ℕ
+by_7 = sum_of_columns SQUARED_7_TIMES
+
+abbrev by_14 : ℕ → ℕ
+by_14 = sum_of_columns SQUARED_14_TIMES
+
+abbrev by_28 : ℕ → ℕ
+by_28 = sum_of_columns SQUARED_28_TIMES
+
+-- 3 by squares, and 7 = 3 + 3 + 1, 14 = 7 + 7, 28 = 14 + 14, 63 = 28 + 28 + 7
+agree_3 : agree_on_powers (sum_of_columns SQUARED_3_TIMES) (λ x. square (square (square x))) 128 ≡ true
+unfolding sum_of_columns square mul_mod rem rem_in carryless carryless_in
+agree_3 = refl
+
+agree_7 : agree_on_powers (sum_of_columns SQUARED_7_TIMES) (λ x. by_3 (by_3 (square x))) 128 ≡ true
+unfolding sum_of_columns square mul_mod rem rem_in carryless carryless_in
+agree_7 = refl
+
+agree_14 : agree_on_powers (sum_of_columns SQUARED_14_TIMES) (λ x. by_7 (by_7 x)) 128 ≡ true
+unfolding sum_of_columns
+agree_14 = refl
+
+agree_28 : agree_on_powers (sum_of_columns SQUARED_28_TIMES) (λ x. by_14 (by_14 x)) 128 ≡ true
+unfolding sum_of_columns
+agree_28 = refl
+
+agree_63 : agree_on_powers (sum_of_columns SQUARED_63_TIMES) (λ x. by_28 (by_28 (by_7 x))) 128 ≡ true
+unfolding sum_of_columns
+agree_63 = refl
+
+map_3 : IsPowerMap 3 by_3
+map_3 =
+    by_columns 3 (λ x. square (square (square x))) SQUARED_3_TIMES
+    (composed 1 2 square (λ x. square (square x)) once (composed 1 1 square square once once)) agree_3
+
+map_7 : IsPowerMap 7 by_7
+map_7 =
+    by_columns 7 (λ x. by_3 (by_3 (square x))) SQUARED_7_TIMES
+    (composed 3 4 by_3 (λ x. by_3 (square x)) map_3 (composed 3 1 by_3 square map_3 once)) agree_7
+
+map_14 : IsPowerMap 14 by_14
+map_14 = by_columns 14 (λ x. by_7 (by_7 x)) SQUARED_14_TIMES (composed 7 7 by_7 by_7 map_7 map_7) agree_14
+
+map_28 : IsPowerMap 28 by_28
+map_28 = by_columns 28 (λ x. by_14 (by_14 x)) SQUARED_28_TIMES (composed 14 14 by_14 by_14 map_14 map_14) agree_28
+
+map_63 : IsPowerMap 63 (sum_of_columns SQUARED_63_TIMES)
+map_63 =
+    by_columns 63 (λ x. by_28 (by_28 (by_7 x))) SQUARED_63_TIMES
+    (composed 28 35 by_28 (λ x. by_28 (by_7 x)) map_28 (composed 28 7 by_28 by_7 map_28 map_7)) agree_63
+
+-- as the code calls them
+pub times_3 : (x : ℕ) → x < 2 ^ 128 → linear_image SQUARED_3_TIMES x ≡ squared 3 x
+times_3 x fits = linear_image-columns SQUARED_3_TIMES x ∙ map_3.1 x fits
+
+pub times_7 : (x : ℕ) → x < 2 ^ 128 → linear_image SQUARED_7_TIMES x ≡ squared 7 x
+times_7 x fits = linear_image-columns SQUARED_7_TIMES x ∙ map_7.1 x fits
+
+pub times_14 : (x : ℕ) → x < 2 ^ 128 → linear_image SQUARED_14_TIMES x ≡ squared 14 x
+times_14 x fits = linear_image-columns SQUARED_14_TIMES x ∙ map_14.1 x fits
+
+pub times_28 : (x : ℕ) → x < 2 ^ 128 → linear_image SQUARED_28_TIMES x ≡ squared 28 x
+times_28 x fits = linear_image-columns SQUARED_28_TIMES x ∙ map_28.1 x fits
+
+pub times_63 : (x : ℕ) → x < 2 ^ 128 → linear_image SQUARED_63_TIMES x ≡ squared 63 x
+times_63 x fits = linear_image-columns SQUARED_63_TIMES x ∙ map_63.1 x fits

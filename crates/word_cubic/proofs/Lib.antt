@@ -1,0 +1,4 @@
+pub mod CubicField
+pub mod CubicRing
+pub mod Products
+pub mod Steps

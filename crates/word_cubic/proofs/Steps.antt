@@ -1,0 +1,39 @@
+-- Steps of a reader as what they read.
+use Rattle.std.proofs.Common.{ℕ, List, [], ◌∷◌, inl, inr, None, refl, ◌∙◌, subst}
+use Rattle.std.specs.Result.{IfOk}
+use Rattle.std.specs.declared.result.Result.{Result}
+use Rattle.std.proofs.lemmas.Result.{IfOk-weaker}
+use Rattle.serde.specs.Event.{Event, seq_begins, seq_ends, unsigned}
+use Rattle.serde.specs.Steps.{Begins, Gives, Stays, format_of}
+use Rattle.serde.specs.declared.deserializer.Deserializer.{Deserializer}
+use Rattle.word_cubic.specs.Steps.{GivesEach}
+
+module _ {F E M : Type 0} (gives : F → List ℕ → Event → F → Type 0) (stays : F → F → Type 0) where
+  -- one step alone
+  one_event : (old new : Deserializer F E M) (e : Event) → Gives gives old e new → GivesEach gives stays old (e ∷ []) new
+  one_event old new e given = (new, (inl given.0, given.1), refl)
+
+  pub one_number : {X : Type 0} (old new : Deserializer F E M) (r : Result ℕ X) → IfOk r (λ n. Gives gives old (unsigned n) new)
+      → IfOk r (λ n. GivesEach gives stays old (unsigned n ∷ []) new)
+  one_number old new r given =
+      IfOk-weaker r (λ n. Gives gives old (unsigned n) new) (λ n. GivesEach gives stays old (unsigned n ∷ []) new)
+      (λ n is. one_event old new (unsigned n) is) given
+
+  -- a step after a look
+  after_a_look : (old looked new : Deserializer F E M) (e : Event) → Stays stays old looked → Gives gives looked e new → Begins gives stays old e new
+  after_a_look old looked new e look given = (
+    inr (format_of looked, look.0, subst (λ input. gives (format_of looked) input e (format_of new)) look.1 given.0),
+    given.1 ∙ look.1,
+  )
+
+  pub number_after_a_look : {X : Type 0} (old looked new : Deserializer F E M) (r : Result ℕ X) → Stays stays old looked
+      → IfOk r (λ n. Gives gives looked (unsigned n) new) → IfOk r (λ n. Begins gives stays old (unsigned n) new)
+  number_after_a_look old looked new r look given =
+      IfOk-weaker r (λ n. Gives gives looked (unsigned n) new) (λ n. Begins gives stays old (unsigned n) new)
+      (λ n is. after_a_look old looked new (unsigned n) look is) given
+
+  pub three_numbers : (old s t u v new : Deserializer F E M) (a b c : ℕ) → Gives gives old (seq_begins None) s → Begins gives stays s (unsigned a) t
+      → Begins gives stays t (unsigned b) u → Begins gives stays u (unsigned c) v → Gives gives v seq_ends new
+      → GivesEach gives stays old (seq_begins None ∷ unsigned a ∷ unsigned b ∷ unsigned c ∷ seq_ends ∷ []) new
+  three_numbers old s t u v new a b c begun first second third ended =
+      (s, (inl begun.0, begun.1), (t, first, (u, second, (v, third, one_event v new seq_ends ended))))

@@ -1,0 +1,24 @@
+-- Lemmas that the impl of the kernel names: the cubic extension of GF(2^64) is a field.
+use Rattle.std.specs.Prelude.{◌≢◌, ◌≤◌, ◌^◌, ◌<◌, refl}
+use Rattle.std.proofs.Common.{arith, lit<}
+use Rattle.word_cubic.specs.Cubic.{cubic, triple}
+use Rattle.field_base.specs.Field.{IsField}
+use Rattle.field_base.specs.Orders.{HasFullOrder}
+use Rattle.field_base.specs.Remainder.{mul_mod, poly64_modulus}
+use Rattle.word_cubic.proofs.CubicField.{cubic_is_field}
+use Rattle.word_cubic.proofs.CubicRing.{triple-lt}
+use Rattle.word_basis.proofs.Isomorphisms.{field_64}
+use Rattle.word_cubic.specs.Triple.{triple_number}
+use Rattle.word_cubic.specs.declared.triple.Triple.{Triple}
+
+pub field_192 : IsField 192 (cubic 64 (mul_mod 64 poly64_modulus))
+field_192 = cubic_is_field 64 (mul_mod 64 poly64_modulus) field_64 (lit< tt) refl
+
+pub fits_192 : (x : Triple) → triple_number x < 2 ^ 192
+fits_192 x = triple-lt 64 x.c0 x.c1 x.c2 x.in_range.first x.in_range.second x.in_range.third
+
+pub generator_nonzero_192 : triple 64 5 3 1 ≢ 0
+generator_nonzero_192 e = absurd (omega (arith, e))
+
+pub generator_order_192 : 192 ≤ 16 → HasFullOrder 192 (cubic 64 (mul_mod 64 poly64_modulus)) (triple 64 5 3 1)
+generator_order_192 small = absurd (omega (arith, small))

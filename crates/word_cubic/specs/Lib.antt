@@ -1,0 +1,5 @@
+pub mod Cubic
+pub mod Field
+pub mod Fits
+pub mod Steps
+pub mod Triple

@@ -1,0 +1,95 @@
+// What differs between the fields of polynomials.
+ghost use Rattle.std.specs.Prelude.{◌≡◌, ◌≢◌, ◌<◌, ◌≤◌, ◌^◌, ℕ, List, bit_xor};
+ghost use Rattle.field_base.specs.Basis.{basis_image, IsIsomorphism};
+ghost use Rattle.field_base.specs.Field.{IsField};
+ghost use Rattle.field_base.specs.Remainder.{mul_mod};
+ghost use Rattle.field_base.specs.Tower.{root};
+ghost use Rattle.field_base.specs.TowerBasis.{tower_generator};
+
+use field_base::Unsigned;
+use word_tower::Level;
+
+/// An irreducible polynomial whose degree is the bits of the word `R`, by the arithmetic modulo it and the change of basis from
+/// the level `L` of the tower, which has as many bits.
+pub trait Modulus<R: Unsigned, L: Level<R>> {
+    // The degree and the polynomial, the number of the level, and the images of the roots that the tower adjoins.
+    ghost width: { ℕ };
+
+    ghost modulus: { ℕ };
+
+    ghost LEVEL: { ℕ };
+
+    ghost images: { List ℕ };
+
+    /// The name of the type of the field's elements.
+    const NAME: &'static str;
+
+    /// The image of the generator of the tower's level.
+    const GENERATOR: R;
+
+    ghost GENERATOR: { R };
+
+    /// The image of the root that the tower's level adjoins.
+    const ALPHA: R;
+
+    ghost ALPHA: { R };
+
+    // The remainder of a polynomial of two words.
+    ghost reduced: { R → R → ℕ };
+
+    ghost field_law: { IsField width (mul_mod width modulus) };
+
+    ghost isomorphism_law: { IsIsomorphism LEVEL width modulus images };
+
+    ghost width_law: { width ≡ 2 ^ LEVEL };
+
+    ghost few: { LEVEL ≤ 7 };
+
+    /// The product.
+    fn multiply(x: R, y: R) -> R
+        ensures { R.number result ≡ mul_mod width modulus (R.number x) (R.number y) };
+
+    /// The square.
+    fn square(x: R) -> R
+        ensures { R.number result ≡ mul_mod width modulus (R.number x) (R.number x) };
+
+    /// The inverse of a polynomial, by which the product is 1, and 0 for 0.
+    fn invert(x: R) -> R
+        ensures fits { R.number result < 2 ^ width }
+        ensures zero { R.number x ≡ 0 → R.number result ≡ 0 }
+        ensures inverse { R.number x ≢ 0 → mul_mod width modulus (R.number x) (R.number result) ≡ 1 };
+
+    /// The square root, whose square is the polynomial.
+    fn sqrt(x: R) -> R
+        ensures fits { R.number result < 2 ^ width }
+        ensures root { mul_mod width modulus (R.number result) (R.number result) ≡ R.number x };
+
+    /// The polynomial that is the image of an element of the tower.
+    fn to_polynomial(x: R) -> R
+        ensures { R.number result ≡ basis_image width modulus images (R.number x) };
+
+    /// The element of the tower whose image is the polynomial.
+    fn to_tower(x: R) -> R
+        ensures fits { R.number result < 2 ^ width }
+        ensures image { basis_image width modulus images (R.number result) ≡ R.number x };
+
+    /// The sum of two words, and the carryless product of `x` and `y`, whose remainder is not taken yet.
+    fn add_product(low: R, high: R, x: R, y: R) -> (R, R)
+        ensures { reduced result.0 result.1 ≡ bit_xor (reduced low high) (mul_mod width modulus (R.number x) (R.number y)) };
+
+    /// The remainder of the sum.
+    fn reduce_sum(low: R, high: R) -> R
+        ensures { R.number result ≡ reduced low high };
+
+    ghost bits_law: { width ≡ R.bits };
+
+    ghost level_law: { LEVEL ≡ L.LEVEL };
+
+    ghost reduced_zero: { reduced R.ZERO R.ZERO ≡ 0 };
+
+    ghost reduced_fits: { (low high : R) → reduced low high < 2 ^ width };
+
+    ghost generator_is: { GENERATOR ≡ R.of_number (basis_image width modulus images (tower_generator LEVEL)) };
+
+    ghost alpha_is: { R.number ALPHA ≡ basis_image width modulus images (root LEVEL) };
+}

@@ -1,0 +1,64 @@
+-- The tables by computation: each holds the values of the map of its columns, the first map is that of squares, and each
+-- other one is the one before it twice.
+use Rattle.std.proofs.Common.{◌≡◌, ℕ, zero, suc, ◌*◌, ◌/◌, ◌%◌, ◌^◌, ◌<◌, Bool, true, eqb, List, [], ◌∷◌, drop, length, refl, arith}
+use Rattle.std.specs.Prelude.{slice_index}
+use Rattle.field_base.proofs.AdditiveMaps.{agree_on_powers}
+use Rattle.field_base.proofs.BasisColumns.{sum_of_columns}
+use Rattle.field_base.proofs.TableChecks.{passes}
+use Rattle.word_tables.proofs.Squares.{root_product, square_of, squares_joined}
+use Rattle.word_tables.specs.declared.frobenius.literals.TheConstants.{SQUARED_1, SQUARED_2, SQUARED_4, SQUARED_8, SQUARED_16, SQUARED_32}
+
+-- the columns of the map stand in each row at 1, 2, 4 and 8
+unfoldable pub columns_in : ℕ → List ℕ → List ℕ
+columns_in zero table = []
+columns_in (suc rows) table =
+    slice_index table 1 ∷ slice_index table 2 ∷ slice_index table 4 ∷ slice_index table 8 ∷ columns_in rows (drop 16 table)
+
+-- the map of a table
+unfoldable pub map_of : List ℕ → ℕ → ℕ
+map_of table = sum_of_columns (columns_in 32 table)
+
+-- whether the entry y at the place p is the value at its digit
+unfoldable pub entry_passes : List ℕ → ℕ → ℕ → Bool
+entry_passes table p y = eqb y (map_of table (p % 16 * 2 ^ (4 * (p / 16))))
+
+-- whether all entries of a table are
+unfoldable pub holds_values : List ℕ → Bool
+holds_values table = passes (entry_passes table) 0 table
+
+-- whether the map of the second table is that of the first one twice, at the powers of two below 2 ^ 128
+unfoldable pub is_twice : List ℕ → List ℕ → Bool
+is_twice once twice = agree_on_powers (map_of twice) (λ b. map_of once (map_of once b)) 128
+
+-- ---- the tables, each for twice as many squarings as the one before it
+
+-- the table of 2^step squarings
+abbrev pub table_at : ℕ → List ℕ
+table_at zero = SQUARED_1
+table_at (suc zero) = SQUARED_2
+table_at (suc (suc zero)) = SQUARED_4
+table_at (suc (suc (suc zero))) = SQUARED_8
+table_at (suc (suc (suc (suc zero)))) = SQUARED_16
+table_at (suc (suc (suc (suc (suc more))))) = SQUARED_32
+
+pub holds : (step : ℕ) → (length (table_at step) ≡ 512) × (holds_values (table_at step) ≡ true)
+unfolding holds_values entry_passes map_of columns_in sum_of_columns passes
+holds zero = (refl, refl)
+holds (suc zero) = (refl, refl)
+holds (suc (suc zero)) = (refl, refl)
+holds (suc (suc (suc zero))) = (refl, refl)
+holds (suc (suc (suc (suc zero)))) = (refl, refl)
+holds (suc (suc (suc (suc (suc more))))) = (refl, refl)
+
+pub squares : agree_on_powers (map_of (table_at 0)) (square_of 7) 128 ≡ true
+unfolding map_of columns_in sum_of_columns square_of squares_joined root_product
+squares = refl
+
+pub doubles : (step : ℕ) → step < 5 → is_twice (table_at step) (table_at (suc step)) ≡ true
+unfolding is_twice map_of columns_in sum_of_columns
+doubles zero below = refl
+doubles (suc zero) below = refl
+doubles (suc (suc zero)) below = refl
+doubles (suc (suc (suc zero))) below = refl
+doubles (suc (suc (suc (suc zero)))) below = refl
+doubles (suc (suc (suc (suc (suc more))))) below = absurd (omega arith)

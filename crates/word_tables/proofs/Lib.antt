@@ -1,0 +1,11 @@
+pub mod ByteTables
+pub mod CantorVectors
+pub mod FrobeniusFacts
+pub mod GeneratorImages
+pub mod LevelLaws
+pub mod LinearMaps
+pub mod Orders
+pub mod RepeatedSquares
+pub mod RijndaelTables
+pub mod SquareTables
+pub mod Squares

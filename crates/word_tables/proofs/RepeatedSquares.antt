@@ -1,0 +1,145 @@
+-- Sums of entries are repeated squares: at 128 bits from map to map, and at a lower level since its elements are elements
+-- of 128 bits.
+use Rattle.std.proofs.Common.{◌≡◌, ◌≢◌, ℕ, zero, suc, ◌+◌, ◌*◌, ◌/◌, ◌%◌, ◌^◌, ◌<◌, ◌≤◌, ◌-◌, true, List, length, get_or, sym, ◌∙◌, ap, subst, arith, lit<}
+use Rattle.std.proofs.Math.Nat.{two-pow-succ}
+use Rattle.std.proofs.lemmas.Bool.{eqb-true}
+use Rattle.std.proofs.lemmas.Nat.{mod-pow-add, pow_below, pow_pos}
+use native.Mathlib.Nat.{mod-eq_of_lt, one-mul, pow-le-pow_right, zero-add, zero-mul}
+use Rattle.field_base.specs.LinearMaps.{linear_image}
+use Rattle.field_base.specs.Powers.{repeated_square}
+use Rattle.field_base.specs.Tower.{tower_mul}
+use Rattle.field_base.proofs.AdditiveMaps.{KeepsSums, maps_agree, agree_on_powers-true}
+use Rattle.field_base.proofs.BasisColumns.{sum_of_columns, sum_of_columns-sum}
+use Rattle.field_base.proofs.LinearMapLemmas.{linear_image-columns}
+use Rattle.field_base.proofs.PowerLemmas.{square_xor, repeated_square-add, repeated_square-lt, repeated_square_square, repeated_square-none}
+use Rattle.field_base.proofs.TableChecks.{passes_at}
+use Rattle.field_base.proofs.TowerProducts.{level-lt, tower_mul-low}
+use Rattle.field_base.proofs.TowerRing.{tower_ring}
+use Rattle.word_basis.specs.LinearMap.{sum_of_values}
+use Rattle.word_basis.proofs.DigitMaps.{sum_of_values_is}
+use Rattle.word_basis.proofs.TabledMaps.{Hold, digit_value}
+use Rattle.word_tables.proofs.Squares.{square_of, square_of_is}
+use Rattle.word_tables.proofs.FrobeniusFacts.{columns_in, map_of, is_twice, entry_passes, holds_values, table_at, holds, squares, doubles}
+
+-- ---- at 128 bits
+
+-- a table's map squares n times
+abbrev IsSquaring : ℕ → List ℕ → Type 0
+IsSquaring n table = (x : ℕ) → x < 2 ^ 128 → map_of table x ≡ repeated_square 1 (tower_mul 7) n x
+
+map_keeps : (table : List ℕ) → KeepsSums (map_of table)
+unfolding map_of
+map_keeps table = sum_of_columns-sum (columns_in 32 table)
+
+once : IsSquaring 1 (table_at 0)
+once x fits =
+    maps_agree (map_of (table_at 0)) (λ b. tower_mul 7 b b) (map_keeps (table_at 0))
+    (square_xor 128 1 (tower_mul 7) (tower_ring 7)) 128
+    (λ i below. agree_on_powers-true (map_of (table_at 0)) (square_of 7) 128 squares i below ∙ square_of_is 7 (2 ^ i)) x fits
+    ∙ sym (repeated_square-none 128 1 (tower_mul 7) (tower_ring 7) (tower_mul 7 x x) ((tower_ring 7).below x x))
+    ∙ repeated_square_square 128 1 (tower_mul 7) (tower_ring 7) 0 x
+
+twice : (n : ℕ) (first second : List ℕ) → is_twice first second ≡ true → IsSquaring n first → IsSquaring (n + n) second
+unfolding is_twice
+twice n first second agree of_first x fits =
+    maps_agree (map_of second) map_twice (map_keeps second) keeps 128
+    (agree_on_powers-true (map_of second) map_twice 128 agree) x fits
+    ∙ ap (map_of first) (of_first x fits)
+    ∙ of_first (repeated_square 1 (tower_mul 7) n x) (repeated_square-lt 128 1 (tower_mul 7) (tower_ring 7) n x)
+    ∙ sym (repeated_square-add 128 1 (tower_mul 7) (tower_ring 7) n n x)
+  where
+    map_twice : ℕ → ℕ
+    map_twice b = map_of first (map_of first b)
+
+    keeps : KeepsSums map_twice
+    keeps a b = ap (map_of first) (map_keeps first a b) ∙ map_keeps first (map_of first a) (map_of first b)
+
+-- the table of each step, from the one before it
+squares_at : (step : ℕ) → step < 6 → IsSquaring (2 ^ step) (table_at step)
+squares_at zero below = once
+squares_at (suc step) below =
+    subst (λ (n : ℕ). IsSquaring n (table_at (suc step))) (sym (two-pow-succ step))
+    (twice (2 ^ step) (table_at step) (table_at (suc step)) (doubles step (omega (arith, below)))
+    (squares_at step (omega (arith, below))))
+
+-- ---- at every level
+
+-- an element of level k squared n times in a level above is so in level k
+lower_level : (j k n x : ℕ) → x < 2 ^ 2 ^ k → repeated_square 1 (tower_mul (j + k)) n x ≡ repeated_square 1 (tower_mul k) n x
+unfolding repeated_square
+lower_level j k zero x fits = tower_mul-low j k 1 x (pow_below 0 (2 ^ k) (pow_pos k)) fits
+lower_level j k (suc n) x fits =
+    ap (λ (y : ℕ). tower_mul (j + k) y y) (lower_level j k n x fits)
+    ∙ tower_mul-low j k _ _ (repeated_square-lt (2 ^ k) 1 (tower_mul k) (tower_ring k) n x)
+    (repeated_square-lt (2 ^ k) 1 (tower_mul k) (tower_ring k) n x)
+
+-- a table that passes holds the values of its map
+values_of : (table : List ℕ) → length table ≡ 512 → holds_values table ≡ true → Hold (digit_value (columns_in 32 table)) 512 table
+unfolding holds_values entry_passes map_of
+values_of table size pass p below =
+    let inside : p < length table = omega (arith, size, below) in
+    eqb-true (get_or table p 0) _ (passes_at (entry_passes table) 0 table p pass inside)
+    ∙ ap (λ (q : ℕ). sum_of_columns (columns_in 32 table) (q % 16 * 2 ^ (4 * (q / 16)))) (zero-add p)
+    ∙ sym (linear_image-columns (columns_in 32 table) (p % 16 * 2 ^ (4 * (p / 16))))
+
+-- the entries of a table at the digits of an element of level k
+entries : (n : ℕ) (table : List ℕ) → length table ≡ 512 → holds_values table ≡ true → IsSquaring n table
+    → (k digits x : ℕ) → k ≤ 7 → 2 ^ k ≡ 4 * digits → x < 2 ^ 2 ^ k
+    → sum_of_values digits table x ≡ repeated_square 1 (tower_mul k) n x
+unfolding map_of
+entries n table size pass is k digits x few whole fits =
+    sum_of_values_is (columns_in 32 table) table digits x (λ p below. values_of table size pass p (omega (arith, below, some)))
+    ∙ ap (linear_image (columns_in 32 table)) (mod-eq_of_lt small)
+    ∙ linear_image-columns (columns_in 32 table) x
+    ∙ is x wide
+    ∙ ap (λ (level : ℕ). repeated_square 1 (tower_mul level) n x) above
+    ∙ lower_level (7 - k) k n x fits
+  where
+    above : 7 ≡ 7 - k + k
+    above = omega arith
+
+    some : digits ≤ 32
+    some =
+        let most : 2 ^ k ≤ 2 ^ 7 = pow-le-pow_right (lit< tt) few in
+        omega (arith, most)
+
+    small : x < 2 ^ (4 * digits)
+    small = subst (λ (bits : ℕ). x < 2 ^ bits) whole fits
+
+    wide : x < 2 ^ 128
+    wide = subst (λ (level : ℕ). x < 2 ^ 2 ^ level) (sym above) (level-lt (7 - k) k x fits)
+
+-- the table of 2^step squarings at the digits of an element of level k
+pub squared : (step : ℕ) (table : List ℕ) → step < 6 → table_at step ≡ table → (k digits x : ℕ) → k ≤ 7 → 2 ^ k ≡ 4 * digits
+    → x < 2 ^ 2 ^ k → sum_of_values digits table x ≡ repeated_square 1 (tower_mul k) (2 ^ step) x
+squared step table below is k digits x few whole fits =
+    ap (λ (t : List ℕ). sum_of_values digits t x) (sym is)
+    ∙ entries (2 ^ step) (table_at step) (holds step).0 (holds step).1 (squares_at step below) k digits x few whole fits
+
+-- ---- the loop over the bits of a count
+
+-- the bits of a count below n + 1 are bit n and those below
+bits_to : (n count : ℕ) → count % 2 ^ (n + 1) ≡ count / 2 ^ n % 2 * 2 ^ n + count % 2 ^ n
+bits_to n count =
+    let next : n + 1 ≡ 1 + n = omega arith in
+    ap (λ (m : ℕ). count % 2 ^ m) next ∙ mod-pow-add count 1 n
+
+-- a map for bit n of the count, where it is set
+pub bit_set : (k n count x value squared : ℕ) → count / 2 ^ n % 2 ≡ 1
+    → value ≡ repeated_square 1 (tower_mul k) (count % 2 ^ n) x → squared ≡ repeated_square 1 (tower_mul k) (2 ^ n) value
+    → squared ≡ repeated_square 1 (tower_mul k) (count % 2 ^ (n + 1)) x
+bit_set k n count x value squared set so_far step =
+    let one_more : count % 2 ^ (n + 1) ≡ 2 ^ n + count % 2 ^ n =
+    bits_to n count ∙ ap (λ (bit : ℕ). bit * 2 ^ n + count % 2 ^ n) set ∙ ap (λ (p : ℕ). p + count % 2 ^ n) (one-mul (2 ^ n)) in
+    step ∙ ap (repeated_square 1 (tower_mul k) (2 ^ n)) so_far
+    ∙ sym (repeated_square-add (2 ^ k) 1 (tower_mul k) (tower_ring k) (2 ^ n) (count % 2 ^ n) x)
+    ∙ ap (λ (m : ℕ). repeated_square 1 (tower_mul k) m x) (sym one_more)
+
+-- and none where it is not
+pub bit_clear : (k n count x value : ℕ) → count / 2 ^ n % 2 ≢ 1
+    → value ≡ repeated_square 1 (tower_mul k) (count % 2 ^ n) x → value ≡ repeated_square 1 (tower_mul k) (count % 2 ^ (n + 1)) x
+bit_clear k n count x value clear so_far =
+    let zero_bit : count / 2 ^ n % 2 ≡ 0 = omega arith in
+    let same : count % 2 ^ (n + 1) ≡ count % 2 ^ n =
+    bits_to n count ∙ ap (λ (bit : ℕ). bit * 2 ^ n + count % 2 ^ n) zero_bit ∙ ap (λ (p : ℕ). p + count % 2 ^ n) (zero-mul (2 ^ n)) ∙ zero-add (count % 2 ^ n) in
+    so_far ∙ ap (λ (m : ℕ). repeated_square 1 (tower_mul k) m x) (sym same)

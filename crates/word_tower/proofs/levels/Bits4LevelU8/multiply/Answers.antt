@@ -1,0 +1,5 @@
+use Rattle.word_tower.proofs.LowLevels.{cut_product}
+use Rattle.word_tower.proofs.levels.Bits4LevelU8.multiply.Goals as goal
+
+pub returns : goal.returns
+returns c = cut_product 1 2 c.args.x c.args.y _ c.multiply_8.ensures

@@ -1,0 +1,7 @@
+use Rattle.field_base.specs.Tower.{root}
+use Rattle.word_tower.proofs.LowLevels.{cut_product}
+use Rattle.word_tower.proofs.levels.Bits4LevelU8.multiply_by_root.Goals as goal
+
+pub returns : goal.returns
+unfolding root
+returns c = cut_product 1 2 (root 2) c.args.x _ c.multiply_8.ensures
