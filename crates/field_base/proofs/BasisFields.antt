@@ -2,8 +2,7 @@
 -- And quotients in a ring that is a field.
 use Rattle.std.proofs.Common.{◌≡◌, ◌≢◌, ℕ, zero, suc, ◌+◌, ◌-◌, ◌^◌, ◌<◌, ◌≤◌, List, [], ◌∷◌, sym, ◌∙◌, ap, ap₂, subst, arith}
 use Rattle.std.specs.Prelude.{bit_xor}
-use Rattle.field_base.specs.Basis.{basis_image, IsHomomorphism, IsIsomorphism}
-use Rattle.field_base.specs.TowerBasis.{IsBasisOf}
+use Rattle.field_base.specs.Basis.{basis_image, IsHomomorphism, IsChangeOfBasis}
 use Rattle.field_base.specs.Powers.{power, repeated_square, terms_from, value_of}
 use Rattle.field_base.specs.Remainder.{mul_mod}
 use Rattle.field_base.specs.Ring.{IsRing}
@@ -66,23 +65,8 @@ ring_quotient width times ring a b inverse quotient fits inverts is =
     ap (λ (q : ℕ). times q b) is ∙ ring.assoc a inverse b ∙ ap (times a) (ring.comm inverse b ∙ inverts)
     ∙ times-one width 1 times ring a fits
 
--- an isomorphism from a level of the tower is a basis of the field
-pub isomorphic_basis : (k width modulus : ℕ) (images : List ℕ) → IsIsomorphism k width modulus images
-    → IsBasisOf k width (mul_mod width modulus) (basis_image width modulus images)
-isomorphic_basis k width modulus images isomorphic =
-    record {
-      below = λ a fits. isomorphic.homomorphism.below a;
-      one_image = isomorphic.homomorphism.one_image;
-      sum_image = isomorphic.homomorphism.sum_image;
-      product_image = isomorphic.homomorphism.product_image;
-      one_to_one =
-          λ a b a_fits b_fits same.
-          sym (isomorphic.inverse_of_image a a_fits) ∙ ap isomorphic.inverse same ∙ isomorphic.inverse_of_image b b_fits;
-      onto = λ b fits. (isomorphic.inverse b, isomorphic.inverse_below b, isomorphic.image_of_inverse b fits);
-    }
-
 -- the image of a product of elements of a level j below k is the product of the images, and two elements have two images
-module _ (k width modulus : ℕ) (images : List ℕ) (isomorphic : IsIsomorphism k width modulus images) (j : ℕ) (lower : j ≤ k) where
+module _ (k width modulus : ℕ) (images : List ℕ) (isomorphic : IsChangeOfBasis k width modulus images) (j : ℕ) (lower : j ≤ k) where
   between : k - j + j ≡ k
   between = omega (arith, lower)
 
@@ -99,5 +83,5 @@ module _ (k width modulus : ℕ) (images : List ℕ) (isomorphic : IsIsomorphism
   pub image_of_lower_injective : (a b : ℕ) → a < 2 ^ 2 ^ j → b < 2 ^ 2 ^ j
       → basis_image width modulus images a ≡ basis_image width modulus images b → a ≡ b
   image_of_lower_injective a b a_fits b_fits same =
-      sym (isomorphic.inverse_of_image a (up a a_fits)) ∙ ap isomorphic.inverse same
-      ∙ isomorphic.inverse_of_image b (up b b_fits)
+      sym (isomorphic.isomorphism.inverse_of_image a (up a a_fits)) ∙ ap isomorphic.isomorphism.inverse same
+      ∙ isomorphic.isomorphism.inverse_of_image b (up b b_fits)

@@ -5,7 +5,7 @@ use Rattle.std.specs.Prelude.{bit_xor, slice_index}
 use Rattle.std.proofs.lemmas.Nat.{xor_lt, pow_pos}
 use native.Mathlib.Nat.{mod-lt, mod-eq_of_lt}
 use lib.Bits.{xor_assoc, xor_self}
-use Rattle.field_base.specs.Basis.{basis_image, bit_image, AreRoots, IsHomomorphism, IsIsomorphism, RootsGiveHomomorphism}
+use Rattle.field_base.specs.Basis.{basis_image, bit_image, AreRoots, IsHomomorphism, IsChangeOfBasis, RootsGiveHomomorphism}
 use Rattle.field_base.specs.Field.{IsField}
 use Rattle.field_base.specs.Field.{HasInverses}
 use Rattle.field_base.specs.Powers.{repeated_square}
@@ -140,35 +140,41 @@ module _ (width modulus : ℕ) (wide : 0 < width) (degree : HasDegree width modu
       image_of_inverse : (b : ℕ) → b < 2 ^ width → basis_image width modulus images (inverse b) ≡ b
       image_of_inverse b fits = basis_image-mod (sum_of_columns inverse_columns b) ∙ basis_image-undoes b fits
 
-      pub isomorphism : IsIsomorphism (length images) width modulus images
+      pub isomorphism : IsChangeOfBasis (length images) width modulus images
       isomorphism = record {
         homomorphism = keeps;
-        inverse = inverse;
-        inverse_below = inverse_lt;
-        image_of_inverse = image_of_inverse;
-        inverse_of_image = λ a fits.
-            basis_image-injective (inverse (basis_image width modulus images a)) a (inverse_lt (basis_image width modulus images a)) fits
-            (image_of_inverse (basis_image width modulus images a) (keeps.below a));
+        isomorphism = record {
+          below = λ a fits. keeps.below a;
+          one_image = keeps.one_image;
+          sum_image = keeps.sum_image;
+          product_image = keeps.product_image;
+          inverse = inverse;
+          inverse_below = inverse_lt;
+          image_of_inverse = image_of_inverse;
+          inverse_of_image = λ a fits.
+              basis_image-injective (inverse (basis_image width modulus images a)) a (inverse_lt (basis_image width modulus images a)) fits
+              (image_of_inverse (basis_image width modulus images a) (keeps.below a));
+        };
       }
 
   -- ---- what the field of polynomials has from the tower
 
-  module _ (isomorphic : IsIsomorphism (length images) width modulus images) where
+  module _ (isomorphic : IsChangeOfBasis (length images) width modulus images) where
     -- a polynomial but 0 is the image of an element but 0, and the image of that element's inverse is its inverse
     pub isomorphic-inverses : HasInverses width (mul_mod width modulus)
     isomorphic-inverses b fits nonzero =
-        let a = isomorphic.inverse b in
-        let inverse = tower_inverses (length images) a (isomorphic.inverse_below b) a_nonzero in (
+        let a = isomorphic.isomorphism.inverse b in
+        let inverse = tower_inverses (length images) a (isomorphic.isomorphism.inverse_below b) a_nonzero in (
           basis_image width modulus images inverse.0,
           isomorphic.homomorphism.below inverse.0,
-          ap (λ (x : ℕ). mul_mod width modulus x (basis_image width modulus images inverse.0)) (sym (isomorphic.image_of_inverse b fits))
+          ap (λ (x : ℕ). mul_mod width modulus x (basis_image width modulus images inverse.0)) (sym (isomorphic.isomorphism.image_of_inverse b fits))
               ∙ sym (isomorphic.homomorphism.product_image a inverse.0)
               ∙ ap (basis_image width modulus images) inverse.2 ∙ isomorphic.homomorphism.one_image,
         )
       where
-        a_nonzero : isomorphic.inverse b ≢ 0
+        a_nonzero : isomorphic.isomorphism.inverse b ≢ 0
         a_nonzero none =
-            nonzero (sym (isomorphic.image_of_inverse b fits) ∙ ap (basis_image width modulus images) none
+            nonzero (sym (isomorphic.isomorphism.image_of_inverse b fits) ∙ ap (basis_image width modulus images) none
             ∙ isomorphic.homomorphism.zero_image)
 
     -- as many squarings as the level has bits return each polynomial
@@ -177,14 +183,14 @@ module _ (width modulus : ℕ) (wide : 0 < width) (degree : HasDegree width modu
         sym (repeated_square-mod width 1 (mul_mod width modulus) ring (2 ^ length images) b)
         ∙ ap (repeated_square 1 (mul_mod width modulus) (2 ^ length images)) (sym returned)
         ∙ sym (image_squarings (length images) width modulus images isomorphic.homomorphism (2 ^ length images) a)
-        ∙ ap (basis_image width modulus images) (squarings_return (length images) a ∙ mod-eq_of_lt (isomorphic.inverse_below (b % 2 ^ width)))
+        ∙ ap (basis_image width modulus images) (squarings_return (length images) a ∙ mod-eq_of_lt (isomorphic.isomorphism.inverse_below (b % 2 ^ width)))
         ∙ returned
       where
         a : ℕ
-        a = isomorphic.inverse (b % 2 ^ width)
+        a = isomorphic.isomorphism.inverse (b % 2 ^ width)
 
         returned : basis_image width modulus images a ≡ b % 2 ^ width
-        returned = isomorphic.image_of_inverse (b % 2 ^ width) (mod-lt b (pow_pos width))
+        returned = isomorphic.isomorphism.image_of_inverse (b % 2 ^ width) (mod-lt b (pow_pos width))
 
     -- so that polynomials are a field
     pub isomorphic-field : 2 ^ length images ≡ width → IsField width (mul_mod width modulus)

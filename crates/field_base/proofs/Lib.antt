@@ -22,6 +22,7 @@ pub mod RemainderDot
 pub mod RemainderLaws
 pub mod RemainderRing
 pub mod RingLemmas
+pub mod Steps
 pub mod TableChecks
 pub mod TowerBasisLemmas
 mod TowerFacts

@@ -7,19 +7,23 @@ use lib.Bits.{xor_self}
 use Rattle.field_base.specs.Orders.{AreCantorVectors}
 use Rattle.field_base.specs.Ring.{IsRing}
 use Rattle.field_base.specs.Tower.{root, tower_mul}
-use Rattle.field_base.specs.TowerBasis.{AreEvenCantorVectors, IsBasisOf, tower_generator}
+use Rattle.field_base.specs.TowerBasis.{AreEvenCantorVectors, IsIsomorphism, tower_generator}
 use Rattle.field_base.proofs.EightCases.{eight_cases}
 use Rattle.field_base.proofs.RingLemmas.{times-mod, mod-times}
 use Rattle.field_base.proofs.TowerRing.{tower_ring}
 use Rattle.field_base.proofs.TowerTraces.{tower_no_root}
 
-module _ (k width : ℕ) (times : ℕ → ℕ → ℕ) (basis : ℕ → ℕ) (ring : IsRing width 1 times) (keeps : IsBasisOf k width times basis) where
+module _ (k width : ℕ) (times : ℕ → ℕ → ℕ) (basis : ℕ → ℕ) (ring : IsRing width 1 times) (keeps : IsIsomorphism k width times basis) where
   -- the image of 0 is 0, and only that
   pub basis-zero : basis 0 ≡ 0
   basis-zero = keeps.sum_image 0 0 ∙ xor_self (basis 0)
 
+  -- two elements have two images
+  basis-one_to_one : (a b : ℕ) → a < 2 ^ 2 ^ k → b < 2 ^ 2 ^ k → basis a ≡ basis b → a ≡ b
+  basis-one_to_one a b a_fits b_fits same = sym (keeps.inverse_of_image a a_fits) ∙ ap keeps.inverse same ∙ keeps.inverse_of_image b b_fits
+
   pub basis-nonzero : (a : ℕ) → a < 2 ^ 2 ^ k → basis a ≡ 0 → a ≡ 0
-  basis-nonzero a fits none = keeps.one_to_one a 0 fits (pow_pos (2 ^ k)) (none ∙ sym basis-zero)
+  basis-nonzero a fits none = basis-one_to_one a 0 fits (pow_pos (2 ^ k)) (none ∙ sym basis-zero)
 
   -- the image of an inverse is the inverse of the image
   pub basis-inverse : (a b : ℕ) → tower_mul k a b ≡ 1 → times (basis a) (basis b) ≡ 1
@@ -43,9 +47,9 @@ module _ (k width : ℕ) (times : ℕ → ℕ → ℕ) (basis : ℕ → ℕ) (ri
   -- the polynomial whose root the next level adjoins has no root in the field
   pub basis-no_root : (x : ℕ) → bit_xor (bit_xor (times x x) (times (basis (root k)) x)) 1 ≢ 0
   basis-no_root x none =
-      let found = keeps.onto (x % 2 ^ width) (mod-lt x (pow_pos width)) in
-      no_root_image found.0 found.1
-      (ap (λ (y : ℕ). bit_xor (bit_xor (times y y) (times (basis (root k)) y)) 1) found.2
+      let low = x % 2 ^ width in
+      no_root_image (keeps.inverse low) (keeps.inverse_below low)
+      (ap (λ (y : ℕ). bit_xor (bit_xor (times y y) (times (basis (root k)) y)) 1) (keeps.image_of_inverse low (mod-lt x (pow_pos width)))
       ∙ ap₂ (λ (y z : ℕ). bit_xor (bit_xor y z) 1)
       (times-mod width 1 times ring (x % 2 ^ width) x ∙ mod-times width 1 times ring x x)
       (times-mod width 1 times ring (basis (root k)) x)

@@ -6,6 +6,7 @@ use Rattle.std.specs.Int.{bit_at}
 use Rattle.field_base.specs.Powers.{power}
 use Rattle.field_base.specs.Remainder.{HasDegree, mul_mod}
 use Rattle.field_base.specs.Tower.{root, tower_mul}
+use Rattle.field_base.specs.TowerBasis.{IsIsomorphism}
 
 -- the sum of f 0, f 1, .., f (n - 1)
 unfoldable pub sum_below : (ℕ → ℕ) → ℕ → ℕ
@@ -52,13 +53,10 @@ pub record IsHomomorphism (k width modulus : ℕ) (images : List ℕ) : Type 0 w
       ≡ mul_mod width modulus (basis_image width modulus images a) (basis_image width modulus images b)
   pub root_image : (m : ℕ) → m < k → basis_image width modulus images (root (suc m)) ≡ slice_index images m % 2 ^ width
 
--- and it has an inverse, so that it is an isomorphism of fields
-pub record IsIsomorphism (k width modulus : ℕ) (images : List ℕ) : Type 0 where
+-- and it is an isomorphism of fields
+pub record IsChangeOfBasis (k width modulus : ℕ) (images : List ℕ) : Type 0 where
   pub homomorphism : IsHomomorphism k width modulus images
-  pub inverse : ℕ → ℕ
-  pub inverse_below : (b : ℕ) → inverse b < 2 ^ 2 ^ k
-  pub image_of_inverse : (b : ℕ) → b < 2 ^ width → basis_image width modulus images (inverse b) ≡ b
-  pub inverse_of_image : (a : ℕ) → a < 2 ^ 2 ^ k → inverse (basis_image width modulus images a) ≡ a
+  pub isomorphism : IsIsomorphism k width (mul_mod width modulus) (basis_image width modulus images)
 
 -- the images of the roots modulo any polynomial give a homomorphism where they meet the equations of the roots
 abbrev pub RootsGiveHomomorphism : Type 0

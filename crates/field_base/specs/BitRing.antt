@@ -2,14 +2,14 @@
 -- own implementation of the traits cites them.
 use Rattle.std.proofs.Common.{◌≡◌, ℕ, zero, suc, ◌*◌, ◌%◌, ◌^◌, ◌<◌, ◌≢◌, refl, sym, ◌∙◌, ap, arith, lit<}
 use Rattle.std.specs.Prelude.{bit_and, bit_xor}
-use Rattle.std.proofs.lemmas.Nat.{xor_mod}
+use Rattle.std.proofs.lemmas.Nat.{pow_pos, xor_mod}
 use native.Mathlib.Nat.{mod-lt, mul_comm, mul_assoc, zero-mul, one-mul, mul-one, mod-eq_of_lt}
 use Rattle.field_base.specs.Ring.{IsRing}
 use Rattle.field_base.specs.Field.{IsField}
 use Rattle.field_base.specs.Orders.{AreCantorVectors, HasFullOrder}
 use Rattle.field_base.specs.Powers.{power, repeated_square}
 use Rattle.field_base.specs.Tower.{root, tower_mul}
-use Rattle.field_base.specs.TowerBasis.{AreEvenCantorVectors, IsBasisOf}
+use Rattle.field_base.specs.TowerBasis.{AreEvenCantorVectors, IsIsomorphism}
 
 -- a fact of 0 and of 1 holds of each number below 2
 pub two_cases : (P : ℕ → Type 0) → P 0 → P 1 → (d : ℕ) → d < 2 → P d
@@ -98,16 +98,18 @@ bit_field =
 pub one_is_nonzero : ◌≢◌ {A = ℕ} 1 0
 one_is_nonzero e = absurd (omega (arith, e))
 
--- a level is its own basis
-pub level_basis : (k : ℕ) → IsBasisOf k (2 ^ k) (tower_mul k) (λ a. a)
+-- the identity is an isomorphism from a level to itself
+pub level_basis : (k : ℕ) → IsIsomorphism k (2 ^ k) (tower_mul k) (λ a. a)
 level_basis k =
     record {
       below = λ a fits. fits;
       one_image = refl;
       sum_image = λ a b. refl;
       product_image = λ a b. refl;
-      one_to_one = λ a b a_fits b_fits same. same;
-      onto = λ b fits. (b, fits, refl);
+      inverse = λ b. b % 2 ^ 2 ^ k;
+      inverse_below = λ b. mod-lt b (pow_pos (2 ^ k));
+      image_of_inverse = λ b fits. mod-eq_of_lt fits;
+      inverse_of_image = λ a fits. mod-eq_of_lt fits;
     }
 
 -- x² + x + 1 has no root among them

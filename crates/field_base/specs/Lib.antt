@@ -13,6 +13,7 @@ pub mod Powers
 pub mod Quadratic
 pub mod Remainder
 pub mod Ring
+pub mod Steps
 pub mod Tower
 pub mod TowerBasis
 pub mod TowerField

@@ -3,15 +3,17 @@
 use Rattle.std.specs.Prelude.{◌≡◌, ℕ, ◌-◌, ◌%◌, ◌^◌, ◌<◌, [], ◌∷◌, slice_index, bit_xor}
 use Rattle.field_base.specs.Tower.{tower_mul}
 
--- `basis` is an isomorphism from level k of the tower to a field with the product `times`: one to one, and sums and
--- products go to sums and products
-pub record IsBasisOf (k width : ℕ) (times : ℕ → ℕ → ℕ) (basis : ℕ → ℕ) : Type 0 where
+-- `basis` is an isomorphism from level k of the tower to a field of 2 ^ width elements with the product `times`: it carries 1, sums
+-- and products, and has an inverse
+pub record IsIsomorphism (k width : ℕ) (times : ℕ → ℕ → ℕ) (basis : ℕ → ℕ) : Type 0 where
   pub below : (a : ℕ) → a < 2 ^ 2 ^ k → basis a < 2 ^ width
   pub one_image : basis 1 ≡ 1
   pub sum_image : (a b : ℕ) → basis (bit_xor a b) ≡ bit_xor (basis a) (basis b)
   pub product_image : (a b : ℕ) → basis (tower_mul k a b) ≡ times (basis a) (basis b)
-  pub one_to_one : (a b : ℕ) → a < 2 ^ 2 ^ k → b < 2 ^ 2 ^ k → basis a ≡ basis b → a ≡ b
-  pub onto : (b : ℕ) → b < 2 ^ width → (a : ℕ) × (a < 2 ^ 2 ^ k) × (basis a ≡ b)
+  pub inverse : ℕ → ℕ
+  pub inverse_below : (b : ℕ) → inverse b < 2 ^ 2 ^ k
+  pub image_of_inverse : (b : ℕ) → b < 2 ^ width → basis (inverse b) ≡ b
+  pub inverse_of_image : (a : ℕ) → a < 2 ^ 2 ^ k → inverse (basis a) ≡ a
 
 -- the Cantor vectors of level k of the tower: vector 0 is 1, and each other is the even solution v of v² + v = the vector
 -- before it

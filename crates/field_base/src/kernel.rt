@@ -4,7 +4,7 @@ ghost use Rattle.field_base.specs.Field.{IsField};
 ghost use Rattle.field_base.specs.Orders.{HasFullOrder};
 ghost use Rattle.field_base.specs.Powers.{repeated_square};
 ghost use Rattle.field_base.specs.Tower.{root};
-ghost use Rattle.field_base.specs.TowerBasis.{AreEvenCantorVectors, IsBasisOf, tower_generator};
+ghost use Rattle.field_base.specs.TowerBasis.{AreEvenCantorVectors, IsIsomorphism, tower_generator};
 
 use crate::word::{Stored, Unsigned};
 
@@ -121,7 +121,7 @@ pub trait LevelKernel<R: Unsigned>: FieldKernel<R> {
 
     ghost bits_law: { Self.width ≡ 2 ^ LOG_BITS };
 
-    ghost basis_law: { IsBasisOf LOG_BITS Self.width Self.product basis };
+    ghost basis_law: { IsIsomorphism LOG_BITS Self.width Self.product basis };
 
     ghost cantor_law: { AreEvenCantorVectors LOG_BITS cantor };
 

@@ -5,9 +5,11 @@
 pub mod byte_tables;
 mod gf2;
 mod kernel;
+mod reading;
 pub mod traits;
 mod word;
 
 pub use crate::gf2::Gf2;
 pub use crate::kernel::{Contains, FieldKernel, Joins, LevelKernel};
+pub use crate::reading::ReadWord;
 pub use crate::word::{Stored, Unsigned};

@@ -6,7 +6,8 @@ ghost use Rattle.field_base.specs.Operators.{algebra_gives};
 ghost use Rattle.field_base.specs.Remainder.{ghash_modulus, mul_mod};
 ghost use Rattle.field_element.specs.Element.{repr_of};
 ghost use Rattle.packed_lanes.specs.Packed.{lanes_of};
-ghost use Rattle.packed_lanes.specs.Lanes.{joined, lane_by_lane, lane_product};
+ghost use Rattle.field_base.specs.Chunks.{joined};
+ghost use Rattle.packed_lanes.specs.Lanes.{lane_by_lane, lane_product};
 
 mod left;
 
@@ -103,7 +104,7 @@ impl Algebra<BinaryField128> for PackedGhash128 {
 
     ghost image_product_law = { λ a b a_fits b_fits. ap (λ (x : ℕ). joined 128 (replicate 4 x)) (isomorphic_128.homomorphism.product_image a b) ∙ every_product 128 1 (mul_mod 128 ghash_modulus) field_128.ring 4 (basis_image 128 ghash_modulus ghash_images a) (basis_image 128 ghash_modulus ghash_images b) (isomorphic_128.homomorphism.below a) (isomorphic_128.homomorphism.below b) };
 
-    ghost image_injective_law = { λ proper a b a_fits b_fits same. sym (isomorphic_128.inverse_of_image a a_fits) ∙ ap isomorphic_128.inverse (every_same 128 1 4 (basis_image 128 ghash_modulus ghash_images a) (basis_image 128 ghash_modulus ghash_images b) (isomorphic_128.homomorphism.below a) (isomorphic_128.homomorphism.below b) proper same) ∙ isomorphic_128.inverse_of_image b b_fits };
+    ghost image_injective_law = { λ proper a b a_fits b_fits same. sym (isomorphic_128.isomorphism.inverse_of_image a a_fits) ∙ ap isomorphic_128.isomorphism.inverse (every_same 128 1 4 (basis_image 128 ghash_modulus ghash_images a) (basis_image 128 ghash_modulus ghash_images b) (isomorphic_128.homomorphism.below a) (isomorphic_128.homomorphism.below b) proper same) ∙ isomorphic_128.isomorphism.inverse_of_image b b_fits };
 
     ghost image_from_law = { λ x r is. ap (joined 128) is };
 

@@ -5,7 +5,8 @@ use Rattle.std.proofs.lemmas.Nat.{mod_low, mod-pow-add, pow-add, pow_pos, shr_hi
 use Rattle.std.proofs.Math.Nat.{suc-mul}
 use native.Mathlib.Nat.{mod-one, zero-mul}
 use lib.Arith.{digits_lt}
-use Rattle.packed_lanes.specs.Lanes.{joined, lane_product}
+use Rattle.field_base.specs.Chunks.{joined}
+use Rattle.packed_lanes.specs.Lanes.{lane_product}
 use Rattle.field_base.specs.Ring.{IsRing}
 use Rattle.field_base.proofs.RingLemmas.{mod-times}
 

@@ -8,7 +8,8 @@ use lib.Pointwise.{pointwise, pointwise_decides}
 use native.Mathlib.Nat.{add-zero, one-mul, zero-mul}
 use Rattle.field_base.specs.BitRing.{two_cases}
 use lib.Arith.{digits_lt}
-use Rattle.packed_lanes.specs.Lanes.{joined, lane_by_lane, lane_product}
+use Rattle.field_base.specs.Chunks.{joined}
+use Rattle.packed_lanes.specs.Lanes.{lane_by_lane, lane_product}
 use Rattle.field_base.specs.Ring.{IsRing}
 use Rattle.packed_lanes.proofs.LaneRing.{more_lanes}
 use Rattle.field_base.proofs.RingLemmas.{mod-times, times-mod}

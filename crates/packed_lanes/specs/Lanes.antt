@@ -1,11 +1,6 @@
 -- Packings: a packing is the list of its lanes, and its number is that of the lanes side by side, lane 0 in the lowest bits.
 use Rattle.std.specs.Prelude.{◌≡◌, ℕ, zero, suc, ◌+◌, ◌-◌, ◌*◌, ◌/◌, ◌%◌, ◌^◌, ◌<◌, ◌==◌, List, [], ◌∷◌, length, slice_index_or, if◌then◌else◌}
 
--- the number of a list of lanes of `width` bits
-unfoldable pub joined : ℕ → List ℕ → ℕ
-joined width [] = 0
-joined width (x ∷ xs) = joined width xs * 2 ^ width + x
-
 -- the product of two packings of n lanes, lane by lane, by the product `times` of the lanes, which reads the low `width` bits of
 -- its operands
 unfoldable pub lane_product : ℕ → (ℕ → ℕ → ℕ) → ℕ → ℕ → ℕ → ℕ

@@ -4,7 +4,8 @@ use Rattle.std.specs.Prelude.{slice_set}
 use Rattle.std.proofs.Common.{◌≡◌, ℕ, zero, suc, ◌+◌, ◌*◌, ◌/◌, ◌%◌, ◌^◌, ◌<◌, ◌≤◌, List, [], ◌∷◌, length, map, replicate, slice_index_or, refl, sym, ◌∙◌, ap, ap₂, arith}
 use Rattle.std.proofs.lemmas.Nat.{pow_pos}
 use native.Mathlib.Nat.{one-mul, zero-add, zero-mul}
-use Rattle.packed_lanes.specs.Lanes.{AreInterleaved, IsPowerOfTwo, interleaved_first, interleaved_second, joined, lane_product}
+use Rattle.field_base.specs.Chunks.{joined}
+use Rattle.packed_lanes.specs.Lanes.{AreInterleaved, IsPowerOfTwo, interleaved_first, interleaved_second, lane_product}
 
 -- the only lane, written over
 pub put_only_lane : {A : Type 0} → (x y : A) (lane : ℕ) → lane < 1 → y ∷ [] ≡ slice_set (x ∷ []) lane y

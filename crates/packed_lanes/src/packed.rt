@@ -2,7 +2,8 @@
 ghost use Rattle.std.specs.Prelude.{◌≡◌, ◌≢◌, ◌<◌, ◌*◌, ◌^◌, ℕ, List, bit_xor, length, map, replicate, refl};
 ghost use Rattle.std.proofs.Common.{sym, ◌∙◌, ap};
 ghost use Rattle.std.proofs.lemmas.List.{length-replicate};
-ghost use Rattle.packed_lanes.specs.Lanes.{joined, lane_by_lane, lane_product};
+ghost use Rattle.field_base.specs.Chunks.{joined};
+ghost use Rattle.packed_lanes.specs.Lanes.{lane_by_lane, lane_product};
 ghost use Rattle.packed_lanes.specs.LaneLists.{every_below, every_zero, lanes_below, lanes_same, map-replicate, product_number, sum_number};
 
 mod draws;

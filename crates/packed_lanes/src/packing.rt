@@ -1,7 +1,8 @@
 // Packings: values of several lanes, and the rings whose operations go lane by lane.
 ghost use Rattle.std.specs.Prelude.{◌≡◌, ◌*◌, ◌<◌, ◌≤◌, ◌^◌, ℕ, List, [], ◌∷◌, length, map, refl, replicate, slice_set};
 ghost use Rattle.std.specs.Mem.{FitsInMemory};
-ghost use Rattle.packed_lanes.specs.Lanes.{AnswersFrom, AreInterleaved, IsPowerOfTwo, joined, lane_product};
+ghost use Rattle.field_base.specs.Chunks.{joined};
+ghost use Rattle.packed_lanes.specs.Lanes.{AnswersFrom, AreInterleaved, IsPowerOfTwo, lane_product};
 ghost use Rattle.packed_lanes.specs.OneLane.{one_lane_joined, one_lane_product, one_lane_width, same_only_lane};
 
 use field_base::traits::{Algebra, Field};

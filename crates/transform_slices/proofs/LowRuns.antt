@@ -11,7 +11,6 @@ use Rattle.field_base.specs.LinearMaps.{linear_image}
 use Rattle.field_base.specs.Orders.{AreCantorVectors}
 use Rattle.field_base.specs.Remainder.{ghash_modulus}
 use Rattle.field_base.proofs.BasisColumns.{sum_of_columns}
-use Rattle.field_base.proofs.BasisFields.{isomorphic_basis}
 use Rattle.field_base.proofs.LinearMapLemmas.{linear_image-columns, the_linear_map}
 use Rattle.field_base.proofs.RemainderRing.{ghash_ring}
 use Rattle.field_base.proofs.RingLemmas.{xor_cancel}
@@ -192,7 +191,7 @@ module _ (shifts basis : List ℕ) where
 vectors : AreCantorVectors 128 ghash_product ghash_cantor_vector
 vectors =
     basis-cantor 7 128 ghash_product (basis_image 128 ghash_modulus ghash_images) ghash_ring
-    (isomorphic_basis 7 128 ghash_modulus ghash_images isomorphic_128) cantor_vector (level_cantor 7 (omega arith)) refl
+    isomorphic_128.isomorphism cantor_vector (level_cantor 7 (omega arith)) refl
 
 -- the sums are values of polynomials where the twiddles are those of Cantor points and the basis reaches the last place
 pub values_at_points : (shifts basis : List ℕ) (first_run : ℕ) (old new : List ℕ) → 3 ≤ length basis → length old % 16 ≡ 0

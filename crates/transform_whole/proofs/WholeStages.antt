@@ -14,7 +14,6 @@ use Rattle.field_base.specs.BitRing.{two_cases}
 use Rattle.field_base.specs.LinearMaps.{linear_image}
 use Rattle.field_base.specs.Orders.{AreCantorVectors}
 use Rattle.field_base.specs.Remainder.{ghash_modulus}
-use Rattle.field_base.proofs.BasisFields.{isomorphic_basis}
 use Rattle.field_base.proofs.RemainderRing.{ghash_ring}
 use Rattle.field_base.proofs.RingLemmas.{sum_times}
 use Rattle.field_base.proofs.TowerBasisLemmas.{basis-cantor}
@@ -212,7 +211,7 @@ module _ (shifts basis : List ℕ) where
     vectors : AreCantorVectors 128 ghash_product ghash_cantor_vector
     vectors =
         basis-cantor 7 128 ghash_product (basis_image 128 ghash_modulus ghash_images) ghash_ring
-        (isomorphic_basis 7 128 ghash_modulus ghash_images isomorphic_128) cantor_vector (level_cantor 7 (omega arith)) refl
+        isomorphic_128.isomorphism cantor_vector (level_cantor 7 (omega arith)) refl
 
     reached : (m p : ℕ) → m ≤ 40 → p < 2 ^ m → p < 2 ^ suc (length basis)
     reached m p few inside =

@@ -1,7 +1,7 @@
 -- The changes of basis at 8, 64 and 128 bits are isomorphisms, and the tables compute them and their inverses.
 use Rattle.std.proofs.Common.{◌≡◌, ℕ, ◌*◌, ◌^◌, ◌<◌, List, length, refl, sym, ◌∙◌, ap, subst, lit<}
 use Rattle.std.specs.Prelude.{slice_index}
-use Rattle.field_base.specs.Basis.{basis_image, AreRoots, IsHomomorphism, IsIsomorphism, aes_images, poly64_images, ghash_images}
+use Rattle.field_base.specs.Basis.{basis_image, AreRoots, IsHomomorphism, IsChangeOfBasis, aes_images, poly64_images, ghash_images}
 use Rattle.field_base.specs.Field.{IsField}
 use Rattle.field_base.specs.Remainder.{HasDegree, mul_mod, aes_modulus, poly64_modulus, ghash_modulus}
 use Rattle.std.proofs.lemmas.Bool.{eqb-true}
@@ -19,7 +19,7 @@ use Rattle.word_basis.proofs.TableFacts.{image_columns, undoes, is_root, ChangeP
 -- a change of basis with two byte tables: the images are of roots, it is an isomorphism, and the tables compute it and its inverse
 pub record IsChange (k width modulus : ℕ) (images : List ℕ) (rows : ℕ) (to_polynomial to_tower : List ℕ) : Type 0 where
   pub roots : AreRoots width modulus images
-  pub isomorphic : IsIsomorphism k width modulus images
+  pub isomorphic : IsChangeOfBasis k width modulus images
   pub field : IsField width (mul_mod width modulus)
   pub image : (x : ℕ) → sum_of_entries rows to_polynomial x ≡ basis_image width modulus images x
   pub element : (x r : ℕ) → x < 2 ^ width → r ≡ sum_of_entries rows to_tower x → basis_image width modulus images r ≡ x
@@ -49,7 +49,7 @@ module _ (width modulus : ℕ) (wide : 0 < width) (degree : HasDegree width modu
       (λ b. sum_of_columns (image_columns width modulus images) (sum_of_columns (columns_in rows to_tower) b)) (λ b. b)
       width pass.3 i below
 
-  whole : IsIsomorphism (length images) width modulus images
+  whole : IsChangeOfBasis (length images) width modulus images
   whole = isomorphism width modulus wide degree images keeps (columns_in rows to_tower) at_powers
 
   image_of : length to_tower ≡ 256 * rows → (x r : ℕ) → x < 2 ^ width → r ≡ sum_of_entries rows to_tower x
@@ -87,13 +87,13 @@ pub change_128 : IsChange 7 128 ghash_modulus ghash_images 16 TO_POLYNOMIAL_128 
 change_128 =
     change 128 ghash_modulus (lit< tt) refl ghash_images 16 TO_POLYNOMIAL_128 TO_TOWER_128 changes_pass.2 refl refl refl refl
 
-pub isomorphic_8 : IsIsomorphism 3 8 aes_modulus aes_images
+pub isomorphic_8 : IsChangeOfBasis 3 8 aes_modulus aes_images
 isomorphic_8 = change_8.isomorphic
 
-pub isomorphic_64 : IsIsomorphism 6 64 poly64_modulus poly64_images
+pub isomorphic_64 : IsChangeOfBasis 6 64 poly64_modulus poly64_images
 isomorphic_64 = change_64.isomorphic
 
-pub isomorphic_128 : IsIsomorphism 7 128 ghash_modulus ghash_images
+pub isomorphic_128 : IsChangeOfBasis 7 128 ghash_modulus ghash_images
 isomorphic_128 = change_128.isomorphic
 
 pub field_8 : IsField 8 (mul_mod 8 aes_modulus)

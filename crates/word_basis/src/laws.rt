@@ -1,5 +1,5 @@
 // Laws of the changes of basis, as contracts of functions that compute nothing.
-ghost use Rattle.field_base.specs.Basis.{aes_images, AreRoots, ghash_images, IsIsomorphism, poly64_images};
+ghost use Rattle.field_base.specs.Basis.{aes_images, AreRoots, ghash_images, IsChangeOfBasis, poly64_images};
 ghost use Rattle.field_base.specs.Field.{IsField};
 ghost use Rattle.field_base.specs.Remainder.{aes_modulus, ghash_modulus, mul_mod, poly64_modulus};
 
@@ -8,7 +8,7 @@ ghost use Rattle.field_base.specs.Remainder.{aes_modulus, ghash_modulus, mul_mod
 #[tactic(auto, using(crate::proofs::Isomorphisms::change_8))]
 pub fn isomorphism_8()
     ensures roots { AreRoots 8 aes_modulus aes_images }
-    ensures isomorphism { IsIsomorphism 3 8 aes_modulus aes_images }
+    ensures change { IsChangeOfBasis 3 8 aes_modulus aes_images }
     ensures field { IsField 8 (mul_mod 8 aes_modulus) }
 {}
 
@@ -17,7 +17,7 @@ pub fn isomorphism_8()
 #[tactic(auto, using(crate::proofs::Isomorphisms::change_64))]
 pub fn isomorphism_64()
     ensures roots { AreRoots 64 poly64_modulus poly64_images }
-    ensures isomorphism { IsIsomorphism 6 64 poly64_modulus poly64_images }
+    ensures change { IsChangeOfBasis 6 64 poly64_modulus poly64_images }
     ensures field { IsField 64 (mul_mod 64 poly64_modulus) }
 {}
 
@@ -26,6 +26,6 @@ pub fn isomorphism_64()
 #[tactic(auto, using(crate::proofs::Isomorphisms::change_128))]
 pub fn isomorphism_128()
     ensures roots { AreRoots 128 ghash_modulus ghash_images }
-    ensures isomorphism { IsIsomorphism 7 128 ghash_modulus ghash_images }
+    ensures change { IsChangeOfBasis 7 128 ghash_modulus ghash_images }
     ensures field { IsField 128 (mul_mod 128 ghash_modulus) }
 {}

@@ -1,4 +1,3 @@
 pub mod CubicField
 pub mod CubicRing
 pub mod Products
-pub mod Steps

@@ -1,5 +1,4 @@
 pub mod Cubic
 pub mod Field
 pub mod Fits
-pub mod Steps
 pub mod Triple

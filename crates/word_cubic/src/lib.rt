@@ -11,5 +11,4 @@ mod triple;
 
 pub use crate::cubic::{invert_192, multiply_192, reduce_squarings_192, sqrt_192, square_192};
 pub use crate::laws::cubic_is_field;
-pub use crate::reading::ReadWord;
 pub use crate::triple::Triple;

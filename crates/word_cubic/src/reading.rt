@@ -1,81 +1,12 @@
-// Words as `serde` reads them: an integer is the number that stands there, and three words are an array of three numbers.
-ghost use Rattle.std.specs.Prelude.{IfOk, List, [], ◌∷◌};
-ghost use Rattle.serde.specs.Event.{Event, unsigned};
+// Three words as `serde` reads them: an array of three numbers.
+ghost use Rattle.std.specs.Prelude.{IfOk};
+ghost use Rattle.serde.specs.Event.{unsigned};
 ghost use Rattle.serde.specs.Steps.{Begins};
-ghost use Rattle.word_cubic.specs.Steps.{GivesEach};
+ghost use Rattle.field_base.specs.Steps.{GivesEach};
 ghost use Rattle.word_cubic.specs.Triple.{events_of};
 
 use crate::triple::Triple;
-use field_base::Stored;
-use serde::{DeserializeOwned, Deserializer, Format};
-use std::alloc::Global;
-
-/// A word that says what `serde` read as it. `serde`'s own trait says nothing of that at a type parameter.
-pub trait ReadWord: Stored + DeserializeOwned {
-    // What stands where the word is read.
-    ghost events: { Self → List Event };
-
-    /// The word that stands next. It fails where none stands there, or a number that is too large for it.
-    fn read<F: Format>(alloc: Global, from: &mut Deserializer<'_, '_, F>) -> Result<Self, F::Error>
-        ensures { IfOk result (λ word. GivesEach F.gives F.stays from.old (events word) from.new) };
-}
-
-impl ReadWord for u8 {
-    ghost events = { λ word. unsigned word ∷ [] };
-
-    #[tactic(auto, using(crate::proofs::Steps::one_number))]
-    fn read<F: Format>(alloc: Global, from: &mut Deserializer<'_, '_, F>) -> Result<u8, F::Error> {
-        u8::deserialize_owned(alloc, from)
-    }
-}
-
-impl ReadWord for u16 {
-    ghost events = { λ word. unsigned word ∷ [] };
-
-    #[tactic(auto, using(crate::proofs::Steps::one_number))]
-    fn read<F: Format>(alloc: Global, from: &mut Deserializer<'_, '_, F>) -> Result<u16, F::Error> {
-        u16::deserialize_owned(alloc, from)
-    }
-}
-
-impl ReadWord for u32 {
-    ghost events = { λ word. unsigned word ∷ [] };
-
-    #[tactic(auto, using(crate::proofs::Steps::one_number))]
-    fn read<F: Format>(alloc: Global, from: &mut Deserializer<'_, '_, F>) -> Result<u32, F::Error> {
-        u32::deserialize_owned(alloc, from)
-    }
-}
-
-impl ReadWord for u64 {
-    ghost events = { λ word. unsigned word ∷ [] };
-
-    #[tactic(auto, using(crate::proofs::Steps::one_number))]
-    fn read<F: Format>(alloc: Global, from: &mut Deserializer<'_, '_, F>) -> Result<u64, F::Error> {
-        u64::deserialize_owned(alloc, from)
-    }
-}
-
-impl ReadWord for u128 {
-    ghost events = { λ word. unsigned word ∷ [] };
-
-    #[tactic(auto, using(crate::proofs::Steps::one_number))]
-    fn read<F: Format>(
-        alloc: Global,
-        from: &mut Deserializer<'_, '_, F>,
-    ) -> Result<u128, F::Error> {
-        u128::deserialize_owned(alloc, from)
-    }
-}
-
-// The number that stands next in an array.
-#[tactic(auto, using(crate::proofs::Steps::number_after_a_look))]
-fn read_item<F: Format>(from: &mut Deserializer<'_, '_, F>) -> Result<u64, F::Error>
-    ensures { IfOk result (λ number. Begins F.gives F.stays from.old (unsigned number) from.new) }
-{
-    from.expect_item()?;
-    from.u64()
-}
+use serde::{Deserializer, Format};
 
 impl Triple {
     /// The three words that stand next, as an array of three numbers. It fails where no such array stands there.
@@ -89,4 +20,13 @@ impl Triple {
         from.expect_end()?;
         Ok(Triple { c0, c1, c2 })
     }
+}
+
+// The number that stands next in an array.
+#[tactic(auto, using(field_base::proofs::Steps::number_after_a_look))]
+fn read_item<F: Format>(from: &mut Deserializer<'_, '_, F>) -> Result<u64, F::Error>
+    ensures { IfOk result (λ number. Begins F.gives F.stays from.old (unsigned number) from.new) }
+{
+    from.expect_item()?;
+    from.u64()
 }

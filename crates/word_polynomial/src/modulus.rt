@@ -1,6 +1,6 @@
 // What differs between the fields of polynomials.
 ghost use Rattle.std.specs.Prelude.{◌≡◌, ◌≢◌, ◌<◌, ◌≤◌, ◌^◌, ℕ, List, bit_xor};
-ghost use Rattle.field_base.specs.Basis.{basis_image, IsIsomorphism};
+ghost use Rattle.field_base.specs.Basis.{basis_image, IsChangeOfBasis};
 ghost use Rattle.field_base.specs.Field.{IsField};
 ghost use Rattle.field_base.specs.Remainder.{mul_mod};
 ghost use Rattle.field_base.specs.Tower.{root};
@@ -39,7 +39,7 @@ pub trait Modulus<R: Unsigned, L: Level<R>> {
 
     ghost field_law: { IsField width (mul_mod width modulus) };
 
-    ghost isomorphism_law: { IsIsomorphism LEVEL width modulus images };
+    ghost isomorphism_law: { IsChangeOfBasis LEVEL width modulus images };
 
     ghost width_law: { width ≡ 2 ^ LEVEL };
 

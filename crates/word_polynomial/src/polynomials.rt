@@ -6,7 +6,6 @@ ghost use native.Mathlib.Nat.{le_refl};
 ghost use Rattle.field_base.specs.Basis.{basis_image};
 ghost use Rattle.field_base.specs.Remainder.{mul_mod};
 ghost use Rattle.field_base.specs.TowerBasis.{tower_generator};
-ghost use Rattle.field_base.proofs.BasisFields.{isomorphic_basis};
 ghost use Rattle.word_tables.specs.Cantor.{cantor_vector};
 ghost use Rattle.word_tables.proofs.GeneratorImages.{image_generator_nonzero, image_generator_order};
 ghost use Rattle.word_tables.proofs.LevelLaws.{level_cantor};
@@ -133,7 +132,7 @@ impl<R: Unsigned, L: Level<R>, M: Modulus<R, L>> LevelKernel<R> for Polynomials<
 
     ghost bits_law = { M.width_law };
 
-    ghost basis_law = { isomorphic_basis M.LEVEL M.width M.modulus M.images M.isomorphism_law };
+    ghost basis_law = { M.isomorphism_law.isomorphism };
 
     ghost cantor_law = { level_cantor M.LEVEL M.few };
 

@@ -1,7 +1,7 @@
 -- The image of a level's generator in another basis is a generator there.
 use Rattle.std.proofs.Common.{◌≡◌, ◌≢◌, ℕ, ◌-◌, ◌^◌, ◌<◌, ◌≤◌, List, sym, ◌∙◌, ap, subst}
 use Rattle.std.proofs.lemmas.Nat.{pow_pos, pow_below}
-use Rattle.field_base.specs.Basis.{basis_image, IsIsomorphism}
+use Rattle.field_base.specs.Basis.{basis_image, IsChangeOfBasis}
 use Rattle.field_base.specs.Orders.{HasFullOrder}
 use Rattle.field_base.specs.Powers.{power}
 use Rattle.field_base.specs.Remainder.{mul_mod}
@@ -13,12 +13,12 @@ use Rattle.field_base.proofs.TowerBasisLemmas.{generator_lt, generator_nonzero}
 use Rattle.field_base.proofs.TowerRing.{tower_ring}
 use Rattle.word_tables.proofs.LevelLaws.{at_most_four, level_generator}
 
-module _ (k width modulus : ℕ) (images : List ℕ) (isomorphic : IsIsomorphism k width modulus images) (few : k ≤ 7) where
+module _ (k width modulus : ℕ) (images : List ℕ) (isomorphic : IsChangeOfBasis k width modulus images) (few : k ≤ 7) where
   -- two elements of one image are one
   one_to_one : (a b : ℕ) → a < 2 ^ 2 ^ k → b < 2 ^ 2 ^ k
       → basis_image width modulus images a ≡ basis_image width modulus images b → a ≡ b
   one_to_one a b a_fits b_fits same =
-      sym (isomorphic.inverse_of_image a a_fits) ∙ ap isomorphic.inverse same ∙ isomorphic.inverse_of_image b b_fits
+      sym (isomorphic.isomorphism.inverse_of_image a a_fits) ∙ ap isomorphic.isomorphism.inverse same ∙ isomorphic.isomorphism.inverse_of_image b b_fits
 
   pub image_generator_nonzero : basis_image width modulus images (tower_generator k) ≢ 0
   image_generator_nonzero none =

@@ -31,7 +31,8 @@ pub trait Algebra<F: PrimeCharacteristicRing>: PrimeCharacteristicRing
     // What the conversion and the operators give, the second bound of each name being the one over `F`.
     ghost image_from_law: { (x : F) (r : Self) → Self.From-2.from_gives x r → Self.repr r ≡ image (F.repr x) };
 
-    ghost operators_law: { (x : Self) (y : F) → let sum = bit_xor (Self.repr x) (image (F.repr y)) in let product = Self.product (Self.repr x) (image (F.repr y)) in
+    ghost operators_law: { (x : Self) (y : F) → let sum = bit_xor (Self.repr x) (image (F.repr y)) in
+        let product = Self.product (Self.repr x) (image (F.repr y)) in
         Gives (Self.Add-2.can_add x y) (Self.Add-2.add_gives x y) Self.repr sum
         × Gives (Self.AddAssign-2.can_add_assign x y) (Self.AddAssign-2.add_assign_gives x y) Self.repr sum
         × Gives (Self.Sub-2.can_sub x y) (Self.Sub-2.sub_gives x y) Self.repr sum
@@ -42,27 +43,33 @@ pub trait Algebra<F: PrimeCharacteristicRing>: PrimeCharacteristicRing
     // The same, each as a law of its own, which is how a proof about a generic ring finds it.
     ghost can_add_image_law: { (x : Self) (y : F) → Self.Add-2.can_add x y } = { λ x y. (operators_law x y).0.0 };
 
-    ghost add_image_law: { (x : Self) (y : F) (r : Self) → Self.Add-2.add_gives x y r → Self.repr r ≡ bit_xor (Self.repr x) (image (F.repr y)) } = { λ x y. (operators_law x y).0.1 };
+    ghost add_image_law: { (x : Self) (y : F) (r : Self) → Self.Add-2.add_gives x y r
+        → Self.repr r ≡ bit_xor (Self.repr x) (image (F.repr y)) } = { λ x y. (operators_law x y).0.1 };
 
     ghost can_add_assign_image_law: { (x : Self) (y : F) → Self.AddAssign-2.can_add_assign x y } = { λ x y. (operators_law x y).1.0 };
 
-    ghost add_assign_image_law: { (x : Self) (y : F) (r : Self) → Self.AddAssign-2.add_assign_gives x y r → Self.repr r ≡ bit_xor (Self.repr x) (image (F.repr y)) } = { λ x y. (operators_law x y).1.1 };
+    ghost add_assign_image_law: { (x : Self) (y : F) (r : Self) → Self.AddAssign-2.add_assign_gives x y r
+        → Self.repr r ≡ bit_xor (Self.repr x) (image (F.repr y)) } = { λ x y. (operators_law x y).1.1 };
 
     ghost can_sub_image_law: { (x : Self) (y : F) → Self.Sub-2.can_sub x y } = { λ x y. (operators_law x y).2.0 };
 
-    ghost sub_image_law: { (x : Self) (y : F) (r : Self) → Self.Sub-2.sub_gives x y r → Self.repr r ≡ bit_xor (Self.repr x) (image (F.repr y)) } = { λ x y. (operators_law x y).2.1 };
+    ghost sub_image_law: { (x : Self) (y : F) (r : Self) → Self.Sub-2.sub_gives x y r
+        → Self.repr r ≡ bit_xor (Self.repr x) (image (F.repr y)) } = { λ x y. (operators_law x y).2.1 };
 
     ghost can_sub_assign_image_law: { (x : Self) (y : F) → Self.SubAssign-2.can_sub_assign x y } = { λ x y. (operators_law x y).3.0 };
 
-    ghost sub_assign_image_law: { (x : Self) (y : F) (r : Self) → Self.SubAssign-2.sub_assign_gives x y r → Self.repr r ≡ bit_xor (Self.repr x) (image (F.repr y)) } = { λ x y. (operators_law x y).3.1 };
+    ghost sub_assign_image_law: { (x : Self) (y : F) (r : Self) → Self.SubAssign-2.sub_assign_gives x y r
+        → Self.repr r ≡ bit_xor (Self.repr x) (image (F.repr y)) } = { λ x y. (operators_law x y).3.1 };
 
     ghost can_mul_image_law: { (x : Self) (y : F) → Self.Mul-2.can_mul x y } = { λ x y. (operators_law x y).4.0 };
 
-    ghost mul_image_law: { (x : Self) (y : F) (r : Self) → Self.Mul-2.mul_gives x y r → Self.repr r ≡ Self.product (Self.repr x) (image (F.repr y)) } = { λ x y. (operators_law x y).4.1 };
+    ghost mul_image_law: { (x : Self) (y : F) (r : Self) → Self.Mul-2.mul_gives x y r
+        → Self.repr r ≡ Self.product (Self.repr x) (image (F.repr y)) } = { λ x y. (operators_law x y).4.1 };
 
     ghost can_mul_assign_image_law: { (x : Self) (y : F) → Self.MulAssign-2.can_mul_assign x y } = { λ x y. (operators_law x y).5.0 };
 
-    ghost mul_assign_image_law: { (x : Self) (y : F) (r : Self) → Self.MulAssign-2.mul_assign_gives x y r → Self.repr r ≡ Self.product (Self.repr x) (image (F.repr y)) } = { λ x y. (operators_law x y).5.1 };
+    ghost mul_assign_image_law: { (x : Self) (y : F) (r : Self) → Self.MulAssign-2.mul_assign_gives x y r
+        → Self.repr r ≡ Self.product (Self.repr x) (image (F.repr y)) } = { λ x y. (operators_law x y).5.1 };
 }
 
 impl<R: PrimeCharacteristicRing> Algebra<R> for R {

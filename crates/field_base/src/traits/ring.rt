@@ -258,19 +258,23 @@ pub trait PrimeCharacteristicRing: Represented
     // The same, each as a law of its own, which is how a proof about a generic ring finds it.
     ghost can_add_assign_law: { (x y : Self) → Self.can_add_assign x y } = { λ x y. (operators_law x y).0.0 };
 
-    ghost add_assign_law: { (x y r : Self) → Self.add_assign_gives x y r → Self.repr r ≡ bit_xor (Self.repr x) (Self.repr y) } = { λ x y. (operators_law x y).0.1 };
+    ghost add_assign_law: { (x y r : Self) → Self.add_assign_gives x y r
+        → Self.repr r ≡ bit_xor (Self.repr x) (Self.repr y) } = { λ x y. (operators_law x y).0.1 };
 
     ghost can_sub_law: { (x y : Self) → Self.can_sub x y } = { λ x y. (operators_law x y).1.0 };
 
-    ghost sub_law: { (x y r : Self) → Self.sub_gives x y r → Self.repr r ≡ bit_xor (Self.repr x) (Self.repr y) } = { λ x y. (operators_law x y).1.1 };
+    ghost sub_law: { (x y r : Self) → Self.sub_gives x y r
+        → Self.repr r ≡ bit_xor (Self.repr x) (Self.repr y) } = { λ x y. (operators_law x y).1.1 };
 
     ghost can_sub_assign_law: { (x y : Self) → Self.can_sub_assign x y } = { λ x y. (operators_law x y).2.0 };
 
-    ghost sub_assign_law: { (x y r : Self) → Self.sub_assign_gives x y r → Self.repr r ≡ bit_xor (Self.repr x) (Self.repr y) } = { λ x y. (operators_law x y).2.1 };
+    ghost sub_assign_law: { (x y r : Self) → Self.sub_assign_gives x y r
+        → Self.repr r ≡ bit_xor (Self.repr x) (Self.repr y) } = { λ x y. (operators_law x y).2.1 };
 
     ghost can_mul_assign_law: { (x y : Self) → Self.can_mul_assign x y } = { λ x y. (operators_law x y).3.0 };
 
-    ghost mul_assign_law: { (x y r : Self) → Self.mul_assign_gives x y r → Self.repr r ≡ Self.product (Self.repr x) (Self.repr y) } = { λ x y. (operators_law x y).3.1 };
+    ghost mul_assign_law: { (x y r : Self) → Self.mul_assign_gives x y r
+        → Self.repr r ≡ Self.product (Self.repr x) (Self.repr y) } = { λ x y. (operators_law x y).3.1 };
 
     ghost can_neg_law: { (x : Self) → Self.can_neg x } = { λ x. (operators_law x x).4.0 };
 
@@ -286,7 +290,8 @@ pub trait PrimeCharacteristicRing: Represented
 
     ghost can_product_law: { (xs : List Self) → Self.can_product xs } = { λ xs. (totals_law xs).1.0 };
 
-    ghost product_law: { (xs : List Self) (r : Self) → Self.product_gives xs r → Self.repr r ≡ product_of Self.unit Self.product Self.repr xs } = { λ xs. (totals_law xs).1.1 };
+    ghost product_law: { (xs : List Self) (r : Self) → Self.product_gives xs r
+        → Self.repr r ≡ product_of Self.unit Self.product Self.repr xs } = { λ xs. (totals_law xs).1.1 };
 }
 
 /// The dot product of arrays, which every ring has.

@@ -2,7 +2,7 @@
 ghost use Rattle.std.specs.Prelude.{◌≡◌, ◌≢◌, ◌%◌, ◌^◌, ◌<◌, ◌≤◌, ℕ, bit_xor};
 ghost use Rattle.field_base.specs.Orders.{AreCantorVectors};
 ghost use Rattle.field_base.specs.Tower.{root};
-ghost use Rattle.field_base.specs.TowerBasis.{AreEvenCantorVectors, IsBasisOf, tower_generator};
+ghost use Rattle.field_base.specs.TowerBasis.{AreEvenCantorVectors, IsIsomorphism, tower_generator};
 
 use crate::traits::field::Field;
 use crate::word::Unsigned;
@@ -50,7 +50,7 @@ pub trait TowerLevel: Field + Sealed {
 
     ghost room_law: { Self.width ≤ Self.Repr.bits };
 
-    ghost basis_law: { IsBasisOf LOG_BITS Self.width Self.product basis };
+    ghost basis_law: { IsIsomorphism LOG_BITS Self.width Self.product basis };
 
     ghost cantor_law: { AreEvenCantorVectors LOG_BITS cantor };
 

@@ -7,6 +7,7 @@ ghost use Rattle.field_element.specs.Coefficients.{stored_words};
 ghost use Rattle.word_cubic.specs.Triple.{events_of, same_number, words_law};
 
 use crate::element::Coefficients;
+use field_base::ReadWord;
 use rand::distr::SampleStandard;
 use rand_core::Rng;
 use serde::{
@@ -16,7 +17,7 @@ use std::alloc::Global;
 use std::cmp::Ordering;
 use std::fmt;
 use std::hash::{Hash, Hasher};
-use word_cubic::{ReadWord, Triple};
+use word_cubic::Triple;
 
 impl PartialEq for Coefficients {
     ghost eq = { λ x y. ⟦<Triple as PartialEq>⟧.eq (stored_words x) (stored_words y) };

@@ -1,10 +1,10 @@
 // Elements as text, and as numbers for `serde`.
 ghost use Rattle.std.specs.Prelude.{◌≡◌, ◌<◌, ◌^◌, ◌↔◌, IfOk, IfSome, IsSome, Some};
 ghost use Rattle.std.specs.Fmt.{decimal, styled_decimal};
-ghost use Rattle.word_cubic.specs.Steps.{GivesEach};
+ghost use Rattle.field_base.specs.Steps.{GivesEach};
 
 use crate::element::{Coefficients, Element};
-use field_base::{FieldKernel, Stored, Unsigned};
+use field_base::{FieldKernel, ReadWord, Stored, Unsigned};
 use field_numbers::write_decimal;
 use serde::{
     Described, Deserialize, DeserializeOwned, Deserializer, Format, Serialize, Serializer,
@@ -12,7 +12,6 @@ use serde::{
 use std::alloc::Global;
 use std::fmt;
 use std::marker::PhantomData;
-use word_cubic::ReadWord;
 
 // The representation in decimal.
 impl<R: Unsigned, K: FieldKernel<R>> fmt::Display for Element<R, K> {

@@ -1,6 +1,7 @@
 // The operators of packings, and sums and products of many.
 ghost use Rattle.std.specs.Prelude.{◌≡◌, bit_xor, map, replicate};
-ghost use Rattle.packed_lanes.specs.Lanes.{joined, lane_by_lane, lane_product};
+ghost use Rattle.field_base.specs.Chunks.{joined};
+ghost use Rattle.packed_lanes.specs.Lanes.{lane_by_lane, lane_product};
 ghost use Rattle.field_base.specs.Powers.{product_of, sum_of};
 
 use crate::packed::{Laned, Packed, WiderField};

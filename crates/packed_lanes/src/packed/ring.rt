@@ -3,7 +3,7 @@ ghost use Rattle.std.specs.Prelude.{◌≡◌, map, refl, replicate};
 ghost use Rattle.std.proofs.Common.{sym, ◌∙◌, ap};
 ghost use Rattle.std.proofs.lemmas.List.{length-replicate};
 ghost use Rattle.field_base.specs.Operators.{given, ring_gives};
-ghost use Rattle.packed_lanes.specs.Lanes.{joined};
+ghost use Rattle.field_base.specs.Chunks.{joined};
 ghost use Rattle.packed_lanes.specs.LaneLists.{equal_lanes, every_bit, every_zero, number_of_every, product_number, sum_number};
 
 use crate::packed::{Packed, WiderField};

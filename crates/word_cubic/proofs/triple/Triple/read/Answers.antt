@@ -1,4 +1,4 @@
-use Rattle.word_cubic.proofs.Steps.{three_numbers}
+use Rattle.field_base.proofs.Steps.{three_numbers}
 use Rattle.word_cubic.proofs.triple.Triple.read.Goals as goal
 
 pub returns : goal.returns

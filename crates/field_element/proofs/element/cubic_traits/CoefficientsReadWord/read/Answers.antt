@@ -1,5 +1,5 @@
 use Rattle.std.proofs.Common.{subst, sym}
-use Rattle.word_cubic.specs.Steps.{GivesEach}
+use Rattle.field_base.specs.Steps.{GivesEach}
 use Rattle.word_cubic.specs.Triple.{events_of}
 use Rattle.word_cubic.specs.declared.triple.Triple.{Triple}
 use Rattle.field_element.proofs.element.cubic_traits.CoefficientsReadWord.read.Goals as goal

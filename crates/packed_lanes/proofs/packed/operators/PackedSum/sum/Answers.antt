@@ -1,5 +1,5 @@
 use Rattle.std.proofs.Common.{◌≡◌, ◌∙◌, ap}
-use Rattle.packed_lanes.specs.Lanes.{joined}
+use Rattle.field_base.specs.Chunks.{joined}
 use Rattle.packed_lanes.specs.LaneLists.{every_zero, map-every}
 use Rattle.packed_lanes.proofs.packed.operators.PackedSum.sum.Goals as goal
 

@@ -6,7 +6,7 @@ use Rattle.std.proofs.lemmas.Result.{IfOk-weaker}
 use Rattle.serde.specs.Event.{Event, seq_begins, seq_ends, unsigned}
 use Rattle.serde.specs.Steps.{Begins, Gives, Stays, format_of}
 use Rattle.serde.specs.declared.deserializer.Deserializer.{Deserializer}
-use Rattle.word_cubic.specs.Steps.{GivesEach}
+use Rattle.field_base.specs.Steps.{GivesEach}
 
 module _ {F E M : Type 0} (gives : F → List ℕ → Event → F → Type 0) (stays : F → F → Type 0) where
   -- one step alone
