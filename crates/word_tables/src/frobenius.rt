@@ -5,6 +5,8 @@ ghost use Rattle.field_base.specs.Powers.{repeated_square};
 ghost use Rattle.field_base.specs.Tower.{tower_mul};
 ghost use Rattle.word_basis.specs.LinearMap.{sum_of_values};
 
+mod literals;
+
 use crate::frobenius::literals::{
     SQUARED_1, SQUARED_2, SQUARED_4, SQUARED_8, SQUARED_16, SQUARED_32,
 };
