@@ -3,7 +3,7 @@ use Rattle.std.proofs.Common.{◌≡◌, ◌≢◌, ℕ, ◌*◌, ◌-◌, ◌^�
 use Rattle.std.specs.Prelude.{bit_xor}
 use Rattle.std.specs.Int.Bits.{xor_self, xor_zero_l, xor_zero_r}
 use native.Mathlib.Nat.{mod-eq_of_lt, one-mul, zero-mul}
-use Rattle.field_base.specs.BitRing.{two_cases}
+use Rattle.field_base.specs.BitRingLemmas.{two_cases}
 use Rattle.field_base.specs.Ring.{IsRing}
 use Rattle.field_base.specs.Tower.{tower_mul}
 use Rattle.field_base.proofs.RingLemmas.{times-zero, zero-times}

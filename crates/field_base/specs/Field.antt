@@ -3,7 +3,7 @@ use Rattle.std.specs.Prelude.{◌≡◌, ◌≢◌, ◌⊎◌, ℕ, ◌-◌, ◌
 use Rattle.field_base.specs.Powers.{power, repeated_square}
 use Rattle.field_base.specs.Ring.{IsRing}
 
--- every element but 0 of a ring of w-bit elements has an inverse: an element whose product with it is 1
+-- every nonzero element of a ring of w-bit elements has an inverse: an element whose product with it is 1
 abbrev pub HasInverses : ℕ → (ℕ → ℕ → ℕ) → Type 0
 HasInverses width times =
     (a : ℕ) → a < 2 ^ width → a ≢ 0 → (inverse : ℕ) × (inverse < 2 ^ width) × (times a inverse ≡ 1)
@@ -12,7 +12,7 @@ HasInverses width times =
 abbrev pub IsInverseOrZero : (ℕ → ℕ → ℕ) → ℕ → ℕ → Type 0
 IsInverseOrZero times x y = (x ≡ 0 → y ≡ 0) × (x ≢ 0 → times x y ≡ 1)
 
--- `times` is the product of a field of 2 ^ width elements: each but 0 has an inverse, and as many squarings as an element
+-- `times` is the product of a field of 2 ^ width elements: every nonzero element has an inverse, and as many squarings as an element
 -- has bits return it
 pub record IsField (width : ℕ) (times : ℕ → ℕ → ℕ) : Type 0 where
   pub ring : IsRing width 1 times
@@ -25,9 +25,9 @@ pub record HasFieldLaws (width : ℕ) (times : ℕ → ℕ → ℕ) : Type 0 whe
   pub no_zero_divisors : (a b : ℕ) → a < 2 ^ width → b < 2 ^ width → times a b ≡ 0 → (a ≡ 0) ⊎ (b ≡ 0)
   -- an element has one inverse
   pub inverse_unique : (a x y : ℕ) → x < 2 ^ width → y < 2 ^ width → times a x ≡ 1 → times a y ≡ 1 → x ≡ y
-  -- the inverse of a, but for 0, is a ^ (2 ^ width - 2) (Fermat)
+  -- the inverse of a nonzero a is a ^ (2 ^ width - 2) (Fermat)
   pub inverse_is_power : (a : ℕ) → a < 2 ^ width → a ≢ 0 → times a (power 1 times a (2 ^ width - 2)) ≡ 1
-  -- an element is the square of one fewer squaring than it has bits, and of no other element
+  -- every a has exactly one square root, which width - 1 squarings of a give: a ^ (2 ^ (width - 1))
   pub root_is_repeated_square : (a : ℕ) → a < 2 ^ width
       → times (repeated_square 1 times (width - 1) a) (repeated_square 1 times (width - 1) a) ≡ a
   pub root_unique : (r s : ℕ) → r < 2 ^ width → s < 2 ^ width → times r r ≡ times s s → r ≡ s

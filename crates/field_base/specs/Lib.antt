@@ -1,6 +1,6 @@
 pub mod Basis
 pub mod Bit
-pub mod BitRing
+pub mod BitRingLemmas
 pub mod ByteTables
 pub mod Carryless
 pub mod Chunks

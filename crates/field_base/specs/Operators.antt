@@ -1,4 +1,4 @@
--- What an operator of a ring, such as `+`, is asked for.
+-- What an operator of a ring, such as `+`, gives.
 use Rattle.std.specs.Prelude.{◌≡◌, ℕ}
 
 -- each result that the operator gives stands for `number`

@@ -1,8 +1,8 @@
--- Generators of the group of a field's elements but 0, and the Cantor vectors of a field.
+-- Generators of the group of a field's nonzero elements, and the Cantor vectors of a field.
 use Rattle.std.specs.Prelude.{◌≡◌, ◌≢◌, ℕ, ◌-◌, ◌^◌, ◌<◌, bit_xor}
 use Rattle.field_base.specs.Powers.{power}
 
--- in a ring of width-bit elements, the element to the power of the number of the elements but 0 is 1, and to no smaller
+-- in a ring of width-bit elements, the element to the power of the number of the nonzero elements is 1, and to no smaller
 -- power above 0
 abbrev pub HasFullOrder : ℕ → (ℕ → ℕ → ℕ) → ℕ → Type 0
 HasFullOrder width times g =

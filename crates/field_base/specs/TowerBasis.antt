@@ -23,7 +23,7 @@ pub record AreEvenCantorVectors (k : ℕ) (vector : ℕ → ℕ) : Type 0 where
   pub rule : (i : ℕ) → 0 < i → i < 2 ^ k → bit_xor (tower_mul k (vector i) (vector i)) (vector i) ≡ vector (i - 1)
   pub even : (i : ℕ) → 0 < i → i < 2 ^ k → vector i % 2 ≡ 0
 
--- the generator of the elements but 0 of level k, for k up to 7
+-- the generator of the nonzero elements of level k, for k up to 7
 abbrev pub tower_generator : ℕ → ℕ
 tower_generator k =
     slice_index (1 ∷ 2 ∷ 5 ∷ 0x13 ∷ 0x102 ∷ 0x1_0005 ∷ 0x1_0000_0004 ∷ 0x1_0000_0000_0000_0005 ∷ []) k

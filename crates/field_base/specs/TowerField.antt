@@ -1,5 +1,5 @@
 -- Every level of the tower is a field. The root that a level adjoins and its inverse have the trace 1, so the polynomial
--- whose root the next level adjoins has no root, and each element but 0 has an inverse (D. Wiedemann, An iterated
+-- whose root the next level adjoins has no root, and every nonzero element has an inverse (D. Wiedemann, An iterated
 -- quadratic extension of GF(2), Fibonacci Quarterly 26, 1988).
 use Rattle.std.specs.Prelude.{◌≡◌, ◌≢◌, ℕ, zero, suc, ◌+◌, ◌%◌, ◌^◌, ◌<◌, bit_xor}
 use Rattle.field_base.specs.Field.{HasInverses, IsField}
@@ -30,7 +30,7 @@ RootInverse = (k : ℕ) → tower_mul k (root k) (root_inverse k) ≡ 1
 abbrev pub NoLevelHasARoot : Type 0
 NoLevelHasARoot = (k x : ℕ) → bit_xor (bit_xor (tower_mul k x x) (tower_mul k (root k) x)) 1 ≢ 0
 
--- at every level each element but 0 has an inverse
+-- at every level each nonzero element has an inverse
 abbrev pub NonzeroHasInverse : Type 0
 NonzeroHasInverse = (k : ℕ) → HasInverses (2 ^ k) (tower_mul k)
 

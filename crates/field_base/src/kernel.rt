@@ -22,12 +22,12 @@ pub trait FieldKernel<R: Stored> {
     /// The name under which `Debug` shows an element.
     const NAME: &'static str;
 
-    /// An element of which every element but 0 is a power.
+    /// A generator: every nonzero element is a power of it.
     const GENERATOR: R;
 
     ghost GENERATOR: { R };
 
-    // The number of the element that a sum of products reduces to, of which two words hold the low and the high part.
+    // A sum of products is kept in two words, its low and its high part; this is the number of the element that it reduces to.
     ghost reduced: { R → R → ℕ };
 
     // Facts that stand above the functions, so that the terms of other impls can name them.

@@ -2,7 +2,7 @@
 use Rattle.std.proofs.Common.{◌≡◌, ℕ, ◌^◌, ◌<◌, sym, ◌∙◌}
 use Rattle.std.proofs.lemmas.Nat.{pow_below}
 use native.Mathlib.Nat.{mod-eq_of_lt}
-use Rattle.field_base.specs.BitRing.{two_cases}
+use Rattle.field_base.specs.BitRingLemmas.{two_cases}
 use Rattle.field_base.specs.Ring.{IsRing}
 use Rattle.field_base.specs.Tower.{tower_mul}
 use Rattle.field_base.proofs.RingLemmas.{times-zero, zero-times}

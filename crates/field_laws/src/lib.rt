@@ -7,14 +7,15 @@ ghost use Rattle.field_base.specs.Field.{FieldsHaveLaws};
 ghost use Rattle.field_base.specs.Remainder.{MulModIsRemainder, MulModIsRing, RemIsRemainder, RemainderIsUnique};
 ghost use Rattle.field_base.specs.Tower.{TowerIsRing};
 ghost use Rattle.field_base.specs.Powers.{SquaringsArePowers};
-ghost use Rattle.field_base.specs.TowerField.{TracesAreOne, RootInverse, NoLevelHasARoot, NonzeroHasInverse, SquaringsReturn, TowerIsField, LevelsLieInside, NormsAndConjugates};
+ghost use Rattle.field_base.specs.TowerField.{LevelsLieInside, NoLevelHasARoot, NonzeroHasInverse, NormsAndConjugates};
+ghost use Rattle.field_base.specs.TowerField.{RootInverse, SquaringsReturn, TowerIsField, TracesAreOne};
 
 /// States that the tower's product is that of a commutative ring of characteristic two at every level.
 pub fn tower_is_ring()
     ensures { TowerIsRing }
 {}
 
-/// States that every level of the tower is a field: each element but 0 has an inverse. The polynomial whose root the
+/// States that every level of the tower is a field: every nonzero element has an inverse. The polynomial whose root the
 /// next level adjoins has no root in the level, since the root that the level adjoined and its inverse have the trace 1.
 #[tactic(auto, using(crate::proofs::TowerFacts::tower_facts))]
 pub fn tower_is_field()

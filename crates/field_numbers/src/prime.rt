@@ -1,4 +1,4 @@
-// Prime fields, of which GF(2) is the one here, and their elements as integers.
+// GF(2) as a prime field, and its elements as integers.
 ghost use Rattle.std.specs.Prelude.{◌≡◌, ◌≢◌, ◌≤◌, ◌⊎◌, ◌*◌, ◌↔◌, ℕ, pos, IsNone, IfSome};
 ghost use Rattle.std.proofs.Common.{lit≤};
 ghost use Rattle.field_base.specs.Powers.{parity};

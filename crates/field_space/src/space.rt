@@ -5,7 +5,7 @@ ghost use Rattle.std.specs.Array.{FillsFrom};
 ghost use Rattle.std.specs.List.{flat_map};
 ghost use Rattle.std.specs.Mem.{FitsInMemory};
 ghost use Rattle.field_space.specs.OneCoefficient.{scales_one_coefficient};
-ghost use Rattle.field_base.specs.BitRing.{bits_ring};
+ghost use Rattle.field_base.specs.BitRingLemmas.{bits_ring};
 ghost use Rattle.field_base.specs.Chunks.{chunk, chunks};
 ghost use Rattle.field_base.specs.Tower.{tower_mul};
 ghost use Rattle.field_space.specs.Items.{TakesOneMore};

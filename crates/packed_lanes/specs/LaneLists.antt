@@ -6,7 +6,7 @@ use Rattle.std.proofs.lemmas.List.{length-replicate}
 use Rattle.std.proofs.lemmas.Nat.{mod_low, pow_pos, shr_high, xor_block}
 use lib.Pointwise.{pointwise, pointwise_decides}
 use native.Mathlib.Nat.{add-zero, one-mul, zero-mul}
-use Rattle.field_base.specs.BitRing.{two_cases}
+use Rattle.field_base.specs.BitRingLemmas.{two_cases}
 use lib.Arith.{digits_lt}
 use Rattle.field_base.specs.Chunks.{joined}
 use Rattle.packed_lanes.specs.Lanes.{lane_by_lane, lane_product}

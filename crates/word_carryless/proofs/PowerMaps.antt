@@ -4,7 +4,7 @@ use Rattle.std.specs.Prelude.{bit_and, bit_xor}
 use Rattle.std.proofs.lemmas.Nat.{and_mask}
 use native.Mathlib.Nat.{mod-eq_of_lt, mod-lt, one-mul, zero-mul}
 use lib.Bits.{and_zero_r, xor_assoc}
-use Rattle.field_base.specs.BitRing.{two_cases}
+use Rattle.field_base.specs.BitRingLemmas.{two_cases}
 use Rattle.field_base.specs.Carryless.{carryless, carryless_in}
 use Rattle.field_base.specs.LinearMaps.{linear_image}
 use Rattle.field_base.specs.Powers.{repeated_square}

@@ -25,7 +25,7 @@ pub trait Algebra<F: PrimeCharacteristicRing>: PrimeCharacteristicRing
 
     ghost image_product_law: { (a b : ℕ) → a < 2 ^ F.width → b < 2 ^ F.width → image (F.product a b) ≡ Self.product (image a) (image b) };
 
-    // It is one to one, but where the ring is the one without an element but 0, as a packing of no lanes is.
+    // It is one to one, except into the zero ring, which a packing of no lanes is.
     ghost image_injective_law: { Self.unit ≢ 0 → (a b : ℕ) → a < 2 ^ F.width → b < 2 ^ F.width → image a ≡ image b → a ≡ b };
 
     // What the conversion and the operators give, the second bound of each name being the one over `F`.

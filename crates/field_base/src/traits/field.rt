@@ -12,7 +12,7 @@ pub trait Field: PrimeCharacteristicRing + Div<Self, Output = Self> + DivAssign<
     /// others the field itself.
     type Packing;
 
-    /// An element of which every element but 0 is a power. Up to 16 bits that is a law of this trait; above, it is tested.
+    /// A generator: every nonzero element is a power of it. Up to 16 bits that is a law of this trait; above, it is tested.
     const GENERATOR: Self;
 
     ghost GENERATOR: { Self };
@@ -65,7 +65,7 @@ pub trait Field: PrimeCharacteristicRing + Div<Self, Output = Self> + DivAssign<
         Self::bits()
     }
 
-    /// The element of representation `i`, of which the field has to have one.
+    /// The element of representation `i`, which has to be below 2 to the power of the field's bits.
     fn interpolation_node(i: usize) -> Self
         requires { i < 2 ^ Self.width }
         ensures { Self.repr result ≡ i };
@@ -86,7 +86,7 @@ pub trait Field: PrimeCharacteristicRing + Div<Self, Output = Self> + DivAssign<
 
     ghost div_assign_law: { (x y r : Self) → Self.div_assign_gives x y r → Self.product (Self.repr r) (Self.repr y) ≡ Self.repr x };
 
-    // Each but 0 has an inverse, and as many squarings as an element has bits give it back.
+    // Every nonzero element has an inverse, and as many squarings as an element has bits return it.
     ghost field_law: { IsField Self.width Self.product };
 
     // Every number of as many bits is the representation of an element.

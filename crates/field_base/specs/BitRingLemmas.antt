@@ -50,7 +50,7 @@ bit_and-bits =
     two_cases (λ x. (y : ℕ) → y < 2 → bit_and x y ≡ x % 2 * (y % 2))
     (two_cases (λ y. bit_and 0 y ≡ 0 % 2 * (y % 2)) refl refl) (two_cases (λ y. bit_and 1 y ≡ 1 % 2 * (y % 2)) refl refl)
 
--- the only bit but 0 is the one
+-- the only nonzero bit is the one
 pub bit_over_bit : (x : ℕ) → x < 2 → (y : ℕ) → y < 2 → y ≢ 0 → tower_mul 0 x y ≡ x
 unfolding tower_mul
 bit_over_bit x fits =
@@ -67,7 +67,7 @@ pub root_zero-times : (x : ℕ) → x < 2 → tower_mul 0 (root 0) x ≡ x
 unfolding root tower_mul
 root_zero-times x fits = one-mul (x % 2) ∙ mod-eq_of_lt fits
 
--- every element but 0 is a power of the one
+-- every nonzero element is a power of the one
 pub bit_generator : HasFullOrder 1 (tower_mul 0) 1
 unfolding power tower_mul
 bit_generator = (refl, λ e above below. absurd (omega arith))
