@@ -19,7 +19,7 @@ use word_carryless::{
     invert_mod_64, invert_mod_128, multiply_64, multiply_128, multiply_mod_64, multiply_mod_128,
     reduce_64, reduce_128, split_128, sqrt_mod_64, sqrt_mod_128, square_mod_64, square_mod_128,
 };
-use word_tables::{invert, multiply, sqrt, square};
+use word_tables::rijndael::{invert, multiply, sqrt, square};
 use word_tower::{Bits8, Bits16, Bits32, Bits64, Bits128};
 
 /// x^8 + x^4 + x^3 + x + 1, the modulus of AES (FIPS 197, section 4.2).
