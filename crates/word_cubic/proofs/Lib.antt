@@ -1,3 +1,5 @@
 pub mod CubicField
 pub mod CubicRing
+pub mod Field192
 pub mod Products
+pub mod TripleNumbers

@@ -1,4 +1,3 @@
 pub mod Cubic
-pub mod Field
 pub mod Fits
 pub mod Triple

@@ -4,7 +4,8 @@ ghost use Rattle.std.proofs.Common.{ap, rules};
 ghost use Rattle.std.specs.Cmp.{on_equiv, on_per, on_po, on_total, partial_order_from_own_ties};
 ghost use Rattle.std.specs.Cmp.Rules.{comparing};
 ghost use Rattle.field_element.specs.Coefficients.{stored_words};
-ghost use Rattle.word_cubic.specs.Triple.{events_of, same_number, words_law};
+ghost use Rattle.word_cubic.specs.Triple.{events_of};
+ghost use Rattle.word_cubic.proofs.TripleNumbers.{same_number, words_law};
 
 use crate::element::Coefficients;
 use field_base::ReadWord;

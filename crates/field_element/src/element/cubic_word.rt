@@ -3,8 +3,9 @@ ghost use Rattle.std.specs.Prelude.{◌≡◌, ◌≢◌, ◌<◌, ◌≤◌, �
 ghost use Rattle.std.proofs.Common.{ap, arith, lit<, lit≤, rules};
 ghost use Rattle.word_cubic.specs.Cubic.{cubic, triple};
 ghost use Rattle.field_base.specs.Remainder.{mul_mod, poly64_modulus};
-ghost use Rattle.word_cubic.specs.Field.{field_192, fits_192, generator_nonzero_192, generator_order_192};
-ghost use Rattle.word_cubic.specs.Triple.{triple_number, same_number, words_law};
+ghost use Rattle.word_cubic.proofs.Field192.{field_192, fits_192, generator_nonzero_192, generator_order_192};
+ghost use Rattle.word_cubic.specs.Triple.{triple_number};
+ghost use Rattle.word_cubic.proofs.TripleNumbers.{same_number, words_law};
 ghost use Rattle.field_element.specs.Coefficients.{coefficients_of_number, same_coefficients, stored_number, stored_words};
 
 use crate::element::{Coefficients, Element};

@@ -1,4 +1,4 @@
-use Rattle.word_cubic.specs.Field.{fits_192}
+use Rattle.word_cubic.proofs.Field192.{fits_192}
 use Rattle.field_element.specs.Coefficients.{stored_words}
 use Rattle.field_element.proofs.element.cubic_word.CubicKernelFieldKernelCoefficients.invert.Goals as goal
 
