@@ -1,5 +1,5 @@
 #!/usr/bin/env python3
-"""Writes the tables of repeated squares of the tower, crates/word_tables/src/literals.rt.
+"""Writes the tables of repeated squares of the tower, crates/word_tables/src/frobenius/literals.rt.
 
 With --check it compares instead. Entry 16 r + d of table SQUARED_N is d * 16 ** r squared N times in GF(2^128), so that the value at
 a number is the sum of one entry for each of its digits to base 16.
@@ -23,7 +23,7 @@ def main():
         count *= 2
     # The last map would be the conjugation, 64 squarings: it is computed from the halves.
     head = "// Repeated squares by digits to base 16. Written by scripts/make_frobenius.py; do not edit.\n"
-    literals.write("word_tables/src/literals.rt", head, literals.arrays(128, tables))
+    literals.write("word_tables/src/frobenius/literals.rt", head, literals.arrays(128, tables))
 
 
 if __name__ == "__main__":

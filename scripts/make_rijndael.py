@@ -1,5 +1,5 @@
 #!/usr/bin/env python3
-"""Writes the tables of the bytes of AES, crates/word_tables/src/tables/literals.rt. With --check it compares instead."""
+"""Writes the tables of the bytes of AES, crates/word_tables/src/rijndael/literals.rt. With --check it compares instead."""
 
 import literals
 
@@ -40,7 +40,7 @@ def main():
         "SQUARES": ("The square of the place.", squares),
         "ROOTS": ("The square root of the place.", roots),
     }
-    literals.write("word_tables/src/tables/literals.rt", head, [exp, log, *literals.arrays(8, maps)])
+    literals.write("word_tables/src/rijndael/literals.rt", head, [exp, log, *literals.arrays(8, maps)])
 
 
 if __name__ == "__main__":
