@@ -94,7 +94,7 @@ impl MulAssign<BinaryField128> for PackedGhash128 {
 impl Algebra<BinaryField128> for PackedGhash128 {
     ghost use Rattle.std.proofs.Common.{sym, ◌∙◌, ap};
     ghost use Rattle.word_basis.proofs.Isomorphisms.{field_128, isomorphic_128};
-    ghost use Rattle.packed_lanes.specs.LaneLists.{every_product, every_same, every_sum, product_with_every, sum_with_every};
+    ghost use Rattle.packed_lanes.specs.LaneListLemmas.{every_product, every_same, every_sum, product_with_every, sum_with_every};
 
     ghost image = { λ a. joined 128 (replicate 4 (basis_image 128 ghash_modulus ghash_images a)) };
 

@@ -1,4 +1,3 @@
 mod Blocks
-pub mod LanePoints
 pub mod LaneAnswers
-pub mod LaneRing
+pub mod LanePoints

@@ -1,5 +1,6 @@
-pub mod BitImages
-pub mod LaneLists
-pub mod Packed
+pub mod BitImageLemmas
+pub mod LaneListLemmas
+pub mod LaneRingLemmas
 pub mod Lanes
-pub mod OneLane
+pub mod OneLaneLemmas
+pub mod Packed

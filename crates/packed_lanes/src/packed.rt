@@ -4,7 +4,7 @@ ghost use Rattle.std.proofs.Common.{sym, ◌∙◌, ap};
 ghost use Rattle.std.proofs.lemmas.List.{length-replicate};
 ghost use Rattle.field_base.specs.Chunks.{joined};
 ghost use Rattle.packed_lanes.specs.Lanes.{lane_by_lane, lane_product};
-ghost use Rattle.packed_lanes.specs.LaneLists.{every_below, every_zero, lanes_below, lanes_same, map-replicate, product_number, sum_number};
+ghost use Rattle.packed_lanes.specs.LaneListLemmas.{every_below, every_zero, lanes_below, lanes_same, map-replicate, product_number, sum_number};
 
 mod draws;
 mod each;
@@ -124,7 +124,7 @@ fn product<F: Represented>(x: F, y: F) -> F
 }
 
 impl<F: Laned, const N: usize> Represented for Packed<F, N> {
-    ghost use Rattle.packed_lanes.proofs.LaneRing.{lanes_ring};
+    ghost use Rattle.packed_lanes.specs.LaneRingLemmas.{lanes_ring};
     ghost use Rattle.packed_lanes.specs.Packed.{same_packed};
 
     ghost width = { N * F.width };

@@ -4,7 +4,7 @@ ghost use Rattle.std.proofs.Common.{sym, ◌∙◌, ap};
 ghost use Rattle.std.proofs.lemmas.List.{length-replicate};
 ghost use Rattle.field_base.specs.Operators.{given, ring_gives};
 ghost use Rattle.field_base.specs.Chunks.{joined};
-ghost use Rattle.packed_lanes.specs.LaneLists.{equal_lanes, every_bit, every_zero, number_of_every, product_number, sum_number};
+ghost use Rattle.packed_lanes.specs.LaneListLemmas.{equal_lanes, every_bit, every_zero, number_of_every, product_number, sum_number};
 
 use crate::packed::{Packed, WiderField};
 use field_base::Gf2;

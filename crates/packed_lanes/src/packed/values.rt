@@ -7,11 +7,11 @@ ghost use native.Mathlib.Nat.{one-mul};
 ghost use Rattle.field_base.specs.Bit.{bit_number as bit_of};
 ghost use Rattle.field_base.specs.Operators.{algebra_gives};
 ghost use Rattle.field_base.specs.Powers.{product_of, sum_of};
-ghost use Rattle.packed_lanes.proofs.LaneRing.{lanes_ring};
 ghost use Rattle.field_base.specs.Chunks.{joined};
+ghost use Rattle.packed_lanes.specs.LaneRingLemmas.{lanes_ring};
 ghost use Rattle.packed_lanes.specs.Lanes.{lane_by_lane, lane_product};
-ghost use Rattle.packed_lanes.specs.BitImages.{bit_fits, bit_product, bit_same, bit_sum};
-ghost use Rattle.packed_lanes.specs.LaneLists.{every_below, every_bit, every_product, every_same, every_sum, number_of_every, product_number, product_with_every, sum_number, sum_with_every};
+ghost use Rattle.packed_lanes.specs.BitImageLemmas.{bit_fits, bit_product, bit_same, bit_sum};
+ghost use Rattle.packed_lanes.specs.LaneListLemmas.{every_below, every_bit, every_product, every_same, every_sum, number_of_every, product_number, product_with_every, sum_number, sum_with_every};
 ghost use Rattle.packed_lanes.specs.Packed.{lanes_of};
 
 use crate::packed::{Packed, WiderField};

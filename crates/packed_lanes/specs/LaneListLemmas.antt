@@ -11,7 +11,7 @@ use lib.Arith.{digits_lt}
 use Rattle.field_base.specs.Chunks.{joined}
 use Rattle.packed_lanes.specs.Lanes.{lane_by_lane, lane_product}
 use Rattle.field_base.specs.Ring.{IsRing}
-use Rattle.packed_lanes.proofs.LaneRing.{more_lanes}
+use Rattle.packed_lanes.specs.LaneRingLemmas.{more_lanes}
 use Rattle.field_base.proofs.RingLemmas.{mod-times, times-mod}
 
 -- ---- one element in every lane
