@@ -4,7 +4,7 @@ ghost use Rattle.std.specs.Prelude.{◌≡◌, ◌<◌, ◌^◌, ℕ, bit_xor, r
 ghost use Rattle.field_base.specs.Bit.{bit_number as bit_of};
 ghost use Rattle.field_base.specs.Operators.{given};
 ghost use Rattle.field_element.specs.BitProducts.{bit_product};
-ghost use Rattle.field_element.specs.Element.{bit_number};
+ghost use Rattle.field_element.specs.Element.{repr_of};
 
 use crate::element::{Element, value};
 use field_base::traits::{Algebra, TowerLevel};
@@ -14,7 +14,7 @@ use std::ops::{Add, AddAssign, Mul, MulAssign, Sub, SubAssign};
 // The product of a word and a bit, which is the word or 0.
 #[inline]
 fn times_bit<R: Stored, K: FieldKernel<R>>(x: Element<R, K>, bit: Gf2) -> Element<R, K>
-    ensures { bit_number result ≡ K.product (bit_number x) (bit_of bit) }
+    ensures { repr_of result ≡ K.product (repr_of x) (bit_of bit) }
 {
     if bit.to_repr() == 0 {
         Element::of_word(R::ZERO)
@@ -26,7 +26,7 @@ fn times_bit<R: Stored, K: FieldKernel<R>>(x: Element<R, K>, bit: Gf2) -> Elemen
 impl<R: Stored, K: FieldKernel<R>> Add<Gf2> for Element<R, K> {
     type Output = Element<R, K>;
 
-    ghost add_gives = { λ x y r. bit_number r ≡ bit_xor (bit_number x) (bit_of y) };
+    ghost add_gives = { λ x y r. repr_of r ≡ bit_xor (repr_of x) (bit_of y) };
 
     #[inline]
     fn add(self, bit: Gf2) -> Element<R, K> {
@@ -35,7 +35,7 @@ impl<R: Stored, K: FieldKernel<R>> Add<Gf2> for Element<R, K> {
 }
 
 impl<R: Stored, K: FieldKernel<R>> AddAssign<Gf2> for Element<R, K> {
-    ghost add_assign_gives = { λ x y r. bit_number r ≡ bit_xor (bit_number x) (bit_of y) };
+    ghost add_assign_gives = { λ x y r. repr_of r ≡ bit_xor (repr_of x) (bit_of y) };
 
     #[inline]
     fn add_assign(&mut self, bit: Gf2) {
@@ -46,7 +46,7 @@ impl<R: Stored, K: FieldKernel<R>> AddAssign<Gf2> for Element<R, K> {
 impl<R: Stored, K: FieldKernel<R>> Sub<Gf2> for Element<R, K> {
     type Output = Element<R, K>;
 
-    ghost sub_gives = { λ x y r. bit_number r ≡ bit_xor (bit_number x) (bit_of y) };
+    ghost sub_gives = { λ x y r. repr_of r ≡ bit_xor (repr_of x) (bit_of y) };
 
     #[inline]
     fn sub(self, bit: Gf2) -> Element<R, K> {
@@ -55,7 +55,7 @@ impl<R: Stored, K: FieldKernel<R>> Sub<Gf2> for Element<R, K> {
 }
 
 impl<R: Stored, K: FieldKernel<R>> SubAssign<Gf2> for Element<R, K> {
-    ghost sub_assign_gives = { λ x y r. bit_number r ≡ bit_xor (bit_number x) (bit_of y) };
+    ghost sub_assign_gives = { λ x y r. repr_of r ≡ bit_xor (repr_of x) (bit_of y) };
 
     #[inline]
     fn sub_assign(&mut self, bit: Gf2) {
@@ -66,7 +66,7 @@ impl<R: Stored, K: FieldKernel<R>> SubAssign<Gf2> for Element<R, K> {
 impl<R: Stored, K: FieldKernel<R>> Mul<Gf2> for Element<R, K> {
     type Output = Element<R, K>;
 
-    ghost mul_gives = { λ x y r. bit_number r ≡ K.product (bit_number x) (bit_of y) };
+    ghost mul_gives = { λ x y r. repr_of r ≡ K.product (repr_of x) (bit_of y) };
 
     #[inline]
     fn mul(self, bit: Gf2) -> Element<R, K> {
@@ -75,7 +75,7 @@ impl<R: Stored, K: FieldKernel<R>> Mul<Gf2> for Element<R, K> {
 }
 
 impl<R: Stored, K: FieldKernel<R>> MulAssign<Gf2> for Element<R, K> {
-    ghost mul_assign_gives = { λ x y r. bit_number r ≡ K.product (bit_number x) (bit_of y) };
+    ghost mul_assign_gives = { λ x y r. repr_of r ≡ K.product (repr_of x) (bit_of y) };
 
     #[inline]
     fn mul_assign(&mut self, bit: Gf2) {
@@ -86,7 +86,7 @@ impl<R: Stored, K: FieldKernel<R>> MulAssign<Gf2> for Element<R, K> {
 impl<R: Stored, K: FieldKernel<R>> Mul<Element<R, K>> for Gf2 {
     type Output = Element<R, K>;
 
-    ghost mul_gives = { λ x y r. bit_number r ≡ K.product (bit_number y) (bit_of x) };
+    ghost mul_gives = { λ x y r. repr_of r ≡ K.product (repr_of y) (bit_of x) };
 
     #[inline]
     fn mul(self, element: Element<R, K>) -> Element<R, K> {

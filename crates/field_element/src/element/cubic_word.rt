@@ -23,7 +23,7 @@ impl Stored for Coefficients {
 
     ghost of_number = { coefficients_of_number };
 
-    ghost triple_number = { λ n. triple-chunks 64 n };
+    ghost number_of = { λ n. triple-chunks 64 n };
 
     const ZERO: Coefficients = Coefficients {
         coefficients: [

@@ -25,7 +25,7 @@ fn squarings<R: Stored, K: FieldKernel<R>>(word: R, count: usize) -> R
 }
 
 impl<R: Stored, K: FieldKernel<R>> Represented for Element<R, K> {
-    ghost use Rattle.field_element.specs.Element.{bit_number, same_word};
+    ghost use Rattle.field_element.specs.Element.{repr_of, same_word};
 
     ghost width = { K.width };
 
@@ -33,7 +33,7 @@ impl<R: Stored, K: FieldKernel<R>> Represented for Element<R, K> {
 
     ghost product = { K.product };
 
-    ghost repr = { bit_number };
+    ghost repr = { repr_of };
 
     ghost ring_law = { K.field_law.ring };
 
