@@ -51,6 +51,7 @@ abbrev digits_of : ℕ → ℕ → List ℕ
 digits_of zero x = []
 digits_of (suc n) x = x % 2 ∷ digits_of n (x / 16)
 
+-- every digit that is taken of a word is a bit
 digits_of-bits : (n x : ℕ) → AreBits (digits_of n x)
 digits_of-bits zero x = tt
 digits_of-bits (suc n) x = (omega arith, digits_of-bits n (x / 16))
@@ -63,11 +64,13 @@ lowest_digit x within =
     let three : x / 8 % 2 ≡ 0 = no_bit 0 x 3 within (omega arith) in
     omega arith
 
+-- without its lowest digit, a word with bits at places 0 modulo 4 alone is such a word again
 next_digits : (x : ℕ) → HasPlaces 0 x → HasPlaces 0 (x / 16)
 next_digits x within place set =
     let known : (4 + place) % 4 ≡ 0 = within (4 + place) (ap (λ (y : ℕ). y % 2) (sym (shr-shr x 4 place)) ∙ set) in
     omega arith
 
+-- the number of its n digits is the word, if the word has bits at places 0 modulo 4 alone and fits into n digits
 value-digits_of : (n x : ℕ) → HasPlaces 0 x → x < 2 ^ (4 * n) → value (digits_of n x) ≡ x
 value-digits_of zero x within fits = omega arith
 value-digits_of (suc n) x within fits =
@@ -87,6 +90,7 @@ value-digits_of (suc n) x within fits =
 masked_list : (ds : List ℕ) → Stairs 1 ds → bit_and (value ds) (ones 16) ≡ parity ds % 2 ^ 64
 masked_list ds stairs = mask-value 16 1 ds stairs (lit≤ tt)
 
+-- masked to class 0, the product of two numbers whose digits are bits is the low half of their carryless product
 masked_digits : (ds es : List ℕ) → AreBits ds → AreBits es
     → bit_and (value ds * value es) (ones 16) ≡ carryless (value ds) (value es) % 2 ^ 64
 masked_digits ds es left right =
@@ -94,6 +98,7 @@ masked_digits ds es left right =
     ∙ masked_list (product ds es) (stairs_product ds es left right)
     ∙ ap (λ (x : ℕ). x % 2 ^ 64) (parity-product ds es left ∙ ap (carryless (value ds)) (parity-bits es right))
 
+-- and so it is after a shift of both by one digit, where the mask still keeps every parity
 masked_digits-shifted : (ds es : List ℕ) → AreBits ds → AreBits es
     → bit_and (value ds * value es * 16) (ones 16) ≡ carryless (value ds) (value es) * 16 % 2 ^ 64
 masked_digits-shifted ds es left right =
@@ -103,6 +108,7 @@ masked_digits-shifted ds es left right =
     (add-zero (parity (product ds es) * 16)
     ∙ ap (λ (x : ℕ). x * 16) (parity-product ds es left ∙ ap (carryless (value ds)) (parity-bits es right)))
 
+-- the integer product of two words of class 0, masked to class 0, is the low half of their carryless product
 class_zero : (x y : ℕ) → HasPlaces 0 x → HasPlaces 0 y → x < 2 ^ 64 → y < 2 ^ 64
     → bit_and (x * y) (ones 16) ≡ carryless x y % 2 ^ 64
 class_zero x y left right left_fits right_fits =
@@ -111,6 +117,7 @@ class_zero x y left right left_fits right_fits =
     (value-digits_of 16 y right right_fits)
     (masked_digits (digits_of 16 x) (digits_of 16 y) (digits_of-bits 16 x) (digits_of-bits 16 y)))
 
+-- and after a shift of both by one digit
 class_zero-shifted : (x y : ℕ) → HasPlaces 0 x → HasPlaces 0 y → x < 2 ^ 64 → y < 2 ^ 64
     → bit_and (x * y * 16) (ones 16) ≡ carryless x y * 16 % 2 ^ 64
 class_zero-shifted x y left right left_fits right_fits =
@@ -128,6 +135,7 @@ mask-mod p m fits =
     ap (bit_and (p % 2 ^ 64)) (sym (mod-eq_of_lt fits)) ∙ sym (and_mod p m 64)
     ∙ mod-eq_of_lt (lt_of_le_of_lt (and_le_r p m) fits)
 
+-- shifting a word and its mask by k places shifts what the mask keeps
 mask_shl : (k v m : ℕ) → bit_and (v * 2 ^ k) (m * 2 ^ k) ≡ bit_and v m * 2 ^ k
 mask_shl k v m =
     ap₂ bit_and (sym (add-zero (v * 2 ^ k))) (sym (add-zero (m * 2 ^ k)))
@@ -147,11 +155,13 @@ shifted_product : (i j x y : ℕ) → x * 2 ^ i * (y * 2 ^ j) ≡ x * y * 2 ^ (i
 shifted_product i j x y =
     mul-mul-mul_comm x (2 ^ i) y (2 ^ j) ∙ ap (λ (z : ℕ). x * y * z) (sym (pow-add 2 i j))
 
+-- a shift of the left operand by i and of the right one by j shifts the product by i + j
 shifted_carryless : (i j x y : ℕ) → carryless (x * 2 ^ i) (y * 2 ^ j) ≡ carryless x y * 2 ^ (i + j)
 shifted_carryless i j x y =
     carryless_shl j (x * 2 ^ i) y ∙ ap (λ (z : ℕ). z * 2 ^ j) (shl_carryless i x y) ∙ mul_assoc (carryless x y) (2 ^ i) (2 ^ j)
     ∙ ap (λ (z : ℕ). carryless x y * z) (sym (pow-add 2 i j))
 
+-- a shift by 4 + k places is one digit and k places
 past_digit : (p k : ℕ) → p * 2 ^ (4 + k) ≡ p * 16 * 2 ^ k
 past_digit p k = ap (λ (z : ℕ). p * z) (pow-add 2 4 k) ∙ sym (mul_assoc p 16 (2 ^ k))
 
@@ -174,6 +184,8 @@ isolated i j x y i_small j_small left right left_fits right_fits (inr high) = pa
         ∙ ap (λ (p : ℕ). p % 2 ^ 64) (sym (past_digit (carryless x y) k))
         ∙ ap (λ (p : ℕ). carryless x y * 2 ^ p % 2 ^ 64) e
 
+-- masked to the class of the product, the integer product of a word of class i and one of class j is the low half of their
+-- carryless product
 places_isolated : (i j x y : ℕ) → i < 4 → j < 4 → x < 2 ^ 64 → y < 2 ^ 64 → HasPlaces i x → HasPlaces j y
     → bit_and (x * y % 2 ^ 64) (class_mask ((i + j) % 4)) ≡ carryless x y % 2 ^ 64
 places_isolated i j x y i_small j_small x_fits y_fits x_class y_class =
@@ -187,6 +199,7 @@ places_isolated i j x y i_small j_small x_fits y_fits x_class y_class =
     (sym (shifted_carryless i j (x / 2 ^ i) (y / 2 ^ j))
     ∙ ap₂ carryless (places-shl i x i_small x_class) (places-shl j y j_small y_class))
 
+-- carry isolation, for words of any two classes
 pub carry_isolation : CarryIsolation
 carry_isolation i j x y i_small j_small x_class y_class =
     places_isolated i j x y i_small j_small (class-fits i x i_small x_class) (class-fits j y j_small y_class)

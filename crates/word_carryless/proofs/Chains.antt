@@ -13,16 +13,19 @@ run times zero a = 1
 run times (suc n) a = times (times (run times n a) (run times n a)) a
 
 module _ (width : ℕ) (times : ℕ → ℕ → ℕ) (ring : IsRing width 1 times) (one_fits : 1 < 2 ^ width) where
+  -- a run of ones is an element
   run-lt : (n a : ℕ) → run times n a < 2 ^ width
   unfolding run
   run-lt zero a = one_fits
   run-lt (suc n) a = ring.below (times (run times n a) (run times n a)) a
 
+  -- the run of a single one is the element itself
   pub run-one : (a : ℕ) → a < 2 ^ width → a ≡ run times 1 a
   unfolding run
   run-one a fits =
       sym (ap (λ (x : ℕ). times x a) (one-times width 1 times ring 1 one_fits) ∙ one-times width 1 times ring a fits)
 
+  -- the run of m ones, squared n times, times the run of n ones is the run of m + n ones
   run-join : (m n a : ℕ) → times (repeated_square 1 times n (run times m a)) (run times n a) ≡ run times (m + n) a
   unfolding run repeated_square
   run-join m zero a =
@@ -43,11 +46,13 @@ module _ (width : ℕ) (times : ℕ → ℕ → ℕ) (ring : IsRing width 1 time
   joined m n a first second moved product of_first of_second of_moved of_product =
       of_product ∙ ap₂ times (of_moved ∙ ap (repeated_square 1 times n) of_first) of_second ∙ run-join m n a
 
+  -- a square is one repeated squaring
   pub squared_once : (a square : ℕ) → a < 2 ^ width → square ≡ times a a → square ≡ repeated_square 1 times 1 a
   unfolding repeated_square
   squared_once a square fits of_square =
       of_square ∙ sym (ap (λ (x : ℕ). times x x) (one-times width 1 times ring a fits))
 
+  -- the run of n ones is the power a^(2^n - 1)
   run-power : (n a : ℕ) → run times n a ≡ power 1 times a (2 ^ n - 1)
   unfolding run power
   run-power zero a = refl

@@ -12,6 +12,7 @@ use Rattle.word_carryless.proofs.Digits.{ones}
 
 -- ---- bounds
 
+-- 2^k is at most 8 for k below 4
 power_le : (k : ℕ) → k < 4 → 2 ^ k ≤ 8
 power_le zero small = lit≤ tt
 power_le (suc zero) small = lit≤ tt
@@ -19,6 +20,7 @@ power_le (suc (suc zero)) small = lit≤ tt
 power_le (suc (suc (suc zero))) small = lit≤ tt
 power_le (suc (suc (suc (suc k)))) small = absurd (omega arith)
 
+-- a number of at most the mask of class 0, shifted by fewer than four places, is a word
 pub mask_lt : (k a : ℕ) → k < 4 → a ≤ ones 16 → a * 2 ^ k < 2 ^ 64
 mask_lt k a small le = lt_of_le_of_lt (mul-le-mul le (power_le k small)) (lit< tt)
 
@@ -35,6 +37,7 @@ no_bit i x place within other = cases (bit_at x place) (bit_at-lt x place) (with
 
 -- ---- the places of the masks
 
+-- a bit is not both 0 and 1
 clash : (b : ℕ) → b ≡ 0 → b ≡ 1 → ⊥
 clash b none one = omega arith
 
@@ -82,14 +85,17 @@ mask-places i x small place set =
     both : (a b : ℕ) → b < 2 → min a b ≡ 1 → b ≡ 1
     both a b fits one = omega arith
 
+-- a word under the mask of a class fits into 64 bits
 pub mask_fits : (i x : ℕ) → i < 4 → bit_and x (class_mask i) < 2 ^ 64
 mask_fits i x small = lt_of_le_of_lt (and_le_r x (class_mask i)) (mask_lt i (ones 16) small (le_refl (ones 16)))
 
 -- ---- the class of a word
 
+-- a number of a class fits into 64 bits
 pub class-fits : (i x : ℕ) → i < 4 → IsInClass i x → x < 2 ^ 64
 class-fits i x small within = subst (λ (y : ℕ). y < 2 ^ 64) within (mask_fits i x small)
 
+-- a number of class i has bits at places that are i modulo 4 alone
 pub class-places : (i x : ℕ) → i < 4 → IsInClass i x → HasPlaces i x
 class-places i x small within = subst (λ (y : ℕ). HasPlaces i y) within (mask-places i x small)
 
@@ -108,12 +114,14 @@ ones_full (suc n) place below within = cases place (cases_lt place 4) within (λ
     cases (suc p) (inr large) of_class later =
         bit_at_cat_high (ones n) 4 1 (suc p) (lit< tt) large ∙ later large
 
+-- the mask of class i has a bit at every place below 64 that is i modulo 4
 mask_full : (i place : ℕ) → i < 4 → place < 64 → place % 4 ≡ i → bit_at (class_mask i) place ≡ 1
 mask_full i place small below within =
     ap (λ (x : ℕ). bit_at x place) (sym (add-zero (class_mask i)))
     ∙ bit_at_cat_high (ones 16) i 0 place (pow_pos i) (omega arith)
     ∙ ones_full 16 (place - i) (omega arith) (omega arith)
 
+-- a word with bits at places that are i modulo 4 alone is of class i
 places-class : (i x : ℕ) → i < 4 → x < 2 ^ 64 → HasPlaces i x → IsInClass i x
 places-class i x small fits places =
     same_from_bits_below 64 (bit_and x (class_mask i)) x (mask_fits i x small) fits
@@ -126,5 +134,6 @@ places-class i x small fits places =
     kept (suc zero) b bit full = let set : b ≡ 1 = full refl in omega arith
     kept (suc (suc a)) b bit full = absurd (omega arith)
 
+-- the words of a class are those whose set bits are at the places of the class
 pub class_is_places : ClassIsPlaces
 class_is_places i x small fits = (class-places i x small, places-class i x small fits)

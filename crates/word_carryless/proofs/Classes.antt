@@ -17,6 +17,7 @@ use Rattle.word_carryless.proofs.CarryIsolation.{carry_isolation}
 
 -- ---- a mask of a sum
 
+-- for bits, the minimum with m is a product, so it distributes over sums modulo 2
 bit_sum : (a : ℕ) → a < 2 → (b : ℕ) → b < 2 → (m : ℕ) → m < 2 → min ((a + b) % 2) m ≡ (min a m + min b m) % 2
 bit_sum =
     two_cases (λ a. (b : ℕ) → b < 2 → (m : ℕ) → m < 2 → min ((a + b) % 2) m ≡ (min a m + min b m) % 2)
@@ -27,6 +28,7 @@ bit_sum =
     (two_cases (λ m. min ((1 + 0) % 2) m ≡ (min 1 m + min 0 m) % 2) refl refl)
     (two_cases (λ m. min ((1 + 1) % 2) m ≡ (min 1 m + min 1 m) % 2) refl refl))
 
+-- (a + b) & m = (a & m) + (b & m)
 pub xor_and : (a b m : ℕ) → bit_and (bit_xor a b) m ≡ bit_xor (bit_and a m) (bit_and b m)
 xor_and a b m =
     same_from_bits (bit_and (bit_xor a b) m) (bit_xor (bit_and a m) (bit_and b m))
@@ -51,9 +53,11 @@ classes x =
     bit_xor (bit_xor (bit_xor (bit_and x (class_mask 0)) (bit_and x (class_mask 1))) (bit_and x (class_mask 2)))
     (bit_and x (class_mask 3))
 
+-- x & (a + b) = (x & a) + (x & b)
 and_sum : (x a b : ℕ) → bit_and x (bit_xor a b) ≡ bit_xor (bit_and x a) (bit_and x b)
 and_sum x a b = and_comm x (bit_xor a b) ∙ xor_and a b x ∙ ap₂ bit_xor (and_comm a x) (and_comm b x)
 
+-- the sum of the four classes of a word is the word
 classes-word : (x : ℕ) → x < 2 ^ 64 → classes x ≡ x
 classes-word x fits =
     sym (and_sum x (bit_xor (bit_xor (class_mask 0) (class_mask 1)) (class_mask 2)) (class_mask 3)
@@ -64,6 +68,7 @@ classes-word x fits =
 
 -- ---- the low half of a product
 
+-- the low 64 bits of a sum are the sum of the low 64 bits
 xor_mod_64 : (a b : ℕ) → bit_xor a b % 2 ^ 64 ≡ bit_xor (a % 2 ^ 64) (b % 2 ^ 64)
 xor_mod_64 a b = xor_mod a b 64
 
@@ -94,6 +99,7 @@ masked_sum p q r s p' q' r' s' m of_p of_q of_r of_s =
 abbrev part_product : ℕ → ℕ → ℕ → ℕ → ℕ
 part_product x y i j = bit_and x (class_mask i) * bit_and y (class_mask j) % 2 ^ 64
 
+-- the carryless product of class i of x and class j of y
 abbrev part_carryless : ℕ → ℕ → ℕ → ℕ → ℕ
 part_carryless x y i j = carryless (bit_and x (class_mask i)) (bit_and y (class_mask j))
 

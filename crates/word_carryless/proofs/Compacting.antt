@@ -13,9 +13,11 @@ use Rattle.word_carryless.proofs.Squares.{square_sum}
 
 -- ---- a word
 
+-- a mask keeps sums
 pub masked-sum : (m : ℕ) → KeepsSums (λ x. bit_and x m)
 masked-sum m a b = xor_and a b m
 
+-- a shift and a mask of the code keep sums
 step-sum : (s m : ℕ) → KeepsSums (compact_step s m)
 step-sum s m a b =
     ap (λ (z : ℕ). bit_and (bit_xor (bit_xor a b) z) m) (xor_shr a b s)
@@ -28,18 +30,22 @@ joins =
     (1, 0x3333_3333_3333_3333) ∷ (2, 0x0f0f_0f0f_0f0f_0f0f) ∷ (4, 0x00ff_00ff_00ff_00ff) ∷ (8, 0x0000_ffff_0000_ffff)
     ∷ (16, 0xffff_ffff) ∷ []
 
+-- the bits at the even places, moved together
 abbrev compact : ℕ → ℕ
 compact x = steps compact_step joins (bit_and x (even_places 64))
 
+-- moving the even places together keeps sums
 compact-sum : KeepsSums compact
 compact-sum a b =
     ap (steps compact_step joins) (masked-sum (even_places 64) a b)
     ∙ steps-sum compact_step step-sum joins (bit_and a (even_places 64)) (bit_and b (even_places 64))
 
+-- at every power of two the carryless square of the moved bits is the bits at the even places (computed)
 powers_agree : agree_on_powers (λ x. carryless (compact x) (compact x)) (λ x. bit_and x (even_places 64)) 64 ≡ true
 unfolding steps carryless carryless_in
 powers_agree = refl
 
+-- the carryless square of the moved bits is the bits at the even places
 compact-square : (x : ℕ) → x < 2 ^ 64 → carryless (compact x) (compact x) ≡ bit_and x (even_places 64)
 compact-square =
     maps_agree (λ x. carryless (compact x) (compact x)) (λ x. bit_and x (even_places 64))
@@ -85,6 +91,7 @@ split_mask =
         ∙ xor_and (bit_and a 0xffff_ffff_ffff_ffff) (bit_and b 0xffff_ffff_ffff_ffff) (even_places 64))
         ∙ xor_exchange (bit_and (a / 2 ^ 64) (even_places 64) * 2 ^ 64) (bit_and (b / 2 ^ 64) (even_places 64) * 2 ^ 64) _ _
 
+-- the even places of a double word, from those of its low and of its high word
 pub compact_double_word : (x x0 x1 low high : ℕ) → x < 2 ^ 128 → x0 < 2 ^ 64 → high < 2 ^ 32 → x ≡ x1 * 2 ^ 64 + x0
     → carryless low low ≡ bit_and x0 (even_places 64) → carryless high high ≡ bit_and x1 (even_places 64)
     → carryless (bit_xor (high * 2 ^ 32 % 2 ^ 64) low) (bit_xor (high * 2 ^ 32 % 2 ^ 64) low) ≡ bit_and x (even_places 128)

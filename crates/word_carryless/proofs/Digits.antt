@@ -21,6 +21,7 @@ abbrev pub parity : List ℕ → ℕ
 parity [] = 0
 parity (d ∷ ds) = parity ds * 16 + d % 2
 
+-- the sum of two lists of digits, digit by digit and without carries
 abbrev pub plus : List ℕ → List ℕ → List ℕ
 plus [] es = es
 plus (d ∷ ds) [] = d ∷ ds
@@ -31,6 +32,7 @@ abbrev pub scaled : ℕ → List ℕ → List ℕ
 scaled b [] = []
 scaled b (d ∷ ds) = b * d ∷ scaled b ds
 
+-- the product of two lists of digits: row d of the school method is the digits of es times d, shifted
 abbrev pub product : List ℕ → List ℕ → List ℕ
 product [] es = []
 product (d ∷ ds) es = plus (scaled d es) (0 ∷ product ds es)
@@ -47,16 +49,19 @@ Stairs k (d ∷ ds) = (d ≤ k) × Stairs (suc k) ds
 
 -- ---- the number of a product
 
+-- the number of a sum is the sum of the numbers
 value-plus : (ds es : List ℕ) → value (plus ds es) ≡ value ds + value es
 value-plus [] es = sym (zero-add (value es))
 value-plus (d ∷ ds) [] = sym (add-zero (value (d ∷ ds)))
 value-plus (d ∷ ds) (e ∷ es) =
     let rest : value (plus ds es) ≡ value ds + value es = value-plus ds es in omega arith
 
+-- the number of the digits times b is b times the number
 value-scaled : (b : ℕ) (ds : List ℕ) → value (scaled b ds) ≡ b * value ds
 value-scaled b [] = sym (mul-zero b)
 value-scaled b (d ∷ ds) = let rest : value (scaled b ds) ≡ b * value ds = value-scaled b ds in omega arith
 
+-- the number of a product is the product of the numbers
 pub value-product : (ds es : List ℕ) → value (product ds es) ≡ value ds * value es
 value-product [] es = sym (zero-mul (value es))
 value-product (d ∷ ds) es =
@@ -68,6 +73,7 @@ value-product (d ∷ ds) es =
 
 -- ---- the parities of a product
 
+-- the parity of a sum of two digits is the sum of their parities
 parity_sum : (d e : ℕ) → (d + e) % 2 ≡ bit_xor (d % 2) (e % 2)
 parity_sum d e =
     add-mod d e 2
@@ -75,9 +81,11 @@ parity_sum d e =
     (ap (λ (x : ℕ). x % 2) (zero-add (e % 2)) ∙ mod-mod e 2)
     (bit_cases (λ y. (1 + y) % 2 ≡ bit_xor 1 y) refl refl e) d
 
+-- a parity is a digit to base 16
 parity_lt : (d : ℕ) → d % 2 < 2 ^ 4
 parity_lt d = lt_of_lt_of_le (mod-lt d (lit< tt)) (lit≤ tt)
 
+-- the parities of a sum are the sum of the parities
 parity-plus : (ds es : List ℕ) → parity (plus ds es) ≡ bit_xor (parity ds) (parity es)
 parity-plus [] es = refl
 parity-plus (d ∷ ds) [] = sym (xor_zero_r (parity (d ∷ ds)))
@@ -85,15 +93,18 @@ parity-plus (d ∷ ds) (e ∷ es) =
     ap₂ (λ (x y : ℕ). x * 16 + y) (parity-plus ds es) (parity_sum d e)
     ∙ sym (xor_block 4 (parity ds) (parity es) (d % 2) (e % 2) (parity_lt d) (parity_lt e))
 
+-- digits times 0 have parities 0
 parity-none : (es : List ℕ) → parity (scaled 0 es) ≡ 0
 parity-none [] = refl
 parity-none (e ∷ es) =
     ap₂ (λ (x y : ℕ). x * 16 + y) (parity-none es) (ap (λ (x : ℕ). x % 2) (zero-mul e))
 
+-- digits times 1 keep their parities
 parity-once : (es : List ℕ) → parity (scaled 1 es) ≡ parity es
 parity-once [] = refl
 parity-once (e ∷ es) = ap₂ (λ (x y : ℕ). x * 16 + y % 2) (parity-once es) (one-mul e)
 
+-- digits times a bit have the parities times this bit
 parity-scaled : (d : ℕ) (es : List ℕ) → parity (scaled (d % 2) es) ≡ d % 2 * parity es
 parity-scaled d es =
     bit_cases (λ x. parity (scaled x es) ≡ x * parity es) (parity-none es ∙ sym (zero-mul (parity es)))
@@ -103,6 +114,7 @@ parity-scaled d es =
 digit_first : (v d : ℕ) → v * 16 + d % 2 ≡ bit_xor (v * 16) (d % 2)
 digit_first v d = sym (xor_shifted v 4 (d % 2) (parity_lt d))
 
+-- the parities of a product by bits are the carryless product
 pub parity-product : (ds es : List ℕ) → AreBits ds → parity (product ds es) ≡ carryless (value ds) (parity es)
 parity-product [] es bits = sym (zero_carryless (parity es))
 parity-product (d ∷ ds) es bits =
@@ -115,6 +127,7 @@ parity-product (d ∷ ds) es bits =
     ∙ sym (sum_carryless (value ds * 16) (d % 2) (parity es))
     ∙ ap (λ (x : ℕ). carryless x (parity es)) (sym (digit_first (value ds) d) ∙ ap (λ (x : ℕ). value ds * 16 + x) bits.0)
 
+-- digits that are bits are their own parities
 pub parity-bits : (ds : List ℕ) → AreBits ds → parity ds ≡ value ds
 parity-bits [] bits = refl
 parity-bits (d ∷ ds) bits = ap₂ (λ (x y : ℕ). x * 16 + y) (parity-bits ds bits.1) bits.0
@@ -126,29 +139,35 @@ abbrev AreFlat : List ℕ → Type 0
 AreFlat [] = Unit {0}
 AreFlat (d ∷ ds) = (d ≤ 1) × AreFlat ds
 
+-- the product of two bits is at most 1
 bit_product_le : (d e : ℕ) → d % 2 * (e % 2) ≤ 1
 bit_product_le d e =
     bit_cases (λ x. x * (e % 2) ≤ 1) (rw zero-mul (lit≤ tt))
     (rw one-mul (bit_cases (λ y. y ≤ 1) (lit≤ tt) (lit≤ tt) e)) d
 
+-- bits times a bit are at most 1
 flat_scaled : (d : ℕ) (es : List ℕ) → d % 2 ≡ d → AreBits es → AreFlat (scaled d es)
 flat_scaled d [] bit bits = tt
 flat_scaled d (e ∷ es) bit bits =
     (subst (λ (x : ℕ). x ≤ 1) (ap₂ (λ (x y : ℕ). x * y) bit bits.0) (bit_product_le d e), flat_scaled d es bit bits.1)
 
+-- a bound n + k on digit n may be raised to n + k + 1
 stairs_higher : (k : ℕ) (ds : List ℕ) → Stairs k ds → Stairs (suc k) ds
 stairs_higher k [] stairs = tt
 stairs_higher k (d ∷ ds) stairs = (omega arith, stairs_higher (suc k) ds stairs.1)
 
+-- digits of at most 1 meet every bound n + k + 1
 flat_stairs : (k : ℕ) (ds : List ℕ) → AreFlat ds → Stairs (suc k) ds
 flat_stairs k [] flat = tt
 flat_stairs k (d ∷ ds) flat = (omega arith, flat_stairs (suc k) ds flat.1)
 
+-- adding digits of at most 1 raises the bound on each digit by 1
 stairs_plus : (k : ℕ) (ds es : List ℕ) → AreFlat ds → Stairs k es → Stairs (suc k) (plus ds es)
 stairs_plus k [] es flat stairs = stairs_higher k es stairs
 stairs_plus k (d ∷ ds) [] flat stairs = flat_stairs k (d ∷ ds) flat
 stairs_plus k (d ∷ ds) (e ∷ es) flat stairs = (omega arith, stairs_plus (suc k) ds es flat.1 stairs.1)
 
+-- digit n of a product of two lists of bits is at most n + 1
 pub stairs_product : (ds es : List ℕ) → AreBits ds → AreBits es → Stairs 1 (product ds es)
 stairs_product [] es bits bits' = tt
 stairs_product (d ∷ ds) es bits bits' =
@@ -166,6 +185,7 @@ abbrev pub ones : ℕ → ℕ
 ones zero = 0
 ones (suc n) = ones n * 16 + 1
 
+-- the mask 1 keeps the parity of the lowest digit
 lowest : (v d : ℕ) → bit_and (v * 16 + d) 1 ≡ d % 2
 lowest v d = and_mask (v * 16 + d) 1 ∙ omega arith
 

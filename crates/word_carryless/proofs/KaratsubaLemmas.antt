@@ -33,6 +33,7 @@ crossed w x0 x1 y0 y1 =
     (sym (xor_assoc (carryless x0 y1 * 2 ^ w) (carryless x1 y0 * 2 ^ w) (carryless x1 y1 * 2 ^ w * 2 ^ w))
     ∙ ap (λ (z : ℕ). bit_xor z (carryless x1 y1 * 2 ^ w * 2 ^ w)) (xor_shl w (carryless x0 y1) (carryless x1 y0)))
 
+-- (x0 + x1 X)(y0 + y1 X) = x0 y0 + ((x0 + x1)(y0 + y1) + x0 y0 + x1 y1) X + x1 y1 X², where X is the shift by w places
 pub karatsuba : (w x0 x1 y0 y1 : ℕ) → carryless (bit_xor x0 (x1 * 2 ^ w)) (bit_xor y0 (y1 * 2 ^ w))
     ≡ bit_xor (carryless x0 y0)
     (bit_xor
@@ -93,6 +94,7 @@ shift_parts m =
     fits : m % 2 ^ 64 * 2 ^ 64 < 2 ^ 128
     fits = shl_below (m % 2 ^ 64) 64 64 (mod-lt m (lit< tt))
 
+-- the three products of Karatsuba's rule at 64 bits, joined into two double words
 joined_128 : (low middle high : ℕ) → low < 2 ^ 128
     → bit_xor low (bit_xor (middle * 2 ^ 64) (high * 2 ^ 64 * 2 ^ 64))
     ≡ bit_xor high (middle / 2 ^ 64) * 2 ^ 128 + bit_xor low (middle * 2 ^ 64 % 2 ^ 128)
@@ -106,6 +108,7 @@ joined_128 low middle high low_fits =
     placed : (a b c d : ℕ) → bit_xor a (bit_xor (bit_xor b c) d) ≡ bit_xor (bit_xor d b) (bit_xor a c)
     placed a b c d = simp (xor_assoc, xor_comm, xor_left_comm)
 
+-- the carryless product of two double words, in two double words, from three products of words
 pub carryless_128 : (x y x0 x1 y0 y1 low high both : ℕ) → x0 < 2 ^ 64 → y0 < 2 ^ 64 → low < 2 ^ 128
     → x ≡ x1 * 2 ^ 64 + x0 → y ≡ y1 * 2 ^ 64 + y0 → low ≡ carryless x0 y0 → high ≡ carryless x1 y1
     → both ≡ carryless (bit_xor x0 x1) (bit_xor y0 y1) → carryless x y ≡ bit_xor high (bit_xor (bit_xor both low) high / 2 ^ 64) * 2 ^ 128

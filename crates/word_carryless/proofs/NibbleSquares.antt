@@ -16,21 +16,26 @@ use Rattle.word_carryless.proofs.Squares.{halves}
 
 -- ---- the table
 
+-- the table of the code: the carryless squares of the numbers below 16
 abbrev pub nibble_squares : List ℕ
 nibble_squares = 0x00 ∷ 0x01 ∷ 0x04 ∷ 0x05 ∷ 0x10 ∷ 0x11 ∷ 0x14 ∷ 0x15 ∷ 0x40 ∷ 0x41 ∷ 0x44 ∷ 0x45 ∷ 0x50 ∷ 0x51 ∷ 0x54 ∷ 0x55 ∷ []
 
+-- whether an entry is the carryless square of its place
 abbrev is_square : ℕ → ℕ → Bool
 is_square n square = eqb square (carryless n n)
 
+-- every entry is the square of its place (computed)
 squares_pass : passes is_square 0 nibble_squares ≡ true
 unfolding passes carryless carryless_in
 squares_pass = refl
 
+-- entry n is the carryless square of n
 entry : (n : ℕ) → n < 16 → get_or nibble_squares n 0 ≡ carryless n n
 entry n below =
     eqb-true (get_or nibble_squares n 0) (carryless (0 + n) (0 + n)) (passes_at is_square 0 nibble_squares n squares_pass below)
     ∙ ap (λ (m : ℕ). carryless m m) (zero-add n)
 
+-- the square of four bits is a byte
 square_fits : (n : ℕ) → n < 16 → carryless n n < 256
 square_fits n below = carryless_lt 4 4 n n below below
 
@@ -40,19 +45,23 @@ square_fits n below = carryless_lt 4 4 n n below below
 abbrev pub Chooses : (ℕ → ℕ) → List ℕ → Type 0
 Chooses f = Each1 (λ lane. f lane < 16)
 
+-- the places chosen are below 16
 places_below : (f : ℕ → ℕ) (lanes : List ℕ) → Chooses f lanes → Each1 (λ place. place < 16) (map f lanes)
 places_below f [] small = tt
 places_below f (lane ∷ lanes) small = (small.0, places_below f lanes small.1)
 
+-- sixteen lanes with places below 16 may be looked up
 may_look_up : (f : ℕ → ℕ) (lanes : List ℕ) → length lanes ≡ 16 → Chooses f lanes → SwzOk w8 16 16 0 (map f lanes)
 may_look_up f lanes long small =
     let same = length-map lanes f in
     SwzOk-from_below w8 16 1 16 0 (map f lanes) refl (omega arith) (places_below f lanes small)
 
+-- a number below 128 is not at least 128, the mark of a lane that is to be 0
 not_above : (n : ℕ) (b : Bool) → leb 128 n ≡ b → n < 128 → b ≡ false
 not_above n true above below = let high = leb-true 128 n above in absurd (omega arith)
 not_above n false above below = refl
 
+-- what is looked up in each lane is the square of the place that f chooses
 looked_up : (f : ℕ → ℕ) (lanes : List ℕ) (i : ℕ) → i + length lanes ≤ 16 → Chooses f lanes
     → swz_l w8 16 nibble_squares i (map f lanes) ≡ map (λ lane. carryless (f lane) (f lane)) lanes
 looked_up f [] i room small = refl
@@ -79,12 +88,15 @@ masked lanes long = zip2_splat bit_and lanes 16 15 long ∙ masks lanes
     masks [] = refl
     masks (x ∷ xs) = ap₂ (λ (y : ℕ) (ys : List ℕ). y ∷ ys) (and_mask x 4) (masks xs)
 
+-- every lane shifted right by four bits is divided by 16
 shifted : (lanes : List ℕ) → length lanes ≡ 16 → zip2 (λ (a b : ℕ). a / 2 ^ b) lanes (replicate 16 4) ≡ map (λ lane. lane / 16) lanes
 shifted lanes long = zip2_splat (λ (a b : ℕ). a / 2 ^ b) lanes 16 4 long
 
+-- the low four bits of a lane are a place in the table
 low_places : (lanes : List ℕ) → Chooses (λ lane. lane % 16) lanes
 low_places = Each1-all (λ lane. lane % 16 < 16) (λ lane. mod-lt lane (lit< tt))
 
+-- the high four bits of a byte are a place in the table
 high_places : (lanes : List ℕ) → Each1 (Fits w8) lanes → Chooses (λ lane. lane / 16) lanes
 high_places = Each1-weaker (Fits w8) (λ lane. lane / 16 < 16) (λ lane byte. omega (arith, byte.fits))
 
@@ -92,22 +104,27 @@ high_places = Each1-weaker (Fits w8) (λ lane. lane / 16 < 16) (λ lane byte. om
 abbrev low_squares_of : List ℕ → List ℕ
 low_squares_of = map (λ byte. carryless (byte % 16) (byte % 16))
 
+-- the squares of the high four bits of each byte
 abbrev high_squares_of : List ℕ → List ℕ
 high_squares_of = map (λ byte. carryless (byte / 16) (byte / 16))
 
+-- the code may look up the low four bits of each byte
 pub low_in_table : (bytes : List ℕ) → length bytes ≡ 16 → SwzOk w8 16 16 0 (zip2 bit_and bytes (replicate 16 15))
 low_in_table bytes long = subst (SwzOk w8 16 16 0) (sym (masked bytes long)) (may_look_up (λ byte. byte % 16) bytes long (low_places bytes))
 
+-- the code's look-up of the low four bits gives their squares
 pub low_looked_up : (bytes : List ℕ) → length bytes ≡ 16
     → swz_l w8 16 nibble_squares 0 (zip2 bit_and bytes (replicate 16 15)) ≡ low_squares_of bytes
 low_looked_up bytes long =
     ap (swz_l w8 16 nibble_squares 0) (masked bytes long) ∙ looked_up (λ byte. byte % 16) bytes 0 (omega arith) (low_places bytes)
 
+-- the code may look up the high four bits of each byte
 pub high_in_table : (bytes : List ℕ) → length bytes ≡ 16 → Each1 (Fits w8) bytes
     → SwzOk w8 16 16 0 (zip2 (λ (a b : ℕ). a / 2 ^ b) bytes (replicate 16 4))
 high_in_table bytes long fits =
     subst (SwzOk w8 16 16 0) (sym (shifted bytes long)) (may_look_up (λ byte. byte / 16) bytes long (high_places bytes fits))
 
+-- the code's look-up of the high four bits gives their squares
 pub high_looked_up : (bytes : List ℕ) → length bytes ≡ 16 → Each1 (Fits w8) bytes
     → swz_l w8 16 nibble_squares 0 (zip2 (λ (a b : ℕ). a / 2 ^ b) bytes (replicate 16 4))
     ≡ high_squares_of bytes
@@ -117,9 +134,11 @@ high_looked_up bytes long fits =
 
 -- ---- numbers and their bytes
 
+-- 256^(n + 1) = 256 * 256^n
 power_more : (n : ℕ) → 256 ^ suc n ≡ 256 * 256 ^ n
 power_more n = pow-suc 256 n ∙ mul_comm (256 ^ n) 256
 
+-- the number of n bytes is below 256^n
 number_lt : (bytes : List ℕ) → Each1 (Fits w8) bytes → number_l 256 bytes < 256 ^ length bytes
 number_lt [] fits = lit< tt
 number_lt (byte ∷ bytes) fits =
@@ -127,6 +146,7 @@ number_lt (byte ∷ bytes) fits =
     let rest = number_lt bytes fits.1 in
     let whole = power_more (length bytes) in omega arith
 
+-- the number of two lists of bytes, one after the other
 number-append : (xs ys : List ℕ) → number_l 256 (xs ++ ys) ≡ number_l 256 xs + 256 ^ length xs * number_l 256 ys
 number-append [] ys = omega arith
 number-append (x ∷ xs) ys =
@@ -137,6 +157,7 @@ number-append (x ∷ xs) ys =
     ap (λ (z : ℕ). z * higher) (power_more (length xs)) ∙ mul_assoc 256 power higher in
     omega arith
 
+-- the number of the n lowest bytes of x is x, if x fits
 number-digits : (n x : ℕ) → x < 256 ^ n → number_l 256 (digits_l 256 n x) ≡ x
 number-digits zero x fits = omega arith
 number-digits (suc n) x fits =
@@ -144,6 +165,7 @@ number-digits (suc n) x fits =
     let higher : x / 256 < 256 ^ n = omega arith in
     let rest = number-digits n (x / 256) higher in omega arith
 
+-- the digits of a number to base 256 are bytes
 digits_below : (n x : ℕ) → Each1 (λ byte. byte < 256) (digits_l 256 n x)
 digits_below zero x = tt
 digits_below (suc n) x = (mod-lt x (lit< tt), digits_below n (x / 256))
@@ -167,6 +189,7 @@ abbrev spread : List ℕ → List ℕ
 spread [] = []
 spread (byte ∷ bytes) = carryless (byte % 16) (byte % 16) ∷ carryless (byte / 16) (byte / 16) ∷ spread bytes
 
+-- the square of a byte has the squares of its two halves as bytes
 square_of_byte : (byte : ℕ) → byte < 256 → carryless byte byte ≡ carryless (byte / 16) (byte / 16) * 256 + carryless (byte % 16) (byte % 16)
 square_of_byte byte fits =
     let low = carryless (byte % 16) (byte % 16) in
@@ -176,10 +199,12 @@ square_of_byte byte fits =
     ∙ ap (λ (z : ℕ). bit_xor z low) (mul_assoc high 16 16)
     ∙ xor_shifted high 8 low (square_fits (byte % 16) (mod-lt byte (lit< tt)))
 
+-- the square of no bytes is 0
 square_of_none : 0 ≡ carryless 0 0
 unfolding carryless carryless_in
 square_of_none = refl
 
+-- the squares of the halves of the bytes, in turn, are the bytes of the square of the number
 square_of_bytes : (bytes : List ℕ) → Each1 (λ byte. byte < 256) bytes
     → number_l 256 (spread bytes) ≡ carryless (number_l 256 bytes) (number_l 256 bytes)
 square_of_bytes [] fits = square_of_none
@@ -200,9 +225,11 @@ square_of_bytes (byte ∷ bytes) fits =
 abbrev first_half : List ℕ
 first_half = 0 ∷ 16 ∷ 1 ∷ 17 ∷ 2 ∷ 18 ∷ 3 ∷ 19 ∷ 4 ∷ 20 ∷ 5 ∷ 21 ∷ 6 ∷ 22 ∷ 7 ∷ 23 ∷ []
 
+-- the places of the high sixteen bytes of the square, among the squares of the low halves (0 to 15) and of the high (16 to 31)
 abbrev second_half : List ℕ
 second_half = 8 ∷ 24 ∷ 9 ∷ 25 ∷ 10 ∷ 26 ∷ 11 ∷ 27 ∷ 12 ∷ 28 ∷ 13 ∷ 29 ∷ 14 ∷ 30 ∷ 15 ∷ 31 ∷ []
 
+-- the code's square of a double word is the carryless square
 pub carryless_square_128 : (x first second : ℕ) (bytes low high : List ℕ) → x < 2 ^ 128 → bytes ≡ digits_l 256 16 x
     → low ≡ low_squares_of bytes → high ≡ high_squares_of bytes
     → first ≡ number_l 256 (pick_l 0 (low ++ high) first_half) → second ≡ number_l 256 (pick_l 0 (low ++ high) second_half)

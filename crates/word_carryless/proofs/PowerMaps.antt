@@ -38,9 +38,11 @@ column_enters columns place sum rest within =
 
 -- ---- the maps
 
+-- the polynomials modulo that of GHASH are a ring
 ring : IsRing 128 1 (mul_mod 128 ghash_modulus)
 ring = mul_mod_ring 128 ghash_modulus (lit< tt) refl
 
+-- a polynomial squared n times modulo that of GHASH
 abbrev squared : ℕ → ℕ → ℕ
 squared = repeated_square 1 (mul_mod 128 ghash_modulus)
 
@@ -48,9 +50,11 @@ squared = repeated_square 1 (mul_mod 128 ghash_modulus)
 abbrev IsPowerMap : ℕ → (ℕ → ℕ) → Type 0
 IsPowerMap n f = KeepsSums f × ((x : ℕ) → x < 2 ^ 128 → f x ≡ squared n x)
 
+-- the square modulo the polynomial of GHASH
 unfoldable square : ℕ → ℕ
 square x = mul_mod 128 ghash_modulus x x
 
+-- one squaring is the power map of one
 once : IsPowerMap 1 square
 unfolding square repeated_square
 once = (
@@ -58,6 +62,7 @@ once = (
   λ x fits. sym (ap (λ (y : ℕ). mul_mod 128 ghash_modulus y y) (one-times 128 1 (mul_mod 128 ghash_modulus) ring x fits)),
 )
 
+-- m squarings after n squarings are m + n squarings
 composed : (m n : ℕ) (f g : ℕ → ℕ) → IsPowerMap m f → IsPowerMap n g → IsPowerMap (m + n) (λ x. f (g x))
 composed m n f g is_f is_g = (
   λ a b. ap f (is_g.0 a b) ∙ is_f.0 (g a) (g b),
@@ -76,15 +81,19 @@ by_columns n f columns is_f agree = (
       ∙ is_f.1 x fits,
 )
 
+-- three squarings, by the code's columns
 abbrev by_3 : ℕ → ℕ
 by_3 = sum_of_columns SQUARED_3_TIMES
 
+-- seven squarings, by the code's columns
 abbrev by_7 : ℕ → ℕ
 by_7 = sum_of_columns SQUARED_7_TIMES
 
+-- 14 squarings, by the code's columns
 abbrev by_14 : ℕ → ℕ
 by_14 = sum_of_columns SQUARED_14_TIMES
 
+-- 28 squarings, by the code's columns
 abbrev by_28 : ℕ → ℕ
 by_28 = sum_of_columns SQUARED_28_TIMES
 
@@ -93,38 +102,47 @@ agree_3 : agree_on_powers (sum_of_columns SQUARED_3_TIMES) (λ x. square (square
 unfolding sum_of_columns square mul_mod rem rem_in carryless carryless_in
 agree_3 = refl
 
+-- at every power of two the columns for 7 squarings give 3 and 3 and 1 (computed)
 agree_7 : agree_on_powers (sum_of_columns SQUARED_7_TIMES) (λ x. by_3 (by_3 (square x))) 128 ≡ true
 unfolding sum_of_columns square mul_mod rem rem_in carryless carryless_in
 agree_7 = refl
 
+-- at every power of two the columns for 14 squarings give 7 and 7 (computed)
 agree_14 : agree_on_powers (sum_of_columns SQUARED_14_TIMES) (λ x. by_7 (by_7 x)) 128 ≡ true
 unfolding sum_of_columns
 agree_14 = refl
 
+-- at every power of two the columns for 28 squarings give 14 and 14 (computed)
 agree_28 : agree_on_powers (sum_of_columns SQUARED_28_TIMES) (λ x. by_14 (by_14 x)) 128 ≡ true
 unfolding sum_of_columns
 agree_28 = refl
 
+-- at every power of two the columns for 63 squarings give 28 and 28 and 7 (computed)
 agree_63 : agree_on_powers (sum_of_columns SQUARED_63_TIMES) (λ x. by_28 (by_28 (by_7 x))) 128 ≡ true
 unfolding sum_of_columns
 agree_63 = refl
 
+-- the columns for 3 squarings give the map of 3 squarings
 map_3 : IsPowerMap 3 by_3
 map_3 =
     by_columns 3 (λ x. square (square (square x))) SQUARED_3_TIMES
     (composed 1 2 square (λ x. square (square x)) once (composed 1 1 square square once once)) agree_3
 
+-- the columns for 7 squarings give the map of 7 squarings
 map_7 : IsPowerMap 7 by_7
 map_7 =
     by_columns 7 (λ x. by_3 (by_3 (square x))) SQUARED_7_TIMES
     (composed 3 4 by_3 (λ x. by_3 (square x)) map_3 (composed 3 1 by_3 square map_3 once)) agree_7
 
+-- the columns for 14 squarings give the map of 14 squarings
 map_14 : IsPowerMap 14 by_14
 map_14 = by_columns 14 (λ x. by_7 (by_7 x)) SQUARED_14_TIMES (composed 7 7 by_7 by_7 map_7 map_7) agree_14
 
+-- the columns for 28 squarings give the map of 28 squarings
 map_28 : IsPowerMap 28 by_28
 map_28 = by_columns 28 (λ x. by_14 (by_14 x)) SQUARED_28_TIMES (composed 14 14 by_14 by_14 map_14 map_14) agree_28
 
+-- the columns for 63 squarings give the map of 63 squarings
 map_63 : IsPowerMap 63 (sum_of_columns SQUARED_63_TIMES)
 map_63 =
     by_columns 63 (λ x. by_28 (by_28 (by_7 x))) SQUARED_63_TIMES
@@ -134,14 +152,18 @@ map_63 =
 pub times_3 : (x : ℕ) → x < 2 ^ 128 → linear_image SQUARED_3_TIMES x ≡ squared 3 x
 times_3 x fits = linear_image-columns SQUARED_3_TIMES x ∙ map_3.1 x fits
 
+-- seven squarings as the code computes them
 pub times_7 : (x : ℕ) → x < 2 ^ 128 → linear_image SQUARED_7_TIMES x ≡ squared 7 x
 times_7 x fits = linear_image-columns SQUARED_7_TIMES x ∙ map_7.1 x fits
 
+-- 14 squarings as the code computes them
 pub times_14 : (x : ℕ) → x < 2 ^ 128 → linear_image SQUARED_14_TIMES x ≡ squared 14 x
 times_14 x fits = linear_image-columns SQUARED_14_TIMES x ∙ map_14.1 x fits
 
+-- 28 squarings as the code computes them
 pub times_28 : (x : ℕ) → x < 2 ^ 128 → linear_image SQUARED_28_TIMES x ≡ squared 28 x
 times_28 x fits = linear_image-columns SQUARED_28_TIMES x ∙ map_28.1 x fits
 
+-- 63 squarings as the code computes them
 pub times_63 : (x : ℕ) → x < 2 ^ 128 → linear_image SQUARED_63_TIMES x ≡ squared 63 x
 times_63 x fits = linear_image-columns SQUARED_63_TIMES x ∙ map_63.1 x fits

@@ -47,6 +47,7 @@ module _ (width modulus : ℕ) (wide : 1 < width) (degree : HasDegree width modu
       ∙ sym (xor_double (bit_and (a / 2) mask) (bit_and (b / 2) mask)))
       ∙ xor_exchange (bit_and a mask) (bit_and b mask) _ _
 
+  -- if s² = x and every power of two is the sum of its even part and its odd part, roots are computed by parts
   pub root_of_parts : (half s : ℕ) → half ≤ width → 2 < 2 ^ width → mul_mod width modulus s s ≡ 2
       → agree_on_powers (λ x. bit_xor (bit_and x mask) (bit_and (x / 2) mask * 2)) (λ x. x) width ≡ true
       → RootOfParts width half modulus mask s
@@ -82,14 +83,17 @@ shifted_split n h =
 
 -- ---- 64 and 128 bits
 
+-- the two constants square to the polynomial x (computed)
 roots_squared : (mul_mod 64 poly64_modulus root_of_x_64 root_of_x_64 ≡ 2) × (mul_mod 128 ghash_modulus root_of_x_128 root_of_x_128 ≡ 2)
 unfolding mul_mod rem rem_in carryless carryless_in
 roots_squared = (refl, refl)
 
+-- square roots modulo x^64 + x^4 + x^3 + x + 1 by parts
 pub root_64 : RootOfParts 64 32 poly64_modulus (even_places 64) root_of_x_64
 root_64 =
     root_of_parts 64 poly64_modulus (lit< tt) refl (even_places 64) 32 root_of_x_64 (lit≤ tt) (lit< tt) roots_squared.0 refl
 
+-- square roots modulo x^128 + x^7 + x^2 + x + 1 by parts
 pub root_128 : RootOfParts 128 64 ghash_modulus (even_places 128) root_of_x_128
 root_128 =
     root_of_parts 128 ghash_modulus (lit< tt) refl (even_places 128) 64 root_of_x_128 (lit≤ tt) (lit< tt) roots_squared.1 refl

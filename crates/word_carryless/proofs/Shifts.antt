@@ -5,6 +5,7 @@ use native.Mathlib.Nat.{mul-div-mul_right}
 use Rattle.field_base.specs.Carryless.{carryless}
 use Rattle.field_base.proofs.ValueLemmas.{carryless_power}
 
+-- the product of a double word by x^k is its bits shifted up by k places: those past the double word, and those in it
 pub shifted_128 : (x k : ℕ) → k < 128 → carryless x (2 ^ k) ≡ x / 2 / 2 ^ (127 - k) * 2 ^ 128 + x * 2 ^ k % 2 ^ 128
 shifted_128 x k within =
     carryless_power x k ∙ sym (shr_split (x * 2 ^ k) 128)

@@ -15,6 +15,7 @@ use Rattle.word_carryless.proofs.Halves.{split_xor}
 
 -- ---- a square keeps sums
 
+-- (a + b)² = a² + b²
 pub square_sum : (a b : ℕ) → carryless (bit_xor a b) (bit_xor a b) ≡ bit_xor (carryless a a) (carryless b b)
 square_sum a b =
     sum_carryless a b (bit_xor a b)
@@ -26,6 +27,7 @@ square_sum a b =
 
 -- ---- spreading keeps sums
 
+-- a shift, a sum and a mask of the code keep sums
 step-sum : (s m : ℕ) → KeepsSums (spread_step s m)
 step-sum s m a b =
     ap (λ (z : ℕ). bit_and (bit_xor (bit_xor a b) z) m)
@@ -39,6 +41,7 @@ moves =
     (16, 0x0000_ffff_0000_ffff) ∷ (8, 0x00ff_00ff_00ff_00ff) ∷ (4, 0x0f0f_0f0f_0f0f_0f0f) ∷ (2, 0x3333_3333_3333_3333)
     ∷ (1, 0x5555_5555_5555_5555) ∷ []
 
+-- the code's steps, one after another
 abbrev spread : ℕ → ℕ
 spread = steps spread_step moves
 
@@ -47,6 +50,7 @@ powers_agree : agree_on_powers spread (λ x. carryless x x) 32 ≡ true
 unfolding steps carryless carryless_in
 powers_agree = refl
 
+-- the spread bits of half a word are its carryless square (its values at the powers of two are computed)
 spread-square : (x : ℕ) → x < 2 ^ 32 → spread x ≡ carryless x x
 spread-square =
     maps_agree spread (λ x. carryless x x) (steps-sum spread_step step-sum moves) square_sum 32
@@ -68,6 +72,7 @@ spread_32 x a b c d e fits of_a of_b of_c of_d of_e =
 
 -- ---- squares by halves
 
+-- (x0 + x1 X)² = x0² + x1² X², where X is the shift by w places
 pub halves : (w x x0 x1 low high : ℕ) → x0 < 2 ^ w → x ≡ x1 * 2 ^ w + x0 → low ≡ carryless x0 x0 → high ≡ carryless x1 x1
     → carryless x x ≡ bit_xor low (high * 2 ^ w * 2 ^ w)
 halves w x x0 x1 low high fits of_x of_low of_high =
@@ -77,6 +82,7 @@ halves w x x0 x1 low high fits of_x of_low of_high =
     (carryless_shl w (x1 * 2 ^ w) x1
     ∙ ap (λ (z : ℕ). z * 2 ^ w) (shl_carryless w x1 x1 ∙ ap (λ (z : ℕ). z * 2 ^ w) (sym of_high)))
 
+-- the carryless square of a word from those of its halves
 pub carryless_square_64 : (x x0 x1 low high : ℕ) → x0 < 2 ^ 32 → high < 2 ^ 64 → x ≡ x1 * 2 ^ 32 + x0
     → low ≡ carryless x0 x0 → high ≡ carryless x1 x1 → bit_xor (high * 2 ^ 64 % 2 ^ 128) low ≡ carryless x x
 carryless_square_64 x x0 x1 low high low_fits fits of_x of_low of_high =

@@ -14,18 +14,22 @@ carryless-ones = refl
 pub class-square : bit_and (class_mask 0 * class_mask 0 % 2 ^ 64) (class_mask 0) ≡ 0x0101_0101_0101_0101
 class-square = refl
 
+-- the square of the word of class 0 that is all ones
 pub carryless-class : carryless (class_mask 0) (class_mask 0) % 2 ^ 64 ≡ 0x0101_0101_0101_0101
 unfolding carryless carryless_in
 carryless-class = refl
 
+-- the square of x^63 modulo x^64 + x^4 + x^3 + x + 1
 pub poly64-top : mul_mod 64 poly64_modulus (2 ^ 63) (2 ^ 63) ≡ 0xc000_0000_0000_005a
 unfolding mul_mod carryless carryless_in rem rem_in
 poly64-top = refl
 
+-- the square of all ones modulo x^128 + x^7 + x^2 + x + 1
 pub ghash-ones : mul_mod 128 ghash_modulus (2 ^ 128 - 1) (2 ^ 128 - 1) ≡ 0x5555_5555_5555_5555_5555_5555_5555_402f
 unfolding mul_mod carryless carryless_in rem rem_in
 ghash-ones = refl
 
+-- the square of x^127 modulo x^128 + x^7 + x^2 + x + 1
 pub ghash-top : mul_mod 128 ghash_modulus (2 ^ 127) (2 ^ 127) ≡ 0xc000_0000_0000_0000_0000_0000_0000_1067
 unfolding mul_mod carryless carryless_in rem rem_in
 ghash-top = refl

@@ -21,6 +21,7 @@ carryless_pow h a = ap (carryless h) (sym (one-mul (2 ^ a))) ∙ carryless_shl a
 abbrev tail : ℕ → ℕ → ℕ → ℕ
 tail a b d = bit_xor (bit_xor (bit_xor (2 ^ a) (2 ^ b)) (2 ^ d)) 1
 
+-- h (x^a + x^b + x^d + 1) as a sum of shifts of h
 carryless_tail : (h a b d : ℕ) → carryless h (tail a b d) ≡ bit_xor (bit_xor (bit_xor (h * 2 ^ a) (h * 2 ^ b)) (h * 2 ^ d)) h
 carryless_tail h a b d =
     carryless_sum h (bit_xor (bit_xor (2 ^ a) (2 ^ b)) (2 ^ d)) 1
@@ -113,12 +114,16 @@ module _ (w t : ℕ) (degree : HasDegree w (bit_xor (1 * 2 ^ w) t)) where
 
 -- of a modulus x^w and the tail with the terms a, b, d and 0: the product by the tail, below x^w and past it, and the remainder by it
 pub record IsFold (w modulus t a b d a' b' d' : ℕ) : Type 0 where
+  -- what the code computes as the product by the tail, below x^w
   pub low : (h : ℕ) → h < 2 ^ w
       → bit_xor (bit_xor (bit_xor (h * 2 ^ a % 2 ^ w) (h * 2 ^ b % 2 ^ w)) (h * 2 ^ d % 2 ^ w)) h ≡ carryless h t % 2 ^ w
+  -- what the code computes as the product by the tail, past x^w
   pub high : (h : ℕ) → h < 2 ^ w → bit_xor (bit_xor (h / 2 ^ a') (h / 2 ^ b')) (h / 2 ^ d') ≡ carryless h t / 2 ^ w
+  -- the remainder of two words by two folds
   pub remainder : (low high : ℕ) → low < 2 ^ w → high < 2 ^ w
       → rem w modulus (high * 2 ^ w + low) ≡ bit_xor (bit_xor low (carryless high t % 2 ^ w)) (carryless (carryless high t / 2 ^ w) t % 2 ^ w)
 
+-- the shifts of the code compute these for every tail of four terms of a degree n with 2 n at most w
 fold : (w a b d a' b' d' n : ℕ) → a' + a ≡ w → b' + b ≡ w → d' + d ≡ w → tail a b d < 2 ^ n → n + n ≤ w
     → HasDegree w (bit_xor (1 * 2 ^ w) (tail a b d)) → IsFold w (bit_xor (1 * 2 ^ w) (tail a b d)) (tail a b d) a b d a' b' d'
 fold w a b d a' b' d' n e_a e_b e_d small half degree = record {
@@ -127,8 +132,10 @@ fold w a b d a' b' d' n e_a e_b e_d small half degree = record {
   remainder = λ low high. fold_twice w (tail a b d) degree n low high small half;
 }
 
+-- the folds of x^64 + x^4 + x^3 + x + 1
 pub fold_64 : IsFold 64 poly64_modulus poly64_tail 4 3 1 60 61 63
 fold_64 = fold 64 4 3 1 60 61 63 5 refl refl refl (lit< tt) (lit≤ tt) refl
 
+-- the folds of x^128 + x^7 + x^2 + x + 1
 pub fold_128 : IsFold 128 ghash_modulus ghash_tail 7 2 1 121 126 127
 fold_128 = fold 128 7 2 1 121 126 127 8 refl refl refl (lit< tt) (lit≤ tt) refl

@@ -2,8 +2,8 @@
 // for computing multiplicative inverses in GF(2^m) using normal bases, 1988).
 //
 // A run of k ones is the power x^(2^k - 1), whose exponent has k ones. Squared n times and multiplied by the run of n ones, the
-// run of m ones is that of m + n, and a square of the run of w - 1 ones is the inverse. Each chain takes the same steps
-// whatever the operand is, and no place that it reads depends on the operand.
+// run of m ones is that of m + n, and a square of the run of w - 1 ones is the inverse. The steps of a chain, and the
+// places that it reads, do not depend on the operand.
 ghost use Rattle.std.specs.Prelude.{◌≡◌, ◌-◌, ◌^◌};
 ghost use Rattle.field_base.specs.Powers.{power, repeated_square};
 ghost use Rattle.field_base.specs.Remainder.{ghash_modulus, mul_mod, poly64_modulus};
@@ -14,19 +14,7 @@ use crate::power_maps::{
     square_28_times_mod_128, square_63_times_mod_128,
 };
 
-// The run `ones`, squared `count` times, times the run `more`.
-#[inline]
-fn join_runs_64(ones: u64, count: u32, more: u64) -> u64
-    ensures { result ≡ mul_mod 64 poly64_modulus (repeated_square 1 (mul_mod 64 poly64_modulus) count ones) more }
-{
-    let mut moved = ones;
-    for turn in 0..count {
-        moved = square_mod_64(moved);
-    }
-    multiply_mod_64(moved, more)
-}
-
-/// The power x^(2^64 - 2) modulo x^64 + x^4 + x^3 + x + 1, which is the inverse of each polynomial but 0, and 0 for 0. It takes 9
+/// The power x^(2^64 - 2) modulo x^64 + x^4 + x^3 + x + 1, which is the inverse of a nonzero x, and 0 for 0. It takes 9
 /// products and 63 squares, and reads no table.
 pub fn invert_mod_64(x: u64) -> u64
     ensures { result ≡ power 1 (mul_mod 64 poly64_modulus) x (2 ^ 64 - 2) }
@@ -42,7 +30,7 @@ pub fn invert_mod_64(x: u64) -> u64
     square_mod_64(run_63)
 }
 
-/// The power x^(2^128 - 2) modulo x^128 + x^7 + x^2 + x + 1, which is the inverse of each polynomial but 0, and 0 for 0. It takes
+/// The power x^(2^128 - 2) modulo x^128 + x^7 + x^2 + x + 1, which is the inverse of a nonzero x, and 0 for 0. It takes
 /// 10 products, 6 power maps and 5 squares. Each power map reads all of its 128 columns.
 pub fn invert_mod_128(x: u128) -> u128
     ensures { result ≡ power 1 (mul_mod 128 ghash_modulus) x (2 ^ 128 - 2) }
@@ -58,4 +46,16 @@ pub fn invert_mod_128(x: u128) -> u128
     let run_126 = multiply_mod_128(square_63_times_mod_128(run_63), run_63);
     let run_127 = multiply_mod_128(square_mod_128(run_126), x);
     square_mod_128(run_127)
+}
+
+// The product of `more` and `ones` squared `count` times.
+#[inline]
+fn join_runs_64(ones: u64, count: u32, more: u64) -> u64
+    ensures { result ≡ mul_mod 64 poly64_modulus (repeated_square 1 (mul_mod 64 poly64_modulus) count ones) more }
+{
+    let mut moved = ones;
+    for _ in 0..count {
+        moved = square_mod_64(moved);
+    }
+    multiply_mod_64(moved, more)
 }

@@ -1,8 +1,8 @@
 // Carryless products by integer products of words with holes, as in T. Pornin's BearSSL (`ghash_ctmul64.c`).
 //
-// A word of class i has bits at places that are i modulo 4 alone. In the product of two such words the columns that
+// A word of class i has bits only at places that are i modulo 4. In the product of two such words the columns that
 // have bits are four places apart, so that a column may count to 15 before it reaches the next; the lowest bit of a
-// column is the coefficient of the carryless product. Sixteen bits meet in the highest column alone, whose carry leaves
+// column is the coefficient of the carryless product. Only the highest column can reach 16, and its carry leaves
 // the word.
 ghost use Rattle.std.specs.Prelude.{◌≡◌, ◌%◌, ◌+◌, ◌^◌, ◌<◌, map};
 ghost use Rattle.std.specs.List.{All};

@@ -1,4 +1,4 @@
-// The squares of sixteen bytes at once: those of the halves of each byte, of four bits, are looked up in lanes. The table is
+// The squares of sixteen bytes at once: the squares of the low and the high four bits of each byte are looked up in lanes. The table is
 // one vector, so that on x86-64-v2 a look-up is one instruction and no address depends on the operand.
 ghost use Rattle.std.specs.Prelude.{◌≡◌, ◌/◌, ◌%◌, map};
 ghost use Rattle.std.specs.Simd.Lanes.{digits_l, number_l};

@@ -11,28 +11,6 @@ use crate::power_maps::literals::{
     SQUARED_3_TIMES, SQUARED_7_TIMES, SQUARED_14_TIMES, SQUARED_28_TIMES, SQUARED_63_TIMES,
 };
 
-// The column where the lowest bit of `bits` is set, and else 0, without a branch.
-#[inline]
-#[tactic(auto, using(crate::proofs::PowerMaps::masked_column))]
-fn column_at(column: u128, bits: u128) -> u128
-    ensures { result ≡ bits % 2 * column }
-{
-    column & 0u128.wrapping_sub(bits & 1)
-}
-
-// The value at `x` of the linear map with these columns. It reads every column, whatever `x` is.
-fn sum_of_columns(columns: &[u128; 128], x: u128) -> u128
-    ensures { result ≡ linear_image columns.now x }
-{
-    let mut sum = 0;
-    let mut rest = x;
-    for place in 0..128 {
-        sum ^= column_at(columns[place], rest);
-        rest >>= 1;
-    }
-    sum
-}
-
 /// The polynomial squared 3 times.
 #[tactic(auto, using(crate::proofs::PowerMaps::times_3))]
 pub fn square_3_times_mod_128(x: u128) -> u128
@@ -71,4 +49,26 @@ pub fn square_63_times_mod_128(x: u128) -> u128
     ensures { result ≡ repeated_square 1 (mul_mod 128 ghash_modulus) 63 x }
 {
     sum_of_columns(&SQUARED_63_TIMES, x)
+}
+
+// The value at `x` of the linear map with these columns. It reads every column for every `x`.
+fn sum_of_columns(columns: &[u128; 128], x: u128) -> u128
+    ensures { result ≡ linear_image columns.now x }
+{
+    let mut sum = 0;
+    let mut rest = x;
+    for place in 0..128 {
+        sum ^= column_at(columns[place], rest);
+        rest >>= 1;
+    }
+    sum
+}
+
+// The column where the lowest bit of `bits` is set, and else 0, without a branch.
+#[inline]
+#[tactic(auto, using(crate::proofs::PowerMaps::masked_column))]
+fn column_at(column: u128, bits: u128) -> u128
+    ensures { result ≡ bits % 2 * column }
+{
+    column & 0u128.wrapping_sub(bits & 1)
 }

@@ -11,15 +11,7 @@ use crate::fold::{reduce_64, reduce_128};
 use crate::product::multiply_64_twice;
 use crate::split::split_128;
 
-/// Moves together by `shift` the halves of each field of a word, of which `mask` has the places.
-fn join_fields(x: u64, shift: u32, mask: u64) -> u64
-    requires { shift < 64 }
-    ensures { result ≡ compact_step shift mask x }
-{
-    (x ^ (x >> shift)) & mask
-}
-
-/// The bits at the even places of a word: the carryless root of those bits.
+/// The bits at the even places of a word, moved together: the carryless square root of those bits.
 ///
 /// ```text
 /// . a . b . c . d . e . f . g . h  ->  . . a b . . c d . . e f . . g h  ->  . . . . a b c d . . . . e f g h  ->  ..
@@ -35,12 +27,48 @@ pub fn compact_64(x: u64) -> u32
     ((halves ^ (halves >> 16)) & 0xffff_ffff) as u32
 }
 
-/// The bits at the even places of a double word: the carryless root of those bits.
+/// The bits at the even places of a double word, moved together: the carryless square root of those bits.
 pub fn compact_128(x: u128) -> u64
     ensures { carryless result result ≡ bit_and x (even_places 128) }
 {
     let (low, high) = split_128(x);
     ((compact_64(high) as u64) << 32) ^ (compact_64(low) as u64)
+}
+
+/// The square root modulo x^64 + x^4 + x^3 + x + 1. Every polynomial has exactly one.
+pub fn sqrt_mod_64(x: u64) -> u64
+    ensures { mul_mod 64 poly64_modulus result result ≡ x }
+{
+    let even = compact_64(x);
+    let odd = compact_64(x >> 1);
+    (even as u64) ^ times_root_of_x_64(odd)
+}
+
+/// The square root modulo x^128 + x^7 + x^2 + x + 1. Every polynomial has exactly one.
+pub fn sqrt_mod_128(x: u128) -> u128
+    ensures { mul_mod 128 ghash_modulus result result ≡ x }
+{
+    let even = compact_128(x);
+    let odd = compact_128(x >> 1);
+    (even as u128) ^ times_root_of_x_128(odd)
+}
+
+/// Moves the halves of each field of a word together by `shift`; `mask` has the places where they end up.
+fn join_fields(x: u64, shift: u32, mask: u64) -> u64
+    requires { shift < 64 }
+    ensures { result ≡ compact_step shift mask x }
+{
+    (x ^ (x >> shift)) & mask
+}
+
+/// The product of a half word by the root of x modulo x^64 + x^4 + x^3 + x + 1, which is a run of ones and two terms:
+/// x^63 + .. + x^33 + x^32 + x^3 + x.
+fn times_root_of_x_64(odd: u32) -> u64
+    ensures { result ≡ mul_mod 64 poly64_modulus root_of_x_64 odd }
+{
+    let by_ones = times_ones_32(odd);
+    let word = odd as u64;
+    reduce_64((by_ones << 32) ^ (word << 3) ^ (word << 1), by_ones >> 32)
 }
 
 /// The product of a half word by x^31 + .. + x + 1, which is the product of the x^k + 1 for k = 1, 2, 4, 8 and 16.
@@ -55,38 +83,10 @@ fn times_ones_32(half: u32) -> u64
     by_16_ones ^ (by_16_ones << 16)
 }
 
-/// The product of a half word by the root of x modulo x^64 + x^4 + x^3 + x + 1, which is a run of ones and two terms:
-/// x^63 + .. + x^33 + x^32 + x^3 + x.
-fn times_root_of_x_64(odd: u32) -> u64
-    ensures { result ≡ mul_mod 64 poly64_modulus root_of_x_64 odd }
-{
-    let by_ones = times_ones_32(odd);
-    let word = odd as u64;
-    reduce_64((by_ones << 32) ^ (word << 3) ^ (word << 1), by_ones >> 32)
-}
-
-/// The square root modulo x^64 + x^4 + x^3 + x + 1.
-pub fn sqrt_mod_64(x: u64) -> u64
-    ensures { mul_mod 64 poly64_modulus result result ≡ x }
-{
-    let even = compact_64(x);
-    let odd = compact_64(x >> 1);
-    (even as u64) ^ times_root_of_x_64(odd)
-}
-
 /// The product of a word by the root of x modulo x^128 + x^7 + x^2 + x + 1, from the products by the halves of the root.
 fn times_root_of_x_128(odd: u64) -> u128
     ensures { result ≡ mul_mod 128 ghash_modulus root_of_x_128 odd }
 {
     let (low, high) = multiply_64_twice(0x6db6_db6d_b6db_6da4, 0x2492_4924_9249_2492, odd, odd);
     reduce_128(low ^ (high << 64), high >> 64)
-}
-
-/// The square root modulo x^128 + x^7 + x^2 + x + 1.
-pub fn sqrt_mod_128(x: u128) -> u128
-    ensures { mul_mod 128 ghash_modulus result result ≡ x }
-{
-    let even = compact_128(x);
-    let odd = compact_128(x >> 1);
-    (even as u128) ^ times_root_of_x_128(odd)
 }

@@ -1,7 +1,7 @@
 // The halves of words.
 ghost use Rattle.std.specs.Prelude.{◌≡◌, ◌*◌, ◌+◌, ◌^◌};
 
-/// The low half of a word before its high half.
+/// The low and the high half of a word.
 #[inline]
 #[tactic(auto, using(crate::proofs::Halves::halves_64))]
 pub fn split_64(x: u64) -> (u32, u32)
@@ -10,7 +10,7 @@ pub fn split_64(x: u64) -> (u32, u32)
     ((x & 0xffff_ffff) as u32, (x >> 32) as u32)
 }
 
-/// The low half of a double word before its high half.
+/// The low and the high half of a double word.
 #[inline]
 #[tactic(auto, using(crate::proofs::Halves::halves_128))]
 pub fn split_128(x: u128) -> (u64, u64)

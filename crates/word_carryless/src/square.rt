@@ -1,19 +1,11 @@
-// The carryless square of a word: between two bits of the word it has a zero, since the products of two bits at
-// different places come twice.
+// The carryless square of a word is its bits with a zero between each two: the products of two bits at different places
+// occur twice and cancel.
 ghost use Rattle.std.specs.Prelude.{◌≡◌, ◌%◌, ◌*◌, ◌+◌, ◌^◌, ◌<◌, bit_and, bit_xor};
 ghost use Rattle.field_base.specs.Carryless.{carryless};
 ghost use Rattle.word_carryless.specs.Spread.{spread_step};
 
 use crate::nibbles::{bytes_of, high_squares, low_squares, number_of};
 use crate::split::split_64;
-
-/// Moves apart by `shift` the two halves of each field of a word, of which `mask` has the places.
-fn move_halves(x: u64, shift: u32, mask: u64) -> u64
-    requires { shift < 64 }
-    ensures { result ≡ spread_step shift mask x }
-{
-    (x ^ (x << shift)) & mask
-}
 
 /// The carryless square of half a word: bit i moves to place 2i.
 ///
@@ -38,12 +30,19 @@ pub fn carryless_square_64(x: u64) -> u128
     ((spread_32(high) as u128) << 64) ^ (spread_32(low) as u128)
 }
 
-/// The carryless square of a double word, its low half before its high half: the squares of the halves of its bytes, in
-/// turn.
+/// The carryless square of a double word, low half first: the squares of the low and the high half of each byte, in turn.
 pub fn carryless_square_128(x: u128) -> (u128, u128)
     ensures { carryless x x ≡ result.1 * 2 ^ 128 + result.0 }
 {
     let bytes = bytes_of(x);
     let (first, second) = low_squares(bytes).interleave(high_squares(bytes));
     (number_of(first), number_of(second))
+}
+
+/// Moves the two halves of each field of a word apart by `shift`; `mask` has the places where they end up.
+fn move_halves(x: u64, shift: u32, mask: u64) -> u64
+    requires { shift < 64 }
+    ensures { result ≡ spread_step shift mask x }
+{
+    (x ^ (x << shift)) & mask
 }
