@@ -14,10 +14,12 @@ use Rattle.field_base.specs.BitRingLemmas.{two_cases}
 abbrev pub KeepsSums : (ℕ → ℕ) → Type 0
 KeepsSums f = (a b : ℕ) → f (bit_xor a b) ≡ bit_xor (f a) (f b)
 
+-- a map that keeps sums takes 0 to 0
 pub keeps_zero : (f : ℕ → ℕ) → KeepsSums f → f 0 ≡ 0
 keeps_zero f f_sum = f_sum 0 0 ∙ xor_self (f 0)
 
 module _ (f g : ℕ → ℕ) (f_sum : KeepsSums f) (g_sum : KeepsSums g) where
+  -- two such maps agree at 0
   zeros_agree : f 0 ≡ g 0
   zeros_agree = keeps_zero f f_sum ∙ sym (keeps_zero g g_sum)
 
@@ -52,6 +54,7 @@ abbrev pub agree_on_powers : (ℕ → ℕ) → (ℕ → ℕ) → ℕ → Bool
 agree_on_powers f g zero = true
 agree_on_powers f g (suc n) = eqb (f (2 ^ n)) (g (2 ^ n)) && agree_on_powers f g n
 
+-- maps for which the check of the first n powers of two passes agree there
 pub agree_on_powers-true : (f g : ℕ → ℕ) (n : ℕ) → agree_on_powers f g n ≡ true
     → (i : ℕ) → i < n → f (2 ^ i) ≡ g (2 ^ i)
 agree_on_powers-true f g zero holds i below = absurd (omega arith)

@@ -31,6 +31,7 @@ bit_of_sum a b column =
     (simp (zero-mul, one-mul, xor_self)) (b % 2) (mod-lt b (lit< tt)))
     (a % 2) (mod-lt a (lit< tt))
 
+-- the map of given columns keeps sums
 pub sum_of_columns-sum : (columns : List ℕ) → KeepsSums (sum_of_columns columns)
 unfolding sum_of_columns
 sum_of_columns-sum [] a b = refl
@@ -41,6 +42,7 @@ sum_of_columns-sum (column ∷ columns) a b =
     exchange : (p q r s : ℕ) → bit_xor (bit_xor p q) (bit_xor r s) ≡ bit_xor (bit_xor p r) (bit_xor q s)
     exchange p q r s = simp (xor_assoc, xor_left_comm)
 
+-- and it takes 0 to 0
 pub sum_of_columns-nothing : (columns : List ℕ) → sum_of_columns columns 0 ≡ 0
 sum_of_columns-nothing columns = keeps_zero (sum_of_columns columns) (sum_of_columns-sum columns)
 
@@ -101,6 +103,7 @@ unfoldable pub level_columns : (ℕ → ℕ → ℕ) → (ℕ → ℕ) → ℕ �
 level_columns times images zero = 1 ∷ []
 level_columns times images (suc k) = doubled (λ column. times column (images k)) (level_columns times images k)
 
+-- level k has 2^k columns
 pub length-level_columns : (times : ℕ → ℕ → ℕ) (images : ℕ → ℕ) (k : ℕ) → length (level_columns times images k) ≡ 2 ^ k
 unfolding level_columns doubled
 length-level_columns times images zero = refl
@@ -110,6 +113,7 @@ length-level_columns times images (suc k) =
     (length-map (level_columns times images k) (λ column. times column (images k)) ∙ length-level_columns times images k)
     ∙ bits_double k
 
+-- the map of the columns of level k is the image at level k
 pub sum_of_columns-level_columns : (width : ℕ) (times : ℕ → ℕ → ℕ) (ring : IsRing width 1 times) (wide : 0 < width) (images : ℕ → ℕ) (k x : ℕ)
     → sum_of_columns (level_columns times images k) x ≡ image_at width times ring wide images k x
 unfolding level_columns doubled sum_of_columns

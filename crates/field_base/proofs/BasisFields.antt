@@ -23,6 +23,7 @@ module _ (k width modulus : ℕ) (images : List ℕ) (keeps : IsHomomorphism k w
   image_nonzero a x of_a nonzero zero_a =
       nonzero (sym of_a ∙ ap (basis_image width modulus images) zero_a ∙ keeps.zero_image)
 
+  -- the image of a power is the power of the image
   pub image_power : (a n : ℕ) → power 1 (mul_mod width modulus) (basis_image width modulus images a) n
       ≡ basis_image width modulus images (power 1 (tower_mul k) a n)
   unfolding power
@@ -40,6 +41,7 @@ module _ (k width modulus : ℕ) (images : List ℕ) (keeps : IsHomomorphism k w
   image_squarings (suc n) a =
       keeps.product_image _ _ ∙ ap (λ (x : ℕ). mul_mod width modulus x x) (image_squarings n a)
 
+  -- the image of the terms of a polynomial at a is those of the images of its coefficients at the image of a
   image_terms : {A : Type 0} (repr : A → ℕ) (a n : ℕ) (cs : List A)
       → terms_from 1 (mul_mod width modulus) (λ c. basis_image width modulus images (repr c)) (basis_image width modulus images a) n cs
       ≡ basis_image width modulus images (terms_from 1 (tower_mul k) repr a n cs)
@@ -67,9 +69,11 @@ ring_quotient width times ring a b inverse quotient fits inverts is =
 
 -- the image of a product of elements of a level j below k is the product of the images, and two elements have two images
 module _ (k width modulus : ℕ) (images : List ℕ) (isomorphic : IsChangeOfBasis k width modulus images) (j : ℕ) (lower : j ≤ k) where
+  -- k - j levels above level j is level k
   between : k - j + j ≡ k
   between = omega (arith, lower)
 
+  -- the image of a product at a lower level is the product of the images
   pub image_of_lower_product : (a b : ℕ) → a < 2 ^ 2 ^ j → b < 2 ^ 2 ^ j → basis_image width modulus images (tower_mul j a b)
       ≡ mul_mod width modulus (basis_image width modulus images a) (basis_image width modulus images b)
   image_of_lower_product a b a_fits b_fits =
@@ -77,9 +81,11 @@ module _ (k width modulus : ℕ) (images : List ℕ) (isomorphic : IsChangeOfBas
       (sym (tower_mul-low (k - j) j a b a_fits b_fits) ∙ ap (λ (n : ℕ). tower_mul n a b) between)
       ∙ isomorphic.homomorphism.product_image a b
 
+  -- an element of a lower level is an element
   up : (a : ℕ) → a < 2 ^ 2 ^ j → a < 2 ^ 2 ^ k
   up a fits = subst (λ (n : ℕ). a < 2 ^ 2 ^ n) between (level-lt (k - j) j a fits)
 
+  -- elements of a lower level that have one image are one
   pub image_of_lower_injective : (a b : ℕ) → a < 2 ^ 2 ^ j → b < 2 ^ 2 ^ j
       → basis_image width modulus images a ≡ basis_image width modulus images b → a ≡ b
   image_of_lower_injective a b a_fits b_fits same =

@@ -22,6 +22,7 @@ use Rattle.field_base.proofs.RingLemmas.{xor_nothing, zero-times, mod-times}
 use Rattle.field_base.proofs.TowerTraces.{tower_inverses, squarings_return, root-lt}
 
 module _ (width modulus : ℕ) (wide : 0 < width) (degree : HasDegree width modulus) (images : List ℕ) where
+  -- the polynomials modulo the given one are a ring
   ring : IsRing width 1 (mul_mod width modulus)
   ring = mul_mod_ring width modulus wide degree
 
@@ -29,6 +30,7 @@ module _ (width modulus : ℕ) (wide : 0 < width) (degree : HasDegree width modu
   abbrev at : ℕ → ℕ → ℕ
   at = image_at width (mul_mod width modulus) ring wide (slice_index images)
 
+  -- the image of x is that at the level of as many roots as there are images
   basis_image-at : (x : ℕ) → basis_image width modulus images x ≡ at (length images) x
   unfolding basis_image bit_image image_at
   basis_image-at x = refl
@@ -59,11 +61,13 @@ module _ (width modulus : ℕ) (wide : 0 < width) (degree : HasDegree width modu
   moved a b c nothing same =
       xor_nothing a (bit_xor b 1) (sym (xor_assoc a b 1) ∙ nothing) ∙ ap (λ (x : ℕ). bit_xor x 1) same
 
+  -- each image of a root meets the equation of the root
   roots_at : AreRoots width modulus images → (m : ℕ) → m < length images
       → mul_mod width modulus (slice_index images m) (slice_index images m)
       ≡ bit_xor (mul_mod width modulus (at m (root m)) (slice_index images m)) 1
   roots_at roots m below = moved _ _ _ (roots m below) (root_before m)
 
+  -- the image of the root of level m + 1 is entry m of the images
   root_image_at : (m : ℕ) → m < length images → basis_image width modulus images (root (suc m)) ≡ slice_index images m % 2 ^ width
   root_image_at m below =
       let level : length images - suc m + suc m ≡ length images = omega arith in
@@ -72,6 +76,7 @@ module _ (width modulus : ℕ) (wide : 0 < width) (degree : HasDegree width modu
       (root (suc m)) (root-lt (suc m))
       ∙ image_at-root width (mul_mod width modulus) ring wide (slice_index images) m
 
+  -- if the images of the roots meet the equations of the roots, the change of basis is a homomorphism
   pub homomorphism : AreRoots width modulus images → IsHomomorphism (length images) width modulus images
   homomorphism roots = record {
     below = λ a. subst (λ (x : ℕ). x < 2 ^ width) (sym (basis_image-at a))
@@ -202,5 +207,6 @@ module _ (width modulus : ℕ) (wide : 0 < width) (degree : HasDegree width modu
               λ a. ap (λ (n : ℕ). repeated_square 1 (mul_mod width modulus) n a) (sym whole) ∙ isomorphic-squarings a;
         }
 
+-- for every polynomial, images of roots that meet the equations give a homomorphism
 pub roots_give_homomorphism : RootsGiveHomomorphism
 roots_give_homomorphism width modulus images wide degree roots = homomorphism width modulus wide degree images roots

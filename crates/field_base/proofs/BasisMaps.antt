@@ -31,11 +31,13 @@ module _ (width : ℕ) (times : ℕ → ℕ → ℕ) (ring : IsRing width 1 time
   unfoldable pub image_at : ℕ → ℕ → ℕ
   image_at k x = sum_below (λ j. bit_at x j * product_image k j) (2 ^ k)
 
+  -- 1 is an element
   one_fits : 1 < 2 ^ width
   one_fits = pow_below 0 width wide
 
   -- ---- the products
 
+  -- a product of images is an element
   product_image-lt : (k j : ℕ) → product_image k j < 2 ^ width
   unfolding product_below
   product_image-lt zero j = one_fits
@@ -46,10 +48,12 @@ module _ (width : ℕ) (times : ℕ → ℕ → ℕ) (ring : IsRing width 1 time
   unfolding power
   factor_none a e none = ap (power 1 times a) none
 
+  -- an image is a factor where its bit is set
   factor_one : (a e : ℕ) → e ≡ 1 → power 1 times a e ≡ a % 2 ^ width
   unfolding power
   factor_one a e one = ap (power 1 times a) one ∙ ring.one a
 
+  -- below 2^k the next image is no factor
   product_image-suc_low : (k j : ℕ) → j < 2 ^ k → product_image (suc k) j ≡ product_image k j
   unfolding product_below
   product_image-suc_low k j fits =
@@ -57,6 +61,7 @@ module _ (width : ℕ) (times : ℕ → ℕ → ℕ) (ring : IsRing width 1 time
       ap (times (product_image k j)) (factor_none (images k) (bit_at j k) (bit_at_above j k k fits same))
       ∙ times-one width 1 times ring (product_image k j) (product_image-lt k j)
 
+  -- from 2^k on the next image is a factor
   product_image-suc_high : (k j : ℕ) → j < 2 ^ k → product_image (suc k) (2 ^ k + j) ≡ times (product_image k j) (images k)
   unfolding product_below
   product_image-suc_high k j fits =
@@ -69,16 +74,19 @@ module _ (width : ℕ) (times : ℕ → ℕ → ℕ) (ring : IsRing width 1 time
 
   -- ---- level by level
 
+  -- at level 0 the image of x is its lowest bit
   pub image_at-zero : (x : ℕ) → image_at 0 x ≡ x % 2
   unfolding image_at sum_below product_below
   image_at-zero x = mul-one (bit_at x 0) ∙ bit_at_lowest x
 
+  -- a bit times a product is the product of a factor by the bit times the other
   bit_times : (d : ℕ) → d < 2 → (p a : ℕ) → d * times p a ≡ times (d * p) a
   bit_times =
       two_cases (λ d. (p a : ℕ) → d * times p a ≡ times (d * p) a)
       (λ p a. zero-mul (times p a) ∙ sym (ap (λ (x : ℕ). times x a) (zero-mul p) ∙ zero-times width 1 times ring a))
       (λ p a. one-mul (times p a) ∙ sym (ap (λ (x : ℕ). times x a) (one-mul p)))
 
+  -- the image at level k + 1 is the image of the low half and the product of the next root's image by that of the high half
   pub image_at-suc : (k x : ℕ) → image_at (suc k) x ≡ bit_xor (image_at k x) (times (image_at k (x / 2 ^ 2 ^ k)) (images k))
   unfolding image_at
   image_at-suc k x =
@@ -100,6 +108,7 @@ module _ (width : ℕ) (times : ℕ → ℕ → ℕ) (ring : IsRing width 1 time
       sum_below-same (λ j. bit_at (x % 2 ^ 2 ^ k) j * product_image k j) (λ j. bit_at x j * product_image k j) (2 ^ k)
       (λ j below. ap (λ (d : ℕ). d * product_image k j) (bit_at-mod x (2 ^ k) j below))
 
+  -- an image is an element
   pub image_at-lt : (k x : ℕ) → image_at k x < 2 ^ width
   image_at-lt zero x = subst (λ (y : ℕ). y < 2 ^ width) (sym (image_at-zero x)) (small (x % 2) (mod-lt x (lit< tt)))
     where
@@ -109,6 +118,7 @@ module _ (width : ℕ) (times : ℕ → ℕ → ℕ) (ring : IsRing width 1 time
       subst (λ (y : ℕ). y < 2 ^ width) (sym (image_at-suc k x))
       (xor_lt width _ _ (image_at-lt k x) (ring.below _ _))
 
+  -- images keep sums
   pub image_at-sum : (k : ℕ) → KeepsSums (image_at k)
   image_at-sum zero a b =
       image_at-zero (bit_xor a b) ∙ xor_mod a b 1 ∙ ap₂ bit_xor (sym (image_at-zero a)) (sym (image_at-zero b))
@@ -124,6 +134,7 @@ module _ (width : ℕ) (times : ℕ → ℕ → ℕ) (ring : IsRing width 1 time
       exchange : (p q r s : ℕ) → bit_xor (bit_xor p q) (bit_xor r s) ≡ bit_xor (bit_xor p r) (bit_xor q s)
       exchange p q r s = simp (xor_assoc, xor_left_comm)
 
+  -- the image of 0 is 0
   pub image_at-nothing : (k : ℕ) → image_at k 0 ≡ 0
   image_at-nothing k = keeps_zero (image_at k) (image_at-sum k)
 
@@ -136,6 +147,7 @@ module _ (width : ℕ) (times : ℕ → ℕ → ℕ) (ring : IsRing width 1 time
       ∙ ap (λ (y : ℕ). times y (images k)) (image_at-nothing k) ∙ zero-times width 1 times ring (images k))
       ∙ xor_zero_r (image_at k x)
 
+  -- the image of 1 is 1
   pub image_at-one : (k : ℕ) → image_at k 1 ≡ 1
   image_at-one zero = image_at-zero 1
   image_at-one (suc k) = image_at-suc_low k 1 (pow_below 0 (2 ^ k) (pow_pos k)) ∙ image_at-one k
@@ -150,6 +162,7 @@ module _ (width : ℕ) (times : ℕ → ℕ → ℕ) (ring : IsRing width 1 time
       (sym (image_at-mod k (pair (2 ^ k) low high / 2 ^ 2 ^ k))
       ∙ ap (image_at k) (high_half-pair (2 ^ k) low high low_fits high_fits))
 
+  -- the image at level k + 1 by the halves of x as the tower names them
   pub image_at-halves : (k x : ℕ) → image_at (suc k) x
       ≡ bit_xor (image_at k (low_half (2 ^ k) x)) (times (image_at k (high_half (2 ^ k) x)) (images k))
   image_at-halves k x =
@@ -158,6 +171,7 @@ module _ (width : ℕ) (times : ℕ → ℕ → ℕ) (ring : IsRing width 1 time
 
   -- ---- the roots
 
+  -- the image of the root of level k + 1 is the entry of the images for it
   pub image_at-root : (k : ℕ) → image_at (suc k) (root (suc k)) ≡ images k % 2 ^ width
   unfolding root
   image_at-root k =
@@ -207,6 +221,7 @@ module _ (width : ℕ) (times : ℕ → ℕ → ℕ) (ring : IsRing width 1 time
   abbrev KeepsProducts : ℕ → Type 0
   KeepsProducts k = (a b : ℕ) → image_at k (tower_mul k a b) ≡ times (image_at k a) (image_at k b)
 
+  -- at level 0 images keep products
   keeps_products-zero : KeepsProducts 0
   unfolding tower_mul
   keeps_products-zero a b =
@@ -260,6 +275,7 @@ module _ (width : ℕ) (times : ℕ → ℕ → ℕ) (ring : IsRing width 1 time
           (image_at-sum k (tower_mul k a0 b1) (tower_mul k a1 b0) ∙ ap₂ bit_xor (of_product a0 b1) (of_product a1 b0))
           (of_product (root k) (tower_mul k a1 b1) ∙ ap (times (image_at k (root k))) (of_product a1 b1))
 
+  -- if the images of the roots below level k meet the equations of the roots, images at level k keep products
   pub image_at-product : (k : ℕ) → ((m : ℕ) → m < k → IsRoot m) → (a b : ℕ)
       → image_at k (tower_mul k a b) ≡ times (image_at k a) (image_at k b)
   image_at-product zero roots a b = keeps_products-zero a b

@@ -30,6 +30,7 @@ sum_below-same f g zero same = refl
 sum_below-same f g (suc n) same =
     ap₂ bit_xor (sum_below-same f g n (λ j below. same j (omega arith))) (same n (omega arith))
 
+-- the products of two functions that agree below n are one
 pub product_below-same : (times : ℕ → ℕ → ℕ) (f g : ℕ → ℕ) (n : ℕ) → ((j : ℕ) → j < n → f j ≡ g j)
     → product_below times f n ≡ product_below times g n
 unfolding product_below
@@ -62,6 +63,7 @@ pub bit_at_with-low : (n j m : ℕ) → m < n → bit_at (2 ^ n + j) m ≡ bit_a
 bit_at_with-low n j m below =
     ap (λ (y : ℕ). bit_at (y + j) m) (sym (one-mul (2 ^ n))) ∙ bit_at_cat_low 1 n j m below
 
+-- 2^n + j has bit n for j below 2^n
 pub bit_at_with-top : (n j : ℕ) → j < 2 ^ n → bit_at (2 ^ n + j) n ≡ 1
 bit_at_with-top n j fits =
     let same : n ≤ n = omega arith in

@@ -18,15 +18,18 @@ HoldValues g h n table = (p : ℕ) → p < n → g (get_or table p 0) ≡ h (p %
 unfoldable pub entry_passes : (ℕ → ℕ) → (ℕ → ℕ) → ℕ → ℕ → Bool
 entry_passes g h p y = eqb (g y) (h (p % 256 * 2 ^ (8 * (p / 256))))
 
+-- a table whose check passes holds the values
 pub entries_hold : (g h : ℕ → ℕ) (table : List ℕ) → passes (entry_passes g h) 0 table ≡ true → HoldValues g h (length table) table
 unfolding entry_passes
 entries_hold g h table pass p inside =
     eqb-true (g (get_or table p 0)) _ (passes_at (entry_passes g h) 0 table p pass inside)
     ∙ ap (λ (q : ℕ). h (q % 256 * 2 ^ (8 * (q / 256)))) (zero-add p)
 
+-- place 256 j + b is that of the byte b
 byte_of_place : (j b : ℕ) → b < 256 → (256 * j + b) % 256 ≡ b
 byte_of_place j b low = omega arith
 
+-- place 256 j + b is in row j
 row_of_place : (j b : ℕ) → b < 256 → (256 * j + b) / 256 ≡ j
 row_of_place j b low = omega arith
 
@@ -57,6 +60,7 @@ pub sum_of_entries_none : (table : List ℕ) (x : ℕ) → 0 ≡ sum_of_entries 
 unfolding sum_of_entries
 sum_of_entries_none table x = refl
 
+-- one byte more adds its entry to the sum
 pub sum_of_entries_more : (n : ℕ) (table : List ℕ) (x sum : ℕ) → sum ≡ sum_of_entries n table x
     → bit_xor sum (slice_index table (256 * n + x / 2 ^ (8 * n) % 256)) ≡ sum_of_entries (n + 1) table x
 unfolding sum_of_entries

@@ -10,6 +10,7 @@ pub aes_product : carryless 0x57 0x83 ≡ 0x2b79
 unfolding carryless carryless_in
 aes_product = refl
 
+-- the example of FIPS 197, section 4.2: the remainder of 0x2b79 modulo x^8 + x^4 + x^3 + x + 1
 pub aes_remainder : rem 8 aes_modulus 0x2b79 ≡ 0xc1
 unfolding rem rem_in
 aes_remainder = refl
@@ -37,8 +38,10 @@ poly64_power = refl
 pub aes_degree : HasDegree 8 aes_modulus
 aes_degree = refl
 
+-- x^64 + x^4 + x^3 + x + 1 has the degree 64
 pub poly64_degree : HasDegree 64 poly64_modulus
 poly64_degree = refl
 
+-- x^128 + x^7 + x^2 + x + 1 has the degree 128
 pub ghash_degree : HasDegree 128 ghash_modulus
 ghash_degree = refl

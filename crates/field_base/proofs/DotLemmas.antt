@@ -8,6 +8,7 @@ use lib.Bits.{xor_assoc, xor_zero_r}
 use Rattle.field_base.specs.Powers.{dot_of}
 
 module _ {A : Type 0} (times : ℕ → ℕ → ℕ) (repr : A → ℕ) where
+  -- the sum of no products is 0
   pub dot_of-nil : (ys : List A) → dot_of times repr [] ys ≡ 0
   dot_of-nil ys = refl
 

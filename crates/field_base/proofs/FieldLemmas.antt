@@ -13,6 +13,7 @@ use Rattle.field_base.proofs.RingLemmas.{xor_nothing, times_left_comm, times-zer
 use Rattle.field_base.proofs.PowerLemmas.{one-times, times-one, square_xor, square_times, repeated_square_more, repeated_square_square, repeated_square-mod_round, power-lt, power-two, power-add, repeated_square-power}
 
 module _ (width : ℕ) (times : ℕ → ℕ → ℕ) (ring : IsRing width 1 times) where
+  -- an element has at most one inverse
   pub inverse-unique : (a x y : ℕ) → x < 2 ^ width → y < 2 ^ width → times a x ≡ 1 → times a y ≡ 1 → x ≡ y
   inverse-unique a x y x_fits y_fits x_inverts y_inverts =
       sym (times-one width 1 times ring x x_fits) ∙ ap (times x) (sym y_inverts)
@@ -68,6 +69,7 @@ inverse-power width times field wide x y fits y_fits inverts =
     ∙ ap (λ (z : ℕ). times z (times y y)) (sym (power-back width times field wide x fits)) ∙ ring.assoc inverse (times x x) (times y y)
     ∙ ap (times inverse) ones ∙ times-one width 1 times ring inverse (power-lt width 1 times ring one_fits x (2 ^ width - 2))
 
+-- in a field of 2^width elements the power 2^width - 2 of a nonzero element is its inverse
 pub power-inverts : (width : ℕ) (times : ℕ → ℕ → ℕ) → IsField width times → 0 < width → (x : ℕ) → x < 2 ^ width → x ≢ 0
     → times x (power 1 times x (2 ^ width - 2)) ≡ 1
 power-inverts width times field wide x fits nonzero =
@@ -100,6 +102,7 @@ root_is_squarings width times field wide x r fits squares =
     sym (field_frobenius width times field r fits) ∙ ap (λ (n : ℕ). repeated_square 1 times n r) count
     ∙ sym (repeated_square_square width 1 times field.ring (width - 1) r) ∙ ap (repeated_square 1 times (width - 1)) squares
 
+-- every field has these laws
 pub fields_have_laws : FieldsHaveLaws
 fields_have_laws width times wide field =
     record {

@@ -79,6 +79,7 @@ images_end images place sum rest past =
 
 -- ---- what the map is
 
+-- the map of given columns takes bit j to column j
 sum_of_columns-bit : (images : List ℕ) (j : ℕ) → sum_of_columns images (2 ^ j) ≡ slice_index images j
 unfolding sum_of_columns
 sum_of_columns-bit [] j = refl
@@ -90,6 +91,7 @@ sum_of_columns-bit (image ∷ images) (suc j) =
     ap₂ bit_xor (ap (λ (d : ℕ). d * image) even ∙ zero-mul image) (ap (sum_of_columns images) half ∙ sum_of_columns-bit images j)
     ∙ xor_comm 0 (slice_index images j) ∙ xor_zero_r (slice_index images j)
 
+-- `linear_image` is the one map that keeps sums and takes bit j to image j
 pub the_linear_map : (images : List ℕ) → IsTheLinearMapOf images (linear_image images)
 the_linear_map images = record { of_sum = sums; of_bit = bits; only = alone }
   where

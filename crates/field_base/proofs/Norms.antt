@@ -16,6 +16,7 @@ use Rattle.field_base.proofs.QuadraticRing.{low_half-lt, high_half-lt, low_half-
 use Rattle.field_base.proofs.QuadraticProducts.{low_half-low, high_half-low, pair-low, quadratic-low, quadratic-low_times}
 
 module _ (width : ℕ) (times : ℕ → ℕ → ℕ) (ring : IsRing width 1 times) (t : ℕ) where
+  -- the norm is an element of the ring below
   pub norm-lt : (a : ℕ) → norm width times t a < 2 ^ width
   norm-lt a = xor_lt width _ _ (xor_lt width _ _ (ring.below _ _) (ring.below _ _)) (ring.below _ _)
 
@@ -23,23 +24,28 @@ module _ (width : ℕ) (times : ℕ → ℕ → ℕ) (ring : IsRing width 1 time
   pub conjugate_low-lt : (a : ℕ) → bit_xor (low_half width a) (times t (high_half width a)) < 2 ^ width
   conjugate_low-lt a = xor_lt width _ _ (low_half-lt width a) (ring.below t (high_half width a))
 
+  -- the low half of the conjugate of a0 + a1 X is a0 + t a1
   pub low_half-conjugate : (a : ℕ) → low_half width (conjugate width times t a)
       ≡ bit_xor (low_half width a) (times t (high_half width a))
   low_half-conjugate a = low_half-pair width _ (high_half width a) (conjugate_low-lt a)
 
+  -- its high half is a1
   pub high_half-conjugate : (a : ℕ) → high_half width (conjugate width times t a) ≡ high_half width a
   high_half-conjugate a = high_half-pair width _ (high_half width a) (conjugate_low-lt a) (high_half-lt width a)
 
   -- ---- an element times its conjugate
 
+  -- the low half of the product with the conjugate is a0² + t a0 a1 + a1²
   conjugate_low : (a0 a1 : ℕ) → low_product width times ring t a0 a1 (bit_xor a0 (times t a1)) a1
       ≡ bit_xor (bit_xor (times a0 a0) (times t (times a0 a1))) (times a1 a1)
   conjugate_low a0 a1 = simp (ring.over_sum, times_left_comm width 1 times ring)
 
+  -- its high half is 0
   conjugate_high : (a0 a1 : ℕ) → high_product width times ring t a0 a1 (bit_xor a0 (times t a1)) a1 ≡ 0
   conjugate_high a0 a1 =
       simp (ring.over_sum, ring.comm, times_left_comm width 1 times ring, xor_self, xor_cancel)
 
+  -- an element times its conjugate is its norm
   pub quadratic-conjugate : (a : ℕ) → quadratic width times t a (conjugate width times t a) ≡ norm width times t a
   quadratic-conjugate a =
       quadratic-pair_right width times ring t a _ _ (conjugate_low-lt a) (high_half-lt width a)
@@ -55,6 +61,7 @@ module _ (width : ℕ) (times : ℕ → ℕ → ℕ) (ring : IsRing width 1 time
       ∙ ap₂ (λ (x z : ℕ). pair width (times y x) (times y z)) (low_half-conjugate a) (high_half-conjugate a)
       ∙ ap₂ (pair width) (ring.comm y _) (ring.comm y _)
 
+  -- if y is the inverse of the norm, the conjugate times y is the inverse of the element
   inverse_in_range : 0 < width → (a y : ℕ) → y < 2 ^ width → times (norm width times t a) y ≡ 1
       → quadratic width times t a
       (pair width (times (bit_xor (low_half width a) (times t (high_half width a))) y) (times (high_half width a) y))
@@ -81,6 +88,7 @@ module _ (width : ℕ) (times : ℕ → ℕ → ℕ) (ring : IsRing width 1 time
 
   -- ---- the norm of 0 alone is 0
 
+  -- the norm of 0 is 0
   pub norm-of_zero : norm width times t 0 ≡ 0
   norm-of_zero =
       ap₂ norm_of_halves (low_half-low width 0 (pow_pos width)) (high_half-low width 0 (pow_pos width))

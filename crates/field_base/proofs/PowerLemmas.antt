@@ -11,9 +11,11 @@ use Rattle.field_base.specs.Powers.{power, repeated_square, sum_of_squarings}
 use Rattle.field_base.proofs.RingLemmas.{xor_left_comm, xor_cancel, sum_times, times_left_comm, times-zero, times-mod, mod-times}
 
 module _ (width unit : ℕ) (times : ℕ → ℕ → ℕ) (ring : IsRing width unit times) where
+  -- 1 a = a
   pub one-times : (a : ℕ) → a < 2 ^ width → times unit a ≡ a
   one-times a low = ring.one a ∙ mod-eq_of_lt low
 
+  -- a 1 = a
   pub times-one : (a : ℕ) → a < 2 ^ width → times a unit ≡ a
   times-one a low = ring.comm a unit ∙ one-times a low
 
@@ -31,27 +33,32 @@ module _ (width unit : ℕ) (times : ℕ → ℕ → ℕ) (ring : IsRing width u
 
   -- ---- repeated squarings
 
+  -- a repeated square is an element
   pub repeated_square-lt : (n a : ℕ) → repeated_square unit times n a < 2 ^ width
   unfolding repeated_square
   repeated_square-lt zero a = ring.below unit a
   repeated_square-lt (suc n) a = ring.below (repeated_square unit times n a) (repeated_square unit times n a)
 
+  -- it depends on the low bits of a alone
   pub repeated_square-mod : (n a : ℕ) → repeated_square unit times n (a % 2 ^ width) ≡ repeated_square unit times n a
   unfolding repeated_square
   repeated_square-mod zero a = times-mod width unit times ring unit a
   repeated_square-mod (suc n) a = ap (λ (x : ℕ). times x x) (repeated_square-mod n a)
 
+  -- 0 squared n times is 0
   pub repeated_square-zero : (n : ℕ) → repeated_square unit times n 0 ≡ 0
   unfolding repeated_square
   repeated_square-zero zero = times-zero width unit times ring unit
   repeated_square-zero (suc n) = ap (λ (x : ℕ). times x x) (repeated_square-zero n) ∙ times-zero width unit times ring 0
 
+  -- n squarings of a sum are the sum of those of its terms
   pub repeated_square_xor : (n a b : ℕ) → repeated_square unit times n (bit_xor a b) ≡ bit_xor (repeated_square unit times n a) (repeated_square unit times n b)
   unfolding repeated_square
   repeated_square_xor zero a b = ring.over_sum unit a b
   repeated_square_xor (suc n) a b =
       ap (λ (x : ℕ). times x x) (repeated_square_xor n a b) ∙ square_xor (repeated_square unit times n a) (repeated_square unit times n b)
 
+  -- n squarings of a product are the product of those of its factors
   pub repeated_square_times : (n a b : ℕ) → repeated_square unit times n (times a b) ≡ times (repeated_square unit times n a) (repeated_square unit times n b)
   unfolding repeated_square
   repeated_square_times zero a b =
@@ -66,6 +73,7 @@ module _ (width unit : ℕ) (times : ℕ → ℕ → ℕ) (ring : IsRing width u
   unfolding repeated_square
   repeated_square-none a low = one-times a low
 
+  -- one squaring more is the square
   pub repeated_square_more : (n a : ℕ) → repeated_square unit times (n + 1) a ≡ times (repeated_square unit times n a) (repeated_square unit times n a)
   unfolding repeated_square
   repeated_square_more n a = ap (λ (k : ℕ). repeated_square unit times k a) (add-one n)
@@ -100,16 +108,19 @@ module _ (width unit : ℕ) (times : ℕ → ℕ → ℕ) (ring : IsRing width u
 
   -- ---- sums of repeated squarings
 
+  -- a sum of squarings is an element
   pub sum_of_squarings-lt : (n a : ℕ) → sum_of_squarings unit times n a < 2 ^ width
   unfolding sum_of_squarings
   sum_of_squarings-lt zero a = pow_pos width
   sum_of_squarings-lt (suc n) a = xor_lt width _ _ (sum_of_squarings-lt n a) (repeated_square-lt n a)
 
+  -- it depends on the low bits of a alone
   pub sum_of_squarings-mod : (n a : ℕ) → sum_of_squarings unit times n (a % 2 ^ width) ≡ sum_of_squarings unit times n a
   unfolding sum_of_squarings
   sum_of_squarings-mod zero a = refl
   sum_of_squarings-mod (suc n) a = ap₂ bit_xor (sum_of_squarings-mod n a) (repeated_square-mod n a)
 
+  -- the sum of squarings of a sum is the sum of those of its terms
   pub sum_of_squarings_xor : (n a b : ℕ) → sum_of_squarings unit times n (bit_xor a b)
       ≡ bit_xor (sum_of_squarings unit times n a) (sum_of_squarings unit times n b)
   unfolding sum_of_squarings
@@ -126,6 +137,7 @@ module _ (width unit : ℕ) (times : ℕ → ℕ → ℕ) (ring : IsRing width u
       ap₂ bit_xor (sum_of_squarings_square n a) (repeated_square_times n a a)
       ∙ sym (square_xor (sum_of_squarings unit times n a) (repeated_square unit times n a))
 
+  -- a sum that telescopes, by one term more
   telescoped : (sum first last next : ℕ) → bit_xor (bit_xor sum (bit_xor first last)) next
       ≡ bit_xor (bit_xor sum last) (bit_xor first next)
   telescoped sum first last next = simp (xor_assoc, xor_left_comm)

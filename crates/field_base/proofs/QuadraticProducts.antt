@@ -15,9 +15,11 @@ use Rattle.field_base.proofs.QuadraticRing.{low_half-lt, high_half-lt, low_half-
 pub low_half-low : (width a : ℕ) → a < 2 ^ width → low_half width a ≡ a
 low_half-low width a fits = mod-eq_of_lt fits
 
+-- the high half of a number of w bits is 0
 pub high_half-low : (width a : ℕ) → a < 2 ^ width → high_half width a ≡ 0
 high_half-low width a fits = ap (λ (x : ℕ). x % 2 ^ width) (div-eq_of_lt fits) ∙ mod-eq_of_lt (pow_pos width)
 
+-- a with the high half 0 is a
 pub pair-low : (width a : ℕ) → pair width a 0 ≡ a
 pair-low width a = ap (λ (x : ℕ). x + a) (zero-mul (2 ^ width)) ∙ zero-add a
 
@@ -43,6 +45,7 @@ module _ (width : ℕ) (times : ℕ → ℕ → ℕ) (ring : IsRing width 1 time
       ap (λ (x : ℕ). bit_xor (bit_xor (times a0 a1) x) (times t (times a1 a1))) (ring.comm a1 a0)
       ∙ ap (λ (x : ℕ). bit_xor x (times t (times a1 a1))) (xor_self (times a0 a1))
 
+  -- (a0 + a1 X)² = (a0² + a1²) + t a1² X
   pub quadratic-square : (a : ℕ) → quadratic width times t a a
       ≡ pair width
       (bit_xor (times (low_half width a) (low_half width a)) (times (high_half width a) (high_half width a)))
@@ -52,6 +55,7 @@ module _ (width : ℕ) (times : ℕ → ℕ → ℕ) (ring : IsRing width 1 time
       ∙ ap (pair width (bit_xor (times (low_half width a) (low_half width a)) (times (high_half width a) (high_half width a))))
       (high_product-square (low_half width a) (high_half width a))
 
+  -- the square of an element given by its halves
   pub quadratic-square_pair : (a0 a1 : ℕ) → a0 < 2 ^ width → a1 < 2 ^ width
       → quadratic width times t (pair width a0 a1) (pair width a0 a1)
       ≡ pair width (bit_xor (times a0 a0) (times a1 a1)) (times t (times a1 a1))
@@ -89,6 +93,7 @@ module _ (width : ℕ) (times : ℕ → ℕ → ℕ) (ring : IsRing width 1 time
   mixed_products a0 a1 b0 b1 =
       simp (sum_times width 1 times ring, ring.over_sum, xor_assoc, xor_comm, xor_left_comm, xor_self, xor_cancel)
 
+  -- the product by Karatsuba's rule, from three products of halves
   pub quadratic-karatsuba : (a b : ℕ) → quadratic width times t a b
       ≡ pair width
       (bit_xor (times (low_half width a) (low_half width b)) (times (high_half width a) (high_half width b)))

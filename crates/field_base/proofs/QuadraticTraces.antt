@@ -17,12 +17,19 @@ use Rattle.field_base.proofs.QuadraticProducts.{pair-low, pair-root, quadratic-l
 
 -- a ring of w-bit elements in which w squarings return each element, and t and its inverse s have the trace 1
 pub record HasUnitTraces (width : ℕ) (times : ℕ → ℕ → ℕ) (t s : ℕ) : Type 0 where
+  -- there is a bit
   pub wide : 0 < width
+  -- t is an element
   pub t_fits : t < 2 ^ width
+  -- s is an element
   pub s_fits : s < 2 ^ width
+  -- s is the inverse of t
   pub unit : times t s ≡ 1
+  -- w squarings return each element
   pub returns : (a : ℕ) → repeated_square 1 times width a ≡ a % 2 ^ width
+  -- the trace of t is 1
   pub t_trace : sum_of_squarings 1 times width t ≡ 1
+  -- the trace of its inverse is 1
   pub s_trace : sum_of_squarings 1 times width s ≡ 1
 
 -- the halves of an element as a sum
@@ -40,6 +47,7 @@ module _ (width : ℕ) (times : ℕ → ℕ → ℕ) (ring : IsRing width 1 time
       (ap₂ bit_xor (ring.one a) (given.returns a) ∙ xor_self (a % 2 ^ width))
       ∙ xor_zero_r (sum_of_squarings 1 times width a)
 
+  -- the square of the inverse s of t has the trace 1, too
   s_square-trace : sum_of_squarings 1 times width (times s s) ≡ 1
   s_square-trace = trace_square s ∙ given.s_trace
 
@@ -59,6 +67,7 @@ module _ (width : ℕ) (times : ℕ → ℕ → ℕ) (ring : IsRing width 1 time
           ∙ ap (λ (y : ℕ). times y (times s x)) (sym given.unit)
           ∙ simp (ring.assoc, times_left_comm width 1 times ring)
 
+  -- X² + t X + 1 has no root in the ring below
   pub quadratic-no_root : (x : ℕ) → bit_xor (bit_xor (times x x) (times t x)) 1 ≢ 0
   quadratic-no_root x root = suc-ne-zero 0 (sym no_trace)
     where
@@ -74,12 +83,15 @@ module _ (width : ℕ) (times : ℕ → ℕ → ℕ) (ring : IsRing width 1 time
 
   -- ---- elements of the ring below, in the extension
 
+  -- 1 is an element
   one_fits : 1 < 2 ^ width
   one_fits = pow_below 0 width given.wide
 
+  -- the extension is a ring
   extended : IsRing (width + width) 1 (quadratic width times t)
   extended = quadratic_ring width times ring t given.wide
 
+  -- elements of the ring below are squared there
   repeated_square-low : (n a : ℕ) → a < 2 ^ width → repeated_square 1 (quadratic width times t) n a ≡ repeated_square 1 times n a
   unfolding repeated_square
   repeated_square-low zero a fits = quadratic-low width times ring t 1 a one_fits fits
@@ -88,6 +100,7 @@ module _ (width : ℕ) (times : ℕ → ℕ → ℕ) (ring : IsRing width 1 time
       ∙ quadratic-low width times ring t (repeated_square 1 times n a) (repeated_square 1 times n a) (repeated_square-lt width 1 times ring n a)
       (repeated_square-lt width 1 times ring n a)
 
+  -- and their sums of squarings are those there
   sum_of_squarings-low : (n a : ℕ) → a < 2 ^ width
       → sum_of_squarings 1 (quadratic width times t) n a ≡ sum_of_squarings 1 times n a
   unfolding sum_of_squarings
@@ -154,6 +167,7 @@ module _ (width : ℕ) (times : ℕ → ℕ → ℕ) (ring : IsRing width 1 time
       (quadratic-low width times ring t (times t a1) 1 (ring.below t a1) one_fits
       ∙ times-one width 1 times ring (times t a1) (ring.below t a1))
 
+  -- w squarings take a0 + a1 X to its conjugate (a0 + t a1) + a1 X, for halves given
   half-repeated_square : (a0 a1 : ℕ) → a0 < 2 ^ width → a1 < 2 ^ width
       → repeated_square 1 (quadratic width times t) width (pair width a0 a1) ≡ bit_xor (pair width a0 a1) (times t a1)
   half-repeated_square a0 a1 low_fits high_fits =
@@ -163,6 +177,7 @@ module _ (width : ℕ) (times : ℕ → ℕ → ℕ) (ring : IsRing width 1 time
       ∙ sym (xor_assoc a0 (pair width 0 a1) (times t a1))
       ∙ ap (λ (x : ℕ). bit_xor x (times t a1)) (sym (pair_as_sum width a0 a1 low_fits))
 
+  -- w squarings take a to a + t a1, where a1 is its high half
   pub repeated_square-half : (a : ℕ) → repeated_square 1 (quadratic width times t) width a
       ≡ bit_xor (a % 2 ^ (width + width)) (times t (high_half width a))
   repeated_square-half a =
@@ -198,6 +213,7 @@ module _ (width : ℕ) (times : ℕ → ℕ → ℕ) (ring : IsRing width 1 time
 
   -- ---- the trace of an element is that of t times its high half, below
 
+  -- the trace of a0 + a1 X in the extension is the trace of t a1 in the ring below
   pub quadratic-trace : (a : ℕ) → sum_of_squarings 1 (quadratic width times t) (width + width) a
       ≡ sum_of_squarings 1 times width (times t (high_half width a))
   quadratic-trace a =
@@ -230,6 +246,7 @@ module _ (width : ℕ) (times : ℕ → ℕ → ℕ) (ring : IsRing width 1 time
       (low_half-pair width t 1 given.t_fits) (high_half-pair width t 1 given.t_fits one_fits)
       ∙ ap (pair width 1) (ap (bit_xor t) (times-one width 1 times ring t given.t_fits) ∙ xor_self t) ∙ pair-low width 1
 
+  -- so the extension by X has the root X and its inverse X + t of trace 1
   pub quadratic-unit_traces : HasUnitTraces (width + width) (quadratic width times t) (2 ^ width) (pair width t 1)
   quadratic-unit_traces = record {
     wide = omega (arith, given.wide);

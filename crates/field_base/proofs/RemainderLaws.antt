@@ -14,6 +14,7 @@ use Rattle.field_base.proofs.CarrylessProduct.{xor_double, xor_exchange, bit_cas
 
 -- ---- the step
 
+-- fuel that suffices may grow by one
 more : (fuel width modulus p : ℕ) → p ≤ fuel → rem_in (suc fuel) width modulus p ≡ rem_in fuel width modulus p
 unfolding rem_in
 more zero width modulus zero fits = refl
@@ -22,12 +23,14 @@ more (suc fuel) width modulus zero fits = refl
 more (suc fuel) width modulus (suc p) fits =
     ap (λ (x : ℕ). reduce_top width modulus (x * 2 + suc p % 2)) (more fuel width modulus (suc p / 2) (half_le fits))
 
+-- the remainder with enough fuel is the remainder
 enough : (fuel width modulus p : ℕ) → p ≤ fuel → rem_in fuel width modulus p ≡ rem width modulus p
 unfolding rem
 enough fuel width modulus p fits =
     le_ind (λ (m : ℕ). rem_in m width modulus p ≡ rem_in p width modulus p) refl
     (λ m k e. more m width modulus p k ∙ e) fuel fits
 
+-- the remainder of 0 is 0
 rem_zero : (width modulus : ℕ) → rem width modulus 0 ≡ 0
 unfolding rem rem_in
 rem_zero width modulus = refl
@@ -42,25 +45,30 @@ rem_suc width modulus p =
 
 -- ---- the remainder is one
 
+-- a number whose bits from k on are 0 has k bits
 shr_zero : (x k : ℕ) → x / 2 ^ k ≡ 0 → x < 2 ^ k
 shr_zero x k none =
     subst (λ (y : ℕ). x < y) (one-mul (2 ^ k)) ((div-lt_iff_lt-mul (pow_pos k)).0 (le_of_eq (ap suc none)))
 
+-- 2 r + a bit has one bit more than r
 double_bit_lt : (r d k : ℕ) → r < 2 ^ k → r * 2 + d % 2 < 2 ^ suc k
 double_bit_lt r d k fits = omega arith
 
+-- bit k of a number of k + 1 bits is 0 or 1
 top_lt : (p k : ℕ) → p < 2 ^ suc k → p / 2 ^ k < 2
 top_lt p k fits = (div-lt_iff_lt-mul (pow_pos k)).1 (subst (λ (x : ℕ). p < x) (pow k) fits)
   where
     pow : (n : ℕ) → 2 ^ suc n ≡ 2 * 2 ^ n
     pow n = omega arith
 
+-- a bit times the modulus has the bit in the place of the degree
 bit_times_top : (width modulus d : ℕ) → HasDegree width modulus → d % 2 * modulus / 2 ^ width ≡ d % 2
 bit_times_top width modulus d degree =
     bit_cases (λ x. x * modulus / 2 ^ width ≡ x)
     (ap (λ (x : ℕ). x / 2 ^ width) (zero-mul modulus) ∙ zero-div (2 ^ width))
     (ap (λ (x : ℕ). x / 2 ^ width) (one-mul modulus) ∙ degree) d
 
+-- without its top bit a number of width + 1 bits is below 2^width
 reduce_top-lt : (width modulus p : ℕ) → HasDegree width modulus → p < 2 ^ suc width
     → reduce_top width modulus p < 2 ^ width
 reduce_top-lt width modulus p degree fits =
@@ -94,6 +102,7 @@ move_top width modulus q p =
     moved : (a b c : ℕ) → bit_xor (bit_xor a b) (bit_xor c b) ≡ bit_xor a c
     moved a b c = xor_exchange a b c b ∙ ap (bit_xor (bit_xor a c)) (xor_self b) ∙ xor_zero_r (bit_xor a c)
 
+-- a remainder of p / 2 gives one of p, by its next bit and one subtraction
 rem_is-step : (width modulus p : ℕ) → HasDegree width modulus
     → IsRemainder width modulus (p / 2) (rem width modulus (p / 2)) → IsRemainder width modulus p
     (reduce_top width modulus (rem width modulus (p / 2) * 2 + p % 2))
@@ -106,6 +115,7 @@ rem_is-step width modulus p degree half = record {
       ∙ move_top width modulus (half.quotient * 2) (rem width modulus (p / 2) * 2 + p % 2);
 }
 
+-- 0 is the remainder of 0
 zero_is : (width modulus : ℕ) → IsRemainder width modulus 0 0
 zero_is width modulus = record {
   below = pow_pos width;
@@ -113,6 +123,7 @@ zero_is width modulus = record {
   parts = sym (ap (λ (x : ℕ). bit_xor x 0) (zero_carryless modulus));
 }
 
+-- the step from (p + 1) / 2 to p + 1
 rem_is-suc : (width modulus p : ℕ) → HasDegree width modulus
     → IsRemainder width modulus (suc p / 2) (rem width modulus (suc p / 2))
     → IsRemainder width modulus (suc p) (rem width modulus (suc p))
@@ -120,16 +131,19 @@ rem_is-suc width modulus p degree half =
     subst (λ (x : ℕ). IsRemainder width modulus (suc p) x) (sym (rem_suc width modulus p))
     (rem_is-step width modulus (suc p) degree half)
 
+-- the remainder of 0 is one
 rem_is-zero : (width modulus : ℕ) → IsRemainder width modulus 0 (rem width modulus 0)
 rem_is-zero width modulus =
     subst (λ (x : ℕ). IsRemainder width modulus 0 x) (sym (rem_zero width modulus)) (zero_is width modulus)
 
+-- the step from p / 2 to p, for every p
 rem_is-cases : (width modulus p : ℕ) → HasDegree width modulus
     → IsRemainder width modulus (p / 2) (rem width modulus (p / 2))
     → IsRemainder width modulus p (rem width modulus p)
 rem_is-cases width modulus zero degree half = rem_is-zero width modulus
 rem_is-cases width modulus (suc p) degree half = rem_is-suc width modulus p degree half
 
+-- `rem` is a remainder: below 2^width, and congruent
 pub rem_is_remainder : RemIsRemainder
 rem_is_remainder width modulus p degree =
     bin_ind (λ (n : ℕ). IsRemainder width modulus n (rem width modulus n)) (rem_is-zero width modulus)
@@ -146,11 +160,13 @@ xor_le k x y below above =
     (sym (xor_shr x y k ∙ ap (λ (z : ℕ). bit_xor z (y / 2 ^ k)) (div-eq_of_lt below)))
     ((le-div_iff_mul-le (pow_pos k)).1 (subst (λ (z : ℕ). z ≤ y) (sym (one-mul (2 ^ k))) above))))
 
+-- the modulus has the bit of its degree
 modulus_le : (width modulus : ℕ) → HasDegree width modulus → 2 ^ width ≤ modulus
 modulus_le width modulus degree =
     subst (λ (z : ℕ). z ≤ modulus) (one-mul (2 ^ width))
     ((le-div_iff_mul-le (pow_pos width)).0 (le_of_eq (sym degree)))
 
+-- and no bit above it
 modulus_lt : (width modulus : ℕ) → HasDegree width modulus → modulus < 2 ^ suc width
 modulus_lt width modulus degree =
     subst (λ (z : ℕ). modulus < z) (pow width) ((div-lt_iff_lt-mul (pow_pos width)).0 (le_of_eq (ap suc degree)))
@@ -158,6 +174,7 @@ modulus_lt width modulus degree =
     pow : (n : ℕ) → 2 * 2 ^ n ≡ 2 ^ suc n
     pow n = omega arith
 
+-- a bit times a number of n bits has n bits
 bit_times_lt : (d b n : ℕ) → b < 2 ^ n → d % 2 * b < 2 ^ n
 bit_times_lt d b n fits = bit_cases (λ x. x * b < 2 ^ n) (rw zero-mul (pow_pos n)) (rw one-mul fits) d
 
@@ -198,6 +215,7 @@ difference a b c d e =
     ap (bit_xor a) (sym (xor_cancel d c) ∙ ap (bit_xor d) (xor_comm d c ∙ sym e))
     ∙ ap (bit_xor a) (xor_left_comm d a b) ∙ xor_cancel a (bit_xor d b) ∙ xor_comm d b
 
+-- a polynomial has at most one remainder
 pub remainder_unique : RemainderIsUnique
 remainder_unique width modulus p r s degree first second =
     xor_nothing r s (sym apart
@@ -213,12 +231,15 @@ remainder_unique width modulus p r s degree first second =
 -- ---- what the remainder keeps
 
 module _ (width modulus : ℕ) (degree : HasDegree width modulus) where
+  -- a remainder is below 2^width
   pub rem_lt : (p : ℕ) → rem width modulus p < 2 ^ width
   rem_lt p = (rem_is_remainder width modulus p degree).below
 
+  -- what is a remainder of p is `rem` of p
   pub rem_of : (p r : ℕ) → IsRemainder width modulus p r → rem width modulus p ≡ r
   rem_of p r is = remainder_unique width modulus p (rem width modulus p) r degree (rem_is_remainder width modulus p degree) is
 
+  -- a polynomial of lower degree is its own remainder
   pub rem_small : (p : ℕ) → p < 2 ^ width → rem width modulus p ≡ p
   rem_small p fits =
       rem_of p p record {
@@ -227,6 +248,7 @@ module _ (width modulus : ℕ) (degree : HasDegree width modulus) where
         parts = sym (ap (λ (x : ℕ). bit_xor x p) (zero_carryless modulus));
       }
 
+  -- the remainder of a sum is the sum of the remainders
   pub rem_sum : (a b : ℕ) → rem width modulus (bit_xor a b) ≡ bit_xor (rem width modulus a) (rem width modulus b)
   rem_sum a b =
       sum_of (rem width modulus a) (rem width modulus b) (rem_is_remainder width modulus a degree)
@@ -267,6 +289,7 @@ module _ (width modulus : ℕ) (degree : HasDegree width modulus) where
           ∙ ap (λ (x : ℕ). bit_xor x (carryless a r)) (sym (carryless_assoc a is.quotient modulus)))
           ∙ rem_multiple (carryless a is.quotient) (carryless a r))
 
+  -- a factor may be replaced by its remainder
   pub rem_carryless_left : (a b : ℕ) → rem width modulus (carryless (rem width modulus a) b) ≡ rem width modulus (carryless a b)
   rem_carryless_left a b =
       ap (rem width modulus) (carryless_comm (rem width modulus a) b) ∙ rem_carryless b a ∙ ap (rem width modulus) (carryless_comm b a)

@@ -9,6 +9,7 @@ use Rattle.field_base.specs.Ring.{IsRing}
 use Rattle.field_base.proofs.CarrylessProduct.{carryless_comm, carryless_assoc, carryless_sum, one_carryless}
 use Rattle.field_base.proofs.RemainderLaws.{rem_is_remainder, rem_lt, rem_small, rem_sum, rem_carryless, rem_carryless_left}
 
+-- the product modulo a polynomial is the remainder of the carryless product
 pub mul_mod_is_remainder : MulModIsRemainder
 unfolding mul_mod
 mul_mod_is_remainder width modulus a b degree = rem_is_remainder width modulus (carryless (a % 2 ^ width) (b % 2 ^ width)) degree
@@ -21,10 +22,12 @@ module _ (width modulus : ℕ) (degree : HasDegree width modulus) where
   mul_mod-rem a b left right =
       ap₂ (λ (x y : ℕ). rem width modulus (carryless x y)) (mod-eq_of_lt left) (mod-eq_of_lt right)
 
+  -- a product is an element
   mul_mod_below : (a b : ℕ) → mul_mod width modulus a b < 2 ^ width
   unfolding mul_mod
   mul_mod_below a b = rem_lt width modulus degree (carryless (a % 2 ^ width) (b % 2 ^ width))
 
+  -- a b = b a
   mul_mod_comm : (a b : ℕ) → mul_mod width modulus a b ≡ mul_mod width modulus b a
   unfolding mul_mod
   mul_mod_comm a b = ap (rem width modulus) (carryless_comm (a % 2 ^ width) (b % 2 ^ width))
@@ -37,6 +40,7 @@ module _ (width modulus : ℕ) (degree : HasDegree width modulus) where
       ap (λ (x : ℕ). rem width modulus (carryless x (c % 2 ^ width))) (mod-eq_of_lt (mul_mod_below a b))
       ∙ rem_carryless_left width modulus degree (carryless (a % 2 ^ width) (b % 2 ^ width)) (c % 2 ^ width)
 
+  -- a (b c) is the remainder of the carryless product of the three
   right_product : (a b c : ℕ) → mul_mod width modulus a (mul_mod width modulus b c)
       ≡ rem width modulus (carryless (a % 2 ^ width) (carryless (b % 2 ^ width) (c % 2 ^ width)))
   unfolding mul_mod
@@ -44,6 +48,7 @@ module _ (width modulus : ℕ) (degree : HasDegree width modulus) where
       ap (λ (x : ℕ). rem width modulus (carryless (a % 2 ^ width) x)) (mod-eq_of_lt (mul_mod_below b c))
       ∙ rem_carryless width modulus degree (a % 2 ^ width) (carryless (b % 2 ^ width) (c % 2 ^ width))
 
+  -- (a b) c = a (b c)
   mul_mod_assoc : (a b c : ℕ) → mul_mod width modulus (mul_mod width modulus a b) c
       ≡ mul_mod width modulus a (mul_mod width modulus b c)
   mul_mod_assoc a b c =
@@ -51,6 +56,7 @@ module _ (width modulus : ℕ) (degree : HasDegree width modulus) where
       ∙ ap (rem width modulus) (carryless_assoc (a % 2 ^ width) (b % 2 ^ width) (c % 2 ^ width))
       ∙ sym (right_product a b c)
 
+  -- a (b + c) = a b + a c
   mul_mod_over_sum : (a b c : ℕ) → mul_mod width modulus a (bit_xor b c)
       ≡ bit_xor (mul_mod width modulus a b) (mul_mod width modulus a c)
   unfolding mul_mod
@@ -59,6 +65,7 @@ module _ (width modulus : ℕ) (degree : HasDegree width modulus) where
       ∙ ap (rem width modulus) (carryless_sum (a % 2 ^ width) (b % 2 ^ width) (c % 2 ^ width))
       ∙ rem_sum width modulus degree (carryless (a % 2 ^ width) (b % 2 ^ width)) (carryless (a % 2 ^ width) (c % 2 ^ width))
 
+  -- 1 a = a for an element a
   mul_mod_one : 0 < width → (a : ℕ) → mul_mod width modulus 1 a ≡ a % 2 ^ width
   unfolding mul_mod
   mul_mod_one wide a =
@@ -66,6 +73,7 @@ module _ (width modulus : ℕ) (degree : HasDegree width modulus) where
       ∙ ap (rem width modulus) (one_carryless (a % 2 ^ width))
       ∙ rem_small width modulus degree (a % 2 ^ width) (mod-lt a (pow_pos width))
 
+-- the polynomials modulo any polynomial are a ring
 pub mul_mod_ring : MulModIsRing
 mul_mod_ring width modulus wide degree = record {
   below = mul_mod_below width modulus degree;
@@ -79,5 +87,6 @@ mul_mod_ring width modulus wide degree = record {
 pub poly64_ring : IsRing 64 1 (mul_mod 64 poly64_modulus)
 poly64_ring = mul_mod_ring 64 poly64_modulus (lit< tt) refl
 
+-- the polynomials modulo that of GHASH are a ring
 pub ghash_ring : IsRing 128 1 (mul_mod 128 ghash_modulus)
 ghash_ring = mul_mod_ring 128 ghash_modulus (lit< tt) refl

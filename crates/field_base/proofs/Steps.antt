@@ -13,6 +13,7 @@ module _ {F E M : Type 0} (gives : F → List ℕ → Event → F → Type 0) (s
   one_event : (old new : Deserializer F E M) (e : Event) → Gives gives old e new → GivesEach gives stays old (e ∷ []) new
   one_event old new e given = (new, (inl given.0, given.1), refl)
 
+  -- an integer that is read is one event, that of its number
   pub one_number : {X : Type 0} (old new : Deserializer F E M) (r : Result ℕ X) → IfOk r (λ n. Gives gives old (unsigned n) new)
       → IfOk r (λ n. GivesEach gives stays old (unsigned n ∷ []) new)
   one_number old new r given =
@@ -26,12 +27,14 @@ module _ {F E M : Type 0} (gives : F → List ℕ → Event → F → Type 0) (s
     given.1 ∙ look.1,
   )
 
+  -- a number read after a look ahead is the event that stands next
   pub number_after_a_look : {X : Type 0} (old looked new : Deserializer F E M) (r : Result ℕ X) → Stays stays old looked
       → IfOk r (λ n. Gives gives looked (unsigned n) new) → IfOk r (λ n. Begins gives stays old (unsigned n) new)
   number_after_a_look old looked new r look given =
       IfOk-weaker r (λ n. Gives gives looked (unsigned n) new) (λ n. Begins gives stays old (unsigned n) new)
       (λ n is. after_a_look old looked new (unsigned n) look is) given
 
+  -- the start of an array, three numbers and its end, one after the other
   pub three_numbers : (old s t u v new : Deserializer F E M) (a b c : ℕ) → Gives gives old (seq_begins None) s → Begins gives stays s (unsigned a) t
       → Begins gives stays t (unsigned b) u → Begins gives stays u (unsigned c) v → Gives gives v seq_ends new
       → GivesEach gives stays old (seq_begins None ∷ unsigned a ∷ unsigned b ∷ unsigned c ∷ seq_ends ∷ []) new

@@ -9,6 +9,7 @@ unfoldable pub passes : (ℕ → ℕ → Bool) → ℕ → List ℕ → Bool
 passes test x [] = true
 passes test x (y ∷ ys) = test x y && passes test (suc x) ys
 
+-- where all entries pass, the entry at place i does
 pub passes_at : (test : ℕ → ℕ → Bool) (x : ℕ) (ys : List ℕ) (i : ℕ) → passes test x ys ≡ true → i < length ys
     → test (x + i) (get_or ys i 0) ≡ true
 unfolding passes
@@ -27,6 +28,7 @@ passes_at test x (y ∷ ys) (suc i) pass inside =
 unfoldable pub tabulates : (ℕ → ℕ) → List ℕ → Bool
 tabulates f ys = passes (λ x y. eqb y (f x)) 0 ys
 
+-- the entry at place x is f x
 pub tabulates_at : (f : ℕ → ℕ) (ys : List ℕ) (x : ℕ) → tabulates f ys ≡ true → x < length ys → get_or ys x 0 ≡ f x
 unfolding tabulates
 tabulates_at f ys x pass inside =
@@ -41,6 +43,7 @@ repeats step value [] = true
 repeats step value (y ∷ ys) = eqb y value && repeats step (step value) ys
 
 module _ (times : ℕ → ℕ → ℕ) (a : ℕ) where
+  -- entry i of a table that starts with the power n is the power n + i
   repeats_from : (n : ℕ) (ys : List ℕ) (i : ℕ) → repeats (λ x. times x a) (power 1 times a n) ys ≡ true → i < length ys
       → get_or ys i 0 ≡ power 1 times a (n + i)
   unfolding repeats power

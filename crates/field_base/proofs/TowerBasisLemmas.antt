@@ -22,6 +22,7 @@ module _ (k width : ℕ) (times : ℕ → ℕ → ℕ) (basis : ℕ → ℕ) (ri
   basis-one_to_one : (a b : ℕ) → a < 2 ^ 2 ^ k → b < 2 ^ 2 ^ k → basis a ≡ basis b → a ≡ b
   basis-one_to_one a b a_fits b_fits same = sym (keeps.inverse_of_image a a_fits) ∙ ap keeps.inverse same ∙ keeps.inverse_of_image b b_fits
 
+  -- the image of a nonzero element is not 0
   pub basis-nonzero : (a : ℕ) → a < 2 ^ 2 ^ k → basis a ≡ 0 → a ≡ 0
   basis-nonzero a fits none = basis-one_to_one a 0 fits (pow_pos (2 ^ k)) (none ∙ sym basis-zero)
 
@@ -29,6 +30,7 @@ module _ (k width : ℕ) (times : ℕ → ℕ → ℕ) (basis : ℕ → ℕ) (ri
   pub basis-inverse : (a b : ℕ) → tower_mul k a b ≡ 1 → times (basis a) (basis b) ≡ 1
   basis-inverse a b inverts = sym (keeps.product_image a b) ∙ ap basis inverts ∙ keeps.one_image
 
+  -- the image of an element is no root of X² + t X + 1 in the other basis
   no_root_image : (a : ℕ) → a < 2 ^ 2 ^ k
       → bit_xor (bit_xor (times (basis a) (basis a)) (times (basis (root k)) (basis a))) 1 ≢ 0
   no_root_image a fits none =
@@ -70,11 +72,13 @@ module _ (k width : ℕ) (times : ℕ → ℕ → ℕ) (basis : ℕ → ℕ) (ri
 
 -- ---- the generators
 
+-- the generator of a level is an element
 pub generator_lt : (k : ℕ) → k ≤ 7 → tower_generator k < 2 ^ 2 ^ k
 generator_lt k few =
     eight_cases (λ k. tower_generator k < 2 ^ 2 ^ k) (lit< tt) (lit< tt) (lit< tt) (lit< tt) (lit< tt) (lit< tt) (lit< tt) (lit< tt)
     k (omega (arith, few))
 
+-- and it is not 0
 pub generator_nonzero : (k : ℕ) → k ≤ 7 → tower_generator k ≢ 0
 generator_nonzero k few =
     eight_cases (λ k. tower_generator k ≢ 0) (λ e. absurd (omega (arith, e))) (λ e. absurd (omega (arith, e)))

@@ -17,6 +17,7 @@ traces_of_four : map (trace 1) (0 ∷ 1 ∷ 2 ∷ 3 ∷ []) ≡ 0 ∷ 0 ∷ 1 �
 unfolding tower_mul quadratic root repeated_square sum_of_squarings
 traces_of_four = refl
 
+-- at level 4 the trace of the root of level 3 is 0, and that of the root of level 4 is 1
 traces_of_roots : map (trace 4) (0x10 ∷ 0x100 ∷ []) ≡ 0 ∷ 1 ∷ []
 unfolding tower_mul quadratic root repeated_square sum_of_squarings
 traces_of_roots = refl
@@ -26,6 +27,7 @@ inverses_of_four : map (tower_inverse 1) (0 ∷ 1 ∷ 2 ∷ 3 ∷ []) ≡ 0 ∷ 
 unfolding tower_mul quadratic root tower_inverse
 inverses_of_four = refl
 
+-- the inverse of the root of level 3 is the root and the root of level 2
 inverse_of_root_8 : tower_inverse 3 0x10 ≡ 0x14
 unfolding tower_mul quadratic root tower_inverse
 inverse_of_root_8 = refl
@@ -35,6 +37,7 @@ sqrt_of_square : tower_sqrt 3 (tower_mul 3 0xb7 0xb7) ≡ 0xb7
 unfolding tower_mul quadratic root root_inverse tower_sqrt
 sqrt_of_square = refl
 
+-- at level 2 the 15th power of an element is 1
 units_of_16 : power 1 (tower_mul 2) 7 15 ≡ 1
 unfolding tower_mul quadratic root power
 units_of_16 = refl

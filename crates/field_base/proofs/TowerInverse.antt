@@ -23,6 +23,7 @@ tower_inverse (suc k) a =
     (tower_inverse k (norm (2 ^ k) (tower_mul k) (root k) a)))
     (tower_mul k (high_half (2 ^ k) a) (tower_inverse k (norm (2 ^ k) (tower_mul k) (root k) a)))
 
+-- the inverse at level k + 1: the conjugate times the inverse of the norm
 pub tower_inverse-suc : (k a : ℕ) → tower_inverse (suc k) a
     ≡ pair (2 ^ k)
     (tower_mul k (bit_xor (low_half (2 ^ k) a) (tower_mul k (root k) (high_half (2 ^ k) a)))
@@ -31,6 +32,7 @@ pub tower_inverse-suc : (k a : ℕ) → tower_inverse (suc k) a
 unfolding tower_inverse
 tower_inverse-suc k a = refl
 
+-- an inverse is an element
 pub tower_inverse-lt : (k a : ℕ) → tower_inverse k a < 2 ^ 2 ^ k
 unfolding tower_inverse
 tower_inverse-lt zero a = mod-lt a (lit< tt)
@@ -40,6 +42,7 @@ tower_inverse-lt (suc k) a = halves-lt k _ _ ((tower_ring k).below _ _) ((tower_
 pub tower_norm-lt : (k a : ℕ) → norm (2 ^ k) (tower_mul k) (root k) a < 2 ^ 2 ^ k
 tower_norm-lt k a = norm-lt (2 ^ k) (tower_mul k) (tower_ring k) (root k) a
 
+-- only 0 has the norm 0
 pub tower_norm-zero : (k a : ℕ) → a < 2 ^ 2 ^ suc k → norm (2 ^ k) (tower_mul k) (root k) a ≡ 0 → a ≡ 0
 tower_norm-zero k a fits nothing =
     norm-zero (2 ^ k) (tower_mul k) (tower_ring k) (root k) (pow_pos k) (tower_inverses k) (tower_no_root k) a
@@ -62,6 +65,7 @@ unfolding tower_mul
 tower_mul-conjugate_over_norm k a inverse inverts =
     quadratic-inverse (2 ^ k) (tower_mul k) (tower_ring k) (root k) (pow_pos k) a inverse inverts
 
+-- at level 0 each nonzero element is its own inverse
 bit_inverse : (a : ℕ) → a < 2 → a ≢ 0 → tower_mul 0 a (a % 2) ≡ 1
 unfolding tower_mul
 bit_inverse zero fits nonzero = absurd (nonzero refl)
@@ -77,6 +81,7 @@ tower_mul-inverse (suc k) a fits nonzero =
     (tower_mul-inverse k (norm (2 ^ k) (tower_mul k) (root k) a) (tower_norm-lt k a)
     (λ e. nonzero (tower_norm-zero k a fits e)))
 
+-- the inverse of 0 is 0
 pub tower_inverse-zero : (k : ℕ) → tower_inverse k 0 ≡ 0
 unfolding tower_inverse
 tower_inverse-zero zero = refl

@@ -11,6 +11,7 @@ use Rattle.field_base.proofs.TowerRing.{tower_ring}
 
 -- ---- at each level
 
+-- every level is a field
 pub tower_field : TowerIsField
 tower_field k = record { ring = tower_ring k; inverses = tower_inverses k; squarings_return = squarings_return k }
 
@@ -27,9 +28,11 @@ squarings_reduced k m n count a whole =
     sym (repeated_square-add (2 ^ k) 1 (tower_mul k) (tower_ring k) m n a)
     ∙ ap (λ (i : ℕ). repeated_square 1 (tower_mul k) i a) whole ∙ tower_repeated_square-mod_bits k count a
 
+-- an element squared no times is the element
 pub squarings_none : (k a : ℕ) → a < 2 ^ 2 ^ k → repeated_square 1 (tower_mul k) 0 a ≡ a
 squarings_none k a fits = repeated_square-none (2 ^ k) 1 (tower_mul k) (tower_ring k) a fits
 
+-- one squaring more is the square
 pub squarings_more : (k n a value value' : ℕ) → value ≡ repeated_square 1 (tower_mul k) n a → value' ≡ tower_mul k value value
     → value' ≡ repeated_square 1 (tower_mul k) (n + 1) a
 squarings_more k n a value value' so_far step =

@@ -27,6 +27,7 @@ pub tower_mul-karatsuba : (k a b : ℕ) → tower_mul (suc k) a b
 unfolding tower_mul
 tower_mul-karatsuba k a b = quadratic-karatsuba (2 ^ k) (tower_mul k) (tower_ring k) (root k) a b
 
+-- (a0 + a1 X)² = (a0² + a1²) + t a1² X
 pub tower_mul-square : (k a : ℕ) → tower_mul (suc k) a a
     ≡ pair (2 ^ k)
     (bit_xor (tower_mul k (low_half (2 ^ k) a) (low_half (2 ^ k) a))
@@ -37,6 +38,7 @@ tower_mul-square k a = quadratic-square (2 ^ k) (tower_mul k) (tower_ring k) (ro
 
 -- ---- by the root
 
+-- the root of level 0 is 1, and the product by it is the lowest bit
 pub tower_mul-root_zero : (a : ℕ) → tower_mul 0 (root 0) a ≡ a % 2
 unfolding tower_mul root
 tower_mul-root_zero a = one-mul (a % 2)
@@ -58,6 +60,7 @@ level-lt (suc j) k a fits =
     let next : suc j + k ≡ suc (j + k) = omega arith in
     subst (λ (x : ℕ). a < 2 ^ 2 ^ x) (sym next) (omega (arith, below, up))
 
+-- a product of elements of level k is the same at level k + 1
 pub tower_mul-suc_low : (k a b : ℕ) → a < 2 ^ 2 ^ k → b < 2 ^ 2 ^ k → tower_mul (suc k) a b ≡ tower_mul k a b
 unfolding tower_mul
 tower_mul-suc_low k a b a_fits b_fits =

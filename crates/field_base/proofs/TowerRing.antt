@@ -19,6 +19,7 @@ halves-lt k low high low_fits high_fits =
 
 -- ---- every level
 
+-- every level is a ring
 pub tower_ring : TowerIsRing
 unfolding tower_mul
 tower_ring zero = bits_ring

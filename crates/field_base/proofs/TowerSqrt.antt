@@ -22,6 +22,7 @@ tower_sqrt (suc k) a =
     (tower_sqrt k (bit_xor (low_half (2 ^ k) a) (tower_mul k (high_half (2 ^ k) a) (root_inverse k))))
     (tower_sqrt k (tower_mul k (high_half (2 ^ k) a) (root_inverse k)))
 
+-- the square root at level k + 1, from roots of a0 + a1 / t and a1 / t
 pub tower_sqrt-suc : (k a : ℕ) → tower_sqrt (suc k) a
     ≡ pair (2 ^ k)
     (tower_sqrt k (bit_xor (low_half (2 ^ k) a) (tower_mul k (high_half (2 ^ k) a) (root_inverse k))))
@@ -29,6 +30,7 @@ pub tower_sqrt-suc : (k a : ℕ) → tower_sqrt (suc k) a
 unfolding tower_sqrt
 tower_sqrt-suc k a = refl
 
+-- a square root is an element
 pub tower_sqrt-lt : (k a : ℕ) → tower_sqrt k a < 2 ^ 2 ^ k
 unfolding tower_sqrt
 tower_sqrt-lt zero a = mod-lt a (lit< tt)

@@ -15,10 +15,12 @@ use Rattle.field_base.proofs.QuadraticTraces.{HasUnitTraces, quadratic-no_root, 
 
 -- ---- level 0
 
+-- at level 0 one squaring returns each element
 bits_repeated_square : (a : ℕ) → repeated_square 1 (tower_mul 0) 1 a ≡ a % 2
 unfolding repeated_square tower_mul
 bits_repeated_square a = two_cases (λ x. (1 * x) % 2 * ((1 * x) % 2) ≡ x) refl refl (a % 2) (mod-lt a (lit< tt))
 
+-- at level 0 the root 1 is its own inverse and has the trace 1
 bits_traces : HasUnitTraces 1 (tower_mul 0) (root 0) (root_inverse 0)
 unfolding repeated_square sum_of_squarings tower_mul root root_inverse
 bits_traces = record {
@@ -31,6 +33,7 @@ bits_traces = record {
   s_trace = refl;
 }
 
+-- at level 0 each nonzero element has an inverse
 bits_inverses : HasInverses 1 (tower_mul 0)
 unfolding tower_mul
 bits_inverses zero fits nonzero = absurd (nonzero refl)
@@ -39,6 +42,7 @@ bits_inverses (suc (suc a)) fits nonzero = absurd (omega arith)
 
 -- ---- every level
 
+-- at every level the root and its inverse have the trace 1, and 2^k squarings return each element
 pub tower_traces : (k : ℕ) → HasUnitTraces (2 ^ k) (tower_mul k) (root k) (root_inverse k)
 unfolding tower_mul root root_inverse
 tower_traces zero = bits_traces
@@ -47,9 +51,11 @@ tower_traces (suc k) =
     (bits_double k)
     (quadratic-unit_traces (2 ^ k) (tower_mul k) (tower_ring k) (root k) (root_inverse k) (tower_traces k))
 
+-- no level has a root of the polynomial whose root the next level adjoins
 pub tower_no_root : NoLevelHasARoot
 tower_no_root k x = quadratic-no_root (2 ^ k) (tower_mul k) (tower_ring k) (root k) (root_inverse k) (tower_traces k) x
 
+-- at every level each nonzero element has an inverse
 pub tower_inverses : NonzeroHasInverse
 unfolding tower_mul
 tower_inverses zero = bits_inverses
@@ -57,18 +63,23 @@ tower_inverses (suc k) =
     subst (λ (x : ℕ). HasInverses x (quadratic (2 ^ k) (tower_mul k) (root k))) (bits_double k)
     (quadratic-inverses (2 ^ k) (tower_mul k) (tower_ring k) (root k) (pow_pos k) (tower_inverses k) (tower_no_root k))
 
+-- at every level the root and its inverse have the trace 1
 pub traces_are_one : TracesAreOne
 traces_are_one k = ((tower_traces k).t_trace, (tower_traces k).s_trace)
 
+-- at every level the root times its inverse is 1
 pub root_inverse_is : RootInverse
 root_inverse_is k = (tower_traces k).unit
 
+-- at level k, 2^k squarings return each element
 pub squarings_return : SquaringsReturn
 squarings_return k a = (tower_traces k).returns a
 
+-- the root of a level is an element
 pub root-lt : (k : ℕ) → root k < 2 ^ 2 ^ k
 root-lt k = (tower_traces k).t_fits
 
+-- so is its inverse
 pub root_inverse-lt : (k : ℕ) → root_inverse k < 2 ^ 2 ^ k
 root_inverse-lt k = (tower_traces k).s_fits
 
@@ -77,6 +88,7 @@ pub trace-zero : (a : ℕ) → trace 0 a ≡ a % 2
 unfolding repeated_square sum_of_squarings tower_mul
 trace-zero a = one-mul (a % 2)
 
+-- the trace of a0 + a1 X at level k + 1 is the trace of t a1 at level k
 pub trace-suc : (k a : ℕ) → trace (suc k) a ≡ trace k (tower_mul k (root k) (high_half (2 ^ k) a))
 unfolding tower_mul
 trace-suc k a =
