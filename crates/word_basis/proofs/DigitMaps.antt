@@ -12,9 +12,11 @@ use Rattle.field_base.proofs.LinearMapLemmas.{linear_image-columns, the_linear_m
 use Rattle.word_basis.specs.LinearMap.{sum_of_values}
 use Rattle.word_basis.proofs.TabledMaps.{Hold, digit_value}
 
+-- place 16 i + d of a table is that of the digit d
 digit_of_place : (i d : ℕ) → d < 16 → (16 * i + d) % 16 ≡ d
 digit_of_place i d small = omega arith
 
+-- place 16 i + d of a table is in row i
 row_of_place : (i d : ℕ) → d < 16 → (16 * i + d) / 16 ≡ i
 row_of_place i d small = omega arith
 
@@ -39,6 +41,7 @@ sum_of_values_is images values (suc n) x held =
     ∙ ap (linear_image images) (xor_comm (x % 2 ^ (4 * n)) (digit * 2 ^ (4 * n)) ∙ xor_shifted digit (4 * n) (x % 2 ^ (4 * n)) rest
     ∙ sym (mod-pow-add x 4 (4 * n)) ∙ ap (λ (k : ℕ). x % 2 ^ k) bits)
 
+-- the sum of the values at all 32 digits is the map of the images
 pub values_give_map : (images values : List ℕ) → length images ≡ 128 → Hold (digit_value images) 512 values → (x : ℕ)
     → sum_of_values 32 values x ≡ linear_image images x
 values_give_map images values whole held x =

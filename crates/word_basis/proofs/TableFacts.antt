@@ -35,6 +35,7 @@ ChangePasses width modulus images rows to_polynomial to_tower =
     × (tabulates_map (columns_in rows to_tower) to_tower ≡ true)
     × (undoes (image_columns width modulus images) (columns_in rows to_tower) width ≡ true)
 
+-- the tables of the three changes of basis pass every check (computed)
 pub changes_pass : ChangePasses 8 aes_modulus aes_images 1 TO_POLYNOMIAL_8 TO_TOWER_8
     × ChangePasses 64 poly64_modulus poly64_images 8 TO_POLYNOMIAL_64 TO_TOWER_64
     × ChangePasses 128 ghash_modulus ghash_images 16 TO_POLYNOMIAL_128 TO_TOWER_128

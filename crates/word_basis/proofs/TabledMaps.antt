@@ -55,6 +55,7 @@ columns_in (suc rows) table =
     slice_index table 1 ∷ slice_index table 2 ∷ slice_index table 4 ∷ slice_index table 8 ∷ slice_index table 16
     ∷ slice_index table 32 ∷ slice_index table 64 ∷ slice_index table 128 ∷ columns_in rows (drop 256 table)
 
+-- a table of so many bytes has eight columns for each
 pub length-columns_in : (rows : ℕ) (table : List ℕ) → length (columns_in rows table) ≡ 8 * rows
 unfolding columns_in
 length-columns_in zero table = refl
@@ -78,6 +79,7 @@ entry_set v table place entry within is entries =
     (λ p below. let other : p ≢ place = omega arith in rw get_or-set_other (entries p below))
     (rw get_or-set_same is)
 
+-- the linear map of given images keeps sums
 linear_image-sum : (images : List ℕ) → KeepsSums (linear_image images)
 linear_image-sum images = (the_linear_map images).of_sum
 
@@ -149,6 +151,7 @@ two_digits j l h small =
     moved : (p : ℕ) → h * (p * 16) ≡ h * 16 * p
     moved p = omega arith
 
+-- an entry for a byte is the sum of the values at its two digits to base 16
 pub byte_of_digits : (images values : List ℕ) → Hold (digit_value images) 512 values → (p : ℕ) → p < 4096
     → bit_xor (get_or values (32 * (p / 256) + p % 16) 0) (get_or values (32 * (p / 256) + 16 + p % 256 / 16) 0)
     ≡ byte_value images p

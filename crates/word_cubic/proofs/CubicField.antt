@@ -24,12 +24,14 @@ module _ (width : ℕ) (times : ℕ → ℕ → ℕ) (field : IsField width time
       let one : bit_xor (times x (times x x)) x ≡ 1 = xor_nothing (bit_xor (times x (times x x)) x) 1 root in
       sym (xor_cancel x (times x (times x x))) ∙ ap (bit_xor x) (xor_comm x (times x (times x x)) ∙ one)
 
+  -- a root x of y³ + y + 1 has x⁴ = x² + x
   root_fourth : 0 < width → (x : ℕ) → x < 2 ^ width → times x (times x x) ≡ bit_xor x 1
       → times (times x x) (times x x) ≡ bit_xor (times x x) x
   root_fourth wide x fits cubed =
       field.ring.assoc x x (times x x) ∙ ap (times x) cubed ∙ field.ring.over_sum x x 1
       ∙ ap (bit_xor (times x x)) (times-one width 1 times field.ring x fits)
 
+  -- and three squarings return it: x⁸ = x
   root_returns : 0 < width → (x : ℕ) → x < 2 ^ width → times x (times x x) ≡ bit_xor x 1 → repeated_square 1 times 3 x ≡ x
   unfolding repeated_square
   root_returns wide x fits cubed =
@@ -40,6 +42,7 @@ module _ (width : ℕ) (times : ℕ → ℕ → ℕ) (field : IsField width time
       ∙ ap (λ (z : ℕ). bit_xor z (times x x)) fourth ∙ ap (λ (z : ℕ). bit_xor z (times x x)) (xor_comm (times x x) x)
       ∙ xor_assoc x (times x x) (times x x) ∙ ap (bit_xor x) (xor_self (times x x)) ∙ xor_zero_r x
 
+  -- so every multiple of three squarings returns it
   root_rounds : (x : ℕ) → x < 2 ^ width → repeated_square 1 times 3 x ≡ x → (n : ℕ) → repeated_square 1 times (n * 3) x ≡ x
   root_rounds x fits returns zero = repeated_square-none width 1 times field.ring x fits
   root_rounds x fits returns (suc n) =
@@ -47,6 +50,7 @@ module _ (width : ℕ) (times : ℕ → ℕ → ℕ) (field : IsField width time
       ap (λ (k : ℕ). repeated_square 1 times k x) next ∙ repeated_square-add width 1 times field.ring 3 (n * 3) x
       ∙ ap (repeated_square 1 times 3) (root_rounds x fits returns n) ∙ returns
 
+  -- but with n squarings for n ≡ 1 (mod 3) an element of a field of n bits returns, so a root would be x = x², which 0 and 1 are not
   pub no_cubic_root : 0 < width → width % 3 ≡ 1 → (x : ℕ) → x < 2 ^ width
       → bit_xor (bit_xor (times x (times x x)) x) 1 ≢ 0
   no_cubic_root wide leaves x fits root =
@@ -61,6 +65,7 @@ module _ (width : ℕ) (times : ℕ → ℕ → ℕ) (field : IsField width time
       let one : 0 ≡ 1 = sym (xor_self x) ∙ ap (bit_xor x) same ∙ xor_cancel x 1 in
       absurd (omega (arith, one))
 
+-- no field GF(2^n) with n ≡ 1 (mod 3) has a root of y³ + y + 1
 pub no_field_has_a_cubic_root : NoFieldHasACubicRoot
 no_field_has_a_cubic_root width times field wide leaves x fits root = no_cubic_root width times field wide leaves x fits root
 
@@ -71,23 +76,29 @@ module _ (width : ℕ) (times : ℕ → ℕ → ℕ) (ring : IsRing width 1 time
   abbrev pub adjugate_0 : ℕ → ℕ → ℕ → ℕ
   adjugate_0 a0 a1 a2 = bit_xor (bit_xor (times a0 a0) (times a1 a1)) (bit_xor (times a2 a2) (times a1 a2))
 
+  -- its coefficient of y
   abbrev pub adjugate_1 : ℕ → ℕ → ℕ → ℕ
   adjugate_1 a0 a1 a2 = bit_xor (times a0 a1) (times a2 a2)
 
+  -- its coefficient of y²
   abbrev pub adjugate_2 : ℕ → ℕ → ℕ → ℕ
   adjugate_2 a0 a1 a2 = bit_xor (bit_xor (times a1 a1) (times a2 a2)) (times a0 a2)
 
+  -- the norm: the constant term of the product with the adjugate
   abbrev pub cubic_norm : ℕ → ℕ → ℕ → ℕ
   cubic_norm a0 a1 a2 =
       product_0 width times ring a0 a1 a2 (adjugate_0 a0 a1 a2) (adjugate_1 a0 a1 a2) (adjugate_2 a0 a1 a2)
 
+  -- the constant term of the adjugate is an element of the ring below
   pub adjugate_0-lt : (a0 a1 a2 : ℕ) → adjugate_0 a0 a1 a2 < 2 ^ width
   adjugate_0-lt a0 a1 a2 =
       xor_lt width _ _ (xor_lt width _ _ (ring.below a0 a0) (ring.below a1 a1)) (xor_lt width _ _ (ring.below a2 a2) (ring.below a1 a2))
 
+  -- the coefficient of y is an element of the ring below
   pub adjugate_1-lt : (a0 a1 a2 : ℕ) → adjugate_1 a0 a1 a2 < 2 ^ width
   adjugate_1-lt a0 a1 a2 = xor_lt width _ _ (ring.below a0 a1) (ring.below a2 a2)
 
+  -- the coefficient of y² is an element of the ring below
   pub adjugate_2-lt : (a0 a1 a2 : ℕ) → adjugate_2 a0 a1 a2 < 2 ^ width
   adjugate_2-lt a0 a1 a2 = xor_lt width _ _ (xor_lt width _ _ (ring.below a1 a1) (ring.below a2 a2)) (ring.below a0 a2)
 
@@ -100,6 +111,7 @@ module _ (width : ℕ) (times : ℕ → ℕ → ℕ) (ring : IsRing width 1 time
       (simp (ring.over_sum, ring.comm, times_left_comm width 1 times ring, sums))
       (simp (ring.over_sum, ring.comm, times_left_comm width 1 times ring, sums))
 
+  -- an element times its adjugate is its norm
   pub times_adjugate : (a0 a1 a2 : ℕ) → a0 < 2 ^ width → a1 < 2 ^ width → a2 < 2 ^ width
       → cubic width times (triple width a0 a1 a2) (triple width (adjugate_0 a0 a1 a2) (adjugate_1 a0 a1 a2) (adjugate_2 a0 a1 a2))
       ≡ triple width (cubic_norm a0 a1 a2) 0 0
@@ -108,6 +120,7 @@ module _ (width : ℕ) (times : ℕ → ℕ → ℕ) (ring : IsRing width 1 time
       (adjugate_2-lt a0 a1 a2)
       ∙ norm_alone a0 a1 a2
 
+  -- the norm is an element of the ring below
   pub norm-lt : (a0 a1 a2 : ℕ) → cubic_norm a0 a1 a2 < 2 ^ width
   norm-lt a0 a1 a2 =
       xor_lt width _ _ (xor_lt width _ _ (ring.below a0 _) (ring.below a1 _)) (ring.below a2 _)
@@ -141,6 +154,7 @@ module _ (width : ℕ) (times : ℕ → ℕ → ℕ) (ring : IsRing width 1 time
 
 -- ---- inverses
 
+-- no number is both 0 and a successor
 not_both : (m n : ℕ) → m ≡ suc n → m ≢ 0
 not_both m n is e = absurd (omega (arith, is, e))
 
@@ -165,6 +179,7 @@ module _ (width : ℕ) (times : ℕ → ℕ → ℕ) (field : IsField width time
       ∙ ap (λ (z : ℕ). bit_xor z (times 1 cube)) (sym (sum_times width 1 times field.ring (times x (times x x)) x cube))
       ∙ sym (sum_times width 1 times field.ring (bit_xor (times x (times x x)) x) 1 cube)
 
+  -- a³ = 0 only for a = 0
   cube-zero : (a : ℕ) → a < 2 ^ width → times a (times a a) ≡ 0 → a ≡ 0
   cube-zero a fits nothing =
       elim (no_zero_divisors width times field.ring field.inverses a (times a a) fits (field.ring.below a a) nothing) [
@@ -192,6 +207,7 @@ module _ (width : ℕ) (times : ℕ → ℕ → ℕ) (field : IsField width time
         | inr e ↦ cube-zero (suc a) fits1 e
       ]
 
+  -- if a1 = 0, the norm of a0 + a1 y is a0³, which is 0 only for a0 = 0
   low_of_linear : (a0 a1 : ℕ) → a0 < 2 ^ width → a1 ≡ 0 → cubic_norm width times field.ring a0 a1 0 ≡ 0 → a0 ≡ 0
   low_of_linear a0 a1 fits0 high nothing =
       cube-zero a0 fits0
@@ -228,15 +244,19 @@ module _ (width : ℕ) (times : ℕ → ℕ → ℕ) (field : IsField width time
           absurd (nonzero (divisor-zero (width + width + width) (cubic width times) whole (triple width a1 a2 0) inverse.0 c inverse.2 fits
           (whole.comm (triple width a1 a2 0) c ∙ nothing)))
 
+  -- the coefficients of the adjugate over the field
   abbrev adjoint_0 : ℕ → ℕ → ℕ → ℕ
   adjoint_0 = adjugate_0 width times field.ring
 
+  -- the coefficient of y
   abbrev adjoint_1 : ℕ → ℕ → ℕ → ℕ
   adjoint_1 = adjugate_1 width times field.ring
 
+  -- the coefficient of y²
   abbrev adjoint_2 : ℕ → ℕ → ℕ → ℕ
   adjoint_2 = adjugate_2 width times field.ring
 
+  -- the adjugate
   abbrev adjoint : ℕ → ℕ → ℕ → ℕ
   adjoint a0 a1 a2 = triple width (adjoint_0 a0 a1 a2) (adjoint_1 a0 a1 a2) (adjoint_2 a0 a1 a2)
 
@@ -300,6 +320,7 @@ module _ (width : ℕ) (times : ℕ → ℕ → ℕ) (field : IsField width time
           (sym (ap (λ (z : ℕ). cubic_norm width times field.ring a0 a1 z) highs.1) ∙ nothing) in
           same₃ (triple width) low highs.0 highs.1 ∙ nil
 
+  -- every nonzero element of the extension has an inverse: its adjugate over its norm
   cubic_inverses : HasInverses (width + width + width) (cubic width times)
   cubic_inverses a fits nonzero =
       let a0 = chunk width 0 a in
@@ -314,6 +335,7 @@ module _ (width : ℕ) (times : ℕ → ℕ → ℕ) (field : IsField width time
 -- ---- Frobenius's map
 
 module _ (width : ℕ) (times : ℕ → ℕ → ℕ) (ring : IsRing width 1 times) where
+  -- (a0 + a1 y + a2 y²)² = a0² + a2² y + (a1² + a2²) y²
   pub cubic-square : (a0 a1 a2 : ℕ) → a0 < 2 ^ width → a1 < 2 ^ width → a2 < 2 ^ width
       → cubic width times (triple width a0 a1 a2) (triple width a0 a1 a2)
       ≡ triple width (times a0 a0) (times a2 a2) (bit_xor (times a1 a1) (times a2 a2))
@@ -330,11 +352,13 @@ module _ (width : ℕ) (times : ℕ → ℕ → ℕ) (ring : IsRing width 1 time
   square_once n a x y z x_fits y_fits z_fits is =
       ap (λ (t : ℕ). cubic width times t t) is ∙ cubic-square x y z x_fits y_fits z_fits
 
+  -- v² + (u + v)² = u²
   mixed_squares : (u v : ℕ) → bit_xor (times v v) (times (bit_xor u v) (bit_xor u v)) ≡ times u u
   mixed_squares u v =
       ap (bit_xor (times v v)) (square_xor width 1 times ring u v ∙ xor_comm (times u u) (times v v))
       ∙ xor_cancel (times v v) (times u u)
 
+  -- after 3 n squarings the coefficients are those of a, each squared 3 n times
   pub cubic_rounds : 0 < width → (n a0 a1 a2 : ℕ) → a0 < 2 ^ width → a1 < 2 ^ width → a2 < 2 ^ width
       → repeated_square 1 (cubic width times) (n * 3) (triple width a0 a1 a2)
       ≡ triple width (repeated_square 1 times (n * 3) a0) (repeated_square 1 times (n * 3) a1) (repeated_square 1 times (n * 3) a2)
@@ -370,6 +394,7 @@ module _ (width : ℕ) (times : ℕ → ℕ → ℕ) (ring : IsRing width 1 time
           ∙ xor_cancel (times (times u u) (times u u)) (times (times v v) (times v v))
 
 module _ (width : ℕ) (times : ℕ → ℕ → ℕ) (field : IsField width times) (wide : 0 < width) where
+  -- 3 w squarings return an element of w bits
   three_rounds : (a : ℕ) → a < 2 ^ width → repeated_square 1 times (width * 3) a ≡ a
   three_rounds a fits =
       let count : width * 3 ≡ width + (width + width) = omega arith in
@@ -378,6 +403,7 @@ module _ (width : ℕ) (times : ℕ → ℕ → ℕ) (field : IsField width time
       ap (λ (k : ℕ). repeated_square 1 times k a) count ∙ add (width + width) a
       ∙ ap (repeated_square 1 times width) (add width a ∙ ap (repeated_square 1 times width) back ∙ back) ∙ back
 
+  -- 3 w squarings return every element of the extension
   cubic_returns : (a : ℕ) → repeated_square 1 (cubic width times) (width + width + width) a ≡ a % 2 ^ (width + width + width)
   cubic_returns a =
       let bits : width + width + width ≡ width * 3 = omega arith in
@@ -391,6 +417,7 @@ module _ (width : ℕ) (times : ℕ → ℕ → ℕ) (field : IsField width time
       (three_rounds (chunk width 2 a) (low 2 a))
       ∙ triple-chunks width a
 
+-- the cubic extension of a field of n bits, n ≡ 1 (mod 3), is a field
 pub cubic_is_field : CubicIsField
 cubic_is_field width times field wide leaves = record {
   ring = cubic_ring width times field.ring wide;
@@ -398,6 +425,7 @@ cubic_is_field width times field wide leaves = record {
   squarings_return = cubic_returns width times field wide;
 }
 
+-- w squarings take y to y²
 pub cubic_frobenius : CubicFrobenius
 cubic_frobenius width times field wide leaves c0 c1 c2 fits0 fits1 fits2 =
     let ring = field.ring in
@@ -415,10 +443,15 @@ cubic_frobenius width times field wide leaves c0 c1 c2 fits0 fits1 fits2 =
 
 -- the laws of the extension
 pub record CubicLaws : Type 0 where
+  -- the cubic extension of a ring is a ring
   pub ring : CubicIsRing
+  -- no field of n bits, n ≡ 1 (mod 3), has a root of y³ + y + 1
   pub no_root : NoFieldHasACubicRoot
+  -- its cubic extension is a field
   pub field : CubicIsField
+  -- as many squarings as it has bits take y to y²
   pub frobenius : CubicFrobenius
 
+-- the four laws of the cubic extension
 pub cubic_laws : CubicLaws
 cubic_laws = record { ring = cubic_is_ring; no_root = no_field_has_a_cubic_root; field = cubic_is_field; frobenius = cubic_frobenius }

@@ -20,36 +20,45 @@ pub ruleset sums = (xor_assoc, xor_comm, xor_left_comm, xor_self, xor_cancel, xo
 
 -- ---- coefficients
 
+-- a function of three numbers has one value at equal numbers
 pub same₃ : (f : ℕ → ℕ → ℕ → ℕ) → {x x' y y' z z' : ℕ} → x ≡ x' → y ≡ y' → z ≡ z' → f x y z ≡ f x' y' z'
 same₃ f ex ey ez = λ i. f (ex i) (ey i) (ez i)
 
+-- chunk 0 is the low w bits
 chunk-first : (width a : ℕ) → chunk width 0 a ≡ a % 2 ^ width
 chunk-first width a =
     ap (λ (k : ℕ). a / 2 ^ k % 2 ^ width) (mul-zero width) ∙ ap (λ (x : ℕ). x % 2 ^ width) (div-one a)
 
+-- chunk 1 is the next w bits
 chunk-second : (width a : ℕ) → chunk width 1 a ≡ a / 2 ^ width % 2 ^ width
 chunk-second width a = ap (λ (k : ℕ). a / 2 ^ k % 2 ^ width) (mul-one width)
 
+-- chunk 2 is the w bits after these
 chunk-third : (width a : ℕ) → chunk width 2 a ≡ a / 2 ^ width / 2 ^ width % 2 ^ width
 chunk-third width a =
     let bits : width * 2 ≡ width + width = omega arith in
     ap (λ (k : ℕ). a / 2 ^ k % 2 ^ width) bits ∙ ap (λ (x : ℕ). x % 2 ^ width) (sym (shr-shr a width width))
 
+-- a chunk has w bits
 pub chunk_below : (width i a : ℕ) → chunk width i a < 2 ^ width
 chunk_below width i a = mod-lt (a / 2 ^ (width * i)) (pow_pos width)
 
+-- a chunk of a sum is the sum of the chunks
 pub chunk_xor : (width i a b : ℕ) → chunk width i (bit_xor a b) ≡ bit_xor (chunk width i a) (chunk width i b)
 chunk_xor width i a b =
     ap (λ (x : ℕ). x % 2 ^ width) (xor_shr a b (width * i)) ∙ xor_mod (a / 2 ^ (width * i)) (b / 2 ^ (width * i)) width
 
+-- chunk 0 of x + y Y + z Y² is x
 pub first-triple : (width x y z : ℕ) → x < 2 ^ width → chunk width 0 (triple width x y z) ≡ x
 first-triple width x y z x_fits = chunk-first width (triple width x y z) ∙ low_half-pair width x (pair width y z) x_fits
 
+-- chunk 1 is y
 pub second-triple : (width x y z : ℕ) → x < 2 ^ width → y < 2 ^ width → chunk width 1 (triple width x y z) ≡ y
 second-triple width x y z x_fits y_fits =
     chunk-second width (triple width x y z)
     ∙ ap (λ (r : ℕ). r % 2 ^ width) (shr_high (pair width y z) width x x_fits) ∙ low_half-pair width y z y_fits
 
+-- chunk 2 is z
 pub third-triple : (width x y z : ℕ) → x < 2 ^ width → y < 2 ^ width → z < 2 ^ width → chunk width 2 (triple width x y z) ≡ z
 third-triple width x y z x_fits y_fits z_fits =
     chunk-third width (triple width x y z)
@@ -70,6 +79,7 @@ triple-chunks width a =
     same₃ (triple width) (chunk-first width a) (chunk-second width a) (chunk-third width a)
     ∙ ap (pair width (a % 2 ^ width)) (pair-halves width (a / 2 ^ width)) ∙ sym (mod-pow-add a (width + width) width)
 
+-- three numbers of w bits are a number of 3 w bits
 pub triple-lt : (width x y z : ℕ) → x < 2 ^ width → y < 2 ^ width → z < 2 ^ width → triple width x y z < 2 ^ (width + width + width)
 triple-lt width x y z x_fits y_fits z_fits =
     subst (λ (n : ℕ). triple width x y z < n) (sym (pow-add 2 (width + width) width))
@@ -79,12 +89,14 @@ triple-lt width x y z x_fits y_fits z_fits =
 pub triple-low : (width x : ℕ) → triple width x 0 0 ≡ x
 triple-low width x = ap (pair width x) (pair-low width 0) ∙ pair-low width x
 
+-- triples are added coefficient by coefficient
 pub triple_sum : (width x y z x' y' z' : ℕ) → x < 2 ^ width → x' < 2 ^ width → y < 2 ^ width → y' < 2 ^ width
     → bit_xor (triple width x y z) (triple width x' y' z') ≡ triple width (bit_xor x x') (bit_xor y y') (bit_xor z z')
 triple_sum width x y z x' y' z' x_fits x'_fits y_fits y'_fits =
     sym (ap (pair width (bit_xor x x')) (pair_xor width y z y' z' y_fits y'_fits)
     ∙ pair_xor width x (pair width y z) x' (pair width y' z') x_fits x'_fits)
 
+-- so are three triples
 three_sums : (width x y z x' y' z' x'' y'' z'' : ℕ) → x < 2 ^ width → x' < 2 ^ width → x'' < 2 ^ width
     → y < 2 ^ width → y' < 2 ^ width → y'' < 2 ^ width
     → bit_xor (bit_xor (bit_xor 0 (triple width x y z)) (triple width x' y' z')) (triple width x'' y'' z'')
@@ -97,31 +109,38 @@ three_sums width x y z x' y' z' x'' y'' z'' x_fits x'_fits x''_fits y_fits y'_fi
 module _ (width : ℕ) (times : ℕ → ℕ → ℕ) (ring : IsRing width 1 times) where
   -- ---- the coefficients of a product
 
+  -- the constant term of a product
   abbrev pub product_0 : ℕ → ℕ → ℕ → ℕ → ℕ → ℕ → ℕ
   product_0 a0 a1 a2 b0 b1 b2 = bit_xor (bit_xor (times a0 b0) (times a1 b2)) (times a2 b1)
 
+  -- its coefficient of y
   abbrev pub product_1 : ℕ → ℕ → ℕ → ℕ → ℕ → ℕ → ℕ
   product_1 a0 a1 a2 b0 b1 b2 =
       bit_xor (bit_xor (times a0 b1) (bit_xor (times a1 b0) (times a1 b2))) (bit_xor (times a2 b1) (times a2 b2))
 
+  -- its coefficient of y²
   abbrev pub product_2 : ℕ → ℕ → ℕ → ℕ → ℕ → ℕ → ℕ
   product_2 a0 a1 a2 b0 b1 b2 =
       bit_xor (bit_xor (times a0 b2) (times a1 b1)) (bit_xor (times a2 b0) (times a2 b2))
 
+  -- the product by its coefficients
   abbrev pub product_of_three : ℕ → ℕ → ℕ → ℕ → ℕ → ℕ → ℕ
   product_of_three a0 a1 a2 b0 b1 b2 =
       triple width (product_0 a0 a1 a2 b0 b1 b2) (product_1 a0 a1 a2 b0 b1 b2) (product_2 a0 a1 a2 b0 b1 b2)
 
+  -- the constant term is an element of the ring
   pub product_0-lt : (a0 a1 a2 b0 b1 b2 : ℕ) → product_0 a0 a1 a2 b0 b1 b2 < 2 ^ width
   product_0-lt a0 a1 a2 b0 b1 b2 =
       xor_lt width _ _ (xor_lt width _ _ (ring.below a0 b0) (ring.below a1 b2)) (ring.below a2 b1)
 
+  -- the coefficient of y is an element of the ring
   pub product_1-lt : (a0 a1 a2 b0 b1 b2 : ℕ) → product_1 a0 a1 a2 b0 b1 b2 < 2 ^ width
   product_1-lt a0 a1 a2 b0 b1 b2 =
       xor_lt width _ _
       (xor_lt width _ _ (ring.below a0 b1) (xor_lt width _ _ (ring.below a1 b0) (ring.below a1 b2)))
       (xor_lt width _ _ (ring.below a2 b1) (ring.below a2 b2))
 
+  -- the coefficient of y² is an element of the ring
   pub product_2-lt : (a0 a1 a2 b0 b1 b2 : ℕ) → product_2 a0 a1 a2 b0 b1 b2 < 2 ^ width
   product_2-lt a0 a1 a2 b0 b1 b2 =
       xor_lt width _ _ (xor_lt width _ _ (ring.below a0 b2) (ring.below a1 b1))
@@ -134,6 +153,7 @@ module _ (width : ℕ) (times : ℕ → ℕ → ℕ) (ring : IsRing width 1 time
       three_sums width t0 0 0 0 t1 0 0 0 t2 fits0 (pow_pos width) (pow_pos width) (pow_pos width) fits1 (pow_pos width)
       ∙ same₃ (triple width) (xor_zero_r _ ∙ xor_zero_r t0) (xor_zero_r t1) refl
 
+  -- those of the coefficient of y, where y³ = y + 1
   terms_1 : (t0 t1 t2 : ℕ) → t0 < 2 ^ width → t1 < 2 ^ width → t2 < 2 ^ width
       → bit_xor (bit_xor (bit_xor 0 (triple width 0 t0 0)) (triple width 0 0 t1)) (triple width t2 t2 0)
       ≡ triple width t2 (bit_xor t0 t2) t1
@@ -141,6 +161,7 @@ module _ (width : ℕ) (times : ℕ → ℕ → ℕ) (ring : IsRing width 1 time
       three_sums width 0 t0 0 0 0 t1 t2 t2 0 (pow_pos width) (pow_pos width) fits2 fits0 (pow_pos width) fits2
       ∙ same₃ (triple width) refl (ap (λ (x : ℕ). bit_xor x t2) (xor_zero_r t0)) (xor_zero_r t1)
 
+  -- those of the coefficient of y², where y⁴ = y² + y as well
   terms_2 : (t0 t1 t2 : ℕ) → t0 < 2 ^ width → t1 < 2 ^ width → t2 < 2 ^ width
       → bit_xor (bit_xor (bit_xor 0 (triple width 0 0 t0)) (triple width t1 t1 0)) (triple width 0 t2 t2)
       ≡ triple width t1 (bit_xor t1 t2) (bit_xor t0 t2)
@@ -148,6 +169,7 @@ module _ (width : ℕ) (times : ℕ → ℕ → ℕ) (ring : IsRing width 1 time
       three_sums width 0 0 t0 t1 t1 0 0 t2 t2 (pow_pos width) fits1 (pow_pos width) (pow_pos width) fits1 fits2
       ∙ same₃ (triple width) (xor_zero_r t1) refl (ap (λ (x : ℕ). bit_xor x t2) (xor_zero_r t0))
 
+  -- the sum of the nine terms a_i b_j y^(i + j) is the product by its coefficients
   nine_terms : (a0 a1 a2 b0 b1 b2 : ℕ)
       → bit_xor
       (bit_xor
@@ -165,12 +187,14 @@ module _ (width : ℕ) (times : ℕ → ℕ → ℕ) (ring : IsRing width 1 time
       (ring.below a0 b1) (xor_lt width _ _ (ring.below a1 b0) (ring.below a1 b2))
       (xor_lt width _ _ (ring.below a2 b1) (ring.below a2 b2))
 
+  -- the product of two elements by their coefficients
   pub cubic-chunks : (a b : ℕ) → cubic width times a b
       ≡ product_of_three (chunk width 0 a) (chunk width 1 a) (chunk width 2 a) (chunk width 0 b) (chunk width 1 b) (chunk width 2 b)
   unfolding cubic sum_below
   cubic-chunks a b =
       nine_terms (chunk width 0 a) (chunk width 1 a) (chunk width 2 a) (chunk width 0 b) (chunk width 1 b) (chunk width 2 b)
 
+  -- the product with coefficients given on the left
   pub cubic-triple_left : (a0 a1 a2 b : ℕ) → a0 < 2 ^ width → a1 < 2 ^ width → a2 < 2 ^ width
       → cubic width times (triple width a0 a1 a2) b
       ≡ product_of_three a0 a1 a2 (chunk width 0 b) (chunk width 1 b) (chunk width 2 b)
@@ -179,6 +203,7 @@ module _ (width : ℕ) (times : ℕ → ℕ → ℕ) (ring : IsRing width 1 time
       ∙ same₃ (λ x y z. product_of_three x y z (chunk width 0 b) (chunk width 1 b) (chunk width 2 b))
       (first-triple width a0 a1 a2 fits0) (second-triple width a0 a1 a2 fits0 fits1) (third-triple width a0 a1 a2 fits0 fits1 fits2)
 
+  -- the product with coefficients given on the right
   pub cubic-triple_right : (a b0 b1 b2 : ℕ) → b0 < 2 ^ width → b1 < 2 ^ width → b2 < 2 ^ width
       → cubic width times a (triple width b0 b1 b2)
       ≡ product_of_three (chunk width 0 a) (chunk width 1 a) (chunk width 2 a) b0 b1 b2
@@ -187,6 +212,7 @@ module _ (width : ℕ) (times : ℕ → ℕ → ℕ) (ring : IsRing width 1 time
       ∙ same₃ (λ x y z. product_of_three (chunk width 0 a) (chunk width 1 a) (chunk width 2 a) x y z)
       (first-triple width b0 b1 b2 fits0) (second-triple width b0 b1 b2 fits0 fits1) (third-triple width b0 b1 b2 fits0 fits1 fits2)
 
+  -- the product of two elements with coefficients given
   pub cubic-triples : (a0 a1 a2 b0 b1 b2 : ℕ) → a0 < 2 ^ width → a1 < 2 ^ width → a2 < 2 ^ width
       → b0 < 2 ^ width → b1 < 2 ^ width → b2 < 2 ^ width
       → cubic width times (triple width a0 a1 a2) (triple width b0 b1 b2) ≡ product_of_three a0 a1 a2 b0 b1 b2
@@ -197,19 +223,23 @@ module _ (width : ℕ) (times : ℕ → ℕ → ℕ) (ring : IsRing width 1 time
 
   -- ---- the laws
 
+  -- a product is an element
   cubic_below : (a b : ℕ) → cubic width times a b < 2 ^ (width + width + width)
   cubic_below a b =
       subst (λ (x : ℕ). x < 2 ^ (width + width + width)) (sym (cubic-chunks a b))
       (triple-lt width _ _ _ (product_0-lt _ _ _ _ _ _) (product_1-lt _ _ _ _ _ _) (product_2-lt _ _ _ _ _ _))
 
+  -- a b = b a, by the coefficients
   products-comm : (a0 a1 a2 b0 b1 b2 : ℕ) → product_of_three a0 a1 a2 b0 b1 b2 ≡ product_of_three b0 b1 b2 a0 a1 a2
   products-comm a0 a1 a2 b0 b1 b2 =
       same₃ (triple width) (simp (ring.comm, sums)) (simp (ring.comm, sums)) (simp (ring.comm, sums))
 
+  -- a b = b a
   cubic_comm : (a b : ℕ) → cubic width times a b ≡ cubic width times b a
   cubic_comm a b =
       cubic-chunks a b ∙ products-comm _ _ _ _ _ _ ∙ sym (cubic-chunks b a)
 
+  -- (a b) c = a (b c), by the coefficients
   products-assoc : (a0 a1 a2 b0 b1 b2 c0 c1 c2 : ℕ)
       → product_of_three (product_0 a0 a1 a2 b0 b1 b2) (product_1 a0 a1 a2 b0 b1 b2) (product_2 a0 a1 a2 b0 b1 b2) c0 c1 c2
       ≡ product_of_three a0 a1 a2 (product_0 b0 b1 b2 c0 c1 c2) (product_1 b0 b1 b2 c0 c1 c2) (product_2 b0 b1 b2 c0 c1 c2)
@@ -219,6 +249,7 @@ module _ (width : ℕ) (times : ℕ → ℕ → ℕ) (ring : IsRing width 1 time
       (simp (sum_times width 1 times ring, ring.over_sum, ring.assoc, sums))
       (simp (sum_times width 1 times ring, ring.over_sum, ring.assoc, sums))
 
+  -- (a b) c = a (b c)
   cubic_assoc : (a b c : ℕ) → cubic width times (cubic width times a b) c ≡ cubic width times a (cubic width times b c)
   cubic_assoc a b c =
       ap (λ (x : ℕ). cubic width times x c) (cubic-chunks a b)
@@ -227,6 +258,7 @@ module _ (width : ℕ) (times : ℕ → ℕ → ℕ) (ring : IsRing width 1 time
       ∙ sym (cubic-triple_right a _ _ _ (product_0-lt _ _ _ _ _ _) (product_1-lt _ _ _ _ _ _) (product_2-lt _ _ _ _ _ _))
       ∙ ap (λ (x : ℕ). cubic width times a x) (sym (cubic-chunks b c))
 
+  -- a (b + c) = a b + a c, by the coefficients
   products-over_sum : (a0 a1 a2 b0 b1 b2 c0 c1 c2 : ℕ)
       → product_of_three a0 a1 a2 (bit_xor b0 c0) (bit_xor b1 c1) (bit_xor b2 c2)
       ≡ triple width (bit_xor (product_0 a0 a1 a2 b0 b1 b2) (product_0 a0 a1 a2 c0 c1 c2))
@@ -235,6 +267,7 @@ module _ (width : ℕ) (times : ℕ → ℕ → ℕ) (ring : IsRing width 1 time
   products-over_sum a0 a1 a2 b0 b1 b2 c0 c1 c2 =
       same₃ (triple width) (simp (ring.over_sum, sums)) (simp (ring.over_sum, sums)) (simp (ring.over_sum, sums))
 
+  -- a (b + c) = a b + a c
   cubic_over_sum : (a b c : ℕ) → cubic width times a (bit_xor b c)
       ≡ bit_xor (cubic width times a b) (cubic width times a c)
   cubic_over_sum a b c =
@@ -263,6 +296,7 @@ module _ (width : ℕ) (times : ℕ → ℕ → ℕ) (ring : IsRing width 1 time
       ∙ same₃ (triple width) (simp (zero-times width 1 times ring, xor_zero_r)) (simp (zero-times width 1 times ring, xor_zero_r))
       (simp (zero-times width 1 times ring, xor_zero_r))
 
+  -- a product by an element c of the ring has the coefficients times c
   pub chunk-cubic : (i c a : ℕ) → i < 3 → c < 2 ^ width → chunk width i (cubic width times c a) ≡ times c (chunk width i a)
   chunk-cubic zero c a few fits =
       ap (chunk width 0) (cubic-scale c a fits) ∙ first-triple width _ _ _ (ring.below c (chunk width 0 a))
@@ -274,24 +308,28 @@ module _ (width : ℕ) (times : ℕ → ℕ → ℕ) (ring : IsRing width 1 time
       ∙ third-triple width _ _ _ (ring.below c (chunk width 0 a)) (ring.below c (chunk width 1 a)) (ring.below c (chunk width 2 a))
   chunk-cubic (suc (suc (suc i))) c a few fits = absurd (omega (arith, few))
 
+  -- 1 times an element has its constant term
   one_0 : (x0 x1 x2 : ℕ) → x0 < 2 ^ width → product_0 1 0 0 x0 x1 x2 ≡ x0
   one_0 x0 x1 x2 fits =
       let none = zero-times width 1 times ring in
       ap₂ bit_xor (ap₂ bit_xor (one-times width 1 times ring x0 fits) (none x2)) (none x1)
       ∙ xor_zero_r (bit_xor x0 0) ∙ xor_zero_r x0
 
+  -- its coefficient of y
   one_1 : (x0 x1 x2 : ℕ) → x1 < 2 ^ width → product_1 1 0 0 x0 x1 x2 ≡ x1
   one_1 x0 x1 x2 fits =
       let none = zero-times width 1 times ring in
       ap₂ bit_xor (ap₂ bit_xor (one-times width 1 times ring x1 fits) (ap₂ bit_xor (none x0) (none x2))) (ap₂ bit_xor (none x1) (none x2))
       ∙ xor_zero_r (bit_xor x1 0) ∙ xor_zero_r x1
 
+  -- and its coefficient of y²
   one_2 : (x0 x1 x2 : ℕ) → x2 < 2 ^ width → product_2 1 0 0 x0 x1 x2 ≡ x2
   one_2 x0 x1 x2 fits =
       let none = zero-times width 1 times ring in
       ap₂ bit_xor (ap₂ bit_xor (one-times width 1 times ring x2 fits) (none x1)) (ap₂ bit_xor (none x0) (none x2))
       ∙ xor_zero_r (bit_xor x2 0) ∙ xor_zero_r x2
 
+  -- 1 a = a for an element a
   cubic_one : 0 < width → (a : ℕ) → cubic width times 1 a ≡ a % 2 ^ (width + width + width)
   cubic_one wide a =
       let low = chunk_below width in
@@ -310,6 +348,7 @@ module _ (width : ℕ) (times : ℕ → ℕ → ℕ) (ring : IsRing width 1 time
       ∙ same₃ (triple width) refl (times-zero width 1 times ring a) (times-zero width 1 times ring a)
       ∙ triple-low width (times a b))
 
+  -- the cubic extension of a ring of w bits is a ring of 3 w bits
   pub cubic_ring : 0 < width → IsRing (width + width + width) 1 (cubic width times)
   cubic_ring wide = record {
     below = cubic_below;
@@ -319,5 +358,6 @@ module _ (width : ℕ) (times : ℕ → ℕ → ℕ) (ring : IsRing width 1 time
     one = cubic_one wide;
   }
 
+-- the cubic extension of every ring is a ring
 pub cubic_is_ring : CubicIsRing
 cubic_is_ring width times wide ring = cubic_ring width times ring wide

@@ -13,10 +13,12 @@ use Rattle.field_base.proofs.TableChecks.{passes, passes_at, tabulates, tabulate
 
 -- ---- powers and logarithms
 
+-- each entry of EXP is the one before times 0x13, from 1 on (computed)
 powers_pass : repeats (λ x. tower_mul 3 x 0x13) 1 EXP ≡ true
 unfolding tower_mul quadratic root repeats
 powers_pass = refl
 
+-- entry e of EXP is 0x13^e
 pub entries_are_powers : EntriesArePowers
 entries_are_powers e inside = repeats_at (tower_mul 3) 0x13 EXP e powers_pass inside
 
@@ -24,13 +26,16 @@ entries_are_powers e inside = repeats_at (tower_mul 3) 0x13 EXP e powers_pass in
 is_logarithm : ℕ → ℕ → Bool
 is_logarithm x y = ltb y 255 && eqb (get_or EXP y 0) x
 
+-- every entry of LOG past the first passes its check (computed)
 logarithms_pass : passes is_logarithm 1 (drop 1 LOG) ≡ true
 unfolding passes is_logarithm
 logarithms_pass = refl
 
+-- the check of one entry past the first
 logarithm_of_suc : (x : ℕ) → x < 255 → is_logarithm (1 + x) (get_or LOG (suc x) 0) ≡ true
 logarithm_of_suc x inside = passes_at is_logarithm 1 (drop 1 LOG) x logarithms_pass inside
 
+-- for x other than 0 entry x of LOG is below 255, and 0x13 to its power is x
 pub entries_are_logarithms : EntriesAreLogarithms
 unfolding is_logarithm
 entries_are_logarithms zero nonzero inside = absurd (omega arith)
@@ -71,25 +76,31 @@ quotient_of_logarithms a d a_fits d_fits a_nonzero d_nonzero =
     ∙ ap₂ (tower_mul 3) order of_a.1
     ∙ one-times 8 1 (tower_mul 3) (tower_ring 3) a a_fits
 
+-- a * 0 = 0
 pub tower_mul_8-zero : (a : ℕ) → tower_mul 3 a 0 ≡ 0
 tower_mul_8-zero a = times-zero 8 1 (tower_mul 3) (tower_ring 3) a
 
+-- 0 * a = 0
 pub tower_mul_8-zero_left : (a : ℕ) → tower_mul 3 0 a ≡ 0
 tower_mul_8-zero_left a = zero-times 8 1 (tower_mul 3) (tower_ring 3) a
 
 -- ---- tables of functions of one element
 
+-- SQUARES tabulates squares (computed)
 squares_pass : tabulates (λ x. tower_mul 3 x x) SQUARES ≡ true
 unfolding tower_mul quadratic root tabulates passes
 squares_pass = refl
 
+-- entry a of SQUARES is a²
 pub squares_at : (a : ℕ) → a < 256 → slice_index SQUARES a ≡ tower_mul 3 a a
 squares_at a inside = tabulates_at (λ x. tower_mul 3 x x) SQUARES a squares_pass inside
 
+-- ROOT_PRODUCTS tabulates products by the root of level 3 (computed)
 root_products_pass : tabulates (λ x. tower_mul 3 (root 3) x) ROOT_PRODUCTS ≡ true
 unfolding tower_mul quadratic root tabulates passes
 root_products_pass = refl
 
+-- entry a of ROOT_PRODUCTS is the product of a by the root of level 3
 pub root_products_at : (a : ℕ) → a < 256 → slice_index ROOT_PRODUCTS a ≡ tower_mul 3 (root 3) a
 root_products_at a inside = tabulates_at (λ x. tower_mul 3 (root 3) x) ROOT_PRODUCTS a root_products_pass inside
 
@@ -97,10 +108,12 @@ root_products_at a inside = tabulates_at (λ x. tower_mul 3 (root 3) x) ROOT_PRO
 is_root : ℕ → ℕ → Bool
 is_root x y = eqb (tower_mul 3 y y) x
 
+-- the square of every entry of ROOTS is its place (computed)
 roots_pass : passes is_root 0 ROOTS ≡ true
 unfolding tower_mul quadratic root is_root passes
 roots_pass = refl
 
+-- the square of entry a of ROOTS is a
 pub roots_at : (a : ℕ) → a < 256 → tower_mul 3 (slice_index ROOTS a) (slice_index ROOTS a) ≡ a
 unfolding is_root
 roots_at a inside =
@@ -111,10 +124,12 @@ roots_at a inside =
 is_inverse : ℕ → ℕ → Bool
 is_inverse x y = eqb (tower_mul 3 x y) 1
 
+-- the product of every entry of INVERSES past the first by its place is 1 (computed)
 inverses_pass : passes is_inverse 1 (drop 1 INVERSES) ≡ true
 unfolding tower_mul quadratic root is_inverse passes
 inverses_pass = refl
 
+-- for a other than 0 the product of a by entry a of INVERSES is 1
 pub inverses_at : (a : ℕ) → a < 256 → a ≢ 0 → tower_mul 3 a (slice_index INVERSES a) ≡ 1
 unfolding is_inverse
 inverses_at zero inside nonzero = absurd (nonzero refl)

@@ -23,10 +23,12 @@ use Rattle.word_tables.proofs.Squares.{root_product, square_of, square_of_is, sq
 is_solution : ℕ → ℕ → Bool
 is_solution i v = eqb (bit_xor (square_of 7 v) v) (get_or VECTORS (i - 1) 0) && eqb (v % 2) 0
 
+-- every vector past the first is the even solution at its place (computed)
 solutions_pass : passes is_solution 1 (drop 1 VECTORS) ≡ true
 unfolding passes is_solution square_of squares_joined root_product
 solutions_pass = refl
 
+-- the check of vector i
 solution_at : (i : ℕ) → 0 < i → i < 128 → is_solution i (cantor_vector i) ≡ true
 solution_at zero later inside = absurd (omega arith)
 solution_at (suc i) later inside =
@@ -34,6 +36,7 @@ solution_at (suc i) later inside =
     subst (λ (x : ℕ). is_solution x (get_or VECTORS (suc i) 0) ≡ true) place
     (passes_at is_solution 1 (drop 1 VECTORS) i solutions_pass (omega arith))
 
+-- v² + v is the vector before, with squares at level 7
 pub solves_at_7 : (i : ℕ) → 0 < i → i < 128
     → bit_xor (tower_mul 7 (cantor_vector i) (cantor_vector i)) (cantor_vector i) ≡ cantor_vector (i - 1)
 unfolding is_solution
@@ -42,6 +45,7 @@ solves_at_7 i later inside =
     ∙ eqb-true (bit_xor (square_of 7 (cantor_vector i)) (cantor_vector i)) (cantor_vector (i - 1))
     (and_parts (eqb (bit_xor (square_of 7 (cantor_vector i)) (cantor_vector i)) (cantor_vector (i - 1))) _ (solution_at i later inside)).0
 
+-- every vector past the first is even
 pub are_even : AreEven
 unfolding is_solution
 are_even i later inside =
@@ -54,6 +58,7 @@ are_even i later inside =
 level_passes : ℕ → Bool
 level_passes k = passes (λ i v. ltb v (2 ^ 2 ^ k)) 0 (take (2 ^ k) VECTORS)
 
+-- what the check of level k says of a single vector
 lies_in_level : (k i : ℕ) → level_passes k ≡ true → length (take (2 ^ k) VECTORS) ≡ 2 ^ k → i < 2 ^ k
     → cantor_vector i < 2 ^ 2 ^ k
 unfolding level_passes
@@ -62,6 +67,7 @@ lies_in_level k i pass whole inside =
     (subst (λ (v : ℕ). ltb v (2 ^ 2 ^ k) ≡ true) (get_or-take (2 ^ k) VECTORS i 0 inside)
     (passes_at (λ i v. ltb v (2 ^ 2 ^ k)) 0 (take (2 ^ k) VECTORS) i pass (omega (arith, whole))))
 
+-- the checks of all eight levels pass (computed)
 level_whole : (k : ℕ) → k < 8 → (level_passes k ≡ true) × (length (take (2 ^ k) VECTORS) ≡ 2 ^ k)
 unfolding level_passes passes
 level_whole zero low = (refl, refl)
@@ -74,11 +80,13 @@ level_whole (suc (suc (suc (suc (suc (suc zero)))))) low = (refl, refl)
 level_whole (suc (suc (suc (suc (suc (suc (suc zero))))))) low = (refl, refl)
 level_whole (suc (suc (suc (suc (suc (suc (suc (suc k)))))))) low = absurd (omega arith)
 
+-- the first 2^k vectors are elements of level k
 pub lie_in_levels : LieInLevels
 lie_in_levels k i low inside =
     let level = level_whole k (omega arith) in
     lies_in_level k i level.0 level.1 inside
 
+-- v² + v is the vector before, at each level that holds v
 pub solve_the_one_before : SolveTheOneBefore
 solve_the_one_before k i low later inside =
     let fits = lie_in_levels k i low inside in
@@ -91,6 +99,7 @@ solve_the_one_before k i low later inside =
 
 -- ---- one even solution
 
+-- from p + v = q + w follows p + q = v + w
 exchanged : (p q v w : ℕ) → bit_xor p v ≡ bit_xor q w → bit_xor p q ≡ bit_xor v w
 exchanged p q v w e =
     ap (λ (x : ℕ). bit_xor x q)

@@ -41,6 +41,7 @@ table_at (suc (suc (suc zero))) = SQUARED_8
 table_at (suc (suc (suc (suc zero)))) = SQUARED_16
 table_at (suc (suc (suc (suc (suc more))))) = SQUARED_32
 
+-- the table of each step has 512 entries and holds the values of its columns (computed)
 pub holds : (step : ℕ) → (length (table_at step) ≡ 512) × (holds_values (table_at step) ≡ true)
 unfolding holds_values entry_passes map_of columns_in sum_of_columns passes
 holds zero = (refl, refl)
@@ -50,10 +51,12 @@ holds (suc (suc (suc zero))) = (refl, refl)
 holds (suc (suc (suc (suc zero)))) = (refl, refl)
 holds (suc (suc (suc (suc (suc more))))) = (refl, refl)
 
+-- the map of the first table is the square at level 7, at every power of two (computed)
 pub squares : agree_on_powers (map_of (table_at 0)) (square_of 7) 128 ≡ true
 unfolding map_of columns_in sum_of_columns square_of squares_joined root_product
 squares = refl
 
+-- the map of each later table is the map of the one before, applied twice, at every power of two (computed)
 pub doubles : (step : ℕ) → step < 5 → is_twice (table_at step) (table_at (suc step)) ≡ true
 unfolding is_twice map_of columns_in sum_of_columns
 doubles zero below = refl

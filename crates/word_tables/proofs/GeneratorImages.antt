@@ -20,11 +20,13 @@ module _ (k width modulus : ℕ) (images : List ℕ) (isomorphic : IsChangeOfBas
   one_to_one a b a_fits b_fits same =
       sym (isomorphic.isomorphism.inverse_of_image a a_fits) ∙ ap isomorphic.isomorphism.inverse same ∙ isomorphic.isomorphism.inverse_of_image b b_fits
 
+  -- the image of the generator is not 0
   pub image_generator_nonzero : basis_image width modulus images (tower_generator k) ≢ 0
   image_generator_nonzero none =
       generator_nonzero k few
       (one_to_one (tower_generator k) 0 (generator_lt k few) (pow_pos (2 ^ k)) (none ∙ sym isomorphic.homomorphism.zero_image))
 
+  -- 1 is an element
   one_fits : 1 < 2 ^ 2 ^ k
   one_fits = pow_below 0 (2 ^ k) (pow_pos k)
 
@@ -42,6 +44,7 @@ module _ (k width modulus : ℕ) (images : List ℕ) (isomorphic : IsChangeOfBas
         ∙ sym isomorphic.homomorphism.one_image)),
   )
 
+  -- up to 16 bits the image of the generator has full order
   pub image_generator_order : width ≡ 2 ^ k → width ≤ 16
       → HasFullOrder width (mul_mod width modulus) (basis_image width modulus images (tower_generator k))
   image_generator_order bits small =

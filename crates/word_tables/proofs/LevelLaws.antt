@@ -13,6 +13,7 @@ use Rattle.word_tables.proofs.Orders.{generators_have_full_order}
 pub level_generator : (k : ℕ) → k ≤ 4 → HasFullOrder (2 ^ k) (tower_mul k) (tower_generator k)
 level_generator = generators_have_full_order
 
+-- a level of at most 16 bits is level 4 or a lower one
 pub at_most_four : (k : ℕ) → 2 ^ k ≤ 16 → k ≤ 4
 at_most_four zero small = lit≤ tt
 at_most_four (suc zero) small = lit≤ tt

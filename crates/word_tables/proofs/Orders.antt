@@ -21,11 +21,13 @@ unfoldable never_one : (ℕ → ℕ) → ℕ → ℕ → Bool
 never_one step zero value = true
 never_one step (suc n) value = elim (eqb value 1) [ true ↦ false | false ↦ never_one step n (step value) ]
 
+-- a search that ends with `true` has not stopped at this step, and the rest of it ends with `true`
 guarded : (stop rest : Bool) → elim stop [ true ↦ false | false ↦ rest ] ≡ true → (stop ≡ false) × (rest ≡ true)
 guarded true rest pass = absurd (false≢true pass)
 guarded false rest pass = (refl, pass)
 
 module _ (times : ℕ → ℕ → ℕ) (g : ℕ) (step : ℕ → ℕ) (steps : (e : ℕ) → step (power 1 times g e) ≡ power 1 times g (suc e)) where
+  -- if the search from g^m passes n steps, then none of g^m, .., g^(m + n - 1) is 1
   never_one_from : (n m i : ℕ) → never_one step n (power 1 times g m) ≡ true → i < n → power 1 times g (m + i) ≢ 1
   unfolding never_one
   never_one_from zero m i pass inside = absurd (omega arith)
@@ -66,18 +68,22 @@ steps_of_product : (k g e : ℕ) → tower_mul k (power 1 (tower_mul k) g e) g �
 unfolding power
 steps_of_product k g e = refl
 
+-- at 1 bit no power has to be looked at
 order_1 : never_one (λ x. tower_mul 0 x 1) 0 1 ≡ true
 unfolding never_one
 order_1 = refl
 
+-- at 2 bits 2 powers of the generator are not 1 (computed)
 order_2 : never_one (λ x. tower_mul 1 x 2) 2 2 ≡ true
 unfolding never_one tower_mul quadratic root
 order_2 = refl
 
+-- at 4 bits 14 powers of the generator are not 1 (computed)
 order_4 : never_one (λ x. tower_mul 2 x 5) 14 5 ≡ true
 unfolding never_one tower_mul quadratic root
 order_4 = refl
 
+-- at 8 bits 254 powers of the generator are not 1 (computed)
 order_8 : never_one (λ x. tower_mul 3 x 0x13) 254 0x13 ≡ true
 unfolding never_one tower_mul quadratic root
 order_8 = refl
@@ -88,20 +94,24 @@ columns_16 =
     0x102 ∷ 0x203 ∷ 0x408 ∷ 0x80c ∷ 0x1020 ∷ 0x2030 ∷ 0x4080 ∷ 0x80c0 ∷
     0x1201 ∷ 0x2302 ∷ 0x4804 ∷ 0x8c08 ∷ 0x6110 ∷ 0xb220 ∷ 0x1440 ∷ 0x2880 ∷ []
 
+-- the columns at 16 bits are the products of the generator by the powers of two (computed)
 columns_16_pass : passes (λ j column. eqb column (tower_mul 4 (2 ^ j) 0x102)) 0 columns_16 ≡ true
 unfolding passes columns_16 tower_mul quadratic root
 columns_16_pass = refl
 
+-- so their map takes each power of the generator to the next
 steps_of_columns : (e : ℕ) → sum_of_columns columns_16 (power 1 (tower_mul 4) 0x102 e) ≡ power 1 (tower_mul 4) 0x102 (suc e)
 unfolding power columns_16
 steps_of_columns e =
     columns_checked (λ x. tower_mul 4 x 0x102) (λ a b. sum_times 16 1 (tower_mul 4) (tower_ring 4) a b 0x102) columns_16
     columns_16_pass (power 1 (tower_mul 4) 0x102 e) (power-lt 16 1 (tower_mul 4) (tower_ring 4) (lit< tt) 0x102 e)
 
+-- at 16 bits 65,534 powers of the generator are not 1 (computed)
 order_16 : never_one (sum_of_columns columns_16) 65534 0x102 ≡ true
 unfolding never_one sum_of_columns columns_16
 order_16 = refl
 
+-- at each level of up to 16 bits the generator has full order
 pub generators_have_full_order : GeneratorsHaveFullOrder
 generators_have_full_order zero low =
     full_order 0 1 (λ x. tower_mul 0 x 1) (steps_of_product 0 1) (lit< tt) (λ e. absurd (omega arith)) order_1

@@ -27,10 +27,12 @@ use Rattle.word_tables.proofs.FrobeniusFacts.{columns_in, map_of, is_twice, entr
 abbrev IsSquaring : ℕ → List ℕ → Type 0
 IsSquaring n table = (x : ℕ) → x < 2 ^ 128 → map_of table x ≡ repeated_square 1 (tower_mul 7) n x
 
+-- the map of a table keeps sums
 map_keeps : (table : List ℕ) → KeepsSums (map_of table)
 unfolding map_of
 map_keeps table = sum_of_columns-sum (columns_in 32 table)
 
+-- the map of the first table is one squaring
 once : IsSquaring 1 (table_at 0)
 once x fits =
     maps_agree (map_of (table_at 0)) (λ b. tower_mul 7 b b) (map_keeps (table_at 0))
@@ -39,6 +41,7 @@ once x fits =
     ∙ sym (repeated_square-none 128 1 (tower_mul 7) (tower_ring 7) (tower_mul 7 x x) ((tower_ring 7).below x x))
     ∙ repeated_square_square 128 1 (tower_mul 7) (tower_ring 7) 0 x
 
+-- a table whose map is that of n squarings applied twice is of n + n squarings
 twice : (n : ℕ) (first second : List ℕ) → is_twice first second ≡ true → IsSquaring n first → IsSquaring (n + n) second
 unfolding is_twice
 twice n first second agree of_first x fits =

@@ -13,6 +13,7 @@ use Rattle.field_base.proofs.RingLemmas.{times-zero, zero-times}
 use Rattle.field_base.proofs.TableChecks.{passes, passes_at, tabulates, tabulates_at, repeats, repeats_at}
 use Rattle.word_tables.specs.declared.rijndael.literals.TheConstants.{EXP, INVERSES, LOG, ROOTS, SQUARES}
 
+-- the polynomials modulo x^8 + x^4 + x^3 + x + 1 are a ring
 ring : IsRing 8 1 (mul_mod 8 aes_modulus)
 ring = mul_mod_ring 8 aes_modulus (lit< tt) refl
 
@@ -22,10 +23,12 @@ ring = mul_mod_ring 8 aes_modulus (lit< tt) refl
 abbrev power_of_generator : ℕ → ℕ
 power_of_generator e = power 1 (mul_mod 8 aes_modulus) 0x88 e
 
+-- each of the first 511 entries of EXP is the one before times 0x88, from 1 on (computed)
 powers_pass : repeats (λ x. mul_mod 8 aes_modulus x 0x88) 1 (take 511 EXP) ≡ true
 unfolding mul_mod rem rem_in carryless carryless_in repeats
 powers_pass = refl
 
+-- entry e of EXP is 0x88^e for e below 511
 entries_are_powers : (e : ℕ) → e < 511 → slice_index EXP e ≡ power_of_generator e
 entries_are_powers e inside =
     sym (get_or-take 511 EXP e 0 inside) ∙ repeats_at (mul_mod 8 aes_modulus) 0x88 (take 511 EXP) e powers_pass inside
@@ -34,6 +37,7 @@ entries_are_powers e inside =
 is_nothing : ℕ → ℕ → Bool
 is_nothing x y = eqb y 0
 
+-- the entries of EXP from 511 on are 0 (computed)
 nothings_pass : passes is_nothing 0 (drop 511 EXP) ≡ true
 unfolding passes is_nothing
 nothings_pass = refl
@@ -51,10 +55,12 @@ entries_are_zero e above inside =
 is_logarithm : ℕ → ℕ → Bool
 is_logarithm x y = ltb y 255 && eqb (get_or EXP y 0) x
 
+-- every entry of LOG past the first passes its check (computed)
 logarithms_pass : passes is_logarithm 1 (drop 1 LOG) ≡ true
 unfolding passes is_logarithm
 logarithms_pass = refl
 
+-- for x other than 0 entry x of LOG is below 255, and 0x88 to its power is x
 entries_are_logarithms : (x : ℕ) → x ≢ 0 → x < 256 → (slice_index LOG x < 255) × (power_of_generator (slice_index LOG x) ≡ x)
 unfolding is_logarithm
 entries_are_logarithms zero nonzero inside = absurd (nonzero refl)
@@ -65,6 +71,7 @@ entries_are_logarithms (suc x) nonzero inside =
     let next : 1 + x ≡ suc x = omega arith in
     (low, sym (entries_are_powers (get_or LOG (suc x) 0) (omega (arith, low))) ∙ eqb-true (get_or EXP (get_or LOG (suc x) 0) 0) (1 + x) parts.1 ∙ next)
 
+-- every entry of LOG is at most 511, so that a sum of two of them is a place in EXP
 pub logarithm_fits : (x : ℕ) → x < 256 → slice_index LOG x ≤ 511
 logarithm_fits zero inside = lit≤ tt
 logarithm_fits (suc x) inside =
@@ -91,10 +98,12 @@ product_of_logarithms (suc a) (suc b) a_fits b_fits =
 
 -- ---- tables of functions of one byte
 
+-- SQUARES tabulates squares (computed)
 squares_pass : tabulates (λ x. mul_mod 8 aes_modulus x x) SQUARES ≡ true
 unfolding mul_mod rem rem_in carryless carryless_in tabulates passes
 squares_pass = refl
 
+-- entry a of SQUARES is a²
 pub squares_at : (a : ℕ) → a < 256 → slice_index SQUARES a ≡ mul_mod 8 aes_modulus a a
 squares_at a inside = tabulates_at (λ x. mul_mod 8 aes_modulus x x) SQUARES a squares_pass inside
 
@@ -102,10 +111,12 @@ squares_at a inside = tabulates_at (λ x. mul_mod 8 aes_modulus x x) SQUARES a s
 is_root : ℕ → ℕ → Bool
 is_root x y = eqb (mul_mod 8 aes_modulus y y) x
 
+-- the square of every entry of ROOTS is its place (computed)
 roots_pass : passes is_root 0 ROOTS ≡ true
 unfolding mul_mod rem rem_in carryless carryless_in is_root passes
 roots_pass = refl
 
+-- the square of entry a of ROOTS is a
 pub roots_at : (a : ℕ) → a < 256 → mul_mod 8 aes_modulus (slice_index ROOTS a) (slice_index ROOTS a) ≡ a
 unfolding is_root
 roots_at a inside =
@@ -116,10 +127,12 @@ roots_at a inside =
 is_inverse : ℕ → ℕ → Bool
 is_inverse x y = eqb (mul_mod 8 aes_modulus x y) 1
 
+-- the product of every entry of INVERSES past the first by its place is 1 (computed)
 inverses_pass : passes is_inverse 1 (drop 1 INVERSES) ≡ true
 unfolding mul_mod rem rem_in carryless carryless_in is_inverse passes
 inverses_pass = refl
 
+-- for a other than 0 the product of a by entry a of INVERSES is 1
 pub inverses_at : (a : ℕ) → a < 256 → a ≢ 0 → mul_mod 8 aes_modulus a (slice_index INVERSES a) ≡ 1
 unfolding is_inverse
 inverses_at zero inside nonzero = absurd (nonzero refl)

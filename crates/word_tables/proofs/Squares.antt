@@ -15,6 +15,7 @@ root_product (suc k) a =
     let high = high_half (2 ^ k) a in
     pair (2 ^ k) high (bit_xor (low_half (2 ^ k) a) (root_product k high))
 
+-- the recursion computes the product by the root of level k
 pub root_product_is : (k a : ℕ) → root_product k a ≡ tower_mul k (root k) a
 unfolding root_product
 root_product_is zero a = sym (tower_mul-root_zero a)
@@ -31,6 +32,7 @@ unfoldable pub square_of : ℕ → ℕ → ℕ
 square_of zero a = a % 2
 square_of (suc k) a = squares_joined k (square_of k (low_half (2 ^ k) a)) (square_of k (high_half (2 ^ k) a))
 
+-- the recursion computes the square at level k
 pub square_of_is : (k a : ℕ) → square_of k a ≡ tower_mul k a a
 unfolding square_of squares_joined tower_mul
 square_of_is zero a = two_cases (λ x. x ≡ x * x) refl refl (a % 2) (mod-lt a (lit< tt))

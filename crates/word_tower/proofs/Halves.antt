@@ -19,21 +19,27 @@ use Rattle.field_base.proofs.TowerRing.{tower_ring, bits_double}
 
 -- ---- what is an element
 
+-- a product is an element
 pub product_lt : (k a b r : ℕ) → r ≡ tower_mul k a b → r < 2 ^ 2 ^ k
 product_lt k a b r is = subst (λ (x : ℕ). x < 2 ^ 2 ^ k) (sym is) ((tower_ring k).below a b)
 
+-- a sum of elements is an element
 pub sum_lt : (k a b r : ℕ) → a < 2 ^ 2 ^ k → b < 2 ^ 2 ^ k → r ≡ bit_xor a b → r < 2 ^ 2 ^ k
 sum_lt k a b r a_fits b_fits is = subst (λ (x : ℕ). x < 2 ^ 2 ^ k) (sym is) (xor_lt (2 ^ k) a b a_fits b_fits)
 
+-- the low half is an element of the level below
 pub low_lt : (k a r : ℕ) → r ≡ low_half (2 ^ k) a → r < 2 ^ 2 ^ k
 low_lt k a r is = subst (λ (x : ℕ). x < 2 ^ 2 ^ k) (sym is) (low_half-lt (2 ^ k) a)
 
+-- the high half is an element of the level below
 pub high_lt : (k a r : ℕ) → r ≡ high_half (2 ^ k) a → r < 2 ^ 2 ^ k
 high_lt k a r is = subst (λ (x : ℕ). x < 2 ^ 2 ^ k) (sym is) (high_half-lt (2 ^ k) a)
 
+-- the norm is an element of the level below
 pub norm_is_element : (k a r : ℕ) → r ≡ norm (2 ^ k) (tower_mul k) (root k) a → r < 2 ^ 2 ^ k
 norm_is_element k a r is = subst (λ (x : ℕ). x < 2 ^ 2 ^ k) (sym is) (tower_norm-lt k a)
 
+-- two elements of level k are the halves of an element of level k + 1
 pub joined_lt : (k low high r : ℕ) → low < 2 ^ 2 ^ k → high < 2 ^ 2 ^ k → r ≡ pair (2 ^ k) low high → r < 2 ^ 2 ^ suc k
 joined_lt k low high r low_fits high_fits is =
     subst (λ (x : ℕ). x < 2 ^ 2 ^ suc k) (sym is)
@@ -41,6 +47,7 @@ joined_lt k low high r low_fits high_fits is =
 
 -- ---- quotients by the root, roots and inverses
 
+-- an element is the pair of its halves
 whole : (k a : ℕ) → a < 2 ^ 2 ^ suc k → pair (2 ^ k) (low_half (2 ^ k) a) (high_half (2 ^ k) a) ≡ a
 whole k a fits = pair-halves (2 ^ k) a ∙ ap (λ (w : ℕ). a % 2 ^ w) (bits_double k) ∙ mod-eq_of_lt fits
 
@@ -99,6 +106,7 @@ quotient_is k d over x q fits inverts is =
     ∙ times_left_comm (2 ^ k) 1 (tower_mul k) ring q d over ∙ sym (ring.assoc d q over)
     ∙ ap (λ (y : ℕ). tower_mul k y over) is
 
+-- the norm of a nonzero element is not 0
 pub norm_is_nonzero : (k a norm' : ℕ) → a < 2 ^ 2 ^ suc k → norm' ≡ norm (2 ^ k) (tower_mul k) (root k) a → a ≢ 0 → norm' ≢ 0
 norm_is_nonzero k a norm' fits is_norm nonzero none = nonzero (tower_norm-zero k a fits (sym is_norm ∙ none))
 

@@ -35,17 +35,21 @@ low_root j k a r fits r_fits squares =
     ∙ tower_mul-sqrt k a ∙ mod-eq_of_lt fits))
 
 module _ (j k a r : ℕ) (fits : a < 2 ^ 2 ^ k) (r_fits : r < 2 ^ 2 ^ (j + k)) where
+  -- what is the inverse in the level of 8 bits is the inverse in the lower level
   pub low_inverse_inverts : (a ≢ 0 → tower_mul (j + k) a r ≡ 1) → a ≢ 0 → tower_mul k a r ≡ 1
   low_inverse_inverts inverts nonzero =
       ap (tower_mul k a) (low_inverse j k a r fits r_fits nonzero (inverts nonzero)) ∙ tower_mul-inverse k a fits nonzero
 
+  -- a square root in the level of 8 bits of an element of a lower level is an element of the lower level
   pub low_root_lt : tower_mul (j + k) r r ≡ a → r < 2 ^ 2 ^ k
   low_root_lt squares = subst (λ (x : ℕ). x < 2 ^ 2 ^ k) (sym (low_root j k a r fits r_fits squares)) (tower_sqrt-lt k a)
 
+  -- and its square there is the same
   pub low_root_squares : tower_mul (j + k) r r ≡ a → tower_mul k r r ≡ a
   low_root_squares squares =
       ap (λ (x : ℕ). tower_mul k x x) (low_root j k a r fits r_fits squares) ∙ tower_mul-sqrt k a ∙ mod-eq_of_lt fits
 
+-- the inverse in the level of 8 bits of an element of a lower level is an element of the lower level
 pub low_inverse_lt : (j k a r : ℕ) → a < 2 ^ 2 ^ k → r < 2 ^ 2 ^ (j + k) → (a ≡ 0 → r ≡ 0)
     → (a ≢ 0 → tower_mul (j + k) a r ≡ 1) → r < 2 ^ 2 ^ k
 low_inverse_lt j k zero r fits r_fits none inverts = subst (λ (x : ℕ). x < 2 ^ 2 ^ k) (sym (none refl)) (pow_pos (2 ^ k))
@@ -56,19 +60,24 @@ low_inverse_lt j k (suc a) r fits r_fits none inverts =
 
 -- ---- bits
 
+-- products at level 0
 pub bit_times : (x y : ℕ) → x % 2 * (y % 2) ≡ tower_mul 0 x y
 unfolding tower_mul
 bit_times x y = refl
 
+-- squares at level 0
 pub bit_square : (x : ℕ) → x % 2 ≡ tower_mul 0 x x
 unfolding tower_mul
 bit_square x = two_cases (λ d. d ≡ d * d) refl refl (x % 2) (mod-lt x (lit< tt))
 
+-- products by the root at level 0, which is 1
 pub bit_by_root : (x : ℕ) → x % 2 ≡ tower_mul 0 (root 0) x
 bit_by_root x = sym (tower_mul-root_zero x)
 
+-- 1 is its own inverse at level 0
 pub bit_inverts : (x : ℕ) → x < 2 → x ≢ 0 → tower_mul 0 x x ≡ 1
 bit_inverts = bit_times_itself
 
+-- each element of level 0 is its own square root
 pub bit_root : (x : ℕ) → x < 2 → tower_mul 0 x x ≡ x
 bit_root x fits = sym (bit_square x) ∙ mod-eq_of_lt fits

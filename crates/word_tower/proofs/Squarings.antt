@@ -26,9 +26,12 @@ half_of_bits k level few same =
 
 -- repeated squares are elements, so that a word of enough bits holds them whole, and no squaring of it is left
 pub record SquaredInWord (k n x word : ℕ) : Type 0 where
+  -- the word is an element
   pub fits : word < 2 ^ 2 ^ k
+  -- and it is x squared n times
   pub squarings : repeated_square 1 (tower_mul k) 0 word ≡ repeated_square 1 (tower_mul k) n x
 
+-- x squared n times by numbers of 128 bits, and cut to the bits of the level's own word
 pub squared_in_word : (k bits n x level number value word : ℕ) → 2 ^ k ≤ bits → level ≡ k → number ≡ x
     → value ≡ repeated_square 1 (tower_mul level) n number → word ≡ value % 2 ^ bits → SquaredInWord k n x word
 squared_in_word k bits n x level number value word room same_level same_number computed kept =
