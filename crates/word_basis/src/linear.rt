@@ -46,6 +46,31 @@ pub fn sum_of_values(values: &[u128; 512], x: u128, digits: usize) -> u128
     }
 }
 
+/// The image of `bits` by the linear map whose image of bit j is `images[j]`: the sum of the images at the set bits. It ends with the
+/// highest of them.
+#[tactic(auto, using(crate::proofs::TabledMaps::image_steps))]
+pub fn sum_of_images(images: &[u128], bits: u128) -> u128
+    ensures { result ≡ linear_image images.now bits }
+{
+    let mut sum = 0;
+    let mut rest = bits;
+    for image in images {
+        if rest == 0 {
+            return sum;
+        }
+        if rest & 1 == 1 {
+            sum ^= *image;
+        }
+        rest >>= 1;
+    }
+    sum
+}
+
+/// States that for all images `linear_image` is the one map that keeps sums and takes bit j to image j.
+pub fn images_give_linear_map()
+    ensures { (images : List ℕ) → IsTheLinearMapOf images (linear_image images) }
+{}
+
 // The sum of the values at `digits` digits of `x` from digit `first` on, which lie in one word of 64 bits: a digit of such a word is a
 // shift and a mask, and one of 128 bits takes a shift of two words.
 #[inline(always)]
@@ -73,28 +98,3 @@ pub(crate) fn values_at_digits(images: &[u128; 128]) -> [u128; 512]
     }
     values
 }
-
-/// The image of `bits` by the linear map whose image of bit j is `images[j]`: the sum of the images at the set bits. It ends with the
-/// highest of them.
-#[tactic(auto, using(crate::proofs::TabledMaps::image_steps))]
-pub fn sum_of_images(images: &[u128], bits: u128) -> u128
-    ensures { result ≡ linear_image images.now bits }
-{
-    let mut sum = 0;
-    let mut rest = bits;
-    for image in images {
-        if rest == 0 {
-            return sum;
-        }
-        if rest & 1 == 1 {
-            sum ^= *image;
-        }
-        rest >>= 1;
-    }
-    sum
-}
-
-/// States that for all images `linear_image` is the one map that keeps sums and takes bit j to image j.
-pub fn images_give_linear_map()
-    ensures { (images : List ℕ) → IsTheLinearMapOf images (linear_image images) }
-{}
