@@ -1,4 +1,4 @@
-// The changes of basis of words and of slices, as linear maps by tables: the value at a word is the sum of the entries of its bytes.
+// The changes of basis of words and of slices, as linear maps by tables: the value at a word is the sum of an entry for each byte.
 //
 //     x = b0 + b1 256 + b2 256^2 + ..   ->   table[b0] + table[256 + b1] + table[512 + b2] + ..
 ghost use Rattle.std.specs.Prelude.{◌≡◌, ℕ, ◌^◌, ◌<◌, map};
@@ -17,7 +17,7 @@ pub fn to_polynomial_8(x: u8) -> u8
     TO_POLYNOMIAL_8[x as usize]
 }
 
-/// The element of 8 bits whose image is the polynomial `x`, of which there is one.
+/// The one element of 8 bits whose image is the polynomial `x`.
 #[inline]
 pub fn to_tower_8(x: u8) -> u8
     ensures image { basis_image 8 aes_modulus aes_images result ≡ x }
@@ -34,7 +34,7 @@ pub fn to_polynomial_64(x: u64) -> u64
     sum_of_entries_64(&TO_POLYNOMIAL_64, x)
 }
 
-/// The element of 64 bits whose image is the polynomial `x`, of which there is one.
+/// The one element of 64 bits whose image is the polynomial `x`.
 #[inline]
 pub fn to_tower_64(x: u64) -> u64
     ensures image { basis_image 64 poly64_modulus poly64_images result ≡ x }
@@ -51,7 +51,7 @@ pub fn to_polynomial_128(x: u128) -> u128
     sum_of_entries_128(&TO_POLYNOMIAL_128, x)
 }
 
-/// The element of 128 bits whose image is the polynomial `x`, of which there is one.
+/// The one element of 128 bits whose image is the polynomial `x`.
 #[inline]
 pub fn to_tower_128(x: u128) -> u128
     ensures image { basis_image 128 ghash_modulus ghash_images result ≡ x }

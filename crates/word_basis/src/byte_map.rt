@@ -1,4 +1,4 @@
-// Any linear map of 128 bits, given by the images of its bits, by a byte table as the changes of basis have them.
+// Any linear map of 128 bits, given by the images of its bits, by a byte table like those of the changes of basis.
 ghost use Rattle.std.specs.Prelude.{◌≡◌, ℕ};
 ghost use Rattle.field_base.specs.ByteTables.{sum_of_entries};
 ghost use Rattle.field_base.specs.LinearMaps.{linear_image};
@@ -6,8 +6,8 @@ ghost use Rattle.field_base.specs.LinearMaps.{linear_image};
 use crate::linear::values_at_digits;
 use field_base::byte_tables::sum_of_entries_128;
 
-/// A linear map as `LinearMap` is, for some hundreds of values and more: it holds its values at the bytes in each place, 65,536
-/// bytes, so that a value is the sum of 16 of them.
+/// A linear map for many values, some hundreds or more: it holds its values at every byte in each place, in 65,536 bytes, so that a
+/// value is the sum of 16 of them. `LinearMap` is smaller.
 #[derive(Drop)]
 pub struct ByteMap {
     table: [u128; 4096],
@@ -34,8 +34,8 @@ impl ByteMap {
     }
 }
 
-// The table of the linear map that has these images. Entry 256 j + b is the value at b 256^j, which is the sum of the values at
-// its two digits to base 16.
+// The table of the linear map that has these images. Entry 256 j + b is the value at b 256^j: the sum of the values at its two
+// digits to base 16.
 fn table_of(images: &[u128; 128]) -> [u128; 4096]
     ensures { (x : ℕ) → sum_of_entries 16 result x ≡ linear_image images.now x }
 {

@@ -1,8 +1,8 @@
 //! The change of basis between the tower's levels of 8, 64 and 128 bits and three fields of polynomials.
 //!
 //! An element of the tower is a word whose high half multiplies the root that its level adjoins; a polynomial is a word
-//! whose bit i is the coefficient of x^i. Bit j of the tower goes to the product of the images of the roots over the set bits
-//! of j.
+//! whose bit i is the coefficient of x^i. The image of bit j of the tower is the product, over the set bits m of j, of the
+//! images of the roots that the levels m + 1 adjoin.
 #![tactic(auto)]
 
 mod basis;

@@ -13,8 +13,7 @@ pub struct LinearMap {
 impl LinearMap {
     ghost use Rattle.word_basis.specs.LinearMap.{map_of};
 
-    /// The linear map that takes bit j to `images[j]`. It makes 512 values: where few are wanted, their sums of images by
-    /// themselves take less time.
+    /// The linear map that takes bit j to `images[j]`. It computes 512 values: for few values `sum_of_images` takes less time.
     pub fn new(images: &[u128; 128]) -> LinearMap
         ensures { (x : ℕ) → map_of result x ≡ linear_image images.now x }
     {
@@ -33,7 +32,7 @@ impl LinearMap {
 }
 
 /// The sum of the values of a linear map at the low digits of `x` to base 16. Entry 16 i + d is the value at d 16^i, and there are
-/// 32 digits at most. It is part of its caller's code, so that where the number of digits is a constant, no loop is left.
+/// 32 digits at most. It is inlined, so that for a constant number of digits no loop is left.
 #[inline(always)]
 pub fn sum_of_values(values: &[u128; 512], x: u128, digits: usize) -> u128
     requires { digits ≤ 32 }
@@ -46,8 +45,8 @@ pub fn sum_of_values(values: &[u128; 512], x: u128, digits: usize) -> u128
     }
 }
 
-/// The image of `bits` by the linear map whose image of bit j is `images[j]`: the sum of the images at the set bits. It ends with the
-/// highest of them.
+/// The image of `bits` by the linear map whose image of bit j is `images[j]`: the sum of the images at the set bits. It stops after
+/// the highest of them.
 #[tactic(auto, using(crate::proofs::TabledMaps::image_steps))]
 pub fn sum_of_images(images: &[u128], bits: u128) -> u128
     ensures { result ≡ linear_image images.now bits }
@@ -66,13 +65,13 @@ pub fn sum_of_images(images: &[u128], bits: u128) -> u128
     sum
 }
 
-/// States that for all images `linear_image` is the one map that keeps sums and takes bit j to image j.
+/// States that `linear_image` of any images is the only map that keeps sums and takes bit j to image j.
 pub fn images_give_linear_map()
     ensures { (images : List ℕ) → IsTheLinearMapOf images (linear_image images) }
 {}
 
-// The sum of the values at `digits` digits of `x` from digit `first` on, which lie in one word of 64 bits: a digit of such a word is a
-// shift and a mask, and one of 128 bits takes a shift of two words.
+// The sum of the values at `digits` digits of `x` from digit `first` on, which lie in one word of 64 bits. There a digit takes a shift
+// and a mask; in 128 bits it takes a shift of two words.
 #[inline(always)]
 fn sum_in_word(values: &[u128; 512], x: u128, first: usize, digits: usize) -> u128
     requires first { first ≤ 16 }

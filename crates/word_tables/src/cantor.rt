@@ -4,8 +4,8 @@ ghost use Rattle.word_tables.specs.Cantor.{cantor_vector, AreEven, FirstIsOne, L
 
 mod literals;
 
-/// Cantor vector `i`: 1 for `i` = 0, and else the even v with v² + v = vector `i` - 1. The first 2^k are elements of the
-/// tower's level k.
+/// Cantor vector `i`: 1 for `i` = 0, and otherwise the even v with v² + v = vector `i` - 1. The first 2^k are elements of level k
+/// of the tower.
 #[inline]
 pub fn cantor_vector(i: usize) -> u128
     requires { i < 128 }
@@ -14,8 +14,8 @@ pub fn cantor_vector(i: usize) -> u128
     literals::VECTORS[i]
 }
 
-/// States the rule of the Cantor vectors: the first is 1, the first 2^k are elements of level k, and there each but the
-/// first is the even solution v of v² + v = the vector before, of which there is one.
+/// States the rule of the Cantor vectors: the first is 1, the first 2^k are elements of level k, and each later vector is the
+/// only even v with v² + v = the vector before.
 pub fn cantor_vectors_are_solutions()
     ensures first { FirstIsOne }
     ensures levels { LieInLevels }

@@ -12,18 +12,39 @@ use crate::frobenius::literals::{
 };
 use word_basis::sum_of_values;
 
-// The digits to base 16 of an element of a level.
+/// The element `x` of a level of the tower squared `count` times, by one table for each set bit of `count`. The level is
+/// one from 2, of 4 bits, to 7, of 128 bits; `x` is one of its elements, and `count` is below 64. It is inlined, so that for a
+/// constant level no loop is left, and no more digits are looked up than its elements have.
 #[inline(always)]
-fn digits_of(level: usize) -> usize
+pub fn repeated_square(level: usize, x: u128, count: usize) -> u128
     requires nibbles { 2 ≤ level }
     requires few { level ≤ 7 }
-    ensures { 2 ^ level ≡ 4 * result }
+    requires fits { x < 2 ^ 2 ^ level }
+    requires count { count < 64 }
+    ensures { result ≡ repeated_square 1 (tower_mul level) count x }
 {
-    1 << (level - 2)
+    let mut value = x;
+    for step in 0..6 {
+        if (count >> step) % 2 == 1 {
+            value = square_by_table(level, value, step);
+        }
+    }
+    value
 }
 
-// The table of 2^step squarings, which serves every level: the entries at the digits of an element add up to the element squared 2^step
-// times.
+// The element `x` of a level of at least 4 bits, squared 2^step times.
+#[inline(always)]
+fn square_by_table(level: usize, x: u128, step: usize) -> u128
+    requires nibbles { 2 ≤ level }
+    requires few { level ≤ 7 }
+    requires fits { x < 2 ^ 2 ^ level }
+    requires step { step < 6 }
+    ensures { result ≡ repeated_square 1 (tower_mul level) (2 ^ step) x }
+{
+    sum_of_values(table_of(step), x, digits_of(level))
+}
+
+// The table of 2^step squarings, at every level: the entries at the digits of an element add up to the element squared 2^step times.
 #[inline(always)]
 #[tactic(auto, using(crate::proofs::RepeatedSquares::squared))]
 fn table_of(step: usize) -> &'static [u128; 512]
@@ -41,34 +62,12 @@ fn table_of(step: usize) -> &'static [u128; 512]
     }
 }
 
-// The element `x` of a level of 4 bits or more squared 2^step times.
+// The number of digits to base 16 of an element of a level.
 #[inline(always)]
-fn square_by_table(level: usize, x: u128, step: usize) -> u128
+fn digits_of(level: usize) -> usize
     requires nibbles { 2 ≤ level }
     requires few { level ≤ 7 }
-    requires fits { x < 2 ^ 2 ^ level }
-    requires step { step < 6 }
-    ensures { result ≡ repeated_square 1 (tower_mul level) (2 ^ step) x }
+    ensures { 2 ^ level ≡ 4 * result }
 {
-    sum_of_values(table_of(step), x, digits_of(level))
-}
-
-/// The element `x` of a level of the tower squared `count` times, by one table for each set bit of `count`. The level is
-/// one from 2, of 4 bits, to 7, of 128 bits; `x` is one of its elements, and `count` is below 64. It is part of its caller's code,
-/// so that a level that is a constant there has look-ups without a loop, and of no more bits than its elements have.
-#[inline(always)]
-pub fn repeated_square(level: usize, x: u128, count: usize) -> u128
-    requires nibbles { 2 ≤ level }
-    requires few { level ≤ 7 }
-    requires fits { x < 2 ^ 2 ^ level }
-    requires count { count < 64 }
-    ensures { result ≡ repeated_square 1 (tower_mul level) count x }
-{
-    let mut value = x;
-    for step in 0..6 {
-        if (count >> step) % 2 == 1 {
-            value = square_by_table(level, value, step);
-        }
-    }
-    value
+    1 << (level - 2)
 }

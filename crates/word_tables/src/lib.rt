@@ -1,5 +1,5 @@
 //! Tables over words: powers and logarithms of the tower's 8-bit level, its linear maps on words up to 64 bits, repeated squares at
-//! every level, the bytes of AES in their own basis, and the Cantor vectors. The types of the fields stand in other crates.
+//! every level, the bytes of AES in their own basis, and the Cantor vectors. The types of the fields are in other crates.
 #![tactic(auto)]
 
 mod cantor;

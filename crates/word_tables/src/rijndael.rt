@@ -8,25 +8,8 @@ mod literals;
 
 use field_base::byte_tables::entry;
 
-// The entry of EXP at `exponent`.
-#[inline]
-fn power_entry(exponent: usize) -> u8
-    requires { exponent < 1023 }
-    ensures { result ≡ slice_index EXP exponent }
-{
-    literals::EXP[exponent]
-}
-
-// The entry of LOG at `a`.
-#[inline]
-fn logarithm_entry(a: u8) -> u16
-    ensures { result ≡ slice_index LOG a }
-{
-    literals::LOG[a as usize]
-}
-
 /// The product of two bytes: 0x88 to the power of the sum of their logarithms. That of 0 is so large that EXP has 0 at each sum
-/// with it, so that no operand is asked whether it is 0.
+/// with it, so that no operand is compared with 0.
 #[inline]
 pub fn multiply(a: u8, b: u8) -> u8
     ensures { result ≡ mul_mod 8 aes_modulus a b }
@@ -57,4 +40,21 @@ pub fn sqrt(a: u8) -> u8
     ensures { mul_mod 8 aes_modulus result result ≡ a }
 {
     entry(&literals::ROOTS, a)
+}
+
+// The entry of EXP at `exponent`.
+#[inline]
+fn power_entry(exponent: usize) -> u8
+    requires { exponent < 1023 }
+    ensures { result ≡ slice_index EXP exponent }
+{
+    literals::EXP[exponent]
+}
+
+// The entry of LOG at `a`.
+#[inline]
+fn logarithm_entry(a: u8) -> u16
+    ensures { result ≡ slice_index LOG a }
+{
+    literals::LOG[a as usize]
 }

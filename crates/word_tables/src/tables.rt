@@ -1,5 +1,5 @@
 // GF(2^8), level 3 of the tower, by tables: a product is 0x13 to the power of the sum of the logarithms of its operands. Squares and
-// square roots of elements of 16 to 64 bits are additive, so the value at a number is the sum of one table entry for each of its
+// square roots of elements of 16 to 64 bits are additive, so the value at a number is the sum of a table entry for each of its
 // bytes. At 128 bits such tables would take 64 KB each and gain nothing.
 ghost use Rattle.std.specs.Prelude.{◌≡◌, ◌≢◌, ◌<◌, slice_index};
 ghost use Rattle.field_base.specs.Tower.{root, tower_mul};
@@ -10,15 +10,6 @@ mod linear;
 mod literals;
 
 use field_base::byte_tables::{entry, sum_of_entries_16, sum_of_entries_32, sum_of_entries_64};
-
-// The entry of EXP at `exponent`.
-#[inline]
-pub(crate) fn power_entry(exponent: usize) -> u8
-    requires { exponent < 511 }
-    ensures { result ≡ slice_index EXP exponent }
-{
-    literals::EXP[exponent]
-}
 
 /// The product of two elements of GF(2^8): 0x13 to the power of the sum of their logarithms, and 0 where an operand is 0,
 /// which has no logarithm.
@@ -32,12 +23,12 @@ pub fn multiply_8(a: u8, b: u8) -> u8
     if a == 0 || b == 0 { 0 } else { product }
 }
 
-/// The quotient of an element of GF(2^8) by a divisor, which must not be 0: 0x13 to the power of the difference of their
-/// logarithms, to which the order 255 of 0x13 is added, and 0 where `a` is 0, which has no logarithm.
+/// The quotient of an element of GF(2^8) by a nonzero divisor: 0x13 to the power of the difference of their logarithms, to
+/// which the order 255 of 0x13 is added. It is 0 where `a` is 0, which has no logarithm, whatever the divisor is.
 #[inline]
 pub fn divide_8(a: u8, divisor: u8) -> u8
-    requires { divisor ≢ 0 }
-    ensures { tower_mul 3 divisor result ≡ a }
+    ensures zero { a ≡ 0 → result ≡ 0 }
+    ensures quotient { divisor ≢ 0 → tower_mul 3 divisor result ≡ a }
 {
     let quotient = power_entry(
         entry(&literals::LOG, a) as usize + (255 - entry(&literals::LOG, divisor) as usize),
@@ -126,10 +117,19 @@ pub fn sqrt_64(x: u64) -> u64
     sum_of_entries_64(&linear::ROOTS_64, x)
 }
 
-/// States that the tables of powers and of logarithms hold what they are named for: entry e of EXP is 0x13 to the power
-/// e, and 0x13 to the power of entry x of LOG, which is below 255, is x, for each x but 0. The entry of LOG at 0 is 0.
+/// States that entry e of EXP is 0x13 to the power e, and that for every nonzero x entry x of LOG is below 255 and 0x13 to its
+/// power is x. The entry of LOG at 0 is 0.
 pub fn tables_are_powers()
     ensures powers { EntriesArePowers }
     ensures logarithms { EntriesAreLogarithms }
     ensures zero { ZeroHasLogarithmZero }
 {}
+
+// The entry of EXP at `exponent`.
+#[inline]
+pub(crate) fn power_entry(exponent: usize) -> u8
+    requires { exponent < 511 }
+    ensures { result ≡ slice_index EXP exponent }
+{
+    literals::EXP[exponent]
+}
