@@ -2,7 +2,7 @@
 -- which they are computed: what is computed is named by what it is equal to.
 use Rattle.std.proofs.Common.{◌≡◌, ◌≢◌, ℕ, suc, ◌/◌, ◌%◌, ◌^◌, ◌<◌, sym, ◌∙◌, ap, ap₂, subst, arith}
 use Rattle.std.specs.Prelude.{bit_xor}
-use Rattle.std.proofs.lemmas.Nat.{xor_lt}
+use Rattle.std.proofs.lemmas.Nat.{pow_pos, xor_lt}
 use native.Mathlib.Nat.{mod-eq_of_lt, pow-suc}
 use lib.Bits.{xor_assoc, xor_self, xor_zero_r}
 use Rattle.field_base.specs.Norm.{conjugate, norm}
@@ -11,7 +11,8 @@ use Rattle.field_base.specs.Quadratic.{low_half, high_half, pair}
 use Rattle.field_base.specs.Tower.{root, tower_mul}
 use Rattle.field_base.proofs.PowerLemmas.{times-one}
 use Rattle.field_base.proofs.QuadraticRing.{low_half-lt, high_half-lt, low_half-pair, high_half-pair, pair-halves, pair-lt}
-use Rattle.field_base.proofs.RingLemmas.{times_left_comm}
+use Rattle.field_base.proofs.QuadraticProducts.{high_half-low, low_half-low, pair-low}
+use Rattle.field_base.proofs.RingLemmas.{times_left_comm, times-zero, zero-times}
 use Rattle.field_base.proofs.TowerFrobenius.{tower_repeated_square-half}
 use Rattle.field_base.proofs.TowerInverse.{tower_inverse, tower_norm-lt, tower_norm-zero, tower_mul-conjugate_over_norm, tower_mul-inverse}
 use Rattle.field_base.proofs.TowerProducts.{tower_mul-square, tower_mul-root_suc}
@@ -98,6 +99,10 @@ product_of_inverse k d over x r fits inverts is =
     ap (tower_mul k d) is ∙ times_left_comm (2 ^ k) 1 (tower_mul k) ring d x over ∙ ap (tower_mul k x) inverts
     ∙ times-one (2 ^ k) 1 (tower_mul k) ring x fits
 
+-- a product of 0 is 0
+pub product_of_zero : (k x y r : ℕ) → r ≡ tower_mul k x y → x ≡ 0 → r ≡ 0
+product_of_zero k x y r is none = is ∙ ap (λ (z : ℕ). tower_mul k z y) none ∙ zero-times (2 ^ k) 1 (tower_mul k) (tower_ring k) y
+
 -- the quotient is the product by the inverse of the divisor
 quotient_is : (k d over x q : ℕ) → q < 2 ^ 2 ^ k → tower_mul k d over ≡ 1 → tower_mul k d q ≡ x → q ≡ tower_mul k x over
 quotient_is k d over x q fits inverts is =
@@ -109,6 +114,18 @@ quotient_is k d over x q fits inverts is =
 -- the norm of a nonzero element is not 0
 pub norm_is_nonzero : (k a norm' : ℕ) → a < 2 ^ 2 ^ suc k → norm' ≡ norm (2 ^ k) (tower_mul k) (root k) a → a ≢ 0 → norm' ≢ 0
 norm_is_nonzero k a norm' fits is_norm nonzero none = nonzero (tower_norm-zero k a fits (sym is_norm ∙ none))
+
+-- the conjugate of 0 is 0, so that quotients which are 0 where their dividend is 0 are the halves of 0
+pub inverse_of_zero : (k a other_low high q0 q1 r : ℕ)
+    → other_low ≡ bit_xor (low_half (2 ^ k) a) (tower_mul k (root k) (high_half (2 ^ k) a)) → high ≡ high_half (2 ^ k) a
+    → (other_low ≡ 0 → q0 ≡ 0) → (high ≡ 0 → q1 ≡ 0) → r ≡ pair (2 ^ k) q0 q1 → a ≡ 0 → r ≡ 0
+inverse_of_zero k a other_low high q0 q1 r is_low is_high first second is_pair none =
+    let low_none : low_half (2 ^ k) a ≡ 0 = ap (low_half (2 ^ k)) none ∙ low_half-low (2 ^ k) 0 (pow_pos (2 ^ k)) in
+    let high_none : high_half (2 ^ k) a ≡ 0 = ap (high_half (2 ^ k)) none ∙ high_half-low (2 ^ k) 0 (pow_pos (2 ^ k)) in
+    let other_none : other_low ≡ 0 =
+    is_low ∙ ap₂ (λ (x y : ℕ). bit_xor x (tower_mul k (root k) y)) low_none high_none
+    ∙ ap (bit_xor 0) (times-zero (2 ^ k) 1 (tower_mul k) (tower_ring k) (root k)) in
+    is_pair ∙ ap₂ (pair (2 ^ k)) (first other_none) (second (is_high ∙ high_none)) ∙ pair-low (2 ^ k) 0
 
 -- the quotients of the halves of the conjugate by the norm are the halves of the inverse
 pub inverse_of_quotients : (k a norm' q0 q1 r : ℕ) → a < 2 ^ 2 ^ suc k → norm' ≡ norm (2 ^ k) (tower_mul k) (root k) a

@@ -13,7 +13,7 @@ pub trait Extension<R: Unsigned> {
     /// The level below.
     type Below: Level<Self::Half>;
 
-    /// The half that stands without the root.
+    /// The half that the root does not multiply.
     fn low(x: R) -> Self::Half
         ensures { Self.Half.number result ≡ low_half (2 ^ Self.Below.LEVEL) (R.number x) };
 

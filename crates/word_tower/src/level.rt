@@ -6,8 +6,8 @@ ghost use Rattle.field_base.specs.TowerBasis.{tower_generator};
 
 use field_base::Unsigned;
 
-/// A level of the tower, by its arithmetic on words. An element of level k is a word whose number has 2^k bits. Functions
-/// that give a product read those bits of their operands alone.
+/// A level of the tower, by its arithmetic on words. An element of level k is a word whose number has 2^k bits. Products and
+/// squares read only those bits of their operands.
 pub trait Level<R: Unsigned> {
     /// The name of the type of the level's elements.
     const NAME: &'static str;
@@ -17,7 +17,7 @@ pub trait Level<R: Unsigned> {
 
     ghost LEVEL: { ℕ };
 
-    /// An element of which every element but 0 is a power.
+    /// An element whose powers are all nonzero elements.
     const GENERATOR: R;
 
     ghost GENERATOR: { R };
@@ -32,7 +32,7 @@ pub trait Level<R: Unsigned> {
     fn multiply(x: R, y: R) -> R
         ensures { R.number result ≡ tower_mul LEVEL (R.number x) (R.number y) };
 
-    /// The product by its definition, which is by products of the level below.
+    /// The product by its definition, from products at the level below.
     fn reference_multiply(x: R, y: R) -> R
         ensures { R.number result ≡ tower_mul LEVEL (R.number x) (R.number y) };
 
@@ -40,7 +40,7 @@ pub trait Level<R: Unsigned> {
     fn square(x: R) -> R
         ensures { R.number result ≡ tower_mul LEVEL (R.number x) (R.number x) };
 
-    /// The product by the root that the level adjoins.
+    /// The product of an element by the root that the level adjoins.
     fn multiply_by_root(x: R) -> R
         ensures { R.number result ≡ tower_mul LEVEL (root LEVEL) (R.number x) };
 
@@ -50,7 +50,7 @@ pub trait Level<R: Unsigned> {
         ensures { R.number result ≡ repeated_square 1 (tower_mul LEVEL) (2 ^ LEVEL / 2) (R.number x) }
     {
         let mut conjugate = Self::truncate(x);
-        for turn in 0..(1usize << Self::LEVEL) / 2 {
+        for _ in 0..(1usize << Self::LEVEL) / 2 {
             conjugate = Self::square(conjugate);
         }
         conjugate
@@ -63,18 +63,19 @@ pub trait Level<R: Unsigned> {
         ensures zero { R.number x ≡ 0 → R.number result ≡ 0 }
         ensures inverse { R.number x ≢ 0 → tower_mul LEVEL (R.number x) (R.number result) ≡ 1 };
 
-    /// The quotients of two elements by a divisor, which must not be 0.
+    /// The quotients of two elements by a nonzero divisor. A quotient of 0 is 0, whatever the divisor is.
     #[inline]
-    #[tactic(auto, using(crate::proofs::Halves::product_lt, crate::proofs::Halves::product_of_inverse))]
+    #[tactic(auto, using(crate::proofs::Halves::product_of_inverse))]
     fn divide_both(x: R, y: R, divisor: R) -> (R, R)
         requires first { R.number x < 2 ^ 2 ^ LEVEL }
         requires second { R.number y < 2 ^ 2 ^ LEVEL }
         requires divisor { R.number divisor < 2 ^ 2 ^ LEVEL }
-        requires nonzero { R.number divisor ≢ 0 }
         ensures first_fits { R.number result.0 < 2 ^ 2 ^ LEVEL }
         ensures second_fits { R.number result.1 < 2 ^ 2 ^ LEVEL }
-        ensures first { tower_mul LEVEL (R.number divisor) (R.number result.0) ≡ R.number x }
-        ensures second { tower_mul LEVEL (R.number divisor) (R.number result.1) ≡ R.number y }
+        ensures first_zero { R.number x ≡ 0 → R.number result.0 ≡ 0 }
+        ensures second_zero { R.number y ≡ 0 → R.number result.1 ≡ 0 }
+        ensures first { R.number divisor ≢ 0 → tower_mul LEVEL (R.number divisor) (R.number result.0) ≡ R.number x }
+        ensures second { R.number divisor ≢ 0 → tower_mul LEVEL (R.number divisor) (R.number result.1) ≡ R.number y }
     {
         let over_divisor = Self::invert(divisor);
         (

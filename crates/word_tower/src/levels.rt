@@ -1,7 +1,7 @@
 // The eight levels. Those of 2, 4 and 8 bits use the tables of the level of 8 bits: a level lies inside those above it, so that
 // products, inverses and roots of its elements are those of the level of 8 bits. Those of 16 bits and more have words for halves.
 // Their squares and square roots of up to 64 bits are sums of table entries of the bytes, and products of 64 and 128 bits are
-// those of the images in the polynomial basis; all else is computed by halves.
+// computed in the polynomial basis; everything else is computed by halves.
 ghost use Rattle.std.specs.Prelude.{◌≡◌, ◌<◌, ◌^◌, refl};
 ghost use Rattle.std.proofs.Common.{lit≤};
 

@@ -1,4 +1,4 @@
-// Levels of the tower inside wider levels: an element has zeros above.
+// Levels of the tower inside wider levels: an element stays its number, with zeros above.
 ghost use Rattle.std.specs.Prelude.{◌≡◌, ◌<◌, ◌≤◌, ◌^◌, ℕ};
 ghost use Rattle.std.proofs.Common.{lit≤};
 
@@ -94,7 +94,7 @@ impl LiesIn<u128, Tower<Bits128>, u8> for Bits2 {
     ghost lies_law = { lit≤ tt };
 }
 
-// Where the smaller level stands on the left, the larger is the field of the result.
+// Where the smaller level is on the left, the result lies in the larger one.
 impl Joins<u8, u16, Tower<Bits16>> for Tower<Bits8> {
     type Upper = u16;
 

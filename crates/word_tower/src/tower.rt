@@ -16,25 +16,8 @@ use field_base::{FieldKernel, LevelKernel, Unsigned};
 use std::marker::PhantomData;
 use word_tables::{cantor_vector, repeated_square};
 
-/// The field that the level `L` of the tower is.
+/// The level `L` of the tower, as a field.
 pub struct Tower<L>(PhantomData<L>);
-
-// An element squared fewer times than half of its bits: one table for each set bit of the count. A level of 1 or 2 bits
-// has no count but 0.
-#[inline]
-fn square_by_tables<R: Unsigned, L: Level<R>>(x: R, count: usize) -> (R, usize)
-    requires fits { R.number x < 2 ^ 2 ^ L.LEVEL }
-    requires few { 2 * count < 2 ^ L.LEVEL }
-    ensures fits { R.number result.0 < 2 ^ 2 ^ L.LEVEL }
-    ensures few { result.1 < 2 ^ L.LEVEL }
-    ensures squarings { repeated_square 1 (tower_mul L.LEVEL) result.1 (R.number result.0) ≡ repeated_square 1 (tower_mul L.LEVEL) count (R.number x) }
-{
-    if L::LEVEL < 2 {
-        (x, count)
-    } else {
-        (R::of_u128(repeated_square(L::LEVEL, x.to_u128(), count)), 0)
-    }
-}
 
 impl<R: Unsigned, L: Level<R>> FieldKernel<R> for Tower<L> {
     ghost width = { 2 ^ L.LEVEL };
@@ -49,7 +32,7 @@ impl<R: Unsigned, L: Level<R>> FieldKernel<R> for Tower<L> {
 
     ghost GENERATOR = { L.GENERATOR };
 
-    // Products are elements, so that the low word holds a sum of them.
+    // Products are elements, so the low word holds their sum.
     ghost reduced = { λ low high. R.number low % 2 ^ 2 ^ L.LEVEL };
 
     ghost field_law = { tower_field L.LEVEL };
@@ -88,7 +71,7 @@ impl<R: Unsigned, L: Level<R>> FieldKernel<R> for Tower<L> {
         L::sqrt(x)
     }
 
-    // The count is reduced by the bits. One conjugation is half of them, and tables of repeated squares are the rest.
+    // The count is taken modulo the bits. One conjugation replaces half of them, and tables of repeated squares the rest.
     #[inline]
     fn reduce_squarings(x: R, count: usize) -> (R, usize) {
         let bits = Self::bits();
@@ -152,4 +135,22 @@ impl<R: Unsigned, L: Level<R>> LevelKernel<R> for Tower<L> {
     ghost cantor_law = { level_cantor L.LEVEL L.few };
 
     ghost generator_image_law = { refl };
+}
+
+// An element squared fewer times than half of its bits, by a table for each set bit of the count. At a level of 1 or 2 bits
+// the count is 0.
+#[inline]
+fn square_by_tables<R: Unsigned, L: Level<R>>(x: R, count: usize) -> (R, usize)
+    requires fits { R.number x < 2 ^ 2 ^ L.LEVEL }
+    requires few { 2 * count < 2 ^ L.LEVEL }
+    ensures fits { R.number result.0 < 2 ^ 2 ^ L.LEVEL }
+    ensures few { result.1 < 2 ^ L.LEVEL }
+    ensures squarings { let squared = repeated_square 1 (tower_mul L.LEVEL) in
+        squared result.1 (R.number result.0) ≡ squared count (R.number x) }
+{
+    if L::LEVEL < 2 {
+        (x, count)
+    } else {
+        (R::of_u128(repeated_square(L::LEVEL, x.to_u128(), count)), 0)
+    }
 }
