@@ -7,7 +7,8 @@ ghost use Rattle.field_base.specs.Basis.{aes_images, ghash_images, poly64_images
 ghost use Rattle.field_base.specs.Remainder.{aes_modulus, ghash_modulus, poly64_modulus, rem};
 ghost use Rattle.field_base.proofs.RemainderLaws.{rem_lt, rem_small};
 ghost use Rattle.word_basis.proofs.Isomorphisms.{field_8, field_64, field_128, isomorphic_8, isomorphic_64, isomorphic_128};
-ghost use Rattle.word_basis.proofs.RootImages.{ghash_alpha, ghash_generator, poly64_alpha, poly64_generator, rijndael_alpha, rijndael_generator};
+ghost use Rattle.word_basis.proofs.RootImages.{ghash_alpha, poly64_alpha, rijndael_alpha};
+ghost use Rattle.word_basis.proofs.RootImages.{ghash_generator, poly64_generator, rijndael_generator};
 
 use crate::modulus::Modulus;
 use crate::polynomials::Polynomials;
@@ -59,7 +60,7 @@ impl Modulus<u8, Bits8> for RijndaelModulus {
 
     ghost ALPHA = { 0x35 };
 
-    // Products are bytes, so that the low word holds a sum of them.
+    // Products are bytes, so the low word holds their sum.
     ghost reduced = { λ low high. low % 2 ^ 8 };
 
     ghost field_law = { field_8 };

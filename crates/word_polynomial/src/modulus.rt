@@ -9,10 +9,10 @@ ghost use Rattle.field_base.specs.TowerBasis.{tower_generator};
 use field_base::Unsigned;
 use word_tower::Level;
 
-/// An irreducible polynomial whose degree is the bits of the word `R`, by the arithmetic modulo it and the change of basis from
-/// the level `L` of the tower, which has as many bits.
+/// An irreducible polynomial whose degree is the number of bits of the word `R`, by the arithmetic modulo it and by the change of
+/// basis from the level `L` of the tower, which has as many bits.
 pub trait Modulus<R: Unsigned, L: Level<R>> {
-    // The degree and the polynomial, the number of the level, and the images of the roots that the tower adjoins.
+    // The degree, the polynomial, the number of the level, and the images of the roots that the tower adjoins.
     ghost width: { ℕ };
 
     ghost modulus: { ℕ };
@@ -34,7 +34,7 @@ pub trait Modulus<R: Unsigned, L: Level<R>> {
 
     ghost ALPHA: { R };
 
-    // The remainder of a polynomial of two words.
+    // The remainder of a polynomial of two words, low word first.
     ghost reduced: { R → R → ℕ };
 
     ghost field_law: { IsField width (mul_mod width modulus) };
@@ -53,13 +53,13 @@ pub trait Modulus<R: Unsigned, L: Level<R>> {
     fn square(x: R) -> R
         ensures { R.number result ≡ mul_mod width modulus (R.number x) (R.number x) };
 
-    /// The inverse of a polynomial, by which the product is 1, and 0 for 0.
+    /// The inverse of a polynomial, and 0 for 0.
     fn invert(x: R) -> R
         ensures fits { R.number result < 2 ^ width }
         ensures zero { R.number x ≡ 0 → R.number result ≡ 0 }
         ensures inverse { R.number x ≢ 0 → mul_mod width modulus (R.number x) (R.number result) ≡ 1 };
 
-    /// The square root, whose square is the polynomial.
+    /// The square root: the polynomial whose square is `x`.
     fn sqrt(x: R) -> R
         ensures fits { R.number result < 2 ^ width }
         ensures root { mul_mod width modulus (R.number result) (R.number result) ≡ R.number x };
@@ -73,7 +73,7 @@ pub trait Modulus<R: Unsigned, L: Level<R>> {
         ensures fits { R.number result < 2 ^ width }
         ensures image { basis_image width modulus images (R.number result) ≡ R.number x };
 
-    /// The sum of two words, and the carryless product of `x` and `y`, whose remainder is not taken yet.
+    /// The sum of the double word and the carryless product of `x` and `y`, not reduced yet.
     fn add_product(low: R, high: R, x: R, y: R) -> (R, R)
         ensures { reduced result.0 result.1 ≡ bit_xor (reduced low high) (mul_mod width modulus (R.number x) (R.number y)) };
 

@@ -16,10 +16,10 @@ use std::marker::PhantomData;
 use word_tables::cantor_vector;
 use word_tower::{Level, Tower};
 
-/// The field of polynomials modulo `M`, which is the level `L` of the tower in another basis.
+/// The field of polynomials modulo `M`, that is, the level `L` of the tower in another basis.
 pub struct Polynomials<M, L>(PhantomData<M>, PhantomData<L>);
 
-// From so many squarings on the way through the tower is faster, in both fields of polynomials.
+// From this many squarings on, the way through the tower is faster, at 64 and at 128 bits.
 const MANY_SQUARINGS: usize = 8;
 
 impl<R: Unsigned, L: Level<R>, M: Modulus<R, L>> FieldKernel<R> for Polynomials<M, L> {
@@ -48,7 +48,7 @@ impl<R: Unsigned, L: Level<R>, M: Modulus<R, L>> FieldKernel<R> for Polynomials<
         1 << L::LEVEL
     }
 
-    // A word has no bit above the field.
+    // A word has no bits above the field.
     #[inline]
     fn truncate(x: R) -> R {
         R::of_u128(x.to_u128())
@@ -74,7 +74,7 @@ impl<R: Unsigned, L: Level<R>, M: Modulus<R, L>> FieldKernel<R> for Polynomials<
         M::sqrt(x)
     }
 
-    // Many squarings go through the tower, which has tables of them; the changes of basis cost as much as a few.
+    // Many squarings go through the tower, which has tables for them; the two changes of basis cost as much as a few squarings.
     #[inline]
     fn reduce_squarings(x: R, count: usize) -> (R, usize) {
         let rest = count % Self::bits();

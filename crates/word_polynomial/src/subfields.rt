@@ -1,4 +1,4 @@
-// Levels of the tower inside a field of polynomials: an element has its image there.
+// Levels of the tower inside a field of polynomials: an element is replaced by its image.
 ghost use Rattle.std.specs.Prelude.{◌≡◌, ◌<◌, ◌≤◌, ◌^◌, ℕ};
 ghost use Rattle.field_base.specs.Basis.{basis_image};
 
@@ -7,8 +7,8 @@ use crate::polynomials::Polynomials;
 use field_base::{Contains, LevelKernel, Unsigned};
 use word_tower::{Level, Tower};
 
-/// A level of the tower that embeds in the field of polynomials `K`: operators with an element of the level on the right replace
-/// it by its image.
+/// A level of the tower that embeds in the field of polynomials `K`: operators with an element of the level on the right use
+/// its image.
 pub trait EmbedsIn<R: Unsigned, K: LevelKernel<R>, S: Unsigned>: Level<S> {
     ghost lies_law: { Self.LEVEL ≤ K.LOG_BITS };
 }
