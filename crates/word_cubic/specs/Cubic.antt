@@ -6,6 +6,7 @@ use Rattle.field_base.specs.Basis.{sum_below}
 use Rattle.field_base.specs.Field.{IsField}
 use Rattle.field_base.specs.Powers.{repeated_square}
 use Rattle.field_base.specs.Quadratic.{pair}
+use Rattle.field_base.specs.Remainder.{mul_mod, poly64_modulus}
 use Rattle.field_base.specs.Ring.{IsRing}
 use Rattle.field_base.specs.Chunks.{chunk}
 
@@ -26,11 +27,15 @@ unfoldable pub cubic : ℕ → (ℕ → ℕ → ℕ) → ℕ → ℕ → ℕ
 cubic width times a b =
     sum_below (λ i. sum_below (λ j. term width (i + j) (times (chunk width i a) (chunk width j b))) 3) 3
 
+-- the product in the cubic extension of the polynomials modulo x^64 + x^4 + x^3 + x + 1, which has 2^192 elements
+abbrev pub cubic_mul : ℕ → ℕ → ℕ
+cubic_mul = cubic 64 (mul_mod 64 poly64_modulus)
+
 -- the cubic extension of every ring is a ring
 abbrev pub CubicIsRing : Type 0
 CubicIsRing = (width : ℕ) (times : ℕ → ℕ → ℕ) → 0 < width → IsRing width 1 times → IsRing (width + width + width) 1 (cubic width times)
 
--- a field whose bits leave 1 modulo 3 has no root of y³ + y + 1
+-- a field GF(2^n) with n ≡ 1 (mod 3) has no root of y³ + y + 1
 abbrev pub NoFieldHasACubicRoot : Type 0
 NoFieldHasACubicRoot =
     (width : ℕ) (times : ℕ → ℕ → ℕ) → IsField width times → 0 < width → width % 3 ≡ 1 → (x : ℕ) → x < 2 ^ width

@@ -1,7 +1,7 @@
-// The arithmetic of the cubic extension on three words: products by six products of words, and the inverse by the adjugate, whose
-// product with the element is its norm, an element of GF(2^64).
+// The arithmetic of the cubic extension on three words: a product by six products of words, and the inverse by the adjugate,
+// whose product with the element is its norm, an element of GF(2^64).
 ghost use Rattle.std.specs.Prelude.{◌≡◌, ◌≢◌, ◌<◌, ◌^◌};
-ghost use Rattle.word_cubic.specs.Cubic.{cubic};
+ghost use Rattle.word_cubic.specs.Cubic.{cubic_mul};
 ghost use Rattle.field_base.specs.Powers.{repeated_square};
 ghost use Rattle.field_base.specs.Remainder.{mul_mod, poly64_modulus};
 ghost use Rattle.word_cubic.specs.Triple.{triple_number};
@@ -14,7 +14,7 @@ use word_tower::{Bits64, Level};
 /// The product, by Karatsuba's rule: six products of coefficients in place of nine.
 #[inline]
 pub fn multiply_192(x: Triple, y: Triple) -> Triple
-    ensures { triple_number result ≡ cubic 64 (mul_mod 64 poly64_modulus) (triple_number x) (triple_number y) }
+    ensures { triple_number result ≡ cubic_mul (triple_number x) (triple_number y) }
 {
     let p0 = multiply_mod_64(x.c0, y.c0);
     let p1 = multiply_mod_64(x.c1, y.c1);
@@ -30,10 +30,10 @@ pub fn multiply_192(x: Triple, y: Triple) -> Triple
     }
 }
 
-/// The square: y² stays, and y⁴ is y² + y.
+/// The square: (c0 + c1 y + c2 y²)² = c0² + c2² y + (c1² + c2²) y², since y⁴ = y² + y.
 #[inline]
 pub fn square_192(x: Triple) -> Triple
-    ensures { triple_number result ≡ cubic 64 (mul_mod 64 poly64_modulus) (triple_number x) (triple_number x) }
+    ensures { triple_number result ≡ cubic_mul (triple_number x) (triple_number x) }
 {
     let s0 = square_mod_64(x.c0);
     let s1 = square_mod_64(x.c1);
@@ -45,24 +45,12 @@ pub fn square_192(x: Triple) -> Triple
     }
 }
 
-/// The element squared 64 times: an automorphism that leaves GF(2^64) and takes y to y², and y² to y² + y.
-#[inline]
-pub fn automorphism_192(x: Triple) -> Triple
-    ensures { triple_number result ≡ repeated_square 1 (cubic 64 (mul_mod 64 poly64_modulus)) 64 (triple_number x) }
-{
-    Triple {
-        c0: x.c0,
-        c1: x.c2,
-        c2: x.c1 ^ x.c2,
-    }
-}
-
-/// An element and a number of squarings below 192, which give of it what `count` squarings give of `x`: 64 squarings are the
-/// automorphism over GF(2^64), which takes y to y².
+/// An element and a number of squarings below 192 that take it to `x` squared `count` times. The automorphism replaces 64 of
+/// them.
 #[inline]
 pub fn reduce_squarings_192(x: Triple, count: usize) -> (Triple, usize)
     ensures few { result.1 < 192 }
-    ensures squarings { repeated_square 1 (cubic 64 (mul_mod 64 poly64_modulus)) result.1 (triple_number result.0) ≡ repeated_square 1 (cubic 64 (mul_mod 64 poly64_modulus)) count (triple_number x) }
+    ensures squarings { repeated_square 1 cubic_mul result.1 (triple_number result.0) ≡ repeated_square 1 cubic_mul count (triple_number x) }
 {
     let rest = count % 192;
     if rest < 64 {
@@ -74,10 +62,10 @@ pub fn reduce_squarings_192(x: Triple, count: usize) -> (Triple, usize)
     }
 }
 
-/// The square root.
+/// The square root. Every element has exactly one.
 #[inline]
 pub fn sqrt_192(x: Triple) -> Triple
-    ensures { cubic 64 (mul_mod 64 poly64_modulus) (triple_number result) (triple_number result) ≡ triple_number x }
+    ensures { cubic_mul (triple_number result) (triple_number result) ≡ triple_number x }
 {
     let r0 = sqrt_mod_64(x.c0);
     let r1 = sqrt_mod_64(x.c1 ^ x.c2);
@@ -89,21 +77,11 @@ pub fn sqrt_192(x: Triple) -> Triple
     }
 }
 
-/// The inverse in GF(2^64), and 0 for 0, by the tower's tables. They take about a seventh of the time of the 63 squarings by which a
-/// `Poly64` is inverted.
-#[inline]
-fn invert_by_tower(x: u64) -> u64
-    ensures zero { x ≡ 0 → result ≡ 0 }
-    ensures inverse { x ≢ 0 → mul_mod 64 poly64_modulus x result ≡ 1 }
-{
-    to_polynomial_64(Bits64::invert(to_tower_64(x)))
-}
-
-/// The inverse, and 0 for 0: the adjugate times the inverse of the norm, which is looked up by the tower's tables.
+/// The inverse, and 0 for 0: the adjugate times the inverse of the norm.
 #[inline]
 pub fn invert_192(x: Triple) -> Triple
     ensures zero { triple_number x ≡ 0 → triple_number result ≡ 0 }
-    ensures inverse { triple_number x ≢ 0 → cubic 64 (mul_mod 64 poly64_modulus) (triple_number x) (triple_number result) ≡ 1 }
+    ensures inverse { triple_number x ≢ 0 → cubic_mul (triple_number x) (triple_number result) ≡ 1 }
 {
     let s0 = square_mod_64(x.c0);
     let s1 = square_mod_64(x.c1);
@@ -122,4 +100,26 @@ pub fn invert_192(x: Triple) -> Triple
     let c1 = multiply_mod_64(scale, d1);
     let c2 = multiply_mod_64(scale, d2);
     Triple { c0, c1, c2 }
+}
+
+/// The inverse in GF(2^64), and 0 for 0, by the tower's tables. They take about a seventh of the time of the 63 squarings that
+/// invert a `Poly64`.
+#[inline]
+fn invert_by_tower(x: u64) -> u64
+    ensures zero { x ≡ 0 → result ≡ 0 }
+    ensures inverse { x ≢ 0 → mul_mod 64 poly64_modulus x result ≡ 1 }
+{
+    to_polynomial_64(Bits64::invert(to_tower_64(x)))
+}
+
+/// The element squared 64 times: the automorphism over GF(2^64) that takes y to y², and so y² to y⁴ = y² + y.
+#[inline]
+pub fn automorphism_192(x: Triple) -> Triple
+    ensures { triple_number result ≡ repeated_square 1 cubic_mul 64 (triple_number x) }
+{
+    Triple {
+        c0: x.c0,
+        c1: x.c2,
+        c2: x.c1 ^ x.c2,
+    }
 }

@@ -1,13 +1,12 @@
 // Three words drawn at random.
-ghost use Rattle.rand_core.specs.Stream.{Stream};
+ghost use Rattle.word_cubic.specs.Triple.{DrawsThree};
 
 use crate::triple::Triple;
 use rand::distr::SampleStandard;
 use rand_core::Rng;
 
 impl SampleStandard for Triple {
-    // The words are drawn one after the other, the first first.
-    ghost draws = { λ s x t. (first second : Stream) × ⟦<u64 as SampleStandard>⟧.draws s x.c0 first × ⟦<u64 as SampleStandard>⟧.draws first x.c1 second × ⟦<u64 as SampleStandard>⟧.draws second x.c2 t };
+    ghost draws = { DrawsThree ⟦<u64 as SampleStandard>⟧.draws };
 
     #[inline]
     fn sample_standard<G: Rng>(rng: &mut G) -> Triple {

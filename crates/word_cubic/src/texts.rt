@@ -1,4 +1,4 @@
-// Three words as text, and as numbers for `serde`: the array of the words, the first first.
+// Three words as text, and for `serde` as an array of three numbers, c0 first.
 ghost use Rattle.std.specs.Prelude.{◌++◌, [], ◌∷◌, Some, codes};
 ghost use Rattle.std.specs.Fmt.{decimal};
 
