@@ -165,7 +165,7 @@ module _ (width modulus : ℕ) (wide : 0 < width) (degree : HasDegree width modu
   -- ---- what the field of polynomials has from the tower
 
   module _ (isomorphic : IsChangeOfBasis (length images) width modulus images) where
-    -- a polynomial but 0 is the image of an element but 0, and the image of that element's inverse is its inverse
+    -- a nonzero polynomial is the image of a nonzero element, and the image of that element's inverse is its inverse
     pub isomorphic-inverses : HasInverses width (mul_mod width modulus)
     isomorphic-inverses b fits nonzero =
         let a = isomorphic.isomorphism.inverse b in

@@ -86,7 +86,7 @@ module _ (width : ℕ) (times : ℕ → ℕ → ℕ) (ring : IsRing width 1 time
       ∙ inverse_in_range wide a (inverse % 2 ^ width) (mod-lt inverse (pow_pos width))
       (times-mod width 1 times ring (norm width times t a) inverse ∙ inverts)
 
-  -- ---- the norm of 0 alone is 0
+  -- ---- only 0 has the norm 0
 
   -- the norm of 0 is 0
   pub norm-of_zero : norm width times t 0 ≡ 0
@@ -138,7 +138,7 @@ module _ (width : ℕ) (times : ℕ → ℕ → ℕ) (ring : IsRing width 1 time
         nothing in
         sym (mod-eq_of_lt fits) ∙ sym (pair-halves width a) ∙ ap₂ (pair width) halves.0 halves.1 ∙ pair-low width 0
 
-    -- so every element of the extension but 0 has an inverse
+    -- so every nonzero element of the extension has an inverse
     pub quadratic-inverses : HasInverses (width + width) (quadratic width times t)
     quadratic-inverses a fits nonzero =
         let inverse = inverses (norm width times t a) (norm-lt a) (λ e. nonzero (norm-zero a fits e)) in (

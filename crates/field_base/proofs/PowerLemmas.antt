@@ -39,7 +39,7 @@ module _ (width unit : ℕ) (times : ℕ → ℕ → ℕ) (ring : IsRing width u
   repeated_square-lt zero a = ring.below unit a
   repeated_square-lt (suc n) a = ring.below (repeated_square unit times n a) (repeated_square unit times n a)
 
-  -- it depends on the low bits of a alone
+  -- it depends only on the low bits of a
   pub repeated_square-mod : (n a : ℕ) → repeated_square unit times n (a % 2 ^ width) ≡ repeated_square unit times n a
   unfolding repeated_square
   repeated_square-mod zero a = times-mod width unit times ring unit a
@@ -114,7 +114,7 @@ module _ (width unit : ℕ) (times : ℕ → ℕ → ℕ) (ring : IsRing width u
   sum_of_squarings-lt zero a = pow_pos width
   sum_of_squarings-lt (suc n) a = xor_lt width _ _ (sum_of_squarings-lt n a) (repeated_square-lt n a)
 
-  -- it depends on the low bits of a alone
+  -- it depends only on the low bits of a
   pub sum_of_squarings-mod : (n a : ℕ) → sum_of_squarings unit times n (a % 2 ^ width) ≡ sum_of_squarings unit times n a
   unfolding sum_of_squarings
   sum_of_squarings-mod zero a = refl

@@ -277,7 +277,7 @@ module _ (width modulus : ℕ) (degree : HasDegree width modulus) where
         parts = sym (xor_zero_r (carryless q modulus));
       })
 
-  -- a factor counts by its remainder alone
+  -- a factor may be replaced by its remainder
   pub rem_carryless : (a b : ℕ) → rem width modulus (carryless a (rem width modulus b)) ≡ rem width modulus (carryless a b)
   rem_carryless a b = factor (rem width modulus b) (rem_is_remainder width modulus b degree)
     where

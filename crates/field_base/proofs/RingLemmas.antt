@@ -40,12 +40,12 @@ module _ (width unit : ℕ) (times : ℕ → ℕ → ℕ) (ring : IsRing width u
   pub zero-times : (a : ℕ) → times 0 a ≡ 0
   zero-times a = ring.comm 0 a ∙ times-zero a
 
-  -- an operand counts by its low bits alone
+  -- a product depends only on the low bits of its right operand
   pub times-mod : (a b : ℕ) → times a (b % 2 ^ width) ≡ times a b
   times-mod a b =
       ap (times a) (sym (ring.one b)) ∙ times_left_comm a unit b ∙ ring.one (times a b)
       ∙ mod-eq_of_lt (ring.below a b)
 
-  -- a product depends on the low bits of its left operand alone
+  -- a product depends only on the low bits of its left operand
   pub mod-times : (a b : ℕ) → times (a % 2 ^ width) b ≡ times a b
   mod-times a b = ring.comm (a % 2 ^ width) b ∙ times-mod b a ∙ ring.comm b a

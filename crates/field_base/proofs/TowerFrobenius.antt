@@ -42,7 +42,7 @@ one_fits k = pow_below 0 (2 ^ k) (pow_pos k)
 pub tower_repeated_square-power : (k n a : ℕ) → repeated_square 1 (tower_mul k) n a ≡ power 1 (tower_mul k) a (2 ^ n)
 tower_repeated_square-power k n a = repeated_square-power (2 ^ k) 1 (tower_mul k) (tower_ring k) (one_fits k) n a
 
--- the power of an element but 0 by the number of such elements is 1 (Fermat)
+-- the power of a nonzero element by the number of nonzero elements is 1 (Fermat)
 pub tower_power-units : (k a : ℕ) → a < 2 ^ 2 ^ k → a ≢ 0 → power 1 (tower_mul k) a (2 ^ 2 ^ k - 1) ≡ 1
 unfolding power
 tower_power-units k a fits nonzero =

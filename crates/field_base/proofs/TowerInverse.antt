@@ -72,7 +72,7 @@ bit_inverse zero fits nonzero = absurd (nonzero refl)
 bit_inverse (suc zero) fits nonzero = refl
 bit_inverse (suc (suc a)) fits nonzero = absurd (omega arith)
 
--- the product of an element but 0 and its inverse is 1
+-- the product of a nonzero element and its inverse is 1
 pub tower_mul-inverse : (k a : ℕ) → a < 2 ^ 2 ^ k → a ≢ 0 → tower_mul k a (tower_inverse k a) ≡ 1
 unfolding tower_mul tower_inverse
 tower_mul-inverse zero a fits nonzero = bit_inverse a fits nonzero

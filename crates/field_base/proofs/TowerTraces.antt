@@ -1,5 +1,5 @@
 -- At every level of the tower the adjoined root and its inverse have the trace 1, 2 ^ k squarings return each element,
--- and each element but 0 has an inverse.
+-- and every nonzero element has an inverse.
 use Rattle.std.proofs.Common.{◌≡◌, ℕ, zero, suc, ◌*◌, ◌%◌, ◌^◌, ◌<◌, refl, sym, ◌∙◌, ap, subst, arith, lit<}
 use Rattle.std.proofs.lemmas.Nat.{pow_pos}
 use native.Mathlib.Nat.{mod-lt, one-mul}

@@ -102,7 +102,7 @@ module _ (width : ℕ) (times : ℕ → ℕ → ℕ) (ring : IsRing width 1 time
   pub adjugate_2-lt : (a0 a1 a2 : ℕ) → adjugate_2 a0 a1 a2 < 2 ^ width
   adjugate_2-lt a0 a1 a2 = xor_lt width _ _ (xor_lt width _ _ (ring.below a1 a1) (ring.below a2 a2)) (ring.below a0 a2)
 
-  -- the product with the adjugate has the norm alone
+  -- the product with the adjugate has only a constant term, the norm
   norm_alone : (a0 a1 a2 : ℕ)
       → product_of_three width times ring a0 a1 a2 (adjugate_0 a0 a1 a2) (adjugate_1 a0 a1 a2) (adjugate_2 a0 a1 a2)
       ≡ triple width (cubic_norm a0 a1 a2) 0 0
@@ -260,7 +260,7 @@ module _ (width : ℕ) (times : ℕ → ℕ → ℕ) (field : IsField width time
   abbrev adjoint : ℕ → ℕ → ℕ → ℕ
   adjoint a0 a1 a2 = triple width (adjoint_0 a0 a1 a2) (adjoint_1 a0 a1 a2) (adjoint_2 a0 a1 a2)
 
-  -- the norm of an element but 0 is not 0: else the adjugate, and so the product with a1 + a2 y, would be 0
+  -- the norm of a nonzero element is not 0: otherwise the adjugate, and so the product with a1 + a2 y, would be 0
   pub norm_of_nonzero : (a0 a1 a2 : ℕ) → a0 < 2 ^ width → a1 < 2 ^ width → a2 < 2 ^ width
       → cubic_norm width times field.ring a0 a1 a2 ≡ 0 → triple width a0 a1 a2 ≡ 0
   norm_of_nonzero a0 a1 a2 fits0 fits1 fits2 nothing = decide (triple width a0 a1 a2) refl

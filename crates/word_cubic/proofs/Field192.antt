@@ -23,6 +23,6 @@ fits_192 x = triple-lt 64 x.c0 x.c1 x.c2 x.in_range.first x.in_range.second x.in
 pub generator_nonzero_192 : triple 64 5 3 1 ≢ 0
 generator_nonzero_192 e = absurd (omega (arith, e))
 
--- its order is claimed at 16 bits and fewer alone, so here nothing is claimed
+-- full order is claimed only at up to 16 bits, so here nothing is claimed
 pub generator_order_192 : 192 ≤ 16 → HasFullOrder 192 (cubic 64 (mul_mod 64 poly64_modulus)) (triple 64 5 3 1)
 generator_order_192 small = absurd (omega (arith, small))

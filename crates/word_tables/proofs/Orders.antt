@@ -53,7 +53,7 @@ module _ (times : ℕ → ℕ → ℕ) (g : ℕ) (step : ℕ → ℕ) (steps : (
 one_fits : (k : ℕ) → 1 < 2 ^ 2 ^ k
 one_fits k = pow_below 0 (2 ^ k) (pow_pos k)
 
--- an element of a level, but 0, of which no power below the number of such elements is 1, has the full order
+-- a nonzero element of a level has full order if no positive power below the number of nonzero elements is 1
 full_order : (k g : ℕ) (step : ℕ → ℕ) → ((e : ℕ) → step (power 1 (tower_mul k) g e) ≡ power 1 (tower_mul k) g (suc e))
     → g < 2 ^ 2 ^ k → g ≢ 0 → never_one step (2 ^ 2 ^ k - 2) g ≡ true → HasFullOrder (2 ^ k) (tower_mul k) g
 full_order k g step steps fits nonzero pass =

@@ -1,4 +1,4 @@
--- The generators of the tower's levels of up to 16 bits: elements of which every element but 0 is a power.
+-- The generators of the tower's levels of up to 16 bits: elements whose powers are all nonzero elements.
 use Rattle.std.specs.Prelude.{ℕ, ◌^◌, ◌≤◌}
 use Rattle.field_base.specs.Orders.{HasFullOrder}
 use Rattle.field_base.specs.Tower.{tower_mul}
