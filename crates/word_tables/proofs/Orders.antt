@@ -16,6 +16,8 @@ use Rattle.field_base.proofs.BasisColumns.{sum_of_columns}
 use Rattle.field_base.proofs.LinearMapLemmas.{columns_checked}
 use Rattle.field_base.proofs.TableChecks.{passes}
 
+-- ---- a search for a power that is 1
+
 -- whether none of the n values that begin with this one, each the step of the one before, is 1
 unfoldable never_one : (ℕ → ℕ) → ℕ → ℕ → Bool
 never_one step zero value = true
@@ -63,7 +65,9 @@ full_order k g step steps fits nonzero pass =
       λ e positive inside. never_one_at (tower_mul k) g step steps (2 ^ 2 ^ k - 2) e pass first positive (omega arith),
     )
 
--- by the product itself, as the step
+-- ---- each level
+
+-- the step by the product itself
 steps_of_product : (k g e : ℕ) → tower_mul k (power 1 (tower_mul k) g e) g ≡ power 1 (tower_mul k) g (suc e)
 unfolding power
 steps_of_product k g e = refl
