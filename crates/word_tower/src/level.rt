@@ -17,7 +17,7 @@ pub trait Level<R: Unsigned> {
 
     ghost LEVEL: { ℕ };
 
-    /// An element whose powers are all nonzero elements.
+    /// A generator: every nonzero element is a power of it.
     const GENERATOR: R;
 
     ghost GENERATOR: { R };
