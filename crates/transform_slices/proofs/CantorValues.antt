@@ -28,6 +28,7 @@ sum_below-nothing f zero none = refl
 sum_below-nothing f (suc n) none =
     ap₂ bit_xor (sum_below-nothing f n (λ k below. none k (omega arith))) (none n (omega arith))
 
+-- terms that are 0 from m on can be left out of a sum
 pub sum_below-stops : (f : ℕ → ℕ) (m n : ℕ) → m ≤ n → ((k : ℕ) → m ≤ k → f k ≡ 0) → sum_below f n ≡ sum_below f m
 sum_below-stops f m n less none =
     let parts : n ≡ m + (n - m) = omega arith in
@@ -42,6 +43,7 @@ sum_below-image s keeps f zero = keeps_zero s keeps
 sum_below-image s keeps f (suc n) =
     keeps (sum_below f n) (f n) ∙ ap (λ (x : ℕ). bit_xor x (s (f n))) (sum_below-image s keeps f n)
 
+-- a map that keeps sums sends d v to d times the image of v, for a bit d
 image_at_bit : (s : ℕ → ℕ) → KeepsSums s → (v d : ℕ) → d < 2 → s (d * v) ≡ d * s v
 image_at_bit s keeps v =
     two_cases (λ d. s (d * v) ≡ d * s v)
@@ -61,6 +63,7 @@ module _ (width : ℕ) (times : ℕ → ℕ → ℕ) (wide : 0 < width) (ring : 
       ∙ ap (λ (m : ℕ). bit_xor m (times y y)) (xor_self (times x y))
       ∙ xor_comm 0 (times y y) ∙ xor_zero_r (times y y))
 
+  -- every s_j keeps sums
   pub subspace_value-sum : (j : ℕ) → KeepsSums (subspace_value times j)
   unfolding subspace_value
   subspace_value-sum zero x y = refl
@@ -181,6 +184,7 @@ module _ (width : ℕ) (times : ℕ → ℕ → ℕ) (wide : 0 < width) (ring : 
 
 -- ---- the laws
 
+-- s_j(v_b) = v_(b - j) for b at least j, and 0 below
 pub cantor_vectors_step_down : CantorVectorsStepDown
 cantor_vectors_step_down width times vector wide ring vectors =
     record {
@@ -189,10 +193,12 @@ cantor_vectors_step_down width times vector wide ring vectors =
       of_lower_vector = subspace_value-lower width times wide ring vector vectors;
     }
 
+-- with the twiddles for Cantor points the factor of stage j at place p is s_j at point p
 pub factors_are_subspace_values : FactorsAreSubspaceValues
 factors_are_subspace_values width times vector wide ring vectors z n shifts basis twiddles j p staged fits =
     factor-value width times wide ring vector vectors z n shifts basis twiddles j p staged fits
 
+-- so the sum of coefficients times factors at place p is the value of the polynomial at point p
 pub sums_are_values : SumsAreValues
 unfolding polynomial_value
 sums_are_values width times vector wide ring vectors z n shifts basis twiddles c p fits =

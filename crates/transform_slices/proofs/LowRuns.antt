@@ -29,6 +29,7 @@ use Rattle.transform_slices.proofs.RunPlaces.{run_places}
 
 -- ---- four stages
 
+-- a stage reads the sixteen values of the run alone
 stage_same : (f : ℕ → ℕ → ℕ) (j q : ℕ) (a b : ℕ → ℕ) → j < 4 → q < 16 → ((k : ℕ) → k < 16 → a k ≡ b k)
     → stage ghash_product f j a q ≡ stage ghash_product f j b q
 unfolding stage
@@ -37,6 +38,7 @@ stage_same f j q a b few within same =
     ap₂ (λ (x y : ℕ). bit_xor x (ghash_product (f j q) y)) (same _ places.lower_fits) (same _ places.upper_fits)
 
 module _ (twiddles low : List ℕ) where
+  -- the factor of stage j at p depends on p / 2 ^ j alone
   by_quotient : (j p q : ℕ) → p / 2 ^ j ≡ q / 2 ^ j → run_factor twiddles low j p ≡ run_factor twiddles low j q
   unfolding run_factor
   by_quotient j p q same =
@@ -44,6 +46,7 @@ module _ (twiddles low : List ℕ) where
       (next_quotient p j ∙ ap (λ (n : ℕ). n / 2) same ∙ sym (next_quotient q j))
       (ap (λ (n : ℕ). n % 2) same)
 
+  -- stages 3, 2, 1 and 0 of a run leave the sums of its values times factors
   pub four_stages : (start : ℕ) (v0 v1 v2 v3 v4 : List ℕ) → ((p : ℕ) → slice_index v4 p < 2 ^ 128)
       → ((q : ℕ) → q < 16 → slice_index v1 (start + q) ≡ stage ghash_product (run_factor twiddles low) 3 (values_from v0 start) q)
       → ((q : ℕ) → q < 16 → slice_index v2 (start + q) ≡ stage ghash_product (run_factor twiddles low) 2 (values_from v1 start) q)
@@ -88,6 +91,7 @@ AreRunTwiddles shifts basis number twiddles =
     (j : ℕ) → j < 4 → slice_index twiddles j ≡ bit_xor (slice_index shifts j) (linear_image (drop (3 - j) basis) number)
 
 module _ (shifts basis : List ℕ) where
+  -- the image of run * 2 ^ m + b is that of the run by the elements from m on, plus that of b
   image_in_transform : (m run b : ℕ) → b < 2 ^ m → linear_image basis (run * 2 ^ m + b)
       ≡ bit_xor (linear_image (drop m basis) run) (linear_image basis b)
   image_in_transform m run b small =
@@ -96,6 +100,7 @@ module _ (shifts basis : List ℕ) where
       ∙ ap (λ (x : ℕ). bit_xor x (linear_image basis b))
       (linear_image-columns basis (run * 2 ^ m) ∙ columns-shifted m basis run ∙ sym (linear_image-columns (drop m basis) run))
 
+  -- place i of a run with the number `number` has the factor that the whole transform has at place 16 * number + i
   run_factor-is : (twiddles low : List ℕ) (number j i : ℕ) → AreRunTwiddles shifts basis number twiddles → AreLowSums basis low
       → j < 4 → i < 16 → run_factor twiddles low j i ≡ factor shifts basis j (16 * number + i)
   unfolding run_factor factor
@@ -132,6 +137,7 @@ module _ (shifts basis : List ℕ) where
         ≡ sum_of_factors ghash_product (λ j. factor shifts basis j (16 * (first_run + r) + i)) 4 (values_from old (16 * r))
     pub rest : (p : ℕ) → 16 * run ≤ p → slice_index now p ≡ slice_index old p
 
+  -- before the first run nothing is done
   pub forward_starts : (first_run : ℕ) (twiddles old : List ℕ) → AreRunTwiddles shifts basis first_run twiddles
       → Forwarded first_run 0 first_run twiddles old old
   forward_starts first_run twiddles old are =
@@ -143,6 +149,7 @@ module _ (shifts basis : List ℕ) where
         rest = λ p behind. refl;
       }
 
+  -- one more run done, and the twiddles stepped to the next
   pub forward_step : (first_run run number : ℕ) (twiddles twiddles' low old now new : List ℕ) → AreLowSums basis low
       → Forwarded first_run run number twiddles old now
       → length new ≡ length now
@@ -181,6 +188,7 @@ module _ (shifts basis : List ℕ) where
               (λ j few. run_factor-is twiddles low number j i so_far.twiddles_are low_sums few within
               ∙ ap (λ (n : ℕ). factor shifts basis j (16 * n + i)) so_far.number_is)
 
+  -- after the last run every place holds its sum
   pub forward_ends : (first_run run number : ℕ) (twiddles old now : List ℕ) → length old / 16 ≤ run → length old % 16 ≡ 0
       → Forwarded first_run run number twiddles old now → HoldSums shifts basis first_run old now
   forward_ends first_run run number twiddles old now all whole so_far r i within inside =
@@ -188,6 +196,7 @@ module _ (shifts basis : List ℕ) where
 
 -- ---- values
 
+-- the images of the tower's Cantor vectors are Cantor vectors of the field
 vectors : AreCantorVectors 128 ghash_product ghash_cantor_vector
 vectors =
     basis-cantor 7 128 ghash_product (basis_image 128 ghash_modulus ghash_images) ghash_ring

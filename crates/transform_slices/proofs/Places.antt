@@ -11,9 +11,11 @@ next_quotient p n =
 
 -- place k of the block of p
 module _ (n p k : ℕ) (below : k < 2 ^ n) where
+  -- place k of the block of p has the quotient of p by 2 ^ n
   pub block_quotient : (p / 2 ^ n * 2 ^ n + k) / 2 ^ n ≡ p / 2 ^ n
   block_quotient = div-mul-add (p / 2 ^ n) (2 ^ n) k below
 
+  -- and its quotient by 2 ^ (n + 1)
   wider_quotient : (p / 2 ^ n * 2 ^ n + k) / 2 ^ suc n ≡ p / 2 ^ suc n
   wider_quotient =
       next_quotient (p / 2 ^ n * 2 ^ n + k) n ∙ ap (λ (q : ℕ). q / 2) block_quotient ∙ sym (next_quotient p n)
@@ -24,6 +26,7 @@ module _ (n p k : ℕ) (below : k < 2 ^ n) where
   lower_in_block =
       ap₂ (λ (q r : ℕ). q * 2 ^ suc n + r) wider_quotient (mod-mul-add (p / 2 ^ n) (2 ^ n) k below)
 
+  -- the upper place of a place of the lower half is 2 ^ n above it
   pub upper_in_block : upper_place n (p / 2 ^ n * 2 ^ n + k) ≡ p / 2 ^ suc n * 2 ^ suc n + (2 ^ n + k)
   unfolding upper_place
   upper_in_block = ap (λ (q : ℕ). q + 2 ^ n) lower_in_block ∙ order (p / 2 ^ suc n * 2 ^ suc n) k (2 ^ n)

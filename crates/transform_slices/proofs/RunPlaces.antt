@@ -26,6 +26,7 @@ pub record PairPlaces (j n : ℕ) : Type 0 where
   pub upper_pair : pair_of j (lower_of j n + 2 ^ j) ≡ n
   pub others : (q : ℕ) → q ≢ lower_of j n → q ≢ lower_of j n + 2 ^ j → pair_of j q ≢ n
 
+-- pair n of stage j: its lower and upper place, the block they lie in, and that other places belong to other pairs
 pub pair_places : (j n : ℕ) → j < 4 → n < 8 → PairPlaces j n
 unfolding lower_place
 pair_places zero n few small = search (arith, rules)
@@ -53,6 +54,7 @@ pub record RunPlaces (j q : ℕ) : Type 0 where
   pub in_transform : (run : ℕ) → (16 * run + q) / 2 ^ suc j ≡ run * 2 ^ (3 - j) + q / 2 ^ suc j
   pub bit_in_transform : (run : ℕ) → bit_at (16 * run + q) j ≡ bit_at q j
 
+-- a place of a run, its pair and its block, and where they lie in the transform
 pub run_places : (j q : ℕ) → j < 4 → q < 16 → RunPlaces j q
 unfolding lower_place upper_place
 run_places zero q few small = search (arith, rules)

@@ -13,6 +13,7 @@ use Rattle.transform_slices.specs.LowStages.{ghash_product, values_from}
 use Rattle.transform_slices.specs.Runs.{run_factor}
 use Rattle.transform_slices.proofs.RunPlaces.{pair_of, lower_of, PairPlaces, pair_places, run_places}
 
+-- two numbers are equal or not
 same_or_not : (a b : ℕ) → (a ≡ b) ⊎ (a ≢ b)
 same_or_not a b = pick (cases_order a b)
   where
@@ -25,9 +26,11 @@ same_or_not a b = pick (cases_order a b)
 
 -- what a stage gives at both places of pair n of a run, by one product
 module _ (twiddles low : List ℕ) (a : ℕ → ℕ) (j n : ℕ) (places : PairPlaces j n) where
+  -- the scalar of pair n: the twiddle of its stage, and the sum for its block
   scalar : ℕ
   scalar = bit_xor (slice_index twiddles j) (slice_index low (n / 2 ^ j))
 
+  -- the lower place of a pair gets lo + scalar * hi
   pub stage_lower : stage ghash_product (run_factor twiddles low) j a (lower_of j n)
       ≡ bit_xor (a (lower_of j n)) (ghash_product (bit_xor (slice_index twiddles j) (slice_index low (n / 2 ^ j))) (a (lower_of j n + 2 ^ j)))
   unfolding stage upper_place run_factor
@@ -36,6 +39,7 @@ module _ (twiddles low : List ℕ) (a : ℕ → ℕ) (j n : ℕ) (places : PairP
       (ap₂ (λ (block bit : ℕ). bit_xor (bit_xor (slice_index twiddles j) (slice_index low block)) bit) places.lower_block places.lower_bit
       ∙ xor_zero_r (bit_xor (slice_index twiddles j) (slice_index low (n / 2 ^ j))))
 
+  -- and the upper place that and hi
   pub stage_upper : a (lower_of j n + 2 ^ j) < 2 ^ 128
       → stage ghash_product (run_factor twiddles low) j a (lower_of j n + 2 ^ j)
       ≡ bit_xor (a (lower_of j n + 2 ^ j))
@@ -62,6 +66,7 @@ pub record StageSoFar (twiddles low : List ℕ) (j start n : ℕ) (old now : Lis
   pub before : (p : ℕ) → p < start → slice_index now p ≡ slice_index old p
   pub behind : (p : ℕ) → start + 16 ≤ p → slice_index now p ≡ slice_index old p
 
+-- before the first pair nothing is done
 pub stage_starts : (twiddles low : List ℕ) (j start : ℕ) (old : List ℕ) → StageSoFar twiddles low j start 0 old old
 stage_starts twiddles low j start old =
     record {
@@ -72,6 +77,7 @@ stage_starts twiddles low j start old =
       behind = λ p outside. refl;
     }
 
+-- one more pair done: both its places hold what the stage leaves there
 pub stage_step : (twiddles low : List ℕ) (j start n : ℕ) (old now : List ℕ) → j < 4 → n < 8 → start + 16 ≤ length old
     → ((p : ℕ) → slice_index old p < 2 ^ 128) → StageSoFar twiddles low j start n old now → (lower upper sum difference : ℕ)
     → lower ≡ start + lower_of j n → upper ≡ start + (lower_of j n + 2 ^ j)

@@ -15,7 +15,9 @@ use Rattle.field_base.proofs.BasisColumns.{sum_of_columns-mod}
 use Rattle.field_base.proofs.LinearMapLemmas.{linear_image-columns, the_linear_map}
 use Rattle.field_base.proofs.RemainderRing.{ghash_ring}
 use Rattle.field_base.proofs.RingLemmas.{times-mod}
-use Rattle.transform_slices.specs.Slices.{add_multiple, ButterfliesRestore}
+use Rattle.transform_slices.specs.LowStages.{ghash_product}
+use Rattle.transform_slices.specs.Slices.{ButterfliesRestore}
+use Rattle.transform_slices.specs.Stages.{add_multiple}
 
 -- ---- two lists, place by place
 
@@ -23,6 +25,7 @@ use Rattle.transform_slices.specs.Slices.{add_multiple, ButterfliesRestore}
 abbrev pub zipped : (ℕ → ℕ → ℕ) → ℕ → List ℕ → List ℕ → List ℕ
 zipped f n xs ys = zip2 f (take n xs) (take n ys) ++ drop n xs
 
+-- one more step of the loop changes place n as the function of both values there says
 next : (f : ℕ → ℕ → ℕ) (n : ℕ) (xs ys : List ℕ) → n < length xs → length xs ≡ length ys
     → set (zipped f n xs ys) n (f (get_or (zipped f n xs ys) n 0) (get_or ys n 0)) ≡ zipped f (suc n) xs ys
 next f n [] ys within same = absurd (omega arith)
@@ -58,11 +61,12 @@ undo g (x ∷ xs) (y ∷ ys) same =
     ap₂ (λ (z : ℕ) (zs : List ℕ). z ∷ zs)
     (xor_assoc x (g y) (g y) ∙ ap (bit_xor x) (xor_self (g y)) ∙ xor_zero_r x) (undo g xs ys (suc_inj same))
 
+-- the inverse butterfly after the forward one with the same scalar restores both lists
 pub butterflies_restore : ButterfliesRestore
 butterflies_restore scalar lo hi lo' hi' lo'' hi'' same forward inverse = (low, high)
   where
     length_low : length lo' ≡ length lo
-    length_low = ap length forward.low ∙ length-zip2 (add_multiple scalar) lo hi same
+    length_low = ap length forward.low ∙ length-zip2 (add_multiple ghash_product scalar) lo hi same
 
     high : hi'' ≡ hi
     high =
@@ -71,7 +75,7 @@ butterflies_restore scalar lo hi lo' hi' lo'' hi'' same forward inverse = (low, 
 
     low : lo'' ≡ lo
     low =
-        inverse.low ∙ ap₂ (zip2 (add_multiple scalar)) forward.low high ∙ undo (mul_mod 128 ghash_modulus scalar) lo hi same
+        inverse.low ∙ ap₂ (zip2 (add_multiple ghash_product scalar)) forward.low high ∙ undo (mul_mod 128 ghash_modulus scalar) lo hi same
 
 -- ---- the product by a scalar
 

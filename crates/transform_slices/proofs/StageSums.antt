@@ -37,6 +37,7 @@ sum_of_factors-values times f n c d same =
     sum_below-same (λ k. times (c k) (factors_at times f n k)) (λ k. times (d k) (factors_at times f n k)) (2 ^ n)
     (λ k below. ap (λ (x : ℕ). times x (factors_at times f n k)) (same k below))
 
+-- factors that agree at the first n stages give the same sum
 pub sum_of_factors-same : (times : ℕ → ℕ → ℕ) (f g : ℕ → ℕ) (n : ℕ) (c : ℕ → ℕ) → ((j : ℕ) → j < n → f j ≡ g j)
     → sum_of_factors times f n c ≡ sum_of_factors times g n c
 unfolding sum_of_factors factors_at
@@ -47,6 +48,7 @@ sum_of_factors-same times f g n c same =
     (λ j lower. ap (λ (x : ℕ). power 1 times x (bit_at k j)) (same j lower))))
 
 module _ (width : ℕ) (times : ℕ → ℕ → ℕ) (wide : 0 < width) (ring : IsRing width 1 times) where
+  -- a product of factors is an element
   factors_at-lt : (f : ℕ → ℕ) (n k : ℕ) → factors_at times f n k < 2 ^ width
   unfolding factors_at product_below
   factors_at-lt f zero k = pow_below 0 width wide
@@ -60,6 +62,7 @@ module _ (width : ℕ) (times : ℕ → ℕ → ℕ) (wide : 0 < width) (ring : 
       ap (λ (e : ℕ). times (factors_at times f n k) (power 1 times (f n) e)) (bit_at_above k n n below same)
       ∙ ring.comm (factors_at times f n k) 1 ∙ ring.one (factors_at times f n k) ∙ mod-eq_of_lt (factors_at-lt f n k)
 
+  -- with bit n of the place set, the product has one more factor, that of stage n
   factors_at-high : (f : ℕ → ℕ) (n k : ℕ) → k < 2 ^ n → factors_at times f (suc n) (2 ^ n + k) ≡ times (factors_at times f n k) (f n)
   unfolding factors_at product_below power
   factors_at-high f n k below =
@@ -121,5 +124,7 @@ module _ (width : ℕ) (times : ℕ → ℕ → ℕ) (wide : 0 < width) (ring : 
         (λ k below. stage-in_block n a p k below)
         ∙ sym (sum_of_factors-next (λ j. f j p) n (λ k. a (p / 2 ^ suc n * 2 ^ suc n + k)))
 
+-- by induction on the number of stages: what n stages leave at a place is the sum of its block, each value times the factors at
+-- its bits
 pub stages_give_sums : StagesGiveSums
 stages_give_sums = stages_sum

@@ -3,7 +3,7 @@
 use Rattle.std.specs.Prelude.{◌≡◌, ℕ, ◌+◌, ◌*◌, ◌<◌, List, length, slice_index}
 use Rattle.field_base.specs.Basis.{basis_image, ghash_images}
 use Rattle.field_base.specs.Remainder.{ghash_modulus, mul_mod}
-use Rattle.transform_slices.specs.Cantor.{point, polynomial_value}
+use Rattle.transform_slices.specs.Cantor.{AreCantorTwiddles, point, polynomial_value}
 use Rattle.transform_slices.specs.Stages.{factor, sum_of_factors}
 use Rattle.word_tables.specs.Cantor.{cantor_vector}
 
@@ -34,3 +34,8 @@ HoldValues z first_run old new =
     (run i : ℕ) → i < 16 → 16 * run + i < length old
     → slice_index new (16 * run + i)
     ≡ polynomial_value ghash_product 4 (values_from old (16 * run)) (point 128 ghash_cantor_vector z (16 * (first_run + run) + i))
+
+-- so the places do where the shifts and the basis are the twiddles for the points from some z on
+abbrev pub HoldValuesAtCantorPoints : List ℕ → List ℕ → ℕ → List ℕ → List ℕ → Type 0
+HoldValuesAtCantorPoints shifts basis first_run old new =
+    (z : ℕ) → AreCantorTwiddles 128 ghash_product ghash_cantor_vector z 4 shifts basis → HoldValues z first_run old new

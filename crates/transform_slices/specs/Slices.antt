@@ -3,21 +3,18 @@
 -- Information Theory 56, 2010). A slice is the list of its values; a sum is `bit_xor`.
 use Rattle.std.specs.Prelude.{◌≡◌, ℕ, List, length, bit_xor}
 use Rattle.std.specs.Simd.Lanes.{zip2}
-use Rattle.field_base.specs.Remainder.{ghash_modulus, mul_mod}
+use Rattle.transform_slices.specs.LowStages.{ghash_product}
+use Rattle.transform_slices.specs.Stages.{add_multiple}
 
--- x and the product of the scalar and y
-abbrev pub add_multiple : ℕ → ℕ → ℕ → ℕ
-add_multiple scalar x y = bit_xor x (mul_mod 128 ghash_modulus scalar y)
-
--- the forward butterfly at each place: lo' is lo and the scalar times hi, and hi' is hi and lo'
+-- the forward butterfly at each place: lo' is lo and the scalar times hi, and then hi' is hi and lo'
 pub record IsForward (scalar : ℕ) (lo hi lo' hi' : List ℕ) : Type 0 where
-  pub low : lo' ≡ zip2 (add_multiple scalar) lo hi
+  pub low : lo' ≡ zip2 (add_multiple ghash_product scalar) lo hi
   pub high : hi' ≡ zip2 bit_xor hi lo'
 
--- the inverse butterfly: hi' is hi and lo, and lo' is lo and the scalar times hi'
+-- the inverse butterfly: the same two steps, the last first: hi' is hi and lo, and then lo' is lo and the scalar times hi'
 pub record IsInverse (scalar : ℕ) (lo hi lo' hi' : List ℕ) : Type 0 where
   pub high : hi' ≡ zip2 bit_xor hi lo
-  pub low : lo' ≡ zip2 (add_multiple scalar) lo hi'
+  pub low : lo' ≡ zip2 (add_multiple ghash_product scalar) lo hi'
 
 -- the inverse after the forward with the same scalar restores both slices, whatever their length is
 abbrev pub ButterfliesRestore : Type 0

@@ -34,9 +34,15 @@ lower_place j p = p / 2 ^ suc j * 2 ^ suc j + p % 2 ^ j
 unfoldable pub upper_place : ℕ → ℕ → ℕ
 upper_place j p = lower_place j p + 2 ^ j
 
--- stage j: each place gets the value at its lower place, and its factor times that at its upper place
+-- the lower result of a butterfly: x, and the product of the scalar and y. The upper result is y and the lower one, so that it is x and
+-- the product of y with the scalar and 1.
+abbrev pub add_multiple : (ℕ → ℕ → ℕ) → ℕ → ℕ → ℕ → ℕ
+add_multiple times scalar x y = bit_xor x (times scalar y)
+
+-- stage j, a butterfly of each pair of a lower and an upper place. The factor at an upper place is 1 more than that at the lower one,
+-- so that one formula gives both results.
 unfoldable pub stage : (ℕ → ℕ → ℕ) → (ℕ → ℕ → ℕ) → ℕ → (ℕ → ℕ) → ℕ → ℕ
-stage times f j a p = bit_xor (a (lower_place j p)) (times (f j p) (a (upper_place j p)))
+stage times f j a p = add_multiple times (f j p) (a (lower_place j p)) (a (upper_place j p))
 
 -- stage n - 1, then stage n - 2, and so on down to stage 0
 unfoldable pub stages : (ℕ → ℕ → ℕ) → (ℕ → ℕ → ℕ) → ℕ → (ℕ → ℕ) → ℕ → ℕ

@@ -1,10 +1,9 @@
 // The four lowest stages of an additive transform, fused over runs of sixteen places.
-ghost use Rattle.std.specs.Prelude.{◌≡◌, ◌≢◌, ℕ, ◌+◌, ◌-◌, ◌*◌, ◌%◌, ◌/◌, ◌^◌, ◌<◌, ◌≤◌, [], length, take, drop, slice_index, bit_xor, IfOk};
+ghost use Rattle.std.specs.Prelude.{◌≡◌, ◌≢◌, ℕ, ◌+◌, ◌-◌, ◌*◌, ◌%◌, ◌/◌, ◌^◌, ◌<◌, ◌≤◌, [], length, take, slice_index, bit_xor, IfOk};
 ghost use Rattle.field_base.specs.LinearMaps.{linear_image};
-ghost use Rattle.transform_slices.specs.LowStages.{ghash_cantor_vector, ghash_product, HoldSums, HoldValues, values_from};
-ghost use Rattle.transform_slices.specs.Cantor.{AreCantorTwiddles};
-ghost use Rattle.transform_slices.specs.Stages.{stage, sum_of_factors};
-ghost use Rattle.transform_slices.specs.Runs.{AreLowSums, run_factor};
+ghost use Rattle.transform_slices.specs.LowStages.{ghash_product, HoldSums, HoldValuesAtCantorPoints, values_from};
+ghost use Rattle.transform_slices.specs.Stages.{stage};
+ghost use Rattle.transform_slices.specs.Runs.{AreLowSums, AreWithImages, HoldsRunSums, run_factor};
 
 use std::alloc::{AllocError, Allocator};
 use word_basis::sum_of_images;
@@ -52,7 +51,7 @@ impl<A: Allocator> LowStageTwiddles<A> {
         requires numbered { values.old ≢ [] → first_run + length values.old / 16 ≤ 2 ^ (length (basis_of self.now) - 3) }
         ensures length { length values.new ≡ length values.old }
         ensures sums { HoldSums (shifts_of self.now) (basis_of self.now) first_run values.old values.new }
-        ensures values { (z : ℕ) → AreCantorTwiddles 128 ghash_product ghash_cantor_vector z 4 (shifts_of self.now) (basis_of self.now) → HoldValues z first_run values.old values.new }
+        ensures values { HoldValuesAtCantorPoints (shifts_of self.now) (basis_of self.now) first_run values.old values.new }
     {
         let low = sums_of_three(&self.basis);
         let mut number = first_run as u128;
@@ -81,7 +80,7 @@ fn sums_of_three(basis: &[u128]) -> [u128; 8]
 // t + 3 - j: between the bits of a run's number and bit j of a place there are the 3 - j that say where in the run it lies.
 fn with_images(twiddles: &[u128; 4], basis: &[u128], bits: u128) -> [u128; 4]
     requires { 3 ≤ length basis.now }
-    ensures { (j : ℕ) → j < 4 → slice_index result j ≡ bit_xor (slice_index twiddles.now j) (linear_image (drop (3 - j) basis.now) bits) }
+    ensures { AreWithImages twiddles.now basis.now bits result }
 {
     [
         twiddles[0] ^ sum_of_images(&basis[3..], bits),
@@ -95,7 +94,7 @@ fn with_images(twiddles: &[u128; 4], basis: &[u128], bits: u128) -> [u128; 4]
 fn transform_run(values: &mut [u128], start: usize, twiddles: &[u128; 4], low: &[u128; 8])
     requires { start + 16 ≤ length values.old }
     ensures length { length values.new ≡ length values.old }
-    ensures run { (q : ℕ) → q < 16 → slice_index values.new (start + q) ≡ sum_of_factors ghash_product (λ j. run_factor twiddles.now low.now j q) 4 (values_from values.old start) }
+    ensures run { HoldsRunSums (run_factor twiddles.now low.now) start values.old values.new }
     ensures before { (p : ℕ) → p < start → slice_index values.new p ≡ slice_index values.old p }
     ensures behind { (p : ℕ) → start + 16 ≤ p → slice_index values.new p ≡ slice_index values.old p }
 {

@@ -6,7 +6,9 @@ ghost use Rattle.std.specs.Prelude.{◌≡◌, ℕ, length, map, bit_xor};
 ghost use Rattle.std.specs.Simd.Lanes.{zip2};
 ghost use Rattle.field_base.specs.Remainder.{ghash_modulus, mul_mod};
 ghost use Rattle.word_basis.specs.LinearMap.{map_of};
-ghost use Rattle.transform_slices.specs.Slices.{ButterfliesRestore, add_multiple};
+ghost use Rattle.transform_slices.specs.LowStages.{ghash_product};
+ghost use Rattle.transform_slices.specs.Slices.{ButterfliesRestore};
+ghost use Rattle.transform_slices.specs.Stages.{add_multiple};
 
 use word_basis::LinearMap;
 use word_carryless::{multiply_mod_128, reduce_128};
@@ -30,7 +32,7 @@ pub fn mul_slice(values: &mut [u128], scalar: u128)
 /// one length. From 128 places on it looks up tables, as `mul_slice` does.
 pub fn butterfly_forward(lo: &mut [u128], hi: &mut [u128], scalar: u128)
     requires { length lo.old ≡ length hi.old }
-    ensures low { lo.new ≡ zip2 (add_multiple scalar) lo.old hi.old }
+    ensures low { lo.new ≡ zip2 (add_multiple ghash_product scalar) lo.old hi.old }
     ensures high { hi.new ≡ zip2 bit_xor hi.old lo.new }
 {
     add_multiples(lo, hi, scalar);
@@ -43,7 +45,7 @@ pub fn butterfly_forward(lo: &mut [u128], hi: &mut [u128], scalar: u128)
 pub fn butterfly_inverse(lo: &mut [u128], hi: &mut [u128], scalar: u128)
     requires { length lo.old ≡ length hi.old }
     ensures high { hi.new ≡ zip2 bit_xor hi.old lo.old }
-    ensures low { lo.new ≡ zip2 (add_multiple scalar) lo.old hi.new }
+    ensures low { lo.new ≡ zip2 (add_multiple ghash_product scalar) lo.old hi.new }
 {
     add_each(hi, lo);
     add_multiples(lo, hi, scalar);
@@ -57,7 +59,7 @@ pub fn butterflies_restore()
 // Adds to each value the product of `scalar` and the other value at its place.
 fn add_multiples(values: &mut [u128], others: &[u128], scalar: u128)
     requires { length values.old ≡ length others.now }
-    ensures { values.new ≡ zip2 (add_multiple scalar) values.old others.now }
+    ensures { values.new ≡ zip2 (add_multiple ghash_product scalar) values.old others.now }
 {
     if values.len() < LEAST_TABLED {
         add_products(values, others, scalar);
@@ -86,7 +88,7 @@ fn map_each(values: &mut [u128], linear: &LinearMap)
 
 fn add_products(values: &mut [u128], others: &[u128], scalar: u128)
     requires { length values.old ≡ length others.now }
-    ensures { values.new ≡ zip2 (add_multiple scalar) values.old others.now }
+    ensures { values.new ≡ zip2 (add_multiple ghash_product scalar) values.old others.now }
 {
     for place in 0..values.len() {
         values[place] ^= multiply_mod_128(scalar, others[place]);

@@ -51,10 +51,12 @@ pub record BlocksSoFar (size : ℕ) (holds : ℕ → (ℕ → ℕ) → (ℕ → 
   pub done : (q : ℕ) → q < n → holds q (values_from old (q * size)) (values_from now (q * size))
   pub rest : (p : ℕ) → n * size ≤ p → slice_index now p ≡ slice_index old p
 
+-- before the first block nothing is done
 pub blocks_start : (size : ℕ) (holds : ℕ → (ℕ → ℕ) → (ℕ → ℕ) → Type 0) (old : List ℕ) → BlocksSoFar size holds 0 old old
 blocks_start size holds old = record { done = λ q below. absurd (omega arith); rest = λ p past. refl }
 
 module _ {A : Type 0} (value : A → ℕ) (size : ℕ) (holds : ℕ → (ℕ → ℕ) → (ℕ → ℕ) → Type 0) (local : InBlocks size holds) where
+  -- one more block done, where the block that was lent holds the relation
   pub blocks_step : (n start k : ℕ) (old now block : List A) → start ≡ n * size → k ≡ size → start + size ≤ length now → length block ≡ k
       → holds n (slice_index (map value (mid_of start k now))) (slice_index (map value block))
       → BlocksSoFar size holds n (map value old) (map value now)
@@ -104,15 +106,19 @@ module _ {A : Type 0} (value : A → ℕ) (size : ℕ) (holds : ℕ → (ℕ →
 abbrev pub forward_in : List ℕ → List ℕ → ℕ → ℕ → (ℕ → ℕ) → (ℕ → ℕ) → Type 0
 forward_in shifts basis j q old now = IsButterfly (bit_xor (slice_index shifts j) (linear_image basis q)) (2 ^ j) old now
 
+-- the inverse butterfly of a block: the forward one read backwards
 abbrev pub inverse_in : List ℕ → List ℕ → ℕ → ℕ → (ℕ → ℕ) → (ℕ → ℕ) → Type 0
 inverse_in shifts basis j q old now = IsButterfly (bit_xor (slice_index shifts j) (linear_image basis q)) (2 ^ j) now old
 
+-- a place of a block of 2 ^ (j + 1) lies in its two halves
 both_halves : (j r : ℕ) → r < 2 ^ suc j → r < 2 ^ j + 2 ^ j
 both_halves j r below = let halves = two-pow-succ j in omega (arith, halves)
 
+-- and a place of the two halves in the block
 both_halves' : (j r : ℕ) → r < 2 ^ j + 2 ^ j → r < 2 ^ suc j
 both_halves' j r below = let halves = two-pow-succ j in omega (arith, halves)
 
+-- the forward butterfly of a block depends on the block's values alone
 pub forward_local : (shifts basis : List ℕ) (j : ℕ) → InBlocks (2 ^ suc j) (forward_in shifts basis j)
 forward_local shifts basis j =
     record {
@@ -122,6 +128,7 @@ forward_local shifts basis j =
           (λ r below. first r (both_halves' j r below)) (λ r below. second r (both_halves' j r below));
     }
 
+-- and so does the inverse one
 pub inverse_local : (shifts basis : List ℕ) (j : ℕ) → InBlocks (2 ^ suc j) (inverse_in shifts basis j)
 inverse_local shifts basis j =
     record {

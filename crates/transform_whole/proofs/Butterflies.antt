@@ -6,7 +6,8 @@ use Rattle.std.proofs.lemmas.List.{get_or-append-add, get_or_append_left, length
 use Rattle.std.proofs.lemmas.Simd.{get_or-zip2, length-zip2}
 use lib.Bits.{xor_assoc, xor_self, xor_zero_r}
 use Rattle.transform_slices.specs.LowStages.{ghash_product}
-use Rattle.transform_slices.specs.Slices.{add_multiple, IsForward, IsInverse}
+use Rattle.transform_slices.specs.Slices.{IsForward, IsInverse}
+use Rattle.transform_slices.specs.Stages.{add_multiple}
 use Rattle.transform_whole.specs.Stages.{IsButterfly}
 
 -- what is added twice is gone
@@ -16,12 +17,15 @@ twice x y = xor_assoc x y y ∙ ap (bit_xor x) (xor_self y) ∙ xor_zero_r x
 -- ---- numbers
 
 module _ (n : ℕ) (xs ys : List ℕ) (long : length xs ≡ n) where
+  -- the first n values of two slices one after the other are those of the first
   pub read_lower : (r : ℕ) → r < n → slice_index (xs ++ ys) r ≡ slice_index xs r
   read_lower r below = let within : r < length xs = omega arith in get_or_append_left xs ys 0 r within
 
+  -- and those from n on are those of the second
   pub read_upper : (r : ℕ) → slice_index (xs ++ ys) (n + r) ≡ slice_index ys r
   read_upper r = ap (λ (m : ℕ). slice_index (xs ++ ys) (m + r)) (sym long) ∙ get_or-append-add xs ys r 0
 
+-- place r of a list made place by place
 read_both : (f : ℕ → ℕ → ℕ) (n : ℕ) (xs ys : List ℕ) → length xs ≡ n → length ys ≡ n → (r : ℕ) → r < n
     → slice_index (zip2 f xs ys) r ≡ f (slice_index xs r) (slice_index ys r)
 read_both f n xs ys long long' r below =
@@ -30,13 +34,14 @@ read_both f n xs ys long long' r below =
     get_or-zip2 f xs ys r 0 0 0 left right
 
 module _ (t n : ℕ) (lo hi lo' hi' : List ℕ) (low : length lo ≡ n) (high : length hi ≡ n) where
+  -- the forward butterfly of two lists is that of the block that they make
   pub forward_numbers : IsForward t lo hi lo' hi' → IsButterfly t n (slice_index (lo ++ hi)) (slice_index (lo' ++ hi'))
   forward_numbers is =
       record {
         lower =
             λ r below.
             read_lower n lo' hi' low' r below ∙ ap (λ (l : List ℕ). slice_index l r) is.low
-            ∙ read_both (add_multiple t) n lo hi low high r below
+            ∙ read_both (add_multiple ghash_product t) n lo hi low high r below
             ∙ ap₂ (λ (x y : ℕ). bit_xor x (ghash_product t y)) (sym (read_lower n lo hi low r below)) (sym (read_upper n lo hi low r));
         upper =
             λ r below.
@@ -46,8 +51,9 @@ module _ (t n : ℕ) (lo hi lo' hi' : List ℕ) (low : length lo ≡ n) (high : 
       }
     where
       low' : length lo' ≡ n
-      low' = ap length is.low ∙ length-zip2 (add_multiple t) lo hi (low ∙ sym high) ∙ low
+      low' = ap length is.low ∙ length-zip2 (add_multiple ghash_product t) lo hi (low ∙ sym high) ∙ low
 
+  -- and so is the inverse one
   pub inverse_numbers : IsInverse t lo hi lo' hi' → IsButterfly t n (slice_index (lo' ++ hi')) (slice_index (lo ++ hi))
   inverse_numbers is =
       record {
@@ -68,26 +74,30 @@ module _ (t n : ℕ) (lo hi lo' hi' : List ℕ) (low : length lo ≡ n) (high : 
       high' = ap length is.high ∙ length-zip2 bit_xor hi lo (high ∙ sym low) ∙ high
 
       low' : length lo' ≡ n
-      low' = ap length is.low ∙ length-zip2 (add_multiple t) lo hi' (low ∙ sym high') ∙ low
+      low' = ap length is.low ∙ length-zip2 (add_multiple ghash_product t) lo hi' (low ∙ sym high') ∙ low
 
       high_read : (r : ℕ) → r < n → slice_index hi' r ≡ bit_xor (slice_index hi r) (slice_index lo r)
       high_read r below = ap (λ (l : List ℕ). slice_index l r) is.high ∙ read_both bit_xor n hi lo high low r below
 
       low_read : (r : ℕ) → r < n → slice_index lo' r ≡ bit_xor (slice_index lo r) (ghash_product t (slice_index hi' r))
-      low_read r below = ap (λ (l : List ℕ). slice_index l r) is.low ∙ read_both (add_multiple t) n lo hi' low high' r below
+      low_read r below = ap (λ (l : List ℕ). slice_index l r) is.low ∙ read_both (add_multiple ghash_product t) n lo hi' low high' r below
 
 -- ---- elements, by their values
 
 module _ {A : Type 0} (value : A → ℕ) (t n : ℕ) (block lo hi lo' hi' : List A) (parts : block ≡ lo ++ hi) (low : length lo ≡ n) (high : length hi ≡ n) where
+  -- the lower half has n values
   low_count : length (map value lo) ≡ n
   low_count = length-map lo value ∙ low
 
+  -- and so has the upper half
   high_count : length (map value hi) ≡ n
   high_count = length-map hi value ∙ high
 
+  -- the values of the block are those of its halves
   before : map value block ≡ map value lo ++ map value hi
   before = ap (map value) parts ∙ map-append value lo hi
 
+  -- the forward butterfly of the values of two slices is that of the block that was split
   pub forward_values : IsForward t (map value lo) (map value hi) (map value lo') (map value hi')
       → IsButterfly t n (slice_index (map value block)) (slice_index (map value (lo' ++ hi')))
   forward_values is =
@@ -96,6 +106,7 @@ module _ {A : Type 0} (value : A → ℕ) (t n : ℕ) (block lo hi lo' hi' : Lis
       (sym (map-append value lo' hi'))
       (forward_numbers t n (map value lo) (map value hi) (map value lo') (map value hi') low_count high_count is))
 
+  -- and so is the inverse one
   pub inverse_values : IsInverse t (map value lo) (map value hi) (map value lo') (map value hi')
       → IsButterfly t n (slice_index (map value (lo' ++ hi'))) (slice_index (map value block))
   inverse_values is =

@@ -15,21 +15,25 @@ use Rattle.transform_slices.specs.Stages.{factors_at, sum_of_factors}
 use Rattle.transform_slices.proofs.CantorValues.{sum_below-image, sum_below-nothing}
 use Rattle.transform_slices.proofs.StageSums.{sum_below-xor, sum_of_factors-next, sum_of_factors-values}
 
+-- 2 is positive
 two_above : 0 < 2
 two_above = lit< tt
 
+-- n is at most n + d
 more : (n d : ℕ) → n ≤ n + d
 more n d = omega arith
 
 -- ---- lists, read at a place
 
 module _ {A : Type 0} (repr : A → ℕ) where
+  -- an item below m is read from the first m
   read-front : (m k : ℕ) (cs : List A) → k < m → slice_index (map repr (take m cs)) k ≡ slice_index (map repr cs) k
   read-front zero k cs below = absurd (omega arith)
   read-front (suc m) k [] below = refl
   read-front (suc m) zero (c ∷ cs) below = refl
   read-front (suc m) (suc k) (c ∷ cs) below = read-front m k cs (omega arith)
 
+  -- item k behind the first m is item m + k
   read-back : (m k : ℕ) (cs : List A) → slice_index (map repr (drop m cs)) k ≡ slice_index (map repr cs) (m + k)
   read-back zero k cs = let same : k ≡ 0 + k = omega arith in ap (slice_index (map repr cs)) same
   read-back (suc m) k [] = refl
@@ -37,6 +41,7 @@ module _ {A : Type 0} (repr : A → ℕ) where
       let same : suc (m + k) ≡ suc m + k = omega arith in
       read-back m k cs ∙ ap (slice_index (map repr (c ∷ cs))) same
 
+  -- past the end of a list one reads 0
   read-past : (k : ℕ) (cs : List A) → length cs ≤ k → slice_index (map repr cs) k ≡ 0
   read-past k [] past = refl
   read-past zero (c ∷ cs) past = absurd (omega arith)

@@ -6,6 +6,7 @@ use Rattle.std.proofs.lemmas.Nat.{div-mul-add, mod-mul-add, pow-add, pow_pos}
 
 -- ---- powers of two
 
+-- powers of two grow with their exponent
 not_less : (m n : ℕ) → m < n → 2 ^ m < 2 ^ n
 not_less m n below =
     let more : 2 ^ suc m ≤ 2 ^ n = pow-le-pow_right (lit< tt) below in
@@ -24,39 +25,47 @@ one_exponent m n same = pick (cases_order m n)
 
 -- ---- blocks of a stage
 
+-- 2 ^ m is 2 ^ (m - s - 1) blocks of 2 ^ (s + 1), with nothing left over
 blocks_of : (m s : ℕ) → s < m → 2 ^ m ≡ 2 ^ (m - suc s) * 2 ^ (s + 1) + 0
 blocks_of m s below =
     let parts : m ≡ m - suc s + (s + 1) = omega arith in
     let all = ap (λ (e : ℕ). 2 ^ e) parts ∙ pow-add 2 (m - suc s) (s + 1) in
     omega (arith, all)
 
+-- so a length of 2 ^ m is whole blocks of stage s
 pub whole_blocks : (m s length : ℕ) → s < m → length ≡ 2 ^ m → length % 2 ^ (s + 1) ≡ 0
 whole_blocks m s length below is =
     ap (λ (n : ℕ). n % 2 ^ (s + 1)) (is ∙ blocks_of m s below) ∙ mod-mul-add (2 ^ (m - suc s)) (2 ^ (s + 1)) 0 (pow_pos (s + 1))
 
+-- and so many
 pub block_count : (m s length : ℕ) → s < m → length ≡ 2 ^ m → length / 2 ^ (s + 1) ≡ 2 ^ (m - suc s)
 block_count m s length below is =
     ap (λ (n : ℕ). n / 2 ^ (s + 1)) (is ∙ blocks_of m s below) ∙ div-mul-add (2 ^ (m - suc s)) (2 ^ (s + 1)) 0 (pow_pos (s + 1))
 
+-- 2 ^ m is twice 2 ^ (m - 1)
 pub two_halves : (m : ℕ) → 0 < m → 2 ^ m ≡ 2 ^ (m - 1) + 2 ^ (m - 1)
 two_halves m above =
     let next : m ≡ suc (m - 1) = omega arith in
     ap (λ (e : ℕ). 2 ^ e) next ∙ two-pow-succ (m - 1)
 
+-- half of 2 ^ m is 2 ^ (m - 1)
 pub half_count : (m length : ℕ) → 0 < m → length ≡ 2 ^ m → length / 2 ≡ 2 ^ (m - 1)
 half_count m length above is = let twice = is ∙ two_halves m above in omega (arith, twice)
 
 -- ---- pairs, h in each stage
 
+-- where all m stages fit the count, one more stage does
 pub stage_room : (old now done m h : ℕ) → done < m → old + m * h < 2 ^ 64 → now ≡ old + done * h → now + h < 2 ^ 64
 stage_room old now done m h below room is =
     let most : suc done * h ≤ m * h = mul-le-mul_right h below in
     let one : suc done * h ≡ done * h + h = omega arith in
     omega (arith, most, one, room, is)
 
+-- a stage adds its h pairs to the count
 pub stage_counted : (old now next done h : ℕ) → now ≡ old + done * h → next ≡ now + h → next ≡ old + suc done * h
 stage_counted old now next done h is more = let one : suc done * h ≡ done * h + h = omega arith in omega (arith, is, more, one)
 
+-- the four low stages add theirs, so that all m stages are counted
 pub low_counted : (old now next m h : ℕ) → 4 ≤ m → now ≡ old + (m - 4) * h → next ≡ now + 4 * h → next ≡ old + m * h
 low_counted old now next m h enough is more =
     let parts : m - 4 + 4 ≡ m = omega arith in
@@ -64,6 +73,7 @@ low_counted old now next m h enough is more =
     let all = ap (λ (n : ℕ). n * h) parts in
     omega (arith, is, more, four, all)
 
+-- and they fit where all m stages do
 pub low_room : (old now m h : ℕ) → 4 ≤ m → old + m * h < 2 ^ 64 → now ≡ old + (m - 4) * h → now + 4 * h < 2 ^ 64
 low_room old now m h enough room is =
     let last = low_counted old now (now + 4 * h) m h enough is refl in omega (arith, last, room)

@@ -30,6 +30,7 @@ record BothPlaces (j q r : ℕ) : Type 0 where
   low_bit : bit_at (q * 2 ^ suc j + r) j ≡ 0
   high_bit : bit_at (q * 2 ^ suc j + (2 ^ j + r)) j ≡ 1
 
+-- place r of either half of block q: its block, its place in the half and its bit j
 both_places : (j q r : ℕ) → r < 2 ^ j → BothPlaces j q r
 both_places j q r below =
     let size = two-pow-succ j in
@@ -47,12 +48,15 @@ both_places j q r below =
 -- ---- one stage has one origin
 
 module _ (shifts basis : List ℕ) (j q r : ℕ) (below : r < 2 ^ j) (a : ℕ → ℕ) (fits : (p : ℕ) → a p < 2 ^ 128) where
+  -- the two places of the pair
   places : BothPlaces j q r
   places = both_places j q r below
 
+  -- the twiddle of the block
   t : ℕ
   t = bit_xor (slice_index shifts j) (linear_image basis q)
 
+  -- at the lower place stage j leaves a(low) + t a(high)
   at_low : stage ghash_product (factor shifts basis) j a (q * 2 ^ suc j + r)
       ≡ bit_xor (a (q * 2 ^ suc j + r)) (ghash_product (bit_xor (slice_index shifts j) (linear_image basis q)) (a (q * 2 ^ suc j + (2 ^ j + r))))
   unfolding stage factor upper_place lower_place
@@ -67,6 +71,7 @@ module _ (shifts basis : List ℕ) (j q r : ℕ) (below : r < 2 ^ j) (a : ℕ �
       order : q * 2 ^ suc j + r + 2 ^ j ≡ q * 2 ^ suc j + (2 ^ j + r)
       order = omega arith
 
+  -- and at the upper place that and a(high)
   at_high : stage ghash_product (factor shifts basis) j a (q * 2 ^ suc j + (2 ^ j + r))
       ≡ bit_xor (stage ghash_product (factor shifts basis) j a (q * 2 ^ suc j + r)) (a (q * 2 ^ suc j + (2 ^ j + r)))
   unfolding stage factor upper_place lower_place
@@ -118,6 +123,7 @@ module _ (shifts basis : List ℕ) where
           ∙ ap₂ (λ (x y : ℕ). bit_xor x (ghash_product (bit_xor (slice_index shifts j) (linear_image basis q)) y)) low upper
           ∙ of_low b fits'
 
+  -- values of which stage n leaves the same are the same
   stage_origin : (m n : ℕ) → n < m → (a b : ℕ → ℕ) → ((p : ℕ) → a p < 2 ^ 128) → ((p : ℕ) → b p < 2 ^ 128)
       → ((k : ℕ) → k < 2 ^ m → stage ghash_product (factor shifts basis) n a k ≡ stage ghash_product (factor shifts basis) n b k)
       → (p : ℕ) → p < 2 ^ m → a p ≡ b p
@@ -151,12 +157,14 @@ module _ (shifts basis : List ℕ) where
           let high : p / 2 ^ suc n * 2 ^ suc n + (2 ^ n + p % 2 ^ n) < 2 ^ m = omega (arith, end, size, small) in
           pair_origin n (p / 2 ^ suc n) (p % 2 ^ n) small a b fits fits' (same _ low) (same _ high)
 
+  -- a stage leaves elements
   stage-lt : (n : ℕ) (a : ℕ → ℕ) → ((p : ℕ) → a p < 2 ^ 128) → (p : ℕ) → stage ghash_product (factor shifts basis) n a p < 2 ^ 128
   unfolding stage
   stage-lt n a fits p =
       xor_lt 128 (a (lower_place n p)) (ghash_product (factor shifts basis n p) (a (upper_place n p))) (fits (lower_place n p))
       (ghash_ring.below (factor shifts basis n p) (a (upper_place n p)))
 
+  -- values of which all stages leave the same are the same, stage by stage
   pub stages_origin : (m n : ℕ) → n ≤ m → (a b : ℕ → ℕ) → ((p : ℕ) → a p < 2 ^ 128) → ((p : ℕ) → b p < 2 ^ 128)
       → ((k : ℕ) → k < 2 ^ m
       → stages ghash_product (factor shifts basis) n a k % 2 ^ 128 ≡ stages ghash_product (factor shifts basis) n b k % 2 ^ 128)
@@ -183,6 +191,7 @@ module _ (shifts basis : List ℕ) (z : ℕ) (twiddles : AreCantorTwiddles 128 g
       are p here ∙ stages_are_values shifts basis z twiddles long m coefficients p few here
       ∙ ap (λ (k : ℕ). polynomial_value ghash_product k (slice_index coefficients) (point 128 ghash_cantor_vector z p)) same
 
+  -- the forward transform leaves at each place the value of the polynomial at that place's point
   pub forward_leaves : (enough : 4 ≤ m) (low_shifts low_basis old now new : List ℕ) → low_shifts ≡ take 4 shifts → low_basis ≡ take (m - 1) basis
       → length old ≡ 2 ^ m → length now ≡ 2 ^ m → AreLeft shifts basis m 4 old now → HoldSums low_shifts low_basis 0 now new
       → HoldPolynomialValues z old new
@@ -195,6 +204,7 @@ module _ (shifts basis : List ℕ) (z : ℕ) (twiddles : AreCantorTwiddles 128 g
       p inside
       ∙ ap (λ (v : ℕ). v % 2 ^ 128) (left p inside))
 
+  -- the inverse transform leaves the one list of coefficients with those values
   pub inverse_leaves : (old new : List ℕ) → length old ≡ 2 ^ m → length new ≡ 2 ^ m → ((p : ℕ) → slice_index old p < 2 ^ 128)
       → ((p : ℕ) → slice_index new p < 2 ^ 128) → AreUndone shifts basis m m old new → AreOnlyCoefficients z old new
   inverse_leaves old new whole whole' fits fits' undone =

@@ -36,6 +36,7 @@ pub record SplitPlace (j p : ℕ) : Type 0 where
   pub low : p % 2 ^ j < 2 ^ j
   pub place : p ≡ p / 2 ^ suc j * 2 ^ suc j + (bit_at p j * 2 ^ j + p % 2 ^ j)
 
+-- a place as its block of stage j, its bit j and the bits below
 pub split_place : (j p : ℕ) → SplitPlace j p
 split_place j p =
     let half = div-add-mod p (2 ^ j) in
@@ -57,15 +58,18 @@ split_place j p =
 
 -- both places of a pair are before the end of the blocks
 module _ (j blocks p : ℕ) (inside : p < blocks * 2 ^ suc j) where
+  -- the block of a place of the values is one of the blocks
   pub block_before : p / 2 ^ suc j < blocks
   block_before = (div-lt_iff_lt-mul (pow_pos (suc j))).1 inside
 
+  -- and ends where the values end at the latest
   pub end_before : p / 2 ^ suc j * 2 ^ suc j + 2 ^ suc j ≤ blocks * 2 ^ suc j
   end_before =
       let room : suc (p / 2 ^ suc j) * 2 ^ suc j ≤ blocks * 2 ^ suc j = mul-le-mul_right (2 ^ suc j) block_before in
       let one : suc (p / 2 ^ suc j) * 2 ^ suc j ≡ p / 2 ^ suc j * 2 ^ suc j + 2 ^ suc j = omega arith in
       omega (arith, room, one)
 
+  -- so its lower place is a place of the values
   pub lower_inside : lower_place j p < blocks * 2 ^ suc j
   unfolding lower_place
   lower_inside =
@@ -74,6 +78,7 @@ module _ (j blocks p : ℕ) (inside : p < blocks * 2 ^ suc j) where
       let end = end_before in
       omega (arith, small, size, end)
 
+  -- and so is its upper place
   pub upper_inside : upper_place j p < blocks * 2 ^ suc j
   unfolding upper_place lower_place
   upper_inside =
@@ -84,6 +89,7 @@ module _ (j blocks p : ℕ) (inside : p < blocks * 2 ^ suc j) where
 
 -- ---- one stage
 
+-- a stage reads the values of the blocks alone
 stage-same : (f : ℕ → ℕ → ℕ) (j blocks : ℕ) (a b : ℕ → ℕ) → ((k : ℕ) → k < blocks * 2 ^ suc j → a k ≡ b k)
     → (p : ℕ) → p < blocks * 2 ^ suc j → stage ghash_product f j a p ≡ stage ghash_product f j b p
 unfolding stage
@@ -92,6 +98,7 @@ stage-same f j blocks a b same p inside =
     (same (upper_place j p) (upper_inside j blocks p inside))
 
 module _ (shifts basis : List ℕ) where
+  -- the factor of stage j at p depends on p / 2 ^ j alone
   by_quotient : (j p q : ℕ) → p / 2 ^ j ≡ q / 2 ^ j → factor shifts basis j p ≡ factor shifts basis j q
   unfolding factor
   by_quotient j p q same =
@@ -147,11 +154,13 @@ module _ (shifts basis : List ℕ) where
 
   -- ---- stages one after another, of 2 ^ m places
 
+  -- 2 ^ m values are whole blocks of stage n
   pub whole_blocks : (m n : ℕ) → n < m → 2 ^ m ≡ 2 ^ (m - suc n) * 2 ^ suc n
   whole_blocks m n below =
       let parts : m ≡ m - suc n + suc n = omega arith in
       ap (λ (e : ℕ). 2 ^ e) parts ∙ pow-add 2 (m - suc n) (suc n)
 
+  -- stage n of 2 ^ m values depends on those values alone
   stage-here : (m n : ℕ) → n < m → (a b : ℕ → ℕ) → ((k : ℕ) → k < 2 ^ m → a k ≡ b k) → (p : ℕ) → p < 2 ^ m
       → stage ghash_product (factor shifts basis) n a p ≡ stage ghash_product (factor shifts basis) n b p
   stage-here m n below a b same p inside =
@@ -159,6 +168,7 @@ module _ (shifts basis : List ℕ) where
       stage-same (factor shifts basis) n (2 ^ (m - suc n)) a b (λ k within. same k (omega (arith, all, within))) p
       (omega (arith, all, inside))
 
+  -- and so do the stages below n
   stages-same : (m n : ℕ) → n ≤ m → (a b : ℕ → ℕ) → ((k : ℕ) → k < 2 ^ m → a k ≡ b k) → (p : ℕ) → p < 2 ^ m
       → stages ghash_product (factor shifts basis) n a p ≡ stages ghash_product (factor shifts basis) n b p
   unfolding stages
@@ -174,6 +184,7 @@ module _ (shifts basis : List ℕ) where
       → stages ghash_product (factor shifts basis) n (slice_index now) p
       ≡ stages ghash_product (factor shifts basis) m (slice_index old) p
 
+  -- one more stage of the forward transform
   pub left_step : (m n blocks : ℕ) (old now next : List ℕ) → n < m → blocks ≡ 2 ^ (m - suc n) → ((p : ℕ) → slice_index now p < 2 ^ 128)
       → IsStage shifts basis n blocks now next → AreLeft m (suc n) old now → AreLeft m n old next
   unfolding stages
@@ -190,6 +201,7 @@ module _ (shifts basis : List ℕ) where
   AreUndone m n old now =
       (p : ℕ) → p < 2 ^ m → stages ghash_product (factor shifts basis) n (slice_index now) p ≡ slice_index old p
 
+  -- one more stage of the inverse transform
   pub undone_step : (m n blocks : ℕ) (old now next : List ℕ) → n < m → blocks ≡ 2 ^ (m - suc n) → ((p : ℕ) → slice_index next p < 2 ^ 128)
       → IsStage shifts basis n blocks next now → AreUndone m n old now → AreUndone m (suc n) old next
   unfolding stages
@@ -201,6 +213,7 @@ module _ (shifts basis : List ℕ) where
       reach : (k : ℕ) → k < 2 ^ m → k < blocks * 2 ^ suc n
       reach k within = let all = whole_blocks m n below ∙ ap (λ (c : ℕ). c * 2 ^ suc n) (sym count) in omega (arith, all, within)
 
+  -- before its first stage nothing is undone
   pub undone_start : (m : ℕ) (old : List ℕ) → AreUndone m 0 old old
   unfolding stages
   undone_start m old p inside = refl

@@ -5,11 +5,13 @@ use Rattle.std.proofs.lemmas.List.{get_or-append-add, get_or-drop, get_or-take, 
 use lib.Seq.{length-take-le}
 use borrow.Rule.Slice.PartMut.{mid_of, put_mid}
 
+-- the images of the first n items are the first n images
 map-take : {A : Type 0} (f : A → ℕ) (n : ℕ) (xs : List A) → map f (take n xs) ≡ take n (map f xs)
 map-take f zero xs = refl
 map-take f (suc n) [] = refl
 map-take f (suc n) (x ∷ xs) = ap (λ (zs : List ℕ). f x ∷ zs) (map-take f n xs)
 
+-- the images of the items from n on are the images from n on
 map-drop : {A : Type 0} (f : A → ℕ) (n : ℕ) (xs : List A) → map f (drop n xs) ≡ drop n (map f xs)
 map-drop f zero xs = refl
 map-drop f (suc n) [] = refl
@@ -21,11 +23,13 @@ module _ (a k : ℕ) (xs ys : List ℕ) (inside : a + k ≤ length xs) (as_long 
   front : length (take a xs) ≡ a
   front = length-take-le a xs (omega arith)
 
+  -- before the part that was written the list is as it was
   number_before : (p : ℕ) → p < a → slice_index (put_mid a k xs ys) p ≡ slice_index xs p
   number_before p below =
       let within : p < length (take a xs) = omega (arith, front) in
       get_or_append_left (take a xs) (ys ++ drop k (drop a xs)) 0 p within ∙ get_or-take a xs p 0 below
 
+  -- inside it is what was written
   number_inside : (r : ℕ) → r < k → slice_index (put_mid a k xs ys) (a + r) ≡ slice_index ys r
   number_inside r below =
       let within : r < length ys = omega arith in
@@ -33,6 +37,7 @@ module _ (a k : ℕ) (xs ys : List ℕ) (inside : a + k ≤ length xs) (as_long 
       ∙ get_or-append-add (take a xs) (ys ++ drop k (drop a xs)) r 0
       ∙ get_or_append_left ys (drop k (drop a xs)) 0 r within
 
+  -- and behind it is as it was
   number_behind : (p : ℕ) → a + k ≤ p → slice_index (put_mid a k xs ys) p ≡ slice_index xs p
   number_behind p past =
       let parts : p ≡ length (take a xs) + (length ys + (p - (a + k))) = omega (arith, front) in
@@ -45,6 +50,7 @@ module _ (a k : ℕ) (xs ys : List ℕ) (inside : a + k ≤ length xs) (as_long 
 -- ---- elements, by their values
 
 module _ {A : Type 0} (value : A → ℕ) (a k : ℕ) (xs ys : List A) (inside : a + k ≤ length xs) (as_long : length ys ≡ k) where
+  -- the values of the list with a part replaced are the values with their part replaced
   as_numbers : map value (put_mid a k xs ys) ≡ put_mid a k (map value xs) (map value ys)
   as_numbers =
       map-append value (take a xs) (ys ++ drop k (drop a xs))
@@ -58,15 +64,18 @@ module _ {A : Type 0} (value : A → ℕ) (a k : ℕ) (xs ys : List A) (inside :
   same_count : length (map value ys) ≡ k
   same_count = length-map ys value ∙ as_long
 
+  -- the same three facts, of the values of the items: before the part
   pub read_before : (p : ℕ) → p < a → slice_index (map value (put_mid a k xs ys)) p ≡ slice_index (map value xs) p
   read_before p below =
       ap (λ (l : List ℕ). slice_index l p) as_numbers ∙ number_before a k (map value xs) (map value ys) room same_count p below
 
+  -- inside it
   pub read_inside : (r : ℕ) → r < k → slice_index (map value (put_mid a k xs ys)) (a + r) ≡ slice_index (map value ys) r
   read_inside r below =
       ap (λ (l : List ℕ). slice_index l (a + r)) as_numbers
       ∙ number_inside a k (map value xs) (map value ys) room same_count r below
 
+  -- and behind it
   pub read_behind : (p : ℕ) → a + k ≤ p → slice_index (map value (put_mid a k xs ys)) p ≡ slice_index (map value xs) p
   read_behind p past =
       ap (λ (l : List ℕ). slice_index l p) as_numbers ∙ number_behind a k (map value xs) (map value ys) room same_count p past

@@ -2,11 +2,12 @@
 use Rattle.std.specs.Prelude.{◌≡◌, ℕ, suc, ◌+◌, ◌*◌, ◌^◌, ◌<◌, List, slice_index, bit_xor}
 use Rattle.field_base.specs.LinearMaps.{linear_image}
 use Rattle.transform_slices.specs.LowStages.{ghash_product, values_from}
+use Rattle.transform_slices.specs.Stages.{add_multiple}
 
 -- in a block of twice `half` places the array a becomes b by the forward butterfly with the scalar t. A pair is a place of the
 -- block's lower half with the place `half` further.
 pub record IsButterfly (t half : ℕ) (a b : ℕ → ℕ) : Type 0 where
-  pub lower : (r : ℕ) → r < half → b r ≡ bit_xor (a r) (ghash_product t (a (half + r)))
+  pub lower : (r : ℕ) → r < half → b r ≡ add_multiple ghash_product t (a r) (a (half + r))
   pub upper : (r : ℕ) → r < half → b (half + r) ≡ bit_xor (a (half + r)) (b r)
 
 -- stage j takes the values a to the values b in so many blocks of 2 ^ (j + 1) places: the scalar of a block is its twiddle, which

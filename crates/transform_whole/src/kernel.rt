@@ -53,7 +53,8 @@ pub trait Kernel {
         requires numbered { values.old ≢ [] → first_run + length values.old / 16 ≤ 2 ^ (length (basis_of twiddles.now) - 3) }
         requires room { Self.count self.old + 2 * length values.old < 2 ^ 64 }
         ensures length { length values.new ≡ length values.old }
-        ensures sums { HoldSums (shifts_of twiddles.now) (basis_of twiddles.now) first_run (map Self.value values.old) (map Self.value values.new) }
+        ensures sums { HoldSums (shifts_of twiddles.now) (basis_of twiddles.now) first_run
+            (map Self.value values.old) (map Self.value values.new) }
         ensures count { Self.count self.new ≡ Self.count self.old + 2 * length values.old };
 }
 

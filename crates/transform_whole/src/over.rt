@@ -24,7 +24,8 @@ pub fn evaluate<F: Field>(coefficients: &[F], x: F) -> F
 /// no coefficients it is 0 (S.-J. Lin, W.-H. Chung and Y. S. Han, Novel polynomial basis and its application to Reed-Solomon
 /// erasure codes, 2014). Any number of coefficients will do. It takes some two products a coefficient, and no memory.
 pub fn evaluate_cantor<F: Field>(coefficients: &[F], x: F) -> F
-    ensures { (n : ℕ) → length coefficients.now ≤ 2 ^ n → F.repr result ≡ polynomial_value F.product n (slice_index (map F.repr coefficients.now)) (F.repr x) }
+    ensures { (n : ℕ) → length coefficients.now ≤ 2 ^ n
+        → F.repr result ≡ polynomial_value F.product n (slice_index (map F.repr coefficients.now)) (F.repr x) }
 {
     value_by_halves(coefficients, usize::BITS as usize, x)
 }

@@ -16,7 +16,8 @@ pub(crate) fn forward_stage<K: Kernel>(
     requires whole { length values.old % 2 ^ (stage + 1) ≡ 0 }
     requires room { K.count kernel.old + length values.old / 2 < 2 ^ 64 }
     ensures length { length values.new ≡ length values.old }
-    ensures stage { IsStage twiddles.now.shifts twiddles.now.basis stage (length values.old / 2 ^ (stage + 1)) (map K.value values.old) (map K.value values.new) }
+    ensures stage { IsStage twiddles.now.shifts twiddles.now.basis stage (length values.old / 2 ^ (stage + 1))
+        (map K.value values.old) (map K.value values.new) }
     ensures count { K.count kernel.new ≡ K.count kernel.old + length values.old / 2 }
 {
     let half = half_of(stage);
@@ -38,7 +39,8 @@ pub(crate) fn inverse_stage<K: Kernel>(
     requires whole { length values.old % 2 ^ (stage + 1) ≡ 0 }
     requires room { K.count kernel.old + length values.old / 2 < 2 ^ 64 }
     ensures length { length values.new ≡ length values.old }
-    ensures stage { IsStage twiddles.now.shifts twiddles.now.basis stage (length values.old / 2 ^ (stage + 1)) (map K.value values.new) (map K.value values.old) }
+    ensures stage { IsStage twiddles.now.shifts twiddles.now.basis stage (length values.old / 2 ^ (stage + 1))
+        (map K.value values.new) (map K.value values.old) }
     ensures count { K.count kernel.new ≡ K.count kernel.old + length values.old / 2 }
 {
     let half = half_of(stage);
