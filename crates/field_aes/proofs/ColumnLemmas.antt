@@ -19,6 +19,7 @@ module _ (d : ℕ → ℕ) (bits : (j : ℕ) → d j < 2) where
   unfoldable number : ℕ → ℕ
   number n = sum_below (λ j. d j * 2 ^ j) n
 
+  -- a number of n + 1 bits is its highest bit and the rest
   number_more : (n : ℕ) → number n < 2 ^ n → number (suc n) ≡ d n * 2 ^ n + number n
   unfolding number sum_below
   number_more n fits =
@@ -27,10 +28,12 @@ module _ (d : ℕ → ℕ) (bits : (j : ℕ) → d j < 2) where
       ∙ xor_block n (d n) 0 0 (number n) (pow_pos n) fits
       ∙ ap₂ (λ (h l : ℕ). h * 2 ^ n + l) (xor_zero_r (d n)) (xor_comm 0 (number n) ∙ xor_zero_r (number n))
 
+  -- a number of no bits is 0
   number_none : number 0 ≡ 0
   unfolding number sum_below
   number_none = refl
 
+  -- a number of n bits is below 2 ^ n
   number_lt : (n : ℕ) → number n < 2 ^ n
   unfolding number sum_below
   number_lt zero = lit< tt
@@ -39,6 +42,7 @@ module _ (d : ℕ → ℕ) (bits : (j : ℕ) → d j < 2) where
       subst (λ (x : ℕ). x < 2 ^ suc n) (sym (number_more n fits))
       (subst (λ (x : ℕ). d n * 2 ^ n + number n < x) (sym (pow-suc 2 n ∙ mul_comm (2 ^ n) 2)) (digits_lt (bits n) fits))
 
+  -- bit j of it is d j
   number_bit : (n j : ℕ) → j < n → bit_at (number n) j ≡ d j
   number_bit zero j within = absurd (omega (arith, within))
   number_bit (suc n) j within = pick (λ k below. number_bit n k below) (eq-or-lt_of_le (omega (arith, within)))
@@ -57,6 +61,7 @@ module _ (d : ℕ → ℕ) (bits : (j : ℕ) → d j < 2) where
 
 -- ---- columns
 
+-- a bit is below 2
 bit_lt : (x k : ℕ) → bit_at x k < 2
 bit_lt x k = mod-lt (x / 2 ^ k) (lit< tt)
 
@@ -69,15 +74,18 @@ number_back x (suc n) =
     ∙ ap (λ (low : ℕ). bit_at x n * 2 ^ n + low) (number_back x n)
     ∙ sym (mod-pow-add x 1 n) ∙ ap (λ (k : ℕ). x % 2 ^ k) more
 
+-- bit j of column k is bit k of byte j
 pub column_bit : (bytes : List ℕ) (j k : ℕ) → j < 8 → bit_at (column bytes k) j ≡ bit_at (slice_index bytes j) k
 unfolding column number
 column_bit bytes j k within =
     number_bit (λ i. bit_at (slice_index bytes i) k) (λ i. bit_lt (slice_index bytes i) k) 8 j within
 
+-- entry k of the columns is column k
 columns_at : (bytes : List ℕ) (k : ℕ) → k < 8 → slice_index (columns bytes) k ≡ column bytes k
 columns_at bytes =
     eight_cases (λ k. slice_index (columns bytes) k ≡ column bytes k) refl refl refl refl refl refl refl refl
 
+-- so bit j of entry k is bit k of byte j
 pub columns_bit : (bytes : List ℕ) (j k : ℕ) → j < 8 → k < 8
     → bit_at (slice_index (columns bytes) k) j ≡ bit_at (slice_index bytes j) k
 columns_bit bytes j k j_within k_within =
@@ -92,6 +100,7 @@ back_at bytes k within =
     (λ j below. ap (λ (d : ℕ). d * 2 ^ j) (columns_bit bytes k j within below))
     ∙ number_back (slice_index bytes k) 8
 
+-- functions that agree below 8 have the same eight values
 same_eight : (f g : ℕ → ℕ) → ((k : ℕ) → k < 8 → f k ≡ g k)
     → map f (0 ∷ 1 ∷ 2 ∷ 3 ∷ 4 ∷ 5 ∷ 6 ∷ 7 ∷ []) ≡ map g (0 ∷ 1 ∷ 2 ∷ 3 ∷ 4 ∷ 5 ∷ 6 ∷ 7 ∷ [])
 same_eight f g same =
@@ -104,6 +113,7 @@ same_eight f g same =
     (ap₂ (λ (x : ℕ) (xs : List ℕ). x ∷ xs) (same 6 (lit< tt))
     (ap (λ (x : ℕ). x ∷ []) (same 7 (lit< tt)))))))))
 
+-- a list of eight bytes is its entries
 eight_entries : (bytes : List ℕ) → length bytes ≡ 8
     → map (slice_index bytes) (0 ∷ 1 ∷ 2 ∷ 3 ∷ 4 ∷ 5 ∷ 6 ∷ 7 ∷ []) ≡ bytes
 eight_entries (a ∷ b ∷ c ∷ d ∷ e ∷ f ∷ g ∷ h ∷ []) long = refl
@@ -117,6 +127,7 @@ eight_entries (a ∷ b ∷ c ∷ d ∷ e ∷ f ∷ []) long = absurd (omega (ari
 eight_entries (a ∷ b ∷ c ∷ d ∷ e ∷ f ∷ g ∷ []) long = absurd (omega (arith, long))
 eight_entries (a ∷ b ∷ c ∷ d ∷ e ∷ f ∷ g ∷ h ∷ i ∷ rest) long = absurd (omega (arith, long))
 
+-- the columns of the columns are the bytes
 pub columns_back : (bytes : List ℕ) → length bytes ≡ 8 → ((i : ℕ) → slice_index bytes i < 256)
     → columns (columns bytes) ≡ bytes
 columns_back bytes long fits =
@@ -126,6 +137,7 @@ columns_back bytes long fits =
 
 -- ---- one bit more
 
+-- bit k of a byte, moved to place j
 bit_moved : (x k j : ℕ) → j < 8 → bit_and (x / 2 ^ k) 1 * 2 ^ j % 256 ≡ bit_at x k * 2 ^ j
 bit_moved x k j within =
     ap (λ (d : ℕ). d * 2 ^ j % 256) (shr_and_one x k)

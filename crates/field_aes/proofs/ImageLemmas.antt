@@ -7,6 +7,7 @@ use Rattle.field_base.specs.LinearMaps.{linear_image}
 use Rattle.field_base.proofs.LinearMapLemmas.{the_linear_map}
 use Rattle.packed_lanes.proofs.LanePoints.{same_entry}
 
+-- an entry of the images of a list is the image of the entry
 pub entry_of_map : (f : ℕ → ℕ) (xs : List ℕ) (i : ℕ) → i < length xs → slice_index (map f xs) i ≡ f (slice_index xs i)
 entry_of_map f [] i within = absurd (omega (arith, within))
 entry_of_map f (x ∷ xs) zero within = refl
@@ -20,6 +21,7 @@ place_written f xs ys i v within also so_far is =
     ap (slice_set ys i) is
     ∙ map_over_more f xs ys i (slice_index ys i) within so_far (same_entry ys i 0 (slice_index ys i) also)
 
+-- a list whose places are all written is the list of images
 pub all_written : (f : ℕ → ℕ) (xs ys : List ℕ) (i : ℕ) → length xs ≤ i → ys ≡ map f (take i xs) ++ drop i xs → ys ≡ map f xs
 all_written f xs ys i past so_far =
     so_far ∙ ap₂ (λ (front back : List ℕ). map f front ++ back) (take_all i xs past) (drop_all i xs past)

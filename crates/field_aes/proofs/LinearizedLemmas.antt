@@ -13,6 +13,7 @@ use Rattle.word_basis.proofs.Isomorphisms.{field_8}
 use Rattle.field_aes.specs.Linearized.{linearized_value}
 use Rattle.field_base.proofs.EightCases.{eight_cases}
 
+-- a map of bytes that keeps sums, within a byte
 abbrev pub KeepsSums : (ℕ → ℕ) → Type 0
 KeepsSums g = (a b : ℕ) → g (bit_xor a b) ≡ bit_xor (g a) (g b)
 
@@ -26,14 +27,17 @@ by_eight_images g keeps images is x fits =
     (eight_cases (λ j. g (2 ^ j) ≡ slice_index (g 1 ∷ g 2 ∷ g 4 ∷ g 8 ∷ g 16 ∷ g 32 ∷ g 64 ∷ g 128 ∷ []) j)
     refl refl refl refl refl refl refl refl) x fits)
 
+-- a list of eight entries, entry by entry
 pub eight_entries_are : (g : ℕ → ℕ) (a b c d e f h i : ℕ) → a ≡ g 1 → b ≡ g 2 → c ≡ g 4 → d ≡ g 8 → e ≡ g 16 → f ≡ g 32
     → h ≡ g 64 → i ≡ g 128
     → a ∷ b ∷ c ∷ d ∷ e ∷ f ∷ h ∷ i ∷ [] ≡ g 1 ∷ g 2 ∷ g 4 ∷ g 8 ∷ g 16 ∷ g 32 ∷ g 64 ∷ g 128 ∷ []
 eight_entries_are g a b c d e f h i is_a is_b is_c is_d is_e is_f is_h is_i = cc (is_a, is_b, is_c, is_d, is_e, is_f, is_h, is_i)
 
+-- a product by a scalar keeps sums
 pub scaling_keeps : (s : ℕ) → KeepsSums (mul_mod 8 aes_modulus s)
 scaling_keeps s = field_8.ring.over_sum s
 
+-- so do squarings
 pub squarings_keep : (k : ℕ) → KeepsSums (repeated_square 1 (mul_mod 8 aes_modulus) k)
 squarings_keep k = repeated_square_xor 8 1 (mul_mod 8 aes_modulus) field_8.ring k
 
@@ -44,6 +48,7 @@ sums_keep f keep zero a b = refl
 sums_keep f keep (suc n) a b =
     ap₂ bit_xor (sums_keep f keep n a b) (keep n a b) ∙ simp (xor_assoc, xor_left_comm)
 
+-- and so does a linearized polynomial
 pub linearized_keeps : (coefficients : List ℕ) → KeepsSums (linearized_value coefficients)
 unfolding linearized_value
 linearized_keeps coefficients =

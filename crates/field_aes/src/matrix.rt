@@ -55,7 +55,8 @@ impl ByteMatrix {
     /// The map that does what `first` does, and then what this one does.
     pub fn compose(self, first: ByteMatrix) -> ByteMatrix
         ensures images { images_of result ≡ map (linear_image (images_of self)) (images_of first) }
-        ensures both { (x : ℕ) → x < 256 → linear_image (images_of result) x ≡ linear_image (images_of self) (linear_image (images_of first) x) }
+        ensures both { (x : ℕ) → x < 256
+            → linear_image (images_of result) x ≡ linear_image (images_of self) (linear_image (images_of first) x) }
     {
         let mut images = first.images;
         self.apply_slice(&mut images);

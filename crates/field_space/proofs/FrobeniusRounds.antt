@@ -9,10 +9,12 @@ use Rattle.field_base.proofs.FieldLemmas.{field_repeated_square-mod_bits}
 use Rattle.field_base.proofs.PowerLemmas.{repeated_square-add, repeated_square-none}
 
 module _ (whole : ℕ) (times : ℕ → ℕ → ℕ) (field : IsField whole times) (width : ℕ) where
+  -- no automorphism is no squaring
   pub no_round : (value x count : ℕ) → value ≡ x → x < 2 ^ whole → value ≡ repeated_square 1 times (width * 0) x
   no_round value x count same fits =
       same ∙ sym (ap (λ (k : ℕ). repeated_square 1 times k x) (mul-zero width) ∙ repeated_square-none whole 1 times field.ring x fits)
 
+  -- one automorphism more is `width` squarings more
   pub one_round : (count value x y : ℕ) → y ≡ repeated_square 1 times width value → value ≡ repeated_square 1 times (width * count) x
       → y ≡ repeated_square 1 times (width * (count + 1)) x
   one_round count value x y is begun =
@@ -21,6 +23,7 @@ module _ (whole : ℕ) (times : ℕ → ℕ → ℕ) (field : IsField whole time
       is ∙ ap (repeated_square 1 times width) begun
       ∙ sym (ap (λ (k : ℕ). repeated_square 1 times k x) next ∙ repeated_square-add whole 1 times field.ring width (width * count) x)
 
+  -- a count of automorphisms can be taken modulo the dimension
   pub rounds_count : (dimension count x : ℕ) → whole ≡ width * dimension
       → repeated_square 1 times (width * (count % dimension)) x ≡ repeated_square 1 times (width * count) x
   rounds_count dimension count x bits =

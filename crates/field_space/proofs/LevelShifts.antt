@@ -4,7 +4,7 @@ use Rattle.std.proofs.lemmas.Nat.{pow_pos}
 use Rattle.std.proofs.Math.Arith.{digits_lt}
 use Rattle.std.proofs.Math.Pow.{mod-mod-pow, pow_mono}
 use native.Mathlib.Nat.{mod-eq_of_lt}
-use Rattle.field_space.specs.LevelSpaces.{dimension_bits}
+use Rattle.field_space.specs.LevelSpaceLemmas.{dimension_bits}
 use Rattle.field_space.proofs.Spaces.{put_fits}
 
 -- level j inside level k, which has at most 128 bits
@@ -15,6 +15,7 @@ shift_few j k count i few is inside place =
     let most : 2 ^ k ≤ 2 ^ 7 = pow_mono {i = k} {j = 7} few in
     omega (arith, bits, below, most)
 
+-- the shift of coefficient i of a level stays below 64 bits
 pub shift_is : (j k count i : ℕ) → k ≤ 7 → count ≡ 2 ^ (k - j) → j ≤ k → i < count → i * 2 ^ j % 18446744073709551616 ≡ 2 ^ j * i
 shift_is j k count i few is inside place =
     mod-eq_of_lt (let less = shift_few j k count i few is inside place in omega (arith, less)) ∙ omega arith

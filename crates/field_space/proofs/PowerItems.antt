@@ -6,6 +6,7 @@ use Rattle.field_space.specs.PowerItems.{ArePowersOf, GivesNextPower, powers_fro
 use Rattle.field_base.specs.Powers.{power}
 
 module _ {R : Type 0} (repr : R → ℕ) (unit : ℕ) (times : ℕ → ℕ → ℕ) where
+  -- the items that are taken from power k on are a^k, a^(k + 1), ..
   items_from : (a k : ℕ) (s : Powers R) → repr s.base ≡ a → repr s.current ≡ power unit times a k
       → (xs : List R) (rest : Powers R) → Yields (GivesNextPower repr times) s xs rest
       → map repr xs ≡ powers_from unit times a k (length xs)
@@ -17,6 +18,7 @@ module _ {R : Type 0} (repr : R → ℕ) (unit : ℕ) (times : ℕ → ℕ → �
       ap₂ (λ y ys. y ∷ ys) (ap repr gave.0 ∙ current)
       (items_from a (suc k) next (ap repr gave.1 ∙ base) (gave.2 ∙ ap₂ times current base) xs rest yields.2)
 
+  -- so an iterator that starts at the one gives all powers
   pub powers_of : (s : Powers R) (a : ℕ) → repr s.base ≡ a → repr s.current ≡ unit → ArePowersOf repr unit times a s
   unfolding power
   powers_of s a base current = items_from a 0 s base current

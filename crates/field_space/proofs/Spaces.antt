@@ -14,9 +14,11 @@ use Rattle.std.specs.Array.{FillsFrom}
 use Rattle.field_base.specs.Chunks.{chunk, chunks}
 use Rattle.field_space.specs.ChunkLemmas.{chunk_above}
 
+-- a chunk fits its width
 pub chunk-lt : (width i a : ℕ) → chunk width i a < 2 ^ width
 chunk-lt width i a = mod-lt (a / 2 ^ (width * i)) (pow_pos width)
 
+-- what stands above n chunks does not change the first i, for i at most n
 chunks_above : (width n i high low : ℕ) → i ≤ n → chunks width i (high * 2 ^ (width * n) + low) ≡ chunks width i low
 unfolding chunks
 chunks_above width n zero high low fits = refl
@@ -32,6 +34,7 @@ chunks-put width i a c x low_fits high_fits is =
     ∙ ap₂ (λ xs y. xs ++ y ∷ []) (chunks_above width i i c x (omega arith))
     (ap (λ (y : ℕ). y % 2 ^ width) (shr_high c (width * i) x low_fits) ∙ mod-eq_of_lt high_fits)
 
+-- a coefficient put above i coefficients leaves i + 1 of them
 pub put-lt : (width i a c x : ℕ) → x < 2 ^ (width * i) → c < 2 ^ width → a ≡ c * 2 ^ (width * i) + x
     → a < 2 ^ (width * suc i)
 put-lt width i a c x low_fits high_fits is =
@@ -52,13 +55,16 @@ put_fits whole width dimension i a c x bits place low fits is =
 
 -- ---- a field over itself
 
+-- one coefficient has all bits
 pub whole_bits : (width : ℕ) → width ≡ width * 1
 whole_bits width = omega arith
 
+-- an element that fits is its only coefficient
 pub chunk-whole : (width a : ℕ) → a < 2 ^ width → chunk width 0 a ≡ a
 chunk-whole width a fits =
     ap (λ (k : ℕ). a / 2 ^ k % 2 ^ width) (mul-zero width) ∙ ap (λ (x : ℕ). x % 2 ^ width) (div-one a) ∙ mod-eq_of_lt fits
 
+-- and its list of coefficients has that one
 pub chunks-whole : (width a : ℕ) → a < 2 ^ width → a ∷ [] ≡ chunks width 1 a
 unfolding chunks
 chunks-whole width a fits = ap (λ x. x ∷ []) (sym (chunk-whole width a fits))
@@ -77,20 +83,24 @@ pub fills-yields : {S A : Type 0} (next_gives : S → Option A → S → Type 0)
 fills-yields next_gives s i [] t same = same
 fills-yields next_gives s i (x ∷ xs) t fills = (fills.0, fills.1, fills-yields next_gives fills.0 (i + 1) xs t fills.2)
 
+-- with a coefficient put above i coefficients, the list has it behind them
 pub chunks-more : (width i a c x : ℕ) → x < 2 ^ (width * i) → c < 2 ^ width → a ≡ c * 2 ^ (width * i) + x
     → chunks width (i + 1) a ≡ chunks width i x ++ c ∷ []
 chunks-more width i a c x low_fits high_fits is =
     ap (λ (k : ℕ). chunks width k a) (add-one i) ∙ chunks-put width i a c x low_fits high_fits is
 
+-- and the number has one coefficient more
 pub more-lt : (width i a c x : ℕ) → x < 2 ^ (width * i) → c < 2 ^ width → a ≡ c * 2 ^ (width * i) + x
     → a < 2 ^ (width * (i + 1))
 more-lt width i a c x low_fits high_fits is =
     subst (λ (k : ℕ). a < 2 ^ (width * k)) (sym (add-one i)) (put-lt width i a c x low_fits high_fits is)
 
+-- no coefficients
 pub chunks-none : (width a : ℕ) → chunks width 0 a ≡ []
 unfolding chunks
 chunks-none width a = refl
 
+-- the first i + 1 coefficients are the first i and the next
 pub chunks-next : (width i a : ℕ) → chunks width (i + 1) a ≡ chunks width i a ++ chunk width i a ∷ []
 unfolding chunks
 chunks-next width i a = ap (λ (k : ℕ). chunks width k a) (add-one i)
@@ -105,6 +115,7 @@ pub record Coefficients {S A : Type 0} (width : ℕ) (repr : A → ℕ) (step : 
   pub are : map repr taken ≡ chunks width i element
 
 module _ {S A : Type 0} (width : ℕ) (repr : A → ℕ) (step : S → ℕ → A → S → Type 0) (start : S) where
+  -- before the first call
   pub no_coefficients : {E : Type 0} (of : E → ℕ) (none element : E) → element ≡ none → of none ≡ 0 → Coefficients width repr step start 0 (of element) start
   no_coefficients of none element is nothing = record {
     below = subst (λ (n : ℕ). n < 2 ^ (width * 0)) (sym (ap of is ∙ nothing)) (pow_pos (width * 0));
@@ -118,6 +129,7 @@ module _ {S A : Type 0} (width : ℕ) (repr : A → ℕ) (step : S → ℕ → A
   pub element_below : (i element : ℕ) (now : S) → Coefficients width repr step start i element now → element < 2 ^ (width * i)
   element_below i element now begun = begun.below
 
+  -- one more coefficient is put in its place
   pub more_coefficients : (i x a : ℕ) (now next : S) (c : A) → Coefficients width repr step start i x now
       → repr c < 2 ^ width → step now i c next → a ≡ repr c * 2 ^ (width * i) + x
       → Coefficients width repr step start (i + 1) a next
@@ -160,6 +172,7 @@ pushed repr width i x items new v begun is so_far value =
     ap (map repr) is ∙ map-append repr items (v ∷ []) ∙ ap₂ (λ ys y. ys ++ y ∷ []) so_far value
     ∙ append_assoc begun (chunks width i x) (chunk width i x ∷ []) ∙ ap (λ ys. begun ++ ys) (sym (chunks-next width i x))
 
+-- before the first coefficient of an element is pushed
 pub none_pushed : (width x : ℕ) (ys : List ℕ) → ys ≡ ys ++ chunks width 0 x
 none_pushed width x ys = sym (ap (λ zs. ys ++ zs) (chunks-none width x) ∙ append-nil ys)
 
@@ -173,6 +186,7 @@ map_next repr xs k x within is =
 -- ---- elements that are made of a list of coefficients
 
 module _ {E : Type 0} (width dimension : ℕ) (repr : E → ℕ) where
+  -- the coefficients of one element
   abbrev of_element : E → List ℕ
   of_element y = chunks width dimension (repr y)
 
@@ -183,6 +197,7 @@ module _ {E : Type 0} (width dimension : ℕ) (repr : E → ℕ) where
     pub whole : place ≡ dimension * length elements + i
     pub items : flat_map (λ x. chunks width dimension (repr x)) elements ++ chunks width i element ≡ coefficients
 
+  -- before the first coefficient
   pub joining_start : (elements : List E) (element : ℕ) → 0 < dimension → elements ≡ [] → element ≡ 0 → Joining elements 0 element 0 []
   joining_start elements element wide none nothing = record {
     begun = wide;
@@ -191,6 +206,7 @@ module _ {E : Type 0} (width dimension : ℕ) (repr : E → ℕ) where
     items = sym (none_pushed width element _) ∙ ap (flat_map (λ x. chunks width dimension (repr x))) none;
   }
 
+  -- a coefficient more of the element that is being built
   joined : (elements : List E) (i x a c place : ℕ) (coefficients more : List ℕ) → Joining elements i x place coefficients
       → c < 2 ^ width → a ≡ c * 2 ^ (width * i) + x → more ≡ coefficients ++ c ∷ []
       → flat_map (λ y. chunks width dimension (repr y)) elements ++ chunks width (i + 1) a ≡ more
@@ -199,6 +215,7 @@ module _ {E : Type 0} (width dimension : ℕ) (repr : E → ℕ) where
       ∙ sym (append_assoc (flat_map (λ y. chunks width dimension (repr y)) elements) (chunks width i x) (c ∷ []))
       ∙ ap (λ ys. ys ++ c ∷ []) state.items ∙ sym longer
 
+  -- and the element is not whole yet
   pub joining_more : (elements : List E) (i x a c place : ℕ) (coefficients more : List ℕ) → Joining elements i x place coefficients
       → c < 2 ^ width → a ≡ c * 2 ^ (width * i) + x → more ≡ coefficients ++ c ∷ [] → i + 1 ≢ dimension
       → Joining elements (i + 1) a (place + 1) more
@@ -209,6 +226,7 @@ module _ {E : Type 0} (width dimension : ℕ) (repr : E → ℕ) where
     items = joined elements i x a c place coefficients more state fits is longer;
   }
 
+  -- or it is whole, and joins the elements
   pub joining_whole : (elements new : List E) (e : E) (i x a c zeros place : ℕ) (coefficients more : List ℕ)
       → Joining elements i x place coefficients → c < 2 ^ width → a ≡ c * 2 ^ (width * i) + x → more ≡ coefficients ++ c ∷ []
       → i + 1 ≡ dimension → new ≡ elements ++ e ∷ [] → repr e ≡ a → zeros ≡ 0 → 0 < dimension
@@ -227,6 +245,7 @@ module _ {E : Type 0} (width dimension : ℕ) (repr : E → ℕ) where
             ∙ joined elements i x a c place coefficients more state fits is longer;
       }
 
+  -- at the end of a whole number of elements all are joined
   pub joining_end : (elements : List E) (i x place : ℕ) (coefficients : List ℕ) → Joining elements i x place coefficients
       → place % dimension ≡ 0 → flat_map (λ y. chunks width dimension (repr y)) elements ≡ coefficients
   joining_end elements i x place coefficients state divides =
@@ -242,12 +261,14 @@ pub record ListedSoFar {A : Type 0} (width : ℕ) (repr : A → ℕ) (element n 
   pub as_long : length written ≡ n
   pub are : map repr (take i written) ≡ chunks width i element
 
+-- before the first place is written
 pub none_written : {A : Type 0} (width : ℕ) (repr : A → ℕ) (element n : ℕ) (none : A) → ListedSoFar width repr element n 0 (replicate n none)
 none_written width repr element n none = record {
   as_long = length-replicate n none;
   are = sym (chunks-none width element);
 }
 
+-- one more place is written
 pub one_written : {A : Type 0} (width : ℕ) (repr : A → ℕ) (element n i : ℕ) (written : List A) (x : A) → i < n
     → ListedSoFar width repr element n i written → repr x ≡ chunk width i element
     → ListedSoFar width repr element n (i + 1) (set written i x)
@@ -262,6 +283,7 @@ one_written width repr element n i written x more so_far is =
           ∙ sym (chunks-next width i element);
     }
 
+-- all places are written
 pub all_written : {A : Type 0} (width : ℕ) (repr : A → ℕ) (element n i : ℕ) (written : List A) → n ≤ i → i ≤ n
     → ListedSoFar width repr element n i written → map repr written ≡ chunks width n element
 all_written width repr element n i written past within so_far =

@@ -1,5 +1,6 @@
 pub mod ChunkLemmas
 pub mod Items
-pub mod LevelSpaces
-pub mod OneCoefficient
+pub mod LevelSpaceLemmas
+pub mod OneCoefficientLemmas
 pub mod PowerItems
+pub mod Vectors

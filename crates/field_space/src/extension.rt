@@ -1,5 +1,6 @@
 // Fields that extend a smaller field, and their packings, which have one lane.
-ghost use Rattle.std.specs.Prelude.{◌≡◌, ◌≢◌, ◌↔◌, ◌*◌, ◌^◌, ◌<◌, ◌≤◌, ℕ, List, length, IsTrue, IsNone, IfOk, IfSome, slice_index_or, bit_xor, codes, refl};
+ghost use Rattle.std.specs.Prelude.{◌≡◌, ◌≢◌, ◌↔◌, ◌*◌, ◌^◌, ◌<◌, ◌≤◌, ℕ, List, length, slice_index_or};
+ghost use Rattle.std.specs.Prelude.{IsTrue, IsNone, IfOk, IfSome, bit_xor, codes, refl};
 ghost use Rattle.std.specs.List.{All};
 ghost use Rattle.field_base.specs.Powers.{repeated_square};
 ghost use Rattle.field_space.specs.PowerItems.{ArePowersOf};
@@ -144,7 +145,7 @@ pub trait PackedFieldExtension<F: Field, E: ExtensionField<F>>: Algebra<E> {
     fn from_ext(element: E) -> Self
         ensures { Self.repr result ≡ E.repr element };
 
-    /// The packing of the elements of a slice, of which there has to be one.
+    /// The packing of the one element of a slice.
     final fn from_ext_slice(elements: &[E]) -> Self
         requires { length elements.now ≡ 1 }
         ensures { (x : E) → Self.repr result ≡ E.repr (slice_index_or elements.now 0 x) }

@@ -7,7 +7,7 @@ ghost use Rattle.field_base.specs.Remainder.{mul_mod, poly64_modulus};
 ghost use Rattle.field_base.proofs.RemainderRing.{poly64_ring};
 ghost use Rattle.word_cubic.proofs.CubicRing.{chunk-cubic};
 ghost use Rattle.word_cubic.specs.Triple.{triple_number};
-ghost use Rattle.field_space.specs.OneCoefficient.{scales_one_coefficient};
+ghost use Rattle.field_space.specs.OneCoefficientLemmas.{scales_one_coefficient};
 
 use field_base::{FieldKernel, Stored};
 use field_element::{Coefficients, CubicKernel};
@@ -41,7 +41,8 @@ pub trait SpaceOver<R: Stored, S: Stored, J: FieldKernel<S>>: FieldKernel<R> {
     ghost space_law: { Self.width ≡ J.width * DIMENSION };
 
     // An element of `J`, as coefficient 0 of an element, multiplies each coefficient of another.
-    ghost scale_law: { (i c a : ℕ) → i < DIMENSION → c < 2 ^ J.width → chunk J.width i (Self.product c a) ≡ J.product c (chunk J.width i a) };
+    ghost scale_law: { (i c a : ℕ) → i < DIMENSION → c < 2 ^ J.width
+        → chunk J.width i (Self.product c a) ≡ J.product c (chunk J.width i a) };
 }
 
 impl<R: Stored, K: FieldKernel<R>> SpaceOver<R, R, K> for K {

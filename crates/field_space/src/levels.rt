@@ -1,7 +1,7 @@
 // Levels of the tower as vector spaces over the levels inside them.
 ghost use Rattle.std.specs.Prelude.{◌≡◌, ◌<◌, ◌≤◌, ◌*◌, ◌+◌, ◌-◌, ◌^◌, ℕ, List, codes, refl};
 ghost use Rattle.field_base.specs.Chunks.{chunk};
-ghost use Rattle.field_space.specs.LevelSpaces.{dimension_positive, dimension_bits, scales_coefficients};
+ghost use Rattle.field_space.specs.LevelSpaceLemmas.{dimension_positive, dimension_bits, scales_coefficients};
 
 use crate::extension::{AlgebraIdentity, ExtensionField};
 use crate::kernel::SpaceOver;

@@ -1,14 +1,12 @@
 // Elements as vectors over a smaller ring, and fields as extensions of a smaller field.
 ghost use Rattle.std.specs.Prelude.{◌≡◌, ◌≢◌, ◌↔◌, ◌*◌, ◌+◌, ◌%◌, ◌^◌, ◌<◌, ◌≤◌, ℕ, List, map, length, IsTrue, IsNone, IfOk, IfSome, refl};
 ghost use Rattle.std.proofs.Common.{lit<};
-ghost use Rattle.std.specs.Array.{FillsFrom};
-ghost use Rattle.std.specs.List.{flat_map};
 ghost use Rattle.std.specs.Mem.{FitsInMemory};
-ghost use Rattle.field_space.specs.OneCoefficient.{scales_one_coefficient};
+ghost use Rattle.field_space.specs.OneCoefficientLemmas.{scales_one_coefficient};
 ghost use Rattle.field_base.specs.BitRingLemmas.{bits_ring};
 ghost use Rattle.field_base.specs.Chunks.{chunk, chunks};
 ghost use Rattle.field_base.specs.Tower.{tower_mul};
-ghost use Rattle.field_space.specs.Items.{TakesOneMore};
+ghost use Rattle.field_space.specs.Vectors.{ReadsCoefficients, ReturnsCoefficients, coefficients_of};
 
 use crate::kernel::SpaceOver;
 use field_base::traits::PrimeCharacteristicRing;
@@ -25,7 +23,7 @@ pub trait BasedVectorSpace<F: PrimeCharacteristicRing>: PrimeCharacteristicRing 
 
     ghost DIMENSION: { ℕ };
 
-    /// Coefficient `i`, of which there have to be as many as the dimension.
+    /// Coefficient `i`, which has to be below the dimension.
     fn basis_coefficient(&self, i: usize) -> F
         requires { i < DIMENSION }
         ensures { F.repr result ≡ chunk F.width i (Self.repr self.now) };
@@ -42,7 +40,7 @@ pub trait BasedVectorSpace<F: PrimeCharacteristicRing>: PrimeCharacteristicRing 
         alloc: A,
         elements: &[Self],
     ) -> Result<Vec<F, A>, AllocError>
-        ensures { IfOk result (λ flat. map F.repr flat.items ≡ flat_map (λ x. chunks F.width DIMENSION (Self.repr x)) elements.now) }
+        ensures { IfOk result (λ flat. map F.repr flat.items ≡ coefficients_of F.width DIMENSION Self.repr elements.now) }
     {
         let mut flat = Vec::new(alloc);
         for place in 0..elements.len() {
@@ -61,7 +59,7 @@ pub trait BasedVectorSpace<F: PrimeCharacteristicRing>: PrimeCharacteristicRing 
         coefficients: &[F],
     ) -> Result<Vec<Self, A>, AllocError>
         requires { length coefficients.now % DIMENSION ≡ 0 }
-        ensures { IfOk result (λ elements. flat_map (λ x. chunks F.width DIMENSION (Self.repr x)) elements.items ≡ map F.repr coefficients.now) }
+        ensures { IfOk result (λ elements. coefficients_of F.width DIMENSION Self.repr elements.items ≡ map F.repr coefficients.now) }
     {
         let mut elements = Vec::new(alloc);
         let mut element = Self::ZERO;
@@ -82,7 +80,7 @@ pub trait BasedVectorSpace<F: PrimeCharacteristicRing>: PrimeCharacteristicRing 
     #[tactic(auto, using(crate::proofs::Spaces::element_below))]
     final fn from_basis_coefficients_fn<G: FnMut(usize) -> F>(mut f: G) -> Self
         requires { G.IsAlwaysCallable f }
-        ensures { (coefficients : List F) × (last : G) × FillsFrom G.step f 0 coefficients last × (map F.repr coefficients ≡ chunks F.width DIMENSION (Self.repr result)) }
+        ensures { ReturnsCoefficients F.width DIMENSION F.repr G.step f (Self.repr result) }
     {
         let mut element = Self::ZERO;
         for i in 0..Self::DIMENSION {
@@ -96,7 +94,7 @@ pub trait BasedVectorSpace<F: PrimeCharacteristicRing>: PrimeCharacteristicRing 
     #[tactic(auto, using(crate::proofs::Spaces::element_below))]
     final fn from_basis_coefficients_iter<I: Iterator<Item = F>>(mut iter: I) -> Option<Self>
         requires { I.can_next iter }
-        ensures { (coefficients : List F) × TakesOneMore I.next_gives iter DIMENSION coefficients × (IsNone result ↔ (length coefficients ≢ DIMENSION)) × IfSome result (λ x. map F.repr coefficients ≡ chunks F.width DIMENSION (Self.repr x)) }
+        ensures { ReadsCoefficients F.width DIMENSION F.repr Self.repr I.next_gives iter result }
     {
         let mut element = Self::ZERO;
         for i in 0..Self::DIMENSION {
@@ -116,7 +114,8 @@ pub trait BasedVectorSpace<F: PrimeCharacteristicRing>: PrimeCharacteristicRing 
     ghost space_law: { Self.width ≡ F.width * DIMENSION };
 
     // An element of `F`, as coefficient 0 of an element, multiplies each coefficient of another.
-    ghost scale_law: { (i c a : ℕ) → i < DIMENSION → c < 2 ^ F.width → chunk F.width i (Self.product c a) ≡ F.product c (chunk F.width i a) };
+    ghost scale_law: { (i c a : ℕ) → i < DIMENSION → c < 2 ^ F.width
+        → chunk F.width i (Self.product c a) ≡ F.product c (chunk F.width i a) };
 }
 
 // The next item of an iterator. A loop that calls `next` itself would have to know that the iterator ends.
@@ -151,7 +150,7 @@ pub trait BasisCoefficientsSlice<F: PrimeCharacteristicRing>: BasedVectorSpace<F
         ensures { map F.repr result.now ≡ chunks F.width Self.DIMENSION (Self.repr self.now) };
 }
 
-/// The array of an element's coefficients, of which there are `N`.
+/// The array of an element's `N` coefficients.
 pub(crate) fn coefficients_of<F: PrimeCharacteristicRing, E: BasedVectorSpace<F>, const N: usize>(
     element: &E,
 ) -> [F; N]

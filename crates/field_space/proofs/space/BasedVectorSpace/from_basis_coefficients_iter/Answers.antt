@@ -13,12 +13,12 @@ returns-in-None g c =
     let done = c.loop-i.invariant.1 in
     let few : c.loop-i.i ≤ g.Self.BasedVectorSpace.DIMENSION =
     omega (arith, c.loop-i-test.true, c.DIMENSION-i-end.ensures) in
-    let long = done.long in (
-      done.taken,
-      inl ((c.next_of.new.iter, (c.loop-i.iter, fills-yields g.I.Iterator.next_gives c.args.iter 0 done.taken c.loop-i.iter done.fills, c.in-None.ensures.steps)), omega (arith, few, long)),
-      ((λ none same. absurd (omega (arith, same, long, c.loop-i-test.true, c.DIMENSION-i-end.ensures))), (λ other. refl)),
-      tt,
-    )
+    let long = done.long in record {
+      coefficients = done.taken;
+      taken = inl ((c.next_of.new.iter, (c.loop-i.iter, fills-yields g.I.Iterator.next_gives c.args.iter 0 done.taken c.loop-i.iter done.fills, c.in-None.ensures.steps)), omega (arith, few, long));
+      none = ((λ none same. absurd (omega (arith, same, long, c.loop-i-test.true, c.DIMENSION-i-end.ensures))), (λ other. refl));
+      value = tt;
+    }
 
 pub loop-i-preserved : goal.loop-i-preserved
 loop-i-preserved g c =
@@ -34,21 +34,21 @@ returns-in-Some-next_of g c =
     let all : c.loop-i.i ≡ g.Self.BasedVectorSpace.DIMENSION =
     omega (arith, c.loop-i-test.false, c.loop-i.auto.i-end, c.DIMENSION-i-end.ensures) in
     let more = one_item_more g.I.Iterator.next_gives c.args.iter c.loop-i.iter c.next_of-2.new.iter 0 done.taken c.in-Some-next_of.field-0
-    g.Self.BasedVectorSpace.DIMENSION done.fills c.in-Some-next_of.ensures.steps (done.long ∙ all) in (
-      more.0,
-      inr (c.next_of-2.new.iter, more.1, more.2),
-      ((λ none same. absurd (omega (arith, same, more.2))), (λ other. refl)),
-      tt,
-    )
+    g.Self.BasedVectorSpace.DIMENSION done.fills c.in-Some-next_of.ensures.steps (done.long ∙ all) in record {
+      coefficients = more.0;
+      taken = inr (c.next_of-2.new.iter, more.1, more.2);
+      none = ((λ none same. absurd (omega (arith, same, more.2))), (λ other. refl));
+      value = tt;
+    }
 
 pub returns : goal.returns
 returns g c =
     let done = c.loop-i.invariant.1 in
     let all : c.loop-i.i ≡ g.Self.BasedVectorSpace.DIMENSION =
     omega (arith, c.loop-i-test.false, c.loop-i.auto.i-end, c.DIMENSION-i-end.ensures) in
-    let long = done.long ∙ all in (
-      done.taken,
-      inl ((c.next_of-2.new.iter, (c.loop-i.iter, fills-yields g.I.Iterator.next_gives c.args.iter 0 done.taken c.loop-i.iter done.fills, c.in-None-next_of.ensures.steps)), omega (arith, long)),
-      ((λ none. absurd (true≢false none)), (λ other. absurd (other long))),
-      done.are ∙ ap (λ n. chunks g.F.Represented.width n (g.Self.Represented.repr c.loop-i.element)) all,
-    )
+    let long = done.long ∙ all in record {
+      coefficients = done.taken;
+      taken = inl ((c.next_of-2.new.iter, (c.loop-i.iter, fills-yields g.I.Iterator.next_gives c.args.iter 0 done.taken c.loop-i.iter done.fills, c.in-None-next_of.ensures.steps)), omega (arith, long));
+      none = ((λ none. absurd (true≢false none)), (λ other. absurd (other long)));
+      value = done.are ∙ ap (λ n. chunks g.F.Represented.width n (g.Self.Represented.repr c.loop-i.element)) all;
+    }

@@ -9,13 +9,14 @@ use Rattle.field_base.specs.Quadratic.{pair, low_half, high_half}
 use Rattle.field_base.specs.Tower.{tower_mul}
 use Rattle.field_base.proofs.TowerProducts.{level-lt, tower_mul-low_times}
 use Rattle.field_base.proofs.TowerRing.{tower_ring}
-use Rattle.field_space.specs.OneCoefficient.{scales_one_coefficient}
+use Rattle.field_space.specs.OneCoefficientLemmas.{scales_one_coefficient}
 use Rattle.field_space.specs.ChunkLemmas.{chunk_above}
 
 -- the chunks of a pair of halves of n chunks each
 chunk_of_low : (width n i high low : ℕ) → i < n → chunk width i (pair (width * n) low high) ≡ chunk width i low
 chunk_of_low width n i high low place = chunk_above width n i high low place
 
+-- a chunk of the high half of a pair
 chunk_of_high : (width n i high low : ℕ) → low < 2 ^ (width * n) → chunk width (n + i) (pair (width * n) low high) ≡ chunk width i high
 chunk_of_high width n i high low fits =
     ap (λ (k : ℕ). (high * 2 ^ (width * n) + low) / 2 ^ k % 2 ^ width) (mul-add width n i)
@@ -26,10 +27,12 @@ chunk_of_high width n i high low fits =
 halves : (width n a : ℕ) → pair (width * n) (a % 2 ^ (width * n)) (a / 2 ^ (width * n)) ≡ a
 halves width n a = omega (arith, div-add-mod a (2 ^ (width * n)))
 
+-- a chunk of the low half of a number is that of the number
 chunk_in_low : (width n i a : ℕ) → i < n → chunk width i (low_half (width * n) a) ≡ chunk width i a
 chunk_in_low width n i a place =
     sym (chunk_of_low width n i (a / 2 ^ (width * n)) (a % 2 ^ (width * n)) place) ∙ ap (chunk width i) (halves width n a)
 
+-- and one of the high half lies n chunks higher
 chunk_in_high : (width n i a : ℕ) → i < n → chunk width i (high_half (width * n) a) ≡ chunk width (n + i) a
 chunk_in_high width n i a place =
     chunk_in_low width n i (a / 2 ^ (width * n)) place
@@ -76,14 +79,17 @@ chunk-tower_above (suc d) j i c a place fits =
 
 -- ---- level j inside level k, by its number of coefficients
 
+-- a level has some coefficients over one below it
 pub dimension_positive : (k j count : ℕ) → count ≡ 2 ^ (k - j) → 0 < count
 dimension_positive k j count is = subst (λ (n : ℕ). 0 < n) (sym is) (pow_pos (k - j))
 
+-- which together have its bits
 pub dimension_bits : (k j count : ℕ) → count ≡ 2 ^ (k - j) → j ≤ k → 2 ^ k ≡ 2 ^ j * count
 dimension_bits k j count is inside =
     let level : k ≡ j + (k - j) = omega (arith, inside) in
     ap (λ (l : ℕ). 2 ^ l) level ∙ pow-add 2 j (k - j) ∙ ap (λ (n : ℕ). 2 ^ j * n) (sym is)
 
+-- an element of level j multiplies each coefficient of one of level k
 pub scales_coefficients : (k j count : ℕ) → count ≡ 2 ^ (k - j) → j ≤ k → (i c a : ℕ) → i < count → c < 2 ^ 2 ^ j
     → chunk (2 ^ j) i (tower_mul k c a) ≡ tower_mul j c (chunk (2 ^ j) i a)
 scales_coefficients k j count is inside i c a place fits =
