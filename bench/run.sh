@@ -40,7 +40,7 @@ if [ -n "${HARDWARE:-}" ]; then
     target="$here/target/hardware"
 fi
 
-export BF_FFI_FOLDER="$crate/out"
+export LIBRARY_FOLDER="$crate/out"
 export CARGO_TARGET_DIR="$target"
 # shellcheck disable=SC2086
 cargo build --offline --quiet --release --manifest-path "$manifest" $features

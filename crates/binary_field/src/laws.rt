@@ -1,10 +1,43 @@
 //! Laws of the definitions, as contracts of functions that compute nothing.
 
-pub use bits_packed::transposing_twice_returns;
+// rings, fields and polynomials
 pub use field_laws::{
     carryless_counts_pairs, carryless_is_product, fields_have_laws, frobenius_returns,
     levels_lie_inside, mul_mod_is_ring, norms_and_conjugates, remainder_is_unique,
     roots_give_homomorphism, squarings_are_powers, tower_is_field, tower_is_ring,
 };
-pub use transcript_bytes::runs_join;
+
+// masked products
+pub use word_carryless::{carry_isolation, class_is_places};
+
+// changes of basis, and linear maps
+pub use word_basis::{images_give_linear_map, isomorphism_8, isomorphism_64, isomorphism_128};
+
+// tables
+pub use word_tables::{
+    cantor_vectors_are_solutions, columns_give_maps, generators_have_full_order, tables_are_powers,
+};
+
+// the cubic extension
 pub use word_cubic::cubic_is_field;
+
+// matrices over the bits of a byte
+pub use field_aes::columns_are_transposed;
+
+// packed bits
+pub use bits_packed::transposing_twice_returns;
+
+// transforms
+pub use transform_slices::{
+    butterflies_restore, cantor_vectors_step_down, stages_give_sums, sums_are_values,
+};
+pub use transform_whole::values_commute_with_images;
+
+// transcripts
+pub use transcript_bytes::runs_join;
+
+// lines of text and their answers
+pub use calculator::{
+    element_is_read_back, faults_in_order, inverse_and_root, lines_law, text_is_read_back,
+    words_by_spaces,
+};

@@ -5,109 +5,74 @@
 #![tactic(auto)]
 
 pub mod laws;
+pub mod transform;
 
-pub use bits_packed::Lanes;
-pub use bits_packed::PackedGf2;
-pub use bits_packed::PackedGf2x8;
-pub use bits_packed::PackedGf2x16;
-pub use bits_packed::PackedGf2x32;
-pub use bits_packed::PackedGf2x64;
-pub use bits_packed::PackedGf2x128;
-pub use bits_packed::PackedGf2x256;
-pub use bits_packed::PackedGf2x512;
-pub use bits_rows::Divisible;
-pub use bits_rows::M128;
-pub use bits_rows::M256;
-pub use bits_rows::M512;
-pub use bits_rows::Underlier;
-pub use bits_rows::Word;
-pub use calculator as calc;
-pub use field_aes::ByteLanes;
-pub use field_aes::ByteMatrix;
-pub use field_aes::LinearizedPoly8b;
-pub use field_aes::RijndaelMaps;
-pub use field_aes::columns_are_transposed;
+// GF(2), and the traits of rings and fields
 pub use field_base::Gf2;
-pub use field_base::traits::Algebra;
-pub use field_base::traits::DotProduct;
-pub use field_base::traits::Field;
-pub use field_base::traits::PrimeCharacteristicRing;
-pub use field_base::traits::Represented;
-pub use field_base::traits::TowerLevel;
-pub use field_bytes::ByteStream;
-pub use field_bytes::LittleEndian;
-pub use field_bytes::Packable;
-pub use field_bytes::ParallelByteStreams;
-pub use field_bytes::ParallelU32Streams;
-pub use field_bytes::ParallelU64Streams;
-pub use field_bytes::RawDataSerializable;
-pub use field_bytes::U32Stream;
-pub use field_bytes::U64Stream;
-pub use field_bytes::into_byte_stream;
-pub use field_bytes::into_parallel_byte_streams;
-pub use field_bytes::into_parallel_u32_streams;
-pub use field_bytes::into_parallel_u64_streams;
-pub use field_bytes::into_u32_stream;
-pub use field_bytes::into_u64_stream;
-pub use field_element::BinaryField2;
-pub use field_element::BinaryField4;
-pub use field_element::BinaryField8;
-pub use field_element::BinaryField16;
-pub use field_element::BinaryField32;
-pub use field_element::BinaryField64;
-pub use field_element::BinaryField128;
-pub use field_element::Ghash128;
-pub use field_element::PackedGhash128;
-pub use field_element::PackedRijndael8b;
-pub use field_element::Poly64;
-pub use field_element::Poly192;
-pub use field_element::Rijndael8b;
-pub use field_numbers::PrimeField;
-pub use field_numbers::PrimeField32;
-pub use field_numbers::PrimeField64;
-pub use field_numbers::QuotientMap;
-pub use field_space::AlgebraIdentity;
-pub use field_space::BasedVectorSpace;
-pub use field_space::BasisCoefficients;
-pub use field_space::BasisCoefficientsSlice;
-pub use field_space::ExtensionField;
-pub use field_space::HasFrobenius;
-pub use field_space::HasPowers;
-pub use field_space::HasSubfield;
-pub use field_space::PackedFieldExtension;
-pub use field_space::Powers;
-pub use packed_lanes::Packed;
-pub use packed_lanes::PackedField;
-pub use packed_lanes::PackedFieldPow2;
-pub use packed_lanes::PackedValue;
-pub use packed_lanes::WiderField;
-pub use transcript_bytes::ByteChallenger;
-pub use transcript_bytes::ByteHasher32;
-pub use transcript_bytes::ChallengerError;
-pub use transcript_bytes::HashChallenger;
-pub use transcript_bytes::Sha256Hasher;
-pub use transcript_elements::BinaryChallenger;
-pub use transcript_elements::Call;
-pub use transcript_elements::CanObserve;
-pub use transcript_elements::CanSample;
-pub use transcript_elements::CanSampleBits;
-pub use transcript_elements::CanSampleUniformBits;
-pub use transcript_elements::Digest;
-pub use transcript_elements::FieldChallenger;
-pub use transcript_elements::GrindError;
-pub use transcript_elements::GrindingChallenger;
-pub use transcript_elements::Hash;
-pub use transcript_elements::MerkleCap;
-pub use transcript_elements::Recorder;
-pub use transcript_elements::Reply;
-pub use transcript_elements::Transcript;
-pub use transcript_elements::TranscriptError;
-pub use transcript_elements::TranscriptField;
-pub use transcript_elements::TypeTag;
-pub use transcript_elements::run_calls;
+pub use field_base::traits::{
+    Algebra, DotProduct, Field, PrimeCharacteristicRing, Represented, TowerLevel,
+};
+
+// integers as elements of GF(2)
+pub use field_numbers::{PrimeField, PrimeField32, PrimeField64, QuotientMap};
+
+// changes of basis of slices, and tabled linear maps
+pub use word_basis::{LinearMap, to_polynomial_slice_64, to_tower_slice_64};
+
+// packings of N lanes, and their traits
+pub use packed_lanes::{Packed, PackedField, PackedFieldPow2, PackedValue, WiderField};
+
+// the fields, and their packings
+pub use field_element::{
+    BinaryField2, BinaryField4, BinaryField8, BinaryField16, BinaryField32, BinaryField64,
+    BinaryField128, Ghash128, PackedGhash128, PackedRijndael8b, Poly64, Poly192, Rijndael8b,
+};
+
+// elements as vectors over a smaller field
+pub use field_space::{
+    AlgebraIdentity, BasedVectorSpace, BasisCoefficients, BasisCoefficientsSlice, ExtensionField,
+    HasFrobenius, HasPowers, HasSubfield, PackedFieldExtension, Powers,
+};
+
+// elements as bytes, and streams of bytes and words
+pub use field_bytes::{
+    ByteStream, LittleEndian, Packable, ParallelByteStreams, ParallelU32Streams,
+    ParallelU64Streams, RawDataSerializable, U32Stream, U64Stream, into_byte_stream,
+    into_parallel_byte_streams, into_parallel_u32_streams, into_parallel_u64_streams,
+    into_u32_stream, into_u64_stream,
+};
+
+// matrices over the bits of a byte, and linear maps of the byte field of AES
+pub use field_aes::{
+    ByteLanes, ByteMatrix, LinearizedPoly8b, RijndaelMaps, columns_are_transposed,
+};
+
+// words as rows of bits
+pub use bits_rows::{Divisible, M128, M256, M512, Underlier, Word};
+
+// packed bits
+pub use bits_packed::{
+    Lanes, PackedGf2, PackedGf2x8, PackedGf2x16, PackedGf2x32, PackedGf2x64, PackedGf2x128,
+    PackedGf2x256, PackedGf2x512,
+};
+
+// slices, butterflies and the low stages of the transform over GF(2^128)
 pub use transform_slices as poly_basis;
-pub use transform_whole as transform;
+
+// values of polynomials over any field
 pub use transform_whole::over;
-pub use word_basis::LinearMap;
-pub use word_basis::to_polynomial_slice_64;
-pub use word_basis::to_tower_slice_64;
+
+// byte challengers
+pub use transcript_bytes::{
+    ByteChallenger, ByteHasher32, ChallengerError, HashChallenger, Sha256Hasher,
+};
+
+// elements in transcripts, and the challenger of a field
+pub use transcript_elements::{
+    BinaryChallenger, Call, CanObserve, CanSample, CanSampleBits, CanSampleUniformBits, Digest,
+    FieldChallenger, GrindError, GrindingChallenger, Hash, MerkleCap, Recorder, Reply, Transcript,
+    TranscriptError, TranscriptField, TypeTag, run_calls,
+};
+
+// lines of text and their answers
+pub use calculator as calc;

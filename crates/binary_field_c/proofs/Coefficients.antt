@@ -5,6 +5,7 @@ use Rattle.field_base.specs.Chunks.{chunks}
 use Rattle.word_cubic.specs.Cubic.{triple}
 use Rattle.word_cubic.proofs.CubicRing.{same₃, triple-chunks}
 
+-- a number below 2 ^ 192 with the coefficients a, b and c is a + b y + c y²
 pub of_three : (n a b c : ℕ) → n < 2 ^ 192 → chunks 64 3 n ≡ a ∷ b ∷ c ∷ [] → triple 64 a b c ≡ n
 unfolding chunks
 of_three n a b c fits is =

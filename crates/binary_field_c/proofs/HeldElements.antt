@@ -13,6 +13,7 @@ dot_of-map times f (x ∷ xs) [] = refl
 dot_of-map times f (x ∷ xs) (y ∷ ys) = ap (bit_xor (times (f x) (f y))) (dot_of-map times f xs ys)
 
 module _ {W X : Type 0} (number : W → ℕ) (repr : X → ℕ) where
+  -- the elements that words hold stand for the numbers of the words
   values_held : (ws : List W) (xs : List X) → length ws ≡ length xs → EachHeld number repr ws xs → map repr xs ≡ map number ws
   values_held [] [] same held = refl
   values_held [] (x ∷ xs) same held = absurd (omega arith)
@@ -21,6 +22,7 @@ module _ {W X : Type 0} (number : W → ℕ) (repr : X → ℕ) where
       ap₂ (λ (n : ℕ) (ns : List ℕ). n ∷ ns) (held 0 (omega arith) w x)
       (values_held ws xs (suc_inj same) (λ k below v y. held (suc k) (omega arith) v y))
 
+  -- elements read from words have the dot product of the words
   pub dot_of-held : (times : ℕ → ℕ → ℕ) (us vs : List W) (xs ys : List X) → length us ≡ length xs → length vs ≡ length ys
       → EachHeld number repr us xs → EachHeld number repr vs ys → dot_of times repr xs ys ≡ dot_of times number us vs
   dot_of-held times us vs xs ys left_fits right_fits left_held right_held =

@@ -1,12 +1,11 @@
-// What every field has: products, chains of products, squares, inverses and square roots, one field after the other: an exported
-// function has no type parameter, so that each field has its own five. A word of 8 to 64 bits is one number, one of 128 bits is two
-// of 64, low half first, and one of 192 bits three, the coefficient of 1 first.
-ghost use Rattle.std.specs.Prelude.{◌≡◌, length, fold, slice_index, EachIndex};
+// The operations of every field: products, chains of products, squares, inverses and square roots. An exported function has no type
+// parameter, so each field has its own five. A word of 8 to 64 bits is one number, one of 128 bits is two of 64, low half first, and
+// one of 192 bits three, the coefficient of 1 first.
+ghost use Rattle.std.specs.Prelude.{◌≡◌, length};
 ghost use Rattle.field_base.specs.Remainder.{aes_modulus, ghash_modulus, mul_mod, poly64_modulus};
 ghost use Rattle.field_base.specs.Tower.{tower_mul};
 ghost use Rattle.word_cubic.specs.Cubic.{cubic};
-ghost use Rattle.field_base.specs.Field.{IsInverseOrZero};
-ghost use Rattle.binary_field_c.specs.Words.{cubic_at, cubic_number, wide_at, wide_number};
+ghost use Rattle.binary_field_c.specs.Words.{chain_product, cubic_number, itself, wide_number, EachInverse, EachProduct, EachRoot, EachSquare};
 
 use crate::slices;
 use crate::words::{Cubic, Wide};
@@ -20,7 +19,7 @@ use field_element::{
 pub extern "C" fn bf_multiply_8(left: &[u8], right: &[u8], products: &mut [u8])
     requires left_fits { length left.now ≡ length products.old }
     requires right_fits { length right.now ≡ length products.old }
-    ensures { EachIndex products.new (λ k. slice_index products.new k ≡ tower_mul 3 (slice_index left.now k) (slice_index right.now k)) }
+    ensures { EachProduct itself (tower_mul 3) left.now right.now products.new }
 {
     slices::multiply::<BinaryField8, u8>(left, right, products);
 }
@@ -28,7 +27,7 @@ pub extern "C" fn bf_multiply_8(left: &[u8], right: &[u8], products: &mut [u8])
 /// Multiplies `product` by each factor in turn, so that each product waits for the one before.
 #[unsafe(no_mangle)]
 pub extern "C" fn bf_chain_8(factors: &[u8], product: &mut u8)
-    ensures { product.new ≡ fold (tower_mul 3) product.old factors.now }
+    ensures { product.new ≡ chain_product itself (tower_mul 3) product.old factors.now }
 {
     slices::chain::<BinaryField8, u8>(factors, product);
 }
@@ -37,16 +36,16 @@ pub extern "C" fn bf_chain_8(factors: &[u8], product: &mut u8)
 #[unsafe(no_mangle)]
 pub extern "C" fn bf_square_8(words: &[u8], squares: &mut [u8])
     requires { length words.now ≡ length squares.old }
-    ensures { EachIndex squares.new (λ k. slice_index squares.new k ≡ tower_mul 3 (slice_index words.now k) (slice_index words.now k)) }
+    ensures { EachSquare itself (tower_mul 3) words.now squares.new }
 {
     slices::square::<BinaryField8, u8>(words, squares);
 }
 
-/// Writes the inverse of the element at each index, and 0 where that is 0.
+/// Writes the inverse of the element at each index, and 0 for 0.
 #[unsafe(no_mangle)]
 pub extern "C" fn bf_inverse_8(words: &[u8], inverses: &mut [u8])
     requires { length words.now ≡ length inverses.old }
-    ensures { EachIndex inverses.new (λ k. IsInverseOrZero (tower_mul 3) (slice_index words.now k) (slice_index inverses.new k)) }
+    ensures { EachInverse itself (tower_mul 3) words.now inverses.new }
 {
     slices::invert::<BinaryField8, u8>(words, inverses);
 }
@@ -55,7 +54,7 @@ pub extern "C" fn bf_inverse_8(words: &[u8], inverses: &mut [u8])
 #[unsafe(no_mangle)]
 pub extern "C" fn bf_square_root_8(words: &[u8], roots: &mut [u8])
     requires { length words.now ≡ length roots.old }
-    ensures { EachIndex roots.new (λ k. tower_mul 3 (slice_index roots.new k) (slice_index roots.new k) ≡ slice_index words.now k) }
+    ensures { EachRoot itself (tower_mul 3) words.now roots.new }
 {
     slices::square_root::<BinaryField8, u8>(words, roots);
 }
@@ -65,7 +64,7 @@ pub extern "C" fn bf_square_root_8(words: &[u8], roots: &mut [u8])
 pub extern "C" fn bf_multiply_16(left: &[u16], right: &[u16], products: &mut [u16])
     requires left_fits { length left.now ≡ length products.old }
     requires right_fits { length right.now ≡ length products.old }
-    ensures { EachIndex products.new (λ k. slice_index products.new k ≡ tower_mul 4 (slice_index left.now k) (slice_index right.now k)) }
+    ensures { EachProduct itself (tower_mul 4) left.now right.now products.new }
 {
     slices::multiply::<BinaryField16, u16>(left, right, products);
 }
@@ -73,7 +72,7 @@ pub extern "C" fn bf_multiply_16(left: &[u16], right: &[u16], products: &mut [u1
 /// Multiplies `product` by each factor in turn, so that each product waits for the one before.
 #[unsafe(no_mangle)]
 pub extern "C" fn bf_chain_16(factors: &[u16], product: &mut u16)
-    ensures { product.new ≡ fold (tower_mul 4) product.old factors.now }
+    ensures { product.new ≡ chain_product itself (tower_mul 4) product.old factors.now }
 {
     slices::chain::<BinaryField16, u16>(factors, product);
 }
@@ -82,16 +81,16 @@ pub extern "C" fn bf_chain_16(factors: &[u16], product: &mut u16)
 #[unsafe(no_mangle)]
 pub extern "C" fn bf_square_16(words: &[u16], squares: &mut [u16])
     requires { length words.now ≡ length squares.old }
-    ensures { EachIndex squares.new (λ k. slice_index squares.new k ≡ tower_mul 4 (slice_index words.now k) (slice_index words.now k)) }
+    ensures { EachSquare itself (tower_mul 4) words.now squares.new }
 {
     slices::square::<BinaryField16, u16>(words, squares);
 }
 
-/// Writes the inverse of the element at each index, and 0 where that is 0.
+/// Writes the inverse of the element at each index, and 0 for 0.
 #[unsafe(no_mangle)]
 pub extern "C" fn bf_inverse_16(words: &[u16], inverses: &mut [u16])
     requires { length words.now ≡ length inverses.old }
-    ensures { EachIndex inverses.new (λ k. IsInverseOrZero (tower_mul 4) (slice_index words.now k) (slice_index inverses.new k)) }
+    ensures { EachInverse itself (tower_mul 4) words.now inverses.new }
 {
     slices::invert::<BinaryField16, u16>(words, inverses);
 }
@@ -100,7 +99,7 @@ pub extern "C" fn bf_inverse_16(words: &[u16], inverses: &mut [u16])
 #[unsafe(no_mangle)]
 pub extern "C" fn bf_square_root_16(words: &[u16], roots: &mut [u16])
     requires { length words.now ≡ length roots.old }
-    ensures { EachIndex roots.new (λ k. tower_mul 4 (slice_index roots.new k) (slice_index roots.new k) ≡ slice_index words.now k) }
+    ensures { EachRoot itself (tower_mul 4) words.now roots.new }
 {
     slices::square_root::<BinaryField16, u16>(words, roots);
 }
@@ -110,7 +109,7 @@ pub extern "C" fn bf_square_root_16(words: &[u16], roots: &mut [u16])
 pub extern "C" fn bf_multiply_32(left: &[u32], right: &[u32], products: &mut [u32])
     requires left_fits { length left.now ≡ length products.old }
     requires right_fits { length right.now ≡ length products.old }
-    ensures { EachIndex products.new (λ k. slice_index products.new k ≡ tower_mul 5 (slice_index left.now k) (slice_index right.now k)) }
+    ensures { EachProduct itself (tower_mul 5) left.now right.now products.new }
 {
     slices::multiply::<BinaryField32, u32>(left, right, products);
 }
@@ -118,7 +117,7 @@ pub extern "C" fn bf_multiply_32(left: &[u32], right: &[u32], products: &mut [u3
 /// Multiplies `product` by each factor in turn, so that each product waits for the one before.
 #[unsafe(no_mangle)]
 pub extern "C" fn bf_chain_32(factors: &[u32], product: &mut u32)
-    ensures { product.new ≡ fold (tower_mul 5) product.old factors.now }
+    ensures { product.new ≡ chain_product itself (tower_mul 5) product.old factors.now }
 {
     slices::chain::<BinaryField32, u32>(factors, product);
 }
@@ -127,16 +126,16 @@ pub extern "C" fn bf_chain_32(factors: &[u32], product: &mut u32)
 #[unsafe(no_mangle)]
 pub extern "C" fn bf_square_32(words: &[u32], squares: &mut [u32])
     requires { length words.now ≡ length squares.old }
-    ensures { EachIndex squares.new (λ k. slice_index squares.new k ≡ tower_mul 5 (slice_index words.now k) (slice_index words.now k)) }
+    ensures { EachSquare itself (tower_mul 5) words.now squares.new }
 {
     slices::square::<BinaryField32, u32>(words, squares);
 }
 
-/// Writes the inverse of the element at each index, and 0 where that is 0.
+/// Writes the inverse of the element at each index, and 0 for 0.
 #[unsafe(no_mangle)]
 pub extern "C" fn bf_inverse_32(words: &[u32], inverses: &mut [u32])
     requires { length words.now ≡ length inverses.old }
-    ensures { EachIndex inverses.new (λ k. IsInverseOrZero (tower_mul 5) (slice_index words.now k) (slice_index inverses.new k)) }
+    ensures { EachInverse itself (tower_mul 5) words.now inverses.new }
 {
     slices::invert::<BinaryField32, u32>(words, inverses);
 }
@@ -145,7 +144,7 @@ pub extern "C" fn bf_inverse_32(words: &[u32], inverses: &mut [u32])
 #[unsafe(no_mangle)]
 pub extern "C" fn bf_square_root_32(words: &[u32], roots: &mut [u32])
     requires { length words.now ≡ length roots.old }
-    ensures { EachIndex roots.new (λ k. tower_mul 5 (slice_index roots.new k) (slice_index roots.new k) ≡ slice_index words.now k) }
+    ensures { EachRoot itself (tower_mul 5) words.now roots.new }
 {
     slices::square_root::<BinaryField32, u32>(words, roots);
 }
@@ -155,7 +154,7 @@ pub extern "C" fn bf_square_root_32(words: &[u32], roots: &mut [u32])
 pub extern "C" fn bf_multiply_64(left: &[u64], right: &[u64], products: &mut [u64])
     requires left_fits { length left.now ≡ length products.old }
     requires right_fits { length right.now ≡ length products.old }
-    ensures { EachIndex products.new (λ k. slice_index products.new k ≡ tower_mul 6 (slice_index left.now k) (slice_index right.now k)) }
+    ensures { EachProduct itself (tower_mul 6) left.now right.now products.new }
 {
     slices::multiply::<BinaryField64, u64>(left, right, products);
 }
@@ -163,7 +162,7 @@ pub extern "C" fn bf_multiply_64(left: &[u64], right: &[u64], products: &mut [u6
 /// Multiplies `product` by each factor in turn, so that each product waits for the one before.
 #[unsafe(no_mangle)]
 pub extern "C" fn bf_chain_64(factors: &[u64], product: &mut u64)
-    ensures { product.new ≡ fold (tower_mul 6) product.old factors.now }
+    ensures { product.new ≡ chain_product itself (tower_mul 6) product.old factors.now }
 {
     slices::chain::<BinaryField64, u64>(factors, product);
 }
@@ -172,16 +171,16 @@ pub extern "C" fn bf_chain_64(factors: &[u64], product: &mut u64)
 #[unsafe(no_mangle)]
 pub extern "C" fn bf_square_64(words: &[u64], squares: &mut [u64])
     requires { length words.now ≡ length squares.old }
-    ensures { EachIndex squares.new (λ k. slice_index squares.new k ≡ tower_mul 6 (slice_index words.now k) (slice_index words.now k)) }
+    ensures { EachSquare itself (tower_mul 6) words.now squares.new }
 {
     slices::square::<BinaryField64, u64>(words, squares);
 }
 
-/// Writes the inverse of the element at each index, and 0 where that is 0.
+/// Writes the inverse of the element at each index, and 0 for 0.
 #[unsafe(no_mangle)]
 pub extern "C" fn bf_inverse_64(words: &[u64], inverses: &mut [u64])
     requires { length words.now ≡ length inverses.old }
-    ensures { EachIndex inverses.new (λ k. IsInverseOrZero (tower_mul 6) (slice_index words.now k) (slice_index inverses.new k)) }
+    ensures { EachInverse itself (tower_mul 6) words.now inverses.new }
 {
     slices::invert::<BinaryField64, u64>(words, inverses);
 }
@@ -190,7 +189,7 @@ pub extern "C" fn bf_inverse_64(words: &[u64], inverses: &mut [u64])
 #[unsafe(no_mangle)]
 pub extern "C" fn bf_square_root_64(words: &[u64], roots: &mut [u64])
     requires { length words.now ≡ length roots.old }
-    ensures { EachIndex roots.new (λ k. tower_mul 6 (slice_index roots.new k) (slice_index roots.new k) ≡ slice_index words.now k) }
+    ensures { EachRoot itself (tower_mul 6) words.now roots.new }
 {
     slices::square_root::<BinaryField64, u64>(words, roots);
 }
@@ -200,7 +199,7 @@ pub extern "C" fn bf_square_root_64(words: &[u64], roots: &mut [u64])
 pub extern "C" fn bf_multiply_128(left: &[Wide], right: &[Wide], products: &mut [Wide])
     requires left_fits { length left.now ≡ length products.old }
     requires right_fits { length right.now ≡ length products.old }
-    ensures { EachIndex products.new (λ k. wide_at products.new k ≡ tower_mul 7 (wide_at left.now k) (wide_at right.now k)) }
+    ensures { EachProduct wide_number (tower_mul 7) left.now right.now products.new }
 {
     slices::multiply::<BinaryField128, Wide>(left, right, products);
 }
@@ -208,7 +207,7 @@ pub extern "C" fn bf_multiply_128(left: &[Wide], right: &[Wide], products: &mut 
 /// Multiplies `product` by each factor in turn, so that each product waits for the one before.
 #[unsafe(no_mangle)]
 pub extern "C" fn bf_chain_128(factors: &[Wide], product: &mut Wide)
-    ensures { wide_number product.new ≡ fold (λ x factor. tower_mul 7 x (wide_number factor)) (wide_number product.old) factors.now }
+    ensures { wide_number product.new ≡ chain_product wide_number (tower_mul 7) product.old factors.now }
 {
     slices::chain::<BinaryField128, Wide>(factors, product);
 }
@@ -217,16 +216,16 @@ pub extern "C" fn bf_chain_128(factors: &[Wide], product: &mut Wide)
 #[unsafe(no_mangle)]
 pub extern "C" fn bf_square_128(words: &[Wide], squares: &mut [Wide])
     requires { length words.now ≡ length squares.old }
-    ensures { EachIndex squares.new (λ k. wide_at squares.new k ≡ tower_mul 7 (wide_at words.now k) (wide_at words.now k)) }
+    ensures { EachSquare wide_number (tower_mul 7) words.now squares.new }
 {
     slices::square::<BinaryField128, Wide>(words, squares);
 }
 
-/// Writes the inverse of the element at each index, and 0 where that is 0.
+/// Writes the inverse of the element at each index, and 0 for 0.
 #[unsafe(no_mangle)]
 pub extern "C" fn bf_inverse_128(words: &[Wide], inverses: &mut [Wide])
     requires { length words.now ≡ length inverses.old }
-    ensures { EachIndex inverses.new (λ k. IsInverseOrZero (tower_mul 7) (wide_at words.now k) (wide_at inverses.new k)) }
+    ensures { EachInverse wide_number (tower_mul 7) words.now inverses.new }
 {
     slices::invert::<BinaryField128, Wide>(words, inverses);
 }
@@ -235,7 +234,7 @@ pub extern "C" fn bf_inverse_128(words: &[Wide], inverses: &mut [Wide])
 #[unsafe(no_mangle)]
 pub extern "C" fn bf_square_root_128(words: &[Wide], roots: &mut [Wide])
     requires { length words.now ≡ length roots.old }
-    ensures { EachIndex roots.new (λ k. tower_mul 7 (wide_at roots.new k) (wide_at roots.new k) ≡ wide_at words.now k) }
+    ensures { EachRoot wide_number (tower_mul 7) words.now roots.new }
 {
     slices::square_root::<BinaryField128, Wide>(words, roots);
 }
@@ -245,7 +244,7 @@ pub extern "C" fn bf_square_root_128(words: &[Wide], roots: &mut [Wide])
 pub extern "C" fn bf_multiply_rijndael(left: &[u8], right: &[u8], products: &mut [u8])
     requires left_fits { length left.now ≡ length products.old }
     requires right_fits { length right.now ≡ length products.old }
-    ensures { EachIndex products.new (λ k. slice_index products.new k ≡ mul_mod 8 aes_modulus (slice_index left.now k) (slice_index right.now k)) }
+    ensures { EachProduct itself (mul_mod 8 aes_modulus) left.now right.now products.new }
 {
     slices::multiply::<Rijndael8b, u8>(left, right, products);
 }
@@ -253,7 +252,7 @@ pub extern "C" fn bf_multiply_rijndael(left: &[u8], right: &[u8], products: &mut
 /// Multiplies `product` by each factor in turn, so that each product waits for the one before.
 #[unsafe(no_mangle)]
 pub extern "C" fn bf_chain_rijndael(factors: &[u8], product: &mut u8)
-    ensures { product.new ≡ fold (mul_mod 8 aes_modulus) product.old factors.now }
+    ensures { product.new ≡ chain_product itself (mul_mod 8 aes_modulus) product.old factors.now }
 {
     slices::chain::<Rijndael8b, u8>(factors, product);
 }
@@ -262,16 +261,16 @@ pub extern "C" fn bf_chain_rijndael(factors: &[u8], product: &mut u8)
 #[unsafe(no_mangle)]
 pub extern "C" fn bf_square_rijndael(words: &[u8], squares: &mut [u8])
     requires { length words.now ≡ length squares.old }
-    ensures { EachIndex squares.new (λ k. slice_index squares.new k ≡ mul_mod 8 aes_modulus (slice_index words.now k) (slice_index words.now k)) }
+    ensures { EachSquare itself (mul_mod 8 aes_modulus) words.now squares.new }
 {
     slices::square::<Rijndael8b, u8>(words, squares);
 }
 
-/// Writes the inverse of the element at each index, and 0 where that is 0.
+/// Writes the inverse of the element at each index, and 0 for 0.
 #[unsafe(no_mangle)]
 pub extern "C" fn bf_inverse_rijndael(words: &[u8], inverses: &mut [u8])
     requires { length words.now ≡ length inverses.old }
-    ensures { EachIndex inverses.new (λ k. IsInverseOrZero (mul_mod 8 aes_modulus) (slice_index words.now k) (slice_index inverses.new k)) }
+    ensures { EachInverse itself (mul_mod 8 aes_modulus) words.now inverses.new }
 {
     slices::invert::<Rijndael8b, u8>(words, inverses);
 }
@@ -280,7 +279,7 @@ pub extern "C" fn bf_inverse_rijndael(words: &[u8], inverses: &mut [u8])
 #[unsafe(no_mangle)]
 pub extern "C" fn bf_square_root_rijndael(words: &[u8], roots: &mut [u8])
     requires { length words.now ≡ length roots.old }
-    ensures { EachIndex roots.new (λ k. mul_mod 8 aes_modulus (slice_index roots.new k) (slice_index roots.new k) ≡ slice_index words.now k) }
+    ensures { EachRoot itself (mul_mod 8 aes_modulus) words.now roots.new }
 {
     slices::square_root::<Rijndael8b, u8>(words, roots);
 }
@@ -290,7 +289,7 @@ pub extern "C" fn bf_square_root_rijndael(words: &[u8], roots: &mut [u8])
 pub extern "C" fn bf_multiply_poly64(left: &[u64], right: &[u64], products: &mut [u64])
     requires left_fits { length left.now ≡ length products.old }
     requires right_fits { length right.now ≡ length products.old }
-    ensures { EachIndex products.new (λ k. slice_index products.new k ≡ mul_mod 64 poly64_modulus (slice_index left.now k) (slice_index right.now k)) }
+    ensures { EachProduct itself (mul_mod 64 poly64_modulus) left.now right.now products.new }
 {
     slices::multiply::<Poly64, u64>(left, right, products);
 }
@@ -298,7 +297,7 @@ pub extern "C" fn bf_multiply_poly64(left: &[u64], right: &[u64], products: &mut
 /// Multiplies `product` by each factor in turn, so that each product waits for the one before.
 #[unsafe(no_mangle)]
 pub extern "C" fn bf_chain_poly64(factors: &[u64], product: &mut u64)
-    ensures { product.new ≡ fold (mul_mod 64 poly64_modulus) product.old factors.now }
+    ensures { product.new ≡ chain_product itself (mul_mod 64 poly64_modulus) product.old factors.now }
 {
     slices::chain::<Poly64, u64>(factors, product);
 }
@@ -307,16 +306,16 @@ pub extern "C" fn bf_chain_poly64(factors: &[u64], product: &mut u64)
 #[unsafe(no_mangle)]
 pub extern "C" fn bf_square_poly64(words: &[u64], squares: &mut [u64])
     requires { length words.now ≡ length squares.old }
-    ensures { EachIndex squares.new (λ k. slice_index squares.new k ≡ mul_mod 64 poly64_modulus (slice_index words.now k) (slice_index words.now k)) }
+    ensures { EachSquare itself (mul_mod 64 poly64_modulus) words.now squares.new }
 {
     slices::square::<Poly64, u64>(words, squares);
 }
 
-/// Writes the inverse of the element at each index, and 0 where that is 0.
+/// Writes the inverse of the element at each index, and 0 for 0.
 #[unsafe(no_mangle)]
 pub extern "C" fn bf_inverse_poly64(words: &[u64], inverses: &mut [u64])
     requires { length words.now ≡ length inverses.old }
-    ensures { EachIndex inverses.new (λ k. IsInverseOrZero (mul_mod 64 poly64_modulus) (slice_index words.now k) (slice_index inverses.new k)) }
+    ensures { EachInverse itself (mul_mod 64 poly64_modulus) words.now inverses.new }
 {
     slices::invert::<Poly64, u64>(words, inverses);
 }
@@ -325,7 +324,7 @@ pub extern "C" fn bf_inverse_poly64(words: &[u64], inverses: &mut [u64])
 #[unsafe(no_mangle)]
 pub extern "C" fn bf_square_root_poly64(words: &[u64], roots: &mut [u64])
     requires { length words.now ≡ length roots.old }
-    ensures { EachIndex roots.new (λ k. mul_mod 64 poly64_modulus (slice_index roots.new k) (slice_index roots.new k) ≡ slice_index words.now k) }
+    ensures { EachRoot itself (mul_mod 64 poly64_modulus) words.now roots.new }
 {
     slices::square_root::<Poly64, u64>(words, roots);
 }
@@ -335,7 +334,7 @@ pub extern "C" fn bf_square_root_poly64(words: &[u64], roots: &mut [u64])
 pub extern "C" fn bf_multiply_ghash128(left: &[Wide], right: &[Wide], products: &mut [Wide])
     requires left_fits { length left.now ≡ length products.old }
     requires right_fits { length right.now ≡ length products.old }
-    ensures { EachIndex products.new (λ k. wide_at products.new k ≡ mul_mod 128 ghash_modulus (wide_at left.now k) (wide_at right.now k)) }
+    ensures { EachProduct wide_number (mul_mod 128 ghash_modulus) left.now right.now products.new }
 {
     slices::multiply::<Ghash128, Wide>(left, right, products);
 }
@@ -343,7 +342,7 @@ pub extern "C" fn bf_multiply_ghash128(left: &[Wide], right: &[Wide], products: 
 /// Multiplies `product` by each factor in turn, so that each product waits for the one before.
 #[unsafe(no_mangle)]
 pub extern "C" fn bf_chain_ghash128(factors: &[Wide], product: &mut Wide)
-    ensures { wide_number product.new ≡ fold (λ x factor. mul_mod 128 ghash_modulus x (wide_number factor)) (wide_number product.old) factors.now }
+    ensures { wide_number product.new ≡ chain_product wide_number (mul_mod 128 ghash_modulus) product.old factors.now }
 {
     slices::chain::<Ghash128, Wide>(factors, product);
 }
@@ -352,16 +351,16 @@ pub extern "C" fn bf_chain_ghash128(factors: &[Wide], product: &mut Wide)
 #[unsafe(no_mangle)]
 pub extern "C" fn bf_square_ghash128(words: &[Wide], squares: &mut [Wide])
     requires { length words.now ≡ length squares.old }
-    ensures { EachIndex squares.new (λ k. wide_at squares.new k ≡ mul_mod 128 ghash_modulus (wide_at words.now k) (wide_at words.now k)) }
+    ensures { EachSquare wide_number (mul_mod 128 ghash_modulus) words.now squares.new }
 {
     slices::square::<Ghash128, Wide>(words, squares);
 }
 
-/// Writes the inverse of the element at each index, and 0 where that is 0.
+/// Writes the inverse of the element at each index, and 0 for 0.
 #[unsafe(no_mangle)]
 pub extern "C" fn bf_inverse_ghash128(words: &[Wide], inverses: &mut [Wide])
     requires { length words.now ≡ length inverses.old }
-    ensures { EachIndex inverses.new (λ k. IsInverseOrZero (mul_mod 128 ghash_modulus) (wide_at words.now k) (wide_at inverses.new k)) }
+    ensures { EachInverse wide_number (mul_mod 128 ghash_modulus) words.now inverses.new }
 {
     slices::invert::<Ghash128, Wide>(words, inverses);
 }
@@ -370,7 +369,7 @@ pub extern "C" fn bf_inverse_ghash128(words: &[Wide], inverses: &mut [Wide])
 #[unsafe(no_mangle)]
 pub extern "C" fn bf_square_root_ghash128(words: &[Wide], roots: &mut [Wide])
     requires { length words.now ≡ length roots.old }
-    ensures { EachIndex roots.new (λ k. mul_mod 128 ghash_modulus (wide_at roots.new k) (wide_at roots.new k) ≡ wide_at words.now k) }
+    ensures { EachRoot wide_number (mul_mod 128 ghash_modulus) words.now roots.new }
 {
     slices::square_root::<Ghash128, Wide>(words, roots);
 }
@@ -380,7 +379,7 @@ pub extern "C" fn bf_square_root_ghash128(words: &[Wide], roots: &mut [Wide])
 pub extern "C" fn bf_multiply_poly192(left: &[Cubic], right: &[Cubic], products: &mut [Cubic])
     requires left_fits { length left.now ≡ length products.old }
     requires right_fits { length right.now ≡ length products.old }
-    ensures { EachIndex products.new (λ k. cubic_at products.new k ≡ cubic 64 (mul_mod 64 poly64_modulus) (cubic_at left.now k) (cubic_at right.now k)) }
+    ensures { EachProduct cubic_number (cubic 64 (mul_mod 64 poly64_modulus)) left.now right.now products.new }
 {
     slices::multiply::<Poly192, Cubic>(left, right, products);
 }
@@ -388,7 +387,7 @@ pub extern "C" fn bf_multiply_poly192(left: &[Cubic], right: &[Cubic], products:
 /// Multiplies `product` by each factor in turn, so that each product waits for the one before.
 #[unsafe(no_mangle)]
 pub extern "C" fn bf_chain_poly192(factors: &[Cubic], product: &mut Cubic)
-    ensures { cubic_number product.new ≡ fold (λ x factor. cubic 64 (mul_mod 64 poly64_modulus) x (cubic_number factor)) (cubic_number product.old) factors.now }
+    ensures { cubic_number product.new ≡ chain_product cubic_number (cubic 64 (mul_mod 64 poly64_modulus)) product.old factors.now }
 {
     slices::chain::<Poly192, Cubic>(factors, product);
 }
@@ -397,16 +396,16 @@ pub extern "C" fn bf_chain_poly192(factors: &[Cubic], product: &mut Cubic)
 #[unsafe(no_mangle)]
 pub extern "C" fn bf_square_poly192(words: &[Cubic], squares: &mut [Cubic])
     requires { length words.now ≡ length squares.old }
-    ensures { EachIndex squares.new (λ k. cubic_at squares.new k ≡ cubic 64 (mul_mod 64 poly64_modulus) (cubic_at words.now k) (cubic_at words.now k)) }
+    ensures { EachSquare cubic_number (cubic 64 (mul_mod 64 poly64_modulus)) words.now squares.new }
 {
     slices::square::<Poly192, Cubic>(words, squares);
 }
 
-/// Writes the inverse of the element at each index, and 0 where that is 0.
+/// Writes the inverse of the element at each index, and 0 for 0.
 #[unsafe(no_mangle)]
 pub extern "C" fn bf_inverse_poly192(words: &[Cubic], inverses: &mut [Cubic])
     requires { length words.now ≡ length inverses.old }
-    ensures { EachIndex inverses.new (λ k. IsInverseOrZero (cubic 64 (mul_mod 64 poly64_modulus)) (cubic_at words.now k) (cubic_at inverses.new k)) }
+    ensures { EachInverse cubic_number (cubic 64 (mul_mod 64 poly64_modulus)) words.now inverses.new }
 {
     slices::invert::<Poly192, Cubic>(words, inverses);
 }
@@ -415,7 +414,7 @@ pub extern "C" fn bf_inverse_poly192(words: &[Cubic], inverses: &mut [Cubic])
 #[unsafe(no_mangle)]
 pub extern "C" fn bf_square_root_poly192(words: &[Cubic], roots: &mut [Cubic])
     requires { length words.now ≡ length roots.old }
-    ensures { EachIndex roots.new (λ k. cubic 64 (mul_mod 64 poly64_modulus) (cubic_at roots.new k) (cubic_at roots.new k) ≡ cubic_at words.now k) }
+    ensures { EachRoot cubic_number (cubic 64 (mul_mod 64 poly64_modulus)) words.now roots.new }
 {
     slices::square_root::<Poly192, Cubic>(words, roots);
 }

@@ -1,12 +1,12 @@
-// What some fields have besides: the dot products and the changes of basis of two fields of polynomials, the linear maps of GHASH's,
-// and the matrices of 8 by 8 bits over the byte field of AES.
-ghost use Rattle.std.specs.Prelude.{◌≡◌, length, map, slice_index, EachIndex};
+// The operations of some fields alone: dot products and changes of basis for `Poly64` and `Ghash128`, linear maps for `Ghash128`,
+// and matrices of 8 by 8 bits over the byte field of AES.
+ghost use Rattle.std.specs.Prelude.{◌≡◌, length, map};
 ghost use Rattle.field_base.specs.Basis.{basis_image, ghash_images, poly64_images};
 ghost use Rattle.field_base.specs.LinearMaps.{linear_image};
 ghost use Rattle.field_base.specs.Powers.{dot_of};
 ghost use Rattle.field_base.specs.Remainder.{ghash_modulus, mul_mod, poly64_modulus};
 ghost use Rattle.word_basis.specs.LinearMap.{byte_map_of};
-ghost use Rattle.binary_field_c.specs.Words.{Each, wide_at, wide_number};
+ghost use Rattle.binary_field_c.specs.Words.{itself, wide_number, EachImage, EachPreimage};
 
 use crate::slices;
 use crate::words::Wide;
@@ -20,7 +20,7 @@ use word_basis::{ByteMap, to_polynomial_slice_64, to_tower_slice_64};
 pub extern "C" fn bf_dot_product_poly64(left: &[u64], right: &[u64], product: &mut u64)
     requires left_length { length left.now ≡ 1024 }
     requires right_length { length right.now ≡ 1024 }
-    ensures { product.new ≡ dot_of (mul_mod 64 poly64_modulus) (λ n. n) left.now right.now }
+    ensures { product.new ≡ dot_of (mul_mod 64 poly64_modulus) itself left.now right.now }
 {
     let mut left_elements = [Poly64::ZERO; 1024];
     let mut right_elements = [Poly64::ZERO; 1024];
@@ -34,7 +34,7 @@ pub extern "C" fn bf_dot_product_poly64(left: &[u64], right: &[u64], product: &m
 #[unsafe(no_mangle)]
 pub extern "C" fn bf_from_tower_poly64(words: &[u64], images: &mut [u64])
     requires { length words.now ≡ length images.old }
-    ensures { EachIndex images.new (λ k. slice_index images.new k ≡ basis_image 64 poly64_modulus poly64_images (slice_index words.now k)) }
+    ensures { EachImage itself (basis_image 64 poly64_modulus poly64_images) words.now images.new }
 {
     slices::each(words, images, poly64_of_tower);
 }
@@ -43,7 +43,7 @@ pub extern "C" fn bf_from_tower_poly64(words: &[u64], images: &mut [u64])
 #[unsafe(no_mangle)]
 pub extern "C" fn bf_to_tower_poly64(words: &[u64], elements: &mut [u64])
     requires { length words.now ≡ length elements.old }
-    ensures { EachIndex elements.new (λ k. basis_image 64 poly64_modulus poly64_images (slice_index elements.new k) ≡ slice_index words.now k) }
+    ensures { EachPreimage itself (basis_image 64 poly64_modulus poly64_images) words.now elements.new }
 {
     slices::each(words, elements, tower_of_poly64);
 }
@@ -62,20 +62,6 @@ pub extern "C" fn bf_to_tower_slice_poly64(words: &mut [u64])
     ensures { map (basis_image 64 poly64_modulus poly64_images) words.new ≡ words.old }
 {
     to_tower_slice_64(words);
-}
-
-// The polynomial that is the image of an element of the tower.
-fn poly64_of_tower(bits: u64) -> u64
-    ensures { result ≡ basis_image 64 poly64_modulus poly64_images bits }
-{
-    Poly64::from(BinaryField64::from_repr(bits)).to_bits()
-}
-
-// The element of the tower whose image is a polynomial.
-fn tower_of_poly64(bits: u64) -> u64
-    ensures { basis_image 64 poly64_modulus poly64_images result ≡ bits }
-{
-    BinaryField64::from(Poly64::new(bits)).to_repr()
 }
 
 /// Writes the dot product of two slices of 1,024 elements.
@@ -97,7 +83,7 @@ pub extern "C" fn bf_dot_product_ghash128(left: &[Wide], right: &[Wide], product
 #[unsafe(no_mangle)]
 pub extern "C" fn bf_from_tower_ghash128(words: &[Wide], images: &mut [Wide])
     requires { length words.now ≡ length images.old }
-    ensures { EachIndex images.new (λ k. wide_at images.new k ≡ basis_image 128 ghash_modulus ghash_images (wide_at words.now k)) }
+    ensures { EachImage wide_number (basis_image 128 ghash_modulus ghash_images) words.now images.new }
 {
     slices::each(words, images, ghash_of_tower);
 }
@@ -106,7 +92,7 @@ pub extern "C" fn bf_from_tower_ghash128(words: &[Wide], images: &mut [Wide])
 #[unsafe(no_mangle)]
 pub extern "C" fn bf_to_tower_ghash128(words: &[Wide], elements: &mut [Wide])
     requires { length words.now ≡ length elements.old }
-    ensures { EachIndex elements.new (λ k. basis_image 128 ghash_modulus ghash_images (wide_at elements.new k) ≡ wide_at words.now k) }
+    ensures { EachPreimage wide_number (basis_image 128 ghash_modulus ghash_images) words.now elements.new }
 {
     slices::each(words, elements, tower_of_ghash);
 }
@@ -114,7 +100,7 @@ pub extern "C" fn bf_to_tower_ghash128(words: &[Wide], elements: &mut [Wide])
 /// Replaces each element of the tower by its image, a polynomial.
 #[unsafe(no_mangle)]
 pub extern "C" fn bf_from_tower_slice_ghash128(words: &mut [Wide])
-    ensures { EachIndex words.new (λ k. wide_at words.new k ≡ basis_image 128 ghash_modulus ghash_images (wide_at words.old k)) }
+    ensures { EachImage wide_number (basis_image 128 ghash_modulus ghash_images) words.old words.new }
 {
     slices::each_in_place(words, ghash_of_tower);
 }
@@ -122,7 +108,7 @@ pub extern "C" fn bf_from_tower_slice_ghash128(words: &mut [Wide])
 /// Replaces each polynomial by the element of the tower whose image it is.
 #[unsafe(no_mangle)]
 pub extern "C" fn bf_to_tower_slice_ghash128(words: &mut [Wide])
-    ensures { EachIndex words.new (λ k. basis_image 128 ghash_modulus ghash_images (wide_at words.new k) ≡ wide_at words.old k) }
+    ensures { EachPreimage wide_number (basis_image 128 ghash_modulus ghash_images) words.old words.new }
 {
     slices::each_in_place(words, tower_of_ghash);
 }
@@ -132,16 +118,38 @@ pub extern "C" fn bf_to_tower_slice_ghash128(words: &mut [Wide])
 pub extern "C" fn bf_linear_map_ghash128(images: &[Wide], words: &[Wide], values: &mut [Wide])
     requires images_length { length images.now ≡ 128 }
     requires fits { length words.now ≡ length values.old }
-    ensures { EachIndex values.new (λ k. wide_at values.new k ≡ linear_image (map wide_number images.now) (wide_at words.now k)) }
+    ensures { EachImage wide_number (linear_image (map wide_number images.now)) words.now values.new }
 {
     let map = ByteMap::new(&numbers(images));
     apply(&map, words, values);
 }
 
+/// Replaces each byte by its image under the matrix of eight images, image b that of bit b.
+#[unsafe(no_mangle)]
+pub extern "C" fn bf_apply_matrix(images: &[u8; 8], bytes: &mut [u8])
+    ensures { bytes.new ≡ map (linear_image images.now) bytes.old }
+{
+    ByteMatrix::from_images(*images).apply_slice(bytes);
+}
+
+// The polynomial that is the image of an element of the tower.
+fn poly64_of_tower(bits: u64) -> u64
+    ensures { result ≡ basis_image 64 poly64_modulus poly64_images bits }
+{
+    Poly64::from(BinaryField64::from_repr(bits)).to_bits()
+}
+
+// The element of the tower whose image is a polynomial.
+fn tower_of_poly64(bits: u64) -> u64
+    ensures { basis_image 64 poly64_modulus poly64_images result ≡ bits }
+{
+    BinaryField64::from(Poly64::new(bits)).to_repr()
+}
+
 // Writes the value of a linear map at each word, as `Ghash128::try_apply_linear_map_into` does at each element.
 fn apply(map: &ByteMap, words: &[Wide], values: &mut [Wide])
     requires { length words.now ≡ length values.old }
-    ensures { Each wide_number (λ x y. y ≡ byte_map_of map.now x) words.now values.new }
+    ensures { EachImage wide_number (byte_map_of map.now) words.now values.new }
 {
     for i in 0..values.len() {
         values[i] = Wide::new(map.apply(words[i].number()));
@@ -172,12 +180,4 @@ fn tower_of_ghash(word: Wide) -> Wide
     ensures { basis_image 128 ghash_modulus ghash_images (wide_number result) ≡ wide_number word }
 {
     Wide::new(BinaryField128::from(Ghash128::new(word.number())).to_repr())
-}
-
-/// Replaces each byte by what the matrix of eight images makes of it, image b that of bit b.
-#[unsafe(no_mangle)]
-pub extern "C" fn bf_apply_matrix(images: &[u8; 8], bytes: &mut [u8])
-    ensures { bytes.new ≡ map (linear_image images.now) bytes.old }
-{
-    ByteMatrix::from_images(*images).apply_slice(bytes);
 }

@@ -1,7 +1,7 @@
 // Arithmetic on slices of words, index by index, over any ring or field whose elements words hold.
-ghost use Rattle.std.specs.Prelude.{◌≡◌, ℕ, length, fold};
+ghost use Rattle.std.specs.Prelude.{◌≡◌, length};
 ghost use Rattle.field_base.specs.Field.{IsInverseOrZero};
-ghost use Rattle.binary_field_c.specs.Words.{Each, EachCall, EachHeld, EachProduct};
+ghost use Rattle.binary_field_c.specs.Words.{chain_product, EachCall, EachHeld, EachInverse, EachProduct, EachRoot, EachSquare};
 
 use crate::words::HeldWord;
 use field_base::traits::{Field, PrimeCharacteristicRing, Represented};
@@ -23,7 +23,7 @@ pub fn multiply<R: PrimeCharacteristicRing, W: HeldWord<R>>(
 
 /// Multiplies `product` by each factor in turn, so that each product waits for the one before.
 pub fn chain<R: PrimeCharacteristicRing, W: HeldWord<R>>(factors: &[W], product: &mut W)
-    ensures { W.number product.new ≡ fold (λ x factor. R.product x (W.number factor)) (W.number product.old) factors.now }
+    ensures { W.number product.new ≡ chain_product W.number R.product product.old factors.now }
 {
     let mut value = product.element();
     for factor in factors {
@@ -35,7 +35,7 @@ pub fn chain<R: PrimeCharacteristicRing, W: HeldWord<R>>(factors: &[W], product:
 /// Writes the square of the word at each index.
 pub fn square<R: PrimeCharacteristicRing, W: HeldWord<R>>(words: &[W], squares: &mut [W])
     requires { length words.now ≡ length squares.old }
-    ensures { Each W.number (λ x y. y ≡ R.product x x) words.now squares.new }
+    ensures { EachSquare W.number R.product words.now squares.new }
 {
     for i in 0..squares.len() {
         squares[i] = W::from_element(words[i].element().square());
@@ -73,10 +73,10 @@ pub fn each_in_place<W: Copy, F: Fn(W) -> W>(words: &mut [W], operation: F)
     }
 }
 
-/// Writes the inverse of the word at each index, and 0 where that is 0.
+/// Writes the inverse of the word at each index, and 0 for 0.
 pub fn invert<F: Field, W: HeldWord<F>>(words: &[W], inverses: &mut [W])
     requires { length words.now ≡ length inverses.old }
-    ensures { Each W.number (IsInverseOrZero F.product) words.now inverses.new }
+    ensures { EachInverse W.number F.product words.now inverses.new }
 {
     for i in 0..inverses.len() {
         inverses[i] = W::from_element(inverse_or_zero(words[i].element()));
@@ -86,7 +86,7 @@ pub fn invert<F: Field, W: HeldWord<F>>(words: &[W], inverses: &mut [W])
 /// Writes the square root of the word at each index.
 pub fn square_root<F: Field, W: HeldWord<F>>(words: &[W], roots: &mut [W])
     requires { length words.now ≡ length roots.old }
-    ensures { Each W.number (λ x y. F.product y y ≡ x) words.now roots.new }
+    ensures { EachRoot W.number F.product words.now roots.new }
 {
     for i in 0..roots.len() {
         roots[i] = W::from_element(root_of(words[i].element()));

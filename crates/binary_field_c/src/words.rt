@@ -1,6 +1,6 @@
 // The words in which the elements of rings cross to other languages.
 ghost use Rattle.std.specs.Prelude.{◌≡◌, ℕ};
-ghost use Rattle.binary_field_c.specs.Words.{cubic_number, wide_number};
+ghost use Rattle.binary_field_c.specs.Words.{cubic_number, itself, wide_number};
 
 use field_base::traits::{Represented, TowerLevel};
 use field_element::{
@@ -22,7 +22,7 @@ pub trait HeldWord<R: Represented>: Copy {
 }
 
 impl HeldWord<BinaryField8> for u8 {
-    ghost number = { λ n. n };
+    ghost number = { itself };
 
     fn element(self) -> BinaryField8 {
         BinaryField8::from_repr(self)
@@ -34,7 +34,7 @@ impl HeldWord<BinaryField8> for u8 {
 }
 
 impl HeldWord<Rijndael8b> for u8 {
-    ghost number = { λ n. n };
+    ghost number = { itself };
 
     fn element(self) -> Rijndael8b {
         Rijndael8b::from_repr(self)
@@ -46,7 +46,7 @@ impl HeldWord<Rijndael8b> for u8 {
 }
 
 impl HeldWord<BinaryField16> for u16 {
-    ghost number = { λ n. n };
+    ghost number = { itself };
 
     fn element(self) -> BinaryField16 {
         BinaryField16::from_repr(self)
@@ -58,7 +58,7 @@ impl HeldWord<BinaryField16> for u16 {
 }
 
 impl HeldWord<BinaryField32> for u32 {
-    ghost number = { λ n. n };
+    ghost number = { itself };
 
     fn element(self) -> BinaryField32 {
         BinaryField32::from_repr(self)
@@ -70,7 +70,7 @@ impl HeldWord<BinaryField32> for u32 {
 }
 
 impl HeldWord<BinaryField64> for u64 {
-    ghost number = { λ n. n };
+    ghost number = { itself };
 
     fn element(self) -> BinaryField64 {
         BinaryField64::from_repr(self)
@@ -82,7 +82,7 @@ impl HeldWord<BinaryField64> for u64 {
 }
 
 impl HeldWord<Poly64> for u64 {
-    ghost number = { λ n. n };
+    ghost number = { itself };
 
     fn element(self) -> Poly64 {
         Poly64::new(self)

@@ -13,13 +13,14 @@ use Rattle.word_cubic.specs.Cubic.{triple}
 use Rattle.word_cubic.proofs.CubicRing.{same₃, chunk_below, chunks-triple, first-triple, second-triple, third-triple, triple-chunks, triple-lt}
 use Rattle.calculator.specs.Digits.{low_digits}
 use Rattle.calculator.specs.Elements.{CoefficientsStandInOrder, ElementIsReadBack}
-use Rattle.calculator.specs.Fields.{FieldOf, bytes_of, lowest_first, tower_level, polynomials_modulo, cubic_extension, field_named}
+use Rattle.calculator.specs.Fields.{WrittenField, bytes_of, lowest_first, tower_level, polynomials_modulo, cubic_extension, field_named}
 use Rattle.calculator.proofs.DigitLemmas.{encode_with-bytes, operand_value-hex_text}
-use Rattle.calculator.proofs.NamedFields.{of_named}
+use Rattle.calculator.proofs.NamedFields.{all_named}
 use Rattle.calculator.proofs.NumberLemmas.{bytes-joined}
 
 -- ---- the number that is written and that of the element
 
+-- the text of c0 + c1 y + c2 y² writes the number of c2 + c1 y + c0 y², and the other way round
 lowest_first-triple : (c0 c1 c2 : ℕ) → c0 < 2 ^ 64 → c1 < 2 ^ 64 → c2 < 2 ^ 64
     → lowest_first (triple 64 c0 c1 c2) ≡ triple 64 c2 c1 c0
 lowest_first-triple c0 c1 c2 fits0 fits1 fits2 =
@@ -58,15 +59,19 @@ number-written high middle low c0 c1 c2 fits0 fits1 fits2 first second third =
 
 -- ---- elements are read back
 
-abbrev TurnsBack : FieldOf → Type 0
+-- the change of order keeps numbers within the bits of the field, and undoes itself
+abbrev TurnsBack : WrittenField → Type 0
 TurnsBack field = (x : ℕ) → x < 2 ^ field.bits → (field.order x < 2 ^ field.bits) × (field.order (field.order x) ≡ x)
 
+-- a level of the tower changes nothing, and so turns back
 tower-back : (k : ℕ) → TurnsBack (tower_level k)
 tower-back k x fits = (fits, refl)
 
+-- polynomials modulo one change nothing, and so turn back
 polynomials-back : (bits modulus : ℕ) → TurnsBack (polynomials_modulo bits modulus)
 polynomials-back bits modulus x fits = (fits, refl)
 
+-- three coefficients turned round twice stand as before
 cubic-back : TurnsBack cubic_extension
 cubic-back x fits =
     let below = λ (i : ℕ). chunk_below 64 i x in (
@@ -75,11 +80,13 @@ cubic-back x fits =
           ∙ triple-chunks 64 x ∙ mod-eq_of_lt fits,
     )
 
-named-back : (name : List ℕ) (field : FieldOf) → field_named name ≡ Some field → TurnsBack field
+-- the order of each field that a line may name turns back
+named-back : (name : List ℕ) (field : WrittenField) → field_named name ≡ Some field → TurnsBack field
 named-back =
-    of_named TurnsBack tower-back (polynomials-back 8 aes_modulus) (polynomials-back 64 poly64_modulus)
+    all_named TurnsBack tower-back (polynomials-back 8 aes_modulus) (polynomials-back 64 poly64_modulus)
     (polynomials-back 128 ghash_modulus) cubic-back
 
+-- 256 ^ count = 2 ^ (8 * count)
 bytes-pow : (count : ℕ) → 256 ^ count ≡ 2 ^ (8 * count)
 bytes-pow zero = refl
 bytes-pow (suc count) =
@@ -87,6 +94,7 @@ bytes-pow (suc count) =
     pow-suc 256 count ∙ ap (λ (n : ℕ). n * 256) (bytes-pow count)
     ∙ sym (ap (λ (n : ℕ). 2 ^ n) next ∙ pow-add 2 (8 * count) 8)
 
+-- in each field that a line may name, the text of an element writes that element
 pub element-read_back : ElementIsReadBack
 element-read_back name field is x fits =
     let back = named-back name field is x fits in
@@ -97,11 +105,13 @@ element-read_back name field is x fits =
 
 -- ---- the text of coefficients
 
+-- the digits of bytes that are joined are their digits, joined
 encode_with-append : (table front back : List ℕ) → encode_with table (front ++ back) ≡ encode_with table front ++ encode_with table back
 unfolding encode_with
 encode_with-append table [] back = refl
 encode_with-append table (byte ∷ front) back = rw (encode_with-append table front back) refl
 
+-- the text of an element of the cubic extension is the texts of c0, c1 and c2, in this order
 pub coefficients-in_order : CoefficientsStandInOrder
 unfolding low_digits
 coefficients-in_order c0 c1 c2 fits0 fits1 fits2 =

@@ -29,18 +29,22 @@ module _ (bytes : List ℕ) (k : ℕ) (found : IsFirstByte (is_byte 10) bytes (S
 -- a line feed that is found in the bytes from `start` on ends the line of what came before
 module _ (chunk line rest part : List ℕ) (start len n : ℕ) (same : rest ≡ drop start chunk) (here : part ≡ take n (drop start chunk)) (count : n ≡ len)
     (found : IsFirstByte (is_byte 10) rest (Some len)) (is_line : IsLine line) where
+  -- the part is the bytes before the line feed
   is_part : part ≡ take len rest
   is_part = here ∙ ap (λ k. take k (drop start chunk)) count ∙ ap (take len) (sym same)
 
+  -- what came before and the bytes before the line feed are a line
   pub IsLine-ended : IsLine (line ++ part)
   IsLine-ended = All-append (λ b. b ≢ 10) line part is_line (rw is_part (IsLine-found rest len found))
 
+  -- all bytes are that line, its line feed and what follows
   pub cut_ended : line ++ drop start chunk ≡ (line ++ part) ++ 10 ∷ drop (start + (len + 1)) chunk
   cut_ended =
       ap (λ (t : List ℕ). line ++ t) (sym same ∙ cut_found rest len found)
       ∙ sym (append_assoc line (take len rest) (10 ∷ drop (len + 1) rest))
       ∙ (rw (is_part, ← drop-drop (len + 1) start chunk, ← same) refl)
 
+  -- the line feed stands within the chunk
   pub ended_within : start + (len + 1) ≤ length chunk
   ended_within =
       let inside : len < length rest = found.0.high in

@@ -10,26 +10,32 @@ use Rattle.calculator.specs.Lines.{lines, unlines, IsLine, onto_some, finished, 
 
 -- ---- one byte more in front
 
+-- no bytes have no lines
 lines-nil : lines [] ≡ []
 unfolding lines
 lines-nil = refl
 
+-- a line feed in front is an empty line more
 lines-feed : (b : ℕ) (bs : List ℕ) → b ≡ 10 → lines (b ∷ bs) ≡ [] ∷ lines bs
 unfolding lines
 lines-feed b bs feed = cond-true _ _ _ (eq-eqb b 10 feed)
 
+-- another byte in front belongs to the first line
 lines-other : (b : ℕ) (bs : List ℕ) → b ≢ 10 → lines (b ∷ bs) ≡ onto_first b (lines bs)
 unfolding lines
 lines-other b bs other = cond-false _ _ _ (ne_eqb b 10 other)
 
+-- of no bytes none have ended
 finished-nil : finished [] ≡ []
 unfolding finished
 finished-nil = refl
 
+-- a line feed in front has ended
 finished-feed : (b : ℕ) (bs : List ℕ) → b ≡ 10 → finished (b ∷ bs) ≡ b ∷ finished bs
 unfolding finished
 finished-feed b bs feed = cond-true _ _ _ (eq-eqb b 10 feed)
 
+-- another byte in front has ended if any byte after it has
 finished-other : (b : ℕ) (bs : List ℕ) → b ≢ 10 → finished (b ∷ bs) ≡ onto_some b (finished bs)
 unfolding finished
 finished-other b bs other = cond-false _ _ _ (ne_eqb b 10 other)
@@ -51,6 +57,7 @@ lines-last b (x ∷ xs) is_line =
     lines-other b (x ∷ xs) (All-head (λ b. b ≢ 10) b (x ∷ xs) is_line)
     ∙ ap (onto_first b) (lines-last x xs (All-tail (λ b. b ≢ 10) b (x ∷ xs) is_line))
 
+-- a byte goes in front of bytes that hold a line feed
 onto_some-line : (b : ℕ) (bs cs : List ℕ) → onto_some b (bs ++ 10 ∷ cs) ≡ b ∷ (bs ++ 10 ∷ cs)
 onto_some-line b [] cs = refl
 onto_some-line b (x ∷ xs) cs = refl
@@ -74,9 +81,11 @@ finished-last (b ∷ bs) is_line =
 
 -- ---- some lines in front
 
+-- (line, line feed, us), rest = line, line feed, (us, rest)
 feed_regroup : (line us rest : List ℕ) → ((line ++ 10 ∷ []) ++ us) ++ rest ≡ line ++ 10 ∷ (us ++ rest)
 feed_regroup line us rest = append_assoc (line ++ 10 ∷ []) us rest ∙ append_assoc line (10 ∷ []) (us ++ rest)
 
+-- the lines of lines that end and of a rest are those lines and the lines of the rest
 pub lines-unlines : (ended : List (List ℕ)) (rest : List ℕ) → All IsLine ended
     → lines (unlines ended ++ rest) ≡ ended ++ lines rest
 lines-unlines [] rest each = refl
@@ -85,12 +94,14 @@ lines-unlines (line ∷ ls) rest each =
     ∙ lines-line line (unlines ls ++ rest) (All-head IsLine line ls each)
     ∙ ap (λ (t : List (List ℕ)). line ∷ t) (lines-unlines ls rest (All-tail IsLine line ls each))
 
+-- the answers to lines that end and to a rest are their answers and those to the rest
 pub answers-unlines : (ended : List (List ℕ)) (rest : List ℕ) → All IsLine ended
     → answers (unlines ended ++ rest) ≡ answers_to ended ++ answers rest
 answers-unlines ended rest each =
     ap answers_to (lines-unlines ended rest each)
     ∙ flat_map-append (λ line. answer_of line ++ 10 ∷ []) ended (lines rest)
 
+-- lines that end have ended; of a rest, what has ended in it
 pub finished-unlines : (ended : List (List ℕ)) (rest : List ℕ)
     → finished (unlines ended ++ rest) ≡ unlines ended ++ finished rest
 finished-unlines [] rest = refl
@@ -100,6 +111,7 @@ finished-unlines (line ∷ ls) rest =
     ∙ ap (λ (t : List ℕ). line ++ 10 ∷ t) (finished-unlines ls rest)
     ∙ sym (feed_regroup line (unlines ls) (finished rest))
 
+-- no bytes have no answers
 pub answers-nil : answers [] ≡ []
 answers-nil = ap answers_to lines-nil
 
@@ -108,12 +120,14 @@ pub answers-last : (line : List ℕ) → IsLine line → 0 < length line → ans
 answers-last [] is_line some = absurd (omega arith)
 answers-last (b ∷ bs) is_line some = ap answers_to (lines-last b bs is_line) ∙ append-nil (answer_of (b ∷ bs) ++ 10 ∷ [])
 
+-- an empty last line has no answer
 pub answers-none : (line : List ℕ) → length line ≡ 0 → answers line ≡ []
 answers-none [] none = answers-nil
 answers-none (b ∷ bs) none = absurd (omega arith)
 
 -- ---- the law of lines
 
+-- a byte that is no line feed keeps the first line a line
 IsLine-onto_first : (b : ℕ) (parts : List (List ℕ)) → b ≢ 10 → All IsLine parts → All IsLine (onto_first b parts)
 IsLine-onto_first b [] other each =
     All-cons IsLine (b ∷ []) [] (All-cons (λ b. b ≢ 10) b [] other (All-nil (λ b. b ≢ 10))) (All-nil IsLine)
@@ -122,6 +136,7 @@ IsLine-onto_first b (part ∷ parts) other each =
     (All-cons (λ b. b ≢ 10) b part other (All-head IsLine part parts each))
     (All-tail IsLine part parts each)
 
+-- no line has a line feed
 each_lines : (bytes : List ℕ) → All IsLine (lines bytes)
 each_lines [] = rw lines-nil (All-nil IsLine)
 each_lines (b ∷ bs) =
@@ -130,32 +145,39 @@ each_lines (b ∷ bs) =
     (λ other. rw (lines-other b bs other) (IsLine-onto_first b (lines bs) other (each_lines bs)))
     (cases_eq b 10)
 
+-- a byte in front of the first line stands in front of the joined lines, where they have a byte
 onto_first-some : (b c : ℕ) (bs : List ℕ) (parts : List (List ℕ)) → unlines parts ≡ c ∷ bs
     → unlines (onto_first b parts) ≡ b ∷ unlines parts
 onto_first-some b c bs [] some = absurd (cc)
 onto_first-some b c bs (part ∷ parts) some = refl
 
+-- a last line feed is not doubled
 closed-one_feed : (b : ℕ) → b ≡ 10 → closed (b ∷ []) ≡ b ∷ []
 unfolding closed
 closed-one_feed b feed = cond-true _ _ _ (eq-eqb b 10 feed)
 
+-- another last byte gets a line feed
 closed-one_other : (b : ℕ) → b ≢ 10 → closed (b ∷ []) ≡ b ∷ 10 ∷ []
 unfolding closed
 closed-one_other b other = cond-false _ _ _ (ne_eqb b 10 other)
 
+-- a byte in front of others changes nothing at the end
 closed-more : (b c : ℕ) (bs : List ℕ) → closed (b ∷ c ∷ bs) ≡ b ∷ closed (c ∷ bs)
 unfolding closed
 closed-more b c bs = refl
 
+-- no bytes get no line feed
 closed-nil : closed [] ≡ []
 unfolding closed
 closed-nil = refl
 
+-- closed bytes begin with the same byte
 closed_some : (b : ℕ) (bs : List ℕ) → (cs : List ℕ) × (closed (b ∷ bs) ≡ b ∷ cs)
 closed_some b [] =
     ⊎_elim (λ feed. ([], closed-one_feed b feed)) (λ other. (10 ∷ [], closed-one_other b other)) (cases_eq b 10)
 closed_some b (c ∷ cs) = (closed (c ∷ cs), closed-more b c cs)
 
+-- the lines, each with its line feed, join to the bytes, with a line feed after them where the last line has none
 joined_lines : (bytes : List ℕ) → unlines (lines bytes) ≡ closed bytes
 joined_lines [] = ap unlines lines-nil ∙ sym closed-nil
 joined_lines (b ∷ []) =
@@ -175,15 +197,18 @@ joined_lines (b ∷ c ∷ cs) =
     ∙ ap (λ (t : List ℕ). b ∷ t) later ∙ sym (closed-more b c cs))
     (cases_eq b 10)
 
+-- `lines` are the lines of the bytes
 pub AreLinesOf-lines : (bytes : List ℕ) → AreLinesOf (lines bytes) bytes
 AreLinesOf-lines bytes = record { each = each_lines bytes; joined = joined_lines bytes }
 
 -- ---- the law of what has ended
 
+-- a line feed in front of what ends with a line feed ends with one
 closed-feed : (b : ℕ) (front : List ℕ) → b ≡ 10 → closed front ≡ front → closed (b ∷ front) ≡ b ∷ front
 closed-feed b [] feed whole = closed-one_feed b feed
 closed-feed b (c ∷ cs) feed whole = closed-more b c cs ∙ ap (λ (t : List ℕ). b ∷ t) whole
 
+-- a byte in front that is no line feed belongs to what has ended, or to the rest
 IsFinished-other : (b : ℕ) (front bytes : List ℕ) → b ≢ 10 → IsFinished front bytes → IsFinished (onto_some b front) (b ∷ bytes)
 IsFinished-other b [] bytes other later = record {
   whole = closed-nil;
@@ -198,6 +223,7 @@ IsFinished-other b (c ∷ cs) bytes other later = record {
   is_line = later.is_line;
 }
 
+-- `finished` is what has ended of the bytes
 pub IsFinished-finished : (bytes : List ℕ) → IsFinished (finished bytes) bytes
 IsFinished-finished [] = rw finished-nil
     (record { whole = closed-nil; rest = []; split = refl; is_line = All-nil (λ b. b ≢ 10) })

@@ -2,18 +2,20 @@
 use Rattle.std.proofs.Common.{◌≡◌, ℕ, Bool, true, false, cond, List, [], ◌∷◌, drop, Option, Some, subst}
 use Rattle.std.specs.Str.{bytes_eq}
 use Rattle.field_base.specs.Remainder.{aes_modulus, poly64_modulus, ghash_modulus}
-use Rattle.calculator.specs.Fields.{FieldOf, tower_level, polynomials_modulo, cubic_extension, fields, look_up, field_named}
+use Rattle.calculator.specs.Fields.{WrittenField, tower_level, polynomials_modulo, cubic_extension, fields, look_up, field_named}
 
 -- what holds beside each name of a table holds of what is found there
 abbrev AllBeside : {A : Type 0} → (A → Type 0) → List (List ℕ × A) → Type 0
 AllBeside P [] = Unit
 AllBeside P (row ∷ rows) = P row.1 × AllBeside P rows
 
+-- what holds of the first row and of what is found after it holds of what is found
 found_first : {A : Type 0} (P : A → Type 0) (here : Bool) (a found : A) (later : Option A) → P a → (later ≡ Some found → P found)
     → cond here (Some a) later ≡ Some found → P found
 found_first P true a found later holds more is = let same : a ≡ found = cc in subst P same holds
 found_first P false a found later holds more is = more is
 
+-- what holds beside each name of a table holds of what is found in it
 found-beside : {A : Type 0} (P : A → Type 0) (word : List ℕ) (rows : List (List ℕ × A)) (found : A) → AllBeside P rows
     → look_up word rows ≡ Some found → P found
 found-beside P word [] found all is = absurd (cc)
@@ -21,10 +23,10 @@ found-beside P word ((name, a) ∷ rows) found all is =
     found_first P (bytes_eq word name) a found (look_up word rows) all.0 (found-beside P word rows found all.1) is
 
 -- what holds of the levels of the tower, of the fields of polynomials and of the cubic extension holds of each
-pub of_named : (P : FieldOf → Type 0) → ((k : ℕ) → P (tower_level k)) → P (polynomials_modulo 8 aes_modulus)
+pub all_named : (P : WrittenField → Type 0) → ((k : ℕ) → P (tower_level k)) → P (polynomials_modulo 8 aes_modulus)
     → P (polynomials_modulo 64 poly64_modulus) → P (polynomials_modulo 128 ghash_modulus) → P cubic_extension
-    → (name : List ℕ) (field : FieldOf) → field_named name ≡ Some field → P field
-of_named P towers bytes poly64 ghash cubic name field is =
+    → (name : List ℕ) (field : WrittenField) → field_named name ≡ Some field → P field
+all_named P towers bytes poly64 ghash cubic name field is =
     let polynomials : AllBeside P (drop 8 fields) = (bytes, (poly64, (ghash, (cubic, tt)))) in
     found-beside P name fields field
     (towers 0, (towers 1, (towers 2, (towers 3, (towers 4, (towers 5, (towers 6, (towers 7, polynomials)))))))) is

@@ -9,6 +9,7 @@ use Rattle.std.proofs.lemmas.Nat.{div-mul-add, pow-add, pow_pos}
 
 -- ---- the bytes of numbers side by side
 
+-- byte k of n is n / 256 ^ k % 256, for k = 0 too
 byte_at-place : (k n : ℕ) → byte_at k n ≡ n / 256 ^ k % 256
 byte_at-place zero n = ap (λ (m : ℕ). m % 256) (sym (div-one n))
 byte_at-place (suc k) n = refl
@@ -25,6 +26,7 @@ low_byte more k high low =
     let kept : (above * 256 + low / 256 ^ k) % 256 ≡ low / 256 ^ k % 256 = omega arith in
     byte_at-place k (high * 256 ^ (more + suc k) + low) ∙ ap (λ (m : ℕ). m % 256) part ∙ kept ∙ sym (byte_at-place k low)
 
+-- the lowest bytes do not depend on a part above them
 low_bytes : (more count high low : ℕ) → bytes_high_first count (high * 256 ^ (more + count) + low) ≡ bytes_high_first count low
 low_bytes more zero high low = refl
 low_bytes more (suc count) high low =
@@ -41,6 +43,7 @@ high_byte k count high low fits =
     ∙ ap (λ (m : ℕ). m % 256) (sym (div-div-eq-div-mul (high * 256 ^ count + low) (256 ^ count) (256 ^ k)))
     ∙ ap (λ (m : ℕ). m / 256 ^ k % 256) (div-mul-add high (256 ^ count) low fits) ∙ sym (byte_at-place k high)
 
+-- the bytes of high * 256 ^ count + low are those of high and then those of low
 pub bytes-joined : (more count high low : ℕ) → low < 256 ^ count
     → bytes_high_first (more + count) (high * 256 ^ count + low) ≡ bytes_high_first more high ++ bytes_high_first count low
 bytes-joined zero count high low fits =
@@ -53,41 +56,42 @@ bytes-joined (suc more) count high low fits =
 -- ---- the number of bytes
 
 -- the number that bytes write after the bytes of n, the highest first
-abbrev number_from : ℕ → List ℕ → ℕ
-number_from n bytes = fold (λ n byte. n * 256 + byte) n bytes
+abbrev pub number_from_bytes : ℕ → List ℕ → ℕ
+number_from_bytes n bytes = fold (λ n byte. n * 256 + byte) n bytes
 
-number_from-after : (n : ℕ) (bytes : List ℕ) → number_from n bytes ≡ n * 256 ^ length bytes + number_from 0 bytes
-number_from-after n [] = omega arith
-number_from-after n (byte ∷ rest) =
+-- the number that bytes write after those of n is n * 256 ^ length + their own
+number_from_bytes-after : (n : ℕ) (bytes : List ℕ) → number_from_bytes n bytes ≡ n * 256 ^ length bytes + number_from_bytes 0 bytes
+number_from_bytes-after n [] = omega arith
+number_from_bytes-after n (byte ∷ rest) =
     let unit = 256 ^ length rest in
     let wide : 256 ^ suc (length rest) ≡ 256 * unit = pow-suc 256 (length rest) ∙ mul_comm unit 256 in
-    let first = number_from-after (n * 256 + byte) rest in
-    let zero_first = number_from-after (0 * 256 + byte) rest in
+    let first = number_from_bytes-after (n * 256 + byte) rest in
+    let zero_first = number_from_bytes-after (0 * 256 + byte) rest in
     first ∙ (rw (wide, zero_first) (omega arith))
 
 -- that of bytes which are cut in two
-number_from-cut : (k : ℕ) (bytes : List ℕ)
-    → number_from 0 (take k bytes) * 256 ^ length (drop k bytes) + number_from 0 (drop k bytes) ≡ number_from 0 bytes
-number_from-cut k bytes =
-    sym (number_from-after (number_from 0 (take k bytes)) (drop k bytes))
+number_from_bytes-cut : (k : ℕ) (bytes : List ℕ)
+    → number_from_bytes 0 (take k bytes) * 256 ^ length (drop k bytes) + number_from_bytes 0 (drop k bytes) ≡ number_from_bytes 0 bytes
+number_from_bytes-cut k bytes =
+    sym (number_from_bytes-after (number_from_bytes 0 (take k bytes)) (drop k bytes))
     ∙ sym (fold-append (λ n byte. n * 256 + byte) 0 (take k bytes) (drop k bytes))
-    ∙ ap (number_from 0) (take-append-drop k bytes)
+    ∙ ap (number_from_bytes 0) (take-append-drop k bytes)
 
 -- and at most 24 bytes are cut before the last 16
 pub number-in_two : (high low above : ℕ) (bytes front back : List ℕ) → length bytes ≤ 24 → above ≡ length bytes - 16
-    → front ≡ take above bytes → back ≡ drop above bytes → high ≡ number_from 0 front → low ≡ number_from 0 back
-    → high * 2 ^ 128 + low ≡ number_from 0 bytes
+    → front ≡ take above bytes → back ≡ drop above bytes → high ≡ number_from_bytes 0 front → low ≡ number_from_bytes 0 back
+    → high * 2 ^ 128 + low ≡ number_from_bytes 0 bytes
 number-in_two high low above bytes front back few cut is_front is_back first second =
-    let high_is : high ≡ number_from 0 (take above bytes) = first ∙ ap (number_from 0) is_front in
-    let low_is : low ≡ number_from 0 (drop above bytes) = second ∙ ap (number_from 0) is_back in
+    let high_is : high ≡ number_from_bytes 0 (take above bytes) = first ∙ ap (number_from_bytes 0) is_front in
+    let low_is : low ≡ number_from_bytes 0 (drop above bytes) = second ∙ ap (number_from_bytes 0) is_back in
     let rest : length (drop above bytes) ≡ length bytes - above = length-drop above bytes in
     ⊎_elim (λ short. let none : above ≡ 0 = omega arith in
-    let nothing : high ≡ 0 = high_is ∙ ap (λ (n : ℕ). number_from 0 (take n bytes)) none in
-    let all : low ≡ number_from 0 bytes = low_is ∙ ap (λ (n : ℕ). number_from 0 (drop n bytes)) none in
+    let nothing : high ≡ 0 = high_is ∙ ap (λ (n : ℕ). number_from_bytes 0 (take n bytes)) none in
+    let all : low ≡ number_from_bytes 0 bytes = low_is ∙ ap (λ (n : ℕ). number_from_bytes 0 (drop n bytes)) none in
     omega (arith, nothing, all))
     (λ long. let last : length (drop above bytes) ≡ 16 = omega (arith, rest) in
     let place : 256 ^ length (drop above bytes) ≡ 2 ^ 128 = ap (λ (n : ℕ). 256 ^ n) last in
-    ap₂ (λ (x y : ℕ). x + y) (ap₂ (λ (x y : ℕ). x * y) high_is (sym place)) low_is ∙ number_from-cut above bytes)
+    ap₂ (λ (x y : ℕ). x + y) (ap₂ (λ (x y : ℕ). x * y) high_is (sym place)) low_is ∙ number_from_bytes-cut above bytes)
     (cases_lt (length bytes) 17)
 
 -- the number of at most 8 bytes fits a word of 64 bits
@@ -111,6 +115,7 @@ shifted-test n place =
     same_test (n / 2 ^ place) 2 n (2 ^ suc place) (λ below. subst (λ (m : ℕ). n < m) wide (decides.0 below))
     (λ below. decides.1 (subst (λ (m : ℕ). n < m) (sym wide) below))
 
+-- the test of a number whose high word is 0
 pub fits_low : (high low bits : ℕ) → high ≡ 0 → 0 < bits
     → nat_lt (low / 2 ^ (bits - 1)) 2 ≡ nat_lt (high * 2 ^ 128 + low) (2 ^ bits)
 fits_low high low bits nothing some =
@@ -118,12 +123,14 @@ fits_low high low bits nothing some =
     let next : suc (bits - 1) ≡ bits = omega arith in
     shifted-test low (bits - 1) ∙ ap₂ (λ (n k : ℕ). nat_lt n (2 ^ k)) whole next
 
+-- a number whose high word is not 0 has more than 128 bits
 pub fits_not : (high low bits : ℕ) → high ≢ 0 → bits ≤ 128 → nat_eq high 0 ≡ nat_lt (high * 2 ^ 128 + low) (2 ^ bits)
 fits_not high low bits some few =
     let narrow : 2 ^ bits ≤ 2 ^ 128 = pow-le-pow_right {n = 2} (lit< tt) {i = bits} {j = 128} few in
     let one : 1 ≤ high = ⊎_elim (λ below. absurd (some (omega arith))) (λ above. above) (cases_lt high 1) in
     ne_eqb high 0 some ∙ sym (le-ltb (high * 2 ^ 128 + low) (2 ^ bits) (omega (arith, narrow, one)))
 
+-- the test of more than 128 bits looks at the high word alone
 pub fits_high : (high low bits : ℕ) → low < 2 ^ 128 → 128 < bits
     → nat_lt (high / 2 ^ (bits - 129)) 2 ≡ nat_lt (high * 2 ^ 128 + low) (2 ^ bits)
 fits_high high low bits fits more =

@@ -20,6 +20,7 @@ take-drop i j xs le =
 
 -- ---- what a writer takes
 
+-- a writer that takes nothing leaves all
 pub Takes-none : (a : Option (List ℕ)) (all : List ℕ) → Takes a a all all
 Takes-none a all = record { taken = []; appended = Appends-nil a; split = refl }
 
@@ -47,9 +48,11 @@ Takes-take {a} {b} {c} {all} {left} n first more = record {
 pub Takes-all : (a b : Option (List ℕ)) (all : List ℕ) → Takes a b all [] → Appends a b all
 Takes-all a b all takes = rw (takes.split, append-nil) takes.appended
 
+-- a writer that gains all leaves nothing
 pub Takes-whole : (a b : Option (List ℕ)) (all : List ℕ) → Appends a b all → Takes a b all []
 Takes-whole a b all appended = record { taken = all; appended = appended; split = sym (append-nil all) }
 
+-- the writer takes a front of all, then a front of what was left
 pub Takes-front : {a b c : Option (List ℕ)} {all left last : List ℕ}
     → Takes a b all left → Takes b c left last → Takes a c all last
 Takes-front {a} {b} {c} {all} {left} {last} first second =
@@ -61,15 +64,18 @@ pub Takes-rest : {a b : Option (List ℕ)} {all left : List ℕ} (c : Option (Li
 Takes-rest {a} {b} {all} {left} c more first rest =
     Takes-all a c (all ++ more) (Takes-trans more first (Takes-whole b c (left ++ more) rest))
 
+-- the writer takes a front of all, then what was left
 pub Takes-left : {a b : Option (List ℕ)} {all left : List ℕ} (c : Option (List ℕ))
     → Takes a b all left → Appends b c left → Appends a c all
 Takes-left {a} {b} {all} {left} c first rest =
     Takes-all a c all (Takes-front first (Takes-whole b c left rest))
 
+-- the writer takes a front of all, then a front of what was left and of more behind it
 pub GainsFront-rest : {a b c : Option (List ℕ)} {all left : List ℕ} (more : List ℕ)
     → Takes a b all left → GainsFront b c (left ++ more) → GainsFront a c (all ++ more)
 GainsFront-rest more first rest = (rest.0, Takes-trans more first rest.1)
 
+-- the writer takes a front of all, then a front of what was left
 pub GainsFront-left : {a b c : Option (List ℕ)} {all left : List ℕ}
     → Takes a b all left → GainsFront b c left → GainsFront a c all
 GainsFront-left first rest = (rest.0, Takes-front first rest.1)
@@ -86,11 +92,13 @@ GainsFront-more {a} {b} {all} more front = (
   },
 )
 
+-- a writer that gains nothing gains an empty front
 pub GainsFront-none : (a : Option (List ℕ)) (all : List ℕ) → GainsFront a a all
 GainsFront-none a all = (all, Takes-none a all)
 
 -- ---- the lines that were answered
 
+-- where nothing was done, no line was answered
 pub AnswersLines-none : (a : Option (List ℕ)) (waiting bytes : List ℕ) → AnswersLines a a waiting waiting bytes bytes
 AnswersLines-none a waiting bytes = record {
   ended = [];
@@ -99,6 +107,7 @@ AnswersLines-none a waiting bytes = record {
   takes = rw append-nil (Takes-none a waiting);
 }
 
+-- lines that were answered, and then the next lines of what was left
 pub AnswersLines-trans : {a b c : Option (List ℕ)} {waiting left last bytes middle rest : List ℕ}
     → AnswersLines a b waiting left bytes middle → AnswersLines b c left last middle rest → AnswersLines a c waiting last bytes rest
 AnswersLines-trans {a} {b} {c} {waiting} {left} {last} {bytes} {middle} {rest} first second = record {
@@ -127,6 +136,7 @@ AnswersLines-more {a} {b} {waiting} {left} {bytes} {rest} more fed = record {
   takes = fed.takes;
 }
 
+-- lines that were answered, and then those that end in the next chunk
 pub AnswersLines-next : {a b c : Option (List ℕ)} {waiting left last bytes line rest : List ℕ} (chunk : List ℕ)
     → AnswersLines a b waiting left bytes line → AnswersLines b c left last (line ++ chunk) rest
     → AnswersLines a c waiting last (bytes ++ chunk) rest
@@ -151,6 +161,7 @@ AnswersLines-front {a} {b} {left} {bytes} {rest} fed =
     rw (fed.cut, finished-unlines fed.ended rest, answers-unlines fed.ended (finished rest) fed.each)
     (GainsFront-more (answers (finished rest)) (left, fed.takes))
 
+-- the answers to the bytes are those to the lines that ended and those to the rest
 answers-cut : {a b : Option (List ℕ)} {left bytes rest : List ℕ} (fed : AnswersLines a b [] left bytes rest)
     → answers bytes ≡ answers_to fed.ended ++ answers rest
 answers-cut {a} {b} {left} {bytes} {rest} fed = ap answers fed.cut ∙ answers-unlines fed.ended rest fed.each
@@ -171,9 +182,11 @@ AnswersLines-last {a} {b} {c} {left} {bytes} {line} fed rest =
 
 module _ (r0 r1 : Option (List ℕ)) {w0 w1 : Option (List ℕ)} (read line left : List ℕ)
     (consumed : Consumes r0 r1 read) (answered : AnswersLines w0 w1 [] left read line) where
+  -- a read of nothing leaves what was read as it is
   consumed_all : (r2 : Option (List ℕ)) → Consumes r1 r2 [] → Consumes r0 r2 read
   consumed_all r2 none = rw append-nil at (Consumes-trans r0 r1 r2 read [] consumed none)
 
+  -- the reader has ended, and the writer took what was left and the answer to the last line
   AnswersAll-end : (r2 w2 : Option (List ℕ)) → Consumes r1 r2 [] → IsAtEnd r2
       → Appends w1 w2 (left ++ answers line) → AnswersAll r0 r2 w0 w2
   AnswersAll-end r2 w2 none at_end appended = record {
@@ -183,6 +196,7 @@ module _ (r0 r1 : Option (List ℕ)) {w0 w1 : Option (List ℕ)} (read line left
     appended = AnswersLines-all w2 answered appended;
   }
 
+  -- the reader has ended, and the writer gained a front of that
   AnswersFront-end : (r2 w2 : Option (List ℕ)) → Consumes r1 r2 [] → IsAtEnd r2
       → GainsFront w1 w2 (left ++ answers line) → AnswersFront r0 r2 w0 w2
   AnswersFront-end r2 w2 none at_end front = record {
@@ -203,6 +217,7 @@ module _ (r0 r1 : Option (List ℕ)) {w0 w1 : Option (List ℕ)} (read line left
         on_err_weaker result (λ front. AnswersFront-end r2 w2 none at_end (rw same at front)) err,
       )
 
+  -- of the next chunk the writer gained a front of the answers to the lines that end
   pub AnswersFront-next : (r2 : Option (List ℕ)) {w2 : Option (List ℕ)} {last rest : List ℕ} (chunk : List ℕ) → Consumes r1 r2 chunk
       → AnswersLines w1 w2 left last (line ++ chunk) rest → AnswersFront r0 r2 w0 w2
   AnswersFront-next r2 chunk more fed = record {
@@ -211,10 +226,12 @@ module _ (r0 r1 : Option (List ℕ)) {w0 w1 : Option (List ℕ)} (read line left
     front = inl (AnswersLines-front (AnswersLines-next chunk answered fed));
   }
 
+  -- a chunk with a byte makes what was read have one
   pub GaveSome-next : (r2 : Option (List ℕ)) (chunk : List ℕ) → Consumes r1 r2 chunk → 0 < length chunk → GaveSome r0 r2
   GaveSome-next r2 chunk more some =
       (read ++ chunk, Consumes-trans r0 r1 r2 read chunk consumed more, omega (arith, length-append read chunk))
 
+  -- a read that failed changes nothing: the lines that ended were answered
   pub AnswersFront-kept : (r2 : Option (List ℕ)) → Keeps r1 r2 → AnswersFront r0 r2 w0 w1
   AnswersFront-kept r2 kept = record {
     read = read;

@@ -9,6 +9,7 @@ use Rattle.std.proofs.lemmas.List.Splits.{slice_split-cons_yes, slice_split_firs
 use Rattle.std.proofs.lemmas.List.Elements.{filter-append}
 use Rattle.calculator.specs.Words.{is_space, has_bytes, words}
 
+-- no bytes have no words
 pub words-nil : words [] ≡ []
 unfolding words
 words-nil = refl
@@ -20,6 +21,7 @@ words-space byte rest space = ap (filter has_bytes) (slice_split-cons_yes is_spa
 
 -- ---- the spaces before the first word
 
+-- a space in front is passed, and another byte is not
 past_one : (b : Bool) (byte : ℕ) (rest : List ℕ) (n : ℕ) → is_space byte ≡ b → words (drop n rest) ≡ words rest
     → words (drop (cond (not (not b)) (1 + n) 0) (byte ∷ rest)) ≡ words (byte ∷ rest)
 past_one false byte rest n other known = refl
@@ -27,6 +29,7 @@ past_one true byte rest n space known =
     let one_more : 1 + n ≡ suc n = omega arith in
     ap (λ (k : ℕ). words (drop k (byte ∷ rest))) one_more ∙ known ∙ sym (words-space byte rest space)
 
+-- the words of a line are those from its first byte that is no space
 pub words-past_spaces : (line : List ℕ)
     → words (drop (position_or_len (λ byte. not (is_space byte)) line) line) ≡ words line
 words-past_spaces [] = refl
@@ -35,10 +38,12 @@ words-past_spaces (byte ∷ rest) =
 
 -- ---- the first word
 
+-- a list that is not empty has bytes
 has_bytes-yes : (word : List ℕ) → 0 < length word → has_bytes word ≡ true
 has_bytes-yes [] long = absurd (omega arith)
 has_bytes-yes (byte ∷ rest) long = refl
 
+-- a part that has bytes is kept as a word
 filter-yes : (word : List ℕ) (rest : List (List ℕ)) → 0 < length word
     → filter has_bytes (word ∷ rest) ≡ word ∷ filter has_bytes rest
 filter-yes word rest long =
@@ -64,12 +69,14 @@ words-last line long last =
 
 -- ---- the places that the code looks for
 
+-- where no item is found, the place is past the end
 place-None : {A : Type 0} (p : A → Bool) (xs : List A) → position p xs ≡ None → length xs ≤ position_or_len p xs
 place-None p xs none =
     ⊎_elim (λ below. let found = lt-ltb (position_or_len p xs) (length xs) below in
     let both = sym (ap (λ (b : Bool). cond b (Some (position_or_len p xs)) None) found) ∙ none in absurd (cc))
     (λ past. past) (cases_lt (position_or_len p xs) (length xs))
 
+-- where an item is found, the place is its index, within the list
 place-Some : {A : Type 0} (p : A → Bool) (xs : List A) (i : ℕ) → position p xs ≡ Some i → (position_or_len p xs ≡ i) × (i < length xs)
 place-Some p xs i some =
     ⊎_elim (λ below. let found = lt-ltb (position_or_len p xs) (length xs) below in
@@ -79,6 +86,7 @@ place-Some p xs i some =
     let both = sym (ap (λ (b : Bool). cond b (Some (position_or_len p xs)) None) lost) ∙ some in absurd (cc))
     (cases_lt (position_or_len p xs) (length xs))
 
+-- a line that begins with no space begins with a word of one byte at least
 word_long : (line : List ℕ) → 0 < length line → is_space (get_or line 0 0) ≡ false → 0 < position_or_len is_space line
 word_long [] long other = absurd (omega arith)
 word_long (byte ∷ rest) long other =
@@ -101,10 +109,12 @@ first_word line end long other ends =
 
 -- ---- the calls of `next_word`
 
+-- a line in which every byte is a space has no word
 pub words_none : (line : List ℕ) → position (λ byte. not (is_space byte)) line ≡ None → words line ≡ []
 words_none line none =
     sym (words-past_spaces line) ∙ ap words (drop_all _ line (place-None (λ byte. not (is_space byte)) line none)) ∙ words-nil
 
+-- the word from the first byte that is no space to the next space is the first word; the others follow it
 pub words_some : (line begun : List ℕ) (start end : ℕ) (found : Option ℕ) → begun ≡ drop start line
     → Some start ≡ position (λ byte. not (is_space byte)) line → found ≡ position is_space begun
     → end ≡ unwrap_or found (length begun)
@@ -124,17 +134,20 @@ words_some line begun start end found from starts finds ends =
 
 -- ---- the laws of words
 
+-- bytes with no space among them are one word
 pub words-run : (run : List ℕ) → 0 < length run → All (λ byte. byte ≢ 32) run → words run ≡ run ∷ []
 unfolding words
 words-run run long other =
     ap (filter has_bytes) (slice_split_none is_space run (λ k d below. ne_eqb (get_or run k d) 32 (other k d below)))
     ∙ filter-yes run [] long
 
+-- a byte in front of the first of some parts is in front of the first of all
 onto_first-append : (byte : ℕ) (parts rest : List (List ℕ)) → 0 < length parts
     → onto_first byte (parts ++ rest) ≡ onto_first byte parts ++ rest
 onto_first-append byte [] rest some = absurd (omega arith)
 onto_first-append byte (part ∷ parts) rest some = refl
 
+-- one byte more in front of two lists of parts: a space begins an empty part, and another byte joins the first
 split_one : (b : Bool) (byte : ℕ) (before after : List ℕ)
     → slice_split is_space (before ++ (32 ∷ after)) ≡ slice_split is_space before ++ slice_split is_space after
     → cond b ([] ∷ slice_split is_space (before ++ (32 ∷ after))) (onto_first byte (slice_split is_space (before ++ (32 ∷ after))))
@@ -145,11 +158,13 @@ split_one false byte before after known =
     ∙ onto_first-append byte (slice_split is_space before) (slice_split is_space after)
     (omega (arith, length-slice_split is_space before))
 
+-- the parts of what stands before a space and after it are the parts of both
 slice_split-space : (before after : List ℕ)
     → slice_split is_space (before ++ (32 ∷ after)) ≡ slice_split is_space before ++ slice_split is_space after
 slice_split-space [] after = refl
 slice_split-space (byte ∷ before) after = split_one (is_space byte) byte before after (slice_split-space before after)
 
+-- what stands before a space and what stands after it have their words apart
 pub words-space_between : (before after : List ℕ) → words (before ++ (32 ∷ after)) ≡ words before ++ words after
 unfolding words
 words-space_between before after =

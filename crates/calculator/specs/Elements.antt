@@ -3,16 +3,16 @@ use Rattle.std.specs.Prelude.{◌≡◌, ℕ, ◌^◌, ◌<◌, List, ◌++◌, 
 use Rattle.std.specs.Option.{option_map}
 use Rattle.word_cubic.specs.Cubic.{triple}
 use Rattle.calculator.specs.Digits.{hex_text, operand_value}
-use Rattle.calculator.specs.Fields.{FieldOf, bytes_of, cubic_extension, field_named}
+use Rattle.calculator.specs.Fields.{WrittenField, bytes_of, cubic_extension, field_named}
 
 -- the text of the element of a number
-abbrev pub element_text : FieldOf → ℕ → List ℕ
+abbrev pub element_text : WrittenField → ℕ → List ℕ
 element_text field x = hex_text (bytes_of field) (field.order x)
 
 -- in every field that a word names the text of an element is an operand, which writes this element
 abbrev pub ElementIsReadBack : Type 0
 ElementIsReadBack =
-    (name : List ℕ) (field : FieldOf) → field_named name ≡ Some field → (x : ℕ) → x < 2 ^ field.bits
+    (name : List ℕ) (field : WrittenField) → field_named name ≡ Some field → (x : ℕ) → x < 2 ^ field.bits
     → option_map field.order (operand_value (bytes_of field) (element_text field x)) ≡ Some x
 
 -- the text of an element of the cubic extension is the texts of its coefficients, the lowest first

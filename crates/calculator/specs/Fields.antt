@@ -8,17 +8,17 @@ use Rattle.word_cubic.specs.Cubic.{cubic, triple}
 
 -- a field: how many bits an element has, the product of elements, and the change of order that takes the number which a text
 -- writes to the number of the element, and back
-pub record FieldOf : Type 0 where
+pub record WrittenField : Type 0 where
   pub bits : ℕ
   pub times : ℕ → ℕ → ℕ
   pub order : ℕ → ℕ
 
 -- the field of so many bits with the product `times` and this change of order
-abbrev pub field_of : ℕ → (ℕ → ℕ → ℕ) → (ℕ → ℕ) → FieldOf
-field_of bits times order = record { bits = bits; times = times; order = order }
+abbrev pub written_field : ℕ → (ℕ → ℕ → ℕ) → (ℕ → ℕ) → WrittenField
+written_field bits times order = record { bits = bits; times = times; order = order }
 
 -- how many bytes the bits of an element fill: its text has two digits for each
-abbrev pub bytes_of : FieldOf → ℕ
+abbrev pub bytes_of : WrittenField → ℕ
 bytes_of field = (field.bits + 7) / 8
 
 -- a text that has no parts writes the number of the element
@@ -31,19 +31,19 @@ abbrev pub lowest_first : ℕ → ℕ
 lowest_first n = triple 64 (chunk 64 2 n) (chunk 64 1 n) (chunk 64 0 n)
 
 -- level k of the tower of fields, whose elements have 2 ^ k bits
-abbrev pub tower_level : ℕ → FieldOf
-tower_level k = field_of (2 ^ k) (tower_mul k) undivided
+abbrev pub tower_level : ℕ → WrittenField
+tower_level k = written_field (2 ^ k) (tower_mul k) undivided
 
 -- the polynomials modulo one whose degree is `bits`, where the coefficient of x^i is bit i
-abbrev pub polynomials_modulo : ℕ → ℕ → FieldOf
-polynomials_modulo bits modulus = field_of bits (mul_mod bits modulus) undivided
+abbrev pub polynomials_modulo : ℕ → ℕ → WrittenField
+polynomials_modulo bits modulus = written_field bits (mul_mod bits modulus) undivided
 
 -- the extension of the polynomials modulo x^64 + x^4 + x^3 + x + 1 by a root y of y³ + y + 1
-abbrev pub cubic_extension : FieldOf
-cubic_extension = field_of 192 (cubic 64 (mul_mod 64 poly64_modulus)) lowest_first
+abbrev pub cubic_extension : WrittenField
+cubic_extension = written_field 192 (cubic 64 (mul_mod 64 poly64_modulus)) lowest_first
 
 -- the fields by their names
-abbrev pub fields : List (List ℕ × FieldOf)
+abbrev pub fields : List (List ℕ × WrittenField)
 fields =
     (codes "gf2", tower_level 0)
     ∷ (codes "t2", tower_level 1)
@@ -65,5 +65,5 @@ look_up word [] = None
 look_up word ((name, found) ∷ rest) = if bytes_eq word name then Some found else look_up word rest
 
 -- the field that a word names
-abbrev pub field_named : List ℕ → Option FieldOf
+abbrev pub field_named : List ℕ → Option WrittenField
 field_named word = look_up word fields

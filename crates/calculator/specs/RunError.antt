@@ -9,14 +9,14 @@ fault_line Read = codes "binfield: cannot read\n"
 fault_line Write = codes "binfield: cannot write\n"
 fault_line Memory = codes "binfield: out of memory\n"
 
--- whether the reader and the writer have failed, by what a run answers
+-- whether the reader and the writer have failed, by what a run returns
 abbrev pub FailedEnds : {T : Type 0} → Result T RunError → Bool → Bool → Type 0
 FailedEnds (Ok _) reader writer = (reader ≡ false) × (writer ≡ false)
 FailedEnds (Err Read) reader writer = (reader ≡ true) × (writer ≡ false)
 FailedEnds (Err Write) reader writer = (reader ≡ false) × (writer ≡ true)
 FailedEnds (Err Memory) reader writer = (reader ≡ false) × (writer ≡ false)
 
--- whether the writer has failed, by what a call answers whose only fault is the writer's
+-- whether the writer has failed, by what a call returns that can fail only at the writer
 abbrev pub FailedWriter : {T : Type 0} → Result T RunError → Bool → Type 0
 FailedWriter (Ok _) writer = writer ≡ false
 FailedWriter (Err Write) writer = writer ≡ true

@@ -21,7 +21,7 @@ error_number Digits = 4
 error_number Range = 5
 error_number Encoding = 6
 
--- what a line is answered with
+-- the text of an answer or of a fault
 abbrev pub text_of : Result Answer Fault → List ℕ
 text_of (Ok answer) = answer_bytes answer
 text_of (Err fault) = error_text (error_number fault)

@@ -1,9 +1,8 @@
 // Operations on the elements of a field that operands write.
 ghost use Rattle.std.specs.Prelude.{◌≡◌, ◌≤◌};
 ghost use Rattle.std.specs.Option.{option_map};
-ghost use Rattle.calculator.specs.Answer.{of_rest, of_operands, of_two, of_one};
-ghost use Rattle.calculator.specs.Digits.{operand_value};
-ghost use Rattle.calculator.specs.Fields.{field_of, bytes_of};
+ghost use Rattle.calculator.specs.Answer.{answer_to_rest, answer_to_operands, answer_to_two, answer_to_one, operand_number};
+ghost use Rattle.calculator.specs.Fields.{written_field, bytes_of};
 ghost use Rattle.calculator.specs.Operations.{binary_result, unary_result};
 ghost use Rattle.calculator.specs.Text.{text_of};
 ghost use Rattle.calculator.specs.Words.{words};
@@ -16,17 +15,17 @@ use crate::words::next_word;
 use field_base::traits::Field;
 
 /// The answer to what follows the name of the field: the name of an operation, and operands.
-pub(crate) fn answer_in<F: Written>(rest: &[u8]) -> Result<Answer, Fault>
-    ensures { text_of result ≡ of_rest (field_of F.width F.product F.order) (words rest.now) }
+pub(crate) fn answer_to_rest<F: Written>(rest: &[u8]) -> Result<Answer, Fault>
+    ensures { text_of result ≡ answer_to_rest (written_field F.width F.product F.order) (words rest.now) }
 {
     let (name, operands) = next_word(rest).ok_or(Fault::Operation)?;
     let operation = operation_named(name).ok_or(Fault::Operation)?;
-    of_operands::<F>(operation, operands)
+    answer_to_operands::<F>(operation, operands)
 }
 
-// The answer by the operation and what follows it.
-fn of_operands<F: Written>(operation: Operation, operands: &[u8]) -> Result<Answer, Fault>
-    ensures { text_of result ≡ of_operands (field_of F.width F.product F.order) operation (words operands.now) }
+// The answer by the operation and the operands that follow it.
+fn answer_to_operands<F: Written>(operation: Operation, operands: &[u8]) -> Result<Answer, Fault>
+    ensures { text_of result ≡ answer_to_operands (written_field F.width F.product F.order) operation (words operands.now) }
 {
     let (first, rest) = next_word(operands).ok_or(Fault::Operands)?;
     match operation {
@@ -35,21 +34,21 @@ fn of_operands<F: Written>(operation: Operation, operands: &[u8]) -> Result<Answ
             if next_word(rest).is_some() {
                 return Err(Fault::Operands);
             }
-            of_two::<F>(binary, first, second)
+            answer_to_two::<F>(binary, first, second)
         }
         Operation::OfOne(unary) => {
             if next_word(rest).is_some() {
                 return Err(Fault::Operands);
             }
-            of_one::<F>(unary, first)
+            answer_to_one::<F>(unary, first)
         }
     }
 }
 
 // The answer to two operands.
-fn of_two<F: Written>(operation: Binary, left: &[u8], right: &[u8]) -> Result<Answer, Fault>
-    ensures { let known = field_of F.width F.product F.order in
-        text_of result ≡ of_two known operation (operand_value (bytes_of known) left.now) (operand_value (bytes_of known) right.now) }
+fn answer_to_two<F: Written>(operation: Binary, left: &[u8], right: &[u8]) -> Result<Answer, Fault>
+    ensures { let known = written_field F.width F.product F.order in
+        text_of result ≡ answer_to_two known operation (operand_number known left.now) (operand_number known right.now) }
 {
     let num_bytes = num_bytes::<F>();
     let left = operand_value(left, num_bytes).ok_or(Fault::Digits)?;
@@ -62,9 +61,9 @@ fn of_two<F: Written>(operation: Binary, left: &[u8], right: &[u8]) -> Result<An
 }
 
 // The answer to one operand.
-fn of_one<F: Written>(operation: Unary, operand: &[u8]) -> Result<Answer, Fault>
-    ensures { let known = field_of F.width F.product F.order in
-        text_of result ≡ of_one known operation (operand_value (bytes_of known) operand.now) }
+fn answer_to_one<F: Written>(operation: Unary, operand: &[u8]) -> Result<Answer, Fault>
+    ensures { let known = written_field F.width F.product F.order in
+        text_of result ≡ answer_to_one known operation (operand_number known operand.now) }
 {
     let num_bytes = num_bytes::<F>();
     let operand = operand_value(operand, num_bytes).ok_or(Fault::Digits)?;
@@ -77,15 +76,15 @@ fn of_one<F: Written>(operation: Unary, operand: &[u8]) -> Result<Answer, Fault>
     })
 }
 
-// The bytes of an element's text, which has two digits for each.
+// How many bytes an element has; its text has two digits for each.
 fn num_bytes<F: Written>() -> usize
-    ensures known { result ≡ bytes_of (field_of F.width F.product F.order) }
+    ensures known { result ≡ bytes_of (written_field F.width F.product F.order) }
     ensures few { result ≤ 24 }
 {
     F::bits().div_ceil(8)
 }
 
-// What an operation gives at two elements.
+// The result of an operation at two elements.
 fn binary_result<F: Field>(operation: Binary, left: F, right: F) -> F
     ensures { F.repr result ≡ binary_result F.product operation (F.repr left) (F.repr right) }
 {
@@ -95,7 +94,7 @@ fn binary_result<F: Field>(operation: Binary, left: F, right: F) -> F
     }
 }
 
-// What an operation gives at one element; None for the inverse of 0.
+// The result of an operation at one element; None for the inverse of 0.
 fn unary_result<F: Field>(operation: Unary, operand: F) -> Option<F>
     ensures { option_map F.repr result ≡ unary_result F.width F.product operation (F.repr operand) }
 {

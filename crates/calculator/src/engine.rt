@@ -21,13 +21,13 @@ const CHUNK: usize = 8192;
 
 /// Reads `reader` to its end, and writes the answer to each line and a line feed to `writer`.
 ///
-/// A line ends with a line feed; a last line without one counts if it has a byte. Memory is taken
-/// only for a line that goes past what one read gave. At the end the writer is flushed.
+/// A line ends with a line feed; a last line without one counts if it has a byte. Memory is
+/// allocated only for a line that continues past one read. At the end the writer is flushed.
 ///
-/// `Read` and `Write` come only where that end has failed, and `Memory` only where a growth was
-/// refused for a line of which a byte was read. No failure is tried again. After one, what was
-/// written is a beginning of the answers to the lines that were read; a line is read with its line
-/// feed or the end of the input.
+/// It returns `Read` or `Write` only if that end has failed, and `Memory` only if an allocation
+/// failed after at least one byte was read. No failed call is repeated. After a failure, what was
+/// written is a beginning of the answers to the lines that were read; a line counts as read once
+/// its line feed or the end of the input was.
 pub fn run<A: Allocator, R: Read, W: Write>(
     alloc: A,
     reader: &mut Watched<R>,
@@ -56,6 +56,15 @@ pub fn run<A: Allocator, R: Read, W: Write>(
         }
     }
 }
+
+/// States what a line is: no line has a line feed, and the lines of any bytes, each with its line feed,
+/// join to those bytes, with a line feed after them where the last line has none.
+///
+/// Of any bytes, those up to the last line feed have ended.
+pub fn lines_law()
+    ensures lines { (bytes : List ℕ) → AreLinesOf (lines bytes) bytes }
+    ensures finished { (bytes : List ℕ) → IsFinished (finished bytes) bytes }
+{}
 
 // Answers the lines that end in `chunk`. `line` has the bytes of the line that has not ended.
 fn answer_lines<A: Allocator, W: Write>(
@@ -174,12 +183,3 @@ fn finish<W: Write>(
         Err(_) => Err(RunError::Write),
     }
 }
-
-/// What a line is: no line has a line feed, and the lines of any bytes, each with its line feed,
-/// join to those bytes, with a line feed after them where the last line has none.
-///
-/// Of any bytes those up to the last line feed have ended.
-pub fn lines_law()
-    ensures lines { (bytes : List ℕ) → AreLinesOf (lines bytes) bytes }
-    ensures finished { (bytes : List ℕ) → IsFinished (finished bytes) bytes }
-{}

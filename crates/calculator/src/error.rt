@@ -13,13 +13,13 @@ pub enum RunError {
     /// The writer failed.
     #[error("cannot write")]
     Write,
-    /// The memory for a line was refused.
+    /// An allocation for a line failed.
     #[error("out of memory")]
     Memory,
 }
 
 impl RunError {
-    /// What the program prints of the fault, with a line feed.
+    /// The line that the program prints for the fault, with its line feed.
     pub fn line(&self) -> &'static str
         ensures { result.now ≡ fault_line self.now }
     {

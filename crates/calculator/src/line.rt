@@ -1,12 +1,12 @@
 // The answer to a line, and the table of the fields that it may name.
 ghost use Rattle.std.specs.Prelude.{◌≡◌};
 ghost use Rattle.std.specs.Str.{is_utf8};
-ghost use Rattle.calculator.specs.Answer.{answer_of, of_field, of_rest};
+ghost use Rattle.calculator.specs.Answer.{answer_of, answer_by_field, answer_to_rest};
 ghost use Rattle.calculator.specs.Fields.{field_named, tower_level};
 ghost use Rattle.calculator.specs.Words.{words};
 ghost use Rattle.calculator.specs.Text.{answer_bytes, text_of};
 
-use crate::calculation::answer_in;
+use crate::calculation::answer_to_rest;
 use crate::names::Fault;
 use crate::text::Answer;
 use crate::words::next_word;
@@ -15,7 +15,7 @@ use field_element::{Element, Ghash128, Poly64, Poly192, Rijndael8b};
 use word_tower::{Bits2, Bits4, Bits8, Bits16, Bits32, Bits64, Bits128, Level, Tower};
 
 /// The answer to a line: the result of its operation as hexadecimal text, `none` for the inverse of 0, or `error` and
-/// the number of what is wrong with it. It takes no memory.
+/// the number of what is wrong with it. It allocates nothing.
 pub fn answer(line: &[u8]) -> Answer
     ensures { answer_bytes result ≡ answer_of line.now }
 {
@@ -43,13 +43,13 @@ fn is_text(line: &[u8]) -> bool
     std::str::from_utf8(line).is_ok()
 }
 
-// The answer by the name of the field and what follows it. A field that lines may name has one arm here, and one row in
+// The answer by the name of the field and what follows it. Each field that a line may name has one arm here and one row in
 // specs/Fields.antt.
 fn in_field_named(name: &[u8], rest: &[u8]) -> Result<Answer, Fault>
-    ensures { text_of result ≡ of_field (field_named name.now) (words rest.now) }
+    ensures { text_of result ≡ answer_by_field (field_named name.now) (words rest.now) }
 {
     match name {
-        b"gf2" => answer_in::<Gf2>(rest),
+        b"gf2" => answer_to_rest::<Gf2>(rest),
         b"t2" => in_level::<u8, Bits2>(rest),
         b"t4" => in_level::<u8, Bits4>(rest),
         b"t8" => in_level::<u8, Bits8>(rest),
@@ -57,17 +57,17 @@ fn in_field_named(name: &[u8], rest: &[u8]) -> Result<Answer, Fault>
         b"t32" => in_level::<u32, Bits32>(rest),
         b"t64" => in_level::<u64, Bits64>(rest),
         b"t128" => in_level::<u128, Bits128>(rest),
-        b"r8" => answer_in::<Rijndael8b>(rest),
-        b"p64" => answer_in::<Poly64>(rest),
-        b"g128" => answer_in::<Ghash128>(rest),
-        b"p192" => answer_in::<Poly192>(rest),
+        b"r8" => answer_to_rest::<Rijndael8b>(rest),
+        b"p64" => answer_to_rest::<Poly64>(rest),
+        b"g128" => answer_to_rest::<Ghash128>(rest),
+        b"p192" => answer_to_rest::<Poly192>(rest),
         _ => Err(Fault::Field),
     }
 }
 
 // The answer to what follows the name of a level of the tower.
 fn in_level<R: Unsigned, L: Level<R>>(rest: &[u8]) -> Result<Answer, Fault>
-    ensures { text_of result ≡ of_rest (tower_level L.LEVEL) (words rest.now) }
+    ensures { text_of result ≡ answer_to_rest (tower_level L.LEVEL) (words rest.now) }
 {
-    answer_in::<Element<R, Tower<L>>>(rest)
+    answer_to_rest::<Element<R, Tower<L>>>(rest)
 }

@@ -25,7 +25,7 @@ pub(crate) enum Operation {
     OfOne(Unary),
 }
 
-/// What is wrong with a line. The first of them that holds is answered, `Encoding` before all others.
+/// What is wrong with a line. A line is answered with its first fault: `Encoding`, then the others in the order below.
 #[derive(Clone, Copy)]
 pub(crate) enum Fault {
     Field,

@@ -19,8 +19,8 @@ impl Number {
     {
         let above = bytes.len().saturating_sub(16);
         Number {
-            high: joined(&bytes[..above]) as u64,
-            low: joined(&bytes[above..]),
+            high: number_of_bytes(&bytes[..above]) as u64,
+            low: number_of_bytes(&bytes[above..]),
         }
     }
 
@@ -51,7 +51,7 @@ impl Number {
 }
 
 // The number of at most 16 bytes, the highest first.
-fn joined(bytes: &[u8]) -> u128
+fn number_of_bytes(bytes: &[u8]) -> u128
     requires { length bytes.now ≤ 16 }
     ensures number { result ≡ fold (λ n byte. n * 256 + byte) 0 bytes.now }
     ensures fits { result < 256 ^ length bytes.now }

@@ -9,7 +9,7 @@ use crate::watched::Watched;
 use std::io::{Read, Write};
 use std::process::ExitCode;
 
-/// Answers the lines of `reader` to `writer`, as [`run`]. Where that fails, standard error says why, and the program's status is 1.
+/// Calls [`run`] on `reader` and `writer`. If that fails, it writes the reason to standard error and returns status 1.
 pub fn run_program<H: Alloc + Eprint, R: Read, W: Write>(
     rt: &H,
     reader: &mut Watched<R>,

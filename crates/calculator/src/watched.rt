@@ -8,9 +8,9 @@ use std::io::{ErrorKind, Read, Write};
 
 /// A reader or a writer whose failure is remembered.
 ///
-/// It passes each call on. A call fails only where the inner one answered an error, where a write
-/// of one byte or more took none, or where `u64::MAX` reads are spent; an interruption is an
-/// error like any other.
+/// It passes each call on. A call fails only if the inner one returns an error, if a write of at
+/// least one byte takes none, or after `u64::MAX` reads; an interruption is an error like any
+/// other.
 #[derive(Drop)]
 pub struct Watched<T> {
     inner: T,

@@ -1,4 +1,4 @@
-// One field in two bases, and linear maps from one to the other.
+// One field in two bases, and linear maps over it.
 use binary_field::{
     BinaryField64, BinaryField128, Ghash128, LinearMap, Poly64, PrimeCharacteristicRing,
     TowerLevel, to_polynomial_slice_64,
@@ -23,7 +23,7 @@ fn words_of_a_slice(rt: HostRuntime) {
     );
 }
 
-// Squaring is linear, so the squares of the unit words say all of it.
+// Squaring is linear, so the squares of the unit words determine it.
 #[test]
 fn squares_by_a_linear_map(rt: HostRuntime) {
     let mut images = [0; 128];

@@ -1,4 +1,4 @@
-//! What programs over `binary_field` look like: sums and products of slices with a contract of their own, secret sharing over
+//! Examples of programs over `binary_field`: sums and products of slices with a contract of their own, secret sharing over
 //! any field, elements as keys of a hash map, one product in both bases, and a linear map of a few elements.
 #![tactic(auto)]
 

@@ -1,6 +1,6 @@
 -- The number so far is that of the bytes so far.
 use Rattle.std.proofs.Common.{◌≡◌, ◌<◌, ◌^◌, ◌*◌, ◌+◌, fold, take}
-use Rattle.calculator.proofs.number.joined.Given as goal
+use Rattle.calculator.proofs.number.number_of_bytes.Given as goal
 
 abbrev pub invariant-loop-byte : goal.invariant-loop-byte
 invariant-loop-byte l = record {
