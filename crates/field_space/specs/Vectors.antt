@@ -8,8 +8,8 @@ use Rattle.field_base.specs.Chunks.{chunks}
 use Rattle.field_space.specs.Items.{TakesOneMore}
 
 -- the coefficients of elements, one element after the other, `dimension` of each; `repr` is the number of an element
-abbrev pub coefficients_of : {E : Type 0} → ℕ → ℕ → (E → ℕ) → List E → List ℕ
-coefficients_of width dimension repr elements = flat_map (λ x. chunks width dimension (repr x)) elements
+abbrev pub flat_coefficients : {E : Type 0} → ℕ → ℕ → (E → ℕ) → List E → List ℕ
+flat_coefficients width dimension repr elements = flat_map (λ x. chunks width dimension (repr x)) elements
 
 -- a function that was called for 0, 1, .. in order returned the coefficients of the element with the number `element`
 abbrev pub ReturnsCoefficients : {G F : Type 0} → ℕ → ℕ → (F → ℕ) → (G → ℕ → F → G → Type 0) → G → ℕ → Type 0

@@ -6,7 +6,7 @@ ghost use Rattle.field_space.specs.OneCoefficientLemmas.{scales_one_coefficient}
 ghost use Rattle.field_base.specs.BitRingLemmas.{bits_ring};
 ghost use Rattle.field_base.specs.Chunks.{chunk, chunks};
 ghost use Rattle.field_base.specs.Tower.{tower_mul};
-ghost use Rattle.field_space.specs.Vectors.{ReadsCoefficients, ReturnsCoefficients, coefficients_of};
+ghost use Rattle.field_space.specs.Vectors.{ReadsCoefficients, ReturnsCoefficients, flat_coefficients};
 
 use crate::kernel::SpaceOver;
 use field_base::traits::PrimeCharacteristicRing;
@@ -40,7 +40,7 @@ pub trait BasedVectorSpace<F: PrimeCharacteristicRing>: PrimeCharacteristicRing 
         alloc: A,
         elements: &[Self],
     ) -> Result<Vec<F, A>, AllocError>
-        ensures { IfOk result (λ flat. map F.repr flat.items ≡ coefficients_of F.width DIMENSION Self.repr elements.now) }
+        ensures { IfOk result (λ flat. map F.repr flat.items ≡ flat_coefficients F.width DIMENSION Self.repr elements.now) }
     {
         let mut flat = Vec::new(alloc);
         for place in 0..elements.len() {
@@ -59,7 +59,7 @@ pub trait BasedVectorSpace<F: PrimeCharacteristicRing>: PrimeCharacteristicRing 
         coefficients: &[F],
     ) -> Result<Vec<Self, A>, AllocError>
         requires { length coefficients.now % DIMENSION ≡ 0 }
-        ensures { IfOk result (λ elements. coefficients_of F.width DIMENSION Self.repr elements.items ≡ map F.repr coefficients.now) }
+        ensures { IfOk result (λ elements. flat_coefficients F.width DIMENSION Self.repr elements.items ≡ map F.repr coefficients.now) }
     {
         let mut elements = Vec::new(alloc);
         let mut element = Self::ZERO;
@@ -151,7 +151,7 @@ pub trait BasisCoefficientsSlice<F: PrimeCharacteristicRing>: BasedVectorSpace<F
 }
 
 /// The array of an element's `N` coefficients.
-pub(crate) fn coefficients_of<F: PrimeCharacteristicRing, E: BasedVectorSpace<F>, const N: usize>(
+pub(crate) fn flat_coefficients<F: PrimeCharacteristicRing, E: BasedVectorSpace<F>, const N: usize>(
     element: &E,
 ) -> [F; N]
     requires { N ≡ E.DIMENSION }
