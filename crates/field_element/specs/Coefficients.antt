@@ -13,6 +13,7 @@ use Rattle.field_element.specs.Element.{repr_of, same_word}
 use Rattle.field_element.specs.declared.element.coefficients.Coefficients.{Coefficients}
 
 module _ {C : Type 0} (number : C → ℕ) (fits : (x : C) → number x < 2 ^ 64) where
+  -- the number at place i, or the 0 past the end, is below 2 ^ 64
   pub item_below : (xs : List C) (i : ℕ) → get_or (map number xs) i 0 < 2 ^ 64
   item_below [] i = pow_pos 64
   item_below (x ∷ xs) zero = fits x
@@ -36,6 +37,7 @@ three_items (x ∷ y ∷ z ∷ []) a b c three = refl
 three_items (x ∷ y ∷ z ∷ w ∷ rest) a b c three = absurd (omega (arith, three))
 
 module _ {C : Type 0} (number : C → ℕ) (same_law : (x y : C) → number x ≡ number y → x ≡ y) where
+  -- lists of the same numbers are one
   same_lists : (xs ys : List C) → map number xs ≡ map number ys → xs ≡ ys
   same_lists [] [] same = refl
   same_lists [] (y ∷ ys) same = absurd (omega (arith, ap length same))
@@ -44,6 +46,7 @@ module _ {C : Type 0} (number : C → ℕ) (same_law : (x y : C) → number x �
       ap₂ (λ (z : C) (zs : List C). z ∷ zs) (same_law x y (ap (λ (ns : List ℕ). get_or ns 0 0) same))
       (same_lists xs ys (ap (drop 1) same))
 
+  -- lists of three items are one where their numbers agree at each place
   same_three : (xs ys : List C) → length xs ≡ 3 → length ys ≡ 3 → get_or (map number xs) 0 0 ≡ get_or (map number ys) 0 0
       → get_or (map number xs) 1 0 ≡ get_or (map number ys) 1 0 → get_or (map number xs) 2 0 ≡ get_or (map number ys) 2 0 → xs ≡ ys
   same_three xs ys three three' e0 e1 e2 =
@@ -66,6 +69,17 @@ chunks_stored x =
     let words = stored_words x in
     sym (three_items (map repr_of x.coefficients) 0 0 0 (length-map x.coefficients repr_of ∙ x.three))
     ∙ sym (chunks-triple 64 words.c0 words.c1 words.c2 words.in_range.first words.in_range.second words.in_range.third)
+
+-- the coefficients of three words
+abbrev pub coefficients_of_words : (c0 c1 c2 : ℕ) → c0 < 2 ^ 64 → c1 < 2 ^ 64 → c2 < 2 ^ 64 → Coefficients
+coefficients_of_words c0 c1 c2 c0_fits c1_fits c2_fits = record {
+  coefficients =
+      record { repr = c0; field = record {}; in_range = c0_fits }
+      ∷ record { repr = c1; field = record {}; in_range = c1_fits }
+      ∷ record { repr = c2; field = record {}; in_range = c2_fits }
+      ∷ [];
+  three = refl;
+}
 
 -- the coefficients of the low 192 bits of a number
 abbrev pub coefficients_of_number : ℕ → Coefficients

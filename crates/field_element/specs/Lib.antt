@@ -1,5 +1,7 @@
-mod LevelProducts
+pub mod BitProductLemmas
 pub mod Coefficients
-pub mod BitProducts
 pub mod Element
-pub mod Range
+pub mod GhashLaneLemmas
+pub mod GhashLanes
+mod LevelProductLemmas
+pub mod RangeLemmas

@@ -11,7 +11,7 @@ use word_basis::ByteMap;
 pub const LEAST_TABLED: usize = 4096;
 
 impl Ghash128 {
-    /// Where there are at least 4096 elements, writes the image of each into `output`, place by place, and answers true: the
+    /// Where there are at least 4096 elements, writes the image of each into `output`, place by place, and returns true: the
     /// map is the linear one that takes bit j of an element of the tower to `images[j]`. With fewer, it returns false and leaves
     /// `output` untouched, so that no tables are made for few elements: the caller then maps them by itself. `input` and
     /// `output` have to be of one length. It takes no memory but the stack.
@@ -22,7 +22,8 @@ impl Ghash128 {
     ) -> bool
         requires { length input.now ≡ length output.old }
         ensures answer { IsTrue result ↔ (4096 ≤ length input.now) }
-        ensures mapped { 4096 ≤ length input.now → map repr_of output.new ≡ map (λ x. linear_image (map repr_of images.now) (repr_of x)) input.now }
+        ensures mapped { 4096 ≤ length input.now
+            → map repr_of output.new ≡ map (λ x. linear_image (map repr_of images.now) (repr_of x)) input.now }
         ensures kept { length input.now < 4096 → output.new ≡ output.old }
     {
         if input.len() < LEAST_TABLED {

@@ -1,13 +1,14 @@
 // Packings of elements, and the operators of packings of `Ghash128` with an element of `BinaryField128` on the right, whose image
 // stands in every lane.
-ghost use Rattle.std.specs.Prelude.{◌≡◌, ℕ, bit_xor, map, replicate};
-ghost use Rattle.field_base.specs.Basis.{basis_image, ghash_images};
+ghost use Rattle.std.specs.Prelude.{◌≡◌, bit_xor, map, replicate};
 ghost use Rattle.field_base.specs.Operators.{algebra_gives};
 ghost use Rattle.field_base.specs.Remainder.{ghash_modulus, mul_mod};
 ghost use Rattle.field_element.specs.Element.{repr_of};
-ghost use Rattle.packed_lanes.specs.Packed.{lanes_of};
+ghost use Rattle.field_element.specs.GhashLaneLemmas.{ghash_image-below, ghash_lanes-one};
+ghost use Rattle.field_element.specs.GhashLaneLemmas.{ghash_lanes-product, ghash_lanes-same, ghash_lanes-sum};
+ghost use Rattle.field_element.specs.GhashLanes.{ghash_image, ghash_image_lanes};
+ghost use Rattle.packed_lanes.specs.Packed.{EachLaneIs, lanes_of};
 ghost use Rattle.field_base.specs.Chunks.{joined};
-ghost use Rattle.packed_lanes.specs.Lanes.{lane_by_lane, lane_product};
 
 mod left;
 
@@ -23,7 +24,7 @@ impl<R: Stored, K: FieldKernel<R>> Laned for Element<R, K> {}
 impl<R: Stored, K: HasPacking<R>> WiderField for Element<R, K> {}
 
 impl From<BinaryField128> for PackedGhash128 {
-    ghost from_gives = { λ x r. map repr_of (lanes_of r) ≡ replicate 4 (basis_image 128 ghash_modulus ghash_images (repr_of x)) };
+    ghost from_gives = { λ x r. map repr_of (lanes_of r) ≡ replicate 4 (ghash_image (repr_of x)) };
 
     #[inline]
     fn from(element: BinaryField128) -> PackedGhash128 {
@@ -34,7 +35,7 @@ impl From<BinaryField128> for PackedGhash128 {
 impl Add<BinaryField128> for PackedGhash128 {
     type Output = PackedGhash128;
 
-    ghost add_gives = { λ x y r. map repr_of (lanes_of r) ≡ lane_by_lane bit_xor (map repr_of (lanes_of x)) (replicate 4 (basis_image 128 ghash_modulus ghash_images (repr_of y))) };
+    ghost add_gives = { λ x y r. EachLaneIs repr_of r bit_xor x (ghash_image (repr_of y)) };
 
     #[inline]
     fn add(self, other: BinaryField128) -> PackedGhash128 {
@@ -43,7 +44,7 @@ impl Add<BinaryField128> for PackedGhash128 {
 }
 
 impl AddAssign<BinaryField128> for PackedGhash128 {
-    ghost add_assign_gives = { λ x y r. map repr_of (lanes_of r) ≡ lane_by_lane bit_xor (map repr_of (lanes_of x)) (replicate 4 (basis_image 128 ghash_modulus ghash_images (repr_of y))) };
+    ghost add_assign_gives = { λ x y r. EachLaneIs repr_of r bit_xor x (ghash_image (repr_of y)) };
 
     #[inline]
     fn add_assign(&mut self, other: BinaryField128) {
@@ -54,7 +55,7 @@ impl AddAssign<BinaryField128> for PackedGhash128 {
 impl Sub<BinaryField128> for PackedGhash128 {
     type Output = PackedGhash128;
 
-    ghost sub_gives = { λ x y r. map repr_of (lanes_of r) ≡ lane_by_lane bit_xor (map repr_of (lanes_of x)) (replicate 4 (basis_image 128 ghash_modulus ghash_images (repr_of y))) };
+    ghost sub_gives = { λ x y r. EachLaneIs repr_of r bit_xor x (ghash_image (repr_of y)) };
 
     #[inline]
     fn sub(self, other: BinaryField128) -> PackedGhash128 {
@@ -63,7 +64,7 @@ impl Sub<BinaryField128> for PackedGhash128 {
 }
 
 impl SubAssign<BinaryField128> for PackedGhash128 {
-    ghost sub_assign_gives = { λ x y r. map repr_of (lanes_of r) ≡ lane_by_lane bit_xor (map repr_of (lanes_of x)) (replicate 4 (basis_image 128 ghash_modulus ghash_images (repr_of y))) };
+    ghost sub_assign_gives = { λ x y r. EachLaneIs repr_of r bit_xor x (ghash_image (repr_of y)) };
 
     #[inline]
     fn sub_assign(&mut self, other: BinaryField128) {
@@ -74,7 +75,7 @@ impl SubAssign<BinaryField128> for PackedGhash128 {
 impl Mul<BinaryField128> for PackedGhash128 {
     type Output = PackedGhash128;
 
-    ghost mul_gives = { λ x y r. map repr_of (lanes_of r) ≡ lane_by_lane (mul_mod 128 ghash_modulus) (map repr_of (lanes_of x)) (replicate 4 (basis_image 128 ghash_modulus ghash_images (repr_of y))) };
+    ghost mul_gives = { λ x y r. EachLaneIs repr_of r (mul_mod 128 ghash_modulus) x (ghash_image (repr_of y)) };
 
     #[inline]
     fn mul(self, other: BinaryField128) -> PackedGhash128 {
@@ -83,7 +84,7 @@ impl Mul<BinaryField128> for PackedGhash128 {
 }
 
 impl MulAssign<BinaryField128> for PackedGhash128 {
-    ghost mul_assign_gives = { λ x y r. map repr_of (lanes_of r) ≡ lane_by_lane (mul_mod 128 ghash_modulus) (map repr_of (lanes_of x)) (replicate 4 (basis_image 128 ghash_modulus ghash_images (repr_of y))) };
+    ghost mul_assign_gives = { λ x y r. EachLaneIs repr_of r (mul_mod 128 ghash_modulus) x (ghash_image (repr_of y)) };
 
     #[inline]
     fn mul_assign(&mut self, other: BinaryField128) {
@@ -92,23 +93,24 @@ impl MulAssign<BinaryField128> for PackedGhash128 {
 }
 
 impl Algebra<BinaryField128> for PackedGhash128 {
-    ghost use Rattle.std.proofs.Common.{sym, ◌∙◌, ap};
-    ghost use Rattle.word_basis.proofs.Isomorphisms.{field_128, isomorphic_128};
-    ghost use Rattle.packed_lanes.specs.LaneListLemmas.{every_product, every_same, every_sum, product_with_every, sum_with_every};
+    ghost use Rattle.std.proofs.Common.{ap};
+    ghost use Rattle.word_basis.proofs.Isomorphisms.{field_128};
+    ghost use Rattle.packed_lanes.specs.PackedLemmas.{packed_product_every, packed_sum_every};
 
-    ghost image = { λ a. joined 128 (replicate 4 (basis_image 128 ghash_modulus ghash_images a)) };
+    ghost image = { ghash_image_lanes };
 
-    ghost image_unit_law = { ap (λ (a : ℕ). joined 128 (replicate 4 a)) isomorphic_128.homomorphism.one_image };
+    ghost image_unit_law = { ghash_lanes-one };
 
-    ghost image_sum_law = { λ a b a_fits b_fits. ap (λ (x : ℕ). joined 128 (replicate 4 x)) (isomorphic_128.homomorphism.sum_image a b) ∙ every_sum 128 4 (basis_image 128 ghash_modulus ghash_images a) (basis_image 128 ghash_modulus ghash_images b) (isomorphic_128.homomorphism.below a) (isomorphic_128.homomorphism.below b) };
+    ghost image_sum_law = { λ a b a_fits b_fits. ghash_lanes-sum a b };
 
-    ghost image_product_law = { λ a b a_fits b_fits. ap (λ (x : ℕ). joined 128 (replicate 4 x)) (isomorphic_128.homomorphism.product_image a b) ∙ every_product 128 1 (mul_mod 128 ghash_modulus) field_128.ring 4 (basis_image 128 ghash_modulus ghash_images a) (basis_image 128 ghash_modulus ghash_images b) (isomorphic_128.homomorphism.below a) (isomorphic_128.homomorphism.below b) };
+    ghost image_product_law = { λ a b a_fits b_fits. ghash_lanes-product a b };
 
-    ghost image_injective_law = { λ proper a b a_fits b_fits same. sym (isomorphic_128.isomorphism.inverse_of_image a a_fits) ∙ ap isomorphic_128.isomorphism.inverse (every_same 128 1 4 (basis_image 128 ghash_modulus ghash_images a) (basis_image 128 ghash_modulus ghash_images b) (isomorphic_128.homomorphism.below a) (isomorphic_128.homomorphism.below b) proper same) ∙ isomorphic_128.isomorphism.inverse_of_image b b_fits };
+    ghost image_injective_law = { ghash_lanes-same };
 
     ghost image_from_law = { λ x r is. ap (joined 128) is };
 
     ghost operators_law = { λ x y. algebra_gives
-        (λ r is. sum_with_every 128 _ repr_of (λ z. z.in_range) 4 (basis_image 128 ghash_modulus ghash_images (repr_of y)) (isomorphic_128.homomorphism.below (repr_of y)) (lanes_of x) (lanes_of r) x.long is)
-        (λ r is. product_with_every 128 _ repr_of (λ z. z.in_range) 1 (mul_mod 128 ghash_modulus) field_128.ring 4 (basis_image 128 ghash_modulus ghash_images (repr_of y)) (isomorphic_128.homomorphism.below (repr_of y)) (lanes_of x) (lanes_of r) x.long is) };
+        (packed_sum_every 128 repr_of (λ z. z.in_range) x (ghash_image (repr_of y)) (ghash_image-below (repr_of y)))
+        (packed_product_every 128 repr_of (λ z. z.in_range) 1 (mul_mod 128 ghash_modulus) field_128.ring
+        x (ghash_image (repr_of y)) (ghash_image-below (repr_of y))) };
 }

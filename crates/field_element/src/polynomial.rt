@@ -31,7 +31,8 @@ impl<R: Unsigned, L: Level<R>, M: Modulus<R, L>> Element<R, Polynomials<M, L>> {
         alloc: A,
         elements: &[Element<R, Tower<L>>],
     ) -> Result<Vec<Element<R, Polynomials<M, L>>, A>, AllocError>
-        ensures { IfOk result (λ images. map repr_of images.items ≡ map (λ x. basis_image M.width M.modulus M.images (repr_of x)) elements.now) }
+        ensures { IfOk result (λ images. map repr_of images.items
+            ≡ map (λ x. basis_image M.width M.modulus M.images (repr_of x)) elements.now) }
     {
         let mut images = Vec::with_capacity(alloc, elements.len())?;
         for element in elements.iter() {

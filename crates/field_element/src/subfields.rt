@@ -137,9 +137,10 @@ impl<
 
     ghost image_sum_law = { λ a b a_fits b_fits. M.isomorphism_law.homomorphism.sum_image a b };
 
-    ghost image_product_law = { λ a b a_fits b_fits. image_of_lower_product M.LEVEL M.width M.modulus M.images M.isomorphism_law L.LEVEL L.lies_law a b a_fits b_fits };
+    ghost image_product_law = { image_of_lower_product M.LEVEL M.width M.modulus M.images M.isomorphism_law L.LEVEL L.lies_law };
 
-    ghost image_injective_law = { λ proper a b a_fits b_fits. image_of_lower_injective M.LEVEL M.width M.modulus M.images M.isomorphism_law L.LEVEL L.lies_law a b a_fits b_fits };
+    ghost image_injective_law = { λ proper.
+        image_of_lower_injective M.LEVEL M.width M.modulus M.images M.isomorphism_law L.LEVEL L.lies_law };
 
     ghost image_from_law = { λ x r is. is };
 

@@ -7,7 +7,7 @@ use Rattle.std.proofs.lemmas.Nat.{pow-add, pow_pos}
 use native.Mathlib.Nat.{mod-lt}
 use Rattle.packed_lanes.specs.Lanes.{IsPowerOfTwo, interleaved_second}
 
--- in c pairs of blocks of b lanes
+-- in c pairs of blocks of b lanes an even block is followed by another
 next_block : (b c lane : ℕ) → 0 < b → lane < b * (2 * c) → lane / b % 2 ≡ 0 → lane + b < b * (2 * c)
 next_block b c lane some within even =
     let turned : b * (2 * c) ≡ 2 * c * b = mul_comm b (2 * c) in
@@ -19,10 +19,11 @@ next_block b c lane some within even =
     let spread : b * (lane / b + 2) ≡ b * (lane / b) + b * 2 = mul-add b (lane / b) 2 in
     omega (arith, place, rest, grown, spread)
 
--- 2 ^ j pairs of blocks
+-- 2 ^ (k + 1 + j) lanes are 2 ^ j pairs of blocks of 2 ^ k lanes
 more_blocks : (k j : ℕ) → 2 ^ (k + (1 + j)) ≡ 2 ^ k * (2 * 2 ^ j)
 more_blocks k j = pow-add 2 k (1 + j) ∙ ap (λ (m : ℕ). 2 ^ k * m) (pow-add 2 1 j)
 
+-- an even block of b lanes, where n is not b, is followed by another block within the n lanes
 pub block_fits : (n b lane : ℕ) → IsPowerOfTwo n → IsPowerOfTwo b → b ≤ n → b ≢ n → lane < n → lane / b % 2 ≡ 0 → lane + b < n
 block_fits n b lane (m, n_is) (k, b_is) few other within even = pick (cases_lt k m)
   where

@@ -5,7 +5,7 @@ use Rattle.std.proofs.lemmas.List.{get_or-set_same, get_or-set_other}
 use native.Mathlib.Nat.{eq-or-lt_of_le, le_refl}
 use Rattle.packed_lanes.specs.Lanes.{lane_by_lane}
 
--- an entry of a list, whatever stands for those past its end
+-- an entry of a list does not depend on what stands for those past its end
 pub same_entry : {A : Type 0} → (xs : List A) (i : ℕ) (d e : A) → i < length xs → slice_index_or xs i d ≡ slice_index_or xs i e
 same_entry [] i d e within = absurd (omega (arith, within))
 same_entry (x ∷ xs) zero d e within = refl
@@ -25,7 +25,7 @@ lanes_done {A} T xs i v within before now k d below = pick (eq-or-lt_of_le (omeg
         let other : k ≢ i = λ same. absurd (omega (arith, less, same)) in
         subst (T k) (sym (get_or-set_other xs i k v d other)) (before k d less)
 
--- and the lanes from i + 1 on are as they were
+-- the lanes from i + 1 on are as they were, once lane i is written
 lanes_left : {A : Type 0} → (xs ys : List A) (i : ℕ) (v : A)
     → ((k : ℕ) (d : A) → i ≤ k → slice_index_or ys k d ≡ slice_index_or xs k d)
     → (k : ℕ) (d : A) → i + 1 ≤ k → slice_index_or (slice_set ys i v) k d ≡ slice_index_or xs k d
@@ -38,13 +38,14 @@ pub record Written {A : Type 0} (P : ℕ → A → A → Type 0) (old now : List
   pub done : (k : ℕ) (d : A) → k < i → (e : A) → P k (slice_index_or old k e) (slice_index_or now k d)
   pub left : (k : ℕ) (d : A) → i ≤ k → slice_index_or now k d ≡ slice_index_or old k d
 
+-- before lane 0 nothing is written
 pub none_written : {A : Type 0} → (P : ℕ → A → A → Type 0) (lanes : List A) → Written P lanes lanes 0
 none_written P lanes = record {
   done = λ k d below. absurd (omega (arith, below));
   left = λ k d above. refl;
 }
 
--- and then lane i too, of which x was read
+-- once r is written to lane i, from which x was read, the lanes below i + 1 are written
 pub lane_written : {A : Type 0} → (P : ℕ → A → A → Type 0) (old now : List A) (i : ℕ) (x r : A) → length now ≡ length old
     → i < length old → x ≡ slice_index_or now i x → Written P old now i → P i x r → Written P old (slice_set now i r) (i + 1)
 lane_written {A} P old now i x r long within is before given = record {

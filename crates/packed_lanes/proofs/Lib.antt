@@ -1,3 +1,3 @@
 mod Blocks
-pub mod LaneAnswers
+pub mod FillLemmas
 pub mod LanePoints

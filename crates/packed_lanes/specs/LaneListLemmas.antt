@@ -16,15 +16,17 @@ use Rattle.field_base.proofs.RingLemmas.{mod-times, times-mod}
 
 -- ---- one element in every lane
 
+-- the numbers of one element n times are its number n times
 pub map-replicate : {A : Type 0} → (repr : A → ℕ) (n : ℕ) (x : A) → map repr (replicate n x) ≡ replicate n (repr x)
 map-replicate repr zero x = refl
 map-replicate repr (suc n) x = ap (λ (xs : List ℕ). repr x ∷ xs) (map-replicate repr n x)
 
--- the same of lanes that are known to hold one element, whose number is known
+-- lanes that each hold one element of number a are a, n times
 pub map-every : {A : Type 0} → (repr : A → ℕ) (n a : ℕ) (x : A) (xs : List A) → xs ≡ replicate n x → repr x ≡ a → map repr xs ≡ replicate n a
 map-every repr n a x xs every is = ap (map repr) every ∙ map-replicate repr n x ∙ ap (replicate n) is
 
 module _ (width : ℕ) where
+  -- n lanes of w bits are a number below 2 ^ (n * w)
   pub every_below : (n a : ℕ) → a < 2 ^ width → joined width (replicate n a) < 2 ^ (n * width)
   unfolding joined
   every_below zero a fits = pow_pos (zero * width)
@@ -32,12 +34,14 @@ module _ (width : ℕ) where
       subst (λ (m : ℕ). joined width (replicate (suc n) a) < m) (sym (more_lanes n width))
       (digits_lt (every_below n a fits) fits)
 
+  -- 0 in every lane is 0
   pub every_zero : (n : ℕ) → joined width (replicate n 0) ≡ 0
   unfolding joined
   every_zero zero = refl
   every_zero (suc n) =
       ap (λ (h : ℕ). h * 2 ^ width + 0) (every_zero n) ∙ add-zero (0 * 2 ^ width) ∙ zero-mul (2 ^ width)
 
+  -- the sum in every lane is the sum of the packings
   pub every_sum : (n a b : ℕ) → a < 2 ^ width → b < 2 ^ width
       → joined width (replicate n (bit_xor a b)) ≡ bit_xor (joined width (replicate n a)) (joined width (replicate n b))
   unfolding joined
@@ -46,6 +50,7 @@ module _ (width : ℕ) where
       ap (λ (h : ℕ). h * 2 ^ width + bit_xor a b) (every_sum n a b a_fits b_fits)
       ∙ sym (xor_block width (joined width (replicate n a)) (joined width (replicate n b)) a b a_fits b_fits)
 
+  -- packings of one element each are equal only where the elements are, if there is a lane
   pub every_same : (unit n a b : ℕ) → a < 2 ^ width → b < 2 ^ width → joined width (replicate n unit) ≢ 0
       → joined width (replicate n a) ≡ joined width (replicate n b) → a ≡ b
   unfolding joined
@@ -77,6 +82,7 @@ module _ (width : ℕ) where
         ∙ sym (times-mod width unit times ring ((h * 2 ^ width + l) % 2 ^ width) (h' * 2 ^ width + l'))
         ∙ ap₂ times (mod_low h width l fits) (mod_low h' width l' fits'))
 
+    -- the product in every lane is the product of the packings
     pub every_product : (n a b : ℕ) → a < 2 ^ width → b < 2 ^ width
         → joined width (replicate n (times a b))
         ≡ lane_product width times n (joined width (replicate n a)) (joined width (replicate n b))
@@ -89,6 +95,7 @@ module _ (width : ℕ) where
   -- ---- lists of lanes
 
   module _ (A : Type 0) (repr : A → ℕ) (fits : (x : A) → repr x < 2 ^ width) where
+    -- the number of a list of lanes is below 2 ^ (its length times the width)
     lanes_lt : (xs : List A) → joined width (map repr xs) < 2 ^ (length xs * width)
     unfolding joined
     lanes_lt [] = pow_pos (zero * width)
@@ -96,9 +103,11 @@ module _ (width : ℕ) where
         subst (λ (m : ℕ). joined width (map repr (x ∷ xs)) < m) (sym (more_lanes (length xs) width))
         (digits_lt (lanes_lt xs) (fits x))
 
+    -- n lanes of w bits are a number below 2 ^ (n * w)
     pub lanes_below : (n : ℕ) (xs : List A) → length xs ≡ n → joined width (map repr xs) < 2 ^ (n * width)
     lanes_below n xs long = subst (λ (k : ℕ). joined width (map repr xs) < 2 ^ (k * width)) long (lanes_lt xs)
 
+    -- lists of one length and one number are one
     pub lanes_same : ((x y : A) → repr x ≡ repr y → x ≡ y) → (xs ys : List A) → length xs ≡ length ys
         → joined width (map repr xs) ≡ joined width (map repr ys) → xs ≡ ys
     unfolding joined
@@ -114,7 +123,7 @@ module _ (width : ℕ) where
         (sym (shr_high (joined width (map repr xs)) width (repr x) (fits x)) ∙ ap (λ (n : ℕ). n / 2 ^ width) is
         ∙ shr_high (joined width (map repr ys)) width (repr y) (fits y)))
 
-    -- packings are equal where their lanes are
+    -- lists of lanes compare equal exactly where their numbers are equal
     pub equal_lanes : (equal : A → A → Bool) → ((x y : A) → (equal x y ≡ true) ↔ (repr x ≡ repr y))
         → ((x y : A) → repr x ≡ repr y → x ≡ y) → (xs ys : List A) → length xs ≡ length ys
         → (pointwise equal xs ys ≡ true) ↔ (joined width (map repr xs) ≡ joined width (map repr ys))
@@ -122,11 +131,11 @@ module _ (width : ℕ) where
         let both = pointwise_decides {E = equal} (λ x y. (λ h. same x y ((decides x y).0 h), λ e. (decides x y).1 (ap repr e))) xs ys in
         (λ h. ap (λ (zs : List A). joined width (map repr zs)) (both.0 h), λ e. both.1 (lanes_same same xs ys long e))
 
-    -- an element beside a packing stands in every lane
+    -- the number of one element in every lane
     pub number_of_every : (n : ℕ) (x : A) → joined width (map repr (replicate n x)) ≡ joined width (replicate n (repr x))
     number_of_every n x = ap (joined width) (map-replicate repr n x)
 
-    -- also with lanes that are of another kind
+    -- the number of a sum, lane by lane, with lanes of another kind
     lanes_sum : (B : Type 0) (other : B → ℕ) → ((y : B) → other y < 2 ^ width) → (xs : List A) (ys : List B) → length xs ≡ length ys
         → joined width (lane_by_lane bit_xor (map repr xs) (map other ys))
         ≡ bit_xor (joined width (map repr xs)) (joined width (map other ys))
@@ -138,13 +147,13 @@ module _ (width : ℕ) where
         ap (λ (h : ℕ). h * 2 ^ width + bit_xor (repr x) (other y)) (lanes_sum B other also xs ys (omega (arith, long)))
         ∙ sym (xor_block width _ _ (repr x) (other y) (fits x) (also y))
 
-    -- the number of a sum by lanes
+    -- the number of a sum, lane by lane, is the sum of the numbers
     pub sum_number : (xs ys rs : List A) → length xs ≡ length ys
         → map repr rs ≡ lane_by_lane bit_xor (map repr xs) (map repr ys)
         → joined width (map repr rs) ≡ bit_xor (joined width (map repr xs)) (joined width (map repr ys))
     sum_number xs ys rs long is = ap (joined width) is ∙ lanes_sum A repr fits xs ys long
 
-    -- and of the sum with a number in every lane
+    -- the number of the sum with one number in every lane
     pub sum_with_every : (n v : ℕ) → v < 2 ^ width → (xs rs : List A) → length xs ≡ n
         → map repr rs ≡ lane_by_lane bit_xor (map repr xs) (replicate n v)
         → joined width (map repr rs) ≡ bit_xor (joined width (map repr xs)) (joined width (replicate n v))
@@ -155,6 +164,7 @@ module _ (width : ℕ) where
         every (lanes_sum ℕ (λ y. v) (λ y. v_fits) xs (replicate n v) (long ∙ sym (length-replicate n v)))
 
     module _ (unit : ℕ) (times : ℕ → ℕ → ℕ) (ring : IsRing width unit times) where
+      -- the number of a product, lane by lane, with lanes of another kind
       lanes_times : (B : Type 0) (other : B → ℕ) → ((y : B) → other y < 2 ^ width) → (n : ℕ) (xs : List A) (ys : List B)
           → length xs ≡ n → length ys ≡ n
           → joined width (lane_by_lane times (map repr xs) (map other ys))
@@ -171,7 +181,7 @@ module _ (width : ℕ) where
           ∙ sym (product_more unit times ring n (joined width (map repr xs)) (repr x) (joined width (map other ys)) (other y)
           (fits x) (also y))
 
-      -- the number of a product by lanes
+      -- the number of a product, lane by lane, is the product of the numbers
       pub product_number : (n : ℕ) (xs ys rs : List A) → length xs ≡ n → length ys ≡ n
           → map repr rs ≡ lane_by_lane times (map repr xs) (map repr ys)
           → joined width (map repr rs)
@@ -179,7 +189,7 @@ module _ (width : ℕ) where
       product_number n xs ys rs x_long y_long is =
           ap (joined width) is ∙ lanes_times A repr fits n xs ys x_long y_long
 
-      -- and of the product with a number in every lane
+      -- the number of the product with one number in every lane
       pub product_with_every : (n v : ℕ) → v < 2 ^ width → (xs rs : List A) → length xs ≡ n
           → map repr rs ≡ lane_by_lane times (map repr xs) (replicate n v)
           → joined width (map repr rs) ≡ lane_product width times n (joined width (map repr xs)) (joined width (replicate n v))

@@ -14,10 +14,10 @@ lane_by_lane f [] ys = []
 lane_by_lane f (x ∷ xs) [] = []
 lane_by_lane f (x ∷ xs) (y ∷ ys) = f x y ∷ lane_by_lane f xs ys
 
--- calls at the numbers from i on, one after the other, took the state s to t and returned the elements of a list
-abbrev pub AnswersFrom : {S A : Type 0} → (S → ℕ → A → S → Type 0) → S → ℕ → List A → S → Type 0
-AnswersFrom step s i [] t = s ≡ t
-AnswersFrom {S} step s i (x ∷ xs) t = (next : S) × step s i x next × AnswersFrom step next (i + 1) xs t
+-- P holds of the elements of three lists at each place below n, whatever d stands for those past an end
+abbrev pub AtEachPlace : {A : Type 0} → (A → A → A → Type 0) → ℕ → List A → List A → List A → Type 0
+AtEachPlace {A} P n xs ys zs =
+    (k : ℕ) (d : A) → k < n → P (slice_index_or xs k d) (slice_index_or ys k d) (slice_index_or zs k d)
 
 -- 1, 2, 4, 8, ..
 abbrev pub IsPowerOfTwo : ℕ → Type 0

@@ -4,3 +4,4 @@ pub mod LaneRingLemmas
 pub mod Lanes
 pub mod OneLaneLemmas
 pub mod Packed
+pub mod PackedLemmas

@@ -4,7 +4,7 @@ ghost use Rattle.std.proofs.Common.{sym, ◌∙◌, ap};
 ghost use Rattle.std.proofs.lemmas.List.{length-replicate};
 ghost use Rattle.field_base.specs.Chunks.{joined};
 ghost use Rattle.packed_lanes.specs.Lanes.{lane_by_lane, lane_product};
-ghost use Rattle.packed_lanes.specs.LaneListLemmas.{every_below, every_zero, lanes_below, lanes_same, map-replicate, product_number, sum_number};
+ghost use Rattle.packed_lanes.specs.LaneListLemmas.{every_below, lanes_below};
 
 mod draws;
 mod each;
@@ -125,7 +125,7 @@ fn product<F: Represented>(x: F, y: F) -> F
 
 impl<F: Laned, const N: usize> Represented for Packed<F, N> {
     ghost use Rattle.packed_lanes.specs.LaneRingLemmas.{lanes_ring};
-    ghost use Rattle.packed_lanes.specs.Packed.{same_packed};
+    ghost use Rattle.packed_lanes.specs.PackedLemmas.{packed_product, packed_same, packed_sum};
 
     ghost width = { N * F.width };
 
@@ -141,13 +141,13 @@ impl<F: Laned, const N: usize> Represented for Packed<F, N> {
 
     ghost range_law = { λ x. lanes_below F.width _ F.repr F.range_law N x.lanes x.long };
 
-    ghost same_law = { λ x y same. same_packed x y (lanes_same F.width _ F.repr F.range_law F.same_law x.lanes y.lanes (x.long ∙ sym y.long) same) };
+    ghost same_law = { packed_same F.width F.repr F.range_law F.same_law };
 
     ghost can_add_law = { λ x y. tt };
 
-    ghost add_law = { λ x y r is. sum_number F.width _ F.repr F.range_law x.lanes y.lanes r.lanes (x.long ∙ sym y.long) is };
+    ghost add_law = { packed_sum F.width F.repr F.range_law };
 
     ghost can_mul_law = { λ x y. tt };
 
-    ghost mul_law = { λ x y r is. product_number F.width _ F.repr F.range_law F.unit F.product F.ring_law N x.lanes y.lanes r.lanes x.long y.long is };
+    ghost mul_law = { packed_product F.width F.repr F.range_law F.unit F.product F.ring_law };
 }

@@ -2,7 +2,8 @@
 ghost use Rattle.std.specs.Prelude.{◌≡◌, ◌*◌, ◌<◌, ◌≤◌, ◌^◌, ℕ, List, [], ◌∷◌, length, map, refl, replicate, slice_set};
 ghost use Rattle.std.specs.Mem.{FitsInMemory};
 ghost use Rattle.field_base.specs.Chunks.{joined};
-ghost use Rattle.packed_lanes.specs.Lanes.{AnswersFrom, AreInterleaved, IsPowerOfTwo, lane_product};
+ghost use Rattle.std.specs.Array.{FillsFrom};
+ghost use Rattle.packed_lanes.specs.Lanes.{AreInterleaved, IsPowerOfTwo, lane_product};
 ghost use Rattle.packed_lanes.specs.OneLaneLemmas.{one_lane_joined, one_lane_product, one_lane_width, same_only_lane};
 
 use field_base::traits::{Algebra, Field};
@@ -45,7 +46,7 @@ pub trait PackedValue: Copy + Default {
     /// The value whose lane i is what `f` returns for i. It is called for 0, 1, .. in order, once for each lane.
     final fn from_fn<F: FnMut(usize) -> Self::Value>(mut f: F) -> Self
         requires { F.IsAlwaysCallable f }
-        ensures { (last : F) × AnswersFrom (λ p i x q. F.step p i x q) f 0 (lanes result) last }
+        ensures { (last : F) × FillsFrom (λ p i x q. F.step p i x q) f 0 (lanes result) last }
     {
         let mut value = Self::default();
         for lane in 0..Self::WIDTH {

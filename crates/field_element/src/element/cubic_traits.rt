@@ -38,7 +38,8 @@ impl Eq for Coefficients {
 impl PartialOrd for Coefficients {
     ghost partial_cmp = { λ x y. ⟦<Triple as PartialOrd>⟧.partial_cmp (stored_words x) (stored_words y) };
 
-    ghost laws = { on_po stored_words {E = ⟦<Triple as PartialEq>⟧.eq} {C = ⟦<Triple as PartialOrd>⟧.partial_cmp} (partial_order_from_own_ties (Prim.search (comparing, rules)) (Prim.search (comparing, rules))) };
+    ghost laws = { on_po stored_words {E = ⟦<Triple as PartialEq>⟧.eq} {C = ⟦<Triple as PartialOrd>⟧.partial_cmp}
+        (partial_order_from_own_ties (Prim.search (comparing, rules)) (Prim.search (comparing, rules))) };
 
     #[inline]
     fn partial_cmp(&self, other: &Coefficients) -> Option<Ordering> {
@@ -64,7 +65,8 @@ impl Ord for Coefficients {
 impl Hash for Coefficients {
     ghost hash_input = { λ x. ⟦<Triple as Hash>⟧.hash_input (stored_words x) };
 
-    ghost respects_eq = { λ x y same. ap ⟦<Triple as Hash>⟧.hash_input (same_number (stored_words x) (stored_words y) ((words_law (stored_words x) (stored_words y) (Prim.search rules)).0 same)) };
+    ghost respects_eq = { λ x y same. ap ⟦<Triple as Hash>⟧.hash_input
+        (same_number (stored_words x) (stored_words y) ((words_law (stored_words x) (stored_words y) (Prim.search rules)).0 same)) };
 
     fn hash<H: Hasher>(&self, state: &mut H) {
         self.words().hash(state);

@@ -6,7 +6,8 @@ ghost use Rattle.field_base.specs.Remainder.{mul_mod, poly64_modulus};
 ghost use Rattle.word_cubic.proofs.Field192.{field_192, fits_192, generator_nonzero_192, generator_order_192};
 ghost use Rattle.word_cubic.specs.Triple.{triple_number};
 ghost use Rattle.word_cubic.proofs.TripleNumbers.{same_number, words_law};
-ghost use Rattle.field_element.specs.Coefficients.{coefficients_of_number, same_coefficients, stored_number, stored_words};
+ghost use Rattle.field_element.specs.Coefficients.{coefficients_of_number, coefficients_of_words};
+ghost use Rattle.field_element.specs.Coefficients.{same_coefficients, stored_number, stored_words};
 
 use crate::element::{Coefficients, Element};
 use field_base::{Contains, FieldKernel, Joins, Stored};
@@ -42,7 +43,7 @@ impl Stored for Coefficients {
         ],
     };
 
-    ghost ZERO = { record { coefficients = record { repr = 0; field = record {}; in_range = lit< tt } ∷ record { repr = 0; field = record {}; in_range = lit< tt } ∷ record { repr = 0; field = record {}; in_range = lit< tt } ∷ []; three = refl } };
+    ghost ZERO = { coefficients_of_words 0 0 0 (lit< tt) (lit< tt) (lit< tt) };
 
     const ONE: Coefficients = Coefficients {
         coefficients: [
@@ -61,7 +62,7 @@ impl Stored for Coefficients {
         ],
     };
 
-    ghost ONE = { record { coefficients = record { repr = 1; field = record {}; in_range = lit< tt } ∷ record { repr = 0; field = record {}; in_range = lit< tt } ∷ record { repr = 0; field = record {}; in_range = lit< tt } ∷ []; three = refl } };
+    ghost ONE = { coefficients_of_words 1 0 0 (lit< tt) (lit< tt) (lit< tt) };
 
     ghost zero_number = { refl };
 
@@ -110,7 +111,7 @@ impl FieldKernel<Coefficients> for CubicKernel {
         ],
     };
 
-    ghost GENERATOR = { record { coefficients = record { repr = 5; field = record {}; in_range = lit< tt } ∷ record { repr = 3; field = record {}; in_range = lit< tt } ∷ record { repr = 1; field = record {}; in_range = lit< tt } ∷ []; three = refl } };
+    ghost GENERATOR = { coefficients_of_words 5 3 1 (lit< tt) (lit< tt) (lit< tt) };
 
     ghost reduced = { λ low high. stored_number low };
 

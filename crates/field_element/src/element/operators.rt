@@ -13,7 +13,10 @@ impl<R: Stored, K: Joins<R, S, J>, S: Stored, J: FieldKernel<S>> Add<Element<S, 
     for Element<R, K> {
     type Output = Element<K::Upper, K::Field>;
 
-    ghost add_gives = { λ x y r. K.Upper.number r.repr ≡ bit_xor (K.Field.Contains-1.image (R.number x.repr)) (K.Field.Contains-2.image (S.number y.repr)) };
+    ghost add_gives = { λ x y r.
+        let left = K.Field.Contains-1.image (R.number x.repr) in
+        let right = K.Field.Contains-2.image (S.number y.repr) in
+        K.Upper.number r.repr ≡ bit_xor left right };
 
     #[inline]
     fn add(self, other: Element<S, J>) -> Element<K::Upper, K::Field> {
@@ -43,7 +46,10 @@ impl<R: Stored, K: Joins<R, S, J>, S: Stored, J: FieldKernel<S>> Sub<Element<S, 
     for Element<R, K> {
     type Output = Element<K::Upper, K::Field>;
 
-    ghost sub_gives = { λ x y r. K.Upper.number r.repr ≡ bit_xor (K.Field.Contains-1.image (R.number x.repr)) (K.Field.Contains-2.image (S.number y.repr)) };
+    ghost sub_gives = { λ x y r.
+        let left = K.Field.Contains-1.image (R.number x.repr) in
+        let right = K.Field.Contains-2.image (S.number y.repr) in
+        K.Upper.number r.repr ≡ bit_xor left right };
 
     #[inline]
     fn sub(self, other: Element<S, J>) -> Element<K::Upper, K::Field> {
@@ -76,7 +82,10 @@ impl<R: Stored, K: Joins<R, S, J>, S: Stored, J: FieldKernel<S>> Mul<Element<S, 
     for Element<R, K> {
     type Output = Element<K::Upper, K::Field>;
 
-    ghost mul_gives = { λ x y r. K.Upper.number r.repr ≡ K.Field.product (K.Field.Contains-1.image (R.number x.repr)) (K.Field.Contains-2.image (S.number y.repr)) };
+    ghost mul_gives = { λ x y r.
+        let left = K.Field.Contains-1.image (R.number x.repr) in
+        let right = K.Field.Contains-2.image (S.number y.repr) in
+        K.Upper.number r.repr ≡ K.Field.product left right };
 
     #[inline]
     fn mul(self, other: Element<S, J>) -> Element<K::Upper, K::Field> {

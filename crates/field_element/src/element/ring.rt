@@ -4,7 +4,7 @@ ghost use Rattle.std.proofs.Common.{sym, subst, ◌∙◌};
 ghost use Rattle.field_base.specs.Operators.{given};
 ghost use Rattle.field_base.specs.Orders.{HasFullOrder};
 ghost use Rattle.field_base.specs.Powers.{repeated_square};
-ghost use Rattle.field_element.specs.Range.{one_in_range, word_in_range, word_number, zero_in_range};
+ghost use Rattle.field_element.specs.RangeLemmas.{number_of_stored, one_in_range, stored_in_range, zero_in_range};
 
 use crate::element::{Element, HasPacking, value};
 use field_base::traits::{Field, PrimeCharacteristicRing, Represented, Sealed, TowerLevel};
@@ -63,28 +63,28 @@ impl<R: Stored, K: FieldKernel<R>> PrimeCharacteristicRing for Element<R, K> {
         field: PhantomData,
     };
 
-    ghost ZERO = { record { repr = R.ZERO; field = record {}; in_range = zero_in_range K.width (R.number R.ZERO) R.zero_number K.wide_law } };
+    ghost ZERO = { record { repr = R.ZERO; field = record {}; in_range = zero_in_range K.width _ R.zero_number K.wide_law } };
 
     const ONE: Element<R, K> = Element {
         repr: R::ONE,
         field: PhantomData,
     };
 
-    ghost ONE = { record { repr = R.ONE; field = record {}; in_range = one_in_range K.width (R.number R.ONE) R.one_number K.wide_law } };
+    ghost ONE = { record { repr = R.ONE; field = record {}; in_range = one_in_range K.width _ R.one_number K.wide_law } };
 
     const TWO: Element<R, K> = Element {
         repr: R::ZERO,
         field: PhantomData,
     };
 
-    ghost TWO = { record { repr = R.ZERO; field = record {}; in_range = zero_in_range K.width (R.number R.ZERO) R.zero_number K.wide_law } };
+    ghost TWO = { record { repr = R.ZERO; field = record {}; in_range = zero_in_range K.width _ R.zero_number K.wide_law } };
 
     const NEG_ONE: Element<R, K> = Element {
         repr: R::ONE,
         field: PhantomData,
     };
 
-    ghost NEG_ONE = { record { repr = R.ONE; field = record {}; in_range = one_in_range K.width (R.number R.ONE) R.one_number K.wide_law } };
+    ghost NEG_ONE = { record { repr = R.ONE; field = record {}; in_range = one_in_range K.width _ R.one_number K.wide_law } };
 
     #[inline]
     fn square(&self) -> Element<R, K> {
@@ -144,7 +144,11 @@ impl<R: Stored, K: HasPacking<R>> Field for Element<R, K> {
         field: PhantomData,
     };
 
-    ghost GENERATOR = { record { repr = R.of_number K.generator; field = record {}; in_range = word_in_range K.width R.bits (R.number (R.of_number K.generator)) K.generator (R.number_of K.generator) K.generator_fits } };
+    ghost GENERATOR = { record {
+      repr = R.of_number K.generator;
+      field = record {};
+      in_range = stored_in_range K.width R.bits R.number R.of_number R.number_of K.generator K.generator_fits;
+    } };
 
     #[inline]
     fn bits() -> usize {
@@ -190,9 +194,12 @@ impl<R: Stored, K: HasPacking<R>> Field for Element<R, K> {
         }
     }
 
-    ghost generator_nonzero_law = { λ none. K.generator_nonzero (sym (word_number K.width R.bits (R.number (R.of_number K.generator)) K.generator (R.number_of K.generator) K.generator_fits K.room_law) ∙ none) };
+    ghost generator_nonzero_law = { λ none. K.generator_nonzero
+        (sym (number_of_stored K.width R.bits R.number R.of_number R.number_of K.room_law K.generator K.generator_fits) ∙ none) };
 
-    ghost generator_law = { λ small. subst (HasFullOrder K.width K.product) (sym (word_number K.width R.bits (R.number (R.of_number K.generator)) K.generator (R.number_of K.generator) K.generator_fits K.room_law)) (K.generator_law small) };
+    ghost generator_law = { λ small. subst (HasFullOrder K.width K.product)
+        (sym (number_of_stored K.width R.bits R.number R.of_number R.number_of K.room_law K.generator K.generator_fits))
+        (K.generator_law small) };
 
     ghost wide_law = { K.wide_law };
 
@@ -208,7 +215,14 @@ impl<R: Stored, K: HasPacking<R>> Field for Element<R, K> {
 
     ghost field_law = { K.field_law };
 
-    ghost every_law = { λ n fits. (record { repr = R.of_number n; field = record {}; in_range = word_in_range K.width R.bits (R.number (R.of_number n)) n (R.number_of n) fits }, word_number K.width R.bits (R.number (R.of_number n)) n (R.number_of n) fits K.room_law) };
+    ghost every_law = { λ n fits. (
+      record {
+        repr = R.of_number n;
+        field = record {};
+        in_range = stored_in_range K.width R.bits R.number R.of_number R.number_of n fits;
+      },
+      number_of_stored K.width R.bits R.number R.of_number R.number_of K.room_law n fits,
+    ) };
 }
 
 impl<R: Unsigned, K: LevelKernel<R> + HasPacking<R>> Sealed for Element<R, K> {}
@@ -262,9 +276,11 @@ impl<R: Unsigned, K: LevelKernel<R> + HasPacking<R>> TowerLevel for Element<R, K
 
     ghost cantor_law = { K.cantor_law };
 
-    ghost cantor_image_law = { basis-cantor K.LOG_BITS K.width K.product K.basis K.field_law.ring K.basis_law K.cantor K.cantor_law K.bits_law };
+    ghost cantor_image_law = { basis-cantor K.LOG_BITS K.width K.product K.basis
+        K.field_law.ring K.basis_law K.cantor K.cantor_law K.bits_law };
 
-    ghost generator_image_law = { word_number K.width R.bits (R.number (R.of_number K.generator)) K.generator (R.number_of K.generator) K.generator_fits K.room_law ∙ K.generator_image_law };
+    ghost generator_image_law = { number_of_stored K.width R.bits R.number R.of_number R.number_of K.room_law K.generator K.generator_fits
+        ∙ K.generator_image_law };
 
     ghost no_root_law = { basis-no_root K.LOG_BITS K.width K.product K.basis K.field_law.ring K.basis_law };
 }

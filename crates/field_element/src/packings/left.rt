@@ -1,10 +1,10 @@
 // The operators of packings with an element on the left: one of the packing's field, and one of `BinaryField128` for packings of
 // `Ghash128`. It, or its image, stands in every lane.
 ghost use Rattle.std.specs.Prelude.{◌≡◌, bit_xor, map, replicate};
-ghost use Rattle.field_base.specs.Basis.{basis_image, ghash_images};
 ghost use Rattle.field_base.specs.Remainder.{ghash_modulus, mul_mod};
 ghost use Rattle.field_element.specs.Element.{repr_of};
-ghost use Rattle.packed_lanes.specs.Packed.{lanes_of};
+ghost use Rattle.field_element.specs.GhashLanes.{ghash_image};
+ghost use Rattle.packed_lanes.specs.Packed.{EachLaneIs, lanes_of};
 ghost use Rattle.packed_lanes.specs.Lanes.{lane_by_lane};
 
 use crate::element::{Element, HasPacking};
@@ -38,7 +38,8 @@ impl<R: Stored, K: HasPacking<R>, const N: usize> Sub<Packed<Element<R, K>, N>> 
 impl<R: Stored, K: HasPacking<R>, const N: usize> Mul<Packed<Element<R, K>, N>> for Element<R, K> {
     type Output = Packed<Element<R, K>, N>;
 
-    ghost mul_gives = { λ x y r. map repr_of (lanes_of r) ≡ lane_by_lane K.product (map repr_of (lanes_of y)) (map repr_of (replicate N x)) };
+    ghost mul_gives = { λ x y r.
+        map repr_of (lanes_of r) ≡ lane_by_lane K.product (map repr_of (lanes_of y)) (map repr_of (replicate N x)) };
 
     #[inline]
     fn mul(self, other: Packed<Element<R, K>, N>) -> Packed<Element<R, K>, N> {
@@ -49,7 +50,7 @@ impl<R: Stored, K: HasPacking<R>, const N: usize> Mul<Packed<Element<R, K>, N>> 
 impl Add<PackedGhash128> for BinaryField128 {
     type Output = PackedGhash128;
 
-    ghost add_gives = { λ x y r. map repr_of (lanes_of r) ≡ lane_by_lane bit_xor (map repr_of (lanes_of y)) (replicate 4 (basis_image 128 ghash_modulus ghash_images (repr_of x))) };
+    ghost add_gives = { λ x y r. EachLaneIs repr_of r bit_xor y (ghash_image (repr_of x)) };
 
     #[inline]
     fn add(self, other: PackedGhash128) -> PackedGhash128 {
@@ -60,7 +61,7 @@ impl Add<PackedGhash128> for BinaryField128 {
 impl Sub<PackedGhash128> for BinaryField128 {
     type Output = PackedGhash128;
 
-    ghost sub_gives = { λ x y r. map repr_of (lanes_of r) ≡ lane_by_lane bit_xor (map repr_of (lanes_of y)) (replicate 4 (basis_image 128 ghash_modulus ghash_images (repr_of x))) };
+    ghost sub_gives = { λ x y r. EachLaneIs repr_of r bit_xor y (ghash_image (repr_of x)) };
 
     #[inline]
     fn sub(self, other: PackedGhash128) -> PackedGhash128 {
@@ -71,7 +72,7 @@ impl Sub<PackedGhash128> for BinaryField128 {
 impl Mul<PackedGhash128> for BinaryField128 {
     type Output = PackedGhash128;
 
-    ghost mul_gives = { λ x y r. map repr_of (lanes_of r) ≡ lane_by_lane (mul_mod 128 ghash_modulus) (map repr_of (lanes_of y)) (replicate 4 (basis_image 128 ghash_modulus ghash_images (repr_of x))) };
+    ghost mul_gives = { λ x y r. EachLaneIs repr_of r (mul_mod 128 ghash_modulus) y (ghash_image (repr_of x)) };
 
     #[inline]
     fn mul(self, other: PackedGhash128) -> PackedGhash128 {

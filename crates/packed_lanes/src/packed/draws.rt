@@ -1,5 +1,5 @@
 // Packings drawn at random.
-ghost use Rattle.packed_lanes.specs.Lanes.{AnswersFrom};
+ghost use Rattle.std.specs.Array.{FillsFrom};
 
 use crate::packed::{Packed, WiderField};
 use rand::distr::SampleStandard;
@@ -7,7 +7,7 @@ use rand_core::Rng;
 
 impl<F: WiderField + SampleStandard, const N: usize> SampleStandard for Packed<F, N> {
     // Each lane is drawn, lane 0 first.
-    ghost draws = { λ s x t. AnswersFrom (λ before i lane after. F.draws before lane after) s 0 x.lanes t };
+    ghost draws = { λ s x t. FillsFrom (λ before i lane after. F.draws before lane after) s 0 x.lanes t };
 
     fn sample_standard<R: Rng>(rng: &mut R) -> Packed<F, N> {
         let mut lanes = [F::ZERO; N];

@@ -1,14 +1,15 @@
 // Loops over lanes: one of two slices or packings, and one of a slice alone.
 ghost use Rattle.std.specs.Prelude.{◌≡◌, ◌<◌, ℕ, length, slice_index_or};
+ghost use Rattle.packed_lanes.specs.Lanes.{AtEachPlace};
 
 use crate::packed::Packed;
 
 impl<F: Copy, const N: usize> Packed<F, N> {
-    // What `operation` gives for the lanes of both, place by place.
+    // What `operation` returns for the lanes of both, place by place.
     #[inline]
     pub(crate) fn zip<O: Fn(F, F) -> F>(self, other: Packed<F, N>, operation: O) -> Packed<F, N>
         requires { O.IsAlwaysCallable operation }
-        ensures { (k : ℕ) (d : F) → k < N → O.post operation (slice_index_or self.lanes k d) (slice_index_or other.lanes k d) (slice_index_or result.lanes k d) }
+        ensures { AtEachPlace (λ x y z. O.post operation x y z) N self.lanes other.lanes result.lanes }
     {
         let mut lanes = self.lanes;
         zip_lanes(lanes.as_mut_slice(), other.lanes.as_slice(), operation);
@@ -16,20 +17,20 @@ impl<F: Copy, const N: usize> Packed<F, N> {
     }
 }
 
-// Replaces each element of `left` by what `operation` gives for it and the element of `right` at its place.
+// Replaces each element of `left` by what `operation` returns for it and the element of `right` at its place.
 #[inline]
 pub(crate) fn zip_lanes<F: Copy, O: Fn(F, F) -> F>(left: &mut [F], right: &[F], operation: O)
     requires long { length left.old ≡ length right.now }
     requires callable { O.IsAlwaysCallable operation }
     ensures long { length left.new ≡ length left.old }
-    ensures each { (k : ℕ) (d : F) → k < length left.old → O.post operation (slice_index_or left.old k d) (slice_index_or right.now k d) (slice_index_or left.new k d) }
+    ensures each { AtEachPlace (λ x y z. O.post operation x y z) (length left.old) left.old right.now left.new }
 {
     for lane in 0..right.len() {
         left[lane] = operation(left[lane], right[lane]);
     }
 }
 
-// Replaces each element by what `operation` gives for it.
+// Replaces each element by what `operation` returns for it.
 #[inline]
 pub(crate) fn map_lanes<F: Copy, O: Fn(F) -> F>(lanes: &mut [F], operation: O)
     requires callable { O.IsAlwaysCallable operation }

@@ -8,7 +8,7 @@ use crate::packed::{Packed, WiderField};
 use field_base::traits::Field;
 
 impl<F: WiderField, const N: usize> Packed<F, N> {
-    ghost use Rattle.packed_lanes.specs.Packed.{lanes_of};
+    ghost use Rattle.packed_lanes.specs.Packed.{InvertsLanes, lanes_of};
 
     /// Each lane squared `count` times.
     pub fn frobenius(self, count: usize) -> Packed<F, N>
@@ -26,7 +26,7 @@ impl<F: WiderField, const N: usize> Packed<F, N> {
 
     /// The inverse of each lane, and 0 where a lane is 0.
     pub fn invert_or_zero(self) -> Packed<F, N>
-        ensures { (k : ℕ) (d : F) → k < N → IsInverseOrZero F.product (F.repr (slice_index_or (lanes_of self) k d)) (F.repr (slice_index_or (lanes_of result) k d)) }
+        ensures { InvertsLanes F.repr F.product self result }
     {
         let mut lanes = self.lanes;
         map_lanes(lanes.as_mut_slice(), inverse_or_zero::<F>);

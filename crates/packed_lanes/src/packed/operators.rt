@@ -67,7 +67,9 @@ impl<F: WiderField, const N: usize> Default for Packed<F, N> {
 }
 
 impl<F: WiderField, const N: usize> Sum<Packed<F, N>> for Packed<F, N> {
-    ghost sum_gives = { λ xs r. joined F.width (map F.repr r.lanes) ≡ sum_of (λ x. joined F.width (map F.repr x.lanes)) xs };
+    ghost use Rattle.packed_lanes.specs.Packed.{IsSumOfPackings};
+
+    ghost sum_gives = { λ xs r. IsSumOfPackings F.width F.repr xs r };
 
     fn sum<I: Iterator<Item = Packed<F, N>>>(iter: I) -> Packed<F, N> {
         sum_of_items(iter, Packed::broadcast(F::ZERO))
@@ -75,7 +77,9 @@ impl<F: WiderField, const N: usize> Sum<Packed<F, N>> for Packed<F, N> {
 }
 
 impl<F: WiderField, const N: usize> Product<Packed<F, N>> for Packed<F, N> {
-    ghost product_gives = { λ xs r. joined F.width (map F.repr r.lanes) ≡ product_of (joined F.width (replicate N F.unit)) (lane_product F.width F.product N) (λ x. joined F.width (map F.repr x.lanes)) xs };
+    ghost use Rattle.packed_lanes.specs.Packed.{IsProductOfPackings};
+
+    ghost product_gives = { λ xs r. IsProductOfPackings F.width F.repr F.unit F.product xs r };
 
     fn product<I: Iterator<Item = Packed<F, N>>>(iter: I) -> Packed<F, N> {
         product_of_items(iter, Packed::broadcast(F::ONE))

@@ -4,7 +4,8 @@ ghost use Rattle.std.proofs.Common.{sym, ◌∙◌, ap};
 ghost use Rattle.std.proofs.lemmas.List.{length-replicate};
 ghost use Rattle.field_base.specs.Operators.{given, ring_gives};
 ghost use Rattle.field_base.specs.Chunks.{joined};
-ghost use Rattle.packed_lanes.specs.LaneListLemmas.{equal_lanes, every_bit, every_zero, number_of_every, product_number, sum_number};
+ghost use Rattle.packed_lanes.specs.LaneListLemmas.{every_bit, every_zero, map-every};
+ghost use Rattle.packed_lanes.specs.PackedLemmas.{packed_equal, packed_product, packed_sum};
 
 use crate::packed::{Packed, WiderField};
 use field_base::Gf2;
@@ -35,23 +36,23 @@ impl<F: WiderField, const N: usize> PrimeCharacteristicRing for Packed<F, N> {
 
     ghost NEG_ONE = { record { lanes = replicate N F.ONE; long = length-replicate N F.ONE } };
 
-    ghost zero_law = { number_of_every F.width _ F.repr F.range_law N F.ZERO ∙ ap (λ a. joined F.width (replicate N a)) F.zero_law ∙ every_zero F.width N };
+    ghost zero_law = { ap (joined F.width) (map-every F.repr N 0 F.ZERO _ refl F.zero_law) ∙ every_zero F.width N };
 
-    ghost one_law = { number_of_every F.width _ F.repr F.range_law N F.ONE ∙ ap (λ a. joined F.width (replicate N a)) F.one_law };
+    ghost one_law = { ap (joined F.width) (map-every F.repr N F.unit F.ONE _ refl F.one_law) };
 
     ghost two_law = { refl };
 
     ghost neg_one_law = { refl };
 
-    ghost eq_law = { λ x y. equal_lanes F.width _ F.repr F.range_law F.PartialEq.eq F.eq_law F.same_law x.lanes y.lanes (x.long ∙ sym y.long) };
+    ghost eq_law = { packed_equal F.width F.repr F.range_law F.PartialEq.eq F.eq_law F.same_law };
 
     ghost default_law = { λ r is. ap (joined F.width) is ∙ every_zero F.width N };
 
     ghost from_law = { λ x r is. ap (joined F.width) is ∙ every_bit F.width F.unit N (bit_of x) x.in_range };
 
     ghost operators_law = { λ x y. ring_gives
-        (λ r is. sum_number F.width _ F.repr F.range_law x.lanes y.lanes r.lanes (x.long ∙ sym y.long) is)
-        (λ r is. product_number F.width _ F.repr F.range_law F.unit F.product F.ring_law N x.lanes y.lanes r.lanes x.long y.long is)
+        (packed_sum F.width F.repr F.range_law x y)
+        (packed_product F.width F.repr F.range_law F.unit F.product F.ring_law x y)
         (λ r is. ap (joined F.width) is) };
 
     ghost totals_law = { λ xs. (given, given) };

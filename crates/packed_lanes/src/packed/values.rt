@@ -1,18 +1,18 @@
 // Packings beside one value, which stands in every lane: the operators with an element of their field on the right, and with an
 // element of GF(2) on either side, sums and products of many elements, and the packings as algebras over both.
 ghost use Rattle.std.specs.Prelude.{◌≡◌, ◌*◌, bit_xor, map, refl, replicate};
-ghost use Rattle.std.proofs.Common.{sym, ◌∙◌, ap};
-ghost use Rattle.std.proofs.lemmas.List.{length-replicate};
+ghost use Rattle.std.proofs.Common.{◌∙◌, ap};
 ghost use native.Mathlib.Nat.{one-mul};
 ghost use Rattle.field_base.specs.Bit.{bit_number as bit_of};
 ghost use Rattle.field_base.specs.Operators.{algebra_gives};
 ghost use Rattle.field_base.specs.Powers.{product_of, sum_of};
 ghost use Rattle.field_base.specs.Chunks.{joined};
-ghost use Rattle.packed_lanes.specs.LaneRingLemmas.{lanes_ring};
 ghost use Rattle.packed_lanes.specs.Lanes.{lane_by_lane, lane_product};
-ghost use Rattle.packed_lanes.specs.BitImageLemmas.{bit_fits, bit_product, bit_same, bit_sum};
-ghost use Rattle.packed_lanes.specs.LaneListLemmas.{every_below, every_bit, every_product, every_same, every_sum, number_of_every, product_number, product_with_every, sum_number, sum_with_every};
-ghost use Rattle.packed_lanes.specs.Packed.{lanes_of};
+ghost use Rattle.packed_lanes.specs.BitImageLemmas.{bit_same, bit_sum};
+ghost use Rattle.packed_lanes.specs.LaneListLemmas.{every_bit, every_product, every_same, every_sum, number_of_every};
+ghost use Rattle.packed_lanes.specs.Packed.{EachLaneIs};
+ghost use Rattle.packed_lanes.specs.PackedLemmas.{packed_bit_product, packed_product_bit, packed_product_one};
+ghost use Rattle.packed_lanes.specs.PackedLemmas.{packed_sum_bit, packed_sum_one};
 
 use crate::packed::{Packed, WiderField};
 use field_base::Gf2;
@@ -83,7 +83,7 @@ impl<F: WiderField, const N: usize> MulAssign<F> for Packed<F, N> {
 impl<F: WiderField, const N: usize> Add<Gf2> for Packed<F, N> {
     type Output = Packed<F, N>;
 
-    ghost add_gives = { λ x y r. map F.repr r.lanes ≡ lane_by_lane bit_xor (map F.repr x.lanes) (replicate N (bit_of y * F.unit)) };
+    ghost add_gives = { λ x y r. EachLaneIs F.repr r bit_xor x (bit_of y * F.unit) };
 
     #[inline]
     fn add(self, bit: Gf2) -> Packed<F, N> {
@@ -93,7 +93,7 @@ impl<F: WiderField, const N: usize> Add<Gf2> for Packed<F, N> {
 }
 
 impl<F: WiderField, const N: usize> AddAssign<Gf2> for Packed<F, N> {
-    ghost add_assign_gives = { λ x y r. map F.repr r.lanes ≡ lane_by_lane bit_xor (map F.repr x.lanes) (replicate N (bit_of y * F.unit)) };
+    ghost add_assign_gives = { λ x y r. EachLaneIs F.repr r bit_xor x (bit_of y * F.unit) };
 
     #[inline]
     fn add_assign(&mut self, bit: Gf2) {
@@ -104,7 +104,7 @@ impl<F: WiderField, const N: usize> AddAssign<Gf2> for Packed<F, N> {
 impl<F: WiderField, const N: usize> Sub<Gf2> for Packed<F, N> {
     type Output = Packed<F, N>;
 
-    ghost sub_gives = { λ x y r. map F.repr r.lanes ≡ lane_by_lane bit_xor (map F.repr x.lanes) (replicate N (bit_of y * F.unit)) };
+    ghost sub_gives = { λ x y r. EachLaneIs F.repr r bit_xor x (bit_of y * F.unit) };
 
     #[inline]
     fn sub(self, bit: Gf2) -> Packed<F, N> {
@@ -113,7 +113,7 @@ impl<F: WiderField, const N: usize> Sub<Gf2> for Packed<F, N> {
 }
 
 impl<F: WiderField, const N: usize> SubAssign<Gf2> for Packed<F, N> {
-    ghost sub_assign_gives = { λ x y r. map F.repr r.lanes ≡ lane_by_lane bit_xor (map F.repr x.lanes) (replicate N (bit_of y * F.unit)) };
+    ghost sub_assign_gives = { λ x y r. EachLaneIs F.repr r bit_xor x (bit_of y * F.unit) };
 
     #[inline]
     fn sub_assign(&mut self, bit: Gf2) {
@@ -124,7 +124,7 @@ impl<F: WiderField, const N: usize> SubAssign<Gf2> for Packed<F, N> {
 impl<F: WiderField, const N: usize> Mul<Gf2> for Packed<F, N> {
     type Output = Packed<F, N>;
 
-    ghost mul_gives = { λ x y r. map F.repr r.lanes ≡ lane_by_lane F.product (map F.repr x.lanes) (replicate N (bit_of y * F.unit)) };
+    ghost mul_gives = { λ x y r. EachLaneIs F.repr r F.product x (bit_of y * F.unit) };
 
     #[inline]
     fn mul(self, bit: Gf2) -> Packed<F, N> {
@@ -134,7 +134,7 @@ impl<F: WiderField, const N: usize> Mul<Gf2> for Packed<F, N> {
 }
 
 impl<F: WiderField, const N: usize> MulAssign<Gf2> for Packed<F, N> {
-    ghost mul_assign_gives = { λ x y r. map F.repr r.lanes ≡ lane_by_lane F.product (map F.repr x.lanes) (replicate N (bit_of y * F.unit)) };
+    ghost mul_assign_gives = { λ x y r. EachLaneIs F.repr r F.product x (bit_of y * F.unit) };
 
     #[inline]
     fn mul_assign(&mut self, bit: Gf2) {
@@ -145,7 +145,7 @@ impl<F: WiderField, const N: usize> MulAssign<Gf2> for Packed<F, N> {
 impl<F: WiderField, const N: usize> Add<Packed<F, N>> for Gf2 {
     type Output = Packed<F, N>;
 
-    ghost add_gives = { λ x y r. map F.repr (lanes_of r) ≡ lane_by_lane bit_xor (map F.repr (lanes_of y)) (replicate N (bit_of x * F.unit)) };
+    ghost add_gives = { λ x y r. EachLaneIs F.repr r bit_xor y (bit_of x * F.unit) };
 
     #[inline]
     fn add(self, packed: Packed<F, N>) -> Packed<F, N> {
@@ -156,7 +156,7 @@ impl<F: WiderField, const N: usize> Add<Packed<F, N>> for Gf2 {
 impl<F: WiderField, const N: usize> Sub<Packed<F, N>> for Gf2 {
     type Output = Packed<F, N>;
 
-    ghost sub_gives = { λ x y r. map F.repr (lanes_of r) ≡ lane_by_lane bit_xor (map F.repr (lanes_of y)) (replicate N (bit_of x * F.unit)) };
+    ghost sub_gives = { λ x y r. EachLaneIs F.repr r bit_xor y (bit_of x * F.unit) };
 
     #[inline]
     fn sub(self, packed: Packed<F, N>) -> Packed<F, N> {
@@ -167,7 +167,7 @@ impl<F: WiderField, const N: usize> Sub<Packed<F, N>> for Gf2 {
 impl<F: WiderField, const N: usize> Mul<Packed<F, N>> for Gf2 {
     type Output = Packed<F, N>;
 
-    ghost mul_gives = { λ x y r. map F.repr (lanes_of r) ≡ lane_by_lane F.product (map F.repr (lanes_of y)) (replicate N (bit_of x * F.unit)) };
+    ghost mul_gives = { λ x y r. EachLaneIs F.repr r F.product y (bit_of x * F.unit) };
 
     #[inline]
     fn mul(self, packed: Packed<F, N>) -> Packed<F, N> {
@@ -207,8 +207,8 @@ impl<F: WiderField, const N: usize> Algebra<F> for Packed<F, N> {
     ghost image_from_law = { λ x r is. ap (λ xs. joined F.width (map F.repr xs)) is ∙ number_of_every F.width _ F.repr F.range_law N x };
 
     ghost operators_law = { λ x y. algebra_gives
-        (λ r is. sum_number F.width _ F.repr F.range_law x.lanes (replicate N y) r.lanes (x.long ∙ sym (length-replicate N y)) is ∙ ap (bit_xor (joined F.width (map F.repr x.lanes))) (number_of_every F.width _ F.repr F.range_law N y))
-        (λ r is. product_number F.width _ F.repr F.range_law F.unit F.product F.ring_law N x.lanes (replicate N y) r.lanes x.long (length-replicate N y) is ∙ ap (lane_product F.width F.product N (joined F.width (map F.repr x.lanes))) (number_of_every F.width _ F.repr F.range_law N y)) };
+        (packed_sum_one F.width F.repr F.range_law x y)
+        (packed_product_one F.width F.repr F.range_law F.unit F.product F.ring_law x y) };
 }
 
 impl<F: WiderField, const N: usize> Algebra<Gf2> for Packed<F, N> {
@@ -218,13 +218,13 @@ impl<F: WiderField, const N: usize> Algebra<Gf2> for Packed<F, N> {
 
     ghost image_sum_law = { λ a b a_fits b_fits. bit_sum (joined F.width (replicate N F.unit)) a a_fits b b_fits };
 
-    ghost image_product_law = { λ a b a_fits b_fits. bit_product (N * F.width) (joined F.width (replicate N F.unit)) (lane_product F.width F.product N) (lanes_ring F.width F.unit F.product F.ring_law F.unit_fits N) (every_below F.width N F.unit F.unit_fits) a a_fits b b_fits };
+    ghost image_product_law = { packed_bit_product F.width F.unit F.product F.ring_law F.unit_fits N };
 
-    ghost image_injective_law = { λ proper a b a_fits b_fits same. bit_same (joined F.width (replicate N F.unit)) proper a a_fits b b_fits same };
+    ghost image_injective_law = { λ proper a b a_fits b_fits. bit_same (joined F.width (replicate N F.unit)) proper a a_fits b b_fits };
 
     ghost image_from_law = { λ x r is. ap (joined F.width) is ∙ every_bit F.width F.unit N (bit_of x) x.in_range };
 
     ghost operators_law = { λ x y. algebra_gives
-        (λ r is. sum_with_every F.width _ F.repr F.range_law N (bit_of y * F.unit) (bit_fits F.width F.unit F.unit_fits (bit_of y) y.in_range) x.lanes r.lanes x.long is ∙ ap (bit_xor (joined F.width (map F.repr x.lanes))) (every_bit F.width F.unit N (bit_of y) y.in_range))
-        (λ r is. product_with_every F.width _ F.repr F.range_law F.unit F.product F.ring_law N (bit_of y * F.unit) (bit_fits F.width F.unit F.unit_fits (bit_of y) y.in_range) x.lanes r.lanes x.long is ∙ ap (lane_product F.width F.product N (joined F.width (map F.repr x.lanes))) (every_bit F.width F.unit N (bit_of y) y.in_range)) };
+        (packed_sum_bit F.width F.repr F.range_law F.unit F.unit_fits x (bit_of y) y.in_range)
+        (packed_product_bit F.width F.repr F.range_law F.unit F.product F.ring_law F.unit_fits x (bit_of y) y.in_range) };
 }

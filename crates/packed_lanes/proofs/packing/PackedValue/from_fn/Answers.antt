@@ -1,7 +1,7 @@
 use Rattle.std.proofs.Common.{◌≡◌, ◌+◌, ◌<◌, ◌≤◌, ℕ, length, take, subst, sym, ◌∙◌, ap, arith, of_calls}
 use Rattle.std.proofs.lemmas.List.{length-take, take_all, take_more_set}
-use Rattle.packed_lanes.specs.Lanes.{AnswersFrom}
-use Rattle.packed_lanes.proofs.LaneAnswers.{answers_more}
+use Rattle.std.specs.Array.{FillsFrom}
+use Rattle.packed_lanes.proofs.FillLemmas.{fills_more}
 use Rattle.packed_lanes.proofs.packing.PackedValue.from_fn.Goals as goal
 
 pub loop-lane-preserved : goal.loop-lane-preserved
@@ -14,8 +14,8 @@ loop-lane-preserved g c =
     let so_far = length-take lane before in
     let place : lane ≡ 0 + length (take lane before) = omega (arith, so_far, within) in (
       search of_calls,
-      subst (λ xs. AnswersFrom (λ p i x q. goal.F-step g p i x q) c.args.f 0 xs c.f-answer.new.self) (sym written)
-          (answers_more (λ p i x q. goal.F-step g p i x q) c.args.f 0 lane (take lane before) c.loop-lane.f c.f-answer.new.self
+      subst (λ xs. FillsFrom (λ p i x q. goal.F-step g p i x q) c.args.f 0 xs c.f-answer.new.self) (sym written)
+          (fills_more (λ p i x q. goal.F-step g p i x q) c.args.f 0 lane (take lane before) c.loop-lane.f c.f-answer.new.self
           c.f-answer.result place c.loop-lane.invariant.1 c.f-answer.ensures),
     )
 
@@ -26,6 +26,6 @@ returns g c =
     let long = g.met.Self.PackedValue.width_law c.loop-lane.value in
     let all : length lanes ≤ lane = omega (arith, long, c.WIDTH-lane-end.ensures, c.loop-lane-test.false) in (
       c.loop-lane.f,
-      subst (λ xs. AnswersFrom (λ p i x q. goal.F-step g p i x q) c.args.f 0 xs c.loop-lane.f) (take_all lane lanes all)
+      subst (λ xs. FillsFrom (λ p i x q. goal.F-step g p i x q) c.args.f 0 xs c.loop-lane.f) (take_all lane lanes all)
           c.loop-lane.invariant.1,
     )

@@ -1,7 +1,7 @@
 use Rattle.std.proofs.Common.{◌≡◌, ◌+◌, ◌<◌, ◌≤◌, length, take, subst, sym, ◌∙◌, arith}
 use Rattle.std.proofs.lemmas.List.{length-set, length-take, take_all, take_more_set}
-use Rattle.packed_lanes.specs.Lanes.{AnswersFrom}
-use Rattle.packed_lanes.proofs.LaneAnswers.{answers_more}
+use Rattle.std.specs.Array.{FillsFrom}
+use Rattle.packed_lanes.proofs.FillLemmas.{fills_more}
 use Rattle.packed_lanes.proofs.packed.draws.PackedSampleStandard.sample_standard.Goals as goal
 
 pub loop-lane-preserved : goal.loop-lane-preserved
@@ -16,8 +16,8 @@ loop-lane-preserved g c =
     let so_far = length-take lane lanes in
     let place : lane ≡ 0 + length (take lane lanes) = omega (arith, so_far, within) in (
       length-set lanes lane drawn ∙ c.loop-lane.invariant.0,
-      subst (λ xs. AnswersFrom (λ s i x t. g.F.SampleStandard.draws s x t) start 0 xs after) (sym (take_more_set lanes lane drawn within))
-          (answers_more (λ s i x t. g.F.SampleStandard.draws s x t) start 0 lane (take lane lanes) before after drawn place
+      subst (λ xs. FillsFrom (λ s i x t. g.F.SampleStandard.draws s x t) start 0 xs after) (sym (take_more_set lanes lane drawn within))
+          (fills_more (λ s i x t. g.F.SampleStandard.draws s x t) start 0 lane (take lane lanes) before after drawn place
           c.loop-lane.invariant.1 c.sample_standard.ensures.drawn),
     )
 
@@ -28,4 +28,4 @@ returns-clause-drawn g c =
     let start = g.R.Rng.stream c.args.rng.now in
     let last = g.R.Rng.stream c.loop-lane.rng in
     let all : length lanes ≤ lane = omega (arith, c.loop-lane.invariant.0, c.loop-lane-test.false) in
-    subst (λ xs. AnswersFrom (λ s i x t. g.F.SampleStandard.draws s x t) start 0 xs last) (take_all lane lanes all) c.loop-lane.invariant.1
+    subst (λ xs. FillsFrom (λ s i x t. g.F.SampleStandard.draws s x t) start 0 xs last) (take_all lane lanes all) c.loop-lane.invariant.1

@@ -8,6 +8,7 @@ use Rattle.field_base.specs.Tower.{tower_mul}
 use Rattle.field_base.proofs.RingLemmas.{times-zero, zero-times}
 
 module _ (width : ℕ) (times : ℕ → ℕ → ℕ) (ring : IsRing width 1 times) (wide : 0 < width) where
+  -- the product of two bits in GF(2) is their product in the field
   pub bit_product : (a : ℕ) → a < 2 → (b : ℕ) → b < 2 → tower_mul 0 a b ≡ times a b
   unfolding tower_mul
   bit_product =
@@ -19,9 +20,10 @@ module _ (width : ℕ) (times : ℕ → ℕ → ℕ) (ring : IsRing width 1 time
       one_fits : 1 < 2 ^ width
       one_fits = pow_below 0 width wide
 
-  -- the product with a bit
+  -- x · 1 = x
   pub times_one : (x : ℕ) → x < 2 ^ width → x ≡ times x 1
   times_one x fits = sym (ring.comm x 1 ∙ ring.one x ∙ mod-eq_of_lt fits)
 
+  -- x · 0 = 0
   pub times_none : (x : ℕ) → 0 ≡ times x 0
   times_none x = sym (times-zero width 1 times ring x)
