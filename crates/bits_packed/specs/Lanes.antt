@@ -1,13 +1,13 @@
 -- Lanes. Lane i of packed bits is bit i of their number, which is bit i modulo W of word i divided by W.
 use Rattle.std.specs.Prelude.{◌≡◌, ◌≢◌, ◌<◌, ℕ, ◌%◌, ◌^◌, List, slice_index, drop, bit_and}
-use Rattle.bits_rows.specs.Parts.{parts_of}
+use Rattle.field_base.specs.Chunks.{chunks}
 use Rattle.std.specs.Int.{bit_at}
 
 -- lanes 0 to width - 1 of a number, in order
 abbrev pub bits_of : ℕ → ℕ → List ℕ
-bits_of width n = parts_of 1 width n
+bits_of width n = chunks 1 width n
 
--- those from lane `next` on
+-- lanes `next` to width - 1, in order
 abbrev pub lanes_from : ℕ → ℕ → ℕ → List ℕ
 lanes_from width next n = drop next (bits_of width n)
 
@@ -21,11 +21,11 @@ abbrev pub AreTransposed : ℕ → List ℕ → List ℕ → Type 0
 AreTransposed width before after =
     (i j : ℕ) → i < width → j < width → bit_at (slice_index after i) j ≡ bit_at (slice_index before j) i
 
--- the product of packed bits: lanes that are 1 in both, below `width`
+-- the product of packed bits: the lanes below `width` that are 1 in both
 abbrev pub bitwise_product : ℕ → ℕ → ℕ → ℕ
 bitwise_product width a b = bit_and a b % 2 ^ width
 
--- square rows that are transposed twice are the rows
+-- transposing a square matrix twice gives the matrix back
 abbrev pub TransposingTwiceReturns : Type 0
 TransposingTwiceReturns =
     (width : ℕ) (rows turned again : List ℕ)
