@@ -86,7 +86,7 @@ whole_words w a block width some power size more =
     let count : block / w ≡ 2 ^ words.0 = ap (λ (x : ℕ). x / w) (words.1 ∙ omega arith) ∙ div-mul-add (2 ^ words.0) w 0 some in
     ap (λ (x : ℕ). w * x) count ∙ mul_comm w (2 ^ words.0) ∙ sym words.1
 
--- so are the words that the code counts, which names the bits of a word
+-- whole_words, where the code names the bits of a word
 pub block_of_words : (w a block width : ℕ) {bits : ℕ} → w ≡ 2 ^ a → IsBlockSize width block → bits ≡ w → bits ≤ block → w * (block / bits) ≡ block
 block_of_words w a block width {bits} power size is more =
     ap (λ (z : ℕ). w * (block / z)) is

@@ -13,7 +13,7 @@ use Rattle.bits_rows.proofs.PartLists.{part_pushed}
 use Rattle.bits_packed.specs.Lanes.{IsWithLane, lanes_from}
 
 -- lane j is digit j in base 2
-lane-as_part : (n j : ℕ) → bit_at n j ≡ chunk 1 j n
+pub lane-as_part : (n j : ℕ) → bit_at n j ≡ chunk 1 j n
 lane-as_part n j = let same : 1 * j ≡ j = omega arith in ap (λ (k : ℕ). n / 2 ^ k % 2) (sym same)
 
 -- writing a lane writes the digit of one bit in its place

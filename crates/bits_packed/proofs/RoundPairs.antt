@@ -40,7 +40,7 @@ upper_mixed width s r x y z old some even upper lower first = subst (λ (t : ℕ
             (first j lane).1 odd ∙ lower (j - s) (omega arith)
             ∙ place old (mixed s (r + s) (j - s)) (mixed s (j - s) (r + s)) (mixed (s + s) r j) (mixed (s + s) j r) (even_mixed s r j some even odd above) (odd_mixed s j r some odd even above)
 
--- and the lower one
+-- the lower row of a pair after its round
 pub lower_mixed : (width q s r x y z : ℕ) (old : List ℕ) → 0 < s → width ≡ q * (2 * s) → r / s % 2 ≡ 0
     → IsMixed width s old r x → IsMixed width s old (r + s) y → HasSecondBlocks width s x y z → IsMixed width (2 * s) old (r + s) z
 lower_mixed width q s r x y z old some is even upper lower second = subst (λ (t : ℕ). IsMixed width t old (r + s) z) (twice s) at

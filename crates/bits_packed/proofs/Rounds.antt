@@ -311,7 +311,7 @@ groups_are width q t c some is all =
     let count : width / t ≡ q = ap (λ (x : ℕ). x / t) (is ∙ sym none) ∙ div-mul-add q t 0 some in
     ap (λ (x : ℕ). x * t) (all ∙ count) ∙ sym is
 
--- so a pass by all groups is one over all rows
+-- a pass by all groups is a pass over all rows
 pub groups_end : (s count width q : ℕ) {bits c : ℕ} (old now : List ℕ) → 0 < s → 0 < count → width ≡ q * (count * s) → bits ≡ width
     → c ≡ bits / (count * s) → IsPassTo width s (count * s) (c * (count * s)) old now → AreMixed width (count * s) old now
 groups_end s count width q {bits} {c} old now some any is row all so_far =

@@ -2,6 +2,7 @@
 use Rattle.std.specs.Prelude.{◌≡◌, ◌≢◌, ◌<◌, ℕ, ◌%◌, ◌^◌, List, slice_index, drop, bit_and}
 use Rattle.field_base.specs.Chunks.{chunks}
 use Rattle.std.specs.Int.{bit_at}
+use Rattle.packed_lanes.specs.Lanes.{AreInterleaved}
 
 -- lanes 0 to width - 1 of a number, in order
 abbrev pub bits_of : ℕ → ℕ → List ℕ
@@ -15,6 +16,11 @@ lanes_from width next n = drop next (bits_of width n)
 abbrev pub IsWithLane : ℕ → ℕ → ℕ → ℕ → ℕ → Type 0
 IsWithLane width before lane value after =
     (bit_at after lane ≡ value) × ((j : ℕ) → j < width → j ≢ lane → bit_at after j ≡ bit_at before j)
+
+-- two results of interleaving by blocks of `block` lanes, in lanes 0 to width - 1
+abbrev pub AreInterleavedLanes : ℕ → ℕ → ℕ → ℕ → ℕ → ℕ → Type 0
+AreInterleavedLanes width block left right first second =
+    AreInterleaved block (bits_of width left) (bits_of width right) (bits_of width first) (bits_of width second)
 
 -- lane j of row i of the one is lane i of row j of the other
 abbrev pub AreTransposed : ℕ → List ℕ → List ℕ → Type 0

@@ -34,12 +34,12 @@ pub part_in_word : (w c n index : ℕ) → 0 < c → chunk w (index % c) (chunk 
 part_in_word w c n index some =
     part_of_part w c n (index / c) (index % c) (mod-lt index some) ∙ ap (λ (p : ℕ). chunk w p n) (place-split c index)
 
--- the part that a run of bits was written to
+-- the part of a word that a run of bits was written to is that run
 written_part : (w c m word v x : ℕ) → v < 2 ^ w → IsWithField (w * c) (w * m) w word v x → chunk w m x ≡ v
 written_part w c m word v x fits field =
     same_from_bits_below w (chunk w m x) v (chunk-lt w x m) fits (λ j less. lane-part w x m j less ∙ field.0 j less)
 
--- and another one of the word
+-- writing a run of bits to one part of a word keeps the other parts
 other_part : (w c m k word v x : ℕ) → k < c → k ≢ m → IsWithField (w * c) (w * m) w word v x → chunk w k x ≡ chunk w k word
 other_part w c m k word v x inside other field =
     same_from_bits_below w (chunk w k x) (chunk w k word) (chunk-lt w x k) (chunk-lt w word k)
@@ -111,7 +111,7 @@ place_inside w c wide words bits index some is all inside =
 pub place_fits : (w c wide index : ℕ) → 0 < c → wide ≡ w * c → w * (index % c) + w ≤ wide
 place_fits w c wide index some is = let up = places_up w (index % c) c (mod-lt index some) in omega (arith, up, is)
 
--- the same of what the code has read of the bits of a word and of a narrow one
+-- x and y are what the code has read as the bits of a word and of a narrow word
 module _ (w wide log index : ℕ) {x y : ℕ} (power : wide ≡ 2 ^ log) (divides : Divides w wide) (is_wide : x ≡ wide) (is_narrow : y ≡ w) where
   -- a word is at least one narrow word
   count : 0 < wide / w

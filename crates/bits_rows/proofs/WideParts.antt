@@ -50,14 +50,14 @@ narrow_inside w c part ratio bits i k some is all less within =
     in_all : i * c + k < c * ratio
     in_all = let up = places_up c i ratio less in omega (arith, up, within)
 
--- and its number is no larger than the row has bits
+-- the index of word k of part i is below the bits of the row
 pub narrow_small : (w c part ratio bits i k : ℕ) → 0 < w → part ≡ w * c → bits ≡ part * ratio → i < ratio → k < c → i * c + k < bits
 narrow_small w c part ratio bits i k some is all less within =
     let inside = narrow_inside w c part ratio bits i k some is all less within in
     let up = mul-le 1 (i * c + k) w (i * c + k) (omega (arith, some)) (omega arith) in
     omega (arith, inside, up)
 
--- so neither it nor the product in it leaves the numbers of the code, which has read the count of words
+-- the index of word k of part i, and the product in it, fit 64 bits; `count` is what the code has read as the words of a part
 pub place_counted : (w log c part ratio bits i k : ℕ) {count : ℕ} → w ≡ 2 ^ log → part ≡ w * c → bits ≡ part * ratio → bits < 2 ^ 32
     → i < ratio → k < c → count ≡ c → Fits w64 (i * count) × Fits w64 (i * count + k)
 place_counted w log c part ratio bits i k power is all narrow less within read =

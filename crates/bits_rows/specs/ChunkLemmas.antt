@@ -1,6 +1,6 @@
 -- The digits of a number, from the front and from the back. These lemmas stand here since those on joined words, which the
 -- impls of blocks name, depend on them.
-use Rattle.std.proofs.Common.{◌≡◌, ℕ, zero, suc, ◌+◌, ◌*◌, ◌/◌, ◌%◌, ◌^◌, ◌<◌, List, [], ◌∷◌, ◌++◌, refl, sym, ap, ap₂, ◌∙◌, arith}
+use Rattle.std.proofs.Common.{◌≡◌, ℕ, zero, suc, ◌+◌, ◌*◌, ◌/◌, ◌%◌, ◌^◌, ◌<◌, List, [], ◌∷◌, ◌++◌, get_or, length, refl, sym, ap, ap₂, ◌∙◌, arith}
 use Rattle.std.proofs.Math.Nat.{div-one}
 use Rattle.std.proofs.lemmas.Nat.{pow_pos, shr-shr}
 use native.Mathlib.Nat.{mod-eq_of_lt, mod-lt}
@@ -44,6 +44,19 @@ chunks-front w (suc i) n =
 pub chunks-one : (w n : ℕ) → n < 2 ^ w → n ∷ [] ≡ chunks w 1 n
 unfolding chunks
 chunks-one w n fits = ap (λ (x : ℕ). x ∷ []) (sym (mod-eq_of_lt fits) ∙ chunk-zero w n)
+
+-- there are n digits in a list of the first n
+pub chunks-length : (w n a : ℕ) → length (chunks w n a) ≡ n
+unfolding chunks
+chunks-length w zero a = refl
+chunks-length w (suc n) a = ap length (chunks-front w n a) ∙ ap suc (chunks-length w n (a / 2 ^ w))
+
+-- entry i of a list of digits is digit i
+pub chunks-get : (w n a i d : ℕ) → i < n → get_or (chunks w n a) i d ≡ chunk w i a
+chunks-get w zero a i d less = absurd (omega arith)
+chunks-get w (suc n) a zero d less = ap (λ (xs : List ℕ). get_or xs 0 d) (chunks-front w n a) ∙ chunk-zero w a
+chunks-get w (suc n) a (suc i) d less =
+    ap (λ (xs : List ℕ). get_or xs (suc i) d) (chunks-front w n a) ∙ chunks-get w n (a / 2 ^ w) i d (omega arith) ∙ chunk-later w a i
 
 -- numbers of the same digits have the same list of them
 pub chunks-same : (w i a b : ℕ) → ((k : ℕ) → k < i → chunk w k a ≡ chunk w k b) → chunks w i a ≡ chunks w i b

@@ -34,7 +34,7 @@ abbrev pub IsFilled : {S A : Type 0} → (S → ℕ → A → S → Type 0) → 
 IsFilled {S} {A} step number width count row before after =
     (words : List A) × FillsFrom step before 0 words after × (map number words ≡ chunks width count row)
 
--- so did `count` draws from a random source
+-- `count` draws from a random source, from the state `before` to the state `after`, gave the words of the row, the lowest first
 abbrev pub IsDrawn : {S A : Type 0} → (S → A → S → Type 0) → (A → ℕ) → ℕ → ℕ → ℕ → S → S → Type 0
 IsDrawn draws number width count row before after = IsFilled (λ s i word t. draws s word t) number width count row before after
 

@@ -1,7 +1,7 @@
 // Blocks of lanes interleaved, and square matrices of bits transposed.
 ghost use Rattle.std.specs.Prelude.{◌≡◌, ◌≤◌, ◌<◌, ◌+◌, ◌*◌, ◌/◌, ◌^◌, ℕ, length, map};
 ghost use Rattle.bits_rows.specs.Parts.{HasFirstBlocks, HasSecondBlocks, IsBlockSize};
-ghost use Rattle.bits_packed.specs.Lanes.{AreTransposed};
+ghost use Rattle.bits_packed.specs.Lanes.{AreInterleavedLanes, AreTransposed};
 ghost use Rattle.bits_packed.specs.Rounds.{IsPairInterleaved, PassGoesByGroup, PassGoesOn, RoundsGoOn, first_row};
 
 use crate::packed::{PackedGf2, value};
@@ -189,8 +189,8 @@ impl<U: Underlier> PackedGf2<U> {
     pub fn interleave(&self, other: PackedGf2<U>, block_len: usize) -> (PackedGf2<U>, PackedGf2<U>)
         requires power { (k : ℕ) × (block_len ≡ 2 ^ k) }
         requires within { block_len ≤ U.BITS }
-        ensures first { block_len < U.BITS → HasFirstBlocks U.BITS block_len (U.number self.now.bits) (U.number other.bits) (U.number result.0.bits) }
-        ensures second { block_len < U.BITS → HasSecondBlocks U.BITS block_len (U.number self.now.bits) (U.number other.bits) (U.number result.1.bits) }
+        ensures lanes { AreInterleavedLanes U.BITS block_len (U.number self.now.bits) (U.number other.bits)
+            (U.number result.0.bits) (U.number result.1.bits) }
         ensures whole { block_len ≡ U.BITS → (result.0.bits ≡ self.now.bits) × (result.1.bits ≡ other.bits) }
     {
         if block_len == U::BITS {
