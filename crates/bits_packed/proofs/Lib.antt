@@ -3,3 +3,4 @@ mod RoundPairs
 mod Rounds
 mod EightRows
 mod LaneLists
+pub mod Interleavings

@@ -9,7 +9,7 @@ use native.Mathlib.Nat.{mod-lt, mod-eq_of_lt}
 use Rattle.bits_rows.specs.Parts.{IsBlockSize}
 use Rattle.bits_rows.proofs.BlockPlaces.{mixed}
 use Rattle.bits_packed.specs.Lanes.{AreTransposed}
-use Rattle.bits_packed.specs.Rounds.{AreMixed, IsMixed, IsPairExchanged, IsPassTo, first_row}
+use Rattle.bits_packed.specs.Rounds.{AreMixed, IsMixed, IsPairInterleaved, IsPassTo, first_row}
 use Rattle.bits_packed.proofs.RoundPairs.{lower_mixed, upper_mixed}
 
 -- ---- rows that are s apart, and how far each of them is
@@ -19,6 +19,7 @@ pub record AreAt (width s i : ℕ) (old before now levels : List ℕ) : Type 0 w
   pub at : (k : ℕ) → k < length levels → IsMixed width (get_or levels k 0) old (i + k * s) (get_or now (i + k * s) 0)
   pub others : (r : ℕ) → ((k : ℕ) → k < length levels → r ≢ i + k * s) → get_or now r 0 ≡ get_or before r 0
 
+-- of rows that are s apart, different ones have different places
 apart : (s i j k : ℕ) → 0 < s → j ≢ k → i + j * s ≢ i + k * s
 apart s i j k some other is = other (sym (number j) ∙ ap (λ (x : ℕ). (x + 0) / s) same ∙ number k)
   where
@@ -28,10 +29,11 @@ apart s i j k some other is = other (sym (number j) ∙ ap (λ (x : ℕ). (x + 0
     same : j * s ≡ k * s
     same = omega arith
 
+-- interleaving rows k and m of a group by blocks of d lanes raises both from rounds below d to rounds below 2 d
 pub pair_step : (width q s i d e k m : ℕ) (old before mid now levels : List ℕ) → 0 < s → 0 < d → width ≡ q * (2 * d) → e ≡ 2 * d
     → k < length levels → m < length levels → i + k * s + d ≡ i + m * s → (i + k * s) / d % 2 ≡ 0
     → get_or levels k 0 ≡ d → get_or levels m 0 ≡ d
-    → IsPairExchanged width d (i + k * s) mid now → AreAt width s i old before mid levels
+    → IsPairInterleaved width d (i + k * s) mid now → AreAt width s i old before mid levels
     → AreAt width s i old before now (set (set levels k e) m e)
 pair_step width q s i d e k m old before mid now levels step some is double in_k in_m next even level_k level_m pair so_far = record {
   at = λ j less. cases j (inside j less) (cases_eq j m) (cases_eq j k);
@@ -94,6 +96,7 @@ pair_step width q s i d e k m old before mid now levels step some is double in_k
 
 -- ---- the upper rows of the pairs among them
 
+-- the first d rows of a pair of blocks of d rows lie in an even block
 upper_block : (d c i : ℕ) → c * (2 * d) ≤ i → i < c * (2 * d) + d → i / d % 2 ≡ 0
 upper_block d c i low high =
     let twofold = mul_assoc c 2 d in
@@ -149,6 +152,7 @@ module _ (s t count : ℕ) (some : 0 < s) (is : t ≡ count * s) where
           let same : r % s ≡ r % t % s = ap (λ (x : ℕ). x % s) place ∙ mod-mul-add (r / t * count + r % t / s) s (r % t % s) low in
           omega (arith, whole, part, same)
 
+  -- each of the first s rows of a group is the first row of those that belong to it
   pub group_first : (c i : ℕ) → 0 < count → c * t ≤ i → i < c * t + s → first_row s t i ≡ i
   group_first c i any low high =
       let more = mul-le 1 s count s any (omega arith) in
@@ -163,12 +167,14 @@ module _ (s t count : ℕ) (some : 0 < s) (is : t ≡ count * s) where
 
   -- ---- a pass over all rows
 
+  -- a pass begins with no row done
   pub pass_begins : (width : ℕ) (old now : List ℕ) → AreMixed width s old now → IsPassTo width s t 0 old now
   pass_begins width old now so_far = record {
     done = λ r less below. absurd (omega arith);
     left = λ r less more. so_far r less;
   }
 
+  -- a pass over all rows is done: rows mixed below s are mixed below t
   pub pass_ends : (width n : ℕ) (old now : List ℕ) → 0 < count → n ≡ width → IsPassTo width s t n old now → AreMixed width t old now
   pass_ends width n old now any whole so_far r less =
       let place = (below_first r any).2 in so_far.done r less (omega (arith, place, whole))
@@ -193,6 +199,7 @@ module _ (s t count : ℕ) (some : 0 < s) (is : t ≡ count * s) where
               let low : r % s < s = mod-lt r some in
               omega (arith, up, low, at)
 
+  -- a group of rows begins with each of them at level s
   pub rows_begin : (width i : ℕ) (old before : List ℕ) → first_row s t i ≡ i → (k : ℕ) × (k + 1 ≡ count) × (i + k * s < width)
       → IsPassTo width s t i old before → AreAt width s i old before before (replicate count s)
   rows_begin width i old before first room so_far = record {
@@ -207,6 +214,7 @@ module _ (s t count : ℕ) (some : 0 < s) (is : t ≡ count * s) where
           subst (λ (l : ℕ). IsMixed width l old (i + k * s) (get_or before (i + k * s) 0)) (sym (get_or-replicate count k s 0 less))
           (so_far.left (i + k * s) (omega (arith, up, room.2)) (omega (arith, is_first)))
 
+  -- a group of rows at level t ends its part of a pass, which goes on from i to i + 1
   pub rows_end : (width i : ℕ) (old before now levels : List ℕ) → first_row s t i ≡ i → 0 < count → levels ≡ replicate count t
       → AreAt width s i old before now levels → IsPassTo width s t i old before → IsPassTo width s t (i + 1) old now
   rows_end width i old before now levels first any all rows so_far = record {
@@ -240,47 +248,55 @@ module _ (s t count : ℕ) (some : 0 < s) (is : t ≡ count * s) where
 
 -- ---- the lengths of blocks
 
+-- twice a block size below half of the width is a block size
 doubled : (width s : ℕ) → IsBlockSize width s → 2 * s < width → IsBlockSize width (2 * s)
 doubled width s size less =
     let turned : 2 * s ≡ s * 2 = omega arith in
     (size.0 + 1, turned ∙ ap (λ (x : ℕ). x * 2) size.1 ∙ sym (pow-add 2 size.0 1), less)
 
+-- twice the size of the first of three rounds is a block size
 pub twofold_size : (width s i : ℕ) → IsBlockSize width s → i + 7 * s < width → IsBlockSize width (2 * s)
 twofold_size width s i size inside = doubled width s size (omega arith)
 
+-- four times the size of the first of three rounds is a block size
 pub fourfold_size : (width s i : ℕ) → IsBlockSize width s → i + 7 * s < width → IsBlockSize width (4 * s)
 fourfold_size width s i size inside =
     let four : 2 * (2 * s) ≡ 4 * s = omega arith in
     subst (IsBlockSize width) four (doubled width (2 * s) (doubled width s size (omega arith)) (omega arith))
 
+-- four times a block size is one where eight times it is at most the width
 pub fourfold_inside : (width s : ℕ) → IsBlockSize width s → 8 * s ≤ width → IsBlockSize width (4 * s)
 fourfold_inside width s size fits =
     let some : 0 < s = subst (λ (x : ℕ). 0 < x) (sym size.1) (pow_pos size.0) in
     fourfold_size width s 0 size (omega arith)
 
+-- q times 2 * (4 * s) is q times 8 * s
 pub eightfold_fits : (width q s : ℕ) → width ≡ q * (2 * (4 * s)) → width ≡ q * (8 * s)
 eightfold_fits width q s is =
     let eight : 2 * (4 * s) ≡ 8 * s = omega arith in
     is ∙ ap (λ (x : ℕ). q * x) eight
 
-pub place_is : (width d m : ℕ) {n : ℕ} {before after : List ℕ} → n ≡ m → IsPairExchanged width d n before after → IsPairExchanged width d m before after
-place_is width d m {n} {before} {after} is pair = subst (λ (x : ℕ). IsPairExchanged width d x before after) is pair
+-- an interleaved pair of rows, with its place rewritten
+pub place_is : (width d m : ℕ) {n : ℕ} {before after : List ℕ} → n ≡ m → IsPairInterleaved width d n before after → IsPairInterleaved width d m before after
+place_is width d m {n} {before} {after} is pair = subst (λ (x : ℕ). IsPairInterleaved width d x before after) is pair
 
 -- ---- two rows, one round
 
+-- one interleaved pair of rows takes a pass of a single round from i to i + 1
 pub pair_done : (width q s i : ℕ) (old before now : List ℕ) → 0 < s → width ≡ q * (2 * s) → first_row s (2 * s) i ≡ i → i + s < width
-    → IsPairExchanged width s i before now → IsPassTo width s (2 * s) i old before → IsPassTo width s (2 * s) (i + 1) old now
+    → IsPairInterleaved width s i before now → IsPassTo width s (2 * s) i old before → IsPassTo width s (2 * s) (i + 1) old now
 pair_done width q s i old before now some is first inside pair so_far =
     let none : i ≡ i + 0 * s = omega arith in
     rows_end s (2 * s) 2 some refl width i old before now (set (set (replicate 2 s) 0 (2 * s)) 1 (2 * s)) first (lit< tt) refl
     (pair_step width q s i s (2 * s) 0 1 old before before now (replicate 2 s) some some is refl (lit< tt) (lit< tt) (omega arith)
     (upper_row s (2 * s) i s 1 0 0 some first (omega arith) (omega arith) (omega arith)) refl refl
-    (subst (λ (n : ℕ). IsPairExchanged width s n before now) none pair)
+    (subst (λ (n : ℕ). IsPairInterleaved width s n before now) none pair)
     (rows_begin s (2 * s) 2 some refl width i old before first (1, refl, omega arith) so_far))
     so_far
 
 -- ---- groups of rows
 
+-- a group of t rows lies within the width
 pub groups_fill : (width t c : ℕ) → c < width / t → c * t + t ≤ width
 groups_fill width t c less =
     let whole = div-add-mod' width t in
@@ -288,13 +304,14 @@ groups_fill width t c less =
     let spread = add-mul c 1 t in
     omega (arith, whole, up, spread)
 
+-- the groups of t rows fill the width
 pub groups_are : (width q t c : ℕ) → 0 < t → width ≡ q * t → c ≡ width / t → c * t ≡ width
 groups_are width q t c some is all =
     let none : q * t + 0 ≡ q * t = omega arith in
     let count : width / t ≡ q = ap (λ (x : ℕ). x / t) (is ∙ sym none) ∙ div-mul-add q t 0 some in
     ap (λ (x : ℕ). x * t) (all ∙ count) ∙ sym is
 
--- so a pass by all groups is one over all rows
+-- a pass by all groups is a pass over all rows
 pub groups_end : (s count width q : ℕ) {bits c : ℕ} (old now : List ℕ) → 0 < s → 0 < count → width ≡ q * (count * s) → bits ≡ width
     → c ≡ bits / (count * s) → IsPassTo width s (count * s) (c * (count * s)) old now → AreMixed width (count * s) old now
 groups_end s count width q {bits} {c} old now some any is row all so_far =
@@ -305,12 +322,14 @@ groups_end s count width q {bits} {c} old now some any is row all so_far =
 
 -- ---- all rounds
 
+-- rows before any round
 pub nothing_mixed : (width : ℕ) (rows : List ℕ) → AreMixed width 1 rows rows
 nothing_mixed width rows i row j lane = ap₂ (λ (x y : ℕ). bit_at (get_or rows x 0) y) (sym (one i j)) (sym (one j i))
   where
     one : (a b : ℕ) → mixed 1 a b ≡ a
     one a b = let whole = div-one a in let none : b % 1 < 1 = mod-lt b (lit< tt) in omega arith
 
+-- rows mixed below the width are transposed
 pub all_mixed : (width s : ℕ) (old now : List ℕ) → s ≡ width → AreMixed width s old now → AreTransposed width old now
 all_mixed width s old now all so_far i j row lane =
     subst (λ (z : ℕ). AreMixed width z old now) all so_far i row j lane
@@ -329,12 +348,15 @@ pub rounds_from : (width times s t : ℕ) (before now : List ℕ) → s ≡ t
 rounds_from width times s t before now is rounds =
     subst (λ (z : ℕ). (old : List ℕ) → AreMixed width z old before → AreMixed width (times * z) old now) (sym is) rounds
 
+-- rows mixed below s are mixed below t = s
 pub same_length : (width s t : ℕ) (old now : List ℕ) → s ≡ t → AreMixed width s old now → AreMixed width t old now
 same_length width s t old now is = subst (λ (z : ℕ). AreMixed width z old now) is
 
+-- twice a proper block is at most the width
 pub double_fits : (width q s : ℕ) → width ≡ q * (2 * s) → s < width → s * 2 ≤ width
 double_fits width zero s is less = absurd (omega arith)
 double_fits width (suc q) s is less = let more = mul-le 1 (2 * s) (suc q) (2 * s) (omega arith) (omega arith) in omega (arith, more, is)
 
+-- 8 s is at most the width where s is at most an eighth of it
 pub eightfold_inside : (width s : ℕ) → s ≤ width / 8 → 8 * s ≤ width
 eightfold_inside width s less = let whole = div-add-mod' width 8 in omega arith

@@ -1,4 +1,4 @@
-pub mod BitsRing
-pub mod EveryLane
+pub mod BitsRingLemmas
+pub mod EveryLaneLemmas
 pub mod Lanes
 pub mod Rounds

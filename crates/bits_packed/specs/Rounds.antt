@@ -3,13 +3,13 @@ use Rattle.std.specs.Prelude.{◌≡◌, ◌≢◌, ◌<◌, ◌≤◌, ℕ, ◌
 use Rattle.std.specs.Int.{bit_at}
 use Rattle.bits_rows.specs.Parts.{HasFirstBlocks, HasSecondBlocks}
 
--- `row` is row r after the rounds by blocks of less than s lanes, begun at the rows `old`: the parts below s of a row's
--- number and of a lane's are exchanged.
+-- `row` is row r after the rounds by blocks of 1, 2, 4, .. below s lanes, begun at the rows `old`: the parts below s of the index
+-- of a row and of a lane have changed places.
 abbrev pub IsMixed : ℕ → ℕ → List ℕ → ℕ → ℕ → Type 0
 IsMixed width s old r row =
     (j : ℕ) → j < width → bit_at row j ≡ bit_at (slice_index old (r / s * s + j % s)) (j / s * s + r % s)
 
--- so is each of the rows `now`
+-- each of the rows `now` is
 abbrev pub AreMixed : ℕ → ℕ → List ℕ → List ℕ → Type 0
 AreMixed width s old now = (r : ℕ) → r < width → IsMixed width s old r (slice_index now r)
 
@@ -22,8 +22,22 @@ pub record IsPassTo (width s t n : ℕ) (old now : List ℕ) : Type 0 where
   pub done : (r : ℕ) → r < width → first_row s t r < n → IsMixed width t old r (slice_index now r)
   pub left : (r : ℕ) → r < width → n ≤ first_row s t r → IsMixed width s old r (slice_index now r)
 
+-- Between the rows `before` and the rows `after` a pass by blocks of s lanes to below t, whatever rows it began at, goes on from the
+-- rows whose first row is below `from` to those whose first row is below `to`.
+abbrev pub PassGoesOn : ℕ → ℕ → ℕ → ℕ → ℕ → List ℕ → List ℕ → Type 0
+PassGoesOn width s t from to before after =
+    (old : List ℕ) → IsPassTo width s t from old before → IsPassTo width s t to old after
+
+-- a pass goes on by the rows of group number `group`, of t rows each
+abbrev pub PassGoesByGroup : ℕ → ℕ → ℕ → ℕ → List ℕ → List ℕ → Type 0
+PassGoesByGroup width s t group before after = PassGoesOn width s t (group * t) ((group + 1) * t) before after
+
+-- between the rows `before` and the rows `after` lie the rounds by blocks of s lanes, of 2 * s and so on below t
+abbrev pub RoundsGoOn : ℕ → ℕ → ℕ → List ℕ → List ℕ → Type 0
+RoundsGoOn width s t before after = (old : List ℕ) → AreMixed width s old before → AreMixed width t old after
+
 -- Rows i and i + s are interleaved by blocks of s lanes, and the others are left alone.
-pub record IsPairExchanged (width s i : ℕ) (before after : List ℕ) : Type 0 where
+pub record IsPairInterleaved (width s i : ℕ) (before after : List ℕ) : Type 0 where
   pub first : HasFirstBlocks width s (slice_index before i) (slice_index before (i + s)) (slice_index after i)
   pub second : HasSecondBlocks width s (slice_index before i) (slice_index before (i + s)) (slice_index after (i + s))
   pub others : (r : ℕ) → r ≢ i → r ≢ i + s → slice_index after r ≡ slice_index before r

@@ -1,4 +1,4 @@
-//! Packed bits: 8 to 512 lanes of GF(2) in one value, which is a ring, and the exchange of rows and columns of bits.
+//! Packed bits: 8 to 512 lanes of GF(2) in one value, which is a ring, and square matrices of them, transposed.
 #![tactic(auto)]
 
 mod laws;

@@ -58,7 +58,7 @@ impl<U: Underlier> Clone for PackedGf2<U> {
 
 impl<U: Underlier> Copy for PackedGf2<U> {}
 
-// The packed bits behind a reference: `*x` at a struct with a type parameter gets no generated proof.
+// The packed bits behind a reference. `*x` at a struct with a type parameter gets no generated proof.
 #[inline]
 fn value<U: Underlier>(x: &PackedGf2<U>) -> PackedGf2<U>
     ensures { result.bits ≡ x.now.bits }
@@ -66,7 +66,7 @@ fn value<U: Underlier>(x: &PackedGf2<U>) -> PackedGf2<U>
     PackedGf2 { bits: x.bits }
 }
 
-// The word that a lane lies in, and its bit there.
+// The index of the word that a lane lies in, and of its bit there.
 #[inline]
 fn place_of<U: Underlier>(lane: usize) -> (usize, u32)
     requires { lane < U.BITS }
@@ -95,7 +95,7 @@ impl<U: Underlier> PackedGf2<U> {
         }
     }
 
-    /// The word or block: its bit i is lane i.
+    /// The word or block, whose bit i is lane i.
     #[inline]
     pub fn to_bits(self) -> U
         ensures { result ≡ self.bits }
@@ -103,7 +103,7 @@ impl<U: Underlier> PackedGf2<U> {
         self.bits
     }
 
-    /// Lane `lane`. It asks for a lane below `WIDTH`.
+    /// Lane `lane`. Requires a lane below `WIDTH`.
     #[inline]
     pub fn get(&self, lane: usize) -> Gf2
         requires { lane < U.BITS }
@@ -115,7 +115,7 @@ impl<U: Underlier> PackedGf2<U> {
         Gf2::from_repr(bit.to_u64() as u8)
     }
 
-    /// Writes lane `lane` and keeps the others. It asks for a lane below `WIDTH`.
+    /// Writes lane `lane` and keeps the others. Requires a lane below `WIDTH`.
     #[inline]
     pub fn set(&mut self, lane: usize, value: Gf2)
         requires { lane < U.BITS }
@@ -147,7 +147,7 @@ impl<U: Underlier> PackedGf2<U> {
         count_bits(&self.bits)
     }
 
-    /// The inverse in each lane, where 0 has 0: the packed bits themselves.
+    /// The inverse of each lane, and 0 for 0: the packed bits themselves.
     #[inline]
     pub fn invert_or_zero(self) -> PackedGf2<U>
         ensures { result.bits ≡ self.bits }

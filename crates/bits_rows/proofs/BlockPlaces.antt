@@ -12,9 +12,11 @@ mixed s i j = i / s * s + j % s
 pub next_quotient : (s i : ℕ) → 0 < s → (i + s) / s ≡ i / s + 1
 next_quotient s i some = ap (λ (x : ℕ). x / s) (omega arith) ∙ add-mul-div_right i 1 {z = s} some
 
+-- the block before has the quotient before
 pub before_quotient : (s j : ℕ) → 0 < s → s ≤ j → (j - s) / s + 1 ≡ j / s
 before_quotient s j some more = sym (next_quotient s (j - s) some) ∙ ap (λ (x : ℕ). x / s) (omega arith)
 
+-- a place in the block before has the same remainder
 before_remainder : (s j : ℕ) → s ≤ j → (j - s) % s ≡ j % s
 before_remainder s j more = sym (add-mod_right (j - s) s) ∙ ap (λ (x : ℕ). x % s) (omega arith)
 
@@ -30,16 +32,19 @@ double_place s i =
     let cut : (i / s / 2 * 2 + i / s % 2) * s ≡ i / s * s = ap (λ (x : ℕ). x * s) halves in
     omega arith
 
+-- a place of one of two blocks lies within both
 bit_of_block : (s p x : ℕ) → p < 2 → x < s → p * s + x < s + s
 bit_of_block s zero x binary below = omega arith
 bit_of_block s (suc zero) x binary below = omega arith
 bit_of_block s (suc (suc p)) x binary below = absurd (omega arith)
 
+-- the quotient by s + s is half the quotient by s
 double_quotient : (s i : ℕ) → 0 < s → i / (s + s) ≡ i / s / 2
 double_quotient s i some =
     ap (λ (x : ℕ). x / (s + s)) (sym (double_place s i))
     ∙ div-mul-add (i / s / 2) (s + s) (i / s % 2 * s + i % s) (bit_of_block s (i / s % 2) (i % s) (mod-lt (i / s) (lit< tt)) (mod-lt i some))
 
+-- the remainder by s + s is that by s, and s more in an odd block
 double_remainder : (s i : ℕ) → 0 < s → i % (s + s) ≡ i / s % 2 * s + i % s
 double_remainder s i some =
     ap (λ (x : ℕ). x % (s + s)) (sym (double_place s i))
@@ -49,12 +54,14 @@ double_remainder s i some =
 double_mixed : (s i j : ℕ) → 0 < s → mixed (s + s) i j ≡ i / s / 2 * (s + s) + (j / s % 2 * s + j % s)
 double_mixed s i j some = ap₂ (λ (x y : ℕ). x * (s + s) + y) (double_quotient s i some) (double_remainder s j some)
 
+-- the start of a block is that of its pair, and s more for an odd block
 quotient_place : (s i : ℕ) → i / s * s ≡ i / s / 2 * (s + s) + i / s % 2 * s
 quotient_place s i =
     let place = double_place s i in
     let whole : i / s * s + i % s ≡ i = div-add-mod' i s in
     omega arith
 
+-- places in blocks of the same parity: mixing below s is mixing below s + s
 pub same_mixed : (s i j : ℕ) → 0 < s → i / s % 2 ≡ j / s % 2 → mixed s i j ≡ mixed (s + s) i j
 same_mixed s i j some same =
     let place = quotient_place s i in
@@ -62,6 +69,7 @@ same_mixed s i j some same =
     let turn : i / s % 2 * s ≡ j / s % 2 * s = ap (λ (x : ℕ). x * s) same in
     omega arith
 
+-- i in an even block and j in an odd one: moving both to the other block mixes below s + s
 pub even_mixed : (s i j : ℕ) → 0 < s → i / s % 2 ≡ 0 → j / s % 2 ≡ 1 → s ≤ j → mixed s (i + s) (j - s) ≡ mixed (s + s) i j
 even_mixed s i j some even odd more =
     let place = quotient_place s i in
@@ -73,6 +81,7 @@ even_mixed s i j some even odd more =
     let rest = before_remainder s j more in
     omega arith
 
+-- i in an odd block and j in an even one: moving both to the other block mixes below s + s
 pub odd_mixed : (s i j : ℕ) → 0 < s → i / s % 2 ≡ 1 → j / s % 2 ≡ 0 → s ≤ i → mixed s (i - s) (j + s) ≡ mixed (s + s) i j
 odd_mixed s i j some odd even more =
     let place = quotient_place s i in

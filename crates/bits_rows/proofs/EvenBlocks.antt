@@ -11,6 +11,7 @@ abbrev pub has_even_blocks : ℕ → ℕ → ℕ → Bool
 has_even_blocks block n zero = true
 has_even_blocks block n (suc count) = nat_eq (n / 2 ^ count % 2) (1 - count / block % 2) && has_even_blocks block n count
 
+-- a mask that passes the test has the bits of the even blocks
 each_bit : (block n count : ℕ) → has_even_blocks block n count ≡ true → (j : ℕ) → j < count → bit_at n j ≡ 1 - j / block % 2
 each_bit block n zero all j less = absurd (omega arith)
 each_bit block n (suc count) all j less =
@@ -31,6 +32,7 @@ each_bit block n (suc count) all j less =
 pub even_mask : (block given n : ℕ) → block ≡ given → has_even_blocks given n 64 ≡ true → HasEvenBlocks 64 block n
 even_mask block given n is all = subst (λ (x : ℕ). HasEvenBlocks 64 x n) (sym is) (each_bit given n 64 all)
 
+-- 2 ^ (6 + k) is not below 64
 too_large : (k block : ℕ) → block ≡ 2 ^ suc (suc (suc (suc (suc (suc k))))) → block < 64 → ⊥
 too_large k block is less =
     let places : suc (suc (suc (suc (suc (suc k))))) ≡ 6 + k = omega arith in

@@ -3,28 +3,31 @@ use Rattle.std.proofs.Common.{◌≡◌, ◌≢◌, ℕ, ◌+◌, ◌*◌, ◌/�
 use Rattle.std.proofs.lemmas.Bool.{cases_eq, cases_lt}
 use Rattle.std.proofs.lemmas.Nat.{mul-le}
 use Rattle.std.proofs.Math.Nat.{mul-div_cancel_left}
-use Rattle.bits_rows.specs.Parts.{IsWithPart, part_at}
+use Rattle.field_base.specs.Chunks.{chunk}
+use Rattle.bits_rows.specs.ChunkLemmas.{chunk-lt}
+use Rattle.bits_rows.specs.Parts.{IsWithPart}
 use Rattle.bits_rows.proofs.BlockLemmas.{places_up}
 use Rattle.bits_rows.proofs.LaneLemmas.{power_some, same_from_parts}
-use Rattle.bits_rows.proofs.NarrowParts.{part_at-lt, part_of_part}
+use Rattle.bits_rows.proofs.NarrowParts.{part_of_part}
 
+-- i c + k = c i + k
 turned : (c i k : ℕ) → i * c + k ≡ c * i + k
 turned c i k = omega arith
 
 -- the narrow words of one part are those of another
-pub same_part : (w c n i r h : ℕ) → 0 < w → ((k : ℕ) → k < c → part_at w r (c * h + k) ≡ part_at w n (c * i + k))
-    → part_at (w * c) r h ≡ part_at (w * c) n i
+pub same_part : (w c n i r h : ℕ) → 0 < w → ((k : ℕ) → k < c → chunk w (c * h + k) r ≡ chunk w (c * i + k) n)
+    → chunk (w * c) h r ≡ chunk (w * c) i n
 same_part w c n i r h some same =
-    same_from_parts w c (part_at (w * c) r h) (part_at (w * c) n i) some (part_at-lt (w * c) r h) (part_at-lt (w * c) n i)
+    same_from_parts w c (chunk (w * c) h r) (chunk (w * c) i n) some (chunk-lt (w * c) r h) (chunk-lt (w * c) n i)
     (λ k less. part_of_part w c r h k less ∙ same k less ∙ sym (part_of_part w c n i k less))
 
 -- a number whose narrow words are those of a part
 pub is_part : (w c wide n i r : ℕ) → 0 < w → wide ≡ w * c → r < 2 ^ wide
-    → ((k : ℕ) → k < c → part_at w r k ≡ part_at w n (i * c + k)) → r ≡ part_at wide n i
+    → ((k : ℕ) → k < c → chunk w k r ≡ chunk w (i * c + k) n) → r ≡ chunk wide i n
 is_part w c wide n i r some is fits same =
-    same_from_parts w c r (part_at (w * c) n i) some (subst (λ (z : ℕ). r < 2 ^ z) is fits) (part_at-lt (w * c) n i)
-    (λ k less. same k less ∙ ap (part_at w n) (turned c i k) ∙ sym (part_of_part w c n i k less))
-    ∙ ap (λ (z : ℕ). part_at z n i) (sym is)
+    same_from_parts w c r (chunk (w * c) i n) some (subst (λ (z : ℕ). r < 2 ^ z) is fits) (chunk-lt (w * c) n i)
+    (λ k less. same k less ∙ ap (λ (p : ℕ). chunk w p n) (turned c i k) ∙ sym (part_of_part w c n i k less))
+    ∙ ap (λ (z : ℕ). chunk z i n) (sym is)
 
 -- the narrow words of all parts
 pub narrow_count : (w wide words c ratio total bits part : ℕ) → 0 < w → bits ≡ wide * words → wide ≡ w * c → part ≡ w * total
@@ -47,46 +50,49 @@ narrow_inside w c part ratio bits i k some is all less within =
     in_all : i * c + k < c * ratio
     in_all = let up = places_up c i ratio less in omega (arith, up, within)
 
--- and its number is no larger than the row has bits
+-- the index of word k of part i is below the bits of the row
 pub narrow_small : (w c part ratio bits i k : ℕ) → 0 < w → part ≡ w * c → bits ≡ part * ratio → i < ratio → k < c → i * c + k < bits
 narrow_small w c part ratio bits i k some is all less within =
     let inside = narrow_inside w c part ratio bits i k some is all less within in
     let up = mul-le 1 (i * c + k) w (i * c + k) (omega (arith, some)) (omega arith) in
     omega (arith, inside, up)
 
--- so neither it nor the product in it leaves the numbers of the code, which has read the count of words
+-- the index of word k of part i, and the product in it, fit 64 bits; `count` is what the code has read as the words of a part
 pub place_counted : (w log c part ratio bits i k : ℕ) {count : ℕ} → w ≡ 2 ^ log → part ≡ w * c → bits ≡ part * ratio → bits < 2 ^ 32
     → i < ratio → k < c → count ≡ c → Fits w64 (i * count) × Fits w64 (i * count + k)
 place_counted w log c part ratio bits i k power is all narrow less within read =
     let small = narrow_small w c part ratio bits i k (power_some log w power) is all less within in
     subst (λ (z : ℕ). Fits w64 (i * z) × Fits w64 (i * z + k)) (sym read) (omega (arith, small, narrow), omega (arith, small, narrow))
 
+-- word k of part i is one of the narrow words of the row
 pub narrow_index : (c ratio total i k : ℕ) → total ≡ c * ratio → i < ratio → k < c → i * c + k < total
 narrow_index c ratio total i k all less within = let up = places_up c i ratio less in omega (arith, up, within, all)
 
 -- how far the words of a part are written: of `total` narrow words of the row, the first k of the c words of part i are those of v
 pub record IsWrittenTo (w c total i k v before now : ℕ) : Type 0 where
-  pub written : (j : ℕ) → j < k → part_at w now (i * c + j) ≡ part_at w v j
-  pub below : (m : ℕ) → m < total → m < i * c → part_at w now m ≡ part_at w before m
-  pub above : (m : ℕ) → m < total → i * c + k ≤ m → part_at w now m ≡ part_at w before m
+  pub written : (j : ℕ) → j < k → chunk w (i * c + j) now ≡ chunk w j v
+  pub below : (m : ℕ) → m < total → m < i * c → chunk w m now ≡ chunk w m before
+  pub above : (m : ℕ) → m < total → i * c + k ≤ m → chunk w m now ≡ chunk w m before
 
+-- before the first word nothing is written
 pub nothing_written : (w c total i v n now : ℕ) → now ≡ n → IsWrittenTo w c total i 0 v n now
 nothing_written w c total i v n now same = record {
   written = λ j less. absurd (omega arith);
-  below = λ m inside less. ap (λ (z : ℕ). part_at w z m) same;
-  above = λ m inside more. ap (λ (z : ℕ). part_at w z m) same;
+  below = λ m inside less. ap (λ (z : ℕ). chunk w m z) same;
+  above = λ m inside more. ap (λ (z : ℕ). chunk w m z) same;
 }
 
+-- word k is written after the first k words
 pub more_written : (w c total i k v n now index x r : ℕ) → index ≡ i * c + k → index < total → IsWrittenTo w c total i k v n now
-    → x ≡ part_at w v k → IsWithPart w total now index x r → IsWrittenTo w c total i (k + 1) v n r
+    → x ≡ chunk w k v → IsWithPart w total now index x r → IsWrittenTo w c total i (k + 1) v n r
 more_written w c total i k v n now index x r at inside so_far is put = record {
   written = λ j less. cases j less (cases_eq j k);
   below = λ m within less. put.1 m within (λ same. absurd (omega arith)) ∙ so_far.below m within less;
   above = λ m within more. put.1 m within (λ same. absurd (omega arith)) ∙ so_far.above m within (omega arith);
 }
   where
-    cases : (j : ℕ) → j < k + 1 → (j ≡ k) ⊎ (j ≢ k) → part_at w r (i * c + j) ≡ part_at w v j
-    cases j less (inl same) = ap (λ (z : ℕ). part_at w r (i * c + z)) same ∙ ap (part_at w r) (sym at) ∙ put.0 ∙ is ∙ ap (part_at w v) (sym same)
+    cases : (j : ℕ) → j < k + 1 → (j ≡ k) ⊎ (j ≢ k) → chunk w (i * c + j) r ≡ chunk w j v
+    cases j less (inl same) = ap (λ (z : ℕ). chunk w (i * c + z) r) same ∙ ap (λ (p : ℕ). chunk w p r) (sym at) ∙ put.0 ∙ is ∙ ap (λ (p : ℕ). chunk w p v) (sym same)
     cases j less (inr other) =
         put.1 (i * c + j) (omega arith) (λ same. other (omega arith)) ∙ so_far.written j (grind arith)
 
@@ -96,14 +102,14 @@ pub part_replaced : (w c part total ratio i v n r : ℕ) → 0 < w → part ≡ 
 part_replaced w c part total ratio i v n r some is all less fits done =
     subst (λ (z : ℕ). IsWithPart z ratio n i v r) (sym is) (here, others)
   where
-    here : part_at (w * c) r i ≡ v
+    here : chunk (w * c) i r ≡ v
     here =
         sym (is_part w c (w * c) r i v some refl (subst (λ (z : ℕ). v < 2 ^ z) is fits) (λ k within. sym (done.written k within)))
 
-    others : (k : ℕ) → k < ratio → k ≢ i → part_at (w * c) r k ≡ part_at (w * c) n k
+    others : (k : ℕ) → k < ratio → k ≢ i → chunk (w * c) k r ≡ chunk (w * c) k n
     others k within other = same_part w c n k r k some (λ j inside. cases j inside (cases_lt k i))
       where
-        cases : (j : ℕ) → j < c → (k < i) ⊎ (i ≤ k) → part_at w r (c * k + j) ≡ part_at w n (c * k + j)
+        cases : (j : ℕ) → j < c → (k < i) ⊎ (i ≤ k) → chunk w (c * k + j) r ≡ chunk w (c * k + j) n
         cases j inside (inl before) =
             let up = places_up c k ratio within in
             let next = places_up c k i before in

@@ -1,4 +1,5 @@
-pub mod Joined
-pub mod Operators
 pub mod Parts
 pub mod Narrow
+pub mod Operators
+pub mod ChunkLemmas
+pub mod JoinedLemmas

@@ -1,22 +1,17 @@
--- A number as words, the lowest first. Bit i of a number, `bit_at n i` of std, is its lane i.
-use Rattle.std.specs.Prelude.{◌≡◌, ◌≢◌, ◌<◌, ◌≤◌, ◌-◌, bit_and, bit_xor, ℕ, ◌+◌, ◌*◌, ◌/◌, ◌%◌, ◌^◌, suc, zero, Bool, true, ◌&&◌, List, [], ◌∷◌, length}
+-- Rows of words, runs of bits, and blocks of bits. Bit i of a number, `bit_at n i` of std, is its lane i. The words of a number
+-- are its digits, by `chunk`, `chunks` and `joined` of field_base.
+use Rattle.std.specs.Prelude.{◌≡◌, ◌≢◌, ◌<◌, ◌≤◌, ◌-◌, bit_and, bit_xor, ℕ, ◌+◌, ◌*◌, ◌/◌, ◌%◌, ◌^◌, Bool, true, ◌&&◌, List, length, map, slice_index}
+use Rattle.std.specs.Array.{FillsFrom}
 use Rattle.std.specs.Bool.{nat_eq, nat_lt}
 use Rattle.std.specs.Int.{bit_at}
 use Rattle.std.specs.List.{list_all}
+use Rattle.field_base.specs.Chunks.{chunk, chunks}
 
--- the number that words of `width` bits make when the first of them is the lowest
-abbrev pub joined : ℕ → List ℕ → ℕ
-joined width [] = 0
-joined width (word ∷ words) = joined width words * 2 ^ width + word
+-- ---- rows of words
 
--- part i of a number that is cut into parts of `width` bits: bit j of it is bit `width * i + j` of the number
-abbrev pub part_at : ℕ → ℕ → ℕ → ℕ
-part_at width n i = n / 2 ^ (width * i) % 2 ^ width
-
--- the first `count` of those parts, the lowest first
-abbrev pub parts_of : ℕ → ℕ → ℕ → List ℕ
-parts_of width zero n = []
-parts_of width (suc count) n = n % 2 ^ width ∷ parts_of width count (n / 2 ^ width)
+-- a list is `count` words of `width` bits
+abbrev pub is_whole : ℕ → ℕ → List ℕ → Bool
+is_whole width count words = nat_eq (length words) count && list_all (λ word. nat_lt word (2 ^ width)) words
 
 -- a row has its words, and its number is n
 pub record IsRowOf {R : Type 0} (of : R → ℕ) (is_whole : R → Bool) (n : ℕ) (row : R) : Type 0 where
@@ -26,17 +21,29 @@ pub record IsRowOf {R : Type 0} (of : R → ℕ) (is_whole : R → Bool) (n : �
 -- of `count` parts of `width` bits, part i of the number r is v, and every other part is that of n
 abbrev pub IsWithPart : ℕ → ℕ → ℕ → ℕ → ℕ → ℕ → Type 0
 IsWithPart width count n i v r =
-    (part_at width r i ≡ v) × ((k : ℕ) → k < count → k ≢ i → part_at width r k ≡ part_at width n k)
+    (chunk width i r ≡ v) × ((k : ℕ) → k < count → k ≢ i → chunk width k r ≡ chunk width k n)
 
 -- of `count` words of `width` bits, word i of the result is what is given of words i of both operands
 abbrev pub IsZipped : {A : Type 0} → ℕ → (A → ℕ) → (A → A → A → Type 0) → ℕ → ℕ → ℕ → ℕ → Type 0
 IsZipped {A} width number gives count left right result =
     (i : ℕ) → i < count
-    → (x y z : A) × (number x ≡ part_at width left i) × (number y ≡ part_at width right i) × gives x y z × (number z ≡ part_at width result i)
+    → (x y z : A) × (number x ≡ chunk width i left) × (number y ≡ chunk width i right) × gives x y z × (number z ≡ chunk width i result)
 
--- a list is `count` words of `width` bits
-abbrev pub is_whole : ℕ → ℕ → List ℕ → Bool
-is_whole width count words = nat_eq (length words) count && list_all (λ word. nat_lt word (2 ^ width)) words
+-- `count` steps, from the state `before` to the state `after`, gave the words of the row, the lowest first
+abbrev pub IsFilled : {S A : Type 0} → (S → ℕ → A → S → Type 0) → (A → ℕ) → ℕ → ℕ → ℕ → S → S → Type 0
+IsFilled {S} {A} step number width count row before after =
+    (words : List A) × FillsFrom step before 0 words after × (map number words ≡ chunks width count row)
+
+-- `count` draws from a random source, from the state `before` to the state `after`, gave the words of the row, the lowest first
+abbrev pub IsDrawn : {S A : Type 0} → (S → A → S → Type 0) → (A → ℕ) → ℕ → ℕ → ℕ → S → S → Type 0
+IsDrawn draws number width count row before after = IsFilled (λ s i word t. draws s word t) number width count row before after
+
+-- the words k of three lists of `count` words are related, for each k
+abbrev pub IsEachWord : (ℕ → ℕ → ℕ → Type 0) → ℕ → List ℕ → List ℕ → List ℕ → Type 0
+IsEachWord relation count left right result =
+    (k : ℕ) → k < count → relation (slice_index left k) (slice_index right k) (slice_index result k)
+
+-- ---- runs of bits
 
 -- bits `start`, .., `start + count - 1` of the result are the lowest bits of `value`, and the others those of `word`
 abbrev pub IsWithField : ℕ → ℕ → ℕ → ℕ → ℕ → ℕ → Type 0
@@ -45,7 +52,9 @@ IsWithField width start count word value result =
     × ((j : ℕ) → j < start → bit_at result j ≡ bit_at word j)
     × ((j : ℕ) → start + count ≤ j → j < width → bit_at result j ≡ bit_at word j)
 
--- a block is 2 to the power k bits, and half of `width` at most
+-- ---- blocks of bits
+
+-- a block has 2^k bits, at most half of `width`
 abbrev pub IsBlockSize : ℕ → ℕ → Type 0
 IsBlockSize width block = (k : ℕ) × (block ≡ 2 ^ k) × (block < width)
 
@@ -53,7 +62,7 @@ IsBlockSize width block = (k : ℕ) × (block ≡ 2 ^ k) × (block < width)
 abbrev pub HasEvenBlocks : ℕ → ℕ → ℕ → Type 0
 HasEvenBlocks width block n = (j : ℕ) → j < width → bit_at n j ≡ 1 - j / block % 2
 
--- where the odd blocks of the left number differ from the even ones of the right, at the places of these
+-- where the odd blocks of the left number differ from the even blocks of the right one, at the places of the even blocks
 abbrev pub difference : ℕ → ℕ → ℕ → ℕ → ℕ
 difference block even left right = bit_and (bit_xor (left / 2 ^ block) right) even
 

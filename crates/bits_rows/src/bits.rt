@@ -14,8 +14,8 @@ fn low_ones<W: Word>(count: u32) -> W
     W::ONES >> (W::BITS - count)
 }
 
-/// The bits of the word from `start` on, `count` of them, as the lowest bits of a word. It asks that there are so many,
-/// and for one at least.
+/// Bits `start` to `start + count - 1` of the word, as the lowest bits of a word. Requires a `count` of at least 1, and that
+/// the word has these bits.
 #[inline]
 pub fn field<W: Word>(word: W, start: u32, count: u32) -> W
     requires some { 0 < count }
@@ -25,8 +25,8 @@ pub fn field<W: Word>(word: W, start: u32, count: u32) -> W
     (word >> start) & low_ones::<W>(count)
 }
 
-/// The word with its bits from `start` on, `count` of them, replaced by the lowest bits of `value`. It asks that there
-/// are so many, and for one at least.
+/// The word with its bits `start` to `start + count - 1` replaced by the lowest bits of `value`. Requires a `count` of at
+/// least 1, and that the word has these bits.
 #[inline]
 pub fn with_field<W: Word>(word: W, start: u32, count: u32, value: W) -> W
     requires some { 0 < count }
@@ -53,8 +53,8 @@ fn even_blocks(block: u32) -> u64
     }
 }
 
-/// The word whose set bits are those of the blocks 0, 2, 4, .. of `block` bits each. It asks for a power of two below the
-/// bits of a word.
+/// The word whose set bits are those of the blocks 0, 2, 4, .. of `block` bits each. Requires a power of two below the bits
+/// of a word.
 #[inline]
 pub fn even_word<W: Word>(block: u32) -> W
     requires { IsBlockSize W.BITS block }
@@ -64,7 +64,7 @@ pub fn even_word<W: Word>(block: u32) -> W
     W::from_u64(even_blocks(block))
 }
 
-// Where the odd blocks of the left word differ from the even blocks of the right one, at the places of these.
+// Where the odd blocks of the left word differ from the even blocks of the right one, at the places of the even blocks.
 #[inline]
 fn block_difference<W: Word>(left: W, right: W, block: u32, even: W) -> W
     requires { block < W.BITS }
@@ -73,8 +73,8 @@ fn block_difference<W: Word>(left: W, right: W, block: u32, even: W) -> W
     ((left >> block) ^ right) & even
 }
 
-/// The left word with its odd blocks of `block` bits replaced by the even blocks of the right one; `even` has the bits of
-/// the even blocks. It asks for a block below a word.
+/// The left word with its odd blocks of `block` bits replaced by the even blocks of the right one. `even` has the bits of
+/// the even blocks. Requires a `block` below the bits of a word.
 #[inline]
 pub fn join_even_blocks<W: Word>(left: W, right: W, block: u32, even: W) -> W
     requires some { 0 < block }
@@ -85,8 +85,8 @@ pub fn join_even_blocks<W: Word>(left: W, right: W, block: u32, even: W) -> W
     left ^ (block_difference(left, right, block, even) << block)
 }
 
-/// The right word with its even blocks of `block` bits replaced by the odd blocks of the left one; `even` has the bits of
-/// the even blocks. It asks for a block below a word.
+/// The right word with its even blocks of `block` bits replaced by the odd blocks of the left one. `even` has the bits of
+/// the even blocks. Requires a `block` below the bits of a word.
 #[inline]
 pub fn join_odd_blocks<W: Word>(left: W, right: W, block: u32, even: W) -> W
     requires less { block < W.BITS }
@@ -96,7 +96,7 @@ pub fn join_odd_blocks<W: Word>(left: W, right: W, block: u32, even: W) -> W
     right ^ block_difference(left, right, block, even)
 }
 
-/// Both results of interleaving two words by blocks of `block` bits. It asks for a power of two below the bits of a word.
+/// Interleaves two words by blocks of `block` bits, a power of two below the bits of a word, and returns both results.
 #[inline]
 pub fn interleave_word<W: Word>(left: W, right: W, block: u32) -> (W, W)
     requires { IsBlockSize W.BITS block }

@@ -1,8 +1,9 @@
 // Blocks of words.
-ghost use Rattle.std.specs.Prelude.{◌≡◌, ◌<◌, ◌*◌, ◌^◌, ℕ, IsTrue, refl, replicate, slice_index};
+ghost use Rattle.std.specs.Prelude.{◌≡◌, ◌<◌, ◌*◌, ◌^◌, ℕ, IsTrue, refl, replicate};
 ghost use Rattle.std.proofs.Common.{lit<, rules, ◌-◌};
-ghost use Rattle.bits_rows.specs.Parts.{HasFirstBlocks, HasSecondBlocks, IsBlockSize, is_whole, joined};
-ghost use Rattle.bits_rows.specs.Joined.{joined-ones, joined-zeros, same_from_joined, whole-replicate, whole_joined-lt};
+ghost use Rattle.field_base.specs.Chunks.{joined};
+ghost use Rattle.bits_rows.specs.Parts.{HasFirstBlocks, HasSecondBlocks, IsBlockSize, IsEachWord, is_whole};
+ghost use Rattle.bits_rows.specs.JoinedLemmas.{joined-ones, joined-zeros, same_from_joined, whole-replicate, whole_joined-lt};
 
 use crate::bits::even_word;
 use crate::sealed::Sealed;
@@ -42,7 +43,7 @@ impl<const N: usize> Block<N> {
 }
 
 impl<const N: usize> fmt::Debug for Block<N> {
-    // The alias and the words, as in `M128([1, 2])`.
+    // Writes the name and the words, as in `M128([1, 2])`.
     fn fmt<W: fmt::Write>(&self, f: &mut fmt::Formatter<W>) -> fmt::Result {
         let name = match N {
             2 => "M128",
@@ -64,10 +65,10 @@ impl<const N: usize> Default for Block<N> {
 
 impl<const N: usize> Sealed for Block<N> {}
 
-/// Stands for the numbers of words that a block may have.
+/// Has a [`Length`] for each number of words that a block may have.
 pub struct Lengths;
 
-/// Says of a number of words that it is a power of two, and that a row may have so many.
+/// States that a row may have `N` words: a power of two, of fewer than 2^32 bits in all.
 pub trait Length<const N: usize> {
     ghost log: { ℕ };
 
@@ -100,8 +101,8 @@ impl Length<8> for Lengths {
     ghost narrow_law = { lit< tt };
 }
 
-// Both results of interleaving each word of the one block with that of the other, all words at once in the lanes of a
-// vector.
+// Interleaves each word of one block with that of the other, all words at once in the lanes of a vector, and returns both
+// results.
 #[inline]
 fn interleave_lanes<const N: usize>(
     left: &Block<N>,
@@ -109,8 +110,8 @@ fn interleave_lanes<const N: usize>(
     block: u32,
 ) -> (Block<N>, Block<N>)
     requires { IsBlockSize 64 block }
-    ensures first { (k : ℕ) → k < N → HasFirstBlocks 64 block (slice_index left.now.words k) (slice_index right.now.words k) (slice_index result.0.words k) }
-    ensures second { (k : ℕ) → k < N → HasSecondBlocks 64 block (slice_index left.now.words k) (slice_index right.now.words k) (slice_index result.1.words k) }
+    ensures first { IsEachWord (HasFirstBlocks 64 block) N left.now.words right.now.words result.0.words }
+    ensures second { IsEachWord (HasSecondBlocks 64 block) N left.now.words right.now.words result.1.words }
 {
     let even = Simd::<u64, N>::splat(even_word::<u64>(block));
     let places = Simd::<u64, N>::splat(block as u64);
@@ -175,7 +176,7 @@ where
     }
 
     fn checked(&self) -> Block<N> {
-        // Nothing is computed: of an operation on lanes it is known that each lane is a number of 64 bits.
+        // Nothing is computed: that each lane is a number of 64 bits is known of the result of an operation on lanes.
         let lanes = Simd::<u64, N>::from_array(self.words);
         let _same = (lanes & lanes).to_array();
         *self

@@ -1,14 +1,15 @@
 // Rows that are cut into narrower rows.
 ghost use Rattle.std.specs.Prelude.{◌≡◌, ◌<◌, ◌+◌, ◌*◌, ◌/◌, ℕ, IfOk, IsTrue, map};
 ghost use Rattle.std.specs.List.{flat_map};
-ghost use Rattle.bits_rows.specs.Parts.{IsWithPart, part_at, parts_of};
+ghost use Rattle.field_base.specs.Chunks.{chunk, chunks};
+ghost use Rattle.bits_rows.specs.Parts.{IsWithPart};
 ghost use Rattle.bits_rows.specs.Narrow.{Divides};
 
 use crate::Underlier;
 use crate::narrow::{narrow_word, set_narrow_word};
 use std::alloc::{AllocError, Allocator};
 
-// The number of word `k` of part `i` among all words of that width.
+// The index of word `k` of part `i` among all words of that width.
 #[inline]
 fn word_of_part<U: Divisible<V>, V: Underlier>(i: usize, k: usize) -> usize
     requires part { i < U.RATIO }
@@ -27,11 +28,11 @@ pub trait Divisible<V: Underlier>: Underlier {
 
     ghost RATIO: { ℕ };
 
-    /// Part `i`. It asks for `i` below `RATIO`.
+    /// Part `i`. Requires `i` below `RATIO`.
     #[inline]
     final fn part(&self, i: usize) -> V
         requires { i < RATIO }
-        ensures value { V.number result ≡ part_at V.BITS (Self.number self.now) i }
+        ensures value { V.number result ≡ chunk V.BITS i (Self.number self.now) }
         ensures whole { IsTrue (V.is_whole result) }
     {
         let mut part = V::ZERO;
@@ -41,7 +42,7 @@ pub trait Divisible<V: Underlier>: Underlier {
         part
     }
 
-    /// Writes part `i` and keeps the others. It asks for `i` below `RATIO`.
+    /// Writes part `i` and keeps the others. Requires `i` below `RATIO`.
     #[inline]
     final fn set_part(&mut self, i: usize, part: V)
         requires { i < RATIO }
@@ -55,10 +56,9 @@ pub trait Divisible<V: Underlier>: Underlier {
         }
     }
 
-    /// The parts of the rows, those of one row after the other, in a vector from `alloc`. It fails only where the
-    /// allocator refuses.
+    /// The parts of the rows, one row after the other, in a vector from `alloc`. It fails only where the allocator refuses.
     final fn split_copied<A: Allocator>(alloc: A, rows: &[Self]) -> Result<Vec<V, A>, AllocError>
-        ensures { IfOk result (λ parts. map V.number parts.items ≡ flat_map (λ x. parts_of V.BITS RATIO (Self.number x)) rows.now) }
+        ensures { IfOk result (λ parts. map V.number parts.items ≡ flat_map (λ x. chunks V.BITS RATIO (Self.number x)) rows.now) }
     {
         let mut parts = Vec::new(alloc);
         for place in 0..rows.len() {

@@ -1,11 +1,12 @@
 // Words of a row that are no wider than the words that the row is stored in.
 ghost use Rattle.std.specs.Prelude.{◌≡◌, ◌<◌, ◌≤◌, ◌+◌, ◌*◌, ◌/◌, ◌%◌, ◌^◌, IsTrue};
-ghost use Rattle.bits_rows.specs.Parts.{IsWithPart, part_at};
+ghost use Rattle.field_base.specs.Chunks.{chunk};
+ghost use Rattle.bits_rows.specs.Parts.{IsWithPart};
 ghost use Rattle.bits_rows.specs.Narrow.{Divides};
 
 use crate::{Underlier, Word, with_field};
 
-// The word of the row that holds the narrow word of this number, and the first bit of it there.
+// The word of the row in which narrow word `index` lies, and its first bit there.
 #[inline]
 fn narrow_place<U: Underlier, W: Word>(index: usize) -> (usize, u32)
     requires divides { Divides W.BITS U.Word.BITS }
@@ -20,21 +21,21 @@ fn narrow_place<U: Underlier, W: Word>(index: usize) -> (usize, u32)
     (index / in_word, W::BITS * place)
 }
 
-/// The row's narrow word `index`, counted from the lowest. It asks that the bits of a word of the row are a whole number
-/// of narrow words, and that the row has that narrow word.
+/// The row's narrow word `index`, counted from the lowest. Requires that a word of the row is a whole number of narrow words,
+/// and that the row has this one.
 #[inline]
 pub fn narrow_word<U: Underlier, W: Word>(row: &U, index: usize) -> W
     requires divides { Divides W.BITS U.Word.BITS }
     requires inside { W.BITS * index < U.BITS }
-    ensures { W.number result ≡ part_at W.BITS (U.number row.now) index }
+    ensures { W.number result ≡ chunk W.BITS index (U.number row.now) }
 {
     let (i, start) = narrow_place::<U, W>(index);
     let word = row.word(i);
     W::from_u64((word >> start).to_u64())
 }
 
-/// Writes the row's narrow word `index`, counted from the lowest, and keeps the others. It asks that the bits of a word of
-/// the row are a whole number of narrow words, and that the row has that narrow word.
+/// Writes the row's narrow word `index`, counted from the lowest, and keeps the others. Requires that a word of the row is a
+/// whole number of narrow words, and that the row has this one.
 #[inline]
 pub fn set_narrow_word<U: Underlier, W: Word>(row: &mut U, index: usize, word: W)
     requires divides { Divides W.BITS U.Word.BITS }

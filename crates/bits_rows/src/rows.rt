@@ -1,6 +1,7 @@
 // Rows word by word: sums, products, counts, and blocks of two rows interleaved.
 ghost use Rattle.std.specs.Prelude.{◌≡◌, ◌<◌, ◌+◌, ◌-◌, ◌*◌, ◌/◌, ◌%◌, IsTrue, bit_and, bit_xor, count_ones};
-ghost use Rattle.bits_rows.specs.Parts.{HasFirstBlocks, HasSecondBlocks, IsBlockSize, IsRowOf, part_at};
+ghost use Rattle.field_base.specs.Chunks.{chunk};
+ghost use Rattle.bits_rows.specs.Parts.{HasFirstBlocks, HasSecondBlocks, IsBlockSize, IsRowOf};
 
 use crate::underlier::Underlier;
 use crate::word::Word;
@@ -39,13 +40,14 @@ pub fn count_bits<U: Underlier>(row: &U) -> u32
     count
 }
 
-// Word `i` of the first result of interleaving by blocks of `block` words.
+// Word `i` of the first result of interleaving by blocks of `block` words: a word of an even block of the left row, or that
+// of the right row one block before.
 #[inline]
 fn first_word<U: Underlier>(left: &U, right: &U, block: usize, i: usize) -> U::Word
     requires block { IsBlockSize U.WORD_COUNT block }
     requires inside { i < U.WORD_COUNT }
-    ensures even { i / block % 2 ≡ 0 → U.Word.number result ≡ part_at U.Word.BITS (U.number left.now) i }
-    ensures odd { i / block % 2 ≡ 1 → U.Word.number result ≡ part_at U.Word.BITS (U.number right.now) (i - block) }
+    ensures even { i / block % 2 ≡ 0 → U.Word.number result ≡ chunk U.Word.BITS i (U.number left.now) }
+    ensures odd { i / block % 2 ≡ 1 → U.Word.number result ≡ chunk U.Word.BITS (i - block) (U.number right.now) }
 {
     if i / block % 2 == 0 {
         left.word(i)
@@ -54,13 +56,13 @@ fn first_word<U: Underlier>(left: &U, right: &U, block: usize, i: usize) -> U::W
     }
 }
 
-// Word `i` of the second result.
+// Word `i` of the second result: the word of the left row one block after, or one of an odd block of the right row.
 #[inline]
 fn second_word<U: Underlier>(left: &U, right: &U, block: usize, i: usize) -> U::Word
     requires block { IsBlockSize U.WORD_COUNT block }
     requires inside { i < U.WORD_COUNT }
-    ensures even { i / block % 2 ≡ 0 → U.Word.number result ≡ part_at U.Word.BITS (U.number left.now) (i + block) }
-    ensures odd { i / block % 2 ≡ 1 → U.Word.number result ≡ part_at U.Word.BITS (U.number right.now) i }
+    ensures even { i / block % 2 ≡ 0 → U.Word.number result ≡ chunk U.Word.BITS (i + block) (U.number left.now) }
+    ensures odd { i / block % 2 ≡ 1 → U.Word.number result ≡ chunk U.Word.BITS i (U.number right.now) }
 {
     if i / block % 2 == 0 {
         left.word(i + block)
@@ -69,7 +71,7 @@ fn second_word<U: Underlier>(left: &U, right: &U, block: usize, i: usize) -> U::
     }
 }
 
-/// Both results of interleaving two rows by blocks of `block` words. It asks for a power of two below the words of a row.
+/// Interleaves two rows by blocks of `block` words, a power of two below the words of a row, and returns both results.
 #[inline]
 pub fn interleave_words<U: Underlier>(left: &U, right: &U, block: usize) -> (U, U)
     requires { IsBlockSize U.WORD_COUNT block }

@@ -1,7 +1,7 @@
 // What packed bits are stored in: one word, or a block of words.
-ghost use Rattle.std.specs.Prelude.{◌≡◌, ◌↔◌, ◌<◌, ◌-◌, ◌*◌, ◌^◌, ℕ, Bool, IsTrue, List, map};
-ghost use Rattle.std.specs.Array.{FillsFrom};
-ghost use Rattle.bits_rows.specs.Parts.{HasFirstBlocks, HasSecondBlocks, IsBlockSize, IsWithPart, IsZipped, part_at, parts_of};
+ghost use Rattle.std.specs.Prelude.{◌≡◌, ◌↔◌, ◌<◌, ◌-◌, ◌*◌, ◌^◌, ℕ, Bool, IsTrue, map};
+ghost use Rattle.field_base.specs.Chunks.{chunk, chunks};
+ghost use Rattle.bits_rows.specs.Parts.{HasFirstBlocks, HasSecondBlocks, IsBlockSize, IsDrawn, IsFilled, IsWithPart, IsZipped};
 
 use crate::sealed::Sealed;
 use crate::word::Word;
@@ -11,14 +11,13 @@ use std::fmt::Debug;
 use std::hash::Hash;
 
 /// A row of bits that is stored in words: a word itself, or one of the blocks `M128`, `M256` and `M512`. It stands for
-/// one number, whose lowest bits are those of the first word: bit j of word i is bit `W * i + j` of the number, for
+/// one number, of which the words are the digits, the lowest first: bit j of word i is bit `W * i + j` of the number, for
 /// words of `W` bits.
 pub trait Underlier: Sealed + Copy + Debug + Default + PartialEq + Eq + Hash {
     /// The words that the row is stored in.
     type Word: Word;
 
-    // The number of a row, and whether it has its words and each is a number of their bits. There are 2 to the power
-    // `log_words` of them.
+    // The number of a row, and whether the row has `WORD_COUNT` words, each below 2^W. There are 2^`log_words` of them.
     ghost number: { Self → ℕ };
 
     ghost is_whole: { Self → Bool };
@@ -35,12 +34,12 @@ pub trait Underlier: Sealed + Copy + Debug + Default + PartialEq + Eq + Hash {
 
     ghost BITS: { ℕ };
 
-    /// The row without a set bit.
+    /// The row whose bits are all 0.
     const ZERO: Self;
 
     ghost ZERO: { Self };
 
-    /// The row whose bits are all set.
+    /// The row whose bits are all 1.
     const ONES: Self;
 
     ghost ONES: { Self };
@@ -59,26 +58,26 @@ pub trait Underlier: Sealed + Copy + Debug + Default + PartialEq + Eq + Hash {
 
     /// The words, the lowest first.
     fn words(&self) -> &[Self::Word]
-        ensures { map Self.Word.number result.now ≡ parts_of Self.Word.BITS WORD_COUNT (number self.now) };
+        ensures { map Self.Word.number result.now ≡ chunks Self.Word.BITS WORD_COUNT (number self.now) };
 
-    /// Word `i`, counted from the lowest. It asks for `i` below `WORD_COUNT`.
+    /// Word `i`, counted from the lowest. Requires `i` below `WORD_COUNT`.
     fn word(&self, i: usize) -> Self::Word
         requires { i < WORD_COUNT }
-        ensures { Self.Word.number result ≡ part_at Self.Word.BITS (number self.now) i };
+        ensures { Self.Word.number result ≡ chunk Self.Word.BITS i (number self.now) };
 
-    /// Writes word `i`, counted from the lowest, and keeps the others. It asks for `i` below `WORD_COUNT`.
+    /// Writes word `i`, counted from the lowest, and keeps the others. Requires `i` below `WORD_COUNT`.
     fn set_word(&mut self, i: usize, word: Self::Word)
         requires { i < WORD_COUNT }
         ensures replaced { IsWithPart Self.Word.BITS WORD_COUNT (number self.old) i (Self.Word.number word) (number self.new) }
         ensures whole { IsTrue (is_whole self.new) };
 
-    /// The row itself, each of whose words is a number of its bits.
+    /// Returns the row itself: each of its words is known to be a number of as many bits as a word has.
     fn checked(&self) -> Self
         ensures same { result ≡ self.now }
         ensures whole { IsTrue (is_whole self.now) };
 
-    /// Both results of interleaving the row and the other by blocks of `block` bits. It asks for a power of two below the
-    /// bits of a word.
+    /// Interleaves the row with another one by blocks of `block` bits, a power of two below the bits of a word, and returns
+    /// both results.
     fn interleave_in_words(&self, other: &Self, block: u32) -> (Self, Self)
         requires { IsBlockSize Self.Word.BITS block }
         ensures first { HasFirstBlocks BITS block (number self.now) (number other.now) (number result.0) }
@@ -86,10 +85,10 @@ pub trait Underlier: Sealed + Copy + Debug + Default + PartialEq + Eq + Hash {
         ensures first_whole { IsTrue (is_whole result.0) }
         ensures second_whole { IsTrue (is_whole result.1) };
 
-    /// The row whose word i is `f(i)`. `f` is called for 0, 1, .., below `WORD_COUNT`, in order, each once.
+    /// The row whose word i is `f(i)`: `f` is called once for each i below `WORD_COUNT`, from 0 up.
     final fn from_words_fn<F: FnMut(usize) -> Self::Word>(mut f: F) -> Self
         requires { F.IsAlwaysCallable f }
-        ensures filled { (words : List Self.Word) × (last : F) × FillsFrom F.step f 0 words last × (map Self.Word.number words ≡ parts_of Self.Word.BITS WORD_COUNT (number result)) }
+        ensures filled { (last : F) × IsFilled F.step Self.Word.number Self.Word.BITS WORD_COUNT (number result) f last }
         ensures whole { IsTrue (is_whole result) }
     {
         let mut row = Self::ZERO;
@@ -102,7 +101,7 @@ pub trait Underlier: Sealed + Copy + Debug + Default + PartialEq + Eq + Hash {
     /// The row whose word i is `f` of word i of this row and word i of the other.
     final fn zip<F: Fn(Self::Word, Self::Word) -> Self::Word>(self, other: Self, f: F) -> Self
         requires { F.IsAlwaysCallable f }
-        ensures each { IsZipped Self.Word.BITS Self.Word.number (λ x y z. F.post f x y z) WORD_COUNT (number self) (number other) (number result) }
+        ensures each { IsZipped Self.Word.BITS Self.Word.number (F.post f) WORD_COUNT (number self) (number other) (number result) }
         ensures whole { IsTrue (is_whole result) }
     {
         let mut row = Self::ZERO;
@@ -112,9 +111,10 @@ pub trait Underlier: Sealed + Copy + Debug + Default + PartialEq + Eq + Hash {
         row
     }
 
-    /// A row each of whose words is drawn, word 0 first.
+    /// A random row: its words are drawn one by one, word 0 first.
     final fn random<R: Rng>(rng: &mut R) -> Self
-        ensures drawn { (words : List Self.Word) × FillsFrom (λ s i word t. Self.Word.draws s word t) (R.stream rng.old) 0 words (R.stream rng.new) × (map Self.Word.number words ≡ parts_of Self.Word.BITS WORD_COUNT (number result)) }
+        ensures drawn { IsDrawn Self.Word.draws Self.Word.number Self.Word.BITS WORD_COUNT (number result)
+            (R.stream rng.old) (R.stream rng.new) }
         ensures whole { IsTrue (is_whole result) }
     {
         let mut row = Self::ZERO;

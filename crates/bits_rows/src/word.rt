@@ -9,8 +9,8 @@ use std::fmt::Debug;
 use std::hash::Hash;
 use std::ops::{BitAnd, BitOr, BitXor, Not, Shl, Shr};
 
-/// A machine word as a row of bits: `u8`, `u16`, `u32` or `u64`. The operators are Rust's; a shift asks for less than
-/// `BITS`.
+/// A machine word as a row of bits: `u8`, `u16`, `u32` or `u64`. The operators are Rust's; a shift requires a distance
+/// below `BITS`.
 pub trait Word: Sealed
     + Copy
     + Debug
@@ -25,7 +25,7 @@ pub trait Word: Sealed
     + Not<Output = Self>
     + Shl<u32, Output = Self>
     + Shr<u32, Output = Self> {
-    // The number of a word; the bits of a word are 2 to the power `log_bits`.
+    // The number of a word. A word has 2^`log_bits` bits.
     ghost number: { Self → ℕ };
 
     ghost log_bits: { ℕ };
@@ -35,12 +35,12 @@ pub trait Word: Sealed
 
     ghost BITS: { ℕ };
 
-    /// The word without a set bit.
+    /// The word whose bits are all 0.
     const ZERO: Self;
 
     ghost ZERO: { Self };
 
-    /// The word whose bits are all set.
+    /// The word whose bits are all 1.
     const ONES: Self;
 
     ghost ONES: { Self };
@@ -52,7 +52,7 @@ pub trait Word: Sealed
         u64::count_ones(self.to_u64())
     }
 
-    /// The number of the word, which is below 2 to the power `BITS`.
+    /// The number of the word, which is below 2^`BITS`.
     fn to_u64(self) -> u64
         ensures value { result ≡ number self }
         ensures fits { number self < 2 ^ BITS };
@@ -61,7 +61,7 @@ pub trait Word: Sealed
     fn from_u64(n: u64) -> Self
         ensures { number result ≡ n % 2 ^ BITS };
 
-    // What an impl gives of sizes, and the parts of that. A word takes few bytes, which is asked of the elements of a slice.
+    // The bits of a word, and the parts of that. A word takes few bytes, as the elements of a slice must.
     ghost sizes_law: { (BITS ≡ 2 ^ log_bits) × (BITS ≤ 64) × (BITS ≡ 8 * (BITS / 8)) × FitsInMemory Self.row };
 
     ghost bits_law: { BITS ≡ 2 ^ log_bits } = { sizes_law.0 };
@@ -72,7 +72,7 @@ pub trait Word: Sealed
 
     ghost room_law: { FitsInMemory Self.row } = { sizes_law.3 };
 
-    // What an impl gives of numbers, and the parts of that.
+    // The numbers of words, and the parts of that.
     ghost numbers_law: { (number ZERO ≡ 0) × (number ONES ≡ 2 ^ BITS - 1) × ((x y : Self) → number x ≡ number y → x ≡ y) };
 
     ghost zero_number: { number ZERO ≡ 0 } = { numbers_law.0 };
@@ -85,32 +85,43 @@ pub trait Word: Sealed
 
     ghost default_law: { (r : Self) → Self.is_default r → number r ≡ 0 };
 
-    // What an impl gives of operators, and the parts of that, one law an operator: a proof finds a law by its own shape.
-    ghost operators_law: { (x y : Self) → GivesNumber number (Self.can_bitand x y) (λ r. Self.bitand_gives x y r) (bit_and (number x) (number y)) × GivesNumber number (Self.can_bitor x y) (λ r. Self.bitor_gives x y r) (bit_or (number x) (number y)) × GivesNumber number (Self.can_bitxor x y) (λ r. Self.bitxor_gives x y r) (bit_xor (number x) (number y)) × GivesNumber number (Self.can_not x) (λ r. Self.not_gives x r) (2 ^ BITS - 1 - number x) };
+    // Of each operator an impl gives that it can be called, and the number of its result.
+    ghost on_and: { (x y : Self) → GivesNumber number (Self.can_bitand x y) (Self.bitand_gives x y) (bit_and (number x) (number y)) };
 
-    ghost shifts_law: { (x : Self) (k : ℕ) → GivesNumber number (k < BITS → Self.can_shl x k) (λ r. Self.shl_gives x k r) (number x * 2 ^ k % 2 ^ BITS) × GivesNumber number (k < BITS → Self.can_shr x k) (λ r. Self.shr_gives x k r) (number x / 2 ^ k) };
+    ghost on_or: { (x y : Self) → GivesNumber number (Self.can_bitor x y) (Self.bitor_gives x y) (bit_or (number x) (number y)) };
 
-    ghost can_and_law: { (x y : Self) → Self.can_bitand x y } = { λ x y. (operators_law x y).0.0 };
+    ghost on_xor: { (x y : Self) → GivesNumber number (Self.can_bitxor x y) (Self.bitxor_gives x y) (bit_xor (number x) (number y)) };
 
-    ghost and_law: { (x y r : Self) → Self.bitand_gives x y r → number r ≡ bit_and (number x) (number y) } = { λ x y. (operators_law x y).0.1 };
+    ghost on_not: { (x : Self) → GivesNumber number (Self.can_not x) (Self.not_gives x) (2 ^ BITS - 1 - number x) };
 
-    ghost can_or_law: { (x y : Self) → Self.can_bitor x y } = { λ x y. (operators_law x y).1.0 };
+    ghost on_shl: { (x : Self) (k : ℕ) →
+        GivesNumber number (k < BITS → Self.can_shl x k) (Self.shl_gives x k) (number x * 2 ^ k % 2 ^ BITS) };
 
-    ghost or_law: { (x y r : Self) → Self.bitor_gives x y r → number r ≡ bit_or (number x) (number y) } = { λ x y. (operators_law x y).1.1 };
+    ghost on_shr: { (x : Self) (k : ℕ) → GivesNumber number (k < BITS → Self.can_shr x k) (Self.shr_gives x k) (number x / 2 ^ k) };
 
-    ghost can_xor_law: { (x y : Self) → Self.can_bitxor x y } = { λ x y. (operators_law x y).2.0 };
+    // The parts of those, one law an operator: a proof finds a law by its own shape.
+    ghost can_and_law: { (x y : Self) → Self.can_bitand x y } = { λ x y. (on_and x y).0 };
 
-    ghost xor_law: { (x y r : Self) → Self.bitxor_gives x y r → number r ≡ bit_xor (number x) (number y) } = { λ x y. (operators_law x y).2.1 };
+    ghost and_law: { (x y r : Self) → Self.bitand_gives x y r → number r ≡ bit_and (number x) (number y) } = { λ x y. (on_and x y).1 };
 
-    ghost can_not_law: { (x : Self) → Self.can_not x } = { λ x. (operators_law x x).3.0 };
+    ghost can_or_law: { (x y : Self) → Self.can_bitor x y } = { λ x y. (on_or x y).0 };
 
-    ghost not_law: { (x r : Self) → Self.not_gives x r → number r ≡ 2 ^ BITS - 1 - number x } = { λ x. (operators_law x x).3.1 };
+    ghost or_law: { (x y r : Self) → Self.bitor_gives x y r → number r ≡ bit_or (number x) (number y) } = { λ x y. (on_or x y).1 };
 
-    ghost can_shl_law: { (x : Self) (k : ℕ) → k < BITS → Self.can_shl x k } = { λ x k. (shifts_law x k).0.0 };
+    ghost can_xor_law: { (x y : Self) → Self.can_bitxor x y } = { λ x y. (on_xor x y).0 };
 
-    ghost shl_law: { (x : Self) (k : ℕ) (r : Self) → Self.shl_gives x k r → number r ≡ number x * 2 ^ k % 2 ^ BITS } = { λ x k. (shifts_law x k).0.1 };
+    ghost xor_law: { (x y r : Self) → Self.bitxor_gives x y r → number r ≡ bit_xor (number x) (number y) } = { λ x y. (on_xor x y).1 };
 
-    ghost can_shr_law: { (x : Self) (k : ℕ) → k < BITS → Self.can_shr x k } = { λ x k. (shifts_law x k).1.0 };
+    ghost can_not_law: { (x : Self) → Self.can_not x } = { λ x. (on_not x).0 };
 
-    ghost shr_law: { (x : Self) (k : ℕ) (r : Self) → Self.shr_gives x k r → number r ≡ number x / 2 ^ k } = { λ x k. (shifts_law x k).1.1 };
+    ghost not_law: { (x r : Self) → Self.not_gives x r → number r ≡ 2 ^ BITS - 1 - number x } = { λ x. (on_not x).1 };
+
+    ghost can_shl_law: { (x : Self) (k : ℕ) → k < BITS → Self.can_shl x k } = { λ x k. (on_shl x k).0 };
+
+    ghost shl_law: { (x : Self) (k : ℕ) (r : Self) → Self.shl_gives x k r →
+        number r ≡ number x * 2 ^ k % 2 ^ BITS } = { λ x k. (on_shl x k).1 };
+
+    ghost can_shr_law: { (x : Self) (k : ℕ) → k < BITS → Self.can_shr x k } = { λ x k. (on_shr x k).0 };
+
+    ghost shr_law: { (x : Self) (k : ℕ) (r : Self) → Self.shr_gives x k r → number r ≡ number x / 2 ^ k } = { λ x k. (on_shr x k).1 };
 }

@@ -3,7 +3,7 @@ ghost use Rattle.std.specs.Prelude.{◌≡◌, map, refl};
 ghost use Rattle.std.proofs.Common.{lit<, lit≤, rules, ◌^◌, ◌-◌};
 ghost use Rattle.std.specs.Bool.{nat_lt};
 ghost use Rattle.std.proofs.lemmas.Bool.{ltb-true};
-ghost use Rattle.bits_rows.specs.Parts.{parts_of};
+ghost use Rattle.field_base.specs.Chunks.{chunks};
 
 use crate::bits::interleave_word;
 use crate::sealed::Sealed;
@@ -11,10 +11,10 @@ use crate::underlier::Underlier;
 use crate::word::Word;
 use std::slice;
 
-// The word of a row of one.
+// A word as the slice of the words of a row of one word.
 #[inline]
 fn only_word<W: Word>(word: &W) -> &[W]
-    ensures { map W.number result.now ≡ parts_of W.BITS 1 (W.number word.now) }
+    ensures { map W.number result.now ≡ chunks W.BITS 1 (W.number word.now) }
 {
     let _fits = word.to_u64();
     slice::from_ref(word)
@@ -55,9 +55,17 @@ impl Word for u8 {
 
     ghost default_law = { λ r is. is };
 
-    ghost operators_law = { λ x y. ((tt, λ r is. is), (tt, λ r is. is), (tt, λ r is. is), (tt, λ r is. is)) };
+    ghost on_and = { λ x y. (tt, λ r is. is) };
 
-    ghost shifts_law = { λ x k. ((λ fits. fits, λ r is. is), (λ fits. fits, λ r is. is)) };
+    ghost on_or = { λ x y. (tt, λ r is. is) };
+
+    ghost on_xor = { λ x y. (tt, λ r is. is) };
+
+    ghost on_not = { λ x. (tt, λ r is. is) };
+
+    ghost on_shl = { λ x k. (λ fits. fits, λ r is. is) };
+
+    ghost on_shr = { λ x k. (λ fits. fits, λ r is. is) };
 }
 
 impl Underlier for u8 {
@@ -163,9 +171,17 @@ impl Word for u16 {
 
     ghost default_law = { λ r is. is };
 
-    ghost operators_law = { λ x y. ((tt, λ r is. is), (tt, λ r is. is), (tt, λ r is. is), (tt, λ r is. is)) };
+    ghost on_and = { λ x y. (tt, λ r is. is) };
 
-    ghost shifts_law = { λ x k. ((λ fits. fits, λ r is. is), (λ fits. fits, λ r is. is)) };
+    ghost on_or = { λ x y. (tt, λ r is. is) };
+
+    ghost on_xor = { λ x y. (tt, λ r is. is) };
+
+    ghost on_not = { λ x. (tt, λ r is. is) };
+
+    ghost on_shl = { λ x k. (λ fits. fits, λ r is. is) };
+
+    ghost on_shr = { λ x k. (λ fits. fits, λ r is. is) };
 }
 
 impl Underlier for u16 {
@@ -271,9 +287,17 @@ impl Word for u32 {
 
     ghost default_law = { λ r is. is };
 
-    ghost operators_law = { λ x y. ((tt, λ r is. is), (tt, λ r is. is), (tt, λ r is. is), (tt, λ r is. is)) };
+    ghost on_and = { λ x y. (tt, λ r is. is) };
 
-    ghost shifts_law = { λ x k. ((λ fits. fits, λ r is. is), (λ fits. fits, λ r is. is)) };
+    ghost on_or = { λ x y. (tt, λ r is. is) };
+
+    ghost on_xor = { λ x y. (tt, λ r is. is) };
+
+    ghost on_not = { λ x. (tt, λ r is. is) };
+
+    ghost on_shl = { λ x k. (λ fits. fits, λ r is. is) };
+
+    ghost on_shr = { λ x k. (λ fits. fits, λ r is. is) };
 }
 
 impl Underlier for u32 {
@@ -379,9 +403,17 @@ impl Word for u64 {
 
     ghost default_law = { λ r is. is };
 
-    ghost operators_law = { λ x y. ((tt, λ r is. is), (tt, λ r is. is), (tt, λ r is. is), (tt, λ r is. is)) };
+    ghost on_and = { λ x y. (tt, λ r is. is) };
 
-    ghost shifts_law = { λ x k. ((λ fits. fits, λ r is. is), (λ fits. fits, λ r is. is)) };
+    ghost on_or = { λ x y. (tt, λ r is. is) };
+
+    ghost on_xor = { λ x y. (tt, λ r is. is) };
+
+    ghost on_not = { λ x. (tt, λ r is. is) };
+
+    ghost on_shl = { λ x k. (λ fits. fits, λ r is. is) };
+
+    ghost on_shr = { λ x k. (λ fits. fits, λ r is. is) };
 }
 
 impl Underlier for u64 {

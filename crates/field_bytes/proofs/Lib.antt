@@ -6,3 +6,4 @@ pub mod Streaming
 pub mod Wording
 pub mod Rows
 mod Wide
+pub mod GrowingNumbers

@@ -14,7 +14,7 @@ pub byte_placed : (i b : ℕ) → i < 16 → b < 2 ^ 8 → b * 2 ^ (8 * i) % 2 ^
 byte_placed i b few fits =
     mod-eq_of_lt (lt_of_lt_of_le (more-lt 8 i (b * 2 ^ (8 * i)) b 0 (pow_pos (8 * i)) fits (omega arith)) (pow_mono {j = 128} (omega (arith, few))))
 
--- and so does a word of its bits
+-- a byte above a number of i bytes fits where byte i does
 pub sum_fits : (i b number placed bits : ℕ) → 8 * i + 8 ≤ bits → b < 2 ^ 8 → number < 2 ^ (8 * i) → placed ≡ b * 2 ^ (8 * i)
     → placed + number < 2 ^ bits
 sum_fits i b number placed bits within fits below is =
@@ -39,13 +39,14 @@ low_byte i high low first =
         ∙ ap (λ (n : ℕ). n % 2 ^ (8 + 8 * i)) (ap (λ (n : ℕ). n % 2 ^ 64) (omega arith) ∙ mul-add-mod_self_left (2 ^ 64) high low)
         ∙ sym (shorter low)
 
--- and those of the upper one
+-- bytes 8 and up of a pair of words are those of the upper word
 pub high_byte : (i high low : ℕ) → 8 ≤ i → low < 2 ^ 64 → chunk 8 i (pair 64 low high) ≡ chunk 8 (i - 8) high
 high_byte i high low later fits =
     let bits : 8 * i ≡ 64 + 8 * (i - 8) = omega (arith, later) in
     ap (λ (k : ℕ). pair 64 low high / 2 ^ k % 2 ^ 8) bits
     ∙ ap (λ (n : ℕ). n % 2 ^ 8) (sym (shr-shr (pair 64 low high) 64 (8 * (i - 8))) ∙ ap (λ (n : ℕ). n / 2 ^ (8 * (i - 8))) (shr_high high 64 low fits))
 
+-- 2 ^ (8 i) = 2 ^ (8 (i - 8)) 2 ^ 64, for i of at least 8
 power : (i : ℕ) → 8 ≤ i → 2 ^ (8 * i) ≡ 2 ^ (8 * (i - 8)) * 2 ^ 64
 power i later =
     let bits : 8 * i ≡ 8 * (i - 8) + 64 = omega (arith, later) in ap (λ (k : ℕ). 2 ^ k) bits ∙ pow-add 2 (8 * (i - 8)) 64
@@ -60,26 +61,32 @@ high_worth i b later = ap (λ (n : ℕ). b * n) (power i later) ∙ sym (mul_ass
 
 -- ---- three words
 
+-- bytes 0 to 7 of a triple of words are those of its first word
 pub first_byte : (i c0 c1 c2 : ℕ) → i < 8 → chunk 8 i c0 ≡ chunk 8 i (triple 64 c0 c1 c2)
 first_byte i c0 c1 c2 place = sym (low_byte i (pair 64 c1 c2) c0 place)
 
+-- bytes 8 to 15 of a triple of words are those of its second word
 pub second_byte : (i c0 c1 c2 : ℕ) → 8 ≤ i → i < 16 → c0 < 2 ^ 64 → chunk 8 (i - 8) c1 ≡ chunk 8 i (triple 64 c0 c1 c2)
 second_byte i c0 c1 c2 later place fits =
     sym (high_byte i (pair 64 c1 c2) c0 later fits ∙ low_byte (i - 8) c2 c1 (omega (arith, later, place)))
 
+-- bytes 16 and up of a triple of words are those of its third word
 pub third_byte : (i c0 c1 c2 : ℕ) → 16 ≤ i → c0 < 2 ^ 64 → c1 < 2 ^ 64 → chunk 8 (i - 16) c2 ≡ chunk 8 i (triple 64 c0 c1 c2)
 third_byte i c0 c1 c2 later fits0 fits1 =
     let is : i - 8 - 8 ≡ i - 16 = omega arith in
     sym (high_byte i (pair 64 c1 c2) c0 (omega (arith, later)) fits0 ∙ high_byte (i - 8) c2 c1 (omega (arith, later)) fits1
     ∙ ap (λ (k : ℕ). chunk 8 k c2) is)
 
+-- the first word is no larger than the triple
 pub first_below : (i c0 c1 c2 : ℕ) → triple 64 c0 c1 c2 < 2 ^ (8 * i) → c0 < 2 ^ (8 * i)
 first_below i c0 c1 c2 below = omega (arith, below)
 
+-- the second word is below what bounds the triple, eight bytes lower
 pub second_below : (i c0 c1 c2 : ℕ) → 8 ≤ i → triple 64 c0 c1 c2 < 2 ^ (8 * i) → c1 < 2 ^ (8 * (i - 8))
 second_below i c0 c1 c2 later below =
     let upper : pair 64 c1 c2 < 2 ^ (8 * (i - 8)) = high_below i (pair 64 c1 c2) c0 later below in omega (arith, upper)
 
+-- the third word is below what bounds the triple, sixteen bytes lower
 pub third_below : (i c0 c1 c2 : ℕ) → 16 ≤ i → triple 64 c0 c1 c2 < 2 ^ (8 * i) → c2 < 2 ^ (8 * (i - 16))
 third_below i c0 c1 c2 later below =
     let is : i - 8 - 8 ≡ i - 16 = omega arith in
@@ -87,12 +94,15 @@ third_below i c0 c1 c2 later below =
     high_below (i - 8) c2 c1 (omega (arith, later)) (high_below i (pair 64 c1 c2) c0 (omega (arith, later)) below) in
     rw is at upper
 
+-- a byte put into the first word is put at its place in the triple
 pub first_put : (i b c0 c1 c2 new : ℕ) → new ≡ b * 2 ^ (8 * i) + c0 → triple 64 new c1 c2 ≡ b * 2 ^ (8 * i) + triple 64 c0 c1 c2
 first_put i b c0 c1 c2 new is = omega (arith, is)
 
+-- a byte put into the second word is put eight bytes higher in the triple
 pub second_put : (i b c0 c1 c2 new : ℕ) → 8 ≤ i → new ≡ b * 2 ^ (8 * (i - 8)) + c1 → triple 64 c0 new c2 ≡ b * 2 ^ (8 * i) + triple 64 c0 c1 c2
 second_put i b c0 c1 c2 new later is = let worth = high_worth i b later in omega (arith, is, worth)
 
+-- a byte put into the third word is put sixteen bytes higher in the triple
 pub third_put : (i b c0 c1 c2 new : ℕ) → 16 ≤ i → new ≡ b * 2 ^ (8 * (i - 16)) + c2 → triple 64 c0 c1 new ≡ b * 2 ^ (8 * i) + triple 64 c0 c1 c2
 third_put i b c0 c1 c2 new later is =
     let same : i - 8 - 8 ≡ i - 16 = omega arith in

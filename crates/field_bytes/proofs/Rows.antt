@@ -4,6 +4,7 @@ use Rattle.std.specs.Iterator.{Drains, Yields}
 use Rattle.std.proofs.lemmas.List.{append-nil, get_or-map, get_or-replicate, get_or-set_other, get_or-set_same, length-append, length-map, length-replicate, length-set, map-append}
 use Rattle.std.proofs.lemmas.Bool.{cases_lt}
 use Rattle.field_bytes.specs.declared.parallel.ParallelByteStreams.{ParallelByteStreams}
+use Rattle.field_base.specs.Chunks.{joined}
 use Rattle.field_bytes.specs.Bytes.{number_of_bytes}
 use Rattle.field_bytes.specs.Parallel.{AreJoinedRows, GivesRow, entry_of_row}
 use Rattle.field_bytes.specs.Streams.{IsWithin, bytes_pending, joined_bytes}
@@ -33,7 +34,7 @@ entry_put f xs j v within is before k less = by_place (cases_lt k j)
         let same : k ≡ j = omega (arith, last, less) in
         ap (λ (i : ℕ). slice_index (set xs j v) i) same ∙ get_or-set_same xs j v 0 within ∙ is ∙ sym (ap f same)
 
--- and of words
+-- one more word put into a row of words, of whose numbers P holds place by place
 pub word_put : {W : Type 0} (number : W → ℕ) (P : ℕ → ℕ → Type 0) (xs : List W) (j : ℕ) (v : W) → j < length xs → P j (number v)
     → ((k : ℕ) → k < j → P k (slice_index (map number xs) k)) → (k : ℕ) → k < j + 1 → P k (slice_index (map number (set xs j v)) k)
 word_put {W} number P xs j v within is before k less = by_place (cases_lt k j)
@@ -54,15 +55,18 @@ word_put {W} number P xs j v within is before k less = by_place (cases_lt k j)
         subst (P k) (ap number (sym (ap (λ (i : ℕ). get_or (set xs j v) i v) (sym same) ∙ get_or-set_same xs j v v within)) ∙ sym (at (set xs j v) long))
         (subst (λ i. P i (number v)) same is)
 
+-- the number of an entry of a row is the entry of the numbers
 pub word_at : {W : Type 0} (number : W → ℕ) (xs : List W) (j : ℕ) (x : W) → j < length xs → number (get_or xs j x) ≡ slice_index (map number xs) j
 word_at number xs j x within = sym (get_or-map number xs j x 0 within)
 
+-- each entry of a row of zeros is 0
 pub zero_row : {W : Type 0} (number : W → ℕ) (n : ℕ) (z : W) → number z ≡ 0 → (j : ℕ) → j < n → slice_index (map number (replicate n z)) j ≡ 0
 zero_row number n z none j within =
     let long : length (replicate n z) ≡ n = length-replicate n z in
     get_or-map number (replicate n z) j z 0 (omega (arith, long, within)) ∙ ap number (get_or-replicate n j z z within) ∙ none
 
 module _ {S E : Type 0} {width : ℕ} (next_gives : S → Option (List E) → S → Type 0) (size : ℕ) (repr : E → ℕ) where
+  -- the bytes that are pending in stream j
   abbrev pending_in : ℕ → ParallelByteStreams S E width → List ℕ
   pending_in j s = bytes_pending size (entry_of_row repr j) s.pending s.given
 
@@ -71,11 +75,13 @@ module _ {S E : Type 0} {width : ℕ} (next_gives : S → Option (List E) → S 
   FirstOf row given bytes t =
       (j : ℕ) → j < width → bytes_pending size (entry_of_row repr j) (Some row) given ≡ slice_index bytes j ∷ pending_in j t
 
+  -- where no row is pending, a call takes a row of the source, and gives its first byte in each stream
   pub row_taken : (s t : ParallelByteStreams S E width) (next : S) (row : List E) (bytes : List ℕ) → s.pending ≡ None → IsWithin size s.pending s.given
       → next_gives s.elements (Some row) next → t.elements ≡ next → FirstOf row s.given bytes t → GivesRow next_gives width size repr s (Some bytes) t
   row_taken s t next row bytes none within step same left =
       (row ∷ [], (next, step, sym same), (λ j stream. first_bytes size (entry_of_row repr j) s.pending s.given row _ none within (left j stream)))
 
+  -- where a row is pending, a call gives its next byte in each stream
   pub row_begun : (s t : ParallelByteStreams S E width) (row : List E) (bytes : List ℕ) → s.pending ≡ Some row → t.elements ≡ s.elements
       → FirstOf row s.given bytes t → GivesRow next_gives width size repr s (Some bytes) t
   row_begun s t row bytes is same left = (
@@ -84,6 +90,7 @@ module _ {S E : Type 0} {width : ℕ} (next_gives : S → Option (List E) → S 
     (λ j stream. append-nil (pending_in j s) ∙ ap (λ p. bytes_pending size (entry_of_row repr j) p s.given) is ∙ left j stream),
   )
 
+  -- the bytes that some calls gave in each stream, and those then pending, are those pending before and those of the rows taken
   run_gives : (s : ParallelByteStreams S E width) (rows : List (List ℕ)) (t : ParallelByteStreams S E width) → Yields (GivesRow next_gives width size repr) s rows t
       → (taken : List (List E)) × Yields next_gives s.elements taken t.elements
       × ((j : ℕ) → j < width → pending_in j s ++ joined_bytes size (entry_of_row repr j) taken ≡ map (λ row. slice_index row j) rows ++ pending_in j t)
@@ -131,8 +138,9 @@ pub record ReadingRows {S W : Type 0} (next_gives : S → Option (List ℕ) → 
   pub are : IsWordRow width number words taken
 
 module _ {S W : Type 0} (next_gives : S → Option (List ℕ) → S → Type 0) (number : W → ℕ) (width : ℕ) (start : S) where
+  -- before the first row of bytes each word is 0
   pub no_rows : (words : List W) → ((j : ℕ) → j < width → slice_index (map number words) j ≡ 0) → ReadingRows next_gives number width start 0 words start
-  unfolding number_of_bytes
+  unfolding joined
   no_rows words none = record {
     below = λ j within. let is = none j within in omega (arith, is);
     taken = [];
@@ -141,6 +149,7 @@ module _ {S W : Type 0} (next_gives : S → Option (List ℕ) → S → Type 0) 
     are = none;
   }
 
+  -- one more row of bytes, put above those that each word has
   pub row_read : (i : ℕ) (words more : List W) (row : List ℕ) (now next : S) → ReadingRows next_gives number width start i words now → next_gives now (Some row) next
       → ((j : ℕ) → j < width → slice_index (map number more) j < 2 ^ (8 * (i + 1)))
       → ((j : ℕ) → j < width → slice_index (map number more) j ≡ slice_index row j * 2 ^ (8 * i) + slice_index (map number words) j)

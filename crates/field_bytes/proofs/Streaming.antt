@@ -48,14 +48,17 @@ byte_given size given a b within is =
 pub none_after : (size given a : ℕ) → given ≡ size → [] ≡ drop given (low_bytes size a)
 none_after size given a last = sym (drop_of_length-le (low_bytes size a) (omega (arith, last, length-chunks 8 size a)))
 
+-- the digits of 0 are 0
 pub chunk-zero : (i : ℕ) → chunk 8 i 0 ≡ 0
 chunk-zero i = ap (λ (n : ℕ). n % 2 ^ 8) (zero-div (2 ^ (8 * i)))
 
 -- what is pending of an element of `whole` bytes is pending of one of `size`, where these are equal
 module _ {E : Type 0} (size whole : ℕ) (repr : E → ℕ) (pending : Option E) (place : ℕ) (same : whole ≡ size) where
+  -- rewrites the size of an element in `IsWithin`
   pub rest_within : IsWithin whole pending place → IsWithin size pending place
   rest_within within = subst (λ n. IsWithin n pending place) same within
 
+  -- rewrites the size of an element in the bytes that are pending
   pub rest_left : (x : E) (given : ℕ) → bytes_pending whole repr pending place ≡ drop given (low_bytes whole (repr x))
       → bytes_pending size repr pending place ≡ drop given (low_bytes size (repr x))
   rest_left x given left = subst (λ n. bytes_pending n repr pending place ≡ drop given (low_bytes n (repr x))) same left
@@ -68,6 +71,7 @@ module _ {E : Type 0} (size whole : ℕ) (repr : E → ℕ) (pending : Option E)
       byte_given size given (repr x) b within is ∙ ap (λ ys. b ∷ ys) (sym (rest_left x (given + 1) left))
 
 module _ {E : Type 0} (size : ℕ) (repr : E → ℕ) where
+  -- where no element is pending, no byte is
   pub nothing_pending : (pending : Option E) (given : ℕ) → pending ≡ None → bytes_pending size repr pending given ≡ []
   nothing_pending pending given is = ap (λ p. bytes_pending size repr p given) is
 
@@ -91,6 +95,7 @@ module _ {E : Type 0} (size : ℕ) (repr : E → ℕ) where
       let whole : suc fewer * size ≡ fewer * size + size = suc-mul fewer size in
       omega (arith, long, bound, whole)
 
+  -- the bytes of two lists of elements are those of the first, then those of the second
   joined-append : (xs ys : List E) → joined_bytes size repr (xs ++ ys) ≡ joined_bytes size repr xs ++ joined_bytes size repr ys
   joined-append xs ys = flat_map-append (λ x. low_bytes size (repr x)) xs ys
 
@@ -102,6 +107,7 @@ module _ {E : Type 0} (size : ℕ) (repr : E → ℕ) where
       ∙ ap (λ zs. zs ++ joined_bytes size repr ys) first ∙ ap (λ zs. b ∷ zs) others
 
 module _ {S E : Type 0} (next_gives : S → Option E → S → Type 0) (size : ℕ) (repr : E → ℕ) where
+  -- where no element is pending, a call takes one of the source, and gives its first byte
   pub element_taken : (s t : ByteStream S E) (next : S) (x : E) (b : ℕ) → s.pending ≡ None → IsWithin size s.pending s.given
       → next_gives s.elements (Some x) next → t.elements ≡ next
       → bytes_pending size repr (Some x) s.given ≡ b ∷ bytes_pending size repr t.pending t.given → GivesByte next_gives size repr s (Some b) t
@@ -110,6 +116,7 @@ module _ {S E : Type 0} (next_gives : S → Option E → S → Type 0) (size : �
 
   -- ---- all that a stream gives
 
+  -- the bytes that some calls gave, and those then pending, are those pending before and those of the elements taken
   run_gives : (s : ByteStream S E) (bytes : List ℕ) (t : ByteStream S E) → Yields (GivesByte next_gives size repr) s bytes t
       → (taken : List E) × Yields next_gives s.elements taken t.elements
       × (bytes_pending size repr s.pending s.given ++ joined_bytes size repr taken ≡ bytes ++ bytes_pending size repr t.pending t.given)

@@ -7,15 +7,17 @@ use Rattle.std.proofs.lemmas.List.{length-append}
 use native.Mathlib.Nat.{mod-eq_of_lt, mul-suc, mul_assoc, mul_comm}
 use native.Mathlib.Numerals.{add-one}
 use Rattle.std.specs.Iterator.{Count, IsFinite, Yields, size}
-use Rattle.field_base.specs.Chunks.{chunk, chunks}
+use Rattle.field_base.specs.Chunks.{chunk, chunks, joined}
 use Rattle.field_bytes.specs.Bytes.{TakesUpTo, low_bytes, number_of_bytes}
 use Rattle.field_space.proofs.Spaces.{more-lt}
 
+-- some items, and one more
 pub yields_more : {S A : Type 0} (next_gives : S → Option A → S → Type 0) (s : S) (xs : List A) (t u : S) (x : A)
     → Yields next_gives s xs t → next_gives t (Some x) u → Yields next_gives s (xs ++ x ∷ []) u
 yields_more next_gives s [] t u x same step = (u, subst (λ p. next_gives p (Some x) u) (sym same) step, refl)
 yields_more next_gives s (y ∷ ys) t u x begun step = (begun.0, begun.1, yields_more next_gives begun.0 ys t u x begun.2 step)
 
+-- some items, and then others
 pub yields_append : {S A : Type 0} (next_gives : S → Option A → S → Type 0) (xs ys : List A) (s t u : S)
     → Yields next_gives s xs t → Yields next_gives t ys u → Yields next_gives s (xs ++ ys) u
 yields_append next_gives [] ys s t u same others = subst (λ p. Yields next_gives p ys u) (sym same) others
@@ -24,14 +26,17 @@ yields_append next_gives (x ∷ xs) ys s t u begun others =
 
 -- what was taken of a source that ended before n items, of one that gave n, and how much the former had
 module _ {S A : Type 0} (next_gives : S → Option A → S → Type 0) (says : List A → Type 0) (start now : S) (taken : List A) (i n : ℕ) where
+  -- the source ended before n items
   pub few_taken : (end : S) → Yields next_gives start taken now → length taken ≡ i → says taken → i < n → next_gives now None end
       → (items : List A) × TakesUpTo next_gives start n items end × (i ≡ length items) × says items
   few_taken end yields long is few step = (taken, inl ((now, yields, step), omega (arith, long, few)), sym long, is)
 
+  -- the source gave n items
   pub all_taken : (count : ℕ) → Yields next_gives start taken now → length taken ≡ i → says taken → i ≡ n → count ≡ n
       → (items : List A) × TakesUpTo next_gives start n items now × (count ≡ length items) × says items
   all_taken count yields long is all counted = (taken, inr (yields, long ∙ all), counted ∙ sym (long ∙ all), is)
 
+-- where fewer than n items were taken, the source had no fewer than those
 pub few_left : (before now end : Count) (i n : ℕ) → i < n → (IsFinite before → IsFinite now × (size now + i ≤ size before)) → IsFinite before
     → (i ≤ size before) × (i ≡ n → IsFinite end × (size end + n ≤ size before))
 few_left before now end i n few counted finite =
@@ -43,7 +48,7 @@ next_place n = ap (λ (k : ℕ). 2 ^ k) (mul-suc 8 n ∙ omega arith) ∙ pow-ad
 
 -- bytes above others are worth more
 pub number-append : (xs ys : List ℕ) → number_of_bytes (xs ++ ys) ≡ number_of_bytes ys * 2 ^ (8 * length xs) + number_of_bytes xs
-unfolding number_of_bytes
+unfolding joined
 number-append [] ys = omega arith
 number-append (x ∷ xs) ys =
     let n = number_of_bytes ys in
@@ -55,9 +60,9 @@ number-append (x ∷ xs) ys =
 
 -- one byte more
 pub number-more : (bs : List ℕ) (b : ℕ) → number_of_bytes (bs ++ b ∷ []) ≡ b * 2 ^ (8 * length bs) + number_of_bytes bs
-unfolding number_of_bytes
+unfolding joined
 number-more bs b =
-    let one : b + 256 * 0 ≡ b = omega arith in
+    let one : 0 * 256 + b ≡ b = omega arith in
     number-append bs (b ∷ []) ∙ ap (λ (n : ℕ). n * 2 ^ (8 * length bs) + number_of_bytes bs) one
 
 -- the bytes so far, from the state `start` to the state `now`, and their number
@@ -69,8 +74,9 @@ pub record Reading {S : Type 0} (next_gives : S → Option ℕ → S → Type 0)
   pub is : number_of_bytes taken ≡ number
 
 module _ {S : Type 0} (next_gives : S → Option ℕ → S → Type 0) (start : S) where
+  -- before the first byte the number is 0
   pub nothing_read : (number : ℕ) → number ≡ 0 → Reading next_gives start 0 number start
-  unfolding number_of_bytes
+  unfolding joined
   nothing_read number none = record {
     below = subst (λ (n : ℕ). n < 2 ^ (8 * 0)) (sym none) (pow_pos 0);
     taken = [];
@@ -79,6 +85,7 @@ module _ {S : Type 0} (next_gives : S → Option ℕ → S → Type 0) (start : 
     is = sym none;
   }
 
+  -- one more byte, put above those that were read
   pub byte_read : (i number more b : ℕ) (now next : S) → Reading next_gives start i number now → next_gives now (Some b) next → b < 2 ^ 8
       → more ≡ b * 2 ^ (8 * i) + number → Reading next_gives start (i + 1) more next
   byte_read i number more b now next begun step fits is = record {
@@ -92,13 +99,15 @@ module _ {S : Type 0} (next_gives : S → Option ℕ → S → Type 0) (start : 
 
 -- ---- the bytes of a number, read again
 
+-- the list of the first n digits has the length n
 pub length-chunks : (width n a : ℕ) → length (chunks width n a) ≡ n
 unfolding chunks
 length-chunks width zero a = refl
 length-chunks width (suc n) a = length-append (chunks width n a) (chunk width n a ∷ []) ∙ ap (λ (k : ℕ). k + 1) (length-chunks width n a) ∙ add-one n
 
+-- the number of the lowest bytes of a is a modulo 2 ^ (8 count)
 pub read_again : (count a : ℕ) → number_of_bytes (low_bytes count a) ≡ a % 2 ^ (8 * count)
-unfolding chunks number_of_bytes
+unfolding chunks joined
 read_again zero a = sym (mod-one a)
   where
     mod-one : (n : ℕ) → n % 1 ≡ 0
@@ -109,12 +118,13 @@ read_again (suc count) a =
     ∙ ap₂ (λ (k n : ℕ). chunk 8 count a * 2 ^ (8 * k) + n) (length-chunks 8 count a) (read_again count a)
     ∙ sym (ap (λ (k : ℕ). a % 2 ^ k) bits ∙ mod-pow-add a 8 (8 * count))
 
--- so that the bytes of an element give it back
+-- the bytes of an element give its representation back
 pub given_back : (count width a : ℕ) → a < 2 ^ width → width ≤ 8 * count → number_of_bytes (low_bytes count a) % 2 ^ width ≡ a
 given_back count width a fits room =
     ap (λ (n : ℕ). n % 2 ^ width) (read_again count a ∙ mod-eq_of_lt (lt_of_lt_of_le fits (pow_mono {i = width} {j = 8 * count} room)))
     ∙ mod-eq_of_lt fits
 
+-- an element that is read from the bytes of an element has its representation
 pub same_again : (count width a b : ℕ) (bytes : List ℕ) → a < 2 ^ width → width ≤ 8 * count → b ≡ number_of_bytes bytes % 2 ^ width
     → bytes ≡ low_bytes count a → b ≡ a
 same_again count width a b bytes fits room is same =

@@ -5,7 +5,7 @@ use Rattle.std.proofs.lemmas.List.{append-nil, length-drop}
 use Rattle.std.proofs.lemmas.Nat.{mul-le, pow-add}
 use native.Mathlib.Nat.{div-one, mul-add, suc-mul}
 use Rattle.std.specs.Iterator.{Count, IsFinite, Yields, size as items}
-use Rattle.field_base.specs.Chunks.{chunk, chunks}
+use Rattle.field_base.specs.Chunks.{chunk, chunks, joined}
 use Rattle.field_bytes.specs.Bytes.{TakesUpTo, low_bytes, number_of_bytes}
 use Rattle.field_bytes.specs.declared.streams.ByteStream.{ByteStream}
 use Rattle.field_bytes.specs.Streams.{GivesByte, IsWithin, byte_count, bytes_pending, joined_bytes}
@@ -41,9 +41,11 @@ module _ {S E : Type 0} (next_gives : S → Option E → S → Type 0) (size : �
   Comes s x g e = (taken : List E) × Yields next_gives s.elements taken e
       × (bytes_pending size repr s.pending s.given ++ joined_bytes size repr taken ≡ drop g (low_bytes size (repr x)))
 
+  -- a pending element comes next
   pub comes_pending : (s : ByteStream S E) (x : E) → s.pending ≡ Some x → Comes s x s.given s.elements
   comes_pending s x is = ([], refl, append-nil (bytes_pending size repr s.pending s.given) ∙ ap (λ p. bytes_pending size repr p s.given) is)
 
+  -- where none is pending, an element of the source comes next
   pub comes_next : (s : ByteStream S E) (x : E) (e : S) → s.pending ≡ None → IsWithin size s.pending s.given → next_gives s.elements (Some x) e
       → Comes s x 0 e
   comes_next s x e none within step =
@@ -54,6 +56,7 @@ module _ {S E : Type 0} (next_gives : S → Option E → S → Type 0) (size : �
   abbrev state_at : E → ℕ → S → ByteStream S E
   state_at x g e = record { elements = e; pending = Some x; given = g }
 
+  -- the next byte of the element that comes is given by a call
   one_byte : (s t : ByteStream S E) (x : E) (g b : ℕ) (e : S) → Comes s x g e → g < size → b ≡ chunk 8 g (repr x) → t.elements ≡ e
       → bytes_pending size repr t.pending t.given ≡ drop (g + 1) (low_bytes size (repr x)) → GivesByte next_gives size repr s (Some b) t
   one_byte s t x g b e comes within is same left = (
@@ -73,6 +76,7 @@ module _ {S E : Type 0} (next_gives : S → Option E → S → Type 0) (size : �
       next : g + suc n ≡ g + n + 1
       next = omega arith
 
+  -- n + 1 further bytes of the element that comes are given by as many calls
   some_bytes : (n : ℕ) (s : ByteStream S E) (x : E) (g : ℕ) (e : S) → Comes s x (g + 0) e → g + n < size
       → Yields (GivesByte next_gives size repr) s (chunks 8 (suc n) (repr x / 2 ^ (8 * g))) (state_at x (g + suc n) e)
   unfolding chunks
@@ -95,7 +99,7 @@ module _ {S E : Type 0} (next_gives : S → Option E → S → Type 0) (size : �
       nothing : g ≡ g + 0
       nothing = omega arith
 
-  -- they are the bytes of a word
+  -- a stream gives eight bytes at once, which make the word
   pub word_taken : (s t : ByteStream S E) (x : E) (g : ℕ) (e : S) → Comes s x g e → g + 8 ≤ size → t.elements ≡ e
       → bytes_pending size repr t.pending t.given ≡ drop (g + 8) (low_bytes size (repr x)) → (n number : ℕ) → n ≡ 8
       → number ≡ number_of_bytes (low_bytes 8 (repr x / 2 ^ (8 * g)))
@@ -104,12 +108,13 @@ module _ {S E : Type 0} (next_gives : S → Option E → S → Type 0) (size : �
       let long : length (low_bytes 8 (repr x / 2 ^ (8 * g))) ≡ 8 = length-chunks 8 8 (repr x / 2 ^ (8 * g)) in
       (low_bytes 8 (repr x / 2 ^ (8 * g)), inr (eight_bytes s t x g e comes room same left, long ∙ sym eight), sym long, is)
 
-  -- and none where the source ends
+  -- a stream whose source ends gives no byte, and the word 0
   pub nothing_taken : (s t : ByteStream S E) (n number : ℕ) → 0 < n → number ≡ 0 → GivesByte next_gives size repr s None t
       → (bytes : List ℕ) × TakesUpTo (GivesByte next_gives size repr) s n bytes t × (0 ≡ length bytes) × (number ≡ number_of_bytes bytes)
-  unfolding number_of_bytes
+  unfolding joined
   nothing_taken s t n number wide none step = ([], inl ((s, refl, step), wide), refl, none)
 
+  -- eight bytes fewer are pending
   left_after : (g : ℕ) (x : E) → g + 8 ≤ size → length (drop (g + 8) (low_bytes size (repr x))) + 8 ≡ length (drop g (low_bytes size (repr x)))
   left_after g x room =
       let whole = length-chunks 8 size (repr x) in
@@ -132,7 +137,7 @@ module _ {S E : Type 0} (next_gives : S → Option E → S → Type 0) (size : �
         let bound : (remaining t.elements).bound * size ≡ (remaining s.elements).bound * size = ap (λ e. (remaining e).bound * size) same in
         (omega (arith, now, less), λ whole. (subst (λ e. IsFinite (remaining e)) (sym same) finite, omega (arith, now, then, less, bound, eight)))
 
-    -- and after the first word of an element that was taken
+    -- after the first word of an element of the source, eight bytes fewer are left than before
     pub less_left : (s t : ByteStream S E) (x : E) (e : S) (n : ℕ) → n ≡ 8 → 0 + 8 ≤ size → t.elements ≡ e
         → bytes_pending size repr t.pending t.given ≡ drop (0 + 8) (low_bytes size (repr x))
         → IsFinite (remaining e) → (remaining e).bound < (remaining s.elements).bound

@@ -18,12 +18,13 @@ module _ {S A W X : Type 0} (next_gives : S → Option A → S → Type 0) (n : 
   takes_nothing s t bytes over (inr (inl last)) = absurd (true≢false (sym over ∙ last.0))
   takes_nothing s t bytes over (inr (inr whole)) = absurd (true≢false (sym over ∙ whole.0))
 
-  -- so it gives no word
+  -- a stream that has ended gives no word
   ended_gives : (s t : X) (words : List W) → ended s ≡ true → Yields Gives s words t → words ≡ []
   ended_gives s t [] over run = refl
   ended_gives s t (w ∷ words) over run =
       let none = ap length (takes_nothing s run.0 run.1.0 over run.1.1) in absurd (omega (arith, none, run.1.2.0))
 
+  -- some items, and then all others
   drains_append : (xs ys : List A) (s t : S) → Yields next_gives s xs t → Drains next_gives t ys → Drains next_gives s (xs ++ ys)
   drains_append xs ys s t begun rest = (rest.0, (rest.1.0, yields_append next_gives xs ys s t rest.1.0 begun rest.1.1, rest.1.2))
 
@@ -31,12 +32,14 @@ module _ {S A W X : Type 0} (next_gives : S → Option A → S → Type 0) (n : 
   abbrev Makes : X → List W → Type 0
   Makes s words = (items : List A) × Drains next_gives (source s) items × AreWordsBy is n items words
 
+  -- a call that takes no item makes no word
   last_call : (s t : X) (bytes : List A) → 0 < n → ended s ≡ false → bytes ≡ [] → TakesOn next_gives n (ended s) (source s) bytes (ended t) (source t) → Makes s []
   last_call s t bytes wide goes none (inl past) = absurd (true≢false (sym past.0 ∙ goes))
   last_call s t bytes wide goes none (inr (inl last)) = (bytes, (source t, last.2), none)
   last_call s t bytes wide goes none (inr (inr whole)) =
       let short = ap length none in absurd (omega (arith, wide, short, whole.3))
 
+  -- a call that takes items makes their word, and the later calls the others
   call : (s j t : X) (bytes : List A) (w : W) (words : List W) → ended s ≡ false → 0 < length bytes → is w bytes
       → (ended j ≡ false → Makes j words) → Yields Gives j words t → TakesOn next_gives n (ended s) (source s) bytes (ended j) (source j) → Makes s (w ∷ words)
   call s j t bytes w words goes some value others run (inl past) = absurd (true≢false (sym past.0 ∙ goes))
@@ -55,6 +58,7 @@ module _ {S A W X : Type 0} (next_gives : S → Option A → S → Type 0) (n : 
         (bytes, more.0, refl, value, some, few, (λ less. absurd (omega (arith, less, whole.3))), more.2),
       )
 
+  -- a run of calls up to None makes the words of all items
   run_makes : (s t u : X) (words : List W) → 0 < n → ended s ≡ false → Yields Gives s words t
       → Gives t None u → Makes s words
   run_makes s t u [] wide goes same end =

@@ -1,14 +1,20 @@
 -- What streams of bytes side by side give: each item is a row, with one entry a stream.
 use Rattle.std.specs.Prelude.{◌≡◌, ℕ, ◌+◌, ◌*◌, ◌<◌, List, ◌∷◌, ◌++◌, length, map, slice_index, MatchOption}
 use Rattle.std.specs.declared.option.Option.{Option}
-use Rattle.std.specs.declared.option.Option.TheVariants.{None}
-use Rattle.std.specs.Iterator.{Count, Yields, count_map}
+use Rattle.std.specs.declared.option.Option.TheVariants.{None, Some}
+use Rattle.std.specs.Iterator.{Count, Drains, Yields, count_map}
 use Rattle.field_bytes.specs.declared.parallel.ParallelByteStreams.{ParallelByteStreams}
-use Rattle.field_bytes.specs.Streams.{IsWithin, bytes_pending, joined_bytes}
+use Rattle.field_bytes.specs.Streams.{GivesFirst, IsWithin, bytes_pending, joined_bytes}
 
 -- the representation of entry j of a row of elements
 abbrev pub entry_of_row : {E : Type 0} → (E → ℕ) → ℕ → List E → ℕ
 entry_of_row repr j row = slice_index (map repr row) j
+
+-- In each of `width` streams, of the bytes of the row's element after the first `given`, the first is the row's byte, and the
+-- others are those that are pending afterwards.
+abbrev pub GivesFirstRow : {E : Type 0} → ℕ → ℕ → (E → ℕ) → List E → ℕ → List ℕ → Option (List E) → ℕ → Type 0
+GivesFirstRow width size repr row given bytes after given_then =
+    (j : ℕ) → j < width → GivesFirst size (entry_of_row repr j) (Some row) given (slice_index bytes j) after given_then
 
 -- a call is allowed where one of the source is
 abbrev pub can_give_rows : {S E : Type 0} {width : ℕ} → (S → Type 0) → ℕ → ParallelByteStreams S E width → Type 0
@@ -32,3 +38,9 @@ row_count remaining size s = count_map (λ n. n * size + length (bytes_pending s
 abbrev pub AreJoinedRows : {E : Type 0} → ℕ → ℕ → (E → ℕ) → List (List E) → List (List ℕ) → Type 0
 AreJoinedRows width size repr elements rows =
     (j : ℕ) → j < width → map (λ row. slice_index row j) rows ≡ joined_bytes size (entry_of_row repr j) elements
+
+-- a whole run of the streams gives the rows of bytes of all rows of elements that a whole run of their source gives
+abbrev pub StreamsByteRows : {S E : Type 0} {width : ℕ} → (S → Option (List E) → S → Type 0) → ℕ → (E → ℕ) → S → ParallelByteStreams S E width → Type 0
+StreamsByteRows {E = E} {width = width} next_gives size repr elements streams =
+    (rows : List (List ℕ)) → Drains (GivesRow next_gives width size repr) streams rows
+    → (given : List (List E)) × Drains next_gives elements given × AreJoinedRows width size repr given rows

@@ -2,7 +2,7 @@
 use Rattle.std.specs.Prelude.{◌≡◌, ℕ, ◌+◌, ◌*◌, ◌<◌, List, [], ◌∷◌, ◌++◌, length, drop, MatchOption}
 use Rattle.std.specs.declared.option.Option.{Option}
 use Rattle.std.specs.declared.option.Option.TheVariants.{None, Some}
-use Rattle.std.specs.Iterator.{Count, Yields, count_map}
+use Rattle.std.specs.Iterator.{Count, Drains, Yields, count_map}
 use Rattle.std.specs.List.{flat_map}
 use Rattle.field_bytes.specs.declared.streams.ByteStream.{ByteStream}
 use Rattle.field_bytes.specs.Bytes.{low_bytes}
@@ -11,18 +11,27 @@ use Rattle.field_bytes.specs.Bytes.{low_bytes}
 abbrev pub joined_bytes : {E : Type 0} → ℕ → (E → ℕ) → List E → List ℕ
 joined_bytes size repr elements = flat_map (λ x. low_bytes size (repr x)) elements
 
--- those of an element that may be there
+-- the bytes of an optional element: none for None
 abbrev pub option_bytes : {E : Type 0} → (E → List ℕ) → Option E → List ℕ
 option_bytes bytes None = []
 option_bytes bytes (Some x) = bytes x
 
--- those of an element of which the first `given` were given, and none where there is no such element
+-- the bytes of an element after the first `given`, and none where there is no element
 abbrev pub bytes_pending : {E : Type 0} → ℕ → (E → ℕ) → Option E → ℕ → List ℕ
 bytes_pending size repr pending given = option_bytes (λ x. drop given (low_bytes size (repr x))) pending
 
--- the next byte is one of an element's
+-- the next byte to be given is one of the pending element's
 abbrev pub IsWithin : {E : Type 0} → ℕ → Option E → ℕ → Type 0
 IsWithin size pending given = MatchOption pending (given ≡ 0) (λ _. given < size)
+
+-- of the pending bytes, the first is b, and the others are those that are pending afterwards
+abbrev pub GivesFirst : {E : Type 0} → ℕ → (E → ℕ) → Option E → ℕ → ℕ → Option E → ℕ → Type 0
+GivesFirst size repr pending given b after given_then =
+    bytes_pending size repr pending given ≡ b ∷ bytes_pending size repr after given_then
+
+-- the bytes of x after the first n are pending
+abbrev pub IsRestOf : {E : Type 0} → ℕ → (E → ℕ) → E → ℕ → Option E → ℕ → Type 0
+IsRestOf size repr x n pending given = bytes_pending size repr pending given ≡ drop n (low_bytes size (repr x))
 
 -- a call is allowed where one of the source is
 abbrev pub can_give : {S E : Type 0} → (S → Type 0) → ℕ → ByteStream S E → Type 0
@@ -36,6 +45,11 @@ module _ {S E : Type 0} (next_gives : S → Option E → S → Type 0) (size : �
       ((bytes_pending size repr s.pending s.given ≡ []) × (bytes_pending size repr t.pending t.given ≡ []) × next_gives s.elements None t.elements)
       (λ b. (taken : List E) × Yields next_gives s.elements taken t.elements
       × (bytes_pending size repr s.pending s.given ++ joined_bytes size repr taken ≡ b ∷ bytes_pending size repr t.pending t.given))
+
+  -- a whole run of the stream gives the bytes of all elements that a whole run of its source gives
+  abbrev pub StreamsBytes : S → ByteStream S E → Type 0
+  StreamsBytes elements stream =
+      (bytes : List ℕ) → Drains GivesByte stream bytes → (given : List E) × Drains next_gives elements given × (bytes ≡ joined_bytes size repr given)
 
 -- at most `size` bytes for each element that is left in the source, and those that are pending
 abbrev pub byte_count : {S E : Type 0} → (S → Count) → ℕ → (E → ℕ) → ByteStream S E → Count

@@ -7,15 +7,11 @@ use Rattle.field_bytes.specs.declared.parallel.ParallelByteStreams.{ParallelByte
 use Rattle.field_bytes.specs.declared.parallel_words.ParallelWordStreams.{ParallelWordStreams}
 use Rattle.field_bytes.specs.declared.streams.ByteStream.{ByteStream}
 use Rattle.field_bytes.specs.declared.words.WordStream.{WordStream}
-use Rattle.field_bytes.specs.Bytes.{number_of_bytes}
+use Rattle.field_bytes.specs.Bytes.{IsWord, number_of_bytes}
 use Rattle.field_bytes.specs.Parallel.{AreJoinedRows, GivesRow, can_give_rows, row_count}
 use Rattle.field_bytes.specs.Streams.{GivesByte, byte_count, can_give, joined_bytes}
 
--- the word of at most n bytes has their number: bytes that are missing are 0
-abbrev pub IsWord : {W : Type 0} → (W → ℕ) → W → List ℕ → Type 0
-IsWord number w bytes = number w ≡ number_of_bytes bytes
-
--- the same in each of `width` columns
+-- in each of `width` columns of some rows of bytes, the word has the number of the bytes
 abbrev pub IsWordRow : {W : Type 0} → ℕ → (W → ℕ) → List W → List (List ℕ) → Type 0
 IsWordRow width number words rows =
     (j : ℕ) → j < width → slice_index (map number words) j ≡ number_of_bytes (map (λ row. slice_index row j) rows)
@@ -43,7 +39,7 @@ module _ {S A : Type 0} (next_gives : S → Option A → S → Type 0) (n : ℕ)
       ⊎ ((ended ≡ false) × (over ≡ true) × YieldsThen next_gives s items None t × (length items < n))
       ⊎ ((ended ≡ false) × (over ≡ false) × Yields next_gives s items t × (length items ≡ n))
 
-  -- it gave their word, and None where there was none
+  -- a call took items, and gave their word, or None where there were none
   abbrev pub GivesWordOf : {W : Type 0} → (W → List A → Type 0) → Bool → S → Option W → Bool → S → Type 0
   GivesWordOf is ended s r over t =
       (items : List A) × TakesOn ended s items over t × MatchOption r (items ≡ []) (λ w. (0 < length items) × is w items)
@@ -58,19 +54,19 @@ abbrev pub GivesWordRow : {S W : Type 0} {width : ℕ} → (S → Option (List �
 GivesWordRow {width = width} next_gives n number s r t =
     GivesWordOf next_gives n (IsWordRow width number) s.ended s.rows r t.ended t.rows
 
--- a call of the source is allowed where it is made
+-- a call of a stream of words is allowed where the calls that it makes of its source are
 abbrev pub can_take : {S W : Type 0} → (S → Type 0) → WordStream W S → Type 0
 can_take can_next s = s.ended ≡ false → can_next s.bytes
 
--- the same, of rows
+-- a call of streams of words side by side is allowed where the calls that it makes of their source are
 abbrev pub can_take_rows : {S W : Type 0} {width : ℕ} → (S → Type 0) → ParallelWordStreams W S width → Type 0
 can_take_rows can_next s = s.ended ≡ false → can_next s.rows
 
--- each word has a byte
+-- at most a word for each byte that is left
 abbrev pub word_count : {S W : Type 0} → (S → Count) → WordStream W S → Count
 word_count remaining s = count_unless s.ended (remaining s.bytes)
 
--- each row of words has a row of bytes
+-- at most a row of words for each row of bytes that is left
 abbrev pub word_row_count : {S W : Type 0} {width : ℕ} → (S → Count) → ParallelWordStreams W S width → Count
 word_row_count remaining s = count_unless s.ended (remaining s.rows)
 
@@ -84,7 +80,8 @@ module _ {S E W : Type 0} (can_next : S → Type 0) (next_gives : S → Option E
     pub items : (words : List W) → Drains (GivesWord (GivesByte next_gives size repr) n number) stream words
         → (given : List E) × Drains next_gives elements given × AreWords number n (joined_bytes size repr given) words
 
--- the same of streams side by side
+-- Streams of words side by side may be called where the source of the rows of elements may, and end where that does. What a whole
+-- run of them gives are the rows of the words of the bytes of all elements.
 module _ {S E W : Type 0} (can_next : S → Type 0) (next_gives : S → Option (List E) → S → Type 0) (remaining : S → Count) (width size : ℕ) (repr : E → ℕ)
     (n : ℕ) (number : W → ℕ) where
   pub record StreamsWordRows (elements : S) (streams : ParallelWordStreams W (ParallelByteStreams S E width) width) : Type 0 where

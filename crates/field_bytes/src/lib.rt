@@ -3,6 +3,7 @@
 
 mod element;
 mod little_endian;
+mod numbers;
 mod parallel;
 mod parallel_words;
 mod reading;
@@ -12,6 +13,7 @@ mod triple;
 mod words;
 
 pub use crate::little_endian::LittleEndian;
+pub use crate::numbers::{number_of_high_first, number_of_low_first};
 pub use crate::parallel::{ParallelByteStreams, into_parallel_byte_streams};
 pub use crate::parallel_words::{
     ParallelU32Streams, ParallelU64Streams, ParallelWordStreams, into_parallel_u32_streams,

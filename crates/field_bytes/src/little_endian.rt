@@ -16,25 +16,25 @@ pub trait LittleEndian: Stored {
     /// The array of a word's bytes.
     type Bytes: Drop;
 
-    // Its elements, as a list.
+    // The bytes of the array, as a list.
     ghost listed: { Self.Bytes → List ℕ };
 
     /// The bytes of the word's number, the lowest first.
     fn to_bytes(self) -> Self::Bytes
         ensures { listed result ≡ low_bytes SIZE (Self.number self) };
 
-    /// Byte `i` of the word's number, counted from the lowest, of which there have to be as many.
+    /// Byte `i` of the word's number, counted from the lowest. Requires `i` below `SIZE`.
     fn byte(self, i: usize) -> u8
         requires { i < SIZE }
         ensures { result ≡ chunk 8 i (Self.number self) };
 
-    /// The word with `byte` as its byte `i`, which the word has to have. Byte `i` of `self` and those above have to be 0.
+    /// The word with `byte` as its byte `i`. Requires `i` below `SIZE`, and that byte `i` and those above it are 0.
     fn with_byte(self, i: usize, byte: u8) -> Self
         requires within { i < SIZE }
         requires above { Self.number self < 2 ^ (8 * i) }
         ensures { Self.number result ≡ byte * 2 ^ (8 * i) + Self.number self };
 
-    /// Word `k` of 64 bits of the word's number, counted from the lowest, which has to begin within its bytes.
+    /// Word `k` of 64 bits of the word's number, counted from the lowest. Requires that it begins within the bytes.
     fn wide(self, k: usize) -> u64
         requires { 8 * k < SIZE }
         ensures { result ≡ chunk 64 k (Self.number self) };
@@ -52,7 +52,7 @@ pub trait LittleEndian: Stored {
     ghost wide_law: { 0 < SIZE };
 }
 
-// Byte `i` of a number, counted from the lowest, of which there are 16.
+// Byte `i` of a number of 16 bytes, counted from the lowest.
 #[inline]
 fn byte_of(n: u128, i: usize) -> u8
     requires { i < 16 }
@@ -96,7 +96,7 @@ pub(crate) fn read_byte<U: Unsigned>(word: U, i: usize) -> u8
     byte_of(word.to_u128(), i)
 }
 
-/// The integer with `byte` as its byte `i`, where byte `i` and those above are 0.
+/// The integer with `byte` as its byte `i`. Requires that byte `i` and those above it are 0.
 #[inline]
 pub(crate) fn put_byte<U: Unsigned>(word: U, i: usize, byte: u8) -> U
     requires short { U.bits ≤ 128 }

@@ -1,9 +1,9 @@
-// Streams of the bytes of elements side by side: an item has one byte a stream.
-ghost use Rattle.std.specs.Prelude.{◌≡◌, ◌<◌, ◌∷◌, ℕ, List, Some, slice_index};
-ghost use Rattle.std.specs.Iterator.{Drains, IsFinite};
+// Streams of the bytes of elements side by side: an item has one byte of each stream.
+ghost use Rattle.std.specs.Prelude.{◌≡◌, ◌<◌, ℕ, Some, slice_index};
+ghost use Rattle.std.specs.Iterator.{IsFinite};
 ghost use Rattle.field_base.specs.Chunks.{chunk};
-ghost use Rattle.field_bytes.specs.Streams.{IsWithin, bytes_pending};
-ghost use Rattle.field_bytes.specs.Parallel.{AreJoinedRows, GivesRow, can_give_rows, entry_of_row, row_count};
+ghost use Rattle.field_bytes.specs.Streams.{GivesFirst, IsWithin};
+ghost use Rattle.field_bytes.specs.Parallel.{GivesFirstRow, GivesRow, StreamsByteRows, can_give_rows, entry_of_row, row_count};
 
 use crate::serializable::RawDataSerializable;
 use crate::streams::pending_of;
@@ -13,20 +13,20 @@ use crate::streams::pending_of;
 #[derive(Drop)]
 pub struct ParallelByteStreams<I, E, const N: usize> {
     elements: I,
-    // The row of elements of which some bytes were given, and how many.
+    // The row of elements that were not yet given whole, and how many bytes of each were given.
     pending: Option<[E; N]>,
     given: usize,
 }
 
 impl<I: Drop, E: RawDataSerializable, const N: usize> ParallelByteStreams<I, E, N> {
-    // The next bytes of a row of elements, of which as many as `given` were given of each.
+    // The next byte of each element of a row, of which the first `given` bytes were given.
     #[inline]
     fn give(&mut self, row: [E; N]) -> [u8; N]
         requires { self.old.given < E.NUM_BYTES }
         ensures source { self.new.elements ≡ self.old.elements }
         ensures within { IsWithin E.NUM_BYTES self.new.pending self.new.given }
-        ensures fewer { bytes_pending E.NUM_BYTES (λ x. 0) (Some row) self.old.given ≡ 0 ∷ bytes_pending E.NUM_BYTES (λ x. 0) self.new.pending self.new.given }
-        ensures left { (j : ℕ) → j < N → bytes_pending E.NUM_BYTES (entry_of_row E.repr j) (Some row) self.old.given ≡ slice_index result j ∷ bytes_pending E.NUM_BYTES (entry_of_row E.repr j) self.new.pending self.new.given }
+        ensures fewer { GivesFirst E.NUM_BYTES (λ x. 0) (Some row) self.old.given 0 self.new.pending self.new.given }
+        ensures left { GivesFirstRow N E.NUM_BYTES E.repr row self.old.given result self.new.pending self.new.given }
     {
         let size = E::NUM_BYTES;
         let bytes = bytes_of_row(&row, self.given);
@@ -84,7 +84,7 @@ pub fn into_parallel_byte_streams<
 >(elements: I) -> ParallelByteStreams<I, E, N>
     ensures can { I.can_next elements → can_give_rows I.can_next E.NUM_BYTES result }
     ensures ends { IsFinite (I.remaining elements) → IsFinite (row_count I.remaining E.NUM_BYTES result) }
-    ensures items { (rows : List (List ℕ)) → Drains (GivesRow I.next_gives N E.NUM_BYTES E.repr) result rows → (given : List (List E)) × Drains I.next_gives elements given × AreJoinedRows N E.NUM_BYTES E.repr given rows }
+    ensures items { StreamsByteRows I.next_gives E.NUM_BYTES E.repr elements result }
 {
     ParallelByteStreams {
         elements,

@@ -1,7 +1,7 @@
-// Streams of the words that bytes make, side by side: an item has one word a stream.
-ghost use Rattle.std.specs.Prelude.{◌≡◌, ◌<◌, ◌≤◌, ◌+◌, ◌*◌, ◌^◌, ℕ, List, length, map, slice_index};
-ghost use Rattle.std.specs.Iterator.{IsFinite, MakesProgress, size};
-ghost use Rattle.field_bytes.specs.Bytes.{TakesUpTo};
+// Streams of the words that bytes make, side by side: an item has one word of each stream.
+ghost use Rattle.std.specs.Prelude.{◌≡◌, ◌<◌, ◌+◌, ◌*◌, ◌^◌};
+ghost use Rattle.std.specs.Iterator.{MakesProgress};
+ghost use Rattle.field_bytes.specs.Bytes.{LeavesFewer, TakesCounted};
 ghost use Rattle.field_bytes.specs.Words.{GivesWordRow, IsWordRow, StreamsWordRows, can_take_rows, word_row_count};
 
 use crate::little_endian::LittleEndian;
@@ -9,12 +9,12 @@ use crate::parallel::{ParallelByteStreams, into_parallel_byte_streams};
 use crate::serializable::RawDataSerializable;
 use std::marker::PhantomData;
 
-/// The words of `N` streams of bytes side by side, each from its lowest byte on. Where the bytes end within a word, its others
-/// are 0.
+/// The words of `N` streams of bytes side by side, the lowest byte of a word first. Where the bytes end within a word, its missing
+/// bytes are 0.
 #[derive(Drop)]
 pub struct ParallelWordStreams<W, B, const N: usize> {
     rows: B,
-    // Whether the iterator has answered None.
+    // Whether the iterator has returned None.
     ended: bool,
     words: PhantomData<W>,
 }
@@ -33,15 +33,15 @@ pub type ParallelU64Streams<I, E, const N: usize> = ParallelWordStreams<
     N,
 >;
 
-// The words of the next rows of bytes, the lowest first, as many as a word has bytes, and how many there were. Where the
-// iterator ends before, the others are 0.
+// The words of the next rows of bytes, the lowest first, as many rows as a word has bytes, and how many there were. Where the
+// iterator ends before, the missing bytes are 0.
 fn take_words<W: LittleEndian, B: Iterator<Item = [u8; N]>, const N: usize>(
     rows: &mut B,
 ) -> ([W; N], usize)
     requires { B.can_next rows.old }
-    ensures taken { (items : List (List ℕ)) × TakesUpTo B.next_gives rows.old W.SIZE items rows.new × (result.1 ≡ length items) × IsWordRow N W.number result.0 items }
+    ensures taken { TakesCounted B.next_gives W.SIZE (IsWordRow N W.number result.0) rows.old result.1 rows.new }
     ensures goes_on { result.1 ≡ W.SIZE → B.can_next rows.new }
-    ensures ends { IsFinite (B.remaining rows.old) → (result.1 ≤ size (B.remaining rows.old)) × (result.1 ≡ W.SIZE → IsFinite (B.remaining rows.new) × (size (B.remaining rows.new) + W.SIZE ≤ size (B.remaining rows.old))) }
+    ensures ends { LeavesFewer W.SIZE (B.remaining rows.old) result.1 (B.remaining rows.new) }
 {
     let mut words = [W::ZERO; N];
     for i in 0..W::SIZE {
@@ -110,7 +110,7 @@ impl<W: LittleEndian, B: Iterator<Item = [u8; N]>, const N: usize> Iterator
     }
 }
 
-/// The words of the bytes of `N` streams of elements side by side: word by word, an item has one word a stream. Each stream is
+/// The words of the bytes of `N` streams of elements side by side: an item has one word of each stream. Each stream is
 /// cut into words as [`into_word_stream`](crate::into_word_stream) does.
 pub fn into_parallel_word_streams<
     W: LittleEndian,

@@ -1,7 +1,7 @@
 // Elements as bytes.
-ghost use Rattle.std.specs.Prelude.{◌≡◌, ◌<◌, ◌≤◌, ◌*◌, ◌%◌, ◌^◌, ◌↔◌, ℕ, List, length, IsNone, IfSome};
+ghost use Rattle.std.specs.Prelude.{◌≡◌, ◌<◌, ◌≤◌, ◌*◌, ◌%◌, ◌^◌, ℕ, List};
 ghost use Rattle.field_base.specs.Chunks.{chunk};
-ghost use Rattle.field_bytes.specs.Bytes.{low_bytes, number_of_bytes, TakesBytes};
+ghost use Rattle.field_bytes.specs.Bytes.{low_bytes, number_of_bytes, ReadsElement};
 
 use field_base::traits::Represented;
 
@@ -15,19 +15,19 @@ pub trait RawDataSerializable: Represented {
     /// The array of an element's bytes.
     type Bytes;
 
-    // Its elements, as a list.
+    // The bytes of the array, as a list.
     ghost listed: { Self.Bytes → List ℕ };
 
     /// The bytes of the element's representation, the lowest first.
     fn into_bytes(self) -> Self::Bytes
         ensures { listed result ≡ low_bytes NUM_BYTES (Self.repr self) };
 
-    /// Byte `i` of `into_bytes`, of which there have to be as many.
+    /// Byte `i` of `into_bytes`. Requires `i` below `NUM_BYTES`.
     fn byte(self, i: usize) -> u8
         requires { i < NUM_BYTES }
         ensures { result ≡ chunk 8 i (Self.repr self) };
 
-    /// Word `k` of 64 bits of the element's representation, counted from the lowest, which has to begin within its bytes.
+    /// Word `k` of 64 bits of the element's representation, counted from the lowest. Requires that it begins within the bytes.
     fn wide(self, k: usize) -> u64
         requires { 8 * k < NUM_BYTES }
         ensures { result ≡ chunk 64 k (Self.repr self) };
@@ -36,17 +36,17 @@ pub trait RawDataSerializable: Represented {
     fn from_le_bytes(bytes: Self::Bytes) -> Self
         ensures { Self.repr result ≡ number_of_bytes (listed bytes) % 2 ^ Self.width };
 
-    /// The element of the next `NUM_BYTES` bytes of an iterator, the lowest first, and None where it ends before. Bits above
-    /// the element are dropped. The bytes of an element give it back. No byte past those is taken, so that `iter` need not end.
+    /// The element of the next `NUM_BYTES` bytes of an iterator, the lowest first, or None where the iterator ends before. Bits above
+    /// the element are dropped. The bytes of an element give it back. No further byte is taken, so that `iter` need not end.
     fn from_le_byte_iter<I: Iterator<Item = u8>>(iter: I) -> Option<Self>
         requires { I.can_next iter }
-        ensures { (bytes : List ℕ) × TakesBytes I.next_gives iter NUM_BYTES bytes × (IsNone result ↔ (length bytes < NUM_BYTES)) × IfSome result (λ y. (Self.repr y ≡ number_of_bytes bytes % 2 ^ Self.width) × ((x : Self) → bytes ≡ low_bytes NUM_BYTES (Self.repr x) → y ≡ x)) };
+        ensures { ReadsElement I.next_gives Self.repr Self.width NUM_BYTES iter result };
 
     ghost bytes_law: { 0 < NUM_BYTES };
 
-    // The bytes hold each bit of an element.
+    // The bytes have room for each bit of an element.
     ghost room_law: { Self.width ≤ 8 * NUM_BYTES };
 }
 
-/// A marker of elements that a packing can hold: they are copied, compared, and have a default.
+/// A marker of elements that a packing can hold: they can be copied and compared, and have a default.
 pub trait Packable: Copy + Default + Eq {}

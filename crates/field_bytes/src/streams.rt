@@ -1,9 +1,8 @@
 // Streams of the bytes of many elements.
-ghost use Rattle.std.specs.Prelude.{◌≡◌, ◌<◌, ◌≤◌, ◌+◌, ◌*◌, ◌/◌, ◌%◌, ◌^◌, ℕ, List, ◌∷◌, Some, drop, length};
-ghost use Rattle.std.specs.Iterator.{Drains, IsFinite, size};
-ghost use Rattle.field_base.specs.Chunks.{chunk};
-ghost use Rattle.field_bytes.specs.Streams.{byte_count, bytes_pending, can_give, GivesByte, IsWithin, joined_bytes};
-ghost use Rattle.field_bytes.specs.Bytes.{low_bytes, number_of_bytes, TakesUpTo};
+ghost use Rattle.std.specs.Prelude.{◌≡◌, ◌<◌, ◌≤◌, ◌+◌, ◌*◌, ◌/◌, ◌%◌, ◌^◌, ℕ, Some};
+ghost use Rattle.std.specs.Iterator.{IsFinite};
+ghost use Rattle.field_bytes.specs.Streams.{byte_count, can_give, GivesByte, GivesFirst, IsRestOf, IsWithin, StreamsBytes};
+ghost use Rattle.field_bytes.specs.Bytes.{IsWord, LeavesFewer, TakesCounted, low_bytes, number_of_bytes};
 
 use crate::little_endian::LittleEndian;
 use crate::reading::{take_word, take_word_apart};
@@ -12,29 +11,29 @@ use crate::serializable::RawDataSerializable;
 /// A source of bytes that are taken as whole words.
 pub trait ByteSource: Iterator<Item = u8> {
     /// The word of the next bytes, the lowest first, as many as a word has, and how many there were. Where the source ends
-    /// before, the others are 0.
+    /// before, the missing bytes are 0.
     fn take_word<W: LittleEndian>(&mut self) -> (W, usize)
         requires { Self.can_next self.old }
-        ensures taken { (bytes : List ℕ) × TakesUpTo Self.next_gives self.old W.SIZE bytes self.new × (result.1 ≡ length bytes) × (W.number result.0 ≡ number_of_bytes bytes) }
+        ensures taken { TakesCounted Self.next_gives W.SIZE (IsWord W.number result.0) self.old result.1 self.new }
         ensures goes_on { result.1 ≡ W.SIZE → Self.can_next self.new }
-        ensures ends { IsFinite (Self.remaining self.old) → (result.1 ≤ size (Self.remaining self.old)) × (result.1 ≡ W.SIZE → IsFinite (Self.remaining self.new) × (size (Self.remaining self.new) + W.SIZE ≤ size (Self.remaining self.old))) };
+        ensures ends { LeavesFewer W.SIZE (Self.remaining self.old) result.1 (Self.remaining self.new) };
 }
 
 /// The bytes of the elements of an iterator, one element after the other, each from its lowest byte on.
 #[derive(Drop)]
 pub struct ByteStream<I, E> {
     elements: I,
-    // The element of which some bytes were given, and how many.
+    // The element that was not yet given whole, and how many of its bytes were given.
     pending: Option<E>,
     given: usize,
 }
 
-/// An element of which some bytes were given, and how many, where `given` of its `size` bytes were: none where all were.
+/// What a stream keeps after `given` of an element's `size` bytes: the element and `given`, or None and 0 where it gave all.
 #[inline]
 pub(crate) fn pending_of<E: Drop>(element: E, given: usize, size: usize) -> (Option<E>, usize)
     requires { given ≤ size }
     ensures within { IsWithin size result.0 result.1 }
-    ensures left { (repr : E → ℕ) → bytes_pending size repr result.0 result.1 ≡ drop given (low_bytes size (repr element)) }
+    ensures left { (repr : E → ℕ) → IsRestOf size repr element given result.0 result.1 }
 {
     if given == size {
         (None, 0)
@@ -44,13 +43,13 @@ pub(crate) fn pending_of<E: Drop>(element: E, given: usize, size: usize) -> (Opt
 }
 
 impl<I: Drop, E: RawDataSerializable> ByteStream<I, E> {
-    // The next byte of an element, of which as many as `given` were given.
+    // The next byte of an element whose first `given` bytes were given.
     #[inline]
     fn give(&mut self, element: E) -> u8
         requires { self.old.given < E.NUM_BYTES }
         ensures source { self.new.elements ≡ self.old.elements }
         ensures within { IsWithin E.NUM_BYTES self.new.pending self.new.given }
-        ensures left { bytes_pending E.NUM_BYTES E.repr (Some element) self.old.given ≡ result ∷ bytes_pending E.NUM_BYTES E.repr self.new.pending self.new.given }
+        ensures left { GivesFirst E.NUM_BYTES E.repr (Some element) self.old.given result self.new.pending self.new.given }
     {
         let size = E::NUM_BYTES;
         let byte = element.byte(self.given);
@@ -60,8 +59,8 @@ impl<I: Drop, E: RawDataSerializable> ByteStream<I, E> {
         byte
     }
 
-    // The next eight bytes of an element as a word, of which as many as `given` were given, which are whole words. Where none
-    // was given, `given` is a literal, so that in the machine code the place of the word is a constant.
+    // The next eight bytes, as a word, of an element whose first `given` bytes were given, a multiple of 8. Where none was given,
+    // `given` is a literal, so that in the machine code the place of the word is a constant.
     #[inline]
     fn give_wide<W: LittleEndian>(&mut self, element: E, given: usize) -> W
         requires eight { W.SIZE ≡ 8 }
@@ -70,7 +69,7 @@ impl<I: Drop, E: RawDataSerializable> ByteStream<I, E> {
         ensures source { self.new.elements ≡ self.old.elements }
         ensures inside { IsWithin E.NUM_BYTES self.new.pending self.new.given }
         ensures word { W.number result ≡ number_of_bytes (low_bytes 8 (E.repr element / 2 ^ (8 * given))) }
-        ensures left { bytes_pending E.NUM_BYTES E.repr self.new.pending self.new.given ≡ drop (given + 8) (low_bytes E.NUM_BYTES (E.repr element)) }
+        ensures left { IsRestOf E.NUM_BYTES E.repr element (given + 8) self.new.pending self.new.given }
     {
         let size = E::NUM_BYTES;
         let word = W::of_wide(element.wide(given / 8));
@@ -102,8 +101,8 @@ impl<I: Iterator<Item = E>, E: RawDataSerializable> Iterator for ByteStream<I, E
 }
 
 impl<I: Iterator<Item = E>, E: RawDataSerializable> ByteSource for ByteStream<I, E> {
-    // Words of eight bytes are taken at once where elements are made of such. The bytes from within a word are taken out of line:
-    // with them in line the compiler does not see that an element gives its words one after the other.
+    // Words of eight bytes are taken whole from elements of a multiple of eight bytes. Words that begin within an element's word are
+    // taken out of line: in line, they hide from the compiler that an element gives its words one after the other.
     #[inline]
     fn take_word<W: LittleEndian>(&mut self) -> (W, usize) {
         if W::SIZE != 8 || E::NUM_BYTES % 8 != 0 {
@@ -127,7 +126,7 @@ pub fn into_byte_stream<I: Iterator<Item = E>, E: RawDataSerializable>(
 ) -> ByteStream<I, E>
     ensures can { I.can_next elements → can_give I.can_next E.NUM_BYTES result }
     ensures ends { IsFinite (I.remaining elements) → IsFinite (byte_count I.remaining E.NUM_BYTES E.repr result) }
-    ensures items { (bytes : List ℕ) → Drains (GivesByte I.next_gives E.NUM_BYTES E.repr) result bytes → (given : List E) × Drains I.next_gives elements given × (bytes ≡ joined_bytes E.NUM_BYTES E.repr given) }
+    ensures items { StreamsBytes I.next_gives E.NUM_BYTES E.repr elements result }
 {
     ByteStream {
         elements,

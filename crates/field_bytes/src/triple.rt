@@ -9,7 +9,7 @@ use crate::little_endian::{LittleEndian, put_byte, read_byte};
 use field_element::Coefficients;
 use word_cubic::Triple;
 
-// Byte `i` of three words.
+// Byte `i` of the 24 bytes of three words.
 #[tactic(auto, using(crate::proofs::Placing::first_byte, crate::proofs::Placing::second_byte, crate::proofs::Placing::third_byte))]
 fn byte_of(words: Triple, i: usize) -> u8
     requires { i < 24 }
@@ -56,7 +56,7 @@ fn bytes_of(words: Triple) -> [u8; 24]
     ]
 }
 
-// The words with `byte` as byte `i`, where that and those above are 0.
+// The words with `byte` as their byte `i`. Requires that byte `i` and those above it are 0.
 fn with_byte_of(words: Triple, i: usize, byte: u8) -> Triple
     requires within { i < 24 }
     requires above { triple_number words < 2 ^ (8 * i) }
@@ -83,7 +83,7 @@ fn with_byte_of(words: Triple, i: usize, byte: u8) -> Triple
     }
 }
 
-// The words of 24 bytes.
+// The three words of 24 bytes.
 fn words_of(bytes: [u8; 24]) -> Triple
     ensures { triple_number result ≡ number_of_bytes bytes }
 {

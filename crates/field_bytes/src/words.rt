@@ -7,11 +7,12 @@ use crate::serializable::RawDataSerializable;
 use crate::streams::{ByteSource, ByteStream, into_byte_stream};
 use std::marker::PhantomData;
 
-/// The words of the bytes of an iterator, each from its lowest byte on. Where the bytes end within a word, its others are 0.
+/// The words of the bytes of an iterator, the lowest byte of a word first. Where the bytes end within a word, its missing bytes
+/// are 0.
 #[derive(Drop)]
 pub struct WordStream<W, B> {
     bytes: B,
-    // Whether the iterator has answered None.
+    // Whether the iterator has returned None.
     ended: bool,
     words: PhantomData<W>,
 }
@@ -48,7 +49,7 @@ impl<W: LittleEndian, B: ByteSource> Iterator for WordStream<W, B> {
 }
 
 /// The words of the bytes of the elements of an iterator: their bytes are joined, one element after the other, and cut into
-/// words, the lowest byte first. Where they end within a word, its other bytes are 0. The stream ends where the iterator does.
+/// words, the lowest byte first. Where they end within a word, its missing bytes are 0. The stream ends where the iterator does.
 pub fn into_word_stream<W: LittleEndian, I: Iterator<Item = E>, E: RawDataSerializable>(
     elements: I,
 ) -> WordStream<W, ByteStream<I, E>>

@@ -4,7 +4,7 @@ ghost use Rattle.std.proofs.Common.{◌∙◌, ap};
 ghost use Rattle.std.specs.Prelude.{bit_xor};
 ghost use native.Mathlib.Nat.{one-mul};
 ghost use Rattle.field_base.specs.Operators.{algebra_gives};
-ghost use Rattle.bits_packed.specs.EveryLane.{every_product, every_same, every_sum, times_every};
+ghost use Rattle.bits_packed.specs.EveryLaneLemmas.{every_product, every_same, every_sum, times_every};
 ghost use Rattle.bits_packed.specs.Lanes.{bitwise_product};
 
 use crate::packed::PackedGf2;

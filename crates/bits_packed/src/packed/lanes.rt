@@ -1,15 +1,15 @@
 // The lanes of packed bits, one after the other.
-ghost use Rattle.std.specs.Prelude.{◌≡◌, ◌-◌, List, map};
-ghost use Rattle.std.specs.Array.{FillsFrom};
+ghost use Rattle.std.specs.Prelude.{◌≡◌, ◌-◌};
 ghost use Rattle.std.specs.Iterator.{YieldsFirstBy, at_most};
 ghost use Rattle.field_base.specs.Bit.{bit_number};
+ghost use Rattle.bits_rows.specs.Parts.{IsFilled};
 ghost use Rattle.bits_packed.specs.Lanes.{lanes_from, bits_of};
 
 use crate::packed::PackedGf2;
 use bits_rows::Underlier;
 use field_base::Gf2;
 
-/// The lanes of packed bits that are left, the lowest first.
+/// An iterator over the lanes of packed bits, the lowest first.
 #[derive(Drop)]
 pub struct Lanes<U: Underlier> {
     packed: PackedGf2<U>,
@@ -46,10 +46,10 @@ impl<U: Underlier> PackedGf2<U> {
         }
     }
 
-    /// The packed bits whose lane i is `f(i)`. `f` is called for 0, 1, .., below `WIDTH`, in order, each once.
+    /// The packed bits whose lane i is `f(i)`: `f` is called once for each i below `WIDTH`, from 0 up.
     pub fn from_fn<F: FnMut(usize) -> Gf2>(mut f: F) -> PackedGf2<U>
         requires { F.IsAlwaysCallable f }
-        ensures { (lanes : List Gf2) × (last : F) × FillsFrom F.step f 0 lanes last × (map bit_number lanes ≡ bits_of U.BITS (U.number result.bits)) }
+        ensures { (last : F) × IsFilled F.step bit_number 1 U.BITS (U.number result.bits) f last }
     {
         let mut packed = PackedGf2::new(U::ZERO);
         for lane in 0..U::BITS {

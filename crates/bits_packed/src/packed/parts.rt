@@ -1,29 +1,29 @@
 // Packed bits as narrower packed bits, as bytes and as words.
 ghost use Rattle.std.specs.Prelude.{◌≡◌, ◌<◌, ◌*◌, ◌/◌, ◌%◌, ◌^◌, IfOk, IsTrue, map};
 ghost use Rattle.std.specs.List.{flat_map};
-ghost use Rattle.bits_rows.specs.Parts.{IsWithPart, part_at, parts_of};
+ghost use Rattle.field_base.specs.Chunks.{chunk, chunks};
+ghost use Rattle.bits_rows.specs.Parts.{IsWithPart};
 
 use crate::packed::PackedGf2;
 use bits_rows::{Divisible, Underlier, narrow_word};
 use std::alloc::{AllocError, Allocator};
 
 impl<U: Underlier> PackedGf2<U> {
-    /// Part `i` of the lanes as packed bits: its lane j is lane `V::BITS * i + j`. It asks for `i` below the number of
-    /// parts, `RATIO` of `Divisible`.
+    /// Part `i` of the lanes as packed bits: its lane j is lane `V::BITS * i + j`. Requires `i` below the number of parts, `RATIO`
+    /// of `Divisible`.
     #[inline]
     pub fn narrow<V: Underlier>(&self, i: usize) -> PackedGf2<V>
     where
         U: Divisible<V>,
         requires { i < U.RATIO }
-        ensures { V.number result.bits ≡ part_at V.BITS (U.number self.now.bits) i }
+        ensures { V.number result.bits ≡ chunk V.BITS i (U.number self.now.bits) }
     {
         PackedGf2 {
             bits: self.bits.part(i),
         }
     }
 
-    /// Writes part `i` of the lanes and keeps the others. It asks for `i` below the number of parts, `RATIO` of
-    /// `Divisible`.
+    /// Writes part `i` of the lanes and keeps the others. Requires `i` below the number of parts, `RATIO` of `Divisible`.
     #[inline]
     pub fn set_narrow<V: Underlier>(&mut self, i: usize, part: PackedGf2<V>)
     where
@@ -34,15 +34,15 @@ impl<U: Underlier> PackedGf2<U> {
         self.bits.set_part(i, part.bits);
     }
 
-    /// The parts of the packed bits, those of one after the other, in a vector from `alloc`. It fails only where the
-    /// allocator refuses.
+    /// The parts of each of `packed`, one after the other, in a vector from `alloc`. It fails only where the allocator refuses.
     pub fn narrow_copied<A: Allocator, V: Underlier>(
         alloc: A,
         packed: &[PackedGf2<U>],
     ) -> Result<Vec<PackedGf2<V>, A>, AllocError>
     where
         U: Divisible<V>,
-        ensures { IfOk result (λ parts. map (λ x. V.number x.bits) parts.items ≡ flat_map (λ x. parts_of V.BITS U.RATIO (U.number x.bits)) packed.now) }
+        ensures { IfOk result (λ parts. map (λ x. V.number x.bits) parts.items
+            ≡ flat_map (λ x. chunks V.BITS U.RATIO (U.number x.bits)) packed.now) }
     {
         let mut parts = Vec::new(alloc);
         for place in 0..packed.len() {
@@ -54,22 +54,21 @@ impl<U: Underlier> PackedGf2<U> {
         Ok(parts)
     }
 
-    /// Byte `i`: its bit j is lane `8 * i + j`. It asks for `i` below the number of bytes, `WIDTH / 8`.
+    /// Byte `i`: its bit j is lane `8 * i + j`. Requires `i` below the number of bytes, `WIDTH / 8`.
     #[inline]
     pub fn byte(&self, i: usize) -> u8
         requires { i < U.BITS / 8 }
-        ensures { result ≡ part_at 8 (U.number self.now.bits) i }
+        ensures { result ≡ chunk 8 i (U.number self.now.bits) }
     {
         narrow_word(&self.bits, i)
     }
 
-    /// The bytes of the packed bits, those of one after the other, in a vector from `alloc`. It fails only where the
-    /// allocator refuses.
+    /// The bytes of each of `packed`, one after the other, in a vector from `alloc`. It fails only where the allocator refuses.
     pub fn bytes_copied<A: Allocator>(
         alloc: A,
         packed: &[PackedGf2<U>],
     ) -> Result<Vec<u8, A>, AllocError>
-        ensures { IfOk result (λ bytes. bytes.items ≡ flat_map (λ x. parts_of 8 (U.BITS / 8) (U.number x.bits)) packed.now) }
+        ensures { IfOk result (λ bytes. bytes.items ≡ flat_map (λ x. chunks 8 (U.BITS / 8) (U.number x.bits)) packed.now) }
     {
         let mut bytes = Vec::new(alloc);
         for place in 0..packed.len() {
@@ -84,12 +83,12 @@ impl<U: Underlier> PackedGf2<U> {
     /// The words, the lowest first: bit j of word i is lane `W * i + j`, for words of `W` bits.
     #[inline]
     pub fn words(&self) -> &[U::Word]
-        ensures { map U.Word.number result.now ≡ parts_of U.Word.BITS U.WORD_COUNT (U.number self.now.bits) }
+        ensures { map U.Word.number result.now ≡ chunks U.Word.BITS U.WORD_COUNT (U.number self.now.bits) }
     {
         self.bits.words()
     }
 
-    /// Writes word `i` and keeps the lanes of the others. It asks for `i` below `WORD_COUNT` of `Underlier`.
+    /// Writes word `i` and keeps the lanes of the others. Requires `i` below `WORD_COUNT` of `Underlier`.
     #[inline]
     pub fn set_word(&mut self, i: usize, word: U::Word)
         requires { i < U.WORD_COUNT }

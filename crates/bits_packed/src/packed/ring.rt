@@ -4,7 +4,7 @@ ghost use mathlib.Core.HLevel.{is_prop→PathP};
 ghost use Rattle.std.proofs.Math.Bool.{Bool-set};
 ghost use Rattle.field_base.specs.Operators.{given};
 ghost use Rattle.field_base.specs.Powers.{product_of, sum_of};
-ghost use Rattle.bits_packed.specs.BitsRing.{bits_ring, equal_numbers, ones_fit};
+ghost use Rattle.bits_packed.specs.BitsRingLemmas.{bits_ring, equal_numbers, ones_fit};
 ghost use Rattle.bits_packed.specs.Lanes.{bitwise_product};
 
 use crate::packed::PackedGf2;
@@ -28,7 +28,10 @@ impl<U: Underlier> Represented for PackedGf2<U> {
 
     ghost range_law = { λ x. U.range_law x.bits x.in_range };
 
-    ghost same_law = { λ x y same i. record { bits = U.same_law x.bits y.bits x.in_range y.in_range same i; in_range = is_prop→PathP (λ j. IsTrue (U.is_whole (U.same_law x.bits y.bits x.in_range y.in_range same j))) (λ j. Bool-set _ _) x.in_range y.in_range i } };
+    ghost same_law = { λ x y same i.
+        let bits = U.same_law x.bits y.bits x.in_range y.in_range same in
+        let in_range = is_prop→PathP (λ j. IsTrue (U.is_whole (bits j))) (λ j. Bool-set _ _) x.in_range y.in_range in
+        record { bits = bits i; in_range = in_range i } };
 
     ghost can_add_law = { λ x y. tt };
 
@@ -82,7 +85,8 @@ impl<U: Underlier> PrimeCharacteristicRing for PackedGf2<U> {
 
     ghost neg_one_law = { refl };
 
-    ghost eq_law = { λ x y. equal_numbers U.number U.PartialEq.eq x.bits y.bits (U.eq_law x.bits y.bits) (U.same_law x.bits y.bits x.in_range y.in_range) };
+    ghost eq_law = { λ x y.
+        equal_numbers U.number U.PartialEq.eq x.bits y.bits (U.eq_law x.bits y.bits) (U.same_law x.bits y.bits x.in_range y.in_range) };
 
     ghost default_law = { λ r is. is };
 

@@ -1,5 +1,5 @@
 use Rattle.std.proofs.Common.{◌≡◌, ◌<◌, ◌+◌, ◌-◌, ◌/◌, ◌%◌, ℕ, true, sym, subst, arith, rules}
-use Rattle.bits_rows.specs.Parts.{part_at}
+use Rattle.field_base.specs.Chunks.{chunk}
 use Rattle.bits_rows.proofs.BlockLemmas.{block_some, first_of_words, more_parts, second_of_words}
 use Rattle.bits_rows.proofs.LaneLemmas.{power_some}
 use Rattle.bits_rows.proofs.rows.interleave_words.Goals as goal
@@ -20,13 +20,13 @@ loop-i-preserved g c =
     let inside : c.loop-i.i < row.WORD_COUNT = search rules in
     record {
       first =
-          more_parts (λ (k x : ℕ). (k / c.args.block % 2 ≡ 0 → x ≡ part_at word.BITS (row.number c.args.left.now) k) × (k / c.args.block % 2 ≡ 1 → x ≡ part_at word.BITS (row.number c.args.right.now) (k - c.args.block)))
+          more_parts (λ (k x : ℕ). (k / c.args.block % 2 ≡ 0 → x ≡ chunk word.BITS k (row.number c.args.left.now)) × (k / c.args.block % 2 ≡ 1 → x ≡ chunk word.BITS (k - c.args.block) (row.number c.args.right.now)))
           word.BITS row.WORD_COUNT (row.number c.loop-i.first) c.loop-i.i (word.number c.first_word.result) (row.number c.set_word.new.self)
           inside c.set_word.ensures.replaced
           (c.first_word.ensures.even, c.first_word.ensures.odd)
           c.loop-i.invariant.first;
       second =
-          more_parts (λ (k x : ℕ). (k / c.args.block % 2 ≡ 0 → x ≡ part_at word.BITS (row.number c.args.left.now) (k + c.args.block)) × (k / c.args.block % 2 ≡ 1 → x ≡ part_at word.BITS (row.number c.args.right.now) k))
+          more_parts (λ (k x : ℕ). (k / c.args.block % 2 ≡ 0 → x ≡ chunk word.BITS (k + c.args.block) (row.number c.args.left.now)) × (k / c.args.block % 2 ≡ 1 → x ≡ chunk word.BITS k (row.number c.args.right.now)))
           word.BITS row.WORD_COUNT (row.number c.loop-i.second) c.loop-i.i (word.number c.second_word.result) (row.number c.set_word-in-loop-i.new.self)
           inside c.set_word-in-loop-i.ensures.replaced
           (c.second_word.ensures.even, c.second_word.ensures.odd)

@@ -1,6 +1,7 @@
 use Rattle.std.proofs.Common.{refl, subst}
 use Rattle.field_bytes.specs.Streams.{GivesByte}
-use Rattle.field_bytes.specs.Words.{AreWords, IsWord}
+use Rattle.field_bytes.specs.Bytes.{IsWord}
+use Rattle.field_bytes.specs.Words.{AreWords}
 use Rattle.field_bytes.specs.declared.streams.ByteStream.{ByteStream}
 use Rattle.field_bytes.specs.declared.words.WordStream.{WordStream}
 use Rattle.field_bytes.proofs.Wording.{words_given}

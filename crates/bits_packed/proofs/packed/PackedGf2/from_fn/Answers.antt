@@ -21,8 +21,10 @@ pub returns : goal.returns
 returns g c =
     let done = c.loop-lane.invariant.1 in
     let all : c.loop-lane.lane ≡ g.U.Underlier.BITS = omega arith in (
-      done.taken,
       c.loop-lane.f,
-      done.fills,
-      done.are ∙ ap (λ (n : ℕ). bits_of n (g.U.Underlier.number c.loop-lane.packed.bits)) all,
+      (
+        done.taken,
+        done.fills,
+        done.are ∙ ap (λ (n : ℕ). bits_of n (g.U.Underlier.number c.loop-lane.packed.bits)) all,
+      ),
     )

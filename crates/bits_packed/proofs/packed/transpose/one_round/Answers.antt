@@ -5,7 +5,7 @@ use Rattle.bits_packed.proofs.Rounds.{groups_end}
 use Rattle.bits_packed.proofs.packed.transpose.one_round.Goals as goal
 
 pub loop-group-preserved : goal.loop-group-preserved
-loop-group-preserved g c = λ old so_far. c.exchange_two_blocks.ensures old (c.loop-group.invariant old so_far)
+loop-group-preserved g c = λ old so_far. c.interleave_two_blocks.ensures old (c.loop-group.invariant old so_far)
 
 pub returns : goal.returns
 returns g c = λ old so_far.

@@ -5,7 +5,7 @@ use Rattle.bits_packed.proofs.Rounds.{eightfold_fits, fourfold_inside, groups_en
 use Rattle.bits_packed.proofs.packed.transpose.three_rounds.Goals as goal
 
 pub loop-group-preserved : goal.loop-group-preserved
-loop-group-preserved g c = λ old so_far. c.exchange_eight_blocks.ensures old (c.loop-group.invariant old so_far)
+loop-group-preserved g c = λ old so_far. c.interleave_eight_blocks.ensures old (c.loop-group.invariant old so_far)
 
 pub returns : goal.returns
 returns g c = λ old so_far.

@@ -1,7 +1,7 @@
 use Rattle.std.proofs.Common.{◌≡◌, Fits, length, rules, w64}
 use Rattle.std.specs.Prelude.{bit_and}
 use Rattle.std.specs.Simd.Lanes.{Each1, zip2}
-use Rattle.bits_rows.specs.Joined.{whole_from}
+use Rattle.bits_rows.specs.JoinedLemmas.{whole_from}
 use Rattle.bits_rows.proofs.FittingLanes.{fit_themselves}
 use Rattle.bits_rows.proofs.block.BlockUnderlier.checked.Goals as goal
 

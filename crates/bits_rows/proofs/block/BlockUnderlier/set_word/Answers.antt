@@ -1,4 +1,4 @@
-use Rattle.bits_rows.specs.Joined.{whole-set, with_part}
+use Rattle.bits_rows.specs.JoinedLemmas.{whole-set, with_part}
 use Rattle.bits_rows.proofs.block.BlockUnderlier.set_word.Goals as goal
 
 pub returns-clause-replaced : goal.returns-clause-replaced

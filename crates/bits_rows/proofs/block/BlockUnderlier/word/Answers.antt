@@ -1,5 +1,5 @@
 use Rattle.std.proofs.Common.{sym}
-use Rattle.bits_rows.specs.Joined.{joined-part, whole-below}
+use Rattle.bits_rows.specs.JoinedLemmas.{joined-part, whole-below}
 use Rattle.bits_rows.proofs.block.BlockUnderlier.word.Goals as goal
 
 pub returns : goal.returns

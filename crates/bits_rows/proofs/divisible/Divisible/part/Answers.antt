@@ -1,5 +1,5 @@
 use Rattle.std.proofs.Common.{◌≡◌, ◌<◌, ◌+◌, ◌*◌, ℕ, ◌∙◌, ap, arith, rules}
-use Rattle.bits_rows.specs.Parts.{part_at}
+use Rattle.field_base.specs.Chunks.{chunk}
 use Rattle.bits_rows.proofs.BlockLemmas.{more_parts}
 use Rattle.bits_rows.proofs.LaneLemmas.{power_some}
 use Rattle.bits_rows.proofs.WideParts.{is_part}
@@ -10,10 +10,10 @@ loop-k-preserved g c =
     let word = g.V.Word.Word in
     let row = g.Self.Underlier.number c.args.self.now in
     let inside : c.loop-k.k < g.V.Underlier.WORD_COUNT = search rules in (
-      more_parts (λ (j x : ℕ). x ≡ part_at word.BITS row (c.args.i * g.V.Underlier.WORD_COUNT + j)) word.BITS g.V.Underlier.WORD_COUNT
+      more_parts (λ (j x : ℕ). x ≡ chunk word.BITS (c.args.i * g.V.Underlier.WORD_COUNT + j) row) word.BITS g.V.Underlier.WORD_COUNT
           (g.V.Underlier.number c.loop-k.part) c.loop-k.k (word.number c.narrow_word.result) (g.V.Underlier.number c.set_word.new.self)
           inside c.set_word.ensures.replaced
-          (c.narrow_word.ensures ∙ ap (part_at word.BITS row) c.word_of_part.ensures.value) c.loop-k.invariant.0,
+          (c.narrow_word.ensures ∙ ap (λ (p : ℕ). chunk word.BITS p row) c.word_of_part.ensures.value) c.loop-k.invariant.0,
       c.set_word.ensures.whole,
     )
 

@@ -1,6 +1,6 @@
 use Rattle.std.proofs.Common.{◌≡◌, ◌<◌, ℕ, true, refl, ◌∙◌, ap, sym, subst, arith, rules}
 use denote.Param.Always.{mut_next}
-use Rattle.bits_rows.specs.Parts.{parts_of}
+use Rattle.field_base.specs.Chunks.{chunks}
 use Rattle.bits_rows.proofs.WordLists.{more_filled, nothing_filled}
 use Rattle.bits_rows.proofs.underlier.Underlier.from_words_fn.Goals as goal
 
@@ -24,10 +24,12 @@ pub returns-clause-filled : goal.returns-clause-filled
 returns-clause-filled g c =
     let done = c.loop-i.invariant.1 in
     let all : c.loop-i.i ≡ g.Self.Underlier.WORD_COUNT = omega arith in (
-      done.taken,
       c.loop-i.f,
-      done.fills,
-      done.are ∙ ap (λ (n : ℕ). parts_of g.Self.Word.Word.BITS n (g.Self.Underlier.number c.loop-i.row)) all,
+      (
+        done.taken,
+        done.fills,
+        done.are ∙ ap (λ (n : ℕ). chunks g.Self.Word.Word.BITS n (g.Self.Underlier.number c.loop-i.row)) all,
+      ),
     )
 
 pub returns-clause-whole : goal.returns-clause-whole

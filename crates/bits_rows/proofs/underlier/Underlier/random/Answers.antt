@@ -1,6 +1,12 @@
-use Rattle.std.proofs.Common.{◌<◌, rules}
-use Rattle.bits_rows.proofs.WordLists.{more_filled}
+use Rattle.std.proofs.Common.{◌≡◌, ◌<◌, true, sym, subst, rules}
+use Rattle.bits_rows.proofs.WordLists.{more_filled, nothing_filled}
 use Rattle.bits_rows.proofs.underlier.Underlier.random.Goals as goal
+
+pub loop-i-init : goal.loop-i-init
+loop-i-init g c = (
+  nothing_filled g.Self.Word.Word.BITS g.Self.Word.Word.number _ _ _,
+  subst (λ x. g.Self.Underlier.is_whole x ≡ true) (sym c.ZERO-row.ensures) g.Self.Underlier.zero_whole,
+)
 
 pub loop-i-preserved : goal.loop-i-preserved
 loop-i-preserved g c =

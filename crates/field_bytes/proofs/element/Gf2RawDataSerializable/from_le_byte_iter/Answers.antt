@@ -6,9 +6,11 @@ use Rattle.field_bytes.proofs.element.Gf2RawDataSerializable.from_le_byte_iter.G
 pub returns-in-Some : goal.returns-in-Some
 returns-in-Some g c =
     let read = c.in-Some.ensures in
-    let value = c.from_repr.ensures ∙ ap (λ (n : ℕ). n % 2) read.3 in (
-      read.0,
-      read.1,
-      read.2,
-      (value, (λ x same. same_repr c.from_repr.result x (same_again 1 1 x.repr _ read.0 x.in_range (omega arith) value same))),
-    )
+    let value = c.from_repr.ensures ∙ ap (λ (n : ℕ). n % 2) read.value in
+    record {
+      bytes = read.bytes;
+      taken = read.taken;
+      none_if_short = read.none_if_short;
+      value = value;
+      own_bytes_return = λ x same. same_repr c.from_repr.result x (same_again 1 1 x.repr _ read.bytes x.in_range (omega arith) value same);
+    }

@@ -7,9 +7,10 @@ use Rattle.field_base.specs.BitRingLemmas.{two_cases}
 use Rattle.field_base.specs.Ring.{IsRing}
 use Rattle.field_base.specs.Tower.{tower_mul}
 use Rattle.field_base.proofs.RingLemmas.{times-zero, zero-times}
-use Rattle.bits_packed.specs.BitsRing.{bits_ring, ones_fit}
+use Rattle.bits_packed.specs.BitsRingLemmas.{bits_ring, ones_fit}
 use Rattle.bits_packed.specs.Lanes.{bitwise_product}
 
+-- the sum of two bits, times n, is the sum of the bits times n
 pub every_sum : (n a b : ℕ) → a < 2 → b < 2 → bit_xor a b * n ≡ bit_xor (a * n) (b * n)
 every_sum n a b p q =
     two_cases (λ x. (y : ℕ) → y < 2 → bit_xor x y * n ≡ bit_xor (x * n) (y * n))
@@ -21,6 +22,7 @@ every_sum n a b p q =
     (zero-mul n ∙ sym (ap₂ bit_xor (one-mul n) (one-mul n) ∙ xor_self n)))
     a p b q
 
+-- bits of the same multiple of a nonzero n are equal
 pub every_same : (n a b : ℕ) → n ≢ 0 → a < 2 → b < 2 → a * n ≡ b * n → a ≡ b
 every_same n a b some p q =
     two_cases (λ x. (y : ℕ) → y < 2 → x * n ≡ y * n → x ≡ y)
@@ -29,6 +31,7 @@ every_same n a b some p q =
     a p b q
 
 module _ (w : ℕ) where
+  -- 2 ^ w - 1 is neutral
   one_times : (n : ℕ) → n < 2 ^ w → bitwise_product w (2 ^ w - 1) n ≡ n
   one_times n fits = IsRing.one (bits_ring w) n ∙ mod-eq_of_lt fits
 
@@ -40,6 +43,7 @@ module _ (w : ℕ) where
       (one-mul n ∙ sym (ap (bitwise_product w n) (one-mul (2 ^ w - 1)) ∙ IsRing.comm (bits_ring w) n (2 ^ w - 1) ∙ one_times n fits))
       bit small
 
+  -- the product of two bits, in every lane, is the product of both in every lane
   pub every_product : (a b : ℕ) → a < 2 → b < 2
       → tower_mul 0 a b * (2 ^ w - 1) ≡ bitwise_product w (a * (2 ^ w - 1)) (b * (2 ^ w - 1))
   unfolding tower_mul

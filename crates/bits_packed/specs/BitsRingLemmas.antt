@@ -15,6 +15,7 @@ min_over_sum : (a b c : ℕ) → a < 2 → b < 2 → c < 2 → min a ((b + c) % 
 min_over_sum a b c p q r = omega arith
 
 module _ (w : ℕ) where
+  -- a product is below 2 ^ w
   product-lt : (a b : ℕ) → bitwise_product w a b < 2 ^ w
   product-lt a b = mod-lt (bit_and a b) (pow_pos w)
 
@@ -25,9 +26,11 @@ module _ (w : ℕ) where
       ∙ ap (λ (x : ℕ). bit_and x (b % 2 ^ w)) (mod-eq_of_lt (mod-lt a (pow_pos w)))
       ∙ sym (and_mod a b w)
 
+  -- the product is commutative
   product_comm : (a b : ℕ) → bitwise_product w a b ≡ bitwise_product w b a
   product_comm a b = ap (λ (x : ℕ). x % 2 ^ w) (and_comm a b)
 
+  -- the product distributes over sums
   over_sum : (a b c : ℕ) → bitwise_product w a (bit_xor b c) ≡ bit_xor (bitwise_product w a b) (bitwise_product w a c)
   over_sum a b c =
       same_from_bits_below w (bitwise_product w a (bit_xor b c)) (bit_xor (bitwise_product w a b) (bitwise_product w a c))
@@ -43,6 +46,7 @@ module _ (w : ℕ) where
           ∙ sym (bit_at_xor (bitwise_product w a b) (bitwise_product w a c) j
           ∙ ap₂ (λ (x y : ℕ). (x + y) % 2) (bit_of a b j less) (bit_of a c j less))
 
+  -- the numbers below 2 ^ w are a ring, with 2 ^ w - 1 as its one
   pub bits_ring : IsRing w (2 ^ w - 1) (bitwise_product w)
   bits_ring = record {
     below = product-lt;
@@ -54,6 +58,7 @@ module _ (w : ℕ) where
     one = λ a. ap (λ (x : ℕ). x % 2 ^ w) (and_comm (2 ^ w - 1) a ∙ and_mask a w) ∙ mod-eq_of_lt (mod-lt a (pow_pos w));
   }
 
+  -- 2 ^ w - 1 is below 2 ^ w
   pub ones_fit : 2 ^ w - 1 < 2 ^ w
   ones_fit = let some = pow_pos w in omega (arith, some)
 

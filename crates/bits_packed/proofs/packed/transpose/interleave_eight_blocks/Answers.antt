@@ -1,14 +1,14 @@
 use Rattle.std.proofs.Common.{◌*◌, refl, lit<, arith}
 use Rattle.bits_rows.proofs.BlockLemmas.{block_some}
 use Rattle.bits_packed.proofs.Rounds.{group_first, group_passes}
-use Rattle.bits_packed.proofs.packed.transpose.exchange_eight_blocks.Goals as goal
+use Rattle.bits_packed.proofs.packed.transpose.interleave_eight_blocks.Goals as goal
 
-pub exchange_eight-requires-clause-first : goal.exchange_eight-requires-clause-first
-exchange_eight-requires-clause-first g c =
+pub interleave_eight-requires-clause-first : goal.interleave_eight-requires-clause-first
+interleave_eight-requires-clause-first g c =
     group_first c.args.block (8 * c.args.block) 8 (block_some g.U.Underlier.BITS c.args.block c.requires.block) refl c.args.group c.loop-i.i (lit< tt) (omega arith) (omega arith)
 
 pub loop-i-preserved : goal.loop-i-preserved
-loop-i-preserved g c = λ old so_far. c.exchange_eight.ensures old (c.loop-i.invariant old so_far)
+loop-i-preserved g c = λ old so_far. c.interleave_eight.ensures old (c.loop-i.invariant old so_far)
 
 pub returns : goal.returns
 returns g c = λ old so_far.

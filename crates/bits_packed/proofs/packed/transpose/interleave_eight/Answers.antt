@@ -3,7 +3,7 @@ use Rattle.bits_rows.proofs.BlockLemmas.{block_some}
 use Rattle.bits_packed.proofs.EightRows.{eight_done}
 use Rattle.bits_packed.proofs.LaneAccess.{row_divides}
 use Rattle.bits_packed.proofs.Rounds.{eightfold_fits}
-use Rattle.bits_packed.proofs.packed.transpose.exchange_eight.Goals as goal
+use Rattle.bits_packed.proofs.packed.transpose.interleave_eight.Goals as goal
 
 pub returns : goal.returns
 returns g c = λ old so_far.
@@ -15,6 +15,6 @@ returns g c = λ old so_far.
     (eightfold_fits g.U.Underlier.BITS divides.0 c.args.block divides.1) c.requires.first c.requires.inside
     c.row_of_eight-one.ensures c.row_of_eight-two.ensures c.row_of_eight-three.ensures
     c.row_of_eight-four.ensures c.row_of_eight-five.ensures c.row_of_eight-six.ensures
-    c.exchange_pair.ensures c.exchange_pair-2.ensures c.exchange_pair-3.ensures c.exchange_pair-4.ensures
-    c.exchange_pair-5.ensures c.exchange_pair-6.ensures c.exchange_pair-7.ensures c.exchange_pair-8.ensures
-    c.exchange_pair-9.ensures c.exchange_pair-10.ensures c.exchange_pair-11.ensures c.exchange_pair-12.ensures so_far
+    c.interleave_pair.ensures c.interleave_pair-2.ensures c.interleave_pair-3.ensures c.interleave_pair-4.ensures
+    c.interleave_pair-5.ensures c.interleave_pair-6.ensures c.interleave_pair-7.ensures c.interleave_pair-8.ensures
+    c.interleave_pair-9.ensures c.interleave_pair-10.ensures c.interleave_pair-11.ensures c.interleave_pair-12.ensures so_far

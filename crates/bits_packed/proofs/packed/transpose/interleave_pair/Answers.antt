@@ -1,6 +1,6 @@
 use Rattle.bits_rows.proofs.BlockLemmas.{block_some}
 use Rattle.bits_packed.proofs.RoundPairs.{pair_written}
-use Rattle.bits_packed.proofs.packed.transpose.exchange_pair.Goals as goal
+use Rattle.bits_packed.proofs.packed.transpose.interleave_pair.Goals as goal
 
 pub returns : goal.returns
 returns g c =

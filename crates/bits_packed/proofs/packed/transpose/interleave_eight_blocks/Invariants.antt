@@ -1,6 +1,6 @@
 use Rattle.std.proofs.Common.{◌*◌, ℕ, List, map}
 use Rattle.bits_packed.specs.Rounds.{IsPassTo}
-use Rattle.bits_packed.proofs.packed.transpose.exchange_eight_blocks.Given as goal
+use Rattle.bits_packed.proofs.packed.transpose.interleave_eight_blocks.Given as goal
 
 abbrev pub invariant-loop-i : goal.invariant-loop-i
 invariant-loop-i g l =

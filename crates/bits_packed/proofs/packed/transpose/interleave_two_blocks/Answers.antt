@@ -2,7 +2,7 @@ use Rattle.std.proofs.Common.{◌*◌, refl, lit<, arith}
 use Rattle.bits_rows.proofs.BlockLemmas.{block_some}
 use Rattle.bits_packed.proofs.LaneAccess.{row_divides}
 use Rattle.bits_packed.proofs.Rounds.{group_first, group_passes, groups_fill, pair_done}
-use Rattle.bits_packed.proofs.packed.transpose.exchange_two_blocks.Goals as goal
+use Rattle.bits_packed.proofs.packed.transpose.interleave_two_blocks.Goals as goal
 
 pub loop-i-preserved : goal.loop-i-preserved
 loop-i-preserved g c = λ old so_far.
@@ -12,7 +12,7 @@ loop-i-preserved g c = λ old so_far.
     let some = block_some g.U.Underlier.BITS c.args.block c.requires.block in
     let room = groups_fill g.U.Underlier.BITS (2 * c.args.block) c.args.group c.requires.inside in
     let first = group_first c.args.block (2 * c.args.block) 2 some refl c.args.group c.loop-i.i (lit< tt) (omega arith) (omega arith) in
-    pair_done g.U.Underlier.BITS divides.0 c.args.block c.loop-i.i old _ _ some divides.1 first (omega (arith, room)) c.exchange_pair.ensures (c.loop-i.invariant old so_far)
+    pair_done g.U.Underlier.BITS divides.0 c.args.block c.loop-i.i old _ _ some divides.1 first (omega (arith, room)) c.interleave_pair.ensures (c.loop-i.invariant old so_far)
 
 pub returns : goal.returns
 returns g c = λ old so_far.
