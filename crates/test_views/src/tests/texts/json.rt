@@ -1,13 +1,12 @@
-// Elements to JSON and back, and numbers that are refused.
+// Elements to JSON and back, and numbers that are refused. No contract says when reading succeeds, nor which text an error holds.
 use field_aes::LinearizedPoly8b;
-use field_base::Gf2;
-use field_element::{
-    BinaryField2, BinaryField4, BinaryField8, BinaryField16, BinaryField32, BinaryField64,
-    BinaryField128, Ghash128, Poly64, Poly192, Rijndael8b,
-};
+use field_base::{FieldKernel, Gf2, ReadWord};
+use field_element::{Coefficients, CubicKernel, Element};
 use serde::{Deserialize, DeserializeOwned, Serialize};
 use serde_json::{Error, Value};
 use std::alloc::{AllocError, Global};
+use word_polynomial::{GhashKernel, Poly64Kernel};
+use word_tower::{Bits2, Bits4, Tower};
 
 // Whether the text is read as an element, which is written as that text again.
 fn returns<'a, E: Copy + Serialize + Deserialize<'a>>(alloc: Global, text: &'a str) -> bool {
@@ -87,9 +86,19 @@ fn ends_between<'a, E: Copy + Serialize + Deserialize<'a> + DeserializeOwned>(
     all_return::<E>(alloc, of_field) && are_out_of_range::<E>(alloc, past_field)
 }
 
-// Each number of a byte, at the fields that a byte stores with bits to spare.
+// The same for elements of the field of a kernel.
+fn elements_end_between<'a, R: ReadWord + Serialize, K: FieldKernel<R>>(
+    alloc: Global,
+    of_field: &'a str,
+    past_field: &'a str,
+) -> bool {
+    ends_between::<Element<R, K>>(alloc, of_field, past_field)
+}
+
+// Each number of a byte, at the fields that a byte stores with bits to spare. That GF(2) refuses 2, the field of two bits 4 and 7,
+// and that of four bits 16 are worked rows.
 #[test]
-fn numbers_of_a_byte(rt: HostRuntime) -> Result<(), AllocError> {
+fn numbers_of_a_byte_are_read_or_refused(rt: HostRuntime) -> Result<(), AllocError> {
     let alloc = rt.alloc();
     let of_1_bit = numbers_between(alloc, 0, 1)?;
     let past_1_bit = numbers_between(alloc, 2, 255)?;
@@ -100,8 +109,16 @@ fn numbers_of_a_byte(rt: HostRuntime) -> Result<(), AllocError> {
     assert!(rt; of_1_bit.as_str() == "0 1 " && of_2_bits.as_str() == "0 1 2 3 ");
     assert!(rt;
         ends_between::<Gf2>(alloc, of_1_bit.as_str(), past_1_bit.as_str())
-            && ends_between::<BinaryField2>(alloc, of_2_bits.as_str(), past_2_bits.as_str())
-            && ends_between::<BinaryField4>(alloc, of_4_bits.as_str(), past_4_bits.as_str())
+            && elements_end_between::<u8, Tower<Bits2>>(
+                alloc,
+                of_2_bits.as_str(),
+                past_2_bits.as_str()
+            )
+            && elements_end_between::<u8, Tower<Bits4>>(
+                alloc,
+                of_4_bits.as_str(),
+                past_4_bits.as_str()
+            )
     );
     Ok(())
 }
@@ -120,23 +137,32 @@ fn takes<'a, E: Copy + Serialize + Deserialize<'a>>(
     all_return::<E>(alloc, taken)
 }
 
+// The same for elements of the field of a kernel.
+fn elements_take<'a, R: ReadWord + Serialize, K: FieldKernel<R>>(
+    alloc: Global,
+    taken: &'a str,
+    refused: &'a str,
+) -> bool {
+    takes::<Element<R, K>>(alloc, taken, refused)
+}
+
 // The greatest numbers and some others, and numbers past the word, below 0 and of too many and too few coefficients.
 #[test]
-fn numbers_at_both_ends(rt: HostRuntime) {
+fn numbers_past_the_word_are_refused(rt: HostRuntime) {
     let alloc = rt.alloc();
     assert!(rt;
         takes::<Gf2>(alloc, "0 1", "256 -1")
-            && returns::<BinaryField2>(alloc, "3")
-            && returns::<BinaryField4>(alloc, "15")
-            && takes::<BinaryField8>(alloc, "255", "256")
-            && returns::<BinaryField16>(alloc, "65535")
-            && returns::<BinaryField32>(alloc, "4294967295")
-            && takes::<BinaryField64>(alloc, "18446744073709551615", "18446744073709551616")
-            && returns::<BinaryField128>(alloc, "18446744073709551615")
-            && returns::<Rijndael8b>(alloc, "254")
-            && returns::<Poly64>(alloc, "18446744073709551614")
-            && returns::<Ghash128>(alloc, "18446744073709551614")
-            && takes::<Poly192>(alloc, "[1,0,18446744073709551615]", "[1,2] [1,2,3,4] 1")
+            && elements_take::<u64, Poly64Kernel>(
+                alloc,
+                "18446744073709551615",
+                "18446744073709551616"
+            )
+            && elements_take::<u128, GhashKernel>(alloc, "18446744073709551614", "-1")
+            && elements_take::<Coefficients, CubicKernel>(
+                alloc,
+                "[1,0,18446744073709551615]",
+                "[1,2] [1,2,3,4] 1"
+            )
             && takes::<LinearizedPoly8b>(alloc, "[0,1,2,3,4,5,128,255]", "[0,1,2,3,4,5,6,256]")
     );
 }

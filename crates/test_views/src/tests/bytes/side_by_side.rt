@@ -1,4 +1,4 @@
-// Streams of elements side by side.
+// Worked rows, and how often the iterators are asked: streams of elements side by side.
 use field_base::traits::TowerLevel;
 use field_bytes::{
     into_parallel_byte_streams, into_parallel_u32_streams, into_parallel_u64_streams,
