@@ -68,8 +68,7 @@ fn part_is<U: Divisible<V>, V: Underlier>(row: &U, i: usize, want: V) -> bool {
 fn parts_of_a_block_are_pairs_of_words(rt: HostRuntime) {
     let block = M512::from_words_fn(|i| i as u64);
     assert!(rt;
-        part_is(&block, 0, M128::from_words([0, 1]))
-            && part_is(&block, 3, M128::from_words([6, 7]))
+        part_is(&block, 0, M128::from_words([0, 1])) && part_is(&block, 3, M128::from_words([6, 7]))
     );
 }
 

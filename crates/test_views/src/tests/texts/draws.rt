@@ -26,10 +26,7 @@ fn all_bits_are_drawn<E: TowerLevel + SampleStandard>(field: u128) -> bool {
 }
 
 // The same for the field of a kernel.
-fn all_bits_of_field_are_drawn<
-    R: Unsigned + SampleStandard,
-    K: LevelKernel<R> + HasPacking<R>,
->(
+fn all_bits_of_field_are_drawn<R: Unsigned + SampleStandard, K: LevelKernel<R> + HasPacking<R>>(
     field: u128,
 ) -> bool {
     all_bits_are_drawn::<Element<R, K>>(field)

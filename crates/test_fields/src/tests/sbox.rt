@@ -1,4 +1,4 @@
-// The S-box of FIPS 197 from its definition: the inverse, then an affine map of the bits.
+// An outside vector: the S-box of FIPS 197 from its definition, the inverse and then an affine map of the bits.
 use field_aes::ByteMatrix;
 use field_base::traits::{Field, TowerLevel};
 use field_element::Rijndael8b;
