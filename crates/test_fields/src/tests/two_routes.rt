@@ -1,9 +1,9 @@
 // Products of 64 and 128 bits by the polynomial basis against those by halves, which the definition has, at the corners and at draws
 // from a seed.
 use field_base::traits::TowerLevel;
-use field_base::{LevelKernel, Unsigned};
-use field_element::{Element, HasPacking};
-use word_tower::{Bits64, Bits128, Tower};
+use field_base::Unsigned;
+use field_element::Element;
+use word_tower::{Bits64, Bits128, Level, Tower};
 
 /// How many pairs are drawn.
 const DRAWS: usize = 200;
@@ -23,19 +23,19 @@ fn wide(state: u64) -> u128 {
     ((state as u128) << 64) ^ (next(state) as u128)
 }
 
-/// Whether the product of the numbers is the same by both routes in the field of a kernel.
-fn products_agree<R: Unsigned, K: LevelKernel<R> + HasPacking<R>>(x: u128, y: u128) -> bool {
-    let left: Element<R, K> = Element::from_repr(R::of_u128(x));
-    let right: Element<R, K> = Element::from_repr(R::of_u128(y));
+/// Whether the product of the numbers is the same by both routes in a level.
+fn products_agree<R: Unsigned, L: Level<R>>(x: u128, y: u128) -> bool {
+    let left: Element<R, Tower<L>> = Element::from_repr(R::of_u128(x));
+    let right: Element<R, Tower<L>> = Element::from_repr(R::of_u128(y));
     left * right == left.reference_mul(right)
 }
 
 fn agree_64(x: u64, y: u64) -> bool {
-    products_agree::<u64, Tower<Bits64>>(x as u128, y as u128)
+    products_agree::<u64, Bits64>(x as u128, y as u128)
 }
 
 fn agree_128(x: u128, y: u128) -> bool {
-    products_agree::<u128, Tower<Bits128>>(x, y)
+    products_agree::<u128, Bits128>(x, y)
 }
 
 #[test]

@@ -1,6 +1,6 @@
 // How often a closure is called, and in which order.
 use bits_packed::PackedGf2x512;
-use bits_rows::M256;
+use bits_rows::{M256, Underlier};
 use field_base::Gf2;
 use field_base::traits::{PrimeCharacteristicRing, TowerLevel};
 

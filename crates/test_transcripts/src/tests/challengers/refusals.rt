@@ -1,6 +1,6 @@
-// Challengers over doubles: what they see, and what a challenger answers once it was refused.
-use super::challengers::{check_witness, element, grind_fails, observe, sample, sample_bits};
-use crate::doubles::{Copies, Double, Seen};
+// Doubles that refuse: what they see, and what a challenger returns once it was refused. Both refusals are worked rows.
+use super::single_calls::{check_witness, element, grind_fails, observe, sample, sample_bits};
+use crate::tests::doubles::{Copies, Double, Seen};
 use field_element::{BinaryField32, Element};
 use std::alloc::{AllocError, Global};
 use std::cell::Cell;
@@ -51,8 +51,9 @@ fn digests_observed_at<R: ShortWord, K: TranscriptKernel<R>>(
     digests_observed::<Element<R, K>>(alloc)
 }
 
+// A worked row, the digest of one word; other digests and caps are observed in the order of their parts.
 #[test]
-fn digests_and_caps(rt: HostRuntime) -> Result<(), Fail> {
+fn digests_and_caps_are_observed(rt: HostRuntime) -> Result<(), Fail> {
     assert!(rt; digests_observed_at::<u16, Tower<Bits16>>(rt.alloc())?);
     Ok(())
 }
@@ -83,7 +84,7 @@ fn only_fails_at<R: ShortWord, K: TranscriptKernel<R>>(
         && grind_fails(challenger, 8, GrindError::Failed)
 }
 
-/// Whether each call answers that the challenger has failed.
+/// Whether each call returns that the challenger has failed.
 fn only_fails(challenger: &mut OverDouble<'_>) -> bool {
     only_fails_at(challenger)
 }

@@ -30,7 +30,7 @@ pub(crate) fn number_of<R: ShortWord, K: TranscriptKernel<R>>(element: Element<R
     element.to_repr().to_u128()
 }
 
-/// What `observe` of an element answers.
+/// What `observe` of an element returns.
 pub(crate) fn observe<R: ShortWord, K: TranscriptKernel<R>, Inner: ByteChallenger>(
     challenger: &mut BinaryChallenger<Element<R, K>, Inner>,
     element: Element<R, K>,
@@ -38,14 +38,14 @@ pub(crate) fn observe<R: ShortWord, K: TranscriptKernel<R>, Inner: ByteChallenge
     challenger.observe(element)
 }
 
-/// What `sample` of an element of the field answers.
+/// What `sample` of an element of the field returns.
 pub(crate) fn sample<R: ShortWord, K: TranscriptKernel<R>, Inner: ByteChallenger>(
     challenger: &mut BinaryChallenger<Element<R, K>, Inner>,
 ) -> Result<Element<R, K>, ChallengerError> {
     challenger.sample()
 }
 
-/// Whether `sample` answers the element of this representation.
+/// Whether `sample` returns the element of this representation.
 pub(crate) fn samples<R: ShortWord, K: TranscriptKernel<R>, Inner: ByteChallenger>(
     challenger: &mut BinaryChallenger<Element<R, K>, Inner>,
     wanted: u128,
@@ -56,7 +56,7 @@ pub(crate) fn samples<R: ShortWord, K: TranscriptKernel<R>, Inner: ByteChallenge
     }
 }
 
-/// What `sample_bits` answers.
+/// What `sample_bits` returns.
 pub(crate) fn sample_bits<R: ShortWord, K: TranscriptKernel<R>, Inner: ByteChallenger>(
     challenger: &mut BinaryChallenger<Element<R, K>, Inner>,
     bits: usize,
@@ -66,7 +66,7 @@ pub(crate) fn sample_bits<R: ShortWord, K: TranscriptKernel<R>, Inner: ByteChall
     challenger.sample_bits(bits)
 }
 
-/// What `check_witness` answers.
+/// What `check_witness` returns.
 pub(crate) fn check_witness<R: ShortWord, K: TranscriptKernel<R>, Inner: ByteChallenger>(
     challenger: &mut BinaryChallenger<Element<R, K>, Inner>,
     bits: usize,
@@ -77,7 +77,7 @@ pub(crate) fn check_witness<R: ShortWord, K: TranscriptKernel<R>, Inner: ByteCha
     challenger.check_witness(bits, witness)
 }
 
-/// What `grind` answers, where a search for so many bits may be made.
+/// What `grind` returns, where a search for so many bits may be made.
 fn search<F: ByteLevel, Inner: ByteChallenger>(
     challenger: &mut BinaryChallenger<F, Inner>,
     bits: usize,
@@ -96,7 +96,7 @@ pub(crate) fn grind<R: ShortWord, K: TranscriptKernel<R>, Inner: ByteChallenger>
     search(challenger, bits)
 }
 
-/// Whether `grind` answers the element of this representation.
+/// Whether `grind` returns the element of this representation.
 pub(crate) fn grinds<R: ShortWord, K: TranscriptKernel<R>, Inner: ByteChallenger>(
     challenger: &mut BinaryChallenger<Element<R, K>, Inner>,
     bits: usize,
@@ -108,7 +108,7 @@ pub(crate) fn grinds<R: ShortWord, K: TranscriptKernel<R>, Inner: ByteChallenger
     }
 }
 
-/// Whether `grind` answers this error.
+/// Whether `grind` returns this error.
 pub(crate) fn grind_fails<R: ShortWord, K: TranscriptKernel<R>, Inner: ByteChallenger>(
     challenger: &mut BinaryChallenger<Element<R, K>, Inner>,
     bits: usize,

@@ -9,18 +9,18 @@ use transcript_bytes::ByteChallenger;
 
 /// What a double and its copies have seen.
 #[derive(Clone, Copy, Debug, Default, PartialEq, Eq)]
-pub struct Seen {
+pub(crate) struct Seen {
     /// The number of bytes that were observed.
-    pub observed: u32,
+    pub(crate) observed: u32,
     /// The number of bytes that were sampled.
-    pub sampled: u32,
+    pub(crate) sampled: u32,
     /// The last eight bytes that were observed, the last of them as the lowest byte.
-    pub bytes: u64,
+    pub(crate) bytes: u64,
 }
 
 impl Seen {
     /// What a double has seen where `observed` bytes were observed, the last eight of them in `bytes`, and `sampled` were sampled.
-    pub fn new(observed: u32, sampled: u32, bytes: u64) -> Seen
+    pub(crate) fn new(observed: u32, sampled: u32, bytes: u64) -> Seen
         ensures observed { result.observed ≡ observed }
         ensures sampled { result.sampled ≡ sampled }
         ensures bytes { result.bytes ≡ bytes }
@@ -33,18 +33,18 @@ impl Seen {
     }
 }
 
-/// How a double answers `try_clone`.
+/// What `try_clone` of a double returns.
 #[derive(Clone, Copy, Debug, PartialEq, Eq)]
-pub enum Copies {
+pub(crate) enum Copies {
     /// It is refused memory.
     Refused,
-    /// It answers a copy that refuses the byte call after so many.
+    /// It returns a copy that refuses the byte call after so many.
     RefusingAfter(u32),
 }
 
 /// A byte challenger that samples one byte always. It refuses one byte call, that after so many, and grants the others.
 #[derive(Drop)]
-pub struct Double<'a> {
+pub(crate) struct Double<'a> {
     byte: u8,
     calls_left: u32,
     copies: Copies,
@@ -53,13 +53,11 @@ pub struct Double<'a> {
 }
 
 impl<'a> Double<'a> {
-    ghost use Rattle.test_transcripts.specs.Doubles.{byte_of, double_refused};
-
-    /// A double that samples `byte`, refuses the byte call after `calls_left`, answers `try_clone` as `copies` says, and notes in
+    /// A double that samples `byte`, refuses the byte call after `calls_left`, copies as `copies` says, and notes in
     /// `seen` what it sees. It has not refused.
-    pub fn new(seen: &'a Cell<Seen>, byte: u8, calls_left: u32, copies: Copies) -> Double<'a>
-        ensures byte { byte_of result ≡ byte }
-        ensures fresh { double_refused result ≡ false }
+    pub(crate) fn new(seen: &'a Cell<Seen>, byte: u8, calls_left: u32, copies: Copies) -> Double<'a>
+        ensures byte { result.byte ≡ byte }
+        ensures fresh { result.has_refused ≡ false }
     {
         Double {
             byte,
@@ -71,18 +69,18 @@ impl<'a> Double<'a> {
     }
 
     /// A double that samples `byte` and refuses nothing in the first 2^32 - 1 byte calls.
-    pub fn constant(seen: &'a Cell<Seen>, byte: u8) -> Double<'a>
-        ensures byte { byte_of result ≡ byte }
-        ensures fresh { double_refused result ≡ false }
+    pub(crate) fn constant(seen: &'a Cell<Seen>, byte: u8) -> Double<'a>
+        ensures byte { result.byte ≡ byte }
+        ensures fresh { result.has_refused ≡ false }
     {
         Double::new(seen, byte, u32::MAX, Copies::RefusingAfter(u32::MAX))
     }
 
     // Whether this byte call is granted.
     fn grants_call(&mut self) -> bool
-        ensures byte { byte_of self.new ≡ byte_of self.old }
-        ensures granted { IsTrue result → double_refused self.new ≡ double_refused self.old }
-        ensures refused { result ≡ false → double_refused self.new ≡ true }
+        ensures byte { self.new.byte ≡ self.old.byte }
+        ensures granted { IsTrue result → self.new.has_refused ≡ self.old.has_refused }
+        ensures refused { result ≡ false → self.new.has_refused ≡ true }
     {
         if self.calls_left == 0 {
             self.calls_left = u32::MAX;
@@ -95,14 +93,12 @@ impl<'a> Double<'a> {
 }
 
 impl<'a> ByteChallenger for Double<'a> {
-    ghost use Rattle.test_transcripts.specs.Doubles.{byte_of, double_refused};
-
     // The byte that it samples.
     ghost State = { ℕ };
 
-    ghost state = { λ double. byte_of double };
+    ghost state = { λ double. double.byte };
 
-    ghost has_refused = { λ double. double_refused double };
+    ghost has_refused = { λ double. double.has_refused };
 
     ghost observed = { λ state _. state };
 
