@@ -1,6 +1,6 @@
 // Changes of basis between the tower and three fields of polynomials.
 use crate::fault::Fault;
-use crate::reading::{number, word};
+use crate::reading::{byte, number, word};
 use word_basis::{
     to_polynomial_8, to_polynomial_64, to_polynomial_128, to_tower_8, to_tower_64, to_tower_128,
 };
@@ -19,9 +19,4 @@ pub(crate) fn changed(name: &str, operands: &[&str]) -> Result<u128, Fault> {
         "to_tower_128" => to_tower_128(number(operand)?),
         _ => return Err(Fault::Line),
     })
-}
-
-/// The byte that a word writes.
-fn byte(word: &str) -> Result<u8, Fault> {
-    u8::from_str_radix(word, 16).ok().ok_or(Fault::Line)
 }

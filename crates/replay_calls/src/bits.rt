@@ -4,7 +4,7 @@ ghost use Rattle.std.specs.Prelude.{◌≡◌, ◌<◌, ◌^◌};
 use crate::fault::Fault;
 use crate::reading::{count, word};
 use bits_packed::PackedGf2;
-use bits_rows::{Divisible, M128, M256, M512, Underlier, Word};
+use bits_rows::{Divisible, M128, M512, Underlier, Word};
 use std::alloc::Global;
 
 /// What a call of packed bits gives: the words of the rows, one row after the other.
@@ -14,11 +14,7 @@ pub(crate) fn rearranged(alloc: Global, name: &str, call: &[&str]) -> Result<Vec
         [width, log, rows] if name == "interleave" => {
             interleave_of_width(alloc, width, count(log)?, rows)
         }
-        [wide, narrow, row] if name == "parts" => match wide {
-            "100" => of_256(alloc, narrow, row),
-            "200" => of_512(alloc, narrow, row),
-            _ => of_128(alloc, wide, narrow, row),
-        },
+        [wide, narrow, row] if name == "parts" => parts_of_width(alloc, wide, narrow, row),
         _ => Err(Fault::Line),
     }
 }
@@ -26,9 +22,6 @@ pub(crate) fn rearranged(alloc: Global, name: &str, call: &[&str]) -> Result<Vec
 fn transpose_of_width(alloc: Global, width: &str, rows: &str) -> Result<Vec<u128>, Fault> {
     match width {
         "8" => transposed::<u8>(alloc, rows),
-        "10" => transposed::<u16>(alloc, rows),
-        "20" => transposed::<u32>(alloc, rows),
-        "40" => transposed::<u64>(alloc, rows),
         "80" => transposed::<M128>(alloc, rows),
         _ => Err(Fault::Line),
     }
@@ -42,42 +35,15 @@ fn interleave_of_width(
 ) -> Result<Vec<u128>, Fault> {
     match width {
         "8" => interleaved::<u8>(alloc, log, rows),
-        "10" => interleaved::<u16>(alloc, log, rows),
-        "20" => interleaved::<u32>(alloc, log, rows),
-        "40" => interleaved::<u64>(alloc, log, rows),
         "80" => interleaved::<M128>(alloc, log, rows),
-        "100" => interleaved::<M256>(alloc, log, rows),
-        "200" => interleaved::<M512>(alloc, log, rows),
         _ => Err(Fault::Line),
     }
 }
 
-fn of_128(alloc: Global, wide: &str, narrow: &str, row: &str) -> Result<Vec<u128>, Fault> {
+fn parts_of_width(alloc: Global, wide: &str, narrow: &str, row: &str) -> Result<Vec<u128>, Fault> {
     match (wide, narrow) {
-        ("80", "40") => parts::<M128, u64>(alloc, row),
         ("80", "8") => parts::<M128, u8>(alloc, row),
-        ("40", "20") => parts::<u64, u32>(alloc, row),
-        ("40", "8") => parts::<u64, u8>(alloc, row),
-        ("20", "10") => parts::<u32, u16>(alloc, row),
-        ("10", "8") => parts::<u16, u8>(alloc, row),
-        _ => Err(Fault::Line),
-    }
-}
-
-fn of_256(alloc: Global, narrow: &str, row: &str) -> Result<Vec<u128>, Fault> {
-    match narrow {
-        "80" => parts::<M256, M128>(alloc, row),
-        "20" => parts::<M256, u32>(alloc, row),
-        _ => Err(Fault::Line),
-    }
-}
-
-fn of_512(alloc: Global, narrow: &str, row: &str) -> Result<Vec<u128>, Fault> {
-    match narrow {
-        "100" => parts::<M512, M256>(alloc, row),
-        "80" => parts::<M512, M128>(alloc, row),
-        "40" => parts::<M512, u64>(alloc, row),
-        "10" => parts::<M512, u16>(alloc, row),
+        ("200", "80") => parts::<M512, M128>(alloc, row),
         _ => Err(Fault::Line),
     }
 }

@@ -1,6 +1,6 @@
 // The byte field of AES: matrices of 8 by 8 bits, and linearized polynomials.
 use crate::fault::Fault;
-use crate::reading::{element, elements, word};
+use crate::reading::{byte, bytes, word};
 use field_aes::{ByteMatrix, LinearizedPoly8b, RijndaelMaps};
 use field_element::Rijndael8b;
 use std::alloc::Global;
@@ -22,7 +22,7 @@ fn of_one(alloc: Global, name: &str, operand: &str) -> Result<Vec<u128>, Fault> 
             Ok(vec![in alloc; u128::from(quadword)]?)
         }
         "from_quadword" => images_of(alloc, ByteMatrix::from_quadword(word(operand)?)),
-        "scaling_matrix" => images_of(alloc, element::<Rijndael8b>(operand)?.scaling_matrix()),
+        "scaling_matrix" => images_of(alloc, element(operand)?.scaling_matrix()),
         "frobenius_orbit" => orbit(alloc, element(operand)?),
         "to_matrix" => images_of(alloc, polynomial(alloc, operand)?.to_matrix()),
         _ => Err(Fault::Line),
@@ -42,31 +42,26 @@ fn of_two(alloc: Global, name: &str, left: &str, right: &str) -> Result<Vec<u128
     }
 }
 
-/// The eight elements that a list writes.
-fn eight(alloc: Global, list: &str) -> Result<[Rijndael8b; 8], Fault> {
-    let listed: Vec<Rijndael8b> = elements(alloc, list)?;
-    let eight: &[Rijndael8b; 8] = listed.as_slice().try_into().ok().ok_or(Fault::Line)?;
+/// The element whose representation a word writes.
+fn element(word: &str) -> Result<Rijndael8b, Fault> {
+    Ok(Rijndael8b::from_byte(byte(word)?))
+}
+
+/// The eight bytes that a list writes.
+fn eight(alloc: Global, list: &str) -> Result<[u8; 8], Fault> {
+    let listed = bytes(alloc, list)?;
+    let eight: &[u8; 8] = listed.as_slice().try_into().ok().ok_or(Fault::Line)?;
     Ok(*eight)
 }
 
 /// The matrix whose images a list writes.
 fn matrix(alloc: Global, images: &str) -> Result<ByteMatrix, Fault> {
-    let [a, b, c, d, e, f, g, h] = eight(alloc, images)?;
-    Ok(ByteMatrix::from_images([
-        a.to_byte(),
-        b.to_byte(),
-        c.to_byte(),
-        d.to_byte(),
-        e.to_byte(),
-        f.to_byte(),
-        g.to_byte(),
-        h.to_byte(),
-    ]))
+    Ok(ByteMatrix::from_images(eight(alloc, images)?))
 }
 
 /// The linearized polynomial whose coefficients a list writes.
 fn polynomial(alloc: Global, coefficients: &str) -> Result<LinearizedPoly8b, Fault> {
-    Ok(LinearizedPoly8b::new(eight(alloc, coefficients)?))
+    Ok(LinearizedPoly8b::new(eight(alloc, coefficients)?.map(Rijndael8b::from_byte)))
 }
 
 /// The images of a matrix.
@@ -79,12 +74,8 @@ fn images_of(alloc: Global, matrix: ByteMatrix) -> Result<Vec<u128>, Fault> {
 }
 
 /// What a matrix makes of the bytes that a list writes.
-fn applied(alloc: Global, matrix: ByteMatrix, bytes: &str) -> Result<Vec<u128>, Fault> {
-    let listed: Vec<Rijndael8b> = elements(alloc, bytes)?;
-    let mut bytes = Vec::new(alloc);
-    for element in listed.as_slice() {
-        bytes.push(element.to_byte())?;
-    }
+fn applied(alloc: Global, matrix: ByteMatrix, list: &str) -> Result<Vec<u128>, Fault> {
+    let mut bytes = bytes(alloc, list)?;
     matrix.apply_slice(bytes.as_mut_slice());
     let mut answer = Vec::new(alloc);
     for byte in bytes.as_slice() {

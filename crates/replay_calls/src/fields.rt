@@ -1,15 +1,15 @@
-// The calls of a field.
+// The calls of a field, at two fields: what is generic in the width is the same code at every other.
 use crate::fault::Fault;
-use crate::reading::{count, element, elements, number_of};
+use crate::reading::{count, element, elements, number_of, numbers};
 use crate::streams;
 use field_base::traits::TowerLevel;
-use field_base::{Gf2, LevelKernel, Unsigned};
+use field_base::{LevelKernel, Unsigned};
 use field_bytes::{LittleEndian, RawDataSerializable};
 use field_element::{Element, Ghash128, HasPacking};
 use std::alloc::Global;
 use std::fmt::Display;
-use word_polynomial::{GhashKernel, Poly64Kernel, RijndaelKernel};
-use word_tower::{Bits2, Bits4, Bits8, Bits16, Bits32, Bits64, Bits128, Level, Tower};
+use word_polynomial::GhashKernel;
+use word_tower::{Bits16, Tower};
 
 /// What a call of a field is of.
 #[derive(Clone, Copy)]
@@ -28,28 +28,10 @@ pub(crate) fn answer(
     call: &[&str],
 ) -> Result<Vec<u128>, Fault> {
     match field {
-        "gf2" => field_call::<Gf2>(alloc, asked, call),
-        "t2" => level_call::<u8, Bits2>(alloc, asked, call),
-        "t4" => level_call::<u8, Bits4>(alloc, asked, call),
-        "t8" => level_call::<u8, Bits8>(alloc, asked, call),
-        "t16" => level_call::<u16, Bits16>(alloc, asked, call),
-        "t32" => level_call::<u32, Bits32>(alloc, asked, call),
-        "t64" => level_call::<u64, Bits64>(alloc, asked, call),
-        "t128" => level_call::<u128, Bits128>(alloc, asked, call),
-        "r8" => kernel_call::<u8, RijndaelKernel>(alloc, asked, call),
-        "p64" => kernel_call::<u64, Poly64Kernel>(alloc, asked, call),
+        "t16" => kernel_call::<u16, Tower<Bits16>>(alloc, asked, call),
         "g128" => kernel_call::<u128, GhashKernel>(alloc, asked, call),
         _ => Err(Fault::Line),
     }
-}
-
-/// The answer to a call of a level of the tower.
-fn level_call<R: Unsigned + LittleEndian, L: Level<R>>(
-    alloc: Global,
-    asked: Asked,
-    call: &[&str],
-) -> Result<Vec<u128>, Fault> {
-    kernel_call::<R, Tower<L>>(alloc, asked, call)
 }
 
 /// The answer to a call of the field of a kernel.
@@ -115,7 +97,10 @@ pub(crate) fn value_at_x(alloc: Global, call: &[&str]) -> Result<Vec<u128>, Faul
     let [list] = *call else {
         return Err(Fault::Line);
     };
-    let values: Vec<Ghash128> = elements(alloc, list)?;
+    let mut values = Vec::new(alloc);
+    for value in numbers(alloc, list)? {
+        values.push(Ghash128::new(value))?;
+    }
     if values.len() <= 128 {
         Ok(vec![in alloc; Ghash128::dot_powers_of_x(values.as_slice()).to_bits()]?)
     } else {

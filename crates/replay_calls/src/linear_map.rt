@@ -1,8 +1,7 @@
 // A linear map at many elements.
 use crate::fault::Fault;
-use crate::reading::{count, elements, word};
-use field_base::traits::{PrimeCharacteristicRing, TowerLevel};
-use field_element::{BinaryField128, Ghash128};
+use crate::reading::{count, numbers, word};
+use field_element::{BinaryField128, Ghash128, element_of_word};
 use std::alloc::Global;
 
 /// The next word of splitmix64 (Steele, Lea and Flood 2014).
@@ -21,7 +20,7 @@ fn drawn(alloc: Global, seed: u64, len: usize) -> Result<Vec<BinaryField128>, Fa
     for _ in 0..len {
         let low = u128::from(next_word(&mut state));
         let high = u128::from(next_word(&mut state));
-        elements.push(BinaryField128::from_repr(high << 64 | low))?;
+        elements.push(element_of_word(high << 64 | low))?;
     }
     Ok(elements)
 }
@@ -31,11 +30,12 @@ pub(crate) fn sample(alloc: Global, call: &[&str]) -> Result<Vec<u128>, Fault> {
     let [images, seed, len] = *call else {
         return Err(Fault::Line);
     };
-    let images: Vec<Ghash128> = elements(alloc, images)?;
-    let images: &[Ghash128; 128] = images.as_slice().try_into().ok().ok_or(Fault::Line)?;
+    let images = numbers(alloc, images)?;
+    let images: &[u128; 128] = images.as_slice().try_into().ok().ok_or(Fault::Line)?;
+    let images = (*images).map(Ghash128::new);
     let input = drawn(alloc, word(seed)?, count(len)?)?;
-    let mut results = Ghash128::zero_vec(alloc, input.len())?;
-    if !Ghash128::try_apply_linear_map_into(images, input.as_slice(), results.as_mut_slice()) {
+    let mut results = vec![in alloc; Ghash128::new(0); input.len()]?;
+    if !Ghash128::try_apply_linear_map_into(&images, input.as_slice(), results.as_mut_slice()) {
         return Err(Fault::Line);
     }
     let mut answer = Vec::new(alloc);

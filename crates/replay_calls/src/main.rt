@@ -6,18 +6,18 @@
 //!
 //! | Line | Answer |
 //! |---|---|
-//! | `t8 mul_alpha 53`, `t8 dot_product 1,2 3,4` | what a call of a field gives |
-//! | `p64/t8 sums 1 2`, `p64/t8 products 1 2` | what the operators of a field give with an element of a level on the right |
+//! | `t16 mul_alpha 53`, `g128 dot_product 1,2 3,4` | what a call of a field gives |
+//! | `g128/t8 sums 1 2`, `g128/t8 products 1 2` | what the operators of a field give with an element of a level on the right |
 //! | `dot_powers_of_x 1,2,3`, `to_tower_64 13` | what a function of one type gives |
 //! | `butterfly_forward 2 1,2 3,4`, `low_stages 1,2,3,4 5,6,7 0 -` | the slices that a function changes, one after the other |
 //! | `streams/t16 u32 102,304,506`, `streams/t16 text 13` | the items of a stream of elements, or the bytes of their text |
 //! | `t32/t8 coefficients 4030201`, `t32/t8 frobenius 4030201 2` | what a view over a smaller level gives |
-//! | `transpose 8 1,2,3,4,5,6,7,8`, `parts 10 8 201` | rows of bits by their words, as rows of so many bits are changed or cut |
+//! | `transpose 8 1,2,3,4,5,6,7,8`, `parts 80 8 201,0` | rows of bits by their words, as rows of so many bits are changed or cut |
 //! | `ghash_lanes mul 1,2,3,4 5,6,7,8` | the lanes of packings |
 //! | `compose 1,2,..,80 1,2,..,80`, `eval 1,0,0,0,0,0,0,0 53` | the images of a matrix of bits, or a value of a polynomial |
 //!
-//! The file `stdout` has the crate's answers to the calls of `stdin`, which were drawn from the seed 20261122.
-//! scripts/make_vectors.py writes both.
+//! The file `stdout` has the crate's answers to the calls of `stdin`, which were drawn from the seed 20261122, and before them worked
+//! rows. scripts/make_vectors.py writes both.
 #![tactic(auto)]
 
 mod basis;

@@ -1,6 +1,6 @@
 // Packings: sixteen bytes of AES, and four elements of the field of GHASH.
 use crate::fault::Fault;
-use crate::reading::{elements, word};
+use crate::reading::{bytes, numbers, word};
 use field_aes::{ByteLanes, ByteMatrix, RijndaelMaps};
 use field_base::traits::PrimeCharacteristicRing;
 use field_element::{Ghash128, PackedGhash128, PackedRijndael8b, Rijndael8b};
@@ -32,33 +32,29 @@ pub(crate) fn computed(alloc: Global, name: &str, call: &[&str]) -> Result<Vec<u
 
 /// The packing of the sixteen lanes that a list writes.
 fn sixteen(alloc: Global, list: &str) -> Result<PackedRijndael8b<16>, Fault> {
-    let listed: Vec<Rijndael8b> = elements(alloc, list)?;
-    let lanes: &[Rijndael8b; 16] = listed.as_slice().try_into().ok().ok_or(Fault::Line)?;
-    Ok(PackedRijndael8b::<16>::from_slice(lanes))
+    let listed = bytes(alloc, list)?;
+    let lanes: &[u8; 16] = listed.as_slice().try_into().ok().ok_or(Fault::Line)?;
+    Ok(PackedRijndael8b::<16>::from_slice(&(*lanes).map(Rijndael8b::from_byte)))
 }
 
 /// The packing of the four lanes that a list writes.
 fn four(alloc: Global, list: &str) -> Result<PackedGhash128, Fault> {
-    let listed: Vec<Ghash128> = elements(alloc, list)?;
-    let lanes: &[Ghash128; 4] = listed.as_slice().try_into().ok().ok_or(Fault::Line)?;
-    Ok(PackedGhash128::from_slice(lanes))
+    let listed = numbers(alloc, list)?;
+    let lanes: &[u128; 4] = listed.as_slice().try_into().ok().ok_or(Fault::Line)?;
+    Ok(PackedGhash128::from_slice(&(*lanes).map(Ghash128::new)))
 }
 
 fn shown_sixteen(alloc: Global, packing: PackedRijndael8b<16>) -> Result<Vec<u128>, Fault> {
-    let mut lanes = [Rijndael8b::ZERO; 16];
-    packing.copy_to_slice(&mut lanes);
     let mut answer = Vec::new(alloc);
-    for lane in lanes.as_slice() {
+    for lane in packing.as_slice() {
         answer.push(u128::from(lane.to_byte()))?;
     }
     Ok(answer)
 }
 
 fn shown_four(alloc: Global, packing: PackedGhash128) -> Result<Vec<u128>, Fault> {
-    let mut lanes = [Ghash128::ZERO; 4];
-    packing.copy_to_slice(&mut lanes);
     let mut answer = Vec::new(alloc);
-    for lane in lanes.as_slice() {
+    for lane in packing.as_slice() {
         answer.push(lane.to_bits())?;
     }
     Ok(answer)

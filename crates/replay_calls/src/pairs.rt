@@ -1,50 +1,25 @@
-// Two fields, one of which has the other inside: the operators of the two fields of polynomials with an element of a level of
-// the tower on the right, and levels as vectors over the levels inside them.
+// Two fields, one of which has the other inside: the operators of a field of polynomials with an element of a level of the tower on
+// the right, and levels as vectors over the levels inside them, at a few pairs: the code is the same at every other.
 use crate::fault::Fault;
 use crate::reading::{count, element, number_of};
 use field_base::Unsigned;
 use field_base::traits::{Algebra, TowerLevel};
-use field_element::{
-    BinaryField16, BinaryField32, BinaryField64, BinaryField128, Element, Ghash128, Poly64,
-};
+use field_element::{BinaryField32, BinaryField128, Element, Ghash128};
 use field_space::{BasedVectorSpace, CoefficientsOf, ExtensionField, HasFrobenius};
 use std::alloc::Global;
-use word_polynomial::{EmbedsIn, GhashKernel, Poly64Kernel};
-use word_tower::{Bits2, Bits8, Bits16, Bits32, Bits64, Bits128, Tower};
+use word_polynomial::{EmbedsIn, GhashKernel};
+use word_tower::{Bits2, Bits8, Bits16, Bits32, Bits128, Tower};
 
 /// The answer to a call of two fields, whose names the call's has with a stroke between them.
 pub(crate) fn answer(alloc: Global, name: &str, call: &[&str]) -> Result<Vec<u128>, Fault> {
     match name {
-        "p64/t8" => over_poly64::<u8, Bits8>(alloc, call),
-        "p64/t16" => over_poly64::<u16, Bits16>(alloc, call),
-        "p64/t32" => over_poly64::<u32, Bits32>(alloc, call),
-        "p64/t64" => over_poly64::<u64, Bits64>(alloc, call),
         "g128/t8" => over_ghash::<u8, Bits8>(alloc, call),
-        "g128/t16" => over_ghash::<u16, Bits16>(alloc, call),
-        "g128/t32" => over_ghash::<u32, Bits32>(alloc, call),
-        "g128/t64" => over_ghash::<u64, Bits64>(alloc, call),
         "g128/t128" => over_ghash::<u128, Bits128>(alloc, call),
-        "t16/t8" => over_16::<u8, Bits8>(alloc, call),
         "t32/t8" => over_32::<u8, Bits8>(alloc, call),
         "t32/t16" => over_32::<u16, Bits16>(alloc, call),
-        "t64/t8" => over_64::<u8, Bits8>(alloc, call),
-        "t64/t16" => over_64::<u16, Bits16>(alloc, call),
-        "t64/t32" => over_64::<u32, Bits32>(alloc, call),
-        "t128/t8" => over_128::<u8, Bits8>(alloc, call),
-        "t128/t16" => over_128::<u16, Bits16>(alloc, call),
-        "t128/t32" => over_128::<u32, Bits32>(alloc, call),
-        "t128/t64" => over_128::<u64, Bits64>(alloc, call),
         "t128/t2" => over_128::<u8, Bits2>(alloc, call),
         _ => Err(Fault::Line),
     }
-}
-
-/// The sums or the products of an element of `Poly64` and one of a level.
-fn over_poly64<S: Unsigned, L: EmbedsIn<u64, Poly64Kernel, S>>(
-    alloc: Global,
-    call: &[&str],
-) -> Result<Vec<u128>, Fault> {
-    algebra_call::<Poly64, Element<S, Tower<L>>>(alloc, call)
 }
 
 /// The sums or the products of an element of `Ghash128` and one of a level.
@@ -55,28 +30,12 @@ fn over_ghash<S: Unsigned, L: EmbedsIn<u128, GhashKernel, S>>(
     algebra_call::<Ghash128, Element<S, Tower<L>>>(alloc, call)
 }
 
-/// What a view of an element of 16 bits gives.
-fn over_16<S: Unsigned, J: CoefficientsOf<u16, Bits16, S>>(
-    alloc: Global,
-    call: &[&str],
-) -> Result<Vec<u128>, Fault> {
-    view_call::<BinaryField16, Element<S, Tower<J>>>(alloc, call)
-}
-
 /// What a view of an element of 32 bits gives.
 fn over_32<S: Unsigned, J: CoefficientsOf<u32, Bits32, S>>(
     alloc: Global,
     call: &[&str],
 ) -> Result<Vec<u128>, Fault> {
     view_call::<BinaryField32, Element<S, Tower<J>>>(alloc, call)
-}
-
-/// What a view of an element of 64 bits gives.
-fn over_64<S: Unsigned, J: CoefficientsOf<u64, Bits64, S>>(
-    alloc: Global,
-    call: &[&str],
-) -> Result<Vec<u128>, Fault> {
-    view_call::<BinaryField64, Element<S, Tower<J>>>(alloc, call)
 }
 
 /// What a view of an element of 128 bits gives.

@@ -14,6 +14,11 @@ pub(crate) fn word(word: &str) -> Result<u64, Fault> {
     u64::from_str_radix(word, 16).ok().ok_or(Fault::Line)
 }
 
+/// The byte that a word writes.
+pub(crate) fn byte(word: &str) -> Result<u8, Fault> {
+    u8::from_str_radix(word, 16).ok().ok_or(Fault::Line)
+}
+
 /// The place or the count that a word writes.
 pub(crate) fn count(word: &str) -> Result<usize, Fault> {
     usize::from_str_radix(word, 16).ok().ok_or(Fault::Line)
@@ -44,4 +49,26 @@ pub(crate) fn elements<F: TowerLevel>(alloc: Global, list: &str) -> Result<Vec<F
         }
     }
     Ok(elements)
+}
+
+/// The numbers that a list writes.
+pub(crate) fn numbers(alloc: Global, list: &str) -> Result<Vec<u128>, Fault> {
+    let mut numbers = Vec::new(alloc);
+    if list != "-" {
+        for word in list.split(',') {
+            numbers.push(number(word)?)?;
+        }
+    }
+    Ok(numbers)
+}
+
+/// The bytes that a list writes.
+pub(crate) fn bytes(alloc: Global, list: &str) -> Result<Vec<u8>, Fault> {
+    let mut bytes = Vec::new(alloc);
+    if list != "-" {
+        for word in list.split(',') {
+            bytes.push(byte(word)?)?;
+        }
+    }
+    Ok(bytes)
 }

@@ -1,6 +1,6 @@
 // Slices over the field of GHASH: products by a scalar, butterflies, and the low stages of a transform.
 use crate::fault::Fault;
-use crate::reading::{count, number};
+use crate::reading::{count, number, numbers};
 use std::alloc::Global;
 use transform_slices::{LowStageTwiddles, butterfly_forward, butterfly_inverse, mul_slice};
 
@@ -18,17 +18,6 @@ pub(crate) fn changed(alloc: Global, name: &str, operands: &[&str]) -> Result<Ve
         }
         _ => Err(Fault::Line),
     }
-}
-
-/// The numbers that a list writes.
-fn numbers(alloc: Global, list: &str) -> Result<Vec<u128>, Fault> {
-    let mut numbers = Vec::new(alloc);
-    if list != "-" {
-        for word in list.split(',') {
-            numbers.push(number(word)?)?;
-        }
-    }
-    Ok(numbers)
 }
 
 /// Both slices after a butterfly, the low one first. They have to be of one length.

@@ -1,4 +1,4 @@
-//! Tests of packings of elements, of packed bits, and of rings by their traits alone. The crate has nothing to call.
+//! Tests of packings of elements, of packed bits, and of vectors of zeros. The crate has nothing to call.
 #![tactic(auto)]
 
 #[cfg(test)]

@@ -1,3 +1,3 @@
 mod bits;
 mod packings;
-mod rings;
+mod zeros;

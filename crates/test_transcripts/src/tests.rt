@@ -1,2 +1,3 @@
 mod byte_challengers;
 mod challengers;
+mod doubles;

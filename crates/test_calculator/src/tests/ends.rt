@@ -1,4 +1,4 @@
-// Readers and writers that give and take little, and fail.
+// Doubles: readers and writers that give and take little, and fail.
 ghost use Rattle.std.specs.Prelude.{◌≡◌, IsErr};
 ghost use Rattle.calculator.specs.Watched.{reads_left};
 

@@ -1,4 +1,4 @@
-// The texts of a fault.
+// Printed text: that of a fault.
 use calculator::RunError;
 use std::alloc::{AllocError, Global};
 use std::test::Fail;

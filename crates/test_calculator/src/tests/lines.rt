@@ -1,4 +1,5 @@
-// Lines and their answers, each asked of the line alone and of a run over memory.
+// Worked rows and outside vectors: lines and their answers, each asked of the line alone and of a run over memory; and hostile lines of
+// one byte.
 ghost use Rattle.std.specs.Prelude.{◌≡◌, IfOk};
 ghost use Rattle.calculator.specs.Lines.{answers};
 
@@ -7,7 +8,7 @@ use std::alloc::{AllocError, Global};
 use std::test::Fail;
 
 /// Lines and their answers.
-static LINES: [&[u8]; 102] = [
+static LINES: [&[u8]; 124] = [
     // The order of the errors, the spaces and the case of the digits. The products follow by hand from the square of the root
     // that a level adjoins, as 10 times 10 at 8 bits is 41.
     b"t8 mul 10 10 = 41",
@@ -117,6 +118,29 @@ static LINES: [&[u8]; 102] = [
     b"p192 inv 00000000000000000000000000000001000000000000000g = error 4",
     b"p192 div 000000000000000000000000000000010000000000000000 = error 2",
     b"P192 inv 000000000000000000000000000000010000000000000000 = error 1",
+    // More worked rows: products, squares, roots and inverses of high powers, and 0, which has no inverse in any field.
+    b"t8 mul 13 13 = 43",
+    b"t8 mul 00 13 = 00",
+    b"t8 mul 00 01 = 00",
+    b"t8 square 0c = 0e",
+    b"t8 add 0e 0c = 02",
+    b"t128 mul 00000000000000010000000000000000 00000000000000010000000000000000 = 00000001000000000000000000000001",
+    b"t64 mul 0000000100000000 0000000100000000 = 0001000000000001",
+    b"t16 inv 0100 = 0110",
+    b"t16 sqrt 1001 = 0100",
+    b"t32 inv 00010000 = 00010100",
+    b"r8 mul 57 13 = fe",
+    b"r8 inv 02 = 8d",
+    b"p64 square 8000000000000000 = c00000000000005a",
+    b"p64 square ffffffffffffffff = 5555555555555513",
+    b"g128 square 80000000000000000000000000000000 = c0000000000000000000000000001067",
+    b"g128 square ffffffffffffffffffffffffffffffff = 5555555555555555555555555555402f",
+    b"t2 inv 00 = none",
+    b"t4 inv 00 = none",
+    b"t16 inv 0000 = none",
+    b"t64 inv 0000000000000000 = none",
+    b"t128 inv 00000000000000000000000000000000 = none",
+    b"r8 inv 00 = none",
     // A line that is no text is refused before all else, and one that is text is not.
     b"t8 mul 10 10 \xc3 = error 6",
     b"t8 mul 10 10 \xc3\xa9 = error 3",

@@ -1,4 +1,4 @@
-// Runs over heaps of a given size.
+// Success where there is memory, and refusals where there is not: runs over heaps of a given size.
 use super::ends::{Sink, Source, run_over};
 use linked_list_allocator::LocalHeap;
 use std::test::Fail;

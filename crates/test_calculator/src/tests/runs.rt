@@ -1,4 +1,5 @@
-// Runs over readers and writers that give and take little, and fail.
+// Doubles that fail: runs over readers and writers that give and take little, and fail, many of them in worked rows. That a flush is
+// passed on, the contract of `Watched` lets through.
 use super::ends::{Sink, Source, run_over};
 use calculator::Watched;
 use std::alloc::Global;

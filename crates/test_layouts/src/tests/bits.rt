@@ -1,6 +1,4 @@
 mod closures;
 mod memory;
-mod parts;
 mod rows;
-mod squares;
 mod text;

@@ -1,10 +1,10 @@
 mod calls;
-mod challengers;
-mod doubles;
 mod grinding;
 mod hashed;
 mod lengths;
 mod many_calls;
 mod memory;
+mod refusals;
 mod scripts;
-mod texts;
+mod seeds;
+mod single_calls;

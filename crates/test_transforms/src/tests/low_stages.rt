@@ -1,98 +1,17 @@
-// The low stages against worked rows, and against the values of polynomials at their points.
-use super::drawn::{fill, next_number};
+// Worked rows of the low stages, and twiddles where there is memory, and refused where there is not.
 use field_base::traits::TowerLevel;
 use field_element::Ghash128;
 use linked_list_allocator::LocalHeap;
-use std::alloc::{AllocError, Allocator};
 use std::test::Fail;
-use transform_slices::{LOW_STAGES, LowStageTwiddles, mul, square};
+use transform_slices::{LOW_STAGES, LowStageTwiddles};
 
-// s_j(x) for j from 0 to 3: x, and each the square of the one before and that.
-fn subspace_values(x: u128) -> [u128; 4] {
-    let first = square(x) ^ x;
-    let second = square(first) ^ first;
-    [x, first, second, square(second) ^ second]
-}
-
-// The value at x by Horner's rule: of sixteen coefficients those with bit 3 are taken s_3(x) times, and so on down.
-fn value_at(coefficients: &[u128; 16], x: u128) -> u128 {
-    let values = subspace_values(x);
-    let mut sums = *coefficients;
-    for place in 0..8 {
-        sums[place] ^= mul(values[3], sums[place + 8]);
-    }
-    for place in 0..4 {
-        sums[place] ^= mul(values[2], sums[place + 4]);
-    }
-    for place in 0..2 {
-        sums[place] ^= mul(values[1], sums[place + 2]);
-    }
-    sums[0] ^ mul(values[0], sums[1])
-}
-
-// Cantor vectors 1 to 10.
-fn basis() -> [u128; 10] {
-    let mut basis = [0; 10];
-    for place in 0..10 {
+// Cantor vectors 1 to 3.
+fn basis() -> [u128; 3] {
+    let mut basis = [0; 3];
+    for place in 0..3 {
         basis[place] = Ghash128::cantor_basis(place + 1).to_bits();
     }
     basis
-}
-
-// z, and the Cantor vectors at the set bits of a place below 2^11.
-fn point(z: u128, place: usize) -> u128 {
-    let mut point = z;
-    for bit in 0..11 {
-        if place >> bit & 1 == 1 {
-            point ^= Ghash128::cantor_basis(bit).to_bits();
-        }
-    }
-    point
-}
-
-// Whether each place of a run holds the value of the polynomial at its point.
-fn run_is(values: &[u128], coefficients: &[u128], z: u128, number: usize) -> bool {
-    if values.len() != 16 || coefficients.len() != 16 || number > 127 {
-        return false;
-    }
-    let mut kept = [0; 16];
-    kept.copy_from_slice(coefficients);
-    for place in 0..16 {
-        if values[place] != value_at(&kept, point(z, 16 * number + place)) {
-            return false;
-        }
-    }
-    true
-}
-
-// Whether three drawn runs hold the values of polynomials after the stages, the first of them being run `first_run`.
-fn runs_are<A: Allocator>(alloc: A, z: u128, first_run: usize) -> Result<bool, AllocError> {
-    let twiddles = LowStageTwiddles::new(alloc, &subspace_values(z), &basis())?;
-    let mut values = [0; 48];
-    fill(&mut values, 4);
-    let before = values;
-    if first_run > 125 {
-        return Ok(false);
-    }
-    twiddles.forward(&mut values, first_run);
-    Ok(
-        run_is(&values[..16], &before[..16], z, first_run)
-            && run_is(&values[16..32], &before[16..32], z, first_run + 1)
-            && run_is(&values[32..], &before[32..], z, first_run + 2),
-    )
-}
-
-static FIRST_RUNS: [usize; 6] = [0, 1, 6, 47, 100, 125];
-
-#[test]
-fn places_hold_values_of_polynomials(rt: HostRuntime) -> Result<(), Fail> {
-    let mut state = 5;
-    for first_run in FIRST_RUNS.iter() {
-        let z = next_number(&mut state);
-        let holds = runs_are(rt.alloc(), z, *first_run)?;
-        assert!(rt; holds, "first run {first_run}");
-    }
-    Ok(())
 }
 
 // Whether place p holds p, counted from a place on.
@@ -119,7 +38,7 @@ fn ones_at(place: usize) -> [u128; 64] {
 }
 
 #[test]
-fn twiddles_by_hand(rt: HostRuntime) -> Result<(), Fail> {
+fn runs_of_given_twiddles(rt: HostRuntime) -> Result<(), Fail> {
     let twiddles = LowStageTwiddles::new(rt.alloc(), &[0; 4], &[2, 4, 8, 16, 32])?;
     let mut one_run = [0; 16];
     one_run[1] = 1;
@@ -143,7 +62,7 @@ fn twiddles_by_hand(rt: HostRuntime) -> Result<(), Fail> {
 }
 
 #[test]
-fn coefficient_of_the_highest_factor(rt: HostRuntime) -> Result<(), Fail> {
+fn a_run_of_cantor_twiddles(rt: HostRuntime) -> Result<(), Fail> {
     let twiddles = LowStageTwiddles::new(rt.alloc(), &[0; 4], &basis())?;
     let mut values = [0; 16];
     values[8] = 1;
@@ -153,7 +72,7 @@ fn coefficient_of_the_highest_factor(rt: HostRuntime) -> Result<(), Fail> {
 }
 
 #[test]
-fn twiddles_granted_and_refused(rt: HostRuntime) -> Result<(), Fail> {
+fn twiddles_are_granted_or_refused(rt: HostRuntime) -> Result<(), Fail> {
     let large = LocalHeap::new(rt.alloc(), 1024)?;
     let small = LocalHeap::new(rt.alloc(), 32)?;
     let granted = LowStageTwiddles::new(&large, &[1, 2, 3, 4, 5], &[2, 4, 8]).is_ok();

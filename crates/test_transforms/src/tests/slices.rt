@@ -1,6 +1,6 @@
-// Slices against the scalar operations, of every length from 0 to 40 and of 257.
+// Products and butterflies of slices against the scalar operations, of every length from 0 to 40 and of 257, and worked rows.
 use super::drawn::fill;
-use transform_slices::{butterfly_forward, butterfly_inverse, mul, mul_slice};
+use transform_slices::{butterfly_forward, butterfly_inverse, mul, mul_slice, square};
 
 static SCALARS: [u128; 6] = [
     0,
@@ -69,6 +69,17 @@ fn slices_are_scalar_operations(rt: HostRuntime) {
     }
 }
 
+// Worked rows.
+#[test]
+fn products_and_squares_of_high_powers(rt: HostRuntime) {
+    assert!(rt;
+        mul(1 << 127, 2) == 0x87
+            && square(1 << 127) == 0xc000_0000_0000_0000_0000_0000_0000_1067
+            && square(u128::MAX) == 0x5555_5555_5555_5555_5555_5555_5555_402f
+    );
+}
+
+// A worked row.
 #[test]
 fn butterflies_of_one_pair(rt: HostRuntime) {
     let (mut lo, mut hi) = ([5], [3]);
@@ -78,8 +89,9 @@ fn butterflies_of_one_pair(rt: HostRuntime) {
     assert!(rt; forward && lo == [5] && hi == [3]);
 }
 
+// Worked rows.
 #[test]
-fn products_of_the_highest_power(rt: HostRuntime) {
+fn products_of_slices_of_high_powers(rt: HostRuntime) {
     let mut values = [1 << 127; 17];
     mul_slice(&mut values[..0], 2);
     let none = values == [1 << 127; 17];
@@ -87,4 +99,7 @@ fn products_of_the_highest_power(rt: HostRuntime) {
     let one = values[0] == 0x87 && values[1] == 1 << 127;
     mul_slice(&mut values[1..], 2);
     assert!(rt; none && one && values == [0x87; 17]);
+    let mut ones = [u128::MAX; 5];
+    mul_slice(&mut ones, u128::MAX);
+    assert!(rt; ones == [0x5555_5555_5555_5555_5555_5555_5555_402f; 5]);
 }

@@ -1,6 +1,7 @@
-// The whole transform against worked rows and against the values of polynomials at its points, and its inverse.
+// The whole transform: worked rows, the values of polynomials at its points, and its inverse, where there is memory and where there is
+// not.
 use super::drawn::{fill, next_number};
-use field_base::traits::{PrimeCharacteristicRing, TowerLevel};
+use field_base::traits::TowerLevel;
 use field_element::Ghash128;
 use linked_list_allocator::LocalHeap;
 use std::alloc::{AllocError, Allocator, Global};
@@ -97,6 +98,7 @@ fn row_holds(alloc: Global, row: &Row) -> Result<bool, AllocError> {
     Ok(runs && products == row.pairs && eights_are(values, row.values))
 }
 
+// Worked rows.
 #[test]
 fn rows_of_the_transform(rt: HostRuntime) -> Result<(), Fail> {
     for row in ROWS.iter() {
@@ -171,47 +173,16 @@ fn transforms_agree(alloc: Global) -> Result<bool, AllocError> {
     Ok(true)
 }
 
+// Up to 1,024 values, against `evaluate_cantor`.
 #[test]
 fn transforms_give_values_at_their_points(rt: HostRuntime) -> Result<(), Fail> {
     assert!(rt; transforms_agree(rt.alloc())?);
     Ok(())
 }
 
-// The coefficient times the s_j(x) at the set bits of its number, which is below 16.
-fn term(coefficient: Ghash128, number: usize, x: Ghash128) -> Ghash128 {
-    let mut term = coefficient;
-    let mut factor = x;
-    for j in 0..4_usize {
-        if number >> j & 1 == 1 {
-            term = term * factor;
-        }
-        factor = factor * factor + factor;
-    }
-    term
-}
-
-// Whether the first coefficients, for each number of them, have the sum of their terms as their value.
-fn lists_hold(coefficients: &[Ghash128], x: Ghash128) -> bool {
-    let mut sum = Ghash128::ZERO;
-    for (number, coefficient) in coefficients.iter().enumerate() {
-        if over::evaluate_cantor(&coefficients[..number], x) != sum {
-            return false;
-        }
-        sum = sum + term(*coefficient, number, x);
-    }
-    over::evaluate_cantor(coefficients, x) == sum
-}
-
+// Success where there is memory, and a refusal where there is not.
 #[test]
-fn lists_of_any_length(rt: HostRuntime) {
-    let mut drawn = [0; 16];
-    fill(&mut drawn, 12);
-    let holds = lists_hold(&drawn.map(Ghash128::new), Ghash128::new(drawn[3]));
-    assert!(rt; holds);
-}
-
-#[test]
-fn memory_of_the_transform(rt: HostRuntime) -> Result<(), Fail> {
+fn the_transform_is_granted_or_refused(rt: HostRuntime) -> Result<(), Fail> {
     let large = LocalHeap::new(rt.alloc(), 1024)?;
     let small = LocalHeap::new(rt.alloc(), 32)?;
     let mut values = [1; 16];

@@ -1,4 +1,2 @@
-mod bytes;
-mod parallel;
 mod short;
-mod streams;
+mod side_by_side;

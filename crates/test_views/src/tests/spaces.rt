@@ -1,5 +1,4 @@
+mod coefficients;
 mod generator;
+mod integers;
 mod memory;
-mod products;
-mod vectors;
-mod views;

@@ -1,3 +1,3 @@
 mod draws;
-mod numbers;
-mod texts;
+mod json;
+mod printed;

@@ -1,4 +1,4 @@
-// Rows and packed bits that are taken apart into vectors, over heaps of a given size.
+// Rows and packed bits that are taken apart into vectors where there is memory, and refused where there is not. One of them is a worked row.
 use bits_packed::{PackedGf2, PackedGf2x8, PackedGf2x16};
 use bits_rows::Divisible;
 use linked_list_allocator::LocalHeap;

@@ -1,6 +1,6 @@
 // Worked rows.
-use bits_packed::{PackedGf2x8, PackedGf2x128, PackedGf2x512};
-use bits_rows::{M128, M512, Underlier, Word};
+use bits_packed::{PackedGf2x8, PackedGf2x128};
+use bits_rows::{Divisible, M128, M512, Underlier, Word};
 use field_base::Gf2;
 use field_base::traits::TowerLevel;
 
@@ -41,7 +41,7 @@ fn interleave_by_4_is(left: u8, right: u8, first: u8, second: u8) -> bool {
     low.to_bits() == first && high.to_bits() == second
 }
 
-// Whether interleaving by all eight lanes gives the operands.
+// Whether interleaving by all eight lanes gives these results.
 fn interleave_by_8_is(left: u8, right: u8, first: u8, second: u8) -> bool {
     let (low, high) = PackedGf2x8::new(left).interleave(PackedGf2x8::new(right), 8);
     low.to_bits() == first && high.to_bits() == second
@@ -59,29 +59,28 @@ fn words_keep_their_low_bits(rt: HostRuntime) {
     assert!(rt; <u8 as Word>::from_u64(0x1234) == 0x34);
 }
 
-#[test]
-fn lanes_are_counted_across_the_words(rt: HostRuntime) {
-    let words = M512::from_words([1, 2, 4, 8, 16, 32, 64, 3]);
-    let packed = PackedGf2x512::new(words);
-    assert!(rt;
-        packed.count_ones() == 9
-            && packed.get(0).to_repr() == 1
-            && packed.get(65).to_repr() == 1
-            && packed.get(448).to_repr() == 1
-            && packed.get(447).to_repr() == 0
-    );
+// Whether the row has this part.
+fn part_is<U: Divisible<V>, V: Underlier>(row: &U, i: usize, want: V) -> bool {
+    i < <U as Divisible<V>>::RATIO && <U as Divisible<V>>::part(row, i) == want
 }
 
 #[test]
-fn sums_and_products_go_lane_by_lane(rt: HostRuntime) {
-    let (left, right) = (PackedGf2x8::new(0b0011), PackedGf2x8::new(0b0101));
-    let one = Gf2::from_repr(1);
+fn parts_of_a_block_are_pairs_of_words(rt: HostRuntime) {
+    let block = M512::from_words_fn(|i| i as u64);
     assert!(rt;
-        (left + right).to_bits() == 0b0110
-            && (left * right).to_bits() == 0b0001
-            && (left + one).to_bits() == 0b1111_1100
-            && (left * Gf2::from_repr(0)).to_bits() == 0
-            && (left / one).to_bits() == 0b0011
-            && PackedGf2x8::broadcast(one).to_bits() == 0xff
+        part_is(&block, 0, M128::from_words([0, 1])) && part_is(&block, 3, M128::from_words([6, 7]))
     );
+}
+
+// Whether a block without a set bit has these words once its first and last bytes are written.
+fn bytes_make(first: u8, last: u8, low: u64, high: u64) -> bool {
+    let mut block = M128::ZERO;
+    block.set_part(0, first);
+    block.set_part(15, last);
+    block == M128::from_words([low, high])
+}
+
+#[test]
+fn bytes_of_a_block_are_written(rt: HostRuntime) {
+    assert!(rt; bytes_make(0xff, 1, 0xff, 1 << 56));
 }

@@ -1,5 +1,5 @@
-// The text of packed bits and of blocks.
-use bits_packed::{PackedGf2x8, PackedGf2x16, PackedGf2x128};
+// The printed text of packed bits and of blocks.
+use bits_packed::{PackedGf2x8, PackedGf2x128};
 use bits_rows::M128;
 use std::alloc::Global;
 use std::fmt::Debug;
@@ -16,7 +16,6 @@ fn words_are_shown_with_all_digits(rt: HostRuntime) -> Result<(), Fail> {
     let block = M128::from_words([1, 0xff00_0000_0000_0000]);
     assert!(rt;
         shows(alloc, &PackedGf2x8::new(0x12), "PackedGf2x8(0x12)")?
-            && shows(alloc, &PackedGf2x16::new(0x0201), "PackedGf2x16(0x0201)")?
             && shows(
                 alloc,
                 &PackedGf2x128::new(block),

@@ -1,10 +1,9 @@
-// The challenger over SHA-256, against digests from outside.
+// Outside vectors: the challenger over SHA-256, against digests that Python's hashlib gives, where there is memory.
 use super::sha256::OF_NOTHING;
 use std::alloc::{AllocError, Allocator, Global};
 use std::test::Fail;
 use transcript_bytes::{
-    ByteChallenger, HashChallenger, Sha256Hasher, observe_bytes, runs_join, sample_bytes,
-    sample_u64,
+    ByteChallenger, HashChallenger, Sha256Hasher, observe_bytes, sample_bytes, sample_u64,
 };
 
 // The digest of the digest of no byte.
@@ -46,14 +45,6 @@ fn digests_are_sampled_from_their_ends(rt: HostRuntime) -> Result<(), Fail> {
     Ok(())
 }
 
-fn samples_after_observing(alloc: Global) -> Result<bool, AllocError> {
-    let mut challenger = fresh(alloc);
-    for byte in [0x61, 0x62, 0x63] {
-        challenger.observe_byte(byte)?;
-    }
-    Ok(challenger.sample_byte()? == 0xad && challenger.sample_byte()? == 0x15)
-}
-
 // The digest of the digest of no byte followed by 0x61 ends in 0xb4.
 fn observing_drops_the_output(alloc: Global) -> Result<bool, AllocError> {
     let mut challenger = fresh(alloc);
@@ -78,13 +69,8 @@ fn copies_sample_alike(alloc: Global) -> Result<bool, AllocError> {
 }
 
 #[test]
-fn observing_and_copying(rt: HostRuntime) -> Result<(), Fail> {
-    runs_join::<HashChallenger<Sha256Hasher>>();
-    assert!(rt;
-        samples_after_observing(rt.alloc())?
-            && observing_drops_the_output(rt.alloc())?
-            && copies_sample_alike(rt.alloc())?
-    );
+fn observing_drops_the_output_and_copies_sample_alike(rt: HostRuntime) -> Result<(), Fail> {
+    assert!(rt; observing_drops_the_output(rt.alloc())? && copies_sample_alike(rt.alloc())?);
     Ok(())
 }
 
@@ -116,7 +102,7 @@ fn several_at_once(alloc: Global) -> Result<bool, AllocError> {
 }
 
 #[test]
-fn mixed_calls_and_several_at_once(rt: HostRuntime) -> Result<(), Fail> {
+fn calls_are_mixed_and_made_together(rt: HostRuntime) -> Result<(), Fail> {
     assert!(rt; mixed_calls_are_as_wanted(rt.alloc())? && several_at_once(rt.alloc())?);
     Ok(())
 }
@@ -150,7 +136,7 @@ fn samples_of_all_lengths(alloc: Global) -> Result<u32, AllocError> {
 
 // The number is of Python's hashlib.
 #[test]
-fn initial_states_of_all_lengths(rt: HostRuntime) -> Result<(), Fail> {
+fn initial_states_of_all_lengths_are_sampled(rt: HostRuntime) -> Result<(), Fail> {
     assert!(rt; samples_of_all_lengths(rt.alloc())? == 0x67aae910);
     Ok(())
 }

@@ -1,4 +1,4 @@
-// SHA-256 against the examples that NIST publishes with FIPS 180-4, and against the digest of no byte.
+// Outside vectors: SHA-256 against the examples that NIST publishes with FIPS 180-4, and against the digest of no byte.
 use transcript_bytes::{ByteHasher32, Sha256Hasher};
 
 /// The digest of no byte.
@@ -22,7 +22,7 @@ fn digest_is(message: &[u8], wanted: &[u8; 32]) -> bool {
 }
 
 #[test]
-fn examples_of_the_standard(rt: HostRuntime) {
+fn the_examples_of_the_standard_have_their_digests(rt: HostRuntime) {
     assert!(rt;
         digest_is(b"", &OF_NOTHING)
             && digest_is(b"abc", &OF_ABC)

@@ -1,10 +1,11 @@
-// Lists of calls.
+// Lists of calls: a worked row, success where there is memory at each length from 0 to 257 against outside vectors, and a double that
+// refuses.
 ghost use Rattle.std.specs.Prelude.{◌≤◌, All, IfOk};
 ghost use Rattle.transcript_elements.specs.Calls.{MayCall};
 
-use super::challengers::{Hashed, element, hashed};
 use super::many_calls::CALLS;
-use crate::doubles::{Copies, Double, Seen};
+use super::single_calls::{Hashed, element, hashed};
+use crate::tests::doubles::{Copies, Double, Seen};
 use field_element::{BinaryField8, BinaryField32, Element};
 use std::alloc::{AllocError, Allocator, Global};
 use std::cell::Cell;
@@ -14,7 +15,7 @@ use transcript_elements::{
     BinaryChallenger, Call, Reply, ShortWord, Transcript, TranscriptKernel, run_calls,
 };
 
-/// What `run_calls` answers, at a kernel.
+/// What `run_calls` returns, at a kernel.
 pub(crate) fn run<R: ShortWord, K: TranscriptKernel<R>, Inner: ByteChallenger, A: Allocator>(
     challenger: &mut BinaryChallenger<Element<R, K>, Inner>,
     calls: &[Call<Element<R, K>>],
@@ -135,7 +136,7 @@ fn refused_call(alloc: Global) -> bool {
 }
 
 #[test]
-fn lists_of_calls(rt: HostRuntime) -> Result<(), Fail> {
+fn lists_of_calls_are_run(rt: HostRuntime) -> Result<(), Fail> {
     assert!(rt; bits_and_element(rt.alloc()) && refused_call(rt.alloc()));
     assert!(rt; runs_of_all_lengths(rt.alloc())?);
     Ok(())

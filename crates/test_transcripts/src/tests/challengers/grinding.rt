@@ -1,10 +1,10 @@
-// Searches for witnesses: over SHA-256, over doubles that sample one byte always or refuse, and the texts of the errors.
-use super::challengers::{
+// Searches for witnesses: outside vectors over SHA-256, doubles that sample one byte always or refuse, and the texts of the errors.
+use super::scripts::SCRIPTS;
+use super::single_calls::{
     Hashed, check_witness, element, grind, grind_fails, grinds, hashed, observe, sample_bits,
     samples,
 };
-use super::scripts::SCRIPTS;
-use crate::doubles::{Copies, Double, Seen};
+use crate::tests::doubles::{Copies, Double, Seen};
 use field_base::Unsigned;
 use field_base::traits::TowerLevel;
 use field_element::{BinaryField16, Element};
@@ -15,8 +15,7 @@ use transcript_bytes::{ByteChallenger, ChallengerError, Sha256Hasher};
 use transcript_elements::{
     BinaryChallenger, ByteLevel, GrindError, ShortWord, Transcript, TranscriptKernel,
 };
-use word_polynomial::Poly64Kernel;
-use word_tower::{Bits8, Bits16, Bits32, Bits64, Bits128, Tower};
+use word_tower::{Bits16, Bits128, Tower};
 
 // An initial state as eight bytes from the lowest, the least witness of eight bits at `BinaryField16`, and the element that is
 // sampled after it, by the Rust crate p3-binary-field 0.8.0. The states were drawn by splitmix64 from the seed 7.
@@ -62,12 +61,13 @@ fn finds_each_least(alloc: Global) -> bool {
     true
 }
 
+// Outside vectors.
 #[test]
-fn least_witnesses(rt: HostRuntime) {
+fn the_least_witness_is_found(rt: HostRuntime) {
     assert!(rt; finds_each_least(rt.alloc()));
 }
 
-// Whether `sample_element` answers the element of this representation.
+// Whether `sample_element` returns the element of this representation.
 fn samples_element<F: ByteLevel, Inner: ByteChallenger>(
     challenger: &mut BinaryChallenger<F, Inner>,
     wanted: u128,
@@ -78,8 +78,8 @@ fn samples_element<F: ByteLevel, Inner: ByteChallenger>(
     }
 }
 
-// Whether the call of a row has the row's answer.
-fn answers<R: ShortWord, K: TranscriptKernel<R>, Inner: ByteChallenger>(
+// Whether the call of a row returns what the row says.
+fn call_returns<R: ShortWord, K: TranscriptKernel<R>, Inner: ByteChallenger>(
     challenger: &mut BinaryChallenger<Element<R, K>, Inner>,
     row: &[u128; 4],
 ) -> bool {
@@ -99,28 +99,25 @@ fn answers<R: ShortWord, K: TranscriptKernel<R>, Inner: ByteChallenger>(
     }
 }
 
-fn answers_script<R: ShortWord, K: TranscriptKernel<R>>(
+fn script_is_followed<R: ShortWord, K: TranscriptKernel<R>>(
     alloc: Global,
     script: &[[u128; 4]],
 ) -> bool {
     let mut challenger: Hashed<Element<R, K>> = hashed(alloc);
     for row in 0..script.len() {
-        if !answers(&mut challenger, &script[row]) {
+        if !call_returns(&mut challenger, &script[row]) {
             return false;
         }
     }
     true
 }
 
+// Outside vectors.
 #[test]
-fn scripts_of_calls(rt: HostRuntime) {
+fn scripts_of_calls_are_followed(rt: HostRuntime) {
     assert!(rt;
-        answers_script::<u8, Tower<Bits8>>(rt.alloc(), SCRIPTS[0])
-            && answers_script::<u16, Tower<Bits16>>(rt.alloc(), SCRIPTS[1])
-            && answers_script::<u32, Tower<Bits32>>(rt.alloc(), SCRIPTS[2])
-            && answers_script::<u64, Tower<Bits64>>(rt.alloc(), SCRIPTS[3])
-            && answers_script::<u128, Tower<Bits128>>(rt.alloc(), SCRIPTS[4])
-            && answers_script::<u64, Poly64Kernel>(rt.alloc(), SCRIPTS[5])
+        script_is_followed::<u16, Tower<Bits16>>(rt.alloc(), SCRIPTS[0])
+            && script_is_followed::<u128, Tower<Bits128>>(rt.alloc(), SCRIPTS[1])
     );
 }
 
@@ -141,8 +138,7 @@ fn search_is_refused(copies: Copies, observed: u32, sampled: u32) -> bool {
         && goes_on_with(&mut challenger, 0x0707)
 }
 
-// Whether a search over a double that refuses nothing has this answer after these byte calls, and the challenger then samples
-// `next`.
+// Whether a search over a double that refuses nothing returns this after these byte calls, and the challenger then samples `next`.
 fn search_gives(
     byte: u8,
     answer: Result<BinaryField16, GrindError>,
@@ -175,6 +171,7 @@ fn no_bits() -> bool {
     grinds(&mut challenger, 0, 0) && seen.get() == Seen::new(0, 0, 0) && !challenger.failed()
 }
 
+// Doubles that refuse, three of them in worked rows, and worked rows of doubles that sample one byte always.
 #[test]
 fn searches_over_doubles(rt: HostRuntime) {
     assert!(rt;
@@ -188,7 +185,7 @@ fn searches_over_doubles(rt: HostRuntime) {
     );
 }
 
-/// Whether `{}` prints `text` of the error.
+// Printed text: whether `{}` prints `text` of the error.
 fn reads(alloc: Global, error: GrindError, text: &str) -> Result<bool, AllocError> {
     let printed = format!(in alloc; "{error}")?;
     Ok(printed.as_str() == text)

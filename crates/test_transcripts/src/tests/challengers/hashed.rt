@@ -1,9 +1,7 @@
-// Challengers over SHA-256, from an empty state. The digest of no byte ends in .. 4c a4 95 99 1b 78 52 b8 55.
+// Worked rows: challengers over SHA-256, from an empty state, where there is memory. The digest of no byte ends in .. 4c a4 95 99 1b 78 52 b8 55.
 ghost use Rattle.std.specs.Prelude.{◌<◌};
 
-use super::challengers::{
-    Hashed, check_witness, element, hashed, number_of, observe, sample, sample_bits, samples,
-};
+use super::single_calls::{Hashed, element, hashed, observe, sample_bits, samples};
 use field_base::Stored;
 use field_element::{
     BinaryField8, BinaryField16, Coefficients, CubicKernel, Element, Poly64, Poly192,
@@ -21,7 +19,7 @@ fn over_8(alloc: Global) -> Hashed<BinaryField8> {
     hashed(alloc)
 }
 
-// What `sample` of an element of a space over the field answers.
+// What `sample` of an element of a space over the field returns.
 fn sample_in_space<R, K, S, J>(
     challenger: &mut Hashed<Element<S, J>>,
 ) -> Result<Element<R, K>, ChallengerError>
@@ -50,7 +48,7 @@ fn sampled_first(alloc: Global) -> Result<bool, ChallengerError> {
     )
 }
 
-// What `sample_uniform_bits` answers.
+// What `sample_uniform_bits` returns.
 fn sample_uniform_bits<F: ByteLevel>(
     challenger: &mut Hashed<F>,
     bits: usize,
@@ -100,23 +98,6 @@ fn copies_sample_alike(alloc: Global) -> bool {
     }
 }
 
-// A check of no bits reads nothing; one of eight bits is an observed element and eight samples.
-fn witnesses_checked(alloc: Global) -> Result<bool, ChallengerError> {
-    let mut challenger = over_8(alloc);
-    let none = check_witness(&mut challenger, 0, element(7))?;
-    let mut other = over_8(alloc);
-    observe(&mut other, element(7))?;
-    let low = sample_bits(&mut other, 8)?;
-    let mut third = over_8(alloc);
-    let some = check_witness(&mut third, 8, element(7))?;
-    let next = sample(&mut other)?;
-    Ok(
-        none && samples(&mut challenger, 0x55)
-            && some == (low == 0)
-            && samples(&mut third, number_of(next)),
-    )
-}
-
 // Whether an element of a space is observed as its coefficients, which have these representations, and sampled as as many.
 fn is_taken_by_coefficients<R, K, S, J>(
     alloc: Global,
@@ -151,13 +132,12 @@ fn algebra_elements(alloc: Global) -> Result<bool, ChallengerError> {
 }
 
 #[test]
-fn answers_over_sha256(rt: HostRuntime) -> Result<(), Fail> {
+fn rows_over_sha256(rt: HostRuntime) -> Result<(), Fail> {
     assert!(rt;
         sampled_first(rt.alloc()) == Ok(true)
             && bits_sampled(rt.alloc()) == Ok(true)
             && samples_after_observing(rt.alloc()) == Ok(true)
             && copies_sample_alike(rt.alloc())
-            && witnesses_checked(rt.alloc()) == Ok(true)
             && algebra_elements(rt.alloc()) == Ok(true)
     );
     Ok(())

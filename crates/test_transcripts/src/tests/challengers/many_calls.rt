@@ -1,5 +1,5 @@
-// Calls of a challenger of `BinaryField32` over SHA-256 from an empty initial state, with their answers by the Rust crate
-// p3-binary-field 0.8.0. The operands were drawn by splitmix64 from the seed 20261123. Rows are those of `scripts`.
+// Calls of a challenger of `BinaryField32` over SHA-256 from an empty initial state, with what the Rust crate
+// p3-binary-field 0.8.0 returns. The operands were drawn by splitmix64 from the seed 20261123. Rows are those of `scripts`.
 
 pub static CALLS: [[u64; 4]; 257] = [
     [1, 0, 0, 0x7852_b855],

@@ -3,8 +3,8 @@ ghost use Rattle.std.specs.Prelude.{All};
 ghost use Rattle.transcript_elements.specs.Calls.{MayCall};
 
 use super::calls::{calls_of_rows, replies_are, run};
-use super::challengers::{Hashed, element, grind_fails, number_of, sample};
-use super::texts::{encode, observe_seed};
+use super::seeds::{encode, observe_seed};
+use super::single_calls::{Hashed, element, grind_fails, number_of, sample};
 use field_element::{BinaryField8, BinaryField16, BinaryField32};
 use linked_list_allocator::LocalHeap;
 use std::alloc::{AllocError, Global};
@@ -144,7 +144,7 @@ fn runs_in_heaps(alloc: Global) -> Result<bool, AllocError> {
 }
 
 #[test]
-fn refused_growths(rt: HostRuntime) -> Result<(), Fail> {
+fn refused_growths_leave_what_was_there(rt: HostRuntime) -> Result<(), Fail> {
     let heap = LocalHeap::new(rt.alloc(), 160)?;
     assert!(rt; recorder_keeps_its_list(&heap));
     assert!(rt; encode_keeps_its_bytes(&heap)? && heap.used() == 0);

@@ -1,10 +1,8 @@
 // Iterators that end before an element is read: none comes of them, at each count of bytes below an element's.
-use field_base::Gf2;
-use field_bytes::RawDataSerializable;
-use field_element::{
-    BinaryField2, BinaryField4, BinaryField8, BinaryField16, BinaryField32, BinaryField64,
-    BinaryField128, Ghash128, Poly64, Poly192, Rijndael8b,
-};
+use field_base::{FieldKernel, Gf2};
+use field_bytes::{LittleEndian, RawDataSerializable};
+use field_element::{Coefficients, CubicKernel, Element};
+use word_tower::{Bits32, Tower};
 
 static BYTES: [u8; 24] = [
     1, 2, 3, 4, 5, 6, 7, 8, 9, 10, 11, 12, 13, 14, 15, 16, 17, 18, 19, 20, 21, 22, 23, 24,
@@ -21,20 +19,16 @@ fn needs_all<E: RawDataSerializable>() -> bool {
     E::NUM_BYTES <= 24
 }
 
+// Whether the elements of the field of a kernel need all of their bytes.
+fn elements_need_all<R: LittleEndian, K: FieldKernel<R>>() -> bool {
+    needs_all::<Element<R, K>>()
+}
+
 #[test]
-fn short_iterators(rt: HostRuntime) {
+fn short_iterators_give_no_element(rt: HostRuntime) {
     assert!(rt;
         needs_all::<Gf2>()
-            && needs_all::<BinaryField2>()
-            && needs_all::<BinaryField4>()
-            && needs_all::<BinaryField8>()
-            && needs_all::<BinaryField16>()
-            && needs_all::<BinaryField32>()
-            && needs_all::<BinaryField64>()
-            && needs_all::<BinaryField128>()
-            && needs_all::<Rijndael8b>()
-            && needs_all::<Poly64>()
-            && needs_all::<Ghash128>()
-            && needs_all::<Poly192>()
+            && elements_need_all::<u32, Tower<Bits32>>()
+            && elements_need_all::<Coefficients, CubicKernel>()
     );
 }

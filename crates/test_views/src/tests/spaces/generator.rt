@@ -1,4 +1,4 @@
-// The order of the generator: an element whose powers by the quotients of 2^192 - 1 by its primes are not 1 generates all.
+// The order of the generator of the cubic extension: an element whose powers by the quotients of 2^192 - 1 by its primes are not 1 generates all.
 use field_base::traits::{Field, PrimeCharacteristicRing};
 use field_element::Poly192;
 

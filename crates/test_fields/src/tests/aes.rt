@@ -1,3 +1,0 @@
-mod matrices;
-mod products;
-mod sbox;

@@ -1,9 +1,0 @@
-mod answers;
-mod debug;
-mod evaluate;
-mod fields;
-mod generators;
-mod polynomials;
-mod rows;
-mod tower;
-mod two_routes;

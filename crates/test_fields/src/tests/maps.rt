@@ -1,5 +1,0 @@
-mod change_of_basis;
-mod fields;
-mod linear_map;
-mod mixed_operands;
-mod numbers;

@@ -1,3 +1,0 @@
-mod memory;
-mod packing;
-mod rings;
