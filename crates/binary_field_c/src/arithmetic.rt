@@ -5,7 +5,8 @@ ghost use Rattle.std.specs.Prelude.{◌≡◌, length};
 ghost use Rattle.field_base.specs.Remainder.{aes_modulus, ghash_modulus, mul_mod, poly64_modulus};
 ghost use Rattle.field_base.specs.Tower.{tower_mul};
 ghost use Rattle.word_cubic.specs.Cubic.{cubic};
-ghost use Rattle.binary_field_c.specs.Words.{chain_product, cubic_number, itself, wide_number, EachInverse, EachProduct, EachRoot, EachSquare};
+ghost use Rattle.binary_field_c.specs.Words.{chain_product, cubic_number, itself, wide_number};
+ghost use Rattle.binary_field_c.specs.Words.{EachInverse, EachProduct, EachRoot, EachSquare};
 
 use crate::slices;
 use crate::words::{Cubic, Wide};

@@ -3,7 +3,7 @@ use Rattle.std.specs.Prelude.{◌≡◌, ℕ, suc, ◌+◌, ◌-◌, ◌/◌, �
 use Rattle.std.specs.Int.{bit_at}
 use Rattle.field_base.specs.LinearMaps.{linear_image}
 use Rattle.transform_slices.specs.LowStages.{ghash_product, values_from}
-use Rattle.transform_slices.specs.Stages.{sum_of_factors}
+use Rattle.transform_slices.specs.Stages.{stage, sum_of_factors}
 
 -- the sums of the first three elements of the basis: entry b is that at the set bits of b
 abbrev pub AreLowSums : List ℕ → List ℕ → Type 0
@@ -24,3 +24,8 @@ abbrev pub HoldsRunSums : (ℕ → ℕ → ℕ) → ℕ → List ℕ → List �
 HoldsRunSums factors start old new =
     (q : ℕ) → q < 16
     → slice_index new (start + q) ≡ sum_of_factors ghash_product (λ j. factors j q) 4 (values_from old start)
+
+-- place q of that run holds what stage `bit` leaves there of the run as it was
+abbrev pub HoldsRunStage : (ℕ → ℕ → ℕ) → ℕ → ℕ → List ℕ → List ℕ → Type 0
+HoldsRunStage factors bit start old new =
+    (q : ℕ) → q < 16 → slice_index new (start + q) ≡ stage ghash_product factors bit (values_from old start) q

@@ -3,7 +3,7 @@ ghost use Rattle.std.specs.Prelude.{◌≡◌, ◌≢◌, ℕ, ◌+◌, ◌-◌,
 ghost use Rattle.field_base.specs.LinearMaps.{linear_image};
 ghost use Rattle.transform_slices.specs.LowStages.{ghash_product, HoldSums, HoldValuesAtCantorPoints, values_from};
 ghost use Rattle.transform_slices.specs.Stages.{stage};
-ghost use Rattle.transform_slices.specs.Runs.{AreLowSums, AreWithImages, HoldsRunSums, run_factor};
+ghost use Rattle.transform_slices.specs.Runs.{AreLowSums, AreWithImages, HoldsRunStage, HoldsRunSums, run_factor};
 
 use std::alloc::{AllocError, Allocator};
 use word_basis::sum_of_images;
@@ -110,7 +110,7 @@ fn run_stage(values: &mut [u128], start: usize, bit: usize, twiddles: &[u128; 4]
     requires bit { bit < 4 }
     requires whole { start + 16 ≤ length values.old }
     ensures length { length values.new ≡ length values.old }
-    ensures run { (q : ℕ) → q < 16 → slice_index values.new (start + q) ≡ stage ghash_product (run_factor twiddles.now low.now) bit (values_from values.old start) q }
+    ensures run { HoldsRunStage (run_factor twiddles.now low.now) bit start values.old values.new }
     ensures before { (p : ℕ) → p < start → slice_index values.new p ≡ slice_index values.old p }
     ensures behind { (p : ℕ) → start + 16 ≤ p → slice_index values.new p ≡ slice_index values.old p }
 {
