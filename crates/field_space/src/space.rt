@@ -151,7 +151,7 @@ pub trait BasisCoefficientsSlice<F: PrimeCharacteristicRing>: BasedVectorSpace<F
 }
 
 /// The array of an element's `N` coefficients.
-pub(crate) fn flat_coefficients<F: PrimeCharacteristicRing, E: BasedVectorSpace<F>, const N: usize>(
+pub(crate) fn coefficients_of<F: PrimeCharacteristicRing, E: BasedVectorSpace<F>, const N: usize>(
     element: &E,
 ) -> [F; N]
     requires { N ≡ E.DIMENSION }
