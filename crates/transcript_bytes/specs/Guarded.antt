@@ -1,5 +1,6 @@
 -- What a contract sees of a guarded byte challenger.
-use Rattle.std.specs.Prelude.{Bool}
+use Rattle.std.specs.Prelude.{Bool, List}
+use Rattle.transcript_bytes.specs.ByteCalls.{after, ByteCall}
 use Rattle.transcript_bytes.specs.declared.byte_challenger.ByteChallenger
 use Rattle.transcript_bytes.specs.declared.guarded.Guarded.{Guarded}
 
@@ -10,6 +11,10 @@ guarded_inner guarded = guarded.inner
 -- the state of the challenger that is guarded
 abbrev pub guarded_state : {C : Type 0} {c : ByteChallenger.Ghosts C} → Guarded C c → c.State
 guarded_state {c = c} guarded = c.state guarded.inner
+
+-- the state that byte calls leave, from the state of the challenger that is guarded
+abbrev pub guarded_after : {C : Type 0} {c : ByteChallenger.Ghosts C} → List ByteCall → Guarded C c → c.State
+guarded_after {c = c} calls guarded = after c.transitions calls (c.state guarded.inner)
 
 -- whether the challenger that is guarded has refused a byte call
 abbrev pub guarded_refused : {C : Type 0} {c : ByteChallenger.Ghosts C} → Guarded C c → Bool

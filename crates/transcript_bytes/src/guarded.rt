@@ -1,6 +1,6 @@
 // A byte challenger that is not used again once a call was refused.
 ghost use Rattle.std.specs.Prelude.{◌≡◌, ℕ, false, true, length, Err, IfOk, Ok, OnErr, OnOk};
-ghost use Rattle.transcript_bytes.specs.ByteCalls.{after, observing, sampling, squeezed, squeezed_word};
+ghost use Rattle.transcript_bytes.specs.ByteCalls.{observing, sampling, squeezed, squeezed_word};
 ghost use Rattle.transcript_bytes.specs.GuardedAnswers.{GuardedAnswer};
 ghost use Rattle.transcript_bytes.specs.declared.error.ChallengerError.TheVariants.{Memory};
 
@@ -19,7 +19,7 @@ pub struct Guarded<C: ByteChallenger> {
 }
 
 impl<C: ByteChallenger> Guarded<C> {
-    ghost use Rattle.transcript_bytes.specs.Guarded.{guarded_failed, guarded_inner, guarded_refused, guarded_state};
+    ghost use Rattle.transcript_bytes.specs.Guarded.{guarded_after, guarded_failed, guarded_inner, guarded_refused, guarded_state};
 
     /// Guards `inner`, which has not refused. No call has failed yet.
     pub fn new(inner: C) -> Guarded<C>
@@ -50,7 +50,7 @@ impl<C: ByteChallenger> Guarded<C> {
 
     /// Observes the bytes in order.
     pub fn observe_bytes(&mut self, bytes: &[u8]) -> Result<(), ChallengerError>
-        ensures ok { OnOk result (guarded_state self.new ≡ after C.transitions (observing bytes.now) (guarded_state self.old)) }
+        ensures ok { OnOk result (guarded_state self.new ≡ guarded_after (observing bytes.now) self.old) }
         ensures answer { GuardedAnswer (guarded_failed self.old) (guarded_failed self.new) (guarded_refused self.new) result }
     {
         if self.has_failed {
@@ -61,7 +61,7 @@ impl<C: ByteChallenger> Guarded<C> {
 
     /// Fills `bytes` with samples, in order. After a failure what `bytes` holds is left open.
     pub fn sample_bytes(&mut self, bytes: &mut [u8]) -> Result<(), ChallengerError>
-        ensures ok { OnOk result (guarded_state self.new ≡ after C.transitions (sampling (length bytes.old)) (guarded_state self.old)) }
+        ensures ok { OnOk result (guarded_state self.new ≡ guarded_after (sampling (length bytes.old)) self.old) }
         ensures bytes { OnOk result (bytes.new ≡ squeezed C.transitions (sampling (length bytes.old)) (guarded_state self.old)) }
         ensures answer { GuardedAnswer (guarded_failed self.old) (guarded_failed self.new) (guarded_refused self.new) result }
     {
@@ -73,7 +73,7 @@ impl<C: ByteChallenger> Guarded<C> {
 
     /// Samples eight bytes and reads them as a number, lowest byte first.
     pub fn sample_u64(&mut self) -> Result<u64, ChallengerError>
-        ensures ok { OnOk result (guarded_state self.new ≡ after C.transitions (sampling 8) (guarded_state self.old)) }
+        ensures ok { OnOk result (guarded_state self.new ≡ guarded_after (sampling 8) self.old) }
         ensures word { IfOk result (λ word. word ≡ squeezed_word C.transitions (sampling 8) (guarded_state self.old)) }
         ensures answer { GuardedAnswer (guarded_failed self.old) (guarded_failed self.new) (guarded_refused self.new) result }
     {
