@@ -1,10 +1,10 @@
--- Answers of guarded calls that are made one after the other.
+-- Guarded calls that are made one after the other.
 use Rattle.std.proofs.Common.{Bool, Ok, Result, arith}
 use Rattle.std.proofs.lemmas.Grind.{common_steps}
 use Rattle.transcript_bytes.specs.GuardedAnswers.{GuardedAnswer}
 use Rattle.transcript_bytes.specs.declared.error.ChallengerError.{ChallengerError}
 
--- where a call answered Ok, the next one answers for both
+-- if the first of two calls returned Ok, the result of the second is that of both
 pub guarded_next : {T U : Type 0} (before between after refused refused_last : Bool) (value : T) (result : Result U ChallengerError)
     → GuardedAnswer before between refused (Ok value) → GuardedAnswer between after refused_last result
     → GuardedAnswer before after refused_last result

@@ -1,122 +1,134 @@
--- Runs of byte calls: two lists joined, and one more call at the end.
+-- Runs of byte calls: two lists joined, and one more call at the end. `after` is the state that calls leave, `squeezed` the bytes
+-- that they sample.
 use Rattle.std.proofs.Common.{◌≡◌, ◌<◌, ◌≤◌, ◌+◌, ℕ, zero, suc, List, [], ◌∷◌, ◌++◌, length, slice_index, take, refl, ap, add-one, arith}
 use Rattle.std.proofs.lemmas.List.{length-replicate}
-use Rattle.transcript_bytes.specs.ByteCalls.{ByteCall, Observe, Sample, bytes_sampled, IsPartlyRun, observing, RunsJoin, sampling, state_after}
+use Rattle.transcript_bytes.specs.ByteCalls.{after, ByteCall, IsPartlyRun, Observe, observing, RunsJoin, Sample, sampling, squeezed, Transitions}
 
-module _ {S : Type 0} (observed : S → ℕ → S) (sampled : S → ℕ × S) where
-  pub state_after-append : (first second : List ByteCall) (state : S)
-      → state_after observed sampled (first ++ second) state
-      ≡ state_after observed sampled second (state_after observed sampled first state)
-  unfolding state_after
-  state_after-append [] second state = refl
-  state_after-append (Observe byte ∷ calls) second state = state_after-append calls second (observed state byte)
-  state_after-append (Sample ∷ calls) second state = state_after-append calls second (sampled state).1
+module _ {S : Type 0} (transitions : Transitions S) where
+  -- the state after two lists of calls joined is that after the second, from the state after the first
+  pub after-append : (first second : List ByteCall) (state : S)
+      → after transitions (first ++ second) state
+      ≡ after transitions second (after transitions first state)
+  unfolding after
+  after-append [] second state = refl
+  after-append (Observe byte ∷ calls) second state = after-append calls second (transitions.observed state byte)
+  after-append (Sample ∷ calls) second state = after-append calls second (transitions.sampled state).1
 
-  pub bytes_sampled-append : (first second : List ByteCall) (state : S)
-      → bytes_sampled observed sampled (first ++ second) state
-      ≡ bytes_sampled observed sampled first state
-      ++ bytes_sampled observed sampled second (state_after observed sampled first state)
-  unfolding bytes_sampled state_after
-  bytes_sampled-append [] second state = refl
-  bytes_sampled-append (Observe byte ∷ calls) second state = bytes_sampled-append calls second (observed state byte)
-  bytes_sampled-append (Sample ∷ calls) second state =
-      ap (λ bytes. (sampled state).0 ∷ bytes) (bytes_sampled-append calls second (sampled state).1)
+  -- two lists of calls joined sample the bytes of the first, and then those of the second from the state after the first
+  pub squeezed-append : (first second : List ByteCall) (state : S)
+      → squeezed transitions (first ++ second) state
+      ≡ squeezed transitions first state
+      ++ squeezed transitions second (after transitions first state)
+  unfolding squeezed after
+  squeezed-append [] second state = refl
+  squeezed-append (Observe byte ∷ calls) second state = squeezed-append calls second (transitions.observed state byte)
+  squeezed-append (Sample ∷ calls) second state =
+      ap (λ bytes. (transitions.sampled state).0 ∷ bytes) (squeezed-append calls second (transitions.sampled state).1)
 
-  pub runs_join : RunsJoin observed sampled
-  runs_join = record { state = state_after-append; bytes = bytes_sampled-append }
+  -- the law of runs: both of the above
+  pub runs_join : RunsJoin transitions
+  runs_join = record { state = after-append; bytes = squeezed-append }
 
-  -- no call leaves the state, and samples nothing
-  pub state_after_none : (state : S) → state_after observed sampled [] state ≡ state
-  unfolding state_after
-  state_after_none state = refl
+  -- no calls leave the state as it is
+  pub after_none : (state : S) → after transitions [] state ≡ state
+  unfolding after
+  after_none state = refl
 
-  pub bytes_sampled_none : (state : S) → bytes_sampled observed sampled [] state ≡ []
-  unfolding bytes_sampled
-  bytes_sampled_none state = refl
+  -- no calls sample no bytes
+  pub squeezed_none : (state : S) → squeezed transitions [] state ≡ []
+  unfolding squeezed
+  squeezed_none state = refl
 
-  -- one more byte observed
-  state_after-observing : (bytes : List ℕ) (count : ℕ) (state : S) → count < length bytes
-      → state_after observed sampled (take (suc count) (observing bytes)) state
-      ≡ observed (state_after observed sampled (take count (observing bytes)) state) (slice_index bytes count)
-  unfolding state_after
-  state_after-observing [] count state below = absurd (omega (arith, below))
-  state_after-observing (byte ∷ bytes) zero state below = refl
-  state_after-observing (byte ∷ bytes) (suc count) state below =
-      state_after-observing bytes count (observed state byte) (omega (arith, below))
+  -- the state after n + 1 bytes were observed is that after n, with byte n observed
+  after-observing : (bytes : List ℕ) (count : ℕ) (state : S) → count < length bytes
+      → after transitions (take (suc count) (observing bytes)) state
+      ≡ transitions.observed (after transitions (take count (observing bytes)) state) (slice_index bytes count)
+  unfolding after
+  after-observing [] count state below = absurd (omega (arith, below))
+  after-observing (byte ∷ bytes) zero state below = refl
+  after-observing (byte ∷ bytes) (suc count) state below =
+      after-observing bytes count (transitions.observed state byte) (omega (arith, below))
 
+  -- a loop that has observed n bytes and observes byte n has observed n + 1
   pub observed_next : (bytes : List ℕ) (count : ℕ) (old now next : S) → count < length bytes
-      → now ≡ state_after observed sampled (take count (observing bytes)) old → next ≡ observed now (slice_index bytes count)
-      → next ≡ state_after observed sampled (take (count + 1) (observing bytes)) old
+      → now ≡ after transitions (take count (observing bytes)) old → next ≡ transitions.observed now (slice_index bytes count)
+      → next ≡ after transitions (take (count + 1) (observing bytes)) old
   observed_next bytes count old now next below run step =
-      rw (add-one count, state_after-observing bytes count old below, ← run) step
+      rw (add-one count, after-observing bytes count old below, ← run) step
 
-  -- one more byte sampled: the state, and the byte
-  state_after-sampling : (count : ℕ) (state : S)
-      → state_after observed sampled (sampling (suc count)) state
-      ≡ (sampled (state_after observed sampled (sampling count) state)).1
-  unfolding state_after
-  state_after-sampling zero state = refl
-  state_after-sampling (suc count) state = state_after-sampling count (sampled state).1
+  -- the state after n + 1 samples is that after one more sample from the state after n
+  after-sampling : (count : ℕ) (state : S)
+      → after transitions (sampling (suc count)) state
+      ≡ (transitions.sampled (after transitions (sampling count) state)).1
+  unfolding after
+  after-sampling zero state = refl
+  after-sampling (suc count) state = after-sampling count (transitions.sampled state).1
 
-  bytes_sampled-sampling : (count : ℕ) (state : S)
-      → bytes_sampled observed sampled (sampling (suc count)) state
-      ≡ bytes_sampled observed sampled (sampling count) state
-      ++ (sampled (state_after observed sampled (sampling count) state)).0 ∷ []
-  unfolding bytes_sampled state_after
-  bytes_sampled-sampling zero state = refl
-  bytes_sampled-sampling (suc count) state =
-      ap (λ bytes. (sampled state).0 ∷ bytes) (bytes_sampled-sampling count (sampled state).1)
+  -- n + 1 samples give the bytes of n samples, and then the byte sampled from the state after them
+  squeezed-sampling : (count : ℕ) (state : S)
+      → squeezed transitions (sampling (suc count)) state
+      ≡ squeezed transitions (sampling count) state
+      ++ (transitions.sampled (after transitions (sampling count) state)).0 ∷ []
+  unfolding squeezed after
+  squeezed-sampling zero state = refl
+  squeezed-sampling (suc count) state =
+      ap (λ bytes. (transitions.sampled state).0 ∷ bytes) (squeezed-sampling count (transitions.sampled state).1)
 
+  -- a loop that has sampled n bytes and samples another is in the state after n + 1 samples
   pub sampled_next : (count byte : ℕ) (old now next : S)
-      → now ≡ state_after observed sampled (sampling count) old → sampled now ≡ (byte, next)
-      → next ≡ state_after observed sampled (sampling (count + 1)) old
+      → now ≡ after transitions (sampling count) old → transitions.sampled now ≡ (byte, next)
+      → next ≡ after transitions (sampling (count + 1)) old
   sampled_next count byte old now next run step =
-      rw (add-one count, state_after-sampling count old, ← run, step) refl
+      rw (add-one count, after-sampling count old, ← run, step) refl
 
+  -- .. and with that byte it has the bytes of n + 1 samples
   pub byte_sampled_next : (count byte : ℕ) (old now next : S) (bytes : List ℕ)
-      → now ≡ state_after observed sampled (sampling count) old
-      → bytes ≡ bytes_sampled observed sampled (sampling count) old → sampled now ≡ (byte, next)
-      → bytes ++ byte ∷ [] ≡ bytes_sampled observed sampled (sampling (count + 1)) old
+      → now ≡ after transitions (sampling count) old
+      → bytes ≡ squeezed transitions (sampling count) old → transitions.sampled now ≡ (byte, next)
+      → bytes ++ byte ∷ [] ≡ squeezed transitions (sampling (count + 1)) old
   byte_sampled_next count byte old now next bytes run before step =
-      rw (add-one count, bytes_sampled-sampling count old, ← run, step, ← before) refl
+      rw (add-one count, squeezed-sampling count old, ← run, step, ← before) refl
 
-  -- fewer samples are a beginning of more
+  -- the first calls of n samples are fewer samples
   take-sampling : (few count : ℕ) → few ≤ count → take few (sampling count) ≡ sampling few
   take-sampling zero count most = refl
   take-sampling (suc few) zero most = absurd (omega (arith, most))
   take-sampling (suc few) (suc count) most = ap (λ calls. Sample ∷ calls) (take-sampling few count (omega (arith, most)))
 
+  -- the state after fewer than n samples is that of n samples partly run
   pub sampling_is_partly_run : (few count : ℕ) (old now : S) → few < count
-      → now ≡ state_after observed sampled (sampling few) old → IsPartlyRun observed sampled (sampling count) old now
+      → now ≡ after transitions (sampling few) old → IsPartlyRun transitions (sampling count) old now
   sampling_is_partly_run few count old now fewer run =
       (few, rw (length-replicate count Sample) fewer, rw (take-sampling few count (omega (arith, fewer))) run)
 
-  -- calls that follow others, from the state that those left: the state, and the bytes, which are those of both
-  pub state_joined : (first second : List ByteCall) (old now next : S) → now ≡ state_after observed sampled first old
-      → next ≡ state_after observed sampled second now → next ≡ state_after observed sampled (first ++ second) old
-  state_joined first second old now next before after = rw (state_after-append first second old, ← before) after
+  -- calls run from the state that others left end in the state after both lists joined
+  pub state_joined : (first second : List ByteCall) (old now next : S) → now ≡ after transitions first old
+      → next ≡ after transitions second now → next ≡ after transitions (first ++ second) old
+  state_joined first second old now next before last = rw (after-append first second old, ← before) last
 
+  -- .. and the bytes of both runs, one after the other, are those that the joined list samples
   pub bytes_joined : (first second : List ByteCall) (old now : S) (begun more : List ℕ)
-      → now ≡ state_after observed sampled first old → begun ≡ bytes_sampled observed sampled first old
-      → more ≡ bytes_sampled observed sampled second now
-      → begun ++ more ≡ bytes_sampled observed sampled (first ++ second) old
-  bytes_joined first second old now begun more before begins after =
-      rw (bytes_sampled-append first second old, ← before, ← begins, ← after) refl
+      → now ≡ after transitions first old → begun ≡ squeezed transitions first old
+      → more ≡ squeezed transitions second now
+      → begun ++ more ≡ squeezed transitions (first ++ second) old
+  bytes_joined first second old now begun more before begins ends =
+      rw (squeezed-append first second old, ← before, ← begins, ← ends) refl
 
-  -- calls that observe sample nothing, so that calls behind them sample what they do from the state after them
-  bytes_sampled-observing : (bytes : List ℕ) (state : S) → bytes_sampled observed sampled (observing bytes) state ≡ []
-  unfolding bytes_sampled
-  bytes_sampled-observing [] state = refl
-  bytes_sampled-observing (byte ∷ bytes) state = bytes_sampled-observing bytes (observed state byte)
+  -- observing samples no bytes
+  squeezed-observing : (bytes : List ℕ) (state : S) → squeezed transitions (observing bytes) state ≡ []
+  unfolding squeezed
+  squeezed-observing [] state = refl
+  squeezed-observing (byte ∷ bytes) state = squeezed-observing bytes (transitions.observed state byte)
 
+  -- so calls that follow observations sample the same bytes as from the state after those
   pub bytes_after_observing : (bytes : List ℕ) (calls : List ByteCall) (old now : S)
-      → now ≡ state_after observed sampled (observing bytes) old
-      → bytes_sampled observed sampled (observing bytes ++ calls) old ≡ bytes_sampled observed sampled calls now
+      → now ≡ after transitions (observing bytes) old
+      → squeezed transitions (observing bytes ++ calls) old ≡ squeezed transitions calls now
   bytes_after_observing bytes calls old now before =
-      rw (bytes_sampled-append (observing bytes) calls old, bytes_sampled-observing bytes old, before) refl
+      rw (squeezed-append (observing bytes) calls old, squeezed-observing bytes old, before) refl
 
-  -- as many bytes as samples
-  pub length_sampled : (count : ℕ) (state : S) → length (bytes_sampled observed sampled (sampling count) state) ≡ count
-  unfolding bytes_sampled
+  -- n samples give n bytes
+  pub length_sampled : (count : ℕ) (state : S) → length (squeezed transitions (sampling count) state) ≡ count
+  unfolding squeezed
   length_sampled zero state = refl
-  length_sampled (suc count) state = ap (λ (n : ℕ). suc n) (length_sampled count (sampled state).1)
+  length_sampled (suc count) state = ap (λ (n : ℕ). suc n) (length_sampled count (transitions.sampled state).1)

@@ -1,8 +1,15 @@
--- Byte calls of a transcript, and their runs. A byte is a number below 256; a byte challenger is a type of states with two
--- functions: `observed` gives the state after a byte was observed, and `sampled` a byte and the state after it was sampled.
+-- Byte calls of a transcript, and their runs. A byte is a number below 256. A byte challenger has a type of states and two
+-- transitions on it.
 use Rattle.std.specs.Prelude.{◌≡◌, ◌<◌, ℕ, List, [], ◌∷◌, ◌++◌, length, map, replicate, take}
+use Rattle.std.specs.Int.{from_le_bytes, w64}
 
--- what is asked of a byte challenger: to observe a byte, or to sample one
+-- what a byte call does to a state: `observed` gives the state after a byte was observed, and `sampled` the byte that is sampled
+-- and the state after it
+pub record Transitions (S : Type 0) : Type 0 where
+  pub observed : S → ℕ → S
+  pub sampled : S → ℕ × S
+
+-- a call of a byte challenger: to observe a byte, or to sample one
 pub data ByteCall : Type 0 where
   Observe : ℕ → ByteCall
   Sample : ByteCall
@@ -16,29 +23,31 @@ abbrev pub sampling : ℕ → List ByteCall
 sampling count = replicate count Sample
 
 -- the state after a list of calls, made in order
-unfoldable pub state_after : {S : Type 0} → (S → ℕ → S) → (S → ℕ × S) → List ByteCall → S → S
-state_after observed sampled [] state = state
-state_after observed sampled (Observe byte ∷ calls) state = state_after observed sampled calls (observed state byte)
-state_after observed sampled (Sample ∷ calls) state = state_after observed sampled calls (sampled state).1
+unfoldable pub after : {S : Type 0} → Transitions S → List ByteCall → S → S
+after transitions [] state = state
+after transitions (Observe byte ∷ calls) state = after transitions calls (transitions.observed state byte)
+after transitions (Sample ∷ calls) state = after transitions calls (transitions.sampled state).1
 
 -- the bytes that a list of calls samples, in order
-unfoldable pub bytes_sampled : {S : Type 0} → (S → ℕ → S) → (S → ℕ × S) → List ByteCall → S → List ℕ
-bytes_sampled observed sampled [] state = []
-bytes_sampled observed sampled (Observe byte ∷ calls) state = bytes_sampled observed sampled calls (observed state byte)
-bytes_sampled observed sampled (Sample ∷ calls) state =
-    (sampled state).0 ∷ bytes_sampled observed sampled calls (sampled state).1
+unfoldable pub squeezed : {S : Type 0} → Transitions S → List ByteCall → S → List ℕ
+squeezed transitions [] state = []
+squeezed transitions (Observe byte ∷ calls) state = squeezed transitions calls (transitions.observed state byte)
+squeezed transitions (Sample ∷ calls) state =
+    (transitions.sampled state).0 ∷ squeezed transitions calls (transitions.sampled state).1
 
--- two lists of calls joined run one after the other
-pub record RunsJoin {S : Type 0} (observed : S → ℕ → S) (sampled : S → ℕ × S) : Type 0 where
+-- the 64-bit word of the eight bytes that a list of calls samples, the lowest first
+abbrev pub squeezed_word : {S : Type 0} → Transitions S → List ByteCall → S → ℕ
+squeezed_word transitions calls state = from_le_bytes w64 (squeezed transitions calls state)
+
+-- two lists of calls joined run one after the other: the state after them, and the bytes that they sample
+pub record RunsJoin {S : Type 0} (transitions : Transitions S) : Type 0 where
   pub state : (first second : List ByteCall) (state : S)
-      → state_after observed sampled (first ++ second) state
-      ≡ state_after observed sampled second (state_after observed sampled first state)
+      → after transitions (first ++ second) state ≡ after transitions second (after transitions first state)
   pub bytes : (first second : List ByteCall) (state : S)
-      → bytes_sampled observed sampled (first ++ second) state
-      ≡ bytes_sampled observed sampled first state
-      ++ bytes_sampled observed sampled second (state_after observed sampled first state)
+      → squeezed transitions (first ++ second) state
+      ≡ squeezed transitions first state ++ squeezed transitions second (after transitions first state)
 
--- the state is that after a beginning of the calls, which leaves at least one of them out
-abbrev pub IsPartlyRun : {S : Type 0} → (S → ℕ → S) → (S → ℕ × S) → List ByteCall → S → S → Type 0
-IsPartlyRun observed sampled calls old new =
-    (count : ℕ) × (count < length calls) × (new ≡ state_after observed sampled (take count calls) old)
+-- the new state is that after a proper prefix of the calls
+abbrev pub IsPartlyRun : {S : Type 0} → Transitions S → List ByteCall → S → S → Type 0
+IsPartlyRun transitions calls old new =
+    (count : ℕ) × (count < length calls) × (new ≡ after transitions (take count calls) old)

@@ -1,11 +1,24 @@
 -- What a contract sees of a guarded byte challenger.
-use Rattle.std.specs.Prelude.{Bool}
+use Rattle.std.specs.Prelude.{Bool, List}
+use Rattle.transcript_bytes.specs.ByteCalls.{after, ByteCall}
 use Rattle.transcript_bytes.specs.declared.byte_challenger.ByteChallenger
 use Rattle.transcript_bytes.specs.declared.guarded.Guarded.{Guarded}
 
 -- the challenger that is guarded
 abbrev pub guarded_inner : {C : Type 0} {c : ByteChallenger.Ghosts C} → Guarded C c → C
 guarded_inner guarded = guarded.inner
+
+-- the state of the challenger that is guarded
+abbrev pub guarded_state : {C : Type 0} {c : ByteChallenger.Ghosts C} → Guarded C c → c.State
+guarded_state {c = c} guarded = c.state guarded.inner
+
+-- the state that byte calls leave, from the state of the challenger that is guarded
+abbrev pub guarded_after : {C : Type 0} {c : ByteChallenger.Ghosts C} → List ByteCall → Guarded C c → c.State
+guarded_after {c = c} calls guarded = after c.transitions calls (c.state guarded.inner)
+
+-- whether the challenger that is guarded has refused a byte call
+abbrev pub guarded_refused : {C : Type 0} {c : ByteChallenger.Ghosts C} → Guarded C c → Bool
+guarded_refused {c = c} guarded = c.has_refused guarded.inner
 
 -- whether a call has failed
 abbrev pub guarded_failed : {C : Type 0} {c : ByteChallenger.Ghosts C} → Guarded C c → Bool

@@ -1,12 +1,11 @@
-// What a byte challenger is, and the law of runs of its calls.
-ghost use Rattle.std.specs.Prelude.{◌≡◌, ℕ, Bool, true, false, OnOk, OnErr, IfOk};
-ghost use Rattle.transcript_bytes.specs.ByteCalls.{RunsJoin};
+// Byte challengers, and the law of runs of their calls.
+ghost use Rattle.std.specs.Prelude.{◌≡◌, Bool, true, false, OnOk, OnErr, IfOk};
+ghost use Rattle.transcript_bytes.specs.ByteCalls.{RunsJoin, Transitions};
 
 use std::alloc::AllocError;
 
-/// A transcript over bytes. It has a state, which each byte that is observed and each byte that is sampled changes, and what is
-/// sampled follows from the state alone. A call that needs memory may be refused it; the state then is as before, and the
-/// challenger remembers that it has refused.
+/// A transcript over bytes. It has a state, which changes with each byte that is observed or sampled; what is sampled depends on
+/// the state alone. A call may be refused memory; the state is then unchanged, and the challenger remembers that it has refused.
 pub trait ByteChallenger: Drop + Sized {
     // The states.
     ghost State: { Type 0 };
@@ -17,27 +16,24 @@ pub trait ByteChallenger: Drop + Sized {
     // Whether a byte call of the challenger has been refused.
     ghost has_refused: { Self → Bool };
 
-    // The state after a byte was observed.
-    ghost observed: { State → ℕ → State };
+    // The state after a byte was observed, and the byte that is sampled with the state after it.
+    ghost transitions: { Transitions State };
 
-    // The byte that is sampled, and the state after it.
-    ghost sampled: { State → ℕ × State };
-
-    /// Observes a byte. It fails where memory was refused: the state is as before, and the challenger has refused.
+    /// Observes a byte. It fails if memory was refused; the state is then unchanged, and the challenger has refused.
     fn observe_byte(&mut self, byte: u8) -> Result<(), AllocError>
-        ensures ok { OnOk result (state self.new ≡ observed (state self.old) byte) }
+        ensures ok { OnOk result (state self.new ≡ transitions.observed (state self.old) byte) }
         ensures kept { OnOk result (has_refused self.new ≡ has_refused self.old) }
         ensures err { OnErr result (state self.new ≡ state self.old) }
         ensures refusal { OnErr result (has_refused self.new ≡ true) };
 
-    /// Samples a byte. It fails where memory was refused: the state is as before, and the challenger has refused.
+    /// Samples a byte. It fails if memory was refused; the state is then unchanged, and the challenger has refused.
     fn sample_byte(&mut self) -> Result<u8, AllocError>
-        ensures ok { IfOk result (λ byte. sampled (state self.old) ≡ (byte, state self.new)) }
+        ensures ok { IfOk result (λ byte. transitions.sampled (state self.old) ≡ (byte, state self.new)) }
         ensures kept { OnOk result (has_refused self.new ≡ has_refused self.old) }
         ensures err { OnErr result (state self.new ≡ state self.old) }
         ensures refusal { OnErr result (has_refused self.new ≡ true) };
 
-    /// A challenger with the same state, which has not refused. It fails where memory was refused.
+    /// A challenger with the same state, which has not refused. It fails if memory was refused.
     fn try_clone(&self) -> Result<Self, AllocError>
         ensures ok { IfOk result (λ copy. state copy ≡ state self.now) }
         ensures fresh { IfOk result (λ copy. has_refused copy ≡ false) };
@@ -47,8 +43,8 @@ pub trait ByteChallenger: Drop + Sized {
         ensures { result ≡ has_refused self.now };
 }
 
-/// States that two lists of byte calls joined run one after the other: the state after them is that after the second from the
-/// state after the first, and the bytes sampled are those of the first and then those of the second.
+/// Computes nothing; its contract is the law that two lists of byte calls joined run one after the other: the second from the
+/// state after the first, and the bytes sampled are those of the first followed by those of the second.
 pub fn runs_join<C: ByteChallenger>()
-    ensures { RunsJoin C.observed C.sampled }
+    ensures { RunsJoin C.transitions }
 {}

@@ -1,17 +1,15 @@
 // Several bytes observed or sampled in one call.
 ghost use Rattle.std.specs.Prelude.{◌≡◌, ℕ, ◌<◌, ◌+◌, true, OnOk, OnErr, IfOk, length};
-ghost use Rattle.std.specs.Int.{from_le_bytes, w64};
-ghost use Rattle.transcript_bytes.specs.ByteCalls.{bytes_sampled, IsPartlyRun, observing, sampling, state_after};
+ghost use Rattle.transcript_bytes.specs.ByteCalls.{after, IsPartlyRun, observing, sampling, squeezed, squeezed_word};
 
 use crate::byte_challenger::ByteChallenger;
 use std::alloc::AllocError;
 
-/// Observes the bytes in order. It fails at the first byte that is refused, and the state then is that after the bytes before
-/// it.
+/// Observes the bytes in order. It fails at the first byte that is refused; the state is then that after the bytes before it.
 pub fn observe_bytes<C: ByteChallenger>(challenger: &mut C, bytes: &[u8]) -> Result<(), AllocError>
-    ensures ok { OnOk result (C.state challenger.new ≡ state_after C.observed C.sampled (observing bytes.now) (C.state challenger.old)) }
+    ensures ok { OnOk result (C.state challenger.new ≡ after C.transitions (observing bytes.now) (C.state challenger.old)) }
     ensures kept { OnOk result (C.has_refused challenger.new ≡ C.has_refused challenger.old) }
-    ensures err { OnErr result (IsPartlyRun C.observed C.sampled (observing bytes.now) (C.state challenger.old) (C.state challenger.new)) }
+    ensures err { OnErr result (IsPartlyRun C.transitions (observing bytes.now) (C.state challenger.old) (C.state challenger.new)) }
     ensures refusal { OnErr result (C.has_refused challenger.new ≡ true) }
 {
     'bytes: for index in 0..bytes.len() {
@@ -20,16 +18,16 @@ pub fn observe_bytes<C: ByteChallenger>(challenger: &mut C, bytes: &[u8]) -> Res
     Ok(())
 }
 
-/// Samples as many bytes as `bytes` has, in order, and writes them there. It fails at the first byte that is refused, and the
-/// state then is that after the bytes before it; what `bytes` then holds is left open.
+/// Fills `bytes` with samples, in order. It fails at the first byte that is refused; the state is then that after the bytes before
+/// it, and what `bytes` holds is left open.
 pub fn sample_bytes<C: ByteChallenger>(
     challenger: &mut C,
     bytes: &mut [u8],
 ) -> Result<(), AllocError>
-    ensures ok { OnOk result (C.state challenger.new ≡ state_after C.observed C.sampled (sampling (length bytes.old)) (C.state challenger.old)) }
-    ensures bytes { OnOk result (bytes.new ≡ bytes_sampled C.observed C.sampled (sampling (length bytes.old)) (C.state challenger.old)) }
+    ensures ok { OnOk result (C.state challenger.new ≡ after C.transitions (sampling (length bytes.old)) (C.state challenger.old)) }
+    ensures bytes { OnOk result (bytes.new ≡ squeezed C.transitions (sampling (length bytes.old)) (C.state challenger.old)) }
     ensures kept { OnOk result (C.has_refused challenger.new ≡ C.has_refused challenger.old) }
-    ensures err { OnErr result (IsPartlyRun C.observed C.sampled (sampling (length bytes.old)) (C.state challenger.old) (C.state challenger.new)) }
+    ensures err { OnErr result (IsPartlyRun C.transitions (sampling (length bytes.old)) (C.state challenger.old) (C.state challenger.new)) }
     ensures refusal { OnErr result (C.has_refused challenger.new ≡ true) }
 {
     'bytes: for index in 0..bytes.len() {
@@ -38,13 +36,13 @@ pub fn sample_bytes<C: ByteChallenger>(
     Ok(())
 }
 
-/// Samples eight bytes and reads them as a number, lowest byte first. It fails at the first byte that is refused, and the state
-/// then is that after the bytes before it.
+/// Samples eight bytes and reads them as a number, lowest byte first. It fails at the first byte that is refused; the state is
+/// then that after the bytes before it.
 pub fn sample_u64<C: ByteChallenger>(challenger: &mut C) -> Result<u64, AllocError>
-    ensures ok { OnOk result (C.state challenger.new ≡ state_after C.observed C.sampled (sampling 8) (C.state challenger.old)) }
-    ensures word { IfOk result (λ word. word ≡ from_le_bytes w64 (bytes_sampled C.observed C.sampled (sampling 8) (C.state challenger.old))) }
+    ensures ok { OnOk result (C.state challenger.new ≡ after C.transitions (sampling 8) (C.state challenger.old)) }
+    ensures word { IfOk result (λ word. word ≡ squeezed_word C.transitions (sampling 8) (C.state challenger.old)) }
     ensures kept { OnOk result (C.has_refused challenger.new ≡ C.has_refused challenger.old) }
-    ensures err { OnErr result (IsPartlyRun C.observed C.sampled (sampling 8) (C.state challenger.old) (C.state challenger.new)) }
+    ensures err { OnErr result (IsPartlyRun C.transitions (sampling 8) (C.state challenger.old) (C.state challenger.new)) }
     ensures refusal { OnErr result (C.has_refused challenger.new ≡ true) }
 {
     let mut bytes = [0; 8];

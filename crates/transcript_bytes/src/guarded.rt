@@ -1,7 +1,6 @@
-// A byte challenger that is used no further once a call was refused.
-ghost use Rattle.std.specs.Prelude.{◌≡◌, ℕ, false, true, length, Err, IfErr, IfOk, Ok, OnErr, OnOk};
-ghost use Rattle.std.specs.Int.{from_le_bytes, w64};
-ghost use Rattle.transcript_bytes.specs.ByteCalls.{bytes_sampled, observing, sampling, state_after};
+// A byte challenger that is not used again once a call was refused.
+ghost use Rattle.std.specs.Prelude.{◌≡◌, ℕ, false, true, length, Err, IfOk, Ok, OnErr, OnOk};
+ghost use Rattle.transcript_bytes.specs.ByteCalls.{observing, sampling, squeezed, squeezed_word};
 ghost use Rattle.transcript_bytes.specs.GuardedAnswers.{GuardedAnswer};
 ghost use Rattle.transcript_bytes.specs.declared.error.ChallengerError.TheVariants.{Memory};
 
@@ -10,7 +9,7 @@ use crate::byte_runs::{observe_bytes, sample_bytes, sample_u64};
 use crate::error::ChallengerError;
 use std::alloc::AllocError;
 
-/// A byte challenger that is used no further once a call was refused: that call answers `Memory`, and each later one `Failed`. So
+/// A byte challenger that is not used again once a call was refused: that call returns `Memory`, and every later one `Failed`. So
 /// no state that an unfinished call left is ever read.
 #[derive(Drop)]
 pub struct Guarded<C: ByteChallenger> {
@@ -20,7 +19,7 @@ pub struct Guarded<C: ByteChallenger> {
 }
 
 impl<C: ByteChallenger> Guarded<C> {
-    ghost use Rattle.transcript_bytes.specs.Guarded.{guarded_failed, guarded_inner};
+    ghost use Rattle.transcript_bytes.specs.Guarded.{guarded_after, guarded_failed, guarded_inner, guarded_refused, guarded_state};
 
     /// Guards `inner`, which has not refused. No call has failed yet.
     pub fn new(inner: C) -> Guarded<C>
@@ -41,7 +40,7 @@ impl<C: ByteChallenger> Guarded<C> {
         self.has_failed
     }
 
-    /// Makes this a challenger that has failed, for a caller that was refused memory on its own account.
+    /// Marks this challenger as failed, for a caller that was refused memory itself.
     pub fn fail(&mut self)
         ensures inner { guarded_inner self.new ≡ guarded_inner self.old }
         ensures failed { guarded_failed self.new ≡ true }
@@ -51,8 +50,8 @@ impl<C: ByteChallenger> Guarded<C> {
 
     /// Observes the bytes in order.
     pub fn observe_bytes(&mut self, bytes: &[u8]) -> Result<(), ChallengerError>
-        ensures ok { OnOk result (C.state (guarded_inner self.new) ≡ state_after C.observed C.sampled (observing bytes.now) (C.state (guarded_inner self.old))) }
-        ensures answer { GuardedAnswer (guarded_failed self.old) (guarded_failed self.new) (C.has_refused (guarded_inner self.new)) result }
+        ensures ok { OnOk result (guarded_state self.new ≡ guarded_after (observing bytes.now) self.old) }
+        ensures answer { GuardedAnswer (guarded_failed self.old) (guarded_failed self.new) (guarded_refused self.new) result }
     {
         if self.has_failed {
             return Err(ChallengerError::Failed);
@@ -60,11 +59,11 @@ impl<C: ByteChallenger> Guarded<C> {
         remembered(observe_bytes(&mut self.inner, bytes), &mut self.has_failed)
     }
 
-    /// Samples as many bytes as `bytes` has, in order, and writes them there. After a failure what `bytes` holds is left open.
+    /// Fills `bytes` with samples, in order. After a failure what `bytes` holds is left open.
     pub fn sample_bytes(&mut self, bytes: &mut [u8]) -> Result<(), ChallengerError>
-        ensures ok { OnOk result (C.state (guarded_inner self.new) ≡ state_after C.observed C.sampled (sampling (length bytes.old)) (C.state (guarded_inner self.old))) }
-        ensures bytes { OnOk result (bytes.new ≡ bytes_sampled C.observed C.sampled (sampling (length bytes.old)) (C.state (guarded_inner self.old))) }
-        ensures answer { GuardedAnswer (guarded_failed self.old) (guarded_failed self.new) (C.has_refused (guarded_inner self.new)) result }
+        ensures ok { OnOk result (guarded_state self.new ≡ guarded_after (sampling (length bytes.old)) self.old) }
+        ensures bytes { OnOk result (bytes.new ≡ squeezed C.transitions (sampling (length bytes.old)) (guarded_state self.old)) }
+        ensures answer { GuardedAnswer (guarded_failed self.old) (guarded_failed self.new) (guarded_refused self.new) result }
     {
         if self.has_failed {
             return Err(ChallengerError::Failed);
@@ -74,9 +73,9 @@ impl<C: ByteChallenger> Guarded<C> {
 
     /// Samples eight bytes and reads them as a number, lowest byte first.
     pub fn sample_u64(&mut self) -> Result<u64, ChallengerError>
-        ensures ok { OnOk result (C.state (guarded_inner self.new) ≡ state_after C.observed C.sampled (sampling 8) (C.state (guarded_inner self.old))) }
-        ensures word { IfOk result (λ word. word ≡ from_le_bytes w64 (bytes_sampled C.observed C.sampled (sampling 8) (C.state (guarded_inner self.old)))) }
-        ensures answer { GuardedAnswer (guarded_failed self.old) (guarded_failed self.new) (C.has_refused (guarded_inner self.new)) result }
+        ensures ok { OnOk result (guarded_state self.new ≡ guarded_after (sampling 8) self.old) }
+        ensures word { IfOk result (λ word. word ≡ squeezed_word C.transitions (sampling 8) (guarded_state self.old)) }
+        ensures answer { GuardedAnswer (guarded_failed self.old) (guarded_failed self.new) (guarded_refused self.new) result }
     {
         if self.has_failed {
             return Err(ChallengerError::Failed);
@@ -84,10 +83,9 @@ impl<C: ByteChallenger> Guarded<C> {
         remembered(sample_u64(&mut self.inner), &mut self.has_failed)
     }
 
-    /// A copy with the same state, which has failed exactly where this one has. It fails where memory was refused, and this one
-    /// then is as before.
+    /// A copy with the same state, which has failed if and only if this one has. It fails if memory was refused.
     pub fn try_clone(&self) -> Result<Guarded<C>, AllocError>
-        ensures state { IfOk result (λ copy. C.state (guarded_inner copy) ≡ C.state (guarded_inner self.now)) }
+        ensures state { IfOk result (λ copy. guarded_state copy ≡ guarded_state self.now) }
         ensures failed { IfOk result (λ copy. guarded_failed copy ≡ guarded_failed self.now) }
     {
         Ok(Guarded {
@@ -97,11 +95,13 @@ impl<C: ByteChallenger> Guarded<C> {
     }
 }
 
-// The answer of a call of the challenger below, where a refusal is one of memory and is remembered.
+// The result of a call of the byte challenger below. A refusal is reported as `Memory` and remembered.
 #[inline]
 fn remembered<T>(answer: Result<T, AllocError>, has_failed: &mut bool) -> Result<T, ChallengerError>
-    ensures ok { IfOk answer (λ value. (result ≡ Ok value) × (has_failed.new ≡ has_failed.old)) }
-    ensures err { IfErr answer (λ _. (result ≡ Err Memory) × (has_failed.new ≡ true)) }
+    ensures ok { IfOk answer (λ value. result ≡ Ok value) }
+    ensures kept { OnOk answer (has_failed.new ≡ has_failed.old) }
+    ensures err { OnErr answer (result ≡ Err Memory) }
+    ensures failed { OnErr answer (has_failed.new ≡ true) }
 {
     match answer {
         Ok(value) => Ok(value),

@@ -1,6 +1,6 @@
 // A challenger over a hash function.
 ghost use Rattle.std.specs.Prelude.{◌≡◌, ◌≤◌, ◌<◌, ◌++◌, ℕ, [], ◌∷◌, Bool, true, false, OnOk, OnErr, IfOk, length, take};
-ghost use Rattle.transcript_bytes.specs.HashBuffers.{HashState, hash_observed, hash_sampled, last_taken};
+ghost use Rattle.transcript_bytes.specs.HashBuffers.{HashState, hash_sampled, hash_transitions, last_taken};
 
 use crate::byte_challenger::ByteChallenger;
 use crate::hasher::ByteHasher32;
@@ -9,11 +9,11 @@ use std::alloc::{AllocError, Allocator, Global};
 // The bytes of a digest.
 const DIGEST_LEN: usize = 32;
 
-/// A challenger over a hash function. It has an input, which is what is hashed next, and an output, which is what is left of the
-/// last digest. A byte that is observed goes to the end of the input, and the output is dropped. A sample takes the last byte of
-/// the output; where the output is empty, the digest of the input becomes both the output and the new input first.
+/// A challenger over a hash function. It has an input, which is hashed next, and an output, which is what is left of the last
+/// digest. An observed byte is appended to the input, and the output is dropped. A sample takes the last byte of the output; if the
+/// output is empty, the digest of the input first becomes both the output and the new input.
 ///
-/// The input is in a vector, with the allocator of the vector that the challenger was made from. The output takes no memory.
+/// The input is a vector, with the allocator of the vector that the challenger was made from. The output takes no memory.
 #[derive(Drop)]
 pub struct HashChallenger<H: Copy, A: Allocator = Global> {
     hasher: H,
@@ -41,12 +41,12 @@ impl<H: ByteHasher32, A: Allocator> HashChallenger<H, A> {
         }
     }
 
-    // Sees that the output is not empty: where it is, the digest of the input becomes both the output and the new input. The room
-    // for it is taken before anything changes.
+    // If the output is empty, the digest of the input becomes both the output and the new input. Memory for it is taken before
+    // anything changes.
     #[tactic(auto, using(crate::proofs::Buffers::sampled_from_none, crate::proofs::Buffers::sampled_from_front))]
     fn fill_output(&mut self) -> Result<(), AllocError>
         ensures filled { OnOk result (0 < self.new.unread) }
-        ensures last { OnOk result (hash_sampled H.digest (hash_state self.old) ≡ last_taken self.new.hasher self.new.input.items (take self.new.unread self.new.digest)) }
+        ensures last { OnOk result (hash_sampled H.digest (hash_state self.old) ≡ last_taken (hash_state self.new)) }
         ensures kept { self.new.has_refused ≡ self.old.has_refused }
         ensures err { OnErr result (hash_state self.new ≡ hash_state self.old) }
     {
@@ -67,7 +67,7 @@ impl<H: ByteHasher32, A: Allocator> HashChallenger<H, A> {
     #[tactic(auto, using(crate::proofs::Buffers::last_of_front))]
     fn take_last(&mut self) -> u8
         requires { 0 < self.old.unread }
-        ensures taken { last_taken self.old.hasher self.old.input.items (take self.old.unread self.old.digest) ≡ (result, hash_state self.new) }
+        ensures taken { last_taken (hash_state self.old) ≡ (result, hash_state self.new) }
         ensures kept { self.new.has_refused ≡ self.old.has_refused }
     {
         self.unread -= 1;
@@ -84,9 +84,7 @@ impl<H: ByteHasher32, A: Allocator + Clone> ByteChallenger for HashChallenger<H,
 
     ghost has_refused = { λ challenger. hash_refused challenger };
 
-    ghost observed = { λ state byte. hash_observed state byte };
-
-    ghost sampled = { λ state. hash_sampled H.digest state };
+    ghost transitions = { hash_transitions H.digest };
 
     fn observe_byte(&mut self, byte: u8) -> Result<(), AllocError> {
         if self.input.push(byte).is_err() {

@@ -4,7 +4,7 @@ ghost use Rattle.sha2.specs.Sha256.{sha256};
 
 use sha2::{Digest, Sha256};
 
-/// A hash function whose digests have 32 bytes. A digest follows from the hasher and the bytes.
+/// A hash function whose digests have 32 bytes. A digest depends on the hasher and the bytes alone.
 pub trait ByteHasher32: Copy {
     // The digest of a list of bytes.
     ghost digest: { Self → List ℕ → List ℕ };

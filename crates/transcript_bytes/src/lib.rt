@@ -1,4 +1,4 @@
-//! Byte challengers: transcripts that observe bytes and from which bytes are sampled, among them one over a hash function.
+//! Byte challengers: transcripts that observe bytes and from which bytes are sampled, and one over a hash function.
 #![tactic(auto)]
 
 mod byte_challenger;

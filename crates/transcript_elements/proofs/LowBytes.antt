@@ -1,4 +1,5 @@
--- Bytes and the numbers that they are.
+-- Bytes and the numbers that they represent: a number is built byte by byte, cut into bytes, and recovered from them. low_bytes
+-- has the lowest byte first, be_bytes the highest.
 use Rattle.std.proofs.Common.{◌≡◌, ◌<◌, ◌≤◌, ◌+◌, ◌-◌, ◌*◌, ◌/◌, ◌%◌, ◌^◌, ℕ, zero, suc, List, [], ◌∷◌, ◌++◌, length, take, drop, reverse, get_or, refl, sym, lit<, ap, ap₂, subst, ◌∙◌, arith}
 use Rattle.std.proofs.Math.Pow.{mod-mod-pow, pow_mono}
 use Rattle.std.proofs.Math.Nat.{add-mul-mod_self_left, div-div-eq-div-mul, lt_of_lt_of_le, mod-one, pow-suc}
@@ -17,37 +18,43 @@ use Rattle.transcript_elements.specs.BigEndian.{be_bytes}
 
 -- ---- numbers that grow by a byte at their lower end
 
+-- 2^(8 (i + 1)) = 256 * 2^(8 i)
 place : (i : ℕ) → 2 ^ (8 * (i + 1)) ≡ 256 * 2 ^ (8 * i)
 place i = ap (λ (k : ℕ). 2 ^ k) (omega arith) ∙ pow-add 2 8 (8 * i)
 
+-- a number below 2^(8 i), with one more byte at its lower end, is below 2^(8 (i + 1))
 byte_more-lt : (i number b : ℕ) → number < 2 ^ (8 * i) → b < 256 → number * 256 + b < 2 ^ (8 * (i + 1))
 byte_more-lt i number b below fits = let is = place i in omega (arith, is, below, fits)
 
+-- a number of at most 15 bytes, with one more byte, is below 2^128
 byte_more-fits : (i number b : ℕ) → i < 16 → number < 2 ^ (8 * i) → b < 256 → number * 256 + b < 2 ^ 128
 byte_more-fits i number b few below fits =
     lt_of_lt_of_le (byte_more-lt i number b below fits) (pow_mono {j = 128} (omega (arith, few)))
 
--- so that a word of 128 bits has room for 16 bytes, of which `before` are there and `byte` is the next
+-- a word of 128 bits has room for 16 bytes: i of them have been read, their number is `before`, and one more byte is read
 module _ {i number before : ℕ} (few : i < 16) (below : number < 2 ^ (8 * i)) (is : number ≡ before) where
+  -- the number with one more byte fits in the word
   pub room_for : {b : ℕ} → b < 256 → number * 256 + b < 2 ^ 128
   room_for {b} fits = byte_more-fits i number b few below fits
 
-  -- the number with the byte
+  -- what the word holds then: the number of i + 1 bytes
   pub grown : {b after now : ℕ} → b < 256 → after ≡ before * 256 + b → now ≡ number * 256 + b → (now < 2 ^ (8 * (i + 1))) × (now ≡ after)
   grown {b} fits next sum = (
     subst (λ (x : ℕ). x < 2 ^ (8 * (i + 1))) (sym sum) (byte_more-lt i number b below fits),
     sum ∙ ap (λ (n : ℕ). n * 256 + b) is ∙ sym next,
   )
 
+-- no bytes are the number 0
 pub number_of_none : number_of_bytes [] ≡ 0
 unfolding number_of_bytes
 number_of_none = refl
 
+-- a byte put before others becomes the lowest of their number
 pub number_of_one_more : (bytes : List ℕ) (b : ℕ) → number_of_bytes (b ∷ bytes) ≡ number_of_bytes bytes * 256 + b
 unfolding number_of_bytes
 number_of_one_more bytes b = omega arith
 
--- from the last byte to the first
+-- little-endian, the number of the last i + 1 bytes is 256 times that of the last i, plus the byte before them
 pub number_of_last : (bytes : List ℕ) (i : ℕ) → i < length bytes
     → number_of_bytes (drop (length bytes - (i + 1)) bytes)
     ≡ number_of_bytes (drop (length bytes - i) bytes) * 256 + get_or bytes (length bytes - 1 - i) 0
@@ -59,7 +66,7 @@ number_of_last bytes i inside =
     ∙ number_of_one_more _ _
     ∙ ap (λ k. number_of_bytes (drop k bytes) * 256 + get_or bytes (length bytes - 1 - i) 0) next
 
--- from the first byte to the last
+-- big-endian, the number of the first i + 1 bytes is 256 times that of the first i, plus byte i
 pub number_of_first : (bytes : List ℕ) (i : ℕ) → i < length bytes
     → number_of_bytes (reverse (take (i + 1) bytes)) ≡ number_of_bytes (reverse (take i bytes)) * 256 + get_or bytes i 0
 number_of_first bytes i inside =
@@ -70,11 +77,13 @@ number_of_first bytes i inside =
 
 -- ---- fewer bytes of a number
 
+-- low_bytes n a has n bytes
 pub length-low : (n a : ℕ) → length (low_bytes n a) ≡ n
 unfolding chunks
 length-low zero a = refl
 length-low (suc n) a = length-append (low_bytes n a) (chunk 8 n a ∷ []) ∙ ap (λ (k : ℕ). k + 1) (length-low n a) ∙ add-one n
 
+-- the first n of n + m low bytes of a number are its n low bytes
 take-low : (n more a : ℕ) → take n (low_bytes (n + more) a) ≡ low_bytes n a
 unfolding chunks
 take-low n zero a =
@@ -88,12 +97,13 @@ take-low n (suc more) a =
     ∙ take-append-le n (low_bytes (n + more) a) (chunk 8 (n + more) a ∷ []) (omega (arith, long))
     ∙ take-low n more a
 
+-- the first n of the 16 little-endian bytes of a number are its n low bytes, n <= 16
 pub low_first_of : (n a : ℕ) → n ≤ 16 → take n (to_le_bytes w128 a) ≡ low_bytes n a
 low_first_of n a few =
     let split : n + (16 - n) ≡ 16 = omega (arith, few) in
     ap (take n) (sixteen_bytes a) ∙ sym (ap (λ (k : ℕ). take n (low_bytes k a)) split) ∙ take-low n (16 - n) a
 
--- the bytes from the highest are those from the lowest the other way round
+-- 256^i = 2^(8 i)
 shift : (i : ℕ) → 256 ^ i ≡ 2 ^ (8 * i)
 shift zero = refl
 shift (suc i) =
@@ -102,10 +112,12 @@ shift (suc i) =
     let powers = pow-suc 256 i in
     omega (arith, bits, below, powers)
 
+-- byte i of a number is its chunk i of 8 bits
 high-chunk : (i a : ℕ) → byte_at i a ≡ chunk 8 i a
 high-chunk zero a = ap (λ (x : ℕ). x % 256) (sym (div-one a))
 high-chunk (suc i) a = ap (λ (p : ℕ). a / p % 256) (shift (suc i))
 
+-- the bytes from the highest are the low bytes in reverse order
 high-reversed : (n a : ℕ) → bytes_high_first n a ≡ reverse (low_bytes n a)
 unfolding chunks
 high-reversed zero a = refl
@@ -113,12 +125,14 @@ high-reversed (suc n) a =
     ap₂ (λ (b : ℕ) bs. b ∷ bs) (high-chunk n a) (high-reversed n a)
     ∙ sym (reverse-append (low_bytes n a) (chunk 8 n a ∷ []))
 
+-- the last n of m + n bytes, the highest first, are the n low bytes, the highest first
 drop-high : (more n a : ℕ) → drop more (bytes_high_first (more + n) a) ≡ bytes_high_first n a
 drop-high zero n a = let none : 0 + n ≡ n = omega arith in ap (λ (k : ℕ). bytes_high_first k a) none
 drop-high (suc more) n a =
     let one : suc more + n ≡ suc (more + n) = omega arith in
     ap (λ (k : ℕ). drop (suc more) (bytes_high_first k a)) one ∙ drop-high more n a
 
+-- the last n of the 16 big-endian bytes of a number are its n low bytes in reverse order, n <= 16
 pub high_first_of : (n a : ℕ) → n ≤ 16 → drop (16 - n) (to_be_bytes w128 a) ≡ reverse (low_bytes n a)
 high_first_of n a few =
     let split : 16 - n + n ≡ 16 = omega (arith, few) in
@@ -126,11 +140,13 @@ high_first_of n a few =
 
 -- ---- numbers from their bytes, and bytes of their numbers
 
+-- chunk 0 of b + 256 v is b
 first-chunk : (b v : ℕ) → b < 256 → chunk 8 0 (b + 256 * v) ≡ b
 first-chunk b v fits =
     let low : (b + 256 * v) % 256 ≡ b % 256 = add-mul-mod_self_left b 256 v in
     ap (λ (x : ℕ). x % 256) (div-one (b + 256 * v)) ∙ low ∙ mod-eq_of_lt fits
 
+-- chunk i + 1 of b + 256 v is chunk i of v
 next-chunk : (i b v : ℕ) → b < 256 → chunk 8 (suc i) (b + 256 * v) ≡ chunk 8 i v
 next-chunk i b v fits =
     let bits : 2 ^ (8 * suc i) ≡ 256 * 2 ^ (8 * i) = ap (λ (k : ℕ). 2 ^ k) (mul-suc 8 i ∙ omega arith) ∙ pow-add 2 8 (8 * i) in
@@ -140,17 +156,20 @@ next-chunk i b v fits =
     ∙ ap (λ (x : ℕ). x / 256 / 2 ^ (8 * i) % 256) swapped
     ∙ ap (λ (x : ℕ). x / 2 ^ (8 * i) % 256) (div-mul-add v 256 b fits)
 
+-- the low bytes of b + 256 v are b and then those of v
 pub low-cons : (n b v : ℕ) → b < 256 → low_bytes (suc n) (b + 256 * v) ≡ b ∷ low_bytes n v
 unfolding chunks
 low-cons zero b v fits = ap (λ (x : ℕ). x ∷ []) (first-chunk b v fits)
 low-cons (suc n) b v fits = ap₂ (λ xs (x : ℕ). xs ++ x ∷ []) (low-cons n b v fits) (next-chunk n b v fits)
 
+-- the low bytes of the number of some bytes are these bytes
 pub low-number : (bytes : List ℕ) → ((k : ℕ) → get_or bytes k 0 < 256) → low_bytes (length bytes) (number_of_bytes bytes) ≡ bytes
 unfolding number_of_bytes chunks
 low-number [] fits = refl
 low-number (b ∷ bytes) fits =
     low-cons (length bytes) b (number_of_bytes bytes) (fits 0) ∙ ap (λ xs. b ∷ xs) (low-number bytes (λ k. fits (suc k)))
 
+-- the number of n bytes is below 2^(8 n)
 pub number-lt : (bytes : List ℕ) → ((k : ℕ) → get_or bytes k 0 < 256) → number_of_bytes bytes < 2 ^ (8 * length bytes)
 unfolding number_of_bytes
 number-lt [] fits = lit< tt
@@ -161,6 +180,7 @@ number-lt (b ∷ bytes) fits =
     let first : b < 256 = fits 0 in
     omega (arith, bits, rest, first)
 
+-- the number of the n low bytes of v is v modulo 2^(8 n)
 pub number-low : (n v : ℕ) → number_of_bytes (low_bytes n v) ≡ v % 2 ^ (8 * n)
 unfolding chunks number_of_bytes
 number-low zero v = sym (mod-one v)
@@ -171,13 +191,13 @@ number-low (suc n) v =
     ∙ sym (mod-pow-add v 8 (8 * n))
     ∙ sym (ap (λ (k : ℕ). v % 2 ^ k) bits)
 
--- a number that a word of more bits cuts off and then one of fewer, is cut off by the latter
+-- a number modulo 2^bits and then modulo 2^width is the number modulo 2^width, where width <= bits
 pub number_held : (number width bits : ℕ) → width ≤ bits → number % 2 ^ bits % 2 ^ width ≡ number % 2 ^ width
 number_held number width bits room =
     let split : bits - width + width ≡ bits = omega (arith, room) in
     sym (ap (λ (k : ℕ). number % 2 ^ k % 2 ^ width) split) ∙ mod-mod-pow number (bits - width) width
 
--- so is the number of an element, which a word holds
+-- so an element that is made from a word is the number in the word, cut to its width
 pub held : {repr word number value : ℕ} (width bits : ℕ) → width ≤ bits → repr ≡ word % 2 ^ width → word ≡ number % 2 ^ bits
     → number ≡ value → repr ≡ value % 2 ^ width
 held {value = value} width bits room is_repr is_word is =
@@ -185,15 +205,18 @@ held {value = value} width bits room is_repr is_word is =
 
 -- ---- the highest byte first
 
+-- a list with a byte before it, reversed, is the reversed list with the byte at its end
 reverse-cons : (b : ℕ) (bytes : List ℕ) → reverse (b ∷ bytes) ≡ reverse bytes ++ b ∷ []
 reverse-cons b bytes = reverse-append (b ∷ []) bytes
 
+-- big-endian, a byte before n others adds b * 2^(8 n) to their number
 high-number-more : (b : ℕ) (bytes : List ℕ)
     → number_of_bytes (reverse (b ∷ bytes)) ≡ b * 2 ^ (8 * length bytes) + number_of_bytes (reverse bytes)
 high-number-more b bytes =
     ap number_of_bytes (reverse-cons b bytes) ∙ number-more (reverse bytes) b
     ∙ ap (λ (k : ℕ). b * 2 ^ (8 * k) + number_of_bytes (reverse bytes)) (length-reverse bytes)
 
+-- the big-endian number of n bytes is below 2^(8 n)
 high-number-lt : (bytes : List ℕ) → ((k : ℕ) → get_or bytes k 0 < 256) → number_of_bytes (reverse bytes) < 2 ^ (8 * length bytes)
 unfolding number_of_bytes
 high-number-lt [] fits = lit< tt
@@ -201,6 +224,7 @@ high-number-lt (b ∷ bytes) fits =
     put-lt 8 (length bytes) (number_of_bytes (reverse (b ∷ bytes))) b (number_of_bytes (reverse bytes))
     (high-number-lt bytes (λ k. fits (suc k))) (fits 0) (high-number-more b bytes)
 
+-- the big-endian bytes of the big-endian number of some bytes are these bytes
 high-number : (bytes : List ℕ) → ((k : ℕ) → get_or bytes k 0 < 256)
     → be_bytes (length bytes) (number_of_bytes (reverse bytes)) ≡ bytes
 unfolding chunks
@@ -211,13 +235,14 @@ high-number (b ∷ bytes) fits =
     ∙ reverse-append (low_bytes (length bytes) (number_of_bytes (reverse bytes))) (b ∷ [])
     ∙ ap (λ bs. b ∷ bs) (high-number bytes (λ k. fits (suc k)))
 
+-- a prefix of a list of bytes has bytes
 pub fits-take : (n : ℕ) (bytes : List ℕ) → ((k : ℕ) → get_or bytes k 0 < 256) → (k : ℕ) → get_or (take n bytes) k 0 < 256
 fits-take zero bytes fits k = lit< tt
 fits-take (suc n) [] fits k = lit< tt
 fits-take (suc n) (b ∷ bytes) fits zero = fits 0
 fits-take (suc n) (b ∷ bytes) fits (suc k) = fits-take n bytes (λ i. fits (suc i)) k
 
--- what is read from the first bytes has those bytes
+-- the element that is read from the first bytes, the highest first, has these bytes
 pub decoded : (size width : ℕ) (bytes : List ℕ) (x : ℕ) → ((k : ℕ) → get_or bytes k 0 < 256) → size ≤ length bytes → width ≡ 8 * size
     → x ≡ number_of_bytes (reverse (take size bytes)) % 2 ^ width → be_bytes size x ≡ take size bytes
 decoded size width bytes x fits enough whole is =
@@ -230,7 +255,7 @@ decoded size width bytes x fits enough whole is =
     ∙ sym (ap (λ (k : ℕ). be_bytes k (number_of_bytes (reverse (take size bytes)))) long)
     ∙ high-number (take size bytes) begins
 
--- numbers of as many bits as the bytes have are equal where the bytes are
+-- two numbers of 8 n bits are equal if their n bytes are
 pub same_number : (size width x y : ℕ) → width ≡ 8 * size → x < 2 ^ width → y < 2 ^ width → be_bytes size x ≡ be_bytes size y → x ≡ y
 same_number size width x y whole x_fits y_fits same =
     sym (kept x x_fits) ∙ ap number_of_bytes lows ∙ kept y y_fits
@@ -241,9 +266,11 @@ same_number size width x y whole x_fits y_fits same =
     kept : (z : ℕ) → z < 2 ^ width → number_of_bytes (low_bytes size z) ≡ z
     kept z fits = number-low size z ∙ ap (λ (k : ℕ). z % 2 ^ k) (sym whole) ∙ mod-eq_of_lt fits
 
+-- be_bytes n x has n bytes
 pub length-be : (size x : ℕ) → length (be_bytes size x) ≡ size
 length-be size x = length-reverse (low_bytes size x) ∙ length-low size x
 
+-- a list that begins with the big-endian bytes of x has them as its first bytes
 pub be-begins : (size x : ℕ) (bytes rest : List ℕ) → bytes ≡ be_bytes size x ++ rest → take size bytes ≡ be_bytes size x
 be-begins size x bytes rest is =
     ap (take size) is ∙ sym (ap (λ (k : ℕ). take k (be_bytes size x ++ rest)) (length-be size x))

@@ -1,27 +1,29 @@
--- Calls that are made one after the other: the bytes of a list of values, and the coefficients of an element.
-use Rattle.std.proofs.Common.{◌≡◌, ◌<◌, ◌+◌, ◌*◌, ◌%◌, ◌^◌, ℕ, suc, List, [], ◌∷◌, ◌++◌, get_or, length, take, sym, ap, ap₂, subst, ◌∙◌, add-one, arith}
+-- Calls that are made one after the other: the bytes of a list of values are observed, and the coefficients of an element are
+-- observed or sampled.
+use Rattle.std.proofs.Common.{◌≡◌, ◌<◌, ◌+◌, ◌*◌, ◌^◌, ℕ, suc, List, [], ◌∷◌, ◌++◌, get_or, length, take, sym, ap, ap₂, subst, ◌∙◌, add-one, arith}
 use Rattle.std.proofs.Math.Seq.{take-suc}
 use Rattle.std.proofs.lemmas.Grind.{flat_map-append}
 use Rattle.std.proofs.lemmas.List.{append-nil, map-append, replicate-append-replicate}
 use Rattle.std.specs.List.{flat_map}
 use native.Mathlib.Nat.{mul-suc, mul-zero}
 use Rattle.field_base.specs.Chunks.{chunk, chunks}
-use Rattle.transcript_bytes.specs.ByteCalls.{bytes_sampled, Observe, observing, Sample, sampling, state_after}
-use Rattle.transcript_bytes.proofs.Runs.{state_after_none, state_joined}
-use Rattle.field_bytes.specs.Bytes.{low_bytes, number_of_bytes}
+use Rattle.transcript_bytes.specs.ByteCalls.{after, Observe, observing, Sample, sampling, Transitions}
+use Rattle.transcript_bytes.proofs.Runs.{after_none, state_joined}
+use Rattle.field_bytes.specs.Bytes.{low_bytes}
 use Rattle.field_space.proofs.Spaces.{chunks-more, chunks-next, chunks-none, more-lt}
-use Rattle.transcript_elements.specs.Sampled.{coefficients_sampled}
+use Rattle.transcript_elements.specs.Sampled.{coefficient_bytes, squeezed_element, squeezed_elements}
 
-module _ {S : Type 0} (observed : S → ℕ → S) (sampled : S → ℕ × S) where
-  -- the bytes of no value, and of one value more
-  pub none_observed : (state : S) → state ≡ state_after observed sampled (observing []) state
-  none_observed state = sym (state_after_none observed sampled state)
+module _ {S : Type 0} (transitions : Transitions S) where
+  -- observing no bytes leaves the state
+  pub none_observed : (state : S) → state ≡ after transitions (observing []) state
+  none_observed state = sym (after_none transitions state)
 
+  -- a loop that has observed the bytes of n values and observes those of value n has observed those of n + 1 values
   pub one_more_observed : {D : Type 0} (bytes : D → List ℕ) (values : List D) (count : ℕ) (value default : D) (old now next : S) → count < length values
       → value ≡ get_or values count default
-      → now ≡ state_after observed sampled (observing (flat_map bytes (take count values))) old
-      → next ≡ state_after observed sampled (observing (bytes value)) now
-      → next ≡ state_after observed sampled (observing (flat_map bytes (take (count + 1) values))) old
+      → now ≡ after transitions (observing (flat_map bytes (take count values))) old
+      → next ≡ after transitions (observing (bytes value)) now
+      → next ≡ after transitions (observing (flat_map bytes (take (count + 1) values))) old
   one_more_observed bytes values count value default old now next inside is before step =
       let taken : take (count + 1) values ≡ take count values ++ value ∷ [] =
       ap (λ (k : ℕ). take k values) (add-one count) ∙ take-suc values count default inside ∙ ap (λ v. take count values ++ v ∷ []) (sym is) in
@@ -29,22 +31,24 @@ module _ {S : Type 0} (observed : S → ℕ → S) (sampled : S → ℕ × S) wh
       ap (λ vs. observing (flat_map bytes vs)) taken
       ∙ ap observing (flat_map-append bytes (take count values) (value ∷ []) ∙ ap (λ bs. flat_map bytes (take count values) ++ bs) (append-nil (bytes value)))
       ∙ map-append Observe (flat_map bytes (take count values)) (bytes value) in
-      state_joined observed sampled (observing (flat_map bytes (take count values))) (observing (bytes value)) old now next before step
-      ∙ ap (λ calls. state_after observed sampled calls old) (sym joined)
+      state_joined transitions (observing (flat_map bytes (take count values))) (observing (bytes value)) old now next before step
+      ∙ ap (λ calls. after transitions calls old) (sym joined)
 
   -- ---- coefficients that are observed
 
+  -- observing 0 coefficients leaves the state
   pub no_coefficient_observed : (size width element : ℕ) (state : S)
-      → state ≡ state_after observed sampled (observing (flat_map (λ c. low_bytes size c) (chunks width 0 element))) state
+      → state ≡ after transitions (observing (coefficient_bytes size width 0 element)) state
   no_coefficient_observed size width element state =
       none_observed state
-      ∙ ap (λ cs. state_after observed sampled (observing (flat_map (λ c. low_bytes size c) cs)) state) (sym (chunks-none width element))
+      ∙ ap (λ cs. after transitions (observing (flat_map (λ c. low_bytes size c) cs)) state) (sym (chunks-none width element))
 
+  -- a loop that has observed n coefficients and observes coefficient n has observed n + 1
   pub one_more_coefficient : (size width count element coefficient : ℕ) (old now next : S)
-      → now ≡ state_after observed sampled (observing (flat_map (λ c. low_bytes size c) (chunks width count element))) old
+      → now ≡ after transitions (observing (coefficient_bytes size width count element)) old
       → coefficient ≡ chunk width count element
-      → next ≡ state_after observed sampled (observing (low_bytes size coefficient)) now
-      → next ≡ state_after observed sampled (observing (flat_map (λ c. low_bytes size c) (chunks width (count + 1) element))) old
+      → next ≡ after transitions (observing (low_bytes size coefficient)) now
+      → next ≡ after transitions (observing (coefficient_bytes size width (count + 1) element)) old
   one_more_coefficient size width count element coefficient old now next before is step =
       let longer : chunks width (count + 1) element ≡ chunks width count element ++ coefficient ∷ [] =
       chunks-next width count element ∙ ap (λ c. chunks width count element ++ c ∷ []) (sym is) in
@@ -54,48 +58,50 @@ module _ {S : Type 0} (observed : S → ℕ → S) (sampled : S → ℕ × S) wh
       ∙ ap observing (flat_map-append (λ c. low_bytes size c) (chunks width count element) (coefficient ∷ [])
       ∙ ap (λ bs. flat_map (λ c. low_bytes size c) (chunks width count element) ++ bs) (append-nil (low_bytes size coefficient)))
       ∙ map-append Observe (flat_map (λ c. low_bytes size c) (chunks width count element)) (low_bytes size coefficient) in
-      state_joined observed sampled (observing (flat_map (λ c. low_bytes size c) (chunks width count element)))
+      state_joined transitions (observing (flat_map (λ c. low_bytes size c) (chunks width count element)))
       (observing (low_bytes size coefficient)) old now next before step
-      ∙ ap (λ calls. state_after observed sampled calls old) (sym joined)
+      ∙ ap (λ calls. after transitions calls old) (sym joined)
 
   -- ---- coefficients that are sampled
 
-  -- the first coefficients of an element were sampled
+  -- `count` coefficients were sampled, and they are those of the element, which has no others
   pub record Sampling (size width count element : ℕ) (old now : S) : Type 0 where
     pub below : element < 2 ^ (width * count)
-    pub run : now ≡ state_after observed sampled (sampling (size * count)) old
-    pub are : chunks width count element ≡ coefficients_sampled observed sampled size width count old
+    pub run : now ≡ after transitions (sampling (size * count)) old
+    pub are : chunks width count element ≡ squeezed_elements transitions size width count old
 
+  -- 0 has no coefficients, and none were sampled
   pub none_sampled : (size width element : ℕ) (old : S) → element ≡ 0 → Sampling size width 0 element old old
-  unfolding coefficients_sampled
+  unfolding squeezed_elements
   none_sampled size width element old nothing =
       let bits : width * 0 ≡ 0 = mul-zero width in
       record {
         below = subst (λ (k : ℕ). element < 2 ^ k) (sym bits) (omega (arith, nothing));
         run =
-            sym (state_after_none observed sampled old)
-            ∙ ap (λ (k : ℕ). state_after observed sampled (sampling k) old) (sym (mul-zero size));
+            sym (after_none transitions old)
+            ∙ ap (λ (k : ℕ). after transitions (sampling k) old) (sym (mul-zero size));
         are = chunks-none width element;
       }
 
+  -- n coefficients were sampled, and coefficient n is sampled and put above them: n + 1 were sampled
   pub one_more_sampled : (size width count element coefficient more : ℕ) (old now next : S)
       → Sampling size width count element old now → coefficient < 2 ^ width
-      → next ≡ state_after observed sampled (sampling size) now
-      → coefficient ≡ number_of_bytes (bytes_sampled observed sampled (sampling size) now) % 2 ^ width
+      → next ≡ after transitions (sampling size) now
+      → coefficient ≡ squeezed_element transitions size width now
       → more ≡ coefficient * 2 ^ (width * count) + element
       → Sampling size width (count + 1) more old next
-  unfolding coefficients_sampled
+  unfolding squeezed_elements
   one_more_sampled size width count element coefficient more old now next before fits step is put = record {
     below = more-lt width count more coefficient element before.below fits put;
     run =
-        state_joined observed sampled (sampling (size * count)) (sampling size) old now next before.run step
-        ∙ ap (λ calls. state_after observed sampled calls old)
+        state_joined transitions (sampling (size * count)) (sampling size) old now next before.run step
+        ∙ ap (λ calls. after transitions calls old)
         (replicate-append-replicate (size * count) size Sample ∙ ap sampling places);
     are =
         chunks-more width count more coefficient element before.below fits put
         ∙ ap₂ (λ cs (c : ℕ). cs ++ c ∷ []) before.are
-        (is ∙ ap (λ state. number_of_bytes (bytes_sampled observed sampled (sampling size) state) % 2 ^ width) before.run)
-        ∙ sym (ap (λ (k : ℕ). coefficients_sampled observed sampled size width k old) (add-one count));
+        (is ∙ ap (squeezed_element transitions size width) before.run)
+        ∙ sym (ap (λ (k : ℕ). squeezed_elements transitions size width k old) (add-one count));
   }
     where
       places : size * count + size ≡ size * (count + 1)

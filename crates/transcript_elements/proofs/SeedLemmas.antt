@@ -1,4 +1,5 @@
--- Strings of bytes as elements: what one element more makes of what was observed, and that no string's elements begin another's.
+-- Seeds as elements: the loop that observes bytes element by element, a seed as two such loops, and that the encoding of seeds is
+-- prefix-free.
 use Rattle.std.proofs.Common.{◌≡◌, ◌≢◌, ◌<◌, ◌≤◌, ◌+◌, ◌-◌, ◌*◌, ◌%◌, ◌^◌, ◌⊎◌, inl, inr, ℕ, zero, suc, List, [], ◌∷◌, ◌++◌, drop, fold, get_or, length, min, replicate, take, refl, sym, subst, lit<, Ok, Err, Result, OnOk, OnErr, ap, ap₂, ◌∙◌, arith}
 use Rattle.std.proofs.Math.Pow.{pow_mono}
 use Rattle.std.proofs.Math.Nat.{add-mod_right, lt_of_lt_of_le, mod_self, zero-mod, mod-eq_of_lt}
@@ -14,12 +15,13 @@ use Rattle.transcript_elements.specs.Seeds.{AreOfSeed, missing, NeitherBegins, O
 
 -- ---- bytes filled with zeros
 
+-- the bytes of 0 are zeros
 low-zeros : (n : ℕ) → low_bytes n 0 ≡ replicate n 0
 unfolding chunks
 low-zeros zero = refl
 low-zeros (suc n) = low-cons n 0 0 (omega arith) ∙ ap (λ bs. 0 ∷ bs) (low-zeros n)
 
--- the bytes of the number of a few bytes are those, and zeros
+-- n bytes of the number of at most n bytes are these bytes, followed by zeros
 pub low-padded : (n : ℕ) (bytes : List ℕ) → length bytes ≤ n → ((k : ℕ) → get_or bytes k 0 < 256)
     → low_bytes n (number_of_bytes bytes) ≡ bytes ++ replicate (n - length bytes) 0
 unfolding number_of_bytes
@@ -31,24 +33,28 @@ low-padded (suc n) (b ∷ bytes) short fits =
     ∙ ap (λ bs. b ∷ bs) (low-padded n bytes (omega (arith, short)) (λ k. fits (suc k))
     ∙ ap (λ (k : ℕ). bytes ++ replicate k 0) less)
 
+-- nothing is missing to no bytes
 missing-none : (size : ℕ) → missing size 0 ≡ 0
 missing-none size =
     let all : size - 0 ≡ size = omega arith in
     ap (λ (k : ℕ). (size - k) % size) (zero-mod size) ∙ ap (λ (k : ℕ). k % size) all ∙ mod_self size
 
+-- no bytes, padded, are no bytes
 padded-none : (size : ℕ) → padded size [] ≡ []
 padded-none size = ap (λ (k : ℕ). replicate k 0) (missing-none size)
 
+-- to 0 < n < size bytes, size - n are missing
 missing-few : (size count : ℕ) → 0 < count → count < size → missing size count ≡ size - count
 missing-few size count some few =
     ap (λ (k : ℕ). (size - k) % size) (mod-eq_of_lt few) ∙ mod-eq_of_lt (omega (arith, some, few))
 
+-- with one whole element fewer, as many bytes are missing
 missing-less : (size count : ℕ) → size ≤ count → missing size count ≡ missing size (count - size)
 missing-less size count enough =
     let split : count ≡ count - size + size = omega (arith, enough) in
     ap (λ (k : ℕ). (size - k) % size) (ap (λ (k : ℕ). k % size) split ∙ add-mod_right (count - size) size)
 
--- the first element's bytes, and the others'
+-- padded bytes are the padded bytes of the first element, and then the other bytes, padded
 pub padded_first : (size taken : ℕ) (rest : List ℕ) → 0 < length rest → (taken ≡ size) × (size ≤ length rest) ⊎ (taken ≡ length rest) × (length rest < size)
     → padded size rest ≡ (take taken rest ++ replicate (size - taken) 0) ++ padded size (drop taken rest)
 padded_first size taken rest some (inl whole) =
@@ -72,6 +78,7 @@ padded_first size taken rest some (inr last) =
     ∙ ap (λ xs. (take taken rest ++ replicate (size - taken) 0) ++ xs) (sym (padded-none size))
     ∙ ap (λ xs. (take taken rest ++ replicate (size - taken) 0) ++ padded size xs) (sym none)
 
+-- the minimum of `size` and `count` is `size`, or it is `count` and that is smaller
 taken_cases : (size count taken : ℕ) → taken ≡ min size count → (taken ≡ size) × (size ≤ count) ⊎ (taken ≡ count) × (count < size)
 taken_cases size count taken least = by_sign (count - size) (size - count) refl refl
   where
@@ -79,33 +86,38 @@ taken_cases size count taken least = by_sign (count - size) (size - count) refl 
     by_sign over zero above below = inl (omega (arith, least, below), omega (arith, below))
     by_sign over (suc under) above below = inr (omega (arith, least, below), omega (arith, below))
 
+-- a suffix of a list of bytes has bytes
 pub fits-drop : (n : ℕ) (bytes : List ℕ) → ((k : ℕ) → get_or bytes k 0 < 256) → (k : ℕ) → get_or (drop n bytes) k 0 < 256
 fits-drop zero bytes fits k = fits k
 fits-drop (suc n) [] fits k = lit< tt
 fits-drop (suc n) (b ∷ bytes) fits k = fits-drop n bytes (λ i. fits (suc i)) k
 
--- ---- what holds of an answer, by what held of it before
+-- ---- what holds of a result
 
+-- an implication carries over to what holds if the result is Ok
 pub on_ok-with : {T X P Q : Type 0} (result : Result T X) → (P → Q) → OnOk result P → OnOk result Q
 on_ok-with (Ok value) gives holds = gives holds
 on_ok-with (Err error) gives holds = tt
 
+-- an implication carries over to what holds if the result is an error
 pub on_err-with : {T X P Q : Type 0} (result : Result T X) → (P → Q) → OnErr result P → OnErr result Q
 on_err-with (Ok value) gives holds = tt
 on_err-with (Err error) gives holds = gives holds
 
 -- ---- elements that were observed one after the other
 
--- the elements of `bytes` were observed, but for those of `rest`
+-- the elements of `bytes` were observed except those of `rest`
 pub record Absorbed {E S : Type 0} (size : ℕ) (repr : E → ℕ) (observed : S → E → S) (bytes rest : List ℕ) (old now : S) : Type 0 where
   pub elements : List E
   pub joined : joined_bytes size repr elements ++ padded size rest ≡ padded size bytes
   pub run : now ≡ fold observed old elements
 
 module _ {E S : Type 0} (size : ℕ) (repr : E → ℕ) (observed : S → E → S) (bytes : List ℕ) (old : S) where
+  -- at first no elements were observed, and all bytes are left
   pub absorbed_none : Absorbed size repr observed bytes bytes old old
   absorbed_none = record { elements = []; joined = refl; run = refl }
 
+  -- one more element was observed, that of the first of the bytes that are left
   pub absorbed_more : (width taken : ℕ) (rest : List ℕ) (x : E) (now next : S) → Absorbed size repr observed bytes rest old now
       → 0 < length rest → taken ≡ min size (length rest)
       → width ≡ 8 * size → ((k : ℕ) → get_or rest k 0 < 256)
@@ -147,6 +159,7 @@ module _ {E S : Type 0} (size : ℕ) (repr : E → ℕ) (observed : S → E → 
           ∙ low-padded size (take taken rest) (omega (arith, long, few)) (fits-take taken rest fits)
           ∙ ap (λ (k : ℕ). take taken rest ++ replicate (size - k) 0) long
 
+  -- when no bytes are left, the elements of the padded bytes were observed
   pub absorbed_all : (rest : List ℕ) (now : S) → Absorbed size repr observed bytes rest old now → length rest ≡ 0
       → Observes size repr observed (padded size bytes) old now
   absorbed_all [] now before none = (
@@ -158,6 +171,7 @@ module _ {E S : Type 0} (size : ℕ) (repr : E → ℕ) (observed : S → E → 
   )
   absorbed_all (b ∷ rest) now before none = absurd (omega (arith, none))
 
+  -- when the call for the next element failed, a proper prefix of the elements was observed
   pub absorbed_part : (may_leave : S → S → Type 0) (rest : List ℕ) (now left : S) → Absorbed size repr observed bytes rest old now
       → 0 < length rest → may_leave now left → ObservesPart size repr observed may_leave (padded size bytes) old left
   absorbed_part may_leave rest now left before some leaves = (
@@ -166,7 +180,7 @@ module _ {E S : Type 0} (size : ℕ) (repr : E → ℕ) (observed : S → E → 
     subst (λ s. may_leave s left) before.run leaves,
   )
 
-  -- two runs, one after the other: the bytes of both
+  -- two loops, one after the other, observe the elements of the joined bytes
   observes_both : (first second : List ℕ) (now next : S) → Observes size repr observed first old now
       → Observes size repr observed second now next → Observes size repr observed (first ++ second) old next
   observes_both first second now next before after = (
@@ -175,7 +189,7 @@ module _ {E S : Type 0} (size : ℕ) (repr : E → ℕ) (observed : S → E → 
     after.2 ∙ ap (λ s. fold observed s after.0) before.2 ∙ sym (fold-append observed old before.0 after.0),
   )
 
-  -- the second of which failed
+  -- if the second loop failed, part of the joined bytes was observed
   observes_part_of_both : (may_leave : S → S → Type 0) (first second : List ℕ) (now left : S)
       → Observes size repr observed first old now → ObservesPart size repr observed may_leave second now left
       → ObservesPart size repr observed may_leave (first ++ second) old left
@@ -191,7 +205,7 @@ module _ {E S : Type 0} (size : ℕ) (repr : E → ℕ) (observed : S → E → 
     subst (λ s. may_leave s left) (ap (λ s. fold observed s after.0) before.2 ∙ sym (fold-append observed old before.0 after.0)) after.2,
   )
 
-  -- or the first
+  -- if the first loop failed, part of the joined bytes was observed
   observes_part_of_first : (may_leave : S → S → Type 0) (first second : List ℕ) (left : S)
       → ObservesPart size repr observed may_leave first old left
       → ObservesPart size repr observed may_leave (first ++ second) old left
@@ -205,13 +219,14 @@ module _ {E S : Type 0} (size : ℕ) (repr : E → ℕ) (observed : S → E → 
     part.2,
   )
 
-  -- the length of the bytes, of which `header` is the eight, and the bytes: a seed
+  -- the eight bytes of the length and then the bytes were observed: those are the elements of the seed
   pub seed_observed : (header : List ℕ) (now next : S) → header ≡ low_bytes 8 (length bytes) → Observes size repr observed (padded size header) old now
       → Observes size repr observed (padded size bytes) now next → Observes size repr observed (seed_bytes size bytes) old next
   seed_observed header now next is before after =
       subst (λ head. Observes size repr observed (padded size head ++ padded size bytes) old next) is
       (observes_both (padded size header) (padded size bytes) now next before after)
 
+  -- if the second of the two loops failed, part of the seed was observed
   pub seed_part_of_both : (may_leave : S → S → Type 0) (header : List ℕ) (now left : S) → header ≡ low_bytes 8 (length bytes)
       → Observes size repr observed (padded size header) old now → ObservesPart size repr observed may_leave (padded size bytes) now left
       → ObservesPart size repr observed may_leave (seed_bytes size bytes) old left
@@ -219,6 +234,7 @@ module _ {E S : Type 0} (size : ℕ) (repr : E → ℕ) (observed : S → E → 
       subst (λ head. ObservesPart size repr observed may_leave (padded size head ++ padded size bytes) old left) is
       (observes_part_of_both may_leave (padded size header) (padded size bytes) now left before after)
 
+  -- so it was if the first one failed
   pub seed_part_of_first : (may_leave : S → S → Type 0) (header : List ℕ) (left : S) → header ≡ low_bytes 8 (length bytes)
       → ObservesPart size repr observed may_leave (padded size header) old left
       → ObservesPart size repr observed may_leave (seed_bytes size bytes) old left
@@ -226,7 +242,7 @@ module _ {E S : Type 0} (size : ℕ) (repr : E → ℕ) (observed : S → E → 
       subst (λ head. ObservesPart size repr observed may_leave (padded size head ++ padded size bytes) old left) is
       (observes_part_of_first may_leave (padded size header) (padded size bytes) left part)
 
--- a seed has some bytes: those of its length
+-- the encoding of a seed is not empty, since it has the length
 pub seed_is_long : (size : ℕ) (seed : List ℕ) → 0 < length (seed_bytes size seed)
 seed_is_long size seed =
     let head = length-low 8 (length seed) in
@@ -234,14 +250,16 @@ seed_is_long size seed =
     let both = length-append (padded size (low_bytes 8 (length seed))) (padded size seed) in
     omega (arith, head, first, both)
 
--- ---- no string's elements begin another's
+-- ---- the encoding is prefix-free
 
+-- two lists that are equal and begin with parts of the same length have the same parts
 seam : {A : Type 0} (xs ys more others : List A) → length xs ≡ length ys → xs ++ more ≡ ys ++ others → (xs ≡ ys) × (more ≡ others)
 seam xs ys more others long same =
     let begins : xs ≡ ys =
     sym (take-append_seam xs more) ∙ ap (take (length xs)) same ∙ ap (λ (k : ℕ). take k (ys ++ others)) long ∙ take-append_seam ys others in
     (begins, append_cancel_left ys more others (ap (λ zs. zs ++ more) (sym begins) ∙ same))
 
+-- if the bytes of one seed begin those of another, the seeds are equal
 seeds_apart : (size : ℕ) (one other more : List ℕ) → length one < 2 ^ 64 → length other < 2 ^ 64
     → seed_bytes size one ++ more ≡ seed_bytes size other → one ≡ other
 seeds_apart size one other more fits other_fits same = (seam one other _ _ lengths (sym (append_assoc one _ more) ∙ after.1)).0
@@ -271,6 +289,7 @@ seeds_apart size one other more fits other_fits same = (seam one other _ _ lengt
         sym (mod-eq_of_lt fits) ∙ sym (number-low 8 (length one)) ∙ ap number_of_bytes first.0
         ∙ number-low 8 (length other) ∙ mod-eq_of_lt other_fits
 
+-- the encoding of seeds is prefix-free
 pub neither_begins : {E : Type 0} (size : ℕ) (repr : E → ℕ) (seed other : List ℕ) (xs ys : List E) → length seed < 2 ^ 64 → length other < 2 ^ 64
     → other ≢ seed → AreOfSeed size repr seed xs → AreOfSeed size repr other ys → NeitherBegins xs ys
 neither_begins size repr seed other xs ys fits other_fits differ of_seed of_other = (

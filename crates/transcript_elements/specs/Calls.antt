@@ -1,17 +1,20 @@
 -- Calls of the challenger of a field as values, and what lists of them do. An element has `size` bytes, `width` bits and a number,
--- its representation `repr`; `observed` and `sampled` are what the byte calls of the inner challenger do.
-use Rattle.std.specs.Prelude.{◌≡◌, ◌<◌, ◌%◌, ◌^◌, ℕ, Bool, List, [], ◌∷◌, ◌++◌, length, map, nat_eq, take}
+-- its representation `repr`.
+use Rattle.std.specs.Prelude.{◌≡◌, ◌<◌, ◌%◌, ◌^◌, ◌⊎◌, ℕ, Bool, true, List, [], ◌∷◌, ◌++◌, length, map, nat_eq, take, Vec}
 use Rattle.std.specs.Int.{from_le_bytes, w64}
 use Rattle.std.specs.List.{flat_map}
-use Rattle.transcript_bytes.specs.ByteCalls.{ByteCall, bytes_sampled, observing, sampling, state_after}
+use Rattle.transcript_bytes.specs.ByteCalls.{after, ByteCall, observing, sampling, squeezed, Transitions}
+use Rattle.transcript_bytes.specs.declared.byte_challenger.ByteChallenger
 use Rattle.field_bytes.specs.Bytes.{low_bytes, number_of_bytes}
+use Rattle.transcript_elements.specs.Challengers.{challenger_refused, inner_of, state_of}
 use Rattle.transcript_elements.specs.Sampled.{check_calls}
 use Rattle.transcript_elements.specs.declared.calls.Call.{Call}
 use Rattle.transcript_elements.specs.declared.calls.Call.TheVariants as call
 use Rattle.transcript_elements.specs.declared.calls.Reply.{Reply}
 use Rattle.transcript_elements.specs.declared.calls.Reply.TheVariants as reply
+use Rattle.transcript_elements.specs.declared.challenger.BinaryChallenger.{BinaryChallenger}
 
--- whether a call may be made: it asks for at most 63 bits
+-- whether a call may be made: it is for at most 63 bits
 abbrev pub MayCall : {F : Type 0} → Call F → Type 0
 MayCall (call.Observe element) = Unit {0}
 MayCall call.Sample = Unit {0}
@@ -25,11 +28,11 @@ byte_calls size repr call.Sample = sampling size
 byte_calls size repr (call.SampleBits bits) = sampling 8
 byte_calls size repr (call.CheckWitness bits witness) = check_calls size bits (repr witness)
 
--- those of a list of calls, joined
+-- the byte calls of a list of calls, one call after the other
 abbrev pub joined_calls : {F : Type 0} → ℕ → (F → ℕ) → List (Call F) → List ByteCall
 joined_calls size repr calls = flat_map (byte_calls size repr) calls
 
--- what a call answers: nothing, the representation of an element, a number of bits, or whether a witness passes
+-- what a call says: nothing, the representation of an element, a number of bits, or whether a witness passes
 pub data Answer : Type 0 where
   Done : Answer
   Element : ℕ → Answer
@@ -43,7 +46,7 @@ said repr (reply.Element element) = Element (repr element)
 said repr (reply.Bits number) = Bits number
 said repr (reply.Passed passed) = Passed passed
 
--- the answer of a call of which the byte calls sample these bytes, the lowest first
+-- the answer of a call whose byte calls sample these bytes, the lowest first
 abbrev pub answer_from : {F : Type 0} → ℕ → Call F → List ℕ → Answer
 answer_from width (call.Observe element) bytes = Done
 answer_from width call.Sample bytes = Element (number_of_bytes bytes % 2 ^ width)
@@ -51,17 +54,39 @@ answer_from width (call.SampleBits bits) bytes = Bits (from_le_bytes w64 bytes %
 answer_from width (call.CheckWitness bits witness) bytes = Passed (nat_eq (from_le_bytes w64 bytes % 2 ^ bits) 0)
 
 -- the answers of a list of calls, each made in the state that the byte calls of those before it leave
-unfoldable pub call_answers : {F S : Type 0} → ℕ → ℕ → (F → ℕ) → (S → ℕ → S) → (S → ℕ × S) → List (Call F) → S → List Answer
-call_answers size width repr observed sampled [] state = []
-call_answers size width repr observed sampled (call ∷ calls) state =
-    answer_from width call (bytes_sampled observed sampled (byte_calls size repr call) state)
-    ∷ call_answers size width repr observed sampled calls (state_after observed sampled (byte_calls size repr call) state)
+unfoldable pub call_answers : {F S : Type 0} → ℕ → ℕ → (F → ℕ) → Transitions S → List (Call F) → S → List Answer
+call_answers size width repr transitions [] state = []
+call_answers size width repr transitions (call ∷ calls) state =
+    answer_from width call (squeezed transitions (byte_calls size repr call) state)
+    ∷ call_answers size width repr transitions calls (after transitions (byte_calls size repr call) state)
 
--- the replies are the old ones, and behind them one for each answer, which gives it
-abbrev pub AppendsReplies : {F : Type 0} → (F → ℕ) → List Answer → List (Reply F) → List (Reply F) → Type 0
-AppendsReplies {F} repr call_answers old new = (replies : List (Reply F)) × (new ≡ old ++ replies) × (map (said repr) replies ≡ call_answers)
+-- the new replies are the old ones, followed by replies that give these answers
+abbrev pub AppendsAnswers : {F : Type 0} → (F → ℕ) → List Answer → List (Reply F) → List (Reply F) → Type 0
+AppendsAnswers {F} repr answers old new =
+    (replies : List (Reply F)) × (new ≡ old ++ replies) × (map (said repr) replies ≡ answers)
 
--- the replies to a beginning of the calls, which leaves at least one out, were appended
-abbrev pub AppendsSome : {F S : Type 0} → ℕ → ℕ → (F → ℕ) → (S → ℕ → S) → (S → ℕ × S) → List (Call F) → S → List (Reply F) → List (Reply F) → Type 0
-AppendsSome size width repr observed sampled calls state old new =
-    (count : ℕ) × (count < length calls) × AppendsReplies repr (call_answers size width repr observed sampled (take count calls) state) old new
+-- the reply gives the answer of the call, made in the state of this challenger
+abbrev pub IsReplyTo : {F C : Type 0} {c : ByteChallenger.Ghosts C} → ℕ → ℕ → (F → ℕ) → Call F → BinaryChallenger F C c → Reply F
+    → Type 0
+IsReplyTo {c = c} size width repr call challenger reply =
+    said repr reply ≡ answer_from width call (squeezed c.transitions (byte_calls size repr call) (state_of challenger))
+
+-- a reply to each of the calls was appended, made from the state of this challenger on
+abbrev pub AppendsReplies : {F C A : Type 0} {c : ByteChallenger.Ghosts C} → ℕ → ℕ → (F → ℕ) → List (Call F)
+    → BinaryChallenger F C c → Vec (Reply F) A → Vec (Reply F) A → Type 0
+AppendsReplies {c = c} size width repr calls challenger old new =
+    AppendsAnswers repr (call_answers size width repr c.transitions calls (state_of challenger)) old.items new.items
+
+-- the replies to a proper prefix of the calls were appended
+abbrev pub AppendsSome : {F C A : Type 0} {c : ByteChallenger.Ghosts C} → ℕ → ℕ → (F → ℕ) → List (Call F)
+    → BinaryChallenger F C c → Vec (Reply F) A → Vec (Reply F) A → Type 0
+AppendsSome size width repr calls challenger old new =
+    (count : ℕ) × (count < length calls) × AppendsReplies size width repr (take count calls) challenger old new
+
+-- Where a list of calls stopped that failed: either before the first call, with the byte challenger and the replies as before, or
+-- at a call that the byte challenger refused, with the replies to the calls before it appended.
+abbrev pub StopsEarly : {F C A : Type 0} {c : ByteChallenger.Ghosts C} → ℕ → ℕ → (F → ℕ) → List (Call F)
+    → BinaryChallenger F C c → BinaryChallenger F C c → Vec (Reply F) A → Vec (Reply F) A → Type 0
+StopsEarly size width repr calls challenger challenger' old new =
+    (inner_of challenger' ≡ inner_of challenger) × (new.items ≡ old.items)
+    ⊎ AppendsSome size width repr calls challenger old new × (challenger_refused challenger' ≡ true)

@@ -1,14 +1,14 @@
--- How a string of bytes is read as elements of `size` bytes each: its length goes before it, and both are filled with zeros to
--- whole elements, so that no string's elements are the beginning of another's.
-use Rattle.std.specs.Prelude.{◌≡◌, ◌≢◌, ◌<◌, ◌-◌, ◌%◌, ℕ, List, ◌++◌, fold, length, replicate}
+-- How a seed, a string of bytes, is read as elements of `size` bytes each: its length as eight bytes and then the seed, each filled
+-- with zeros to whole elements. This encoding is prefix-free.
+use Rattle.std.specs.Prelude.{◌≡◌, ◌≢◌, ◌<◌, ◌-◌, ◌%◌, ◌^◌, ℕ, List, ◌++◌, fold, length, replicate}
 use Rattle.field_bytes.specs.Bytes.{low_bytes}
 use Rattle.field_bytes.specs.Streams.{joined_bytes}
 
--- the bytes that are missing to a whole number of elements
+-- how many bytes are missing to a whole number of elements
 abbrev pub missing : ℕ → ℕ → ℕ
 missing size count = (size - count % size) % size
 
--- bytes, and zeros behind them, to a whole number of elements
+-- bytes, followed by zeros up to a whole number of elements
 abbrev pub padded : ℕ → List ℕ → List ℕ
 padded size bytes = bytes ++ replicate (missing size (length bytes)) 0
 
@@ -20,20 +20,44 @@ seed_bytes size seed = padded size (low_bytes 8 (length seed)) ++ padded size se
 abbrev pub AreOfSeed : {E : Type 0} → ℕ → (E → ℕ) → List ℕ → List E → Type 0
 AreOfSeed size repr seed elements = joined_bytes size repr elements ≡ seed_bytes size seed
 
--- the elements are a beginning of those of some bytes, which leaves at least one out
+-- the bytes of the elements are a proper prefix of these bytes
 abbrev pub BeginBytes : {E : Type 0} → ℕ → (E → ℕ) → List ℕ → List E → Type 0
 BeginBytes size repr bytes elements = (rest : List ℕ) × (joined_bytes size repr elements ++ rest ≡ bytes) × (0 < length rest)
 
--- neither of two lists begins the other
+-- neither of two lists is a prefix of the other
 abbrev pub NeitherBegins : {E : Type 0} → List E → List E → Type 0
 NeitherBegins {E} xs ys = ((rest : List E) → xs ++ rest ≢ ys) × ((rest : List E) → ys ++ rest ≢ xs)
+
+-- No list of elements of this seed is a prefix of one of another seed, or has one as a prefix. Seeds have fewer than 2^64 bytes.
+abbrev pub IsPrefixFree : {E : Type 0} → ℕ → (E → ℕ) → List ℕ → Type 0
+IsPrefixFree {E} size repr seed =
+    (other : List ℕ) → length other < 2 ^ 64 → other ≢ seed
+    → (xs ys : List E) → AreOfSeed size repr seed xs → AreOfSeed size repr other ys → NeitherBegins xs ys
 
 -- elements whose bytes are those given were observed in order
 abbrev pub Observes : {E S : Type 0} → ℕ → (E → ℕ) → (S → E → S) → List ℕ → S → S → Type 0
 Observes {E} size repr observed bytes old new =
     (elements : List E) × (joined_bytes size repr elements ≡ bytes) × (new ≡ fold observed old elements)
 
--- a beginning of them was observed, and the call for the next one failed
+-- elements whose bytes are a proper prefix of those given were observed, and the call for the next element failed
 abbrev pub ObservesPart : {E S : Type 0} → ℕ → (E → ℕ) → (S → E → S) → (S → S → Type 0) → List ℕ → S → S → Type 0
 ObservesPart {E} size repr observed may_leave bytes old new =
     (elements : List E) × BeginBytes size repr bytes elements × may_leave (fold observed old elements) new
+
+-- a transcript observed the elements of the bytes, filled with zeros to whole elements, in order
+abbrev pub ObservesPadded : {E S C : Type 0} → ℕ → (E → ℕ) → (S → E → S) → (C → S) → List ℕ → C → C → Type 0
+ObservesPadded size repr observed state bytes old new = Observes size repr observed (padded size bytes) (state old) (state new)
+
+-- a transcript observed only some of them, from the first on, and the call for the next one failed
+abbrev pub BeginsPadded : {E S C : Type 0} → ℕ → (E → ℕ) → (S → E → S) → (S → S → Type 0) → (C → S) → List ℕ → C → C → Type 0
+BeginsPadded size repr observed may_leave state bytes old new =
+    ObservesPart size repr observed may_leave (padded size bytes) (state old) (state new)
+
+-- a transcript observed the elements of the seed in order
+abbrev pub ObservesSeed : {E S C : Type 0} → ℕ → (E → ℕ) → (S → E → S) → (C → S) → List ℕ → C → C → Type 0
+ObservesSeed size repr observed state seed old new = Observes size repr observed (seed_bytes size seed) (state old) (state new)
+
+-- a transcript observed only some of them, from the first on, and the call for the next one failed
+abbrev pub BeginsSeed : {E S C : Type 0} → ℕ → (E → ℕ) → (S → E → S) → (S → S → Type 0) → (C → S) → List ℕ → C → C → Type 0
+BeginsSeed size repr observed may_leave state seed old new =
+    ObservesPart size repr observed may_leave (seed_bytes size seed) (state old) (state new)

@@ -1,13 +1,9 @@
 // Elements of extensions that are observed and sampled, coefficient by coefficient.
-ghost use Rattle.std.specs.Prelude.{◌≡◌, ◌*◌, ℕ, IfOk, OnOk};
-ghost use Rattle.std.specs.List.{flat_map};
-ghost use Rattle.field_base.specs.Chunks.{chunks};
-ghost use Rattle.transcript_bytes.specs.ByteCalls.{observing, sampling, state_after};
-ghost use Rattle.transcript_bytes.specs.Guarded.{guarded_inner};
+ghost use Rattle.std.specs.Prelude.{◌≡◌, ℕ, IfOk, OnOk};
+ghost use Rattle.transcript_bytes.specs.ByteCalls.{after, observing};
 ghost use Rattle.transcript_bytes.specs.GuardedAnswers.{GuardedAnswer};
-ghost use Rattle.field_bytes.specs.Bytes.{low_bytes};
-ghost use Rattle.transcript_elements.specs.Challengers.{guarded_of};
-ghost use Rattle.transcript_elements.specs.Sampled.{coefficients_sampled};
+ghost use Rattle.transcript_elements.specs.Challengers.{state_of};
+ghost use Rattle.transcript_elements.specs.Sampled.{coefficient_bytes, SamplesCoefficients};
 
 use crate::challenger::BinaryChallenger;
 use crate::sample::CanSample;
@@ -27,11 +23,11 @@ pub trait FieldChallenger<F: PrimeCharacteristicRing>: Transcript {
     // The state after an element of so many coefficients was observed, by its representation.
     ghost algebra_observed: { State → ℕ → ℕ → State };
 
-    // Whether a sample of so many coefficients in the first state gives the representation and leaves the second state.
+    // Whether sampling so many coefficients in the first state gives the representation and leaves the second state.
     ghost gives_algebra: { State → ℕ → ℕ → State → Type 0 };
 
-    /// Observes the coefficients, the lowest first. It fails with `Memory` where memory was refused, and with `Failed` where an
-    /// earlier call had failed.
+    /// Observes the coefficients, the lowest first. It fails with `Memory` if memory was refused, and with `Failed` if an earlier
+    /// call had failed.
     fn observe_algebra_element<E: BasedVectorSpace<F>>(
         &mut self,
         element: E,
@@ -39,8 +35,8 @@ pub trait FieldChallenger<F: PrimeCharacteristicRing>: Transcript {
         ensures ok { OnOk result (state self.new ≡ algebra_observed (state self.old) E.DIMENSION (E.repr element)) }
         ensures answer { GuardedAnswer (Self.has_failed self.old) (Self.has_failed self.new) (Self.has_refused self.new) result };
 
-    /// Samples the coefficients, the lowest first. It fails with `Memory` where memory was refused, and with `Failed` where an
-    /// earlier call had failed.
+    /// Samples the coefficients, the lowest first. It fails with `Memory` if memory was refused, and with `Failed` if an earlier
+    /// call had failed.
     fn sample_algebra_element<E: BasedVectorSpace<F>>(&mut self) -> Result<E, ChallengerError>
         ensures ok { IfOk result (λ element. gives_algebra (state self.old) E.DIMENSION (E.repr element) (state self.new)) }
         ensures answer { GuardedAnswer (Self.has_failed self.old) (Self.has_failed self.new) (Self.has_refused self.new) result };
@@ -49,11 +45,11 @@ pub trait FieldChallenger<F: PrimeCharacteristicRing>: Transcript {
 impl<F: ByteLevel, Inner: ByteChallenger> FieldChallenger<F> for BinaryChallenger<F, Inner> {
     ghost State = { Inner.State };
 
-    ghost state = { λ challenger. Inner.state (guarded_inner (guarded_of challenger)) };
+    ghost state = { λ challenger. state_of challenger };
 
-    ghost algebra_observed = { λ state dimension element. state_after Inner.observed Inner.sampled (observing (flat_map (λ c. low_bytes F.NUM_BYTES c) (chunks F.width dimension element))) state };
+    ghost algebra_observed = { λ state n x. after Inner.transitions (observing (coefficient_bytes F.NUM_BYTES F.width n x)) state };
 
-    ghost gives_algebra = { λ old dimension element new. (new ≡ state_after Inner.observed Inner.sampled (sampling (F.NUM_BYTES * dimension)) old) × (chunks F.width dimension element ≡ coefficients_sampled Inner.observed Inner.sampled F.NUM_BYTES F.width dimension old) };
+    ghost gives_algebra = { λ old n x new. SamplesCoefficients Inner.transitions F.NUM_BYTES F.width n old x new };
 
     fn observe_algebra_element<E: BasedVectorSpace<F>>(
         &mut self,

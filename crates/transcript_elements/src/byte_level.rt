@@ -1,4 +1,4 @@
-// Fields whose elements are written in at most 16 bytes.
+// Fields whose elements have at most 16 bytes.
 ghost use Rattle.std.specs.Prelude.{◌≡◌, ◌<◌, ◌≤◌, ◌+◌, ◌*◌, ◌%◌, ◌^◌, length, reverse, take, drop, ◌-◌};
 ghost use Rattle.std.proofs.Common.{lit≤};
 ghost use Rattle.field_bytes.specs.Bytes.{low_bytes, number_of_bytes};
@@ -12,59 +12,26 @@ use field_element::{Element, HasPacking};
 /// The most bytes that an element of a `ByteLevel` has.
 pub(crate) const MOST_BYTES: usize = 16;
 
-// The number with another byte, which becomes its lowest.
-#[inline]
-fn with_byte(number: u128, byte: u8) -> u128
-    requires { number * 256 + byte < 2 ^ 128 }
-    ensures { result ≡ number * 256 + byte }
-{
-    number * 256 + u128::from(byte)
-}
-
-/// The number of at most 16 bytes, the lowest first.
-fn number_of_low_first(bytes: &[u8]) -> u128
-    requires { length bytes.now ≤ 16 }
-    ensures { result ≡ number_of_bytes bytes.now }
-{
-    let mut number: u128 = 0;
-    for i in 0..bytes.len() {
-        number = with_byte(number, bytes[bytes.len() - 1 - i]);
-    }
-    number
-}
-
-/// The number of at most 16 bytes, the highest first.
-fn number_of_high_first(bytes: &[u8]) -> u128
-    requires { length bytes.now ≤ 16 }
-    ensures { result ≡ number_of_bytes (reverse bytes.now) }
-{
-    let mut number: u128 = 0;
-    for i in 0..bytes.len() {
-        number = with_byte(number, bytes[i]);
-    }
-    number
-}
-
-/// A field whose elements are written in at most 16 bytes, as those of every field with a power of two as its bits are.
+/// A field whose elements have at most 16 bytes.
 pub trait ByteLevel: TowerLevel + RawDataSerializable {
     ghost short_law: { Self.NUM_BYTES ≤ 16 };
 
-    /// The bytes of the representation, the lowest first, and zeros behind them.
+    /// The bytes of the representation, the lowest first, followed by zeros.
     final fn low_first(self) -> [u8; 16]
         ensures { take Self.NUM_BYTES result ≡ low_bytes Self.NUM_BYTES (Self.repr self) }
     {
         self.to_repr().to_u128().to_le_bytes()
     }
 
-    /// Zeros, and the bytes of the representation behind them, the highest first.
+    /// Zeros, followed by the bytes of the representation, the highest first.
     final fn high_first(self) -> [u8; 16]
         ensures { drop (16 - Self.NUM_BYTES) result ≡ be_bytes Self.NUM_BYTES (Self.repr self) }
     {
         self.to_repr().to_u128().to_be_bytes()
     }
 
-    /// The element of the bytes, of which there are at most `NUM_BYTES`, the lowest first, with zeros behind them. Bits above the
-    /// element are dropped.
+    /// The element with these bytes, at most `NUM_BYTES`, the lowest first; missing bytes are zero. Bits above the element are
+    /// dropped.
     final fn of_low_first(bytes: &[u8]) -> Self
         requires { length bytes.now ≤ Self.NUM_BYTES }
         ensures { Self.repr result ≡ number_of_bytes bytes.now % 2 ^ Self.width }
@@ -72,7 +39,7 @@ pub trait ByteLevel: TowerLevel + RawDataSerializable {
         Self::from_repr(Self::Repr::of_u128(number_of_low_first(bytes)))
     }
 
-    /// The element of the bytes, of which there are at most `NUM_BYTES`, the highest first. Bits above the element are dropped.
+    /// The element with these bytes, at most `NUM_BYTES`, the highest first. Bits above the element are dropped.
     final fn of_high_first(bytes: &[u8]) -> Self
         requires { length bytes.now ≤ Self.NUM_BYTES }
         ensures { Self.repr result ≡ number_of_bytes (reverse bytes.now) % 2 ^ Self.width }
@@ -112,4 +79,37 @@ impl<R: ShortWord, K: LevelKernel<R> + HasPacking<R>> ByteLevel for Element<R, K
 
 impl ByteLevel for Gf2 {
     ghost short_law = { lit≤ tt };
+}
+
+// The number of at most 16 bytes, the lowest first.
+fn number_of_low_first(bytes: &[u8]) -> u128
+    requires { length bytes.now ≤ 16 }
+    ensures { result ≡ number_of_bytes bytes.now }
+{
+    let mut number: u128 = 0;
+    for i in 0..bytes.len() {
+        number = with_byte(number, bytes[bytes.len() - 1 - i]);
+    }
+    number
+}
+
+// The number of at most 16 bytes, the highest first.
+fn number_of_high_first(bytes: &[u8]) -> u128
+    requires { length bytes.now ≤ 16 }
+    ensures { result ≡ number_of_bytes (reverse bytes.now) }
+{
+    let mut number: u128 = 0;
+    for i in 0..bytes.len() {
+        number = with_byte(number, bytes[i]);
+    }
+    number
+}
+
+// The number with another byte, which becomes its lowest.
+#[inline]
+fn with_byte(number: u128, byte: u8) -> u128
+    requires { number * 256 + byte < 2 ^ 128 }
+    ensures { result ≡ number * 256 + byte }
+{
+    number * 256 + u128::from(byte)
 }

@@ -1,10 +1,8 @@
-// Lists of calls of a challenger, an addition to the Rust crate: calls as values, and what they answer.
-ghost use Rattle.std.specs.Prelude.{◌≡◌, ◌⊎◌, ℕ, All, false, true, Err, IfOk, OnErr, OnOk};
-ghost use Rattle.transcript_bytes.specs.ByteCalls.{bytes_sampled, state_after};
-ghost use Rattle.transcript_bytes.specs.Guarded.{guarded_failed, guarded_inner};
+// Lists of calls of a challenger, an addition to the Rust crate: calls as values, and the replies to them.
+ghost use Rattle.std.specs.Prelude.{◌≡◌, All, true, IfOk, OnErr, OnOk};
 ghost use Rattle.transcript_bytes.specs.GuardedAnswers.{GuardedAnswer};
-ghost use Rattle.transcript_elements.specs.Calls.{answer_from, call_answers, AppendsReplies, AppendsSome, byte_calls, joined_calls, MayCall, said};
-ghost use Rattle.transcript_elements.specs.Challengers.{guarded_of};
+ghost use Rattle.transcript_elements.specs.Calls.{AppendsReplies, byte_calls, IsReplyTo, joined_calls, MayCall, StopsEarly};
+ghost use Rattle.transcript_elements.specs.Challengers.{challenger_failed, challenger_refused, state_after, state_of};
 
 use crate::challenger::BinaryChallenger;
 use crate::elements::CanSampleBits;
@@ -26,7 +24,7 @@ pub enum Call<F> {
     CheckWitness(usize, F),
 }
 
-/// What a call answers.
+/// The reply to a call.
 #[derive(Clone, Copy, Debug, PartialEq, Eq)]
 pub enum Reply<F> {
     /// A value was observed.
@@ -39,44 +37,22 @@ pub enum Reply<F> {
     Passed(bool),
 }
 
-impl<F: ByteLevel, Inner: ByteChallenger> BinaryChallenger<F, Inner> {
-    // Makes the call.
-    fn reply_to(&mut self, call: &Call<F>) -> Result<Reply<F>, ChallengerError>
-        requires { MayCall call.now }
-        ensures state { OnOk result (Inner.state (guarded_inner (guarded_of self.new)) ≡ state_after Inner.observed Inner.sampled (byte_calls F.NUM_BYTES F.repr call.now) (Inner.state (guarded_inner (guarded_of self.old)))) }
-        ensures reply { IfOk result (λ reply. said F.repr reply ≡ answer_from F.width call.now (bytes_sampled Inner.observed Inner.sampled (byte_calls F.NUM_BYTES F.repr call.now) (Inner.state (guarded_inner (guarded_of self.old))))) }
-        ensures answer { GuardedAnswer (guarded_failed (guarded_of self.old)) (guarded_failed (guarded_of self.new)) (Inner.has_refused (guarded_inner (guarded_of self.new))) result }
-    {
-        Ok(match call {
-            Call::Observe(element) => {
-                self.observe(*element)?;
-                Reply::Done
-            }
-            Call::Sample => Reply::Element(self.sample_element()?),
-            Call::SampleBits(bits) => Reply::Bits(self.sample_bits(*bits)?),
-            Call::CheckWitness(bits, witness) => {
-                Reply::Passed(self.check_witness(*bits, *witness)?)
-            }
-        })
-    }
-}
-
-/// Makes the calls in order, and appends a reply for each. So the inner challenger has seen the byte calls of all of them, one
-/// after the other, and nothing else. Room for the replies is taken before the first call.
+/// Makes the calls in order, and appends a reply to each. The inner challenger then has seen the byte calls of all of them, one
+/// after the other, and nothing else. Room for the replies is reserved before the first call.
 ///
-/// It fails with `Memory` where that room or a call was refused memory: the replies to the calls before it are appended, and the
-/// challenger has failed. It fails with `Failed` where an earlier call had failed, and `replies` then is as before.
+/// It fails with `Memory` if memory was refused to that room or to a call; the replies to the calls before it are then appended, and
+/// the challenger has failed. It fails with `Failed` if an earlier call had failed; `replies` is then unchanged.
 pub fn run_calls<F: ByteLevel, Inner: ByteChallenger, A: Allocator>(
     challenger: &mut BinaryChallenger<F, Inner>,
     calls: &[Call<F>],
     replies: &mut Vec<Reply<F>, A>,
 ) -> Result<(), ChallengerError>
     requires { All MayCall calls.now }
-    ensures state { OnOk result (Inner.state (guarded_inner (guarded_of challenger.new)) ≡ state_after Inner.observed Inner.sampled (joined_calls F.NUM_BYTES F.repr calls.now) (Inner.state (guarded_inner (guarded_of challenger.old)))) }
-    ensures replies { OnOk result (AppendsReplies F.repr (call_answers F.NUM_BYTES F.width F.repr Inner.observed Inner.sampled calls.now (Inner.state (guarded_inner (guarded_of challenger.old)))) replies.old.items replies.new.items) }
-    ensures answer { GuardedAnswer (guarded_failed (guarded_of challenger.old)) (guarded_failed (guarded_of challenger.new)) true result }
-    ensures failed { guarded_failed (guarded_of challenger.old) ≡ true → replies.new.items ≡ replies.old.items }
-    ensures memory { guarded_failed (guarded_of challenger.old) ≡ false → OnErr result ((guarded_inner (guarded_of challenger.new) ≡ guarded_inner (guarded_of challenger.old)) × (replies.new.items ≡ replies.old.items) ⊎ AppendsSome F.NUM_BYTES F.width F.repr Inner.observed Inner.sampled calls.now (Inner.state (guarded_inner (guarded_of challenger.old))) replies.old.items replies.new.items × (Inner.has_refused (guarded_inner (guarded_of challenger.new)) ≡ true)) }
+    ensures state { OnOk result (state_of challenger.new ≡ state_after (joined_calls F.NUM_BYTES F.repr calls.now) challenger.old) }
+    ensures replies { OnOk result (AppendsReplies F.NUM_BYTES F.width F.repr calls.now challenger.old replies.old replies.new) }
+    ensures answer { GuardedAnswer (challenger_failed challenger.old) (challenger_failed challenger.new) true result }
+    ensures failed { challenger_failed challenger.old ≡ true → replies.new.items ≡ replies.old.items }
+    ensures memory { OnErr result (StopsEarly F.NUM_BYTES F.width F.repr calls.now challenger.old challenger.new replies.old replies.new) }
 {
     if challenger.guarded.failed() {
         return Err(ChallengerError::Failed);
@@ -90,4 +66,26 @@ pub fn run_calls<F: ByteLevel, Inner: ByteChallenger, A: Allocator>(
         replies.push(reply).unwrap();
     }
     Ok(())
+}
+
+impl<F: ByteLevel, Inner: ByteChallenger> BinaryChallenger<F, Inner> {
+    // Makes one call.
+    fn reply_to(&mut self, call: &Call<F>) -> Result<Reply<F>, ChallengerError>
+        requires { MayCall call.now }
+        ensures state { OnOk result (state_of self.new ≡ state_after (byte_calls F.NUM_BYTES F.repr call.now) self.old) }
+        ensures reply { IfOk result (λ reply. IsReplyTo F.NUM_BYTES F.width F.repr call.now self.old reply) }
+        ensures answer { GuardedAnswer (challenger_failed self.old) (challenger_failed self.new) (challenger_refused self.new) result }
+    {
+        Ok(match call {
+            Call::Observe(element) => {
+                self.observe(*element)?;
+                Reply::Done
+            }
+            Call::Sample => Reply::Element(self.sample_element()?),
+            Call::SampleBits(bits) => Reply::Bits(self.sample_bits(*bits)?),
+            Call::CheckWitness(bits, witness) => {
+                Reply::Passed(self.check_witness(*bits, *witness)?)
+            }
+        })
+    }
 }

@@ -1,17 +1,15 @@
-// The challenger of a field over a challenger of bytes.
-ghost use Rattle.std.specs.Prelude.{◌≡◌, ℕ, [], false, IfOk, OnOk};
-ghost use Rattle.transcript_bytes.specs.ByteCalls.{bytes_sampled, sampling, state_after};
-ghost use Rattle.transcript_bytes.specs.Guarded.{guarded_failed, guarded_inner};
+// The challenger of a field over a byte challenger.
+ghost use Rattle.std.specs.Prelude.{◌≡◌, [], false, IfOk};
 ghost use Rattle.transcript_bytes.specs.HashChallengers.{hash_state};
-ghost use Rattle.transcript_elements.specs.Challengers.{guarded_of};
+ghost use Rattle.transcript_elements.specs.Challengers.{challenger_failed, challenger_refused, inner_of, state_of};
 
 use crate::Transcript;
 use std::alloc::{AllocError, Allocator};
 use std::marker::PhantomData;
 use transcript_bytes::{ByteChallenger, ByteHasher32, Guarded, HashChallenger};
 
-/// A challenger of the field `F` over a challenger of bytes. A call that the inner challenger refuses answers `Memory`; from then
-/// on the challenger has failed, each call answers `Failed`, and the inner challenger is called no more.
+/// A challenger of the field `F` over a byte challenger. A call that the inner challenger refuses returns `Memory`; from then on
+/// the challenger has failed, every call returns `Failed`, and the inner challenger is not called again.
 #[derive(Drop)]
 pub struct BinaryChallenger<F, Inner: ByteChallenger> {
     pub(crate) guarded: Guarded<Inner>,
@@ -22,8 +20,8 @@ impl<F, Inner: ByteChallenger> BinaryChallenger<F, Inner> {
     /// A challenger over `inner`, which has not refused. It has not failed.
     pub fn new(inner: Inner) -> BinaryChallenger<F, Inner>
         requires { Inner.has_refused inner ≡ false }
-        ensures inner { guarded_inner (guarded_of result) ≡ inner }
-        ensures failed { guarded_failed (guarded_of result) ≡ false }
+        ensures inner { inner_of result ≡ inner }
+        ensures failed { challenger_failed result ≡ false }
     {
         BinaryChallenger {
             guarded: Guarded::new(inner),
@@ -31,11 +29,10 @@ impl<F, Inner: ByteChallenger> BinaryChallenger<F, Inner> {
         }
     }
 
-    /// A copy with the same state, which has failed exactly where this one has. It fails where memory was refused, and this one
-    /// then is as before.
+    /// A copy with the same state, which has failed if and only if this one has. It fails if memory was refused.
     pub fn try_clone(&self) -> Result<BinaryChallenger<F, Inner>, AllocError>
-        ensures state { IfOk result (λ copy. Inner.state (guarded_inner (guarded_of copy)) ≡ Inner.state (guarded_inner (guarded_of self.now))) }
-        ensures failed { IfOk result (λ copy. guarded_failed (guarded_of copy) ≡ guarded_failed (guarded_of self.now)) }
+        ensures state { IfOk result (λ copy. state_of copy ≡ state_of self.now) }
+        ensures failed { IfOk result (λ copy. challenger_failed copy ≡ challenger_failed self.now) }
     {
         Ok(BinaryChallenger {
             guarded: self.guarded.try_clone()?,
@@ -50,17 +47,17 @@ impl<F, H: ByteHasher32, A: Allocator + Clone> BinaryChallenger<F, HashChallenge
         initial_state: Vec<u8, A>,
         hasher: H,
     ) -> BinaryChallenger<F, HashChallenger<H, A>>
-        ensures state { hash_state (guarded_inner (guarded_of result)) ≡ (hasher, initial_state.items, []) }
-        ensures failed { guarded_failed (guarded_of result) ≡ false }
+        ensures state { hash_state (inner_of result) ≡ (hasher, initial_state.items, []) }
+        ensures failed { challenger_failed result ≡ false }
     {
         BinaryChallenger::new(HashChallenger::new(initial_state, hasher))
     }
 }
 
 impl<F, Inner: ByteChallenger> Transcript for BinaryChallenger<F, Inner> {
-    ghost has_failed = { λ challenger. guarded_failed (guarded_of challenger) };
+    ghost has_failed = { λ challenger. challenger_failed challenger };
 
-    ghost has_refused = { λ challenger. Inner.has_refused (guarded_inner (guarded_of challenger)) };
+    ghost has_refused = { λ challenger. challenger_refused challenger };
 
     fn failed(&self) -> bool {
         self.guarded.failed()

@@ -1,11 +1,11 @@
 // Digests and caps of Merkle trees, and how they are observed.
-ghost use Rattle.std.specs.Prelude.{◌≡◌, ℕ, false, length, List, OnOk};
+ghost use Rattle.std.specs.Prelude.{◌≡◌, ℕ, false, List, OnOk};
 ghost use Rattle.std.specs.List.{flat_map};
-ghost use Rattle.transcript_bytes.specs.ByteCalls.{observing, state_after};
-ghost use Rattle.transcript_bytes.specs.Guarded.{guarded_failed, guarded_inner};
+ghost use Rattle.transcript_bytes.specs.ByteCalls.{after, observing};
+ghost use Rattle.transcript_bytes.specs.Guarded.{guarded_after, guarded_failed, guarded_refused, guarded_state};
 ghost use Rattle.transcript_bytes.specs.GuardedAnswers.{GuardedAnswer};
 ghost use Rattle.field_bytes.specs.Bytes.{low_bytes};
-ghost use Rattle.transcript_elements.specs.Challengers.{guarded_of};
+ghost use Rattle.transcript_elements.specs.Challengers.{state_of};
 ghost use Rattle.transcript_elements.specs.Digests.{roots_of, words_of};
 
 use crate::challenger::BinaryChallenger;
@@ -32,7 +32,7 @@ impl<G, W: Copy, const N: usize> From<[W; N]> for Hash<G, W, N> {
     }
 }
 
-/// The roots of the trees that a Merkle tree of the hash `G` is cut into below its top.
+/// The cap of a Merkle tree of the hash `G`: the roots of the trees that are left when the top of the tree is cut off.
 #[derive(Drop)]
 pub struct MerkleCap<G, D: Drop, A: Allocator = Global> {
     roots: Vec<D, A>,
@@ -67,8 +67,8 @@ pub trait Digest: Drop {
     /// Observes the bytes, in a challenger that has not failed.
     fn observe_in<C: ByteChallenger>(&self, guarded: &mut Guarded<C>) -> Result<(), ChallengerError>
         requires { guarded_failed guarded.old ≡ false }
-        ensures ok { OnOk result (C.state (guarded_inner guarded.new) ≡ state_after C.observed C.sampled (observing (bytes self.now)) (C.state (guarded_inner guarded.old))) }
-        ensures answer { GuardedAnswer false (guarded_failed guarded.new) (C.has_refused (guarded_inner guarded.new)) result };
+        ensures ok { OnOk result (guarded_state guarded.new ≡ guarded_after (observing (bytes self.now)) guarded.old) }
+        ensures answer { GuardedAnswer false (guarded_failed guarded.new) (guarded_refused guarded.new) result };
 }
 
 /// A word of a digest: a byte, or a word of 64 bits, which is observed as eight bytes from the lowest.
@@ -82,8 +82,8 @@ pub trait DigestWord: Copy {
         guarded: &mut Guarded<C>,
     ) -> Result<(), ChallengerError>
         requires { guarded_failed guarded.old ≡ false }
-        ensures ok { OnOk result (C.state (guarded_inner guarded.new) ≡ state_after C.observed C.sampled (observing (bytes words.now)) (C.state (guarded_inner guarded.old))) }
-        ensures answer { GuardedAnswer false (guarded_failed guarded.new) (C.has_refused (guarded_inner guarded.new)) result };
+        ensures ok { OnOk result (guarded_state guarded.new ≡ guarded_after (observing (bytes words.now)) guarded.old) }
+        ensures answer { GuardedAnswer false (guarded_failed guarded.new) (guarded_refused guarded.new) result };
 }
 
 impl DigestWord for u8 {
@@ -139,8 +139,8 @@ fn observe_digests<D: Digest, C: ByteChallenger>(
     digests: &[D],
 ) -> Result<(), ChallengerError>
     requires { guarded_failed guarded.old ≡ false }
-    ensures ok { OnOk result (C.state (guarded_inner guarded.new) ≡ state_after C.observed C.sampled (observing (flat_map D.bytes digests.now)) (C.state (guarded_inner guarded.old))) }
-    ensures answer { GuardedAnswer false (guarded_failed guarded.new) (C.has_refused (guarded_inner guarded.new)) result }
+    ensures ok { OnOk result (guarded_state guarded.new ≡ guarded_after (observing (flat_map D.bytes digests.now)) guarded.old) }
+    ensures answer { GuardedAnswer false (guarded_failed guarded.new) (guarded_refused guarded.new) result }
 {
     'digests: for index in 0..digests.len() {
         digests[index].observe_in(guarded)?;
@@ -153,9 +153,9 @@ impl<G, W: DigestWord, const N: usize, F: ByteLevel, Inner: ByteChallenger> CanO
 > for BinaryChallenger<F, Inner> {
     ghost State = { Inner.State };
 
-    ghost state = { λ challenger. Inner.state (guarded_inner (guarded_of challenger)) };
+    ghost state = { λ challenger. state_of challenger };
 
-    ghost observed = { λ state value. state_after Inner.observed Inner.sampled (observing (W.bytes (words_of value))) state };
+    ghost observed = { λ state value. after Inner.transitions (observing (W.bytes (words_of value))) state };
 
     ghost may_leave = { λ _ _. Unit {0} };
 
@@ -174,9 +174,9 @@ impl<'a, G, D: Digest, A: Allocator, F: ByteLevel, Inner: ByteChallenger> CanObs
 > for BinaryChallenger<F, Inner> {
     ghost State = { Inner.State };
 
-    ghost state = { λ challenger. Inner.state (guarded_inner (guarded_of challenger)) };
+    ghost state = { λ challenger. state_of challenger };
 
-    ghost observed = { λ state cap. state_after Inner.observed Inner.sampled (observing (flat_map D.bytes (roots_of cap.now))) state };
+    ghost observed = { λ state cap. after Inner.transitions (observing (flat_map D.bytes (roots_of cap.now))) state };
 
     ghost may_leave = { λ _ _. Unit {0} };
 
@@ -194,9 +194,9 @@ impl<G, D: Digest, A: Allocator, F: ByteLevel, Inner: ByteChallenger> CanObserve
     for BinaryChallenger<F, Inner> {
     ghost State = { Inner.State };
 
-    ghost state = { λ challenger. Inner.state (guarded_inner (guarded_of challenger)) };
+    ghost state = { λ challenger. state_of challenger };
 
-    ghost observed = { λ state cap. state_after Inner.observed Inner.sampled (observing (flat_map D.bytes (roots_of cap))) state };
+    ghost observed = { λ state cap. after Inner.transitions (observing (flat_map D.bytes (roots_of cap))) state };
 
     ghost may_leave = { λ _ _. Unit {0} };
 

@@ -1,12 +1,10 @@
 // Elements that are observed and sampled, and bits that are sampled.
-ghost use Rattle.std.specs.Prelude.{◌≡◌, ◌<◌, ◌%◌, ◌^◌, ℕ, IfOk, OnOk};
-ghost use Rattle.std.specs.Int.{from_le_bytes, w64};
-ghost use Rattle.transcript_bytes.specs.ByteCalls.{bytes_sampled, observing, sampling, state_after};
-ghost use Rattle.transcript_bytes.specs.Guarded.{guarded_failed, guarded_inner};
+ghost use Rattle.std.specs.Prelude.{◌≡◌, ◌<◌, ℕ, IfOk, OnOk};
+ghost use Rattle.transcript_bytes.specs.ByteCalls.{after, observing, sampling};
 ghost use Rattle.transcript_bytes.specs.GuardedAnswers.{GuardedAnswer};
-ghost use Rattle.field_bytes.specs.Bytes.{low_bytes, number_of_bytes};
-ghost use Rattle.transcript_elements.specs.Challengers.{guarded_of};
-ghost use Rattle.transcript_elements.specs.Sampled.{word_sampled};
+ghost use Rattle.field_bytes.specs.Bytes.{low_bytes};
+ghost use Rattle.transcript_elements.specs.Challengers.{challenger_failed, challenger_refused, state_after, state_of};
+ghost use Rattle.transcript_elements.specs.Sampled.{SamplesBits, squeezed_element};
 
 use crate::challenger::BinaryChallenger;
 use crate::{ByteLevel, CanObserve, Transcript};
@@ -18,11 +16,11 @@ const MOST_BYTES: usize = 16;
 impl<F: ByteLevel, Inner: ByteChallenger> CanObserve<F> for BinaryChallenger<F, Inner> {
     ghost State = { Inner.State };
 
-    ghost state = { λ challenger. Inner.state (guarded_inner (guarded_of challenger)) };
+    ghost state = { λ challenger. state_of challenger };
 
-    ghost observed = { λ state value. state_after Inner.observed Inner.sampled (observing (low_bytes F.NUM_BYTES (F.repr value))) state };
+    ghost observed = { λ state value. after Inner.transitions (observing (low_bytes F.NUM_BYTES (F.repr value))) state };
 
-    // What a refused call leaves is read by no later one.
+    // No later call reads the state that a refused call leaves.
     ghost may_leave = { λ _ _. Unit {0} };
 
     ghost may_stay = { λ _. tt };
@@ -34,11 +32,11 @@ impl<F: ByteLevel, Inner: ByteChallenger> CanObserve<F> for BinaryChallenger<F, 
 }
 
 impl<F: ByteLevel, Inner: ByteChallenger> BinaryChallenger<F, Inner> {
-    /// Samples the bytes of an element, and reads them from the lowest.
+    /// Samples the bytes of an element, the lowest first. Bits above the element are dropped.
     pub fn sample_element(&mut self) -> Result<F, ChallengerError>
-        ensures state { OnOk result (Inner.state (guarded_inner (guarded_of self.new)) ≡ state_after Inner.observed Inner.sampled (sampling F.NUM_BYTES) (Inner.state (guarded_inner (guarded_of self.old)))) }
-        ensures element { IfOk result (λ x. F.repr x ≡ number_of_bytes (bytes_sampled Inner.observed Inner.sampled (sampling F.NUM_BYTES) (Inner.state (guarded_inner (guarded_of self.old)))) % 2 ^ F.width) }
-        ensures answer { GuardedAnswer (guarded_failed (guarded_of self.old)) (guarded_failed (guarded_of self.new)) (Inner.has_refused (guarded_inner (guarded_of self.new))) result }
+        ensures state { OnOk result (state_of self.new ≡ state_after (sampling F.NUM_BYTES) self.old) }
+        ensures element { IfOk result (λ x. F.repr x ≡ squeezed_element Inner.transitions F.NUM_BYTES F.width (state_of self.old)) }
+        ensures answer { GuardedAnswer (challenger_failed self.old) (challenger_failed self.new) (challenger_refused self.new) result }
     {
         let mut bytes = [0; MOST_BYTES];
         let read = &mut bytes[..F::NUM_BYTES];
@@ -55,11 +53,11 @@ pub trait CanSampleBits<T>: Transcript {
     // The state of a transcript.
     ghost state: { Self → State };
 
-    // Whether a sample of so many bits in the first state gives the number and leaves the second state.
+    // Whether sampling so many bits in the first state gives the number and leaves the second state.
     ghost gives_bits: { State → ℕ → T → State → Type 0 };
 
-    /// Samples a number of `bits` bits, at most 63. It fails with `Memory` where memory was refused, and with `Failed` where an
-    /// earlier call had failed.
+    /// Samples a number of `bits` bits, at most 63. It fails with `Memory` if memory was refused, and with `Failed` if an earlier
+    /// call had failed.
     fn sample_bits(&mut self, bits: usize) -> Result<T, ChallengerError>
         requires { bits < 64 }
         ensures ok { IfOk result (λ number. gives_bits (state self.old) bits number (state self.new)) }
@@ -69,10 +67,10 @@ pub trait CanSampleBits<T>: Transcript {
 impl<F: ByteLevel, Inner: ByteChallenger> CanSampleBits<usize> for BinaryChallenger<F, Inner> {
     ghost State = { Inner.State };
 
-    ghost state = { λ challenger. Inner.state (guarded_inner (guarded_of challenger)) };
+    ghost state = { λ challenger. state_of challenger };
 
     // Eight bytes are sampled, for 0 bits too, and the number is the low bits of their word.
-    ghost gives_bits = { λ old bits number new. (new ≡ state_after Inner.observed Inner.sampled (sampling 8) old) × (number ≡ word_sampled Inner.observed Inner.sampled (sampling 8) old % 2 ^ bits) };
+    ghost gives_bits = { λ old bits number new. SamplesBits Inner.transitions old bits number new };
 
     fn sample_bits(&mut self, bits: usize) -> Result<usize, ChallengerError> {
         let word = self.guarded.sample_u64()?;
@@ -80,11 +78,11 @@ impl<F: ByteLevel, Inner: ByteChallenger> CanSampleBits<usize> for BinaryChallen
     }
 }
 
-/// A transcript from which bits are sampled of which every number is as likely, where every byte is. Bytes need no second try, so
-/// that this is `sample_bits`.
+/// A transcript from which bits are sampled such that all numbers are equally likely if all bytes are. Sampled bytes need no
+/// rejection, so this is `sample_bits`.
 pub trait CanSampleUniformBits<F>: CanSampleBits<usize> {
-    /// Samples a number of `bits` bits, at most 63. It fails with `Memory` where memory was refused, and with `Failed` where an
-    /// earlier call had failed.
+    /// Samples a number of `bits` bits, at most 63. It fails with `Memory` if memory was refused, and with `Failed` if an earlier
+    /// call had failed.
     final fn sample_uniform_bits(&mut self, bits: usize) -> Result<usize, ChallengerError>
         requires { bits < 64 }
         ensures ok { IfOk result (λ number. Self.gives_bits (Self.state self.old) bits number (Self.state self.new)) }

@@ -1,9 +1,10 @@
 // Fields whose elements go into transcripts.
-ghost use Rattle.std.specs.Prelude.{◌≡◌, ◌≢◌, ◌*◌, ◌++◌, ◌<◌, ◌^◌, ◌↔◌, Bool, false, true, IfErr, IfOk, IsErr, List, length, OnErr, OnOk, refl, ℕ, take, Ok};
+ghost use Rattle.std.specs.Prelude.{◌≡◌, ◌*◌, ◌++◌, ◌<◌, ◌↔◌, Bool, false, true, IfErr, IfOk, IsErr};
+ghost use Rattle.std.specs.Prelude.{List, length, OnErr, OnOk, refl, ℕ, take, Ok};
 ghost use Rattle.std.proofs.Common.{◌∙◌};
 ghost use Rattle.transcript_bytes.specs.GuardedAnswers.{GuardedAnswer};
 ghost use Rattle.transcript_elements.specs.BigEndian.{be_bytes};
-ghost use Rattle.transcript_elements.specs.Seeds.{AreOfSeed, NeitherBegins, Observes, ObservesPart, seed_bytes};
+ghost use Rattle.transcript_elements.specs.Seeds.{BeginsSeed, IsPrefixFree, ObservesSeed};
 ghost use Rattle.transcript_elements.specs.Tags.{tag_of};
 
 use crate::byte_level::{ByteLevel, MOST_BYTES, ShortWord};
@@ -18,10 +19,10 @@ use transcript_bytes::ChallengerError;
 use word_polynomial::Poly64Kernel;
 use word_tower::{Bits8, Bits16, Bits32, Bits64, Bits128, Tower};
 
-/// A field whose elements are whole bytes, as a transcript takes them: strings of bytes as elements, elements as text, and tags of
-/// the algebras over it.
+/// A field whose elements are whole bytes. It encodes seeds as elements, and elements as bytes, the highest first, and has a tag for
+/// each algebra over it.
 pub trait TranscriptField: ByteLevel {
-    // Whether the field is in a polynomial basis, and no level of the tower.
+    // Whether the field is in a polynomial basis; if not, it is a level of the tower.
     ghost IN_POLYNOMIAL_BASIS: { Bool };
 
     /// The tag of an algebra over the field.
@@ -30,17 +31,18 @@ pub trait TranscriptField: ByteLevel {
 
     ghost whole_law: { Self.width ≡ 8 * Self.NUM_BYTES };
 
-    /// Observes a string of bytes: its length as eight bytes, the lowest first, and then the bytes; both are cut into elements and
-    /// filled with zeros to whole ones, and an element's first byte is its lowest. So of two strings that differ neither has
-    /// elements that begin the other's. It fails where the transcript does, and elements before that were observed.
+    /// Observes a string of bytes: its length as eight bytes, the lowest first, and then the bytes; each is filled with zeros to
+    /// whole elements, and an element's first byte is its lowest. This encoding of seeds is prefix-free. It fails if the transcript
+    /// does; the elements before are then observed.
     final fn observe_seed<C: CanObserve<Self>>(
         challenger: &mut C,
         seed: &[u8],
     ) -> Result<(), ChallengerError>
-        ensures ok { OnOk result (Observes Self.NUM_BYTES Self.repr C.observed (seed_bytes Self.NUM_BYTES seed.now) (C.state challenger.old) (C.state challenger.new)) }
-        ensures err { OnErr result (ObservesPart Self.NUM_BYTES Self.repr C.observed C.may_leave (seed_bytes Self.NUM_BYTES seed.now) (C.state challenger.old) (C.state challenger.new)) }
+        ensures ok { OnOk result (ObservesSeed Self.NUM_BYTES Self.repr C.observed C.state seed.now challenger.old challenger.new) }
+        ensures err { OnErr result (BeginsSeed Self.NUM_BYTES Self.repr C.observed C.may_leave C.state seed.now
+            challenger.old challenger.new) }
         ensures answer { GuardedAnswer (C.has_failed challenger.old) (C.has_failed challenger.new) (C.has_refused challenger.new) result }
-        ensures apart { (other : List ℕ) → length other < 2 ^ 64 → other ≢ seed.now → (xs ys : List Self) → AreOfSeed Self.NUM_BYTES Self.repr seed.now xs → AreOfSeed Self.NUM_BYTES Self.repr other ys → NeitherBegins xs ys }
+        ensures apart { IsPrefixFree Self.NUM_BYTES Self.repr seed.now }
     {
         let header = (seed.len() as u64).to_le_bytes();
         if challenger.failed() {
@@ -50,7 +52,7 @@ pub trait TranscriptField: ByteLevel {
         observe_padded::<Self, C>(challenger, seed)
     }
 
-    /// Appends the bytes of the representation, the highest first. Where memory is refused `out` is as before.
+    /// Appends the bytes of the representation, the highest first. If memory is refused, `out` is unchanged.
     final fn encode<A: Allocator>(&self, out: &mut Vec<u8, A>) -> Result<(), AllocError>
         ensures ok { OnOk result (out.new.items ≡ out.old.items ++ be_bytes Self.NUM_BYTES (Self.repr self.now)) }
         ensures err { OnErr result (out.new.items ≡ out.old.items) }
@@ -59,8 +61,8 @@ pub trait TranscriptField: ByteLevel {
         out.extend_from_slice(&bytes[MOST_BYTES - Self::NUM_BYTES..])
     }
 
-    /// The element whose bytes, the highest first, `bytes` begins with; what follows them is ignored. It fails where there are
-    /// fewer bytes than an element has.
+    /// The element whose bytes, the highest first, are a prefix of `bytes`; the rest is ignored. It fails if there are fewer bytes
+    /// than an element has.
     final fn decode(bytes: &[u8]) -> Result<Self, TranscriptError>
         ensures ok { IfOk result (λ x. be_bytes Self.NUM_BYTES (Self.repr x) ≡ take Self.NUM_BYTES bytes.now) }
         ensures encoded { (x : Self) (rest : List ℕ) → bytes.now ≡ be_bytes Self.NUM_BYTES (Self.repr x) ++ rest → result ≡ Ok x }
@@ -79,7 +81,7 @@ pub trait TranscriptField: ByteLevel {
 
 /// A kernel of a field whose elements go into transcripts.
 pub trait TranscriptKernel<R: ShortWord>: LevelKernel<R> + HasPacking<R> {
-    /// Whether the field is in a polynomial basis, and no level of the tower.
+    /// Whether the field is in a polynomial basis; if not, it is a level of the tower.
     const IN_POLYNOMIAL_BASIS: bool;
 
     ghost IN_POLYNOMIAL_BASIS: { Bool };

@@ -1,6 +1,6 @@
-//! Transcripts over elements of binary fields: what observes values, how an element and a string of bytes are handed to it, the
-//! tags of algebras, a recorder of what was observed, and challengers. Every call of a challenger is a list of calls of bytes on an
-//! inner challenger, and its answer follows from the bytes that are sampled.
+//! Transcripts over elements of binary fields: traits of transcripts, the encodings of elements and of seeds, tags of algebras, a
+//! recorder of what was observed, and the challenger of a field. Every call of the challenger is a list of byte calls of an inner
+//! challenger, and what it returns depends on the bytes that are sampled alone.
 #![tactic(auto)]
 
 mod algebra;

@@ -5,8 +5,8 @@ use crate::observe::{CanObserve, Transcript};
 use std::alloc::{Allocator, Global};
 use transcript_bytes::ChallengerError;
 
-/// A transcript that keeps the list of what it observed, the first value first. Where it could not grow it keeps its list, and
-/// has failed.
+/// A transcript that keeps the list of what it observed, the first value first. If the list could not grow, it stays as it is, and
+/// the recorder has failed.
 #[derive(Drop)]
 pub struct Recorder<T: Drop, A: Allocator = Global> {
     items: Vec<T, A>,

@@ -1,11 +1,8 @@
 // Elements of extensions that are sampled, coefficient by coefficient.
-ghost use Rattle.std.specs.Prelude.{◌≡◌, ◌*◌, IfOk};
-ghost use Rattle.field_base.specs.Chunks.{chunks};
-ghost use Rattle.transcript_bytes.specs.ByteCalls.{sampling, state_after};
-ghost use Rattle.transcript_bytes.specs.Guarded.{guarded_inner};
+ghost use Rattle.std.specs.Prelude.{IfOk};
 ghost use Rattle.transcript_bytes.specs.GuardedAnswers.{GuardedAnswer};
-ghost use Rattle.transcript_elements.specs.Challengers.{guarded_of};
-ghost use Rattle.transcript_elements.specs.Sampled.{coefficients_sampled};
+ghost use Rattle.transcript_elements.specs.Challengers.{state_of};
+ghost use Rattle.transcript_elements.specs.Sampled.{SamplesCoefficients};
 
 use crate::challenger::BinaryChallenger;
 use crate::{ByteLevel, Transcript};
@@ -20,10 +17,10 @@ pub trait CanSample<T>: Transcript {
     // The state of a transcript.
     ghost state: { Self → State };
 
-    // Whether a sample in the first state gives the value and leaves the second state.
+    // Whether sampling in the first state gives the value and leaves the second state.
     ghost gives: { State → T → State → Type 0 };
 
-    /// Samples a value. It fails with `Memory` where memory was refused, and with `Failed` where an earlier call had failed.
+    /// Samples a value. It fails with `Memory` if memory was refused, and with `Failed` if an earlier call had failed.
     fn sample(&mut self) -> Result<T, ChallengerError>
         ensures ok { IfOk result (λ value. gives (state self.old) value (state self.new)) }
         ensures answer { GuardedAnswer (Self.has_failed self.old) (Self.has_failed self.new) (Self.has_refused self.new) result };
@@ -33,10 +30,10 @@ impl<F: ByteLevel, Inner: ByteChallenger, E: BasedVectorSpace<F>> CanSample<E>
     for BinaryChallenger<F, Inner> {
     ghost State = { Inner.State };
 
-    ghost state = { λ challenger. Inner.state (guarded_inner (guarded_of challenger)) };
+    ghost state = { λ challenger. state_of challenger };
 
-    // The bytes of as many elements of the field as the dimension are sampled, and each is read from its lowest byte.
-    ghost gives = { λ old value new. (new ≡ state_after Inner.observed Inner.sampled (sampling (F.NUM_BYTES * E.DIMENSION)) old) × (chunks F.width E.DIMENSION (E.repr value) ≡ coefficients_sampled Inner.observed Inner.sampled F.NUM_BYTES F.width E.DIMENSION old) };
+    // The bytes of one element of the field for each coefficient are sampled.
+    ghost gives = { λ old value new. SamplesCoefficients Inner.transitions F.NUM_BYTES F.width E.DIMENSION old (E.repr value) new };
 
     fn sample(&mut self) -> Result<E, ChallengerError> {
         if self.guarded.failed() {

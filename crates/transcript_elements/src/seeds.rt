@@ -1,21 +1,21 @@
 // Strings of bytes as elements.
 ghost use Rattle.std.specs.Prelude.{◌≡◌, false, OnErr, OnOk};
 ghost use Rattle.transcript_bytes.specs.GuardedAnswers.{GuardedAnswer};
-ghost use Rattle.transcript_elements.specs.Seeds.{Observes, ObservesPart, padded};
+ghost use Rattle.transcript_elements.specs.Seeds.{BeginsPadded, ObservesPadded};
 
 use crate::field::TranscriptField;
 use crate::observe::CanObserve;
 use transcript_bytes::ChallengerError;
 
-/// Observes bytes as elements, the first bytes in the first element and the first of them its lowest; zeros fill the last element.
-/// It fails where the transcript does, and elements before that were observed.
+/// Observes bytes as elements, the first bytes in the first element, the first of them its lowest byte; zeros fill the last element.
+/// It fails if the transcript does; the elements before are then observed.
 pub(crate) fn observe_padded<F: TranscriptField, C: CanObserve<F>>(
     challenger: &mut C,
     bytes: &[u8],
 ) -> Result<(), ChallengerError>
     requires { C.has_failed challenger.old ≡ false }
-    ensures ok { OnOk result (Observes F.NUM_BYTES F.repr C.observed (padded F.NUM_BYTES bytes.now) (C.state challenger.old) (C.state challenger.new)) }
-    ensures err { OnErr result (ObservesPart F.NUM_BYTES F.repr C.observed C.may_leave (padded F.NUM_BYTES bytes.now) (C.state challenger.old) (C.state challenger.new)) }
+    ensures ok { OnOk result (ObservesPadded F.NUM_BYTES F.repr C.observed C.state bytes.now challenger.old challenger.new) }
+    ensures err { OnErr result (BeginsPadded F.NUM_BYTES F.repr C.observed C.may_leave C.state bytes.now challenger.old challenger.new) }
     ensures answer { GuardedAnswer false (C.has_failed challenger.new) (C.has_refused challenger.new) result }
 {
     let size = F::NUM_BYTES;

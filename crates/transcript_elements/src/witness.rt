@@ -1,11 +1,10 @@
-// Witnesses of work: elements after which the bits that are sampled are 0.
-ghost use Rattle.std.specs.Prelude.{◌≡◌, ◌≢◌, ◌<◌, ◌⊎◌, ℕ, Bool, false, true, Err, IfErr, IfOk, IsOk, Ok, OnErr, OnOk};
-ghost use Rattle.transcript_bytes.specs.ByteCalls.{state_after};
-ghost use Rattle.transcript_bytes.specs.Guarded.{guarded_failed, guarded_inner};
+// Witnesses of work: elements such that the bits sampled after them are 0.
+ghost use Rattle.std.specs.Prelude.{◌≡◌, ◌<◌, ℕ, Bool, false, true, Err, IfErr, IfOk, IsOk, Ok, OnErr, OnOk};
+ghost use Rattle.transcript_bytes.specs.ByteCalls.{after};
 ghost use Rattle.transcript_bytes.specs.GuardedAnswers.{GuardedAnswer};
-ghost use Rattle.transcript_elements.specs.Challengers.{guarded_of};
-ghost use Rattle.transcript_elements.specs.Grinding.{IsLeastPassing, MayGrind, NonePasses, candidate_count};
-ghost use Rattle.transcript_elements.specs.Sampled.{check_calls, passes};
+ghost use Rattle.transcript_elements.specs.Challengers.{challenger_failed, state_after, state_of};
+ghost use Rattle.transcript_elements.specs.Grinding.{candidate_count, FailsSearch, IsLeastPassing, MayGrind};
+ghost use Rattle.transcript_elements.specs.Sampled.{challenger_passes, check_calls, passes};
 
 use crate::challenger::BinaryChallenger;
 use crate::elements::CanSampleBits;
@@ -14,7 +13,7 @@ use crate::{ByteLevel, CanObserve, Transcript};
 use field_base::traits::{Field, PrimeCharacteristicRing};
 use transcript_bytes::{ByteChallenger, ChallengerError};
 
-/// A transcript that asks for witnesses of work: elements that are searched for, and checked by one call.
+/// A transcript with proofs of work: a witness is an element that takes a search to find and one call to check.
 pub trait GrindingChallenger: Transcript {
     /// The witnesses.
     type Witness;
@@ -35,26 +34,27 @@ pub trait GrindingChallenger: Transcript {
 
     ghost checked: { State → ℕ → ℕ → State };
 
-    /// Searches for a witness for `bits` bits, and checks it. The candidates are the elements by their representation, from 0 on:
-    /// all in a field below 64 bits, and 2^64 - 1 in a wider one. It answers the first that passes, and the challenger is then as
-    /// after `check_witness(bits, answer)`. For 0 bits that is 0; nothing is observed or sampled then, and it takes no memory.
+    /// Searches for a witness for `bits` bits, and checks it. The candidates are the elements in the order of their representations,
+    /// from 0 on: all of them in a field below 64 bits, the first 2^64 - 1 in a wider one. It returns the first that passes, and
+    /// the challenger is then as after `check_witness` of it. For 0 bits the witness is 0; nothing is then observed or sampled, and
+    /// no memory is taken.
     ///
-    /// `bits` is 0, or at most the bits of the field, and 64, less 8. It fails with `NoWitness` where no candidate passes, with
-    /// `Memory` where memory was refused to a copy of the challenger, on which candidates are tried, or to a call of the copy, and
-    /// with `Failed` where an earlier call had failed. The challenger then is as before.
+    /// `bits` is 0, or at least 8 below both 64 and the bits of the field. It fails with `NoWitness` if no candidate passes, with
+    /// `Memory` if memory was refused to a copy of the challenger, on which candidates are tried, or to a call of the copy, and
+    /// with `Failed` if an earlier call had failed. The challenger is then unchanged.
     fn grind(&mut self, bits: usize) -> Result<Self::Witness, GrindError>
         requires { MayGrind witness_bits bits }
-        ensures least { IfOk result (λ witness. IsLeastPassing (passing (state self.old) bits) (candidate_count witness_bits) (number witness)) }
+        ensures least { IfOk result (λ witness. IsLeastPassing (passing (state self.old) bits) witness_bits (number witness)) }
         ensures state { IfOk result (λ witness. state self.new ≡ checked (state self.old) bits (number witness)) }
         ensures goes_on { OnOk result (Self.has_failed self.new ≡ false) }
         ensures kept { OnErr result (self.new ≡ self.old) }
         ensures failed { Self.has_failed self.old ≡ true → result ≡ Err GrindError.Failed }
-        ensures err { Self.has_failed self.old ≡ false → IfErr result (λ error. (error ≡ GrindError.Memory) ⊎ (error ≡ GrindError.NoWitness) × NonePasses (passing (state self.old) bits) (candidate_count witness_bits)) }
+        ensures err { Self.has_failed self.old ≡ false → IfErr result (FailsSearch (passing (state self.old) bits) witness_bits) }
         ensures none { bits ≡ 0 → Self.has_failed self.old ≡ false → IsOk result };
 
-    /// Observes the witness, and answers whether the `bits` bits that are then sampled, at most 63, are 0. For 0 bits it answers
-    /// true, and nothing is observed or sampled; it then takes no memory. It fails with `Memory` where memory was refused, and
-    /// with `Failed` where an earlier call had failed.
+    /// Observes the witness, samples `bits` bits, at most 63, and returns whether they are 0. For 0 bits it returns true; nothing is
+    /// then observed or sampled, and no memory is taken. It fails with `Memory` if memory was refused, and with `Failed` if an
+    /// earlier call had failed.
     fn check_witness(
         &mut self,
         bits: usize,
@@ -67,49 +67,20 @@ pub trait GrindingChallenger: Transcript {
         ensures answer { GuardedAnswer (Self.has_failed self.old) (Self.has_failed self.new) (Self.has_refused self.new) result };
 }
 
-// How many candidates are tried.
-fn candidate_count<F: Field>() -> usize
-    ensures { result ≡ candidate_count F.width }
-{
-    let bits = F::bits();
-    if bits < 64 { 1 << bits } else { usize::MAX }
-}
-
-impl<F: ByteLevel, Inner: ByteChallenger> BinaryChallenger<F, Inner> {
-    // The first candidate that passes, and the copy on which it was checked. The challenger has not failed.
-    fn first_passing(&self, bits: usize) -> Result<(F, BinaryChallenger<F, Inner>), GrindError>
-        requires range { bits < 64 }
-        requires goes_on { guarded_failed (guarded_of self.now) ≡ false }
-        ensures least { IfOk result (λ found. IsLeastPassing (λ number. passes Inner.observed Inner.sampled F.NUM_BYTES bits number (Inner.state (guarded_inner (guarded_of self.now)))) (candidate_count F.width) (F.repr found.0)) }
-        ensures state { IfOk result (λ found. Inner.state (guarded_inner (guarded_of found.1)) ≡ state_after Inner.observed Inner.sampled (check_calls F.NUM_BYTES bits (F.repr found.0)) (Inner.state (guarded_inner (guarded_of self.now)))) }
-        ensures goes_on { IfOk result (λ found. guarded_failed (guarded_of found.1) ≡ false) }
-        ensures err { IfErr result (λ error. (error ≡ GrindError.Memory) ⊎ (error ≡ GrindError.NoWitness) × NonePasses (λ number. passes Inner.observed Inner.sampled F.NUM_BYTES bits number (Inner.state (guarded_inner (guarded_of self.now)))) (candidate_count F.width)) }
-    {
-        'candidates: for number in 0..candidate_count::<F>() {
-            let witness = F::interpolation_node(number);
-            let mut copy = self.try_clone()?;
-            if copy.check_witness(bits, witness)? {
-                return Ok((witness, copy));
-            }
-        }
-        Err(GrindError::NoWitness)
-    }
-}
-
 impl<F: ByteLevel, Inner: ByteChallenger> GrindingChallenger for BinaryChallenger<F, Inner> {
     type Witness = F;
 
     ghost State = { Inner.State };
 
-    ghost state = { λ challenger. Inner.state (guarded_inner (guarded_of challenger)) };
+    ghost state = { λ challenger. state_of challenger };
 
     ghost witness_bits = { F.width };
 
     ghost number = { λ witness. F.repr witness };
 
-    ghost passing = { λ state bits number. passes Inner.observed Inner.sampled F.NUM_BYTES bits number state };
+    ghost passing = { λ state bits number. passes Inner.transitions F.NUM_BYTES bits state number };
 
-    ghost checked = { λ state bits number. state_after Inner.observed Inner.sampled (check_calls F.NUM_BYTES bits number) state };
+    ghost checked = { λ state bits number. after Inner.transitions (check_calls F.NUM_BYTES bits number) state };
 
     fn grind(&mut self, bits: usize) -> Result<F, GrindError> {
         if self.guarded.failed() {
@@ -132,5 +103,34 @@ impl<F: ByteLevel, Inner: ByteChallenger> GrindingChallenger for BinaryChallenge
         }
         self.observe(witness)?;
         Ok(self.sample_bits(bits)? == 0)
+    }
+}
+
+// How many candidates are tried.
+fn candidate_count<F: Field>() -> usize
+    ensures { result ≡ candidate_count F.width }
+{
+    let bits = F::bits();
+    if bits < 64 { 1 << bits } else { usize::MAX }
+}
+
+impl<F: ByteLevel, Inner: ByteChallenger> BinaryChallenger<F, Inner> {
+    // The first candidate that passes, and the copy on which it was checked.
+    fn first_passing(&self, bits: usize) -> Result<(F, BinaryChallenger<F, Inner>), GrindError>
+        requires range { bits < 64 }
+        requires goes_on { challenger_failed self.now ≡ false }
+        ensures least { IfOk result (λ found. IsLeastPassing (challenger_passes F.NUM_BYTES bits self.now) F.width (F.repr found.0)) }
+        ensures state { IfOk result (λ found. state_of found.1 ≡ state_after (check_calls F.NUM_BYTES bits (F.repr found.0)) self.now) }
+        ensures goes_on { IfOk result (λ found. challenger_failed found.1 ≡ false) }
+        ensures err { IfErr result (FailsSearch (challenger_passes F.NUM_BYTES bits self.now) F.width) }
+    {
+        'candidates: for number in 0..candidate_count::<F>() {
+            let witness = F::interpolation_node(number);
+            let mut copy = self.try_clone()?;
+            if copy.check_witness(bits, witness)? {
+                return Ok((witness, copy));
+            }
+        }
+        Err(GrindError::NoWitness)
     }
 }

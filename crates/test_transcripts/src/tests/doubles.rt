@@ -100,9 +100,7 @@ impl<'a> ByteChallenger for Double<'a> {
 
     ghost has_refused = { λ double. double.has_refused };
 
-    ghost observed = { λ state _. state };
-
-    ghost sampled = { λ state. (state, state) };
+    ghost transitions = { record { observed = λ state _. state; sampled = λ state. (state, state) } };
 
     fn observe_byte(&mut self, byte: u8) -> Result<(), AllocError> {
         if !self.grants_call() {

@@ -1,13 +1,13 @@
 use Rattle.std.proofs.Common.{◌≡◌, take}
-use Rattle.transcript_bytes.specs.ByteCalls.{bytes_sampled, sampling, state_after}
+use Rattle.transcript_bytes.specs.ByteCalls.{after, sampling, squeezed}
 use Rattle.transcript_bytes.proofs.byte_runs.sample_bytes.Given as goal
 
 -- the bytes before the index have been sampled, and nothing was refused
 abbrev pub invariant-bytes : goal.invariant-bytes
 invariant-bytes g l = record {
   run : g.C.ByteChallenger.state l.challenger
-      ≡ state_after g.C.ByteChallenger.observed g.C.ByteChallenger.sampled (sampling l.index) (g.C.ByteChallenger.state l.initial.challenger);
+      ≡ after g.C.ByteChallenger.transitions (sampling l.index) (g.C.ByteChallenger.state l.initial.challenger);
   bytes : take l.index l.bytes
-      ≡ bytes_sampled g.C.ByteChallenger.observed g.C.ByteChallenger.sampled (sampling l.index) (g.C.ByteChallenger.state l.initial.challenger);
+      ≡ squeezed g.C.ByteChallenger.transitions (sampling l.index) (g.C.ByteChallenger.state l.initial.challenger);
   kept : g.C.ByteChallenger.has_refused l.challenger ≡ g.C.ByteChallenger.has_refused l.initial.challenger;
 }

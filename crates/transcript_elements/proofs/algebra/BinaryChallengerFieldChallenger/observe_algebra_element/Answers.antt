@@ -1,28 +1,23 @@
 use Rattle.std.proofs.Common.{◌≡◌, ◌∙◌, ℕ, ap, arith, sym}
-use Rattle.std.specs.List.{flat_map}
-use Rattle.field_base.specs.Chunks.{chunks}
-use Rattle.transcript_bytes.specs.ByteCalls.{observing, state_after}
-use Rattle.transcript_bytes.specs.Guarded.{guarded_inner}
-use Rattle.field_bytes.specs.Bytes.{low_bytes}
-use Rattle.transcript_elements.specs.Challengers.{guarded_of}
+use Rattle.transcript_bytes.specs.ByteCalls.{observing}
+use Rattle.transcript_elements.specs.Challengers.{state_after, state_of}
+use Rattle.transcript_elements.specs.Sampled.{coefficient_bytes}
 use Rattle.transcript_elements.proofs.ManyCalls.{no_coefficient_observed, one_more_coefficient}
 use Rattle.transcript_elements.proofs.algebra.BinaryChallengerFieldChallenger.observe_algebra_element.Goals as goal
 
 pub coefficients-init : goal.coefficients-init
 coefficients-init g c = record {
   goes_on = sym c.failed.ensures ∙ c.if-failed.false;
-  run = no_coefficient_observed _ _ g.F.RawDataSerializable.NUM_BYTES g.F.Represented.width _ _;
+  run = no_coefficient_observed _ g.F.RawDataSerializable.NUM_BYTES g.F.Represented.width _ _;
 }
 
 pub coefficients-preserved : goal.coefficients-preserved
 coefficients-preserved g c = record {
   goes_on = c.in_ok-observe.ensures.answer.goes_on;
   run =
-      one_more_coefficient g.Inner.ByteChallenger.observed g.Inner.ByteChallenger.sampled g.F.RawDataSerializable.NUM_BYTES
-      g.F.Represented.width c.coefficients.i (g.E.Represented.repr c.args.element) (g.F.Represented.repr c.basis_coefficient.result)
-      (g.Inner.ByteChallenger.state (guarded_inner (guarded_of c.args.self.now)))
-      (g.Inner.ByteChallenger.state (guarded_inner (guarded_of c.coefficients.self)))
-      (g.Inner.ByteChallenger.state (guarded_inner (guarded_of c.observe.new.self)))
+      one_more_coefficient g.Inner.ByteChallenger.transitions g.F.RawDataSerializable.NUM_BYTES g.F.Represented.width
+      c.coefficients.i (g.E.Represented.repr c.args.element) (g.F.Represented.repr c.basis_coefficient.result)
+      (state_of c.args.self.now) (state_of c.coefficients.self) (state_of c.observe.new.self)
       c.coefficients.invariant.run c.basis_coefficient.ensures c.in_ok-observe.ensures.ok;
 }
 
@@ -31,6 +26,6 @@ returns-clause-ok g c =
     let all : c.coefficients.i ≡ g.E.BasedVectorSpace.DIMENSION =
     omega (arith, c.coefficients-test.false, c.coefficients.auto.i-end, c.DIMENSION-i-end.ensures) in
     c.coefficients.invariant.run
-    ∙ ap (λ (k : ℕ). state_after g.Inner.ByteChallenger.observed g.Inner.ByteChallenger.sampled
-    (observing (flat_map (λ w. low_bytes g.F.RawDataSerializable.NUM_BYTES w) (chunks g.F.Represented.width k (g.E.Represented.repr c.args.element))))
-    (g.Inner.ByteChallenger.state (guarded_inner (guarded_of c.args.self.now)))) all
+    ∙ ap (λ (k : ℕ). state_after
+    (observing (coefficient_bytes g.F.RawDataSerializable.NUM_BYTES g.F.Represented.width k (g.E.Represented.repr c.args.element)))
+    c.args.self.now) all

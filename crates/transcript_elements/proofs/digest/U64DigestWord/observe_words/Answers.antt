@@ -1,15 +1,15 @@
 use Rattle.std.proofs.Common.{◌∙◌, ap, get_or, refl}
 use Rattle.std.proofs.lemmas.List.{take_all}
 use Rattle.std.specs.List.{flat_map}
-use Rattle.transcript_bytes.specs.ByteCalls.{observing, state_after}
-use Rattle.transcript_bytes.specs.Guarded.{guarded_inner}
+use Rattle.transcript_bytes.specs.ByteCalls.{observing}
+use Rattle.transcript_bytes.specs.Guarded.{guarded_after, guarded_state}
 use Rattle.field_bytes.specs.Bytes.{low_bytes}
 use Rattle.field_bytes.proofs.WordBytes.{eight_bytes}
 use Rattle.transcript_elements.proofs.ManyCalls.{none_observed, one_more_observed}
 use Rattle.transcript_elements.proofs.digest.U64DigestWord.observe_words.Goals as goal
 
 pub words-init : goal.words-init
-words-init g c = record { goes_on = c.requires; run = none_observed _ _ _ }
+words-init g c = record { goes_on = c.requires; run = none_observed _ _ }
 
 pub words-preserved : goal.words-preserved
 words-preserved g c =
@@ -17,16 +17,15 @@ words-preserved g c =
     record {
       goes_on = c.in_ok-observe_bytes.ensures.answer.goes_on;
       run =
-          one_more_observed g.C.ByteChallenger.observed g.C.ByteChallenger.sampled (λ w. low_bytes 8 w) c.args.words.now c.words.index word 0
-          (g.C.ByteChallenger.state (guarded_inner c.args.guarded.now)) (g.C.ByteChallenger.state (guarded_inner c.words.guarded))
-          (g.C.ByteChallenger.state (guarded_inner c.observe_bytes.new.self)) c.words-test.true refl c.words.invariant.run
+          one_more_observed g.C.ByteChallenger.transitions (λ w. low_bytes 8 w) c.args.words.now c.words.index word 0
+          (guarded_state c.args.guarded.now) (guarded_state c.words.guarded)
+          (guarded_state c.observe_bytes.new.self) c.words-test.true refl c.words.invariant.run
           (c.in_ok-observe_bytes.ensures.ok
-          ∙ ap (λ bytes. state_after g.C.ByteChallenger.observed g.C.ByteChallenger.sampled (observing bytes)
-          (g.C.ByteChallenger.state (guarded_inner c.words.guarded))) (c.to_le_bytes.ensures ∙ eight_bytes word));
+          ∙ ap (λ bytes. guarded_after (observing bytes) c.words.guarded) (c.to_le_bytes.ensures ∙ eight_bytes word));
     }
 
 pub returns-clause-ok : goal.returns-clause-ok
 returns-clause-ok g c =
     c.words.invariant.run
-    ∙ ap (λ words. state_after g.C.ByteChallenger.observed g.C.ByteChallenger.sampled (observing (flat_map (λ w. low_bytes 8 w) words))
-    (g.C.ByteChallenger.state (guarded_inner c.args.guarded.now))) (take_all c.words.index c.args.words.now c.words-test.false)
+    ∙ ap (λ words. guarded_after (observing (flat_map (λ w. low_bytes 8 w) words)) c.args.guarded.now)
+    (take_all c.words.index c.args.words.now c.words-test.false)

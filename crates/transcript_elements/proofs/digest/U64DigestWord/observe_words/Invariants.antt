@@ -1,7 +1,7 @@
 use Rattle.std.proofs.Common.{◌≡◌, false, take}
 use Rattle.std.specs.List.{flat_map}
-use Rattle.transcript_bytes.specs.ByteCalls.{observing, state_after}
-use Rattle.transcript_bytes.specs.Guarded.{guarded_failed, guarded_inner}
+use Rattle.transcript_bytes.specs.ByteCalls.{observing}
+use Rattle.transcript_bytes.specs.Guarded.{guarded_after, guarded_failed, guarded_state}
 use Rattle.field_bytes.specs.Bytes.{low_bytes}
 use Rattle.transcript_elements.proofs.digest.U64DigestWord.observe_words.Given as goal
 
@@ -9,7 +9,5 @@ use Rattle.transcript_elements.proofs.digest.U64DigestWord.observe_words.Given a
 abbrev pub invariant-words : goal.invariant-words
 invariant-words g l = record {
   goes_on : guarded_failed l.guarded ≡ false;
-  run : g.C.ByteChallenger.state (guarded_inner l.guarded)
-      ≡ state_after g.C.ByteChallenger.observed g.C.ByteChallenger.sampled (observing (flat_map (λ w. low_bytes 8 w) (take l.index l.words)))
-      (g.C.ByteChallenger.state (guarded_inner l.initial.guarded));
+  run : guarded_state l.guarded ≡ guarded_after (observing (flat_map (λ w. low_bytes 8 w) (take l.index l.words))) l.initial.guarded;
 }

@@ -1,8 +1,6 @@
 -- The length and the bytes of a seed, one after the other.
-use Rattle.std.proofs.Common.{◌∙◌, [], arith, length, refl, rules, subst}
+use Rattle.std.proofs.Common.{◌∙◌, [], arith, length, refl, rules}
 use Rattle.field_bytes.proofs.WordBytes.{eight_bytes}
-use Rattle.field_bytes.specs.Bytes.{low_bytes}
-use Rattle.transcript_elements.specs.Seeds.{Observes, ObservesPart, padded}
 use Rattle.transcript_elements.proofs.SeedLemmas.{neither_begins, on_err-with, on_ok-with, seed_is_long, seed_observed, seed_part_of_both, seed_part_of_first}
 use Rattle.transcript_elements.proofs.field.TranscriptField.observe_seed.Goals as goal
 

@@ -3,4 +3,4 @@ use Rattle.transcript_elements.proofs.witness.BinaryChallengerGrindingChallenger
 
 pub returns-then-bits-eq0-clause-state : goal.returns-then-bits-eq0-clause-state
 returns-then-bits-eq0-clause-state g c =
-    nothing_checked _ _ g.F.RawDataSerializable.NUM_BYTES c.args.bits (g.F.Represented.repr c.ZERO.result) _ c.if-bits-eq0.true
+    nothing_checked _ g.F.RawDataSerializable.NUM_BYTES c.args.bits (g.F.Represented.repr c.ZERO.result) _ c.if-bits-eq0.true
