@@ -9,7 +9,7 @@ use native.Mathlib.Nat.{div-one, mod-eq_of_lt, mul-suc}
 use native.Mathlib.Numerals.{add-one}
 use Rattle.std.proofs.lemmas.List.{length-append, length-reverse, length-take, reverse-append, reverse-reverse, take-append-le, take_all}
 use Rattle.std.specs.Int.{byte_at, bytes_high_first, to_be_bytes, to_le_bytes, w128}
-use Rattle.field_base.specs.Chunks.{chunk, chunks}
+use Rattle.field_base.specs.Chunks.{chunk, chunks, joined}
 use Rattle.field_bytes.specs.Bytes.{low_bytes, number_of_bytes}
 use Rattle.field_bytes.proofs.Taking.{number-more}
 use Rattle.field_bytes.proofs.WordBytes.{sixteen_bytes}
@@ -46,12 +46,12 @@ module _ {i number before : ℕ} (few : i < 16) (below : number < 2 ^ (8 * i)) (
 
 -- no bytes are the number 0
 pub number_of_none : number_of_bytes [] ≡ 0
-unfolding number_of_bytes
+unfolding joined
 number_of_none = refl
 
 -- a byte put before others becomes the lowest of their number
 pub number_of_one_more : (bytes : List ℕ) (b : ℕ) → number_of_bytes (b ∷ bytes) ≡ number_of_bytes bytes * 256 + b
-unfolding number_of_bytes
+unfolding joined
 number_of_one_more bytes b = omega arith
 
 -- little-endian, the number of the last i + 1 bytes is 256 times that of the last i, plus the byte before them
@@ -156,22 +156,28 @@ next-chunk i b v fits =
     ∙ ap (λ (x : ℕ). x / 256 / 2 ^ (8 * i) % 256) swapped
     ∙ ap (λ (x : ℕ). x / 2 ^ (8 * i) % 256) (div-mul-add v 256 b fits)
 
--- the low bytes of b + 256 v are b and then those of v
-pub low-cons : (n b v : ℕ) → b < 256 → low_bytes (suc n) (b + 256 * v) ≡ b ∷ low_bytes n v
+-- the bytes of b + 256 v are b and those of v
+low-front : (n b v : ℕ) → b < 256 → low_bytes (suc n) (b + 256 * v) ≡ b ∷ low_bytes n v
 unfolding chunks
-low-cons zero b v fits = ap (λ (x : ℕ). x ∷ []) (first-chunk b v fits)
-low-cons (suc n) b v fits = ap₂ (λ xs (x : ℕ). xs ++ x ∷ []) (low-cons n b v fits) (next-chunk n b v fits)
+low-front zero b v fits = ap (λ (x : ℕ). x ∷ []) (first-chunk b v fits)
+low-front (suc n) b v fits = ap₂ (λ xs (x : ℕ). xs ++ x ∷ []) (low-front n b v fits) (next-chunk n b v fits)
+
+-- the bytes of v * 256 + b are b and those of v
+pub low-cons : (n b v : ℕ) → b < 256 → low_bytes (suc n) (v * 256 + b) ≡ b ∷ low_bytes n v
+low-cons n b v fits =
+    let turned : v * 256 + b ≡ b + 256 * v = omega arith in
+    ap (low_bytes (suc n)) turned ∙ low-front n b v fits
 
 -- the low bytes of the number of some bytes are these bytes
 pub low-number : (bytes : List ℕ) → ((k : ℕ) → get_or bytes k 0 < 256) → low_bytes (length bytes) (number_of_bytes bytes) ≡ bytes
-unfolding number_of_bytes chunks
+unfolding joined chunks
 low-number [] fits = refl
 low-number (b ∷ bytes) fits =
     low-cons (length bytes) b (number_of_bytes bytes) (fits 0) ∙ ap (λ xs. b ∷ xs) (low-number bytes (λ k. fits (suc k)))
 
 -- the number of n bytes is below 2^(8 n)
 pub number-lt : (bytes : List ℕ) → ((k : ℕ) → get_or bytes k 0 < 256) → number_of_bytes bytes < 2 ^ (8 * length bytes)
-unfolding number_of_bytes
+unfolding joined
 number-lt [] fits = lit< tt
 number-lt (b ∷ bytes) fits =
     let bits : 2 ^ (8 * suc (length bytes)) ≡ 256 * 2 ^ (8 * length bytes) =
@@ -182,7 +188,7 @@ number-lt (b ∷ bytes) fits =
 
 -- the number of the n low bytes of v is v modulo 2^(8 n)
 pub number-low : (n v : ℕ) → number_of_bytes (low_bytes n v) ≡ v % 2 ^ (8 * n)
-unfolding chunks number_of_bytes
+unfolding chunks joined
 number-low zero v = sym (mod-one v)
 number-low (suc n) v =
     let bits : 8 * suc n ≡ 8 + 8 * n = mul-suc 8 n ∙ omega arith in
@@ -218,7 +224,7 @@ high-number-more b bytes =
 
 -- the big-endian number of n bytes is below 2^(8 n)
 high-number-lt : (bytes : List ℕ) → ((k : ℕ) → get_or bytes k 0 < 256) → number_of_bytes (reverse bytes) < 2 ^ (8 * length bytes)
-unfolding number_of_bytes
+unfolding joined
 high-number-lt [] fits = lit< tt
 high-number-lt (b ∷ bytes) fits =
     put-lt 8 (length bytes) (number_of_bytes (reverse (b ∷ bytes))) b (number_of_bytes (reverse bytes))

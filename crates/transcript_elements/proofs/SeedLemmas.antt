@@ -9,7 +9,7 @@ use Rattle.std.proofs.lemmas.List.{append-nil, append_assoc, append_cancel_left,
 use Rattle.std.proofs.lemmas.List.Sums.{fold-append}
 use Rattle.field_bytes.specs.Bytes.{low_bytes, number_of_bytes}
 use Rattle.field_bytes.specs.Streams.{joined_bytes}
-use Rattle.field_base.specs.Chunks.{chunks}
+use Rattle.field_base.specs.Chunks.{chunks, joined}
 use Rattle.transcript_elements.proofs.LowBytes.{fits-take, length-low, low-cons, number-low, number-lt}
 use Rattle.transcript_elements.specs.Seeds.{AreOfSeed, missing, NeitherBegins, Observes, ObservesPart, padded, seed_bytes}
 
@@ -24,7 +24,7 @@ low-zeros (suc n) = low-cons n 0 0 (omega arith) ∙ ap (λ bs. 0 ∷ bs) (low-z
 -- n bytes of the number of at most n bytes are these bytes, followed by zeros
 pub low-padded : (n : ℕ) (bytes : List ℕ) → length bytes ≤ n → ((k : ℕ) → get_or bytes k 0 < 256)
     → low_bytes n (number_of_bytes bytes) ≡ bytes ++ replicate (n - length bytes) 0
-unfolding number_of_bytes
+unfolding joined
 low-padded n [] short fits = let all : n ≡ n - 0 = omega arith in low-zeros n ∙ ap (λ (k : ℕ). replicate k 0) all
 low-padded zero (b ∷ bytes) short fits = absurd (omega (arith, short))
 low-padded (suc n) (b ∷ bytes) short fits =
