@@ -1,12 +1,12 @@
 // Fields whose elements have at most 16 bytes.
-ghost use Rattle.std.specs.Prelude.{◌≡◌, ◌<◌, ◌≤◌, ◌+◌, ◌*◌, ◌%◌, ◌^◌, length, reverse, take, drop, ◌-◌};
+ghost use Rattle.std.specs.Prelude.{◌≡◌, ◌≤◌, ◌-◌, ◌%◌, ◌^◌, length, reverse, take, drop};
 ghost use Rattle.std.proofs.Common.{lit≤};
 ghost use Rattle.field_bytes.specs.Bytes.{low_bytes, number_of_bytes};
 ghost use Rattle.transcript_elements.specs.BigEndian.{be_bytes};
 
 use field_base::traits::TowerLevel;
 use field_base::{Gf2, LevelKernel, Unsigned};
-use field_bytes::{LittleEndian, RawDataSerializable};
+use field_bytes::{LittleEndian, RawDataSerializable, number_of_high_first, number_of_low_first};
 use field_element::{Element, HasPacking};
 
 /// The most bytes that an element of a `ByteLevel` has.
@@ -79,37 +79,4 @@ impl<R: ShortWord, K: LevelKernel<R> + HasPacking<R>> ByteLevel for Element<R, K
 
 impl ByteLevel for Gf2 {
     ghost short_law = { lit≤ tt };
-}
-
-// The number of at most 16 bytes, the lowest first.
-fn number_of_low_first(bytes: &[u8]) -> u128
-    requires { length bytes.now ≤ 16 }
-    ensures { result ≡ number_of_bytes bytes.now }
-{
-    let mut number: u128 = 0;
-    for i in 0..bytes.len() {
-        number = with_byte(number, bytes[bytes.len() - 1 - i]);
-    }
-    number
-}
-
-// The number of at most 16 bytes, the highest first.
-fn number_of_high_first(bytes: &[u8]) -> u128
-    requires { length bytes.now ≤ 16 }
-    ensures { result ≡ number_of_bytes (reverse bytes.now) }
-{
-    let mut number: u128 = 0;
-    for i in 0..bytes.len() {
-        number = with_byte(number, bytes[i]);
-    }
-    number
-}
-
-// The number with another byte, which becomes its lowest.
-#[inline]
-fn with_byte(number: u128, byte: u8) -> u128
-    requires { number * 256 + byte < 2 ^ 128 }
-    ensures { result ≡ number * 256 + byte }
-{
-    number * 256 + u128::from(byte)
 }
