@@ -1,7 +1,7 @@
 // Products of 64 and 128 bits by the polynomial basis against those by halves, which the definition has, at the corners and at draws
 // from a seed.
-use field_base::traits::TowerLevel;
 use field_base::Unsigned;
+use field_base::traits::TowerLevel;
 use field_element::Element;
 use word_tower::{Bits64, Bits128, Level, Tower};
 
