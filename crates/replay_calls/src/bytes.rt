@@ -61,7 +61,7 @@ fn matrix(alloc: Global, images: &str) -> Result<ByteMatrix, Fault> {
 
 /// The linearized polynomial whose coefficients a list writes.
 fn polynomial(alloc: Global, coefficients: &str) -> Result<LinearizedPoly8b, Fault> {
-    Ok(LinearizedPoly8b::new(eight(alloc, coefficients)?.map(Rijndael8b::from_byte)))
+    Ok(LinearizedPoly8b::new(eight(alloc, coefficients)?.map(|byte| Rijndael8b::from_byte(byte))))
 }
 
 /// The images of a matrix.

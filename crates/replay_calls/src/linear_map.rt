@@ -32,7 +32,7 @@ pub(crate) fn sample(alloc: Global, call: &[&str]) -> Result<Vec<u128>, Fault> {
     };
     let images = numbers(alloc, images)?;
     let images: &[u128; 128] = images.as_slice().try_into().ok().ok_or(Fault::Line)?;
-    let images = (*images).map(Ghash128::new);
+    let images = (*images).map(|bits| Ghash128::new(bits));
     let input = drawn(alloc, word(seed)?, count(len)?)?;
     let mut results = vec![in alloc; Ghash128::new(0); input.len()]?;
     if !Ghash128::try_apply_linear_map_into(&images, input.as_slice(), results.as_mut_slice()) {

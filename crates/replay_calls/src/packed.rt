@@ -34,14 +34,14 @@ pub(crate) fn computed(alloc: Global, name: &str, call: &[&str]) -> Result<Vec<u
 fn sixteen(alloc: Global, list: &str) -> Result<PackedRijndael8b<16>, Fault> {
     let listed = bytes(alloc, list)?;
     let lanes: &[u8; 16] = listed.as_slice().try_into().ok().ok_or(Fault::Line)?;
-    Ok(PackedRijndael8b::<16>::from_slice(&(*lanes).map(Rijndael8b::from_byte)))
+    Ok(PackedRijndael8b::<16>::from_slice(&(*lanes).map(|byte| Rijndael8b::from_byte(byte))))
 }
 
 /// The packing of the four lanes that a list writes.
 fn four(alloc: Global, list: &str) -> Result<PackedGhash128, Fault> {
     let listed = numbers(alloc, list)?;
     let lanes: &[u128; 4] = listed.as_slice().try_into().ok().ok_or(Fault::Line)?;
-    Ok(PackedGhash128::from_slice(&(*lanes).map(Ghash128::new)))
+    Ok(PackedGhash128::from_slice(&(*lanes).map(|bits| Ghash128::new(bits))))
 }
 
 fn shown_sixteen(alloc: Global, packing: PackedRijndael8b<16>) -> Result<Vec<u128>, Fault> {

@@ -21,8 +21,24 @@ static IMAGES_128: [[u128; 2]; 3] = [
     [1 << 64, 0x9cfc_a256_33f9_993f_4e1f_5110_70b2_3e78],
 ];
 
-/// Whether each row is an element of the tower and its image in the field of the kernel `K`, which goes back to it.
-fn images_are<R, L, K>(rows: &[[u128; 2]]) -> bool
+/// The element of this representation.
+fn element<F: TowerLevel>(number: u128) -> F {
+    F::from_repr(F::Repr::of_u128(number))
+}
+
+/// Whether each row is an element of the tower and its image, which goes back to it.
+fn images_are<P: TowerLevel + From<T>, T: TowerLevel + From<P>>(rows: &[[u128; 2]]) -> bool {
+    for row in rows {
+        let (x, image) = (element::<T>(row[0]), element::<P>(row[1]));
+        if P::from(x) != image || T::from(image) != x {
+            return false;
+        }
+    }
+    true
+}
+
+/// The same for the field of the kernel `K`, whose level of the tower is `L`.
+fn field_has_images<R, L, K>(rows: &[[u128; 2]]) -> bool
 where
     R: Unsigned,
     L: Level<R>,
@@ -30,21 +46,14 @@ where
     Element<R, K>: From<Element<R, Tower<L>>>,
     Element<R, Tower<L>>: From<Element<R, K>>,
 {
-    for row in rows {
-        let x: Element<R, Tower<L>> = Element::from_repr(R::of_u128(row[0]));
-        let image: Element<R, K> = Element::from_repr(R::of_u128(row[1]));
-        if Element::<R, K>::from(x) != image || Element::<R, Tower<L>>::from(image) != x {
-            return false;
-        }
-    }
-    true
+    images_are::<Element<R, K>, Element<R, Tower<L>>>(rows)
 }
 
 #[test]
 fn the_roots_have_their_images(rt: HostRuntime) {
     assert!(rt;
-        images_are::<u64, Bits64, Poly64Kernel>(&IMAGES_64)
-            && images_are::<u128, Bits128, GhashKernel>(&IMAGES_128)
+        field_has_images::<u64, Bits64, Poly64Kernel>(&IMAGES_64)
+            && field_has_images::<u128, Bits128, GhashKernel>(&IMAGES_128)
     );
 }
 
@@ -78,8 +87,16 @@ fn refuses_three(
 // Each small heap has room for two images. The first element of each vector is a worked row.
 #[test]
 fn vectors_of_images_are_granted_or_refused(rt: HostRuntime) -> Result<(), Fail> {
-    let narrow: [BinaryField64; 3] = [1 << 32, 0, u64::MAX].map(element_of_word);
-    let wide: [BinaryField128; 3] = [2, 0, u128::MAX].map(element_of_word);
+    let narrow: [BinaryField64; 3] = [
+        element_of_word(1 << 32),
+        element_of_word(0),
+        element_of_word(u64::MAX),
+    ];
+    let wide: [BinaryField128; 3] = [
+        element_of_word(2),
+        element_of_word(0),
+        element_of_word(u128::MAX),
+    ];
     let polynomials = Poly64::from_tower_vec(rt.alloc(), &narrow)?;
     let hashes = Ghash128::from_tower_vec(rt.alloc(), &wide)?;
     assert!(rt; polynomials.len() == 3 && hashes.len() == 3);

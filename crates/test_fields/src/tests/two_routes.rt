@@ -1,9 +1,7 @@
 // Products of 64 and 128 bits by the polynomial basis against those by halves, which the definition has, at the corners and at draws
 // from a seed.
-use field_base::Unsigned;
 use field_base::traits::TowerLevel;
-use field_element::Element;
-use word_tower::{Bits64, Bits128, Level, Tower};
+use field_element::{BinaryField64, BinaryField128};
 
 /// How many pairs are drawn.
 const DRAWS: usize = 200;
@@ -23,19 +21,16 @@ fn wide(state: u64) -> u128 {
     ((state as u128) << 64) ^ (next(state) as u128)
 }
 
-/// Whether the product of the numbers is the same by both routes in a level.
-fn products_agree<R: Unsigned, L: Level<R>>(x: u128, y: u128) -> bool {
-    let left: Element<R, Tower<L>> = Element::from_repr(R::of_u128(x));
-    let right: Element<R, Tower<L>> = Element::from_repr(R::of_u128(y));
+/// Whether the product of the numbers is the same by both routes, at 64 bits.
+fn agree_64(x: u64, y: u64) -> bool {
+    let (left, right) = (BinaryField64::from_repr(x), BinaryField64::from_repr(y));
     left * right == left.reference_mul(right)
 }
 
-fn agree_64(x: u64, y: u64) -> bool {
-    products_agree::<u64, Bits64>(x as u128, y as u128)
-}
-
+/// Whether the product of the numbers is the same by both routes, at 128 bits.
 fn agree_128(x: u128, y: u128) -> bool {
-    products_agree::<u128, Bits128>(x, y)
+    let (left, right) = (BinaryField128::from_repr(x), BinaryField128::from_repr(y));
+    left * right == left.reference_mul(right)
 }
 
 #[test]
