@@ -1,7 +1,7 @@
 //! Answers one field operation a line: reads standard input, and writes standard output.
 #![tactic(auto)]
 
-use binary_field::calc::{Watched, run_program};
+use calculator::{Watched, run_program};
 use std::process::ExitCode;
 
 fn main(rt: HostRuntime) -> ExitCode {
