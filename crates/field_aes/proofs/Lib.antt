@@ -1,3 +1,1 @@
-mod ColumnLemmas
-mod ImageLemmas
 mod LinearizedLemmas

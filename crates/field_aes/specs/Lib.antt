@@ -1,4 +1,2 @@
-pub mod Columns
 pub mod Linearized
-pub mod Matrix
 pub mod Polynomial

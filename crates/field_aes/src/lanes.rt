@@ -2,13 +2,13 @@
 ghost use Rattle.std.specs.Prelude.{◌≡◌, map};
 ghost use Rattle.field_base.specs.LinearMaps.{linear_image};
 ghost use Rattle.field_element.specs.Element.{repr_of};
-ghost use Rattle.field_aes.specs.Matrix.{images_of};
+ghost use Rattle.word_matrix.specs.Matrix.{images_of};
 
 use crate::maps::RijndaelMaps;
-use crate::matrix::ByteMatrix;
 use field_base::traits::PrimeCharacteristicRing;
 use field_element::{PackedRijndael8b, Rijndael8b};
 use packed_lanes::PackedValue;
+use word_matrix::ByteMatrix;
 
 /// Packings of bytes of AES, whose lanes a matrix maps. It is a method of a trait, since a type has functions of its own in its
 /// crate alone.

@@ -4,9 +4,8 @@
 mod lanes;
 mod linearized;
 mod maps;
-mod matrix;
 
 pub use crate::lanes::ByteLanes;
 pub use crate::linearized::LinearizedPoly8b;
 pub use crate::maps::RijndaelMaps;
-pub use crate::matrix::{ByteMatrix, columns_are_transposed};
+pub use word_matrix::{ByteMatrix, columns_are_transposed};

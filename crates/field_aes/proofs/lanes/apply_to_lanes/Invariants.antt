@@ -1,7 +1,7 @@
 use Rattle.std.proofs.Common.{◌≡◌}
 use Rattle.field_base.specs.LinearMaps.{linear_image}
 use Rattle.field_element.specs.Element.{repr_of}
-use Rattle.field_aes.specs.Matrix.{images_of}
+use Rattle.word_matrix.specs.Matrix.{images_of}
 use Rattle.packed_lanes.proofs.LanePoints.{Written}
 use Rattle.field_aes.proofs.lanes.apply_to_lanes.Given as goal
 

@@ -2,9 +2,9 @@ use Rattle.std.proofs.Common.{◌≡◌, ℕ, ◌*◌, ◌/◌, ◌%◌, ◌^◌
 use Rattle.std.specs.Prelude.{bit_and, bit_xor, slice_index}
 use Rattle.std.specs.Int.{bit_at}
 use Rattle.field_base.specs.Basis.{sum_below}
-use Rattle.field_aes.specs.Columns.{column}
-use Rattle.field_aes.proofs.ColumnLemmas.{row_enters}
-use Rattle.field_aes.proofs.matrix.column_of.Goals as goal
+use Rattle.word_matrix.specs.Columns.{column}
+use Rattle.word_matrix.proofs.ColumnLemmas.{row_enters}
+use Rattle.word_matrix.proofs.matrix.column_of.Goals as goal
 
 pub loop-row-init : goal.loop-row-init
 unfolding sum_below

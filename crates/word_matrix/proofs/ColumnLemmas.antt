@@ -10,7 +10,7 @@ use lib.Bits.{xor_zero_r}
 use Rattle.field_base.specs.Basis.{sum_below}
 use Rattle.field_base.proofs.BasisSums.{bit_at-mod, sum_below-same}
 use Rattle.field_base.proofs.EightCases.{eight_cases}
-use Rattle.field_aes.specs.Columns.{column, columns}
+use Rattle.word_matrix.specs.Columns.{column, columns}
 
 -- ---- a number by its bits
 

@@ -1,17 +1,22 @@
 -- Images one after the other, and of one map after another.
 use Rattle.std.proofs.Common.{◌≡◌, ℕ, zero, suc, ◌+◌, ◌^◌, ◌<◌, ◌≤◌, List, [], ◌∷◌, ◌++◌, drop, length, map, take, refl, sym, ◌∙◌, ap, ap₂, subst, arith}
-use Rattle.std.specs.Prelude.{bit_xor, slice_index, slice_set}
+use Rattle.std.specs.Prelude.{bit_xor, slice_index, slice_index_or, slice_set}
 use Rattle.std.proofs.lemmas.List.{append-nil, drop_all, length-map, take_all}
 use Rattle.std.proofs.lemmas.List.Edits.{map_over_more}
 use Rattle.field_base.specs.LinearMaps.{linear_image}
 use Rattle.field_base.proofs.LinearMapLemmas.{the_linear_map}
-use Rattle.packed_lanes.proofs.LanePoints.{same_entry}
 
 -- an entry of the images of a list is the image of the entry
 pub entry_of_map : (f : ℕ → ℕ) (xs : List ℕ) (i : ℕ) → i < length xs → slice_index (map f xs) i ≡ f (slice_index xs i)
 entry_of_map f [] i within = absurd (omega (arith, within))
 entry_of_map f (x ∷ xs) zero within = refl
 entry_of_map f (x ∷ xs) (suc i) within = entry_of_map f xs i (omega (arith, within))
+
+-- an entry of a list does not depend on what stands for those past its end
+same_entry : (xs : List ℕ) (i d e : ℕ) → i < length xs → slice_index_or xs i d ≡ slice_index_or xs i e
+same_entry [] i d e within = absurd (omega (arith, within))
+same_entry (x ∷ xs) zero d e within = refl
+same_entry (x ∷ xs) (suc i) d e within = same_entry xs i d e (omega (arith, within))
 
 -- one place more is written over
 pub place_written : (f : ℕ → ℕ) (xs ys : List ℕ) (i v : ℕ) → i < length xs → i < length ys

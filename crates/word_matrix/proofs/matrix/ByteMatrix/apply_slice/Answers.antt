@@ -1,8 +1,8 @@
 use Rattle.std.proofs.Common.{◌<◌, length, arith}
 use Rattle.field_base.specs.LinearMaps.{linear_image}
-use Rattle.field_aes.specs.Matrix.{images_of}
-use Rattle.field_aes.proofs.ImageLemmas.{all_written, place_written}
-use Rattle.field_aes.proofs.matrix.ByteMatrix.apply_slice.Goals as goal
+use Rattle.word_matrix.specs.Matrix.{images_of}
+use Rattle.word_matrix.proofs.ImageLemmas.{all_written, place_written}
+use Rattle.word_matrix.proofs.matrix.ByteMatrix.apply_slice.Goals as goal
 
 pub loop-place-preserved : goal.loop-place-preserved
 loop-place-preserved c =

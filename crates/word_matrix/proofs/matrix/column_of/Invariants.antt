@@ -2,7 +2,7 @@ use Rattle.std.proofs.Common.{◌≡◌, ◌*◌, ◌^◌}
 use Rattle.std.specs.Prelude.{slice_index}
 use Rattle.std.specs.Int.{bit_at}
 use Rattle.field_base.specs.Basis.{sum_below}
-use Rattle.field_aes.proofs.matrix.column_of.Given as goal
+use Rattle.word_matrix.proofs.matrix.column_of.Given as goal
 
 -- the bits of the rows before this one
 abbrev pub invariant-loop-row : goal.invariant-loop-row

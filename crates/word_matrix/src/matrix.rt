@@ -2,7 +2,7 @@
 ghost use Rattle.std.specs.Prelude.{◌≡◌, ◌<◌, ℕ, List, length, map, replicate, slice_index};
 ghost use Rattle.std.specs.Int.{bit_at, from_be_bytes, to_be_bytes, w64};
 ghost use Rattle.field_base.specs.LinearMaps.{linear_image};
-ghost use Rattle.field_aes.specs.Columns.{column, columns};
+ghost use Rattle.word_matrix.specs.Columns.{column, columns};
 
 /// A linear map of bytes over GF(2), as the bytes that it makes of the eight bits.
 #[derive(Clone, Copy, Debug, PartialEq, Eq, Hash)]
@@ -20,7 +20,7 @@ impl Default for ByteMatrix {
 }
 
 impl ByteMatrix {
-    ghost use Rattle.field_aes.specs.Matrix.{images_of};
+    ghost use Rattle.word_matrix.specs.Matrix.{images_of};
 
     /// The map that makes 0 of every byte.
     pub const ZERO: ByteMatrix = ByteMatrix { images: [0; 8] };

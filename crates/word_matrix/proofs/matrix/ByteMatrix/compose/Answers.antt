@@ -1,6 +1,6 @@
 use Rattle.std.proofs.Common.{ℕ, ◌^◌, ◌<◌, subst, sym}
-use Rattle.field_aes.proofs.ImageLemmas.{one_after_other}
-use Rattle.field_aes.proofs.matrix.ByteMatrix.compose.Goals as goal
+use Rattle.word_matrix.proofs.ImageLemmas.{one_after_other}
+use Rattle.word_matrix.proofs.matrix.ByteMatrix.compose.Goals as goal
 
 pub returns-clause-both : goal.returns-clause-both
 returns-clause-both c x fits =

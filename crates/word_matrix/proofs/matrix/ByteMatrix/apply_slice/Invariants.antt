@@ -1,7 +1,7 @@
 use Rattle.std.proofs.Common.{◌≡◌, ◌++◌, drop, map, take}
 use Rattle.field_base.specs.LinearMaps.{linear_image}
-use Rattle.field_aes.specs.Matrix.{images_of}
-use Rattle.field_aes.proofs.matrix.ByteMatrix.apply_slice.Given as goal
+use Rattle.word_matrix.specs.Matrix.{images_of}
+use Rattle.word_matrix.proofs.matrix.ByteMatrix.apply_slice.Given as goal
 
 -- the bytes before this place are written over, and the others are as they were
 abbrev pub invariant-loop-place : goal.invariant-loop-place

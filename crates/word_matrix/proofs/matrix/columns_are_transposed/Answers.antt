@@ -1,5 +1,5 @@
-use Rattle.field_aes.proofs.ColumnLemmas.{columns_back, columns_bit}
-use Rattle.field_aes.proofs.matrix.columns_are_transposed.Goals as goal
+use Rattle.word_matrix.proofs.ColumnLemmas.{columns_back, columns_bit}
+use Rattle.word_matrix.proofs.matrix.columns_are_transposed.Goals as goal
 
 pub returns-clause-bits : goal.returns-clause-bits
 returns-clause-bits c = columns_bit

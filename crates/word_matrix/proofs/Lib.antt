@@ -1,0 +1,2 @@
+mod ColumnLemmas
+mod ImageLemmas

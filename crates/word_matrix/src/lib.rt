@@ -1,0 +1,6 @@
+//! Matrices of 8 by 8 bits: the linear maps of bytes.
+#![tactic(auto)]
+
+mod matrix;
+
+pub use crate::matrix::{ByteMatrix, columns_are_transposed};
