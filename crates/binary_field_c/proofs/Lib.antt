@@ -1,2 +1,0 @@
-mod Coefficients
-mod HeldElements

@@ -51,12 +51,3 @@ EachPreimage number image xs ys = Each number (λ x y. image y ≡ x) xs ys
 -- the product of a word and each of the factors in turn
 abbrev pub chain_product : {W : Type 0} → (W → ℕ) → (ℕ → ℕ → ℕ) → W → List W → ℕ
 chain_product number times first factors = fold (λ x factor. times x (number factor)) (number first) factors
-
--- each word of `ys` is what a call gives at the word of `xs` at its index
-abbrev pub EachCall : {W : Type 0} → (W → W → Type 0) → List W → List W → Type 0
-EachCall gives xs ys = (k : ℕ) → k < length ys → (d : _) → gives (get_or xs k d) (get_or ys k d)
-
--- each of `xs` is the element that the word of `ws` at its index holds; `repr` is the number that an element stands for
-abbrev pub EachHeld : {W X : Type 0} → (W → ℕ) → (X → ℕ) → List W → List X → Type 0
-EachHeld number repr ws xs =
-    (k : ℕ) → k < length xs → (w : _) (x : _) → repr (get_or xs k x) ≡ number (get_or ws k w)

@@ -8,12 +8,27 @@ ghost use Rattle.word_cubic.specs.Cubic.{cubic};
 ghost use Rattle.binary_field_c.specs.Words.{chain_product, cubic_number, itself, wide_number};
 ghost use Rattle.binary_field_c.specs.Words.{EachInverse, EachProduct, EachRoot, EachSquare};
 
+use crate::fields::{CubicField, Words};
 use crate::slices;
 use crate::words::{Cubic, Wide};
-use field_element::{
-    BinaryField8, BinaryField16, BinaryField32, BinaryField64, BinaryField128, Ghash128, Poly64,
-    Poly192, Rijndael8b,
-};
+use word_polynomial::{GhashKernel, Poly64Kernel, RijndaelKernel};
+use word_tower::{Bits8, Bits16, Bits32, Bits64, Bits128, Tower};
+
+type Level8 = Words<u8, Tower<Bits8>>;
+
+type Level16 = Words<u16, Tower<Bits16>>;
+
+type Level32 = Words<u32, Tower<Bits32>>;
+
+type Level64 = Words<u64, Tower<Bits64>>;
+
+type Level128 = Words<u128, Tower<Bits128>>;
+
+type Rijndael = Words<u8, RijndaelKernel>;
+
+type Poly64 = Words<u64, Poly64Kernel>;
+
+type Ghash = Words<u128, GhashKernel>;
 
 /// Writes the product of the elements at each index.
 #[unsafe(no_mangle)]
@@ -22,7 +37,7 @@ pub extern "C" fn bf_multiply_8(left: &[u8], right: &[u8], products: &mut [u8])
     requires right_fits { length right.now ≡ length products.old }
     ensures { EachProduct itself (tower_mul 3) left.now right.now products.new }
 {
-    slices::multiply::<BinaryField8, u8>(left, right, products);
+    slices::multiply::<u8, Level8>(left, right, products);
 }
 
 /// Multiplies `product` by each factor in turn, so that each product waits for the one before.
@@ -30,7 +45,7 @@ pub extern "C" fn bf_multiply_8(left: &[u8], right: &[u8], products: &mut [u8])
 pub extern "C" fn bf_chain_8(factors: &[u8], product: &mut u8)
     ensures { product.new ≡ chain_product itself (tower_mul 3) product.old factors.now }
 {
-    slices::chain::<BinaryField8, u8>(factors, product);
+    slices::chain::<u8, Level8>(factors, product);
 }
 
 /// Writes the square of the element at each index.
@@ -39,7 +54,7 @@ pub extern "C" fn bf_square_8(words: &[u8], squares: &mut [u8])
     requires { length words.now ≡ length squares.old }
     ensures { EachSquare itself (tower_mul 3) words.now squares.new }
 {
-    slices::square::<BinaryField8, u8>(words, squares);
+    slices::square::<u8, Level8>(words, squares);
 }
 
 /// Writes the inverse of the element at each index, and 0 for 0.
@@ -48,7 +63,7 @@ pub extern "C" fn bf_inverse_8(words: &[u8], inverses: &mut [u8])
     requires { length words.now ≡ length inverses.old }
     ensures { EachInverse itself (tower_mul 3) words.now inverses.new }
 {
-    slices::invert::<BinaryField8, u8>(words, inverses);
+    slices::invert::<u8, Level8>(words, inverses);
 }
 
 /// Writes the square root of the element at each index.
@@ -57,7 +72,7 @@ pub extern "C" fn bf_square_root_8(words: &[u8], roots: &mut [u8])
     requires { length words.now ≡ length roots.old }
     ensures { EachRoot itself (tower_mul 3) words.now roots.new }
 {
-    slices::square_root::<BinaryField8, u8>(words, roots);
+    slices::square_root::<u8, Level8>(words, roots);
 }
 
 /// Writes the product of the elements at each index.
@@ -67,7 +82,7 @@ pub extern "C" fn bf_multiply_16(left: &[u16], right: &[u16], products: &mut [u1
     requires right_fits { length right.now ≡ length products.old }
     ensures { EachProduct itself (tower_mul 4) left.now right.now products.new }
 {
-    slices::multiply::<BinaryField16, u16>(left, right, products);
+    slices::multiply::<u16, Level16>(left, right, products);
 }
 
 /// Multiplies `product` by each factor in turn, so that each product waits for the one before.
@@ -75,7 +90,7 @@ pub extern "C" fn bf_multiply_16(left: &[u16], right: &[u16], products: &mut [u1
 pub extern "C" fn bf_chain_16(factors: &[u16], product: &mut u16)
     ensures { product.new ≡ chain_product itself (tower_mul 4) product.old factors.now }
 {
-    slices::chain::<BinaryField16, u16>(factors, product);
+    slices::chain::<u16, Level16>(factors, product);
 }
 
 /// Writes the square of the element at each index.
@@ -84,7 +99,7 @@ pub extern "C" fn bf_square_16(words: &[u16], squares: &mut [u16])
     requires { length words.now ≡ length squares.old }
     ensures { EachSquare itself (tower_mul 4) words.now squares.new }
 {
-    slices::square::<BinaryField16, u16>(words, squares);
+    slices::square::<u16, Level16>(words, squares);
 }
 
 /// Writes the inverse of the element at each index, and 0 for 0.
@@ -93,7 +108,7 @@ pub extern "C" fn bf_inverse_16(words: &[u16], inverses: &mut [u16])
     requires { length words.now ≡ length inverses.old }
     ensures { EachInverse itself (tower_mul 4) words.now inverses.new }
 {
-    slices::invert::<BinaryField16, u16>(words, inverses);
+    slices::invert::<u16, Level16>(words, inverses);
 }
 
 /// Writes the square root of the element at each index.
@@ -102,7 +117,7 @@ pub extern "C" fn bf_square_root_16(words: &[u16], roots: &mut [u16])
     requires { length words.now ≡ length roots.old }
     ensures { EachRoot itself (tower_mul 4) words.now roots.new }
 {
-    slices::square_root::<BinaryField16, u16>(words, roots);
+    slices::square_root::<u16, Level16>(words, roots);
 }
 
 /// Writes the product of the elements at each index.
@@ -112,7 +127,7 @@ pub extern "C" fn bf_multiply_32(left: &[u32], right: &[u32], products: &mut [u3
     requires right_fits { length right.now ≡ length products.old }
     ensures { EachProduct itself (tower_mul 5) left.now right.now products.new }
 {
-    slices::multiply::<BinaryField32, u32>(left, right, products);
+    slices::multiply::<u32, Level32>(left, right, products);
 }
 
 /// Multiplies `product` by each factor in turn, so that each product waits for the one before.
@@ -120,7 +135,7 @@ pub extern "C" fn bf_multiply_32(left: &[u32], right: &[u32], products: &mut [u3
 pub extern "C" fn bf_chain_32(factors: &[u32], product: &mut u32)
     ensures { product.new ≡ chain_product itself (tower_mul 5) product.old factors.now }
 {
-    slices::chain::<BinaryField32, u32>(factors, product);
+    slices::chain::<u32, Level32>(factors, product);
 }
 
 /// Writes the square of the element at each index.
@@ -129,7 +144,7 @@ pub extern "C" fn bf_square_32(words: &[u32], squares: &mut [u32])
     requires { length words.now ≡ length squares.old }
     ensures { EachSquare itself (tower_mul 5) words.now squares.new }
 {
-    slices::square::<BinaryField32, u32>(words, squares);
+    slices::square::<u32, Level32>(words, squares);
 }
 
 /// Writes the inverse of the element at each index, and 0 for 0.
@@ -138,7 +153,7 @@ pub extern "C" fn bf_inverse_32(words: &[u32], inverses: &mut [u32])
     requires { length words.now ≡ length inverses.old }
     ensures { EachInverse itself (tower_mul 5) words.now inverses.new }
 {
-    slices::invert::<BinaryField32, u32>(words, inverses);
+    slices::invert::<u32, Level32>(words, inverses);
 }
 
 /// Writes the square root of the element at each index.
@@ -147,7 +162,7 @@ pub extern "C" fn bf_square_root_32(words: &[u32], roots: &mut [u32])
     requires { length words.now ≡ length roots.old }
     ensures { EachRoot itself (tower_mul 5) words.now roots.new }
 {
-    slices::square_root::<BinaryField32, u32>(words, roots);
+    slices::square_root::<u32, Level32>(words, roots);
 }
 
 /// Writes the product of the elements at each index.
@@ -157,7 +172,7 @@ pub extern "C" fn bf_multiply_64(left: &[u64], right: &[u64], products: &mut [u6
     requires right_fits { length right.now ≡ length products.old }
     ensures { EachProduct itself (tower_mul 6) left.now right.now products.new }
 {
-    slices::multiply::<BinaryField64, u64>(left, right, products);
+    slices::multiply::<u64, Level64>(left, right, products);
 }
 
 /// Multiplies `product` by each factor in turn, so that each product waits for the one before.
@@ -165,7 +180,7 @@ pub extern "C" fn bf_multiply_64(left: &[u64], right: &[u64], products: &mut [u6
 pub extern "C" fn bf_chain_64(factors: &[u64], product: &mut u64)
     ensures { product.new ≡ chain_product itself (tower_mul 6) product.old factors.now }
 {
-    slices::chain::<BinaryField64, u64>(factors, product);
+    slices::chain::<u64, Level64>(factors, product);
 }
 
 /// Writes the square of the element at each index.
@@ -174,7 +189,7 @@ pub extern "C" fn bf_square_64(words: &[u64], squares: &mut [u64])
     requires { length words.now ≡ length squares.old }
     ensures { EachSquare itself (tower_mul 6) words.now squares.new }
 {
-    slices::square::<BinaryField64, u64>(words, squares);
+    slices::square::<u64, Level64>(words, squares);
 }
 
 /// Writes the inverse of the element at each index, and 0 for 0.
@@ -183,7 +198,7 @@ pub extern "C" fn bf_inverse_64(words: &[u64], inverses: &mut [u64])
     requires { length words.now ≡ length inverses.old }
     ensures { EachInverse itself (tower_mul 6) words.now inverses.new }
 {
-    slices::invert::<BinaryField64, u64>(words, inverses);
+    slices::invert::<u64, Level64>(words, inverses);
 }
 
 /// Writes the square root of the element at each index.
@@ -192,7 +207,7 @@ pub extern "C" fn bf_square_root_64(words: &[u64], roots: &mut [u64])
     requires { length words.now ≡ length roots.old }
     ensures { EachRoot itself (tower_mul 6) words.now roots.new }
 {
-    slices::square_root::<BinaryField64, u64>(words, roots);
+    slices::square_root::<u64, Level64>(words, roots);
 }
 
 /// Writes the product of the elements at each index.
@@ -202,7 +217,7 @@ pub extern "C" fn bf_multiply_128(left: &[Wide], right: &[Wide], products: &mut 
     requires right_fits { length right.now ≡ length products.old }
     ensures { EachProduct wide_number (tower_mul 7) left.now right.now products.new }
 {
-    slices::multiply::<BinaryField128, Wide>(left, right, products);
+    slices::multiply::<Wide, Level128>(left, right, products);
 }
 
 /// Multiplies `product` by each factor in turn, so that each product waits for the one before.
@@ -210,7 +225,7 @@ pub extern "C" fn bf_multiply_128(left: &[Wide], right: &[Wide], products: &mut 
 pub extern "C" fn bf_chain_128(factors: &[Wide], product: &mut Wide)
     ensures { wide_number product.new ≡ chain_product wide_number (tower_mul 7) product.old factors.now }
 {
-    slices::chain::<BinaryField128, Wide>(factors, product);
+    slices::chain::<Wide, Level128>(factors, product);
 }
 
 /// Writes the square of the element at each index.
@@ -219,7 +234,7 @@ pub extern "C" fn bf_square_128(words: &[Wide], squares: &mut [Wide])
     requires { length words.now ≡ length squares.old }
     ensures { EachSquare wide_number (tower_mul 7) words.now squares.new }
 {
-    slices::square::<BinaryField128, Wide>(words, squares);
+    slices::square::<Wide, Level128>(words, squares);
 }
 
 /// Writes the inverse of the element at each index, and 0 for 0.
@@ -228,7 +243,7 @@ pub extern "C" fn bf_inverse_128(words: &[Wide], inverses: &mut [Wide])
     requires { length words.now ≡ length inverses.old }
     ensures { EachInverse wide_number (tower_mul 7) words.now inverses.new }
 {
-    slices::invert::<BinaryField128, Wide>(words, inverses);
+    slices::invert::<Wide, Level128>(words, inverses);
 }
 
 /// Writes the square root of the element at each index.
@@ -237,7 +252,7 @@ pub extern "C" fn bf_square_root_128(words: &[Wide], roots: &mut [Wide])
     requires { length words.now ≡ length roots.old }
     ensures { EachRoot wide_number (tower_mul 7) words.now roots.new }
 {
-    slices::square_root::<BinaryField128, Wide>(words, roots);
+    slices::square_root::<Wide, Level128>(words, roots);
 }
 
 /// Writes the product of the elements at each index.
@@ -247,7 +262,7 @@ pub extern "C" fn bf_multiply_rijndael(left: &[u8], right: &[u8], products: &mut
     requires right_fits { length right.now ≡ length products.old }
     ensures { EachProduct itself (mul_mod 8 aes_modulus) left.now right.now products.new }
 {
-    slices::multiply::<Rijndael8b, u8>(left, right, products);
+    slices::multiply::<u8, Rijndael>(left, right, products);
 }
 
 /// Multiplies `product` by each factor in turn, so that each product waits for the one before.
@@ -255,7 +270,7 @@ pub extern "C" fn bf_multiply_rijndael(left: &[u8], right: &[u8], products: &mut
 pub extern "C" fn bf_chain_rijndael(factors: &[u8], product: &mut u8)
     ensures { product.new ≡ chain_product itself (mul_mod 8 aes_modulus) product.old factors.now }
 {
-    slices::chain::<Rijndael8b, u8>(factors, product);
+    slices::chain::<u8, Rijndael>(factors, product);
 }
 
 /// Writes the square of the element at each index.
@@ -264,7 +279,7 @@ pub extern "C" fn bf_square_rijndael(words: &[u8], squares: &mut [u8])
     requires { length words.now ≡ length squares.old }
     ensures { EachSquare itself (mul_mod 8 aes_modulus) words.now squares.new }
 {
-    slices::square::<Rijndael8b, u8>(words, squares);
+    slices::square::<u8, Rijndael>(words, squares);
 }
 
 /// Writes the inverse of the element at each index, and 0 for 0.
@@ -273,7 +288,7 @@ pub extern "C" fn bf_inverse_rijndael(words: &[u8], inverses: &mut [u8])
     requires { length words.now ≡ length inverses.old }
     ensures { EachInverse itself (mul_mod 8 aes_modulus) words.now inverses.new }
 {
-    slices::invert::<Rijndael8b, u8>(words, inverses);
+    slices::invert::<u8, Rijndael>(words, inverses);
 }
 
 /// Writes the square root of the element at each index.
@@ -282,7 +297,7 @@ pub extern "C" fn bf_square_root_rijndael(words: &[u8], roots: &mut [u8])
     requires { length words.now ≡ length roots.old }
     ensures { EachRoot itself (mul_mod 8 aes_modulus) words.now roots.new }
 {
-    slices::square_root::<Rijndael8b, u8>(words, roots);
+    slices::square_root::<u8, Rijndael>(words, roots);
 }
 
 /// Writes the product of the elements at each index.
@@ -292,7 +307,7 @@ pub extern "C" fn bf_multiply_poly64(left: &[u64], right: &[u64], products: &mut
     requires right_fits { length right.now ≡ length products.old }
     ensures { EachProduct itself (mul_mod 64 poly64_modulus) left.now right.now products.new }
 {
-    slices::multiply::<Poly64, u64>(left, right, products);
+    slices::multiply::<u64, Poly64>(left, right, products);
 }
 
 /// Multiplies `product` by each factor in turn, so that each product waits for the one before.
@@ -300,7 +315,7 @@ pub extern "C" fn bf_multiply_poly64(left: &[u64], right: &[u64], products: &mut
 pub extern "C" fn bf_chain_poly64(factors: &[u64], product: &mut u64)
     ensures { product.new ≡ chain_product itself (mul_mod 64 poly64_modulus) product.old factors.now }
 {
-    slices::chain::<Poly64, u64>(factors, product);
+    slices::chain::<u64, Poly64>(factors, product);
 }
 
 /// Writes the square of the element at each index.
@@ -309,7 +324,7 @@ pub extern "C" fn bf_square_poly64(words: &[u64], squares: &mut [u64])
     requires { length words.now ≡ length squares.old }
     ensures { EachSquare itself (mul_mod 64 poly64_modulus) words.now squares.new }
 {
-    slices::square::<Poly64, u64>(words, squares);
+    slices::square::<u64, Poly64>(words, squares);
 }
 
 /// Writes the inverse of the element at each index, and 0 for 0.
@@ -318,7 +333,7 @@ pub extern "C" fn bf_inverse_poly64(words: &[u64], inverses: &mut [u64])
     requires { length words.now ≡ length inverses.old }
     ensures { EachInverse itself (mul_mod 64 poly64_modulus) words.now inverses.new }
 {
-    slices::invert::<Poly64, u64>(words, inverses);
+    slices::invert::<u64, Poly64>(words, inverses);
 }
 
 /// Writes the square root of the element at each index.
@@ -327,7 +342,7 @@ pub extern "C" fn bf_square_root_poly64(words: &[u64], roots: &mut [u64])
     requires { length words.now ≡ length roots.old }
     ensures { EachRoot itself (mul_mod 64 poly64_modulus) words.now roots.new }
 {
-    slices::square_root::<Poly64, u64>(words, roots);
+    slices::square_root::<u64, Poly64>(words, roots);
 }
 
 /// Writes the product of the elements at each index.
@@ -337,7 +352,7 @@ pub extern "C" fn bf_multiply_ghash128(left: &[Wide], right: &[Wide], products: 
     requires right_fits { length right.now ≡ length products.old }
     ensures { EachProduct wide_number (mul_mod 128 ghash_modulus) left.now right.now products.new }
 {
-    slices::multiply::<Ghash128, Wide>(left, right, products);
+    slices::multiply::<Wide, Ghash>(left, right, products);
 }
 
 /// Multiplies `product` by each factor in turn, so that each product waits for the one before.
@@ -345,7 +360,7 @@ pub extern "C" fn bf_multiply_ghash128(left: &[Wide], right: &[Wide], products: 
 pub extern "C" fn bf_chain_ghash128(factors: &[Wide], product: &mut Wide)
     ensures { wide_number product.new ≡ chain_product wide_number (mul_mod 128 ghash_modulus) product.old factors.now }
 {
-    slices::chain::<Ghash128, Wide>(factors, product);
+    slices::chain::<Wide, Ghash>(factors, product);
 }
 
 /// Writes the square of the element at each index.
@@ -354,7 +369,7 @@ pub extern "C" fn bf_square_ghash128(words: &[Wide], squares: &mut [Wide])
     requires { length words.now ≡ length squares.old }
     ensures { EachSquare wide_number (mul_mod 128 ghash_modulus) words.now squares.new }
 {
-    slices::square::<Ghash128, Wide>(words, squares);
+    slices::square::<Wide, Ghash>(words, squares);
 }
 
 /// Writes the inverse of the element at each index, and 0 for 0.
@@ -363,7 +378,7 @@ pub extern "C" fn bf_inverse_ghash128(words: &[Wide], inverses: &mut [Wide])
     requires { length words.now ≡ length inverses.old }
     ensures { EachInverse wide_number (mul_mod 128 ghash_modulus) words.now inverses.new }
 {
-    slices::invert::<Ghash128, Wide>(words, inverses);
+    slices::invert::<Wide, Ghash>(words, inverses);
 }
 
 /// Writes the square root of the element at each index.
@@ -372,7 +387,7 @@ pub extern "C" fn bf_square_root_ghash128(words: &[Wide], roots: &mut [Wide])
     requires { length words.now ≡ length roots.old }
     ensures { EachRoot wide_number (mul_mod 128 ghash_modulus) words.now roots.new }
 {
-    slices::square_root::<Ghash128, Wide>(words, roots);
+    slices::square_root::<Wide, Ghash>(words, roots);
 }
 
 /// Writes the product of the elements at each index.
@@ -382,7 +397,7 @@ pub extern "C" fn bf_multiply_poly192(left: &[Cubic], right: &[Cubic], products:
     requires right_fits { length right.now ≡ length products.old }
     ensures { EachProduct cubic_number (cubic 64 (mul_mod 64 poly64_modulus)) left.now right.now products.new }
 {
-    slices::multiply::<Poly192, Cubic>(left, right, products);
+    slices::multiply::<Cubic, CubicField>(left, right, products);
 }
 
 /// Multiplies `product` by each factor in turn, so that each product waits for the one before.
@@ -390,7 +405,7 @@ pub extern "C" fn bf_multiply_poly192(left: &[Cubic], right: &[Cubic], products:
 pub extern "C" fn bf_chain_poly192(factors: &[Cubic], product: &mut Cubic)
     ensures { cubic_number product.new ≡ chain_product cubic_number (cubic 64 (mul_mod 64 poly64_modulus)) product.old factors.now }
 {
-    slices::chain::<Poly192, Cubic>(factors, product);
+    slices::chain::<Cubic, CubicField>(factors, product);
 }
 
 /// Writes the square of the element at each index.
@@ -399,7 +414,7 @@ pub extern "C" fn bf_square_poly192(words: &[Cubic], squares: &mut [Cubic])
     requires { length words.now ≡ length squares.old }
     ensures { EachSquare cubic_number (cubic 64 (mul_mod 64 poly64_modulus)) words.now squares.new }
 {
-    slices::square::<Poly192, Cubic>(words, squares);
+    slices::square::<Cubic, CubicField>(words, squares);
 }
 
 /// Writes the inverse of the element at each index, and 0 for 0.
@@ -408,7 +423,7 @@ pub extern "C" fn bf_inverse_poly192(words: &[Cubic], inverses: &mut [Cubic])
     requires { length words.now ≡ length inverses.old }
     ensures { EachInverse cubic_number (cubic 64 (mul_mod 64 poly64_modulus)) words.now inverses.new }
 {
-    slices::invert::<Poly192, Cubic>(words, inverses);
+    slices::invert::<Cubic, CubicField>(words, inverses);
 }
 
 /// Writes the square root of the element at each index.
@@ -417,5 +432,5 @@ pub extern "C" fn bf_square_root_poly192(words: &[Cubic], roots: &mut [Cubic])
     requires { length words.now ≡ length roots.old }
     ensures { EachRoot cubic_number (cubic 64 (mul_mod 64 poly64_modulus)) words.now roots.new }
 {
-    slices::square_root::<Poly192, Cubic>(words, roots);
+    slices::square_root::<Cubic, CubicField>(words, roots);
 }

@@ -4,6 +4,7 @@
 #![tactic(auto)]
 
 mod arithmetic;
+mod fields;
 mod linear;
 mod slices;
 mod words;

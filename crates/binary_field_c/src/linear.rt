@@ -10,24 +10,18 @@ ghost use Rattle.binary_field_c.specs.Words.{itself, wide_number, EachImage, Eac
 
 use crate::slices;
 use crate::words::Wide;
-use field_aes::ByteMatrix;
-use field_base::traits::{PrimeCharacteristicRing, TowerLevel};
-use field_element::{BinaryField64, BinaryField128, Ghash128, Poly64};
 use word_basis::{ByteMap, to_polynomial_slice_64, to_tower_slice_64};
+use word_matrix::ByteMatrix;
+use word_polynomial::{GhashKernel, GhashModulus, Poly64Kernel, Poly64Modulus};
+use word_tower::{Bits64, Bits128};
 
-/// Writes the dot product of two slices of 1,024 elements.
+/// Writes the dot product of two slices of one length.
 #[unsafe(no_mangle)]
 pub extern "C" fn bf_dot_product_poly64(left: &[u64], right: &[u64], product: &mut u64)
-    requires left_length { length left.now ≡ 1024 }
-    requires right_length { length right.now ≡ 1024 }
+    requires { length left.now ≡ length right.now }
     ensures { product.new ≡ dot_of (mul_mod 64 poly64_modulus) itself left.now right.now }
 {
-    let mut left_elements = [Poly64::ZERO; 1024];
-    let mut right_elements = [Poly64::ZERO; 1024];
-    slices::read(left, &mut left_elements);
-    slices::read(right, &mut right_elements);
-    let sum = Poly64::dot_product_of_slices(&left_elements, &right_elements);
-    *product = sum.to_bits();
+    *product = slices::dot_product::<u64, u64, Poly64Kernel>(left, right);
 }
 
 /// Writes the polynomial that is the image of the element of the tower at each index.
@@ -36,7 +30,7 @@ pub extern "C" fn bf_from_tower_poly64(words: &[u64], images: &mut [u64])
     requires { length words.now ≡ length images.old }
     ensures { EachImage itself (basis_image 64 poly64_modulus poly64_images) words.now images.new }
 {
-    slices::each(words, images, poly64_of_tower);
+    slices::from_tower::<u64, Bits64, Poly64Modulus, u64>(words, images);
 }
 
 /// Writes the element of the tower whose image is the polynomial at each index.
@@ -45,7 +39,7 @@ pub extern "C" fn bf_to_tower_poly64(words: &[u64], elements: &mut [u64])
     requires { length words.now ≡ length elements.old }
     ensures { EachPreimage itself (basis_image 64 poly64_modulus poly64_images) words.now elements.new }
 {
-    slices::each(words, elements, tower_of_poly64);
+    slices::to_tower::<u64, Bits64, Poly64Modulus, u64>(words, elements);
 }
 
 /// Replaces each element of the tower by its image, a polynomial.
@@ -64,19 +58,13 @@ pub extern "C" fn bf_to_tower_slice_poly64(words: &mut [u64])
     to_tower_slice_64(words);
 }
 
-/// Writes the dot product of two slices of 1,024 elements.
+/// Writes the dot product of two slices of one length.
 #[unsafe(no_mangle)]
 pub extern "C" fn bf_dot_product_ghash128(left: &[Wide], right: &[Wide], product: &mut Wide)
-    requires left_length { length left.now ≡ 1024 }
-    requires right_length { length right.now ≡ 1024 }
+    requires { length left.now ≡ length right.now }
     ensures { wide_number product.new ≡ dot_of (mul_mod 128 ghash_modulus) wide_number left.now right.now }
 {
-    let mut left_elements = [Ghash128::ZERO; 1024];
-    let mut right_elements = [Ghash128::ZERO; 1024];
-    slices::read(left, &mut left_elements);
-    slices::read(right, &mut right_elements);
-    let sum = Ghash128::dot_product_of_slices(&left_elements, &right_elements);
-    *product = Wide::new(sum.to_bits());
+    *product = slices::dot_product::<u128, Wide, GhashKernel>(left, right);
 }
 
 /// Writes the polynomial that is the image of the element of the tower at each index.
@@ -85,7 +73,7 @@ pub extern "C" fn bf_from_tower_ghash128(words: &[Wide], images: &mut [Wide])
     requires { length words.now ≡ length images.old }
     ensures { EachImage wide_number (basis_image 128 ghash_modulus ghash_images) words.now images.new }
 {
-    slices::each(words, images, ghash_of_tower);
+    slices::from_tower::<u128, Bits128, GhashModulus, Wide>(words, images);
 }
 
 /// Writes the element of the tower whose image is the polynomial at each index.
@@ -94,7 +82,7 @@ pub extern "C" fn bf_to_tower_ghash128(words: &[Wide], elements: &mut [Wide])
     requires { length words.now ≡ length elements.old }
     ensures { EachPreimage wide_number (basis_image 128 ghash_modulus ghash_images) words.now elements.new }
 {
-    slices::each(words, elements, tower_of_ghash);
+    slices::to_tower::<u128, Bits128, GhashModulus, Wide>(words, elements);
 }
 
 /// Replaces each element of the tower by its image, a polynomial.
@@ -102,7 +90,7 @@ pub extern "C" fn bf_to_tower_ghash128(words: &[Wide], elements: &mut [Wide])
 pub extern "C" fn bf_from_tower_slice_ghash128(words: &mut [Wide])
     ensures { EachImage wide_number (basis_image 128 ghash_modulus ghash_images) words.old words.new }
 {
-    slices::each_in_place(words, ghash_of_tower);
+    slices::from_tower_in_place::<u128, Bits128, GhashModulus, Wide>(words);
 }
 
 /// Replaces each polynomial by the element of the tower whose image it is.
@@ -110,7 +98,7 @@ pub extern "C" fn bf_from_tower_slice_ghash128(words: &mut [Wide])
 pub extern "C" fn bf_to_tower_slice_ghash128(words: &mut [Wide])
     ensures { EachPreimage wide_number (basis_image 128 ghash_modulus ghash_images) words.old words.new }
 {
-    slices::each_in_place(words, tower_of_ghash);
+    slices::to_tower_in_place::<u128, Bits128, GhashModulus, Wide>(words);
 }
 
 /// Writes the value at each word of the linear map that takes bit j to `images[j]`.
@@ -132,21 +120,7 @@ pub extern "C" fn bf_apply_matrix(images: &[u8; 8], bytes: &mut [u8])
     ByteMatrix::from_images(*images).apply_slice(bytes);
 }
 
-// The polynomial that is the image of an element of the tower.
-fn poly64_of_tower(bits: u64) -> u64
-    ensures { result ≡ basis_image 64 poly64_modulus poly64_images bits }
-{
-    Poly64::from(BinaryField64::from_repr(bits)).to_bits()
-}
-
-// The element of the tower whose image is a polynomial.
-fn tower_of_poly64(bits: u64) -> u64
-    ensures { basis_image 64 poly64_modulus poly64_images result ≡ bits }
-{
-    BinaryField64::from(Poly64::new(bits)).to_repr()
-}
-
-// Writes the value of a linear map at each word, as `Ghash128::try_apply_linear_map_into` does at each element.
+// Writes the value of a linear map at each word.
 fn apply(map: &ByteMap, words: &[Wide], values: &mut [Wide])
     requires { length words.now ≡ length values.old }
     ensures { EachImage wide_number (byte_map_of map.now) words.now values.new }
@@ -166,18 +140,4 @@ fn numbers(words: &[Wide]) -> [u128; 128]
         numbers[place] = words[place].number();
     }
     numbers
-}
-
-// The polynomial that is the image of an element of the tower.
-fn ghash_of_tower(word: Wide) -> Wide
-    ensures { wide_number result ≡ basis_image 128 ghash_modulus ghash_images (wide_number word) }
-{
-    Wide::new(Ghash128::from(BinaryField128::from_repr(word.number())).to_bits())
-}
-
-// The element of the tower whose image is a polynomial.
-fn tower_of_ghash(word: Wide) -> Wide
-    ensures { basis_image 128 ghash_modulus ghash_images (wide_number result) ≡ wide_number word }
-{
-    Wide::new(BinaryField128::from(Ghash128::new(word.number())).to_repr())
 }

@@ -1,114 +1,129 @@
-// Arithmetic on slices of words, index by index, over any ring or field whose elements words hold.
+// Arithmetic on slices of words, index by index, over any field whose elements are words.
 ghost use Rattle.std.specs.Prelude.{◌≡◌, length};
-ghost use Rattle.field_base.specs.Field.{IsInverseOrZero};
-ghost use Rattle.binary_field_c.specs.Words.{chain_product, EachCall, EachHeld, EachInverse, EachProduct, EachRoot, EachSquare};
+ghost use Rattle.field_base.specs.Powers.{dot_of};
+ghost use Rattle.field_base.specs.Basis.{basis_image};
+ghost use Rattle.binary_field_c.specs.Words.{chain_product, EachImage, EachInverse, EachPreimage, EachProduct, EachRoot, EachSquare};
 
-use crate::words::HeldWord;
-use field_base::traits::{Field, PrimeCharacteristicRing, Represented};
+use crate::fields::Arithmetic;
+use crate::words::Holds;
+use field_base::{FieldKernel, Unsigned};
+use word_polynomial::Modulus;
+use word_tower::Level;
 
 /// Writes the product of the words at each index.
-pub fn multiply<R: PrimeCharacteristicRing, W: HeldWord<R>>(
-    left: &[W],
-    right: &[W],
-    products: &mut [W],
-)
+#[inline]
+pub fn multiply<W: Copy, A: Arithmetic<W>>(left: &[W], right: &[W], products: &mut [W])
     requires left_fits { length left.now ≡ length products.old }
     requires right_fits { length right.now ≡ length products.old }
-    ensures { EachProduct W.number R.product left.now right.now products.new }
+    ensures { EachProduct A.number A.product left.now right.now products.new }
 {
     for i in 0..products.len() {
-        products[i] = W::from_element(left[i].element() * right[i].element());
+        products[i] = A::multiply(left[i], right[i]);
     }
 }
 
 /// Multiplies `product` by each factor in turn, so that each product waits for the one before.
-pub fn chain<R: PrimeCharacteristicRing, W: HeldWord<R>>(factors: &[W], product: &mut W)
-    ensures { W.number product.new ≡ chain_product W.number R.product product.old factors.now }
+#[inline]
+pub fn chain<W: Copy, A: Arithmetic<W>>(factors: &[W], product: &mut W)
+    ensures { A.number product.new ≡ chain_product A.number A.product product.old factors.now }
 {
-    let mut value = product.element();
+    let mut value = *product;
     for factor in factors {
-        value = value * factor.element();
+        value = A::multiply(value, *factor);
     }
-    *product = W::from_element(value);
+    *product = value;
 }
 
 /// Writes the square of the word at each index.
-pub fn square<R: PrimeCharacteristicRing, W: HeldWord<R>>(words: &[W], squares: &mut [W])
+#[inline]
+pub fn square<W: Copy, A: Arithmetic<W>>(words: &[W], squares: &mut [W])
     requires { length words.now ≡ length squares.old }
-    ensures { EachSquare W.number R.product words.now squares.new }
+    ensures { EachSquare A.number A.product words.now squares.new }
 {
     for i in 0..squares.len() {
-        squares[i] = W::from_element(words[i].element().square());
-    }
-}
-
-/// Writes the element that each word holds.
-pub fn read<R: Represented, W: HeldWord<R>>(words: &[W], elements: &mut [R])
-    requires { length words.now ≡ length elements.old }
-    ensures { EachHeld W.number R.repr words.now elements.new }
-{
-    for i in 0..elements.len() {
-        elements[i] = words[i].element();
-    }
-}
-
-/// Writes what `operation` gives for the word at each index.
-pub fn each<W: Copy, F: Fn(W) -> W>(words: &[W], results: &mut [W], operation: F)
-    requires fits { length words.now ≡ length results.old }
-    requires callable { F.IsAlwaysCallable operation }
-    ensures { EachCall (F.post operation) words.now results.new }
-{
-    for i in 0..results.len() {
-        results[i] = operation(words[i]);
-    }
-}
-
-/// Replaces each word by what `operation` gives for it.
-pub fn each_in_place<W: Copy, F: Fn(W) -> W>(words: &mut [W], operation: F)
-    requires { F.IsAlwaysCallable operation }
-    ensures { EachCall (F.post operation) words.old words.new }
-{
-    for i in 0..words.len() {
-        words[i] = operation(words[i]);
+        squares[i] = A::square(words[i]);
     }
 }
 
 /// Writes the inverse of the word at each index, and 0 for 0.
-pub fn invert<F: Field, W: HeldWord<F>>(words: &[W], inverses: &mut [W])
+#[inline]
+pub fn invert<W: Copy, A: Arithmetic<W>>(words: &[W], inverses: &mut [W])
     requires { length words.now ≡ length inverses.old }
-    ensures { EachInverse W.number F.product words.now inverses.new }
+    ensures { EachInverse A.number A.product words.now inverses.new }
 {
     for i in 0..inverses.len() {
-        inverses[i] = W::from_element(inverse_or_zero(words[i].element()));
+        inverses[i] = A::invert(words[i]);
     }
 }
 
 /// Writes the square root of the word at each index.
-pub fn square_root<F: Field, W: HeldWord<F>>(words: &[W], roots: &mut [W])
+#[inline]
+pub fn square_root<W: Copy, A: Arithmetic<W>>(words: &[W], roots: &mut [W])
     requires { length words.now ≡ length roots.old }
-    ensures { EachRoot W.number F.product words.now roots.new }
+    ensures { EachRoot A.number A.product words.now roots.new }
 {
     for i in 0..roots.len() {
-        roots[i] = W::from_element(root_of(words[i].element()));
+        roots[i] = A::sqrt(words[i]);
     }
 }
 
-/// The inverse of an element, and 0 for 0.
-pub fn inverse_or_zero<F: Field>(x: F) -> F
-    ensures { IsInverseOrZero F.product (F.repr x) (F.repr result) }
+/// The dot product of two slices. The kernel reduces the sum of the products once.
+#[inline]
+pub fn dot_product<R: Unsigned, W: Holds<R>, K: FieldKernel<R>>(left: &[W], right: &[W]) -> W
+    requires { length left.now ≡ length right.now }
+    ensures { W.number result ≡ dot_of K.product W.number left.now right.now }
 {
-    match x.try_inverse() {
-        Some(inverse) => inverse,
-        None => F::ZERO,
+    let (mut low, mut high) = K::no_products();
+    for place in 0..left.len() {
+        (low, high) = K::add_product(low, high, left[place].stored(), right[place].stored());
+    }
+    W::of_stored(K::reduce_sum(low, high))
+}
+
+/// Writes the polynomial that is the image of the element of the tower at each index.
+#[inline]
+pub fn from_tower<R: Unsigned, L: Level<R>, M: Modulus<R, L>, W: Holds<R>>(
+    words: &[W],
+    images: &mut [W],
+)
+    requires { length words.now ≡ length images.old }
+    ensures { EachImage W.number (basis_image M.width M.modulus M.images) words.now images.new }
+{
+    for i in 0..images.len() {
+        images[i] = W::of_stored(M::to_polynomial(words[i].stored()));
     }
 }
 
-// The square root of an element.
-fn root_of<F: Field>(x: F) -> F
-    ensures { F.product (F.repr result) (F.repr result) ≡ F.repr x }
+/// Writes the element of the tower whose image is the polynomial at each index.
+#[inline]
+pub fn to_tower<R: Unsigned, L: Level<R>, M: Modulus<R, L>, W: Holds<R>>(
+    words: &[W],
+    elements: &mut [W],
+)
+    requires { length words.now ≡ length elements.old }
+    ensures { EachPreimage W.number (basis_image M.width M.modulus M.images) words.now elements.new }
 {
-    match x.try_sqrt() {
-        Some(root) => root,
-        None => unreachable!(),
+    for i in 0..elements.len() {
+        elements[i] = W::of_stored(M::to_tower(words[i].stored()));
+    }
+}
+
+/// Replaces each element of the tower by its image, a polynomial.
+#[inline]
+pub fn from_tower_in_place<R: Unsigned, L: Level<R>, M: Modulus<R, L>, W: Holds<R>>(words: &mut [W])
+    ensures { EachImage W.number (basis_image M.width M.modulus M.images) words.old words.new }
+{
+    for i in 0..words.len() {
+        words[i] = W::of_stored(M::to_polynomial(words[i].stored()));
+    }
+}
+
+/// Replaces each polynomial by the element of the tower whose image it is.
+#[inline]
+pub fn to_tower_in_place<R: Unsigned, L: Level<R>, M: Modulus<R, L>, W: Holds<R>>(words: &mut [W])
+    ensures { EachPreimage W.number (basis_image M.width M.modulus M.images) words.old words.new }
+{
+    for i in 0..words.len() {
+        words[i] = W::of_stored(M::to_tower(words[i].stored()));
     }
 }

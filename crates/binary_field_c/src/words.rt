@@ -1,95 +1,78 @@
-// The words in which the elements of rings cross to other languages.
-ghost use Rattle.std.specs.Prelude.{◌≡◌, ℕ};
+// The words in which elements cross to other languages, and the words of a field's arithmetic that they hold.
+ghost use Rattle.std.specs.Prelude.{◌≡◌, ◌<◌, ◌^◌, ℕ};
+ghost use Rattle.word_cubic.specs.Triple.{triple_number};
 ghost use Rattle.binary_field_c.specs.Words.{cubic_number, itself, wide_number};
 
-use field_base::traits::{Represented, TowerLevel};
-use field_element::{
-    BinaryField8, BinaryField16, BinaryField32, BinaryField64, BinaryField128, Ghash128, Poly64,
-    Poly192, Rijndael8b,
-};
+use field_base::Stored;
+use word_cubic::Triple;
 
-/// A word that holds an element of the ring `R`.
-pub trait HeldWord<R: Represented>: Copy {
+/// A word of a slice, which holds the word `R` of a field's arithmetic.
+pub trait Holds<R: Stored>: Copy {
     ghost number: { Self → ℕ };
 
-    /// The element that the word holds.
-    fn element(self) -> R
-        ensures { R.repr result ≡ number self };
+    /// The word that it holds.
+    fn stored(self) -> R
+        ensures number { R.number result ≡ number self }
+        ensures fits { number self < 2 ^ R.bits };
 
-    /// The word that holds an element.
-    fn from_element(element: R) -> Self
-        ensures { number result ≡ R.repr element };
+    /// The word that holds `x`.
+    fn of_stored(x: R) -> Self
+        ensures { number result ≡ R.number x };
 }
 
-impl HeldWord<BinaryField8> for u8 {
+impl Holds<u8> for u8 {
     ghost number = { itself };
 
-    fn element(self) -> BinaryField8 {
-        BinaryField8::from_repr(self)
+    #[inline]
+    fn stored(self) -> u8 {
+        self
     }
 
-    fn from_element(element: BinaryField8) -> u8 {
-        element.to_repr()
-    }
-}
-
-impl HeldWord<Rijndael8b> for u8 {
-    ghost number = { itself };
-
-    fn element(self) -> Rijndael8b {
-        Rijndael8b::from_repr(self)
-    }
-
-    fn from_element(element: Rijndael8b) -> u8 {
-        element.to_repr()
+    #[inline]
+    fn of_stored(x: u8) -> u8 {
+        x
     }
 }
 
-impl HeldWord<BinaryField16> for u16 {
+impl Holds<u16> for u16 {
     ghost number = { itself };
 
-    fn element(self) -> BinaryField16 {
-        BinaryField16::from_repr(self)
+    #[inline]
+    fn stored(self) -> u16 {
+        self
     }
 
-    fn from_element(element: BinaryField16) -> u16 {
-        element.to_repr()
+    #[inline]
+    fn of_stored(x: u16) -> u16 {
+        x
     }
 }
 
-impl HeldWord<BinaryField32> for u32 {
+impl Holds<u32> for u32 {
     ghost number = { itself };
 
-    fn element(self) -> BinaryField32 {
-        BinaryField32::from_repr(self)
+    #[inline]
+    fn stored(self) -> u32 {
+        self
     }
 
-    fn from_element(element: BinaryField32) -> u32 {
-        element.to_repr()
+    #[inline]
+    fn of_stored(x: u32) -> u32 {
+        x
     }
 }
 
-impl HeldWord<BinaryField64> for u64 {
+impl Holds<u64> for u64 {
     ghost number = { itself };
 
-    fn element(self) -> BinaryField64 {
-        BinaryField64::from_repr(self)
+    #[inline]
+    fn stored(self) -> u64 {
+        self
     }
 
-    fn from_element(element: BinaryField64) -> u64 {
-        element.to_repr()
-    }
-}
-
-impl HeldWord<Poly64> for u64 {
-    ghost number = { itself };
-
-    fn element(self) -> Poly64 {
-        Poly64::new(self)
-    }
-
-    fn from_element(element: Poly64) -> u64 {
-        element.to_bits()
+    #[inline]
+    fn of_stored(x: u64) -> u64 {
+        x
     }
 }
 
@@ -103,6 +86,7 @@ pub struct Wide {
 
 impl Wide {
     /// The two halves of a number.
+    #[inline]
     pub fn new(repr: u128) -> Wide
         ensures { wide_number result ≡ repr }
     {
@@ -113,6 +97,7 @@ impl Wide {
     }
 
     /// The number of which these are the halves.
+    #[inline]
     pub fn number(self) -> u128
         ensures { result ≡ wide_number self }
     {
@@ -120,27 +105,17 @@ impl Wide {
     }
 }
 
-impl HeldWord<BinaryField128> for Wide {
+impl Holds<u128> for Wide {
     ghost number = { wide_number };
 
-    fn element(self) -> BinaryField128 {
-        BinaryField128::from_repr(self.number())
+    #[inline]
+    fn stored(self) -> u128 {
+        self.number()
     }
 
-    fn from_element(element: BinaryField128) -> Wide {
-        Wide::new(element.to_repr())
-    }
-}
-
-impl HeldWord<Ghash128> for Wide {
-    ghost number = { wide_number };
-
-    fn element(self) -> Ghash128 {
-        Ghash128::new(self.number())
-    }
-
-    fn from_element(element: Ghash128) -> Wide {
-        Wide::new(element.to_bits())
+    #[inline]
+    fn of_stored(x: u128) -> Wide {
+        Wide::new(x)
     }
 }
 
@@ -153,23 +128,28 @@ pub struct Cubic {
     c2: u64,
 }
 
-impl HeldWord<Poly192> for Cubic {
-    ghost number = { cubic_number };
-
-    fn element(self) -> Poly192 {
-        Poly192::new([
-            Poly64::new(self.c0),
-            Poly64::new(self.c1),
-            Poly64::new(self.c2),
-        ])
+impl Cubic {
+    /// The three words of an element.
+    #[inline]
+    pub fn new(words: Triple) -> Cubic
+        ensures { cubic_number result ≡ triple_number words }
+    {
+        Cubic {
+            c0: words.c0,
+            c1: words.c1,
+            c2: words.c2,
+        }
     }
 
-    fn from_element(element: Poly192) -> Cubic {
-        let [c0, c1, c2] = element.coefficients();
-        Cubic {
-            c0: c0.to_bits(),
-            c1: c1.to_bits(),
-            c2: c2.to_bits(),
+    /// The element whose words these are.
+    #[inline]
+    pub fn words(self) -> Triple
+        ensures { triple_number result ≡ cubic_number self }
+    {
+        Triple {
+            c0: self.c0,
+            c1: self.c1,
+            c2: self.c2,
         }
     }
 }

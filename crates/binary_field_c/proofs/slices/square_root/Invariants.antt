@@ -4,5 +4,5 @@ use Rattle.binary_field_c.proofs.slices.square_root.Given as goal
 abbrev pub invariant-loop-i : goal.invariant-loop-i
 invariant-loop-i g l =
     (k : ℕ) → k < l.i → (d : _)
-    → g.F.Represented.product (g.W.HeldWord.number (get_or l.roots k d)) (g.W.HeldWord.number (get_or l.roots k d))
-    ≡ g.W.HeldWord.number (get_or l.words k d)
+    → g.A.Arithmetic.product (g.A.Arithmetic.number (get_or l.roots k d)) (g.A.Arithmetic.number (get_or l.roots k d))
+    ≡ g.A.Arithmetic.number (get_or l.words k d)
