@@ -8,27 +8,11 @@ ghost use Rattle.word_cubic.specs.Cubic.{cubic};
 ghost use Rattle.binary_field_c.specs.Words.{chain_product, cubic_number, itself, wide_number};
 ghost use Rattle.binary_field_c.specs.Words.{EachInverse, EachProduct, EachRoot, EachSquare};
 
-use crate::fields::{CubicField, Words};
+use crate::fields::{
+    CubicField, Ghash, Level8, Level16, Level32, Level64, Level128, Poly64, Rijndael,
+};
 use crate::slices;
 use crate::words::{Cubic, Wide};
-use word_polynomial::{GhashKernel, Poly64Kernel, RijndaelKernel};
-use word_tower::{Bits8, Bits16, Bits32, Bits64, Bits128, Tower};
-
-type Level8 = Words<u8, Tower<Bits8>>;
-
-type Level16 = Words<u16, Tower<Bits16>>;
-
-type Level32 = Words<u32, Tower<Bits32>>;
-
-type Level64 = Words<u64, Tower<Bits64>>;
-
-type Level128 = Words<u128, Tower<Bits128>>;
-
-type Rijndael = Words<u8, RijndaelKernel>;
-
-type Poly64 = Words<u64, Poly64Kernel>;
-
-type Ghash = Words<u128, GhashKernel>;
 
 /// Writes the product of the elements at each index.
 #[unsafe(no_mangle)]

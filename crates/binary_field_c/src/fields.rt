@@ -1,5 +1,6 @@
 // Fields by their arithmetic on the words of slices.
 ghost use Rattle.std.specs.Prelude.{◌≡◌, ℕ, refl};
+ghost use Rattle.field_base.specs.Basis.{basis_image};
 ghost use Rattle.field_base.specs.Field.{IsInverseOrZero};
 ghost use Rattle.word_cubic.specs.Cubic.{cubic_mul};
 ghost use Rattle.binary_field_c.specs.Words.{cubic_number};
@@ -8,7 +9,7 @@ use crate::words::{Cubic, Holds};
 use field_base::{FieldKernel, Unsigned};
 use std::marker::PhantomData;
 use word_cubic::{invert_192, multiply_192, sqrt_192, square_192};
-use word_polynomial::{Modulus, Polynomials};
+use word_polynomial::{GhashKernel, Modulus, Poly64Kernel, Polynomials, RijndaelKernel};
 use word_tower::{Bits8, Bits16, Bits32, Bits64, Bits128, Level, Tower};
 
 /// A field each of whose elements is a word `W`, and each word an element.
@@ -33,6 +34,22 @@ pub trait Arithmetic<W: Copy> {
     /// The square root, whose square is `x`.
     fn sqrt(x: W) -> W
         ensures { product (number result) (number result) ≡ number x };
+}
+
+/// The change of basis from a level of the tower to a field of polynomials, where each word `W` is an element of both.
+pub trait Basis<W: Copy> {
+    // The number of a word, and the image of the number of an element of the tower.
+    ghost number: { W → ℕ };
+
+    ghost image: { ℕ → ℕ };
+
+    /// The polynomial that is the image of an element of the tower.
+    fn from_tower(x: W) -> W
+        ensures { number result ≡ image (number x) };
+
+    /// The element of the tower whose image is `x`.
+    fn to_tower(x: W) -> W
+        ensures { image (number result) ≡ number x };
 }
 
 /// A kernel of a field that has as many bits as its word.
@@ -93,6 +110,23 @@ impl<R: Unsigned, W: Holds<R>, K: FillsWord<R>> Arithmetic<W> for Words<R, K> {
     }
 }
 
+impl<R: Unsigned, L: Level<R>, M: Modulus<R, L>, W: Holds<R>> Basis<W>
+    for Words<R, Polynomials<M, L>> {
+    ghost number = { W.number };
+
+    ghost image = { basis_image M.width M.modulus M.images };
+
+    #[inline]
+    fn from_tower(x: W) -> W {
+        W::of_stored(M::to_polynomial(x.stored()))
+    }
+
+    #[inline]
+    fn to_tower(x: W) -> W {
+        W::of_stored(M::to_tower(x.stored()))
+    }
+}
+
 /// The cubic extension of GF(2^64).
 pub struct CubicField;
 
@@ -121,3 +155,27 @@ impl Arithmetic<Cubic> for CubicField {
         Cubic::new(sqrt_192(x.words()))
     }
 }
+
+/// The level of 8 bits.
+pub type Level8 = Words<u8, Tower<Bits8>>;
+
+/// The level of 16 bits.
+pub type Level16 = Words<u16, Tower<Bits16>>;
+
+/// The level of 32 bits.
+pub type Level32 = Words<u32, Tower<Bits32>>;
+
+/// The level of 64 bits.
+pub type Level64 = Words<u64, Tower<Bits64>>;
+
+/// The level of 128 bits.
+pub type Level128 = Words<u128, Tower<Bits128>>;
+
+/// The polynomials modulo x^8 + x^4 + x^3 + x + 1.
+pub type Rijndael = Words<u8, RijndaelKernel>;
+
+/// The polynomials modulo x^64 + x^4 + x^3 + x + 1.
+pub type Poly64 = Words<u64, Poly64Kernel>;
+
+/// The polynomials modulo x^128 + x^7 + x^2 + x + 1.
+pub type Ghash = Words<u128, GhashKernel>;

@@ -8,12 +8,12 @@ ghost use Rattle.field_base.specs.Remainder.{ghash_modulus, mul_mod, poly64_modu
 ghost use Rattle.word_basis.specs.LinearMap.{byte_map_of};
 ghost use Rattle.binary_field_c.specs.Words.{itself, wide_number, EachImage, EachPreimage};
 
+use crate::fields::{Ghash, Poly64};
 use crate::slices;
 use crate::words::Wide;
 use word_basis::{ByteMap, to_polynomial_slice_64, to_tower_slice_64};
 use word_matrix::ByteMatrix;
-use word_polynomial::{GhashKernel, GhashModulus, Poly64Kernel, Poly64Modulus};
-use word_tower::{Bits64, Bits128};
+use word_polynomial::{GhashKernel, Poly64Kernel};
 
 /// Writes the dot product of two slices of one length.
 #[unsafe(no_mangle)]
@@ -30,7 +30,7 @@ pub extern "C" fn bf_from_tower_poly64(words: &[u64], images: &mut [u64])
     requires { length words.now ≡ length images.old }
     ensures { EachImage itself (basis_image 64 poly64_modulus poly64_images) words.now images.new }
 {
-    slices::from_tower::<u64, Bits64, Poly64Modulus, u64>(words, images);
+    slices::from_tower::<u64, Poly64>(words, images);
 }
 
 /// Writes the element of the tower whose image is the polynomial at each index.
@@ -39,7 +39,7 @@ pub extern "C" fn bf_to_tower_poly64(words: &[u64], elements: &mut [u64])
     requires { length words.now ≡ length elements.old }
     ensures { EachPreimage itself (basis_image 64 poly64_modulus poly64_images) words.now elements.new }
 {
-    slices::to_tower::<u64, Bits64, Poly64Modulus, u64>(words, elements);
+    slices::to_tower::<u64, Poly64>(words, elements);
 }
 
 /// Replaces each element of the tower by its image, a polynomial.
@@ -73,7 +73,7 @@ pub extern "C" fn bf_from_tower_ghash128(words: &[Wide], images: &mut [Wide])
     requires { length words.now ≡ length images.old }
     ensures { EachImage wide_number (basis_image 128 ghash_modulus ghash_images) words.now images.new }
 {
-    slices::from_tower::<u128, Bits128, GhashModulus, Wide>(words, images);
+    slices::from_tower::<Wide, Ghash>(words, images);
 }
 
 /// Writes the element of the tower whose image is the polynomial at each index.
@@ -82,7 +82,7 @@ pub extern "C" fn bf_to_tower_ghash128(words: &[Wide], elements: &mut [Wide])
     requires { length words.now ≡ length elements.old }
     ensures { EachPreimage wide_number (basis_image 128 ghash_modulus ghash_images) words.now elements.new }
 {
-    slices::to_tower::<u128, Bits128, GhashModulus, Wide>(words, elements);
+    slices::to_tower::<Wide, Ghash>(words, elements);
 }
 
 /// Replaces each element of the tower by its image, a polynomial.
@@ -90,7 +90,7 @@ pub extern "C" fn bf_to_tower_ghash128(words: &[Wide], elements: &mut [Wide])
 pub extern "C" fn bf_from_tower_slice_ghash128(words: &mut [Wide])
     ensures { EachImage wide_number (basis_image 128 ghash_modulus ghash_images) words.old words.new }
 {
-    slices::from_tower_in_place::<u128, Bits128, GhashModulus, Wide>(words);
+    slices::from_tower_in_place::<Wide, Ghash>(words);
 }
 
 /// Replaces each polynomial by the element of the tower whose image it is.
@@ -98,7 +98,7 @@ pub extern "C" fn bf_from_tower_slice_ghash128(words: &mut [Wide])
 pub extern "C" fn bf_to_tower_slice_ghash128(words: &mut [Wide])
     ensures { EachPreimage wide_number (basis_image 128 ghash_modulus ghash_images) words.old words.new }
 {
-    slices::to_tower_in_place::<u128, Bits128, GhashModulus, Wide>(words);
+    slices::to_tower_in_place::<Wide, Ghash>(words);
 }
 
 /// Writes the value at each word of the linear map that takes bit j to `images[j]`.

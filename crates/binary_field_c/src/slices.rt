@@ -1,14 +1,11 @@
 // Arithmetic on slices of words, index by index, over any field whose elements are words.
 ghost use Rattle.std.specs.Prelude.{◌≡◌, length};
 ghost use Rattle.field_base.specs.Powers.{dot_of};
-ghost use Rattle.field_base.specs.Basis.{basis_image};
 ghost use Rattle.binary_field_c.specs.Words.{chain_product, EachImage, EachInverse, EachPreimage, EachProduct, EachRoot, EachSquare};
 
-use crate::fields::Arithmetic;
+use crate::fields::{Arithmetic, Basis};
 use crate::words::Holds;
 use field_base::{FieldKernel, Unsigned};
-use word_polynomial::Modulus;
-use word_tower::Level;
 
 /// Writes the product of the words at each index.
 #[inline]
@@ -82,48 +79,42 @@ pub fn dot_product<R: Unsigned, W: Holds<R>, K: FieldKernel<R>>(left: &[W], righ
 
 /// Writes the polynomial that is the image of the element of the tower at each index.
 #[inline]
-pub fn from_tower<R: Unsigned, L: Level<R>, M: Modulus<R, L>, W: Holds<R>>(
-    words: &[W],
-    images: &mut [W],
-)
+pub fn from_tower<W: Copy, B: Basis<W>>(words: &[W], images: &mut [W])
     requires { length words.now ≡ length images.old }
-    ensures { EachImage W.number (basis_image M.width M.modulus M.images) words.now images.new }
+    ensures { EachImage B.number B.image words.now images.new }
 {
     for i in 0..images.len() {
-        images[i] = W::of_stored(M::to_polynomial(words[i].stored()));
+        images[i] = B::from_tower(words[i]);
     }
 }
 
 /// Writes the element of the tower whose image is the polynomial at each index.
 #[inline]
-pub fn to_tower<R: Unsigned, L: Level<R>, M: Modulus<R, L>, W: Holds<R>>(
-    words: &[W],
-    elements: &mut [W],
-)
+pub fn to_tower<W: Copy, B: Basis<W>>(words: &[W], elements: &mut [W])
     requires { length words.now ≡ length elements.old }
-    ensures { EachPreimage W.number (basis_image M.width M.modulus M.images) words.now elements.new }
+    ensures { EachPreimage B.number B.image words.now elements.new }
 {
     for i in 0..elements.len() {
-        elements[i] = W::of_stored(M::to_tower(words[i].stored()));
+        elements[i] = B::to_tower(words[i]);
     }
 }
 
 /// Replaces each element of the tower by its image, a polynomial.
 #[inline]
-pub fn from_tower_in_place<R: Unsigned, L: Level<R>, M: Modulus<R, L>, W: Holds<R>>(words: &mut [W])
-    ensures { EachImage W.number (basis_image M.width M.modulus M.images) words.old words.new }
+pub fn from_tower_in_place<W: Copy, B: Basis<W>>(words: &mut [W])
+    ensures { EachImage B.number B.image words.old words.new }
 {
     for i in 0..words.len() {
-        words[i] = W::of_stored(M::to_polynomial(words[i].stored()));
+        words[i] = B::from_tower(words[i]);
     }
 }
 
 /// Replaces each polynomial by the element of the tower whose image it is.
 #[inline]
-pub fn to_tower_in_place<R: Unsigned, L: Level<R>, M: Modulus<R, L>, W: Holds<R>>(words: &mut [W])
-    ensures { EachPreimage W.number (basis_image M.width M.modulus M.images) words.old words.new }
+pub fn to_tower_in_place<W: Copy, B: Basis<W>>(words: &mut [W])
+    ensures { EachPreimage B.number B.image words.old words.new }
 {
     for i in 0..words.len() {
-        words[i] = W::of_stored(M::to_tower(words[i].stored()));
+        words[i] = B::to_tower(words[i]);
     }
 }

@@ -1,9 +1,8 @@
 use Rattle.std.proofs.Common.{◌≡◌, ℕ, ◌<◌, get_or}
-use Rattle.field_base.specs.Basis.{basis_image}
 use Rattle.binary_field_c.proofs.slices.to_tower.Given as goal
 
 abbrev pub invariant-loop-i : goal.invariant-loop-i
 invariant-loop-i g l =
     (k : ℕ) → k < l.i → (d : _)
-    → basis_image g.M.Modulus.width g.M.Modulus.modulus g.M.Modulus.images (g.W.Holds.number (get_or l.elements k d))
-    ≡ g.W.Holds.number (get_or l.words k d)
+    → g.B.Basis.image (g.B.Basis.number (get_or l.elements k d))
+    ≡ g.B.Basis.number (get_or l.words k d)
