@@ -1,6 +1,5 @@
 //! The functions of the static library. It takes a slice as a pointer and a length, and 128 bits as two numbers of 64,
-//! low half first, which is how a `u128` lies in memory here. It asks only that the slices of one call have one length,
-//! which is 1,024 at a dot product.
+//! low half first, which is how a `u128` lies in memory here. It asks only that the slices of one call have one length.
 
 use crate::arithmetic::{Arithmetic, Cubic, Polynomials};
 
@@ -91,9 +90,10 @@ macro_rules! bases {
                         concat!("bf_dot_product_", $end),
                         *const $word, usize, *const $word, usize, *mut $word
                     );
-                    assert!(x.len() == 1024 && y.len() == 1024);
+                    let length = x.len();
+                    assert_eq!(length, y.len());
                     // SAFETY: the pointers are those of slices of this length and of a word.
-                    unsafe { function(x.as_ptr(), 1024, y.as_ptr(), 1024, product) }
+                    unsafe { function(x.as_ptr(), length, y.as_ptr(), length, product) }
                 },
                 from_tower: unary!($word, concat!("bf_from_tower_", $end)),
                 to_tower: unary!($word, concat!("bf_to_tower_", $end)),
