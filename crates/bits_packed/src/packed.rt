@@ -1,5 +1,5 @@
 // Packed bits.
-ghost use Rattle.std.specs.Prelude.{◌≡◌, ◌<◌, ◌≤◌, ◌+◌, ◌-◌, ◌*◌, ◌/◌, ◌%◌, ◌^◌, IsTrue, count_ones};
+ghost use Rattle.std.specs.Prelude.{◌≡◌, ◌<◌, ◌≤◌, ◌+◌, ◌-◌, ◌*◌, ◌/◌, ◌%◌, ◌^◌, IsTrue, count_ones, ⊤};
 ghost use Rattle.std.specs.Int.{bit_at};
 ghost use Rattle.field_base.specs.Bit.{bit_number};
 ghost use Rattle.bits_packed.specs.Lanes.{IsWithLane};
@@ -50,6 +50,8 @@ pub type PackedGf2x512 = PackedGf2<M512>;
 
 impl<U: Underlier> Clone for PackedGf2<U> {
     ghost is_clone = { λ x y. y.bits ≡ x.bits };
+
+    ghost is_infallible = { λ _. ⊤ };
 
     fn clone(&self) -> Result<PackedGf2<U>, AllocError> {
         Ok(PackedGf2 { bits: self.bits })

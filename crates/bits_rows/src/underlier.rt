@@ -1,5 +1,7 @@
 // What packed bits are stored in: one word, or a block of words.
 ghost use Rattle.std.specs.Prelude.{◌≡◌, ◌↔◌, ◌<◌, ◌-◌, ◌*◌, ◌^◌, ℕ, Bool, IsTrue, map};
+ghost use Rattle.std.specs.Array.{index_steps};
+ghost use Rattle.std.specs.Iterator.{CallableAtEachTurn};
 ghost use Rattle.field_base.specs.Chunks.{chunk, chunks};
 ghost use Rattle.bits_rows.specs.Parts.{HasFirstBlocks, HasSecondBlocks, IsBlockSize, IsDrawn, IsFilled, IsWithPart, IsZipped};
 
@@ -85,9 +87,10 @@ pub trait Underlier: Sealed + Copy + Debug + Default + PartialEq + Eq + Hash {
         ensures first_whole { IsTrue (is_whole result.0) }
         ensures second_whole { IsTrue (is_whole result.1) };
 
-    /// The row whose word i is `f(i)`: `f` is called once for each i below `WORD_COUNT`, from 0 up.
+    /// The row whose word i is `f(i)`: `f` is called once for each i below `WORD_COUNT`, from 0 up. It needs to take these indexes
+    /// alone, in this order.
     final fn from_words_fn<F: FnMut(usize) -> Self::Word>(mut f: F) -> Self
-        requires { F.IsAlwaysCallable f }
+        requires { CallableAtEachTurn (index_steps WORD_COUNT) (λ p i q. (x : Self.Word) × F.step p i x q) F.pre 0 f }
         ensures filled { (last : F) × IsFilled F.step Self.Word.number Self.Word.BITS WORD_COUNT (number result) f last }
         ensures whole { IsTrue (is_whole result) }
     {

@@ -1,5 +1,5 @@
 // Elements of every field: one struct.
-ghost use Rattle.std.specs.Prelude.{◌≡◌, ◌<◌, ◌%◌, ◌^◌, ℕ};
+ghost use Rattle.std.specs.Prelude.{◌≡◌, ◌<◌, ◌%◌, ◌^◌, ℕ, ⊤};
 
 mod bits;
 mod coefficients;
@@ -31,6 +31,8 @@ pub struct Element<R: Stored, K: FieldKernel<R>> {
 
 impl<R: Stored, K: FieldKernel<R>> Clone for Element<R, K> {
     ghost is_clone = { λ x y. y.repr ≡ x.repr };
+
+    ghost is_infallible = { λ _. ⊤ };
 
     fn clone(&self) -> Result<Element<R, K>, AllocError> {
         Ok(Element {

@@ -1,5 +1,5 @@
 // GF(2) as a prime field, and its elements as integers.
-ghost use Rattle.std.specs.Prelude.{◌≡◌, ◌≢◌, ◌≤◌, ◌⊎◌, ◌*◌, ◌↔◌, ℕ, pos, IsNone, IfSome};
+ghost use Rattle.std.specs.Prelude.{◌≡◌, ◌≢◌, ◌≤◌, ◌⊎◌, ◌*◌, ◌^◌, ◌↔◌, ℕ, pos, IsNone, IfSome, refl};
 ghost use Rattle.std.proofs.Common.{lit≤};
 ghost use Rattle.field_base.specs.Powers.{parity};
 
@@ -58,26 +58,36 @@ impl PrimeField for Gf2 {}
 
 /// A prime field whose elements are integers of 64 bits.
 pub trait PrimeField64: PrimeField {
-    /// The prime.
+    /// The prime, which is how many elements there are.
     const ORDER_U64: u64;
+
+    ghost ORDER_U64: { ℕ };
 
     /// The element as the integer from 0 on and below the prime.
     fn as_canonical_u64(&self) -> u64
         ensures { result ≡ Self.repr self.now };
+
+    ghost order_law: { ORDER_U64 ≡ 2 ^ Self.width };
 }
 
 impl PrimeField64 for Gf2 {
     const ORDER_U64: u64 = 2;
 
+    ghost ORDER_U64 = { 2 };
+
     fn as_canonical_u64(&self) -> u64 {
         self.to_repr() as u64
     }
+
+    ghost order_law = { refl };
 }
 
 /// A prime field whose elements are integers of 32 bits.
 pub trait PrimeField32: PrimeField64 {
-    /// The prime.
+    /// The prime, which is how many elements there are.
     const ORDER_U32: u32;
+
+    ghost ORDER_U32: { ℕ };
 
     /// The element as the integer from 0 on and below the prime.
     fn as_canonical_u32(&self) -> u32
@@ -87,10 +97,16 @@ pub trait PrimeField32: PrimeField64 {
     }
 
     ghost width_law: { Self.width ≤ 32 };
+
+    ghost order_law: { ORDER_U32 ≡ 2 ^ Self.width };
 }
 
 impl PrimeField32 for Gf2 {
     const ORDER_U32: u32 = 2;
 
+    ghost ORDER_U32 = { 2 };
+
     ghost width_law = { lit≤ tt };
+
+    ghost order_law = { refl };
 }

@@ -1,6 +1,6 @@
 -- Coefficients of elements, as numbers. Over a ring of w-bit elements coefficient i of an element is chunk i, of w bits, of its
 -- representation.
-use Rattle.std.specs.Prelude.{◌≡◌, ◌≢◌, ◌↔◌, ℕ, List, length, map, IsNone, IfSome}
+use Rattle.std.specs.Prelude.{◌≡◌, ◌≢◌, ◌↔◌, ◌<◌, ℕ, List, length, map, IsNone, IfSome}
 use Rattle.std.specs.Array.{FillsFrom}
 use Rattle.std.specs.List.{flat_map}
 use Rattle.std.specs.declared.option.Option.{Option}
@@ -16,11 +16,12 @@ abbrev pub ReturnsCoefficients : {G F : Type 0} → ℕ → ℕ → (F → ℕ) 
 ReturnsCoefficients {G} {F} width dimension repr step f element =
     (coefficients : List F) × (last : G) × FillsFrom step f 0 coefficients last × (map repr coefficients ≡ chunks width dimension element)
 
--- what is read of an iterator of coefficients: one item more than an element has, at most; the result is None where they are not as
--- many as the dimension, and else the element that has them
-pub record ReadsCoefficients {S F E : Type 0} (width dimension : ℕ) (repr : F → ℕ) (number : E → ℕ)
-    (next_gives : S → Option F → S → Type 0) (iter : S) (result : Option E) : Type 0 where
+-- What is read of an iterator of coefficients, which is left at `rest`: one item more than an element has, at most. The result is
+-- None where they are not as many as the dimension, and else the element that has them. After too many the iterator may be called.
+pub record ReadsCoefficients {S F E : Type 0} (width dimension : ℕ) (repr : F → ℕ) (number : E → ℕ) (can_next : S → Type 0)
+    (next_gives : S → Option F → S → Type 0) (iter : S) (result : Option E) (rest : S) : Type 0 where
   pub coefficients : List F
-  pub taken : TakesOneMore next_gives iter dimension coefficients
+  pub taken : TakesOneMore next_gives iter dimension coefficients rest
   pub none : IsNone result ↔ (length coefficients ≢ dimension)
   pub value : IfSome result (λ x. map repr coefficients ≡ chunks width dimension (number x))
+  pub goes_on : dimension < length coefficients → can_next rest

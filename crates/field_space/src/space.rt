@@ -1,6 +1,8 @@
 // Elements as vectors over a smaller ring, and fields as extensions of a smaller field.
 ghost use Rattle.std.specs.Prelude.{◌≡◌, ◌≢◌, ◌↔◌, ◌*◌, ◌+◌, ◌%◌, ◌^◌, ◌<◌, ◌≤◌, ℕ, List, map, length, IsTrue, IsNone, IfOk, IfSome, refl};
 ghost use Rattle.std.proofs.Common.{lit<};
+ghost use Rattle.std.specs.Array.{index_steps};
+ghost use Rattle.std.specs.Iterator.{CallableAtEachTurn};
 ghost use Rattle.std.specs.Mem.{FitsInMemory};
 ghost use Rattle.field_space.specs.OneCoefficientLemmas.{scales_one_coefficient};
 ghost use Rattle.field_base.specs.BitRingLemmas.{bits_ring};
@@ -76,10 +78,11 @@ pub trait BasedVectorSpace<F: PrimeCharacteristicRing>: PrimeCharacteristicRing 
         Ok(elements)
     }
 
-    /// The element whose coefficient i is `f(i)`. `f` is called for 0, 1, .., below the dimension, in order, each once.
+    /// The element whose coefficient i is `f(i)`. `f` is called for 0, 1, .., below the dimension, in order, each once, and needs to
+    /// take these indexes alone.
     #[tactic(auto, using(crate::proofs::Spaces::element_below))]
     final fn from_basis_coefficients_fn<G: FnMut(usize) -> F>(mut f: G) -> Self
-        requires { G.IsAlwaysCallable f }
+        requires { CallableAtEachTurn (index_steps DIMENSION) (λ p i q. (x : F) × G.step p i x q) G.pre 0 f }
         ensures { ReturnsCoefficients F.width DIMENSION F.repr G.step f (Self.repr result) }
     {
         let mut element = Self::ZERO;
@@ -91,19 +94,30 @@ pub trait BasedVectorSpace<F: PrimeCharacteristicRing>: PrimeCharacteristicRing 
 
     /// The element of the coefficients that `iter` gives, the lowest first, and None where they are not as many as the
     /// dimension. It takes at most one item more than that, also of an iterator without end.
-    #[tactic(auto, using(crate::proofs::Spaces::element_below))]
     final fn from_basis_coefficients_iter<I: Iterator<Item = F>>(mut iter: I) -> Option<Self>
         requires { I.can_next iter }
-        ensures { ReadsCoefficients F.width DIMENSION F.repr Self.repr I.next_gives iter result }
+        ensures { (rest : I) × ReadsCoefficients F.width DIMENSION F.repr Self.repr I.can_next I.next_gives iter result rest }
+    {
+        Self::from_basis_coefficients_iter_by_ref(&mut iter)
+    }
+
+    /// [`from_basis_coefficients_iter`](BasedVectorSpace::from_basis_coefficients_iter) at an iterator that the caller keeps: what
+    /// is left of it is what comes behind the items that were taken, one more than the dimension at most.
+    #[tactic(auto, using(crate::proofs::Spaces::element_below))]
+    final fn from_basis_coefficients_iter_by_ref<I: Iterator<Item = F>>(
+        iter: &mut I,
+    ) -> Option<Self>
+        requires { I.can_next iter.old }
+        ensures { ReadsCoefficients F.width DIMENSION F.repr Self.repr I.can_next I.next_gives iter.old result iter.new }
     {
         let mut element = Self::ZERO;
         for i in 0..Self::DIMENSION {
-            match next_of(&mut iter) {
+            match next_of(iter) {
                 Some(coefficient) => element = element.with_basis_coefficient(i, coefficient),
                 None => return None,
             }
         }
-        match next_of(&mut iter) {
+        match next_of(iter) {
             Some(_) => None,
             None => Some(element),
         }

@@ -1,5 +1,5 @@
 // Packings of N lanes of any field.
-ghost use Rattle.std.specs.Prelude.{◌≡◌, ◌≢◌, ◌<◌, ◌*◌, ◌^◌, ℕ, List, bit_xor, length, map, replicate, refl};
+ghost use Rattle.std.specs.Prelude.{◌≡◌, ◌≢◌, ◌<◌, ◌*◌, ◌^◌, ℕ, List, bit_xor, length, map, replicate, refl, ⊤};
 ghost use Rattle.std.proofs.Common.{sym, ◌∙◌, ap};
 ghost use Rattle.std.proofs.lemmas.List.{length-replicate};
 ghost use Rattle.field_base.specs.Chunks.{joined};
@@ -46,6 +46,8 @@ pub struct Packed<F, const N: usize> {
 
 impl<F: Copy, const N: usize> Clone for Packed<F, N> {
     ghost is_clone = { λ x y. y.lanes ≡ x.lanes };
+
+    ghost is_infallible = { λ _. ⊤ };
 
     fn clone(&self) -> Result<Packed<F, N>, AllocError> {
         Ok(Packed { lanes: self.lanes })

@@ -2,7 +2,8 @@
 ghost use Rattle.std.specs.Prelude.{◌≡◌, ◌*◌, ◌<◌, ◌≤◌, ◌^◌, ℕ, List, [], ◌∷◌, length, map, refl, replicate, slice_set};
 ghost use Rattle.std.specs.Mem.{FitsInMemory};
 ghost use Rattle.field_base.specs.Chunks.{joined};
-ghost use Rattle.std.specs.Array.{FillsFrom};
+ghost use Rattle.std.specs.Array.{FillsFrom, index_steps};
+ghost use Rattle.std.specs.Iterator.{CallableAtEachTurn};
 ghost use Rattle.packed_lanes.specs.Lanes.{AreInterleaved, IsPowerOfTwo, lane_product};
 ghost use Rattle.packed_lanes.specs.OneLaneLemmas.{one_lane_joined, one_lane_product, one_lane_width, same_only_lane};
 
@@ -43,9 +44,10 @@ pub trait PackedValue: Copy + Default {
         requires { length slice.old ≡ WIDTH }
         ensures { slice.new ≡ lanes self.now };
 
-    /// The value whose lane i is what `f` returns for i. It is called for 0, 1, .. in order, once for each lane.
+    /// The value whose lane i is what `f` returns for i. It is called for 0, 1, .. in order, once for each lane, and needs to take
+    /// these indexes alone: a call for `WIDTH`, or a second one for a lane, has no leave.
     final fn from_fn<F: FnMut(usize) -> Self::Value>(mut f: F) -> Self
-        requires { F.IsAlwaysCallable f }
+        requires { CallableAtEachTurn (index_steps WIDTH) (λ p i q. (x : Self.Value) × F.step p i x q) F.pre 0 f }
         ensures { (last : F) × FillsFrom (λ p i x q. F.step p i x q) f 0 (lanes result) last }
     {
         let mut value = Self::default();

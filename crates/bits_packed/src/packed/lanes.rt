@@ -1,6 +1,7 @@
 // The lanes of packed bits, one after the other.
 ghost use Rattle.std.specs.Prelude.{◌≡◌, ◌-◌};
-ghost use Rattle.std.specs.Iterator.{YieldsFirstBy, at_most};
+ghost use Rattle.std.specs.Array.{index_steps};
+ghost use Rattle.std.specs.Iterator.{CallableAtEachTurn, YieldsFirstBy, at_most};
 ghost use Rattle.field_base.specs.Bit.{bit_number};
 ghost use Rattle.bits_rows.specs.Parts.{IsFilled};
 ghost use Rattle.bits_packed.specs.Lanes.{lanes_from, bits_of};
@@ -46,9 +47,10 @@ impl<U: Underlier> PackedGf2<U> {
         }
     }
 
-    /// The packed bits whose lane i is `f(i)`: `f` is called once for each i below `WIDTH`, from 0 up.
+    /// The packed bits whose lane i is `f(i)`: `f` is called once for each i below `WIDTH`, from 0 up. It needs to take these indexes
+    /// alone, in this order.
     pub fn from_fn<F: FnMut(usize) -> Gf2>(mut f: F) -> PackedGf2<U>
-        requires { F.IsAlwaysCallable f }
+        requires { CallableAtEachTurn (index_steps U.BITS) (λ p i q. (x : Gf2) × F.step p i x q) F.pre 0 f }
         ensures { (last : F) × IsFilled F.step bit_number 1 U.BITS (U.number result.bits) f last }
     {
         let mut packed = PackedGf2::new(U::ZERO);

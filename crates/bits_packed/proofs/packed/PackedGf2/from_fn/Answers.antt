@@ -1,7 +1,6 @@
 use Rattle.std.proofs.Common.{◌≡◌, ◌<◌, ℕ, refl, ◌∙◌, ap, arith, rules}
-use denote.Param.Always.{mut_next}
 use Rattle.field_base.specs.Bit.{bit_number}
-use Rattle.bits_rows.proofs.WordLists.{more_filled, nothing_filled}
+use Rattle.bits_rows.proofs.WordLists.{may_call, may_go_on, more_filled, nothing_filled}
 use Rattle.bits_packed.specs.Lanes.{bits_of}
 use Rattle.bits_packed.proofs.LaneLists.{lane_is_part}
 use Rattle.bits_packed.proofs.packed.PackedGf2.from_fn.Goals as goal
@@ -9,10 +8,14 @@ use Rattle.bits_packed.proofs.packed.PackedGf2.from_fn.Goals as goal
 pub loop-lane-init : goal.loop-lane-init
 loop-lane-init g c = (c.requires, nothing_filled 1 bit_number _ _ _)
 
+pub f-requires : goal.f-requires
+f-requires g c =
+    let inside : c.loop-lane.lane < g.U.Underlier.BITS = search rules in may_call _ _ inside c.loop-lane.invariant.0
+
 pub loop-lane-preserved : goal.loop-lane-preserved
 loop-lane-preserved g c =
     let inside : c.loop-lane.lane < g.U.Underlier.BITS = search rules in (
-      mut_next g.F.FnMut _ _ _ _ _ c.f.ensures refl c.loop-lane.invariant.0,
+      may_go_on _ c.loop-lane.lane inside c.loop-lane.invariant.0 _ (c.f.result, c.f.ensures),
       more_filled 1 bit_number _ _ g.U.Underlier.BITS c.loop-lane.lane _ _ _ _ c.f.result c.loop-lane.invariant.1 inside c.f.ensures
           (lane_is_part g.U.Underlier.BITS _ c.loop-lane.lane _ _ c.set.ensures),
     )

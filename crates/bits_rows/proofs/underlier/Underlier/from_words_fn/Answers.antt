@@ -1,7 +1,6 @@
-use Rattle.std.proofs.Common.{◌≡◌, ◌<◌, ℕ, true, refl, ◌∙◌, ap, sym, subst, arith, rules}
-use denote.Param.Always.{mut_next}
+use Rattle.std.proofs.Common.{◌≡◌, ◌<◌, ℕ, true, ◌∙◌, ap, sym, subst, arith, rules}
 use Rattle.field_base.specs.Chunks.{chunks}
-use Rattle.bits_rows.proofs.WordLists.{more_filled, nothing_filled}
+use Rattle.bits_rows.proofs.WordLists.{may_call, may_go_on, more_filled, nothing_filled}
 use Rattle.bits_rows.proofs.underlier.Underlier.from_words_fn.Goals as goal
 
 pub loop-i-init : goal.loop-i-init
@@ -11,10 +10,14 @@ loop-i-init g c = (
   subst (λ x. g.Self.Underlier.is_whole x ≡ true) (sym c.ZERO-row.ensures) g.Self.Underlier.zero_whole,
 )
 
+pub f-requires : goal.f-requires
+f-requires g c =
+    let inside : c.loop-i.i < g.Self.Underlier.WORD_COUNT = search rules in may_call _ _ inside c.loop-i.invariant.0
+
 pub loop-i-preserved : goal.loop-i-preserved
 loop-i-preserved g c =
     let inside : c.loop-i.i < g.Self.Underlier.WORD_COUNT = search rules in (
-      mut_next g.F.FnMut _ _ _ _ _ c.f.ensures refl c.loop-i.invariant.0,
+      may_go_on _ c.loop-i.i inside c.loop-i.invariant.0 _ (c.f.result, c.f.ensures),
       more_filled g.Self.Word.Word.BITS g.Self.Word.Word.number _ _ g.Self.Underlier.WORD_COUNT c.loop-i.i _ _ _ _ c.f.result
           c.loop-i.invariant.1 inside c.f.ensures c.set_word.ensures.replaced,
       c.set_word.ensures.whole,

@@ -1,19 +1,23 @@
-use Rattle.std.proofs.Common.{◌≡◌, refl, ◌∙◌, ap, arith}
-use denote.Param.Always.{mut_next}
+use Rattle.std.proofs.Common.{◌≡◌, ◌<◌, ◌∙◌, ap, arith, rules}
 use Rattle.field_base.specs.Chunks.{chunks}
-use Rattle.field_space.proofs.Spaces.{more_coefficients, no_coefficients}
+use Rattle.field_space.proofs.Spaces.{may_call, may_go_on, more_coefficients, no_coefficients}
 use Rattle.field_space.proofs.space.BasedVectorSpace.from_basis_coefficients_fn.Goals as goal
 
 pub loop-i-init : goal.loop-i-init
 loop-i-init g c =
     (c.requires, no_coefficients _ _ _ _ g.Self.Represented.repr _ _ c.ZERO-element.ensures g.met.Self.PrimeCharacteristicRing.zero_law)
 
+pub f-requires : goal.f-requires
+f-requires g c =
+    let inside : c.loop-i.i < g.Self.BasedVectorSpace.DIMENSION = search rules in may_call _ _ inside c.loop-i.invariant.0
+
 pub loop-i-preserved : goal.loop-i-preserved
-loop-i-preserved g c = (
-  mut_next g.G.FnMut _ _ _ _ _ c.f.ensures refl c.loop-i.invariant.0,
-  more_coefficients g.F.Represented.width g.F.Represented.repr _ _ c.loop-i.i _ _ _ _ c.f.result c.loop-i.invariant.1
-      (g.F.Represented.range_law c.f.result) c.f.ensures c.with_basis_coefficient-element.ensures,
-)
+loop-i-preserved g c =
+    let inside : c.loop-i.i < g.Self.BasedVectorSpace.DIMENSION = search rules in (
+      may_go_on _ c.loop-i.i inside c.loop-i.invariant.0 _ (c.f.result, c.f.ensures),
+      more_coefficients g.F.Represented.width g.F.Represented.repr _ _ c.loop-i.i _ _ _ _ c.f.result c.loop-i.invariant.1
+          (g.F.Represented.range_law c.f.result) c.f.ensures c.with_basis_coefficient-element.ensures,
+    )
 
 pub returns : goal.returns
 returns g c =

@@ -1,6 +1,6 @@
 use Rattle.std.proofs.Common.{Some}
 use Rattle.field_space.proofs.Spaces.{Coefficients}
-use Rattle.field_space.proofs.space.BasedVectorSpace.from_basis_coefficients_iter.Given as goal
+use Rattle.field_space.proofs.space.BasedVectorSpace.from_basis_coefficients_iter_by_ref.Given as goal
 
 -- the element has the coefficients that the iterator has given
 abbrev pub invariant-loop-i : goal.invariant-loop-i
