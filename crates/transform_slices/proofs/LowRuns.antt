@@ -95,7 +95,7 @@ module _ (shifts basis : List ℕ) where
       (linear_image-columns basis (run * 2 ^ m) ∙ columns-shifted m basis run ∙ sym (linear_image-columns (drop m basis) run))
 
   -- place i of a run with the number `number` has the factor that the whole transform has at place 16 * number + i
-  run_factor-is : (twiddles low : List ℕ) (number j i : ℕ) → AreRunTwiddles shifts basis number twiddles → AreLowSums basis low
+  pub run_factor-is : (twiddles low : List ℕ) (number j i : ℕ) → AreRunTwiddles shifts basis number twiddles → AreLowSums basis low
       → j < 4 → i < 16 → run_factor twiddles low j i ≡ factor shifts basis j (16 * number + i)
   unfolding run_factor factor
   run_factor-is twiddles low number j i run_twiddles low_sums few within =

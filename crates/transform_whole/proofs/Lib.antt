@@ -8,3 +8,5 @@ pub mod Written
 pub mod CantorSums
 pub mod Horner
 pub mod ImageValues
+pub mod PairLoops
+pub mod PairStages
