@@ -10,3 +10,4 @@ pub mod Horner
 pub mod ImageValues
 pub mod PairLoops
 pub mod PairStages
+pub mod PointSums
