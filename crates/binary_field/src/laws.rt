@@ -29,7 +29,8 @@ pub use bits_packed::transposing_twice_returns;
 
 // transforms
 pub use transform_slices::{
-    butterflies_restore, cantor_vectors_step_down, stages_give_sums, sums_are_values,
+    butterflies_restore, cantor_vectors_step_down, points_are_distinct, stages_give_sums,
+    sums_are_values,
 };
 pub use transform_whole::values_commute_with_images;
 

@@ -4,7 +4,7 @@ use Rattle.std.specs.Prelude.{bit_xor, slice_index}
 use Rattle.std.specs.Int.{bit_at}
 use Rattle.std.proofs.lemmas.Bool.{cases_lt}
 use Rattle.std.proofs.lemmas.Nat.{pow_below}
-use Rattle.std.proofs.lemmas.Nat.Bits.{bit_at_above, bit_at-lt}
+use Rattle.std.proofs.lemmas.Nat.Bits.{bit_at_above, bit_at-lt, same_from_bits_below}
 use native.Mathlib.Nat.{mod-eq_of_lt, zero-mul, one-mul, mul-zero, mul-one}
 use lib.Bits.{xor_assoc, xor_comm, xor_self, xor_zero_r}
 use Rattle.field_base.specs.Basis.{sum_below}
@@ -14,8 +14,8 @@ use Rattle.field_base.specs.Orders.{AreCantorVectors}
 use Rattle.field_base.specs.Ring.{IsRing}
 use Rattle.field_base.proofs.AdditiveMaps.{KeepsSums, keeps_zero}
 use Rattle.field_base.proofs.BasisSums.{sum_below-add, sum_below-same, bit_at-add}
-use Rattle.field_base.proofs.RingLemmas.{sum_times, xor_left_comm}
-use Rattle.transform_slices.specs.Cantor.{subspace_value, polynomial_value, point, AreCantorTwiddles, CantorVectorsStepDown, FactorsAreSubspaceValues, SumsAreValues}
+use Rattle.field_base.proofs.RingLemmas.{sum_times, xor_cancel, xor_left_comm}
+use Rattle.transform_slices.specs.Cantor.{subspace_value, polynomial_value, point, AreCantorTwiddles, ArePointsDistinct, CantorVectorsStepDown, FactorsAreSubspaceValues, PointsAreDistinct, SumsAreValues}
 use Rattle.transform_slices.specs.Stages.{factor}
 use Rattle.transform_slices.proofs.StageSums.{sum_of_factors-same}
 
@@ -150,6 +150,48 @@ module _ (width : ℕ) (times : ℕ → ℕ → ℕ) (wide : 0 < width) (ring : 
             let left : suc j + t - j ≡ suc t = omega arith in
             subspace_value-vector j (suc j + t) less fits ∙ ap vector left
 
+    -- equal points with the same bits above j have the same bit j, since s_j takes them to the same
+    module _ (z p q : ℕ) (same : point width vector z p ≡ point width vector z q) where
+      same_bit : (j : ℕ) → j < width → ((i : ℕ) → j < i → i < width → bit_at p i ≡ bit_at q i) → bit_at p j ≡ bit_at q j
+      same_bit j below above =
+          xor_same (subspace_value times j z) (bit_at p j) (bit_at q j) rest
+          (sym at_p ∙ ap (subspace_value times j) same ∙ value_at_point j q z
+          ∙ ap (bit_xor (subspace_value times j z)) (split_at j q below ∙ ap (bit_xor (bit_at q j)) (sym rests)))
+        where
+          rest : ℕ
+          rest = sum_below (λ t. bit_at p (suc j + t) * vector (suc t)) (width - suc j)
+
+          rests : rest ≡ sum_below (λ t. bit_at q (suc j + t) * vector (suc t)) (width - suc j)
+          rests =
+              sum_below-same (λ t. bit_at p (suc j + t) * vector (suc t)) (λ t. bit_at q (suc j + t) * vector (suc t)) (width - suc j)
+              (λ t within. ap (λ (d : ℕ). d * vector (suc t)) (above (suc j + t) (omega arith) (omega arith)))
+
+          at_p : subspace_value times j (point width vector z p) ≡ bit_xor (subspace_value times j z) (bit_xor (bit_at p j) rest)
+          at_p = value_at_point j p z ∙ ap (bit_xor (subspace_value times j z)) (split_at j p below)
+
+          xor_same : (s b d r : ℕ) → bit_xor s (bit_xor b r) ≡ bit_xor s (bit_xor d r) → b ≡ d
+          xor_same s b d r are =
+              sym (undone b) ∙ ap (λ (x : ℕ). bit_xor x r) (sym (xor_cancel s (bit_xor b r)) ∙ ap (bit_xor s) are ∙ xor_cancel s (bit_xor d r))
+              ∙ undone d
+            where
+              undone : (x : ℕ) → bit_xor (bit_xor x r) r ≡ x
+              undone x = xor_assoc x r r ∙ ap (bit_xor x) (xor_self r) ∙ xor_zero_r x
+
+      -- so they have the same k highest bits
+      same_high_bits : (k : ℕ) → k ≤ width → (j : ℕ) → width - k ≤ j → j < width → bit_at p j ≡ bit_at q j
+      same_high_bits zero within j past below = absurd (omega arith)
+      same_high_bits (suc k) within j past below =
+          pick (cases_lt j (width - k)) (λ i later i_below. same_high_bits k (omega arith) i later i_below)
+        where
+          pick : (j < width - k) ⊎ (width - k ≤ j) → ((i : ℕ) → width - k ≤ i → i < width → bit_at p i ≡ bit_at q i) → bit_at p j ≡ bit_at q j
+          pick (inl last) higher = same_bit j below (λ i above i_below. higher i (omega arith) i_below)
+          pick (inr before) higher = higher j before below
+
+    pub points-distinct : ArePointsDistinct width vector
+    points-distinct z p q p_below q_below same =
+        same_from_bits_below width p q p_below q_below
+        (λ j below. same_high_bits z p q same width (omega arith) j (omega arith) below)
+
     module _ (z n : ℕ) (shifts basis : List ℕ) (twiddles : AreCantorTwiddles width times vector z n shifts basis) where
       -- the sum over the basis is that over the vectors above
       basis_sum : (j p : ℕ) → j < width → p < 2 ^ suc (length basis) → linear_image basis (p / 2 ^ suc j)
@@ -192,6 +234,10 @@ cantor_vectors_step_down width times vector wide ring vectors =
       of_vector = subspace_value-vector width times wide ring vector vectors;
       of_lower_vector = subspace_value-lower width times wide ring vector vectors;
     }
+
+-- points are the same only where their numbers are
+pub points_are_distinct : PointsAreDistinct
+points_are_distinct width times vector wide ring vectors = points-distinct width times wide ring vector vectors
 
 -- with the twiddles for Cantor points the factor of stage j at place p is s_j at point p
 pub factors_are_subspace_values : FactorsAreSubspaceValues

@@ -6,21 +6,15 @@ use Rattle.std.proofs.lemmas.Bool.{cases_lt}
 use Rattle.std.proofs.lemmas.Nat.{pow-add}
 use native.Mathlib.Nat.{mod-eq_of_lt, mul_assoc, pow-suc, zero-mul}
 use lib.Bits.{xor_assoc, xor_comm, xor_shifted, xor_zero_r}
-use Rattle.field_base.specs.Basis.{basis_image, ghash_images}
 use Rattle.field_base.specs.LinearMaps.{linear_image}
-use Rattle.field_base.specs.Orders.{AreCantorVectors}
-use Rattle.field_base.specs.Remainder.{ghash_modulus}
 use Rattle.field_base.proofs.BasisColumns.{sum_of_columns}
 use Rattle.field_base.proofs.LinearMapLemmas.{linear_image-columns, the_linear_map}
 use Rattle.field_base.proofs.RemainderRing.{ghash_ring}
 use Rattle.field_base.proofs.RingLemmas.{xor_cancel}
-use Rattle.field_base.proofs.TowerBasisLemmas.{basis-cantor}
-use Rattle.word_basis.proofs.Isomorphisms.{isomorphic_128}
-use Rattle.word_tables.specs.Cantor.{cantor_vector}
-use Rattle.word_tables.proofs.LevelLaws.{level_cantor}
 use Rattle.transform_slices.specs.Cantor.{AreCantorTwiddles}
 use Rattle.transform_slices.specs.Stages.{factor, stage, stages, sum_of_factors}
 use Rattle.transform_slices.proofs.CantorValues.{sums_are_values}
+use Rattle.transform_slices.proofs.GhashVectors.{ghash_vectors}
 use Rattle.transform_slices.proofs.Places.{next_quotient}
 use Rattle.transform_slices.proofs.StageSums.{stages_sum, sum_of_factors-same, sum_of_factors-values}
 use Rattle.transform_slices.specs.LowStages.{ghash_cantor_vector, ghash_product, HoldSums, HoldValues, values_from}
@@ -101,7 +95,7 @@ module _ (shifts basis : List ℕ) where
       (linear_image-columns basis (run * 2 ^ m) ∙ columns-shifted m basis run ∙ sym (linear_image-columns (drop m basis) run))
 
   -- place i of a run with the number `number` has the factor that the whole transform has at place 16 * number + i
-  run_factor-is : (twiddles low : List ℕ) (number j i : ℕ) → AreRunTwiddles shifts basis number twiddles → AreLowSums basis low
+  pub run_factor-is : (twiddles low : List ℕ) (number j i : ℕ) → AreRunTwiddles shifts basis number twiddles → AreLowSums basis low
       → j < 4 → i < 16 → run_factor twiddles low j i ≡ factor shifts basis j (16 * number + i)
   unfolding run_factor factor
   run_factor-is twiddles low number j i run_twiddles low_sums few within =
@@ -196,19 +190,13 @@ module _ (shifts basis : List ℕ) where
 
 -- ---- values
 
--- the images of the tower's Cantor vectors are Cantor vectors of the field
-vectors : AreCantorVectors 128 ghash_product ghash_cantor_vector
-vectors =
-    basis-cantor 7 128 ghash_product (basis_image 128 ghash_modulus ghash_images) ghash_ring
-    isomorphic_128.isomorphism cantor_vector (level_cantor 7 (omega arith)) refl
-
 -- the sums are values of polynomials where the twiddles are those of Cantor points and the basis reaches the last place
 pub values_at_points : (shifts basis : List ℕ) (first_run : ℕ) (old new : List ℕ) → 3 ≤ length basis → length old % 16 ≡ 0
     → (old ≢ [] → first_run + length old / 16 ≤ 2 ^ (length basis - 3)) → HoldSums shifts basis first_run old new → (z : ℕ)
     → AreCantorTwiddles 128 ghash_product ghash_cantor_vector z 4 shifts basis → HoldValues z first_run old new
 values_at_points shifts basis first_run old new room whole numbered sums z twiddles run i within inside =
     sums run i within inside
-    ∙ sums_are_values 128 ghash_product ghash_cantor_vector (lit< tt) ghash_ring vectors z 4 shifts basis twiddles
+    ∙ sums_are_values 128 ghash_product ghash_cantor_vector (lit< tt) ghash_ring ghash_vectors z 4 shifts basis twiddles
     (values_from old (16 * run)) (16 * (first_run + run) + i) reached
   where
     some : old ≢ []

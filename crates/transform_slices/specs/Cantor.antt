@@ -42,6 +42,17 @@ CantorVectorsStepDown =
     (width : ℕ) (times : ℕ → ℕ → ℕ) (vector : ℕ → ℕ) → 0 < width → IsRing width 1 times
     → AreCantorVectors width times vector → SubspaceValues width times vector
 
+-- points of numbers below 2 ^ width are the same only where the numbers are
+abbrev pub ArePointsDistinct : ℕ → (ℕ → ℕ) → Type 0
+ArePointsDistinct width vector =
+    (z p q : ℕ) → p < 2 ^ width → q < 2 ^ width → point width vector z p ≡ point width vector z q → p ≡ q
+
+-- that holds in every ring with Cantor vectors, so that no sum of some of them is 0
+abbrev pub PointsAreDistinct : Type 0
+PointsAreDistinct =
+    (width : ℕ) (times : ℕ → ℕ → ℕ) (vector : ℕ → ℕ) → 0 < width → IsRing width 1 times
+    → AreCantorVectors width times vector → ArePointsDistinct width vector
+
 -- with the twiddles for those points the factor of stage j at place p is s_j at point p
 abbrev pub FactorsAreSubspaceValues : Type 0
 FactorsAreSubspaceValues =

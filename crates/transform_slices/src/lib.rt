@@ -14,7 +14,9 @@ ghost use Rattle.std.specs.Prelude.{◌≡◌};
 ghost use Rattle.field_base.specs.Remainder.{mul_mod, ghash_modulus};
 
 pub use crate::basis::{from_tower, from_tower_slice, to_tower, to_tower_slice};
-pub use crate::laws::{cantor_vectors_step_down, stages_give_sums, sums_are_values};
+pub use crate::laws::{
+    cantor_vectors_step_down, points_are_distinct, stages_give_sums, sums_are_values,
+};
 pub use crate::low_stages::{LOW_STAGES, LowStageTwiddles};
 pub use crate::slices::{butterflies_restore, butterfly_forward, butterfly_inverse, mul_slice};
 use word_carryless::{multiply_mod_128, square_mod_128};

@@ -38,6 +38,31 @@ impl<A: Allocator> LowStageTwiddles<A> {
         })
     }
 
+    /// The four shifts, of stages 0 to 3.
+    pub fn shifts(&self) -> &[u128; 4]
+        ensures { result.now ≡ shifts_of self.now }
+    {
+        &self.shifts
+    }
+
+    /// The basis, lowest element first: at least three elements.
+    pub fn basis(&self) -> &[u128]
+        ensures basis { result.now ≡ basis_of self.now }
+        ensures least { 3 ≤ length result.now }
+    {
+        self.basis.as_slice()
+    }
+
+    /// The twiddle of all pairs of a block of a stage: the shift of the stage, and the elements of the basis at the set bits of the
+    /// block's number. Block q of stage j has places 2^(j + 1) q to 2^(j + 1) (q + 1) - 1 of the transform, so that run r has the
+    /// blocks from 2^(3 - j) r on. The stage has to be below 4. Of bits past the basis it reads none.
+    pub fn of_block(&self, stage: usize, block: u128) -> u128
+        requires { stage < 4 }
+        ensures { result ≡ bit_xor (slice_index (shifts_of self.now) stage) (linear_image (basis_of self.now) block) }
+    {
+        self.shifts[stage] ^ sum_of_images(&self.basis, block)
+    }
+
     /// Runs stages 3, 2, 1 and 0 over each run of sixteen values, the first of which is run `first_run` of the transform: its
     /// place i is place p = 16 first_run + i. The length has to be a multiple of 16, and where there are values, the number of
     /// the last run has to be below 2 to the power of three less than the elements of the basis. It takes no memory.

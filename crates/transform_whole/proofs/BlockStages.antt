@@ -137,3 +137,11 @@ inverse_local shifts basis j =
           butterfly-same (bit_xor (slice_index shifts j) (linear_image basis q)) (2 ^ j) b a d c
           (λ r below. second r (both_halves' j r below)) (λ r below. first r (both_halves' j r below));
     }
+
+-- the same where the first of the blocks has the number `first`
+abbrev pub forward_from : List ℕ → List ℕ → ℕ → ℕ → ℕ → (ℕ → ℕ) → (ℕ → ℕ) → Type 0
+forward_from shifts basis j first q old now = forward_in shifts basis j (first + q) old now
+
+-- and that depends on the block's values alone, too
+pub from_local : (shifts basis : List ℕ) (j first : ℕ) → InBlocks (2 ^ suc j) (forward_from shifts basis j first)
+from_local shifts basis j first = record { same = λ q. (forward_local shifts basis j).same (first + q) }

@@ -26,7 +26,7 @@ module _ (n : ℕ) (xs ys : List ℕ) (long : length xs ≡ n) where
   read_upper r = ap (λ (m : ℕ). slice_index (xs ++ ys) (m + r)) (sym long) ∙ get_or-append-add xs ys r 0
 
 -- place r of a list made place by place
-read_both : (f : ℕ → ℕ → ℕ) (n : ℕ) (xs ys : List ℕ) → length xs ≡ n → length ys ≡ n → (r : ℕ) → r < n
+pub read_both : (f : ℕ → ℕ → ℕ) (n : ℕ) (xs ys : List ℕ) → length xs ≡ n → length ys ≡ n → (r : ℕ) → r < n
     → slice_index (zip2 f xs ys) r ≡ f (slice_index xs r) (slice_index ys r)
 read_both f n xs ys long long' r below =
     let left : r < length xs = omega arith in

@@ -8,3 +8,6 @@ pub mod Written
 pub mod CantorSums
 pub mod Horner
 pub mod ImageValues
+pub mod PairLoops
+pub mod PairStages
+pub mod PointSums

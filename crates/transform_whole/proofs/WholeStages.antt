@@ -9,24 +9,18 @@ use Rattle.std.proofs.lemmas.Nat.Bits.{bit_at-lt}
 use native.Mathlib.Nat.{mod-eq_of_lt, mod-lt}
 use lib.Bits.{xor_assoc, xor_comm, xor_zero_r}
 use lib.Seq.{length-take-le}
-use Rattle.field_base.specs.Basis.{basis_image, ghash_images}
 use Rattle.field_base.specs.BitRingLemmas.{two_cases}
 use Rattle.field_base.specs.LinearMaps.{linear_image}
-use Rattle.field_base.specs.Orders.{AreCantorVectors}
-use Rattle.field_base.specs.Remainder.{ghash_modulus}
 use Rattle.field_base.proofs.RemainderRing.{ghash_ring}
 use Rattle.field_base.proofs.RingLemmas.{sum_times}
-use Rattle.field_base.proofs.TowerBasisLemmas.{basis-cantor}
-use Rattle.word_basis.proofs.Isomorphisms.{isomorphic_128}
-use Rattle.word_tables.specs.Cantor.{cantor_vector}
-use Rattle.word_tables.proofs.LevelLaws.{level_cantor}
 use Rattle.transform_slices.specs.Cantor.{AreCantorTwiddles, point, polynomial_value}
 use Rattle.transform_slices.specs.Stages.{factor, lower_place, stage, stages, upper_place}
 use Rattle.transform_slices.proofs.CantorValues.{factors_are_subspace_values, sums_are_values}
+use Rattle.transform_slices.proofs.GhashVectors.{ghash_vectors}
 use Rattle.transform_slices.proofs.Places.{next_quotient}
 use Rattle.transform_slices.proofs.StageSums.{stages_sum, sum_of_factors-same, sum_of_factors-values}
 use Rattle.transform_slices.specs.LowStages.{ghash_cantor_vector, ghash_product, HoldSums, values_from}
-use Rattle.transform_whole.specs.Stages.{IsStage}
+use Rattle.transform_whole.specs.Stages.{IsButterfly, IsStage}
 
 -- ---- places
 
@@ -97,6 +91,48 @@ stage-same f j blocks a b same p inside =
     ap₂ (λ (x y : ℕ). bit_xor x (ghash_product (f j p) y)) (same (lower_place j p) (lower_inside j blocks p inside))
     (same (upper_place j p) (upper_inside j blocks p inside))
 
+-- the butterfly of a block is the stage at its places, whose factors are the block's twiddle and bit j of the place
+pub stage-at : (f : ℕ → ℕ → ℕ) (j p t : ℕ) (a b : ℕ → ℕ) → ((k : ℕ) → a k < 2 ^ 128) → f j p ≡ bit_xor t (bit_at p j)
+    → IsButterfly t (2 ^ j) (λ r. a (p / 2 ^ suc j * 2 ^ suc j + r)) (λ r. b (p / 2 ^ suc j * 2 ^ suc j + r))
+    → b p ≡ stage ghash_product f j a p
+unfolding stage upper_place lower_place
+stage-at f j p t a b fits factor_is block =
+    two_cases
+    (λ d. bit_at p j ≡ d → b p ≡ bit_xor (a (q * 2 ^ suc j + r)) (ghash_product (bit_xor t (bit_at p j)) (a (q * 2 ^ suc j + r + 2 ^ j))))
+    at_lower at_upper (bit_at p j) split.bit refl
+    ∙ ap (λ (s : ℕ). bit_xor (a (q * 2 ^ suc j + r)) (ghash_product s (a (q * 2 ^ suc j + r + 2 ^ j)))) (sym factor_is)
+  where
+    q : ℕ
+    q = p / 2 ^ suc j
+
+    r : ℕ
+    r = p % 2 ^ j
+
+    split : SplitPlace j p
+    split = split_place j p
+
+    at_lower : bit_at p j ≡ 0
+        → b p ≡ bit_xor (a (q * 2 ^ suc j + r)) (ghash_product (bit_xor t (bit_at p j)) (a (q * 2 ^ suc j + r + 2 ^ j)))
+    at_lower none =
+        let at : p ≡ q * 2 ^ suc j + r = omega (arith, split.place, ap (λ (d : ℕ). d * 2 ^ j) none) in
+        let other : q * 2 ^ suc j + (2 ^ j + r) ≡ q * 2 ^ suc j + r + 2 ^ j = omega arith in
+        ap b at ∙ block.lower r split.low
+        ∙ ap₂ (λ (s : ℕ) (k : ℕ). bit_xor (a (q * 2 ^ suc j + r)) (ghash_product s (a k))) (sym (ap (bit_xor t) none ∙ xor_zero_r t)) other
+
+    at_upper : bit_at p j ≡ 1
+        → b p ≡ bit_xor (a (q * 2 ^ suc j + r)) (ghash_product (bit_xor t (bit_at p j)) (a (q * 2 ^ suc j + r + 2 ^ j)))
+    at_upper one =
+        let at : p ≡ q * 2 ^ suc j + (2 ^ j + r) = omega (arith, split.place, ap (λ (d : ℕ). d * 2 ^ j) one) in
+        let other : q * 2 ^ suc j + (2 ^ j + r) ≡ q * 2 ^ suc j + r + 2 ^ j = omega arith in
+        let high : ℕ = a (q * 2 ^ suc j + (2 ^ j + r)) in
+        let low : ℕ = a (q * 2 ^ suc j + r) in
+        ap b at ∙ block.upper r split.low ∙ ap (bit_xor high) (block.lower r split.low)
+        ∙ xor_comm high (bit_xor low (ghash_product t high)) ∙ xor_assoc low (ghash_product t high) high
+        ∙ ap (bit_xor low)
+        (sym (sum_times 128 1 ghash_product ghash_ring t 1 high
+        ∙ ap (bit_xor (ghash_product t high)) (ghash_ring.one high ∙ mod-eq_of_lt (fits (q * 2 ^ suc j + (2 ^ j + r)))))
+        ∙ ap₂ (λ (s : ℕ) (k : ℕ). ghash_product s (a k)) (ap (bit_xor t) (sym one)) other)
+
 module _ (shifts basis : List ℕ) where
   -- the factor of stage j at p depends on p / 2 ^ j alone
   by_quotient : (j p q : ℕ) → p / 2 ^ j ≡ q / 2 ^ j → factor shifts basis j p ≡ factor shifts basis j q
@@ -109,48 +145,10 @@ module _ (shifts basis : List ℕ) where
   -- butterflies in all blocks are the stage
   pub stage-is : (j blocks : ℕ) (a b : List ℕ) → ((p : ℕ) → slice_index a p < 2 ^ 128) → IsStage shifts basis j blocks a b → (p : ℕ)
       → p < blocks * 2 ^ suc j → slice_index b p ≡ stage ghash_product (factor shifts basis) j (slice_index a) p
-  unfolding stage factor upper_place lower_place
+  unfolding factor
   stage-is j blocks a b fits is p inside =
-      two_cases
-      (λ d. bit_at p j ≡ d → slice_index b p ≡ bit_xor (slice_index a (q * 2 ^ suc j + r))
-      (ghash_product (bit_xor t (bit_at p j)) (slice_index a (q * 2 ^ suc j + r + 2 ^ j))))
-      at_lower at_upper (bit_at p j) split.bit refl
-    where
-      q : ℕ
-      q = p / 2 ^ suc j
-
-      r : ℕ
-      r = p % 2 ^ j
-
-      t : ℕ
-      t = bit_xor (slice_index shifts j) (linear_image basis (p / 2 ^ suc j))
-
-      split : SplitPlace j p
-      split = split_place j p
-
-      at_lower : bit_at p j ≡ 0 → slice_index b p ≡ bit_xor (slice_index a (q * 2 ^ suc j + r))
-          (ghash_product (bit_xor t (bit_at p j)) (slice_index a (q * 2 ^ suc j + r + 2 ^ j)))
-      at_lower none =
-          let at : p ≡ q * 2 ^ suc j + r = omega (arith, split.place, ap (λ (d : ℕ). d * 2 ^ j) none) in
-          let other : q * 2 ^ suc j + (2 ^ j + r) ≡ q * 2 ^ suc j + r + 2 ^ j = omega arith in
-          ap (slice_index b) at ∙ (is q (block_before j blocks p inside)).lower r split.low
-          ∙ ap₂ (λ (f : ℕ) (k : ℕ). bit_xor (slice_index a (q * 2 ^ suc j + r)) (ghash_product f (slice_index a k)))
-          (sym (ap (bit_xor t) none ∙ xor_zero_r t)) other
-
-      at_upper : bit_at p j ≡ 1 → slice_index b p ≡ bit_xor (slice_index a (q * 2 ^ suc j + r))
-          (ghash_product (bit_xor t (bit_at p j)) (slice_index a (q * 2 ^ suc j + r + 2 ^ j)))
-      at_upper one =
-          let at : p ≡ q * 2 ^ suc j + (2 ^ j + r) = omega (arith, split.place, ap (λ (d : ℕ). d * 2 ^ j) one) in
-          let other : q * 2 ^ suc j + (2 ^ j + r) ≡ q * 2 ^ suc j + r + 2 ^ j = omega arith in
-          let high : ℕ = slice_index a (q * 2 ^ suc j + (2 ^ j + r)) in
-          let low : ℕ = slice_index a (q * 2 ^ suc j + r) in
-          let block = is q (block_before j blocks p inside) in
-          ap (slice_index b) at ∙ block.upper r split.low ∙ ap (bit_xor high) (block.lower r split.low)
-          ∙ xor_comm high (bit_xor low (ghash_product t high)) ∙ xor_assoc low (ghash_product t high) high
-          ∙ ap (bit_xor low)
-          (sym (sum_times 128 1 ghash_product ghash_ring t 1 high
-          ∙ ap (bit_xor (ghash_product t high)) (ghash_ring.one high ∙ mod-eq_of_lt (fits (q * 2 ^ suc j + (2 ^ j + r)))))
-          ∙ ap₂ (λ (f : ℕ) (k : ℕ). ghash_product f (slice_index a k)) (ap (bit_xor t) (sym one)) other)
+      stage-at (factor shifts basis) j p (bit_xor (slice_index shifts j) (linear_image basis (p / 2 ^ suc j))) (slice_index a) (slice_index b)
+      fits refl (is (p / 2 ^ suc j) (block_before j blocks p inside))
 
   -- ---- stages one after another, of 2 ^ m places
 
@@ -221,11 +219,6 @@ module _ (shifts basis : List ℕ) where
   -- ---- values
 
   module _ (z : ℕ) (twiddles : AreCantorTwiddles 128 ghash_product ghash_cantor_vector z 40 shifts basis) (long : length basis ≡ 39) where
-    vectors : AreCantorVectors 128 ghash_product ghash_cantor_vector
-    vectors =
-        basis-cantor 7 128 ghash_product (basis_image 128 ghash_modulus ghash_images) ghash_ring
-        isomorphic_128.isomorphism cantor_vector (level_cantor 7 (omega arith)) refl
-
     reached : (m p : ℕ) → m ≤ 40 → p < 2 ^ m → p < 2 ^ suc (length basis)
     reached m p few inside =
         let most : 2 ^ m ≤ 2 ^ suc (length basis) = pow-le-pow_right (lit< tt) (omega arith) in omega (arith, most, inside)
@@ -246,7 +239,7 @@ module _ (shifts basis : List ℕ) where
         stages_sum 128 ghash_product (lit< tt) ghash_ring (factor shifts basis) by_quotient m (slice_index c) p
         ∙ sum_of_factors-values ghash_product (λ j. factor shifts basis j p) m (λ k. slice_index c (p / 2 ^ m * 2 ^ m + k)) (slice_index c)
         (λ k below. ap (slice_index c) (ap (λ (q : ℕ). q * 2 ^ m + k) (div-eq_of_lt inside) ∙ (let same : 0 * 2 ^ m + k ≡ k = omega arith in same)))
-        ∙ sums_are_values 128 ghash_product ghash_cantor_vector (lit< tt) ghash_ring vectors z m shifts basis (fewer m few) (slice_index c) p
+        ∙ sums_are_values 128 ghash_product ghash_cantor_vector (lit< tt) ghash_ring ghash_vectors z m shifts basis (fewer m few) (slice_index c) p
         (reached m p few inside)
 
     -- the low twiddles have the same factors
@@ -268,9 +261,9 @@ module _ (shifts basis : List ℕ) where
 
       low_factor : (j p : ℕ) → j < 4 → p < 2 ^ m → factor (take 4 shifts) (take (m - 1) basis) j p ≡ factor shifts basis j p
       low_factor j p below inside =
-          factors_are_subspace_values 128 ghash_product ghash_cantor_vector (lit< tt) ghash_ring vectors z 4 (take 4 shifts)
+          factors_are_subspace_values 128 ghash_product ghash_cantor_vector (lit< tt) ghash_ring ghash_vectors z 4 (take 4 shifts)
           (take (m - 1) basis) low_twiddles j p below wide
-          ∙ sym (factors_are_subspace_values 128 ghash_product ghash_cantor_vector (lit< tt) ghash_ring vectors z 40 shifts basis
+          ∙ sym (factors_are_subspace_values 128 ghash_product ghash_cantor_vector (lit< tt) ghash_ring ghash_vectors z 40 shifts basis
           twiddles j p (omega arith) (reached m p few inside))
         where
           bits : suc (length (take (m - 1) basis)) ≡ m

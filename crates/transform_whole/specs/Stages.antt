@@ -17,3 +17,10 @@ IsStage shifts basis j blocks a b =
     (q : ℕ) → q < blocks
     → IsButterfly (bit_xor (slice_index shifts j) (linear_image basis q)) (2 ^ j) (values_from a (q * 2 ^ suc j))
     (values_from b (q * 2 ^ suc j))
+
+-- the same where the first of the blocks has the number `first`
+abbrev pub IsStageFrom : List ℕ → List ℕ → ℕ → ℕ → ℕ → List ℕ → List ℕ → Type 0
+IsStageFrom shifts basis j first blocks a b =
+    (q : ℕ) → q < blocks
+    → IsButterfly (bit_xor (slice_index shifts j) (linear_image basis (first + q))) (2 ^ j) (values_from a (q * 2 ^ suc j))
+    (values_from b (q * 2 ^ suc j))

@@ -41,8 +41,9 @@ pub trait Kernel {
 
     /// Stages 3, 2, 1 and 0 over each run of sixteen values, as `LowStageTwiddles::forward` does, of which the first is run
     /// `first_run` of the transform. The length has to be a multiple of 16, and where there are values, the number of the last
-    /// run has to be below 2 to the power of three less than the elements of the twiddles' basis. The count rises by 32 a run;
-    /// it has to fit 64 bits.
+    /// run has to be below 2 to the power of three less than the elements of the twiddles' basis; it may pass 64 bits. The count
+    /// rises by 32 a run; it has to fit 64 bits. `LowStageTwiddles::of_block` gives the twiddle of a block, and `PairByPair` runs
+    /// these stages for any kernel of single pairs.
     fn low_forward<A: Allocator>(
         &mut self,
         twiddles: &LowStageTwiddles<A>,

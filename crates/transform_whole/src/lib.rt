@@ -12,10 +12,14 @@
 mod kernel;
 mod laws;
 pub mod over;
+mod pairs;
+mod points;
 mod stages;
 mod twiddles;
 mod whole;
 
 pub use crate::kernel::{Kernel, PolyKernel};
 pub use crate::laws::values_commute_with_images;
+pub use crate::pairs::{PairByPair, PairKernel};
+pub use crate::points::point;
 pub use crate::whole::{forward, forward_with, inverse, inverse_with};

@@ -51,8 +51,8 @@ pub(crate) fn inverse_stage<K: Kernel>(
     }
 }
 
-// Half the places of a block of a stage, whose pairs are as far apart.
-fn half_of(stage: usize) -> usize
+/// Half the places of a block of a stage, whose pairs are as far apart.
+pub(crate) fn half_of(stage: usize) -> usize
     requires { stage < 40 }
     ensures half { result ≡ 2 ^ stage }
     ensures few { result ≤ 2 ^ 39 }
@@ -60,8 +60,8 @@ fn half_of(stage: usize) -> usize
     1 << stage
 }
 
-// The first place of a block of `size` places, of the whole blocks among `length` places.
-fn start_of(block: usize, size: usize, length: usize) -> usize
+/// The first place of a block of `size` places, of the whole blocks among `length` places.
+pub(crate) fn start_of(block: usize, size: usize, length: usize) -> usize
     requires block { block < length / size }
     ensures start { result ≡ block * size }
     ensures inside { result + size ≤ length }
