@@ -9,6 +9,9 @@ ghost use Rattle.field_base.specs.Tower.{TowerIsRing};
 ghost use Rattle.field_base.specs.Powers.{SquaringsArePowers};
 ghost use Rattle.field_base.specs.TowerField.{LevelsLieInside, NoLevelHasARoot, NonzeroHasInverse, NormsAndConjugates};
 ghost use Rattle.field_base.specs.TowerField.{RootInverse, SquaringsReturn, TowerIsField, TracesAreOne};
+ghost use Rattle.field_laws.specs.Codewords.{CodewordExists, CodewordIsUnique};
+ghost use Rattle.field_laws.specs.Interpolation.{LagrangeInterpolates};
+ghost use Rattle.field_laws.specs.PolynomialRoots.{ManyRootsMeanZero};
 
 /// States that the tower's product is that of a commutative ring of characteristic two at every level.
 pub fn tower_is_ring()
@@ -81,4 +84,24 @@ pub fn mul_mod_is_ring()
 /// meet the equations of the roots.
 pub fn roots_give_homomorphism()
     ensures { RootsGiveHomomorphism }
+{}
+
+/// States that over every field a polynomial of at most n coefficients that is 0 at n different points is 0.
+pub fn many_roots_mean_zero()
+    ensures { ManyRootsMeanZero }
+{}
+
+/// States that over every field Lagrange's formula gives the one polynomial of k coefficients with given values at k points.
+pub fn lagrange_interpolates()
+    ensures { LagrangeInterpolates }
+{}
+
+/// States that two Reed-Solomon codewords that agree at as many places as there are data symbols agree everywhere.
+pub fn codeword_is_unique()
+    ensures { CodewordIsUnique }
+{}
+
+/// States that any symbols, as many as the data have and at any different places, are those of a Reed-Solomon codeword.
+pub fn codeword_exists()
+    ensures { CodewordExists }
 {}

@@ -1,0 +1,3 @@
+pub mod Codewords
+pub mod Interpolation
+pub mod PolynomialRoots
