@@ -1,16 +1,14 @@
 -- Three coefficients of 64 bits, as one number and as text.
-use Rattle.std.proofs.Common.{◌≡◌, ℕ, zero, suc, ◌+◌, ◌*◌, ◌/◌, ◌%◌, ◌^◌, ◌<◌, ◌≤◌, List, [], ◌∷◌, ◌++◌, get_or, map, Some, refl, sym, subst, ◌∙◌, ap, arith, lit<}
-use Rattle.std.specs.Prelude.{bit_or}
+use Rattle.std.proofs.Common.{◌≡◌, ℕ, zero, suc, ◌+◌, ◌*◌, ◌/◌, ◌%◌, ◌^◌, ◌<◌, ◌≤◌, List, [], ◌∷◌, ◌++◌, Some, refl, sym, subst, ◌∙◌, ap, arith, lit<}
 use Rattle.std.specs.Option.{option_map}
 use Rattle.std.specs.Int.{bytes_high_first}
-use Rattle.std.proofs.Math.ListN.{get_or-map}
 use Rattle.std.proofs.Math.Nat.{mod-eq_of_lt, pow-suc, pow-le-pow_right}
-use Rattle.std.proofs.lemmas.Nat.{or_shifted, pow-add}
+use Rattle.std.proofs.lemmas.Nat.{pow-add}
 use Rattle.hex.specs.Hex.{lower_digits, encode_with}
-use Rattle.field_base.specs.Chunks.{chunk, chunks}
+use Rattle.field_base.specs.Chunks.{chunk}
 use Rattle.field_base.specs.Remainder.{aes_modulus, poly64_modulus, ghash_modulus}
 use Rattle.word_cubic.specs.Cubic.{triple}
-use Rattle.word_cubic.proofs.CubicRing.{same₃, chunk_below, chunks-triple, first-triple, second-triple, third-triple, triple-chunks, triple-lt}
+use Rattle.word_cubic.proofs.CubicRing.{same₃, chunk_below, first-triple, second-triple, third-triple, triple-chunks, triple-lt}
 use Rattle.calculator.specs.Digits.{low_digits}
 use Rattle.calculator.specs.Elements.{CoefficientsStandInOrder, ElementIsReadBack}
 use Rattle.calculator.specs.Fields.{WrittenField, bytes_of, lowest_first, tower_level, polynomials_modulo, cubic_extension, field_named}
@@ -27,35 +25,20 @@ lowest_first-triple c0 c1 c2 fits0 fits1 fits2 =
     same₃ (triple 64) (third-triple 64 c0 c1 c2 fits0 fits1 fits2) (second-triple 64 c0 c1 c2 fits0 fits1)
     (first-triple 64 c0 c1 c2 fits0)
 
+-- it has 192 bits
+pub lowest_first-lt : (n : ℕ) → lowest_first n < 2 ^ 192
+lowest_first-lt n =
+    triple-lt 64 (chunk 64 2 n) (chunk 64 1 n) (chunk 64 0 n) (chunk_below 64 2 n) (chunk_below 64 1 n) (chunk_below 64 0 n)
+
 -- the element of the coefficients that a number writes
-pub element-written : (element high low c0 c1 c2 : ℕ) → element < 2 ^ 192 → chunks 64 3 element ≡ c0 ∷ c1 ∷ c2 ∷ []
-    → high < 2 ^ 64 → low < 2 ^ 128 → c0 ≡ high % 2 ^ 64 → c1 ≡ low / 2 ^ 64 % 2 ^ 64 → c2 ≡ low % 2 ^ 64 % 2 ^ 64
-    → element ≡ lowest_first (high * 2 ^ 128 + low)
-unfolding chunks
-element-written element high low c0 c1 c2 fits parts high_fits low_fits first second third =
+pub element-written : (high low : ℕ) → high < 2 ^ 64 → low < 2 ^ 128
+    → triple 64 high (low / 2 ^ 64) (low % 2 ^ 64) ≡ lowest_first (high * 2 ^ 128 + low)
+element-written high low high_fits low_fits =
     let written = high * 2 ^ 128 + low in
-    let place0 : chunk 64 0 element ≡ chunk 64 2 written = ap (λ (l : List ℕ). get_or l 0 0) parts ∙ omega (arith, first) in
-    let place1 : chunk 64 1 element ≡ chunk 64 1 written = ap (λ (l : List ℕ). get_or l 1 0) parts ∙ omega (arith, second) in
-    let place2 : chunk 64 2 element ≡ chunk 64 0 written = ap (λ (l : List ℕ). get_or l 2 0) parts ∙ omega (arith, third) in
-    sym (mod-eq_of_lt fits) ∙ sym (triple-chunks 64 element) ∙ same₃ (triple 64) place0 place1 place2
-
--- a coefficient of the list of all three
-pub coefficient-at : {A : Type 0} (f : A → ℕ) (parts : List A) (c0 c1 c2 i : ℕ) (other : A) → c0 < 2 ^ 64 → c1 < 2 ^ 64 → c2 < 2 ^ 64
-    → map f parts ≡ chunks 64 3 (triple 64 c0 c1 c2) → f (get_or parts i other) ≡ get_or (c0 ∷ c1 ∷ c2 ∷ []) i (f other)
-coefficient-at f parts c0 c1 c2 i other fits0 fits1 fits2 same =
-    sym (get_or-map f parts i other)
-    ∙ ap (λ (l : List ℕ). get_or l i (f other)) (same ∙ chunks-triple 64 c0 c1 c2 fits0 fits1 fits2)
-
--- the number that writes the coefficients of an element
-pub number-written : (high middle low c0 c1 c2 : ℕ) → c0 < 2 ^ 64 → c1 < 2 ^ 64 → c2 < 2 ^ 64 → high ≡ c0 → middle ≡ c1 → low ≡ c2
-    → high * 2 ^ 128 + bit_or (middle * 2 ^ 64 % 2 ^ 128) low ≡ lowest_first (triple 64 c0 c1 c2)
-number-written high middle low c0 c1 c2 fits0 fits1 fits2 first second third =
-    let kept : middle * 2 ^ 64 % 2 ^ 128 ≡ middle * 2 ^ 64 = omega (arith, second) in
-    let joined : bit_or (middle * 2 ^ 64 % 2 ^ 128) low ≡ middle * 2 ^ 64 + low =
-    ap (λ (n : ℕ). bit_or n low) kept ∙ or_shifted middle 64 low (omega (arith, third)) in
-    let whole : high * 2 ^ 128 + bit_or (middle * 2 ^ 64 % 2 ^ 128) low ≡ triple 64 c2 c1 c0 =
-    omega (arith, joined, first, second, third) in
-    whole ∙ sym (lowest_first-triple c0 c1 c2 fits0 fits1 fits2)
+    let place0 : high ≡ chunk 64 2 written = omega (arith, high_fits, low_fits) in
+    let place1 : low / 2 ^ 64 ≡ chunk 64 1 written = omega (arith, low_fits) in
+    let place2 : low % 2 ^ 64 ≡ chunk 64 0 written = omega arith in
+    same₃ (triple 64) place0 place1 place2
 
 -- ---- elements are read back
 
@@ -75,7 +58,7 @@ polynomials-back bits modulus x fits = (fits, refl)
 cubic-back : TurnsBack cubic_extension
 cubic-back x fits =
     let below = λ (i : ℕ). chunk_below 64 i x in (
-      triple-lt 64 (chunk 64 2 x) (chunk 64 1 x) (chunk 64 0 x) (below 2) (below 1) (below 0),
+      lowest_first-lt x,
       lowest_first-triple (chunk 64 2 x) (chunk 64 1 x) (chunk 64 0 x) (below 2) (below 1) (below 0)
           ∙ triple-chunks 64 x ∙ mod-eq_of_lt fits,
     )

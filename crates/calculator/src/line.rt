@@ -2,17 +2,19 @@
 ghost use Rattle.std.specs.Prelude.{◌≡◌};
 ghost use Rattle.std.specs.Str.{is_utf8};
 ghost use Rattle.calculator.specs.Answer.{answer_of, answer_by_field, answer_to_rest};
-ghost use Rattle.calculator.specs.Fields.{field_named, tower_level};
+ghost use Rattle.calculator.specs.Fields.{field_named, polynomials_modulo, tower_level};
 ghost use Rattle.calculator.specs.Words.{words};
 ghost use Rattle.calculator.specs.Text.{answer_bytes, text_of};
 
 use crate::calculation::answer_to_rest;
 use crate::names::Fault;
+use crate::operand::CubicField;
 use crate::text::Answer;
 use crate::words::next_word;
-use field_base::{Gf2, Unsigned};
-use field_element::{Element, Ghash128, Poly64, Poly192, Rijndael8b};
-use word_tower::{Bits2, Bits4, Bits8, Bits16, Bits32, Bits64, Bits128, Level, Tower};
+use field_base::Unsigned;
+use word_cubic::Triple;
+use word_polynomial::{GhashModulus, Modulus, Poly64Modulus, Polynomials, RijndaelModulus};
+use word_tower::{Bits1, Bits2, Bits4, Bits8, Bits16, Bits32, Bits64, Bits128, Level, Tower};
 
 /// The answer to a line: the result of its operation as hexadecimal text, `none` for the inverse of 0, or `error` and
 /// the number of what is wrong with it. It allocates nothing.
@@ -49,7 +51,7 @@ fn in_field_named(name: &[u8], rest: &[u8]) -> Result<Answer, Fault>
     ensures { text_of result ≡ answer_by_field (field_named name.now) (words rest.now) }
 {
     match name {
-        b"gf2" => answer_to_rest::<Gf2>(rest),
+        b"gf2" => in_level::<u8, Bits1>(rest),
         b"t2" => in_level::<u8, Bits2>(rest),
         b"t4" => in_level::<u8, Bits4>(rest),
         b"t8" => in_level::<u8, Bits8>(rest),
@@ -57,10 +59,10 @@ fn in_field_named(name: &[u8], rest: &[u8]) -> Result<Answer, Fault>
         b"t32" => in_level::<u32, Bits32>(rest),
         b"t64" => in_level::<u64, Bits64>(rest),
         b"t128" => in_level::<u128, Bits128>(rest),
-        b"r8" => answer_to_rest::<Rijndael8b>(rest),
-        b"p64" => answer_to_rest::<Poly64>(rest),
-        b"g128" => answer_to_rest::<Ghash128>(rest),
-        b"p192" => answer_to_rest::<Poly192>(rest),
+        b"r8" => modulo::<u8, Bits8, RijndaelModulus>(rest),
+        b"p64" => modulo::<u64, Bits64, Poly64Modulus>(rest),
+        b"g128" => modulo::<u128, Bits128, GhashModulus>(rest),
+        b"p192" => answer_to_rest::<Triple, CubicField>(rest),
         _ => Err(Fault::Field),
     }
 }
@@ -69,5 +71,12 @@ fn in_field_named(name: &[u8], rest: &[u8]) -> Result<Answer, Fault>
 fn in_level<R: Unsigned, L: Level<R>>(rest: &[u8]) -> Result<Answer, Fault>
     ensures { text_of result ≡ answer_to_rest (tower_level L.LEVEL) (words rest.now) }
 {
-    answer_to_rest::<Element<R, Tower<L>>>(rest)
+    answer_to_rest::<R, Tower<L>>(rest)
+}
+
+// The answer to what follows the name of a field of polynomials.
+fn modulo<R: Unsigned, L: Level<R>, M: Modulus<R, L>>(rest: &[u8]) -> Result<Answer, Fault>
+    ensures { text_of result ≡ answer_to_rest (polynomials_modulo M.width M.modulus) (words rest.now) }
+{
+    answer_to_rest::<R, Polynomials<M, L>>(rest)
 }

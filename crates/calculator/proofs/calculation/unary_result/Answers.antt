@@ -13,20 +13,20 @@ by_answer repr (Some y) want none some = some y refl
 
 pub returns-in-Inv : goal.returns-in-Inv
 returns-in-Inv g c =
-    let ring = g.F.Represented in
-    let laws = g.met.F.Field in
-    let answered = c.try_inverse.ensures in
-    let x = ring.repr c.args.operand in
-    rw c.in-Inv.is (by_answer ring.repr c.try_inverse.result _
-    (λ none. inverse-none ring.width ring.product laws.field_law laws.wide_law x ((rw none at answered.none).0 refl))
-    (λ y some. inverse-some ring.width ring.product laws.field_law laws.wide_law x (ring.repr y) (ring.repr y)
-    (ring.range_law c.args.operand) (λ nothing. true≢false ((rw some at answered.none).1 nothing)) (ring.range_law y)
+    let field = g.F.Written in
+    let laws = g.met.F.Written in
+    let answered = c.invert.ensures in
+    let x = field.number c.args.operand in
+    rw c.in-Inv.is (by_answer field.number c.invert.result _
+    (λ none. inverse-none field.width field.product laws.field_law laws.wide_law x ((rw none at answered.none).0 refl))
+    (λ y some. inverse-some field.width field.product laws.field_law laws.wide_law x (field.number y) (field.number y)
+    c.requires (λ nothing. true≢false ((rw some at answered.none).1 nothing)) (rw some at answered.fits)
     (rw some at answered.inverse) refl))
 
 pub returns-in-Sqrt : goal.returns-in-Sqrt
 returns-in-Sqrt g c =
-    let ring = g.F.Represented in
-    let laws = g.met.F.Field in
-    rw c.in-Sqrt.is (by_answer ring.repr c.try_sqrt.result _ (λ none. absurd (rw none at c.try_sqrt.ensures))
-    (λ root some. root-some ring.width ring.product laws.field_law laws.wide_law (ring.repr c.args.operand) (ring.repr root)
-    (ring.repr root) (ring.range_law root) (rw some at c.try_sqrt.ensures) refl))
+    let field = g.F.Written in
+    let laws = g.met.F.Written in
+    let x = field.number c.args.operand in
+    let root = field.number c.sqrt.result in
+    rw c.in-Sqrt.is (root-some field.width field.product laws.field_law laws.wide_law x root root c.sqrt.ensures.fits c.sqrt.ensures.root refl)
