@@ -1,15 +1,16 @@
 -- Streams side by side: what holds in each column of their rows.
-use Rattle.std.proofs.Common.{◌≡◌, ℕ, ◌+◌, ◌*◌, ◌^◌, ◌<◌, ◌≤◌, refl, sym, ◌∙◌, ap, ap₂, arith, inl, inr, List, [], ◌∷◌, ◌++◌, length, map, get_or, replicate, set, ◌⊎◌, slice_index, subst, Option, Some, None}
+use Rattle.std.proofs.Common.{◌≡◌, ℕ, ◌+◌, ◌*◌, ◌^◌, ◌<◌, ◌≤◌, refl, sym, ◌∙◌, ap, ap₂, arith, inl, inr, Bool, false, suc, List, [], ◌∷◌, ◌++◌, length, map, get_or, replicate, set, ◌⊎◌, slice_index, subst, Option, Some, None}
 use Rattle.std.specs.Iterator.{Drains, Yields}
 use Rattle.std.proofs.lemmas.List.{append-nil, get_or-map, get_or-replicate, get_or-set_other, get_or-set_same, length-append, length-map, length-replicate, length-set, map-append}
 use Rattle.std.proofs.lemmas.Bool.{cases_lt}
+use native.Mathlib.Nat.{mul-add, mul-zero}
 use Rattle.field_bytes.specs.declared.parallel.ParallelByteStreams.{ParallelByteStreams}
 use Rattle.field_base.specs.Chunks.{joined}
 use Rattle.field_bytes.specs.Bytes.{number_of_bytes}
-use Rattle.field_bytes.specs.Parallel.{AreJoinedRows, GivesRow, entry_of_row}
-use Rattle.field_bytes.specs.Streams.{IsWithin, bytes_pending, joined_bytes}
+use Rattle.field_bytes.specs.Parallel.{AreJoinedRows, GivesRow, entry_of_row, rows_pending}
+use Rattle.field_bytes.specs.Streams.{GivesFirst, IsWithin, bytes_pending, joined_bytes}
 use Rattle.field_bytes.specs.Words.{IsWordRow}
-use Rattle.field_bytes.proofs.Streaming.{bytes_on, first_bytes, nothing_pending}
+use Rattle.field_bytes.proofs.Streaming.{bytes_on, first_bytes, length-joined, none_taken, nothing_pending, one_taken, source_ends}
 use Rattle.field_bytes.proofs.Taking.{number-more, yields_append, yields_more}
 use Rattle.field_space.proofs.Spaces.{more-lt}
 
@@ -75,54 +76,107 @@ module _ {S E : Type 0} {width : ℕ} (next_gives : S → Option (List E) → S 
   FirstOf row given bytes t =
       (j : ℕ) → j < width → bytes_pending size (entry_of_row repr j) (Some row) given ≡ slice_index bytes j ∷ pending_in j t
 
+  -- one row of bytes fewer is pending
+  abbrev FewerRows : List E → ℕ → ParallelByteStreams S E width → Type 0
+  FewerRows row given t = GivesFirst size (λ r. 0) (Some row) given 0 t.pending t.given
+
   -- where no row is pending, a call takes a row of the source, and gives its first byte in each stream
   pub row_taken : (s t : ParallelByteStreams S E width) (next : S) (row : List E) (bytes : List ℕ) → s.pending ≡ None → IsWithin size s.pending s.given
-      → next_gives s.elements (Some row) next → t.elements ≡ next → FirstOf row s.given bytes t → GivesRow next_gives width size repr s (Some bytes) t
-  row_taken s t next row bytes none within step same left =
-      (row ∷ [], (next, step, sym same), (λ j stream. first_bytes size (entry_of_row repr j) s.pending s.given row _ none within (left j stream)))
+      → s.ended ≡ false → next_gives s.elements (Some row) next → t.elements ≡ next → FirstOf row s.given bytes t → FewerRows row s.given t
+      → t.ended ≡ s.ended → GivesRow next_gives width size repr s (Some bytes) t
+  row_taken s t next row bytes none within goes step same left fewer kept =
+      let all = first_bytes size (λ (r : List E). 0) s.pending s.given row _ none within fewer in
+      let counted = sym (length-append (bytes_pending size (λ (r : List E). 0) s.pending s.given) (joined_bytes size (λ (r : List E). 0) (row ∷ []))) ∙ ap length all in
+      let one = length-joined size (λ (r : List E). 0) (row ∷ []) in (
+        row ∷ [],
+        one_taken next_gives s.ended s.elements next t.elements row goes step same,
+        (λ j stream. first_bytes size (entry_of_row repr j) s.pending s.given row _ none within (left j stream)),
+        ap (λ (n : ℕ). rows_pending size s.pending s.given + n) (sym one) ∙ counted,
+        kept,
+      )
 
   -- where a row is pending, a call gives its next byte in each stream
   pub row_begun : (s t : ParallelByteStreams S E width) (row : List E) (bytes : List ℕ) → s.pending ≡ Some row → t.elements ≡ s.elements
-      → FirstOf row s.given bytes t → GivesRow next_gives width size repr s (Some bytes) t
-  row_begun s t row bytes is same left = (
-    [],
-    sym same,
-    (λ j stream. append-nil (pending_in j s) ∙ ap (λ p. bytes_pending size (entry_of_row repr j) p s.given) is ∙ left j stream),
-  )
+      → FirstOf row s.given bytes t → FewerRows row s.given t → t.ended ≡ s.ended → GivesRow next_gives width size repr s (Some bytes) t
+  row_begun s t row bytes is same left fewer kept =
+      let counted = ap length (ap (λ p. bytes_pending size (λ (r : List E). 0) p s.given) is ∙ fewer) in
+      let none = mul-zero size in (
+        [],
+        none_taken next_gives s.ended s.elements t.elements same,
+        (λ j stream. append-nil (pending_in j s) ∙ ap (λ p. bytes_pending size (entry_of_row repr j) p s.given) is ∙ left j stream),
+        omega (arith, counted, none),
+        kept,
+      )
 
   -- the bytes that some calls gave in each stream, and those then pending, are those pending before and those of the rows taken
   run_gives : (s : ParallelByteStreams S E width) (rows : List (List ℕ)) (t : ParallelByteStreams S E width) → Yields (GivesRow next_gives width size repr) s rows t
       → (taken : List (List E)) × Yields next_gives s.elements taken t.elements
       × ((j : ℕ) → j < width → pending_in j s ++ joined_bytes size (entry_of_row repr j) taken ≡ map (λ row. slice_index row j) rows ++ pending_in j t)
-  run_gives s [] t same = (
-    [],
-    ap (λ (x : ParallelByteStreams S E width). x.elements) same,
-    (λ j stream. append-nil (pending_in j s) ∙ ap (pending_in j) same),
-  )
+      × (rows_pending size s.pending s.given + size * length taken ≡ length rows + rows_pending size t.pending t.given) × (t.ended ≡ s.ended)
+  run_gives s [] t same =
+      let none = mul-zero size in
+      let counted = ap (λ (x : ParallelByteStreams S E width). rows_pending size x.pending x.given) same in (
+        [],
+        ap (λ (x : ParallelByteStreams S E width). x.elements) same,
+        (λ j stream. append-nil (pending_in j s) ∙ ap (pending_in j) same),
+        omega (arith, none, counted),
+        ap (λ (x : ParallelByteStreams S E width). x.ended) (sym same),
+      )
   run_gives s (row ∷ rows) t run =
       let step = run.1 in
-      let others = run_gives run.0 rows t run.2 in (
+      let others = run_gives run.0 rows t run.2 in
+      let both = length-append step.0 others.0 in
+      let product = mul-add size (length step.0) (length others.0) in
+      let more = ap (λ (n : ℕ). size * n) both in
+      let first = step.3 in
+      let later = others.3 in (
         step.0 ++ others.0,
-        yields_append next_gives step.0 others.0 s.elements run.0.elements t.elements step.1 others.1,
+        yields_append next_gives step.0 others.0 s.elements run.0.elements t.elements step.1.1 others.1,
         (λ j stream.
             bytes_on size (entry_of_row repr j) (pending_in j s) (pending_in j run.0) step.0 others.0 (slice_index row j) (map (λ r. slice_index r j) rows) (pending_in j t)
             (step.2 j stream) (others.2 j stream)),
+        omega (arith, more, product, first, later),
+        others.4 ∙ step.4,
       )
 
   -- streams that begin give the bytes of all elements of their source
-  pub rows_given : (s : ParallelByteStreams S E width) (rows : List (List ℕ)) → s.pending ≡ None → Drains (GivesRow next_gives width size repr) s rows
+  pub rows_given : (s : ParallelByteStreams S E width) (rows : List (List ℕ)) → s.pending ≡ None → s.ended ≡ false → Drains (GivesRow next_gives width size repr) s rows
       → (elements : List (List E)) × Drains next_gives s.elements elements × AreJoinedRows width size repr elements rows
-  rows_given s rows begins run =
+  rows_given s rows begins goes run =
       let u = run.0 in
       let t = run.1.0 in
       let end = run.1.2 in
-      let given = run_gives s rows t run.1.1 in (
+      let given = run_gives s rows t run.1.1 in
+      let before = ap length (nothing_pending size (λ (r : List E). 0) s.pending s.given begins) in
+      let after = ap length (nothing_pending size (λ (r : List E). 0) t.pending t.given end.0) in
+      let counted = given.3 in (
         given.0,
-        (u.elements, (t.elements, given.1, end.2)),
+        (u.elements, (t.elements, given.1, source_ends next_gives t.ended t.elements u.elements (given.4 ∙ goes) end.3)),
+        (
+          omega (arith, before, after, counted),
+          (λ j stream.
+              sym (append-nil (map (λ r. slice_index r j) rows))
+              ∙ ap (λ ys. map (λ r. slice_index r j) rows ++ ys) (sym (nothing_pending size (entry_of_row repr j) t.pending t.given end.0))
+              ∙ sym (given.2 j stream)
+              ∙ ap (λ ys. ys ++ joined_bytes size (entry_of_row repr j) given.0) (nothing_pending size (entry_of_row repr j) s.pending s.given begins)),
+        ),
+      )
+
+  -- and where they are cut short, those of the rows taken, but for those then pending
+  pub rows_begun : (s : ParallelByteStreams S E width) (rows : List (List ℕ)) (t : ParallelByteStreams S E width) → s.pending ≡ None
+      → Yields (GivesRow next_gives width size repr) s rows t
+      → (elements : List (List E)) × Yields next_gives s.elements elements t.elements
+      × (length rows + rows_pending size t.pending t.given ≡ size * length elements)
+      × ((j : ℕ) → j < width → map (λ row. slice_index row j) rows ++ pending_in j t ≡ joined_bytes size (entry_of_row repr j) elements)
+  rows_begun s rows t begins run =
+      let given = run_gives s rows t run in
+      let before = ap length (nothing_pending size (λ (r : List E). 0) s.pending s.given begins) in
+      let counted = given.3 in (
+        given.0,
+        given.1,
+        omega (arith, before, counted),
         (λ j stream.
-            sym (append-nil (map (λ r. slice_index r j) rows))
-            ∙ ap (λ ys. map (λ r. slice_index r j) rows ++ ys) (sym (nothing_pending size (entry_of_row repr j) t.pending t.given end.0))
-            ∙ sym (given.2 j stream)
+            sym (given.2 j stream)
             ∙ ap (λ ys. ys ++ joined_bytes size (entry_of_row repr j) given.0) (nothing_pending size (entry_of_row repr j) s.pending s.given begins)),
       )
 

@@ -1,17 +1,17 @@
 -- The bytes that a stream has still to give, after one more.
-use Rattle.std.proofs.Common.{◌≡◌, ℕ, zero, suc, ◌+◌, ◌*◌, ◌%◌, ◌^◌, ◌<◌, ◌≤◌, ◌⊎◌, inl, inr, sym, ◌∙◌, ap, arith, List, [], ◌∷◌, ◌++◌, length, drop, subst, Option, Some, None}
+use Rattle.std.proofs.Common.{◌≡◌, ℕ, zero, suc, ◌+◌, ◌*◌, ◌%◌, ◌^◌, ◌<◌, ◌≤◌, ◌⊎◌, inl, inr, Bool, true, false, refl, sym, ◌∙◌, ap, ap₂, arith, List, [], ◌∷◌, ◌++◌, length, drop, subst, Option, Some, None}
 use Rattle.std.specs.Iterator.{Drains, Yields}
 use Rattle.std.proofs.Math.Nat.{zero-div}
 use Rattle.std.proofs.Math.ListN.{drop_of_length-le}
 use Rattle.std.proofs.lemmas.List.{append-nil, append_assoc, drop-append-le, length-append}
-use Rattle.std.proofs.lemmas.Bool.{cases_lt}
+use Rattle.std.proofs.lemmas.Bool.{cases_lt, true≢false}
 use Rattle.field_base.specs.Chunks.{chunk, chunks}
 use Rattle.field_bytes.specs.Bytes.{low_bytes}
 use Rattle.std.proofs.lemmas.Grind.{flat_map-append}
 use Rattle.field_bytes.specs.declared.streams.ByteStream.{ByteStream}
-use Rattle.field_bytes.specs.Streams.{GivesByte, IsWithin, bytes_pending, joined_bytes}
+use Rattle.field_bytes.specs.Streams.{GivesByte, HasEnded, HasTaken, IsWithin, bytes_pending, joined_bytes}
 use Rattle.std.proofs.lemmas.Nat.{mul-le}
-use native.Mathlib.Nat.{suc-mul}
+use native.Mathlib.Nat.{mul-suc, mul-zero, suc-mul}
 use Rattle.field_bytes.proofs.Taking.{length-chunks, yields_append}
 
 -- what is left of a list from an index on is longer by one than from the next
@@ -106,13 +106,56 @@ module _ {E : Type 0} (size : ℕ) (repr : E → ℕ) where
       ap (λ zs. before ++ zs) (joined-append xs ys) ∙ sym (append_assoc before (joined_bytes size repr xs) (joined_bytes size repr ys))
       ∙ ap (λ zs. zs ++ joined_bytes size repr ys) first ∙ ap (λ zs. b ∷ zs) others
 
+-- the bytes of some elements are so many for each
+pub length-joined : {E : Type 0} (size : ℕ) (repr : E → ℕ) (xs : List E) → length (joined_bytes size repr xs) ≡ size * length xs
+length-joined size repr [] = sym (mul-zero size)
+length-joined size repr (x ∷ xs) =
+    let one = length-chunks 8 size (repr x) in
+    let others = length-joined size repr xs in
+    let whole : size * suc (length xs) ≡ size * length xs + size = mul-suc size (length xs) in
+    let last : size + size * length xs ≡ size * suc (length xs) = omega (arith, whole) in
+    length-append (low_bytes size (repr x)) (joined_bytes size repr xs) ∙ ap₂ (λ (a b : ℕ). a + b) one others ∙ last
+
+-- ---- sources whose end may have been seen
+
+-- a source whose end was not seen, and that is taken to have ended, gives None
+pub source_ends : {S E : Type 0} (next_gives : S → Option E → S → Type 0) (ended : Bool) (s t : S) → ended ≡ false → HasEnded next_gives ended s t
+    → next_gives s None t
+source_ends next_gives ended s t goes (inl past) = absurd (true≢false (sym past.0 ∙ goes))
+source_ends next_gives ended s t goes (inr last) = last.1
+
+-- none is taken where none has to be
+pub none_taken : {S E : Type 0} (next_gives : S → Option E → S → Type 0) (ended : Bool) (s t : S) → t ≡ s → HasTaken next_gives ended s [] t
+none_taken next_gives ended s t same = ((λ over. refl), sym same)
+
+-- one is taken of a source whose end was not seen
+pub one_taken : {S E : Type 0} (next_gives : S → Option E → S → Type 0) (ended : Bool) (s next t : S) (x : E) → ended ≡ false
+    → next_gives s (Some x) next → t ≡ next → HasTaken next_gives ended s (x ∷ []) t
+one_taken next_gives ended s next t x goes step same = ((λ over. absurd (true≢false (sym over ∙ goes))), (next, step, sym same))
+
 module _ {S E : Type 0} (next_gives : S → Option E → S → Type 0) (size : ℕ) (repr : E → ℕ) where
+  -- where an element is pending, a call gives its next byte
+  pub element_begun_before : (s t : ByteStream S E) (x : E) (b : ℕ) → s.pending ≡ Some x → t.elements ≡ s.elements
+      → bytes_pending size repr (Some x) s.given ≡ b ∷ bytes_pending size repr t.pending t.given → t.ended ≡ s.ended
+      → GivesByte next_gives size repr s (Some b) t
+  element_begun_before s t x b is same left kept = (
+    [],
+    none_taken next_gives s.ended s.elements t.elements same,
+    append-nil (bytes_pending size repr s.pending s.given) ∙ ap (λ p. bytes_pending size repr p s.given) is ∙ left,
+    kept,
+  )
+
   -- where no element is pending, a call takes one of the source, and gives its first byte
-  pub element_taken : (s t : ByteStream S E) (next : S) (x : E) (b : ℕ) → s.pending ≡ None → IsWithin size s.pending s.given
+  pub element_taken : (s t : ByteStream S E) (next : S) (x : E) (b : ℕ) → s.pending ≡ None → IsWithin size s.pending s.given → s.ended ≡ false
       → next_gives s.elements (Some x) next → t.elements ≡ next
-      → bytes_pending size repr (Some x) s.given ≡ b ∷ bytes_pending size repr t.pending t.given → GivesByte next_gives size repr s (Some b) t
-  element_taken s t next x b none within step same left =
-      (x ∷ [], (next, step, sym same), first_bytes size repr s.pending s.given x _ none within left)
+      → bytes_pending size repr (Some x) s.given ≡ b ∷ bytes_pending size repr t.pending t.given → t.ended ≡ s.ended
+      → GivesByte next_gives size repr s (Some b) t
+  element_taken s t next x b none within goes step same left kept = (
+    x ∷ [],
+    one_taken next_gives s.ended s.elements next t.elements x goes step same,
+    first_bytes size repr s.pending s.given x _ none within left,
+    kept,
+  )
 
   -- ---- all that a stream gives
 
@@ -120,30 +163,45 @@ module _ {S E : Type 0} (next_gives : S → Option E → S → Type 0) (size : �
   run_gives : (s : ByteStream S E) (bytes : List ℕ) (t : ByteStream S E) → Yields (GivesByte next_gives size repr) s bytes t
       → (taken : List E) × Yields next_gives s.elements taken t.elements
       × (bytes_pending size repr s.pending s.given ++ joined_bytes size repr taken ≡ bytes ++ bytes_pending size repr t.pending t.given)
+      × (t.ended ≡ s.ended)
   run_gives s [] t same = (
     [],
     ap (λ (x : ByteStream S E). x.elements) same,
     append-nil (bytes_pending size repr s.pending s.given) ∙ ap (λ (x : ByteStream S E). bytes_pending size repr x.pending x.given) same,
+    ap (λ (x : ByteStream S E). x.ended) (sym same),
   )
   run_gives s (b ∷ bytes) t run =
       let j = run.0 in
       let step = run.1 in
       let others = run_gives j bytes t run.2 in (
         step.0 ++ others.0,
-        yields_append next_gives step.0 others.0 s.elements j.elements t.elements step.1 others.1,
+        yields_append next_gives step.0 others.0 s.elements j.elements t.elements step.1.1 others.1,
         bytes_on size repr _ _ step.0 others.0 b bytes _ step.2 others.2,
+        others.3 ∙ step.3,
       )
 
   -- a stream that begins gives the bytes of all elements of its source
   pub stream_gives : (s : ByteStream S E) (source : S) (bytes : List ℕ) → s.elements ≡ source → bytes_pending size repr s.pending s.given ≡ []
-      → Drains (GivesByte next_gives size repr) s bytes
+      → s.ended ≡ false → Drains (GivesByte next_gives size repr) s bytes
       → (elements : List E) × Drains next_gives source elements × (bytes ≡ joined_bytes size repr elements)
-  stream_gives s source bytes same begins run =
+  stream_gives s source bytes same begins goes run =
       let u = run.0 in
       let t = run.1.0 in
       let end = run.1.2 in
       let given = run_gives s bytes t run.1.1 in (
         given.0,
-        (u.elements, (t.elements, subst (λ x. Yields next_gives x given.0 t.elements) same given.1, end.2)),
+        (u.elements, (t.elements, subst (λ x. Yields next_gives x given.0 t.elements) same given.1, source_ends next_gives t.ended t.elements u.elements (given.3 ∙ goes) end.3)),
         sym (append-nil bytes) ∙ ap (λ ys. bytes ++ ys) (sym end.0) ∙ sym given.2 ∙ ap (λ ys. ys ++ joined_bytes size repr given.0) begins,
+      )
+
+  -- and where it is cut short, the bytes of the elements taken, but for those then pending
+  pub stream_begins : (s : ByteStream S E) (source : S) (bytes : List ℕ) (t : ByteStream S E) → s.elements ≡ source
+      → bytes_pending size repr s.pending s.given ≡ [] → Yields (GivesByte next_gives size repr) s bytes t
+      → (elements : List E) × Yields next_gives source elements t.elements
+      × (bytes ++ bytes_pending size repr t.pending t.given ≡ joined_bytes size repr elements)
+  stream_begins s source bytes t same begins run =
+      let given = run_gives s bytes t run in (
+        given.0,
+        subst (λ x. Yields next_gives x given.0 t.elements) same given.1,
+        sym given.2 ∙ ap (λ ys. ys ++ joined_bytes size repr given.0) begins,
       )

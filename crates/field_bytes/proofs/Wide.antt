@@ -1,5 +1,5 @@
 -- Eight bytes of an element that a stream gives at once.
-use Rattle.std.proofs.Common.{◌≡◌, ℕ, zero, suc, ◌+◌, ◌*◌, ◌/◌, ◌%◌, ◌^◌, ◌<◌, ◌≤◌, inl, inr, refl, sym, ◌∙◌, ap, arith, List, [], ◌∷◌, ◌++◌, drop, length, subst, Option, Some, None}
+use Rattle.std.proofs.Common.{◌≡◌, ℕ, zero, suc, ◌+◌, ◌*◌, ◌/◌, ◌%◌, ◌^◌, ◌<◌, ◌≤◌, inl, inr, Bool, false, refl, sym, ◌∙◌, ap, arith, List, [], ◌∷◌, ◌++◌, drop, length, subst, Option, Some, None}
 use Rattle.std.proofs.Math.Nat.{div-div-eq-div-mul}
 use Rattle.std.proofs.lemmas.List.{append-nil, length-drop}
 use Rattle.std.proofs.lemmas.Nat.{mul-le, pow-add}
@@ -8,8 +8,8 @@ use Rattle.std.specs.Iterator.{Count, IsFinite, Yields, size as items}
 use Rattle.field_base.specs.Chunks.{chunk, chunks, joined}
 use Rattle.field_bytes.specs.Bytes.{TakesUpTo, low_bytes, number_of_bytes}
 use Rattle.field_bytes.specs.declared.streams.ByteStream.{ByteStream}
-use Rattle.field_bytes.specs.Streams.{GivesByte, IsWithin, byte_count, bytes_pending, joined_bytes}
-use Rattle.field_bytes.proofs.Streaming.{byte_given, first_bytes}
+use Rattle.field_bytes.specs.Streams.{GivesByte, HasTaken, IsWithin, byte_count, bytes_pending, joined_bytes}
+use Rattle.field_bytes.proofs.Streaming.{byte_given, first_bytes, none_taken, one_taken}
 use Rattle.field_bytes.proofs.Taking.{length-chunks, read_again, yields_more}
 
 -- a byte of what is above some bytes
@@ -38,75 +38,79 @@ room_within size g words whole within = omega (arith, words, whole, within)
 module _ {S E : Type 0} (next_gives : S → Option E → S → Type 0) (size : ℕ) (repr : E → ℕ) where
   -- The bytes of x from place g on come next from a stream, whose source is then at e.
   abbrev pub Comes : ByteStream S E → E → ℕ → S → Type 0
-  Comes s x g e = (taken : List E) × Yields next_gives s.elements taken e
+  Comes s x g e = (taken : List E) × HasTaken next_gives s.ended s.elements taken e
       × (bytes_pending size repr s.pending s.given ++ joined_bytes size repr taken ≡ drop g (low_bytes size (repr x)))
 
   -- a pending element comes next
   pub comes_pending : (s : ByteStream S E) (x : E) → s.pending ≡ Some x → Comes s x s.given s.elements
-  comes_pending s x is = ([], refl, append-nil (bytes_pending size repr s.pending s.given) ∙ ap (λ p. bytes_pending size repr p s.given) is)
+  comes_pending s x is = ([], none_taken next_gives s.ended s.elements s.elements refl, append-nil (bytes_pending size repr s.pending s.given) ∙ ap (λ p. bytes_pending size repr p s.given) is)
 
   -- where none is pending, an element of the source comes next
-  pub comes_next : (s : ByteStream S E) (x : E) (e : S) → s.pending ≡ None → IsWithin size s.pending s.given → next_gives s.elements (Some x) e
-      → Comes s x 0 e
-  comes_next s x e none within step =
+  pub comes_next : (s : ByteStream S E) (x : E) (e : S) → s.pending ≡ None → IsWithin size s.pending s.given → s.ended ≡ false
+      → next_gives s.elements (Some x) e → Comes s x 0 e
+  comes_next s x e none within goes step =
       let start : s.given ≡ 0 = subst (λ p. IsWithin size p s.given) none within in
-      subst (λ (g : ℕ). Comes s x g e) start (x ∷ [], (e, step, refl), first_bytes size repr s.pending s.given x _ none within refl)
+      subst (λ (g : ℕ). Comes s x g e) start (x ∷ [], one_taken next_gives s.ended s.elements e e x goes step refl, first_bytes size repr s.pending s.given x _ none within refl)
 
   -- the stream whose next bytes are those of x from place g on
-  abbrev state_at : E → ℕ → S → ByteStream S E
-  state_at x g e = record { elements = e; pending = Some x; given = g }
+  abbrev state_at : E → ℕ → S → Bool → ByteStream S E
+  state_at x g e over = record { elements = e; pending = Some x; given = g; ended = over }
 
   -- the next byte of the element that comes is given by a call
   one_byte : (s t : ByteStream S E) (x : E) (g b : ℕ) (e : S) → Comes s x g e → g < size → b ≡ chunk 8 g (repr x) → t.elements ≡ e
-      → bytes_pending size repr t.pending t.given ≡ drop (g + 1) (low_bytes size (repr x)) → GivesByte next_gives size repr s (Some b) t
-  one_byte s t x g b e comes within is same left = (
+      → bytes_pending size repr t.pending t.given ≡ drop (g + 1) (low_bytes size (repr x)) → t.ended ≡ s.ended
+      → GivesByte next_gives size repr s (Some b) t
+  one_byte s t x g b e comes within is same left kept = (
     comes.0,
-    subst (λ u. Yields next_gives s.elements comes.0 u) (sym same) comes.1,
+    (comes.1.0, subst (λ u. Yields next_gives s.elements comes.0 u) (sym same) comes.1.1),
     comes.2 ∙ byte_given size g (repr x) b within is ∙ ap (λ ys. b ∷ ys) (sym left),
+    kept,
   )
 
   -- the byte at place g + n, which is byte n of what is above g bytes
   byte_at : (s t : ByteStream S E) (x : E) (g n : ℕ) (e : S) → Comes s x (g + n) e → g + n < size → t.elements ≡ e
-      → bytes_pending size repr t.pending t.given ≡ drop (g + suc n) (low_bytes size (repr x))
+      → bytes_pending size repr t.pending t.given ≡ drop (g + suc n) (low_bytes size (repr x)) → t.ended ≡ s.ended
       → GivesByte next_gives size repr s (Some (chunk 8 n (repr x / 2 ^ (8 * g)))) t
-  byte_at s t x g n e comes within same left =
+  byte_at s t x g n e comes within same left kept =
       one_byte s t x (g + n) _ e comes within (chunk-above g n (repr x)) same
-      (left ∙ ap (λ (k : ℕ). drop k (low_bytes size (repr x))) next)
+      (left ∙ ap (λ (k : ℕ). drop k (low_bytes size (repr x))) next) kept
     where
       next : g + suc n ≡ g + n + 1
       next = omega arith
 
   -- n + 1 further bytes of the element that comes are given by as many calls
   some_bytes : (n : ℕ) (s : ByteStream S E) (x : E) (g : ℕ) (e : S) → Comes s x (g + 0) e → g + n < size
-      → Yields (GivesByte next_gives size repr) s (chunks 8 (suc n) (repr x / 2 ^ (8 * g))) (state_at x (g + suc n) e)
+      → Yields (GivesByte next_gives size repr) s (chunks 8 (suc n) (repr x / 2 ^ (8 * g))) (state_at x (g + suc n) e s.ended)
   unfolding chunks
-  some_bytes zero s x g e comes within = (state_at x (g + suc zero) e, byte_at s (state_at x (g + suc zero) e) x g zero e comes within refl refl, refl)
+  some_bytes zero s x g e comes within =
+      (state_at x (g + suc zero) e s.ended, byte_at s (state_at x (g + suc zero) e s.ended) x g zero e comes within refl refl refl, refl)
   some_bytes (suc n) s x g e comes within =
-      yields_more (GivesByte next_gives size repr) s _ (state_at x (g + suc n) e) (state_at x (g + suc (suc n)) e) _
+      yields_more (GivesByte next_gives size repr) s _ (state_at x (g + suc n) e s.ended) (state_at x (g + suc (suc n)) e s.ended) _
       (some_bytes n s x g e comes (omega (arith, within)))
-      (byte_at (state_at x (g + suc n) e) (state_at x (g + suc (suc n)) e) x g (suc n) e (comes_pending (state_at x (g + suc n) e) x refl) within refl refl)
+      (byte_at (state_at x (g + suc n) e s.ended) (state_at x (g + suc (suc n)) e s.ended) x g (suc n) e
+      (comes_pending (state_at x (g + suc n) e s.ended) x refl) within refl refl refl)
 
   -- eight bytes of an element, after which the stream is one that has the others
   pub eight_bytes : (s t : ByteStream S E) (x : E) (g : ℕ) (e : S) → Comes s x g e → g + 8 ≤ size → t.elements ≡ e
-      → bytes_pending size repr t.pending t.given ≡ drop (g + 8) (low_bytes size (repr x))
+      → bytes_pending size repr t.pending t.given ≡ drop (g + 8) (low_bytes size (repr x)) → t.ended ≡ s.ended
       → Yields (GivesByte next_gives size repr) s (low_bytes 8 (repr x / 2 ^ (8 * g))) t
   unfolding chunks
-  eight_bytes s t x g e comes room same left =
-      yields_more (GivesByte next_gives size repr) s (chunks 8 7 (repr x / 2 ^ (8 * g))) (state_at x (g + 7) e) t _
+  eight_bytes s t x g e comes room same left kept =
+      yields_more (GivesByte next_gives size repr) s (chunks 8 7 (repr x / 2 ^ (8 * g))) (state_at x (g + 7) e s.ended) t _
       (some_bytes 6 s x g e (subst (λ (k : ℕ). Comes s x k e) nothing comes) (omega (arith, room)))
-      (byte_at (state_at x (g + 7) e) t x g 7 e (comes_pending (state_at x (g + 7) e) x refl) (omega (arith, room)) same left)
+      (byte_at (state_at x (g + 7) e s.ended) t x g 7 e (comes_pending (state_at x (g + 7) e s.ended) x refl) (omega (arith, room)) same left kept)
     where
       nothing : g ≡ g + 0
       nothing = omega arith
 
   -- a stream gives eight bytes at once, which make the word
   pub word_taken : (s t : ByteStream S E) (x : E) (g : ℕ) (e : S) → Comes s x g e → g + 8 ≤ size → t.elements ≡ e
-      → bytes_pending size repr t.pending t.given ≡ drop (g + 8) (low_bytes size (repr x)) → (n number : ℕ) → n ≡ 8
+      → bytes_pending size repr t.pending t.given ≡ drop (g + 8) (low_bytes size (repr x)) → t.ended ≡ s.ended → (n number : ℕ) → n ≡ 8
       → number ≡ number_of_bytes (low_bytes 8 (repr x / 2 ^ (8 * g)))
       → (bytes : List ℕ) × TakesUpTo (GivesByte next_gives size repr) s n bytes t × (8 ≡ length bytes) × (number ≡ number_of_bytes bytes)
-  word_taken s t x g e comes room same left n number eight is =
+  word_taken s t x g e comes room same left kept n number eight is =
       let long : length (low_bytes 8 (repr x / 2 ^ (8 * g))) ≡ 8 = length-chunks 8 8 (repr x / 2 ^ (8 * g)) in
-      (low_bytes 8 (repr x / 2 ^ (8 * g)), inr (eight_bytes s t x g e comes room same left, long ∙ sym eight), sym long, is)
+      (low_bytes 8 (repr x / 2 ^ (8 * g)), inr (eight_bytes s t x g e comes room same left kept, long ∙ sym eight), sym long, is)
 
   -- a stream whose source ends gives no byte, and the word 0
   pub nothing_taken : (s t : ByteStream S E) (n number : ℕ) → 0 < n → number ≡ 0 → GivesByte next_gives size repr s None t

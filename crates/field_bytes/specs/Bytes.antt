@@ -24,10 +24,6 @@ abbrev pub TakesUpTo : {S A : Type 0} → (S → Option A → S → Type 0) → 
 TakesUpTo next_gives iter n items rest =
     (YieldsThen next_gives iter items None rest × (length items < n)) ⊎ (Yields next_gives iter items rest × (length items ≡ n))
 
--- a call took up to n bytes of an iterator, wherever it left the iterator
-abbrev pub TakesBytes : {S : Type 0} → (S → Option ℕ → S → Type 0) → S → ℕ → List ℕ → Type 0
-TakesBytes {S} next_gives iter n bytes = (rest : S) × TakesUpTo next_gives iter n bytes rest
-
 -- a call took up to n items of an iterator, from `iter` to `rest`; there were `count` of them, and `says` holds of them
 abbrev pub TakesCounted : {S A : Type 0} → (S → Option A → S → Type 0) → ℕ → (List A → Type 0) → S → ℕ → S → Type 0
 TakesCounted {S} {A} next_gives n says iter count rest =
@@ -40,18 +36,24 @@ LeavesFewer n before count after =
 
 -- ---- words and elements of the next n bytes of an iterator
 
--- A call reads a word: its number is that of the next n bytes of an iterator, and it is None where there are fewer.
-pub record ReadsWord {S W : Type 0} (next_gives : S → Option ℕ → S → Type 0) (number : W → ℕ) (n : ℕ) (iter : S) (result : Option W) : Type 0 where
+-- A call reads a word: its number is that of the next n bytes of an iterator, and it is None where there are fewer. It leaves the
+-- iterator at `rest`, where it may be called behind a word.
+pub record ReadsWord {S W : Type 0} (can_next : S → Type 0) (next_gives : S → Option ℕ → S → Type 0) (number : W → ℕ) (n : ℕ)
+    (iter : S) (result : Option W) (rest : S) : Type 0 where
   pub bytes : List ℕ
-  pub taken : TakesBytes next_gives iter n bytes
+  pub taken : TakesUpTo next_gives iter n bytes rest
   pub none_if_short : IsNone result ↔ (length bytes < n)
   pub value : IfSome result (λ w. IsWord number w bytes)
+  pub goes_on : IfSome result (λ w. can_next rest)
 
 -- A call reads an element of `width` bits: its representation is the number of the next n bytes of an iterator, cut to the width,
--- and it is None where there are fewer. The bytes of an element give that element back.
-pub record ReadsElement {S E : Type 0} (next_gives : S → Option ℕ → S → Type 0) (repr : E → ℕ) (width n : ℕ) (iter : S) (result : Option E) : Type 0 where
+-- and it is None where there are fewer. The bytes of an element give that element back. It leaves the iterator at `rest`, where it may
+-- be called behind an element.
+pub record ReadsElement {S E : Type 0} (can_next : S → Type 0) (next_gives : S → Option ℕ → S → Type 0) (repr : E → ℕ) (width n : ℕ)
+    (iter : S) (result : Option E) (rest : S) : Type 0 where
   pub bytes : List ℕ
-  pub taken : TakesBytes next_gives iter n bytes
+  pub taken : TakesUpTo next_gives iter n bytes rest
   pub none_if_short : IsNone result ↔ (length bytes < n)
   pub value : IfSome result (λ y. repr y ≡ number_of_bytes bytes % 2 ^ width)
+  pub goes_on : IfSome result (λ y. can_next rest)
   pub own_bytes_return : IfSome result (λ y. (x : E) → bytes ≡ low_bytes n (repr x) → y ≡ x)

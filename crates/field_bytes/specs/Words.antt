@@ -1,5 +1,5 @@
 -- Bytes, or rows of bytes, as words of n of them, the lowest first, and what streams of words give.
-use Rattle.std.specs.Prelude.{◌≡◌, ℕ, ◌<◌, ◌≤◌, ◌⊎◌, Bool, true, false, List, [], ◌∷◌, ◌++◌, length, map, slice_index, MatchOption}
+use Rattle.std.specs.Prelude.{◌≡◌, ℕ, ◌*◌, ◌<◌, ◌≤◌, ◌⊎◌, Bool, true, false, List, [], ◌∷◌, ◌++◌, length, map, slice_index, MatchOption}
 use Rattle.std.specs.declared.option.Option.{Option}
 use Rattle.std.specs.declared.option.Option.TheVariants.{None}
 use Rattle.std.specs.Iterator.{Count, Drains, IsFinite, Yields, YieldsThen, count_unless}
@@ -8,8 +8,8 @@ use Rattle.field_bytes.specs.declared.parallel_words.ParallelWordStreams.{Parall
 use Rattle.field_bytes.specs.declared.streams.ByteStream.{ByteStream}
 use Rattle.field_bytes.specs.declared.words.WordStream.{WordStream}
 use Rattle.field_bytes.specs.Bytes.{IsWord, number_of_bytes}
-use Rattle.field_bytes.specs.Parallel.{AreJoinedRows, GivesRow, can_give_rows, row_count}
-use Rattle.field_bytes.specs.Streams.{GivesByte, byte_count, can_give, joined_bytes}
+use Rattle.field_bytes.specs.Parallel.{AreBeforeAll, AreJoinedRows, GivesRow, can_give_rows, row_count}
+use Rattle.field_bytes.specs.Streams.{GivesByte, IsBeforeAll, byte_count, can_give, joined_bytes}
 
 -- in each of `width` columns of some rows of bytes, the word has the number of the bytes
 abbrev pub IsWordRow : {W : Type 0} → ℕ → (W → ℕ) → List W → List (List ℕ) → Type 0
@@ -70,8 +70,18 @@ word_count remaining s = count_unless s.ended (remaining s.bytes)
 abbrev pub word_row_count : {S W : Type 0} {width : ℕ} → (S → Count) → ParallelWordStreams W S width → Count
 word_row_count remaining s = count_unless s.ended (remaining s.rows)
 
--- A stream of the words of elements may be called where the source of the elements may, and it ends where that does. What a whole run
--- of it gives are the words of the bytes of all elements.
+-- A run of a stream of words that is cut short, where it stands at t: its words are those of the first items of its source, n for each
+-- word, or of all where the source has ended.
+abbrev pub BeginsWordsBy : {S A W X : Type 0} → (S → Option A → S → Type 0) → ℕ → (W → List A → Type 0) → (X → Bool) → (X → S)
+    → S → List W → X → Type 0
+BeginsWordsBy {A = A} next_gives n is ended source first words t =
+    (items : List A) × AreWordsBy is n items words
+    × (((ended t ≡ false) × Yields next_gives first items (source t) × (length items ≡ n * length words))
+    ⊎ ((ended t ≡ true) × YieldsThen next_gives first items None (source t)))
+
+-- A stream of the words of elements may be called where the source of the elements may, and it ends where that does. It begins as a
+-- stream that has taken nothing. What a whole run of it gives are the words of the bytes of all elements, and what one gives that is
+-- cut short are the words of the first bytes.
 module _ {S E W : Type 0} (can_next : S → Type 0) (next_gives : S → Option E → S → Type 0) (remaining : S → Count) (size : ℕ) (repr : E → ℕ) (n : ℕ)
     (number : W → ℕ) where
   pub record StreamsWords (elements : S) (stream : WordStream W (ByteStream S E)) : Type 0 where
@@ -79,9 +89,13 @@ module _ {S E W : Type 0} (can_next : S → Type 0) (next_gives : S → Option E
     pub ends : IsFinite (remaining elements) → IsFinite (word_count (byte_count remaining size repr) stream)
     pub items : (words : List W) → Drains (GivesWord (GivesByte next_gives size repr) n number) stream words
         → (given : List E) × Drains next_gives elements given × AreWords number n (joined_bytes size repr given) words
+    pub first : (stream.ended ≡ false) × IsBeforeAll elements stream.bytes
+    pub part : (words : List W) (t : WordStream W (ByteStream S E)) → Yields (GivesWord (GivesByte next_gives size repr) n number) stream words t
+        → BeginsWordsBy (GivesByte next_gives size repr) n (IsWord number) (λ s. s.ended) (λ s. s.bytes) stream.bytes words t
 
--- Streams of words side by side may be called where the source of the rows of elements may, and end where that does. What a whole
--- run of them gives are the rows of the words of the bytes of all elements.
+-- Streams of words side by side may be called where the source of the rows of elements may, and end where that does. They begin as
+-- streams that have taken nothing. What a whole run of them gives are the rows of the words of the bytes of all elements, and what one
+-- gives that is cut short are those of the first rows of bytes.
 module _ {S E W : Type 0} (can_next : S → Type 0) (next_gives : S → Option (List E) → S → Type 0) (remaining : S → Count) (width size : ℕ) (repr : E → ℕ)
     (n : ℕ) (number : W → ℕ) where
   pub record StreamsWordRows (elements : S) (streams : ParallelWordStreams W (ParallelByteStreams S E width) width) : Type 0 where
@@ -90,3 +104,7 @@ module _ {S E W : Type 0} (can_next : S → Type 0) (next_gives : S → Option (
     pub items : (words : List (List W)) → Drains (GivesWordRow (GivesRow next_gives width size repr) n number) streams words
         → (given : List (List E)) × (rows : List (List ℕ)) × Drains next_gives elements given × AreJoinedRows width size repr given rows
         × AreWordRows width number n rows words
+    pub first : (streams.ended ≡ false) × AreBeforeAll elements streams.rows
+    pub part : (words : List (List W)) (t : ParallelWordStreams W (ParallelByteStreams S E width) width)
+        → Yields (GivesWordRow (GivesRow next_gives width size repr) n number) streams words t
+        → BeginsWordsBy (GivesRow next_gives width size repr) n (IsWordRow width number) (λ s. s.ended) (λ s. s.rows) streams.rows words t

@@ -3,7 +3,7 @@ ghost use Rattle.std.specs.Prelude.{◌≤◌};
 ghost use Rattle.std.proofs.Common.{lit<, lit≤, subst};
 
 use crate::little_endian::{LittleEndian, read_byte, wide_of};
-use crate::reading::word_from_iter;
+use crate::reading::word_from_iter_by_ref;
 use crate::serializable::{Packable, RawDataSerializable};
 use field_base::traits::TowerLevel;
 use field_base::{FieldKernel, Gf2, Stored};
@@ -42,8 +42,8 @@ impl<R: LittleEndian, K: FieldKernel<R>> RawDataSerializable for Element<R, K> {
         element_of_word(R::from_bytes(bytes))
     }
 
-    fn from_le_byte_iter<I: Iterator<Item = u8>>(iter: I) -> Option<Element<R, K>> {
-        match word_from_iter::<R, I>(iter) {
+    fn from_le_byte_iter_by_ref<I: Iterator<Item = u8>>(iter: &mut I) -> Option<Element<R, K>> {
+        match word_from_iter_by_ref::<R, I>(iter) {
             Some(word) => Some(element_of_word(word)),
             None => None,
         }
@@ -83,8 +83,8 @@ impl RawDataSerializable for Gf2 {
         Gf2::from_repr(u8::from_bytes(bytes))
     }
 
-    fn from_le_byte_iter<I: Iterator<Item = u8>>(iter: I) -> Option<Gf2> {
-        match word_from_iter::<u8, I>(iter) {
+    fn from_le_byte_iter_by_ref<I: Iterator<Item = u8>>(iter: &mut I) -> Option<Gf2> {
+        match word_from_iter_by_ref::<u8, I>(iter) {
             Some(word) => Some(Gf2::from_repr(word)),
             None => None,
         }

@@ -19,7 +19,7 @@ pub use crate::parallel_words::{
     ParallelU32Streams, ParallelU64Streams, ParallelWordStreams, into_parallel_u32_streams,
     into_parallel_u64_streams, into_parallel_word_streams,
 };
-pub use crate::reading::word_from_iter;
+pub use crate::reading::{word_from_iter, word_from_iter_by_ref};
 pub use crate::serializable::{Packable, RawDataSerializable};
 pub use crate::streams::{ByteSource, ByteStream, into_byte_stream};
 pub use crate::words::{

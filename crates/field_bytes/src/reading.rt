@@ -9,9 +9,17 @@ use crate::little_endian::LittleEndian;
 /// further byte is taken, so that the iterator need not end.
 pub fn word_from_iter<R: LittleEndian, I: Iterator<Item = u8>>(mut iter: I) -> Option<R>
     requires { I.can_next iter }
-    ensures { ReadsWord I.next_gives R.number R.SIZE iter result }
+    ensures { (rest : I) × ReadsWord I.can_next I.next_gives R.number R.SIZE iter result rest }
 {
-    let (word, count) = take_word::<R, I>(&mut iter);
+    word_from_iter_by_ref(&mut iter)
+}
+
+/// [`word_from_iter`] at an iterator that the caller keeps: what is left of it is what comes behind the bytes that were taken.
+pub fn word_from_iter_by_ref<R: LittleEndian, I: Iterator<Item = u8>>(iter: &mut I) -> Option<R>
+    requires { I.can_next iter.old }
+    ensures { ReadsWord I.can_next I.next_gives R.number R.SIZE iter.old result iter.new }
+{
+    let (word, count) = take_word::<R, I>(iter);
     if count < R::SIZE { None } else { Some(word) }
 }
 

@@ -38,9 +38,18 @@ pub trait RawDataSerializable: Represented {
 
     /// The element of the next `NUM_BYTES` bytes of an iterator, the lowest first, or None where the iterator ends before. Bits above
     /// the element are dropped. The bytes of an element give it back. No further byte is taken, so that `iter` need not end.
-    fn from_le_byte_iter<I: Iterator<Item = u8>>(iter: I) -> Option<Self>
+    final fn from_le_byte_iter<I: Iterator<Item = u8>>(mut iter: I) -> Option<Self>
         requires { I.can_next iter }
-        ensures { ReadsElement I.next_gives Self.repr Self.width NUM_BYTES iter result };
+        ensures { (rest : I) × ReadsElement I.can_next I.next_gives Self.repr Self.width NUM_BYTES iter result rest }
+    {
+        Self::from_le_byte_iter_by_ref(&mut iter)
+    }
+
+    /// [`from_le_byte_iter`](RawDataSerializable::from_le_byte_iter) at an iterator that the caller keeps: what is left of it is what
+    /// comes behind the bytes that were taken.
+    fn from_le_byte_iter_by_ref<I: Iterator<Item = u8>>(iter: &mut I) -> Option<Self>
+        requires { I.can_next iter.old }
+        ensures { ReadsElement I.can_next I.next_gives Self.repr Self.width NUM_BYTES iter.old result iter.new };
 
     ghost bytes_law: { 0 < NUM_BYTES };
 

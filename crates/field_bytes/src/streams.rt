@@ -1,7 +1,8 @@
 // Streams of the bytes of many elements.
 ghost use Rattle.std.specs.Prelude.{◌≡◌, ◌<◌, ◌≤◌, ◌+◌, ◌*◌, ◌/◌, ◌%◌, ◌^◌, ℕ, Some};
 ghost use Rattle.std.specs.Iterator.{IsFinite};
-ghost use Rattle.field_bytes.specs.Streams.{byte_count, can_give, GivesByte, GivesFirst, IsRestOf, IsWithin, StreamsBytes};
+ghost use Rattle.field_bytes.specs.Streams.{byte_count, can_give, GivesByte, GivesFirst, IsRestOf, IsWithin};
+ghost use Rattle.field_bytes.specs.Streams.{BeginsBytes, IsBeforeAll, StreamsBytes};
 ghost use Rattle.field_bytes.specs.Bytes.{IsWord, LeavesFewer, TakesCounted, low_bytes, number_of_bytes};
 
 use crate::little_endian::LittleEndian;
@@ -26,6 +27,8 @@ pub struct ByteStream<I, E> {
     // The element that was not yet given whole, and how many of its bytes were given.
     pending: Option<E>,
     given: usize,
+    // Whether the iterator has returned None. It is not called again.
+    ended: bool,
 }
 
 /// What a stream keeps after `given` of an element's `size` bytes: the element and `given`, or None and 0 where it gave all.
@@ -48,6 +51,7 @@ impl<I: Drop, E: RawDataSerializable> ByteStream<I, E> {
     fn give(&mut self, element: E) -> u8
         requires { self.old.given < E.NUM_BYTES }
         ensures source { self.new.elements ≡ self.old.elements }
+        ensures ended { self.new.ended ≡ self.old.ended }
         ensures within { IsWithin E.NUM_BYTES self.new.pending self.new.given }
         ensures left { GivesFirst E.NUM_BYTES E.repr (Some element) self.old.given result self.new.pending self.new.given }
     {
@@ -67,6 +71,7 @@ impl<I: Drop, E: RawDataSerializable> ByteStream<I, E> {
         requires whole { given % 8 ≡ 0 }
         requires within { given + 8 ≤ E.NUM_BYTES }
         ensures source { self.new.elements ≡ self.old.elements }
+        ensures ended { self.new.ended ≡ self.old.ended }
         ensures inside { IsWithin E.NUM_BYTES self.new.pending self.new.given }
         ensures word { W.number result ≡ number_of_bytes (low_bytes 8 (E.repr element / 2 ^ (8 * given))) }
         ensures left { IsRestOf E.NUM_BYTES E.repr element (given + 8) self.new.pending self.new.given }
@@ -92,9 +97,13 @@ impl<I: Iterator<Item = E>, E: RawDataSerializable> Iterator for ByteStream<I, E
     fn next(&mut self) -> Option<u8> {
         match self.pending {
             Some(element) => Some(self.give(element)),
+            None if self.ended => None,
             None => match self.elements.next() {
                 Some(element) => Some(self.give(element)),
-                None => None,
+                None => {
+                    self.ended = true;
+                    None
+                }
             },
         }
     }
@@ -111,26 +120,33 @@ impl<I: Iterator<Item = E>, E: RawDataSerializable> ByteSource for ByteStream<I,
         match self.pending {
             Some(element) if self.given % 8 == 0 => (self.give_wide(element, self.given), 8),
             Some(_) => take_word_apart::<W, ByteStream<I, E>>(self),
+            None if self.ended => (W::ZERO, 0),
             None => match self.elements.next() {
                 Some(element) => (self.give_wide(element, 0), 8),
-                None => (W::ZERO, 0),
+                None => {
+                    self.ended = true;
+                    (W::ZERO, 0)
+                }
             },
         }
     }
 }
 
 /// The bytes of the elements of an iterator, one element after the other, each from its lowest byte on. The stream ends where
-/// the iterator does.
+/// the iterator does, and stays ended.
 pub fn into_byte_stream<I: Iterator<Item = E>, E: RawDataSerializable>(
     elements: I,
 ) -> ByteStream<I, E>
     ensures can { I.can_next elements → can_give I.can_next E.NUM_BYTES result }
     ensures ends { IsFinite (I.remaining elements) → IsFinite (byte_count I.remaining E.NUM_BYTES E.repr result) }
+    ensures first { IsBeforeAll elements result }
     ensures items { StreamsBytes I.next_gives E.NUM_BYTES E.repr elements result }
+    ensures part { BeginsBytes I.next_gives E.NUM_BYTES E.repr elements result }
 {
     ByteStream {
         elements,
         pending: None,
         given: 0,
+        ended: false,
     }
 }

@@ -3,7 +3,7 @@ use Rattle.field_bytes.specs.Parallel.{GivesRow}
 use Rattle.field_bytes.specs.Words.{IsWordRow}
 use Rattle.field_bytes.specs.declared.parallel.ParallelByteStreams.{ParallelByteStreams}
 use Rattle.field_bytes.specs.declared.parallel_words.ParallelWordStreams.{ParallelWordStreams}
-use Rattle.field_bytes.proofs.Wording.{words_given}
+use Rattle.field_bytes.proofs.Wording.{words_begun, words_given}
 use Rattle.field_bytes.proofs.parallel_words.into_parallel_word_streams.Goals as goal
 
 pub returns : goal.returns
@@ -17,4 +17,8 @@ returns g c =
           g.W.LittleEndian.SIZE (IsWordRow g.row.N g.W.Stored.number) (λ s. s.ended) (λ s. s.rows) _ words g.met.W.LittleEndian.wide_law refl run in
           let joined = c.into_parallel_byte_streams.ensures.items made.0 made.1 in
           (joined.0, made.0, joined.1, joined.2, made.2);
+      first = (refl, c.into_parallel_byte_streams.ensures.first);
+      part = λ words t run.
+          words_begun {X = ParallelWordStreams g.row.W.Denot (ParallelByteStreams g.row.I.Denot g.row.E.Denot g.row.N) g.row.N} rows_of g.W.LittleEndian.SIZE
+          (IsWordRow g.row.N g.W.Stored.number) (λ s. s.ended) (λ s. s.rows) _ t words refl run;
     }

@@ -4,7 +4,7 @@ use Rattle.field_bytes.specs.Bytes.{IsWord}
 use Rattle.field_bytes.specs.Words.{AreWords}
 use Rattle.field_bytes.specs.declared.streams.ByteStream.{ByteStream}
 use Rattle.field_bytes.specs.declared.words.WordStream.{WordStream}
-use Rattle.field_bytes.proofs.Wording.{words_given}
+use Rattle.field_bytes.proofs.Wording.{words_begun, words_given}
 use Rattle.field_bytes.proofs.words.into_word_stream.Goals as goal
 
 pub returns : goal.returns
@@ -18,4 +18,8 @@ returns g c =
           (λ s. s.ended) (λ s. s.bytes) _ words g.met.W.LittleEndian.wide_law refl run in
           let joined = c.into_byte_stream.ensures.items made.0 made.1 in
           (joined.0, joined.1, subst (λ bytes. AreWords g.W.Stored.number g.W.LittleEndian.SIZE bytes words) joined.2 made.2);
+      first = (refl, c.into_byte_stream.ensures.first);
+      part = λ words t run.
+          words_begun {X = WordStream g.row.W.Denot (ByteStream g.row.I.Denot g.row.E.Denot)} bytes_of g.W.LittleEndian.SIZE (IsWord g.W.Stored.number)
+          (λ s. s.ended) (λ s. s.bytes) _ t words refl run;
     }

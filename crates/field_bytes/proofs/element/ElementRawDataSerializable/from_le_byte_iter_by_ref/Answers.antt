@@ -1,7 +1,7 @@
 use Rattle.std.proofs.Common.{◌∙◌, ap, subst, ℕ, ◌%◌, ◌^◌, ◌≤◌}
 use Rattle.field_element.specs.Element.{same_word}
 use Rattle.field_bytes.proofs.Taking.{same_again}
-use Rattle.field_bytes.proofs.element.ElementRawDataSerializable.from_le_byte_iter.Goals as goal
+use Rattle.field_bytes.proofs.element.ElementRawDataSerializable.from_le_byte_iter_by_ref.Goals as goal
 
 pub returns-in-Some : goal.returns-in-Some
 returns-in-Some g c =
@@ -13,6 +13,7 @@ returns-in-Some g c =
       taken = read.taken;
       none_if_short = read.none_if_short;
       value = value;
+      goes_on = read.goes_on;
       own_bytes_return = λ x same.
           same_word c.element_of_word.result x
           (g.R.Stored.same_law c.element_of_word.result.repr x.repr
