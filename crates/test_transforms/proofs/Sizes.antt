@@ -3,8 +3,8 @@ use Rattle.std.proofs.Common.{◌≡◌, ℕ, ◌+◌, ◌-◌, ◌*◌, ◌%◌
 use Rattle.std.proofs.Math.Nat.{mul-le-mul, pow-le-pow_right}
 use Rattle.transform_whole.specs.Transform.{FitsTransform}
 
-pub few_places : (m count products : ℕ) → 4 ≤ m → m ≤ 10 → count ≡ 1 * 2 ^ m % 18446744073709551616 → products ≤ 1000 → FitsTransform count products
-few_places m count products enough few is little =
+pub few_places : (m count products : ℕ) → m ≤ 10 → count ≡ 1 * 2 ^ m % 18446744073709551616 → products ≤ 1000 → FitsTransform count products
+few_places m count products few is little =
     let two : 0 < 2 = lit< tt in
     let last : m - 1 ≤ 9 = omega arith in
     let half : 2 ^ (m - 1) ≤ 2 ^ 9 = pow-le-pow_right two last in
@@ -13,4 +13,4 @@ few_places m count products enough few is little =
     let most : 2 ^ m ≤ 2 ^ 10 = pow-le-pow_right two few in
     let own : count ≡ 2 ^ m = omega (arith, is, most) in
     let room : products + m * 2 ^ (m - 1) < 2 ^ 64 = omega (arith, pairs, little) in
-    (m, (enough, all, own), room)
+    (m, (all, own), room)

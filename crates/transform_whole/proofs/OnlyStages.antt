@@ -204,6 +204,13 @@ module _ (shifts basis : List ℕ) (z : ℕ) (twiddles : AreCantorTwiddles 128 g
       p inside
       ∙ ap (λ (v : ℕ). v % 2 ^ 128) (left p inside))
 
+  -- so it does where each stage was done by butterflies
+  pub all_leave : (old new : List ℕ) → length old ≡ 2 ^ m → ((p : ℕ) → slice_index new p < 2 ^ 128) → AreLeft shifts basis m 0 old new
+      → HoldPolynomialValues z old new
+  unfolding stages
+  all_leave old new whole fits left =
+      values_of old new whole (λ p inside. sym (mod-eq_of_lt (fits p)) ∙ ap (λ (v : ℕ). v % 2 ^ 128) (left p inside))
+
   -- the inverse transform leaves the one list of coefficients with those values
   pub inverse_leaves : (old new : List ℕ) → length old ≡ 2 ^ m → length new ≡ 2 ^ m → ((p : ℕ) → slice_index old p < 2 ^ 128)
       → ((p : ℕ) → slice_index new p < 2 ^ 128) → AreUndone shifts basis m m old new → AreOnlyCoefficients z old new

@@ -5,7 +5,7 @@ use Rattle.transform_slices.specs.Cantor.{point, polynomial_value}
 
 -- a transform of so many values has m stages
 abbrev pub HasStages : ℕ → ℕ → Type 0
-HasStages m values = (4 ≤ m) × (m ≤ 40) × (values ≡ 2 ^ m)
+HasStages m values = (m ≤ 40) × (values ≡ 2 ^ m)
 
 -- it has some number m of stages, and with its m * 2 ^ (m - 1) pairs the count still fits 64 bits
 abbrev pub FitsTransform : ℕ → ℕ → Type 0

@@ -1,7 +1,7 @@
 //! The whole additive transform over the field of GHASH: the values of a polynomial at the points that Cantor vectors span, and
 //! its coefficients from those values.
 //!
-//! A list of 2^m values, m from 4 to 40, is a polynomial by its coefficients in the basis of the products of the s_j, where
+//! A list of 2^m values, m from 0 to 40, is a polynomial by its coefficients in the basis of the products of the s_j, where
 //! s_0(x) = x and s_(j + 1)(x) = s_j(x)^2 + s_j(x): coefficient k belongs to the product of the s_j over the set bits j of k.
 //! Point p is a shift z, and Cantor vector b for each set bit b of p. `forward` leaves at place p the value at point p, and
 //! `inverse` takes those values back to the coefficients (S. Gao and T. Mateer, Additive fast Fourier transforms over finite

@@ -12,9 +12,10 @@ use std::alloc::{AllocError, Allocator};
 use transform_slices::{LOW_STAGES, LowStageTwiddles};
 
 /// Leaves at each place p the value, at point p, of the polynomial with the coefficients `values` in the basis of the products of
-/// the s_j: point p is `z`, and Cantor vector b for each set bit b of p. The length of `values` has to be 2^m for an m from 4 to 40.
+/// the s_j: point p is `z`, and Cantor vector b for each set bit b of p. The length of `values` has to be 2^m for an m from 0 to 40.
 /// `products` rises by the m * 2^(m - 1) pairs of places that are computed, each with one product, and has to fit 64 bits after it.
-/// Where `alloc` refuses the twiddles, it fails, and leaves `values` and `products` untouched.
+/// Where `alloc` refuses the twiddles, it fails, and leaves `values` and `products` untouched; with fewer than 16 values it takes no
+/// memory, and does not fail.
 pub fn forward<A: Allocator>(
     alloc: A,
     values: &mut [u128],
@@ -26,6 +27,7 @@ pub fn forward<A: Allocator>(
     ensures values { IfOk result (λ _. HoldPolynomialValues z values.old values.new) }
     ensures count { IfOk result (λ _. CountsPairs (length values.old) products.old products.new) }
     ensures refused { IfErr result (λ _. (values.new ≡ values.old) × (products.new ≡ products.old)) }
+    ensures large { IfErr result (λ _. 16 ≤ length values.old) }
 {
     numbers_fit(values);
     let mut kernel = PolyKernel {
@@ -53,8 +55,9 @@ pub fn inverse(values: &mut [u128], z: u128, products: &mut u64)
 }
 
 /// The transform `forward` by any kernel: nothing but the kernel computes on its elements. The length of `values` has to be 2^m
-/// for an m from 4 to 40, and the kernel's count and the m * 2^(m - 1) pairs of places together have to fit 64 bits; the count
-/// rises by those pairs. Where `alloc` refuses the twiddles, it fails, and leaves `values` and the kernel untouched.
+/// for an m from 0 to 40, and the kernel's count and the m * 2^(m - 1) pairs of places together have to fit 64 bits; the count
+/// rises by those pairs. Where `alloc` refuses the twiddles, it fails, and leaves `values` and the kernel untouched; with fewer than
+/// 16 values it takes no memory, and does not fail.
 pub fn forward_with<K: Kernel, A: Allocator>(
     alloc: A,
     kernel: &mut K,
@@ -66,9 +69,14 @@ pub fn forward_with<K: Kernel, A: Allocator>(
     ensures values { IfOk result (λ _. HoldPolynomialValues z (map K.value values.old) (map K.value values.new)) }
     ensures count { IfOk result (λ _. CountsPairs (length values.old) (K.count kernel.old) (K.count kernel.new)) }
     ensures refused { IfErr result (λ _. (values.new ≡ values.old) × (kernel.new ≡ kernel.old)) }
+    ensures large { IfErr result (λ _. 16 ≤ length values.old) }
 {
     let stages = stages_of(values.len());
     let twiddles = Twiddles::new(z);
+    if stages < LOW_STAGES {
+        few_stages(kernel, values, stages, &twiddles, z);
+        return Ok(());
+    }
     let low = LowStageTwiddles::new(alloc, &twiddles.shifts, &twiddles.basis[..stages - 1])?;
     forward_stages(kernel, values, stages, &twiddles, &low, z);
     Ok(())
@@ -94,8 +102,9 @@ fn stages_of(count: usize) -> usize
     requires { (m : ℕ) × HasStages m count }
     ensures stages { HasStages result count }
     ensures only { (m : ℕ) → count ≡ 2 ^ m → m ≡ result }
+    ensures large { 4 ≤ result → 16 ≤ count }
 {
-    for stages in 4..40 {
+    for stages in 0..40 {
         if count == 1 << stages {
             return stages;
         }
@@ -103,7 +112,29 @@ fn stages_of(count: usize) -> usize
     40
 }
 
-// The stages of the forward transform, from the highest down: those from the fourth on by butterflies, and the lowest in runs.
+// The stages of a forward transform that has fewer than four, from the highest down.
+fn few_stages<K: Kernel>(
+    kernel: &mut K,
+    values: &mut [K::Elem],
+    stages: usize,
+    twiddles: &Twiddles,
+    z: u128,
+)
+    requires stages { HasStages stages (length values.old) }
+    requires room { K.count kernel.old + stages * 2 ^ (stages - 1) < 2 ^ 64 }
+    requires twiddles { AreCantorTwiddles 128 ghash_product ghash_cantor_vector z 40 twiddles.now.shifts twiddles.now.basis }
+    requires reach { length twiddles.now.basis ≡ 39 }
+    ensures length { length values.new ≡ length values.old }
+    ensures values { HoldPolynomialValues z (map K.value values.old) (map K.value values.new) }
+    ensures count { K.count kernel.new ≡ K.count kernel.old + stages * 2 ^ (stages - 1) }
+{
+    for stage in (0..stages).rev() {
+        forward_stage(kernel, values, stage, twiddles);
+    }
+}
+
+// The stages of a forward transform that has four or more, from the highest down: those from the fourth on by butterflies, and the
+// lowest in runs.
 fn forward_stages<K: Kernel, A: Allocator>(
     kernel: &mut K,
     values: &mut [K::Elem],
@@ -112,6 +143,7 @@ fn forward_stages<K: Kernel, A: Allocator>(
     low: &LowStageTwiddles<A>,
     z: u128,
 )
+    requires enough { 4 ≤ stages }
     requires stages { HasStages stages (length values.old) }
     requires room { K.count kernel.old + stages * 2 ^ (stages - 1) < 2 ^ 64 }
     requires twiddles { AreCantorTwiddles 128 ghash_product ghash_cantor_vector z 40 twiddles.now.shifts twiddles.now.basis }

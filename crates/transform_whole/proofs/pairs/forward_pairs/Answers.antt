@@ -17,7 +17,8 @@ loop-place-preserved g c =
     pairs_step value (forward_of c.args.s) c.loop-place.place c.args.lo.now c.args.hi.now c.loop-place.lo c.loop-place.hi
     c.forward_pair.new.lo c.forward_pair.new.hi
     (omega arith) (omega (arith, count, count', old, old', low_same, high_same, equal))
-    (forward_read value c.args.s c.loop-place.place c.loop-place.lo c.loop-place.hi c.index-lo-place.result c.index-hi-place.result c.forward_pair.new.lo c.forward_pair.new.hi
+    (forward_read value c.args.s c.loop-place.place c.loop-place.lo c.loop-place.hi c.index-lo-place.result
+    c.index-hi-place.result c.forward_pair.new.lo c.forward_pair.new.hi
     (omega arith) (omega (arith, count, count', old, old', low_same, high_same, equal))
     (c.forward_pair.ensures.low, c.forward_pair.ensures.high))
     c.loop-place.invariant

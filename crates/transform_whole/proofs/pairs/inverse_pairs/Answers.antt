@@ -17,7 +17,8 @@ loop-place-preserved g c =
     pairs_step value (inverse_of c.args.s) c.loop-place.place c.args.lo.now c.args.hi.now c.loop-place.lo c.loop-place.hi
     c.inverse_pair.new.lo c.inverse_pair.new.hi
     (omega arith) (omega (arith, count, count', old, old', low_same, high_same, equal))
-    (inverse_read value c.args.s c.loop-place.place c.loop-place.lo c.loop-place.hi c.index-lo-place.result c.index-hi-place.result c.inverse_pair.new.lo c.inverse_pair.new.hi
+    (inverse_read value c.args.s c.loop-place.place c.loop-place.lo c.loop-place.hi c.index-lo-place.result
+    c.index-hi-place.result c.inverse_pair.new.lo c.inverse_pair.new.hi
     (omega arith) (omega (arith, count, count', old, old', low_same, high_same, equal))
     (c.inverse_pair.ensures.high, c.inverse_pair.ensures.low))
     c.loop-place.invariant

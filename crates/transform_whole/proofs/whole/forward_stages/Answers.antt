@@ -10,14 +10,14 @@ use Rattle.transform_whole.proofs.whole.forward_stages.Goals as goal
 pub forward_stage-requires-clause-whole : goal.forward_stage-requires-clause-whole
 forward_stage-requires-clause-whole g c =
     whole_blocks c.args.stages (c.loop-stage.stage - 1) (length c.loop-stage.values) (omega arith)
-    (c.loop-stage.invariant.0 ∙ c.requires.stages.2)
+    (c.loop-stage.invariant.0 ∙ c.requires.stages.1)
 
 pub forward_stage-requires-clause-room : goal.forward_stage-requires-clause-room
 forward_stage-requires-clause-room g c =
     let m = c.args.stages in
     let above : 0 < m = omega arith in
     let below : m - c.loop-stage.stage < m = omega arith in
-    let half = half_count m (length c.loop-stage.values) above (c.loop-stage.invariant.0 ∙ c.requires.stages.2) in
+    let half = half_count m (length c.loop-stage.values) above (c.loop-stage.invariant.0 ∙ c.requires.stages.1) in
     let room = stage_room (g.K.Kernel.count c.args.kernel.now) (g.K.Kernel.count c.loop-stage.kernel) (m - c.loop-stage.stage) m
     (2 ^ (m - 1)) below c.requires.room c.loop-stage.invariant.3 in
     subst (λ (h : ℕ). g.K.Kernel.count c.loop-stage.kernel + h < 2 ^ 64) (sym half) room
@@ -28,7 +28,7 @@ loop-stage-preserved g c =
     let stage = c.loop-stage.stage in
     let value = g.K.Kernel.value in
     let twiddles = c.args.twiddles.now in
-    let is = c.loop-stage.invariant.0 ∙ c.requires.stages.2 in
+    let is = c.loop-stage.invariant.0 ∙ c.requires.stages.1 in
     let next : suc (stage - 1) ≡ stage = omega arith in
     let below : stage - 1 < m = omega arith in
     let above : 0 < m = omega arith in
@@ -47,16 +47,16 @@ loop-stage-preserved g c =
 
 pub low_forward-requires-clause-whole : goal.low_forward-requires-clause-whole
 low_forward-requires-clause-whole g c =
-    whole_blocks c.args.stages 3 (length c.loop-stage.values) (omega arith) (c.loop-stage.invariant.0 ∙ c.requires.stages.2)
+    whole_blocks c.args.stages 3 (length c.loop-stage.values) (omega arith) (c.loop-stage.invariant.0 ∙ c.requires.stages.1)
 
 pub low_forward-requires-clause-numbered : goal.low_forward-requires-clause-numbered
 low_forward-requires-clause-numbered g c some =
     let m = c.args.stages in
     let above : 3 < m = omega arith in
-    let few : m - 1 ≤ length c.args.twiddles.now.basis = omega (arith, c.requires.reach, c.requires.stages.1) in
+    let few : m - 1 ≤ length c.args.twiddles.now.basis = omega (arith, c.requires.reach, c.requires.stages.0) in
     let elements = ap length c.requires.basis ∙ length-take-le (m - 1) c.args.twiddles.now.basis few in
     let same : length (basis_of c.args.low.now) - 3 ≡ m - 4 = omega (arith, elements) in
-    let runs = block_count m 3 (length c.loop-stage.values) above (c.loop-stage.invariant.0 ∙ c.requires.stages.2)
+    let runs = block_count m 3 (length c.loop-stage.values) above (c.loop-stage.invariant.0 ∙ c.requires.stages.1)
     ∙ ap (λ (n : ℕ). 2 ^ n) (sym same) in
     omega (arith, runs)
 
@@ -65,9 +65,9 @@ low_forward-requires-clause-room g c =
     let m = c.args.stages in
     let above : 0 < m = omega arith in
     let twice = two_halves m above in
-    let is = c.loop-stage.invariant.0 ∙ c.requires.stages.2 in
+    let is = c.loop-stage.invariant.0 ∙ c.requires.stages.1 in
     let last : m - c.loop-stage.stage ≡ m - 4 = omega arith in
-    let room = low_room (g.K.Kernel.count c.args.kernel.now) (g.K.Kernel.count c.loop-stage.kernel) m (2 ^ (m - 1)) c.requires.stages.0
+    let room = low_room (g.K.Kernel.count c.args.kernel.now) (g.K.Kernel.count c.loop-stage.kernel) m (2 ^ (m - 1)) c.requires.enough
     c.requires.room
     (c.loop-stage.invariant.3 ∙ ap (λ (n : ℕ). g.K.Kernel.count c.args.kernel.now + n * 2 ^ (m - 1)) last) in
     omega (arith, room, twice, is)
@@ -77,9 +77,9 @@ returns-clause-values g c =
     let value = g.K.Kernel.value in
     let last : c.loop-stage.stage ≡ 4 = omega arith in
     forward_leaves c.args.twiddles.now.shifts c.args.twiddles.now.basis c.args.z c.requires.twiddles c.requires.reach c.args.stages
-    c.requires.stages.1 c.requires.stages.0 _ _ (map value c.args.values.now) (map value c.loop-stage.values) _ c.requires.shifts
-    c.requires.basis (length-map c.args.values.now value ∙ c.requires.stages.2)
-    (length-map c.loop-stage.values value ∙ c.loop-stage.invariant.0 ∙ c.requires.stages.2)
+    c.requires.stages.0 c.requires.enough _ _ (map value c.args.values.now) (map value c.loop-stage.values) _ c.requires.shifts
+    c.requires.basis (length-map c.args.values.now value ∙ c.requires.stages.1)
+    (length-map c.loop-stage.values value ∙ c.loop-stage.invariant.0 ∙ c.requires.stages.1)
     (subst (λ (n : ℕ). AreLeft c.args.twiddles.now.shifts c.args.twiddles.now.basis c.args.stages n (map value c.args.values.now)
     (map value c.loop-stage.values)) last c.loop-stage.invariant.2)
     c.low_forward.ensures.sums
@@ -89,9 +89,9 @@ returns-clause-count g c =
     let m = c.args.stages in
     let above : 0 < m = omega arith in
     let twice = two_halves m above in
-    let is = c.loop-stage.invariant.0 ∙ c.requires.stages.2 in
+    let is = c.loop-stage.invariant.0 ∙ c.requires.stages.1 in
     let last : m - c.loop-stage.stage ≡ m - 4 = omega arith in
     let four : 2 * length c.loop-stage.values ≡ 4 * 2 ^ (m - 1) = omega (arith, twice, is) in
-    low_counted (g.K.Kernel.count c.args.kernel.now) (g.K.Kernel.count c.loop-stage.kernel) _ m (2 ^ (m - 1)) c.requires.stages.0
+    low_counted (g.K.Kernel.count c.args.kernel.now) (g.K.Kernel.count c.loop-stage.kernel) _ m (2 ^ (m - 1)) c.requires.enough
     (c.loop-stage.invariant.3 ∙ ap (λ (n : ℕ). g.K.Kernel.count c.args.kernel.now + n * 2 ^ (m - 1)) last)
     (c.low_forward.ensures.count ∙ ap (λ (n : ℕ). g.K.Kernel.count c.loop-stage.kernel + n) four)

@@ -11,7 +11,7 @@ loop-stage-init g c = (refl, undone_start _ _ _ _, omega arith)
 pub inverse_stage-requires-clause-whole : goal.inverse_stage-requires-clause-whole
 inverse_stage-requires-clause-whole g c =
     whole_blocks c.stages_of-stages.result c.loop-stage.stage (length c.loop-stage.values) (omega arith)
-    (c.loop-stage.invariant.0 ∙ c.stages_of-stages.ensures.stages.2)
+    (c.loop-stage.invariant.0 ∙ c.stages_of-stages.ensures.stages.1)
 
 pub loop-stage-preserved : goal.loop-stage-preserved
 loop-stage-preserved g c =
@@ -19,7 +19,7 @@ loop-stage-preserved g c =
     let stage = c.loop-stage.stage in
     let value = g.K.Kernel.value in
     let twiddles = c.new-twiddles.result in
-    let is = c.loop-stage.invariant.0 ∙ c.stages_of-stages.ensures.stages.2 in
+    let is = c.loop-stage.invariant.0 ∙ c.stages_of-stages.ensures.stages.1 in
     let below : stage < m = omega arith in
     let above : 0 < m = omega arith in
     let next : suc stage ≡ stage + 1 = omega arith in (
@@ -40,9 +40,9 @@ returns-clause-coefficients g c =
     let twiddles = c.new-twiddles.result in
     let stages = c.stages_of-stages.ensures.stages in
     let last : c.loop-stage.stage ≡ m = omega arith in
-    inverse_leaves twiddles.shifts twiddles.basis c.args.z c.new-twiddles.ensures.twiddles c.new-twiddles.ensures.reach m stages.1
-    (map value c.args.values.now) (map value c.loop-stage.values) (length-map c.args.values.now value ∙ stages.2)
-    (length-map c.loop-stage.values value ∙ c.loop-stage.invariant.0 ∙ stages.2)
+    inverse_leaves twiddles.shifts twiddles.basis c.args.z c.new-twiddles.ensures.twiddles c.new-twiddles.ensures.reach m stages.0
+    (map value c.args.values.now) (map value c.loop-stage.values) (length-map c.args.values.now value ∙ stages.1)
+    (length-map c.loop-stage.values value ∙ c.loop-stage.invariant.0 ∙ stages.1)
     (values_fit value g.K.Kernel.range_law c.args.values.now) (values_fit value g.K.Kernel.range_law c.loop-stage.values)
     (subst (λ (n : ℕ). AreUndone twiddles.shifts twiddles.basis m n (map value c.args.values.now) (map value c.loop-stage.values)) last
     c.loop-stage.invariant.1)

@@ -14,12 +14,27 @@ own m below =
     omega (arith, bound)
 
 -- what is none of the lower powers is the last
-last : (count stages : ℕ) → (m : ℕ) × HasStages m count → ((m : ℕ) → 4 ≤ m → m < stages → count ≢ 2 ^ m) → 40 ≤ stages → count ≡ 2 ^ 40
+last : (count stages : ℕ) → (m : ℕ) × HasStages m count → ((m : ℕ) → m < stages → count ≢ 2 ^ m) → 40 ≤ stages → count ≡ 2 ^ 40
 last count stages (m, has) none all = pick (cases_lt m 40)
   where
     pick : (m < 40) ⊎ (40 ≤ m) → count ≡ 2 ^ 40
-    pick (inl below) = absurd (none m has.0 (omega arith) has.2)
-    pick (inr past) = let same : m ≡ 40 = omega (arith, has.1) in has.2 ∙ ap (λ (n : ℕ). 2 ^ n) same
+    pick (inl below) = absurd (none m (omega arith) has.1)
+    pick (inr past) = let same : m ≡ 40 = omega (arith, has.0) in has.1 ∙ ap (λ (n : ℕ). 2 ^ n) same
+
+-- 2 ^ 4 is 16
+at_least : (m count : ℕ) → count ≡ 2 ^ m → 4 ≤ m → 16 ≤ count
+at_least m count is enough =
+    let two : 0 < 2 = lit< tt in
+    let more : 2 ^ 4 ≤ 2 ^ m = pow-le-pow_right two enough in
+    omega (arith, is, more)
+
+pub returns-then-count-stages-clause-large : goal.returns-then-count-stages-clause-large
+returns-then-count-stages-clause-large c enough =
+    at_least c.loop-stages.stages c.args.count (c.if-count-stages.true ∙ own c.loop-stages.stages (omega arith)) enough
+
+pub returns-clause-large : goal.returns-clause-large
+returns-clause-large c enough =
+    at_least 40 c.args.count (last c.args.count c.loop-stages.stages c.requires c.loop-stages.invariant (omega arith)) enough
 
 pub returns-then-count-stages-clause-only : goal.returns-then-count-stages-clause-only
 returns-then-count-stages-clause-only c m is =
@@ -29,4 +44,4 @@ pub returns-clause-only : goal.returns-clause-only
 returns-clause-only c m is = one_exponent m 40 (sym is ∙ last c.args.count c.loop-stages.stages c.requires c.loop-stages.invariant (omega arith))
 
 pub returns-clause-stages : goal.returns-clause-stages
-returns-clause-stages c = (lit≤ tt, lit≤ tt, last c.args.count c.loop-stages.stages c.requires c.loop-stages.invariant (omega arith))
+returns-clause-stages c = (lit≤ tt, last c.args.count c.loop-stages.stages c.requires c.loop-stages.invariant (omega arith))
