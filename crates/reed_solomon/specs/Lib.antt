@@ -1,1 +1,5 @@
 pub mod ErasureField
+pub mod RoundTrip
+pub mod Samples
+pub mod Shards
+pub mod Sizes

@@ -2,5 +2,13 @@
 #![tactic(auto)]
 
 mod byte_field;
+mod codec;
+mod error;
+mod laws;
+mod rows;
+mod sample;
 
 pub use crate::byte_field::erasure_field;
+pub use crate::codec::ReedSolomon;
+pub use crate::error::ReedSolomonError;
+pub use crate::laws::lost_shards_return;

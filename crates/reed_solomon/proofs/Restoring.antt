@@ -1,0 +1,110 @@
+-- The loop that writes the missing shards, and what they are in the end.
+use Rattle.std.proofs.Common.{◌≡◌, ◌≢◌, ◌⊎◌, inl, inr, ℕ, ◌+◌, ◌*◌, ◌<◌, ◌≤◌, Bool, List, length, get_or, take, refl, sym, ◌∙◌, ap, subst, arith, lit<}
+use Rattle.field_laws.specs.Codewords.{IsCodeword}
+use Rattle.field_laws.specs.Interpolation.{lagrange}
+use Rattle.field_laws.proofs.Codewords.{codeword_exists}
+use Rattle.reed_solomon.specs.ErasureField.{erasure_product}
+use Rattle.reed_solomon.specs.Samples.{IsSample, symbol_at}
+use Rattle.reed_solomon.specs.Shards.{IsPresent, IsAmongFirst, IsReconstructed, present_count, shard_byte}
+use Rattle.reed_solomon.proofs.ByteTables.{erasure_field}
+use Rattle.reed_solomon.proofs.Samples.{below_next, sample_distinct}
+use Rattle.reed_solomon.proofs.Writing.{apart_from, sum_below-same}
+
+-- the symbols that two lists of shards give are the same where the shards at the places are
+pub symbol_at-same : (count size : ℕ) (place : ℕ → ℕ) (old now : List ℕ) (column x : ℕ)
+    → ((j : ℕ) → j < count → shard_byte size now (place j) column ≡ shard_byte size old (place j) column)
+    → symbol_at count size place now column x ≡ symbol_at count size place old column x
+symbol_at-same count size place old now column x same =
+    sum_below-same count (λ j. erasure_product (lagrange 8 erasure_product place count j x) (shard_byte size now (place j) column))
+    (λ j. erasure_product (lagrange 8 erasure_product place count j x) (shard_byte size old (place j) column))
+    (λ j below. ap (erasure_product (lagrange 8 erasure_product place count j x)) (same j below))
+
+-- the missing shards before shard `target` are written, and the others are as they were
+pub record RestoresBefore (total size count : ℕ) (place : ℕ → ℕ) (present : List Bool) (old : List ℕ) (target : ℕ) (now : List ℕ) : Type 0 where
+  pub long : length now ≡ length old
+  pub missing : (i column : ℕ) → i < target → column < size → (IsPresent present i → ⊥)
+      → shard_byte size now i column ≡ symbol_at count size place old column i
+  pub others : (i column : ℕ) → i < total → column < size → (IsPresent present i) ⊎ (target ≤ i)
+      → shard_byte size now i column ≡ shard_byte size old i column
+
+pub nothing_restored : (total size count : ℕ) (place : ℕ → ℕ) (present : List Bool) (old : List ℕ)
+    → RestoresBefore total size count place present old 0 old
+nothing_restored total size count place present old =
+    record { long = refl; missing = λ i column below inside absent. absurd (omega (arith, below)); others = λ i column below inside why. refl }
+
+module _ (total size count : ℕ) (place : ℕ → ℕ) (present : List Bool) (old now : List ℕ) (target : ℕ)
+    (before : RestoresBefore total size count place present old target now) where
+  -- the shard is at hand
+  pub shard_kept : IsPresent present target → RestoresBefore total size count place present old (target + 1) now
+  shard_kept here =
+      record {
+        long = before.long;
+        missing = λ i column below inside absent.
+            below_next (λ n. (IsPresent present n → ⊥) → shard_byte size now n column ≡ symbol_at count size place old column n) target i below
+            (λ was missing. before.missing i column was inside missing) (λ missing. absurd (missing here)) absent;
+        others = λ i column below inside why.
+            before.others i column below inside (elim why [ inl is ↦ inl is | inr past ↦ inr (omega (arith, past)) ]);
+      }
+
+  -- the shard is written
+  pub shard_written : (next : List ℕ) → (IsPresent present target → ⊥) → length next ≡ length now
+      → ((j : ℕ) → j < count → (place j < total) × IsPresent present (place j))
+      → ((column : ℕ) → column < size → shard_byte size next target column ≡ symbol_at count size place now column target)
+      → ((i : ℕ) → (i < target * size) ⊎ (target * size + size ≤ i) → get_or next i 0 ≡ get_or now i 0)
+      → RestoresBefore total size count place present old (target + 1) next
+  shard_written next absent long chosen written others =
+      let elsewhere : (i column : ℕ) → column < size → i ≢ target → shard_byte size next i column ≡ shard_byte size now i column =
+      λ i column inside apart. others (i * size + column) (apart_from size target i column size inside (omega arith) apart) in
+      record {
+        long = long ∙ before.long;
+        missing = λ i column below inside is_missing.
+            below_next (λ n. (IsPresent present n → ⊥) → shard_byte size next n column ≡ symbol_at count size place old column n) target i below
+            (λ was missing. elsewhere i column inside (λ e. absurd (omega (arith, was, e))) ∙ before.missing i column was inside missing)
+            (λ missing. written column inside
+            ∙ symbol_at-same count size place old now column target
+            (λ j j_below. before.others (place j) column (chosen j j_below).0 inside (inl (chosen j j_below).1)))
+            is_missing;
+        others = λ i column below inside why.
+            elim why [
+              | inl is ↦ elsewhere i column inside (λ e. absent (subst (IsPresent present) e is)) ∙ before.others i column below inside (inl is)
+              | inr past ↦ elsewhere i column inside (λ e. absurd (omega (arith, past, e)))
+                  ∙ before.others i column below inside (inr (omega (arith, past)))
+            ];
+      }
+
+-- what the sample gives is a codeword
+pub sample_word : (total size count : ℕ) (present : List Bool) (places shards : List ℕ) (column : ℕ)
+    → total ≤ 256 → IsSample count present total places count → ((i : ℕ) → get_or shards i 0 < 256)
+    → IsCodeword erasure_product count total (symbol_at count size (λ j. get_or places j 0) shards column)
+    × ((j : ℕ) → j < count → symbol_at count size (λ j. get_or places j 0) shards column (get_or places j 0)
+    ≡ shard_byte size shards (get_or places j 0) column)
+sample_word total size count present places shards column fits sample bytes =
+    codeword_exists 8 erasure_product count total (λ j. get_or places j 0) (λ j. shard_byte size shards (get_or places j 0) column)
+    (lit< tt) erasure_field fits (sample_distinct count present total places count total sample (omega arith))
+    (λ j below. bytes (get_or places j 0 * size + column))
+
+-- a shard among the first at hand is one of the sample, so that the codeword has its symbols
+pub sample_agrees : (total size count : ℕ) (present : List Bool) (places shards : List ℕ) (column : ℕ)
+    → total ≤ 256 → (sample : IsSample count present total places count) → ((i : ℕ) → get_or shards i 0 < 256)
+    → (i : ℕ) → i < total → IsAmongFirst count present i
+    → shard_byte size shards i column ≡ symbol_at count size (λ j. get_or places j 0) shards column i
+sample_agrees total size count present places shards column fits sample bytes i within first =
+    let found = sample.covers i within first in
+    subst (λ (x : ℕ). shard_byte size shards x column ≡ symbol_at count size (λ j. get_or places j 0) shards column x) found.1
+    (sym ((sample_word total size count present places shards column fits sample bytes).1 (present_count (take i present)) found.0))
+
+pub all_restored : (total size count until : ℕ) (present : List Bool) (places old now : List ℕ)
+    → total ≤ 256 → IsSample count present total places count → ((i : ℕ) → get_or old i 0 < 256)
+    → RestoresBefore total size count (λ j. get_or places j 0) present old until now
+    → IsReconstructed count total size until present old now
+all_restored total size count until present places old now fits sample bytes done =
+    record {
+      keeps = done.others;
+      restores = λ column inside.
+          record {
+            word = symbol_at count size (λ j. get_or places j 0) old column;
+            is_codeword = (sample_word total size count present places old column fits sample bytes).0;
+            agrees = sample_agrees total size count present places old column fits sample bytes;
+            missing = λ i below absent. done.missing i column below inside absent;
+          };
+    }

@@ -1,0 +1,27 @@
+-- The sample of shards that the missing ones are computed from: the first k that are at hand.
+use Rattle.std.specs.Prelude.{◌≡◌, ℕ, ◌<◌, ◌≤◌, Bool, List, slice_index, take}
+use Rattle.field_laws.specs.Interpolation.{interpolated}
+use Rattle.reed_solomon.specs.ErasureField.{erasure_product}
+use Rattle.reed_solomon.specs.Shards.{IsPresent, IsAmongFirst, present_count, shard_byte}
+
+-- the first `count` entries of `places` are the places before `seen` of the first k shards at hand, or of all where these are
+-- fewer: entry j is the place of a shard before which j others are at hand
+pub record IsSample (k : ℕ) (present : List Bool) (seen : ℕ) (places : List ℕ) (count : ℕ) : Type 0 where
+  pub inside : (j : ℕ) → j < count → slice_index places j < seen
+  pub is_present : (j : ℕ) → j < count → IsPresent present (slice_index places j)
+  pub number : (j : ℕ) → j < count → present_count (take (slice_index places j) present) ≡ j
+  pub covers : (i : ℕ) → i < seen → IsAmongFirst k present i
+      → (present_count (take i present) < count) × (slice_index places (present_count (take i present)) ≡ i)
+  pub at_most : count ≤ k
+  pub counted : count ≤ present_count (take seen present)
+  pub is_all : count < k → count ≡ present_count (take seen present)
+
+-- the symbol of shard x in one column by the shards at `count` places
+abbrev pub symbol_at : ℕ → ℕ → (ℕ → ℕ) → List ℕ → ℕ → ℕ → ℕ
+symbol_at count size place shards column x =
+    interpolated 8 erasure_product place (λ j. shard_byte size shards (place j) column) count x
+
+-- shard x has in each column the symbol that the shards at the places give it
+abbrev pub MatchesShard : ℕ → ℕ → (ℕ → ℕ) → List ℕ → ℕ → Type 0
+MatchesShard count size place shards x =
+    (column : ℕ) → column < size → shard_byte size shards x column ≡ symbol_at count size place shards column x

@@ -1,0 +1,102 @@
+// One shard as the sums of products of others. Shards of one size stand one after the other in a slice.
+ghost use Rattle.std.specs.Prelude.{◌≡◌, ◌≢◌, ◌⊎◌, ◌+◌, ◌*◌, ◌<◌, ◌≤◌, ◌↔◌, ℕ, length, slice_index, take, IsTrue};
+ghost use Rattle.field_base.specs.Basis.{sum_below};
+ghost use Rattle.reed_solomon.specs.ErasureField.{erasure_product};
+ghost use Rattle.reed_solomon.specs.Samples.{IsSample, MatchesShard, symbol_at};
+ghost use Rattle.reed_solomon.specs.Shards.{AreCodewords, IsPresent, IsReconstructed, present_count, shard_byte};
+
+use crate::byte_field::multiply;
+use crate::sample::Sample;
+
+// The sum of the products of the factors and the sample's symbols in one column.
+fn symbol(sample: &Sample, factors: &[u8; 256], shards: &[u8], size: usize, column: usize) -> u8
+    requires inside { (j : ℕ) → j < sample.now.count → slice_index sample.now.places j * size + column < length shards.now }
+    ensures { result ≡ sum_below
+        (λ j. erasure_product (slice_index factors.now j) (shard_byte size shards.now (slice_index sample.now.places j) column)) sample.now.count }
+{
+    let mut sum = 0;
+    for j in 0..sample.count {
+        sum ^= multiply(
+            factors[j],
+            shards[sample.places[j] as usize * size + column],
+        );
+    }
+    sum
+}
+
+// Writes the shard at `target`, which is none of the sample.
+fn write_shard(shards: &mut [u8], size: usize, sample: &Sample, target: usize)
+    requires point { target < 256 }
+    requires inside { (j : ℕ) → j < sample.now.count → slice_index sample.now.places j * size + size ≤ length shards.old }
+    requires room { target * size + size ≤ length shards.old }
+    requires apart { (j : ℕ) → j < sample.now.count → slice_index sample.now.places j ≢ target }
+    ensures long { length shards.new ≡ length shards.old }
+    ensures written { (column : ℕ) → column < size → shard_byte size shards.new target column
+        ≡ symbol_at sample.now.count size (slice_index sample.now.places) shards.old column target }
+    ensures others { (i : ℕ) → (i < target * size) ⊎ (target * size + size ≤ i) → slice_index shards.new i ≡ slice_index shards.old i }
+{
+    let factors = sample.factors(target as u8);
+    for column in 0..size {
+        shards[target * size + column] = symbol(sample, &factors, shards, size, column);
+    }
+}
+
+// Writes the missing shards before shard `until` from the sample.
+pub(crate) fn restore(
+    shards: &mut [u8],
+    size: usize,
+    sample: &Sample,
+    present: &[bool],
+    until: usize,
+)
+    requires fit { length present.now ≤ 256 }
+    requires inside { until ≤ length present.now }
+    requires whole { length shards.old ≡ length present.now * size }
+    requires chosen { IsSample sample.now.count present.now (length present.now) sample.now.places sample.now.count }
+    ensures long { length shards.new ≡ length shards.old }
+    ensures restored { IsReconstructed sample.now.count (length present.now) size until present.now shards.old shards.new }
+{
+    bytes_fit(shards);
+    for target in 0..until {
+        if !present[target] {
+            write_shard(shards, size, sample, target);
+        }
+    }
+}
+
+// Whether the shard at `target` has the symbols that the sample gives it.
+fn matches_shard(shards: &[u8], size: usize, sample: &Sample, target: usize) -> bool
+    requires point { target < 256 }
+    requires inside { (j : ℕ) → j < sample.now.count → slice_index sample.now.places j * size + size ≤ length shards.now }
+    requires room { target * size + size ≤ length shards.now }
+    ensures { IsTrue result ↔ MatchesShard sample.now.count size (slice_index sample.now.places) shards.now target }
+{
+    let factors = sample.factors(target as u8);
+    for column in 0..size {
+        if shards[target * size + column] != symbol(sample, &factors, shards, size, column) {
+            return false;
+        }
+    }
+    true
+}
+
+// Whether all shards have the symbols that the sample gives them, where it has all that are present.
+pub(crate) fn matches(shards: &[u8], size: usize, sample: &Sample, present: &[bool]) -> bool
+    requires fit { length present.now ≤ 256 }
+    requires whole { length shards.now ≡ length present.now * size }
+    requires chosen { IsSample sample.now.count present.now (length present.now) sample.now.places sample.now.count }
+    requires all { (i : ℕ) → IsPresent present.now i → present_count (take i present.now) < sample.now.count }
+    ensures { IsTrue result ↔ AreCodewords sample.now.count (length present.now) size shards.now }
+{
+    for target in 0..present.len() {
+        if !present[target] && !matches_shard(shards, size, sample, target) {
+            return false;
+        }
+    }
+    true
+}
+
+// A byte is below 256: it computes nothing.
+fn bytes_fit(bytes: &[u8])
+    ensures { (i : ℕ) → slice_index bytes.now i < 256 }
+{}
