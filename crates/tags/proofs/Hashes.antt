@@ -1,0 +1,68 @@
+-- The hashes of both standards by the product of the field of GHASH, with the bits of blocks reversed.
+use Rattle.std.proofs.Common.{◌≡◌, ℕ, ◌^◌, ◌<◌, List, [], ◌∷◌, refl, sym, ap, ◌∙◌}
+use Rattle.std.specs.Prelude.{bit_xor, fold, map}
+use Rattle.std.specs.Int.{from_be_bytes, from_le_bytes, reverse_bits, to_be_bytes, to_le_bytes, w128}
+use Rattle.std.proofs.lemmas.Nat.{pow_pos}
+use Rattle.field_base.proofs.RemainderRing.{ghash_ring}
+use Rattle.field_base.proofs.RingLemmas.{times_left_comm}
+use Rattle.tags.specs.Gcm.{gcm_product, ghash}
+use Rattle.tags.specs.Hash.{polynomial_hash}
+use Rattle.tags.specs.Polyval.{dot, polyval}
+use Rattle.tags.specs.Reversed.{ghash_element, ghash_times, polyval_element, polyval_multiplier}
+use Rattle.tags.proofs.Reversal.{reversed, reversed_xor, reversed_twice}
+use Rattle.tags.proofs.GcmProduct.{gcm_product_image, gcm_product-lt, reversed-zero}
+use Rattle.tags.proofs.PolyvalProduct.{dot_image, dot-lt}
+
+-- a product by a key that is one by a multiplier, once the bits are reversed
+module _ (product : ℕ → ℕ → ℕ) (key multiplier : ℕ)
+    (below : (a : ℕ) → product a key < 2 ^ 128)
+    (image : (a : ℕ) → reversed 128 (product a key) ≡ ghash_times (reversed 128 a) multiplier) where
+  -- the hash goes on in the field
+  fold_image : (read : List ℕ → ℕ) (sum : ℕ) (blocks : List (List ℕ))
+      → reversed 128 (fold (λ y x. product (bit_xor y x) key) sum (map read blocks))
+      ≡ fold (λ y x. ghash_times (bit_xor y x) multiplier) (reversed 128 sum) (map (λ b. reversed 128 (read b)) blocks)
+  fold_image read sum [] = refl
+  fold_image read sum (b ∷ bs) =
+      fold_image read (product (bit_xor sum (read b)) key) bs
+      ∙ ap (λ (z : ℕ). fold (λ y x. ghash_times (bit_xor y x) multiplier) z (map (λ b. reversed 128 (read b)) bs))
+      (image (bit_xor sum (read b)) ∙ ap (λ (z : ℕ). ghash_times z multiplier) (reversed_xor 128 sum (read b)))
+
+  -- and stays a block
+  fold-lt : (sum : ℕ) (xs : List ℕ) → sum < 2 ^ 128 → fold (λ y x. product (bit_xor y x) key) sum xs < 2 ^ 128
+  fold-lt sum [] fits = fits
+  fold-lt sum (x ∷ xs) fits = fold-lt (product (bit_xor sum x) key) xs (below (bit_xor sum x))
+
+  pub hash_reversed : (read : List ℕ → ℕ) (blocks : List (List ℕ))
+      → reversed 128 (polynomial_hash ghash_times multiplier (map (λ b. reversed 128 (read b)) blocks))
+      ≡ polynomial_hash product key (map read blocks)
+  hash_reversed read blocks =
+      sym (ap (reversed 128)
+      (fold_image read 0 blocks
+      ∙ ap (λ (z : ℕ). fold (λ y x. ghash_times (bit_xor y x) multiplier) z (map (λ b. reversed 128 (read b)) blocks)) reversed-zero))
+      ∙ reversed_twice 128 (polynomial_hash product key (map read blocks)) (fold-lt 0 (map read blocks) (pow_pos 128))
+
+-- GHASH by the field
+pub ghash_result : (key : List ℕ) (blocks : List (List ℕ)) (h : ℕ)
+    → h ≡ polynomial_hash ghash_times (ghash_element key) (map ghash_element blocks)
+    → to_be_bytes w128 (reverse_bits w128 h) ≡ ghash key blocks
+unfolding ghash
+ghash_result key blocks h is =
+    ap (λ (z : ℕ). to_be_bytes w128 z)
+    (ap (reversed 128) is
+    ∙ hash_reversed gcm_product (from_be_bytes w128 key) (ghash_element key) (λ a. gcm_product-lt a (from_be_bytes w128 key))
+    (λ a. gcm_product_image a (from_be_bytes w128 key)) (from_be_bytes w128) blocks)
+
+-- the product of POLYVAL is one by the multiplier
+pub dot_multiplier : (a k : ℕ) → reversed 128 (dot a k) ≡ ghash_times (reversed 128 a) (ghash_times 2 (reversed 128 k))
+dot_multiplier a k = dot_image a k ∙ times_left_comm 128 1 ghash_times ghash_ring 2 (reversed 128 a) (reversed 128 k)
+
+-- POLYVAL by the field
+pub polyval_result : (key : List ℕ) (blocks : List (List ℕ)) (h : ℕ)
+    → h ≡ polynomial_hash ghash_times (polyval_multiplier key) (map polyval_element blocks)
+    → to_le_bytes w128 (reverse_bits w128 h) ≡ polyval key blocks
+unfolding polyval
+polyval_result key blocks h is =
+    ap (λ (z : ℕ). to_le_bytes w128 z)
+    (ap (reversed 128) is
+    ∙ hash_reversed dot (from_le_bytes w128 key) (polyval_multiplier key) (λ a. dot-lt a (from_le_bytes w128 key))
+    (λ a. dot_multiplier a (from_le_bytes w128 key)) (from_le_bytes w128) blocks)

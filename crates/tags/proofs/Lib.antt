@@ -1,0 +1,11 @@
+pub mod Reversal
+pub mod Steps
+pub mod GcmProduct
+pub mod PolyvalProduct
+pub mod Absorbing
+pub mod Padding
+pub mod Hashes
+pub mod BlockBytes
+pub mod PolyvalRelation
+pub mod Collisions
+pub mod KeyedCollisions

@@ -1,0 +1,7 @@
+pub mod Blocks
+pub mod Hash
+pub mod Gcm
+pub mod Polyval
+pub mod Absorbed
+pub mod Reversed
+pub mod Collisions

@@ -1,0 +1,17 @@
+//! The universal hashes of two authenticated ciphers: GHASH (NIST SP 800-38D) and POLYVAL (RFC 8452).
+//!
+//! A message is hashed by blocks of 16 bytes. A hash takes it in pieces of any length: what it gives depends on the bytes alone,
+//! and not on where they were cut.
+#![tactic(auto)]
+
+mod absorber;
+mod compare;
+mod encoding;
+mod gcm;
+mod gcm_siv;
+mod laws;
+
+pub use crate::compare::tags_are_equal;
+pub use crate::gcm::{Ghash, gcm_ghash};
+pub use crate::gcm_siv::Polyval;
+pub use crate::laws::{few_keys_collide, products_are_reversed};
