@@ -1,7 +1,7 @@
 -- How runs that follow one another join.
 use Rattle.std.proofs.Common.{◌≡◌, ℕ, ◌+◌, ◌-◌, ◌≤◌, ◌<◌, length, length-append, List, [], ◌∷◌, ◌++◌, Option, refl, sym, ap, ◌∙◌, append_assoc, append-nil, take, drop, take-append-drop, arith, inl, inr}
 use Rattle.std.proofs.lemmas.List.{drop-take}
-use Rattle.std.specs.Prelude.{Result, Ok, Err, OnOk, OnErr, IfErr, ⊤}
+use Rattle.std.specs.Prelude.{Result, Ok, Err, OnOk, OnErr, IfErr, IsErrAnd, ⊤}
 use Rattle.std.specs.Io.KnownBytes.{Appends, Consumes, IsAtEnd, Keeps}
 use Rattle.std.proofs.KnownBytes.{Appends-nil, Appends-trans, Consumes-trans, Consumes-kept}
 use Rattle.std.proofs.lemmas.List.Elements.{All-nil, All-cons, All-append}
@@ -10,7 +10,7 @@ use Rattle.std.proofs.lemmas.Result.{on_ok_weaker, on_err_weaker}
 use Rattle.calculator.specs.Answer.{answer_of}
 use Rattle.calculator.specs.Lines.{with_feed, unlines, IsLine, finished, answers_to, answers}
 use Rattle.calculator.proofs.LineLemmas.{answers-unlines, finished-unlines}
-use Rattle.calculator.specs.Progress.{Takes, GainsFront, AnswersLines, AnswersAll, AnswersFront, GaveSome}
+use Rattle.calculator.specs.Progress.{Takes, GainsFront, AnswersLines, AnswersAll, AnswersFront, AnswersWhole, LeavesLines, GaveSome}
 
 -- a part of a list, from either end first
 pub take-drop : (i j : ℕ) (xs : List ℕ) → i ≤ j → take (j - i) (drop i xs) ≡ drop i (take j xs)
@@ -142,6 +142,17 @@ pub AnswersLines-next : {a b c : Option (List ℕ)} {waiting left last bytes lin
     → AnswersLines a c waiting last (bytes ++ chunk) rest
 AnswersLines-next chunk fed next = AnswersLines-trans (AnswersLines-more chunk fed) next
 
+-- the writer takes what was left as well
+pub LeavesLines-told : {a b : Option (List ℕ)} {waiting left bytes : List ℕ} {most : ℕ} (c : Option (List ℕ))
+    → LeavesLines a b waiting left bytes most → Appends b c left → LeavesLines a c waiting [] bytes most
+LeavesLines-told {a} {b} {waiting} {left} c leaves appended = record {
+  line = leaves.line;
+  is_line = leaves.is_line;
+  tail = leaves.tail;
+  few = leaves.few;
+  answered = AnswersLines-front_left leaves.answered (Takes-whole b c left appended);
+}
+
 -- one line that ends
 pub AnswersLines-line : {a b : Option (List ℕ)} {waiting left : List ℕ} (line rest : List ℕ) → IsLine line
     → Takes a b (waiting ++ (answer_of line ++ 10 ∷ [])) left → AnswersLines a b waiting left (line ++ 10 ∷ rest) rest
@@ -226,6 +237,21 @@ module _ (r0 r1 : Option (List ℕ)) {w0 w1 : Option (List ℕ)} (read line left
     front = inl (AnswersLines-front (AnswersLines-next chunk answered fed));
   }
 
+  -- of the next chunk only a line's beginning and at most so many bytes are not answered
+  pub AnswersWhole-next : (r2 : Option (List ℕ)) {w2 : Option (List ℕ)} (chunk : List ℕ) (most : ℕ) → Consumes r1 r2 chunk → length chunk ≤ most
+      → LeavesLines w1 w2 left [] (line ++ chunk) (length chunk) → AnswersWhole r0 r2 w0 w2 most
+  AnswersWhole-next r2 chunk most more few leaves = record {
+    read = read ++ chunk;
+    consumed = Consumes-trans r0 r1 r2 read chunk consumed more;
+    leaves = record {
+      line = leaves.line;
+      is_line = leaves.is_line;
+      tail = leaves.tail;
+      few = omega (arith, leaves.few, few);
+      answered = AnswersLines-next chunk answered leaves.answered;
+    };
+  }
+
   -- a chunk with a byte makes what was read have one
   pub GaveSome-next : (r2 : Option (List ℕ)) (chunk : List ℕ) → Consumes r1 r2 chunk → 0 < length chunk → GaveSome r0 r2
   GaveSome-next r2 chunk more some =
@@ -250,3 +276,9 @@ OnErr-from P (Err _) p = p
 pub IfErr-from : {T E : Type 0} (Is : E → Type 0) (P : Type 0) (r : Result T E) → P → IfErr r (λ e. Is e → P)
 IfErr-from Is P (Ok _) p = tt
 IfErr-from Is P (Err e) p = λ is. p
+
+-- or of one error, which is the one that another call gave
+pub IfErr-given : {T E : Type 0} {P : Type 0} (asked given : E) (r : Result T E) → IsErrAnd r (λ e. e ≡ given)
+    → (given ≡ asked → P) → IfErr r (λ e. e ≡ asked → P)
+IfErr-given asked given (Ok _) same fact = absurd same
+IfErr-given asked given (Err e) same fact = λ is. fact (sym same ∙ is)

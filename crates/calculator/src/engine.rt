@@ -1,10 +1,10 @@
 //! Reading lines and writing their answers.
-ghost use Rattle.std.specs.Prelude.{◌≡◌, ℕ, false, List, [], ◌∷◌, ◌++◌, OnOk, OnErr, IfErr};
+ghost use Rattle.std.specs.Prelude.{◌≡◌, ℕ, false, List, [], ◌∷◌, ◌++◌, length, OnOk, OnErr, IfErr};
 ghost use Rattle.calculator.specs.Answer.{answer_of};
 ghost use Rattle.std.specs.Io.KnownBytes.{Appends};
 ghost use Rattle.calculator.specs.Lines.{lines, answers, finished, IsLine, AreLinesOf, IsFinished};
 ghost use Rattle.calculator.specs.Outbox.{waiting};
-ghost use Rattle.calculator.specs.Progress.{Takes, AnswersLines, AnswersAll, AnswersFront, GainsFront, GaveSome};
+ghost use Rattle.calculator.specs.Progress.{Takes, AnswersLines, AnswersAll, AnswersFront, AnswersWhole, LeavesLines, GainsFront, GaveSome};
 ghost use Rattle.calculator.specs.RunError.{FailedEnds, FailedWriter};
 ghost use Rattle.calculator.specs.Watched.{watched_inner, has_failed};
 ghost use Rattle.calculator.specs.declared.error.RunError.TheVariants.{Memory};
@@ -27,7 +27,9 @@ const CHUNK: usize = 8192;
 /// It returns `Read` or `Write` only if that end has failed, and `Memory` only if an allocation
 /// failed after at least one byte was read. No failed call is repeated. After a failure, what was
 /// written is a beginning of the answers to the lines that were read; a line counts as read once
-/// its line feed or the end of the input was.
+/// its line feed or the end of the input was. Before it returns `Memory`, it writes every answer
+/// that waits: no line is left unanswered but the one that did not fit and those that ended in the
+/// same read.
 pub fn run<A: Allocator, R: Read, W: Write>(
     alloc: A,
     reader: &mut Watched<R>,
@@ -44,6 +46,9 @@ pub fn run<A: Allocator, R: Read, W: Write>(
     ensures failed { FailedEnds result (has_failed reader.new) (has_failed writer.new) }
     ensures memory { IfErr result (λ fault. fault ≡ Memory → GaveSome
         (R.remaining (watched_inner reader.old)) (R.remaining (watched_inner reader.new))) }
+    ensures told { IfErr result (λ fault. fault ≡ Memory → AnswersWhole
+        (R.remaining (watched_inner reader.old)) (R.remaining (watched_inner reader.new))
+        (W.contents (watched_inner writer.old)) (W.contents (watched_inner writer.new)) 8192) }
 {
     let mut chunk = [0; CHUNK];
     let mut line = Vec::new(alloc);
@@ -51,7 +56,7 @@ pub fn run<A: Allocator, R: Read, W: Write>(
     'reads: loop {
         match reader.read(&mut chunk) {
             Ok(0) => return finish(line.as_slice(), &mut outbox, writer),
-            Ok(count) => answer_lines(&chunk[..count], &mut line, &mut outbox, writer)?,
+            Ok(count) => answer_chunk(&chunk[..count], &mut line, &mut outbox, writer)?,
             Err(_) => return Err(RunError::Read),
         }
     }
@@ -65,6 +70,36 @@ pub fn lines_law()
     ensures lines { (bytes : List ℕ) → AreLinesOf (lines bytes) bytes }
     ensures finished { (bytes : List ℕ) → IsFinished (finished bytes) bytes }
 {}
+
+// Does what `answer_lines` does, and writes all that waits before it returns `Memory`.
+fn answer_chunk<A: Allocator, W: Write>(
+    chunk: &[u8],
+    line: &mut Vec<u8, A>,
+    outbox: &mut Outbox,
+    writer: &mut Watched<W>,
+) -> Result<(), RunError>
+    requires line { IsLine line.old.items }
+    requires writer { has_failed writer.old ≡ false }
+    ensures ok { OnOk result (AnswersLines (W.contents (watched_inner writer.old))
+        (W.contents (watched_inner writer.new)) (waiting outbox.old) (waiting outbox.new)
+        (line.old.items ++ chunk.now) line.new.items) }
+    ensures line { OnOk result (IsLine line.new.items) }
+    ensures err { OnErr result ((left rest : List ℕ) × AnswersLines
+        (W.contents (watched_inner writer.old)) (W.contents (watched_inner writer.new))
+        (waiting outbox.old) left (line.old.items ++ chunk.now) rest) }
+    ensures failed { FailedEnds result false (has_failed writer.new) }
+    ensures memory { IfErr result (λ fault. fault ≡ Memory → LeavesLines
+        (W.contents (watched_inner writer.old)) (W.contents (watched_inner writer.new))
+        (waiting outbox.old) [] (line.old.items ++ chunk.now) (length chunk.now)) }
+{
+    match answer_lines(chunk, line, outbox, writer) {
+        Err(RunError::Memory) => {
+            write_out(outbox, writer)?;
+            Err(RunError::Memory)
+        }
+        done => done,
+    }
+}
 
 // Answers the lines that end in `chunk`. `line` has the bytes of the line that has not ended.
 fn answer_lines<A: Allocator, W: Write>(
@@ -83,6 +118,9 @@ fn answer_lines<A: Allocator, W: Write>(
         (W.contents (watched_inner writer.old)) (W.contents (watched_inner writer.new))
         (waiting outbox.old) left (line.old.items ++ chunk.now) rest) }
     ensures failed { FailedEnds result false (has_failed writer.new) }
+    ensures memory { IfErr result (λ fault. fault ≡ Memory → LeavesLines
+        (W.contents (watched_inner writer.old)) (W.contents (watched_inner writer.new))
+        (waiting outbox.old) (waiting outbox.new) (line.old.items ++ chunk.now) (length chunk.now)) }
 {
     let mut start = 0;
     'lines: while let Some(len) = memchr(b'\n', &chunk[start..]) {
@@ -111,6 +149,9 @@ fn end_line<A: Allocator, W: Write>(
     ensures err { OnErr result (GainsFront (W.contents (watched_inner writer.old))
         (W.contents (watched_inner writer.new)) (waiting outbox.old)) }
     ensures failed { FailedEnds result false (has_failed writer.new) }
+    ensures memory { IfErr result (λ fault. fault ≡ Memory →
+        (W.contents (watched_inner writer.new) ≡ W.contents (watched_inner writer.old))
+        × (waiting outbox.new ≡ waiting outbox.old)) }
 {
     if line.is_empty() {
         return answer_line(tail, outbox, writer);
@@ -177,6 +218,18 @@ fn finish<W: Write>(
     ensures failed { FailedWriter result (has_failed writer.new) }
 {
     answer_last(line, outbox, writer)?;
+    write_out(outbox, writer)
+}
+
+// Writes all that waits, and flushes the writer.
+fn write_out<W: Write>(outbox: &mut Outbox, writer: &mut Watched<W>) -> Result<(), RunError>
+    requires { has_failed writer.old ≡ false }
+    ensures ok { OnOk result (Appends (W.contents (watched_inner writer.old))
+        (W.contents (watched_inner writer.new)) (waiting outbox.old)) }
+    ensures err { OnErr result (GainsFront (W.contents (watched_inner writer.old))
+        (W.contents (watched_inner writer.new)) (waiting outbox.old)) }
+    ensures failed { FailedWriter result (has_failed writer.new) }
+{
     outbox.write_to(writer)?;
     match writer.flush() {
         Ok(()) => Ok(()),
