@@ -14,12 +14,10 @@ mod left;
 
 use crate::element::{Element, HasPacking};
 use crate::names::{BinaryField128, Ghash128, PackedGhash128};
+use field_base::Stored;
 use field_base::traits::Algebra;
-use field_base::{FieldKernel, Stored};
-use packed_lanes::{Laned, WiderField};
+use packed_lanes::WiderField;
 use std::ops::{Add, AddAssign, Mul, MulAssign, Sub, SubAssign};
-
-impl<R: Stored, K: FieldKernel<R>> Laned for Element<R, K> {}
 
 impl<R: Stored, K: HasPacking<R>> WiderField for Element<R, K> {}
 

@@ -6,7 +6,7 @@ ghost use Rattle.field_base.specs.Powers.{value_of};
 ghost use Rattle.field_base.specs.Remainder.{ghash_modulus, mul_mod};
 
 use crate::element::Element;
-use crate::names::{Ghash128, Poly64};
+use crate::names::{Ghash128, Poly64, Rijndael8b};
 use field_base::traits::TowerLevel;
 use field_base::{FieldKernel, Unsigned};
 use std::alloc::{AllocError, Allocator};
@@ -39,6 +39,24 @@ impl<R: Unsigned, L: Level<R>, M: Modulus<R, L>> Element<R, Polynomials<M, L>> {
             images.push(Element::of_word(M::to_polynomial(element.word())))?;
         }
         Ok(images)
+    }
+}
+
+impl Rijndael8b {
+    ghost use Rattle.field_element.specs.Element.{repr_of};
+
+    /// The element of the coefficients `bits`: bit i is the coefficient of x^i.
+    pub fn new(bits: u8) -> Rijndael8b
+        ensures { repr_of result ≡ bits }
+    {
+        Rijndael8b::from_repr(bits)
+    }
+
+    /// The coefficients: bit i is that of x^i.
+    pub fn to_bits(self) -> u8
+        ensures { result ≡ repr_of self }
+    {
+        self.to_repr()
     }
 }
 

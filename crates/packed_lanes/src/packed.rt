@@ -1,7 +1,8 @@
 // Packings of N lanes of any field.
-ghost use Rattle.std.specs.Prelude.{◌≡◌, ◌≢◌, ◌<◌, ◌*◌, ◌^◌, ℕ, List, bit_xor, length, map, replicate, refl, ⊤};
+ghost use Rattle.std.specs.Prelude.{◌≡◌, ◌≢◌, ◌<◌, ◌*◌, ◌^◌, ℕ, List, bit_xor, if◌then◌else◌, length, map, replicate, refl, ⊤};
 ghost use Rattle.std.proofs.Common.{sym, ◌∙◌, ap};
 ghost use Rattle.std.proofs.lemmas.List.{length-replicate};
+ghost use Rattle.field_base.specs.Bit.{bit_number};
 ghost use Rattle.field_base.specs.Chunks.{joined};
 ghost use Rattle.packed_lanes.specs.Lanes.{lane_by_lane, lane_product};
 ghost use Rattle.packed_lanes.specs.LaneListLemmas.{every_below, lanes_below};
@@ -22,8 +23,20 @@ use field_base::traits::{Field, Represented};
 use std::alloc::AllocError;
 use std::ops::{Add, Mul};
 
-/// A ring whose packings are this crate's, with the work on many lanes at once, which a ring may write in a faster way of its own.
+/// A ring with more elements than GF(2), whose packings are this crate's: what the operators of a packing take of its lanes. It is
+/// small, since a call of generic code at a packing has the proof of each bound of each operator to carry. The work on many lanes
+/// at once is one function, which a ring may write in a faster way of its own.
 pub trait Laned: Represented {
+    /// The element 0.
+    const ZERO_LANE: Self;
+
+    ghost ZERO_LANE: { Self };
+
+    /// The element 1.
+    const ONE_LANE: Self;
+
+    ghost ONE_LANE: { Self };
+
     /// Multiplies the elements of `left` by those of `right`, place by place. The slices are of one length.
     #[inline]
     fn multiply_lanes(left: &mut [Self], right: &[Self])
@@ -32,6 +45,10 @@ pub trait Laned: Represented {
     {
         zip_lanes(left, right, product::<Self>);
     }
+
+    ghost zero_lane_law: { Self.repr ZERO_LANE ≡ 0 };
+
+    ghost one_lane_law: { Self.repr ONE_LANE ≡ Self.unit };
 }
 
 /// A field with more elements than GF(2), whose packings are this crate's: bits are packed in words.
@@ -66,7 +83,7 @@ impl<F: Copy, const N: usize> Packed<F, N> {
     }
 }
 
-impl<F: WiderField, const N: usize> From<F> for Packed<F, N> {
+impl<F: Copy, const N: usize> From<F> for Packed<F, N> {
     ghost from_gives = { λ x r. r.lanes ≡ replicate N x };
 
     #[inline]
@@ -75,15 +92,31 @@ impl<F: WiderField, const N: usize> From<F> for Packed<F, N> {
     }
 }
 
-impl<F: WiderField, const N: usize> From<Gf2> for Packed<F, N> {
+impl<F: Laned, const N: usize> From<Gf2> for Packed<F, N> {
     ghost use Rattle.field_base.specs.Bit.{bit_number as bit_of};
 
     ghost from_gives = { λ x r. map F.repr r.lanes ≡ replicate N (bit_of x * F.unit) };
 
     #[inline]
     fn from(bit: Gf2) -> Packed<F, N> {
-        Packed::broadcast(F::from_prime_subfield(bit))
+        Packed::broadcast(lane_of_bit(bit))
     }
+}
+
+// The lane 0 or 1 for the bit 0 or 1.
+#[inline]
+fn lane_of_bit<F: Laned>(bit: Gf2) -> F
+    ensures { F.repr result ≡ bit_number bit * F.unit }
+{
+    chosen_lane(bit.is_one())
+}
+
+// The lane 1 for true, and 0 for false.
+#[inline]
+fn chosen_lane<F: Laned>(is_one: bool) -> F
+    ensures { F.repr result ≡ (if is_one then F.unit else 0) }
+{
+    if is_one { F::ONE_LANE } else { F::ZERO_LANE }
 }
 
 impl<F: Laned, const N: usize> Add<Packed<F, N>> for Packed<F, N> {

@@ -9,6 +9,7 @@ ghost use Rattle.field_element.specs.RangeLemmas.{number_of_stored, one_in_range
 use crate::element::{Element, HasPacking, value};
 use field_base::traits::{Field, PrimeCharacteristicRing, Represented, Sealed, TowerLevel};
 use field_base::{FieldKernel, Gf2, LevelKernel, Stored, Unsigned};
+use packed_lanes::Laned;
 use std::marker::PhantomData;
 
 // The word of an element, squared `count` times.
@@ -134,6 +135,26 @@ impl<R: Stored, K: FieldKernel<R>> PrimeCharacteristicRing for Element<R, K> {
     ghost totals_law = { λ xs. (given, given) };
 
     ghost complete_law = { λ r. (tt, tt) };
+}
+
+impl<R: Stored, K: FieldKernel<R>> Laned for Element<R, K> {
+    const ZERO_LANE: Element<R, K> = Element {
+        repr: R::ZERO,
+        field: PhantomData,
+    };
+
+    ghost ZERO_LANE = { record { repr = R.ZERO; field = record {}; in_range = zero_in_range K.width _ R.zero_number K.wide_law } };
+
+    const ONE_LANE: Element<R, K> = Element {
+        repr: R::ONE,
+        field: PhantomData,
+    };
+
+    ghost ONE_LANE = { record { repr = R.ONE; field = record {}; in_range = one_in_range K.width _ R.one_number K.wide_law } };
+
+    ghost zero_lane_law = { R.zero_number };
+
+    ghost one_lane_law = { R.one_number };
 }
 
 impl<R: Stored, K: HasPacking<R>> Field for Element<R, K> {

@@ -1,10 +1,10 @@
 // The lanes of packings: which lane is which.
 ghost use Rattle.std.specs.Prelude.{refl};
 
-use crate::packed::{Packed, WiderField};
+use crate::packed::{Laned, Packed, WiderField};
 use crate::{PackedField, PackedValue};
 
-impl<F: WiderField, const N: usize> PackedValue for Packed<F, N> {
+impl<F: Laned, const N: usize> PackedValue for Packed<F, N> {
     ghost use Rattle.packed_lanes.specs.Packed.{lanes_of, same_packed};
 
     type Value = F;
@@ -17,7 +17,7 @@ impl<F: WiderField, const N: usize> PackedValue for Packed<F, N> {
 
     #[inline]
     fn from_slice(slice: &[F]) -> Packed<F, N> {
-        let mut lanes = [F::ZERO; N];
+        let mut lanes = [F::ZERO_LANE; N];
         lanes.copy_from_slice(slice);
         Packed { lanes }
     }

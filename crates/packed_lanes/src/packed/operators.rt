@@ -4,7 +4,7 @@ ghost use Rattle.field_base.specs.Chunks.{joined};
 ghost use Rattle.packed_lanes.specs.Lanes.{lane_by_lane, lane_product};
 ghost use Rattle.field_base.specs.Powers.{product_of, sum_of};
 
-use crate::packed::{Laned, Packed, WiderField};
+use crate::packed::{Laned, Packed};
 use field_base::traits::{product_of_items, sum_of_items};
 use std::iter::{Product, Sum};
 use std::ops::{AddAssign, MulAssign, Neg, Sub, SubAssign};
@@ -47,10 +47,10 @@ impl<F: Laned, const N: usize> MulAssign<Packed<F, N>> for Packed<F, N> {
     }
 }
 
-impl<F: Laned, const N: usize> Neg for Packed<F, N> {
+impl<F: Copy, const N: usize> Neg for Packed<F, N> {
     type Output = Packed<F, N>;
 
-    ghost neg_gives = { λ x r. map F.repr r.lanes ≡ map F.repr x.lanes };
+    ghost neg_gives = { λ x r. r.lanes ≡ x.lanes };
 
     #[inline]
     fn neg(self) -> Packed<F, N> {
@@ -58,30 +58,30 @@ impl<F: Laned, const N: usize> Neg for Packed<F, N> {
     }
 }
 
-impl<F: WiderField, const N: usize> Default for Packed<F, N> {
+impl<F: Laned, const N: usize> Default for Packed<F, N> {
     ghost is_default = { λ x. map F.repr x.lanes ≡ replicate N 0 };
 
     fn default() -> Packed<F, N> {
-        Packed::broadcast(F::ZERO)
+        Packed::broadcast(F::ZERO_LANE)
     }
 }
 
-impl<F: WiderField, const N: usize> Sum<Packed<F, N>> for Packed<F, N> {
+impl<F: Laned, const N: usize> Sum<Packed<F, N>> for Packed<F, N> {
     ghost use Rattle.packed_lanes.specs.Packed.{IsSumOfPackings};
 
     ghost sum_gives = { λ xs r. IsSumOfPackings F.width F.repr xs r };
 
     fn sum<I: Iterator<Item = Packed<F, N>>>(iter: I) -> Packed<F, N> {
-        sum_of_items(iter, Packed::broadcast(F::ZERO))
+        sum_of_items(iter, Packed::broadcast(F::ZERO_LANE))
     }
 }
 
-impl<F: WiderField, const N: usize> Product<Packed<F, N>> for Packed<F, N> {
+impl<F: Laned, const N: usize> Product<Packed<F, N>> for Packed<F, N> {
     ghost use Rattle.packed_lanes.specs.Packed.{IsProductOfPackings};
 
     ghost product_gives = { λ xs r. IsProductOfPackings F.width F.repr F.unit F.product xs r };
 
     fn product<I: Iterator<Item = Packed<F, N>>>(iter: I) -> Packed<F, N> {
-        product_of_items(iter, Packed::broadcast(F::ONE))
+        product_of_items(iter, Packed::broadcast(F::ONE_LANE))
     }
 }

@@ -53,7 +53,7 @@ impl<F: WiderField, const N: usize> PrimeCharacteristicRing for Packed<F, N> {
     ghost operators_law = { λ x y. ring_gives
         (packed_sum F.width F.repr F.range_law x y)
         (packed_product F.width F.repr F.range_law F.unit F.product F.ring_law x y)
-        (λ r is. ap (joined F.width) is) };
+        (λ r is. ap (λ lanes. joined F.width (map F.repr lanes)) is) };
 
     ghost totals_law = { λ xs. (given, given) };
 

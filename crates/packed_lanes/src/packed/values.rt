@@ -14,13 +14,13 @@ ghost use Rattle.packed_lanes.specs.Packed.{EachLaneIs};
 ghost use Rattle.packed_lanes.specs.PackedLemmas.{packed_bit_product, packed_product_bit, packed_product_one};
 ghost use Rattle.packed_lanes.specs.PackedLemmas.{packed_sum_bit, packed_sum_one};
 
-use crate::packed::{Packed, WiderField};
+use crate::packed::{Laned, Packed, WiderField};
 use field_base::Gf2;
 use field_base::traits::{Algebra, product_of_items, sum_of_items};
 use std::iter::{Product, Sum};
 use std::ops::{Add, AddAssign, Mul, MulAssign, Sub, SubAssign};
 
-impl<F: WiderField, const N: usize> Add<F> for Packed<F, N> {
+impl<F: Laned, const N: usize> Add<F> for Packed<F, N> {
     type Output = Packed<F, N>;
 
     ghost add_gives = { λ x y r. map F.repr r.lanes ≡ lane_by_lane bit_xor (map F.repr x.lanes) (map F.repr (replicate N y)) };
@@ -31,7 +31,7 @@ impl<F: WiderField, const N: usize> Add<F> for Packed<F, N> {
     }
 }
 
-impl<F: WiderField, const N: usize> AddAssign<F> for Packed<F, N> {
+impl<F: Laned, const N: usize> AddAssign<F> for Packed<F, N> {
     ghost add_assign_gives = { λ x y r. map F.repr r.lanes ≡ lane_by_lane bit_xor (map F.repr x.lanes) (map F.repr (replicate N y)) };
 
     #[inline]
@@ -40,7 +40,7 @@ impl<F: WiderField, const N: usize> AddAssign<F> for Packed<F, N> {
     }
 }
 
-impl<F: WiderField, const N: usize> Sub<F> for Packed<F, N> {
+impl<F: Laned, const N: usize> Sub<F> for Packed<F, N> {
     type Output = Packed<F, N>;
 
     ghost sub_gives = { λ x y r. map F.repr r.lanes ≡ lane_by_lane bit_xor (map F.repr x.lanes) (map F.repr (replicate N y)) };
@@ -51,7 +51,7 @@ impl<F: WiderField, const N: usize> Sub<F> for Packed<F, N> {
     }
 }
 
-impl<F: WiderField, const N: usize> SubAssign<F> for Packed<F, N> {
+impl<F: Laned, const N: usize> SubAssign<F> for Packed<F, N> {
     ghost sub_assign_gives = { λ x y r. map F.repr r.lanes ≡ lane_by_lane bit_xor (map F.repr x.lanes) (map F.repr (replicate N y)) };
 
     #[inline]
@@ -60,7 +60,7 @@ impl<F: WiderField, const N: usize> SubAssign<F> for Packed<F, N> {
     }
 }
 
-impl<F: WiderField, const N: usize> Mul<F> for Packed<F, N> {
+impl<F: Laned, const N: usize> Mul<F> for Packed<F, N> {
     type Output = Packed<F, N>;
 
     ghost mul_gives = { λ x y r. map F.repr r.lanes ≡ lane_by_lane F.product (map F.repr x.lanes) (map F.repr (replicate N y)) };
@@ -71,7 +71,7 @@ impl<F: WiderField, const N: usize> Mul<F> for Packed<F, N> {
     }
 }
 
-impl<F: WiderField, const N: usize> MulAssign<F> for Packed<F, N> {
+impl<F: Laned, const N: usize> MulAssign<F> for Packed<F, N> {
     ghost mul_assign_gives = { λ x y r. map F.repr r.lanes ≡ lane_by_lane F.product (map F.repr x.lanes) (map F.repr (replicate N y)) };
 
     #[inline]
@@ -80,7 +80,7 @@ impl<F: WiderField, const N: usize> MulAssign<F> for Packed<F, N> {
     }
 }
 
-impl<F: WiderField, const N: usize> Add<Gf2> for Packed<F, N> {
+impl<F: Laned, const N: usize> Add<Gf2> for Packed<F, N> {
     type Output = Packed<F, N>;
 
     ghost add_gives = { λ x y r. EachLaneIs F.repr r bit_xor x (bit_of y * F.unit) };
@@ -92,7 +92,7 @@ impl<F: WiderField, const N: usize> Add<Gf2> for Packed<F, N> {
     }
 }
 
-impl<F: WiderField, const N: usize> AddAssign<Gf2> for Packed<F, N> {
+impl<F: Laned, const N: usize> AddAssign<Gf2> for Packed<F, N> {
     ghost add_assign_gives = { λ x y r. EachLaneIs F.repr r bit_xor x (bit_of y * F.unit) };
 
     #[inline]
@@ -101,7 +101,7 @@ impl<F: WiderField, const N: usize> AddAssign<Gf2> for Packed<F, N> {
     }
 }
 
-impl<F: WiderField, const N: usize> Sub<Gf2> for Packed<F, N> {
+impl<F: Laned, const N: usize> Sub<Gf2> for Packed<F, N> {
     type Output = Packed<F, N>;
 
     ghost sub_gives = { λ x y r. EachLaneIs F.repr r bit_xor x (bit_of y * F.unit) };
@@ -112,7 +112,7 @@ impl<F: WiderField, const N: usize> Sub<Gf2> for Packed<F, N> {
     }
 }
 
-impl<F: WiderField, const N: usize> SubAssign<Gf2> for Packed<F, N> {
+impl<F: Laned, const N: usize> SubAssign<Gf2> for Packed<F, N> {
     ghost sub_assign_gives = { λ x y r. EachLaneIs F.repr r bit_xor x (bit_of y * F.unit) };
 
     #[inline]
@@ -121,7 +121,7 @@ impl<F: WiderField, const N: usize> SubAssign<Gf2> for Packed<F, N> {
     }
 }
 
-impl<F: WiderField, const N: usize> Mul<Gf2> for Packed<F, N> {
+impl<F: Laned, const N: usize> Mul<Gf2> for Packed<F, N> {
     type Output = Packed<F, N>;
 
     ghost mul_gives = { λ x y r. EachLaneIs F.repr r F.product x (bit_of y * F.unit) };
@@ -133,7 +133,7 @@ impl<F: WiderField, const N: usize> Mul<Gf2> for Packed<F, N> {
     }
 }
 
-impl<F: WiderField, const N: usize> MulAssign<Gf2> for Packed<F, N> {
+impl<F: Laned, const N: usize> MulAssign<Gf2> for Packed<F, N> {
     ghost mul_assign_gives = { λ x y r. EachLaneIs F.repr r F.product x (bit_of y * F.unit) };
 
     #[inline]
@@ -142,7 +142,7 @@ impl<F: WiderField, const N: usize> MulAssign<Gf2> for Packed<F, N> {
     }
 }
 
-impl<F: WiderField, const N: usize> Add<Packed<F, N>> for Gf2 {
+impl<F: Laned, const N: usize> Add<Packed<F, N>> for Gf2 {
     type Output = Packed<F, N>;
 
     ghost add_gives = { λ x y r. EachLaneIs F.repr r bit_xor y (bit_of x * F.unit) };
@@ -153,7 +153,7 @@ impl<F: WiderField, const N: usize> Add<Packed<F, N>> for Gf2 {
     }
 }
 
-impl<F: WiderField, const N: usize> Sub<Packed<F, N>> for Gf2 {
+impl<F: Laned, const N: usize> Sub<Packed<F, N>> for Gf2 {
     type Output = Packed<F, N>;
 
     ghost sub_gives = { λ x y r. EachLaneIs F.repr r bit_xor y (bit_of x * F.unit) };
@@ -164,7 +164,7 @@ impl<F: WiderField, const N: usize> Sub<Packed<F, N>> for Gf2 {
     }
 }
 
-impl<F: WiderField, const N: usize> Mul<Packed<F, N>> for Gf2 {
+impl<F: Laned, const N: usize> Mul<Packed<F, N>> for Gf2 {
     type Output = Packed<F, N>;
 
     ghost mul_gives = { λ x y r. EachLaneIs F.repr r F.product y (bit_of x * F.unit) };
@@ -175,21 +175,21 @@ impl<F: WiderField, const N: usize> Mul<Packed<F, N>> for Gf2 {
     }
 }
 
-impl<F: WiderField, const N: usize> Sum<F> for Packed<F, N> {
+impl<F: Laned, const N: usize> Sum<F> for Packed<F, N> {
     // The sum of the elements stands in every lane.
     ghost sum_gives = { λ xs r. map F.repr r.lanes ≡ replicate N (sum_of F.repr xs) };
 
     fn sum<I: Iterator<Item = F>>(iter: I) -> Packed<F, N> {
-        Packed::broadcast(sum_of_items(iter, F::ZERO))
+        Packed::broadcast(sum_of_items(iter, F::ZERO_LANE))
     }
 }
 
-impl<F: WiderField, const N: usize> Product<F> for Packed<F, N> {
+impl<F: Laned, const N: usize> Product<F> for Packed<F, N> {
     // The product of the elements stands in every lane.
     ghost product_gives = { λ xs r. map F.repr r.lanes ≡ replicate N (product_of F.unit F.product F.repr xs) };
 
     fn product<I: Iterator<Item = F>>(iter: I) -> Packed<F, N> {
-        Packed::broadcast(product_of_items(iter, F::ONE))
+        Packed::broadcast(product_of_items(iter, F::ONE_LANE))
     }
 }
 

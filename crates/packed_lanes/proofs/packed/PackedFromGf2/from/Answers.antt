@@ -5,5 +5,5 @@ use Rattle.packed_lanes.proofs.packed.PackedFromGf2.from.Goals as goal
 pub returns : goal.returns
 returns g c =
     ap (map g.F.Represented.repr) c.broadcast.ensures
-    ∙ map-replicate g.F.Represented.repr g.row.N c.from_prime_subfield.result
-    ∙ ap (replicate g.row.N) c.from_prime_subfield.ensures
+    ∙ map-replicate g.F.Represented.repr g.row.N c.lane_of_bit.result
+    ∙ ap (replicate g.row.N) c.lane_of_bit.ensures

@@ -4,5 +4,5 @@ use Rattle.packed_lanes.proofs.packed.operators.PackedDefault.default.Goals as g
 
 pub returns : goal.returns
 returns g c =
-    ap (map g.F.Represented.repr) c.broadcast.ensures ∙ map-replicate g.F.Represented.repr g.row.N c.ZERO.result
-    ∙ ap (replicate g.row.N) (ap g.F.Represented.repr c.ZERO.ensures ∙ g.met.F.PrimeCharacteristicRing.zero_law)
+    ap (map g.F.Represented.repr) c.broadcast.ensures ∙ map-replicate g.F.Represented.repr g.row.N c.ZERO_LANE.result
+    ∙ ap (replicate g.row.N) (ap g.F.Represented.repr c.ZERO_LANE.ensures ∙ g.met.F.Laned.zero_lane_law)

@@ -6,5 +6,5 @@ use Rattle.packed_lanes.proofs.packed.operators.PackedProduct.product.Goals as g
 pub product_of_items-requires-clause-starts : goal.product_of_items-requires-clause-starts
 product_of_items-requires-clause-starts g c =
     let ring = g.F.Represented in
-    let number : ring.repr c.ONE.result ≡ ring.unit = ap ring.repr c.ONE.ensures ∙ g.met.F.PrimeCharacteristicRing.one_law in
-    ap (joined ring.width) (map-every ring.repr g.row.N ring.unit c.ONE.result _ c.broadcast.ensures number)
+    let number : ring.repr c.ONE_LANE.result ≡ ring.unit = ap ring.repr c.ONE_LANE.ensures ∙ g.met.F.Laned.one_lane_law in
+    ap (joined ring.width) (map-every ring.repr g.row.N ring.unit c.ONE_LANE.result _ c.broadcast.ensures number)
