@@ -186,7 +186,7 @@ impl<F: Field, E: ExtensionField<F>> PackedFieldExtension<F, E> for E {
     }
 
     fn add_assign_lane(&mut self, _lane: usize, element: E) {
-        *self += element;
+        *self = *self + element;
     }
 
     fn packed_ext_powers(base: E) -> Powers<E> {

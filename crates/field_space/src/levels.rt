@@ -1,15 +1,16 @@
 // Levels of the tower as vector spaces over the levels inside them.
-ghost use Rattle.std.specs.Prelude.{◌≡◌, ◌<◌, ◌≤◌, ◌*◌, ◌+◌, ◌-◌, ◌^◌, ℕ, List, codes, refl};
-ghost use Rattle.field_base.specs.Chunks.{chunk};
+ghost use Rattle.std.specs.Prelude.{◌≡◌, ◌<◌, ◌≤◌, ◌*◌, ◌+◌, ◌-◌, ◌^◌, ℕ, List, codes, map, refl, replicate};
+ghost use Rattle.field_base.specs.Chunks.{chunk, chunks};
+ghost use Rattle.field_element.specs.Element.{repr_of};
 ghost use Rattle.field_space.specs.LevelSpaceLemmas.{dimension_positive, dimension_bits, scales_coefficients};
 
 use crate::extension::{AlgebraIdentity, ExtensionField};
 use crate::kernel::SpaceOver;
-use crate::space::{BasisCoefficients, coefficients_of};
+use crate::space::BasisCoefficients;
 use field_base::{FieldKernel, Unsigned};
 use field_element::{
     Below, BinaryField2, BinaryField8, BinaryField16, BinaryField32, BinaryField64, BinaryField128,
-    Element,
+    Element, element_of_word, word_of,
 };
 use word_tower::{Bits2, Bits8, Bits16, Bits32, Bits64, Bits128, Level, Tower};
 
@@ -197,6 +198,44 @@ fn coefficient_of<R: Unsigned, L: Level<R>, S: Unsigned, J: CoefficientsOf<R, L,
     J::truncate(S::of_u128(x.to_u128() >> (i << J::LEVEL)))
 }
 
+// Coefficient `i` of an element of `L`, as an element.
+#[inline]
+fn level_coefficient<R: Unsigned, L: Level<R>, S: Unsigned, J: CoefficientsOf<R, L, S>>(
+    element: &Element<R, Tower<L>>,
+    i: usize,
+) -> Element<S, Tower<J>>
+    requires { i < J.COUNT }
+    ensures { repr_of result ≡ chunk (2 ^ J.LEVEL) i (repr_of element.now) }
+{
+    element_of_word(coefficient_of::<R, L, S, J>(word_of(element), i))
+}
+
+// An array of `N` times `x`. At the type of elements itself the borrow checker does not see that they may be copied.
+fn filled<F: Copy, const N: usize>(x: F) -> [F; N]
+    ensures { result ≡ replicate N x }
+{
+    [x; N]
+}
+
+// The array of the `N` coefficients of an element of `L`. It stands over kernels alone: a call between two named levels then
+// names nothing else that a field is.
+fn level_coefficients<
+    R: Unsigned,
+    L: Level<R>,
+    S: Unsigned,
+    J: CoefficientsOf<R, L, S>,
+    const N: usize,
+>(element: &Element<R, Tower<L>>) -> [Element<S, Tower<J>>; N]
+    requires { N ≡ J.COUNT }
+    ensures { map repr_of result ≡ chunks (2 ^ J.LEVEL) N (repr_of element.now) }
+{
+    let mut coefficients = filled::<Element<S, Tower<J>>, N>(element_of_word(S::ZERO));
+    for i in 0..N {
+        coefficients[i] = level_coefficient::<R, L, S, J>(element, i);
+    }
+    coefficients
+}
+
 // The element of `L` with `coefficient` in place `i`, at an element whose coefficients from there on are 0.
 #[inline]
 fn put_coefficient<R: Unsigned, L: Level<R>, S: Unsigned, J: CoefficientsOf<R, L, S>>(
@@ -371,7 +410,7 @@ impl BasisCoefficients<BinaryField8> for BinaryField16 {
     ghost listed = { λ cs. cs };
 
     fn as_basis_coefficients(&self) -> [BinaryField8; 2] {
-        coefficients_of(self)
+        level_coefficients::<u16, Bits16, u8, Bits8, 2>(self)
     }
 }
 
@@ -381,7 +420,7 @@ impl BasisCoefficients<BinaryField8> for BinaryField32 {
     ghost listed = { λ cs. cs };
 
     fn as_basis_coefficients(&self) -> [BinaryField8; 4] {
-        coefficients_of(self)
+        level_coefficients::<u32, Bits32, u8, Bits8, 4>(self)
     }
 }
 
@@ -391,7 +430,7 @@ impl BasisCoefficients<BinaryField16> for BinaryField32 {
     ghost listed = { λ cs. cs };
 
     fn as_basis_coefficients(&self) -> [BinaryField16; 2] {
-        coefficients_of(self)
+        level_coefficients::<u32, Bits32, u16, Bits16, 2>(self)
     }
 }
 
@@ -401,7 +440,7 @@ impl BasisCoefficients<BinaryField8> for BinaryField64 {
     ghost listed = { λ cs. cs };
 
     fn as_basis_coefficients(&self) -> [BinaryField8; 8] {
-        coefficients_of(self)
+        level_coefficients::<u64, Bits64, u8, Bits8, 8>(self)
     }
 }
 
@@ -411,7 +450,7 @@ impl BasisCoefficients<BinaryField16> for BinaryField64 {
     ghost listed = { λ cs. cs };
 
     fn as_basis_coefficients(&self) -> [BinaryField16; 4] {
-        coefficients_of(self)
+        level_coefficients::<u64, Bits64, u16, Bits16, 4>(self)
     }
 }
 
@@ -421,7 +460,7 @@ impl BasisCoefficients<BinaryField32> for BinaryField64 {
     ghost listed = { λ cs. cs };
 
     fn as_basis_coefficients(&self) -> [BinaryField32; 2] {
-        coefficients_of(self)
+        level_coefficients::<u64, Bits64, u32, Bits32, 2>(self)
     }
 }
 
@@ -431,7 +470,7 @@ impl BasisCoefficients<BinaryField8> for BinaryField128 {
     ghost listed = { λ cs. cs };
 
     fn as_basis_coefficients(&self) -> [BinaryField8; 16] {
-        coefficients_of(self)
+        level_coefficients::<u128, Bits128, u8, Bits8, 16>(self)
     }
 }
 
@@ -441,7 +480,7 @@ impl BasisCoefficients<BinaryField16> for BinaryField128 {
     ghost listed = { λ cs. cs };
 
     fn as_basis_coefficients(&self) -> [BinaryField16; 8] {
-        coefficients_of(self)
+        level_coefficients::<u128, Bits128, u16, Bits16, 8>(self)
     }
 }
 
@@ -451,7 +490,7 @@ impl BasisCoefficients<BinaryField32> for BinaryField128 {
     ghost listed = { λ cs. cs };
 
     fn as_basis_coefficients(&self) -> [BinaryField32; 4] {
-        coefficients_of(self)
+        level_coefficients::<u128, Bits128, u32, Bits32, 4>(self)
     }
 }
 
@@ -461,7 +500,7 @@ impl BasisCoefficients<BinaryField64> for BinaryField128 {
     ghost listed = { λ cs. cs };
 
     fn as_basis_coefficients(&self) -> [BinaryField64; 2] {
-        coefficients_of(self)
+        level_coefficients::<u128, Bits128, u64, Bits64, 2>(self)
     }
 }
 
@@ -471,6 +510,6 @@ impl BasisCoefficients<BinaryField2> for BinaryField128 {
     ghost listed = { λ cs. cs };
 
     fn as_basis_coefficients(&self) -> [BinaryField2; 64] {
-        coefficients_of(self)
+        level_coefficients::<u128, Bits128, u8, Bits2, 64>(self)
     }
 }

@@ -1,5 +1,6 @@
 // Elements as vectors over a smaller ring, and fields as extensions of a smaller field.
-ghost use Rattle.std.specs.Prelude.{◌≡◌, ◌≢◌, ◌↔◌, ◌*◌, ◌+◌, ◌%◌, ◌^◌, ◌<◌, ◌≤◌, ℕ, List, map, length, IsTrue, IsNone, IfOk, IfSome, refl};
+ghost use Rattle.std.specs.Prelude.{◌≡◌, ◌≢◌, ◌↔◌, ◌*◌, ◌+◌, ◌%◌, ◌^◌, ◌<◌, ◌≤◌, ◌++◌};
+ghost use Rattle.std.specs.Prelude.{ℕ, List, map, length, IsTrue, IsNone, IfOk, IfSome, refl};
 ghost use Rattle.std.proofs.Common.{lit<};
 ghost use Rattle.std.specs.Array.{index_steps};
 ghost use Rattle.std.specs.Iterator.{CallableAtEachTurn};
@@ -46,10 +47,7 @@ pub trait BasedVectorSpace<F: PrimeCharacteristicRing>: PrimeCharacteristicRing 
     {
         let mut flat = Vec::new(alloc);
         for place in 0..elements.len() {
-            let element = elements[place];
-            for i in 0..Self::DIMENSION {
-                flat.push(element.basis_coefficient(i))?;
-            }
+            push_coefficients::<F, Self, A>(&mut flat, elements[place])?;
         }
         Ok(flat)
     }
@@ -132,6 +130,20 @@ pub trait BasedVectorSpace<F: PrimeCharacteristicRing>: PrimeCharacteristicRing 
         → chunk F.width i (Self.product c a) ≡ F.product c (chunk F.width i a) };
 }
 
+// Pushes the coefficients of an element. A loop of its own is cheaper to check than one within the loop over the elements, which a
+// push that is refused would have to leave as well.
+fn push_coefficients<F: PrimeCharacteristicRing, E: BasedVectorSpace<F>, A: Allocator>(
+    flat: &mut Vec<F, A>,
+    element: E,
+) -> Result<(), AllocError>
+    ensures { IfOk result (λ done. map F.repr flat.new.items ≡ map F.repr flat.old.items ++ chunks F.width E.DIMENSION (E.repr element)) }
+{
+    for i in 0..E::DIMENSION {
+        flat.push(element.basis_coefficient(i))?;
+    }
+    Ok(())
+}
+
 // The next item of an iterator. A loop that calls `next` itself would have to know that the iterator ends.
 fn next_of<F, I: Iterator<Item = F>>(iter: &mut I) -> Option<F>
     requires { I.can_next iter.old }
@@ -162,20 +174,6 @@ pub trait BasisCoefficientsSlice<F: PrimeCharacteristicRing>: BasedVectorSpace<F
     fn as_basis_coefficients_slice(&self) -> &[F]
         requires { FitsInMemory F.row }
         ensures { map F.repr result.now ≡ chunks F.width Self.DIMENSION (Self.repr self.now) };
-}
-
-/// The array of an element's `N` coefficients.
-pub(crate) fn coefficients_of<F: PrimeCharacteristicRing, E: BasedVectorSpace<F>, const N: usize>(
-    element: &E,
-) -> [F; N]
-    requires { N ≡ E.DIMENSION }
-    ensures { map F.repr result ≡ chunks F.width N (E.repr element.now) }
-{
-    let mut coefficients = [F::ZERO; N];
-    for i in 0..N {
-        coefficients[i] = element.basis_coefficient(i);
-    }
-    coefficients
 }
 
 impl<R: Stored, K: SpaceOver<R, S, J>, S: Stored, J: FieldKernel<S>> BasedVectorSpace<Element<S, J>>

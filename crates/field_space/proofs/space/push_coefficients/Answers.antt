@@ -1,0 +1,10 @@
+use Rattle.field_space.proofs.Spaces.{none_pushed, pushed}
+use Rattle.field_space.proofs.space.push_coefficients.Goals as goal
+
+pub loop-i-init : goal.loop-i-init
+loop-i-init g c = none_pushed g.F.Represented.width _ _
+
+pub loop-i-preserved : goal.loop-i-preserved
+loop-i-preserved g c =
+    pushed g.F.Represented.repr g.F.Represented.width c.loop-i.i _ _ _ c.basis_coefficient.result _ c.in_ok-push.ensures.items c.loop-i.invariant
+    c.basis_coefficient.ensures
