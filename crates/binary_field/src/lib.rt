@@ -5,6 +5,7 @@
 #![tactic(auto)]
 
 pub mod laws;
+pub mod poly_basis;
 pub mod transform;
 
 // GF(2), and the traits of rings and fields
@@ -55,9 +56,6 @@ pub use bits_packed::{
     Lanes, PackedGf2, PackedGf2x8, PackedGf2x16, PackedGf2x32, PackedGf2x64, PackedGf2x128,
     PackedGf2x256, PackedGf2x512,
 };
-
-// slices, butterflies and the low stages of the transform over GF(2^128)
-pub use transform_slices as poly_basis;
 
 // values of polynomials over any field
 pub use transform_whole::over;

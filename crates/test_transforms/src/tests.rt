@@ -1,4 +1,5 @@
 mod drawn;
+mod elements;
 mod low_stages;
 mod slices;
 mod transform;

@@ -1,11 +1,9 @@
-//! The field of GHASH over plain numbers: products, also of slices by a scalar, its change of basis from and to the tower,
-//! masked products of words, and butterflies and the lowest stages of an additive transform.
+//! The field of GHASH over plain numbers: products, also of slices by a scalar, masked products of words, and butterflies and the
+//! lowest stages of an additive transform.
 //!
-//! Bit i of a number is the coefficient of x^i, and products are modulo x^128 + x^7 + x^2 + x + 1 (NIST SP 800-38D). The
-//! change of basis sends bit j of an element of the tower to the product of the images of the roots over the set bits of j.
+//! Bit i of a number is the coefficient of x^i, and products are modulo x^128 + x^7 + x^2 + x + 1 (NIST SP 800-38D).
 #![tactic(auto)]
 
-mod basis;
 mod laws;
 mod low_stages;
 mod slices;
@@ -13,7 +11,6 @@ mod slices;
 ghost use Rattle.std.specs.Prelude.{◌≡◌};
 ghost use Rattle.field_base.specs.Remainder.{mul_mod, ghash_modulus};
 
-pub use crate::basis::{from_tower, from_tower_slice, to_tower, to_tower_slice};
 pub use crate::laws::{
     cantor_vectors_step_down, points_are_distinct, stages_give_sums, sums_are_values,
 };

@@ -1,0 +1,117 @@
+// The transform of elements pair by pair, against that of numbers: the same values and the same count, and back. It is called
+// through its bounds at a kernel whose elements are no numbers, of 1 to 1,024 values.
+use super::drawn::{fill, next_number};
+use field_element::Ghash128;
+use std::alloc::{AllocError, Allocator, Global};
+use std::test::Fail;
+use transform_elements::{ElementKernel, ElementPairs};
+use transform_whole::{forward, forward_with, inverse_with, point};
+
+// Runs the transform of 2^m numbers for an m up to 10, or returns false.
+fn numbers_forward<A: Allocator>(
+    alloc: A,
+    values: &mut [u128],
+    m: usize,
+    z: u128,
+    products: &mut u64,
+) -> Result<bool, AllocError> {
+    if m > 10 || values.len() != 1 << m || *products > 1000 {
+        return Ok(false);
+    }
+    forward(alloc, values, z, products)?;
+    Ok(true)
+}
+
+// The same by the kernel of elements.
+fn elements_forward<A: Allocator>(
+    alloc: A,
+    elements: &mut [Ghash128],
+    m: usize,
+    z: u128,
+    kernel: &mut ElementKernel,
+) -> Result<bool, AllocError> {
+    if m > 10 || elements.len() != 1 << m || kernel.products > 1000 {
+        return Ok(false);
+    }
+    forward_with(alloc, kernel, elements, z)?;
+    Ok(true)
+}
+
+// Runs the inverse of that.
+fn elements_inverse(
+    elements: &mut [Ghash128],
+    m: usize,
+    z: u128,
+    kernel: &mut ElementKernel,
+) -> bool {
+    if m > 10 || elements.len() != 1 << m || kernel.products > 1000 {
+        return false;
+    }
+    inverse_with(kernel, elements, z);
+    true
+}
+
+// Whether the elements have these representations.
+fn represent(elements: &[Ghash128], numbers: &[u128]) -> bool {
+    for (place, element) in elements.iter().enumerate() {
+        if numbers.get(place) != Some(&element.to_bits()) {
+            return false;
+        }
+    }
+    elements.len() == numbers.len()
+}
+
+fn kernel_at(products: u64) -> ElementKernel {
+    ElementKernel {
+        pairs: ElementPairs {},
+        products,
+    }
+}
+
+// Whether the transform of so many drawn elements, which are 2^m, leaves what that of their representations leaves and counts as
+// many pairs, and its inverse takes them back.
+fn kernels_agree(alloc: Global, m: usize, count: usize, z: u128) -> Result<bool, AllocError> {
+    if count > 1024 {
+        return Ok(false);
+    }
+    let mut places = [0; 1024];
+    fill(&mut places, 7);
+    let drawn = places;
+    let mut elements = Vec::new(alloc);
+    for place in 0..count {
+        elements.push(Ghash128::new(drawn[place]))?;
+    }
+    let values = &mut places[..count];
+    let mut products = 5;
+    let mut there = kernel_at(5);
+    let mut back = kernel_at(5);
+    let runs = numbers_forward(alloc, values, m, z, &mut products)?
+        && elements_forward(alloc, elements.as_mut_slice(), m, z, &mut there)?
+        && represent(elements.as_slice(), values);
+    Ok(
+        runs && elements_inverse(elements.as_mut_slice(), m, z, &mut back)
+            && represent(elements.as_slice(), &drawn[..count])
+            && there.products == products
+            && back.products == products,
+    )
+}
+
+#[test]
+fn elements_are_transformed_as_numbers(rt: HostRuntime) -> Result<(), Fail> {
+    let mut state = 13;
+    for m in 0..11 {
+        assert!(rt; kernels_agree(rt.alloc(), m, 1 << m, next_number(&mut state))?);
+    }
+    Ok(())
+}
+
+// Worked rows: the shift, and Cantor vectors 0 and 1 of the field of GHASH.
+#[test]
+fn points_are_sums_of_vectors(rt: HostRuntime) {
+    assert!(rt;
+        point(6, 0) == 6
+            && point(6, 1) == 7
+            && point(0, 2) == 0x295a_c0b1_f473_1af9_676a_ac9f_a4b2_0b08
+            && point(1, 3) == 0x295a_c0b1_f473_1af9_676a_ac9f_a4b2_0b08
+    );
+}

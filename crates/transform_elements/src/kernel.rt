@@ -1,0 +1,32 @@
+// The kernel of a transform over elements.
+ghost use Rattle.std.specs.Prelude.{◌≡◌, ℕ, ◌^◌, ◌<◌, bit_xor};
+
+use field_element::Ghash128;
+use transform_whole::{PairByPair, PairKernel};
+
+/// Butterflies of pairs of elements of the field of GHASH. The value of an element is its representation.
+#[derive(Drop)]
+pub struct ElementPairs {}
+
+impl PairKernel for ElementPairs {
+    ghost use Rattle.field_element.specs.Element.{repr_of};
+
+    type Elem = Ghash128;
+
+    ghost value = { λ x. repr_of x };
+
+    ghost range_law = { λ x. x.in_range };
+
+    fn forward_pair(&mut self, lo: &mut Ghash128, hi: &mut Ghash128, s: u128) {
+        *lo += Ghash128::new(s) * *hi;
+        *hi += *lo;
+    }
+
+    fn inverse_pair(&mut self, lo: &mut Ghash128, hi: &mut Ghash128, s: u128) {
+        *hi += *lo;
+        *lo += Ghash128::new(s) * *hi;
+    }
+}
+
+/// The kernel over elements of the field of GHASH: it transforms slices of them pair by pair.
+pub type ElementKernel = PairByPair<ElementPairs>;
