@@ -3,6 +3,9 @@ pub mod Steps
 pub mod GcmProduct
 pub mod PolyvalProduct
 pub mod Absorbing
+pub mod Folding
+pub mod FourProducts
+pub mod AbsorbingBlocks
 pub mod Padding
 pub mod Hashes
 pub mod BlockBytes

@@ -5,6 +5,7 @@
 #![tactic(auto)]
 
 mod absorber;
+mod blocks;
 mod compare;
 mod encoding;
 mod gcm;

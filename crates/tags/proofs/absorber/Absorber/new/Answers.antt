@@ -5,4 +5,4 @@ use Rattle.tags.proofs.absorber.Absorber.new.Goals as goal
 
 pub returns : goal.returns
 unfolding Holds first_blocks
-returns c = λ element. (refl, refl, (refl, refl))
+returns c = λ element. (c.new.ensures, refl, (refl, refl))

@@ -1,0 +1,111 @@
+// The hash of whole blocks over the field of GHASH, four blocks at a time.
+ghost use Rattle.std.specs.Prelude.{◌≡◌, ◌%◌, ◌/◌, ℕ, bit_xor, drop, fold, length, map, take};
+ghost use Rattle.tags.specs.Blocks.{first_blocks};
+ghost use Rattle.tags.specs.Powers.{ArePowers, added_block};
+ghost use Rattle.tags.specs.Reversed.{ghash_times};
+
+use crate::encoding::Encoding;
+use word_carryless::{multiply_128, multiply_mod_128, reduce_128};
+
+pub(crate) const BLOCK_LENGTH: usize = 16;
+
+const FOUR_BLOCKS: usize = 64;
+
+// A key and its powers, up to the fourth.
+#[derive(Drop)]
+pub(crate) struct Powers {
+    key: u128,
+    square: u128,
+    cube: u128,
+    fourth: u128,
+}
+
+impl Powers {
+    // The powers of a key.
+    pub(crate) fn new(key: u128) -> Powers
+        ensures { ArePowers key result }
+    {
+        let square = multiply_mod_128(key, key);
+        let cube = multiply_mod_128(square, key);
+        let fourth = multiply_mod_128(cube, key);
+        Powers {
+            key,
+            square,
+            cube,
+            fourth,
+        }
+    }
+}
+
+// a key^4 + b key^3 + c key^2 + d key: the four products are added before one reduction.
+#[inline]
+fn sum_of_products(a: u128, b: u128, c: u128, d: u128, powers: &Powers) -> u128
+    ensures { result ≡ bit_xor (bit_xor (ghash_times a powers.now.fourth) (ghash_times b powers.now.cube))
+        (bit_xor (ghash_times c powers.now.square) (ghash_times d powers.now.key)) }
+{
+    let (a_low, a_high) = multiply_128(a, powers.fourth);
+    let (b_low, b_high) = multiply_128(b, powers.cube);
+    let (c_low, c_high) = multiply_128(c, powers.square);
+    let (d_low, d_high) = multiply_128(d, powers.key);
+    reduce_128(
+        (a_low ^ b_low) ^ (c_low ^ d_low),
+        (a_high ^ b_high) ^ (c_high ^ d_high),
+    )
+}
+
+// The element of 16 bytes.
+#[inline]
+fn read_block<E: Encoding>(block: &[u8]) -> u128
+    requires { length block.now ≡ 16 }
+    ensures { result ≡ E.element block.now }
+{
+    let mut bytes = [0u8; 16];
+    bytes.copy_from_slice(block);
+    E::read(bytes)
+}
+
+// The hash after one block more.
+#[inline]
+pub(crate) fn with_block<E: Encoding>(sum: u128, powers: &Powers, block: &[u8]) -> u128
+    requires { length block.now ≡ 16 }
+    ensures { (key : ℕ) → ArePowers key powers.now → result ≡ added_block E.element key sum block.now }
+{
+    multiply_mod_128(sum ^ read_block::<E>(block), powers.key)
+}
+
+// The hash after four blocks more.
+#[inline]
+fn with_four_blocks<E: Encoding>(sum: u128, powers: &Powers, blocks: &[u8]) -> u128
+    requires { length blocks.now ≡ 64 }
+    ensures { (key : ℕ) → ArePowers key powers.now → result ≡ added_block E.element key (added_block E.element key
+        (added_block E.element key (added_block E.element key sum (take 16 blocks.now)) (take 16 (drop 16 blocks.now)))
+        (take 16 (drop 32 blocks.now))) (take 16 (drop 48 blocks.now)) }
+{
+    sum_of_products(
+        sum ^ read_block::<E>(&blocks[..16]),
+        read_block::<E>(&blocks[16..32]),
+        read_block::<E>(&blocks[32..48]),
+        read_block::<E>(&blocks[48..64]),
+        powers,
+    )
+}
+
+// The hash after whole blocks more.
+pub(crate) fn with_blocks<E: Encoding>(sum: u128, powers: &Powers, blocks: &[u8]) -> u128
+    requires { length blocks.now % 16 ≡ 0 }
+    ensures { (key : ℕ) → ArePowers key powers.now
+        → result ≡ fold (λ y x. ghash_times (bit_xor y x) key) sum (map E.element (first_blocks (length blocks.now / 16) blocks.now)) }
+{
+    let count = blocks.len() / BLOCK_LENGTH;
+    let four_count = count / 4;
+    let mut hash = sum;
+    'fours: for i in 0..four_count {
+        let at = FOUR_BLOCKS * i;
+        hash = with_four_blocks::<E>(hash, powers, &blocks[at..at + FOUR_BLOCKS]);
+    }
+    'rest: for i in 4 * four_count..count {
+        let at = BLOCK_LENGTH * i;
+        hash = with_block::<E>(hash, powers, &blocks[at..at + BLOCK_LENGTH]);
+    }
+    hash
+}

@@ -1,0 +1,3 @@
+mod gcm;
+mod pieces;
+mod polyval;
