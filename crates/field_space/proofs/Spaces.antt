@@ -187,17 +187,6 @@ pushed repr width i x items new v begun is so_far value =
 pub none_pushed : (width x : ℕ) (ys : List ℕ) → ys ≡ ys ++ chunks width 0 x
 none_pushed width x ys = sym (ap (λ zs. ys ++ zs) (chunks-none width x) ∙ append-nil ys)
 
--- the coefficients of one element more of a list
-pub flat_more : {E : Type 0} (width dimension : ℕ) (repr : E → ℕ) (xs : List E) (k : ℕ) (x : E) → k < length xs → x ≡ get_or xs k x
-    → flat_map (λ y. chunks width dimension (repr y)) (take (k + 1) xs)
-    ≡ flat_map (λ y. chunks width dimension (repr y)) (take k xs) ++ chunks width dimension (repr x)
-flat_more {E} width dimension repr xs k x within is =
-    let of_element = λ (y : E). chunks width dimension (repr y) in
-    ap (λ (n : ℕ). flat_map of_element (take n xs)) (add-one k)
-    ∙ ap (flat_map of_element) (take-suc xs k x within ∙ ap (λ y. take k xs ++ y ∷ []) (sym is))
-    ∙ flat_map-append of_element (take k xs) (x ∷ [])
-    ∙ ap (λ ys. flat_map of_element (take k xs) ++ ys) (append-nil (of_element x))
-
 -- the representations of one element more of a list
 pub map_next : {A : Type 0} (repr : A → ℕ) (xs : List A) (k : ℕ) (x : A) → k < length xs → x ≡ get_or xs k x
     → map repr (take (k + 1) xs) ≡ map repr (take k xs) ++ repr x ∷ []

@@ -1,5 +1,5 @@
 // Elements as vectors over a smaller ring, and fields as extensions of a smaller field.
-ghost use Rattle.std.specs.Prelude.{◌≡◌, ◌≢◌, ◌↔◌, ◌*◌, ◌+◌, ◌%◌, ◌^◌, ◌<◌, ◌≤◌, ◌++◌};
+ghost use Rattle.std.specs.Prelude.{◌≡◌, ◌≢◌, ◌↔◌, ◌*◌, ◌+◌, ◌%◌, ◌^◌, ◌<◌, ◌≤◌};
 ghost use Rattle.std.specs.Prelude.{ℕ, List, map, length, IsTrue, IsNone, IfOk, IfSome, refl};
 ghost use Rattle.std.proofs.Common.{lit<};
 ghost use Rattle.std.specs.Array.{index_steps};
@@ -47,7 +47,10 @@ pub trait BasedVectorSpace<F: PrimeCharacteristicRing>: PrimeCharacteristicRing 
     {
         let mut flat = Vec::new(alloc);
         for place in 0..elements.len() {
-            push_coefficients::<F, Self, A>(&mut flat, elements[place])?;
+            let element = elements[place];
+            for i in 0..Self::DIMENSION {
+                flat.push(element.basis_coefficient(i))?;
+            }
         }
         Ok(flat)
     }
@@ -128,20 +131,6 @@ pub trait BasedVectorSpace<F: PrimeCharacteristicRing>: PrimeCharacteristicRing 
     // An element of `F`, as coefficient 0 of an element, multiplies each coefficient of another.
     ghost scale_law: { (i c a : ℕ) → i < DIMENSION → c < 2 ^ F.width
         → chunk F.width i (Self.product c a) ≡ F.product c (chunk F.width i a) };
-}
-
-// Pushes the coefficients of an element. A loop of its own is cheaper to check than one within the loop over the elements, which a
-// push that is refused would have to leave as well.
-fn push_coefficients<F: PrimeCharacteristicRing, E: BasedVectorSpace<F>, A: Allocator>(
-    flat: &mut Vec<F, A>,
-    element: E,
-) -> Result<(), AllocError>
-    ensures { IfOk result (λ done. map F.repr flat.new.items ≡ map F.repr flat.old.items ++ chunks F.width E.DIMENSION (E.repr element)) }
-{
-    for i in 0..E::DIMENSION {
-        flat.push(element.basis_coefficient(i))?;
-    }
-    Ok(())
 }
 
 // The next item of an iterator. A loop that calls `next` itself would have to know that the iterator ends.
