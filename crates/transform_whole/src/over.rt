@@ -13,8 +13,8 @@ pub fn evaluate<F: Field>(coefficients: &[F], x: F) -> F
     ensures { F.repr result ≡ value_of F.unit F.product F.repr coefficients.now (F.repr x) }
 {
     let mut value = F::ZERO;
-    for coefficient in coefficients.iter().rev().copied() {
-        value = value * x + coefficient;
+    for place in (0..coefficients.len()).rev() {
+        value = value * x + coefficients[place];
     }
     value
 }

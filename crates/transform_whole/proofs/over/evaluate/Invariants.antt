@@ -1,9 +1,9 @@
-use Rattle.std.proofs.Common.{◌≡◌, reverse}
+use Rattle.std.proofs.Common.{◌≡◌, drop}
 use Rattle.field_base.specs.Powers.{value_of}
 use Rattle.transform_whole.proofs.over.evaluate.Given as goal
 
--- what is there is the value of the coefficients so far, which came from the last one down
-abbrev pub invariant-loop-coefficient : goal.invariant-loop-coefficient
-invariant-loop-coefficient g l =
+-- what is there is the value of the coefficients from this place on
+abbrev pub invariant-loop-place : goal.invariant-loop-place
+invariant-loop-place g l =
     let field = g.F.Represented in
-    field.repr l.value ≡ value_of field.unit field.product field.repr (reverse l.yielded) (field.repr l.x)
+    field.repr l.value ≡ value_of field.unit field.product field.repr (drop l.place l.coefficients) (field.repr l.x)
