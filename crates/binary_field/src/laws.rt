@@ -34,6 +34,9 @@ pub use transform_slices::{
 };
 pub use transform_whole::values_commute_with_images;
 
+// universal hashes
+pub use tags::{few_keys_collide, products_are_reversed};
+
 // transcripts
 pub use transcript_bytes::runs_join;
 

@@ -60,6 +60,9 @@ pub use bits_packed::{
 // values of polynomials over any field
 pub use transform_whole::over;
 
+// universal hashes of two authenticated ciphers
+pub use tags;
+
 // byte challengers
 pub use transcript_bytes::{
     ByteChallenger, ByteHasher32, ChallengerError, HashChallenger, Sha256Hasher,

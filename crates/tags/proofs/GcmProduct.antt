@@ -14,7 +14,7 @@ use Rattle.field_base.proofs.CarrylessProduct.{bit_cases}
 use Rattle.field_base.proofs.RemainderRing.{ghash_ring}
 use Rattle.tags.specs.Gcm.{gcm_product, r_block, shifted}
 use Rattle.tags.specs.Reversed.{ghash_times, GcmProductIsReversed}
-use Rattle.tags.proofs.Reversal.{reversed, reversed_xor, reversed_front, reversed_back, reversed-lt, reversed_low, reversed_twice}
+use Rattle.tags.proofs.ReversedBits.{reversed, reversed_xor, reversed_front, reversed_back, reversed-lt, reversed_low, reversed_twice}
 use Rattle.tags.proofs.Steps.{two-times, weight, z_image, z_step-lt}
 
 -- ---- a shift is a product by x

@@ -9,7 +9,7 @@ use Rattle.tags.specs.Gcm.{gcm_product, ghash}
 use Rattle.tags.specs.Hash.{polynomial_hash}
 use Rattle.tags.specs.Polyval.{dot, polyval}
 use Rattle.tags.specs.Reversed.{ghash_element, ghash_times, polyval_element, polyval_multiplier}
-use Rattle.tags.proofs.Reversal.{reversed, reversed_xor, reversed_twice}
+use Rattle.tags.proofs.ReversedBits.{reversed, reversed_xor, reversed_twice}
 use Rattle.tags.proofs.GcmProduct.{gcm_product_image, gcm_product-lt, reversed-zero}
 use Rattle.tags.proofs.PolyvalProduct.{dot_image, dot-lt}
 

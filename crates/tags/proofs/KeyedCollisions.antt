@@ -8,7 +8,7 @@ use Rattle.tags.specs.Collisions.{GhashCollides, IsMessage, PolyvalCollides}
 use Rattle.tags.specs.Gcm.{gcm_hash, gcm_product, shifted}
 use Rattle.tags.specs.Hash.{polynomial_hash}
 use Rattle.tags.specs.Reversed.{ghash_times}
-use Rattle.tags.proofs.Reversal.{reversed, reversed_xor, reversed-lt, reversed_twice}
+use Rattle.tags.proofs.ReversedBits.{reversed, reversed_xor, reversed-lt, reversed_twice}
 use Rattle.tags.proofs.Steps.{shifted-lt}
 use Rattle.tags.proofs.GcmProduct.{gcm_product_image, reversed-zero}
 use Rattle.tags.proofs.PolyvalProduct.{shifted_injective}

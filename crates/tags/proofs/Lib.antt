@@ -1,4 +1,5 @@
-pub mod Reversal
+pub mod ReversedBits
+pub mod Swapping
 pub mod Steps
 pub mod GcmProduct
 pub mod PolyvalProduct

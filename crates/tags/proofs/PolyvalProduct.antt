@@ -16,7 +16,7 @@ use Rattle.field_base.proofs.RingLemmas.{times-zero, zero-times, times_left_comm
 use Rattle.tags.specs.Gcm.{gcm_product, r_block, shifted, z_step}
 use Rattle.tags.specs.Polyval.{dot, inverse_of_x_128, polyval_modulus}
 use Rattle.tags.specs.Reversed.{ghash_times, DotIsReversed}
-use Rattle.tags.proofs.Reversal.{reversed, reversed_low, reversed_twice}
+use Rattle.tags.proofs.ReversedBits.{reversed, reversed_low, reversed_twice}
 use Rattle.tags.proofs.Steps.{two-times, weight, z_image, shifted-lt}
 use Rattle.tags.proofs.GcmProduct.{gcm_product_image, gcm_product-lt, shifted_image}
 

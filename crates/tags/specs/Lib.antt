@@ -2,6 +2,7 @@ pub mod Blocks
 pub mod Hash
 pub mod Gcm
 pub mod Polyval
+pub mod Swaps
 pub mod Powers
 pub mod Absorbed
 pub mod Reversed

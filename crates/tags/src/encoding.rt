@@ -2,6 +2,8 @@
 ghost use Rattle.std.specs.Prelude.{◌≡◌, ℕ, List};
 ghost use Rattle.tags.specs.Reversed.{ghash_element, polyval_element};
 
+use crate::reversal::reversed_bits;
+
 /// An encoding of blocks.
 pub(crate) trait Encoding {
     // The element of a block.
@@ -20,7 +22,7 @@ impl Encoding for HighestFirst {
 
     #[inline]
     fn read(block: [u8; 16]) -> u128 {
-        u128::from_be_bytes(block).reverse_bits()
+        reversed_bits(u128::from_be_bytes(block))
     }
 }
 
@@ -32,6 +34,6 @@ impl Encoding for LowestFirst {
 
     #[inline]
     fn read(block: [u8; 16]) -> u128 {
-        u128::from_le_bytes(block).reverse_bits()
+        reversed_bits(u128::from_le_bytes(block))
     }
 }

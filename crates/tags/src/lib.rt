@@ -11,6 +11,7 @@ mod encoding;
 mod gcm;
 mod gcm_siv;
 mod laws;
+mod reversal;
 
 pub use crate::compare::tags_are_equal;
 pub use crate::gcm::{Ghash, gcm_ghash};
