@@ -12,5 +12,6 @@ guarded_next before between after refused refused_last value result first next =
   failed = λ failed. grind (arith, common_steps, first.failed failed);
   goes_on = next.goes_on;
   fails = next.fails;
+  granted = next.granted;
   memory = λ _. next.memory first.goes_on;
 }

@@ -1,7 +1,8 @@
 -- Runs of byte calls: two lists joined, and one more call at the end. `after` is the state that calls leave, `squeezed` the bytes
 -- that they sample.
-use Rattle.std.proofs.Common.{◌≡◌, ◌<◌, ◌≤◌, ◌+◌, ℕ, zero, suc, List, [], ◌∷◌, ◌++◌, length, slice_index, take, refl, ap, add-one, arith}
-use Rattle.std.proofs.lemmas.List.{length-replicate}
+use Rattle.std.proofs.Common.{◌≡◌, ◌<◌, ◌≤◌, ◌+◌, ℕ, zero, suc, List, [], ◌∷◌, ◌++◌, length, slice_index, take, refl, ap, sym, ◌∙◌, add-one, arith}
+use Rattle.std.proofs.Math.Seq.{take-append-add}
+use Rattle.std.proofs.lemmas.List.{length-append, length-replicate, take-append-le}
 use Rattle.transcript_bytes.specs.ByteCalls.{after, ByteCall, IsPartlyRun, Observe, observing, RunsJoin, Sample, sampling, squeezed, Transitions}
 
 module _ {S : Type 0} (transitions : Transitions S) where
@@ -95,11 +96,17 @@ module _ {S : Type 0} (transitions : Transitions S) where
   take-sampling (suc few) zero most = absurd (omega (arith, most))
   take-sampling (suc few) (suc count) most = ap (λ calls. Sample ∷ calls) (take-sampling few count (omega (arith, most)))
 
-  -- the state after fewer than n samples is that of n samples partly run
-  pub sampling_is_partly_run : (few count : ℕ) (old now : S) → few < count
-      → now ≡ after transitions (sampling few) old → IsPartlyRun transitions (sampling count) old now
-  sampling_is_partly_run few count old now fewer run =
-      (few, rw (length-replicate count Sample) fewer, rw (take-sampling few count (omega (arith, fewer))) run)
+  -- n samples are partly run where, after fewer samples, a call was refused
+  pub sampling_is_partly_run : {C : Type 0} (state_of : C → S) (may_leave : C → C → Type 0) (few count : ℕ) (old : S) (before now : C)
+      → few < count → state_of before ≡ after transitions (sampling few) old → may_leave before now
+      → IsPartlyRun transitions state_of may_leave (sampling count) old now
+  sampling_is_partly_run state_of may_leave few count old before now fewer run leaves = (
+    few,
+    before,
+    rw (length-replicate count Sample) fewer,
+    rw (take-sampling few count (omega (arith, fewer))) run,
+    leaves,
+  )
 
   -- calls run from the state that others left end in the state after both lists joined
   pub state_joined : (first second : List ByteCall) (old now next : S) → now ≡ after transitions first old
@@ -132,3 +139,33 @@ module _ {S : Type 0} (transitions : Transitions S) where
   unfolding squeezed
   length_sampled zero state = refl
   length_sampled (suc count) state = ap (λ (n : ℕ). suc n) (length_sampled count (transitions.sampled state).1)
+
+  -- ---- lists of calls that are partly run
+
+  module _ {C : Type 0} (state_of : C → S) (may_leave : C → C → Type 0) where
+    -- where the first of two lists is partly run, so are both joined
+    pub partly_first : (first second : List ByteCall) (old : S) (now : C)
+        → IsPartlyRun transitions state_of may_leave first old now
+        → IsPartlyRun transitions state_of may_leave (first ++ second) old now
+    partly_first first second old now (count, before, fewer, run, leaves) =
+        let long = length-append first second in (
+          count,
+          before,
+          omega (arith, fewer, long),
+          run ∙ ap (λ calls. after transitions calls old) (sym (take-append-le count first second (omega (arith, fewer)))),
+          leaves,
+        )
+
+    -- where the second is partly run after the first, so are both joined
+    pub partly_second : (first second : List ByteCall) (old now : S) (last : C) → now ≡ after transitions first old
+        → IsPartlyRun transitions state_of may_leave second now last
+        → IsPartlyRun transitions state_of may_leave (first ++ second) old last
+    partly_second first second old now last begun (count, before, fewer, run, leaves) =
+        let long = length-append first second in (
+          length first + count,
+          before,
+          omega (arith, fewer, long),
+          state_joined first (take count second) old now (state_of before) begun run
+              ∙ ap (λ calls. after transitions calls old) (sym (take-append-add first second count)),
+          leaves,
+        )

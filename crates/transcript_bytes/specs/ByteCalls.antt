@@ -47,7 +47,9 @@ pub record RunsJoin {S : Type 0} (transitions : Transitions S) : Type 0 where
       → squeezed transitions (first ++ second) state
       ≡ squeezed transitions first state ++ squeezed transitions second (after transitions first state)
 
--- the new state is that after a proper prefix of the calls
-abbrev pub IsPartlyRun : {S : Type 0} → Transitions S → List ByteCall → S → S → Type 0
-IsPartlyRun transitions calls old new =
-    (count : ℕ) × (count < length calls) × (new ≡ after transitions (take count calls) old)
+-- What a challenger is after a list of calls, begun in this state, of which one was refused: from the state after a proper prefix
+-- of the calls, a refused call may leave it. The challengers have states, and `may_leave` says what a refused call may leave.
+abbrev pub IsPartlyRun : {C S : Type 0} → Transitions S → (C → S) → (C → C → Type 0) → List ByteCall → S → C → Type 0
+IsPartlyRun {C} transitions state_of may_leave calls old new =
+    (count : ℕ) × (before : C) × (count < length calls) × (state_of before ≡ after transitions (take count calls) old)
+    × may_leave before new

@@ -1,6 +1,6 @@
 -- What a contract sees of a guarded byte challenger.
 use Rattle.std.specs.Prelude.{Bool, List}
-use Rattle.transcript_bytes.specs.ByteCalls.{after, ByteCall}
+use Rattle.transcript_bytes.specs.ByteCalls.{after, ByteCall, IsPartlyRun}
 use Rattle.transcript_bytes.specs.declared.byte_challenger.ByteChallenger
 use Rattle.transcript_bytes.specs.declared.guarded.Guarded.{Guarded}
 
@@ -23,3 +23,7 @@ guarded_refused {c = c} guarded = c.has_refused guarded.inner
 -- whether a call has failed
 abbrev pub guarded_failed : {C : Type 0} {c : ByteChallenger.Ghosts C} → Guarded C c → Bool
 guarded_failed guarded = guarded.has_failed
+
+-- the challenger that is guarded refused one of these byte calls, begun in the state of the first, and is what that call left
+abbrev pub RunsPartly : {C : Type 0} {c : ByteChallenger.Ghosts C} → List ByteCall → Guarded C c → Guarded C c → Type 0
+RunsPartly {c = c} calls old new = IsPartlyRun c.transitions c.state c.may_leave calls (c.state old.inner) new.inner

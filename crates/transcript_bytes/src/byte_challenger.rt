@@ -1,11 +1,12 @@
 // Byte challengers, and the law of runs of their calls.
-ghost use Rattle.std.specs.Prelude.{◌≡◌, Bool, true, false, OnOk, OnErr, IfOk};
+ghost use Rattle.std.specs.Prelude.{◌≡◌, ⊤, Bool, true, false, OnOk, OnErr, IfOk};
 ghost use Rattle.transcript_bytes.specs.ByteCalls.{RunsJoin, Transitions};
 
 use std::alloc::AllocError;
 
 /// A transcript over bytes. It has a state, which changes with each byte that is observed or sampled; what is sampled depends on
-/// the state alone. A call may be refused memory; the state is then unchanged, and the challenger remembers that it has refused.
+/// the state alone. A call may be refused memory; the challenger then remembers that it has refused, and its state is what
+/// `may_leave` says.
 pub trait ByteChallenger: Drop + Sized {
     // The states.
     ghost State: { Type 0 };
@@ -19,18 +20,21 @@ pub trait ByteChallenger: Drop + Sized {
     // The state after a byte was observed, and the byte that is sampled with the state after it.
     ghost transitions: { Transitions State };
 
-    /// Observes a byte. It fails if memory was refused; the state is then unchanged, and the challenger has refused.
+    // Whether a call that is refused may leave the second challenger of the first. An impl that does not say so may leave any.
+    ghost may_leave: { Self → Self → Type 0 } = { λ _ _. ⊤ };
+
+    /// Observes a byte. It fails if memory was refused; the challenger has then refused.
     fn observe_byte(&mut self, byte: u8) -> Result<(), AllocError>
         ensures ok { OnOk result (state self.new ≡ transitions.observed (state self.old) byte) }
         ensures kept { OnOk result (has_refused self.new ≡ has_refused self.old) }
-        ensures err { OnErr result (state self.new ≡ state self.old) }
+        ensures err { OnErr result (may_leave self.old self.new) }
         ensures refusal { OnErr result (has_refused self.new ≡ true) };
 
-    /// Samples a byte. It fails if memory was refused; the state is then unchanged, and the challenger has refused.
+    /// Samples a byte. It fails if memory was refused; the challenger has then refused.
     fn sample_byte(&mut self) -> Result<u8, AllocError>
         ensures ok { IfOk result (λ byte. transitions.sampled (state self.old) ≡ (byte, state self.new)) }
         ensures kept { OnOk result (has_refused self.new ≡ has_refused self.old) }
-        ensures err { OnErr result (state self.new ≡ state self.old) }
+        ensures err { OnErr result (may_leave self.old self.new) }
         ensures refusal { OnErr result (has_refused self.new ≡ true) };
 
     /// A challenger with the same state, which has not refused. It fails if memory was refused.

@@ -5,11 +5,13 @@ ghost use Rattle.transcript_bytes.specs.ByteCalls.{after, IsPartlyRun, observing
 use crate::byte_challenger::ByteChallenger;
 use std::alloc::AllocError;
 
-/// Observes the bytes in order. It fails at the first byte that is refused; the state is then that after the bytes before it.
+/// Observes the bytes in order. It fails at the first byte that is refused; the bytes before it are then observed, and the challenger
+/// is what the refused call has left.
 pub fn observe_bytes<C: ByteChallenger>(challenger: &mut C, bytes: &[u8]) -> Result<(), AllocError>
     ensures ok { OnOk result (C.state challenger.new ≡ after C.transitions (observing bytes.now) (C.state challenger.old)) }
     ensures kept { OnOk result (C.has_refused challenger.new ≡ C.has_refused challenger.old) }
-    ensures err { OnErr result (IsPartlyRun C.transitions (observing bytes.now) (C.state challenger.old) (C.state challenger.new)) }
+    ensures err { OnErr result (IsPartlyRun C.transitions C.state C.may_leave (observing bytes.now)
+        (C.state challenger.old) challenger.new) }
     ensures refusal { OnErr result (C.has_refused challenger.new ≡ true) }
 {
     'bytes: for index in 0..bytes.len() {
@@ -18,8 +20,8 @@ pub fn observe_bytes<C: ByteChallenger>(challenger: &mut C, bytes: &[u8]) -> Res
     Ok(())
 }
 
-/// Fills `bytes` with samples, in order. It fails at the first byte that is refused; the state is then that after the bytes before
-/// it, and what `bytes` holds is left open.
+/// Fills `bytes` with samples, in order. It fails at the first byte that is refused; the bytes before it are then sampled, the
+/// challenger is what the refused call has left, and what `bytes` holds is left open.
 pub fn sample_bytes<C: ByteChallenger>(
     challenger: &mut C,
     bytes: &mut [u8],
@@ -27,7 +29,8 @@ pub fn sample_bytes<C: ByteChallenger>(
     ensures ok { OnOk result (C.state challenger.new ≡ after C.transitions (sampling (length bytes.old)) (C.state challenger.old)) }
     ensures bytes { OnOk result (bytes.new ≡ squeezed C.transitions (sampling (length bytes.old)) (C.state challenger.old)) }
     ensures kept { OnOk result (C.has_refused challenger.new ≡ C.has_refused challenger.old) }
-    ensures err { OnErr result (IsPartlyRun C.transitions (sampling (length bytes.old)) (C.state challenger.old) (C.state challenger.new)) }
+    ensures err { OnErr result (IsPartlyRun C.transitions C.state C.may_leave (sampling (length bytes.old))
+        (C.state challenger.old) challenger.new) }
     ensures refusal { OnErr result (C.has_refused challenger.new ≡ true) }
 {
     'bytes: for index in 0..bytes.len() {
@@ -36,13 +39,13 @@ pub fn sample_bytes<C: ByteChallenger>(
     Ok(())
 }
 
-/// Samples eight bytes and reads them as a number, lowest byte first. It fails at the first byte that is refused; the state is
-/// then that after the bytes before it.
+/// Samples eight bytes and reads them as a number, lowest byte first. It fails at the first byte that is refused; the bytes before it
+/// are then sampled, and the challenger is what the refused call has left.
 pub fn sample_u64<C: ByteChallenger>(challenger: &mut C) -> Result<u64, AllocError>
     ensures ok { OnOk result (C.state challenger.new ≡ after C.transitions (sampling 8) (C.state challenger.old)) }
     ensures word { IfOk result (λ word. word ≡ squeezed_word C.transitions (sampling 8) (C.state challenger.old)) }
     ensures kept { OnOk result (C.has_refused challenger.new ≡ C.has_refused challenger.old) }
-    ensures err { OnErr result (IsPartlyRun C.transitions (sampling 8) (C.state challenger.old) (C.state challenger.new)) }
+    ensures err { OnErr result (IsPartlyRun C.transitions C.state C.may_leave (sampling 8) (C.state challenger.old) challenger.new) }
     ensures refusal { OnErr result (C.has_refused challenger.new ≡ true) }
 {
     let mut bytes = [0; 8];

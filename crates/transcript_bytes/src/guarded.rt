@@ -9,8 +9,8 @@ use crate::byte_runs::{observe_bytes, sample_bytes, sample_u64};
 use crate::error::ChallengerError;
 use std::alloc::AllocError;
 
-/// A byte challenger that is not used again once a call was refused: that call returns `Memory`, and every later one `Failed`. So
-/// no state that an unfinished call left is ever read.
+/// A byte challenger that is not used again once a call was refused: that call returns `Memory`, and every later one `Failed`, and
+/// changes nothing. So no state that an unfinished call left is ever read.
 #[derive(Drop)]
 pub struct Guarded<C: ByteChallenger> {
     inner: C,
@@ -20,6 +20,7 @@ pub struct Guarded<C: ByteChallenger> {
 
 impl<C: ByteChallenger> Guarded<C> {
     ghost use Rattle.transcript_bytes.specs.Guarded.{guarded_after, guarded_failed, guarded_inner, guarded_refused, guarded_state};
+    ghost use Rattle.transcript_bytes.specs.Guarded.{RunsPartly};
 
     /// Guards `inner`, which has not refused. No call has failed yet.
     pub fn new(inner: C) -> Guarded<C>
@@ -48,10 +49,12 @@ impl<C: ByteChallenger> Guarded<C> {
         self.has_failed = true;
     }
 
-    /// Observes the bytes in order.
+    /// Observes the bytes in order. After a refusal the bytes before the refused one are observed.
     pub fn observe_bytes(&mut self, bytes: &[u8]) -> Result<(), ChallengerError>
         ensures ok { OnOk result (guarded_state self.new ≡ guarded_after (observing bytes.now) self.old) }
         ensures answer { GuardedAnswer (guarded_failed self.old) (guarded_failed self.new) (guarded_refused self.new) result }
+        ensures kept { guarded_failed self.old ≡ true → self.new ≡ self.old }
+        ensures err { guarded_failed self.old ≡ false → OnErr result (RunsPartly (observing bytes.now) self.old self.new) }
     {
         if self.has_failed {
             return Err(ChallengerError::Failed);
@@ -59,11 +62,14 @@ impl<C: ByteChallenger> Guarded<C> {
         remembered(observe_bytes(&mut self.inner, bytes), &mut self.has_failed)
     }
 
-    /// Fills `bytes` with samples, in order. After a failure what `bytes` holds is left open.
+    /// Fills `bytes` with samples, in order. After a refusal the bytes before the refused one are sampled, and what `bytes` holds is
+    /// left open.
     pub fn sample_bytes(&mut self, bytes: &mut [u8]) -> Result<(), ChallengerError>
         ensures ok { OnOk result (guarded_state self.new ≡ guarded_after (sampling (length bytes.old)) self.old) }
         ensures bytes { OnOk result (bytes.new ≡ squeezed C.transitions (sampling (length bytes.old)) (guarded_state self.old)) }
         ensures answer { GuardedAnswer (guarded_failed self.old) (guarded_failed self.new) (guarded_refused self.new) result }
+        ensures kept { guarded_failed self.old ≡ true → self.new ≡ self.old }
+        ensures err { guarded_failed self.old ≡ false → OnErr result (RunsPartly (sampling (length bytes.old)) self.old self.new) }
     {
         if self.has_failed {
             return Err(ChallengerError::Failed);
@@ -71,11 +77,13 @@ impl<C: ByteChallenger> Guarded<C> {
         remembered(sample_bytes(&mut self.inner, bytes), &mut self.has_failed)
     }
 
-    /// Samples eight bytes and reads them as a number, lowest byte first.
+    /// Samples eight bytes and reads them as a number, lowest byte first. After a refusal the bytes before the refused one are sampled.
     pub fn sample_u64(&mut self) -> Result<u64, ChallengerError>
         ensures ok { OnOk result (guarded_state self.new ≡ guarded_after (sampling 8) self.old) }
         ensures word { IfOk result (λ word. word ≡ squeezed_word C.transitions (sampling 8) (guarded_state self.old)) }
         ensures answer { GuardedAnswer (guarded_failed self.old) (guarded_failed self.new) (guarded_refused self.new) result }
+        ensures kept { guarded_failed self.old ≡ true → self.new ≡ self.old }
+        ensures err { guarded_failed self.old ≡ false → OnErr result (RunsPartly (sampling 8) self.old self.new) }
     {
         if self.has_failed {
             return Err(ChallengerError::Failed);
@@ -83,10 +91,12 @@ impl<C: ByteChallenger> Guarded<C> {
         remembered(sample_u64(&mut self.inner), &mut self.has_failed)
     }
 
-    /// A copy with the same state, which has failed if and only if this one has. It fails if memory was refused.
+    /// A copy with the same state, which has failed if and only if this one has, over a byte challenger that has not refused. It
+    /// fails if memory was refused.
     pub fn try_clone(&self) -> Result<Guarded<C>, AllocError>
         ensures state { IfOk result (λ copy. guarded_state copy ≡ guarded_state self.now) }
         ensures failed { IfOk result (λ copy. guarded_failed copy ≡ guarded_failed self.now) }
+        ensures fresh { IfOk result (λ copy. guarded_refused copy ≡ false) }
     {
         Ok(Guarded {
             inner: self.inner.try_clone()?,

@@ -86,6 +86,9 @@ impl<H: ByteHasher32, A: Allocator + Clone> ByteChallenger for HashChallenger<H,
 
     ghost transitions = { hash_transitions H.digest };
 
+    // A refused call keeps the hasher, the input and the output.
+    ghost may_leave = { λ old new. hash_state new ≡ hash_state old };
+
     fn observe_byte(&mut self, byte: u8) -> Result<(), AllocError> {
         if self.input.push(byte).is_err() {
             self.has_refused = true;

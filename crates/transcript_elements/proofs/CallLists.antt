@@ -1,14 +1,11 @@
--- Lists of calls of a challenger that are made one after the other: the state that they leave, and their answers.
-use Rattle.std.proofs.Common.{◌≡◌, ◌<◌, ◌+◌, ℕ, Bool, false, true, Err, IsErrAnd, Ok, Result, List, [], ◌∷◌, ◌++◌, add-one, ap, ap₂, get_or, length, refl, sym, take, ◌∙◌}
+-- Lists of calls of a challenger that are made one after the other: the state that they leave, and their sayings.
+use Rattle.std.proofs.Common.{◌≡◌, ◌<◌, ◌+◌, ℕ, Err, Ok, OnErr, Result, List, [], ◌∷◌, ◌++◌, add-one, ap, ap₂, drop, get_or, length, refl, sym, take, ◌∙◌}
 use Rattle.std.proofs.Math.Seq.{take-suc}
-use Rattle.std.proofs.lemmas.Bool.{false≢true}
 use Rattle.std.proofs.lemmas.Grind.{flat_map-append}
-use Rattle.std.proofs.lemmas.List.{append-nil, append_assoc, map-append}
+use Rattle.std.proofs.lemmas.List.{append-nil, append_assoc, map-append, take-append-drop}
 use Rattle.transcript_bytes.specs.ByteCalls.{after, squeezed, Transitions}
-use Rattle.transcript_bytes.specs.GuardedAnswers.{GuardedAnswer}
-use Rattle.transcript_bytes.specs.declared.error.ChallengerError.{ChallengerError}
 use Rattle.transcript_bytes.proofs.Runs.{after-append, after_none, state_joined}
-use Rattle.transcript_elements.specs.Calls.{answer_from, call_answers, AppendsAnswers, byte_calls, joined_calls, said}
+use Rattle.transcript_elements.specs.Calls.{saying_from, call_sayings, AppendsSayings, byte_calls, joined_calls, said}
 use Rattle.transcript_elements.specs.declared.calls.Call.{Call}
 use Rattle.transcript_elements.specs.declared.calls.Reply.{Reply}
 
@@ -19,8 +16,8 @@ module _ {F S : Type 0} (size width : ℕ) (repr : F → ℕ) (transitions : Tra
 
   -- an empty list of calls has no replies
   pub nothing_replied : (old : List (Reply F)) (state : S)
-      → AppendsAnswers repr (call_answers size width repr transitions [] state) old old
-  unfolding call_answers
+      → AppendsSayings repr (call_sayings size width repr transitions [] state) old old
+  unfolding call_sayings
   nothing_replied old state = ([], sym (append-nil old), refl)
 
   -- the first n + 1 calls are the first n and call n
@@ -28,6 +25,14 @@ module _ {F S : Type 0} (size width : ℕ) (repr : F → ℕ) (transitions : Tra
       → take (count + 1) calls ≡ take count calls ++ call ∷ []
   one_more_call calls count call default inside is =
       ap (λ (k : ℕ). take k calls) (add-one count) ∙ take-suc calls count default inside ∙ ap (λ c. take count calls ++ c ∷ []) (sym is)
+
+  -- call n stands between the first n calls and the rest
+  pub call_apart : (calls : List (Call F)) (count : ℕ) (call default : Call F) → count < length calls → call ≡ get_or calls count default
+      → calls ≡ take count calls ++ call ∷ drop (count + 1) calls
+  call_apart calls count call default inside is =
+      sym (take-append-drop (count + 1) calls)
+      ∙ ap (λ front. front ++ drop (count + 1) calls) (one_more_call calls count call default inside is)
+      ∙ append_assoc (take count calls) (call ∷ []) (drop (count + 1) calls)
 
   -- a loop that has made n calls and makes call n is in the state after n + 1 calls
   pub called_next : (calls : List (Call F)) (count : ℕ) (call default : Call F) (old now next : S) → count < length calls
@@ -43,48 +48,40 @@ module _ {F S : Type 0} (size width : ℕ) (repr : F → ℕ) (transitions : Tra
       state_joined transitions (joined_calls size repr (take count calls)) (byte_calls size repr call) old now next before step
       ∙ ap (λ bytes. after transitions bytes old) (sym joined)
 
-  -- the answers of two joined lists are those of the first, and then those of the second from the state after the first
-  answers-append : (first second : List (Call F)) (state : S)
-      → call_answers size width repr transitions (first ++ second) state
-      ≡ call_answers size width repr transitions first state
-      ++ call_answers size width repr transitions second (after transitions (joined_calls size repr first) state)
-  unfolding call_answers
-  answers-append [] second state = ap (call_answers size width repr transitions second) (nothing_called state)
-  answers-append (call ∷ calls) second state =
+  -- the sayings of two joined lists are those of the first, and then those of the second from the state after the first
+  sayings-append : (first second : List (Call F)) (state : S)
+      → call_sayings size width repr transitions (first ++ second) state
+      ≡ call_sayings size width repr transitions first state
+      ++ call_sayings size width repr transitions second (after transitions (joined_calls size repr first) state)
+  unfolding call_sayings
+  sayings-append [] second state = ap (call_sayings size width repr transitions second) (nothing_called state)
+  sayings-append (call ∷ calls) second state =
       let next = after transitions (byte_calls size repr call) state in
-      ap (λ rest. answer_from width call (squeezed transitions (byte_calls size repr call) state) ∷ rest)
-      (answers-append calls second next
-      ∙ ap (λ last. call_answers size width repr transitions calls next ++ call_answers size width repr transitions second last)
+      ap (λ rest. saying_from width call (squeezed transitions (byte_calls size repr call) state) ∷ rest)
+      (sayings-append calls second next
+      ∙ ap (λ last. call_sayings size width repr transitions calls next ++ call_sayings size width repr transitions second last)
       (sym (after-append transitions (byte_calls size repr call) (joined_calls size repr calls) state)))
 
-  -- .. and with the reply to call n it has appended the answers of n + 1 calls
+  -- .. and with the reply to call n it has appended the sayings of n + 1 calls
   pub replied_next : (calls : List (Call F)) (count : ℕ) (call default : Call F) (reply : Reply F) (old now : S)
       (before replies : List (Reply F)) → count < length calls → call ≡ get_or calls count default
       → now ≡ after transitions (joined_calls size repr (take count calls)) old
-      → said repr reply ≡ answer_from width call (squeezed transitions (byte_calls size repr call) now)
-      → AppendsAnswers repr (call_answers size width repr transitions (take count calls) old) before replies
-      → AppendsAnswers repr (call_answers size width repr transitions (take (count + 1) calls) old) before (replies ++ reply ∷ [])
-  unfolding call_answers
+      → said repr reply ≡ saying_from width call (squeezed transitions (byte_calls size repr call) now)
+      → AppendsSayings repr (call_sayings size width repr transitions (take count calls) old) before replies
+      → AppendsSayings repr (call_sayings size width repr transitions (take (count + 1) calls) old) before (replies ++ reply ∷ [])
+  unfolding call_sayings
   replied_next calls count call default reply old now before replies inside is run answered (made, are, say) = (
     made ++ reply ∷ [],
     ap (λ items. items ++ reply ∷ []) are ∙ append_assoc before made (reply ∷ []),
     map-append (said repr) made (reply ∷ [])
         ∙ ap₂ (λ first last. first ++ last ∷ []) say answered
-        ∙ ap (λ state. call_answers size width repr transitions (take count calls) old
-        ++ call_answers size width repr transitions (call ∷ []) state) run
-        ∙ sym (answers-append (take count calls) (call ∷ []) old)
-        ∙ ap (λ list. call_answers size width repr transitions list old) (sym (one_more_call calls count call default inside is)),
+        ∙ ap (λ state. call_sayings size width repr transitions (take count calls) old
+        ++ call_sayings size width repr transitions (call ∷ []) state) run
+        ∙ sym (sayings-append (take count calls) (call ∷ []) old)
+        ∙ ap (λ list. call_sayings size width repr transitions list old) (sym (one_more_call calls count call default inside is)),
   )
 
--- if a call in a list failed, the list fails with its error. The list claims nothing on refusals (`true`), since it may also have
--- been refused room for its replies.
-pub refused_in_list : {T U : Type 0} (before between after refused : Bool) (error : ChallengerError) (result : Result U ChallengerError)
-    → before ≡ false → between ≡ false → GuardedAnswer {T = T} between after refused (Err error) → IsErrAnd result (λ answered. answered ≡ error)
-    → GuardedAnswer before after true result
-refused_in_list before between after refused error (Ok value) begins goes_on answer is = absurd is
-refused_in_list before between after refused error (Err answered) begins goes_on answer is = record {
-  failed = λ failed. absurd (false≢true (sym begins ∙ failed));
-  goes_on = tt;
-  fails = answer.fails;
-  memory = λ _. (is ∙ (answer.memory goes_on).0, refl);
-}
+-- what holds anyway holds if the result is an error
+pub on_err : {T X P : Type 0} (result : Result T X) → P → OnErr result P
+on_err (Ok value) holds = tt
+on_err (Err error) holds = holds

@@ -1,17 +1,16 @@
 -- Seeds as elements: the loop that observes bytes element by element, a seed as two such loops, and that the encoding of seeds is
 -- prefix-free.
-use Rattle.std.proofs.Common.{◌≡◌, ◌≢◌, ◌<◌, ◌≤◌, ◌+◌, ◌-◌, ◌*◌, ◌%◌, ◌^◌, ◌⊎◌, inl, inr, ℕ, zero, suc, List, [], ◌∷◌, ◌++◌, drop, fold, get_or, length, min, replicate, take, refl, sym, subst, lit<, Ok, Err, Result, OnOk, OnErr, ap, ap₂, ◌∙◌, arith}
+use Rattle.std.proofs.Common.{◌≡◌, ◌≢◌, ◌<◌, ◌≤◌, ◌+◌, ◌-◌, ◌*◌, ◌%◌, ◌^◌, ◌⊎◌, inl, inr, ℕ, zero, suc, List, [], ◌∷◌, ◌++◌, drop, get_or, length, min, replicate, take, refl, sym, subst, lit<, Ok, Err, Result, OnOk, OnErr, ap, ap₂, ◌∙◌, arith}
 use Rattle.std.proofs.Math.Pow.{pow_mono}
 use Rattle.std.proofs.Math.Nat.{add-mod_right, lt_of_lt_of_le, mod_self, zero-mod, mod-eq_of_lt}
 use Rattle.std.proofs.Math.Seq.{take-append_seam}
 use Rattle.std.proofs.lemmas.Grind.{flat_map-append}
 use Rattle.std.proofs.lemmas.List.{append-nil, append_assoc, append_cancel_left, drop_all, length-append, length-drop, length-take, take-append-drop, take_all}
-use Rattle.std.proofs.lemmas.List.Sums.{fold-append}
 use Rattle.field_bytes.specs.Bytes.{low_bytes, number_of_bytes}
 use Rattle.field_bytes.specs.Streams.{joined_bytes}
 use Rattle.field_base.specs.Chunks.{chunks, joined}
 use Rattle.transcript_elements.proofs.LowBytes.{fits-take, length-low, low-cons, number-low, number-lt}
-use Rattle.transcript_elements.specs.Seeds.{AreOfSeed, missing, NeitherBegins, Observes, ObservesPart, padded, seed_bytes}
+use Rattle.transcript_elements.specs.Seeds.{AreOfSeed, missing, NeitherBegins, Observes, ObservesAll, ObservesPart, padded, seed_bytes}
 
 -- ---- bytes filled with zeros
 
@@ -107,22 +106,42 @@ on_err-with (Err error) gives holds = gives holds
 -- ---- elements that were observed one after the other
 
 -- the elements of `bytes` were observed except those of `rest`
-pub record Absorbed {E S : Type 0} (size : ℕ) (repr : E → ℕ) (observed : S → E → S) (bytes rest : List ℕ) (old now : S) : Type 0 where
+pub record Absorbed {E C : Type 0} (size : ℕ) (repr : E → ℕ) (observes : C → E → C → Type 0) (bytes rest : List ℕ) (old now : C) : Type 0 where
   pub elements : List E
   pub joined : joined_bytes size repr elements ++ padded size rest ≡ padded size bytes
-  pub run : now ≡ fold observed old elements
+  pub run : ObservesAll observes elements old now
 
-module _ {E S : Type 0} (size : ℕ) (repr : E → ℕ) (observed : S → E → S) (bytes : List ℕ) (old : S) where
+-- elements that are observed after others are observed after those that the others begin with
+observes_joined : {E C : Type 0} (observes : C → E → C → Type 0) (first second : List E) (old now next : C)
+    → ObservesAll observes first old now → ObservesAll observes second now next → ObservesAll observes (first ++ second) old next
+unfolding ObservesAll
+observes_joined observes [] second old now next none run =
+    subst (λ transcript. ObservesAll observes second transcript next) none run
+observes_joined observes (x ∷ first) second old now next (after, step, rest) run =
+    (after, step, observes_joined observes first second after now next rest run)
+
+-- one element that is observed
+observes_one : {E C : Type 0} (observes : C → E → C → Type 0) (x : E) (old new : C) → observes old x new
+    → ObservesAll observes (x ∷ []) old new
+unfolding ObservesAll
+observes_one observes x old new step = (new, step, refl)
+
+-- no elements are observed, and the transcript stays
+pub observes_none : {E C : Type 0} (observes : C → E → C → Type 0) (old : C) → ObservesAll observes [] old old
+unfolding ObservesAll
+observes_none observes old = refl
+
+module _ {E C : Type 0} (size : ℕ) (repr : E → ℕ) (observes : C → E → C → Type 0) (bytes : List ℕ) (old : C) where
   -- at first no elements were observed, and all bytes are left
-  pub absorbed_none : Absorbed size repr observed bytes bytes old old
-  absorbed_none = record { elements = []; joined = refl; run = refl }
+  pub absorbed_none : Absorbed size repr observes bytes bytes old old
+  absorbed_none = record { elements = []; joined = refl; run = observes_none observes old }
 
   -- one more element was observed, that of the first of the bytes that are left
-  pub absorbed_more : (width taken : ℕ) (rest : List ℕ) (x : E) (now next : S) → Absorbed size repr observed bytes rest old now
+  pub absorbed_more : (width taken : ℕ) (rest : List ℕ) (x : E) (now next : C) → Absorbed size repr observes bytes rest old now
       → 0 < length rest → taken ≡ min size (length rest)
       → width ≡ 8 * size → ((k : ℕ) → get_or rest k 0 < 256)
-      → repr x ≡ number_of_bytes (take taken rest) % 2 ^ width → next ≡ observed now x
-      → Absorbed size repr observed bytes (drop taken rest) old next
+      → repr x ≡ number_of_bytes (take taken rest) % 2 ^ width → observes now x next
+      → Absorbed size repr observes bytes (drop taken rest) old next
   absorbed_more width taken rest x now next before some least whole fits is step = record {
     elements = before.elements ++ x ∷ [];
     joined =
@@ -133,7 +152,7 @@ module _ {E S : Type 0} (size : ℕ) (repr : E → ℕ) (observed : S → E → 
         ∙ ap (λ xs. joined_bytes size repr before.elements ++ xs) (sym (padded_first size taken rest some count))
         ∙ before.joined;
     run =
-        step ∙ ap (λ s. observed s x) before.run ∙ sym (fold-append observed old before.elements (x ∷ []));
+        observes_joined observes before.elements (x ∷ []) old now next before.run (observes_one observes x now next step);
   }
     where
       count : (taken ≡ size) × (size ≤ length rest) ⊎ (taken ≡ length rest) × (length rest < size)
@@ -160,8 +179,8 @@ module _ {E S : Type 0} (size : ℕ) (repr : E → ℕ) (observed : S → E → 
           ∙ ap (λ (k : ℕ). take taken rest ++ replicate (size - k) 0) long
 
   -- when no bytes are left, the elements of the padded bytes were observed
-  pub absorbed_all : (rest : List ℕ) (now : S) → Absorbed size repr observed bytes rest old now → length rest ≡ 0
-      → Observes size repr observed (padded size bytes) old now
+  pub absorbed_all : (rest : List ℕ) (now : C) → Absorbed size repr observes bytes rest old now → length rest ≡ 0
+      → Observes size repr observes (padded size bytes) old now
   absorbed_all [] now before none = (
     before.elements,
     sym (append-nil (joined_bytes size repr before.elements))
@@ -172,74 +191,81 @@ module _ {E S : Type 0} (size : ℕ) (repr : E → ℕ) (observed : S → E → 
   absorbed_all (b ∷ rest) now before none = absurd (omega (arith, none))
 
   -- when the call for the next element failed, a proper prefix of the elements was observed
-  pub absorbed_part : (may_leave : S → S → Type 0) (rest : List ℕ) (now left : S) → Absorbed size repr observed bytes rest old now
-      → 0 < length rest → may_leave now left → ObservesPart size repr observed may_leave (padded size bytes) old left
+  pub absorbed_part : (may_leave : C → C → Type 0) (rest : List ℕ) (now left : C) → Absorbed size repr observes bytes rest old now
+      → 0 < length rest → may_leave now left → ObservesPart size repr observes may_leave (padded size bytes) old left
   absorbed_part may_leave rest now left before some leaves = (
     before.elements,
+    now,
     (padded size rest, before.joined, let long = length-append rest (replicate (missing size (length rest)) 0) in omega (arith, long, some)),
-    subst (λ s. may_leave s left) before.run leaves,
+    before.run,
+    leaves,
   )
 
   -- two loops, one after the other, observe the elements of the joined bytes
-  observes_both : (first second : List ℕ) (now next : S) → Observes size repr observed first old now
-      → Observes size repr observed second now next → Observes size repr observed (first ++ second) old next
+  observes_both : (first second : List ℕ) (now next : C) → Observes size repr observes first old now
+      → Observes size repr observes second now next → Observes size repr observes (first ++ second) old next
   observes_both first second now next before after = (
     before.0 ++ after.0,
     flat_map-append (λ y. low_bytes size (repr y)) before.0 after.0 ∙ ap₂ (λ xs ys. xs ++ ys) before.1 after.1,
-    after.2 ∙ ap (λ s. fold observed s after.0) before.2 ∙ sym (fold-append observed old before.0 after.0),
+    observes_joined observes before.0 after.0 old now next before.2 after.2,
   )
 
   -- if the second loop failed, part of the joined bytes was observed
-  observes_part_of_both : (may_leave : S → S → Type 0) (first second : List ℕ) (now left : S)
-      → Observes size repr observed first old now → ObservesPart size repr observed may_leave second now left
-      → ObservesPart size repr observed may_leave (first ++ second) old left
-  observes_part_of_both may_leave first second now left before after = (
-    before.0 ++ after.0,
+  observes_part_of_both : (may_leave : C → C → Type 0) (first second : List ℕ) (now left : C)
+      → Observes size repr observes first old now → ObservesPart size repr observes may_leave second now left
+      → ObservesPart size repr observes may_leave (first ++ second) old left
+  observes_part_of_both may_leave first second now left before (elements, last, (rest, begins, more), run, leaves) = (
+    before.0 ++ elements,
+    last,
     (
-      after.1.0,
-      ap (λ xs. xs ++ after.1.0) (flat_map-append (λ y. low_bytes size (repr y)) before.0 after.0)
-          ∙ append_assoc (joined_bytes size repr before.0) (joined_bytes size repr after.0) after.1.0
-          ∙ ap₂ (λ xs ys. xs ++ ys) before.1 after.1.1,
-      after.1.2,
+      rest,
+      ap (λ xs. xs ++ rest) (flat_map-append (λ y. low_bytes size (repr y)) before.0 elements)
+          ∙ append_assoc (joined_bytes size repr before.0) (joined_bytes size repr elements) rest
+          ∙ ap₂ (λ xs ys. xs ++ ys) before.1 begins,
+      more,
     ),
-    subst (λ s. may_leave s left) (ap (λ s. fold observed s after.0) before.2 ∙ sym (fold-append observed old before.0 after.0)) after.2,
+    observes_joined observes before.0 elements old now last before.2 run,
+    leaves,
   )
 
   -- if the first loop failed, part of the joined bytes was observed
-  observes_part_of_first : (may_leave : S → S → Type 0) (first second : List ℕ) (left : S)
-      → ObservesPart size repr observed may_leave first old left
-      → ObservesPart size repr observed may_leave (first ++ second) old left
-  observes_part_of_first may_leave first second left part = (
-    part.0,
-    (
-      part.1.0 ++ second,
-      sym (append_assoc (joined_bytes size repr part.0) part.1.0 second) ∙ ap (λ xs. xs ++ second) part.1.1,
-      let long = length-append part.1.0 second in omega (arith, long, part.1.2),
-    ),
-    part.2,
-  )
+  observes_part_of_first : (may_leave : C → C → Type 0) (first second : List ℕ) (left : C)
+      → ObservesPart size repr observes may_leave first old left
+      → ObservesPart size repr observes may_leave (first ++ second) old left
+  observes_part_of_first may_leave first second left (elements, last, (rest, begins, more), run, leaves) =
+      let long = length-append rest second in (
+        elements,
+        last,
+        (
+          rest ++ second,
+          sym (append_assoc (joined_bytes size repr elements) rest second) ∙ ap (λ xs. xs ++ second) begins,
+          omega (arith, long, more),
+        ),
+        run,
+        leaves,
+      )
 
   -- the eight bytes of the length and then the bytes were observed: those are the elements of the seed
-  pub seed_observed : (header : List ℕ) (now next : S) → header ≡ low_bytes 8 (length bytes) → Observes size repr observed (padded size header) old now
-      → Observes size repr observed (padded size bytes) now next → Observes size repr observed (seed_bytes size bytes) old next
+  pub seed_observed : (header : List ℕ) (now next : C) → header ≡ low_bytes 8 (length bytes) → Observes size repr observes (padded size header) old now
+      → Observes size repr observes (padded size bytes) now next → Observes size repr observes (seed_bytes size bytes) old next
   seed_observed header now next is before after =
-      subst (λ head. Observes size repr observed (padded size head ++ padded size bytes) old next) is
+      subst (λ head. Observes size repr observes (padded size head ++ padded size bytes) old next) is
       (observes_both (padded size header) (padded size bytes) now next before after)
 
   -- if the second of the two loops failed, part of the seed was observed
-  pub seed_part_of_both : (may_leave : S → S → Type 0) (header : List ℕ) (now left : S) → header ≡ low_bytes 8 (length bytes)
-      → Observes size repr observed (padded size header) old now → ObservesPart size repr observed may_leave (padded size bytes) now left
-      → ObservesPart size repr observed may_leave (seed_bytes size bytes) old left
+  pub seed_part_of_both : (may_leave : C → C → Type 0) (header : List ℕ) (now left : C) → header ≡ low_bytes 8 (length bytes)
+      → Observes size repr observes (padded size header) old now → ObservesPart size repr observes may_leave (padded size bytes) now left
+      → ObservesPart size repr observes may_leave (seed_bytes size bytes) old left
   seed_part_of_both may_leave header now left is before after =
-      subst (λ head. ObservesPart size repr observed may_leave (padded size head ++ padded size bytes) old left) is
+      subst (λ head. ObservesPart size repr observes may_leave (padded size head ++ padded size bytes) old left) is
       (observes_part_of_both may_leave (padded size header) (padded size bytes) now left before after)
 
   -- so it was if the first one failed
-  pub seed_part_of_first : (may_leave : S → S → Type 0) (header : List ℕ) (left : S) → header ≡ low_bytes 8 (length bytes)
-      → ObservesPart size repr observed may_leave (padded size header) old left
-      → ObservesPart size repr observed may_leave (seed_bytes size bytes) old left
+  pub seed_part_of_first : (may_leave : C → C → Type 0) (header : List ℕ) (left : C) → header ≡ low_bytes 8 (length bytes)
+      → ObservesPart size repr observes may_leave (padded size header) old left
+      → ObservesPart size repr observes may_leave (seed_bytes size bytes) old left
   seed_part_of_first may_leave header left is part =
-      subst (λ head. ObservesPart size repr observed may_leave (padded size head ++ padded size bytes) old left) is
+      subst (λ head. ObservesPart size repr observes may_leave (padded size head ++ padded size bytes) old left) is
       (observes_part_of_first may_leave (padded size header) (padded size bytes) left part)
 
 -- the encoding of a seed is not empty, since it has the length

@@ -1,6 +1,6 @@
 -- What a contract sees of the challenger of a field.
 use Rattle.std.specs.Prelude.{Bool, List}
-use Rattle.transcript_bytes.specs.ByteCalls.{after, ByteCall}
+use Rattle.transcript_bytes.specs.ByteCalls.{after, ByteCall, IsPartlyRun}
 use Rattle.transcript_bytes.specs.declared.byte_challenger.ByteChallenger
 use Rattle.transcript_bytes.specs.declared.guarded.Guarded.{Guarded}
 use Rattle.transcript_elements.specs.declared.challenger.BinaryChallenger.{BinaryChallenger}
@@ -28,3 +28,9 @@ challenger_failed challenger = challenger.guarded.has_failed
 -- whether the byte challenger has refused a call
 abbrev pub challenger_refused : {F C : Type 0} {c : ByteChallenger.Ghosts C} → BinaryChallenger F C c → Bool
 challenger_refused {c = c} challenger = c.has_refused challenger.guarded.inner
+
+-- the byte challenger refused one of these byte calls, begun in the state of the first, and is what that call left
+abbrev pub StopsWithin : {F C : Type 0} {c : ByteChallenger.Ghosts C} → List ByteCall → BinaryChallenger F C c → BinaryChallenger F C c
+    → Type 0
+StopsWithin {c = c} calls old new =
+    IsPartlyRun c.transitions c.state c.may_leave calls (c.state old.guarded.inner) new.guarded.inner

@@ -6,4 +6,6 @@ pub mod Sampled
 pub mod BigEndian
 pub mod Recorders
 pub mod Seeds
+pub mod StateLemmas
+pub mod States
 pub mod Tags

@@ -1,6 +1,6 @@
 -- How a seed, a string of bytes, is read as elements of `size` bytes each: its length as eight bytes and then the seed, each filled
 -- with zeros to whole elements. This encoding is prefix-free.
-use Rattle.std.specs.Prelude.{◌≡◌, ◌≢◌, ◌<◌, ◌-◌, ◌%◌, ◌^◌, ℕ, List, ◌++◌, fold, length, replicate}
+use Rattle.std.specs.Prelude.{◌≡◌, ◌≢◌, ◌<◌, ◌-◌, ◌%◌, ◌^◌, ℕ, List, [], ◌∷◌, ◌++◌, length, replicate}
 use Rattle.field_bytes.specs.Bytes.{low_bytes}
 use Rattle.field_bytes.specs.Streams.{joined_bytes}
 
@@ -34,30 +34,34 @@ IsPrefixFree {E} size repr seed =
     (other : List ℕ) → length other < 2 ^ 64 → other ≢ seed
     → (xs ys : List E) → AreOfSeed size repr seed xs → AreOfSeed size repr other ys → NeitherBegins xs ys
 
--- elements whose bytes are those given were observed in order
-abbrev pub Observes : {E S : Type 0} → ℕ → (E → ℕ) → (S → E → S) → List ℕ → S → S → Type 0
-Observes {E} size repr observed bytes old new =
-    (elements : List E) × (joined_bytes size repr elements ≡ bytes) × (new ≡ fold observed old elements)
+-- elements are observed one after the other, each in the transcript that the one before it has left
+unfoldable pub ObservesAll : {E C : Type 0} → (C → E → C → Type 0) → List E → C → C → Type 0
+ObservesAll observes [] old new = new ≡ old
+ObservesAll {C = C} observes (element ∷ elements) old new =
+    (next : C) × observes old element next × ObservesAll observes elements next new
 
--- elements whose bytes are a proper prefix of those given were observed, and the call for the next element failed
-abbrev pub ObservesPart : {E S : Type 0} → ℕ → (E → ℕ) → (S → E → S) → (S → S → Type 0) → List ℕ → S → S → Type 0
-ObservesPart {E} size repr observed may_leave bytes old new =
-    (elements : List E) × BeginBytes size repr bytes elements × may_leave (fold observed old elements) new
+-- elements whose bytes are those given are observed in order
+abbrev pub Observes : {E C : Type 0} → ℕ → (E → ℕ) → (C → E → C → Type 0) → List ℕ → C → C → Type 0
+Observes {E} size repr observes bytes old new =
+    (elements : List E) × (joined_bytes size repr elements ≡ bytes) × ObservesAll observes elements old new
 
--- a transcript observed the elements of the bytes, filled with zeros to whole elements, in order
-abbrev pub ObservesPadded : {E S C : Type 0} → ℕ → (E → ℕ) → (S → E → S) → (C → S) → List ℕ → C → C → Type 0
-ObservesPadded size repr observed state bytes old new = Observes size repr observed (padded size bytes) (state old) (state new)
+-- elements whose bytes are a proper prefix of those given are observed, and the call for the next element fails
+abbrev pub ObservesPart : {E C : Type 0} → ℕ → (E → ℕ) → (C → E → C → Type 0) → (C → C → Type 0) → List ℕ → C → C → Type 0
+ObservesPart {E} {C} size repr observes may_leave bytes old new =
+    (elements : List E) × (last : C) × BeginBytes size repr bytes elements × ObservesAll observes elements old last × may_leave last new
 
--- a transcript observed only some of them, from the first on, and the call for the next one failed
-abbrev pub BeginsPadded : {E S C : Type 0} → ℕ → (E → ℕ) → (S → E → S) → (S → S → Type 0) → (C → S) → List ℕ → C → C → Type 0
-BeginsPadded size repr observed may_leave state bytes old new =
-    ObservesPart size repr observed may_leave (padded size bytes) (state old) (state new)
+-- the elements of the bytes, filled with zeros to whole elements, are observed in order
+abbrev pub ObservesPadded : {E C : Type 0} → ℕ → (E → ℕ) → (C → E → C → Type 0) → List ℕ → C → C → Type 0
+ObservesPadded size repr observes bytes old new = Observes size repr observes (padded size bytes) old new
 
--- a transcript observed the elements of the seed in order
-abbrev pub ObservesSeed : {E S C : Type 0} → ℕ → (E → ℕ) → (S → E → S) → (C → S) → List ℕ → C → C → Type 0
-ObservesSeed size repr observed state seed old new = Observes size repr observed (seed_bytes size seed) (state old) (state new)
+-- only some of them are, from the first on, and the call for the next one fails
+abbrev pub BeginsPadded : {E C : Type 0} → ℕ → (E → ℕ) → (C → E → C → Type 0) → (C → C → Type 0) → List ℕ → C → C → Type 0
+BeginsPadded size repr observes may_leave bytes old new = ObservesPart size repr observes may_leave (padded size bytes) old new
 
--- a transcript observed only some of them, from the first on, and the call for the next one failed
-abbrev pub BeginsSeed : {E S C : Type 0} → ℕ → (E → ℕ) → (S → E → S) → (S → S → Type 0) → (C → S) → List ℕ → C → C → Type 0
-BeginsSeed size repr observed may_leave state seed old new =
-    ObservesPart size repr observed may_leave (seed_bytes size seed) (state old) (state new)
+-- the elements of the seed are observed in order
+abbrev pub ObservesSeed : {E C : Type 0} → ℕ → (E → ℕ) → (C → E → C → Type 0) → List ℕ → C → C → Type 0
+ObservesSeed size repr observes seed old new = Observes size repr observes (seed_bytes size seed) old new
+
+-- only some of them are, from the first on, and the call for the next one fails
+abbrev pub BeginsSeed : {E C : Type 0} → ℕ → (E → ℕ) → (C → E → C → Type 0) → (C → C → Type 0) → List ℕ → C → C → Type 0
+BeginsSeed size repr observes may_leave seed old new = ObservesPart size repr observes may_leave (seed_bytes size seed) old new

@@ -1,30 +1,28 @@
 // Elements of extensions that are observed and sampled, coefficient by coefficient.
-ghost use Rattle.std.specs.Prelude.{◌≡◌, ℕ, IfOk, OnOk};
+ghost use Rattle.std.specs.Prelude.{◌≡◌, ◌<◌, ◌*◌, ◌^◌, ℕ, true, IfOk, OnOk};
 ghost use Rattle.transcript_bytes.specs.ByteCalls.{after, observing};
 ghost use Rattle.transcript_bytes.specs.GuardedAnswers.{GuardedAnswer};
-ghost use Rattle.transcript_elements.specs.Challengers.{state_of};
+ghost use Rattle.transcript_elements.specs.Challengers.{state_after, state_of};
 ghost use Rattle.transcript_elements.specs.Sampled.{coefficient_bytes, SamplesCoefficients};
+ghost use Rattle.transcript_elements.specs.StateLemmas.{same_samples, same_value};
+ghost use Rattle.transcript_elements.specs.States.{GivesByState, LeadsByState};
 
 use crate::challenger::BinaryChallenger;
 use crate::sample::CanSample;
-use crate::{ByteLevel, CanObserve, Transcript};
+use crate::{ByteLevel, CanObserve, CanSampleBits, Transcript};
 use field_base::traits::PrimeCharacteristicRing;
 use field_space::BasedVectorSpace;
 use transcript_bytes::{ByteChallenger, ChallengerError};
 
-/// A transcript that observes and samples elements of the algebras over the field `F`, coefficient by coefficient.
-pub trait FieldChallenger<F: PrimeCharacteristicRing>: Transcript {
-    // The states.
-    ghost State: { Type 0 };
+/// A transcript that observes and samples elements of the field `F`, and of the algebras over it coefficient by coefficient.
+pub trait FieldChallenger<F: PrimeCharacteristicRing>: CanObserve<F>
+    + CanSample<F>
+    + CanSampleBits<usize> {
+    // Whether observing an element of so many coefficients, by its representation, may lead from the first transcript to the second.
+    ghost observes_algebra: { Self → ℕ → ℕ → Self → Type 0 };
 
-    // The state of a transcript.
-    ghost state: { Self → State };
-
-    // The state after an element of so many coefficients was observed, by its representation.
-    ghost algebra_observed: { State → ℕ → ℕ → State };
-
-    // Whether sampling so many coefficients in the first state gives the representation and leaves the second state.
-    ghost gives_algebra: { State → ℕ → ℕ → State → Type 0 };
+    // Whether sampling so many coefficients may give the representation, and lead from the first transcript to the second.
+    ghost gives_algebra: { Self → ℕ → ℕ → Self → Type 0 };
 
     /// Observes the coefficients, the lowest first. It fails with `Memory` if memory was refused, and with `Failed` if an earlier
     /// call had failed.
@@ -32,24 +30,35 @@ pub trait FieldChallenger<F: PrimeCharacteristicRing>: Transcript {
         &mut self,
         element: E,
     ) -> Result<(), ChallengerError>
-        ensures ok { OnOk result (state self.new ≡ algebra_observed (state self.old) E.DIMENSION (E.repr element)) }
+        ensures ok { OnOk result (observes_algebra self.old E.DIMENSION (E.repr element) self.new) }
+        ensures kept { Self.has_failed self.old ≡ true → self.new ≡ self.old }
         ensures answer { GuardedAnswer (Self.has_failed self.old) (Self.has_failed self.new) (Self.has_refused self.new) result };
 
     /// Samples the coefficients, the lowest first. It fails with `Memory` if memory was refused, and with `Failed` if an earlier
     /// call had failed.
     fn sample_algebra_element<E: BasedVectorSpace<F>>(&mut self) -> Result<E, ChallengerError>
-        ensures ok { IfOk result (λ element. gives_algebra (state self.old) E.DIMENSION (E.repr element) (state self.new)) }
+        ensures ok { IfOk result (λ element. gives_algebra self.old E.DIMENSION (E.repr element) self.new) }
+        ensures kept { Self.has_failed self.old ≡ true → self.new ≡ self.old }
         ensures answer { GuardedAnswer (Self.has_failed self.old) (Self.has_failed self.new) (Self.has_refused self.new) result };
+
+    ghost observes_algebra_law: { (n x : ℕ) → LeadsByState Self.state (λ old new. observes_algebra old n x new) };
+
+    // Of representations that fit in so many coefficients.
+    ghost gives_algebra_law: { (n : ℕ) → GivesByState Self.state
+        (λ (old : Self) (x : ℕ) (new : Self). (x < 2 ^ (F.width * n)) × gives_algebra old n x new) };
 }
 
-impl<F: ByteLevel, Inner: ByteChallenger> FieldChallenger<F> for BinaryChallenger<F, Inner> {
-    ghost State = { Inner.State };
+impl<F: ByteLevel + BasedVectorSpace<F>, Inner: ByteChallenger> FieldChallenger<F>
+    for BinaryChallenger<F, Inner> {
+    ghost observes_algebra = { λ old n x new. state_of new ≡ state_after (observing (coefficient_bytes F.NUM_BYTES F.width n x)) old };
 
-    ghost state = { λ challenger. state_of challenger };
+    ghost gives_algebra = { λ old n x new. SamplesCoefficients Inner.transitions F.NUM_BYTES F.width n (state_of old) x (state_of new) };
 
-    ghost algebra_observed = { λ state n x. after Inner.transitions (observing (coefficient_bytes F.NUM_BYTES F.width n x)) state };
+    ghost observes_algebra_law = { λ n x old new other_old other_new same is are.
+        same_value (after Inner.transitions (observing (coefficient_bytes F.NUM_BYTES F.width n x))) _ _ _ _ same is are };
 
-    ghost gives_algebra = { λ old n x new. SamplesCoefficients Inner.transitions F.NUM_BYTES F.width n old x new };
+    ghost gives_algebra_law = { λ n old new other_old other_new x y same is are.
+        same_samples Inner.transitions F.NUM_BYTES F.width n _ _ _ _ x y is.0 are.0 same is.1 are.1 };
 
     fn observe_algebra_element<E: BasedVectorSpace<F>>(
         &mut self,
@@ -59,7 +68,7 @@ impl<F: ByteLevel, Inner: ByteChallenger> FieldChallenger<F> for BinaryChallenge
             return Err(ChallengerError::Failed);
         }
         'coefficients: for i in 0..E::DIMENSION {
-            self.observe(element.basis_coefficient(i))?;
+            self.observe_element(element.basis_coefficient(i))?;
         }
         Ok(())
     }

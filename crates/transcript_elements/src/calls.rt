@@ -1,13 +1,12 @@
 // Lists of calls of a challenger, an addition to the Rust crate: calls as values, and the replies to them.
-ghost use Rattle.std.specs.Prelude.{◌≡◌, All, true, IfOk, OnErr, OnOk};
+ghost use Rattle.std.specs.Prelude.{◌≡◌, All, false, true, Err, IfErr, IfOk, OnErr, OnOk};
 ghost use Rattle.transcript_bytes.specs.GuardedAnswers.{GuardedAnswer};
+ghost use Rattle.transcript_bytes.specs.declared.error.ChallengerError.TheVariants.{Failed, Memory};
 ghost use Rattle.transcript_elements.specs.Calls.{AppendsReplies, byte_calls, IsReplyTo, joined_calls, MayCall, StopsEarly};
-ghost use Rattle.transcript_elements.specs.Challengers.{challenger_failed, challenger_refused, state_after, state_of};
+ghost use Rattle.transcript_elements.specs.Challengers.{challenger_failed, challenger_refused, state_after, state_of, StopsWithin};
 
+use crate::ByteLevel;
 use crate::challenger::BinaryChallenger;
-use crate::elements::CanSampleBits;
-use crate::witness::GrindingChallenger;
-use crate::{ByteLevel, CanObserve};
 use std::alloc::Allocator;
 use transcript_bytes::{ByteChallenger, ChallengerError};
 
@@ -41,7 +40,8 @@ pub enum Reply<F> {
 /// after the other, and nothing else. Room for the replies is reserved before the first call.
 ///
 /// It fails with `Memory` if memory was refused to that room or to a call; the replies to the calls before it are then appended, and
-/// the challenger has failed. It fails with `Failed` if an earlier call had failed; `replies` is then unchanged.
+/// the challenger has failed. Of the call that was refused the inner challenger has seen only some byte calls, the first ones. It fails
+/// with `Failed` if an earlier call had failed; nothing is then changed.
 pub fn run_calls<F: ByteLevel, Inner: ByteChallenger, A: Allocator>(
     challenger: &mut BinaryChallenger<F, Inner>,
     calls: &[Call<F>],
@@ -50,9 +50,14 @@ pub fn run_calls<F: ByteLevel, Inner: ByteChallenger, A: Allocator>(
     requires { All MayCall calls.now }
     ensures state { OnOk result (state_of challenger.new ≡ state_after (joined_calls F.NUM_BYTES F.repr calls.now) challenger.old) }
     ensures replies { OnOk result (AppendsReplies F.NUM_BYTES F.width F.repr calls.now challenger.old replies.old replies.new) }
-    ensures answer { GuardedAnswer (challenger_failed challenger.old) (challenger_failed challenger.new) true result }
-    ensures failed { challenger_failed challenger.old ≡ true → replies.new.items ≡ replies.old.items }
-    ensures memory { OnErr result (StopsEarly F.NUM_BYTES F.width F.repr calls.now challenger.old challenger.new replies.old replies.new) }
+    ensures failed { challenger_failed challenger.old ≡ true → result ≡ Err Failed }
+    ensures kept { challenger_failed challenger.old ≡ true → (challenger.new ≡ challenger.old) × (replies.new.items ≡ replies.old.items) }
+    ensures goes_on { OnOk result (challenger_failed challenger.new ≡ false) }
+    ensures granted { challenger_failed challenger.new ≡ false → challenger_refused challenger.new ≡ false }
+    ensures fails { OnErr result (challenger_failed challenger.new ≡ true) }
+    ensures memory { challenger_failed challenger.old ≡ false → IfErr result (λ error. error ≡ Memory) }
+    ensures err { challenger_failed challenger.old ≡ false
+        → OnErr result (StopsEarly F.NUM_BYTES F.width F.repr calls.now challenger.old challenger.new replies.old replies.new) }
 {
     if challenger.guarded.failed() {
         return Err(ChallengerError::Failed);
@@ -75,17 +80,17 @@ impl<F: ByteLevel, Inner: ByteChallenger> BinaryChallenger<F, Inner> {
         ensures state { OnOk result (state_of self.new ≡ state_after (byte_calls F.NUM_BYTES F.repr call.now) self.old) }
         ensures reply { IfOk result (λ reply. IsReplyTo F.NUM_BYTES F.width F.repr call.now self.old reply) }
         ensures answer { GuardedAnswer (challenger_failed self.old) (challenger_failed self.new) (challenger_refused self.new) result }
+        ensures err { challenger_failed self.old ≡ false
+            → OnErr result (StopsWithin (byte_calls F.NUM_BYTES F.repr call.now) self.old self.new) }
     {
         Ok(match call {
             Call::Observe(element) => {
-                self.observe(*element)?;
+                self.observe_element(*element)?;
                 Reply::Done
             }
             Call::Sample => Reply::Element(self.sample_element()?),
-            Call::SampleBits(bits) => Reply::Bits(self.sample_bits(*bits)?),
-            Call::CheckWitness(bits, witness) => {
-                Reply::Passed(self.check_witness(*bits, *witness)?)
-            }
+            Call::SampleBits(bits) => Reply::Bits(self.sample_low_bits(*bits)?),
+            Call::CheckWitness(bits, witness) => { Reply::Passed(self.check(*bits, *witness)?) }
         })
     }
 }

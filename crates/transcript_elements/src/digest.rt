@@ -5,8 +5,9 @@ ghost use Rattle.transcript_bytes.specs.ByteCalls.{after, observing};
 ghost use Rattle.transcript_bytes.specs.Guarded.{guarded_after, guarded_failed, guarded_refused, guarded_state};
 ghost use Rattle.transcript_bytes.specs.GuardedAnswers.{GuardedAnswer};
 ghost use Rattle.field_bytes.specs.Bytes.{low_bytes};
-ghost use Rattle.transcript_elements.specs.Challengers.{state_of};
+ghost use Rattle.transcript_elements.specs.Challengers.{state_after, state_of};
 ghost use Rattle.transcript_elements.specs.Digests.{roots_of, words_of};
+ghost use Rattle.transcript_elements.specs.StateLemmas.{same_value};
 
 use crate::challenger::BinaryChallenger;
 use crate::{ByteLevel, CanObserve};
@@ -151,15 +152,14 @@ fn observe_digests<D: Digest, C: ByteChallenger>(
 impl<G, W: DigestWord, const N: usize, F: ByteLevel, Inner: ByteChallenger> CanObserve<
     Hash<G, W, N>,
 > for BinaryChallenger<F, Inner> {
-    ghost State = { Inner.State };
-
-    ghost state = { λ challenger. state_of challenger };
-
-    ghost observed = { λ state value. after Inner.transitions (observing (W.bytes (words_of value))) state };
+    ghost observes = { λ old value new. state_of new ≡ state_after (observing (W.bytes (words_of value))) old };
 
     ghost may_leave = { λ _ _. Unit {0} };
 
     ghost may_stay = { λ _. tt };
+
+    ghost observes_law = { λ value old new other_old other_new same is are.
+        same_value (after Inner.transitions (observing (W.bytes (words_of value)))) _ _ _ _ same is are };
 
     fn observe(&mut self, value: Hash<G, W, N>) -> Result<(), ChallengerError> {
         if self.guarded.failed() {
@@ -172,15 +172,14 @@ impl<G, W: DigestWord, const N: usize, F: ByteLevel, Inner: ByteChallenger> CanO
 impl<'a, G, D: Digest, A: Allocator, F: ByteLevel, Inner: ByteChallenger> CanObserve<
     &'a MerkleCap<G, D, A>,
 > for BinaryChallenger<F, Inner> {
-    ghost State = { Inner.State };
-
-    ghost state = { λ challenger. state_of challenger };
-
-    ghost observed = { λ state cap. after Inner.transitions (observing (flat_map D.bytes (roots_of cap.now))) state };
+    ghost observes = { λ old cap new. state_of new ≡ state_after (observing (flat_map D.bytes (roots_of cap.now))) old };
 
     ghost may_leave = { λ _ _. Unit {0} };
 
     ghost may_stay = { λ _. tt };
+
+    ghost observes_law = { λ cap old new other_old other_new same is are.
+        same_value (after Inner.transitions (observing (flat_map D.bytes (roots_of cap.now)))) _ _ _ _ same is are };
 
     fn observe(&mut self, cap: &'a MerkleCap<G, D, A>) -> Result<(), ChallengerError> {
         if self.guarded.failed() {
@@ -192,15 +191,14 @@ impl<'a, G, D: Digest, A: Allocator, F: ByteLevel, Inner: ByteChallenger> CanObs
 
 impl<G, D: Digest, A: Allocator, F: ByteLevel, Inner: ByteChallenger> CanObserve<MerkleCap<G, D, A>>
     for BinaryChallenger<F, Inner> {
-    ghost State = { Inner.State };
-
-    ghost state = { λ challenger. state_of challenger };
-
-    ghost observed = { λ state cap. after Inner.transitions (observing (flat_map D.bytes (roots_of cap))) state };
+    ghost observes = { λ old cap new. state_of new ≡ state_after (observing (flat_map D.bytes (roots_of cap))) old };
 
     ghost may_leave = { λ _ _. Unit {0} };
 
     ghost may_stay = { λ _. tt };
+
+    ghost observes_law = { λ cap old new other_old other_new same is are.
+        same_value (after Inner.transitions (observing (flat_map D.bytes (roots_of cap)))) _ _ _ _ same is are };
 
     fn observe(&mut self, cap: MerkleCap<G, D, A>) -> Result<(), ChallengerError> {
         if self.guarded.failed() {

@@ -1,80 +1,101 @@
 // Elements that are observed and sampled, and bits that are sampled.
-ghost use Rattle.std.specs.Prelude.{◌≡◌, ◌<◌, ℕ, IfOk, OnOk};
+ghost use Rattle.std.specs.Prelude.{◌≡◌, ◌<◌, ℕ, false, true, IfOk, OnErr, OnOk};
 ghost use Rattle.transcript_bytes.specs.ByteCalls.{after, observing, sampling};
 ghost use Rattle.transcript_bytes.specs.GuardedAnswers.{GuardedAnswer};
 ghost use Rattle.field_bytes.specs.Bytes.{low_bytes};
-ghost use Rattle.transcript_elements.specs.Challengers.{challenger_failed, challenger_refused, state_after, state_of};
+ghost use Rattle.transcript_elements.specs.Challengers.{challenger_failed, challenger_refused, state_after, state_of, StopsWithin};
 ghost use Rattle.transcript_elements.specs.Sampled.{SamplesBits, squeezed_element};
+ghost use Rattle.transcript_elements.specs.StateLemmas.{same_bits, same_value};
+ghost use Rattle.transcript_elements.specs.States.{GivesByState};
 
+use crate::byte_level::MOST_BYTES;
 use crate::challenger::BinaryChallenger;
 use crate::{ByteLevel, CanObserve, Transcript};
 use transcript_bytes::{ByteChallenger, ChallengerError};
 
-// The most bytes of an element.
-const MOST_BYTES: usize = 16;
-
 impl<F: ByteLevel, Inner: ByteChallenger> CanObserve<F> for BinaryChallenger<F, Inner> {
-    ghost State = { Inner.State };
-
-    ghost state = { λ challenger. state_of challenger };
-
-    ghost observed = { λ state value. after Inner.transitions (observing (low_bytes F.NUM_BYTES (F.repr value))) state };
+    ghost observes = { λ old value new. state_of new ≡ state_after (observing (low_bytes F.NUM_BYTES (F.repr value))) old };
 
     // No later call reads the state that a refused call leaves.
     ghost may_leave = { λ _ _. Unit {0} };
 
     ghost may_stay = { λ _. tt };
 
+    ghost observes_law = { λ value old new other_old other_new same is are.
+        same_value (after Inner.transitions (observing (low_bytes F.NUM_BYTES (F.repr value)))) _ _ _ _ same is are };
+
     fn observe(&mut self, value: F) -> Result<(), ChallengerError> {
-        let bytes = value.low_first();
-        self.guarded.observe_bytes(&bytes[..F::NUM_BYTES])
+        self.observe_element(value)
     }
 }
 
 impl<F: ByteLevel, Inner: ByteChallenger> BinaryChallenger<F, Inner> {
-    /// Samples the bytes of an element, the lowest first. Bits above the element are dropped.
+    // Observes the bytes of an element, the lowest first.
+    pub(crate) fn observe_element(&mut self, value: F) -> Result<(), ChallengerError>
+        ensures state { OnOk result (state_of self.new ≡ state_after (observing (low_bytes F.NUM_BYTES (F.repr value))) self.old) }
+        ensures answer { GuardedAnswer (challenger_failed self.old) (challenger_failed self.new) (challenger_refused self.new) result }
+        ensures kept { challenger_failed self.old ≡ true → self.new ≡ self.old }
+        ensures err { challenger_failed self.old ≡ false
+            → OnErr result (StopsWithin (observing (low_bytes F.NUM_BYTES (F.repr value))) self.old self.new) }
+    {
+        let bytes = value.low_first();
+        self.guarded.observe_bytes(&bytes[..F::NUM_BYTES])
+    }
+
+    /// Samples the bytes of an element, the lowest first. Bits above the element are dropped. It fails with `Memory` if memory was
+    /// refused, and with `Failed` if an earlier call had failed.
     pub fn sample_element(&mut self) -> Result<F, ChallengerError>
         ensures state { OnOk result (state_of self.new ≡ state_after (sampling F.NUM_BYTES) self.old) }
         ensures element { IfOk result (λ x. F.repr x ≡ squeezed_element Inner.transitions F.NUM_BYTES F.width (state_of self.old)) }
         ensures answer { GuardedAnswer (challenger_failed self.old) (challenger_failed self.new) (challenger_refused self.new) result }
+        ensures kept { challenger_failed self.old ≡ true → self.new ≡ self.old }
+        ensures err { challenger_failed self.old ≡ false → OnErr result (StopsWithin (sampling F.NUM_BYTES) self.old self.new) }
     {
         let mut bytes = [0; MOST_BYTES];
         let read = &mut bytes[..F::NUM_BYTES];
         self.guarded.sample_bytes(read)?;
         Ok(F::of_low_first(read))
     }
+
+    // Samples eight bytes, for 0 bits too, and takes the low bits of their word.
+    pub(crate) fn sample_low_bits(&mut self, bits: usize) -> Result<usize, ChallengerError>
+        requires { bits < 64 }
+        ensures ok { IfOk result (λ number. SamplesBits Inner.transitions (state_of self.old) bits number (state_of self.new)) }
+        ensures answer { GuardedAnswer (challenger_failed self.old) (challenger_failed self.new) (challenger_refused self.new) result }
+        ensures kept { challenger_failed self.old ≡ true → self.new ≡ self.old }
+        ensures err { challenger_failed self.old ≡ false → OnErr result (StopsWithin (sampling 8) self.old self.new) }
+    {
+        let word = self.guarded.sample_u64()?;
+        Ok((word % (1 << bits)) as usize)
+    }
 }
 
-/// A transcript from which bits are sampled, as a number of the type `T`.
+/// A transcript from which bits are sampled, as a number of the type `T`. The number and the state after it depend on the state
+/// before alone.
 pub trait CanSampleBits<T>: Transcript {
-    // The states.
-    ghost State: { Type 0 };
-
-    // The state of a transcript.
-    ghost state: { Self → State };
-
-    // Whether sampling so many bits in the first state gives the number and leaves the second state.
-    ghost gives_bits: { State → ℕ → T → State → Type 0 };
+    // Whether sampling so many bits may give the number, and lead from the first transcript to the second.
+    ghost gives_bits: { Self → ℕ → T → Self → Type 0 };
 
     /// Samples a number of `bits` bits, at most 63. It fails with `Memory` if memory was refused, and with `Failed` if an earlier
     /// call had failed.
     fn sample_bits(&mut self, bits: usize) -> Result<T, ChallengerError>
         requires { bits < 64 }
-        ensures ok { IfOk result (λ number. gives_bits (state self.old) bits number (state self.new)) }
+        ensures ok { IfOk result (λ number. gives_bits self.old bits number self.new) }
+        ensures kept { Self.has_failed self.old ≡ true → self.new ≡ self.old }
         ensures answer { GuardedAnswer (Self.has_failed self.old) (Self.has_failed self.new) (Self.has_refused self.new) result };
+
+    ghost gives_bits_law: { (bits : ℕ) → GivesByState Self.state (λ (old : Self) (number : T) (new : Self). gives_bits old bits number new) };
 }
 
 impl<F: ByteLevel, Inner: ByteChallenger> CanSampleBits<usize> for BinaryChallenger<F, Inner> {
-    ghost State = { Inner.State };
-
-    ghost state = { λ challenger. state_of challenger };
-
     // Eight bytes are sampled, for 0 bits too, and the number is the low bits of their word.
-    ghost gives_bits = { λ old bits number new. SamplesBits Inner.transitions old bits number new };
+    ghost gives_bits = { λ old bits number new. SamplesBits Inner.transitions (state_of old) bits number (state_of new) };
+
+    ghost gives_bits_law = { λ bits old new other_old other_new number other same is are.
+        same_bits Inner.transitions _ _ _ _ bits number other same is are };
 
     fn sample_bits(&mut self, bits: usize) -> Result<usize, ChallengerError> {
-        let word = self.guarded.sample_u64()?;
-        Ok((word % (1 << bits)) as usize)
+        self.sample_low_bits(bits)
     }
 }
 
@@ -85,7 +106,8 @@ pub trait CanSampleUniformBits<F>: CanSampleBits<usize> {
     /// call had failed.
     final fn sample_uniform_bits(&mut self, bits: usize) -> Result<usize, ChallengerError>
         requires { bits < 64 }
-        ensures ok { IfOk result (λ number. Self.gives_bits (Self.state self.old) bits number (Self.state self.new)) }
+        ensures ok { IfOk result (λ number. Self.gives_bits self.old bits number self.new) }
+        ensures kept { Self.has_failed self.old ≡ true → self.new ≡ self.old }
         ensures answer { GuardedAnswer (Self.has_failed self.old) (Self.has_failed self.new) (Self.has_refused self.new) result }
     {
         self.sample_bits(bits)

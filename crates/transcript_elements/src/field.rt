@@ -33,14 +33,14 @@ pub trait TranscriptField: ByteLevel {
 
     /// Observes a string of bytes: its length as eight bytes, the lowest first, and then the bytes; each is filled with zeros to
     /// whole elements, and an element's first byte is its lowest. This encoding of seeds is prefix-free. It fails if the transcript
-    /// does; the elements before are then observed.
+    /// does; the elements before are then observed. On a transcript that has failed it changes nothing.
     final fn observe_seed<C: CanObserve<Self>>(
         challenger: &mut C,
         seed: &[u8],
     ) -> Result<(), ChallengerError>
-        ensures ok { OnOk result (ObservesSeed Self.NUM_BYTES Self.repr C.observed C.state seed.now challenger.old challenger.new) }
-        ensures err { OnErr result (BeginsSeed Self.NUM_BYTES Self.repr C.observed C.may_leave C.state seed.now
-            challenger.old challenger.new) }
+        ensures ok { OnOk result (ObservesSeed Self.NUM_BYTES Self.repr C.observes seed.now challenger.old challenger.new) }
+        ensures err { OnErr result (BeginsSeed Self.NUM_BYTES Self.repr C.observes C.may_leave seed.now challenger.old challenger.new) }
+        ensures kept { C.has_failed challenger.old ≡ true → challenger.new ≡ challenger.old }
         ensures answer { GuardedAnswer (C.has_failed challenger.old) (C.has_failed challenger.new) (C.has_refused challenger.new) result }
         ensures apart { IsPrefixFree Self.NUM_BYTES Self.repr seed.now }
     {

@@ -1,42 +1,48 @@
 // Transcripts, and the values that they observe.
-ghost use Rattle.std.specs.Prelude.{◌≡◌, Bool, OnErr, OnOk};
+ghost use Rattle.std.specs.Prelude.{◌≡◌, false, true, Bool, OnErr, OnOk};
 ghost use Rattle.transcript_bytes.specs.GuardedAnswers.{GuardedAnswer};
+ghost use Rattle.transcript_elements.specs.States.{LeadsByState};
 
 use transcript_bytes::ChallengerError;
 
-/// A transcript. A call that is refused memory returns `Memory`, and the transcript has failed from then on: every later call
-/// returns `Failed`.
+/// A transcript. It has one state, which changes with what is observed and sampled. A call that is refused memory returns `Memory`,
+/// and the transcript has failed from then on: every later call returns `Failed`, and changes nothing.
 pub trait Transcript {
-    // Whether a call has failed.
-    ghost has_failed: { Self → Bool };
-
-    // Whether what the transcript depends on has refused memory.
-    ghost has_refused: { Self → Bool };
-
-    /// Whether a call has failed.
-    fn failed(&self) -> bool
-        ensures { result ≡ has_failed self.now };
-}
-
-/// A transcript that observes values of the type `T`. It has a state, which changes with each value that is observed.
-pub trait CanObserve<T>: Transcript {
     // The states.
     ghost State: { Type 0 };
 
     // The state of a transcript.
     ghost state: { Self → State };
 
-    // The state after a value was observed.
-    ghost observed: { State → T → State };
+    // Whether a call has failed.
+    ghost has_failed: { Self → Bool };
 
-    // Whether a call that fails in the first state may leave the second.
-    ghost may_leave: { State → State → Type 0 };
+    // Whether what the transcript depends on has refused memory. Where it has, the transcript has failed.
+    ghost has_refused: { Self → Bool };
+
+    /// Whether a call has failed.
+    fn failed(&self) -> bool
+        ensures { result ≡ has_failed self.now };
+
+    ghost refused_law: { (transcript : Self) → has_failed transcript ≡ false → has_refused transcript ≡ false };
+}
+
+/// A transcript that observes values of the type `T`. Its state then depends on the value and the state before alone.
+pub trait CanObserve<T>: Transcript {
+    // Whether observing the value may lead from the first transcript to the second.
+    ghost observes: { Self → T → Self → Type 0 };
+
+    // Whether a call that fails may leave the second transcript of the first.
+    ghost may_leave: { Self → Self → Type 0 };
 
     /// Observes a value. It fails with `Memory` if memory was refused, and with `Failed` if an earlier call had failed.
     fn observe(&mut self, value: T) -> Result<(), ChallengerError>
-        ensures ok { OnOk result (state self.new ≡ observed (state self.old) value) }
-        ensures err { OnErr result (may_leave (state self.old) (state self.new)) }
+        ensures ok { OnOk result (observes self.old value self.new) }
+        ensures err { OnErr result (may_leave self.old self.new) }
+        ensures kept { Self.has_failed self.old ≡ true → self.new ≡ self.old }
         ensures answer { GuardedAnswer (Self.has_failed self.old) (Self.has_failed self.new) (Self.has_refused self.new) result };
 
-    ghost may_stay: { (s : State) → may_leave s s };
+    ghost may_stay: { (transcript : Self) → may_leave transcript transcript };
+
+    ghost observes_law: { (value : T) → LeadsByState Self.state (λ old new. observes old value new) };
 }

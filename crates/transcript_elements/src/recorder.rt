@@ -36,12 +36,18 @@ impl<T: Drop, A: Allocator> Recorder<T, A> {
 }
 
 impl<T: Drop, A: Allocator> Transcript for Recorder<T, A> {
-    ghost use Rattle.transcript_elements.specs.Recorders.{recorder_failed};
+    ghost use Rattle.transcript_elements.specs.Recorders.{items_of, recorder_failed};
+
+    ghost State = { List T };
+
+    ghost state = { λ recorder. items_of recorder };
 
     ghost has_failed = { λ recorder. recorder_failed recorder };
 
     // A growth that was refused leaves no other trace.
     ghost has_refused = { λ recorder. recorder_failed recorder };
+
+    ghost refused_law = { λ recorder goes_on. goes_on };
 
     fn failed(&self) -> bool {
         self.has_failed
@@ -50,17 +56,17 @@ impl<T: Drop, A: Allocator> Transcript for Recorder<T, A> {
 
 impl<T: Drop, A: Allocator> CanObserve<T> for Recorder<T, A> {
     ghost use Rattle.transcript_elements.specs.Recorders.{items_of};
+    ghost use Rattle.transcript_elements.specs.StateLemmas.{same_value};
 
-    ghost State = { List T };
-
-    ghost state = { λ recorder. items_of recorder };
+    // The value goes last.
+    ghost observes = { λ old value new. items_of new ≡ items_of old ++ value ∷ [] };
 
     // The list is kept.
-    ghost may_leave = { λ old new. new ≡ old };
+    ghost may_leave = { λ old new. items_of new ≡ items_of old };
 
-    ghost may_stay = { λ s. refl };
+    ghost may_stay = { λ recorder. refl };
 
-    ghost observed = { λ items value. items ++ value ∷ [] };
+    ghost observes_law = { λ value old new other_old other_new same is are. same_value (λ items. items ++ value ∷ []) _ _ _ _ same is are };
 
     fn observe(&mut self, value: T) -> Result<(), ChallengerError> {
         if self.has_failed {

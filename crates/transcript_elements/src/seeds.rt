@@ -14,8 +14,8 @@ pub(crate) fn observe_padded<F: TranscriptField, C: CanObserve<F>>(
     bytes: &[u8],
 ) -> Result<(), ChallengerError>
     requires { C.has_failed challenger.old ≡ false }
-    ensures ok { OnOk result (ObservesPadded F.NUM_BYTES F.repr C.observed C.state bytes.now challenger.old challenger.new) }
-    ensures err { OnErr result (BeginsPadded F.NUM_BYTES F.repr C.observed C.may_leave C.state bytes.now challenger.old challenger.new) }
+    ensures ok { OnOk result (ObservesPadded F.NUM_BYTES F.repr C.observes bytes.now challenger.old challenger.new) }
+    ensures err { OnErr result (BeginsPadded F.NUM_BYTES F.repr C.observes C.may_leave bytes.now challenger.old challenger.new) }
     ensures answer { GuardedAnswer false (C.has_failed challenger.new) (C.has_refused challenger.new) result }
 {
     let size = F::NUM_BYTES;

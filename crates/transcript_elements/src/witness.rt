@@ -1,38 +1,36 @@
 // Witnesses of work: elements such that the bits sampled after them are 0.
 ghost use Rattle.std.specs.Prelude.{◌≡◌, ◌<◌, ℕ, Bool, false, true, Err, IfErr, IfOk, IsOk, Ok, OnErr, OnOk};
+ghost use Rattle.std.proofs.Common.{ap};
 ghost use Rattle.transcript_bytes.specs.ByteCalls.{after};
 ghost use Rattle.transcript_bytes.specs.GuardedAnswers.{GuardedAnswer};
-ghost use Rattle.transcript_elements.specs.Challengers.{challenger_failed, state_after, state_of};
+ghost use Rattle.transcript_elements.specs.Challengers.{challenger_failed, challenger_refused, state_after, state_of, StopsWithin};
 ghost use Rattle.transcript_elements.specs.Grinding.{candidate_count, FailsSearch, IsLeastPassing, MayGrind};
 ghost use Rattle.transcript_elements.specs.Sampled.{challenger_passes, check_calls, passes};
+ghost use Rattle.transcript_elements.specs.StateLemmas.{same_value};
+ghost use Rattle.transcript_elements.specs.States.{LeadsByState};
 
 use crate::challenger::BinaryChallenger;
 use crate::elements::CanSampleBits;
 use crate::error::GrindError;
-use crate::{ByteLevel, CanObserve, Transcript};
+use crate::{ByteLevel, Transcript};
 use field_base::traits::{Field, PrimeCharacteristicRing};
 use transcript_bytes::{ByteChallenger, ChallengerError};
 
 /// A transcript with proofs of work: a witness is an element that takes a search to find and one call to check.
-pub trait GrindingChallenger: Transcript {
+pub trait GrindingChallenger: CanSampleBits<usize> {
     /// The witnesses.
     type Witness;
-
-    // The states.
-    ghost State: { Type 0 };
-
-    // The state of a transcript.
-    ghost state: { Self → State };
 
     // The bits of a witness, and its representation.
     ghost witness_bits: { ℕ };
 
     ghost number: { Self.Witness → ℕ };
 
-    // Whether the witness of a representation passes for so many bits in a state, and the state after it was checked.
-    ghost passing: { State → ℕ → ℕ → Bool };
+    // Whether the witness of a representation passes for so many bits in a transcript, and whether checking it may lead from the
+    // first transcript to the second.
+    ghost passing: { Self → ℕ → ℕ → Bool };
 
-    ghost checked: { State → ℕ → ℕ → State };
+    ghost checks: { Self → ℕ → ℕ → Self → Type 0 };
 
     /// Searches for a witness for `bits` bits, and checks it. The candidates are the elements in the order of their representations,
     /// from 0 on: all of them in a field below 64 bits, the first 2^64 - 1 in a wider one. It returns the first that passes, and
@@ -44,12 +42,12 @@ pub trait GrindingChallenger: Transcript {
     /// with `Failed` if an earlier call had failed. The challenger is then unchanged.
     fn grind(&mut self, bits: usize) -> Result<Self::Witness, GrindError>
         requires { MayGrind witness_bits bits }
-        ensures least { IfOk result (λ witness. IsLeastPassing (passing (state self.old) bits) witness_bits (number witness)) }
-        ensures state { IfOk result (λ witness. state self.new ≡ checked (state self.old) bits (number witness)) }
+        ensures least { IfOk result (λ witness. IsLeastPassing (passing self.old bits) witness_bits (number witness)) }
+        ensures state { IfOk result (λ witness. checks self.old bits (number witness) self.new) }
         ensures goes_on { OnOk result (Self.has_failed self.new ≡ false) }
         ensures kept { OnErr result (self.new ≡ self.old) }
         ensures failed { Self.has_failed self.old ≡ true → result ≡ Err GrindError.Failed }
-        ensures err { Self.has_failed self.old ≡ false → IfErr result (FailsSearch (passing (state self.old) bits) witness_bits) }
+        ensures err { Self.has_failed self.old ≡ false → IfErr result (FailsSearch (passing self.old bits) witness_bits) }
         ensures none { bits ≡ 0 → Self.has_failed self.old ≡ false → IsOk result };
 
     /// Observes the witness, samples `bits` bits, at most 63, and returns whether they are 0. For 0 bits it returns true; nothing is
@@ -61,26 +59,32 @@ pub trait GrindingChallenger: Transcript {
         witness: Self::Witness,
     ) -> Result<bool, ChallengerError>
         requires { bits < 64 }
-        ensures passed { IfOk result (λ passed. passed ≡ passing (state self.old) bits (number witness)) }
-        ensures state { OnOk result (state self.new ≡ checked (state self.old) bits (number witness)) }
+        ensures passed { IfOk result (λ passed. passed ≡ passing self.old bits (number witness)) }
+        ensures state { OnOk result (checks self.old bits (number witness) self.new) }
         ensures none { bits ≡ 0 → Self.has_failed self.old ≡ false → result ≡ Ok true }
+        ensures kept { Self.has_failed self.old ≡ true → self.new ≡ self.old }
         ensures answer { GuardedAnswer (Self.has_failed self.old) (Self.has_failed self.new) (Self.has_refused self.new) result };
+
+    ghost passing_law: { (one other : Self) (bits n : ℕ) → Self.state one ≡ Self.state other → passing one bits n ≡ passing other bits n };
+
+    ghost checks_law: { (bits n : ℕ) → LeadsByState Self.state (λ old new. checks old bits n new) };
 }
 
 impl<F: ByteLevel, Inner: ByteChallenger> GrindingChallenger for BinaryChallenger<F, Inner> {
     type Witness = F;
 
-    ghost State = { Inner.State };
-
-    ghost state = { λ challenger. state_of challenger };
-
     ghost witness_bits = { F.width };
 
     ghost number = { λ witness. F.repr witness };
 
-    ghost passing = { λ state bits number. passes Inner.transitions F.NUM_BYTES bits state number };
+    ghost passing = { λ challenger bits number. challenger_passes F.NUM_BYTES bits challenger number };
 
-    ghost checked = { λ state bits number. after Inner.transitions (check_calls F.NUM_BYTES bits number) state };
+    ghost checks = { λ old bits number new. state_of new ≡ state_after (check_calls F.NUM_BYTES bits number) old };
+
+    ghost passing_law = { λ one other bits number same. ap (λ state. passes Inner.transitions F.NUM_BYTES bits state number) same };
+
+    ghost checks_law = { λ bits number old new other_old other_new same is are.
+        same_value (after Inner.transitions (check_calls F.NUM_BYTES bits number)) _ _ _ _ same is are };
 
     fn grind(&mut self, bits: usize) -> Result<F, GrindError> {
         if self.guarded.failed() {
@@ -95,14 +99,7 @@ impl<F: ByteLevel, Inner: ByteChallenger> GrindingChallenger for BinaryChallenge
     }
 
     fn check_witness(&mut self, bits: usize, witness: F) -> Result<bool, ChallengerError> {
-        if self.guarded.failed() {
-            return Err(ChallengerError::Failed);
-        }
-        if bits == 0 {
-            return Ok(true);
-        }
-        self.observe(witness)?;
-        Ok(self.sample_bits(bits)? == 0)
+        self.check(bits, witness)
     }
 }
 
@@ -115,6 +112,27 @@ fn candidate_count<F: Field>() -> usize
 }
 
 impl<F: ByteLevel, Inner: ByteChallenger> BinaryChallenger<F, Inner> {
+    // Observes the witness, samples `bits` bits, at most 63, and returns whether they are 0. For 0 bits it returns true.
+    pub(crate) fn check(&mut self, bits: usize, witness: F) -> Result<bool, ChallengerError>
+        requires { bits < 64 }
+        ensures passed { IfOk result (λ passed. passed ≡ challenger_passes F.NUM_BYTES bits self.old (F.repr witness)) }
+        ensures state { OnOk result (state_of self.new ≡ state_after (check_calls F.NUM_BYTES bits (F.repr witness)) self.old) }
+        ensures none { bits ≡ 0 → challenger_failed self.old ≡ false → result ≡ Ok true }
+        ensures answer { GuardedAnswer (challenger_failed self.old) (challenger_failed self.new) (challenger_refused self.new) result }
+        ensures kept { challenger_failed self.old ≡ true → self.new ≡ self.old }
+        ensures err { challenger_failed self.old ≡ false
+            → OnErr result (StopsWithin (check_calls F.NUM_BYTES bits (F.repr witness)) self.old self.new) }
+    {
+        if self.guarded.failed() {
+            return Err(ChallengerError::Failed);
+        }
+        if bits == 0 {
+            return Ok(true);
+        }
+        self.observe_element(witness)?;
+        Ok(self.sample_low_bits(bits)? == 0)
+    }
+
     // The first candidate that passes, and the copy on which it was checked.
     fn first_passing(&self, bits: usize) -> Result<(F, BinaryChallenger<F, Inner>), GrindError>
         requires range { bits < 64 }
@@ -127,7 +145,7 @@ impl<F: ByteLevel, Inner: ByteChallenger> BinaryChallenger<F, Inner> {
         'candidates: for number in 0..candidate_count::<F>() {
             let witness = F::interpolation_node(number);
             let mut copy = self.try_clone()?;
-            if copy.check_witness(bits, witness)? {
+            if copy.check(bits, witness)? {
                 return Ok((witness, copy));
             }
         }

@@ -23,6 +23,7 @@ bytes-preserved g c = record {
 
 pub returns-in_err-bytes-clause-err : goal.returns-in_err-bytes-clause-err
 returns-in_err-bytes-clause-err g c =
-    let partly = sampling_is_partly_run g.C.ByteChallenger.transitions c.bytes.index (length c.args.bytes.now) _ _
-    c.bytes-test.true (c.in_err-bytes.ensures.err ∙ c.bytes.invariant.run) in
+    let partly =
+    sampling_is_partly_run g.C.ByteChallenger.transitions g.C.ByteChallenger.state g.C.ByteChallenger.may_leave c.bytes.index
+    (length c.args.bytes.now) _ _ _ c.bytes-test.true c.bytes.invariant.run c.in_err-bytes.ensures.err in
     search (rules, partly)

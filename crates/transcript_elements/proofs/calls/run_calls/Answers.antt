@@ -1,7 +1,8 @@
-use Rattle.std.proofs.Common.{◌≡◌, ◌++◌, ◌∷◌, [], ◌∙◌, ◌+◌, rules, subst, sym, take}
-use Rattle.transcript_elements.specs.Calls.{call_answers, AppendsAnswers}
-use Rattle.transcript_elements.specs.Challengers.{state_of}
-use Rattle.transcript_elements.proofs.CallLists.{refused_in_list, called_next, nothing_called, nothing_replied, replied_next}
+use Rattle.std.proofs.Common.{◌≡◌, ◌++◌, ◌∷◌, [], ◌∙◌, ◌+◌, drop, inr, rules, subst, sym, take}
+use Rattle.transcript_bytes.specs.ByteCalls.{IsPartlyRun}
+use Rattle.transcript_elements.specs.Calls.{byte_calls, call_sayings, AppendsSayings, StopsAtCall}
+use Rattle.transcript_elements.specs.Challengers.{inner_of, state_of}
+use Rattle.transcript_elements.proofs.CallLists.{call_apart, called_next, nothing_called, nothing_replied, on_err, replied_next}
 use Rattle.transcript_elements.proofs.calls.run_calls.Goals as goal
 
 pub calls-init : goal.calls-init
@@ -14,10 +15,37 @@ calls-init g c = record {
   room = search rules;
 }
 
-pub returns-in_err-reply-clause-answer : goal.returns-in_err-reply-clause-answer
-returns-in_err-reply-clause-answer g c =
-    refused_in_list _ _ _ _ c.in_err-reply.field-0.0 _ (sym c.failed.ensures ∙ c.if-failed.false) c.calls.invariant.goes_on
-    c.in_err-reply.ensures.answer c.from_residual.ensures.1
+-- the calls before the index have their replies, and the byte challenger stopped within the call at the index
+pub returns-in_err-reply-clause-err : goal.returns-in_err-reply-clause-err
+returns-in_err-reply-clause-err g c goes_on =
+    let size = g.F.RawDataSerializable.NUM_BYTES in
+    let call = c.index-calls-index.result in
+    let apart =
+    call_apart size g.F.Represented.width g.F.Represented.repr g.Inner.ByteChallenger.transitions c.args.calls.now c.calls.index call call
+    c.calls-test.true c.index-calls-index.is in
+    let within =
+    subst
+    (λ state.
+    IsPartlyRun g.Inner.ByteChallenger.transitions g.Inner.ByteChallenger.state g.Inner.ByteChallenger.may_leave
+    (byte_calls size g.F.Represented.repr call) state (inner_of c.reply_to.new.self))
+    c.calls.invariant.run (c.in_err-reply.ensures.err c.calls.invariant.goes_on) in
+    let same : c.reserve.new.self.items ≡ c.args.replies.now.items = search rules in
+    let replied =
+    subst
+    (λ items. AppendsSayings g.F.Represented.repr
+    (call_sayings size g.F.Represented.width g.F.Represented.repr g.Inner.ByteChallenger.transitions
+    (take c.calls.index c.args.calls.now) (state_of c.args.challenger.now)) items c.calls.replies.items) same c.calls.invariant.replied in
+    let stops : StopsAtCall size g.F.Represented.width g.F.Represented.repr c.args.calls.now c.args.challenger.now c.reply_to.new.self
+    c.args.replies.now c.calls.replies = (
+      take c.calls.index c.args.calls.now,
+      call,
+      drop (c.calls.index + 1) c.args.calls.now,
+      apart,
+      replied,
+      within,
+      (c.in_err-reply.ensures.answer.memory c.calls.invariant.goes_on).1,
+    ) in
+    on_err c.from_residual.result (inr stops)
 
 pub calls-preserved : goal.calls-preserved
 calls-preserved g c =
@@ -34,8 +62,8 @@ calls-preserved g c =
           c.calls.invariant.run c.in_ok-reply.ensures.state;
       replied =
           subst
-          (λ items. AppendsAnswers g.F.Represented.repr
-          (call_answers g.F.RawDataSerializable.NUM_BYTES g.F.Represented.width g.F.Represented.repr g.Inner.ByteChallenger.transitions
+          (λ items. AppendsSayings g.F.Represented.repr
+          (call_sayings g.F.RawDataSerializable.NUM_BYTES g.F.Represented.width g.F.Represented.repr g.Inner.ByteChallenger.transitions
           (take (c.calls.index + 1) c.args.calls.now) old) c.reserve.new.self.items items) pushed
           (replied_next g.F.RawDataSerializable.NUM_BYTES g.F.Represented.width g.F.Represented.repr g.Inner.ByteChallenger.transitions
           c.args.calls.now c.calls.index call call c.in_ok-reply.reply old now c.reserve.new.self.items

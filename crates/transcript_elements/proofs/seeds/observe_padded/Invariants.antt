@@ -7,8 +7,8 @@ abbrev pub invariant-elements : goal.invariant-elements
 invariant-elements g l = record {
   goes_on : g.C.Transcript.has_failed l.challenger ≡ false;
   fits : (k : ℕ) → get_or l.rest k 0 < 256;
-  seen : Absorbed g.F.RawDataSerializable.NUM_BYTES g.F.Represented.repr g.C.CanObserve.observed l.bytes l.rest
-      (g.C.CanObserve.state l.initial.challenger) (g.C.CanObserve.state l.challenger);
+  seen : Absorbed g.F.RawDataSerializable.NUM_BYTES g.F.Represented.repr g.C.CanObserve.observes l.bytes l.rest
+      l.initial.challenger l.challenger;
 }
 
 abbrev pub decreases-elements : goal.decreases-elements

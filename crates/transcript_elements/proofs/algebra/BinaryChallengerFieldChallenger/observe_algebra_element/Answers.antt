@@ -13,12 +13,12 @@ coefficients-init g c = record {
 
 pub coefficients-preserved : goal.coefficients-preserved
 coefficients-preserved g c = record {
-  goes_on = c.in_ok-observe.ensures.answer.goes_on;
+  goes_on = c.in_ok-observe_element.ensures.answer.goes_on;
   run =
       one_more_coefficient g.Inner.ByteChallenger.transitions g.F.RawDataSerializable.NUM_BYTES g.F.Represented.width
       c.coefficients.i (g.E.Represented.repr c.args.element) (g.F.Represented.repr c.basis_coefficient.result)
-      (state_of c.args.self.now) (state_of c.coefficients.self) (state_of c.observe.new.self)
-      c.coefficients.invariant.run c.basis_coefficient.ensures c.in_ok-observe.ensures.ok;
+      (state_of c.args.self.now) (state_of c.coefficients.self) (state_of c.observe_element.new.self)
+      c.coefficients.invariant.run c.basis_coefficient.ensures c.in_ok-observe_element.ensures.state;
 }
 
 pub returns-clause-ok : goal.returns-clause-ok
