@@ -17,7 +17,7 @@ use Rattle.field_laws.specs.PolynomialRoots.{AreDistinctBelow}
 use Rattle.field_laws.proofs.Codewords.{many_roots_mean_zero}
 use Rattle.field_laws.proofs.Coefficients.{value_of-cons}
 use Rattle.field_laws.proofs.Polynomials.{nil_xor}
-use Rattle.tags.specs.Collisions.{IsMessage, PolynomialHashCollides}
+use Rattle.tags.specs.Collisions.{IsMessage, LastBlockDiffers, PolynomialHashCollides, SameLengthIsSame}
 use Rattle.tags.specs.Hash.{polynomial_hash}
 
 -- ---- two lists of coefficients, added
@@ -132,7 +132,7 @@ module _ (width : ℕ) (times : ℕ → ℕ → ℕ) (wide : 0 < width) (field :
       ])
 
 -- a block of a reversed message is one of the message
-reversed-fits : (width : ℕ) (n : ℕ) (message : List ℕ) → IsMessage width n message → (i : ℕ) → get_or (reverse message) i 0 < 2 ^ width
+pub reversed-fits : (width : ℕ) (n : ℕ) (message : List ℕ) → IsMessage width n message → (i : ℕ) → get_or (reverse message) i 0 < 2 ^ width
 reversed-fits width n message is i =
     elim (cases_lt i (length message)) [
       | inl within ↦ subst (λ (z : ℕ). z < 2 ^ width) (sym (get_or-reverse message i 0 within))
@@ -145,20 +145,25 @@ pub polynomial_hash_collides : PolynomialHashCollides
 polynomial_hash_collides width times wide field n count difference left right key of_left of_right differ distinct collide =
     elim (cases_lt n count) [
       | inr few ↦ few
-      | inl many ↦ absurd (differ (same many))
+      | inl many ↦ absurd (differ
+          (same-blocks width times wide field n count difference (reverse left) (reverse right) key
+          (omega (arith, length-reverse left, of_left.0)) (omega (arith, length-reverse right, of_right.0)) many
+          (reversed-fits width n left of_left) (reversed-fits width n right of_right) distinct
+          (λ j below.
+          ap₂ (λ (x y : List ℕ). bit_xor (polynomial_hash times (key j) x) (polynomial_hash times (key j) y))
+          (reverse-reverse left) (reverse-reverse right) ∙ collide j below)))
     ]
-  where
-    same : n < count → left ≡ right
-    same many =
-        sym (reverse-reverse left)
-        ∙ ap reverse (same_number_lists (reverse left) (reverse right)
-        (length-reverse left ∙ of_left.0 ∙ sym (length-reverse right ∙ of_right.0))
-        (λ i within.
-        same-blocks width times wide field n count difference (reverse left) (reverse right) key
-        (omega (arith, length-reverse left, of_left.0)) (omega (arith, length-reverse right, of_right.0)) many
-        (reversed-fits width n left of_left) (reversed-fits width n right of_right) distinct
-        (λ j below.
-        ap₂ (λ (x y : List ℕ). bit_xor (polynomial_hash times (key j) x) (polynomial_hash times (key j) y))
-        (reverse-reverse left) (reverse-reverse right) ∙ collide j below)
-        i))
-        ∙ reverse-reverse right
+
+-- messages of one length with the same blocks, counted from the end, are one
+pub same_length_is_same : SameLengthIsSame
+same_length_is_same left right same_length same =
+    sym (reverse-reverse left)
+    ∙ ap reverse (same_number_lists (reverse left) (reverse right)
+    (length-reverse left ∙ same_length ∙ sym (length-reverse right)) (λ i within. same i))
+    ∙ reverse-reverse right
+
+-- the last block is the first one from the end
+pub last_block_differs : LastBlockDiffers
+last_block_differs left right x y differ same =
+    differ (sym (ap (λ (xs : List ℕ). get_or xs 0 0) (reverse-append left (x ∷ []))) ∙ same 0
+    ∙ ap (λ (xs : List ℕ). get_or xs 0 0) (reverse-append right (y ∷ [])))

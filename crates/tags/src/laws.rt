@@ -1,5 +1,5 @@
 // Laws of the definitions, as contracts of functions that compute nothing.
-ghost use Rattle.tags.specs.Collisions.{GhashCollides, PolynomialHashCollides, PolyvalCollides};
+ghost use Rattle.tags.specs.Collisions.{GhashCollides, LastBlockDiffers, PolynomialHashCollides, PolyvalCollides, SameLengthIsSame};
 ghost use Rattle.tags.specs.Polyval.{PolyvalIsGhash};
 ghost use Rattle.tags.specs.Reversed.{DotIsReversed, GcmProductIsReversed};
 
@@ -11,10 +11,15 @@ pub fn products_are_reversed()
     ensures joined { PolyvalIsGhash }
 {}
 
-/// States how many keys let two different messages of n blocks have hashes with a given difference: at most n, for the hash by a
-/// polynomial over every field, for GHASH, and for POLYVAL.
+/// States how many keys let two different messages of at most n blocks have hashes with a given difference: at most n, for the hash
+/// by a polynomial over every field, for GHASH, and for POLYVAL.
+///
+/// Messages that differ by blocks of zeros in front have one hash. So messages of one length have to differ, and others for example
+/// in their last block, which in GCM holds the lengths.
 pub fn few_keys_collide()
     ensures polynomial { PolynomialHashCollides }
     ensures ghash { GhashCollides }
     ensures polyval { PolyvalCollides }
+    ensures same_length { SameLengthIsSame }
+    ensures last_block { LastBlockDiffers }
 {}
