@@ -1,3 +1,11 @@
-mod byte_challengers;
-mod challengers;
-mod doubles;
+mod calls;
+mod grinding;
+mod hashed;
+mod lengths;
+mod many_calls;
+mod memory;
+mod refusals;
+mod scripts;
+mod seeds;
+mod single_calls;
+mod trials;

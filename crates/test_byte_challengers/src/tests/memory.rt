@@ -45,13 +45,11 @@ fn sample_alike<C: ByteChallenger, D: ByteChallenger>(
     Ok(true)
 }
 
-type InHeap<'a> = HashChallenger<Sha256Hasher, &'a LocalHeap>;
-
 // With an empty output a challenger in a full heap is refused what grows: the input by a byte, a copy of an input that is not
 // empty, and a digest as the new input where there was no room for one.
-fn refuses_what_grows(
-    challenger: &mut InHeap<'_>,
-    model: &mut HashChallenger<Sha256Hasher>,
+fn refuses_what_grows<C: ByteChallenger, D: ByteChallenger>(
+    challenger: &mut C,
+    model: &mut D,
     len: usize,
 ) -> Result<bool, AllocError> {
     let copied = challenger.try_clone().is_ok();
@@ -64,21 +62,41 @@ fn refuses_what_grows(
     Ok(copied == (len == 0) && silent && !observed && sampled)
 }
 
-// In the middle of a digest, where a sample needs no memory, it is refused a copy, a byte once the input is full, and several.
-fn refuses_within_a_digest(
-    challenger: &mut InHeap<'_>,
-    model: &mut HashChallenger<Sha256Hasher>,
+// Whether the model, too, observes a byte that the challenger observes.
+fn both_observe<C: ByteChallenger, D: ByteChallenger>(
+    challenger: &mut C,
+    model: &mut D,
 ) -> Result<bool, AllocError> {
-    let copied = challenger.try_clone().is_ok();
-    let mut refused = false;
-    for _ in 0..1024 {
-        if challenger.observe_byte(7).is_err() {
-            refused = true;
-            break;
-        }
-        model.observe_byte(7)?;
+    if challenger.observe_byte(7).is_err() {
+        return Ok(false);
     }
-    Ok(!copied && refused && observe_bytes(challenger, &[1, 2, 3]).is_err())
+    model.observe_byte(7)?;
+    Ok(true)
+}
+
+// Whether a byte is refused once the input is full. The model observes those before it.
+fn refuses_once_full<C: ByteChallenger, D: ByteChallenger>(
+    challenger: &mut C,
+    model: &mut D,
+) -> Result<bool, AllocError> {
+    for _ in 0..1024 {
+        if !both_observe(challenger, model)? {
+            return Ok(true);
+        }
+    }
+    Ok(false)
+}
+
+// In the middle of a digest, where a sample needs no memory, it is refused a copy, a byte once the input is full, and several.
+fn refuses_within_a_digest<C: ByteChallenger, D: ByteChallenger>(
+    challenger: &mut C,
+    model: &mut D,
+) -> Result<bool, AllocError> {
+    Ok(
+        challenger.try_clone().is_err()
+            && refuses_once_full(challenger, model)?
+            && observe_bytes(challenger, &[1, 2, 3]).is_err(),
+    )
 }
 
 // What a challenger samples after calls that were refused is as if those had not been, which a model with ample memory shows.

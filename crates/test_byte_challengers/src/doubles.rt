@@ -8,19 +8,19 @@ use std::cell::Cell;
 use transcript_bytes::ByteChallenger;
 
 /// What a double and its copies have seen.
-#[derive(Clone, Copy, Debug, Default, PartialEq, Eq)]
-pub(crate) struct Seen {
+#[derive(Clone, Copy, Default, PartialEq)]
+pub struct Seen {
     /// The number of bytes that were observed.
-    pub(crate) observed: u32,
+    pub observed: u32,
     /// The number of bytes that were sampled.
-    pub(crate) sampled: u32,
+    pub sampled: u32,
     /// The last eight bytes that were observed, the last of them as the lowest byte.
-    pub(crate) bytes: u64,
+    pub bytes: u64,
 }
 
 impl Seen {
     /// What a double has seen where `observed` bytes were observed, the last eight of them in `bytes`, and `sampled` were sampled.
-    pub(crate) fn new(observed: u32, sampled: u32, bytes: u64) -> Seen
+    pub fn new(observed: u32, sampled: u32, bytes: u64) -> Seen
         ensures observed { result.observed ≡ observed }
         ensures sampled { result.sampled ≡ sampled }
         ensures bytes { result.bytes ≡ bytes }
@@ -34,8 +34,8 @@ impl Seen {
 }
 
 /// What `try_clone` of a double returns.
-#[derive(Clone, Copy, Debug, PartialEq, Eq)]
-pub(crate) enum Copies {
+#[derive(Clone, Copy)]
+pub enum Copies {
     /// It is refused memory.
     Refused,
     /// It returns a copy that refuses the byte call after so many.
@@ -44,7 +44,7 @@ pub(crate) enum Copies {
 
 /// A byte challenger that samples one byte always. It refuses one byte call, that after so many, and grants the others.
 #[derive(Drop)]
-pub(crate) struct Double<'a> {
+pub struct Double<'a> {
     byte: u8,
     calls_left: u32,
     copies: Copies,
@@ -55,7 +55,7 @@ pub(crate) struct Double<'a> {
 impl<'a> Double<'a> {
     /// A double that samples `byte`, refuses the byte call after `calls_left`, copies as `copies` says, and notes in
     /// `seen` what it sees. It has not refused.
-    pub(crate) fn new(seen: &'a Cell<Seen>, byte: u8, calls_left: u32, copies: Copies) -> Double<'a>
+    pub fn new(seen: &'a Cell<Seen>, byte: u8, calls_left: u32, copies: Copies) -> Double<'a>
         ensures byte { result.byte ≡ byte }
         ensures fresh { result.has_refused ≡ false }
     {
@@ -69,7 +69,7 @@ impl<'a> Double<'a> {
     }
 
     /// A double that samples `byte` and refuses nothing in the first 2^32 - 1 byte calls.
-    pub(crate) fn constant(seen: &'a Cell<Seen>, byte: u8) -> Double<'a>
+    pub fn constant(seen: &'a Cell<Seen>, byte: u8) -> Double<'a>
         ensures byte { result.byte ≡ byte }
         ensures fresh { result.has_refused ≡ false }
     {

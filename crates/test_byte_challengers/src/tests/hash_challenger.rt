@@ -46,16 +46,14 @@ fn digests_are_sampled_from_their_ends(rt: HostRuntime) -> Result<(), Fail> {
 }
 
 // The digest of the digest of no byte followed by 0x61 ends in 0xb4.
-fn observing_drops_the_output(alloc: Global) -> Result<bool, AllocError> {
-    let mut challenger = fresh(alloc);
+fn observing_drops_the_output<C: ByteChallenger>(challenger: &mut C) -> Result<bool, AllocError> {
     let first = challenger.sample_byte()?;
     challenger.observe_byte(0x61)?;
     Ok(first == 0x55 && challenger.sample_byte()? == 0xb4 && challenger.sample_byte()? == 0xe0)
 }
 
 // A copy, and the original after it, sample what the original would have.
-fn copies_sample_alike(alloc: Global) -> Result<bool, AllocError> {
-    let mut challenger = fresh(alloc);
+fn copies_sample_alike<C: ByteChallenger>(challenger: &mut C) -> Result<bool, AllocError> {
     let mut first = challenger.try_clone()?;
     let firsts = first.sample_byte()? == 0x55 && challenger.sample_byte()? == 0x55;
     let mut second = challenger.try_clone()?;
@@ -70,13 +68,14 @@ fn copies_sample_alike(alloc: Global) -> Result<bool, AllocError> {
 
 #[test]
 fn observing_drops_the_output_and_copies_sample_alike(rt: HostRuntime) -> Result<(), Fail> {
-    assert!(rt; observing_drops_the_output(rt.alloc())? && copies_sample_alike(rt.alloc())?);
+    assert!(rt;
+        observing_drops_the_output(&mut fresh(rt.alloc()))?
+            && copies_sample_alike(&mut fresh(rt.alloc()))?
+    );
     Ok(())
 }
 
-fn mixed_calls_are_as_wanted(alloc: Global) -> Result<bool, AllocError> {
-    let initial_state = Vec::from_slice(alloc, &[1, 2, 3])?;
-    let mut challenger = HashChallenger::new(initial_state, Sha256Hasher);
+fn mixed_calls_are_as_wanted<C: ByteChallenger>(challenger: &mut C) -> Result<bool, AllocError> {
     for place in 0..40 {
         if place % 7 == 3 {
             challenger.observe_byte(place as u8)?;
@@ -89,21 +88,27 @@ fn mixed_calls_are_as_wanted(alloc: Global) -> Result<bool, AllocError> {
 }
 
 // Eight samples as a word, and then the two bytes below them in the digest.
-fn several_at_once(alloc: Global) -> Result<bool, AllocError> {
-    let mut challenger = fresh(alloc);
-    let word = sample_u64(&mut challenger)?;
+fn several_are_sampled<C: ByteChallenger>(challenger: &mut C) -> Result<bool, AllocError> {
+    let word = sample_u64(challenger)?;
     let mut rest = [0; 2];
-    sample_bytes(&mut challenger, &mut rest)?;
-    let mut observer = fresh(alloc);
-    observe_bytes(&mut observer, b"abc")?;
-    let mut after = [0; 2];
-    sample_bytes(&mut observer, &mut after)?;
-    Ok(word == 0xa495991b7852b855 && rest == [0x4c, 0x93] && after == [0xad, 0x15])
+    sample_bytes(challenger, &mut rest)?;
+    Ok(word == 0xa495991b7852b855 && rest[0] == 0x4c && rest[1] == 0x93)
+}
+
+fn several_are_observed<C: ByteChallenger>(challenger: &mut C) -> Result<bool, AllocError> {
+    observe_bytes(challenger, b"abc")?;
+    Ok(challenger.sample_byte()? == 0xad && challenger.sample_byte()? == 0x15)
 }
 
 #[test]
 fn calls_are_mixed_and_made_together(rt: HostRuntime) -> Result<(), Fail> {
-    assert!(rt; mixed_calls_are_as_wanted(rt.alloc())? && several_at_once(rt.alloc())?);
+    let initial_state = Vec::from_slice(rt.alloc(), &[1, 2, 3])?;
+    let mut mixed = HashChallenger::new(initial_state, Sha256Hasher);
+    assert!(rt;
+        mixed_calls_are_as_wanted(&mut mixed)?
+            && several_are_sampled(&mut fresh(rt.alloc()))?
+            && several_are_observed(&mut fresh(rt.alloc()))?
+    );
     Ok(())
 }
 
@@ -116,19 +121,20 @@ fn initial_state<A: Allocator>(alloc: A, len: usize) -> Result<Vec<u8, A>, Alloc
     Ok(state)
 }
 
-// From initial states of 0 to 257 bytes: a sample, n modulo 256 observed, another sample. The samples are folded into one number,
-// 31 times the number so far plus both as a big-endian number, modulo 2^32.
+// A sample, and one after the byte was observed, as a big-endian number.
+fn two_samples<C: ByteChallenger>(challenger: &mut C, byte: u8) -> Result<u32, AllocError> {
+    let first = challenger.sample_byte()?;
+    challenger.observe_byte(byte)?;
+    Ok((first as u32) << 8 | challenger.sample_byte()? as u32)
+}
+
+// From initial states of 0 to 257 bytes, of copies: a sample, n modulo 256 observed, another sample. The samples are folded into one
+// number, 31 times the number so far plus both as a big-endian number, modulo 2^32.
 fn samples_of_all_lengths(alloc: Global) -> Result<u32, AllocError> {
     let mut folded: u32 = 0;
     for len in 0..258usize {
-        let mut challenger = HashChallenger::new(
-            initial_state(alloc, len)?,
-            Sha256Hasher,
-        ).try_clone()?;
-        let first = challenger.sample_byte()?;
-        challenger.observe_byte((len % 256) as u8)?;
-        let second = challenger.sample_byte()?;
-        let pair = (first as u32) << 8 | second as u32;
+        let challenger = HashChallenger::new(initial_state(alloc, len)?, Sha256Hasher);
+        let pair = two_samples(&mut challenger.try_clone()?, (len % 256) as u8)?;
         folded = folded.wrapping_mul(31).wrapping_add(pair);
     }
     Ok(folded)
