@@ -22,7 +22,7 @@ pub use word_tables::{
 pub use word_cubic::cubic_is_field;
 
 // matrices over the bits of a byte
-pub use field_aes::columns_are_transposed;
+pub use field_aes::{columns_are_transposed, zero_and_identity};
 
 // packed bits
 pub use bits_packed::transposing_twice_returns;

@@ -4,6 +4,7 @@ use Rattle.std.specs.Prelude.{bit_xor, slice_index, slice_index_or, slice_set}
 use Rattle.std.proofs.lemmas.List.{append-nil, drop_all, length-map, take_all}
 use Rattle.std.proofs.lemmas.List.Edits.{map_over_more}
 use Rattle.field_base.specs.LinearMaps.{linear_image}
+use Rattle.field_base.proofs.EightCases.{eight_cases}
 use Rattle.field_base.proofs.LinearMapLemmas.{the_linear_map}
 
 -- an entry of the images of a list is the image of the entry
@@ -51,3 +52,23 @@ one_after_other outer first both is x fits =
         let within : j < length first = omega (arith, below, long) in
         ap (linear_image outer) ((the_linear_map first).of_bit j within)
         ∙ sym (entry_of_map (linear_image outer) first j within) ∙ ap (λ (xs : List ℕ). slice_index xs j) (sym is)
+
+-- ---- the two maps that have names
+
+abbrev zeros : List ℕ
+zeros = 0 ∷ 0 ∷ 0 ∷ 0 ∷ 0 ∷ 0 ∷ 0 ∷ 0 ∷ []
+
+abbrev powers : List ℕ
+powers = 1 ∷ 2 ∷ 4 ∷ 8 ∷ 16 ∷ 32 ∷ 64 ∷ 128 ∷ []
+
+-- eight images that are 0 make 0 of every byte
+pub zero_map : (x : ℕ) → x < 256 → linear_image zeros x ≡ 0
+zero_map x fits =
+    sym ((the_linear_map zeros).only (λ y. 0) (λ a b. refl)
+    (eight_cases (λ j. 0 ≡ slice_index zeros j) refl refl refl refl refl refl refl refl) x fits)
+
+-- eight images that are the powers of two leave every byte
+pub identity_map : (x : ℕ) → x < 256 → linear_image powers x ≡ x
+identity_map x fits =
+    sym ((the_linear_map powers).only (λ y. y) (λ a b. refl)
+    (eight_cases (λ j. 2 ^ j ≡ slice_index powers j) refl refl refl refl refl refl refl refl) x fits)
