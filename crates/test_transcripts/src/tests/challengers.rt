@@ -8,3 +8,4 @@ mod refusals;
 mod scripts;
 mod seeds;
 mod single_calls;
+mod stopped_lists;
