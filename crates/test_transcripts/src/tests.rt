@@ -8,4 +8,5 @@ mod refusals;
 mod scripts;
 mod seeds;
 mod single_calls;
+mod stopped_lists;
 mod trials;
