@@ -84,7 +84,8 @@ pub trait CanSampleBits<T>: Transcript {
         ensures kept { Self.has_failed self.old ≡ true → self.new ≡ self.old }
         ensures answer { GuardedAnswer (Self.has_failed self.old) (Self.has_failed self.new) (Self.has_refused self.new) result };
 
-    ghost gives_bits_law: { (bits : ℕ) → GivesByState Self.state (λ (old : Self) (number : T) (new : Self). gives_bits old bits number new) };
+    ghost gives_bits_law: { (bits : ℕ) → GivesByState Self.state
+        (λ (old : Self) (number : T) (new : Self). gives_bits old bits number new) };
 }
 
 impl<F: ByteLevel, Inner: ByteChallenger> CanSampleBits<usize> for BinaryChallenger<F, Inner> {
