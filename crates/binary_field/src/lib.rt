@@ -70,9 +70,9 @@ pub use transcript_bytes::{
 
 // elements in transcripts, and the challenger of a field
 pub use transcript_elements::{
-    BinaryChallenger, Call, CanObserve, CanSample, CanSampleBits, CanSampleUniformBits, Digest,
-    FieldChallenger, GrindError, GrindingChallenger, Hash, MerkleCap, Recorder, Reply, Transcript,
-    TranscriptError, TranscriptField, TypeTag, run_calls,
+    BinaryChallenger, ByteLevel, Call, CanObserve, CanSample, CanSampleBits, CanSampleUniformBits,
+    Digest, FieldChallenger, GrindError, GrindingChallenger, Hash, MerkleCap, Recorder, Reply,
+    Transcript, TranscriptError, TranscriptField, TypeTag, run_calls,
 };
 
 // lines of text and their answers
