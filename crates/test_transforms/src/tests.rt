@@ -1,4 +1,3 @@
-mod drawn;
 mod low_stages;
 mod slices;
 mod transform;
