@@ -33,16 +33,15 @@ POLYNOMIALS = [0, 1, 2, 20, 65, 128]
 SLICES = [0, 1, 2, 5, 17, 257]
 LOW_STAGES = 64
 BYTE_MAPS = 3
-# The widths of rows, and of rows and their parts.
-ROWS = [8, 128]
-PARTS = [(128, 8), (512, 128)]
+# The width of rows, and that of their parts.
+ROW = 128
+PART = 8
 # The fields and the lengths of the streams, the pairs of fields with operators, and the pairs of levels and how many of their views.
 STREAMED = ["t16", "g128", "p192"]
 STREAMS = [0, 3, 5]
-BESIDE = [("g128", "t8"), ("g128", "t128")]
-VIEWED = [("t32", "t8"), ("t32", "t16")]
+BESIDE = [("g128", "t8")]
+VIEWED = [("t32", "t8")]
 VIEWS = 2
-SUBFIELD = 6
 # The operators between two fields: their name, and in how many ways each is computed. A sum is a difference too.
 OPERATORS = {"*": ("products", 2), "+": ("sums", 5), "-": ("sums", 5)}
 # Lines that are no calls, or whose operands the function does not take.
@@ -57,9 +56,9 @@ REFUSED = [
     "t16 dot_product 1,2 1",
     "t16 sum 1,,2",
     "p64/t128 sums 1 1",
+    "g128/t8 sums 1 100",
     "g128/t8 quotients 1 1",
     "dot_powers_of_x " + ",".join(["1"] * 129),
-    "masked_product 1 1 4 0",
     "butterfly_forward 1 1,2 1",
     "mul_slice 1",
     "low_stages 1,2,3 1,2,3 0 -",
@@ -67,10 +66,9 @@ REFUSED = [
     "low_stages 1,2,3,4 1,2,3 1 0,0,0,0,0,0,0,0,0,0,0,0,0,0,0,0",
     "apply_slice 1,2,3 4",
     "eval 1,2,3,4,5,6,7,8 100",
-    "transpose 8 1,2,3",
-    "interleave 8 4 1,2",
-    "parts 80 8 1",
-    "masked_product 2 1 0 0",
+    "transpose 1,2,3,4,5,6",
+    "interleave 8 1,2,3,4",
+    "parts 1",
     "to_tower_8 100",
     "to_tower_16 1",
     "linear_map 1,2,3 0 1000",
@@ -82,12 +80,12 @@ REFUSED = [
 ]
 # Rows that were worked out by hand, and what the calls have to give.
 WORKED = [
-    # The four bytes of an element of 32 bits, and the elements of 16 bits inside.
+    # The four bytes of an element of 32 bits, and the elements of 8 bits inside.
     ("t32/t8 coefficients 4030201", "1,2,3,4"),
-    ("t32/t16 as_base 4030201", "-"),
-    ("t32/t16 as_base 201", "201"),
-    # The highest bit of 128 beside the root of the field of two bits.
-    ("t128/t2 mixed 80000000000000000000000000000000 2", "2,80000000000000000000000000000002,c0000000000000000000000000000000"),
+    ("t32/t8 as_base 201", "-"),
+    ("t32/t8 as_base a1", "a1"),
+    # The highest bit of 32 beside the root of the field of two bits.
+    ("t32/t8 mixed 80000000 2", "2,80000002,c0000000"),
     # Three elements of 16 bits as words.
     ("streams/t16 u64 102,304,506", "50603040102"),
     ("streams/t16 u32 102,304,506", "3040102,506"),
@@ -185,7 +183,7 @@ def field_calls(vectors, field):
     return [*constants(vectors, field), *products(vectors, field), *dot_products(vectors, field)]
 
 
-@section("operators between two fields", 8)
+@section("operators between two fields", 4)
 def mixed(vectors):
     """What an operator gives at an element and one of a level of the tower on its right."""
     rows = vectors["change_of_basis"]["mixed"][-MIXED:]
@@ -204,18 +202,6 @@ def values_at_x(vectors):
     for row in vectors["dot_powers_of_x"]:
         if len(row["values"]) in POLYNOMIALS:
             yield f"dot_powers_of_x {listed(row['values'])}", number(row["sum"])
-
-
-@section("masked products", 64)
-def masked_products(vectors):
-    """The all ones of each pair of classes, and the first row that was drawn; `masked_products` is of x, 0 and x."""
-    kept = {}
-    for row in vectors["masked_product"]:
-        kept.setdefault((row["i"], row["j"]), []).append(row)
-    for row in (row for rows in kept.values() for row in rows[:2]):
-        operands = f"{number(row['x'])} {number(row['y'])} {row['i']} {row['j']}"
-        yield f"masked_product {operands}", number(row["product"])
-        yield f"masked_products {operands}", listed([row["product"], "0", row["product"]])
 
 
 def conversions(vectors, name):
@@ -336,34 +322,30 @@ def rows_of(numbers, bits):
     return listed([word for number in numbers for word in words_of(number, bits)])
 
 
-@section("rows of bits", 16)
+@section("rows of bits", 10)
 def rows_of_bits(vectors):
     """Rows of bits transposed, interleaved by every block length, and cut into parts."""
-    for row in (row for row in vectors["packed_gf2"] if row["width"] in ROWS):
-        bits, transposed = row["width"], row["transpose"]
-        yield f"transpose {bits:x} {rows_of(transposed['rows'], bits)}", rows_of(transposed["out"], bits)
-        for pair in row["interleave"]:
-            log = pair["block_len"].bit_length() - 1
-            call = f"interleave {bits:x} {log:x} {rows_of([pair['left'], pair['right']], bits)}"
-            yield call, rows_of([pair["first"], pair["second"]], bits)
+    [row] = [row for row in vectors["packed_gf2"] if row["width"] == ROW]
+    yield f"transpose {rows_of(row['transpose']['rows'], ROW)}", rows_of(row["transpose"]["out"], ROW)
+    for pair in row["interleave"]:
+        log = pair["block_len"].bit_length() - 1
+        call = f"interleave {log:x} {rows_of([pair['left'], pair['right']], ROW)}"
+        yield call, rows_of([pair["first"], pair["second"]], ROW)
     for row in vectors["divisible"]:
-        wide, narrow = row["wide"], row["narrow"]
-        if (wide, narrow) in PARTS:
-            yield f"parts {wide:x} {narrow:x} {rows_of([row['x']], wide)}", rows_of(row["parts"], narrow)
+        if (row["wide"], row["narrow"]) == (ROW, PART):
+            yield f"parts {rows_of([row['x']], ROW)}", rows_of(row["parts"], PART)
 
 
-@section("packings", 18)
+@section("packings", 12)
 def packings(vectors):
     """Sixteen bytes of AES lane by lane, and four elements of the field of GHASH."""
     for row in vectors["packed_rijndael8b"]["cases"][-BYTE_MAPS:]:
         x, y = (listed(digits_of(row[name])) for name in "xy")
-        for operation in ("add", "mul"):
-            yield f"byte_lanes {operation} {x} {y}", listed(digits_of(row[operation]))
+        yield f"byte_lanes mul {x} {y}", listed(digits_of(row["mul"]))
         yield f"byte_lanes invert_or_zero {x}", listed(digits_of(row["invert_or_zero"]))
         yield f"byte_lanes apply {x} {number(row['matrix_quadword'])}", listed(digits_of(row["apply"]))
     for row in vectors["packed_ghash128"]["cases"][-BYTE_MAPS:]:
         yield f"ghash_lanes mul {listed(row['a'])} {listed(row['b'])}", listed(row["mul"])
-        yield f"ghash_lanes square {listed(row['a'])}", listed(row["square_a"])
 
 
 def numbers_of(field, texts):
@@ -385,7 +367,7 @@ def streams(vectors):
             yield f"{call} text {listed(numbers_of(row['field'], [x]))}", listed([f"{ord(letter):x}" for letter in text])
 
 
-@section("views", 28)
+@section("views", 8)
 def views(vectors):
     """Elements as vectors over a smaller level, the operators with an element of it, and the powers of its number."""
     for pair in vectors["extension_views"]:
@@ -399,13 +381,9 @@ def views(vectors):
                 yield f"{call} mixed {x} {number(row['lower'])}", listed(mixed_with)
                 powers = [row["frobenius"], row["repeated_frobenius"], row["pseudo_inv"]]
                 yield f"{call} frobenius {x} {int(row['count']):x}", listed(powers)
-    for row in vectors["subfield_t2_in_t128"][:SUBFIELD]:
-        x, lower = number(row["x"]), number(row["t2"])
-        yield f"t128/t2 mixed {x} {lower}", listed([row["t2"], row["x+t2"], row["x*t2"]])
-        yield f"t128/t2 as_base {x}", listed([row["as_subfield"]] if row["as_subfield"] else [])
 
 
-@section("no calls", 32)
+@section("no calls", 31)
 def refused(_):
     """Lines that are answered by a word."""
     return [(line, "error") for line in REFUSED]

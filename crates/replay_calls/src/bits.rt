@@ -4,46 +4,28 @@ ghost use Rattle.std.specs.Prelude.{◌≡◌, ◌<◌, ◌^◌};
 use crate::fault::Fault;
 use crate::reading::{count, word};
 use bits_packed::PackedGf2;
-use bits_rows::{Divisible, M128, M512, Underlier, Word};
+use bits_rows::{Divisible, M128, Underlier, Word};
 use std::alloc::Global;
 
-/// What a call of packed bits gives: the words of the rows, one row after the other.
-pub(crate) fn rearranged(alloc: Global, name: &str, call: &[&str]) -> Result<Vec<u128>, Fault> {
-    match *call {
-        [width, rows] if name == "transpose" => transpose_of_width(alloc, width, rows),
-        [width, log, rows] if name == "interleave" => {
-            interleave_of_width(alloc, width, count(log)?, rows)
-        }
-        [wide, narrow, row] if name == "parts" => parts_of_width(alloc, wide, narrow, row),
-        _ => Err(Fault::Line),
-    }
+/// A call of packed bits.
+#[derive(Clone, Copy)]
+pub(crate) enum Rearrangement {
+    Transpose,
+    Interleave,
+    Parts,
 }
 
-fn transpose_of_width(alloc: Global, width: &str, rows: &str) -> Result<Vec<u128>, Fault> {
-    match width {
-        "8" => transposed::<u8>(alloc, rows),
-        "80" => transposed::<M128>(alloc, rows),
-        _ => Err(Fault::Line),
-    }
-}
-
-fn interleave_of_width(
+/// What a call of packed bits gives: the words of the rows, one row after the other. The rows have 128 bits, and the parts are bytes:
+/// the code of rows is the same at every width.
+pub(crate) fn rearranged(
     alloc: Global,
-    width: &str,
-    log: usize,
-    rows: &str,
+    rearrangement: Rearrangement,
+    call: &[&str],
 ) -> Result<Vec<u128>, Fault> {
-    match width {
-        "8" => interleaved::<u8>(alloc, log, rows),
-        "80" => interleaved::<M128>(alloc, log, rows),
-        _ => Err(Fault::Line),
-    }
-}
-
-fn parts_of_width(alloc: Global, wide: &str, narrow: &str, row: &str) -> Result<Vec<u128>, Fault> {
-    match (wide, narrow) {
-        ("80", "8") => parts::<M128, u8>(alloc, row),
-        ("200", "80") => parts::<M512, M128>(alloc, row),
+    match (rearrangement, call) {
+        (Rearrangement::Transpose, [list]) => transposed::<M128>(alloc, *list),
+        (Rearrangement::Interleave, [log, list]) => interleaved::<M128>(alloc, count(*log)?, *list),
+        (Rearrangement::Parts, [list]) => parts::<M128, u8>(alloc, *list),
         _ => Err(Fault::Line),
     }
 }

@@ -5,36 +5,51 @@ use field_aes::{ByteMatrix, LinearizedPoly8b, RijndaelMaps};
 use field_element::Rijndael8b;
 use std::alloc::Global;
 
-/// What a call of a matrix or of a linearized polynomial gives.
-pub(crate) fn mapped(alloc: Global, name: &str, operands: &[&str]) -> Result<Vec<u128>, Fault> {
+/// A call of the byte field, of a matrix or of a linearized polynomial.
+#[derive(Clone, Copy)]
+pub(crate) enum ByteMap {
+    ToQuadword,
+    FromQuadword,
+    ScalingMatrix,
+    FrobeniusOrbit,
+    ToMatrix,
+    ApplySlice,
+    Compose,
+    Eval,
+}
+
+/// What a call of the byte field gives.
+pub(crate) fn mapped(alloc: Global, map: ByteMap, operands: &[&str]) -> Result<Vec<u128>, Fault> {
     match *operands {
-        [operand] => of_one(alloc, name, operand),
-        [left, right] => of_two(alloc, name, left, right),
+        [operand] => of_one(alloc, map, operand),
+        [left, right] => of_two(alloc, map, left, right),
         _ => Err(Fault::Line),
     }
 }
 
 /// What a call of one operand gives.
-fn of_one(alloc: Global, name: &str, operand: &str) -> Result<Vec<u128>, Fault> {
-    match name {
-        "to_quadword" => {
+fn of_one(alloc: Global, map: ByteMap, operand: &str) -> Result<Vec<u128>, Fault> {
+    match map {
+        ByteMap::ToQuadword => {
             let quadword = matrix(alloc, operand)?.to_quadword();
             Ok(vec![in alloc; u128::from(quadword)]?)
         }
-        "from_quadword" => images_of(alloc, ByteMatrix::from_quadword(word(operand)?)),
-        "scaling_matrix" => images_of(alloc, element(operand)?.scaling_matrix()),
-        "frobenius_orbit" => orbit(alloc, element(operand)?),
-        "to_matrix" => images_of(alloc, polynomial(alloc, operand)?.to_matrix()),
+        ByteMap::FromQuadword => images_of(alloc, ByteMatrix::from_quadword(word(operand)?)),
+        ByteMap::ScalingMatrix => images_of(alloc, element(operand)?.scaling_matrix()),
+        ByteMap::FrobeniusOrbit => orbit(alloc, element(operand)?),
+        ByteMap::ToMatrix => images_of(alloc, polynomial(alloc, operand)?.to_matrix()),
         _ => Err(Fault::Line),
     }
 }
 
 /// What a call of two operands gives.
-fn of_two(alloc: Global, name: &str, left: &str, right: &str) -> Result<Vec<u128>, Fault> {
-    match name {
-        "apply_slice" => applied(alloc, matrix(alloc, left)?, right),
-        "compose" => images_of(alloc, matrix(alloc, left)?.compose(matrix(alloc, right)?)),
-        "eval" => {
+fn of_two(alloc: Global, map: ByteMap, left: &str, right: &str) -> Result<Vec<u128>, Fault> {
+    match map {
+        ByteMap::ApplySlice => applied(alloc, matrix(alloc, left)?, right),
+        ByteMap::Compose => {
+            images_of(alloc, matrix(alloc, left)?.compose(matrix(alloc, right)?))
+        }
+        ByteMap::Eval => {
             let value = polynomial(alloc, left)?.eval(element(right)?);
             Ok(vec![in alloc; u128::from(value.to_byte())]?)
         }

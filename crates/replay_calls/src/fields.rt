@@ -1,6 +1,6 @@
 // The calls of a field, at two fields: what is generic in the width is the same code at every other.
 use crate::fault::Fault;
-use crate::reading::{count, element, elements, number_of, numbers};
+use crate::reading::{count, element, elements, named, number_of, numbers};
 use crate::streams;
 use field_base::traits::TowerLevel;
 use field_base::{LevelKernel, Unsigned};
@@ -11,64 +11,126 @@ use std::fmt::Display;
 use word_polynomial::GhashKernel;
 use word_tower::{Bits16, Tower};
 
-/// What a call of a field is of.
+/// A field whose calls are answered.
 #[derive(Clone, Copy)]
 pub(crate) enum Asked {
+    T16,
+    G128,
+}
+
+/// What a call of a field is of.
+#[derive(Clone, Copy)]
+pub(crate) enum Wanted {
     /// One element, or a number.
     Value,
     /// A stream of elements, or their text.
     Stream,
 }
 
-/// The answer to a call of the field of this name.
+/// A call of a field.
+#[derive(Clone, Copy)]
+enum FieldCall {
+    Bits,
+    Generator,
+    CantorBasis,
+    MulAlpha,
+    ExpPowerOf2,
+    DotProduct,
+    Sum,
+    Product,
+}
+
+static CALLS: [(&str, FieldCall); 8] = [
+    ("bits", FieldCall::Bits),
+    ("generator", FieldCall::Generator),
+    ("cantor_basis", FieldCall::CantorBasis),
+    ("mul_alpha", FieldCall::MulAlpha),
+    ("exp_power_of_2", FieldCall::ExpPowerOf2),
+    ("dot_product", FieldCall::DotProduct),
+    ("sum", FieldCall::Sum),
+    ("product", FieldCall::Product),
+];
+
+/// The answer to a call of a field.
 pub(crate) fn answer(
     alloc: Global,
-    field: &str,
-    asked: Asked,
+    field: Asked,
+    wanted: Wanted,
     call: &[&str],
 ) -> Result<Vec<u128>, Fault> {
     match field {
-        "t16" => kernel_call::<u16, Tower<Bits16>>(alloc, asked, call),
-        "g128" => kernel_call::<u128, GhashKernel>(alloc, asked, call),
-        _ => Err(Fault::Line),
+        Asked::T16 => kernel_call::<u16, Tower<Bits16>>(alloc, wanted, call),
+        Asked::G128 => kernel_call::<u128, GhashKernel>(alloc, wanted, call),
     }
 }
 
 /// The answer to a call of the field of a kernel.
 fn kernel_call<R: Unsigned + LittleEndian, K: LevelKernel<R> + HasPacking<R>>(
     alloc: Global,
-    asked: Asked,
+    wanted: Wanted,
     call: &[&str],
 ) -> Result<Vec<u128>, Fault> {
-    field_call::<Element<R, K>>(alloc, asked, call)
+    field_call::<Element<R, K>>(alloc, wanted, call)
 }
 
 /// The answer to a call of a field.
 fn field_call<F: TowerLevel + RawDataSerializable + Display>(
     alloc: Global,
-    asked: Asked,
+    wanted: Wanted,
     call: &[&str],
 ) -> Result<Vec<u128>, Fault> {
-    match asked {
-        Asked::Value => Ok(vec![in alloc; value::<F>(alloc, call)?]?),
-        Asked::Stream => streams::field_call::<F>(alloc, call),
+    match wanted {
+        Wanted::Value => Ok(vec![in alloc; value::<F>(alloc, call)?]?),
+        Wanted::Stream => streams::field_call::<F>(alloc, call),
     }
 }
 
 /// The number, or that of the element, that a call of a field gives.
 fn value<F: TowerLevel>(alloc: Global, call: &[&str]) -> Result<u128, Fault> {
-    let result: F = match *call {
-        ["bits"] => return Ok(F::bits() as u128),
-        ["generator"] => F::GENERATOR,
-        ["cantor_basis", place] => cantor_vector(place)?,
-        ["mul_alpha", x] => element::<F>(x)?.mul_alpha(),
-        ["exp_power_of_2", x, squarings] => element::<F>(x)?.exp_power_of_2(count(squarings)?),
-        ["dot_product", left, right] => dot_product(alloc, left, right)?,
-        ["sum", list] => elements::<F>(alloc, list)?.iter().copied().sum(),
-        ["product", list] => elements::<F>(alloc, list)?.iter().copied().product(),
-        _ => return Err(Fault::Line),
+    let Some((name, operands)) = call.split_first() else {
+        return Err(Fault::Line);
     };
-    Ok(number_of(result))
+    let call = named(&CALLS, name)?;
+    match *operands {
+        [] => constant::<F>(call),
+        [operand] => Ok(number_of(of_one::<F>(alloc, call, operand)?)),
+        [left, right] => Ok(number_of(of_two::<F>(alloc, call, left, right)?)),
+        _ => Err(Fault::Line),
+    }
+}
+
+/// A constant of a field.
+fn constant<F: TowerLevel>(call: FieldCall) -> Result<u128, Fault> {
+    match call {
+        FieldCall::Bits => Ok(F::bits() as u128),
+        FieldCall::Generator => Ok(number_of(F::GENERATOR)),
+        _ => Err(Fault::Line),
+    }
+}
+
+/// What a call of one operand gives.
+fn of_one<F: TowerLevel>(alloc: Global, call: FieldCall, operand: &str) -> Result<F, Fault> {
+    match call {
+        FieldCall::CantorBasis => cantor_vector(operand),
+        FieldCall::MulAlpha => Ok(element::<F>(operand)?.mul_alpha()),
+        FieldCall::Sum => Ok(elements::<F>(alloc, operand)?.iter().copied().sum()),
+        FieldCall::Product => Ok(elements::<F>(alloc, operand)?.iter().copied().product()),
+        _ => Err(Fault::Line),
+    }
+}
+
+/// What a call of two operands gives.
+fn of_two<F: TowerLevel>(
+    alloc: Global,
+    call: FieldCall,
+    left: &str,
+    right: &str,
+) -> Result<F, Fault> {
+    match call {
+        FieldCall::ExpPowerOf2 => Ok(element::<F>(left)?.exp_power_of_2(count(right)?)),
+        FieldCall::DotProduct => dot_product(alloc, left, right),
+        _ => Err(Fault::Line),
+    }
 }
 
 /// The Cantor vector at a place, which has to be one of the field's bits.

@@ -4,7 +4,7 @@
 //! between its numbers, and `-` is the empty list. The answer is a list too, or `error` for a line that is no call, or whose
 //! operands the function does not take. A line that begins with `#` is repeated.
 //!
-//! | Line | Answer |
+//! | Line | Wanted |
 //! |---|---|
 //! | `t16 mul_alpha 53`, `g128 dot_product 1,2 3,4` | what a call of a field gives |
 //! | `g128/t8 sums 1 2`, `g128/t8 products 1 2` | what the operators of a field give with an element of a level on the right |
@@ -12,12 +12,14 @@
 //! | `butterfly_forward 2 1,2 3,4`, `low_stages 1,2,3,4 5,6,7 0 -` | the slices that a function changes, one after the other |
 //! | `streams/t16 u32 102,304,506`, `streams/t16 text 13` | the items of a stream of elements, or the bytes of their text |
 //! | `t32/t8 coefficients 4030201`, `t32/t8 frobenius 4030201 2` | what a view over a smaller level gives |
-//! | `transpose 8 1,2,3,4,5,6,7,8`, `parts 80 8 201,0` | rows of bits by their words, as rows of so many bits are changed or cut |
+//! | `interleave 0 1,2,3,4`, `parts 201,0` | rows of 128 bits by their words, the low one first, as they are changed or cut into bytes |
 //! | `ghash_lanes mul 1,2,3,4 5,6,7,8` | the lanes of packings |
 //! | `compose 1,2,..,80 1,2,..,80`, `eval 1,0,0,0,0,0,0,0 53` | the images of a matrix of bits, or a value of a polynomial |
 //!
 //! The file `stdout` has the crate's answers to the calls of `stdin`, which were drawn from the seed 20261122, and before them worked
-//! rows. scripts/make_vectors.py writes both.
+//! rows. scripts/make_vectors.py writes both. A definition is asked at one instance for each kind of code: calls of a field at a level
+//! of the tower and at a field of polynomials, views at one pair of levels, mixed operators at one pair of fields, rows of bits at one
+//! width. The arithmetic of every field is in the lines of `replay_lines`.
 #![tactic(auto)]
 
 mod basis;
@@ -26,46 +28,95 @@ mod bytes;
 mod fault;
 mod fields;
 mod linear_map;
-mod masked;
 mod packed;
 mod pairs;
 mod reading;
 mod slices;
 mod streams;
 
+use crate::basis::Change;
+use crate::bits::Rearrangement;
+use crate::bytes::ByteMap;
 use crate::fault::Fault;
-use crate::fields::Asked;
+use crate::fields::{Asked, Wanted};
+use crate::packed::Packing;
+use crate::reading::named;
+use crate::slices::SliceCall;
 use std::alloc::{AllocError, Global};
 use std::fmt::Write;
 use std::io;
 
+/// What the first word of a line names.
+#[derive(Clone, Copy)]
+enum Subject {
+    Field(Asked, Wanted),
+    StreamOfCubics,
+    WithByte,
+    View,
+    ValueAtX,
+    Basis(Change),
+    LinearMap,
+    Slices(SliceCall),
+    Bytes(ByteMap),
+    Bits(Rearrangement),
+    Packings(Packing),
+}
+
+static SUBJECTS: [(&str, Subject); 32] = [
+    ("t16", Subject::Field(Asked::T16, Wanted::Value)),
+    ("g128", Subject::Field(Asked::G128, Wanted::Value)),
+    ("streams/t16", Subject::Field(Asked::T16, Wanted::Stream)),
+    ("streams/g128", Subject::Field(Asked::G128, Wanted::Stream)),
+    ("streams/p192", Subject::StreamOfCubics),
+    ("g128/t8", Subject::WithByte),
+    ("t32/t8", Subject::View),
+    ("dot_powers_of_x", Subject::ValueAtX),
+    ("to_polynomial_8", Subject::Basis(Change::ToPolynomial8)),
+    ("to_polynomial_64", Subject::Basis(Change::ToPolynomial64)),
+    ("to_polynomial_128", Subject::Basis(Change::ToPolynomial128)),
+    ("to_tower_8", Subject::Basis(Change::ToTower8)),
+    ("to_tower_64", Subject::Basis(Change::ToTower64)),
+    ("to_tower_128", Subject::Basis(Change::ToTower128)),
+    ("linear_map", Subject::LinearMap),
+    ("mul_slice", Subject::Slices(SliceCall::MulSlice)),
+    (
+        "butterfly_forward",
+        Subject::Slices(SliceCall::ButterflyForward),
+    ),
+    (
+        "butterfly_inverse",
+        Subject::Slices(SliceCall::ButterflyInverse),
+    ),
+    ("low_stages", Subject::Slices(SliceCall::LowStages)),
+    ("to_quadword", Subject::Bytes(ByteMap::ToQuadword)),
+    ("from_quadword", Subject::Bytes(ByteMap::FromQuadword)),
+    ("scaling_matrix", Subject::Bytes(ByteMap::ScalingMatrix)),
+    ("frobenius_orbit", Subject::Bytes(ByteMap::FrobeniusOrbit)),
+    ("to_matrix", Subject::Bytes(ByteMap::ToMatrix)),
+    ("apply_slice", Subject::Bytes(ByteMap::ApplySlice)),
+    ("compose", Subject::Bytes(ByteMap::Compose)),
+    ("eval", Subject::Bytes(ByteMap::Eval)),
+    ("transpose", Subject::Bits(Rearrangement::Transpose)),
+    ("interleave", Subject::Bits(Rearrangement::Interleave)),
+    ("parts", Subject::Bits(Rearrangement::Parts)),
+    ("byte_lanes", Subject::Packings(Packing::SixteenBytes)),
+    ("ghash_lanes", Subject::Packings(Packing::FourOfGhash)),
+];
+
 /// The answer to a call.
 fn answer(alloc: Global, name: &str, call: &[&str]) -> Result<Vec<u128>, Fault> {
-    match name {
-        "streams/p192" => streams::cubic_call(alloc, call),
-        "linear_map" => linear_map::sample(alloc, call),
-        "masked_products" => masked::products(alloc, call),
-        "mul_slice" | "butterfly_forward" | "butterfly_inverse" | "low_stages" => {
-            slices::changed(alloc, name, call)
-        }
-        "apply_slice"
-        | "compose"
-        | "to_quadword"
-        | "from_quadword"
-        | "scaling_matrix"
-        | "frobenius_orbit"
-        | "eval"
-        | "to_matrix" => bytes::mapped(alloc, name, call),
-        "transpose" | "interleave" | "parts" => bits::rearranged(alloc, name, call),
-        "byte_lanes" | "ghash_lanes" => packed::computed(alloc, name, call),
-        "dot_powers_of_x" => fields::value_at_x(alloc, call),
-        "masked_product" => Ok(vec![in alloc; masked::product(call)?]?),
-        _ if name.starts_with("to_") => Ok(vec![in alloc; basis::changed(name, call)?]?),
-        _ if name.contains('/') => match name.strip_prefix("streams/") {
-            Some(field) => fields::answer(alloc, field, Asked::Stream, call),
-            None => pairs::answer(alloc, name, call),
-        },
-        _ => fields::answer(alloc, name, Asked::Value, call),
+    match named(&SUBJECTS, name)? {
+        Subject::Field(field, wanted) => fields::answer(alloc, field, wanted, call),
+        Subject::StreamOfCubics => streams::cubic_call(alloc, call),
+        Subject::WithByte => pairs::with_byte(alloc, call),
+        Subject::View => pairs::view(alloc, call),
+        Subject::ValueAtX => fields::value_at_x(alloc, call),
+        Subject::Basis(change) => Ok(vec![in alloc; basis::changed(change, call)?]?),
+        Subject::LinearMap => linear_map::sample(alloc, call),
+        Subject::Slices(slices) => slices::changed(alloc, slices, call),
+        Subject::Bytes(map) => bytes::mapped(alloc, map, call),
+        Subject::Bits(rearrangement) => bits::rearranged(alloc, rearrangement, call),
+        Subject::Packings(packing) => packed::computed(alloc, packing, call),
     }
 }
 

@@ -1,31 +1,61 @@
 // Packings: sixteen bytes of AES, and four elements of the field of GHASH.
 use crate::fault::Fault;
-use crate::reading::{bytes, numbers, word};
+use crate::reading::{bytes, named, numbers, word};
 use field_aes::{ByteLanes, ByteMatrix, RijndaelMaps};
-use field_base::traits::PrimeCharacteristicRing;
 use field_element::{Ghash128, PackedGhash128, PackedRijndael8b, Rijndael8b};
 use packed_lanes::PackedValue;
 use std::alloc::Global;
 
+/// A packing.
+#[derive(Clone, Copy)]
+pub(crate) enum Packing {
+    SixteenBytes,
+    FourOfGhash,
+}
+
+/// An operation on packings.
+#[derive(Clone, Copy)]
+enum Operation {
+    Mul,
+    InvertOrZero,
+    Apply,
+}
+
+static OPERATIONS: [(&str, Operation); 3] = [
+    ("mul", Operation::Mul),
+    ("invert_or_zero", Operation::InvertOrZero),
+    ("apply", Operation::Apply),
+];
+
 /// What an operation on packings gives: their lanes, those of the first packing first.
-pub(crate) fn computed(alloc: Global, name: &str, call: &[&str]) -> Result<Vec<u128>, Fault> {
-    match *call {
-        ["mul", x, y] if name == "ghash_lanes" => {
-            shown_four(alloc, four(alloc, x)? * four(alloc, y)?)
-        }
-        ["square", x] if name == "ghash_lanes" => shown_four(alloc, four(alloc, x)?.square()),
-        [operation, x, y] if name == "byte_lanes" => {
-            let left = sixteen(alloc, x)?;
-            match operation {
-                "add" => shown_sixteen(alloc, left + sixteen(alloc, y)?),
-                "mul" => shown_sixteen(alloc, left * sixteen(alloc, y)?),
-                "apply" => { shown_sixteen(alloc, left.apply(ByteMatrix::from_quadword(word(y)?))) }
-                _ => Err(Fault::Line),
-            }
-        }
-        ["invert_or_zero", x] if name == "byte_lanes" => {
-            shown_sixteen(alloc, sixteen(alloc, x)?.invert_or_zero())
-        }
+pub(crate) fn computed(alloc: Global, packing: Packing, call: &[&str]) -> Result<Vec<u128>, Fault> {
+    let Some((operation, operands)) = call.split_first() else {
+        return Err(Fault::Line);
+    };
+    let operation = named(&OPERATIONS, operation)?;
+    match packing {
+        Packing::SixteenBytes => of_sixteen(alloc, operation, operands),
+        Packing::FourOfGhash => of_four(alloc, operation, operands),
+    }
+}
+
+/// What an operation on sixteen bytes of AES gives.
+fn of_sixteen(alloc: Global, operation: Operation, operands: &[&str]) -> Result<Vec<u128>, Fault> {
+    let lanes = match (operation, operands) {
+        (Operation::Mul, [x, y]) => sixteen(alloc, *x)? * sixteen(alloc, *y)?,
+        (Operation::Apply, [x, y]) => sixteen(alloc, *x)?.apply(ByteMatrix::from_quadword(word(
+            *y,
+        )?)),
+        (Operation::InvertOrZero, [x]) => sixteen(alloc, *x)?.invert_or_zero(),
+        _ => return Err(Fault::Line),
+    };
+    shown_sixteen(alloc, lanes)
+}
+
+/// What an operation on four elements of the field of GHASH gives.
+fn of_four(alloc: Global, operation: Operation, operands: &[&str]) -> Result<Vec<u128>, Fault> {
+    match (operation, operands) {
+        (Operation::Mul, [x, y]) => shown_four(alloc, four(alloc, *x)? * four(alloc, *y)?),
         _ => Err(Fault::Line),
     }
 }

@@ -4,6 +4,16 @@ use field_base::Unsigned;
 use field_base::traits::TowerLevel;
 use std::alloc::Global;
 
+/// What a word names in a table.
+pub(crate) fn named<T: Copy>(table: &[(&str, T)], word: &str) -> Result<T, Fault> {
+    for (name, value) in table {
+        if *name == word {
+            return Ok(*value);
+        }
+    }
+    Err(Fault::Line)
+}
+
 /// The number that a word writes.
 pub(crate) fn number(word: &str) -> Result<u128, Fault> {
     u128::from_str_radix(word, 16).ok().ok_or(Fault::Line)

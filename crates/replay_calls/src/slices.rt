@@ -4,26 +4,50 @@ use crate::reading::{count, number, numbers};
 use std::alloc::Global;
 use transform_slices::{LowStageTwiddles, butterfly_forward, butterfly_inverse, mul_slice};
 
+/// A call of slices.
+#[derive(Clone, Copy)]
+pub(crate) enum SliceCall {
+    MulSlice,
+    ButterflyForward,
+    ButterflyInverse,
+    LowStages,
+}
+
 /// What a call of slices gives: the values of the slices after it, one slice after the other.
-pub(crate) fn changed(alloc: Global, name: &str, operands: &[&str]) -> Result<Vec<u128>, Fault> {
+pub(crate) fn changed(
+    alloc: Global,
+    call: SliceCall,
+    operands: &[&str],
+) -> Result<Vec<u128>, Fault> {
     match *operands {
-        [scalar, values] if name == "mul_slice" => {
-            let mut values = numbers(alloc, values)?;
-            mul_slice(values.as_mut_slice(), number(scalar)?);
-            Ok(values)
-        }
-        [scalar, lo, hi] => butterfly(alloc, name, number(scalar)?, lo, hi),
-        [shifts, basis, first_run, values] if name == "low_stages" => {
-            low_stages(alloc, shifts, basis, count(first_run)?, values)
+        [scalar, values] => multiplied(alloc, call, number(scalar)?, values),
+        [scalar, lo, hi] => butterfly(alloc, call, number(scalar)?, lo, hi),
+        [shifts, basis, first_run, values] => {
+            low_stages(alloc, call, [shifts, basis, values], count(first_run)?)
         }
         _ => Err(Fault::Line),
     }
 }
 
+/// The products of a slice by a scalar.
+fn multiplied(
+    alloc: Global,
+    call: SliceCall,
+    scalar: u128,
+    values: &str,
+) -> Result<Vec<u128>, Fault> {
+    let mut values = numbers(alloc, values)?;
+    match call {
+        SliceCall::MulSlice => mul_slice(values.as_mut_slice(), scalar),
+        _ => return Err(Fault::Line),
+    }
+    Ok(values)
+}
+
 /// Both slices after a butterfly, the low one first. They have to be of one length.
 fn butterfly(
     alloc: Global,
-    name: &str,
+    call: SliceCall,
     scalar: u128,
     lo: &str,
     hi: &str,
@@ -33,9 +57,13 @@ fn butterfly(
     if lo.len() != hi.len() {
         return Err(Fault::Line);
     }
-    match name {
-        "butterfly_forward" => butterfly_forward(lo.as_mut_slice(), hi.as_mut_slice(), scalar),
-        "butterfly_inverse" => butterfly_inverse(lo.as_mut_slice(), hi.as_mut_slice(), scalar),
+    match call {
+        SliceCall::ButterflyForward => {
+            butterfly_forward(lo.as_mut_slice(), hi.as_mut_slice(), scalar)
+        }
+        SliceCall::ButterflyInverse => {
+            butterfly_inverse(lo.as_mut_slice(), hi.as_mut_slice(), scalar)
+        }
         _ => return Err(Fault::Line),
     }
     for value in hi.as_slice() {
@@ -47,11 +75,14 @@ fn butterfly(
 /// The runs after the low stages. The twiddles have to be enough for the runs.
 fn low_stages(
     alloc: Global,
-    shifts: &str,
-    basis: &str,
+    call: SliceCall,
+    lists: [&str; 3],
     first_run: usize,
-    values: &str,
 ) -> Result<Vec<u128>, Fault> {
+    let SliceCall::LowStages = call else {
+        return Err(Fault::Line);
+    };
+    let [shifts, basis, values] = lists;
     let shifts = numbers(alloc, shifts)?;
     let basis = numbers(alloc, basis)?;
     let mut values = numbers(alloc, values)?;

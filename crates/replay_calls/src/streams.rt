@@ -1,11 +1,27 @@
 // Elements as bytes, as streams of bytes and words, and as text.
 use crate::fault::Fault;
-use crate::reading::{elements, word};
+use crate::reading::{elements, named, word};
 use field_base::traits::TowerLevel;
 use field_bytes::{RawDataSerializable, into_byte_stream, into_u32_stream, into_u64_stream};
 use field_element::{Poly64, Poly192};
 use std::alloc::Global;
 use std::fmt::Display;
+
+/// What is made of elements.
+#[derive(Clone, Copy)]
+enum Streamed {
+    Bytes,
+    Words32,
+    Words64,
+    Text,
+}
+
+static STREAMS: [(&str, Streamed); 4] = [
+    ("bytes", Streamed::Bytes),
+    ("u32", Streamed::Words32),
+    ("u64", Streamed::Words64),
+    ("text", Streamed::Text),
+];
 
 /// A stream of elements of a field whose elements are words, or their text.
 pub(crate) fn field_call<F: TowerLevel + RawDataSerializable + Display>(
@@ -54,30 +70,29 @@ fn stream<E: RawDataSerializable + Display>(
 ) -> Result<Vec<u128>, Fault> {
     let mut items = Vec::new(alloc);
     let elements = elements.iter().copied();
-    match kind {
-        "bytes" => {
+    match named(&STREAMS, kind)? {
+        Streamed::Bytes => {
             for byte in into_byte_stream(elements) {
                 items.push(u128::from(byte))?;
             }
         }
-        "u32" => {
+        Streamed::Words32 => {
             for word in into_u32_stream(elements) {
                 items.push(u128::from(word))?;
             }
         }
-        "u64" => {
+        Streamed::Words64 => {
             for word in into_u64_stream(elements) {
                 items.push(u128::from(word))?;
             }
         }
-        "text" => {
+        Streamed::Text => {
             for element in elements {
                 for byte in format!(in alloc; "{element}")?.as_bytes() {
                     items.push(u128::from(*byte))?;
                 }
             }
         }
-        _ => return Err(Fault::Line),
     }
     Ok(items)
 }

@@ -61,61 +61,79 @@ fn generator_is_full<F: Field>() -> bool {
     }
 }
 
-/// Whether the generator of the field of a kernel has this representation and generates all nonzero elements.
-fn generator_is<R: Unsigned, K: LevelKernel<R> + HasPacking<R>>(number: u128) -> bool {
-    Element::<R, K>::GENERATOR.to_repr().to_u128() == number && generator_is_full::<Element<R, K>>()
+/// Whether the generator has this representation and generates all nonzero elements.
+fn generator_is<F: TowerLevel>(number: u128) -> bool {
+    F::GENERATOR.to_repr().to_u128() == number && generator_is_full::<F>()
 }
 
-/// The same for a level of the tower.
-fn generator_of_level_is<R: Unsigned, L: Level<R>>(number: u128) -> bool {
-    generator_is::<R, Tower<L>>(number)
+/// Whether the Cantor vector at a place has this representation.
+fn cantor_vector_is<F: TowerLevel>(place: usize, number: u128) -> bool {
+    place < F::bits() && F::cantor_basis(place).to_repr().to_u128() == number
+}
+
+/// Whether so many squarings take an element to this one.
+fn squarings_give<F: TowerLevel>(number: u128, count: usize, wanted: u128) -> bool {
+    let element = F::from_repr(F::Repr::of_u128(number));
+    element.exp_power_of_2(count).to_repr().to_u128() == wanted
+}
+
+/// What is known of a field, elements by their representations.
+#[derive(Clone, Copy)]
+enum Known {
+    /// The generator.
+    Generator(u128),
+    /// The Cantor vector at a place.
+    CantorVector(usize, u128),
+    /// An element, and what so many squarings take it to.
+    Squared(u128, usize, u128),
+}
+
+fn holds<F: TowerLevel>(known: Known) -> bool {
+    match known {
+        Known::Generator(number) => generator_is::<F>(number),
+        Known::CantorVector(place, number) => cantor_vector_is::<F>(place, number),
+        Known::Squared(number, count, wanted) => squarings_give::<F>(number, count, wanted),
+    }
+}
+
+/// The same of the field of a kernel.
+fn holds_at<R: Unsigned, K: LevelKernel<R> + HasPacking<R>>(known: Known) -> bool {
+    holds::<Element<R, K>>(known)
+}
+
+/// The same of a level of the tower.
+fn holds_at_level<R: Unsigned, L: Level<R>>(known: Known) -> bool {
+    holds_at::<R, Tower<L>>(known)
 }
 
 #[test]
 fn generators_have_full_order(rt: HostRuntime) {
     assert!(rt;
-        generator_of_level_is::<u8, Bits2>(2)
-            && generator_of_level_is::<u8, Bits4>(5)
-            && generator_of_level_is::<u8, Bits8>(0x13)
-            && generator_of_level_is::<u16, Bits16>(0x0102)
-            && generator_of_level_is::<u32, Bits32>(0x0001_0005)
-            && generator_of_level_is::<u64, Bits64>(0x0000_0001_0000_0004)
-            && generator_of_level_is::<u128, Bits128>((1 << 64) | 5)
+        holds_at_level::<u8, Bits2>(Known::Generator(2))
+            && holds_at_level::<u8, Bits4>(Known::Generator(5))
+            && holds_at_level::<u8, Bits8>(Known::Generator(0x13))
+            && holds_at_level::<u16, Bits16>(Known::Generator(0x0102))
+            && holds_at_level::<u32, Bits32>(Known::Generator(0x0001_0005))
+            && holds_at_level::<u64, Bits64>(Known::Generator(0x0000_0001_0000_0004))
+            && holds_at_level::<u128, Bits128>(Known::Generator((1 << 64) | 5))
     );
     assert!(rt;
-        generator_is::<u8, RijndaelKernel>(0x88)
-            && generator_is::<u64, Poly64Kernel>(0xc313_d8d1_bfae_2150)
-            && generator_is::<u128, GhashKernel>(0xe5a5_755a_d217_f07d_1da7_0a74_7203_d630)
+        holds_at::<u8, RijndaelKernel>(Known::Generator(0x88))
+            && holds_at::<u64, Poly64Kernel>(Known::Generator(0xc313_d8d1_bfae_2150))
+            && holds_at::<u128, GhashKernel>(Known::Generator(
+                0xe5a5_755a_d217_f07d_1da7_0a74_7203_d630
+            ))
     );
-}
-
-/// Whether the Cantor vector at a place of a level has this representation.
-fn cantor_vector_is<R: Unsigned, L: Level<R>>(place: usize, number: u128) -> bool {
-    place < Element::<R, Tower<L>>::bits()
-        && Element::<R, Tower<L>>::cantor_basis(place)
-            .to_repr()
-            .to_u128()
-            == number
 }
 
 // Worked rows.
 #[test]
-fn cantor_vectors_of_8_bits(rt: HostRuntime) {
-    assert!(rt; cantor_vector_is::<u8, Bits8>(1, 2) && cantor_vector_is::<u8, Bits8>(2, 0x0c));
-}
-
-/// Whether so many squarings take an element of a level to this one.
-fn squarings_give<R: Unsigned, L: Level<R>>(number: u128, count: usize, wanted: u128) -> bool {
-    let element: Element<R, Tower<L>> = Element::from_repr(R::of_u128(number));
-    element.exp_power_of_2(count).to_repr().to_u128() == wanted
-}
-
-// Worked rows.
-#[test]
-fn repeated_squares_of_16_bits(rt: HostRuntime) {
+fn cantor_vectors_and_repeated_squares(rt: HostRuntime) {
     assert!(rt;
-        squarings_give::<u16, Bits16>(0x0100, 8, 0x0110)
-            && squarings_give::<u16, Bits16>(0x0100, 16, 0x0100)
-            && squarings_give::<u16, Bits16>(0x1001, usize::MAX, 0x0100)
+        holds_at_level::<u8, Bits8>(Known::CantorVector(1, 2))
+            && holds_at_level::<u8, Bits8>(Known::CantorVector(2, 0x0c))
+            && holds_at_level::<u16, Bits16>(Known::Squared(0x0100, 8, 0x0110))
+            && holds_at_level::<u16, Bits16>(Known::Squared(0x0100, 16, 0x0100))
+            && holds_at_level::<u16, Bits16>(Known::Squared(0x1001, usize::MAX, 0x0100))
     );
 }

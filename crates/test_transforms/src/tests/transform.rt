@@ -1,12 +1,8 @@
-// The whole transform: worked rows, the values of polynomials at its points, and its inverse, where there is memory and where there is
-// not.
-use super::drawn::{fill, next_number};
-use field_base::traits::TowerLevel;
-use field_element::Ghash128;
+// The whole transform and its inverse: worked rows, where there is memory and where there is not.
 use linked_list_allocator::LocalHeap;
 use std::alloc::{AllocError, Allocator, Global};
 use std::test::Fail;
-use transform_whole::{forward, inverse, over};
+use transform_whole::{forward, inverse};
 
 // Runs the transform of 2^m values for an m from 4 to 10, or returns false.
 fn forward_of<A: Allocator>(
@@ -113,70 +109,6 @@ fn rows_of_the_transform(rt: HostRuntime) -> Result<(), Fail> {
     let mut undone = 0;
     let runs = inverse_of(&mut ones, 5, 0, &mut undone);
     assert!(rt; runs && ones[0] == 1 && are_same(&ones[1..], &[0; 31]) && undone == 80);
-    Ok(())
-}
-
-// z, and the Cantor vectors at the set bits of a place below 2^10.
-fn point(z: u128, place: usize) -> Ghash128 {
-    let mut point = Ghash128::new(z);
-    for bit in 0..10 {
-        if place >> bit & 1 == 1 {
-            point += Ghash128::cantor_basis(bit);
-        }
-    }
-    point
-}
-
-// Whether each place holds the value of the polynomial at its point.
-fn places_hold(values: &[u128], coefficients: &[Ghash128], z: u128) -> bool {
-    for (place, value) in values.iter().enumerate() {
-        if over::evaluate_cantor(coefficients, point(z, place)).to_bits() != *value {
-            return false;
-        }
-    }
-    true
-}
-
-// Whether the transform of so many drawn values, which are 2^m, leaves the values of their polynomial, and its inverse takes them
-// back.
-fn transform_agrees(alloc: Global, m: usize, count: usize, z: u128) -> Result<bool, AllocError> {
-    if count > 1024 {
-        return Ok(false);
-    }
-    let mut places = [0; 1024];
-    fill(&mut places, 7);
-    let drawn = places;
-    let values = &mut places[..count];
-    let mut coefficients = Vec::new(alloc);
-    for value in values.iter() {
-        coefficients.push(Ghash128::new(*value))?;
-    }
-    let mut products = 0;
-    let runs = forward_of(alloc, values, m, z, &mut products)?
-        && places_hold(values, coefficients.as_slice(), z);
-    let mut undone = 0;
-    Ok(
-        runs && inverse_of(values, m, z, &mut undone)
-            && undone == products
-            && are_same(values, &drawn[..count]),
-    )
-}
-
-// The same for each m from 4 to 10.
-fn transforms_agree(alloc: Global) -> Result<bool, AllocError> {
-    let mut state = 11;
-    for m in 4..11 {
-        if !transform_agrees(alloc, m, 1 << m, next_number(&mut state))? {
-            return Ok(false);
-        }
-    }
-    Ok(true)
-}
-
-// Up to 1,024 values, against `evaluate_cantor`.
-#[test]
-fn transforms_give_values_at_their_points(rt: HostRuntime) -> Result<(), Fail> {
-    assert!(rt; transforms_agree(rt.alloc())?);
     Ok(())
 }
 
