@@ -2,8 +2,9 @@
 
 // rings, fields and polynomials
 pub use field_laws::{
-    carryless_counts_pairs, carryless_is_product, fields_have_laws, frobenius_returns,
-    levels_lie_inside, mul_mod_is_ring, norms_and_conjugates, remainder_is_unique,
+    carryless_counts_pairs, carryless_is_product, codeword_exists, codeword_is_unique,
+    fields_have_laws, frobenius_returns, lagrange_interpolates, levels_lie_inside,
+    many_roots_mean_zero, mul_mod_is_ring, norms_and_conjugates, remainder_is_unique,
     roots_give_homomorphism, squarings_are_powers, tower_is_field, tower_is_ring,
 };
 
@@ -36,6 +37,9 @@ pub use transform_whole::values_commute_with_images;
 
 // universal hashes
 pub use tags::{few_keys_collide, products_are_reversed};
+
+// Reed-Solomon codes
+pub use reed_solomon::{erasure_field, lost_shards_return};
 
 // transcripts
 pub use transcript_bytes::runs_join;

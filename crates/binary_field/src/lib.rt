@@ -75,5 +75,8 @@ pub use transcript_elements::{
     Transcript, TranscriptError, TranscriptField, TypeTag, run_calls,
 };
 
+// Reed-Solomon codes over bytes
+pub use reed_solomon::{ReedSolomon, ReedSolomonError};
+
 // lines of text and their answers
 pub use calculator as calc;
