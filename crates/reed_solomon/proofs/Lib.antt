@@ -5,4 +5,5 @@ mod Matching
 mod Restoring
 mod RoundTrip
 mod Samples
+mod Separate
 mod Writing

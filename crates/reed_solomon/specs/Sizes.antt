@@ -17,3 +17,9 @@ ReconstructError count flags bytes error =
     (flags ≢ count → error ≡ InvalidShardFlags)
     × (flags ≡ count → (HasShardSize count bytes → ⊥) → ShardSizeError bytes error)
     × (flags ≡ count → HasShardSize count bytes → error ≡ TooFewShardsPresent)
+
+-- why so many bytes of data and of parity are not those of shards of one size, where the data have k
+abbrev pub SeparateError : ℕ → ℕ → ℕ → ReedSolomonError → Type 0
+SeparateError k data_bytes parity_bytes error =
+    ((HasShardSize k data_bytes → ⊥) → ShardSizeError data_bytes error)
+    × (HasShardSize k data_bytes → ShardSizeError parity_bytes error)

@@ -1,11 +1,11 @@
 // The code: how many shards of data and of parity there are, and what is done with them.
-ghost use Rattle.std.specs.Prelude.{◌≡◌, ◌≢◌, ◌+◌, ◌*◌, ◌/◌, ◌%◌, ◌<◌, ◌≤◌, ◌↔◌, ℕ, true, false, length, slice_index_or, IsTrue, IsOk, IfOk, IfErr, OnErr};
+ghost use Rattle.std.specs.Prelude.{◌≡◌, ◌≢◌, ◌+◌, ◌*◌, ◌/◌, ◌%◌, ◌<◌, ◌≤◌, ◌↔◌, ℕ, true, false, length, slice_index_or, IsTrue, IsOk, IfOk, IfErr, OnErr, ◌++◌};
 ghost use Rattle.reed_solomon.specs.Shards.{AreCodewords, IsEncoded, IsReconstructed, present_count};
-ghost use Rattle.reed_solomon.specs.Sizes.{HasShardSize, ReconstructError, ShardSizeError};
+ghost use Rattle.reed_solomon.specs.Sizes.{HasShardSize, ReconstructError, SeparateError, ShardSizeError};
 ghost use Rattle.reed_solomon.specs.declared.error.ReedSolomonError.TheVariants.{TooFewDataShards, TooFewParityShards, TooManyShards};
 
 use crate::error::ReedSolomonError;
-use crate::rows::{matches, restore};
+use crate::rows::{matches, restore, write_parity};
 use crate::sample::Sample;
 
 /// A Reed-Solomon code over bytes: so many shards of data, and so many of parity, at most 256 in all. Shard i has the values at
@@ -79,6 +79,40 @@ impl ReedSolomon {
         let present = &flags[..total];
         let sample = Sample::of_present(present, self.data_shards);
         restore(shards, size, &sample, present, total);
+        Ok(())
+    }
+
+    /// Writes the shards of parity of data that stand apart. Each slice has its shards, of one size, one after the other. The
+    /// error is the first that applies, of the data and then of the parity.
+    pub fn encode_sep(
+        &self,
+        data_bytes: &[u8],
+        parity_bytes: &mut [u8],
+    ) -> Result<(), ReedSolomonError>
+        ensures accepted { IsOk result ↔ (HasShardSize self.now.data_shards (length data_bytes.now)
+            × HasShardSize self.now.parity_shards (length parity_bytes.old)
+            × (length data_bytes.now / self.now.data_shards ≡ length parity_bytes.old / self.now.parity_shards)) }
+        ensures encoded { IsOk result → IsEncoded self.now.data_shards (self.now.data_shards + self.now.parity_shards)
+            (length data_bytes.now / self.now.data_shards) (data_bytes.now ++ parity_bytes.old) (data_bytes.now ++ parity_bytes.new) }
+        ensures long { length parity_bytes.new ≡ length parity_bytes.old }
+        ensures refused { IfErr result (λ error. SeparateError self.now.data_shards (length data_bytes.now) (length parity_bytes.old) error) }
+        ensures same { OnErr result (parity_bytes.new ≡ parity_bytes.old) }
+    {
+        let size = shard_size(self.data_shards, data_bytes.len())?;
+        if shard_size(self.parity_shards, parity_bytes.len())? != size {
+            return Err(ReedSolomonError::IncorrectShardSize);
+        }
+        let total = self.total_shard_count();
+        let flags = first_flags(self.data_shards);
+        let sample = Sample::of_present(&flags[..total], self.data_shards);
+        write_parity(
+            data_bytes,
+            size,
+            &sample,
+            self.data_shards,
+            parity_bytes,
+            self.parity_shards,
+        );
         Ok(())
     }
 

@@ -96,6 +96,50 @@ pub(crate) fn matches(shards: &[u8], size: usize, sample: &Sample, present: &[bo
     true
 }
 
+// Writes the symbols that the sample's shards give to the shard at `target` into the bytes from `begin` on.
+pub(crate) fn write_symbols(
+    shards: &[u8],
+    size: usize,
+    sample: &Sample,
+    target: usize,
+    out: &mut [u8],
+    begin: usize,
+)
+    requires point { target < 256 }
+    requires inside { (j : ℕ) → j < sample.now.count → slice_index sample.now.places j * size + size ≤ length shards.now }
+    requires room { begin + size ≤ length out.old }
+    ensures long { length out.new ≡ length out.old }
+    ensures written { (column : ℕ) → column < size → slice_index out.new (begin + column)
+        ≡ symbol_at sample.now.count size (slice_index sample.now.places) shards.now column target }
+    ensures others { (i : ℕ) → (i < begin) ⊎ (begin + size ≤ i) → slice_index out.new i ≡ slice_index out.old i }
+{
+    let factors = sample.factors(target as u8);
+    for column in 0..size {
+        out[begin + column] = symbol(sample, &factors, shards, size, column);
+    }
+}
+
+// Writes the shards of parity behind one another, from a sample of the data. The first of them is shard `first`.
+pub(crate) fn write_parity(
+    shards: &[u8],
+    size: usize,
+    sample: &Sample,
+    first: usize,
+    parity: &mut [u8],
+    count: usize,
+)
+    requires points { first + count ≤ 256 }
+    requires inside { (j : ℕ) → j < sample.now.count → slice_index sample.now.places j * size + size ≤ length shards.now }
+    requires room { length parity.old ≡ count * size }
+    ensures long { length parity.new ≡ length parity.old }
+    ensures rows { (row column : ℕ) → row < count → column < size → slice_index parity.new (row * size + column)
+        ≡ symbol_at sample.now.count size (slice_index sample.now.places) shards.now column (first + row) }
+{
+    for row in 0..count {
+        write_symbols(shards, size, sample, first + row, parity, row * size);
+    }
+}
+
 // A byte is below 256: it computes nothing.
 fn bytes_fit(bytes: &[u8])
     ensures { (i : ℕ) → slice_index bytes.now i < 256 }
