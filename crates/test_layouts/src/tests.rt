@@ -1,3 +1,4 @@
+mod arrays;
 mod bits;
 mod packings;
 mod zeros;

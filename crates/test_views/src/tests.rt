@@ -1,3 +1,5 @@
 mod bytes;
+mod leftovers;
+mod owned;
 mod spaces;
 mod texts;
