@@ -1,5 +1,5 @@
 mod bytes;
-mod leftovers;
+mod cut;
 mod owned;
 mod spaces;
 mod texts;

@@ -77,7 +77,7 @@ fn first_vector_is<F: ByteLevel, E: BasedVectorSpace<F>>(
 }
 
 // Whether an element is observed as its coefficients, which have these representations, and sampled as as many.
-fn is_taken_by_coefficients<F: ByteLevel, E: BasedVectorSpace<F>>(
+fn is_taken_by_coefficients<F: ByteLevel + BasedVectorSpace<F>, E: BasedVectorSpace<F>>(
     alloc: Global,
     vector: E,
     coefficients: &[u128],
@@ -99,7 +99,7 @@ fn is_taken_by_coefficients<F: ByteLevel, E: BasedVectorSpace<F>>(
 }
 
 // The vector has the coefficients 1, 2 and 3.
-fn vector_rows_hold<F: ByteLevel, E: BasedVectorSpace<F>>(
+fn vector_rows_hold<F: ByteLevel + BasedVectorSpace<F>, E: BasedVectorSpace<F>>(
     alloc: Global,
     vector: E,
 ) -> Result<bool, ChallengerError> {
