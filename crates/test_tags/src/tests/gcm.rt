@@ -1,6 +1,6 @@
 // The values of GHASH in the test cases of D. McGrew and J. Viega, The Galois/Counter Mode of operation (GCM), appendix B: the
-// hash key, the associated data, the encrypted text, and GHASH(H, A, C). Those of the cases 1 to 6 are as the tables print them; all
-// were computed by AES-GCM of the Python library cryptography, as the tag plus the encrypted first counter block.
+// hash key, the associated data, the encrypted text, and GHASH(H, A, C). All were computed by AES-GCM of the Python library
+// cryptography, as the tag plus the encrypted first counter block, and not copied from the tables.
 
 use tags::{gcm_ghash, tags_are_equal};
 
