@@ -1,0 +1,106 @@
+"""The functions of the C library, in one table, from which scripts write the header and the calls of other languages.
+
+A field is (name, word, bits, what it is). A parameter is (kind, name) or (kind, name, word), where the field gives no word:
+  in      an array that is read: a pointer and a length
+  inout   an array that is read and written: a pointer and a length
+  out     an array that is written: a pointer and a length
+  scalar  one element that is read: by value up to 64 bits, else by a pointer that is not null
+  result  one element or number that is written: a pointer that is not null
+  number  a number of 64 bits, by value
+Every function returns a status but where the table says otherwise. Lengths count words, not bytes.
+"""
+
+STATUSES = [
+    ("BF_OK", 0, "the call did what it says"),
+    ("BF_LENGTH", 1, "the lengths do not fit each other, or are not what the function takes"),
+    ("BF_NOT_AN_ELEMENT", 2, "a word is no element of the field"),
+    ("BF_MEMORY", 3, "memory was refused"),
+    ("BF_CODE", 4, "no code has so many shards of data and parity"),
+    ("BF_TOO_FEW_SHARDS", 5, "fewer shards are present than the data have"),
+]
+
+# The word of C for each word of the table. The wide ones are structs of words of 64 bits, the lowest first.
+WORDS = {"u8": "uint8_t", "u16": "uint16_t", "u32": "uint32_t", "u64": "uint64_t", "u128": "bf_u128", "u192": "bf_u192"}
+
+FIELDS = [
+    ("gf2", "u8", 1, "GF(2)"),
+    ("t2", "u8", 2, "GF(2^2), a level of the tower"),
+    ("t4", "u8", 4, "GF(2^4), a level of the tower"),
+    ("t8", "u8", 8, "GF(2^8), a level of the tower"),
+    ("t16", "u16", 16, "GF(2^16), a level of the tower"),
+    ("t32", "u32", 32, "GF(2^32), a level of the tower"),
+    ("t64", "u64", 64, "GF(2^64), a level of the tower"),
+    ("t128", "u128", 128, "GF(2^128), a level of the tower"),
+    ("r8", "u8", 8, "GF(2)[x] modulo x^8 + x^4 + x^3 + x + 1, the bytes of AES (FIPS 197)"),
+    ("p64", "u64", 64, "GF(2)[x] modulo x^64 + x^4 + x^3 + x + 1"),
+    ("g128", "u128", 128, "GF(2)[x] modulo x^128 + x^7 + x^2 + x + 1, the field of GHASH (NIST SP 800-38D), bit i for x^i"),
+    ("p192", "u192", 192, "GF(2^64)[y] modulo y^3 + y + 1 over p64, the coefficient of 1 first"),
+]
+
+# For every field, as bf_FIELD_NAME. Arrays have one length unless the text says otherwise.
+FIELD_FUNCTIONS = [
+    ("add", [("in", "left"), ("in", "right"), ("out", "sums")], "the sum of the elements at each place"),
+    ("multiply", [("in", "left"), ("in", "right"), ("out", "products")], "the product of the elements at each place"),
+    ("multiply_by", [("in", "values"), ("scalar", "scalar"), ("out", "products")], "the product of each element and the scalar"),
+    ("add_scaled", [("inout", "sums"), ("scalar", "scalar"), ("in", "values")], "adds to each element of sums the scalar times the value at its place"),
+    ("square", [("in", "values"), ("out", "squares")], "the square of each element"),
+    ("inverse", [("in", "values"), ("out", "inverses")], "the inverse of each element, and 0 for 0"),
+    ("batch_inverse", [("in", "values"), ("out", "inverses")], "the same as inverse, by one inverse and three products an element"),
+    ("square_root", [("in", "values"), ("out", "roots")], "the square root of each element"),
+    ("power", [("in", "values"), ("number", "exponent"), ("out", "powers")], "each element to the power of the exponent; to the power 0 it is 1"),
+    ("product", [("in", "values"), ("result", "product")], "the product of all elements, 1 of none"),
+    ("dot_product", [("in", "left"), ("in", "right"), ("result", "sum")], "the sum of the products at each place, 0 of none"),
+    ("evaluate", [("in", "coefficients"), ("in", "points"), ("out", "values")],
+     "the value at each point of the polynomial with these coefficients, the constant one first; any number of coefficients"),
+    ("generator", [("result", "generator")], "the generator of the field's multiplicative group that the library names"),
+]
+
+# (name, parameters, what it computes). The word of every parameter stands in it.
+OTHER_FUNCTIONS = [
+    *[(f"{a}_to_{b}", [("in", "values", w), ("out", "images", w)], f"the image in {b} of each element of {a}, by the isomorphism of the two fields")
+      for x, y, w in [("t8", "r8", "u8"), ("t64", "p64", "u64"), ("t128", "g128", "u128")] for a, b in [(x, y), (y, x)]],
+    ("r8_linear_map", [("in", "values", "u8"), ("in", "images", "u8"), ("out", "mapped", "u8")],
+     "for each byte the sum of the images at its set bits; eight images, that of bit 0 first"),
+    ("g128_linear_map", [("in", "values", "u128"), ("in", "images", "u128"), ("out", "mapped", "u128")],
+     "for each word the sum of the images at its set bits; 128 images, that of bit 0 first"),
+    ("g128_butterfly_forward", [("inout", "low", "u128"), ("inout", "high", "u128"), ("scalar", "scalar", "u128")],
+     "low += scalar * high, and then high += low, at each place"),
+    ("g128_butterfly_inverse", [("inout", "low", "u128"), ("inout", "high", "u128"), ("scalar", "scalar", "u128")],
+     "high += low, and then low += scalar * high, at each place"),
+    ("g128_low_stages", [("inout", "values", "u128"), ("in", "shifts", "u128"), ("in", "basis", "u128"), ("number", "first_run")],
+     "the four lowest stages of an additive transform over runs of sixteen values, the first of which is run first_run"),
+    ("g128_transform", [("inout", "values", "u128"), ("scalar", "shift", "u128")],
+     "the value at each of 2^m points of the polynomial with these coefficients in the basis of subspace polynomials"),
+    ("g128_inverse_transform", [("inout", "values", "u128"), ("scalar", "shift", "u128")],
+     "the coefficients that g128_transform takes to these values"),
+    ("tag_ghash", [("in", "key", "u8"), ("in", "message", "u8"), ("out", "hash", "u8")],
+     "GHASH of the message (NIST SP 800-38D), zeros added to whole blocks; key and hash have 16 bytes"),
+    ("tag_polyval", [("in", "key", "u8"), ("in", "message", "u8"), ("out", "hash", "u8")],
+     "POLYVAL of the message (RFC 8452), zeros added to whole blocks; key and hash have 16 bytes"),
+    ("tag_gcm_ghash", [("in", "key", "u8"), ("in", "associated", "u8"), ("in", "ciphertext", "u8"), ("out", "hash", "u8")],
+     "the hash of GCM over associated data and ciphertext with the block of their lengths; key and hash have 16 bytes"),
+    ("tags_are_equal", [("in", "left", "u8"), ("in", "right", "u8"), ("result", "equal", "u8")],
+     "1 where the two have the same bytes, else 0"),
+    ("rs_encode", [("number", "data"), ("number", "parity"), ("inout", "shards", "u8")],
+     "writes the shards of parity, which stand behind those of data; all shards stand one after the other and have one size"),
+    ("rs_verify", [("number", "data"), ("number", "parity"), ("in", "shards", "u8"), ("result", "whole", "u8")],
+     "1 where the shards of parity are those of the data, else 0"),
+    ("rs_reconstruct", [("number", "data"), ("number", "parity"), ("inout", "shards", "u8"), ("in", "present", "u8")],
+     "writes the missing shards: shard i is missing where present[i] is 0"),
+    ("rs_reconstruct_data", [("number", "data"), ("number", "parity"), ("inout", "shards", "u8"), ("in", "present", "u8")],
+     "writes the missing shards of data alone"),
+]
+
+# These return no status.
+PLAIN_FUNCTIONS = [
+    ("version", "uint32_t", "the version of the library, 65536 times the major number, 256 times the minor one, and the patch"),
+]
+
+
+def functions():
+    """Every function that returns a status: its name without `bf_`, its parameters with their words, and what it computes."""
+    for field, word, _, _ in FIELDS:
+        for name, parameters, text in FIELD_FUNCTIONS:
+            yield f"{field}_{name}", [(*it, word)[:3] if it[0] != "number" else (*it, "u64") for it in parameters], text
+    for name, parameters, text in OTHER_FUNCTIONS:
+        yield name, [it if len(it) == 3 else (*it, "u64") for it in parameters], text
