@@ -35,9 +35,9 @@ pub use field_space::{
     HasFrobenius, HasPowers, HasSubfield, PackedFieldExtension, Powers,
 };
 
-// elements as bytes, and streams of bytes and words
+// elements as bytes, streams of bytes and words, and one bound for what generic code does with elements as data
 pub use field_bytes::{
-    ByteStream, LittleEndian, Packable, ParallelByteStreams, ParallelU32Streams,
+    ByteStream, DataField, LittleEndian, Packable, ParallelByteStreams, ParallelU32Streams,
     ParallelU64Streams, RawDataSerializable, U32Stream, U64Stream, into_byte_stream,
     into_parallel_byte_streams, into_parallel_u32_streams, into_parallel_u64_streams,
     into_u32_stream, into_u64_stream,

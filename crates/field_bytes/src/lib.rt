@@ -1,6 +1,7 @@
 //! Elements as bytes and as words of other sizes, the lowest byte first.
 #![tactic(auto)]
 
+mod data_field;
 mod element;
 mod little_endian;
 mod numbers;
@@ -12,6 +13,7 @@ mod streams;
 mod triple;
 mod words;
 
+pub use crate::data_field::DataField;
 pub use crate::little_endian::LittleEndian;
 pub use crate::numbers::{number_of_high_first, number_of_low_first};
 pub use crate::parallel::{ParallelByteStreams, into_parallel_byte_streams};
