@@ -1,13 +1,18 @@
 //! Examples of programs over `binary_field`: sums and products of slices with a contract of their own, secret sharing over
-//! any field, elements as keys of a hash map, one product in both bases, and a linear map of a few elements.
+//! any field, elements as keys of a hash map, one product in both bases, a linear map of a few elements, and
+//! generic code over packings and over elements as data.
 #![tactic(auto)]
 
 #[cfg(test)]
 mod bases;
 mod contracts;
 #[cfg(test)]
+mod data;
+#[cfg(test)]
 mod logarithms;
+mod packings;
 #[cfg(test)]
 mod sharing;
 
 pub use crate::contracts::{product_of_slice, sum_of_slice};
+pub use crate::packings::{front_packing, packed_dot_product};
