@@ -15,3 +15,5 @@ pub mod Roots
 pub mod PowerMaps
 pub mod StandardFacts
 pub mod Shifts
+pub mod LaneProducts
+pub mod LaneReductions

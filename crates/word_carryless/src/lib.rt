@@ -14,6 +14,7 @@ mod product;
 mod root;
 mod split;
 mod square;
+mod two_lanes;
 
 pub use crate::fold::{reduce_64, reduce_128};
 pub use crate::inverse::{invert_mod_64, invert_mod_128};
@@ -30,3 +31,4 @@ pub use crate::product::{
 pub use crate::root::{compact_64, compact_128, sqrt_mod_64, sqrt_mod_128};
 pub use crate::split::{split_64, split_128};
 pub use crate::square::{carryless_square_64, carryless_square_128, spread_32};
+pub use crate::two_lanes::{multiply_128_twice, multiply_mod_128_twice};
