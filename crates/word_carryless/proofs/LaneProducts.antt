@@ -1,5 +1,5 @@
 -- Carryless products in lanes, each by the theorem on one product: for any number of lanes.
-use Rattle.std.proofs.Common.{◌≡◌, ℕ, zero, suc, ◌+◌, ◌*◌, ◌/◌, ◌%◌, ◌^◌, ◌<◌, List, [], ◌∷◌, length, replicate, refl, sym, ◌∙◌, ap, ap₂, subst, arith, lit<, lit≤, w64, Fits}
+use Rattle.std.proofs.Common.{◌≡◌, ℕ, zero, suc, ◌+◌, ◌*◌, ◌/◌, ◌%◌, ◌^◌, ◌<◌, List, [], ◌∷◌, length, replicate, refl, sym, ◌∙◌, ap, ap₂, subst, arith, lit<, w64, Fits}
 use Rattle.std.specs.Prelude.{bit_and, bit_xor}
 use Rattle.std.specs.Simd.Lanes.{zip2, Each1}
 use Rattle.std.proofs.lemmas.Nat.{and_mask, xor_comm, xor_lt, xor_mod, shl_below, mod_low}

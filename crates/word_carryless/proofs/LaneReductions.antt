@@ -1,11 +1,11 @@
 -- Products of double words in lanes, and their remainders modulo the polynomial of GHASH, each lane by the theorem on one product:
 -- for any number of lanes.
-use Rattle.std.proofs.Common.{◌≡◌, ℕ, zero, suc, ◌+◌, ◌*◌, ◌/◌, ◌%◌, ◌^◌, ◌<◌, List, [], ◌∷◌, length, map, replicate, refl, sym, ◌∙◌, ap, ap₂, subst, arith, lit<, lit≤, w64, Fits}
+use Rattle.std.proofs.Common.{◌≡◌, ℕ, zero, suc, ◌+◌, ◌*◌, ◌/◌, ◌%◌, ◌^◌, ◌<◌, List, [], ◌∷◌, length, map, replicate, refl, sym, ◌∙◌, ap, ap₂, arith, lit<, w64, Fits}
 use Rattle.std.specs.Prelude.{bit_xor, slice_index}
 use Rattle.std.specs.Simd.Lanes.{zip2, Each1}
 use Rattle.std.proofs.lemmas.Nat.{xor_block, xor_comm, xor_lt, xor_mod, xor_shr, shr_split}
 use native.Mathlib.Nat.{mod-lt, mod-eq_of_lt, div-eq_of_lt}
-use lib.Bits.{xor_assoc, xor_shifted, xor_zero_l, xor_zero_r}
+use lib.Bits.{xor_assoc, xor_shifted, xor_zero_r}
 use Rattle.field_base.specs.Carryless.{carryless}
 use Rattle.field_base.specs.Remainder.{rem, mul_mod, ghash_modulus}
 use Rattle.field_base.proofs.RemainderRing.{mul_mod-rem}
@@ -241,29 +241,44 @@ pub remainders : (n : ℕ) (w0 w1 w2 w3 : List ℕ) → length w0 ≡ n → leng
 remainders n w0 w1 w2 w3 e0 e1 e2 e3 f0 f1 f2 f3 spill_3 tail_next tail_3 spill_next is_spill_3 is_tail_next is_tail_3 is_spill_next =
     rw (is_tail_next, is_spill_next, is_spill_3, is_tail_3) (each_remainder n w0 w1 w2 w3 e0 e1 e2 e3 f0 f1 f2 f3)
 
+-- double words fit
+double_words_fit : (lows highs : List ℕ) → Each1 (Fits w64) lows → Each1 (Fits w64) highs → Each1 (λ x. x < 2 ^ 128) (double_words lows highs)
+double_words_fit [] highs low_fit high_fit = tt
+double_words_fit (l ∷ lows) [] low_fit high_fit = tt
+double_words_fit (l ∷ lows) (h ∷ highs) low_fit high_fit =
+    let low_small = low_fit.0.fits in
+    let high_small = high_fit.0.fits in
+    (omega arith, double_words_fit lows highs low_fit.1 high_fit.1)
+
 -- the remainders of products of elements are their products modulo the polynomial
-pub modular_products : (xs ys : List ℕ) → Each1 (λ x. x < 2 ^ 128) xs → Each1 (λ x. x < 2 ^ 128) ys
+remainders_of_products : (xs ys : List ℕ) → Each1 (λ x. x < 2 ^ 128) xs → Each1 (λ x. x < 2 ^ 128) ys
     → map (rem 128 ghash_modulus) (zip2 carryless xs ys) ≡ zip2 (mul_mod 128 ghash_modulus) xs ys
-modular_products [] ys xs_fit ys_fit = refl
-modular_products (x ∷ xs) [] xs_fit ys_fit = refl
-modular_products (x ∷ xs) (y ∷ ys) xs_fit ys_fit =
+remainders_of_products [] ys xs_fit ys_fit = refl
+remainders_of_products (x ∷ xs) [] xs_fit ys_fit = refl
+remainders_of_products (x ∷ xs) (y ∷ ys) xs_fit ys_fit =
     ap₂ (λ (z : ℕ) (zs : List ℕ). z ∷ zs) (sym (mul_mod-rem 128 ghash_modulus refl x y xs_fit.0 ys_fit.0))
-    (modular_products xs ys xs_fit.1 ys_fit.1)
+    (remainders_of_products xs ys xs_fit.1 ys_fit.1)
+
+-- products in lanes modulo the polynomial, from the products and their remainders
+pub modular_products : (x0 x1 y0 y1 wholes rests : List ℕ)
+    → Each1 (Fits w64) x0 → Each1 (Fits w64) x1 → Each1 (Fits w64) y0 → Each1 (Fits w64) y1
+    → wholes ≡ zip2 carryless (double_words x0 x1) (double_words y0 y1) → rests ≡ map (rem 128 ghash_modulus) wholes
+    → rests ≡ zip2 (mul_mod 128 ghash_modulus) (double_words x0 x1) (double_words y0 y1)
+modular_products x0 x1 y0 y1 wholes rests f0 f1 f2 f3 is_whole is_rest =
+    is_rest ∙ ap (map (rem 128 ghash_modulus)) is_whole
+    ∙ remainders_of_products (double_words x0 x1) (double_words y0 y1) (double_words_fit x0 x1 f0 f1) (double_words_fit y0 y1 f2 f3)
 
 -- ---- two lanes
 
--- two products modulo the polynomial, from the steps of the code: `lefts` and `rights` are the operands, `wholes` the products,
--- `reduced` their remainders
-pub two_products : (a b p q r s : ℕ) (lefts rights wholes reduced : List ℕ) → a < 2 ^ 128 → b < 2 ^ 128 → p < 2 ^ 128 → q < 2 ^ 128
-    → lefts ≡ a ∷ b ∷ [] → rights ≡ p ∷ q ∷ [] → wholes ≡ zip2 carryless lefts rights → reduced ≡ map (rem 128 ghash_modulus) wholes
-    → reduced ≡ r ∷ s ∷ [] → (r ≡ mul_mod 128 ghash_modulus a p) × (s ≡ mul_mod 128 ghash_modulus b q)
-two_products a b p q r s lefts rights wholes reduced a_fits b_fits p_fits q_fits is_left is_right is_whole is_reduced is_result =
+-- two products modulo the polynomial, from the steps of the code
+pub two_products : (a b p q r s : ℕ) (lefts rights results : List ℕ) → lefts ≡ a ∷ b ∷ [] → rights ≡ p ∷ q ∷ []
+    → results ≡ zip2 (mul_mod 128 ghash_modulus) lefts rights → results ≡ r ∷ s ∷ []
+    → (r ≡ mul_mod 128 ghash_modulus a p) × (s ≡ mul_mod 128 ghash_modulus b q)
+two_products a b p q r s lefts rights results is_left is_right is_product is_result =
     (ap (λ (xs : List ℕ). slice_index xs 0) all, ap (λ (xs : List ℕ). slice_index xs 1) all)
   where
     all : r ∷ s ∷ [] ≡ mul_mod 128 ghash_modulus a p ∷ mul_mod 128 ghash_modulus b q ∷ []
-    all =
-        sym is_result ∙ is_reduced ∙ ap (map (rem 128 ghash_modulus)) (is_whole ∙ ap₂ (zip2 carryless) is_left is_right)
-        ∙ modular_products (a ∷ b ∷ []) (p ∷ q ∷ []) (a_fits, (b_fits, tt)) (p_fits, (q_fits, tt))
+    all = sym is_result ∙ is_product ∙ ap₂ (zip2 (mul_mod 128 ghash_modulus)) is_left is_right
 
 -- two products, from the steps of the code: `lows` and `highs` are the halves of the products
 pub two_whole_products : (a b p q r0 s0 r1 s1 : ℕ) (lefts rights lows highs : List ℕ)

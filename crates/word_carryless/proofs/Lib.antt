@@ -17,3 +17,4 @@ pub mod StandardFacts
 pub mod Shifts
 pub mod LaneProducts
 pub mod LaneReductions
+pub mod ListLoops

@@ -20,8 +20,7 @@ pub fn multiply_mod_128_twice(a: u128, b: u128, p: u128, q: u128) -> (u128, u128
 {
     let (left_low, left_high) = split_two(a, b);
     let (right_low, right_high) = split_two(p, q);
-    let (w0, w1, w2, w3) = multiply_double_words(left_low, left_high, right_low, right_high);
-    let (low, high) = reduce(w0, w1, w2, w3);
+    let (low, high) = multiply_elements(left_low, left_high, right_low, right_high);
     join_two(low, high)
 }
 
@@ -59,6 +58,15 @@ fn join_two(low: u64x2, high: u64x2) -> (u128, u128)
     let lows = low.to_array();
     let highs = high.to_array();
     (join_128(lows[0], highs[0]), join_128(lows[1], highs[1]))
+}
+
+// The products modulo the polynomial of GHASH of the lanes.
+#[inline(always)]
+fn multiply_elements(x0: u64x2, x1: u64x2, y0: u64x2, y1: u64x2) -> (u64x2, u64x2)
+    ensures { double_words result.0 result.1 ≡ zip2 (mul_mod 128 ghash_modulus) (double_words x0 x1) (double_words y0 y1) }
+{
+    let (w0, w1, w2, w3) = multiply_double_words(x0, x1, y0, y1);
+    reduce(w0, w1, w2, w3)
 }
 
 // The carryless products of the lanes, as four words each, the lowest first.
