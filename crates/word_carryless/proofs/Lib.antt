@@ -18,3 +18,4 @@ pub mod Shifts
 pub mod LaneProducts
 pub mod LaneReductions
 pub mod ListLoops
+pub mod MaskedLanes

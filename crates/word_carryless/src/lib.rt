@@ -21,7 +21,7 @@ mod two_lanes;
 pub use crate::fold::{reduce_64, reduce_128};
 pub use crate::four_lanes::multiply_mod_128_four_times;
 pub use crate::inverse::{invert_mod_64, invert_mod_128};
-pub use crate::laws::{carry_isolation, class_is_places};
+pub use crate::laws::{carry_isolation, carry_isolation_in_lanes, class_is_places};
 pub use crate::masked::{masked_product, masked_products, multiply_low_64};
 pub use crate::modular::{multiply_mod_64, multiply_mod_128, square_mod_64, square_mod_128};
 pub use crate::power_maps::{
