@@ -8,7 +8,7 @@ x: entry j of a map's columns is x^j, squared as many times as the map's name sa
 import literals
 from make_basis import FIELDS, multiply
 
-COUNTS = [3, 7, 14, 28, 63]
+COUNTS = [28, 63]
 
 
 def squared(width, modulus, value, count):

@@ -1,4 +1,4 @@
--- The power maps of GHASH: columns that are the values of a number of squarings, those of longer maps from shorter ones.
+-- The power maps of GHASH: columns that are the values of a number of squarings.
 use Rattle.std.proofs.Common.{◌≡◌, ℕ, ◌+◌, ◌-◌, ◌*◌, ◌/◌, ◌%◌, ◌^◌, ◌<◌, true, List, length, drop, get_or, refl, sym, ◌∙◌, ap, lit<}
 use Rattle.std.specs.Prelude.{bit_and, bit_xor}
 use Rattle.std.proofs.lemmas.Nat.{and_mask}
@@ -15,7 +15,7 @@ use Rattle.field_base.proofs.BasisColumns.{sum_of_columns, sum_of_columns-sum}
 use Rattle.field_base.proofs.LinearMapLemmas.{image_from, linear_image-columns}
 use Rattle.field_base.proofs.PowerLemmas.{one-times, repeated_square-add, repeated_square-lt, square_xor}
 use Rattle.field_base.proofs.RemainderRing.{mul_mod_ring}
-use Rattle.word_carryless.specs.declared.power_maps.literals.TheConstants.{SQUARED_3_TIMES, SQUARED_7_TIMES, SQUARED_14_TIMES, SQUARED_28_TIMES, SQUARED_63_TIMES}
+use Rattle.word_carryless.specs.declared.power_maps.literals.TheConstants.{SQUARED_28_TIMES, SQUARED_63_TIMES}
 
 -- ---- one column after another
 
@@ -81,66 +81,39 @@ by_columns n f columns is_f agree = (
       ∙ is_f.1 x fits,
 )
 
--- three squarings, by the code's columns
-abbrev by_3 : ℕ → ℕ
-by_3 = sum_of_columns SQUARED_3_TIMES
-
--- seven squarings, by the code's columns
+-- seven squarings
 abbrev by_7 : ℕ → ℕ
-by_7 = sum_of_columns SQUARED_7_TIMES
-
--- 14 squarings, by the code's columns
-abbrev by_14 : ℕ → ℕ
-by_14 = sum_of_columns SQUARED_14_TIMES
+by_7 x = square (square (square (square (square (square (square x))))))
 
 -- 28 squarings, by the code's columns
 abbrev by_28 : ℕ → ℕ
 by_28 = sum_of_columns SQUARED_28_TIMES
 
--- 3 by squares, and 7 = 3 + 3 + 1, 14 = 7 + 7, 28 = 14 + 14, 63 = 28 + 28 + 7
-agree_3 : agree_on_powers (sum_of_columns SQUARED_3_TIMES) (λ x. square (square (square x))) 128 ≡ true
+-- at every power of two the columns for 28 squarings give 28 squares (computed)
+agree_28 : agree_on_powers (sum_of_columns SQUARED_28_TIMES) (λ x. by_7 (by_7 (by_7 (by_7 x)))) 128 ≡ true
 unfolding sum_of_columns square mul_mod rem rem_in carryless carryless_in
-agree_3 = refl
-
--- at every power of two the columns for 7 squarings give 3 and 3 and 1 (computed)
-agree_7 : agree_on_powers (sum_of_columns SQUARED_7_TIMES) (λ x. by_3 (by_3 (square x))) 128 ≡ true
-unfolding sum_of_columns square mul_mod rem rem_in carryless carryless_in
-agree_7 = refl
-
--- at every power of two the columns for 14 squarings give 7 and 7 (computed)
-agree_14 : agree_on_powers (sum_of_columns SQUARED_14_TIMES) (λ x. by_7 (by_7 x)) 128 ≡ true
-unfolding sum_of_columns
-agree_14 = refl
-
--- at every power of two the columns for 28 squarings give 14 and 14 (computed)
-agree_28 : agree_on_powers (sum_of_columns SQUARED_28_TIMES) (λ x. by_14 (by_14 x)) 128 ≡ true
-unfolding sum_of_columns
 agree_28 = refl
 
 -- at every power of two the columns for 63 squarings give 28 and 28 and 7 (computed)
 agree_63 : agree_on_powers (sum_of_columns SQUARED_63_TIMES) (λ x. by_28 (by_28 (by_7 x))) 128 ≡ true
-unfolding sum_of_columns
+unfolding sum_of_columns square mul_mod rem rem_in carryless carryless_in
 agree_63 = refl
 
--- the columns for 3 squarings give the map of 3 squarings
-map_3 : IsPowerMap 3 by_3
-map_3 =
-    by_columns 3 (λ x. square (square (square x))) SQUARED_3_TIMES
-    (composed 1 2 square (λ x. square (square x)) once (composed 1 1 square square once once)) agree_3
+-- one squaring more
+once_more : (n : ℕ) (f : ℕ → ℕ) → IsPowerMap n f → IsPowerMap (1 + n) (λ x. square (f x))
+once_more n f is_f = composed 1 n square f once is_f
 
--- the columns for 7 squarings give the map of 7 squarings
+-- seven squares are the map of 7 squarings
 map_7 : IsPowerMap 7 by_7
 map_7 =
-    by_columns 7 (λ x. by_3 (by_3 (square x))) SQUARED_7_TIMES
-    (composed 3 4 by_3 (λ x. by_3 (square x)) map_3 (composed 3 1 by_3 square map_3 once)) agree_7
-
--- the columns for 14 squarings give the map of 14 squarings
-map_14 : IsPowerMap 14 by_14
-map_14 = by_columns 14 (λ x. by_7 (by_7 x)) SQUARED_14_TIMES (composed 7 7 by_7 by_7 map_7 map_7) agree_14
+    once_more 6 _ (once_more 5 _ (once_more 4 _ (once_more 3 _ (once_more 2 _ (once_more 1 _ once)))))
 
 -- the columns for 28 squarings give the map of 28 squarings
 map_28 : IsPowerMap 28 by_28
-map_28 = by_columns 28 (λ x. by_14 (by_14 x)) SQUARED_28_TIMES (composed 14 14 by_14 by_14 map_14 map_14) agree_28
+map_28 =
+    by_columns 28 (λ x. by_7 (by_7 (by_7 (by_7 x)))) SQUARED_28_TIMES
+    (composed 7 21 by_7 (λ x. by_7 (by_7 (by_7 x))) map_7
+    (composed 7 14 by_7 (λ x. by_7 (by_7 x)) map_7 (composed 7 7 by_7 by_7 map_7 map_7))) agree_28
 
 -- the columns for 63 squarings give the map of 63 squarings
 map_63 : IsPowerMap 63 (sum_of_columns SQUARED_63_TIMES)
@@ -149,18 +122,6 @@ map_63 =
     (composed 28 35 by_28 (λ x. by_28 (by_7 x)) map_28 (composed 28 7 by_28 by_7 map_28 map_7)) agree_63
 
 -- as the code calls them
-pub times_3 : (x : ℕ) → x < 2 ^ 128 → linear_image SQUARED_3_TIMES x ≡ squared 3 x
-times_3 x fits = linear_image-columns SQUARED_3_TIMES x ∙ map_3.1 x fits
-
--- seven squarings as the code computes them
-pub times_7 : (x : ℕ) → x < 2 ^ 128 → linear_image SQUARED_7_TIMES x ≡ squared 7 x
-times_7 x fits = linear_image-columns SQUARED_7_TIMES x ∙ map_7.1 x fits
-
--- 14 squarings as the code computes them
-pub times_14 : (x : ℕ) → x < 2 ^ 128 → linear_image SQUARED_14_TIMES x ≡ squared 14 x
-times_14 x fits = linear_image-columns SQUARED_14_TIMES x ∙ map_14.1 x fits
-
--- 28 squarings as the code computes them
 pub times_28 : (x : ℕ) → x < 2 ^ 128 → linear_image SQUARED_28_TIMES x ≡ squared 28 x
 times_28 x fits = linear_image-columns SQUARED_28_TIMES x ∙ map_28.1 x fits
 

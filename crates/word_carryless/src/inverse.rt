@@ -31,7 +31,7 @@ pub fn invert_mod_64(x: u64) -> u64
 }
 
 /// The power x^(2^128 - 2) modulo x^128 + x^7 + x^2 + x + 1, which is the inverse of a nonzero x, and 0 for 0. It takes
-/// 10 products, 6 power maps and 5 squares. Each power map reads all of its 128 columns.
+/// 10 products, 36 squares and 2 power maps. Each power map reads all of its 128 columns.
 pub fn invert_mod_128(x: u128) -> u128
     ensures { result ≡ power 1 (mul_mod 128 ghash_modulus) x (2 ^ 128 - 2) }
 {

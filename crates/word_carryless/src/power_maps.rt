@@ -1,5 +1,5 @@
 // Repeated squares modulo the polynomial of GHASH. Squaring keeps sums, so that any number of squarings is a linear map: the sum
-// of its columns, the images of the powers of x, at the set bits.
+// of its columns, the images of the powers of x, at the set bits. Up to 14 squarings take less time one by one.
 ghost use Rattle.std.specs.Prelude.{◌≡◌, ◌*◌, ◌%◌};
 ghost use Rattle.field_base.specs.LinearMaps.{linear_image};
 ghost use Rattle.field_base.specs.Powers.{repeated_square};
@@ -7,32 +7,28 @@ ghost use Rattle.field_base.specs.Remainder.{ghash_modulus, mul_mod};
 
 mod literals;
 
-use crate::power_maps::literals::{
-    SQUARED_3_TIMES, SQUARED_7_TIMES, SQUARED_14_TIMES, SQUARED_28_TIMES, SQUARED_63_TIMES,
-};
+use crate::modular::square_mod_128;
+use crate::power_maps::literals::{SQUARED_28_TIMES, SQUARED_63_TIMES};
 
 /// The polynomial squared 3 times.
-#[tactic(auto, using(crate::proofs::PowerMaps::times_3))]
 pub fn square_3_times_mod_128(x: u128) -> u128
     ensures { result ≡ repeated_square 1 (mul_mod 128 ghash_modulus) 3 x }
 {
-    sum_of_columns(&SQUARED_3_TIMES, x)
+    square_mod_128_times(x, 3)
 }
 
 /// The polynomial squared 7 times.
-#[tactic(auto, using(crate::proofs::PowerMaps::times_7))]
 pub fn square_7_times_mod_128(x: u128) -> u128
     ensures { result ≡ repeated_square 1 (mul_mod 128 ghash_modulus) 7 x }
 {
-    sum_of_columns(&SQUARED_7_TIMES, x)
+    square_mod_128_times(x, 7)
 }
 
 /// The polynomial squared 14 times.
-#[tactic(auto, using(crate::proofs::PowerMaps::times_14))]
 pub fn square_14_times_mod_128(x: u128) -> u128
     ensures { result ≡ repeated_square 1 (mul_mod 128 ghash_modulus) 14 x }
 {
-    sum_of_columns(&SQUARED_14_TIMES, x)
+    square_mod_128_times(x, 14)
 }
 
 /// The polynomial squared 28 times.
@@ -49,6 +45,18 @@ pub fn square_63_times_mod_128(x: u128) -> u128
     ensures { result ≡ repeated_square 1 (mul_mod 128 ghash_modulus) 63 x }
 {
     sum_of_columns(&SQUARED_63_TIMES, x)
+}
+
+// The polynomial squared `count` times, one by one.
+#[inline]
+fn square_mod_128_times(x: u128, count: u32) -> u128
+    ensures { result ≡ repeated_square 1 (mul_mod 128 ghash_modulus) count x }
+{
+    let mut square = x;
+    for _ in 0..count {
+        square = square_mod_128(square);
+    }
+    square
 }
 
 // The value at `x` of the linear map with these columns. It reads every column for every `x`.
