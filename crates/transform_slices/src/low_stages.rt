@@ -82,10 +82,12 @@ impl<A: Allocator> LowStageTwiddles<A> {
         let mut number = first_run as u128;
         let mut twiddles = with_images(&self.shifts, &self.basis, number);
         for run in 0..values.len() / 16 {
+            if run > 0 {
+                let next = number + 1;
+                twiddles = with_images(&twiddles, &self.basis, number ^ next);
+                number = next;
+            }
             transform_run(values, 16 * run, &twiddles, &low);
-            let next = number + 1;
-            twiddles = with_images(&twiddles, &self.basis, number ^ next);
-            number = next;
         }
     }
 }
