@@ -111,9 +111,9 @@ fn multiples_of(scalar: u128) -> [u128; 16]
     products
 }
 
-// The product by x.
+/// The product by x.
 #[inline]
-fn times_x(value: u128) -> u128
+pub(crate) fn times_x(value: u128) -> u128
     ensures { result ≡ mul_mod 128 ghash_modulus value 2 }
 {
     reduce_128(value << 1, value >> 127)

@@ -1,7 +1,11 @@
-// Products of slices by one scalar, and butterflies: in lanes, sixteen values at a time, and in a plain loop where there are few values.
+// Products of slices by one scalar, and butterflies.
+//
+// Few values are multiplied one by one, and more in lanes, sixteen at a time. A product by one scalar is a linear map, and from some
+// length on it pays to make tables of it in memory, by the digits of a value to base 16.
 ghost use Rattle.std.specs.Prelude.{◌≡◌, ℕ, ◌+◌, ◌<◌, ◌≤◌, length, map, bit_xor, slice_index};
 ghost use Rattle.std.specs.Simd.Lanes.{zip2};
 ghost use Rattle.field_base.specs.Remainder.{ghash_modulus, mul_mod};
+ghost use Rattle.word_basis.specs.LinearMap.{map_of};
 ghost use Rattle.transform_slices.specs.Blocks.{HoldsBlock, added_at, multiplied_at};
 ghost use Rattle.transform_slices.specs.LowStages.{ghash_product};
 ghost use Rattle.transform_slices.specs.Multiples.{scalar_of};
@@ -9,26 +13,32 @@ ghost use Rattle.transform_slices.specs.Slices.{ButterfliesRestore};
 ghost use Rattle.transform_slices.specs.Stages.{add_multiple};
 
 use crate::blocks::{bytes_from, count_from, value_at};
-use crate::multiples::Multiples;
+use crate::multiples::{Multiples, times_x};
+use word_basis::LinearMap;
 use word_carryless::multiply_mod_128;
 
-/// The least number of elements for which the multiples of a scalar are made, and not each element multiplied by itself.
+/// The least number of elements for which a slice is multiplied in lanes, and not element by element.
 pub(crate) const LEAST_IN_LANES: usize = 16;
 
-/// Multiplies each value by `scalar`. From 16 values on it does so in lanes, by tables that it makes and looks up in registers: no
-/// address depends on the scalar or on a value.
+/// The least number of elements for which a slice is multiplied by the tables of a scalar in memory.
+pub(crate) const LEAST_TABLED: usize = 400;
+
+/// Multiplies each value by `scalar`. From 16 values on it does so in lanes, by tables that it looks up in registers, so that no address
+/// depends on a value. From 400 values on it looks up tables by the digits of the values, which it makes on the stack.
 pub fn mul_slice(values: &mut [u128], scalar: u128)
     ensures { values.new ≡ map (λ x. mul_mod 128 ghash_modulus scalar x) values.old }
 {
     if values.len() < LEAST_IN_LANES {
         multiply_each(values, scalar);
-    } else {
+    } else if values.len() < LEAST_TABLED {
         multiply_in_lanes(values, &Multiples::new(scalar));
+    } else {
+        map_each(values, &linear_multiples(scalar));
     }
 }
 
 /// The butterfly of the forward transform, place by place: `lo += scalar * hi`, and then `hi += lo`. Both slices have to be of
-/// one length. From 16 places on it works in lanes, as `mul_slice` does.
+/// one length. From 16 places on it works in lanes, and from 400 on by tables, as `mul_slice` does.
 pub fn butterfly_forward(lo: &mut [u128], hi: &mut [u128], scalar: u128)
     requires { length lo.old ≡ length hi.old }
     ensures low { lo.new ≡ zip2 (add_multiple ghash_product scalar) lo.old hi.old }
@@ -39,8 +49,8 @@ pub fn butterfly_forward(lo: &mut [u128], hi: &mut [u128], scalar: u128)
 }
 
 /// The butterfly of the inverse transform, place by place: `hi += lo`, and then `lo += scalar * hi`. With the same scalar it
-/// restores what `butterfly_forward` changed. Both slices have to be of one length. From 16 places on it works in lanes, as
-/// `mul_slice` does.
+/// restores what `butterfly_forward` changed. Both slices have to be of one length. From 16 places on it works in lanes, and
+/// from 400 on by tables, as `mul_slice` does.
 pub fn butterfly_inverse(lo: &mut [u128], hi: &mut [u128], scalar: u128)
     requires { length lo.old ≡ length hi.old }
     ensures high { hi.new ≡ zip2 bit_xor hi.old lo.old }
@@ -62,8 +72,10 @@ fn add_multiples(values: &mut [u128], others: &[u128], scalar: u128)
 {
     if values.len() < LEAST_IN_LANES {
         add_products(values, others, scalar);
-    } else {
+    } else if values.len() < LEAST_TABLED {
         add_in_lanes(values, others, &Multiples::new(scalar));
+    } else {
+        add_images(values, others, &linear_multiples(scalar));
     }
 }
 
@@ -93,6 +105,15 @@ fn multiply_block(values: &mut [u128], start: usize, multiples: &Multiples)
     let products = multiples.products(&bytes_from(values, start));
     for place in 0..count_from(values.len(), start) {
         values[start + place] = value_at(&products, place);
+    }
+}
+
+// Maps value by value.
+fn map_each(values: &mut [u128], linear: &LinearMap)
+    ensures { values.new ≡ map (map_of linear.now) values.old }
+{
+    for value in values.iter_mut() {
+        *value = linear.apply(*value);
     }
 }
 
@@ -127,6 +148,15 @@ fn add_block(values: &mut [u128], others: &[u128], start: usize, multiples: &Mul
     }
 }
 
+fn add_images(values: &mut [u128], others: &[u128], linear: &LinearMap)
+    requires { length values.old ≡ length others.now }
+    ensures { values.new ≡ zip2 (λ x y. bit_xor x (map_of linear.now y)) values.old others.now }
+{
+    for place in 0..values.len() {
+        values[place] ^= linear.apply(others[place]);
+    }
+}
+
 // Adds to each value the other value at its place.
 fn add_each(values: &mut [u128], others: &[u128])
     requires { length values.old ≡ length others.now }
@@ -135,4 +165,17 @@ fn add_each(values: &mut [u128], others: &[u128])
     for place in 0..values.len() {
         values[place] ^= others[place];
     }
+}
+
+// The product by a scalar as a linear map, which takes bit j to the product of the scalar and x^j.
+fn linear_multiples(scalar: u128) -> LinearMap
+    ensures { (x : ℕ) → map_of result x ≡ mul_mod 128 ghash_modulus scalar x }
+{
+    let mut images = [0; 128];
+    let mut image = scalar;
+    for power in 0..128 {
+        images[power] = image;
+        image = times_x(image);
+    }
+    LinearMap::new(&images)
 }
