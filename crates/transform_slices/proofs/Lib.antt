@@ -1,4 +1,8 @@
+mod BlockLemmas
+mod HornerProducts
+mod NibbleTables
 mod RunStages
+mod SliceBlocks
 mod SliceLemmas
 pub mod CantorValues
 pub mod GhashVectors

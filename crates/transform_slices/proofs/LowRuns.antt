@@ -122,10 +122,11 @@ module _ (shifts basis : List ℕ) where
 
   -- ---- the runs
 
-  -- the runs before `run` hold their sums, and what is behind them is as it was
+  -- the runs before `run` hold their sums, what is behind them is as it was, and the twiddles are those of the last run that was done,
+  -- or of the first where none was
   pub record Forwarded (first_run run number : ℕ) (twiddles old now : List ℕ) : Type 0 where
     pub same_length : length now ≡ length old
-    pub number_is : number ≡ first_run + run
+    pub number_is : number ≡ first_run + (run - 1)
     pub twiddles_are : AreRunTwiddles shifts basis number twiddles
     pub done : (r i : ℕ) → r < run → i < 16 → slice_index now (16 * r + i)
         ≡ sum_of_factors ghash_product (λ j. factor shifts basis j (16 * (first_run + r) + i)) 4 (values_from old (16 * r))
@@ -143,22 +144,57 @@ module _ (shifts basis : List ℕ) where
         rest = λ p behind. refl;
       }
 
-  -- one more run done, and the twiddles stepped to the next
-  pub forward_step : (first_run run number : ℕ) (twiddles twiddles' low old now new : List ℕ) → AreLowSums basis low
+  -- the twiddles are those of run `run`
+  pub record ReadyFor (first_run run number : ℕ) (twiddles : List ℕ) : Type 0 where
+    pub number_is : number ≡ first_run + run
+    pub twiddles_are : AreRunTwiddles shifts basis number twiddles
+
+  -- for the first run they are so from the start
+  pub ready_at_first : (first_run run number : ℕ) (twiddles old now : List ℕ) → run ≤ 0 → Forwarded first_run run number twiddles old now
+      → ReadyFor first_run run number twiddles
+  ready_at_first first_run run number twiddles old now none so_far =
+      record {
+        number_is = let is = so_far.number_is in omega (arith, is, none);
+        twiddles_are = so_far.twiddles_are;
+      }
+
+  -- for a later one they are stepped from the run before
+  pub ready_after : (first_run run number : ℕ) (twiddles twiddles' old now : List ℕ) → 0 < run
       → Forwarded first_run run number twiddles old now
+      → ((j : ℕ) → j < 4 → slice_index twiddles' j
+      ≡ bit_xor (slice_index twiddles j) (linear_image (drop (3 - j) basis) (bit_xor number (number + 1))))
+      → ReadyFor first_run run (number + 1) twiddles'
+  ready_after first_run run number twiddles twiddles' old now some so_far added =
+      record {
+        number_is = let is = so_far.number_is in omega (arith, is, some);
+        twiddles_are = next_twiddles number (number + 1) twiddles twiddles' so_far.twiddles_are added;
+      }
+
+  -- one name of the number and of the twiddles is as good as another
+  pub ready_same : (first_run run number number' : ℕ) (twiddles twiddles' : List ℕ) → number ≡ number' → twiddles ≡ twiddles'
+      → ReadyFor first_run run number' twiddles' → ReadyFor first_run run number twiddles
+  ready_same first_run run number number' twiddles twiddles' same also ready =
+      record {
+        number_is = same ∙ ready.number_is;
+        twiddles_are = λ j few.
+            ap (λ (l : List ℕ). slice_index l j) also ∙ ready.twiddles_are j few
+            ∙ ap (λ (n : ℕ). bit_xor (slice_index shifts j) (linear_image (drop (3 - j) basis) n)) (sym same);
+      }
+
+  -- one more run done
+  pub forward_step : (first_run run before_it number : ℕ) (others twiddles low old now new : List ℕ) → AreLowSums basis low
+      → Forwarded first_run run before_it others old now → ReadyFor first_run run number twiddles
       → length new ≡ length now
       → ((q : ℕ) → q < 16 → slice_index new (16 * run + q)
       ≡ sum_of_factors ghash_product (λ j. run_factor twiddles low j q) 4 (values_from now (16 * run)))
       → ((p : ℕ) → p < 16 * run → slice_index new p ≡ slice_index now p)
       → ((p : ℕ) → 16 * run + 16 ≤ p → slice_index new p ≡ slice_index now p)
-      → ((j : ℕ) → j < 4 → slice_index twiddles' j
-      ≡ bit_xor (slice_index twiddles j) (linear_image (drop (3 - j) basis) (bit_xor number (number + 1))))
-      → Forwarded first_run (run + 1) (number + 1) twiddles' old new
-  forward_step first_run run number twiddles twiddles' low old now new low_sums so_far as_long sums before behind added =
+      → Forwarded first_run (run + 1) number twiddles old new
+  forward_step first_run run before_it number others twiddles low old now new low_sums so_far ready as_long sums before behind =
       record {
         same_length = as_long ∙ so_far.same_length;
-        number_is = let is = so_far.number_is in omega (arith, is);
-        twiddles_are = next_twiddles number (number + 1) twiddles twiddles' so_far.twiddles_are added;
+        number_is = let is = ready.number_is in omega (arith, is);
+        twiddles_are = ready.twiddles_are;
         done = λ r i below within. pick r i within below (cases_lt r run);
         rest = λ p past. behind p (omega arith) ∙ so_far.rest p (omega arith);
       }
@@ -179,8 +215,8 @@ module _ (shifts basis : List ℕ) where
               (λ k few. so_far.rest (16 * run + k) (omega arith))
               ∙ sum_of_factors-same ghash_product (λ j. run_factor twiddles low j i)
               (λ j. factor shifts basis j (16 * (first_run + run) + i)) 4 (values_from old (16 * run))
-              (λ j few. run_factor-is twiddles low number j i so_far.twiddles_are low_sums few within
-              ∙ ap (λ (n : ℕ). factor shifts basis j (16 * n + i)) so_far.number_is)
+              (λ j few. run_factor-is twiddles low number j i ready.twiddles_are low_sums few within
+              ∙ ap (λ (n : ℕ). factor shifts basis j (16 * n + i)) ready.number_is)
 
   -- after the last run every place holds its sum
   pub forward_ends : (first_run run number : ℕ) (twiddles old now : List ℕ) → length old / 16 ≤ run → length old % 16 ≡ 0

@@ -1,5 +1,5 @@
 -- One stage of a run, pair by pair, and the four stages.
-use Rattle.std.proofs.Common.{◌≡◌, ◌≢◌, ◌⊎◌, inl, inr, ℕ, ◌+◌, ◌/◌, ◌^◌, ◌<◌, ◌≤◌, List, length, get_or-set_other, get_or-set_same, refl, sym, ◌∙◌, ap, ap₂, arith, rules}
+use Rattle.std.proofs.Common.{◌≡◌, ◌≢◌, ◌⊎◌, inl, inr, ℕ, ◌+◌, ◌/◌, ◌^◌, ◌<◌, ◌≤◌, List, length, get_or-set_other, get_or-set_same, refl, sym, ◌∙◌, ap, ap₂, subst, arith, rules}
 use Rattle.std.specs.Prelude.{bit_xor, slice_index}
 use Rattle.std.proofs.Math.ListN.{set}
 use Rattle.std.proofs.lemmas.Bool.{cases_order}
@@ -10,7 +10,7 @@ use Rattle.field_base.proofs.RemainderRing.{ghash_ring}
 use Rattle.field_base.proofs.RingLemmas.{sum_times}
 use Rattle.transform_slices.specs.Stages.{upper_place, stage}
 use Rattle.transform_slices.specs.LowStages.{ghash_product, values_from}
-use Rattle.transform_slices.specs.Runs.{run_factor}
+use Rattle.transform_slices.specs.Runs.{run_factor, with_pair}
 use Rattle.transform_slices.proofs.RunPlaces.{pair_of, lower_of, PairPlaces, pair_places, run_places}
 
 -- two numbers are equal or not
@@ -178,6 +178,44 @@ stage_step twiddles low j start n old now few small whole fits so_far lower uppe
         let off_lower : start + q ≢ lower = omega arith in
         let off_upper : start + q ≢ upper = omega arith in
         kept (start + q) off_lower off_upper ∙ so_far.done q within (omega arith)
+
+-- two more pairs done, by products of what they held before
+pub stage_two_steps : (twiddles low : List ℕ) (j start n : ℕ) (old now middle new : List ℕ) → j < 4 → n + 1 < 8 → start + 16 ≤ length old
+    → ((p : ℕ) → slice_index old p < 2 ^ 128) → StageSoFar twiddles low j start n old now
+    → (first second product product' : ℕ) → first ≡ start + lower_of j n → second ≡ start + lower_of j (n + 1)
+    → product
+    ≡ ghash_product (bit_xor (slice_index twiddles j) (slice_index low (n / 2 ^ j))) (slice_index now (first + 2 ^ j))
+    → product'
+    ≡ ghash_product (bit_xor (slice_index twiddles j) (slice_index low ((n + 1) / 2 ^ j))) (slice_index now (second + 2 ^ j))
+    → middle ≡ with_pair now first (first + 2 ^ j) product → new ≡ with_pair middle second (second + 2 ^ j) product'
+    → StageSoFar twiddles low j start (n + 1 + 1) old new
+stage_two_steps twiddles low j start n old now middle new few small whole fits so_far first second product product' first_is second_is
+    product_is product'_is middle_is new_is =
+    subst (StageSoFar twiddles low j start (n + 1 + 1) old) (sym new_is)
+    (stage_step twiddles low j start (n + 1) old middle few small whole fits one second (second + 2 ^ j)
+    (bit_xor (slice_index middle second) product') (bit_xor (slice_index middle (second + 2 ^ j)) (bit_xor (slice_index middle second) product'))
+    second_is (omega (arith, second_is))
+    (ap (bit_xor (slice_index middle second))
+    (product'_is
+    ∙ ap (ghash_product (bit_xor (slice_index twiddles j) (slice_index low ((n + 1) / 2 ^ j)))) (sym kept)))
+    refl)
+  where
+    one : StageSoFar twiddles low j start (n + 1) old middle
+    one =
+        subst (StageSoFar twiddles low j start (n + 1) old) (sym middle_is)
+        (stage_step twiddles low j start n old now few (omega arith) whole fits so_far first (first + 2 ^ j)
+        (bit_xor (slice_index now first) product) (bit_xor (slice_index now (first + 2 ^ j)) (bit_xor (slice_index now first) product))
+        first_is (omega (arith, first_is)) (ap (bit_xor (slice_index now first)) product_is) refl)
+
+    places : PairPlaces j (n + 1)
+    places = pair_places j (n + 1) few small
+
+    kept : slice_index middle (second + 2 ^ j) ≡ slice_index now (second + 2 ^ j)
+    kept =
+        let at : second + 2 ^ j ≡ start + (lower_of j (n + 1) + 2 ^ j) = omega (arith, second_is) in
+        let here = places.upper_pair in
+        ap (slice_index middle) at ∙ one.rest (lower_of j (n + 1) + 2 ^ j) places.upper_fits (omega (arith, here))
+        ∙ sym (ap (slice_index now) at ∙ so_far.rest (lower_of j (n + 1) + 2 ^ j) places.upper_fits (omega (arith, here)))
 
 -- after the eight pairs the stage is done
 pub stage_ends : (twiddles low : List ℕ) (j start n : ℕ) (old now : List ℕ) → j < 4 → 8 ≤ n → StageSoFar twiddles low j start n old now

@@ -1,4 +1,6 @@
+pub mod Blocks
 pub mod LowStages
+pub mod Multiples
 pub mod Runs
 pub mod Slices
 pub mod Twiddles

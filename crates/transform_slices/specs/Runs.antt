@@ -1,5 +1,5 @@
 -- One run of sixteen places, as the code computes it.
-use Rattle.std.specs.Prelude.{◌≡◌, ℕ, suc, ◌+◌, ◌-◌, ◌/◌, ◌^◌, ◌<◌, List, drop, slice_index, bit_xor}
+use Rattle.std.specs.Prelude.{◌≡◌, ℕ, suc, ◌+◌, ◌-◌, ◌/◌, ◌^◌, ◌<◌, List, drop, slice_index, slice_set, bit_xor}
 use Rattle.std.specs.Int.{bit_at}
 use Rattle.field_base.specs.LinearMaps.{linear_image}
 use Rattle.transform_slices.specs.LowStages.{ghash_product, values_from}
@@ -29,3 +29,9 @@ HoldsRunSums factors start old new =
 abbrev pub HoldsRunStage : (ℕ → ℕ → ℕ) → ℕ → ℕ → List ℕ → List ℕ → Type 0
 HoldsRunStage factors bit start old new =
     (q : ℕ) → q < 16 → slice_index new (start + q) ≡ stage ghash_product factors bit (values_from old start) q
+
+-- a product is added to the lower value of a pair, and then the lower value to the upper one
+abbrev pub with_pair : List ℕ → ℕ → ℕ → ℕ → List ℕ
+with_pair values lower upper product =
+    let sum = bit_xor (slice_index values lower) product in
+    slice_set (slice_set values lower sum) upper (bit_xor (slice_index values upper) sum)

@@ -4,8 +4,11 @@
 //! Bit i of a number is the coefficient of x^i, and products are modulo x^128 + x^7 + x^2 + x + 1 (NIST SP 800-38D).
 #![tactic(auto)]
 
+mod blocks;
 mod laws;
 mod low_stages;
+mod multiples;
+mod nibble_tables;
 mod slices;
 
 ghost use Rattle.std.specs.Prelude.{◌≡◌};

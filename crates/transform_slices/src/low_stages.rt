@@ -3,11 +3,11 @@ ghost use Rattle.std.specs.Prelude.{◌≡◌, ◌≢◌, ℕ, ◌+◌, ◌-◌,
 ghost use Rattle.field_base.specs.LinearMaps.{linear_image};
 ghost use Rattle.transform_slices.specs.LowStages.{ghash_product, HoldSums, HoldValuesAtCantorPoints, values_from};
 ghost use Rattle.transform_slices.specs.Stages.{stage};
-ghost use Rattle.transform_slices.specs.Runs.{AreLowSums, AreWithImages, HoldsRunStage, HoldsRunSums, run_factor};
+ghost use Rattle.transform_slices.specs.Runs.{AreLowSums, AreWithImages, HoldsRunStage, HoldsRunSums, run_factor, with_pair};
 
 use std::alloc::{AllocError, Allocator};
 use word_basis::sum_of_images;
-use word_carryless::multiply_mod_128;
+use word_carryless::multiply_mod_128_twice;
 
 /// The stages that `LowStageTwiddles::forward` runs.
 pub const LOW_STAGES: usize = 4;
@@ -82,10 +82,12 @@ impl<A: Allocator> LowStageTwiddles<A> {
         let mut number = first_run as u128;
         let mut twiddles = with_images(&self.shifts, &self.basis, number);
         for run in 0..values.len() / 16 {
+            if run > 0 {
+                let next = number + 1;
+                twiddles = with_images(&twiddles, &self.basis, number ^ next);
+                number = next;
+            }
             transform_run(values, 16 * run, &twiddles, &low);
-            let next = number + 1;
-            twiddles = with_images(&twiddles, &self.basis, number ^ next);
-            number = next;
         }
     }
 }
@@ -129,7 +131,8 @@ fn transform_run(values: &mut [u128], start: usize, twiddles: &[u128; 4], low: &
     run_stage(values, start, 0, twiddles, low);
 }
 
-// One stage of that run, pair by pair: two places whose numbers differ in the bit of the stage alone are a pair.
+// One stage of that run, two pairs at once, since their products share the lanes of vectors: two places whose numbers differ in the
+// bit of the stage alone are a pair.
 #[inline]
 fn run_stage(values: &mut [u128], start: usize, bit: usize, twiddles: &[u128; 4], low: &[u128; 8])
     requires bit { bit < 4 }
@@ -140,15 +143,31 @@ fn run_stage(values: &mut [u128], start: usize, bit: usize, twiddles: &[u128; 4]
     ensures behind { (p : ℕ) → start + 16 ≤ p → slice_index values.new p ≡ slice_index values.old p }
 {
     let half = half_of(bit);
-    for pair in 0..8 {
-        let lower = start + lower_of(pair, half);
-        let upper = lower + half;
-        let scalar = twiddles[bit] ^ low[pair / half];
-        let hi = values[upper];
-        let lo = values[lower] ^ multiply_mod_128(scalar, hi);
-        values[lower] = lo;
-        values[upper] = hi ^ lo;
+    for turn in 0..4 {
+        let first = start + lower_of(2 * turn, half);
+        let second = start + lower_of(2 * turn + 1, half);
+        let (first_product, second_product) = multiply_mod_128_twice(
+            twiddles[bit] ^ low[2 * turn / half],
+            twiddles[bit] ^ low[(2 * turn + 1) / half],
+            values[first + half],
+            values[second + half],
+        );
+        add_to_pair(values, first, first + half, first_product);
+        add_to_pair(values, second, second + half, second_product);
     }
+}
+
+// Adds a product to the lower value of a pair, and then the lower value to the upper one.
+#[inline]
+fn add_to_pair(values: &mut [u128], lower: usize, upper: usize, product: u128)
+    requires apart { lower < upper }
+    requires inside { upper < length values.old }
+    ensures { values.new ≡ with_pair values.old lower upper product }
+{
+    let hi = values[upper];
+    let lo = values[lower] ^ product;
+    values[lower] = lo;
+    values[upper] = hi ^ lo;
 }
 
 // Half the places of a block of a stage, whose pairs are as far apart.

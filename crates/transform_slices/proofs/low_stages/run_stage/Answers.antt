@@ -1,51 +1,69 @@
-use Rattle.std.proofs.Common.{ℕ, ◌+◌, ◌-◌, ◌*◌, ◌/◌, ◌%◌, ◌<◌, refl, ◌∙◌, ap, arith}
+use Rattle.std.proofs.Common.{◌≡◌, ℕ, ◌+◌, ◌-◌, ◌*◌, ◌/◌, ◌%◌, ◌<◌, ◌∙◌, ap, subst, arith}
 use Rattle.std.specs.Prelude.{bit_xor, slice_index}
-use Rattle.std.proofs.Math.Seq.{lt-length-set}
 use Rattle.transform_slices.specs.LowStages.{ghash_product}
+use Rattle.transform_slices.specs.Runs.{with_pair}
 use Rattle.transform_slices.proofs.RunPlaces.{upper_inside}
-use Rattle.transform_slices.proofs.RunStages.{stage_ends, stage_starts, stage_step}
+use Rattle.transform_slices.proofs.RunStages.{StageSoFar, stage_ends, stage_starts, stage_two_steps}
 use Rattle.transform_slices.proofs.low_stages.run_stage.Goals as goal
 
-pub bounds-values-upper : goal.bounds-values-upper
-bounds-values-upper c =
+pub bounds-values-first : goal.bounds-values-first
+bounds-values-first c =
     upper_inside c.args.bit c.args.start c.requires.bit (omega arith) c.requires.whole c.lower_of.ensures c.half_of-half.ensures
-    c.loop-pair.invariant.1.same_length
+    c.loop-turn.invariant.1.same_length
 
-pub bounds-values-upper-in-loop-pair : goal.bounds-values-upper-in-loop-pair
-bounds-values-upper-in-loop-pair c =
-    lt-length-set c.loop-pair.values (c.args.start + c.lower_of.result) _
-    (upper_inside c.args.bit c.args.start c.requires.bit (omega arith) c.requires.whole c.lower_of.ensures c.half_of-half.ensures
-    c.loop-pair.invariant.1.same_length)
+pub bounds-values-second : goal.bounds-values-second
+bounds-values-second c =
+    upper_inside c.args.bit c.args.start c.requires.bit (omega arith) c.requires.whole c.lower_of-in-loop-turn.ensures
+    c.half_of-half.ensures c.loop-turn.invariant.1.same_length
 
-pub loop-pair-init : goal.loop-pair-init
-loop-pair-init c = (
+pub add_to_pair-requires-clause-inside : goal.add_to_pair-requires-clause-inside
+add_to_pair-requires-clause-inside c =
+    upper_inside c.args.bit c.args.start c.requires.bit (omega arith) c.requires.whole c.lower_of.ensures c.half_of-half.ensures
+    c.loop-turn.invariant.1.same_length
+
+pub add_to_pair-requires-in-loop-turn-clause-inside : goal.add_to_pair-requires-in-loop-turn-clause-inside
+add_to_pair-requires-in-loop-turn-clause-inside c =
+    upper_inside c.args.bit c.args.start c.requires.bit (omega arith) c.requires.whole c.lower_of-in-loop-turn.ensures
+    c.half_of-half.ensures (c.add_to_pair.auto.values ∙ c.loop-turn.invariant.1.same_length)
+
+pub loop-turn-init : goal.loop-turn-init
+loop-turn-init c = (
   λ p. (c.type_inv.values p).fits,
   stage_starts c.args.twiddles.now c.args.low.now c.args.bit c.args.start c.args.values.now,
 )
 
-pub loop-pair-preserved : goal.loop-pair-preserved
-loop-pair-preserved c =
-    let small : c.loop-pair.pair < 8 = omega arith in
+pub loop-turn-preserved : goal.loop-turn-preserved
+loop-turn-preserved c =
+    let bit = c.args.bit in
+    let start = c.args.start in
+    let turn = c.loop-turn.turn in
+    let twiddles = c.args.twiddles.now in
+    let low = c.args.low.now in
+    let values = c.loop-turn.values in
+    let few : 2 * turn + 1 < 8 = omega arith in
     let half = c.half_of-half.ensures in
-    let at_lower = c.lower_of.ensures ∙ ap (λ (h : ℕ). 2 * c.loop-pair.pair - c.loop-pair.pair % h) half in
-    let values = c.loop-pair.values in
-    let lower : ℕ = c.args.start + c.lower_of.result in
-    let upper : ℕ = lower + c.half_of-half.result in
-    let sum : ℕ = bit_xor (slice_index values lower) c.multiply_mod_128.result in (
-      c.loop-pair.invariant.0,
-      stage_step c.args.twiddles.now c.args.low.now c.args.bit c.args.start c.loop-pair.pair c.args.values.now values
-          c.requires.bit small c.requires.whole c.loop-pair.invariant.0 c.loop-pair.invariant.1 lower upper sum
-          (bit_xor (slice_index values upper) sum)
-          (ap (λ (n : ℕ). c.args.start + n) at_lower)
-          (omega (arith, at_lower, half))
-          (ap (bit_xor (slice_index values lower))
-          (c.multiply_mod_128.ensures
-          ∙ ap (λ (h : ℕ). ghash_product (bit_xor (slice_index c.args.twiddles.now c.args.bit)
-          (slice_index c.args.low.now (c.loop-pair.pair / h))) (slice_index values upper)) half))
-          refl,
+    let first : ℕ = start + c.lower_of.result in
+    let second : ℕ = start + c.lower_of-in-loop-turn.result in
+    let products = c.multiply_mod_128_twice-first_product in
+    let next : 2 * turn + 1 + 1 ≡ 2 * (turn + 1) = omega arith in (
+      c.loop-turn.invariant.0,
+      subst (λ (n : ℕ). StageSoFar twiddles low bit start n c.args.values.now c.add_to_pair-in-loop-turn.new.values) next
+          (stage_two_steps twiddles low bit start (2 * turn) c.args.values.now values c.add_to_pair.new.values
+          c.add_to_pair-in-loop-turn.new.values c.requires.bit few c.requires.whole c.loop-turn.invariant.0 c.loop-turn.invariant.1
+          first second products.result.0 products.result.1
+          (ap (λ (n : ℕ). start + n) (c.lower_of.ensures ∙ ap (λ (h : ℕ). 2 * (2 * turn) - 2 * turn % h) half))
+          (ap (λ (n : ℕ). start + n) (c.lower_of-in-loop-turn.ensures ∙ ap (λ (h : ℕ). 2 * (2 * turn + 1) - (2 * turn + 1) % h) half))
+          (products.ensures.first
+          ∙ ap (λ (h : ℕ). ghash_product (bit_xor (slice_index twiddles bit) (slice_index low (2 * turn / h))) (slice_index values (first + h))) half)
+          (products.ensures.second
+          ∙ ap (λ (h : ℕ). ghash_product (bit_xor (slice_index twiddles bit) (slice_index low ((2 * turn + 1) / h)))
+          (slice_index values (second + h))) half)
+          (c.add_to_pair.ensures ∙ ap (λ (h : ℕ). with_pair values first (first + h) products.result.0) half)
+          (c.add_to_pair-in-loop-turn.ensures
+          ∙ ap (λ (h : ℕ). with_pair c.add_to_pair.new.values second (second + h) products.result.1) half)),
     )
 
 pub returns-clause-run : goal.returns-clause-run
 returns-clause-run c =
-    stage_ends c.args.twiddles.now c.args.low.now c.args.bit c.args.start c.loop-pair.pair c.args.values.now
-    c.loop-pair.values c.requires.bit (omega arith) c.loop-pair.invariant.1
+    stage_ends c.args.twiddles.now c.args.low.now c.args.bit c.args.start (2 * c.loop-turn.turn) c.args.values.now
+    c.loop-turn.values c.requires.bit (omega arith) c.loop-turn.invariant.1

@@ -1,9 +1,9 @@
-use Rattle.std.proofs.Common.{ℕ, ◌^◌, ◌<◌}
+use Rattle.std.proofs.Common.{ℕ, ◌*◌, ◌^◌, ◌<◌}
 use Rattle.std.specs.Prelude.{slice_index}
 use Rattle.transform_slices.proofs.RunStages.{StageSoFar}
 use Rattle.transform_slices.proofs.low_stages.run_stage.Given as goal
 
-abbrev pub invariant-loop-pair : goal.invariant-loop-pair
-invariant-loop-pair l =
+abbrev pub invariant-loop-turn : goal.invariant-loop-turn
+invariant-loop-turn l =
     ((p : ℕ) → slice_index l.fn.values p < 2 ^ 128)
-    × StageSoFar l.twiddles l.low l.bit l.start l.pair l.fn.values l.values
+    × StageSoFar l.twiddles l.low l.bit l.start (2 * l.turn) l.fn.values l.values

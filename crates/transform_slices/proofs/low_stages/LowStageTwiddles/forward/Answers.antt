@@ -2,22 +2,36 @@ use Rattle.std.proofs.Common.{ℕ, ◌+◌, ◌-◌, ◌/◌, ◌≤◌, List, l
 use Rattle.std.specs.Prelude.{bit_xor, slice_index}
 use Rattle.field_base.specs.LinearMaps.{linear_image}
 use Rattle.transform_slices.specs.Runs.{AreLowSums}
-use Rattle.transform_slices.proofs.LowRuns.{forward_ends, forward_step, values_at_points}
+use Rattle.transform_slices.proofs.LowRuns.{forward_ends, forward_step, ReadyFor, ready_after, ready_at_first, ready_same, values_at_points}
 use Rattle.transform_slices.proofs.low_stages.LowStageTwiddles.forward.Goals as goal
+use Rattle.transform_slices.proofs.low_stages.LowStageTwiddles.forward.Goals.{then-run-gt0, else-run-gt0}
 
 pub loop-run-preserved : goal.loop-run-preserved
 loop-run-preserved g c =
     let twiddles = c.args.self.now in
     let run = c.loop-run in
-    let next = c.with_images-twiddles-in-loop-run in
-    forward_step twiddles.shifts twiddles.basis.items c.args.first_run run.run run.number run.twiddles next.result
+    let stepped = c.if-run-gt0 in
+    let ready : ReadyFor twiddles.shifts twiddles.basis.items c.args.first_run run.run stepped.number stepped.twiddles =
+    elim c.if-run-gt0.branch [
+      | then-run-gt0 w ↦
+          ready_same twiddles.shifts twiddles.basis.items c.args.first_run run.run stepped.number (run.number + 1) stepped.twiddles
+          w.with_images-twiddles-then-run-gt0.result w.number-is w.twiddles-is
+          (ready_after twiddles.shifts twiddles.basis.items c.args.first_run run.run run.number run.twiddles
+          w.with_images-twiddles-then-run-gt0.result c.args.values.now run.values w.if-run-gt0.true run.invariant
+          (λ j few. w.with_images-twiddles-then-run-gt0.ensures j few
+          ∙ ap (λ (b : List ℕ). bit_xor (slice_index run.twiddles j) (linear_image (drop (3 - j) b) (bit_xor run.number (run.number + 1))))
+          w.deref-then-run-gt0.ensures.value))
+      | else-run-gt0 w ↦
+          ready_same twiddles.shifts twiddles.basis.items c.args.first_run run.run stepped.number run.number stepped.twiddles run.twiddles
+          w.number-is w.twiddles-is
+          (ready_at_first twiddles.shifts twiddles.basis.items c.args.first_run run.run run.number run.twiddles c.args.values.now run.values
+          w.if-run-gt0.false run.invariant)
+    ] in
+    forward_step twiddles.shifts twiddles.basis.items c.args.first_run run.run run.number stepped.number run.twiddles stepped.twiddles
     c.sums_of_three-low.result c.args.values.now run.values c.transform_run.new.values
     (subst (λ (b : List ℕ). AreLowSums b c.sums_of_three-low.result) c.deref.ensures.value c.sums_of_three-low.ensures)
-    run.invariant c.transform_run.ensures.length c.transform_run.ensures.run c.transform_run.ensures.before
+    run.invariant ready c.transform_run.ensures.length c.transform_run.ensures.run c.transform_run.ensures.before
     c.transform_run.ensures.behind
-    (λ j few. next.ensures j few
-    ∙ ap (λ (b : List ℕ). bit_xor (slice_index run.twiddles j) (linear_image (drop (3 - j) b) (bit_xor run.number (run.number + 1))))
-    c.deref-in-loop-run.ensures.value)
 
 pub returns-clause-values : goal.returns-clause-values
 returns-clause-values g c =

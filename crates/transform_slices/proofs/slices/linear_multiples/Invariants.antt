@@ -1,7 +1,7 @@
 use Rattle.std.proofs.Common.{◌≡◌, ℕ, ◌^◌, ◌<◌, length, get_or}
 use Rattle.field_base.specs.Powers.{power}
 use Rattle.field_base.specs.Remainder.{ghash_modulus, mul_mod}
-use Rattle.transform_slices.proofs.slices.multiples_of.Given as goal
+use Rattle.transform_slices.proofs.slices.linear_multiples.Given as goal
 
 -- the images before are the products of the scalar and the powers of x, and so is the next one
 abbrev pub invariant-loop-power : goal.invariant-loop-power

@@ -2,7 +2,7 @@ use Rattle.std.proofs.Common.{◌≡◌, ◌+◌, ◌*◌, ◌/◌, ◌%◌, ◌
 use Rattle.field_base.specs.Remainder.{ghash_modulus, rem}
 use Rattle.field_base.proofs.RemainderRing.{mul_mod-rem}
 use Rattle.field_base.proofs.ValueLemmas.{carryless_power}
-use Rattle.transform_slices.proofs.slices.times_x.Goals as goal
+use Rattle.transform_slices.proofs.multiples.times_x.Goals as goal
 
 pub returns : goal.returns
 returns c =

@@ -6,7 +6,7 @@ use Rattle.field_base.specs.Remainder.{ghash_modulus, mul_mod}
 use Rattle.field_base.proofs.RemainderRing.{ghash_ring}
 use Rattle.field_base.proofs.ValueLemmas.{power_of_x}
 use Rattle.transform_slices.proofs.SliceLemmas.{multiples_map}
-use Rattle.transform_slices.proofs.slices.multiples_of.Goals as goal
+use Rattle.transform_slices.proofs.slices.linear_multiples.Goals as goal
 
 -- the scalar is its product by the power 0
 first : (s : ℕ) → s < 2 ^ 128 → s ≡ mul_mod 128 ghash_modulus s (power 1 (mul_mod 128 ghash_modulus) 2 0)
