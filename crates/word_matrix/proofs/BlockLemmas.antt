@@ -1,5 +1,7 @@
 -- A slice whose bytes are written over in blocks: those before a place are done, and those from it on are as they were.
 use Rattle.std.proofs.Common.{◌≡◌, ℕ, zero, suc, ◌+◌, ◌≤◌, List, [], ◌∷◌, ◌++◌, length, map, take, drop, refl, sym, ◌∙◌, ap, ap₂, arith}
+use Rattle.std.proofs.lemmas.List.{length-drop, length-map, take_all}
+use Rattle.std.proofs.lemmas.Simd.{put_chunk_whole}
 use lib.Lanes.{chunk, put_chunk}
 
 -- what f makes of the first n elements, and the others as they were
@@ -36,3 +38,24 @@ pub block_done : (f : ℕ → ℕ) (n i m : ℕ) (old bytes out : List ℕ) → 
 block_done f n i m old bytes out next room before made =
     ap₂ (put_chunk i) before (made ∙ ap (λ (xs : List ℕ). map f (chunk i n xs)) before)
     ∙ put_next f n i old room ∙ ap (λ (k : ℕ). done_before f k old) (sym next)
+
+-- to do the first elements changes no length
+same_length : (f : ℕ → ℕ) (n : ℕ) (xs : List ℕ) → length (done_before f n xs) ≡ length (map f xs)
+same_length f zero xs = sym (length-map xs f)
+same_length f (suc n) [] = refl
+same_length f (suc n) (x ∷ xs) = ap suc (same_length f n xs)
+
+-- where all but the last elements are done, and what f makes of these is written, all are
+pub end_put : (f : ℕ → ℕ) (i n : ℕ) (old : List ℕ) → i ≤ n → i ≤ length old
+    → put_chunk i (done_before f n old) (map f (drop i old)) ≡ map f old
+end_put f zero n old reach room = put_chunk_whole (done_before f n old) (map f old) (same_length f n old)
+end_put f (suc i) zero old reach room = absurd (omega arith)
+end_put f (suc i) (suc n) [] reach room = absurd (omega arith)
+end_put f (suc i) (suc n) (x ∷ old) reach room = ap (λ (xs : List ℕ). f x ∷ xs) (end_put f i n old (omega arith) (omega arith))
+
+-- the block of the last n elements
+pub end_done : (f : ℕ → ℕ) (i n m : ℕ) (old bytes out : List ℕ) → i + n ≡ length old → i ≤ m
+    → bytes ≡ done_before f m old → out ≡ map f (chunk i n old) → put_chunk i bytes out ≡ map f old
+end_done f i n m old bytes out whole reach before made =
+    ap₂ (put_chunk i) before (made ∙ ap (map f) (take_all n (drop i old) (omega (arith, length-drop i old))))
+    ∙ end_put f i m old reach (omega arith)

@@ -1,6 +1,6 @@
-use Rattle.std.proofs.Common.{◌≡◌, ◌*◌, ◌+◌, ◌≤◌, length, arith}
+use Rattle.std.proofs.Common.{◌≡◌, ◌*◌, ◌+◌, ◌-◌, ◌≤◌, length, arith}
 use Rattle.field_base.specs.LinearMaps.{linear_image}
-use Rattle.word_matrix.proofs.BlockLemmas.{block_done}
+use Rattle.word_matrix.proofs.BlockLemmas.{block_done, end_done}
 use Rattle.word_matrix.proofs.images.map_blocks.Goals as goal
 
 pub loop-pair-preserved : goal.loop-pair-preserved
@@ -20,3 +20,13 @@ loop-block-preserved c =
     let room : 16 * block + 16 ≤ length c.args.bytes.now = omega arith in
     block_done (linear_image c.args.images.now) 16 (16 * block) (16 * (block + 1)) c.args.bytes.now c.loop-block.bytes
     c.images_of_16-mapped.result next room c.loop-block.invariant c.images_of_16-mapped.ensures
+
+pub returns : goal.returns
+returns c =
+    let last = length c.args.bytes.now - 16 in
+    let room = c.requires in
+    let whole : last + 16 ≡ length c.args.bytes.now = omega arith in
+    let over = c.loop-block-test.false in
+    let reach : last ≤ 16 * c.loop-block.block = omega arith in
+    end_done (linear_image c.args.images.now) last 16 (16 * c.loop-block.block) c.args.bytes.now c.loop-block.bytes
+    c.images_of_16-end.result whole reach c.loop-block.invariant c.images_of_16-end.ensures
