@@ -6,6 +6,7 @@ mod coefficients;
 mod cubic_traits;
 mod cubic_word;
 mod operators;
+mod pairs;
 mod ring;
 mod stored;
 mod texts;
@@ -59,6 +60,15 @@ fn value<R: Stored, K: FieldKernel<R>>(x: &Element<R, K>) -> Element<R, K>
 pub trait HasPacking<R: Stored>: FieldKernel<R> {
     /// The packing of the elements.
     type Packing;
+
+    /// Two products, `a` by `p` and `b` by `q`, which a kernel over vectors takes at once.
+    #[inline]
+    fn multiply_twice(a: R, b: R, p: R, q: R) -> (R, R)
+        ensures first { R.number result.0 ≡ Self.product (R.number a) (R.number p) }
+        ensures second { R.number result.1 ≡ Self.product (R.number b) (R.number q) }
+    {
+        (Self::multiply(a, p), Self::multiply(b, q))
+    }
 }
 
 impl<R: Stored, K: FieldKernel<R>> Element<R, K> {

@@ -2,6 +2,7 @@
 use crate::element::{Coefficients, CubicKernel, Element, HasPacking};
 use field_base::Unsigned;
 use packed_lanes::Packed;
+use word_carryless::multiply_mod_128_twice;
 use word_polynomial::{GhashKernel, Poly64Kernel, RijndaelKernel};
 use word_tower::{Bits2, Bits4, Bits8, Bits16, Bits32, Bits64, Bits128, Level, Tower};
 
@@ -80,6 +81,11 @@ impl HasPacking<u64> for Poly64Kernel {
 
 impl HasPacking<u128> for GhashKernel {
     type Packing = PackedGhash128;
+
+    #[inline]
+    fn multiply_twice(a: u128, b: u128, p: u128, q: u128) -> (u128, u128) {
+        multiply_mod_128_twice(a, b, p, q)
+    }
 }
 
 impl HasPacking<Coefficients> for CubicKernel {

@@ -5,7 +5,7 @@ ghost use Rattle.tags.specs.Powers.{ArePowers, added_block};
 ghost use Rattle.tags.specs.Reversed.{ghash_times};
 
 use crate::encoding::Encoding;
-use word_carryless::{multiply_128, multiply_mod_128, reduce_128};
+use word_carryless::{multiply_128_twice, multiply_mod_128, reduce_128};
 
 pub(crate) const BLOCK_LENGTH: usize = 16;
 
@@ -37,16 +37,14 @@ impl Powers {
     }
 }
 
-// a key^4 + b key^3 + c key^2 + d key: the four products are added before one reduction.
+// a key^4 + b key^3 + c key^2 + d key: the four products are taken two at once, and added before one reduction.
 #[inline]
 fn sum_of_products(a: u128, b: u128, c: u128, d: u128, powers: &Powers) -> u128
     ensures { result ≡ bit_xor (bit_xor (ghash_times a powers.now.fourth) (ghash_times b powers.now.cube))
         (bit_xor (ghash_times c powers.now.square) (ghash_times d powers.now.key)) }
 {
-    let (a_low, a_high) = multiply_128(a, powers.fourth);
-    let (b_low, b_high) = multiply_128(b, powers.cube);
-    let (c_low, c_high) = multiply_128(c, powers.square);
-    let (d_low, d_high) = multiply_128(d, powers.key);
+    let ((a_low, a_high), (b_low, b_high)) = multiply_128_twice(a, b, powers.fourth, powers.cube);
+    let ((c_low, c_high), (d_low, d_high)) = multiply_128_twice(c, d, powers.square, powers.key);
     reduce_128(
         (a_low ^ b_low) ^ (c_low ^ d_low),
         (a_high ^ b_high) ^ (c_high ^ d_high),

@@ -15,3 +15,7 @@ pub mod Roots
 pub mod PowerMaps
 pub mod StandardFacts
 pub mod Shifts
+pub mod LaneProducts
+pub mod LaneReductions
+pub mod ListLoops
+pub mod MaskedLanes

@@ -139,3 +139,15 @@ fold_64 = fold 64 4 3 1 60 61 63 5 refl refl refl (lit< tt) (lit≤ tt) refl
 -- the folds of x^128 + x^7 + x^2 + x + 1
 pub fold_128 : IsFold 128 ghash_modulus ghash_tail 7 2 1 121 126 127
 fold_128 = fold 128 7 2 1 121 126 127 8 refl refl refl (lit< tt) (lit≤ tt) refl
+
+-- ---- the modulus of GHASH, word by word
+
+-- what of the product of a word by the tail is below x^64
+pub word_low : (h : ℕ) → h < 2 ^ 64
+    → bit_xor (bit_xor (bit_xor (h * 2 ^ 7 % 2 ^ 64) (h * 2 ^ 2 % 2 ^ 64)) (h * 2 ^ 1 % 2 ^ 64)) h ≡ carryless h ghash_tail % 2 ^ 64
+word_low = tail_low 64 7 2 1
+
+-- and what is past it
+pub word_high : (h : ℕ) → h < 2 ^ 64
+    → bit_xor (bit_xor (h / 2 ^ 57) (h / 2 ^ 62)) (h / 2 ^ 63) ≡ carryless h ghash_tail / 2 ^ 64
+word_high h fits = tail_high 64 7 2 1 57 62 63 h fits refl refl refl

@@ -3,3 +3,4 @@ pub mod Tail
 pub mod Spread
 pub mod Karatsuba
 pub mod Compact
+pub mod DoubleWords

@@ -1,7 +1,9 @@
 -- Words with holes: a word of class i has bits at places that are i modulo 4 alone.
 -- Their integer product gives their carryless product, since no carry reaches a bit that the class keeps.
-use Rattle.std.specs.Prelude.{◌≡◌, ◌↔◌, ℕ, ◌+◌, ◌*◌, ◌%◌, ◌^◌, ◌<◌, bit_and}
+use Rattle.std.specs.Prelude.{◌≡◌, ◌↔◌, ℕ, ◌+◌, ◌*◌, ◌%◌, ◌^◌, ◌<◌, List, bit_and}
 use Rattle.std.specs.Int.{bit_at}
+use Rattle.std.specs.List.{All}
+use Rattle.std.specs.Simd.Lanes.{zip2}
 use Rattle.field_base.specs.Carryless.{carryless}
 
 -- the places below 64 that are i modulo 4
@@ -25,3 +27,9 @@ ClassIsPlaces = (i x : ℕ) → i < 4 → x < 2 ^ 64 → IsInClass i x ↔ HasPl
 abbrev pub CarryIsolation : Type 0
 CarryIsolation = (i j x y : ℕ) → i < 4 → j < 4 → IsInClass i x → IsInClass j y
     → bit_and (x * y % 2 ^ 64) (class_mask ((i + j) % 4)) ≡ carryless x y % 2 ^ 64
+
+-- carry isolation in lanes: the integer products of two lists of words of two classes, place by place, masked to the class of the
+-- products, are the parts below x^64 of their carryless products
+abbrev pub CarryIsolationInLanes : Type 0
+CarryIsolationInLanes = (i j : ℕ) (xs ys : List ℕ) → i < 4 → j < 4 → All (IsInClass i) xs → All (IsInClass j) ys
+    → zip2 (λ x y. bit_and (x * y % 2 ^ 64) (class_mask ((i + j) % 4))) xs ys ≡ zip2 (λ x y. carryless x y % 2 ^ 64) xs ys

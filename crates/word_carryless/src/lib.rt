@@ -4,6 +4,7 @@
 #![tactic(auto)]
 
 mod fold;
+mod four_lanes;
 mod inverse;
 mod laws;
 mod masked;
@@ -12,12 +13,15 @@ mod nibbles;
 mod power_maps;
 mod product;
 mod root;
+mod slices;
 mod split;
 mod square;
+mod two_lanes;
 
 pub use crate::fold::{reduce_64, reduce_128};
+pub use crate::four_lanes::multiply_mod_128_four_times;
 pub use crate::inverse::{invert_mod_64, invert_mod_128};
-pub use crate::laws::{carry_isolation, class_is_places};
+pub use crate::laws::{carry_isolation, carry_isolation_in_lanes, class_is_places};
 pub use crate::masked::{masked_product, masked_products, multiply_low_64};
 pub use crate::modular::{multiply_mod_64, multiply_mod_128, square_mod_64, square_mod_128};
 pub use crate::power_maps::{
@@ -28,5 +32,7 @@ pub use crate::product::{
     multiply_32, multiply_64, multiply_64_twice, multiply_128, multiply_by_power_128,
 };
 pub use crate::root::{compact_64, compact_128, sqrt_mod_64, sqrt_mod_128};
+pub use crate::slices::multiply_each_mod_128;
 pub use crate::split::{split_64, split_128};
 pub use crate::square::{carryless_square_64, carryless_square_128, spread_32};
+pub use crate::two_lanes::{multiply_128_twice, multiply_mod_128_twice};

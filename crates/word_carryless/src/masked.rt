@@ -9,6 +9,8 @@ ghost use Rattle.std.specs.List.{All};
 ghost use Rattle.field_base.specs.Carryless.{carryless};
 ghost use Rattle.word_carryless.specs.Masked.{IsInClass};
 
+use std::simd::prelude::*;
+
 /// The bits of a word that are 0 modulo 4.
 pub(crate) const CLASS_0: u64 = 0x1111_1111_1111_1111;
 
@@ -35,7 +37,8 @@ pub fn masked_product(x: u64, y: u64, i: u32, j: u32) -> u64
     x.wrapping_mul(y) & (CLASS_0 << ((i + j) % 4))
 }
 
-/// Replaces each word of `xs`, all of class `i`, by its masked product with `y` of class `j`.
+/// Replaces each word of `xs`, all of class `i`, by its masked product with `y` of class `j`: four lanes at a time, then two, then
+/// a word.
 pub fn masked_products(xs: &mut [u64], y: u64, i: u32, j: u32)
     requires i_in_range { i < 4 }
     requires j_in_range { j < 4 }
@@ -43,9 +46,47 @@ pub fn masked_products(xs: &mut [u64], y: u64, i: u32, j: u32)
     requires y_in_class { IsInClass j y }
     ensures { xs.new ≡ map (λ x. carryless x y % 2 ^ 64) xs.old }
 {
-    for x in xs.iter_mut() {
-        *x = masked_product(*x, y, i, j);
+    let four_count = xs.len() / 4;
+    'fours: for four in 0..four_count {
+        let start = 4 * four;
+        masked_products_of_four(u64x4::from_slice(&xs[start..]), y, i, j).copy_to_slice(
+            &mut xs[start..],
+        );
     }
+    let two_count = xs.len() / 2;
+    'twos: for two in 2 * four_count..two_count {
+        let start = 2 * two;
+        masked_products_of_two(u64x2::from_slice(&xs[start..]), y, i, j).copy_to_slice(
+            &mut xs[start..],
+        );
+    }
+    'rest: for place in 2 * two_count..xs.len() {
+        xs[place] = masked_product(xs[place], y, i, j);
+    }
+}
+
+// The masked products of four lanes, all of class `i`, with `y` of class `j`.
+#[inline(always)]
+fn masked_products_of_four(xs: u64x4, y: u64, i: u32, j: u32) -> u64x4
+    requires i_in_range { i < 4 }
+    requires j_in_range { j < 4 }
+    requires xs_in_class { All (IsInClass i) xs }
+    requires y_in_class { IsInClass j y }
+    ensures { result ≡ map (λ x. carryless x y % 2 ^ 64) xs }
+{
+    (xs * u64x4::splat(y)) & u64x4::splat(CLASS_0 << ((i + j) % 4))
+}
+
+// The masked products of two lanes, all of class `i`, with `y` of class `j`.
+#[inline(always)]
+fn masked_products_of_two(xs: u64x2, y: u64, i: u32, j: u32) -> u64x2
+    requires i_in_range { i < 4 }
+    requires j_in_range { j < 4 }
+    requires xs_in_class { All (IsInClass i) xs }
+    requires y_in_class { IsInClass j y }
+    ensures { result ≡ map (λ x. carryless x y % 2 ^ 64) xs }
+{
+    (xs * u64x2::splat(y)) & u64x2::splat(CLASS_0 << ((i + j) % 4))
 }
 
 /// The low 64 bits of the carryless product of two words.

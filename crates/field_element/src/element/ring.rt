@@ -6,6 +6,7 @@ ghost use Rattle.field_base.specs.Orders.{HasFullOrder};
 ghost use Rattle.field_base.specs.Powers.{repeated_square};
 ghost use Rattle.field_element.specs.RangeLemmas.{number_of_stored, one_in_range, stored_in_range, zero_in_range};
 
+use crate::element::pairs::multiply_by_pairs;
 use crate::element::{Element, HasPacking, value};
 use field_base::traits::{Field, PrimeCharacteristicRing, Represented, Sealed, TowerLevel};
 use field_base::{FieldKernel, Gf2, LevelKernel, Stored, Unsigned};
@@ -137,7 +138,7 @@ impl<R: Stored, K: FieldKernel<R>> PrimeCharacteristicRing for Element<R, K> {
     ghost complete_law = { λ r. (tt, tt) };
 }
 
-impl<R: Stored, K: FieldKernel<R>> Laned for Element<R, K> {
+impl<R: Stored, K: HasPacking<R>> Laned for Element<R, K> {
     const ZERO_LANE: Element<R, K> = Element {
         repr: R::ZERO,
         field: PhantomData,
@@ -151,6 +152,11 @@ impl<R: Stored, K: FieldKernel<R>> Laned for Element<R, K> {
     };
 
     ghost ONE_LANE = { record { repr = R.ONE; field = record {}; in_range = one_in_range K.width _ R.one_number K.wide_law } };
+
+    #[inline]
+    fn multiply_lanes(left: &mut [Element<R, K>], right: &[Element<R, K>]) {
+        multiply_by_pairs(left, right);
+    }
 
     ghost zero_lane_law = { R.zero_number };
 

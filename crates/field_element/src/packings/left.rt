@@ -7,13 +7,13 @@ ghost use Rattle.field_element.specs.GhashLanes.{ghash_image};
 ghost use Rattle.packed_lanes.specs.Packed.{EachLaneIs, lanes_of};
 ghost use Rattle.packed_lanes.specs.Lanes.{lane_by_lane};
 
-use crate::element::Element;
+use crate::element::{Element, HasPacking};
 use crate::names::{BinaryField128, PackedGhash128};
-use field_base::{FieldKernel, Stored};
+use field_base::Stored;
 use packed_lanes::Packed;
 use std::ops::{Add, Mul, Sub};
 
-impl<R: Stored, K: FieldKernel<R>, const N: usize> Add<Packed<Element<R, K>, N>> for Element<R, K> {
+impl<R: Stored, K: HasPacking<R>, const N: usize> Add<Packed<Element<R, K>, N>> for Element<R, K> {
     type Output = Packed<Element<R, K>, N>;
 
     ghost add_gives = { λ x y r. map repr_of (lanes_of r) ≡ lane_by_lane bit_xor (map repr_of (lanes_of y)) (map repr_of (replicate N x)) };
@@ -24,7 +24,7 @@ impl<R: Stored, K: FieldKernel<R>, const N: usize> Add<Packed<Element<R, K>, N>>
     }
 }
 
-impl<R: Stored, K: FieldKernel<R>, const N: usize> Sub<Packed<Element<R, K>, N>> for Element<R, K> {
+impl<R: Stored, K: HasPacking<R>, const N: usize> Sub<Packed<Element<R, K>, N>> for Element<R, K> {
     type Output = Packed<Element<R, K>, N>;
 
     ghost sub_gives = { λ x y r. map repr_of (lanes_of r) ≡ lane_by_lane bit_xor (map repr_of (lanes_of y)) (map repr_of (replicate N x)) };
@@ -35,7 +35,7 @@ impl<R: Stored, K: FieldKernel<R>, const N: usize> Sub<Packed<Element<R, K>, N>>
     }
 }
 
-impl<R: Stored, K: FieldKernel<R>, const N: usize> Mul<Packed<Element<R, K>, N>> for Element<R, K> {
+impl<R: Stored, K: HasPacking<R>, const N: usize> Mul<Packed<Element<R, K>, N>> for Element<R, K> {
     type Output = Packed<Element<R, K>, N>;
 
     ghost mul_gives = { λ x y r.

@@ -1,14 +1,35 @@
-use Rattle.std.proofs.Common.{ℕ, ◌%◌, ◌^◌, ◌<◌, length, get_or, ap, ◌∙◌, arith}
-use Rattle.std.proofs.Math.ListN.{set}
-use Rattle.std.proofs.lemmas.List.{get_or_default}
-use Rattle.std.proofs.lemmas.List.Edits.{map_over_more}
+use Rattle.std.proofs.Common.{◌*◌, ◌+◌, ◌%◌, ◌^◌, arith}
 use Rattle.field_base.specs.Carryless.{carryless}
+use Rattle.word_carryless.specs.Masked.{IsInClass}
+use Rattle.word_carryless.proofs.MaskedLanes.{block_keeps, block_mapped, place_keeps, place_mapped}
 use Rattle.word_carryless.proofs.masked.masked_products.Goals as goal
 
-pub loop-x-preserved : goal.loop-x-preserved
-loop-x-preserved c =
-    let within : c.loop-x.x-index < length c.loop-x.xs = omega arith in
-    ap (λ (r : ℕ). set c.loop-x.xs c.loop-x.x-index r) c.masked_product.ensures
-    ∙ map_over_more (λ x. carryless x c.args.y % 2 ^ 64) c.args.xs.now c.loop-x.xs c.loop-x.x-index
-    (get_or c.loop-x.xs c.loop-x.x-index 0) (omega arith) c.loop-x.invariant
-    (get_or_default c.loop-x.xs c.loop-x.x-index 0 (get_or c.loop-x.xs c.loop-x.x-index 0) within)
+pub masked_products_of_four-requires-clause-xs_in_class : goal.masked_products_of_four-requires-clause-xs_in_class
+masked_products_of_four-requires-clause-xs_in_class c =
+    block_keeps (IsInClass c.args.i) (λ x. carryless x c.args.y % 2 ^ 64) 4 (4 * c.fours.four) c.args.xs.now c.fours.xs
+    c.requires.xs_in_class (omega arith) (omega arith) c.fours.invariant
+
+pub fours-preserved : goal.fours-preserved
+fours-preserved c =
+    block_mapped (λ x. carryless x c.args.y % 2 ^ 64) 4 (4 * c.fours.four) (4 * (c.fours.four + 1)) c.args.xs.now c.fours.xs
+    c.masked_products_of_four.result (omega arith) (omega arith) c.fours.invariant c.masked_products_of_four.ensures
+
+pub masked_products_of_two-requires-clause-xs_in_class : goal.masked_products_of_two-requires-clause-xs_in_class
+masked_products_of_two-requires-clause-xs_in_class c =
+    block_keeps (IsInClass c.args.i) (λ x. carryless x c.args.y % 2 ^ 64) 2 (2 * c.twos.two) c.args.xs.now c.twos.xs
+    c.requires.xs_in_class (omega arith) (omega arith) c.twos.invariant
+
+pub twos-preserved : goal.twos-preserved
+twos-preserved c =
+    block_mapped (λ x. carryless x c.args.y % 2 ^ 64) 2 (2 * c.twos.two) (2 * (c.twos.two + 1)) c.args.xs.now c.twos.xs
+    c.masked_products_of_two.result (omega arith) (omega arith) c.twos.invariant c.masked_products_of_two.ensures
+
+pub masked_product-requires-clause-x_in_class : goal.masked_product-requires-clause-x_in_class
+masked_product-requires-clause-x_in_class c =
+    place_keeps (IsInClass c.args.i) (λ x. carryless x c.args.y % 2 ^ 64) c.rest.place c.args.xs.now c.rest.xs
+    c.requires.xs_in_class (omega arith) c.rest.invariant
+
+pub rest-preserved : goal.rest-preserved
+rest-preserved c =
+    place_mapped (λ x. carryless x c.args.y % 2 ^ 64) c.rest.place c.args.xs.now c.rest.xs c.masked_product.result
+    (omega arith) (omega arith) c.rest.invariant c.masked_product.ensures

@@ -1,8 +1,16 @@
-use Rattle.std.proofs.Common.{◌≡◌, ◌%◌, ◌^◌, ◌++◌, map, take, drop}
+use Rattle.std.proofs.Common.{◌≡◌, ◌*◌, ◌%◌, ◌^◌}
 use Rattle.field_base.specs.Carryless.{carryless}
+use Rattle.word_carryless.proofs.MaskedLanes.{Mapped}
 use Rattle.word_carryless.proofs.masked.masked_products.Given as goal
 
--- the words before the index are products, the others are as they were
-abbrev pub invariant-loop-x : goal.invariant-loop-x
-invariant-loop-x l =
-    l.xs ≡ map (λ x. carryless x l.y % 2 ^ 64) (take l.x-index l.fn.xs) ++ drop l.x-index l.fn.xs
+-- the words before this block of four are products, the others are as they were
+abbrev pub invariant-fours : goal.invariant-fours
+invariant-fours l = l.xs ≡ Mapped (λ x. carryless x l.y % 2 ^ 64) l.fn.xs (4 * l.four)
+
+-- those before this block of two
+abbrev pub invariant-twos : goal.invariant-twos
+invariant-twos l = l.xs ≡ Mapped (λ x. carryless x l.y % 2 ^ 64) l.fn.xs (2 * l.two)
+
+-- those before this place
+abbrev pub invariant-rest : goal.invariant-rest
+invariant-rest l = l.xs ≡ Mapped (λ x. carryless x l.y % 2 ^ 64) l.fn.xs l.place

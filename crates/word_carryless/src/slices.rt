@@ -1,0 +1,30 @@
+// Products of slices modulo the polynomial of GHASH, two at once.
+ghost use Rattle.std.specs.Prelude.{◌≡◌, length};
+ghost use Rattle.std.specs.Simd.Lanes.{zip2};
+ghost use Rattle.field_base.specs.Remainder.{ghash_modulus, mul_mod};
+
+use crate::modular::multiply_mod_128;
+use crate::two_lanes::multiply_mod_128_twice;
+
+/// Multiplies the elements of `left` by those of `right` modulo x^128 + x^7 + x^2 + x + 1, place by place. The slices are of one
+/// length.
+pub fn multiply_each_mod_128(left: &mut [u128], right: &[u128])
+    requires { length left.old ≡ length right.now }
+    ensures { left.new ≡ zip2 (mul_mod 128 ghash_modulus) left.old right.now }
+{
+    let pair_count = right.len() / 2;
+    'pairs: for pair in 0..pair_count {
+        let at = 2 * pair;
+        let (first, second) = multiply_mod_128_twice(
+            left[at],
+            left[at + 1],
+            right[at],
+            right[at + 1],
+        );
+        left[at] = first;
+        left[at + 1] = second;
+    }
+    'rest: for at in 2 * pair_count..right.len() {
+        left[at] = multiply_mod_128(left[at], right[at]);
+    }
+}
