@@ -1,3 +1,4 @@
+mod BitProducts
 mod Blocks
 pub mod FillLemmas
 pub mod LanePoints

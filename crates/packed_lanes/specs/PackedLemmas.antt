@@ -1,6 +1,6 @@
 -- Packings of N lanes as one number each: what an operator gives of the lanes, it gives of the numbers. These lemmas stand here since
 -- the packing's implementation of the traits cites them.
-use Rattle.std.proofs.Common.{◌≡◌, ◌≢◌, ℕ, ◌*◌, ◌^◌, ◌<◌, ◌↔◌, Bool, true, List, length, map, replicate, refl, sym, ◌∙◌, ap, subst}
+use Rattle.std.proofs.Common.{◌≡◌, ℕ, ◌*◌, ◌^◌, ◌<◌, ◌↔◌, Bool, true, length, map, replicate, sym, ◌∙◌, ap}
 use Rattle.std.specs.Prelude.{bit_xor}
 use Rattle.std.proofs.lemmas.List.{length-replicate}
 use lib.Pointwise.{pointwise}

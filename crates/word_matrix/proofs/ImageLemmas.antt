@@ -1,7 +1,7 @@
 -- Images one after the other, and of one map after another.
-use Rattle.std.proofs.Common.{◌≡◌, ℕ, zero, suc, ◌+◌, ◌^◌, ◌<◌, ◌≤◌, List, [], ◌∷◌, ◌++◌, drop, length, map, take, refl, sym, ◌∙◌, ap, ap₂, subst, arith}
+use Rattle.std.proofs.Common.{◌≡◌, ℕ, zero, suc, ◌+◌, ◌^◌, ◌<◌, List, [], ◌∷◌, ◌++◌, drop, length, map, take, refl, sym, ◌∙◌, ap, subst, arith}
 use Rattle.std.specs.Prelude.{bit_xor, slice_index, slice_index_or, slice_set}
-use Rattle.std.proofs.lemmas.List.{append-nil, drop_all, length-map, take_all}
+use Rattle.std.proofs.lemmas.List.{length-map}
 use Rattle.std.proofs.lemmas.List.Edits.{map_over_more}
 use Rattle.field_base.specs.LinearMaps.{linear_image}
 use Rattle.field_base.proofs.EightCases.{eight_cases}
@@ -26,12 +26,6 @@ pub place_written : (f : ℕ → ℕ) (xs ys : List ℕ) (i v : ℕ) → i < len
 place_written f xs ys i v within also so_far is =
     ap (slice_set ys i) is
     ∙ map_over_more f xs ys i (slice_index ys i) within so_far (same_entry ys i 0 (slice_index ys i) also)
-
--- a list whose places are all written is the list of images
-pub all_written : (f : ℕ → ℕ) (xs ys : List ℕ) (i : ℕ) → length xs ≤ i → ys ≡ map f (take i xs) ++ drop i xs → ys ≡ map f xs
-all_written f xs ys i past so_far =
-    so_far ∙ ap₂ (λ (front back : List ℕ). map f front ++ back) (take_all i xs past) (drop_all i xs past)
-    ∙ append-nil (map f xs)
 
 -- the map whose images are the images of images is the one map after the other
 pub one_after_other : (outer first both : List ℕ) → both ≡ map (linear_image outer) first → (x : ℕ) → x < 2 ^ length first

@@ -1,2 +1,5 @@
+mod BlockLemmas
 mod ColumnLemmas
+mod HalfImages
 mod ImageLemmas
+mod NibbleLookups

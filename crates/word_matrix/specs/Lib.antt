@@ -1,2 +1,3 @@
 pub mod Columns
 pub mod Matrix
+pub mod Nibbles

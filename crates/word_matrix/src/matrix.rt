@@ -4,6 +4,8 @@ ghost use Rattle.std.specs.Int.{bit_at, from_be_bytes, to_be_bytes, w64};
 ghost use Rattle.field_base.specs.LinearMaps.{linear_image};
 ghost use Rattle.word_matrix.specs.Columns.{column, columns};
 
+use crate::images::{map_bytes, sum_of_images};
+
 /// A linear map of bytes over GF(2), as the bytes that it makes of the eight bits.
 #[derive(Clone, Copy, Debug, PartialEq, Eq, Hash)]
 pub struct ByteMatrix {
@@ -84,26 +86,8 @@ impl ByteMatrix {
     pub fn apply_slice(self, bytes: &mut [u8])
         ensures { bytes.new ≡ map (linear_image (images_of self)) bytes.old }
     {
-        for place in 0..bytes.len() {
-            bytes[place] = self.apply(bytes[place]);
-        }
+        map_bytes(&self.images, bytes);
     }
-}
-
-// The sum of the images at the set bits of `x`.
-#[inline]
-fn sum_of_images(images: &[u8], x: u8) -> u8
-    ensures { result ≡ linear_image images.now x }
-{
-    let mut sum = 0;
-    let mut rest = x;
-    for image in images {
-        if rest & 1 == 1 {
-            sum ^= *image;
-        }
-        rest >>= 1;
-    }
-    sum
 }
 
 // The columns of eight rows.

@@ -1,2 +1,3 @@
 pub mod Fermat
+mod ShiftAndAdd
 pub mod Sums

@@ -2,11 +2,13 @@
 //! coefficient of x^i. Each is a level of the tower in another basis.
 #![tactic(auto)]
 
+mod byte_lanes;
 mod moduli;
 mod modulus;
 mod polynomials;
 mod subfields;
 
+pub use crate::byte_lanes::{multiply_16_bytes, multiply_32_bytes};
 pub use crate::moduli::{
     GhashKernel, GhashModulus, Poly64Kernel, Poly64Modulus, RijndaelKernel, RijndaelModulus,
 };

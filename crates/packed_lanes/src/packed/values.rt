@@ -16,7 +16,7 @@ ghost use Rattle.packed_lanes.specs.PackedLemmas.{packed_sum_bit, packed_sum_one
 
 use crate::packed::{Laned, Packed, WiderField};
 use field_base::Gf2;
-use field_base::traits::{Algebra, product_of_items, sum_of_items};
+use field_base::traits::{Algebra, Field, product_of_items, sum_of_items};
 use std::iter::{Product, Sum};
 use std::ops::{Add, AddAssign, Mul, MulAssign, Sub, SubAssign};
 
@@ -126,10 +126,14 @@ impl<F: Laned, const N: usize> Mul<Gf2> for Packed<F, N> {
 
     ghost mul_gives = { λ x y r. EachLaneIs F.repr r F.product x (bit_of y * F.unit) };
 
+    // The lanes stay, or each is 0.
     #[inline]
     fn mul(self, bit: Gf2) -> Packed<F, N> {
-        let every: Packed<F, N> = Packed::from(bit);
-        self * every
+        if bit.is_one() {
+            self
+        } else {
+            Packed::broadcast(F::ZERO_LANE)
+        }
     }
 }
 

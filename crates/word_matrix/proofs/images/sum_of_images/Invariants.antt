@@ -1,7 +1,7 @@
 use Rattle.std.proofs.Common.{◌≡◌, drop}
 use Rattle.std.specs.Prelude.{bit_xor}
 use Rattle.field_base.specs.LinearMaps.{linear_image}
-use Rattle.word_matrix.proofs.matrix.sum_of_images.Given as goal
+use Rattle.word_matrix.proofs.images.sum_of_images.Given as goal
 
 -- the images before the index are in the sum, and the bits that are left belong to those from it on
 abbrev pub invariant-loop-image : goal.invariant-loop-image

@@ -2,8 +2,8 @@ use Rattle.std.proofs.Common.{◌∙◌, sym, ap, ℕ, ◌+◌, ◌/◌, ◌<◌
 use Rattle.std.specs.Prelude.{bit_xor}
 use Rattle.field_base.specs.LinearMaps.{linear_image}
 use Rattle.field_base.proofs.LinearMapLemmas.{image_enters, image_stays, images_end}
-use Rattle.word_matrix.proofs.matrix.sum_of_images.Goals as goal
-use Rattle.word_matrix.proofs.matrix.sum_of_images.Goals.{then-rest-eq1, else-rest-eq1}
+use Rattle.word_matrix.proofs.images.sum_of_images.Goals as goal
+use Rattle.word_matrix.proofs.images.sum_of_images.Goals.{then-rest-eq1, else-rest-eq1}
 
 pub loop-image-preserved : goal.loop-image-preserved
 loop-image-preserved c =
