@@ -29,16 +29,16 @@ abbrev pub cubic_number : Cubic → ℕ
 cubic_number word = triple 64 word.c0 word.c1 word.c2
 
 -- level k of the tower, with words of up to 64 bits
-abbrev pub level : ℕ → WordField ℕ
-level k = record { number = itself; width = 2 ^ k; times = tower_mul k; generator = tower_generator k }
+abbrev pub level_field : ℕ → WordField ℕ
+level_field k = record { number = itself; width = 2 ^ k; times = tower_mul k; generator = tower_generator k }
 
 -- level 7, with words of 128 bits
-abbrev pub wide_level : WordField Wide
-wide_level = record { number = wide_number; width = 128; times = tower_mul 7; generator = tower_generator 7 }
+abbrev pub wide_level_field : WordField Wide
+wide_level_field = record { number = wide_number; width = 128; times = tower_mul 7; generator = tower_generator 7 }
 
 -- the bytes of AES
-abbrev pub rijndael : WordField ℕ
-rijndael = record {
+abbrev pub rijndael_field : WordField ℕ
+rijndael_field = record {
   number = itself;
   width = 8;
   times = mul_mod 8 aes_modulus;
@@ -46,8 +46,8 @@ rijndael = record {
 }
 
 -- the polynomials modulo x^64 + x^4 + x^3 + x + 1
-abbrev pub poly64 : WordField ℕ
-poly64 = record {
+abbrev pub poly64_field : WordField ℕ
+poly64_field = record {
   number = itself;
   width = 64;
   times = mul_mod 64 poly64_modulus;
@@ -55,8 +55,8 @@ poly64 = record {
 }
 
 -- the field of GHASH
-abbrev pub ghash : WordField Wide
-ghash = record {
+abbrev pub ghash_field : WordField Wide
+ghash_field = record {
   number = wide_number;
   width = 128;
   times = mul_mod 128 ghash_modulus;

@@ -1,6 +1,6 @@
 use Rattle.std.proofs.Common.{◌≡◌, ◌+◌, ◌-◌, ◌*◌, ◌^◌, length, map}
 use Rattle.transform_whole.proofs.WholeStages.{AreLeft}
-use Rattle.transform_whole.proofs.whole.few_stages.Given as goal
+use Rattle.transform_whole.proofs.whole.every_stage.Given as goal
 
 -- the stages from this one on are done, and each counted its pairs
 abbrev pub invariant-loop-stage : goal.invariant-loop-stage

@@ -3,7 +3,7 @@ use Rattle.std.proofs.lemmas.List.{length-map}
 use Rattle.transform_whole.proofs.Counts.{block_count, half_count, stage_counted, stage_room, whole_blocks}
 use Rattle.transform_whole.proofs.OnlyStages.{all_leave, values_fit}
 use Rattle.transform_whole.proofs.WholeStages.{AreLeft, left_step}
-use Rattle.transform_whole.proofs.whole.few_stages.Goals as goal
+use Rattle.transform_whole.proofs.whole.every_stage.Goals as goal
 
 -- before the first stage nothing is counted
 start : (count stages half : ℕ) → count ≡ count + (stages - stages) * half
