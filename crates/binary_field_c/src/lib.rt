@@ -6,9 +6,12 @@
 mod changes;
 mod g128;
 mod gf2;
+mod linear;
+mod messages;
 mod p192;
 mod p64;
 mod r8;
+mod shards;
 mod t128;
 mod t16;
 mod t2;
@@ -16,3 +19,5 @@ mod t32;
 mod t4;
 mod t64;
 mod t8;
+mod transforms;
+mod version;

@@ -6,7 +6,7 @@ use Rattle.field_base.specs.Tower.{tower_mul}
 use Rattle.field_base.specs.TowerBasis.{tower_generator}
 use Rattle.word_cubic.specs.Cubic.{cubic_mul, triple}
 use Rattle.c_slices.specs.declared.words.Cubic.{Cubic}
-use Rattle.c_slices.specs.declared.words.Wide.{Wide}
+use Rattle.c_slices.specs.declared.wide.Wide.{Wide}
 
 -- a field of 2 ^ width elements: the number that a word stands for, the product over numbers, and the number of the generator that
 -- the library names. A word is an element where its number is below 2 ^ width; a sum is the exclusive or.

@@ -6,6 +6,7 @@ mod batch;
 mod fields;
 pub mod slices;
 pub mod status;
+mod wide;
 mod words;
 
 pub use crate::batch::batch_invert;
@@ -13,4 +14,5 @@ pub use crate::fields::{
     Arithmetic, Basis, CubicField, Gf2, Ghash, Level2, Level4, Level8, Level16, Level32, Level64,
     Level128, Poly64, Rijndael, Words,
 };
-pub use crate::words::{Cubic, Holds, Wide};
+pub use crate::wide::Wide;
+pub use crate::words::{Cubic, Holds};

@@ -3,6 +3,7 @@ ghost use Rattle.std.specs.Prelude.{◌≡◌, ◌<◌, ◌^◌, ℕ};
 ghost use Rattle.word_cubic.specs.Triple.{triple_number};
 ghost use Rattle.c_slices.specs.Fields.{cubic_number, itself, wide_number};
 
+use crate::wide::Wide;
 use field_base::Stored;
 use word_cubic::Triple;
 
@@ -73,35 +74,6 @@ impl Holds<u64> for u64 {
     #[inline]
     fn of_stored(x: u64) -> u64 {
         x
-    }
-}
-
-/// A word of 128 bits as two of 64, low half first.
-#[repr(C)]
-#[derive(Clone, Copy)]
-pub struct Wide {
-    low: u64,
-    high: u64,
-}
-
-impl Wide {
-    /// The two halves of a number.
-    #[inline]
-    pub fn new(repr: u128) -> Wide
-        ensures { wide_number result ≡ repr }
-    {
-        Wide {
-            low: (repr % 0x10000000000000000) as u64,
-            high: (repr / 0x10000000000000000) as u64,
-        }
-    }
-
-    /// The number of which these are the halves.
-    #[inline]
-    pub fn number(self) -> u128
-        ensures { result ≡ wide_number self }
-    {
-        u128::from(self.high) * 0x10000000000000000 + u128::from(self.low)
     }
 }
 

@@ -26,12 +26,12 @@ loop-place-preserved g c =
     let fits =
     subst (λ x. field.number x < 2 ^ field.width) (sym c.index-words-place.is) (c.requires.elements place within word) in (
       written-more field c.loop-place.products place c.loop-place.product (λ k. nonzero_product field (take k words)) (omega arith)
-      before.0 before.1,
+          before.0 before.1,
       c.with_nonzero-product.ensures
           ∙ ap (λ n. times_nonzero field.times n (field.number word)) before.1
           ∙ sym (nonzero_product-more field words place word within c.index-words-place.is),
       subst (λ n. n < 2 ^ field.width) (sym c.with_nonzero-product.ensures)
-      (times_nonzero-lt field.width field.times law (field.number c.loop-place.product) (field.number word) before.2),
+          (times_nonzero-lt field.width field.times law (field.number c.loop-place.product) (field.number word) before.2),
       (λ none.
           times_nonzero-nonzero field.width field.times law (field.number c.loop-place.product) (field.number word) before.2 fits
           before.3 (sym c.with_nonzero-product.ensures ∙ none)),

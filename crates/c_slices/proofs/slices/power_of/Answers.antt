@@ -9,7 +9,7 @@ loop-rest-init g c =
     let field = g.A.Arithmetic.field in
     let one_fits : 1 < 2 ^ field.width = pow_below 0 field.width g.A.Arithmetic.wide_law in (
       power_start field.width 1 field.times g.A.Arithmetic.field_law.ring one_fits
-      (field.number c.one-value.result) (field.number c.args.word) c.args.exponent c.one-value.ensures,
+          (field.number c.one-value.result) (field.number c.args.word) c.args.exponent c.one-value.ensures,
       omega (arith, one_fits, c.one-value.ensures),
     )
 
