@@ -1,10 +1,23 @@
-//! The tower's levels of 8 to 128 bits, three fields of polynomials and the cubic extension of GF(2^64), for other languages: a
-//! static library of functions over slices of words. A slice is a pointer and a length. A word of 8, 16, 32 or 64 bits is one
-//! number; a word of 128 bits is two of 64, low half first, and one of 192 bits three, the coefficient of 1 first.
+//! The functions of the library that other languages call. A slice is a pointer and a length; a word of 8 to 64 bits is one
+//! number, one of 128 bits is two of 64, low half first, and one of 192 bits three, the coefficient of 1 first. Each function
+//! returns a status, and no call has a condition that its caller could break.
 #![tactic(auto)]
 
-mod arithmetic;
-mod fields;
+mod changes;
+mod g128;
+mod gf2;
 mod linear;
-mod slices;
-mod words;
+mod messages;
+mod p192;
+mod p64;
+mod r8;
+mod shards;
+mod t128;
+mod t16;
+mod t2;
+mod t32;
+mod t4;
+mod t64;
+mod t8;
+mod transforms;
+mod version;

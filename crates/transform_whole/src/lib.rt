@@ -20,6 +20,6 @@ mod whole;
 
 pub use crate::kernel::{Kernel, PolyKernel};
 pub use crate::laws::values_commute_with_images;
-pub use crate::pairs::{PairByPair, PairKernel};
+pub use crate::pairs::{PairByPair, PairKernel, low_stages};
 pub use crate::points::point;
-pub use crate::whole::{forward, forward_with, inverse, inverse_with};
+pub use crate::whole::{forward, forward_by_butterflies, forward_with, inverse, inverse_with};

@@ -1,5 +1,6 @@
 // Kernels that compute one pair of places at a time.
 ghost use Rattle.std.specs.Prelude.{◌≡◌, ℕ, ◌+◌, ◌-◌, ◌*◌, ◌%◌, ◌/◌, ◌^◌, ◌<◌, ◌≤◌, length, map, slice_index, bit_xor};
+ghost use Rattle.field_base.specs.LinearMaps.{linear_image};
 ghost use Rattle.transform_slices.specs.LowStages.{ghash_product, HoldSums};
 ghost use Rattle.transform_slices.specs.Slices.{IsForward, IsInverse};
 ghost use Rattle.transform_slices.specs.Stages.{add_multiple};
@@ -10,6 +11,7 @@ use crate::kernel::Kernel;
 use crate::stages::{half_of, start_of};
 use std::alloc::Allocator;
 use transform_slices::LowStageTwiddles;
+use word_basis::sum_of_images;
 
 /// What computes on one pair of places of a transform. `PairByPair` makes a `Kernel` of it, which goes through the slices and
 /// counts. Each element stands for a value, which is a number of 128 bits in the field of GHASH.
@@ -68,7 +70,9 @@ impl<P: PairKernel> Kernel for PairByPair<P> {
         first_run: usize,
     ) {
         self.products += 2 * values.len() as u64;
-        low_stages(&mut self.pairs, twiddles, values, first_run);
+        let shifts = twiddles.shifts();
+        let basis = twiddles.basis();
+        low_stages(&mut self.pairs, shifts, basis, values, first_run);
     }
 }
 
@@ -92,44 +96,55 @@ fn inverse_pairs<P: PairKernel>(pairs: &mut P, lo: &mut [P::Elem], hi: &mut [P::
     }
 }
 
-// Stages 3, 2, 1 and 0 over runs of sixteen values, of which the first is run `first_run` of the transform.
-fn low_stages<P: PairKernel, A: Allocator>(
+/// Stages 3, 2, 1 and 0 over each run of sixteen values, the first of which is run `first_run` of the transform, pair by pair. The
+/// twiddle of stage j at place p is shift j, and element t of the basis for each set bit t of p >> (j + 1); of bits past the
+/// basis it reads none. The length has to be a multiple of 16. It takes no memory.
+pub fn low_stages<P: PairKernel>(
     pairs: &mut P,
-    twiddles: &LowStageTwiddles<A>,
+    shifts: &[u128; 4],
+    basis: &[u128],
     values: &mut [P::Elem],
     first_run: usize,
 )
     requires { length values.old % 16 ≡ 0 }
     ensures length { length values.new ≡ length values.old }
-    ensures sums { HoldSums (shifts_of twiddles.now) (basis_of twiddles.now) first_run (map P.value values.old)
-        (map P.value values.new) }
+    ensures sums { HoldSums shifts.now basis.now first_run (map P.value values.old) (map P.value values.new) }
 {
-    low_stage(pairs, twiddles, values, 3, first_run);
-    low_stage(pairs, twiddles, values, 2, first_run);
-    low_stage(pairs, twiddles, values, 1, first_run);
-    low_stage(pairs, twiddles, values, 0, first_run);
+    low_stage(pairs, shifts, basis, values, 3, first_run);
+    low_stage(pairs, shifts, basis, values, 2, first_run);
+    low_stage(pairs, shifts, basis, values, 1, first_run);
+    low_stage(pairs, shifts, basis, values, 0, first_run);
 }
 
 // One of those stages, block by block.
-fn low_stage<P: PairKernel, A: Allocator>(
+fn low_stage<P: PairKernel>(
     pairs: &mut P,
-    twiddles: &LowStageTwiddles<A>,
+    shifts: &[u128; 4],
+    basis: &[u128],
     values: &mut [P::Elem],
     stage: usize,
     first_run: usize,
 )
     requires { stage < 4 }
     ensures length { length values.new ≡ length values.old }
-    ensures stage { IsStageFrom (shifts_of twiddles.now) (basis_of twiddles.now) stage (first_run * 2 ^ (3 - stage))
+    ensures stage { IsStageFrom shifts.now basis.now stage (first_run * 2 ^ (3 - stage))
         (length values.old / 2 ^ (stage + 1)) (map P.value values.old) (map P.value values.new) }
 {
     let half = half_of(stage);
     let first = first_block(first_run, stage);
     for block in 0..values.len() / (2 * half) {
         let start = start_of(block, 2 * half, values.len());
-        let twiddle = twiddles.of_block(stage, first + block as u128);
+        let twiddle = twiddle_of(shifts, basis, stage, first + block as u128);
         pairs_of_block(pairs, &mut values[start..start + 2 * half], half, twiddle);
     }
+}
+
+// The twiddle of all pairs of a block of one of those stages.
+fn twiddle_of(shifts: &[u128; 4], basis: &[u128], stage: usize, block: u128) -> u128
+    requires { stage < 4 }
+    ensures { result ≡ bit_xor (slice_index shifts.now stage) (linear_image basis.now block) }
+{
+    shifts[stage] ^ sum_of_images(basis, block)
 }
 
 // The forward butterfly of each pair of a block of twice `half` places.

@@ -74,12 +74,25 @@ pub fn forward_with<K: Kernel, A: Allocator>(
     let stages = stages_of(values.len());
     let twiddles = Twiddles::new(z);
     if stages < LOW_STAGES {
-        few_stages(kernel, values, stages, &twiddles, z);
+        every_stage(kernel, values, stages, &twiddles, z);
         return Ok(());
     }
     let low = LowStageTwiddles::new(alloc, &twiddles.shifts, &twiddles.basis[..stages - 1])?;
     forward_stages(kernel, values, stages, &twiddles, &low, z);
     Ok(())
+}
+
+/// The transform `forward_with` by butterflies alone, the low stages too: it asks and does the same, takes no memory, and does not
+/// fail.
+pub fn forward_by_butterflies<K: Kernel>(kernel: &mut K, values: &mut [K::Elem], z: u128)
+    requires { FitsTransform (length values.old) (K.count kernel.old) }
+    ensures length { length values.new ≡ length values.old }
+    ensures values { HoldPolynomialValues z (map K.value values.old) (map K.value values.new) }
+    ensures count { CountsPairs (length values.old) (K.count kernel.old) (K.count kernel.new) }
+{
+    let stages = stages_of(values.len());
+    let twiddles = Twiddles::new(z);
+    every_stage(kernel, values, stages, &twiddles, z);
 }
 
 /// The transform `inverse` by any kernel: nothing but the kernel computes on its elements. It asks what `forward_with` asks, and
@@ -112,8 +125,8 @@ fn stages_of(count: usize) -> usize
     40
 }
 
-// The stages of a forward transform that has fewer than four, from the highest down.
-fn few_stages<K: Kernel>(
+// The stages of a forward transform, from the highest down.
+fn every_stage<K: Kernel>(
     kernel: &mut K,
     values: &mut [K::Elem],
     stages: usize,

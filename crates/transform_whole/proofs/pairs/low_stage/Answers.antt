@@ -18,14 +18,14 @@ loop-block-preserved g c =
     let fits = c.start_of-start.ensures.inside in omega (arith, fits, size) in (
       same_len_mid _ _ c.loop-block.values c.pairs_of_block.new.block c.pairs_of_block.ensures.length ∙ c.loop-block.invariant.0,
       blocks_step g.P.PairKernel.value (2 ^ suc c.args.stage)
-          (forward_from c.args.twiddles.now.shifts c.args.twiddles.now.basis.items c.args.stage first)
-          (from_local c.args.twiddles.now.shifts c.args.twiddles.now.basis.items c.args.stage first) c.loop-block.block c.start_of-start.result _
+          (forward_from c.args.shifts.now c.args.basis.now c.args.stage first)
+          (from_local c.args.shifts.now c.args.basis.now c.args.stage first) c.loop-block.block c.start_of-start.result _
           c.args.values.now c.loop-block.values c.pairs_of_block.new.block start part inside
           (c.pairs_of_block.ensures.length ∙ mid_len _ _ c.loop-block.values c.start_of-start.ensures.inside)
           (butterfly-at _ _ _ _ _ _
-          (c.of_block-twiddle.ensures
-          ∙ ap (λ (b : ℕ). bit_xor (slice_index c.args.twiddles.now.shifts c.args.stage)
-          (linear_image c.args.twiddles.now.basis.items (b + c.loop-block.block))) c.first_block-first.ensures.first)
+          (c.twiddle_of-twiddle.ensures
+          ∙ ap (λ (b : ℕ). bit_xor (slice_index c.args.shifts.now c.args.stage)
+          (linear_image c.args.basis.now (b + c.loop-block.block))) c.first_block-first.ensures.first)
           half c.pairs_of_block.ensures.values)
           c.loop-block.invariant.1,
     )

@@ -6,5 +6,5 @@ use Rattle.transform_whole.proofs.pairs.low_stage.Given as goal
 abbrev pub invariant-loop-block : goal.invariant-loop-block
 invariant-loop-block g l =
     (length l.values ≡ length l.fn.values)
-    × BlocksSoFar (2 ^ suc l.stage) (forward_from l.twiddles.shifts l.twiddles.basis.items l.stage (l.fn.first_run * 2 ^ (3 - l.stage))) l.block
+    × BlocksSoFar (2 ^ suc l.stage) (forward_from l.shifts l.basis l.stage (l.fn.first_run * 2 ^ (3 - l.stage))) l.block
     (map g.P.PairKernel.value l.fn.values) (map g.P.PairKernel.value l.values)

@@ -1,6 +1,5 @@
 use Rattle.std.proofs.Common.{◌-◌, ◌*◌, ◌^◌, length, map, ◌∙◌}
 use Rattle.std.proofs.lemmas.List.{length-map}
-use Rattle.transform_slices.specs.Twiddles.{basis_of, shifts_of}
 use Rattle.transform_whole.proofs.OnlyStages.{values_fit}
 use Rattle.transform_whole.proofs.PairStages.{low_stages_hold, stage-count}
 use Rattle.transform_whole.proofs.pairs.low_stages.Goals as goal
@@ -9,8 +8,8 @@ pub returns-clause-sums : goal.returns-clause-sums
 returns-clause-sums g c =
     let value = g.P.PairKernel.value in
     let fits = values_fit value g.P.PairKernel.range_law in
-    let shifts = shifts_of c.args.twiddles.now in
-    let basis = basis_of c.args.twiddles.now in
+    let shifts = c.args.shifts.now in
+    let basis = c.args.basis.now in
     let third = c.low_stage.ensures.length in
     let second = c.low_stage-2.ensures.length ∙ third in
     let first = c.low_stage-3.ensures.length ∙ second in

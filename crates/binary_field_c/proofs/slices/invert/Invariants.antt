@@ -1,8 +1,0 @@
-use Rattle.std.proofs.Common.{ℕ, ◌<◌, get_or}
-use Rattle.field_base.specs.Field.{IsInverseOrZero}
-use Rattle.binary_field_c.proofs.slices.invert.Given as goal
-
-abbrev pub invariant-loop-i : goal.invariant-loop-i
-invariant-loop-i g l =
-    (k : ℕ) → k < l.i → (d : _)
-    → IsInverseOrZero g.A.Arithmetic.product (g.A.Arithmetic.number (get_or l.words k d)) (g.A.Arithmetic.number (get_or l.inverses k d))

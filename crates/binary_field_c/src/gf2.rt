@@ -1,0 +1,110 @@
+// Calls over slices of elements of GF(2).
+ghost use Rattle.c_slices.specs.Calls.{Adds, AddsScaled, Evaluates, Inverts, Multiplies, MultipliesBy, NamesGenerator};
+ghost use Rattle.c_slices.specs.Calls.{RaisesTo, Squares, TakesDotProduct, TakesProduct, TakesRoots};
+ghost use Rattle.c_slices.specs.Fields.{level_field};
+
+use c_slices::{Gf2, batch_invert, slices};
+
+/// The sum of the elements at each place.
+#[unsafe(no_mangle)]
+pub extern "C" fn bf_gf2_add(left: &[u8], right: &[u8], sums: &mut [u8]) -> u32
+    ensures { Adds (level_field 0) left.now right.now sums.old sums.new result }
+{
+    slices::add::<u8, Gf2>(left, right, sums)
+}
+
+/// The product of the elements at each place.
+#[unsafe(no_mangle)]
+pub extern "C" fn bf_gf2_multiply(left: &[u8], right: &[u8], products: &mut [u8]) -> u32
+    ensures { Multiplies (level_field 0) left.now right.now products.old products.new result }
+{
+    slices::multiply::<u8, Gf2>(left, right, products)
+}
+
+/// The product of each element and the scalar.
+#[unsafe(no_mangle)]
+pub extern "C" fn bf_gf2_multiply_by(values: &[u8], scalar: u8, products: &mut [u8]) -> u32
+    ensures { MultipliesBy (level_field 0) scalar values.now products.old products.new result }
+{
+    slices::multiply_by::<u8, Gf2>(values, scalar, products)
+}
+
+/// Adds to each element of sums the scalar times the value at its place.
+#[unsafe(no_mangle)]
+pub extern "C" fn bf_gf2_add_scaled(sums: &mut [u8], scalar: u8, values: &[u8]) -> u32
+    ensures { AddsScaled (level_field 0) scalar values.now sums.old sums.new result }
+{
+    slices::add_scaled::<u8, Gf2>(sums, scalar, values)
+}
+
+/// The square of each element.
+#[unsafe(no_mangle)]
+pub extern "C" fn bf_gf2_square(values: &[u8], squares: &mut [u8]) -> u32
+    ensures { Squares (level_field 0) values.now squares.old squares.new result }
+{
+    slices::square::<u8, Gf2>(values, squares)
+}
+
+/// The inverse of each element, and 0 for 0.
+#[unsafe(no_mangle)]
+pub extern "C" fn bf_gf2_inverse(values: &[u8], inverses: &mut [u8]) -> u32
+    ensures { Inverts (level_field 0) values.now inverses.old inverses.new result }
+{
+    slices::invert::<u8, Gf2>(values, inverses)
+}
+
+/// The same as inverse, by one inverse and three products an element.
+#[unsafe(no_mangle)]
+pub extern "C" fn bf_gf2_batch_inverse(values: &[u8], inverses: &mut [u8]) -> u32
+    ensures { Inverts (level_field 0) values.now inverses.old inverses.new result }
+{
+    batch_invert::<u8, Gf2>(values, inverses)
+}
+
+/// The square root of each element.
+#[unsafe(no_mangle)]
+pub extern "C" fn bf_gf2_square_root(values: &[u8], roots: &mut [u8]) -> u32
+    ensures { TakesRoots (level_field 0) values.now roots.old roots.new result }
+{
+    slices::square_root::<u8, Gf2>(values, roots)
+}
+
+/// Each element to the power of the exponent; to the power 0 it is 1.
+#[unsafe(no_mangle)]
+pub extern "C" fn bf_gf2_power(values: &[u8], exponent: u64, powers: &mut [u8]) -> u32
+    ensures { RaisesTo (level_field 0) exponent values.now powers.old powers.new result }
+{
+    slices::power::<u8, Gf2>(values, exponent, powers)
+}
+
+/// The product of all elements, 1 of none.
+#[unsafe(no_mangle)]
+pub extern "C" fn bf_gf2_product(values: &[u8], product: &mut u8) -> u32
+    ensures { TakesProduct (level_field 0) values.now product.old product.new result }
+{
+    slices::product::<u8, Gf2>(values, product)
+}
+
+/// The sum of the products at each place, 0 of none.
+#[unsafe(no_mangle)]
+pub extern "C" fn bf_gf2_dot_product(left: &[u8], right: &[u8], sum: &mut u8) -> u32
+    ensures { TakesDotProduct (level_field 0) left.now right.now sum.old sum.new result }
+{
+    slices::dot_product::<u8, Gf2>(left, right, sum)
+}
+
+/// The value at each point of the polynomial with these coefficients, the constant one first; any number of coefficients.
+#[unsafe(no_mangle)]
+pub extern "C" fn bf_gf2_evaluate(coefficients: &[u8], points: &[u8], values: &mut [u8]) -> u32
+    ensures { Evaluates (level_field 0) coefficients.now points.now values.old values.new result }
+{
+    slices::evaluate::<u8, Gf2>(coefficients, points, values)
+}
+
+/// The generator of the field's multiplicative group that the library names.
+#[unsafe(no_mangle)]
+pub extern "C" fn bf_gf2_generator(generator: &mut u8) -> u32
+    ensures { NamesGenerator (level_field 0) generator.new result }
+{
+    slices::generator::<u8, Gf2>(generator)
+}

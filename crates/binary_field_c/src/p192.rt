@@ -1,0 +1,118 @@
+// Calls over slices of elements of GF(2^64)[y] modulo y^3 + y + 1 over p64, the coefficient of 1 first.
+ghost use Rattle.c_slices.specs.Calls.{Adds, AddsScaled, Evaluates, Inverts, Multiplies, MultipliesBy, NamesGenerator};
+ghost use Rattle.c_slices.specs.Calls.{RaisesTo, Squares, TakesDotProduct, TakesProduct, TakesRoots};
+ghost use Rattle.c_slices.specs.Fields.{cubic_field};
+
+use c_slices::{Cubic, CubicField, batch_invert, slices};
+
+/// The sum of the elements at each place.
+#[unsafe(no_mangle)]
+pub extern "C" fn bf_p192_add(left: &[Cubic], right: &[Cubic], sums: &mut [Cubic]) -> u32
+    ensures { Adds cubic_field left.now right.now sums.old sums.new result }
+{
+    slices::add::<Cubic, CubicField>(left, right, sums)
+}
+
+/// The product of the elements at each place.
+#[unsafe(no_mangle)]
+pub extern "C" fn bf_p192_multiply(left: &[Cubic], right: &[Cubic], products: &mut [Cubic]) -> u32
+    ensures { Multiplies cubic_field left.now right.now products.old products.new result }
+{
+    slices::multiply::<Cubic, CubicField>(left, right, products)
+}
+
+/// The product of each element and the scalar.
+#[unsafe(no_mangle)]
+pub extern "C" fn bf_p192_multiply_by(
+    values: &[Cubic],
+    scalar: &Cubic,
+    products: &mut [Cubic],
+) -> u32
+    ensures { MultipliesBy cubic_field scalar.now values.now products.old products.new result }
+{
+    slices::multiply_by::<Cubic, CubicField>(values, *scalar, products)
+}
+
+/// Adds to each element of sums the scalar times the value at its place.
+#[unsafe(no_mangle)]
+pub extern "C" fn bf_p192_add_scaled(sums: &mut [Cubic], scalar: &Cubic, values: &[Cubic]) -> u32
+    ensures { AddsScaled cubic_field scalar.now values.now sums.old sums.new result }
+{
+    slices::add_scaled::<Cubic, CubicField>(sums, *scalar, values)
+}
+
+/// The square of each element.
+#[unsafe(no_mangle)]
+pub extern "C" fn bf_p192_square(values: &[Cubic], squares: &mut [Cubic]) -> u32
+    ensures { Squares cubic_field values.now squares.old squares.new result }
+{
+    slices::square::<Cubic, CubicField>(values, squares)
+}
+
+/// The inverse of each element, and 0 for 0.
+#[unsafe(no_mangle)]
+pub extern "C" fn bf_p192_inverse(values: &[Cubic], inverses: &mut [Cubic]) -> u32
+    ensures { Inverts cubic_field values.now inverses.old inverses.new result }
+{
+    slices::invert::<Cubic, CubicField>(values, inverses)
+}
+
+/// The same as inverse, by one inverse and three products an element.
+#[unsafe(no_mangle)]
+pub extern "C" fn bf_p192_batch_inverse(values: &[Cubic], inverses: &mut [Cubic]) -> u32
+    ensures { Inverts cubic_field values.now inverses.old inverses.new result }
+{
+    batch_invert::<Cubic, CubicField>(values, inverses)
+}
+
+/// The square root of each element.
+#[unsafe(no_mangle)]
+pub extern "C" fn bf_p192_square_root(values: &[Cubic], roots: &mut [Cubic]) -> u32
+    ensures { TakesRoots cubic_field values.now roots.old roots.new result }
+{
+    slices::square_root::<Cubic, CubicField>(values, roots)
+}
+
+/// Each element to the power of the exponent; to the power 0 it is 1.
+#[unsafe(no_mangle)]
+pub extern "C" fn bf_p192_power(values: &[Cubic], exponent: u64, powers: &mut [Cubic]) -> u32
+    ensures { RaisesTo cubic_field exponent values.now powers.old powers.new result }
+{
+    slices::power::<Cubic, CubicField>(values, exponent, powers)
+}
+
+/// The product of all elements, 1 of none.
+#[unsafe(no_mangle)]
+pub extern "C" fn bf_p192_product(values: &[Cubic], product: &mut Cubic) -> u32
+    ensures { TakesProduct cubic_field values.now product.old product.new result }
+{
+    slices::product::<Cubic, CubicField>(values, product)
+}
+
+/// The sum of the products at each place, 0 of none.
+#[unsafe(no_mangle)]
+pub extern "C" fn bf_p192_dot_product(left: &[Cubic], right: &[Cubic], sum: &mut Cubic) -> u32
+    ensures { TakesDotProduct cubic_field left.now right.now sum.old sum.new result }
+{
+    slices::dot_product::<Cubic, CubicField>(left, right, sum)
+}
+
+/// The value at each point of the polynomial with these coefficients, the constant one first; any number of coefficients.
+#[unsafe(no_mangle)]
+pub extern "C" fn bf_p192_evaluate(
+    coefficients: &[Cubic],
+    points: &[Cubic],
+    values: &mut [Cubic],
+) -> u32
+    ensures { Evaluates cubic_field coefficients.now points.now values.old values.new result }
+{
+    slices::evaluate::<Cubic, CubicField>(coefficients, points, values)
+}
+
+/// The generator of the field's multiplicative group that the library names.
+#[unsafe(no_mangle)]
+pub extern "C" fn bf_p192_generator(generator: &mut Cubic) -> u32
+    ensures { NamesGenerator cubic_field generator.new result }
+{
+    slices::generator::<Cubic, CubicField>(generator)
+}

@@ -1,0 +1,8 @@
+use Rattle.std.proofs.Common.{length}
+use Rattle.c_calls.proofs.Room.{transform_room}
+use Rattle.c_calls.proofs.transforms.inverse_transform.Goals as goal
+
+pub inverse_with-requires : goal.inverse_with-requires
+inverse_with-requires c =
+    transform_room (length c.args.values.now) c.pair_by_pair.result.products c.pair_by_pair.ensures
+    (c.has_stages.ensures.0 c.if-not-has_stages.false)

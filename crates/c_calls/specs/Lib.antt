@@ -1,0 +1,4 @@
+pub mod Bytes
+pub mod Linear
+pub mod Transforms
+pub mod WideLemmas

@@ -1,0 +1,4 @@
+pub mod Batch
+pub mod Calls
+pub mod Fields
+pub mod Fits
