@@ -271,7 +271,10 @@ class FieldArray(metaclass=_Constants):
             scalar, values = (left, right) if left.ndim == 0 else (right, left)
             return values.scaled(scalar)
         if left.shape != right.shape:
-            shape = np.broadcast_shapes(left.shape, right.shape)
+            try:
+                shape = np.broadcast_shapes(left.shape, right.shape)
+            except ValueError as error:
+                raise ValueError(f"arrays of the shapes {left.shape} and {right.shape} do not fit each other") from error
             left, right = left._broadcast(shape), right._broadcast(shape)
         result = self._empty(left.shape)
         call(f"{self._name}_{function}", left._words, right._words, result._words)
