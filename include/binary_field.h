@@ -9,14 +9,15 @@
  *
  * Arrays. An array is a pointer and a length, which counts elements and not bytes. No pointer may be NULL, not even beside a
  * length of 0: give the address of anything of the type. Each pointer is aligned as C aligns its type. An array or a result that
- * a function writes may overlap no other array, result or scalar of the same call; arrays that are only read may overlap each other.
- * Where a function's comment says nothing of lengths, every length will do.
+ * a function writes may overlap no other array, result or scalar of the same call; what is only read may overlap each other.
+ * A comment begins with the name of what the function writes. Where it says nothing of lengths, every length will do.
  *
- * Statuses. Every function but bf_version returns a status; its comment begins with the name of what is written. On a status that is not BF_OK everything that the function could
- * write is as before the call. The first status applies, in the order in which a function's comment names them.
+ * Statuses. Every function but bf_version returns a status. On a status that is not BF_OK everything that the function could
+ * write is as before the call. The first status applies, in the order in which a function's comment names them. No function of
+ * this version takes memory, so that none returns BF_MEMORY.
  *
- * Threads. A call reads and writes its arguments alone and keeps nothing, so that calls of different threads never meet, as long
- * as no thread writes what another reads or writes. Nothing is claimed on timing.
+ * Threads. A call reads and writes its arguments alone and keeps nothing, so that threads may call at the same time, as long as
+ * none writes what another reads or writes. Nothing is claimed on timing.
  */
 #ifndef BINARY_FIELD_H
 #define BINARY_FIELD_H
@@ -880,7 +881,7 @@ uint32_t bf_r8_linear_map(
     size_t mapped_length) BF_NONNULL;
 
 /* mapped: for each word the sum of the images at its set bits; 128 images, that of bit 0 first. BF_LENGTH unless values and
- * mapped have one length, and there are 128 images. BF_MEMORY if memory is refused. */
+ * mapped have one length, and there are 128 images. */
 uint32_t bf_g128_linear_map(
     const bf_u128 *values, size_t values_length, const bf_u128 *images, size_t images_length, bf_u128 *mapped,
     size_t mapped_length) BF_NONNULL;
@@ -901,14 +902,14 @@ uint32_t bf_g128_butterfly_inverse(
     bf_u128 *low, size_t low_length, bf_u128 *high, size_t high_length, const bf_u128 *scalar) BF_NONNULL;
 
 /* The four lowest stages of an additive transform over runs of sixteen values, the first of which is run first_run.
- * BF_LENGTH unless values has a multiple of 16, shifts 4 and basis at least 3; where there are values, the number of the
- * last run is below 2 to the power of 3 less than the length of basis. BF_MEMORY if memory is refused. */
+ * BF_LENGTH unless values has a multiple of 16, shifts 4 and basis 3 to 128; where there are values, the number of the last
+ * run is below 2 to the power of 3 less than the length of basis. */
 uint32_t bf_g128_low_stages(
     bf_u128 *values, size_t values_length, const bf_u128 *shifts, size_t shifts_length, const bf_u128 *basis,
     size_t basis_length, uint64_t first_run) BF_NONNULL;
 
 /* The value at each of 2^m points of the polynomial with these coefficients in the basis of subspace polynomials. BF_LENGTH
- * unless values has 2^m elements, for an m from 0 to 40. BF_MEMORY if memory is refused. */
+ * unless values has 2^m elements, for an m from 0 to 40. */
 uint32_t bf_g128_transform(
     bf_u128 *values, size_t values_length, const bf_u128 *shift) BF_NONNULL;
 
@@ -933,7 +934,7 @@ uint32_t bf_tag_polyval(
     size_t hash_length) BF_NONNULL;
 
 /* hash: the hash of GCM over associated data and ciphertext with the block of their lengths; key and hash have 16 bytes.
- * BF_LENGTH unless key and hash have 16 bytes. */
+ * BF_LENGTH unless key and hash have 16 bytes, and associated and ciphertext below 2^61 each. */
 uint32_t bf_tag_gcm_ghash(
     const uint8_t *key, size_t key_length, const uint8_t *associated, size_t associated_length,
     const uint8_t *ciphertext, size_t ciphertext_length, uint8_t *hash, size_t hash_length) BF_NONNULL;

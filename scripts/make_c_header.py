@@ -23,21 +23,18 @@ LENGTHS = {
     "evaluate": "points and values have one length",
     "r8_linear_map": "values and mapped have one length, and there are 8 images",
     "g128_linear_map": "values and mapped have one length, and there are 128 images",
-    "low_stages": "values has a multiple of 16, shifts 4 and basis at least 3; where there are values, the number of the last run is "
+    "low_stages": "values has a multiple of 16, shifts 4 and basis 3 to 128; where there are values, the number of the last run is "
     "below 2 to the power of 3 less than the length of basis",
     "transform": "values has 2^m elements, for an m from 0 to 40",
     "tag_ghash": "key and hash have 16 bytes",
     "tag_polyval": "key and hash have 16 bytes",
-    "tag_gcm_ghash": "key and hash have 16 bytes",
+    "tag_gcm_ghash": "key and hash have 16 bytes, and associated and ciphertext below 2^61 each",
     "tags_are_equal": "",
     "rs_encode": "shards has a multiple, but not 0, of data + parity bytes",
     "rs_verify": "shards has a multiple, but not 0, of data + parity bytes",
     "reconstruct": "shards has a multiple, but not 0, of data + parity bytes, and present has data + parity",
     "reconstruct_data": "shards has a multiple, but not 0, of data + parity bytes, and present has data + parity",
 }
-# What takes memory; the ends of names.
-TAKE_MEMORY = ("g128_transform", "g128_low_stages", "g128_linear_map")
-
 
 def lengths_of(name, parameters):
     """What has to hold of the lengths, or nothing where every length will do."""
@@ -59,8 +56,6 @@ def statuses_of(name, parameters, bits):
         yield "BF_LENGTH", lengths
     if bits < 8 and any(it[0] in ("in", "inout", "scalar") for it in parameters):
         yield "BF_NOT_AN_ELEMENT", f"each word that is read is below {1 << bits}"
-    if name.endswith(TAKE_MEMORY):
-        yield "BF_MEMORY", ""
     if "reconstruct" in name:
         yield "BF_TOO_FEW_SHARDS", "at least as many entries of present as data are not 0"
 
@@ -81,11 +76,7 @@ def told(name, parameters, bits, text):
     names = [it[1] for it in parameters]
     words = [f"{written[0]}: {text}." if written else f"{text}." if text.split()[0] in names else sentence(text)]
     for status, condition in statuses_of(name, parameters, bits):
-        words.append(
-            f"{status} if memory is refused." if status == "BF_MEMORY"
-            else f"{status} if {condition}." if status == "BF_CODE"
-            else f"{status} unless {condition}."
-        )
+        words.append(f"{status} {'if' if status == 'BF_CODE' else 'unless'} {condition}.")
     return " ".join(words)
 
 
@@ -222,14 +213,15 @@ HEAD = """\
  *
  * Arrays. An array is a pointer and a length, which counts elements and not bytes. No pointer may be NULL, not even beside a
  * length of 0: give the address of anything of the type. Each pointer is aligned as C aligns its type. An array or a result that
- * a function writes may overlap no other array, result or scalar of the same call; arrays that are only read may overlap each other.
- * Where a function's comment says nothing of lengths, every length will do.
+ * a function writes may overlap no other array, result or scalar of the same call; what is only read may overlap each other.
+ * A comment begins with the name of what the function writes. Where it says nothing of lengths, every length will do.
  *
- * Statuses. Every function but bf_version returns a status; its comment begins with the name of what is written. On a status that is not BF_OK everything that the function could
- * write is as before the call. The first status applies, in the order in which a function's comment names them.
+ * Statuses. Every function but bf_version returns a status. On a status that is not BF_OK everything that the function could
+ * write is as before the call. The first status applies, in the order in which a function's comment names them. No function of
+ * this version takes memory, so that none returns BF_MEMORY.
  *
- * Threads. A call reads and writes its arguments alone and keeps nothing, so that calls of different threads never meet, as long
- * as no thread writes what another reads or writes. Nothing is claimed on timing.
+ * Threads. A call reads and writes its arguments alone and keeps nothing, so that threads may call at the same time, as long as
+ * none writes what another reads or writes. Nothing is claimed on timing.
  */
 #ifndef BINARY_FIELD_H
 #define BINARY_FIELD_H

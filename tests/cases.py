@@ -302,6 +302,10 @@ def status_cases(cases):
     for runs, first in ((1, 4), (2, 3), (5, 0), (1, (1 << 64) - 1), (2, (1 << 64) - 1)):
         values, shifts, basis = (drawn(field, draw, it) for it in (16 * runs, 4, 5))
         yield case("g128_low_stages", (values, values), shifts, basis, first, status="BF_LENGTH")
+    # Of a number of a run no bit stands for an element past the 128th.
+    values, shifts, basis = (drawn(field, draw, it) for it in (16, 4, 129))
+    yield case("g128_low_stages", (values, definitions.low_stages(values, shifts, basis[:128], 7)), shifts, basis[:128], 7)
+    yield case("g128_low_stages", (values, values), shifts, basis, 7, status="BF_LENGTH")
 
 
 def all_cases():

@@ -1323,7 +1323,7 @@ unsafe extern "C" {
         mapped_length: usize,
     ) -> u32;
     /// mapped: for each word the sum of the images at its set bits; 128 images, that of bit 0 first. BF_LENGTH unless
-    /// values and mapped have one length, and there are 128 images. BF_MEMORY if memory is refused.
+    /// values and mapped have one length, and there are 128 images.
     pub fn bf_g128_linear_map(
         values: *const [u64; 2],
         values_length: usize,
@@ -1349,9 +1349,8 @@ unsafe extern "C" {
         scalar: *const [u64; 2],
     ) -> u32;
     /// The four lowest stages of an additive transform over runs of sixteen values, the first of which is run
-    /// first_run. BF_LENGTH unless values has a multiple of 16, shifts 4 and basis at least 3; where there are
-    /// values, the number of the last run is below 2 to the power of 3 less than the length of basis. BF_MEMORY if
-    /// memory is refused.
+    /// first_run. BF_LENGTH unless values has a multiple of 16, shifts 4 and basis 3 to 128; where there are values,
+    /// the number of the last run is below 2 to the power of 3 less than the length of basis.
     pub fn bf_g128_low_stages(
         values: *mut [u64; 2],
         values_length: usize,
@@ -1362,7 +1361,7 @@ unsafe extern "C" {
         first_run: u64,
     ) -> u32;
     /// The value at each of 2^m points of the polynomial with these coefficients in the basis of subspace
-    /// polynomials. BF_LENGTH unless values has 2^m elements, for an m from 0 to 40. BF_MEMORY if memory is refused.
+    /// polynomials. BF_LENGTH unless values has 2^m elements, for an m from 0 to 40.
     pub fn bf_g128_transform(
         values: *mut [u64; 2],
         values_length: usize,
@@ -1396,7 +1395,7 @@ unsafe extern "C" {
         hash_length: usize,
     ) -> u32;
     /// hash: the hash of GCM over associated data and ciphertext with the block of their lengths; key and hash have
-    /// 16 bytes. BF_LENGTH unless key and hash have 16 bytes.
+    /// 16 bytes. BF_LENGTH unless key and hash have 16 bytes, and associated and ciphertext below 2^61 each.
     pub fn bf_tag_gcm_ghash(
         key: *const u8,
         key_length: usize,
