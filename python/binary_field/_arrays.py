@@ -178,7 +178,7 @@ class FieldArray(metaclass=_Constants):
 
     @property
     def size(self) -> int:
-        return int(np.prod(self.shape, dtype=np.int64))
+        return self._words.size // WORDS[self._word][1]
 
     @property
     def nbytes(self) -> int:
@@ -261,22 +261,22 @@ class FieldArray(metaclass=_Constants):
         if isinstance(value, FieldArray):
             return cls._operand(value)
         if isinstance(value, (int, np.integer)) and value in (0, 1):
-            return cls(int(value))
+            return cls.ones(()) if value else cls._empty(())
         raise TypeError(f"the other operand has to be of {cls.__name__}, or 0 or 1: {cls.__name__}(..) makes elements of representations")
 
     def _elementwise(self: A, function: str, other: A) -> A:
         """A function of two arrays, after broadcasting."""
         left, right = self, other
-        if function == "multiply" and 0 in (left.ndim, right.ndim):
-            scalar, values = (left, right) if left.ndim == 0 else (right, left)
-            return values.scaled(scalar)
-        if left.shape != right.shape:
+        if left._words.shape != right._words.shape:
+            if function == "multiply" and 0 in (left.ndim, right.ndim):
+                scalar, values = (left, right) if left.ndim == 0 else (right, left)
+                return values.scaled(scalar)
             try:
                 shape = np.broadcast_shapes(left.shape, right.shape)
             except ValueError as error:
                 raise ValueError(f"arrays of the shapes {left.shape} and {right.shape} do not fit each other") from error
             left, right = left._broadcast(shape), right._broadcast(shape)
-        result = self._empty(left.shape)
+        result = self._of(np.empty_like(left._words))
         call(f"{self._name}_{function}", left._words, right._words, result._words)
         return result
 
@@ -286,7 +286,7 @@ class FieldArray(metaclass=_Constants):
 
     def _each(self: A, function: str, *more: int) -> A:
         """A function of each element."""
-        result = self._empty(self.shape)
+        result = self._of(np.empty_like(self._words))
         call(f"{self._name}_{function}", self._words, *more, result._words)
         return result
 
@@ -328,7 +328,8 @@ class FieldArray(metaclass=_Constants):
         return self * self._other(other).reciprocal()
 
     def __rtruediv__(self: A, other: Any) -> A:
-        return self._other(other) * self.reciprocal()
+        inverses = self.reciprocal()
+        return inverses if isinstance(other, int) and other == 1 else self._other(other) * inverses
 
     def __pow__(self: A, exponent: Any) -> A:
         """Each element to the power of one integer, of any size; a negative one is a power of the inverses."""
@@ -359,8 +360,7 @@ class FieldArray(metaclass=_Constants):
 
     def reciprocal(self: A) -> A:
         """The inverse of each element; ZeroDivisionError where one is 0."""
-        is_zero = (self._words == 0).all(axis=-1) if self._inner() else self._words == 0
-        if is_zero.any():
+        if not (self._words.any(axis=-1) if self._inner() else self._words).all():
             raise ZeroDivisionError(f"0 of {type(self).__name__} has no inverse")
         return self.inverse_or_zero()
 

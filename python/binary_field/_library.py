@@ -45,29 +45,43 @@ def _types(kind: str, word: str) -> list:
     return [NARROW[word]] if kind == "number" or (kind == "scalar" and word in NARROW) else [ctypes.c_void_p]
 
 
-_CALLED = _load()
+# Of each function itself, and of each parameter its name, whether it is a plain number, an array, and written, the type of numpy
+# that holds a word, and how many of them do.
+_CALLED = {
+    name: (
+        function,
+        [
+            (parameter, kind == "number" or (kind == "scalar" and word in NARROW), kind in ARRAYS, kind in ("inout", "out", "result"),
+             np.dtype(WORDS[word][0]), WORDS[word][1])
+            for kind, parameter, word in FUNCTIONS[name]
+        ],
+    )
+    for name, function in _load().items()
+}
 
 
 def call(name: str, *arguments) -> None:
     """Calls a function. An array is a contiguous array of numpy of the function's words, where a word of 128 or 192 bits is the
-    last axis; a scalar up to 64 bits and a number are integers, and every other scalar and result is an array of one element."""
+    last axis; a scalar up to 64 bits and a number are integers, and every other scalar and result is an array of one element.
+
+    What the library reads and writes is exactly what numpy holds: this is the one place that hands out an address."""
+    function, parameters = _CALLED[name]
     given: list = []
-    for (kind, parameter, word), value in zip(FUNCTIONS[name], arguments, strict=True):
-        if kind == "number" or (kind == "scalar" and word in NARROW):
-            given.append(int(value))
+    for (parameter, is_plain, is_array, is_written, dtype, count), value in zip(parameters, arguments, strict=True):
+        if is_plain:
+            given.append(value)
             continue
-        dtype, count = WORDS[word]
-        # What the library reads and writes is exactly what numpy holds: this is the one place that hands out an address.
-        if value.dtype != dtype or not value.flags.c_contiguous or not value.flags.aligned or value.size % count:
-            raise TypeError(f"{name}: {parameter} is no contiguous array of {dtype.__name__}")
-        if kind in ("inout", "out", "result") and not value.flags.writeable:
+        flags, size = value.flags, value.size
+        if value.dtype != dtype or not flags.c_contiguous or not flags.aligned or size % count:
+            raise TypeError(f"{name}: {parameter} is no contiguous array of {dtype}")
+        if is_written and not flags.writeable:
             raise ValueError(f"{name}: {parameter} is read-only")
-        given.append(value.ctypes.data if value.size else ctypes.addressof(EMPTY))
-        if kind in ARRAYS:
-            given.append(value.size // count)
-        elif value.size != count:
+        given.append(value.__array_interface__["data"][0] if size else ctypes.addressof(EMPTY))
+        if is_array:
+            given.append(size // count)
+        elif size != count:
             raise TypeError(f"{name}: {parameter} is one element")
-    status = _CALLED[name](*given)
+    status = function(*given)
     if status:
         short, text = STATUSES[status]
         raise MemoryError(f"{name}: {text}") if short == "BF_MEMORY" else ValueError(f"{name}: {text}")
