@@ -3,6 +3,7 @@
 
     include/binary_field.h               for C99 and C++
     python/binary_field/_functions.py    the functions with their parameters, for ctypes
+    python/binary_field/_fields.py       a class for each field
     rust/src/functions.rs                the functions as Rust declares foreign ones
 """
 
@@ -17,6 +18,11 @@ VERSION = (0, 1, 0)
 POINTERS = {"in": "const ", "inout": "", "out": "", "result": ""}
 ARRAYS = ("in", "inout", "out")
 RUST_WORDS = {"u8": "u8", "u16": "u16", "u32": "u32", "u64": "u64", "u128": "[u64; 2]", "u192": "[u64; 3]"}
+# The names that the fields have for users of the library.
+CLASSES = {
+    "gf2": "Gf2", "t2": "BinaryField2", "t4": "BinaryField4", "t8": "BinaryField8", "t16": "BinaryField16", "t32": "BinaryField32",
+    "t64": "BinaryField64", "t128": "BinaryField128", "r8": "Rijndael8b", "p64": "Poly64", "g128": "Ghash128", "p192": "Poly192",
+}
 
 # Which lengths a function takes, where they are not all the same, by the end of its name.
 LENGTHS = {
@@ -172,13 +178,20 @@ def python_functions():
     out = [PYTHON_HEAD, f"VERSION = {(VERSION[0] << 16) + (VERSION[1] << 8) + VERSION[2]}\n\n"]
     out.append("# The name of each status, and its sentence.\nSTATUSES: dict[int, tuple[str, str]] = {\n")
     out += [f'    {value}: ("{name}", "{text}"),\n' for name, value, text in c_library.STATUSES]
-    out.append("}\n\n# A field's name in the library, its word, its degree, and what it is.\nFIELDS: list[tuple[str, str, int, str]] = [\n")
-    out += [f'    ("{name}", "{word}", {bits}, "{text}"),\n' for name, word, bits, text in c_library.FIELDS]
-    out.append("]\n\n# The parameters of each function: kind, name and word.\nFUNCTIONS: dict[str, list[tuple[str, str, str]]] = {\n")
+    out.append("}\n\n# The parameters of each function: kind, name and word.\nFUNCTIONS: dict[str, list[tuple[str, str, str]]] = {\n")
     for name, parameters, _ in c_library.functions():
         row = ", ".join(f'("{kind}", "{it}", "{word}")' for kind, it, word in parameters)
         out.append(f'    "{name}": [{row}],\n')
     return "".join([*out, "}\n"])
+
+
+def python_fields():
+    """The classes of the fields."""
+    out = [PYTHON_FIELDS_HEAD]
+    for name, word, bits, text in c_library.FIELDS:
+        out.append(f'\n\nclass {CLASSES[name]}(FieldArray):\n    """Arrays over {text}."""\n\n')
+        out.append(f'    degree = {bits}\n    _name = "{name}"\n    _word = "{word}"\n')
+    return "".join(out)
 
 
 def rust_functions():
@@ -268,6 +281,12 @@ PYTHON_HEAD = '''\
 # The version that this package belongs to.
 '''
 
+PYTHON_FIELDS_HEAD = '''\
+"""The fields, each a class of arrays. Written by scripts/make_c_header.py from scripts/c_library.py; do not edit."""
+
+from ._arrays import FieldArray
+'''
+
 RUST_HEAD = """\
 //! The functions of libbinary_field. Written by scripts/make_c_header.py from scripts/c_library.py; do not edit.
 //!
@@ -278,8 +297,13 @@ RUST_HEAD = """\
 
 
 def main():
-    """Writes the three files, or compares them."""
-    wanted = {"include/binary_field.h": header(), "python/binary_field/_functions.py": python_functions(), "rust/src/functions.rs": rust_functions()}
+    """Writes the files, or compares them."""
+    wanted = {
+        "include/binary_field.h": header(),
+        "python/binary_field/_functions.py": python_functions(),
+        "python/binary_field/_fields.py": python_fields(),
+        "rust/src/functions.rs": rust_functions(),
+    }
     for place, text in wanted.items():
         path = TOP / place
         if "--check" in sys.argv[1:]:

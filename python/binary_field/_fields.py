@@ -1,31 +1,99 @@
-"""The fields, each a class of arrays."""
+"""The fields, each a class of arrays. Written by scripts/make_c_header.py from scripts/c_library.py; do not edit."""
 
 from ._arrays import FieldArray
-from ._functions import FIELDS
-
-# The class of each field of the library.
-_NAMES = {
-    "gf2": "Gf2", "t2": "BinaryField2", "t4": "BinaryField4", "t8": "BinaryField8", "t16": "BinaryField16", "t32": "BinaryField32",
-    "t64": "BinaryField64", "t128": "BinaryField128", "r8": "Rijndael8b", "p64": "Poly64", "g128": "Ghash128", "p192": "Poly192",
-}
 
 
-def _field(name: str, word: str, degree: int, text: str) -> type[FieldArray]:
-    members = {"__doc__": f"Arrays over {text}.", "__module__": "binary_field", "degree": degree, "_name": name, "_word": word}
-    return type(FieldArray)(_NAMES[name], (FieldArray,), members)
+class Gf2(FieldArray):
+    """Arrays over GF(2)."""
+
+    degree = 1
+    _name = "gf2"
+    _word = "u8"
 
 
-_ALL = {_NAMES[name]: _field(name, word, degree, text) for name, word, degree, text in FIELDS}
+class BinaryField2(FieldArray):
+    """Arrays over GF(2^2), a level of the tower."""
 
-Gf2 = _ALL["Gf2"]
-BinaryField2 = _ALL["BinaryField2"]
-BinaryField4 = _ALL["BinaryField4"]
-BinaryField8 = _ALL["BinaryField8"]
-BinaryField16 = _ALL["BinaryField16"]
-BinaryField32 = _ALL["BinaryField32"]
-BinaryField64 = _ALL["BinaryField64"]
-BinaryField128 = _ALL["BinaryField128"]
-Rijndael8b = _ALL["Rijndael8b"]
-Poly64 = _ALL["Poly64"]
-Ghash128 = _ALL["Ghash128"]
-Poly192 = _ALL["Poly192"]
+    degree = 2
+    _name = "t2"
+    _word = "u8"
+
+
+class BinaryField4(FieldArray):
+    """Arrays over GF(2^4), a level of the tower."""
+
+    degree = 4
+    _name = "t4"
+    _word = "u8"
+
+
+class BinaryField8(FieldArray):
+    """Arrays over GF(2^8), a level of the tower."""
+
+    degree = 8
+    _name = "t8"
+    _word = "u8"
+
+
+class BinaryField16(FieldArray):
+    """Arrays over GF(2^16), a level of the tower."""
+
+    degree = 16
+    _name = "t16"
+    _word = "u16"
+
+
+class BinaryField32(FieldArray):
+    """Arrays over GF(2^32), a level of the tower."""
+
+    degree = 32
+    _name = "t32"
+    _word = "u32"
+
+
+class BinaryField64(FieldArray):
+    """Arrays over GF(2^64), a level of the tower."""
+
+    degree = 64
+    _name = "t64"
+    _word = "u64"
+
+
+class BinaryField128(FieldArray):
+    """Arrays over GF(2^128), a level of the tower."""
+
+    degree = 128
+    _name = "t128"
+    _word = "u128"
+
+
+class Rijndael8b(FieldArray):
+    """Arrays over GF(2)[x] modulo x^8 + x^4 + x^3 + x + 1, the bytes of AES (FIPS 197)."""
+
+    degree = 8
+    _name = "r8"
+    _word = "u8"
+
+
+class Poly64(FieldArray):
+    """Arrays over GF(2)[x] modulo x^64 + x^4 + x^3 + x + 1."""
+
+    degree = 64
+    _name = "p64"
+    _word = "u64"
+
+
+class Ghash128(FieldArray):
+    """Arrays over GF(2)[x] modulo x^128 + x^7 + x^2 + x + 1, the field of GHASH (NIST SP 800-38D), bit i for x^i."""
+
+    degree = 128
+    _name = "g128"
+    _word = "u128"
+
+
+class Poly192(FieldArray):
+    """Arrays over GF(2^64)[y] modulo y^3 + y + 1 over p64, the coefficient of 1 first."""
+
+    degree = 192
+    _name = "p192"
+    _word = "u192"

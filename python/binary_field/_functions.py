@@ -13,22 +13,6 @@ STATUSES: dict[int, tuple[str, str]] = {
     5: ("BF_TOO_FEW_SHARDS", "fewer shards are present than the data have"),
 }
 
-# A field's name in the library, its word, its degree, and what it is.
-FIELDS: list[tuple[str, str, int, str]] = [
-    ("gf2", "u8", 1, "GF(2)"),
-    ("t2", "u8", 2, "GF(2^2), a level of the tower"),
-    ("t4", "u8", 4, "GF(2^4), a level of the tower"),
-    ("t8", "u8", 8, "GF(2^8), a level of the tower"),
-    ("t16", "u16", 16, "GF(2^16), a level of the tower"),
-    ("t32", "u32", 32, "GF(2^32), a level of the tower"),
-    ("t64", "u64", 64, "GF(2^64), a level of the tower"),
-    ("t128", "u128", 128, "GF(2^128), a level of the tower"),
-    ("r8", "u8", 8, "GF(2)[x] modulo x^8 + x^4 + x^3 + x + 1, the bytes of AES (FIPS 197)"),
-    ("p64", "u64", 64, "GF(2)[x] modulo x^64 + x^4 + x^3 + x + 1"),
-    ("g128", "u128", 128, "GF(2)[x] modulo x^128 + x^7 + x^2 + x + 1, the field of GHASH (NIST SP 800-38D), bit i for x^i"),
-    ("p192", "u192", 192, "GF(2^64)[y] modulo y^3 + y + 1 over p64, the coefficient of 1 first"),
-]
-
 # The parameters of each function: kind, name and word.
 FUNCTIONS: dict[str, list[tuple[str, str, str]]] = {
     "gf2_add": [("in", "left", "u8"), ("in", "right", "u8"), ("out", "sums", "u8")],
