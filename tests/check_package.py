@@ -12,10 +12,7 @@ import numpy as np
 
 import binary_field as bf
 
-FIELDS = {
-    "gf2": bf.Gf2, "t2": bf.BinaryField2, "t4": bf.BinaryField4, "t8": bf.BinaryField8, "t16": bf.BinaryField16, "t32": bf.BinaryField32,
-    "t64": bf.BinaryField64, "t128": bf.BinaryField128, "r8": bf.Rijndael8b, "p64": bf.Poly64, "g128": bf.Ghash128, "p192": bf.Poly192,
-}
+FIELDS = {name: getattr(bf, title) for name, title in definitions.make_c_header.CLASSES.items()}
 
 
 def every_field():
