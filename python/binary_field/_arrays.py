@@ -218,8 +218,10 @@ class FieldArray(metaclass=_Constants):
         flat[:] = [int.from_bytes(data[at : at + size], "little") for at in range(0, len(data), size)]
         return flat.reshape(self.shape).tolist()
 
-    def __array__(self, dtype: Any = None) -> np.ndarray:
-        """The representations: unsigned integers, and above 64 bits integers of Python."""
+    def __array__(self, dtype: Any = None, copy: bool | None = None) -> np.ndarray:
+        """The representations, copied: unsigned integers, and above 64 bits integers of Python."""
+        if copy is False:
+            raise ValueError("the elements of a field are not an array of numpy without a copy")
         values = self._words if not self._inner() else np.array(self.tolist(), dtype=object).reshape(self.shape)
         return np.array(values, dtype=dtype)
 
