@@ -1,6 +1,6 @@
 """Times the Python package beside code of numpy by tables, as one writes it by hand: python.py [COUNT] [SAMPLES].
 
-    scripts/build-library build && PYTHONPATH=python BINARY_FIELD_LIBRARY=build/lib/libbinary_field.so python3 bench/python.py
+    scripts/build-library build && PYTHONPATH=python BINARY_FIELD_LIBRARY=build/lib python3 bench/python.py
 
 It prints nanoseconds a product over arrays of COUNT elements (a million), the least of SAMPLES samples (7), the two sides by
 turns, and whether both computed the same; then microseconds of calls of one element, and milliseconds of transforms. By hand, a
@@ -136,12 +136,11 @@ def ghash128(x, y):
     mixed = carryless(64, x[:, 0] ^ x[:, 1], y[:, 0] ^ y[:, 1])
     parts = [low[0], low[1] ^ mixed[0] ^ low[0] ^ high[0], high[0] ^ mixed[1] ^ low[1] ^ high[1], high[1]]
     tail = (0, 1, 2, 7)
+    # The highest word first, since what spills out of its fold comes into the next.
     for at in (3, 2):
         more, spill = folded(parts[at], tail)
         parts[at - 2] = parts[at - 2] ^ more
         parts[at - 1] = parts[at - 1] ^ spill
-        # What spills out of the highest part comes into the next lower fold.
-        parts[at] = np.zeros_like(parts[at])
     return np.stack(parts[:2], axis=1)
 
 

@@ -1,6 +1,6 @@
 """What the package does, step by step. Its output is stored in example.out, and scripts/test-library compares it.
 
-PYTHONPATH=python BINARY_FIELD_LIBRARY=FOLDER/lib/libbinary_field.so python3 python/example.py
+PYTHONPATH=python BINARY_FIELD_LIBRARY=FOLDER/lib python3 python/example.py
 """
 
 import numpy as np

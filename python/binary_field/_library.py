@@ -1,7 +1,7 @@
 """The library, found and loaded, and calls of its functions.
 
-It is looked for at the path in the environment variable BINARY_FIELD_LIBRARY, then beside this file, where a wheel has it, and
-then where the system looks for libraries.
+It is looked for in the folder that the environment variable BINARY_FIELD_LIBRARY names, then beside this file, where a wheel has
+it, and then where the system looks for libraries.
 """
 
 import ctypes
@@ -24,7 +24,7 @@ def _load() -> dict:
     """The functions by their names, each with its types."""
     named = os.environ.get("BINARY_FIELD_LIBRARY")
     beside = pathlib.Path(__file__).with_name("libbinary_field.so")
-    path = named or (str(beside) if beside.exists() else "libbinary_field.so")
+    path = f"{named}/{beside.name}" if named else str(beside) if beside.exists() else beside.name
     try:
         library = ctypes.CDLL(path)
     except OSError as error:
