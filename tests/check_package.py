@@ -1,6 +1,6 @@
 """Tests of the Python package over a built library, against the definitions: check_package.py.
 
-The package is the one that Python finds, as in PYTHONPATH=python BINARY_FIELD_LIBRARY=....
+The package is the one that Python finds, as in PYTHONPATH=python BINARY_FIELD_LIBRARY=FOLDER/lib.
 """
 
 import pickle
