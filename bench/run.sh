@@ -1,18 +1,12 @@
 #!/bin/sh
-# Builds the static library and the driver, and runs it: run.sh [SAMPLES] [MILLISECONDS] [tower|polynomials]. CPU names the
-# processor that the library is built for. See README.md.
+# Builds the library and the driver, and runs it: run.sh [SAMPLES] [MILLISECONDS] [tower|polynomials]. CPU names the
+# processor that the library is built for, ARCHIVE a library that is built already. See README.md.
 set -eu
 here=$(cd "$(dirname "$0")" && pwd)
-crate=$(cd "$here/../crates/binary_field_c" && pwd)
 RT=${RT:-rt}
 
 mkdir -p "$here/target"
-log="$here/target/lib.log"
-if ! (cd "$crate" && "$RT" lib ${CPU:+--cpu "$CPU"}) > "$log" 2>&1; then
-    tail -n 40 "$log" >&2
-    echo "run.sh: binary_field_c was not built; all of its output is in $log" >&2
-    exit 1
-fi
+"$here/../scripts/build-library" ${CPU:+--cpu "$CPU"} ${ARCHIVE:+--from "$ARCHIVE"} "$here/target/library" >&2
 
 # A manifest beside the repository's own, since a path in it cannot come from the environment.
 manifest="$here/Cargo.toml"
@@ -22,9 +16,8 @@ if [ -n "${RUST_CRATE:-}" ]; then
     both="$here/target/both"
     mkdir -p "$both"
     ln -sfn "$here/src" "$both/src"
-    ln -sfn "$here/build.rs" "$both/build.rs"
     {
-        cat "$here/Cargo.toml"
+        sed "s|path = \"../rust\"|path = \"$here/../rust\"|" "$here/Cargo.toml"
         echo "p3-binary-field = { path = \"$rust_crate\" }"
         # The traits of its fields, from where it has them.
         grep '^p3-field ' "$rust_crate/Cargo.toml" | sed "s|path = \"|path = \"$rust_crate/|"
@@ -40,7 +33,7 @@ if [ -n "${HARDWARE:-}" ]; then
     target="$here/target/hardware"
 fi
 
-export LIBRARY_FOLDER="$crate/out"
+export BINARY_FIELD_LIBRARY="$here/target/library/lib"
 export CARGO_TARGET_DIR="$target"
 # shellcheck disable=SC2086
 cargo build --offline --quiet --release --manifest-path "$manifest" $features

@@ -8,7 +8,7 @@ mod ours;
 mod theirs;
 mod timing;
 
-use arithmetic::{Arithmetic, ByteMap, Polynomials, Unary, Word};
+use arithmetic::{Arithmetic, ByteMaps, Polynomials, Stages, Unary, Word};
 use std::hint::black_box;
 use std::process::ExitCode;
 use std::time::Duration;
@@ -98,16 +98,14 @@ impl Report {
     fn fields_of_polynomials(&mut self) {
         print_heading("Rijndael8b");
         self.field(&level!(rijndael, Rijndael8b));
-        self.bytes(&sides!(
-            ours::apply_matrix as ByteMap,
-            theirs::apply_matrix as ByteMap
-        ));
+        self.bytes(&sides!(ours::byte_maps(), theirs::byte_maps()));
         print_heading("Poly64");
         self.field(&level!(poly64, Poly64));
         self.basis(&sides!(ours::basis64(), theirs::basis64()));
         print_heading("Ghash128");
         self.field(&level!(ghash128, Ghash128));
         self.basis(&sides!(ours::basis128(), theirs::basis128()));
+        self.stages(&sides!(ours::stages(), theirs::stages()));
         print_heading("Poly192");
         self.field(&sides!(
             ours::poly192(),
@@ -120,34 +118,105 @@ impl Report {
         let mut random = Random(u64::from(W::BITS));
         let left: &[W] = &random.elements(LENGTH);
         let right: &[W] = &random.elements(LENGTH);
-        let first: W = random.nonzero();
         let zeros = vec![W::default(); LENGTH];
         self.row("product, throughput", sides, &zeros, |side| {
             let multiply = side.multiply;
             Some(move |out: &mut [W]| multiply(black_box(left), black_box(right), out))
         });
         self.row("product, latency", sides, &zeros, |side| {
-            let chain = side.chain;
-            Some(move |out: &mut [W]| {
-                out[0] = first;
-                chain(black_box(left), &mut out[0]);
-            })
+            let product = side.product;
+            Some(move |out: &mut [W]| product(black_box(left), &mut out[0]))
         });
         self.unary("square, throughput", sides, left, |side| side.square);
         self.unary("inverse, throughput", sides, left, |side| side.inverse);
+        self.row("inverse, batch", sides, &zeros, |side| {
+            side.batch_inverse
+                .map(|operation| move |out: &mut [W]| operation(black_box(left), out))
+        });
         self.unary("square root, thr.", sides, left, |side| side.square_root);
     }
 
-    /// The row of matrices of 8 by 8 bits.
-    fn bytes(&mut self, sides: &[ByteMap]) {
+    /// The rows over bytes.
+    fn bytes(&mut self, sides: &[ByteMaps]) {
         let mut random = Random(9);
         let images: &[u8] = &random.elements(8);
-        let images: &[u8; 8] = images.try_into().expect("eight images");
         let bytes: &[u8] = &random.elements(LENGTH);
-        self.row("matrix, in place", sides, bytes, |side| {
-            let apply = *side;
-            Some(move |out: &mut [u8]| apply(black_box(images), out))
+        let zeros = vec![0; LENGTH];
+        self.row("bytes by a matrix", sides, &zeros, |side| {
+            let matrix = side.matrix;
+            Some(move |out: &mut [u8]| matrix(black_box(images), black_box(bytes), out))
         });
+        self.row("bytes by one scalar", sides, &zeros, |side| {
+            let scale = side.scale;
+            Some(move |out: &mut [u8]| scale(black_box(bytes[0]), black_box(bytes), out))
+        });
+        let message: &[u8] = &random.elements(1 << 14);
+        self.row("GHASH, a byte of 2^14", sides, message, |side| {
+            side.ghash.map(|ghash| {
+                move |out: &mut [u8]| ghash(black_box(&bytes[..16]), black_box(message), out)
+            })
+        });
+        // Shards of 10,000 bytes, ten of them data and four parity.
+        let shards: &[u8] = &random.elements(14 * 10_000);
+        self.counted_row(
+            "encode 10+4, data byte",
+            sides,
+            shards,
+            10 * 10_000,
+            |side| {
+                side.encode
+                    .map(|encode| move |out: &mut [u8]| encode(10, 4, out))
+            },
+        );
+    }
+
+    /// The rows of slices by one scalar, of butterflies and of transforms. A butterfly counts once a pair, a low stage once a value.
+    fn stages(&mut self, sides: &[Stages]) {
+        let mut random = Random(10);
+        let scalar: u128 = random.nonzero();
+        for length in [16, 64, 128, 1024, 4096] {
+            let values: &[u128] = &random.elements(length);
+            let name = format!("by one scalar, {length}");
+            self.row(&name, sides, values, |side| {
+                let multiply_by = side.multiply_by;
+                Some(move |out: &mut [u128]| {
+                    multiply_by(black_box(scalar), black_box(values), out);
+                })
+            });
+        }
+        for (name, butterfly) in [
+            (
+                "butterfly",
+                (|side| side.butterfly_forward) as fn(&Stages) -> _,
+            ),
+            ("inverse butterfly", |side| side.butterfly_inverse),
+        ] {
+            for length in [16, 1024] {
+                let pairs: &[u128] = &random.elements(2 * length);
+                self.counted_row(&format!("{name}, {length}"), sides, pairs, length, |side| {
+                    let butterfly: fn(&mut [u128], &mut [u128], u128) = butterfly(side);
+                    Some(move |out: &mut [u128]| {
+                        let (low, high) = out.split_at_mut(length);
+                        butterfly(low, high, black_box(scalar));
+                    })
+                });
+            }
+        }
+        let shifts: [u128; 4] = std::array::from_fn(|_| random.nonzero());
+        let basis: [u128; 13] = std::array::from_fn(|_| random.nonzero());
+        for length in [16, 1024] {
+            let values: &[u128] = &random.elements(length);
+            let name = format!("low stages, {length}");
+            self.row(&name, sides, values, |side| {
+                let low_stages = side.low_stages;
+                Some(move |out: &mut [u128]| low_stages(out, shifts, basis))
+            });
+        }
+        for log in [10, 16] {
+            let values: &[u128] = &random.elements(1 << log);
+            let name = format!("transform of 2^{log}");
+            self.row(&name, sides, values, |side| side.transform);
+        }
     }
 
     /// The rows that a field of polynomials has besides.
@@ -163,10 +232,10 @@ impl Report {
         self.unary("from the tower", sides, left, |side| side.from_tower);
         self.unary("to the tower", sides, left, |side| side.to_tower);
         self.row("from the tower, in place", sides, left, |side| {
-            Some(side.from_tower_slice)
+            side.from_tower_slice
         });
         self.row("to the tower, in place", sides, left, |side| {
-            Some(side.to_tower_slice)
+            side.to_tower_slice
         });
         let columns = &right[..W::BITS as usize];
         let mapped: &[W] = &random.elements(MAPPED);
@@ -199,6 +268,18 @@ impl Report {
         start: &[W],
         call: impl Fn(&S) -> Option<C>,
     ) {
+        self.counted_row(name, sides, start, start.len(), call);
+    }
+
+    /// The same where a call is so many operations.
+    fn counted_row<S, W: Word, C: Fn(&mut [W])>(
+        &mut self,
+        name: &str,
+        sides: &[S],
+        start: &[W],
+        count: usize,
+        call: impl Fn(&S) -> Option<C>,
+    ) {
         let calls: Vec<Option<C>> = sides.iter().map(call).collect();
         if calls.iter().all(Option::is_none) {
             return;
@@ -224,7 +305,7 @@ impl Report {
             .iter()
             .map(|call| call.as_ref().and_then(|_| times.next()))
             .collect();
-        print_row(name, W::BITS, start.len(), &each);
+        print_row(name, W::BITS, count, &each);
     }
 
     /// Says whether the sides' results are the same.

@@ -1,9 +1,10 @@
 //! The same functions over the fields of the Rust crate.
 
 use crate::LENGTH;
-use crate::arithmetic::{Arithmetic, Cubic, Polynomials, Word};
+use crate::arithmetic::{Arithmetic, ByteMaps, Cubic, Polynomials, Stages, Word};
 use p3_binary_field::{
-    BinaryField64, BinaryField128, ByteMatrix, Ghash128, Poly64, Poly192, TowerLevel, poly_basis,
+    BinaryField64, BinaryField128, ByteMatrix, Ghash128, Poly64, Poly192, Rijndael8b, TowerLevel,
+    poly_basis,
 };
 use p3_field::{Field, PrimeCharacteristicRing};
 use std::marker::PhantomData;
@@ -64,8 +65,8 @@ pub fn field<S: Side>() -> Arithmetic<S::Word> {
                 *out = S::word(S::element(*x) * S::element(*y));
             }
         },
-        chain: |factors, product| {
-            let mut value = S::element(*product);
+        product: |factors, product| {
+            let mut value = S::Element::ONE;
             for factor in factors {
                 value *= S::element(*factor);
             }
@@ -73,6 +74,7 @@ pub fn field<S: Side>() -> Arithmetic<S::Word> {
         },
         square: |x, out| each::<S>(x, out, |x| x.square()),
         inverse: |x, out| each::<S>(x, out, |x| x.inverse()),
+        batch_inverse: None,
         square_root: |x, out| {
             each::<S>(x, out, |x| {
                 x.try_sqrt().expect("each element has a square root")
@@ -91,9 +93,39 @@ fn each<S: Side>(
     }
 }
 
-/// Replaces each byte by what the matrix of these images makes of it.
-pub fn apply_matrix(images: &[u8; 8], bytes: &mut [u8]) {
-    ByteMatrix::from_images(*images).apply_slice(bytes);
+/// Maps of bytes: the crate applies a matrix in place, so that the bytes are copied first.
+pub fn byte_maps() -> ByteMaps {
+    ByteMaps {
+        matrix: |images, bytes, out| {
+            let images: [u8; 8] = images.try_into().expect("eight images");
+            out.copy_from_slice(bytes);
+            ByteMatrix::from_images(images).apply_slice(out);
+        },
+        scale: |scalar, bytes, out| {
+            out.copy_from_slice(bytes);
+            Rijndael8b::from_repr(scalar)
+                .scaling_matrix()
+                .apply_slice(out);
+        },
+        encode: None,
+        ghash: None,
+    }
+}
+
+/// Slices by one scalar, and stages of transforms. The crate multiplies in place, so that the words are copied first.
+pub fn stages() -> Stages {
+    Stages {
+        multiply_by: |scalar, values, out| {
+            out.copy_from_slice(values);
+            poly_basis::mul_slice(out, scalar);
+        },
+        butterfly_forward: poly_basis::butterfly_forward,
+        butterfly_inverse: poly_basis::butterfly_inverse,
+        low_stages: |values, shifts, basis| {
+            poly_basis::LowStageTwiddles::new(&shifts, &basis).forward(values, 0);
+        },
+        transform: None,
+    }
 }
 
 /// The functions of the change of basis at 64 bits. The crate has no slice form there that takes a slice, so a loop stands
@@ -111,8 +143,8 @@ pub fn basis64() -> Polynomials<u64> {
         dot_product: dot_product::<Poly64>,
         from_tower: |words, out| each_word(words, out, from_tower),
         to_tower: |words, out| each_word(words, out, to_tower),
-        from_tower_slice: |words| words.iter_mut().for_each(|word| *word = from_tower(*word)),
-        to_tower_slice: |words| words.iter_mut().for_each(|word| *word = to_tower(*word)),
+        from_tower_slice: Some(|words| words.iter_mut().for_each(|it| *it = from_tower(*it))),
+        to_tower_slice: Some(|words| words.iter_mut().for_each(|it| *it = to_tower(*it))),
         linear_map: None,
     }
 }
@@ -132,8 +164,8 @@ pub fn basis128() -> Polynomials<u128> {
                 BinaryField128::from(Ghash128::from_repr(word)).to_repr()
             })
         },
-        from_tower_slice: poly_basis::from_tower_slice,
-        to_tower_slice: poly_basis::to_tower_slice,
+        from_tower_slice: Some(poly_basis::from_tower_slice),
+        to_tower_slice: Some(poly_basis::to_tower_slice),
         linear_map: Some(|columns, words, out| {
             each_word(words, out, |word| {
                 let mut rest = word;

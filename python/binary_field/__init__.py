@@ -1,0 +1,35 @@
+"""Binary fields, computed by a library whose functions are proved.
+
+    import binary_field as bf
+
+    F = bf.Ghash128
+    a, b = F.random(1000, seed=1), F.random(1000, seed=2)
+    c = a * b + 1 / a
+
+Trusted and not proved are this package, numpy, ctypes, and the C compiler and linker that made the shared library.
+"""
+
+from ._arrays import FieldArray
+from ._bytes import ReedSolomon, gcm_ghash, ghash, polyval, tags_are_equal
+from ._fields import (
+    BinaryField2,
+    BinaryField4,
+    BinaryField8,
+    BinaryField16,
+    BinaryField32,
+    BinaryField64,
+    BinaryField128,
+    Gf2,
+    Ghash128,
+    Poly64,
+    Poly192,
+    Rijndael8b,
+)
+from ._transforms import butterfly_forward, butterfly_inverse, inverse_transform, linear_map, low_stages, transform, transform_points
+
+__version__ = "0.1.0"
+__all__ = [
+    "BinaryField128", "BinaryField16", "BinaryField2", "BinaryField32", "BinaryField4", "BinaryField64", "BinaryField8", "FieldArray",
+    "Gf2", "Ghash128", "Poly192", "Poly64", "ReedSolomon", "Rijndael8b", "butterfly_forward", "butterfly_inverse", "gcm_ghash", "ghash",
+    "inverse_transform", "linear_map", "low_stages", "polyval", "tags_are_equal", "transform", "transform_points",
+]

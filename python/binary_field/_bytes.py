@@ -1,0 +1,104 @@
+"""Hashes of authentication tags, and Reed-Solomon codes, over bytes."""
+
+from __future__ import annotations
+
+from typing import Any, Sequence
+
+import numpy as np
+
+from ._library import call
+
+
+def _bytes(value: Any) -> np.ndarray:
+    """The bytes of an object that lends them; an array of numpy has to be one of bytes."""
+    if isinstance(value, np.ndarray) and value.dtype != np.uint8:
+        raise TypeError(f"an array of uint8 is wanted, and not of {value.dtype}")
+    view = memoryview(value)
+    return np.ascontiguousarray(np.frombuffer(view.cast("B") if view.nbytes and view.contiguous else view.tobytes(), np.uint8))
+
+
+def _hash(name: str, *given: Any) -> bytes:
+    result = np.zeros(16, np.uint8)
+    call(name, *map(_bytes, given), result)
+    return result.tobytes()
+
+
+def ghash(key: Any, message: Any) -> bytes:
+    """GHASH of the message (NIST SP 800-38D), with zeros added to whole blocks. The key has 16 bytes."""
+    return _hash("tag_ghash", key, message)
+
+
+def polyval(key: Any, message: Any) -> bytes:
+    """POLYVAL of the message (RFC 8452), with zeros added to whole blocks. The key has 16 bytes."""
+    return _hash("tag_polyval", key, message)
+
+
+def gcm_ghash(key: Any, associated: Any, ciphertext: Any) -> bytes:
+    """The hash of GCM over associated data and ciphertext, with the block of their lengths. The key has 16 bytes."""
+    return _hash("tag_gcm_ghash", key, associated, ciphertext)
+
+
+def tags_are_equal(left: Any, right: Any) -> bool:
+    """Whether the two have the same bytes. Nothing is claimed on the time that it takes."""
+    result = np.zeros(1, np.uint8)
+    call("tags_are_equal", _bytes(left), _bytes(right), result)
+    return bool(result[0])
+
+
+class ReedSolomon:
+    """The code with so many shards of data and of parity, at most 256 in all, over bytes modulo x^8 + x^4 + x^3 + x^2 + 1.
+
+    Shards are the rows of an array of bytes, those of data first.
+    """
+
+    def __init__(self, data: int, parity: int) -> None:
+        if not (data >= 1 and parity >= 1 and data + parity <= 256):
+            raise ValueError("a code has at least one shard of data and one of parity, and at most 256 in all")
+        self.data, self.parity = data, parity
+
+    def __repr__(self) -> str:
+        return f"ReedSolomon({self.data}, {self.parity})"
+
+    def encode(self, data: Any) -> np.ndarray:
+        """All shards: those of data, and behind them those of parity."""
+        data = self._rows(data, self.data)
+        shards = np.zeros((self.data + self.parity, data.shape[1]), np.uint8)
+        shards[: self.data] = data
+        call("rs_encode", self.data, self.parity, shards)
+        return shards
+
+    def verify(self, shards: Any) -> bool:
+        """Whether the shards of parity are those of the data."""
+        result = np.zeros(1, np.uint8)
+        call("rs_verify", self.data, self.parity, np.ascontiguousarray(self._rows(shards, self.data + self.parity)), result)
+        return bool(result[0])
+
+    def reconstruct(self, shards: Sequence[Any] | np.ndarray, present: Sequence[bool] | None = None) -> np.ndarray:
+        """All shards, the missing ones restored. A shard is missing where it is None, or where `present` has False."""
+        return self._restored("rs_reconstruct", shards, present)
+
+    def reconstruct_data(self, shards: Sequence[Any] | np.ndarray, present: Sequence[bool] | None = None) -> np.ndarray:
+        """The shards of data, the missing ones restored."""
+        return self._restored("rs_reconstruct_data", shards, present)[: self.data]
+
+    def _restored(self, name: str, shards: Any, present: Any) -> np.ndarray:
+        if present is None:
+            present = [it is not None for it in shards]
+        sizes = [len(it) for it in shards if it is not None]
+        if not sizes:
+            raise ValueError("no shard is present")
+        rows = [np.zeros(sizes[0], np.uint8) if it is None else it for it in shards]
+        all_shards = self._rows(rows, self.data + self.parity).copy()
+        call(name, self.data, self.parity, all_shards, np.array(present, dtype=bool).astype(np.uint8))
+        return all_shards
+
+    @staticmethod
+    def _rows(shards: Any, count: int) -> np.ndarray:
+        if not isinstance(shards, np.ndarray):
+            shards = [_bytes(it) for it in shards]
+            if len({len(it) for it in shards}) > 1:
+                raise ValueError("all shards have one size")
+            shards = np.array(shards, np.uint8)
+        if shards.dtype != np.uint8 or shards.ndim != 2 or len(shards) != count:
+            raise ValueError(f"{count} rows of bytes are wanted")
+        return np.ascontiguousarray(shards)

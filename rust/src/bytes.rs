@@ -1,0 +1,155 @@
+//! Hashes of authentication tags, and Reed-Solomon codes, over bytes.
+
+use crate::Error;
+use crate::functions::*;
+
+// What no call over keys and hashes of 16 bytes returns.
+fn succeed(status: u32) {
+    if let Err(error) = Error::of(status) {
+        panic!("{error}");
+    }
+}
+
+/// GHASH of the message (NIST SP 800-38D), with zeros added to whole blocks.
+pub fn ghash(key: &[u8; 16], message: &[u8]) -> [u8; 16] {
+    let mut hash = [0; 16];
+    // SAFETY: the pointers and lengths are those of slices, of which the one that is written overlaps no other. So it is below.
+    succeed(unsafe {
+        bf_tag_ghash(
+            key.as_ptr(),
+            16,
+            message.as_ptr(),
+            message.len(),
+            hash.as_mut_ptr(),
+            16,
+        )
+    });
+    hash
+}
+
+/// POLYVAL of the message (RFC 8452), with zeros added to whole blocks.
+pub fn polyval(key: &[u8; 16], message: &[u8]) -> [u8; 16] {
+    let mut hash = [0; 16];
+    // SAFETY: as above.
+    succeed(unsafe {
+        bf_tag_polyval(
+            key.as_ptr(),
+            16,
+            message.as_ptr(),
+            message.len(),
+            hash.as_mut_ptr(),
+            16,
+        )
+    });
+    hash
+}
+
+/// The hash of GCM over associated data and ciphertext, with the block of their lengths.
+pub fn gcm_ghash(key: &[u8; 16], associated: &[u8], ciphertext: &[u8]) -> [u8; 16] {
+    let mut hash = [0; 16];
+    // SAFETY: as above.
+    succeed(unsafe {
+        bf_tag_gcm_ghash(
+            key.as_ptr(),
+            16,
+            associated.as_ptr(),
+            associated.len(),
+            ciphertext.as_ptr(),
+            ciphertext.len(),
+            hash.as_mut_ptr(),
+            16,
+        )
+    });
+    hash
+}
+
+/// Whether the two have the same bytes. Nothing is claimed on the time that it takes.
+pub fn tags_are_equal(left: &[u8], right: &[u8]) -> bool {
+    let mut equal = 0;
+    // SAFETY: as above.
+    succeed(unsafe {
+        bf_tags_are_equal(
+            left.as_ptr(),
+            left.len(),
+            right.as_ptr(),
+            right.len(),
+            &raw mut equal,
+        )
+    });
+    equal == 1
+}
+
+/// The code with so many shards of data and of parity, over bytes modulo x^8 + x^4 + x^3 + x^2 + 1. Shards of one size, which is not
+/// 0, stand one after the other, those of data first.
+#[derive(Clone, Copy, Debug, PartialEq, Eq)]
+pub struct ReedSolomon {
+    data: u64,
+    parity: u64,
+}
+
+impl ReedSolomon {
+    /// The code, where there is at least one shard of data and one of parity, and at most 256 in all.
+    pub fn new(data: usize, parity: usize) -> Result<ReedSolomon, Error> {
+        if data == 0 || parity == 0 || data > 255 || parity > 256 - data {
+            return Err(Error::Code);
+        }
+        Ok(ReedSolomon {
+            data: data as u64,
+            parity: parity as u64,
+        })
+    }
+
+    /// Writes the shards of parity.
+    pub fn encode(&self, shards: &mut [u8]) -> Result<(), Error> {
+        // SAFETY: as above.
+        Error::of(unsafe {
+            bf_rs_encode(self.data, self.parity, shards.as_mut_ptr(), shards.len())
+        })
+    }
+
+    /// Whether the shards of parity are those of the data.
+    pub fn verify(&self, shards: &[u8]) -> Result<bool, Error> {
+        let mut whole = 0;
+        // SAFETY: as above.
+        Error::of(unsafe {
+            bf_rs_verify(
+                self.data,
+                self.parity,
+                shards.as_ptr(),
+                shards.len(),
+                &raw mut whole,
+            )
+        })?;
+        Ok(whole == 1)
+    }
+
+    /// Writes the missing shards: shard i is missing where `present[i]` is false.
+    pub fn reconstruct(&self, shards: &mut [u8], present: &[bool]) -> Result<(), Error> {
+        // SAFETY: as above; a bool is the byte 0 or 1.
+        Error::of(unsafe {
+            bf_rs_reconstruct(
+                self.data,
+                self.parity,
+                shards.as_mut_ptr(),
+                shards.len(),
+                present.as_ptr().cast(),
+                present.len(),
+            )
+        })
+    }
+
+    /// Writes the missing shards of data alone.
+    pub fn reconstruct_data(&self, shards: &mut [u8], present: &[bool]) -> Result<(), Error> {
+        // SAFETY: as above.
+        Error::of(unsafe {
+            bf_rs_reconstruct_data(
+                self.data,
+                self.parity,
+                shards.as_mut_ptr(),
+                shards.len(),
+                present.as_ptr().cast(),
+                present.len(),
+            )
+        })
+    }
+}

@@ -1,0 +1,1458 @@
+//! The functions of libbinary_field. Written by scripts/make_c_header.py from scripts/c_library.py; do not edit.
+//!
+//! An array is a pointer that is not null, also beside a length of 0, and a length that counts elements. What is written overlaps
+//! nothing else of the call. On a status that is not `BF_OK` everything that a function could write is as before.
+
+/// The call did what it says.
+pub const BF_OK: u32 = 0;
+/// The lengths do not fit each other, or are not what the function takes.
+pub const BF_LENGTH: u32 = 1;
+/// A word is no element of the field.
+pub const BF_NOT_AN_ELEMENT: u32 = 2;
+/// Memory was refused.
+pub const BF_MEMORY: u32 = 3;
+/// No code has so many shards of data and parity.
+pub const BF_CODE: u32 = 4;
+/// Fewer shards are present than the data have.
+pub const BF_TOO_FEW_SHARDS: u32 = 5;
+
+unsafe extern "C" {
+    /// The version of the library, 65536 times the major number, 256 times the minor one, and the patch.
+    pub fn bf_version() -> u32;
+    /// sums: the sum of the elements at each place. BF_LENGTH unless left, right and sums have one length.
+    /// BF_NOT_AN_ELEMENT unless each word that is read is below 2.
+    pub fn bf_gf2_add(
+        left: *const u8,
+        left_length: usize,
+        right: *const u8,
+        right_length: usize,
+        sums: *mut u8,
+        sums_length: usize,
+    ) -> u32;
+    /// products: the product of the elements at each place. BF_LENGTH unless left, right and products have one
+    /// length. BF_NOT_AN_ELEMENT unless each word that is read is below 2.
+    pub fn bf_gf2_multiply(
+        left: *const u8,
+        left_length: usize,
+        right: *const u8,
+        right_length: usize,
+        products: *mut u8,
+        products_length: usize,
+    ) -> u32;
+    /// products: the product of each element and the scalar. BF_LENGTH unless values and products have one length.
+    /// BF_NOT_AN_ELEMENT unless each word that is read is below 2.
+    pub fn bf_gf2_multiply_by(
+        values: *const u8,
+        values_length: usize,
+        scalar: u8,
+        products: *mut u8,
+        products_length: usize,
+    ) -> u32;
+    /// Adds to each element of sums the scalar times the value at its place. BF_LENGTH unless sums and values have
+    /// one length. BF_NOT_AN_ELEMENT unless each word that is read is below 2.
+    pub fn bf_gf2_add_scaled(
+        sums: *mut u8,
+        sums_length: usize,
+        scalar: u8,
+        values: *const u8,
+        values_length: usize,
+    ) -> u32;
+    /// squares: the square of each element. BF_LENGTH unless values and squares have one length. BF_NOT_AN_ELEMENT
+    /// unless each word that is read is below 2.
+    pub fn bf_gf2_square(
+        values: *const u8,
+        values_length: usize,
+        squares: *mut u8,
+        squares_length: usize,
+    ) -> u32;
+    /// inverses: the inverse of each element, and 0 for 0. BF_LENGTH unless values and inverses have one length.
+    /// BF_NOT_AN_ELEMENT unless each word that is read is below 2.
+    pub fn bf_gf2_inverse(
+        values: *const u8,
+        values_length: usize,
+        inverses: *mut u8,
+        inverses_length: usize,
+    ) -> u32;
+    /// inverses: the same as inverse, by one inverse and three products an element. BF_LENGTH unless values and
+    /// inverses have one length. BF_NOT_AN_ELEMENT unless each word that is read is below 2.
+    pub fn bf_gf2_batch_inverse(
+        values: *const u8,
+        values_length: usize,
+        inverses: *mut u8,
+        inverses_length: usize,
+    ) -> u32;
+    /// roots: the square root of each element. BF_LENGTH unless values and roots have one length. BF_NOT_AN_ELEMENT
+    /// unless each word that is read is below 2.
+    pub fn bf_gf2_square_root(
+        values: *const u8,
+        values_length: usize,
+        roots: *mut u8,
+        roots_length: usize,
+    ) -> u32;
+    /// powers: each element to the power of the exponent; to the power 0 it is 1. BF_LENGTH unless values and powers
+    /// have one length. BF_NOT_AN_ELEMENT unless each word that is read is below 2.
+    pub fn bf_gf2_power(
+        values: *const u8,
+        values_length: usize,
+        exponent: u64,
+        powers: *mut u8,
+        powers_length: usize,
+    ) -> u32;
+    /// product: the product of all elements, 1 of none. BF_NOT_AN_ELEMENT unless each word that is read is below 2.
+    pub fn bf_gf2_product(
+        values: *const u8,
+        values_length: usize,
+        product: *mut u8,
+    ) -> u32;
+    /// sum: the sum of the products at each place, 0 of none. BF_LENGTH unless left and right have one length.
+    /// BF_NOT_AN_ELEMENT unless each word that is read is below 2.
+    pub fn bf_gf2_dot_product(
+        left: *const u8,
+        left_length: usize,
+        right: *const u8,
+        right_length: usize,
+        sum: *mut u8,
+    ) -> u32;
+    /// values: the value at each point of the polynomial with these coefficients, the constant one first; any number
+    /// of coefficients. BF_LENGTH unless points and values have one length. BF_NOT_AN_ELEMENT unless each word that
+    /// is read is below 2.
+    pub fn bf_gf2_evaluate(
+        coefficients: *const u8,
+        coefficients_length: usize,
+        points: *const u8,
+        points_length: usize,
+        values: *mut u8,
+        values_length: usize,
+    ) -> u32;
+    /// generator: the generator of the field's multiplicative group that the library names.
+    pub fn bf_gf2_generator(
+        generator: *mut u8,
+    ) -> u32;
+    /// sums: the sum of the elements at each place. BF_LENGTH unless left, right and sums have one length.
+    /// BF_NOT_AN_ELEMENT unless each word that is read is below 4.
+    pub fn bf_t2_add(
+        left: *const u8,
+        left_length: usize,
+        right: *const u8,
+        right_length: usize,
+        sums: *mut u8,
+        sums_length: usize,
+    ) -> u32;
+    /// products: the product of the elements at each place. BF_LENGTH unless left, right and products have one
+    /// length. BF_NOT_AN_ELEMENT unless each word that is read is below 4.
+    pub fn bf_t2_multiply(
+        left: *const u8,
+        left_length: usize,
+        right: *const u8,
+        right_length: usize,
+        products: *mut u8,
+        products_length: usize,
+    ) -> u32;
+    /// products: the product of each element and the scalar. BF_LENGTH unless values and products have one length.
+    /// BF_NOT_AN_ELEMENT unless each word that is read is below 4.
+    pub fn bf_t2_multiply_by(
+        values: *const u8,
+        values_length: usize,
+        scalar: u8,
+        products: *mut u8,
+        products_length: usize,
+    ) -> u32;
+    /// Adds to each element of sums the scalar times the value at its place. BF_LENGTH unless sums and values have
+    /// one length. BF_NOT_AN_ELEMENT unless each word that is read is below 4.
+    pub fn bf_t2_add_scaled(
+        sums: *mut u8,
+        sums_length: usize,
+        scalar: u8,
+        values: *const u8,
+        values_length: usize,
+    ) -> u32;
+    /// squares: the square of each element. BF_LENGTH unless values and squares have one length. BF_NOT_AN_ELEMENT
+    /// unless each word that is read is below 4.
+    pub fn bf_t2_square(
+        values: *const u8,
+        values_length: usize,
+        squares: *mut u8,
+        squares_length: usize,
+    ) -> u32;
+    /// inverses: the inverse of each element, and 0 for 0. BF_LENGTH unless values and inverses have one length.
+    /// BF_NOT_AN_ELEMENT unless each word that is read is below 4.
+    pub fn bf_t2_inverse(
+        values: *const u8,
+        values_length: usize,
+        inverses: *mut u8,
+        inverses_length: usize,
+    ) -> u32;
+    /// inverses: the same as inverse, by one inverse and three products an element. BF_LENGTH unless values and
+    /// inverses have one length. BF_NOT_AN_ELEMENT unless each word that is read is below 4.
+    pub fn bf_t2_batch_inverse(
+        values: *const u8,
+        values_length: usize,
+        inverses: *mut u8,
+        inverses_length: usize,
+    ) -> u32;
+    /// roots: the square root of each element. BF_LENGTH unless values and roots have one length. BF_NOT_AN_ELEMENT
+    /// unless each word that is read is below 4.
+    pub fn bf_t2_square_root(
+        values: *const u8,
+        values_length: usize,
+        roots: *mut u8,
+        roots_length: usize,
+    ) -> u32;
+    /// powers: each element to the power of the exponent; to the power 0 it is 1. BF_LENGTH unless values and powers
+    /// have one length. BF_NOT_AN_ELEMENT unless each word that is read is below 4.
+    pub fn bf_t2_power(
+        values: *const u8,
+        values_length: usize,
+        exponent: u64,
+        powers: *mut u8,
+        powers_length: usize,
+    ) -> u32;
+    /// product: the product of all elements, 1 of none. BF_NOT_AN_ELEMENT unless each word that is read is below 4.
+    pub fn bf_t2_product(
+        values: *const u8,
+        values_length: usize,
+        product: *mut u8,
+    ) -> u32;
+    /// sum: the sum of the products at each place, 0 of none. BF_LENGTH unless left and right have one length.
+    /// BF_NOT_AN_ELEMENT unless each word that is read is below 4.
+    pub fn bf_t2_dot_product(
+        left: *const u8,
+        left_length: usize,
+        right: *const u8,
+        right_length: usize,
+        sum: *mut u8,
+    ) -> u32;
+    /// values: the value at each point of the polynomial with these coefficients, the constant one first; any number
+    /// of coefficients. BF_LENGTH unless points and values have one length. BF_NOT_AN_ELEMENT unless each word that
+    /// is read is below 4.
+    pub fn bf_t2_evaluate(
+        coefficients: *const u8,
+        coefficients_length: usize,
+        points: *const u8,
+        points_length: usize,
+        values: *mut u8,
+        values_length: usize,
+    ) -> u32;
+    /// generator: the generator of the field's multiplicative group that the library names.
+    pub fn bf_t2_generator(
+        generator: *mut u8,
+    ) -> u32;
+    /// sums: the sum of the elements at each place. BF_LENGTH unless left, right and sums have one length.
+    /// BF_NOT_AN_ELEMENT unless each word that is read is below 16.
+    pub fn bf_t4_add(
+        left: *const u8,
+        left_length: usize,
+        right: *const u8,
+        right_length: usize,
+        sums: *mut u8,
+        sums_length: usize,
+    ) -> u32;
+    /// products: the product of the elements at each place. BF_LENGTH unless left, right and products have one
+    /// length. BF_NOT_AN_ELEMENT unless each word that is read is below 16.
+    pub fn bf_t4_multiply(
+        left: *const u8,
+        left_length: usize,
+        right: *const u8,
+        right_length: usize,
+        products: *mut u8,
+        products_length: usize,
+    ) -> u32;
+    /// products: the product of each element and the scalar. BF_LENGTH unless values and products have one length.
+    /// BF_NOT_AN_ELEMENT unless each word that is read is below 16.
+    pub fn bf_t4_multiply_by(
+        values: *const u8,
+        values_length: usize,
+        scalar: u8,
+        products: *mut u8,
+        products_length: usize,
+    ) -> u32;
+    /// Adds to each element of sums the scalar times the value at its place. BF_LENGTH unless sums and values have
+    /// one length. BF_NOT_AN_ELEMENT unless each word that is read is below 16.
+    pub fn bf_t4_add_scaled(
+        sums: *mut u8,
+        sums_length: usize,
+        scalar: u8,
+        values: *const u8,
+        values_length: usize,
+    ) -> u32;
+    /// squares: the square of each element. BF_LENGTH unless values and squares have one length. BF_NOT_AN_ELEMENT
+    /// unless each word that is read is below 16.
+    pub fn bf_t4_square(
+        values: *const u8,
+        values_length: usize,
+        squares: *mut u8,
+        squares_length: usize,
+    ) -> u32;
+    /// inverses: the inverse of each element, and 0 for 0. BF_LENGTH unless values and inverses have one length.
+    /// BF_NOT_AN_ELEMENT unless each word that is read is below 16.
+    pub fn bf_t4_inverse(
+        values: *const u8,
+        values_length: usize,
+        inverses: *mut u8,
+        inverses_length: usize,
+    ) -> u32;
+    /// inverses: the same as inverse, by one inverse and three products an element. BF_LENGTH unless values and
+    /// inverses have one length. BF_NOT_AN_ELEMENT unless each word that is read is below 16.
+    pub fn bf_t4_batch_inverse(
+        values: *const u8,
+        values_length: usize,
+        inverses: *mut u8,
+        inverses_length: usize,
+    ) -> u32;
+    /// roots: the square root of each element. BF_LENGTH unless values and roots have one length. BF_NOT_AN_ELEMENT
+    /// unless each word that is read is below 16.
+    pub fn bf_t4_square_root(
+        values: *const u8,
+        values_length: usize,
+        roots: *mut u8,
+        roots_length: usize,
+    ) -> u32;
+    /// powers: each element to the power of the exponent; to the power 0 it is 1. BF_LENGTH unless values and powers
+    /// have one length. BF_NOT_AN_ELEMENT unless each word that is read is below 16.
+    pub fn bf_t4_power(
+        values: *const u8,
+        values_length: usize,
+        exponent: u64,
+        powers: *mut u8,
+        powers_length: usize,
+    ) -> u32;
+    /// product: the product of all elements, 1 of none. BF_NOT_AN_ELEMENT unless each word that is read is below 16.
+    pub fn bf_t4_product(
+        values: *const u8,
+        values_length: usize,
+        product: *mut u8,
+    ) -> u32;
+    /// sum: the sum of the products at each place, 0 of none. BF_LENGTH unless left and right have one length.
+    /// BF_NOT_AN_ELEMENT unless each word that is read is below 16.
+    pub fn bf_t4_dot_product(
+        left: *const u8,
+        left_length: usize,
+        right: *const u8,
+        right_length: usize,
+        sum: *mut u8,
+    ) -> u32;
+    /// values: the value at each point of the polynomial with these coefficients, the constant one first; any number
+    /// of coefficients. BF_LENGTH unless points and values have one length. BF_NOT_AN_ELEMENT unless each word that
+    /// is read is below 16.
+    pub fn bf_t4_evaluate(
+        coefficients: *const u8,
+        coefficients_length: usize,
+        points: *const u8,
+        points_length: usize,
+        values: *mut u8,
+        values_length: usize,
+    ) -> u32;
+    /// generator: the generator of the field's multiplicative group that the library names.
+    pub fn bf_t4_generator(
+        generator: *mut u8,
+    ) -> u32;
+    /// sums: the sum of the elements at each place. BF_LENGTH unless left, right and sums have one length.
+    pub fn bf_t8_add(
+        left: *const u8,
+        left_length: usize,
+        right: *const u8,
+        right_length: usize,
+        sums: *mut u8,
+        sums_length: usize,
+    ) -> u32;
+    /// products: the product of the elements at each place. BF_LENGTH unless left, right and products have one
+    /// length.
+    pub fn bf_t8_multiply(
+        left: *const u8,
+        left_length: usize,
+        right: *const u8,
+        right_length: usize,
+        products: *mut u8,
+        products_length: usize,
+    ) -> u32;
+    /// products: the product of each element and the scalar. BF_LENGTH unless values and products have one length.
+    pub fn bf_t8_multiply_by(
+        values: *const u8,
+        values_length: usize,
+        scalar: u8,
+        products: *mut u8,
+        products_length: usize,
+    ) -> u32;
+    /// Adds to each element of sums the scalar times the value at its place. BF_LENGTH unless sums and values have
+    /// one length.
+    pub fn bf_t8_add_scaled(
+        sums: *mut u8,
+        sums_length: usize,
+        scalar: u8,
+        values: *const u8,
+        values_length: usize,
+    ) -> u32;
+    /// squares: the square of each element. BF_LENGTH unless values and squares have one length.
+    pub fn bf_t8_square(
+        values: *const u8,
+        values_length: usize,
+        squares: *mut u8,
+        squares_length: usize,
+    ) -> u32;
+    /// inverses: the inverse of each element, and 0 for 0. BF_LENGTH unless values and inverses have one length.
+    pub fn bf_t8_inverse(
+        values: *const u8,
+        values_length: usize,
+        inverses: *mut u8,
+        inverses_length: usize,
+    ) -> u32;
+    /// inverses: the same as inverse, by one inverse and three products an element. BF_LENGTH unless values and
+    /// inverses have one length.
+    pub fn bf_t8_batch_inverse(
+        values: *const u8,
+        values_length: usize,
+        inverses: *mut u8,
+        inverses_length: usize,
+    ) -> u32;
+    /// roots: the square root of each element. BF_LENGTH unless values and roots have one length.
+    pub fn bf_t8_square_root(
+        values: *const u8,
+        values_length: usize,
+        roots: *mut u8,
+        roots_length: usize,
+    ) -> u32;
+    /// powers: each element to the power of the exponent; to the power 0 it is 1. BF_LENGTH unless values and powers
+    /// have one length.
+    pub fn bf_t8_power(
+        values: *const u8,
+        values_length: usize,
+        exponent: u64,
+        powers: *mut u8,
+        powers_length: usize,
+    ) -> u32;
+    /// product: the product of all elements, 1 of none.
+    pub fn bf_t8_product(
+        values: *const u8,
+        values_length: usize,
+        product: *mut u8,
+    ) -> u32;
+    /// sum: the sum of the products at each place, 0 of none. BF_LENGTH unless left and right have one length.
+    pub fn bf_t8_dot_product(
+        left: *const u8,
+        left_length: usize,
+        right: *const u8,
+        right_length: usize,
+        sum: *mut u8,
+    ) -> u32;
+    /// values: the value at each point of the polynomial with these coefficients, the constant one first; any number
+    /// of coefficients. BF_LENGTH unless points and values have one length.
+    pub fn bf_t8_evaluate(
+        coefficients: *const u8,
+        coefficients_length: usize,
+        points: *const u8,
+        points_length: usize,
+        values: *mut u8,
+        values_length: usize,
+    ) -> u32;
+    /// generator: the generator of the field's multiplicative group that the library names.
+    pub fn bf_t8_generator(
+        generator: *mut u8,
+    ) -> u32;
+    /// sums: the sum of the elements at each place. BF_LENGTH unless left, right and sums have one length.
+    pub fn bf_t16_add(
+        left: *const u16,
+        left_length: usize,
+        right: *const u16,
+        right_length: usize,
+        sums: *mut u16,
+        sums_length: usize,
+    ) -> u32;
+    /// products: the product of the elements at each place. BF_LENGTH unless left, right and products have one
+    /// length.
+    pub fn bf_t16_multiply(
+        left: *const u16,
+        left_length: usize,
+        right: *const u16,
+        right_length: usize,
+        products: *mut u16,
+        products_length: usize,
+    ) -> u32;
+    /// products: the product of each element and the scalar. BF_LENGTH unless values and products have one length.
+    pub fn bf_t16_multiply_by(
+        values: *const u16,
+        values_length: usize,
+        scalar: u16,
+        products: *mut u16,
+        products_length: usize,
+    ) -> u32;
+    /// Adds to each element of sums the scalar times the value at its place. BF_LENGTH unless sums and values have
+    /// one length.
+    pub fn bf_t16_add_scaled(
+        sums: *mut u16,
+        sums_length: usize,
+        scalar: u16,
+        values: *const u16,
+        values_length: usize,
+    ) -> u32;
+    /// squares: the square of each element. BF_LENGTH unless values and squares have one length.
+    pub fn bf_t16_square(
+        values: *const u16,
+        values_length: usize,
+        squares: *mut u16,
+        squares_length: usize,
+    ) -> u32;
+    /// inverses: the inverse of each element, and 0 for 0. BF_LENGTH unless values and inverses have one length.
+    pub fn bf_t16_inverse(
+        values: *const u16,
+        values_length: usize,
+        inverses: *mut u16,
+        inverses_length: usize,
+    ) -> u32;
+    /// inverses: the same as inverse, by one inverse and three products an element. BF_LENGTH unless values and
+    /// inverses have one length.
+    pub fn bf_t16_batch_inverse(
+        values: *const u16,
+        values_length: usize,
+        inverses: *mut u16,
+        inverses_length: usize,
+    ) -> u32;
+    /// roots: the square root of each element. BF_LENGTH unless values and roots have one length.
+    pub fn bf_t16_square_root(
+        values: *const u16,
+        values_length: usize,
+        roots: *mut u16,
+        roots_length: usize,
+    ) -> u32;
+    /// powers: each element to the power of the exponent; to the power 0 it is 1. BF_LENGTH unless values and powers
+    /// have one length.
+    pub fn bf_t16_power(
+        values: *const u16,
+        values_length: usize,
+        exponent: u64,
+        powers: *mut u16,
+        powers_length: usize,
+    ) -> u32;
+    /// product: the product of all elements, 1 of none.
+    pub fn bf_t16_product(
+        values: *const u16,
+        values_length: usize,
+        product: *mut u16,
+    ) -> u32;
+    /// sum: the sum of the products at each place, 0 of none. BF_LENGTH unless left and right have one length.
+    pub fn bf_t16_dot_product(
+        left: *const u16,
+        left_length: usize,
+        right: *const u16,
+        right_length: usize,
+        sum: *mut u16,
+    ) -> u32;
+    /// values: the value at each point of the polynomial with these coefficients, the constant one first; any number
+    /// of coefficients. BF_LENGTH unless points and values have one length.
+    pub fn bf_t16_evaluate(
+        coefficients: *const u16,
+        coefficients_length: usize,
+        points: *const u16,
+        points_length: usize,
+        values: *mut u16,
+        values_length: usize,
+    ) -> u32;
+    /// generator: the generator of the field's multiplicative group that the library names.
+    pub fn bf_t16_generator(
+        generator: *mut u16,
+    ) -> u32;
+    /// sums: the sum of the elements at each place. BF_LENGTH unless left, right and sums have one length.
+    pub fn bf_t32_add(
+        left: *const u32,
+        left_length: usize,
+        right: *const u32,
+        right_length: usize,
+        sums: *mut u32,
+        sums_length: usize,
+    ) -> u32;
+    /// products: the product of the elements at each place. BF_LENGTH unless left, right and products have one
+    /// length.
+    pub fn bf_t32_multiply(
+        left: *const u32,
+        left_length: usize,
+        right: *const u32,
+        right_length: usize,
+        products: *mut u32,
+        products_length: usize,
+    ) -> u32;
+    /// products: the product of each element and the scalar. BF_LENGTH unless values and products have one length.
+    pub fn bf_t32_multiply_by(
+        values: *const u32,
+        values_length: usize,
+        scalar: u32,
+        products: *mut u32,
+        products_length: usize,
+    ) -> u32;
+    /// Adds to each element of sums the scalar times the value at its place. BF_LENGTH unless sums and values have
+    /// one length.
+    pub fn bf_t32_add_scaled(
+        sums: *mut u32,
+        sums_length: usize,
+        scalar: u32,
+        values: *const u32,
+        values_length: usize,
+    ) -> u32;
+    /// squares: the square of each element. BF_LENGTH unless values and squares have one length.
+    pub fn bf_t32_square(
+        values: *const u32,
+        values_length: usize,
+        squares: *mut u32,
+        squares_length: usize,
+    ) -> u32;
+    /// inverses: the inverse of each element, and 0 for 0. BF_LENGTH unless values and inverses have one length.
+    pub fn bf_t32_inverse(
+        values: *const u32,
+        values_length: usize,
+        inverses: *mut u32,
+        inverses_length: usize,
+    ) -> u32;
+    /// inverses: the same as inverse, by one inverse and three products an element. BF_LENGTH unless values and
+    /// inverses have one length.
+    pub fn bf_t32_batch_inverse(
+        values: *const u32,
+        values_length: usize,
+        inverses: *mut u32,
+        inverses_length: usize,
+    ) -> u32;
+    /// roots: the square root of each element. BF_LENGTH unless values and roots have one length.
+    pub fn bf_t32_square_root(
+        values: *const u32,
+        values_length: usize,
+        roots: *mut u32,
+        roots_length: usize,
+    ) -> u32;
+    /// powers: each element to the power of the exponent; to the power 0 it is 1. BF_LENGTH unless values and powers
+    /// have one length.
+    pub fn bf_t32_power(
+        values: *const u32,
+        values_length: usize,
+        exponent: u64,
+        powers: *mut u32,
+        powers_length: usize,
+    ) -> u32;
+    /// product: the product of all elements, 1 of none.
+    pub fn bf_t32_product(
+        values: *const u32,
+        values_length: usize,
+        product: *mut u32,
+    ) -> u32;
+    /// sum: the sum of the products at each place, 0 of none. BF_LENGTH unless left and right have one length.
+    pub fn bf_t32_dot_product(
+        left: *const u32,
+        left_length: usize,
+        right: *const u32,
+        right_length: usize,
+        sum: *mut u32,
+    ) -> u32;
+    /// values: the value at each point of the polynomial with these coefficients, the constant one first; any number
+    /// of coefficients. BF_LENGTH unless points and values have one length.
+    pub fn bf_t32_evaluate(
+        coefficients: *const u32,
+        coefficients_length: usize,
+        points: *const u32,
+        points_length: usize,
+        values: *mut u32,
+        values_length: usize,
+    ) -> u32;
+    /// generator: the generator of the field's multiplicative group that the library names.
+    pub fn bf_t32_generator(
+        generator: *mut u32,
+    ) -> u32;
+    /// sums: the sum of the elements at each place. BF_LENGTH unless left, right and sums have one length.
+    pub fn bf_t64_add(
+        left: *const u64,
+        left_length: usize,
+        right: *const u64,
+        right_length: usize,
+        sums: *mut u64,
+        sums_length: usize,
+    ) -> u32;
+    /// products: the product of the elements at each place. BF_LENGTH unless left, right and products have one
+    /// length.
+    pub fn bf_t64_multiply(
+        left: *const u64,
+        left_length: usize,
+        right: *const u64,
+        right_length: usize,
+        products: *mut u64,
+        products_length: usize,
+    ) -> u32;
+    /// products: the product of each element and the scalar. BF_LENGTH unless values and products have one length.
+    pub fn bf_t64_multiply_by(
+        values: *const u64,
+        values_length: usize,
+        scalar: u64,
+        products: *mut u64,
+        products_length: usize,
+    ) -> u32;
+    /// Adds to each element of sums the scalar times the value at its place. BF_LENGTH unless sums and values have
+    /// one length.
+    pub fn bf_t64_add_scaled(
+        sums: *mut u64,
+        sums_length: usize,
+        scalar: u64,
+        values: *const u64,
+        values_length: usize,
+    ) -> u32;
+    /// squares: the square of each element. BF_LENGTH unless values and squares have one length.
+    pub fn bf_t64_square(
+        values: *const u64,
+        values_length: usize,
+        squares: *mut u64,
+        squares_length: usize,
+    ) -> u32;
+    /// inverses: the inverse of each element, and 0 for 0. BF_LENGTH unless values and inverses have one length.
+    pub fn bf_t64_inverse(
+        values: *const u64,
+        values_length: usize,
+        inverses: *mut u64,
+        inverses_length: usize,
+    ) -> u32;
+    /// inverses: the same as inverse, by one inverse and three products an element. BF_LENGTH unless values and
+    /// inverses have one length.
+    pub fn bf_t64_batch_inverse(
+        values: *const u64,
+        values_length: usize,
+        inverses: *mut u64,
+        inverses_length: usize,
+    ) -> u32;
+    /// roots: the square root of each element. BF_LENGTH unless values and roots have one length.
+    pub fn bf_t64_square_root(
+        values: *const u64,
+        values_length: usize,
+        roots: *mut u64,
+        roots_length: usize,
+    ) -> u32;
+    /// powers: each element to the power of the exponent; to the power 0 it is 1. BF_LENGTH unless values and powers
+    /// have one length.
+    pub fn bf_t64_power(
+        values: *const u64,
+        values_length: usize,
+        exponent: u64,
+        powers: *mut u64,
+        powers_length: usize,
+    ) -> u32;
+    /// product: the product of all elements, 1 of none.
+    pub fn bf_t64_product(
+        values: *const u64,
+        values_length: usize,
+        product: *mut u64,
+    ) -> u32;
+    /// sum: the sum of the products at each place, 0 of none. BF_LENGTH unless left and right have one length.
+    pub fn bf_t64_dot_product(
+        left: *const u64,
+        left_length: usize,
+        right: *const u64,
+        right_length: usize,
+        sum: *mut u64,
+    ) -> u32;
+    /// values: the value at each point of the polynomial with these coefficients, the constant one first; any number
+    /// of coefficients. BF_LENGTH unless points and values have one length.
+    pub fn bf_t64_evaluate(
+        coefficients: *const u64,
+        coefficients_length: usize,
+        points: *const u64,
+        points_length: usize,
+        values: *mut u64,
+        values_length: usize,
+    ) -> u32;
+    /// generator: the generator of the field's multiplicative group that the library names.
+    pub fn bf_t64_generator(
+        generator: *mut u64,
+    ) -> u32;
+    /// sums: the sum of the elements at each place. BF_LENGTH unless left, right and sums have one length.
+    pub fn bf_t128_add(
+        left: *const [u64; 2],
+        left_length: usize,
+        right: *const [u64; 2],
+        right_length: usize,
+        sums: *mut [u64; 2],
+        sums_length: usize,
+    ) -> u32;
+    /// products: the product of the elements at each place. BF_LENGTH unless left, right and products have one
+    /// length.
+    pub fn bf_t128_multiply(
+        left: *const [u64; 2],
+        left_length: usize,
+        right: *const [u64; 2],
+        right_length: usize,
+        products: *mut [u64; 2],
+        products_length: usize,
+    ) -> u32;
+    /// products: the product of each element and the scalar. BF_LENGTH unless values and products have one length.
+    pub fn bf_t128_multiply_by(
+        values: *const [u64; 2],
+        values_length: usize,
+        scalar: *const [u64; 2],
+        products: *mut [u64; 2],
+        products_length: usize,
+    ) -> u32;
+    /// Adds to each element of sums the scalar times the value at its place. BF_LENGTH unless sums and values have
+    /// one length.
+    pub fn bf_t128_add_scaled(
+        sums: *mut [u64; 2],
+        sums_length: usize,
+        scalar: *const [u64; 2],
+        values: *const [u64; 2],
+        values_length: usize,
+    ) -> u32;
+    /// squares: the square of each element. BF_LENGTH unless values and squares have one length.
+    pub fn bf_t128_square(
+        values: *const [u64; 2],
+        values_length: usize,
+        squares: *mut [u64; 2],
+        squares_length: usize,
+    ) -> u32;
+    /// inverses: the inverse of each element, and 0 for 0. BF_LENGTH unless values and inverses have one length.
+    pub fn bf_t128_inverse(
+        values: *const [u64; 2],
+        values_length: usize,
+        inverses: *mut [u64; 2],
+        inverses_length: usize,
+    ) -> u32;
+    /// inverses: the same as inverse, by one inverse and three products an element. BF_LENGTH unless values and
+    /// inverses have one length.
+    pub fn bf_t128_batch_inverse(
+        values: *const [u64; 2],
+        values_length: usize,
+        inverses: *mut [u64; 2],
+        inverses_length: usize,
+    ) -> u32;
+    /// roots: the square root of each element. BF_LENGTH unless values and roots have one length.
+    pub fn bf_t128_square_root(
+        values: *const [u64; 2],
+        values_length: usize,
+        roots: *mut [u64; 2],
+        roots_length: usize,
+    ) -> u32;
+    /// powers: each element to the power of the exponent; to the power 0 it is 1. BF_LENGTH unless values and powers
+    /// have one length.
+    pub fn bf_t128_power(
+        values: *const [u64; 2],
+        values_length: usize,
+        exponent: u64,
+        powers: *mut [u64; 2],
+        powers_length: usize,
+    ) -> u32;
+    /// product: the product of all elements, 1 of none.
+    pub fn bf_t128_product(
+        values: *const [u64; 2],
+        values_length: usize,
+        product: *mut [u64; 2],
+    ) -> u32;
+    /// sum: the sum of the products at each place, 0 of none. BF_LENGTH unless left and right have one length.
+    pub fn bf_t128_dot_product(
+        left: *const [u64; 2],
+        left_length: usize,
+        right: *const [u64; 2],
+        right_length: usize,
+        sum: *mut [u64; 2],
+    ) -> u32;
+    /// values: the value at each point of the polynomial with these coefficients, the constant one first; any number
+    /// of coefficients. BF_LENGTH unless points and values have one length.
+    pub fn bf_t128_evaluate(
+        coefficients: *const [u64; 2],
+        coefficients_length: usize,
+        points: *const [u64; 2],
+        points_length: usize,
+        values: *mut [u64; 2],
+        values_length: usize,
+    ) -> u32;
+    /// generator: the generator of the field's multiplicative group that the library names.
+    pub fn bf_t128_generator(
+        generator: *mut [u64; 2],
+    ) -> u32;
+    /// sums: the sum of the elements at each place. BF_LENGTH unless left, right and sums have one length.
+    pub fn bf_r8_add(
+        left: *const u8,
+        left_length: usize,
+        right: *const u8,
+        right_length: usize,
+        sums: *mut u8,
+        sums_length: usize,
+    ) -> u32;
+    /// products: the product of the elements at each place. BF_LENGTH unless left, right and products have one
+    /// length.
+    pub fn bf_r8_multiply(
+        left: *const u8,
+        left_length: usize,
+        right: *const u8,
+        right_length: usize,
+        products: *mut u8,
+        products_length: usize,
+    ) -> u32;
+    /// products: the product of each element and the scalar. BF_LENGTH unless values and products have one length.
+    pub fn bf_r8_multiply_by(
+        values: *const u8,
+        values_length: usize,
+        scalar: u8,
+        products: *mut u8,
+        products_length: usize,
+    ) -> u32;
+    /// Adds to each element of sums the scalar times the value at its place. BF_LENGTH unless sums and values have
+    /// one length.
+    pub fn bf_r8_add_scaled(
+        sums: *mut u8,
+        sums_length: usize,
+        scalar: u8,
+        values: *const u8,
+        values_length: usize,
+    ) -> u32;
+    /// squares: the square of each element. BF_LENGTH unless values and squares have one length.
+    pub fn bf_r8_square(
+        values: *const u8,
+        values_length: usize,
+        squares: *mut u8,
+        squares_length: usize,
+    ) -> u32;
+    /// inverses: the inverse of each element, and 0 for 0. BF_LENGTH unless values and inverses have one length.
+    pub fn bf_r8_inverse(
+        values: *const u8,
+        values_length: usize,
+        inverses: *mut u8,
+        inverses_length: usize,
+    ) -> u32;
+    /// inverses: the same as inverse, by one inverse and three products an element. BF_LENGTH unless values and
+    /// inverses have one length.
+    pub fn bf_r8_batch_inverse(
+        values: *const u8,
+        values_length: usize,
+        inverses: *mut u8,
+        inverses_length: usize,
+    ) -> u32;
+    /// roots: the square root of each element. BF_LENGTH unless values and roots have one length.
+    pub fn bf_r8_square_root(
+        values: *const u8,
+        values_length: usize,
+        roots: *mut u8,
+        roots_length: usize,
+    ) -> u32;
+    /// powers: each element to the power of the exponent; to the power 0 it is 1. BF_LENGTH unless values and powers
+    /// have one length.
+    pub fn bf_r8_power(
+        values: *const u8,
+        values_length: usize,
+        exponent: u64,
+        powers: *mut u8,
+        powers_length: usize,
+    ) -> u32;
+    /// product: the product of all elements, 1 of none.
+    pub fn bf_r8_product(
+        values: *const u8,
+        values_length: usize,
+        product: *mut u8,
+    ) -> u32;
+    /// sum: the sum of the products at each place, 0 of none. BF_LENGTH unless left and right have one length.
+    pub fn bf_r8_dot_product(
+        left: *const u8,
+        left_length: usize,
+        right: *const u8,
+        right_length: usize,
+        sum: *mut u8,
+    ) -> u32;
+    /// values: the value at each point of the polynomial with these coefficients, the constant one first; any number
+    /// of coefficients. BF_LENGTH unless points and values have one length.
+    pub fn bf_r8_evaluate(
+        coefficients: *const u8,
+        coefficients_length: usize,
+        points: *const u8,
+        points_length: usize,
+        values: *mut u8,
+        values_length: usize,
+    ) -> u32;
+    /// generator: the generator of the field's multiplicative group that the library names.
+    pub fn bf_r8_generator(
+        generator: *mut u8,
+    ) -> u32;
+    /// sums: the sum of the elements at each place. BF_LENGTH unless left, right and sums have one length.
+    pub fn bf_p64_add(
+        left: *const u64,
+        left_length: usize,
+        right: *const u64,
+        right_length: usize,
+        sums: *mut u64,
+        sums_length: usize,
+    ) -> u32;
+    /// products: the product of the elements at each place. BF_LENGTH unless left, right and products have one
+    /// length.
+    pub fn bf_p64_multiply(
+        left: *const u64,
+        left_length: usize,
+        right: *const u64,
+        right_length: usize,
+        products: *mut u64,
+        products_length: usize,
+    ) -> u32;
+    /// products: the product of each element and the scalar. BF_LENGTH unless values and products have one length.
+    pub fn bf_p64_multiply_by(
+        values: *const u64,
+        values_length: usize,
+        scalar: u64,
+        products: *mut u64,
+        products_length: usize,
+    ) -> u32;
+    /// Adds to each element of sums the scalar times the value at its place. BF_LENGTH unless sums and values have
+    /// one length.
+    pub fn bf_p64_add_scaled(
+        sums: *mut u64,
+        sums_length: usize,
+        scalar: u64,
+        values: *const u64,
+        values_length: usize,
+    ) -> u32;
+    /// squares: the square of each element. BF_LENGTH unless values and squares have one length.
+    pub fn bf_p64_square(
+        values: *const u64,
+        values_length: usize,
+        squares: *mut u64,
+        squares_length: usize,
+    ) -> u32;
+    /// inverses: the inverse of each element, and 0 for 0. BF_LENGTH unless values and inverses have one length.
+    pub fn bf_p64_inverse(
+        values: *const u64,
+        values_length: usize,
+        inverses: *mut u64,
+        inverses_length: usize,
+    ) -> u32;
+    /// inverses: the same as inverse, by one inverse and three products an element. BF_LENGTH unless values and
+    /// inverses have one length.
+    pub fn bf_p64_batch_inverse(
+        values: *const u64,
+        values_length: usize,
+        inverses: *mut u64,
+        inverses_length: usize,
+    ) -> u32;
+    /// roots: the square root of each element. BF_LENGTH unless values and roots have one length.
+    pub fn bf_p64_square_root(
+        values: *const u64,
+        values_length: usize,
+        roots: *mut u64,
+        roots_length: usize,
+    ) -> u32;
+    /// powers: each element to the power of the exponent; to the power 0 it is 1. BF_LENGTH unless values and powers
+    /// have one length.
+    pub fn bf_p64_power(
+        values: *const u64,
+        values_length: usize,
+        exponent: u64,
+        powers: *mut u64,
+        powers_length: usize,
+    ) -> u32;
+    /// product: the product of all elements, 1 of none.
+    pub fn bf_p64_product(
+        values: *const u64,
+        values_length: usize,
+        product: *mut u64,
+    ) -> u32;
+    /// sum: the sum of the products at each place, 0 of none. BF_LENGTH unless left and right have one length.
+    pub fn bf_p64_dot_product(
+        left: *const u64,
+        left_length: usize,
+        right: *const u64,
+        right_length: usize,
+        sum: *mut u64,
+    ) -> u32;
+    /// values: the value at each point of the polynomial with these coefficients, the constant one first; any number
+    /// of coefficients. BF_LENGTH unless points and values have one length.
+    pub fn bf_p64_evaluate(
+        coefficients: *const u64,
+        coefficients_length: usize,
+        points: *const u64,
+        points_length: usize,
+        values: *mut u64,
+        values_length: usize,
+    ) -> u32;
+    /// generator: the generator of the field's multiplicative group that the library names.
+    pub fn bf_p64_generator(
+        generator: *mut u64,
+    ) -> u32;
+    /// sums: the sum of the elements at each place. BF_LENGTH unless left, right and sums have one length.
+    pub fn bf_g128_add(
+        left: *const [u64; 2],
+        left_length: usize,
+        right: *const [u64; 2],
+        right_length: usize,
+        sums: *mut [u64; 2],
+        sums_length: usize,
+    ) -> u32;
+    /// products: the product of the elements at each place. BF_LENGTH unless left, right and products have one
+    /// length.
+    pub fn bf_g128_multiply(
+        left: *const [u64; 2],
+        left_length: usize,
+        right: *const [u64; 2],
+        right_length: usize,
+        products: *mut [u64; 2],
+        products_length: usize,
+    ) -> u32;
+    /// products: the product of each element and the scalar. BF_LENGTH unless values and products have one length.
+    pub fn bf_g128_multiply_by(
+        values: *const [u64; 2],
+        values_length: usize,
+        scalar: *const [u64; 2],
+        products: *mut [u64; 2],
+        products_length: usize,
+    ) -> u32;
+    /// Adds to each element of sums the scalar times the value at its place. BF_LENGTH unless sums and values have
+    /// one length.
+    pub fn bf_g128_add_scaled(
+        sums: *mut [u64; 2],
+        sums_length: usize,
+        scalar: *const [u64; 2],
+        values: *const [u64; 2],
+        values_length: usize,
+    ) -> u32;
+    /// squares: the square of each element. BF_LENGTH unless values and squares have one length.
+    pub fn bf_g128_square(
+        values: *const [u64; 2],
+        values_length: usize,
+        squares: *mut [u64; 2],
+        squares_length: usize,
+    ) -> u32;
+    /// inverses: the inverse of each element, and 0 for 0. BF_LENGTH unless values and inverses have one length.
+    pub fn bf_g128_inverse(
+        values: *const [u64; 2],
+        values_length: usize,
+        inverses: *mut [u64; 2],
+        inverses_length: usize,
+    ) -> u32;
+    /// inverses: the same as inverse, by one inverse and three products an element. BF_LENGTH unless values and
+    /// inverses have one length.
+    pub fn bf_g128_batch_inverse(
+        values: *const [u64; 2],
+        values_length: usize,
+        inverses: *mut [u64; 2],
+        inverses_length: usize,
+    ) -> u32;
+    /// roots: the square root of each element. BF_LENGTH unless values and roots have one length.
+    pub fn bf_g128_square_root(
+        values: *const [u64; 2],
+        values_length: usize,
+        roots: *mut [u64; 2],
+        roots_length: usize,
+    ) -> u32;
+    /// powers: each element to the power of the exponent; to the power 0 it is 1. BF_LENGTH unless values and powers
+    /// have one length.
+    pub fn bf_g128_power(
+        values: *const [u64; 2],
+        values_length: usize,
+        exponent: u64,
+        powers: *mut [u64; 2],
+        powers_length: usize,
+    ) -> u32;
+    /// product: the product of all elements, 1 of none.
+    pub fn bf_g128_product(
+        values: *const [u64; 2],
+        values_length: usize,
+        product: *mut [u64; 2],
+    ) -> u32;
+    /// sum: the sum of the products at each place, 0 of none. BF_LENGTH unless left and right have one length.
+    pub fn bf_g128_dot_product(
+        left: *const [u64; 2],
+        left_length: usize,
+        right: *const [u64; 2],
+        right_length: usize,
+        sum: *mut [u64; 2],
+    ) -> u32;
+    /// values: the value at each point of the polynomial with these coefficients, the constant one first; any number
+    /// of coefficients. BF_LENGTH unless points and values have one length.
+    pub fn bf_g128_evaluate(
+        coefficients: *const [u64; 2],
+        coefficients_length: usize,
+        points: *const [u64; 2],
+        points_length: usize,
+        values: *mut [u64; 2],
+        values_length: usize,
+    ) -> u32;
+    /// generator: the generator of the field's multiplicative group that the library names.
+    pub fn bf_g128_generator(
+        generator: *mut [u64; 2],
+    ) -> u32;
+    /// sums: the sum of the elements at each place. BF_LENGTH unless left, right and sums have one length.
+    pub fn bf_p192_add(
+        left: *const [u64; 3],
+        left_length: usize,
+        right: *const [u64; 3],
+        right_length: usize,
+        sums: *mut [u64; 3],
+        sums_length: usize,
+    ) -> u32;
+    /// products: the product of the elements at each place. BF_LENGTH unless left, right and products have one
+    /// length.
+    pub fn bf_p192_multiply(
+        left: *const [u64; 3],
+        left_length: usize,
+        right: *const [u64; 3],
+        right_length: usize,
+        products: *mut [u64; 3],
+        products_length: usize,
+    ) -> u32;
+    /// products: the product of each element and the scalar. BF_LENGTH unless values and products have one length.
+    pub fn bf_p192_multiply_by(
+        values: *const [u64; 3],
+        values_length: usize,
+        scalar: *const [u64; 3],
+        products: *mut [u64; 3],
+        products_length: usize,
+    ) -> u32;
+    /// Adds to each element of sums the scalar times the value at its place. BF_LENGTH unless sums and values have
+    /// one length.
+    pub fn bf_p192_add_scaled(
+        sums: *mut [u64; 3],
+        sums_length: usize,
+        scalar: *const [u64; 3],
+        values: *const [u64; 3],
+        values_length: usize,
+    ) -> u32;
+    /// squares: the square of each element. BF_LENGTH unless values and squares have one length.
+    pub fn bf_p192_square(
+        values: *const [u64; 3],
+        values_length: usize,
+        squares: *mut [u64; 3],
+        squares_length: usize,
+    ) -> u32;
+    /// inverses: the inverse of each element, and 0 for 0. BF_LENGTH unless values and inverses have one length.
+    pub fn bf_p192_inverse(
+        values: *const [u64; 3],
+        values_length: usize,
+        inverses: *mut [u64; 3],
+        inverses_length: usize,
+    ) -> u32;
+    /// inverses: the same as inverse, by one inverse and three products an element. BF_LENGTH unless values and
+    /// inverses have one length.
+    pub fn bf_p192_batch_inverse(
+        values: *const [u64; 3],
+        values_length: usize,
+        inverses: *mut [u64; 3],
+        inverses_length: usize,
+    ) -> u32;
+    /// roots: the square root of each element. BF_LENGTH unless values and roots have one length.
+    pub fn bf_p192_square_root(
+        values: *const [u64; 3],
+        values_length: usize,
+        roots: *mut [u64; 3],
+        roots_length: usize,
+    ) -> u32;
+    /// powers: each element to the power of the exponent; to the power 0 it is 1. BF_LENGTH unless values and powers
+    /// have one length.
+    pub fn bf_p192_power(
+        values: *const [u64; 3],
+        values_length: usize,
+        exponent: u64,
+        powers: *mut [u64; 3],
+        powers_length: usize,
+    ) -> u32;
+    /// product: the product of all elements, 1 of none.
+    pub fn bf_p192_product(
+        values: *const [u64; 3],
+        values_length: usize,
+        product: *mut [u64; 3],
+    ) -> u32;
+    /// sum: the sum of the products at each place, 0 of none. BF_LENGTH unless left and right have one length.
+    pub fn bf_p192_dot_product(
+        left: *const [u64; 3],
+        left_length: usize,
+        right: *const [u64; 3],
+        right_length: usize,
+        sum: *mut [u64; 3],
+    ) -> u32;
+    /// values: the value at each point of the polynomial with these coefficients, the constant one first; any number
+    /// of coefficients. BF_LENGTH unless points and values have one length.
+    pub fn bf_p192_evaluate(
+        coefficients: *const [u64; 3],
+        coefficients_length: usize,
+        points: *const [u64; 3],
+        points_length: usize,
+        values: *mut [u64; 3],
+        values_length: usize,
+    ) -> u32;
+    /// generator: the generator of the field's multiplicative group that the library names.
+    pub fn bf_p192_generator(
+        generator: *mut [u64; 3],
+    ) -> u32;
+    /// images: the image in r8 of each element of t8, by the isomorphism of the two fields. BF_LENGTH unless values
+    /// and images have one length.
+    pub fn bf_t8_to_r8(
+        values: *const u8,
+        values_length: usize,
+        images: *mut u8,
+        images_length: usize,
+    ) -> u32;
+    /// images: the image in t8 of each element of r8, by the isomorphism of the two fields. BF_LENGTH unless values
+    /// and images have one length.
+    pub fn bf_r8_to_t8(
+        values: *const u8,
+        values_length: usize,
+        images: *mut u8,
+        images_length: usize,
+    ) -> u32;
+    /// images: the image in p64 of each element of t64, by the isomorphism of the two fields. BF_LENGTH unless values
+    /// and images have one length.
+    pub fn bf_t64_to_p64(
+        values: *const u64,
+        values_length: usize,
+        images: *mut u64,
+        images_length: usize,
+    ) -> u32;
+    /// images: the image in t64 of each element of p64, by the isomorphism of the two fields. BF_LENGTH unless values
+    /// and images have one length.
+    pub fn bf_p64_to_t64(
+        values: *const u64,
+        values_length: usize,
+        images: *mut u64,
+        images_length: usize,
+    ) -> u32;
+    /// images: the image in g128 of each element of t128, by the isomorphism of the two fields. BF_LENGTH unless
+    /// values and images have one length.
+    pub fn bf_t128_to_g128(
+        values: *const [u64; 2],
+        values_length: usize,
+        images: *mut [u64; 2],
+        images_length: usize,
+    ) -> u32;
+    /// images: the image in t128 of each element of g128, by the isomorphism of the two fields. BF_LENGTH unless
+    /// values and images have one length.
+    pub fn bf_g128_to_t128(
+        values: *const [u64; 2],
+        values_length: usize,
+        images: *mut [u64; 2],
+        images_length: usize,
+    ) -> u32;
+    /// mapped: for each byte the sum of the images at its set bits; eight images, that of bit 0 first. BF_LENGTH
+    /// unless values and mapped have one length, and there are 8 images.
+    pub fn bf_r8_linear_map(
+        values: *const u8,
+        values_length: usize,
+        images: *const u8,
+        images_length: usize,
+        mapped: *mut u8,
+        mapped_length: usize,
+    ) -> u32;
+    /// mapped: for each word the sum of the images at its set bits; 128 images, that of bit 0 first. BF_LENGTH unless
+    /// values and mapped have one length, and there are 128 images.
+    pub fn bf_g128_linear_map(
+        values: *const [u64; 2],
+        values_length: usize,
+        images: *const [u64; 2],
+        images_length: usize,
+        mapped: *mut [u64; 2],
+        mapped_length: usize,
+    ) -> u32;
+    /// low += scalar * high, and then high += low, at each place. BF_LENGTH unless low and high have one length.
+    pub fn bf_g128_butterfly_forward(
+        low: *mut [u64; 2],
+        low_length: usize,
+        high: *mut [u64; 2],
+        high_length: usize,
+        scalar: *const [u64; 2],
+    ) -> u32;
+    /// high += low, and then low += scalar * high, at each place. BF_LENGTH unless low and high have one length.
+    pub fn bf_g128_butterfly_inverse(
+        low: *mut [u64; 2],
+        low_length: usize,
+        high: *mut [u64; 2],
+        high_length: usize,
+        scalar: *const [u64; 2],
+    ) -> u32;
+    /// The four lowest stages of an additive transform over runs of sixteen values, the first of which is run
+    /// first_run. BF_LENGTH unless values has a multiple of 16, shifts 4 and basis 3 to 128; where there are values,
+    /// the number of the last run is below 2 to the power of 3 less than the length of basis.
+    pub fn bf_g128_low_stages(
+        values: *mut [u64; 2],
+        values_length: usize,
+        shifts: *const [u64; 2],
+        shifts_length: usize,
+        basis: *const [u64; 2],
+        basis_length: usize,
+        first_run: u64,
+    ) -> u32;
+    /// The value at each of 2^m points of the polynomial with these coefficients in the basis of subspace
+    /// polynomials. BF_LENGTH unless values has 2^m elements, for an m from 0 to 40.
+    pub fn bf_g128_transform(
+        values: *mut [u64; 2],
+        values_length: usize,
+        shift: *const [u64; 2],
+    ) -> u32;
+    /// The coefficients that g128_transform takes to these values. BF_LENGTH unless values has 2^m elements, for an m
+    /// from 0 to 40.
+    pub fn bf_g128_inverse_transform(
+        values: *mut [u64; 2],
+        values_length: usize,
+        shift: *const [u64; 2],
+    ) -> u32;
+    /// hash: GHASH of the message (NIST SP 800-38D), zeros added to whole blocks; key and hash have 16 bytes.
+    /// BF_LENGTH unless key and hash have 16 bytes.
+    pub fn bf_tag_ghash(
+        key: *const u8,
+        key_length: usize,
+        message: *const u8,
+        message_length: usize,
+        hash: *mut u8,
+        hash_length: usize,
+    ) -> u32;
+    /// hash: POLYVAL of the message (RFC 8452), zeros added to whole blocks; key and hash have 16 bytes. BF_LENGTH
+    /// unless key and hash have 16 bytes.
+    pub fn bf_tag_polyval(
+        key: *const u8,
+        key_length: usize,
+        message: *const u8,
+        message_length: usize,
+        hash: *mut u8,
+        hash_length: usize,
+    ) -> u32;
+    /// hash: the hash of GCM over associated data and ciphertext with the block of their lengths; key and hash have
+    /// 16 bytes. BF_LENGTH unless key and hash have 16 bytes, and associated and ciphertext below 2^61 each.
+    pub fn bf_tag_gcm_ghash(
+        key: *const u8,
+        key_length: usize,
+        associated: *const u8,
+        associated_length: usize,
+        ciphertext: *const u8,
+        ciphertext_length: usize,
+        hash: *mut u8,
+        hash_length: usize,
+    ) -> u32;
+    /// equal: 1 where the two have the same bytes, else 0.
+    pub fn bf_tags_are_equal(
+        left: *const u8,
+        left_length: usize,
+        right: *const u8,
+        right_length: usize,
+        equal: *mut u8,
+    ) -> u32;
+    /// Writes the shards of parity, which stand behind those of data; all shards stand one after the other and have
+    /// one size. BF_CODE if data and parity are not both at least 1 and together at most 256. BF_LENGTH unless shards
+    /// has a multiple, but not 0, of data + parity bytes.
+    pub fn bf_rs_encode(
+        data: u64,
+        parity: u64,
+        shards: *mut u8,
+        shards_length: usize,
+    ) -> u32;
+    /// whole: 1 where the shards of parity are those of the data, else 0. BF_CODE if data and parity are not both at
+    /// least 1 and together at most 256. BF_LENGTH unless shards has a multiple, but not 0, of data + parity bytes.
+    pub fn bf_rs_verify(
+        data: u64,
+        parity: u64,
+        shards: *const u8,
+        shards_length: usize,
+        whole: *mut u8,
+    ) -> u32;
+    /// Writes the missing shards: shard i is missing where present\[i\] is 0. BF_CODE if data and parity are not both
+    /// at least 1 and together at most 256. BF_LENGTH unless shards has a multiple, but not 0, of data + parity
+    /// bytes, and present has data + parity. BF_TOO_FEW_SHARDS unless at least as many entries of present as data are
+    /// not 0.
+    pub fn bf_rs_reconstruct(
+        data: u64,
+        parity: u64,
+        shards: *mut u8,
+        shards_length: usize,
+        present: *const u8,
+        present_length: usize,
+    ) -> u32;
+    /// Writes the missing shards of data alone. BF_CODE if data and parity are not both at least 1 and together at
+    /// most 256. BF_LENGTH unless shards has a multiple, but not 0, of data + parity bytes, and present has data +
+    /// parity. BF_TOO_FEW_SHARDS unless at least as many entries of present as data are not 0.
+    pub fn bf_rs_reconstruct_data(
+        data: u64,
+        parity: u64,
+        shards: *mut u8,
+        shards_length: usize,
+        present: *const u8,
+        present_length: usize,
+    ) -> u32;
+}

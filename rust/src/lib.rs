@@ -1,0 +1,39 @@
+//! Binary fields, computed by a library whose functions are proved. Trusted and not proved are this crate, rustc and the linker.
+//!
+//! An element is an unsigned number, its representation, and a sum is the exclusive or. In the tower the low half of the bits is
+//! the part without the root; in a polynomial basis bit i is the coefficient of x^i. Nothing is claimed on timing.
+//!
+//! ```
+//! use binary_field::{BinaryField128, Field, Ghash128};
+//!
+//! let (a, b) = (Ghash128::new(1 << 127), Ghash128::new(2));
+//! assert_eq!(a * b, Ghash128::new(0x87));
+//! assert_eq!(BinaryField128::from(a * b), BinaryField128::from(a) * BinaryField128::from(b));
+//!
+//! let mut products = [Ghash128::ZERO; 2];
+//! Ghash128::multiply_slices(&[a, b], &[b, b], &mut products)?;
+//! assert_eq!(products, [a * b, b.square()]);
+//! # Ok::<(), binary_field::Error>(())
+//! ```
+#![no_std]
+
+#[rustfmt::skip]
+pub mod functions;
+
+mod bytes;
+mod error;
+mod field;
+mod fields;
+mod maps;
+
+pub use bytes::{ReedSolomon, gcm_ghash, ghash, polyval, tags_are_equal};
+pub use error::Error;
+pub use field::Field;
+pub use fields::{
+    BinaryField2, BinaryField4, BinaryField8, BinaryField16, BinaryField32, BinaryField64,
+    BinaryField128, Gf2, Ghash128, Poly64, Poly192, Rijndael8b,
+};
+pub use maps::{
+    butterfly_forward, butterfly_inverse, inverse_transform, linear_map, linear_map_of_bytes,
+    low_stages, transform,
+};

@@ -1,0 +1,253 @@
+//! Each operator and each function over slices, against products of bits and against each other; statuses; and the functions that
+//! belong to no field.
+
+use binary_field::*;
+
+// Elements of a field, from a fixed seed.
+struct Draw(u64);
+
+impl Draw {
+    fn next(&mut self) -> u64 {
+        self.0 = self.0.wrapping_add(0x9e37_79b9_7f4a_7c15);
+        let mixed = (self.0 ^ (self.0 >> 30)).wrapping_mul(0xbf58_476d_1ce4_e5b9);
+        mixed ^ (mixed >> 31)
+    }
+}
+
+fn laws<F: Field>(make: impl Fn(&mut Draw) -> F) {
+    let mut draw = Draw(47);
+    let x: Vec<F> = (0..257).map(|_| make(&mut draw)).collect();
+    let y: Vec<F> = (0..257).map(|_| make(&mut draw)).collect();
+    for (&a, &b) in x.iter().zip(&y) {
+        assert_eq!(a * (b + F::ONE) - a, a * b);
+        assert_eq!(a + a, F::ZERO);
+        assert_eq!(-a, a);
+        assert_eq!(a.square(), a * a);
+        assert_eq!(a.square_root().square(), a);
+        assert_eq!(a.power(5), a * a * a * a * a);
+        assert_eq!(
+            a.inverse().map(|it| it * a),
+            (a != F::ZERO).then_some(F::ONE)
+        );
+        if b != F::ZERO {
+            assert_eq!(a / b * b, a);
+        }
+    }
+    assert_eq!(F::generator().power(0), F::ONE);
+    for length in [0, 1, 2, 17, 257] {
+        slices(&x[..length], &y[..length]);
+    }
+    let mut out = [F::ZERO; 2];
+    assert_eq!(
+        F::multiply_slices(&x[..2], &y[..3], &mut out),
+        Err(Error::Length)
+    );
+    assert_eq!(F::dot_product(&x[..2], &y[..3]), Err(Error::Length));
+    assert_eq!(out, [F::ZERO; 2]);
+}
+
+// Each function over slices does at each place what the operator does.
+fn slices<F: Field>(x: &[F], y: &[F]) {
+    let scalar = y.first().copied().unwrap_or(F::ONE);
+    let each = |operation: &dyn Fn(F, F) -> F| -> Vec<F> {
+        x.iter().zip(y).map(|(&a, &b)| operation(a, b)).collect()
+    };
+    let mut out = x.to_vec();
+    F::add_slices(x, y, &mut out).unwrap();
+    assert_eq!(out, each(&|a, b| a + b));
+    F::multiply_slices(x, y, &mut out).unwrap();
+    assert_eq!(out, each(&|a, b| a * b));
+    F::multiply_slice_by(x, scalar, &mut out).unwrap();
+    assert_eq!(out, each(&|a, _| a * scalar));
+    out.copy_from_slice(x);
+    F::add_scaled_slice(&mut out, scalar, y).unwrap();
+    assert_eq!(out, each(&|a, b| a + scalar * b));
+    F::square_slice(x, &mut out).unwrap();
+    assert_eq!(out, each(&|a, _| a.square()));
+    F::square_root_slice(x, &mut out).unwrap();
+    assert_eq!(out, each(&|a, _| a.square_root()));
+    let inverses = each(&|a, _| a.inverse().unwrap_or(F::ZERO));
+    F::inverse_slice(x, &mut out).unwrap();
+    assert_eq!(out, inverses);
+    out.fill(F::ZERO);
+    F::batch_inverse_slice(x, &mut out).unwrap();
+    assert_eq!(out, inverses);
+    F::power_slice(x, 11, &mut out).unwrap();
+    assert_eq!(out, each(&|a, _| a.power(11)));
+    assert_eq!(F::product_of_slice(x), x.iter().copied().product());
+    assert_eq!(
+        F::dot_product(x, y).unwrap(),
+        each(&|a, b| a * b).into_iter().sum()
+    );
+    F::evaluate(&[F::ONE, scalar], x, &mut out).unwrap();
+    assert_eq!(out, each(&|a, _| F::ONE + scalar * a));
+}
+
+#[test]
+fn every_field_has_its_operators_and_its_slices() {
+    laws(|draw| Gf2::new(draw.next() as u8 & 1).unwrap());
+    laws(|draw| BinaryField2::new(draw.next() as u8 & 3).unwrap());
+    laws(|draw| BinaryField4::new(draw.next() as u8 & 15).unwrap());
+    laws(|draw| BinaryField8::new(draw.next() as u8));
+    laws(|draw| BinaryField16::new(draw.next() as u16));
+    laws(|draw| BinaryField32::new(draw.next() as u32));
+    laws(|draw| BinaryField64::new(draw.next()));
+    laws(|draw| BinaryField128::new(u128::from(draw.next()) << 64 | u128::from(draw.next())));
+    laws(|draw| Rijndael8b::new(draw.next() as u8));
+    laws(|draw| Poly64::new(draw.next()));
+    laws(|draw| Ghash128::new(u128::from(draw.next()) << 64 | u128::from(draw.next())));
+    laws(|draw| Poly192::new([draw.next(), draw.next(), draw.next()]));
+}
+
+#[test]
+fn a_product_is_the_sum_of_the_shifted_operands() {
+    let mut draw = Draw(48);
+    for _ in 0..100 {
+        let (a, b) = (draw.next(), draw.next());
+        let (mut power, mut product) = (u128::from(a), 0u128);
+        for bit in 0..64 {
+            product ^= power * u128::from(b >> bit & 1);
+            power <<= 1;
+        }
+        assert_eq!(
+            (Ghash128::new(a.into()) * Ghash128::new(b.into())).to_bits(),
+            product
+        );
+    }
+    assert_eq!(
+        BinaryField8::new(0x10) * BinaryField8::new(0x10),
+        BinaryField8::new(0x41)
+    );
+    assert_eq!(
+        Rijndael8b::new(0x57) * Rijndael8b::new(0x83),
+        Rijndael8b::new(0xc1)
+    );
+    assert_eq!(
+        Poly192::new([0, 1, 0]) * Poly192::new([0, 0, 1]),
+        Poly192::new([1, 1, 0])
+    );
+}
+
+#[test]
+fn words_outside_a_field_are_refused_and_texts_are_hexadecimal() {
+    assert_eq!(
+        (Gf2::new(2), BinaryField2::new(4), BinaryField4::new(16)),
+        (None, None, None)
+    );
+    assert_eq!(
+        format!("{:?} {}", Ghash128::new(0x87), Poly192::new([1, 2, 3])),
+        "Ghash128(0x87) [0x1, 0x2, 0x3]"
+    );
+    assert_eq!(Error::Memory.to_string(), "memory was refused");
+}
+
+#[test]
+fn changes_of_basis_keep_products() {
+    let mut draw = Draw(49);
+    for _ in 0..50 {
+        let wide = u128::from(draw.next()) << 64 | u128::from(draw.next());
+        let (a, b) = (
+            BinaryField128::new(wide),
+            BinaryField128::new(u128::from(draw.next())),
+        );
+        assert_eq!(Ghash128::from(a * b), Ghash128::from(a) * Ghash128::from(b));
+        assert_eq!(BinaryField128::from(Ghash128::from(a)), a);
+        let (c, d) = (
+            BinaryField64::new(draw.next()),
+            BinaryField64::new(draw.next()),
+        );
+        assert_eq!(Poly64::from(c * d), Poly64::from(c) * Poly64::from(d));
+        let (e, f) = (
+            BinaryField8::new(draw.next() as u8),
+            BinaryField8::new(draw.next() as u8),
+        );
+        assert_eq!(
+            Rijndael8b::from(e * f),
+            Rijndael8b::from(e) * Rijndael8b::from(f)
+        );
+        let mut images = [Ghash128::ZERO; 2];
+        Ghash128::from_slice(&[a, b], &mut images).unwrap();
+        assert_eq!(images, [a.into(), b.into()]);
+    }
+}
+
+#[test]
+fn transforms_and_linear_maps() {
+    let mut draw = Draw(50);
+    let mut element = || Ghash128::new(u128::from(draw.next()) << 64 | u128::from(draw.next()));
+    let (shift, coefficients) = (element(), [0; 64].map(|_| element()));
+    let mut values = coefficients;
+    transform(&mut values, shift).unwrap();
+    assert_ne!(values, coefficients);
+    inverse_transform(&mut values, shift).unwrap();
+    assert_eq!(values, coefficients);
+    assert_eq!(transform(&mut values[..3], shift), Err(Error::Length));
+    let (mut low, mut high) = ([element(); 3], [element(); 3]);
+    let (low_before, high_before) = (low, high);
+    butterfly_forward(&mut low, &mut high, shift).unwrap();
+    assert_eq!(
+        (low[0], high[0]),
+        (
+            low_before[0] + shift * high_before[0],
+            high_before[0] + low[0]
+        )
+    );
+    butterfly_inverse(&mut low, &mut high, shift).unwrap();
+    assert_eq!((low, high), (low_before, high_before));
+    // The four stages of two values and fourteen zeros: the value of c0 + c1 s_0, whose factor is shift 0 and the basis.
+    let mut run = [Ghash128::ZERO; 16];
+    (run[0], run[1]) = (coefficients[0], coefficients[1]);
+    let (shifts, basis) = ([0; 4].map(|_| element()), [0; 3].map(|_| element()));
+    low_stages(&mut run, &shifts, &basis, 0).unwrap();
+    assert_eq!(
+        run[2],
+        coefficients[0] + coefficients[1] * (shifts[0] + basis[0])
+    );
+    assert_eq!(low_stages(&mut run, &shifts, &basis, 1), Err(Error::Length));
+    let images = core::array::from_fn::<_, 128, _>(|bit| Ghash128::new(1 << bit));
+    let mut mapped = coefficients;
+    linear_map(&values, &images, &mut mapped).unwrap();
+    assert_eq!(mapped, coefficients);
+    let mut bytes = [0; 2];
+    linear_map_of_bytes(&[3, 128], &[1, 3, 0, 0, 0, 0, 0, 9], &mut bytes).unwrap();
+    assert_eq!(bytes, [2, 9]);
+}
+
+#[test]
+fn tags_and_codes() {
+    let key: [u8; 16] = core::array::from_fn(|i| {
+        (0x66e9_4bd4_ef8a_2c3b_884c_fa59_ca34_2b2e_u128 >> (120 - 8 * i)) as u8
+    });
+    let text = 0x0388_dace_60b6_a392_f328_c2b9_71b2_fe78_u128.to_be_bytes();
+    assert_eq!(
+        gcm_ghash(&key, &[], &text),
+        0xf38c_bb1a_d692_23dc_c345_7ae5_b6b0_f885_u128.to_be_bytes()
+    );
+    assert_eq!(ghash(&key, &[]), [0; 16]);
+    assert_ne!(ghash(&key, &text), polyval(&key, &text));
+    assert!(
+        tags_are_equal(&key, &key)
+            && !tags_are_equal(&key, &text)
+            && !tags_are_equal(&key, &key[1..])
+    );
+    let code = ReedSolomon::new(2, 2).unwrap();
+    let mut shards = *b"abcdef\0\0\0\0\0\0";
+    code.encode(&mut shards).unwrap();
+    assert!(code.verify(&shards).unwrap());
+    let whole = shards;
+    shards[..6].fill(0);
+    assert!(!code.verify(&shards).unwrap());
+    code.reconstruct(&mut shards, &[false, false, true, true])
+        .unwrap();
+    assert_eq!(shards, whole);
+    shards[..3].fill(0);
+    code.reconstruct_data(&mut shards, &[false, true, true, true])
+        .unwrap();
+    assert_eq!(shards, whole);
+    assert_eq!(
+        code.reconstruct(&mut shards, &[false, false, false, true]),
+        Err(Error::TooFewShards)
+    );
+    assert_eq!(code.encode(&mut shards[..5]), Err(Error::Length));
+    assert_eq!(ReedSolomon::new(200, 57), Err(Error::Code));
+}

@@ -1,0 +1,321 @@
+"""Calls of every function of the C library, with the statuses and the results that the definitions give.
+
+Inputs are drawn from a fixed seed. Arrays are 257 elements long, and a call is made at each length from 0 to 257, which takes a
+definition once for each element. Where a definition is dear, the elements of an array are drawn from 24 that come again.
+"""
+
+import dataclasses
+import random
+
+import definitions
+from definitions import FIELDS, c_library
+
+LONGEST = 257
+ARRAYS = ("in", "inout", "out")
+STATUS = {name: value for name, value, _ in c_library.STATUSES}
+FUNCTIONS = {name: parameters for name, parameters, _ in c_library.functions()}
+SIZES = {"u8": 1, "u16": 2, "u32": 4, "u64": 8, "u128": 16, "u192": 24}
+
+
+@dataclasses.dataclass
+class Argument:
+    """What one parameter is given: an array or a scalar as it is before the call, and as it has to be after it."""
+
+    kind: str
+    name: str
+    word: str
+    before: list | None
+    after: list
+    # whether the call at length n takes the first n elements of the array, or entry n of the results
+    cut: bool = True
+
+    def bytes_of(self, values):
+        return b"".join(it.to_bytes(SIZES[self.word], "little") for it in values)
+
+
+@dataclasses.dataclass
+class Case:
+    """A call, or one for each length from 0 to `each`."""
+
+    name: str
+    arguments: list
+    each: int | None = None
+    status: int = 0
+
+
+def case(name, *values, each=None, whole=(), status="BF_OK"):
+    """A case by the values of its parameters in order: a pair, before and after, of what is read and written, the expected values
+    of what is written, and the values of what is read. The parameters named in `whole` are not cut."""
+    arguments = []
+    for (kind, parameter, word), value in zip(FUNCTIONS[name], values, strict=True):
+        if kind == "inout":
+            before, after = value
+        elif kind in ("out", "result"):
+            before, after = None, value
+        else:
+            before = after = list(value) if kind == "in" else [value]
+        cut = each is not None and kind in (*ARRAYS, "result") and parameter not in whole
+        arguments.append(Argument(kind, parameter, word, before, after, cut))
+    return Case(name, arguments, each, STATUS[status])
+
+
+def drawn(field, draw, count, pool=None):
+    """Elements of a field, with 0, 1 and the largest among them; all of a pool where one is asked for."""
+    special = [0, 1, (1 << field.bits) - 1]
+    if pool:
+        few = special + [draw.getrandbits(field.bits) for _ in range(pool - 3)]
+        return [draw.choice(few) for _ in range(count)]
+    return [draw.choice(special) if draw.random() < 0.05 else draw.getrandbits(field.bits) for _ in range(count)]
+
+
+def field_cases(field, draw):
+    """The functions that every field has."""
+    name = lambda it: f"{field.name}_{it}"
+    left, right, few = drawn(field, draw, LONGEST), drawn(field, draw, LONGEST), drawn(field, draw, LONGEST, 24)
+    products = [field.multiply(a, b) for a, b in zip(left, right)]
+    yield case(name("add"), left, right, [a ^ b for a, b in zip(left, right)], each=LONGEST)
+    yield case(name("multiply"), left, right, products, each=LONGEST)
+    for scalar in {0, 1, draw.getrandbits(field.bits), (1 << field.bits) - 1}:
+        scaled = [field.multiply(scalar, it) for it in few]
+        yield case(name("multiply_by"), few, scalar, scaled, each=LONGEST)
+        yield case(name("add_scaled"), (left, [a ^ b for a, b in zip(left, scaled)]), scalar, few, each=LONGEST)
+    yield case(name("square"), few, [field.square(it) for it in few], each=LONGEST)
+    nonzero = [it or 1 for it in few]
+    for values in (few, nonzero, [0] * LONGEST):
+        inverses = [field.inverse(it) for it in values]
+        yield case(name("inverse"), values, inverses, each=LONGEST)
+        yield case(name("batch_inverse"), values, inverses, each=LONGEST)
+    yield case(name("square_root"), few, [field.square_root(it) for it in few], each=LONGEST)
+    for exponent in (0, 1, 2, 5, (1 << 64) - 1, draw.getrandbits(64)):
+        values = few if exponent < 6 else few[:9]
+        yield case(name("power"), values, exponent, [field.power(it, exponent) for it in values], each=len(values))
+    # The products of the first n elements, of which none is 0 before the end.
+    values = nonzero[: LONGEST - 1] + [0]
+    yield case(name("product"), values, definitions.running(values, field.multiply, 1), each=LONGEST)
+    yield case(name("dot_product"), left, right, definitions.running(products, lambda a, b: a ^ b, 0), each=LONGEST)
+    for count in (0, 1, 2, 3):
+        yield evaluated(field, left[:count], few)
+    yield evaluated(field, left[:17], few[:20])
+    yield evaluated(field, left, few[:2])
+    assert field.has_full_order(field.generator)
+    yield case(name("generator"), [field.generator])
+
+
+def evaluated(field, coefficients, points):
+    """The values of a polynomial, by Horner's rule."""
+    values = []
+    known = {}
+    for point in points:
+        if point not in known:
+            known[point] = 0
+            for it in reversed(coefficients):
+                known[point] = field.multiply(known[point], point) ^ it
+        values.append(known[point])
+    return case(f"{field.name}_evaluate", coefficients, points, values, each=len(points), whole=("coefficients",))
+
+
+def basis_cases(draw):
+    """Changes of basis and linear maps."""
+    for tower, polynomials in (("t8", "r8"), ("t64", "p64"), ("t128", "g128")):
+        field = FIELDS[tower]
+        for inverted, (a, b) in enumerate([(tower, polynomials), (polynomials, tower)]):
+            images = definitions.columns(field.bits, inverted)
+            values = drawn(field, draw, LONGEST)
+            yield case(f"{a}_to_{b}", values, [definitions.linear_map(images, it) for it in values], each=LONGEST)
+    for field in (FIELDS["r8"], FIELDS["g128"]):
+        images, values = drawn(field, draw, field.bits), drawn(field, draw, LONGEST)
+        mapped = [definitions.linear_map(images, it) for it in values]
+        yield case(f"{field.name}_linear_map", values, images, mapped, each=LONGEST, whole=("images",))
+    # The longest slices go by tables.
+    field = FIELDS["g128"]
+    images, values = drawn(field, draw, 128), drawn(field, draw, 4200)
+    yield case("g128_linear_map", values, images, [definitions.linear_map(images, it) for it in values])
+
+
+def stage_cases(draw):
+    """Stages of transforms, and whole transforms."""
+    field = FIELDS["g128"]
+    for scalar in (0, 1, draw.getrandbits(128)):
+        low, high = drawn(field, draw, LONGEST), drawn(field, draw, LONGEST, 24)
+        low_after = [a ^ field.multiply(scalar, b) for a, b in zip(low, high)]
+        after = low_after, [a ^ b for a, b in zip(high, low_after)]
+        yield case("g128_butterfly_forward", (low, after[0]), (high, after[1]), scalar, each=LONGEST)
+        yield case("g128_butterfly_inverse", (after[0], low), (after[1], high), scalar, each=LONGEST)
+    for runs, count, first in ((0, 3, 1 << 63), (1, 3, 0), (1, 5, 3), (2, 6, 5), (3, 70, (1 << 64) - 3), (4, 5, 0)):
+        values, shifts, basis = (drawn(field, draw, it) for it in (16 * runs, 4, count))
+        after = definitions.low_stages(values, shifts, basis, first) if runs else []
+        yield case("g128_low_stages", (values, after), shifts, basis, first)
+    for m in range(8):
+        shift, coefficients = 0 if m % 2 else draw.getrandbits(128), drawn(field, draw, 1 << m)
+        values = definitions.transform(coefficients, shift)
+        yield case("g128_transform", (coefficients, values), shift)
+        yield case("g128_inverse_transform", (values, coefficients), shift)
+
+
+def tag_cases(draw):
+    """Hashes of tags, with the examples of their standards."""
+    h = bytes.fromhex("66e94bd4ef8a2c3b884cfa59ca342b2e")
+    assert definitions.gcm_ghash(h, b"", bytes.fromhex("0388dace60b6a392f328c2b971b2fe78")).hex() == "f38cbb1ad69223dcc3457ae5b6b0f885"
+    key, message = bytes.fromhex("25629347589242761d31f826ba4b757b"), "4f4f95668c83dfb6401762bb2d01a262d1a24ddd2721d006bbe45f20d3c9f362"
+    assert definitions.polyval(key, bytes.fromhex(message)).hex() == "f7a3b47b846119fae5b7866cf5e5b77e"
+    for length in range(LONGEST + 1):
+        key, message = draw.randbytes(16), draw.randbytes(length)
+        yield case("tag_ghash", key, message, list(definitions.ghash(key, message)))
+        yield case("tag_polyval", key, message, list(definitions.polyval(key, message)))
+        if length % 5 == 0 or length < 34:
+            other = draw.randbytes(draw.randrange(40))
+            for pair in ((message, other), (other, message)):
+                yield case("tag_gcm_ghash", key, *pair, list(definitions.gcm_ghash(key, *pair)))
+        yield case("tags_are_equal", message, message, [1])
+        yield case("tags_are_equal", message, message + b"\0", [0])
+        if length:
+            changed = bytearray(message)
+            changed[draw.randrange(length)] ^= 1 << draw.randrange(8)
+            yield case("tags_are_equal", message, changed, [0])
+            yield case("tags_are_equal", message, message[:-1], [0])
+
+
+def code_cases(draw):
+    """Reed-Solomon codes, with shards lost."""
+    for data, parity, size in ((1, 1, 1), (2, 1, 5), (4, 2, 17), (10, 4, 33), (3, 9, 257), (17, 3, 2), (100, 30, 3), (255, 1, 1), (1, 255, 2)):
+        total = data + parity
+        content = draw.randbytes(data * size)
+        shards = list(definitions.encoded(data, parity, content))
+        raw = list(content) + list(draw.randbytes(parity * size))
+        yield case("rs_encode", data, parity, (raw, shards))
+        yield case("rs_verify", data, parity, shards, [1])
+        wrong = list(shards)
+        wrong[draw.randrange(len(wrong))] ^= 1 << draw.randrange(8)
+        yield case("rs_verify", data, parity, wrong, [0])
+        for lost in sorted({0, 1, parity // 2, parity}):
+            missing = set(draw.sample(range(total), lost))
+            damaged = [draw.getrandbits(8) if at // size in missing else it for at, it in enumerate(shards)]
+            present = [0 if i in missing else draw.choice((1, 2, 255)) for i in range(total)]
+            yield case("rs_reconstruct", data, parity, (damaged, shards), present)
+            data_alone = [shards[at] if at < data * size else it for at, it in enumerate(damaged)]
+            yield case("rs_reconstruct_data", data, parity, (damaged, data_alone), present)
+        few = [0] * (parity + 1) + [1] * (data - 1)
+        for name in ("rs_reconstruct", "rs_reconstruct_data"):
+            yield refused(case(name, data, parity, (shards, shards), few), "BF_TOO_FEW_SHARDS")
+
+
+def refused(it, status):
+    """The case with another status: everything is as before."""
+    arguments = [
+        dataclasses.replace(a, after=a.before if a.before is not None else a.after, cut=False) for a in it.arguments
+    ]
+    return dataclasses.replace(it, arguments=arguments, each=None, status=STATUS[status])
+
+
+def with_argument(it, place, **changes):
+    """The case with one argument changed."""
+    arguments = list(it.arguments)
+    arguments[place] = dataclasses.replace(arguments[place], **changes)
+    return dataclasses.replace(it, arguments=arguments)
+
+
+def of_length(it, place, length):
+    """The case with one array of another length."""
+    argument = it.arguments[place]
+    changed = (argument.after + [0] * length)[:length]
+    return with_argument(it, place, after=changed, before=None if argument.before is None else (argument.before + [0] * length)[:length])
+
+
+def whole_case(it, n):
+    """The one call of a case at length n."""
+    if it.each is None:
+        return it
+    arguments = []
+    for a in it.arguments:
+        if a.kind == "result":
+            a = dataclasses.replace(a, after=[a.after[n]])
+        elif a.cut:
+            a = dataclasses.replace(a, after=a.after[:n], before=a.before and a.before[:n])
+        arguments.append(dataclasses.replace(a, cut=False))
+    return dataclasses.replace(it, arguments=arguments, each=None)
+
+
+# Arrays whose length says nothing to those of the others.
+FREE = {"coefficients", "message", "associated", "ciphertext"}
+
+
+def length_cases(it):
+    """The call with each array shorter and longer than it has to be."""
+    if it.name == "tags_are_equal":
+        return
+    arrays = [at for at, a in enumerate(it.arguments) if a.kind in ARRAYS and a.name not in FREE]
+    if len(arrays) == 1 and not it.name.startswith(("tag", "rs", "g128_transform", "g128_inverse_transform")):
+        return
+    for at in arrays:
+        length = len(it.arguments[at].after)
+        for other in {0, 1, length - 1, length + 1, 2 * length + 1} - {length}:
+            power = it.name.endswith("transform") and other and other & (other - 1) == 0
+            longer_basis = it.name == "g128_low_stages" and at == 2 and other >= 3
+            no_values = it.name == "g128_low_stages" and at == 0 and other == 0
+            whole_shards = it.name.startswith("rs_") and at == 2 and other and other % (it.arguments[0].after[0] + it.arguments[1].after[0]) == 0
+            if other >= 0 and not (power or longer_basis or no_values or whole_shards):
+                yield refused(of_length(it, at, other), "BF_LENGTH")
+
+
+def element_cases(it, bits):
+    """The call with a word that is no element of the field, at the first, a middle and the last place of each array."""
+    for at, a in enumerate(it.arguments):
+        if a.kind not in ("in", "inout", "scalar"):
+            continue
+        for place in sorted({0, len(a.before) // 2, len(a.before) - 1}):
+            for word in (1 << bits, 255):
+                changed = list(a.before)
+                changed[place] = word
+                wrong = with_argument(it, at, before=changed, after=changed)
+                yield refused(wrong, "BF_NOT_AN_ELEMENT")
+        # The lengths are told first.
+        if a.kind != "scalar" and a.name not in FREE:
+            yield from (it for it in length_cases(wrong) if len(it.arguments[at].after) > len(changed))
+
+
+def status_cases(cases):
+    """Each status on purpose, from a call of each function that succeeds."""
+    seen = set()
+    for it in cases:
+        if it.name in seen or it.status or it.each == 0:
+            continue
+        it = whole_case(it, 33 if it.each and it.each >= 33 else it.each)
+        if any(a.kind in ARRAYS and len(a.after) < 2 and a.name not in FREE for a in it.arguments):
+            continue
+        seen.add(it.name)
+        yield from length_cases(it)
+        field = FIELDS.get(it.name.split("_")[0])
+        if field and field.bits < 8 and not it.name.endswith("generator"):
+            if it.name.endswith("evaluate"):
+                it = dataclasses.replace(it, arguments=[dataclasses.replace(a, before=a.before or None) for a in it.arguments])
+                it = whole_case(evaluated(field, [1, 0, 1], [0, 1, 1, 0, 1]), 5)
+            yield from element_cases(it, field.bits)
+    everything = [0] * 512
+    for data, parity in ((0, 1), (1, 0), (0, 0), (256, 1), (1, 256), (2, 255), (1 << 63, 1 << 63), ((1 << 64) - 1, 1), (1, (1 << 64) - 1), (1 << 32, 4)):
+        for name in ("rs_encode", "rs_verify", "rs_reconstruct", "rs_reconstruct_data"):
+            last = {"rs_encode": (), "rs_verify": ([0],)}.get(name, ([1] * 257,))
+            shards = everything if name == "rs_verify" else (everything, everything)
+            yield refused(case(name, data, parity, shards, *last), "BF_CODE")
+    field = FIELDS["g128"]
+    draw = random.Random(1)
+    # Runs past the basis: with five elements there are four runs.
+    for runs, first in ((1, 4), (2, 3), (5, 0), (1, (1 << 64) - 1), (2, (1 << 64) - 1)):
+        values, shifts, basis = (drawn(field, draw, it) for it in (16 * runs, 4, 5))
+        yield case("g128_low_stages", (values, values), shifts, basis, first, status="BF_LENGTH")
+    # Of a number of a run no bit stands for an element past the 128th.
+    values, shifts, basis = (drawn(field, draw, it) for it in (16, 4, 129))
+    yield case("g128_low_stages", (values, definitions.low_stages(values, shifts, basis[:128], 7)), shifts, basis[:128], 7)
+    yield case("g128_low_stages", (values, values), shifts, basis, 7, status="BF_LENGTH")
+
+
+def all_cases():
+    """Every case, and the same in every run."""
+    draw = random.Random(20261126)
+    cases = []
+    for field in FIELDS.values():
+        cases += field_cases(field, draw)
+    for them in (basis_cases, stage_cases, tag_cases, code_cases):
+        cases += them(draw)
+    missing = FUNCTIONS.keys() - {it.name for it in cases}
+    assert not missing, f"no case calls {sorted(missing)}"
+    return cases + list(status_cases(cases))

@@ -1,0 +1,177 @@
+/* Runs the cases that tests/write_cases.py wrote, and compares statuses and what the calls leave: check_functions FILE [STEP].
+ * Of a case with many lengths each STEP-th is called, and the last. An array has a block of its own of exactly its bytes, so that
+ * sanitizers and valgrind see what reads or writes beside it. */
+#include "binary_field.h"
+
+#include <stdio.h>
+#include <stdlib.h>
+#include <string.h>
+
+enum { PARAMETERS = 6, FILL = 0xa5 };
+
+/* One argument of a call: its bytes, at the end of a block. */
+struct buffer {
+    void *block;
+    unsigned char *data;
+    size_t length;
+};
+
+struct function {
+    const char *name;
+    uint32_t (*call)(struct buffer *);
+};
+
+#include "callers.h"
+
+/* A parameter of a case: `count` words before and after the call; there are none before where a function only writes. */
+struct parameter {
+    char kind[8];
+    size_t size;
+    int cut;
+    size_t count;
+    unsigned char *before;
+    unsigned char *after;
+};
+
+static int failures;
+
+static void *allocate(size_t bytes)
+{
+    void *block = malloc(bytes ? bytes : 1);
+    if (!block) {
+        fputs("check_functions: no memory\n", stderr);
+        exit(2);
+    }
+    return block;
+}
+
+/* The bytes of the next word of the file, or NULL where it is `-`. */
+static unsigned char *read_bytes(FILE *file, size_t bytes)
+{
+    unsigned char *result;
+    size_t i;
+    int c;
+    do {
+        c = getc(file);
+    } while (c == ' ');
+    if (c == '-') {
+        return NULL;
+    }
+    ungetc(c, file);
+    result = (unsigned char *)allocate(bytes);
+    for (i = 0; i < bytes; i++) {
+        unsigned digit;
+        if (fscanf(file, "%2x", &digit) != 1) {
+            fputs("check_functions: the file ends early\n", stderr);
+            exit(2);
+        }
+        result[i] = (unsigned char)digit;
+    }
+    return result;
+}
+
+/* Whether a parameter is one word and not an array. */
+static int is_word(const struct parameter *it)
+{
+    return strcmp(it->kind, "scalar") == 0 || strcmp(it->kind, "number") == 0 || strcmp(it->kind, "result") == 0;
+}
+
+/* One call with arrays cut to n elements. */
+static void run(const struct function *function, uint32_t status, struct parameter *p, int parameters, size_t n)
+{
+    struct buffer b[PARAMETERS];
+    uint32_t found;
+    int i;
+    for (i = 0; i < parameters; i++) {
+        size_t count = is_word(&p[i]) ? 1 : p[i].cut ? n : p[i].count;
+        size_t bytes = count * p[i].size;
+        /* Words of 16 and 24 bytes have the alignment of 8, and no larger one in every other call. */
+        size_t skipped = p[i].size > 8 && n % 2 ? 8 : 0;
+        b[i].block = allocate(bytes + skipped);
+        b[i].data = (unsigned char *)b[i].block + skipped;
+        b[i].length = count;
+        if (p[i].before) {
+            memcpy(b[i].data, p[i].before, bytes);
+        } else if (bytes) {
+            memset(b[i].data, FILL, bytes);
+        }
+    }
+    found = function->call(b);
+    if (found != status) {
+        failures++;
+        printf("check_functions: bf_%s at %lu: status %lu (%s), and not %lu\n", function->name, (unsigned long)n,
+            (unsigned long)found, bf_status_text(found), (unsigned long)status);
+    }
+    for (i = 0; i < parameters; i++) {
+        size_t bytes = b[i].length * p[i].size, at = 0;
+        int is_result = strcmp(p[i].kind, "result") == 0;
+        const unsigned char *after = p[i].after + (is_result && p[i].cut ? n * p[i].size : 0);
+        int kept = status != BF_OK;
+        while (at < bytes && b[i].data[at] == (kept && !p[i].before ? FILL : kept ? p[i].before[at] : after[at])) {
+            at++;
+        }
+        if (at < bytes) {
+            failures++;
+            printf("check_functions: bf_%s at %lu: parameter %d differs at byte %lu\n", function->name, (unsigned long)n, i,
+                (unsigned long)at);
+        }
+        free(b[i].block);
+    }
+}
+
+static const struct function *named(const char *name)
+{
+    size_t i;
+    for (i = 0; i < sizeof functions / sizeof *functions; i++) {
+        if (strcmp(functions[i].name, name) == 0) {
+            return &functions[i];
+        }
+    }
+    fprintf(stderr, "check_functions: no function %s\n", name);
+    exit(2);
+}
+
+int main(int arguments, char **argument)
+{
+    FILE *file = arguments > 1 ? fopen(argument[1], "r") : NULL;
+    long step = arguments > 2 ? strtol(argument[2], NULL, 10) : 1;
+    unsigned long calls = 0, status;
+    char name[64];
+    long each;
+    int parameters;
+    if (!file || step < 1) {
+        fputs("check_functions: usage: check_functions FILE [STEP]\n", stderr);
+        return 2;
+    }
+    if (bf_version() != BF_VERSION) {
+        failures++;
+        puts("check_functions: the header and the library have different versions");
+    }
+    while (fscanf(file, "%63s %lu %ld %d", name, &status, &each, &parameters) == 4) {
+        struct parameter p[PARAMETERS];
+        long n;
+        int i;
+        for (i = 0; i < parameters && i < PARAMETERS; i++) {
+            unsigned long size, count;
+            if (fscanf(file, "%7s %lu %d %lu", p[i].kind, &size, &p[i].cut, &count) != 4) {
+                fputs("check_functions: the file ends early\n", stderr);
+                return 2;
+            }
+            p[i].size = size;
+            p[i].count = count;
+            p[i].before = read_bytes(file, p[i].size * p[i].count);
+            p[i].after = read_bytes(file, p[i].size * p[i].count);
+        }
+        for (n = 0; n <= (each < 0 ? 0 : each); n += n < each && n + step > each ? each - n : step) {
+            run(named(name), (uint32_t)status, p, parameters, (size_t)n);
+            calls++;
+        }
+        for (i = 0; i < parameters; i++) {
+            free(p[i].before);
+            free(p[i].after);
+        }
+    }
+    fclose(file);
+    printf("check_functions: %lu calls, %d wrong\n", calls, failures);
+    return failures != 0;
+}

@@ -1,0 +1,90 @@
+"""Calls every function of a built library on every case, and compares what it leaves with the definitions.
+
+    check_functions.py LIBRARY.so
+
+Each array stands between bytes that have to stay, alone and at the least alignment that C asks for. Inputs have to stay too.
+"""
+
+import ctypes
+import sys
+import time
+
+import cases
+
+NARROW = {"u8": ctypes.c_uint8, "u16": ctypes.c_uint16, "u32": ctypes.c_uint32, "u64": ctypes.c_uint64}
+GUARD, FILL = bytes(range(0xC0, 0xD0)), 0xA5
+
+
+class Buffer:
+    """Bytes between guards."""
+
+    def __init__(self, content, word):
+        self.content = content
+        self.memory = ctypes.create_string_buffer(GUARD + b"\0" * 8 + content + GUARD, len(content) + 40)
+        # An address that a word's own alignment divides and no larger one.
+        alignment = min(cases.SIZES[word], 8)
+        start = ctypes.addressof(self.memory) + 16
+        self.shift = -start % alignment
+        if (start + self.shift) % (2 * alignment) == 0:
+            self.shift = (self.shift + alignment) % 8 if alignment < 8 else 0
+        self.address = start + self.shift
+        ctypes.memmove(self.address - 16, GUARD + content + GUARD, len(content) + 32)
+
+    def read(self):
+        """The bytes, or None where a guard was changed."""
+        found = ctypes.string_at(self.address - 16, len(self.content) + 32)
+        return found[16:-16] if (found[:16], found[-16:]) == (GUARD, GUARD) else None
+
+
+def call(library, it):
+    """Runs one call; returns what went wrong, or nothing."""
+    arguments, buffers = [], []
+    for a in it.arguments:
+        if a.kind == "number" or (a.kind == "scalar" and a.word in NARROW):
+            arguments.append(NARROW[a.word](a.before[0]))
+            continue
+        after = a.bytes_of(a.after)
+        before = a.bytes_of(a.before) if a.before is not None else bytes([FILL]) * len(after)
+        buffer = Buffer(before, a.word)
+        buffers.append((a.name, buffer, before if it.status else after))
+        arguments.append(ctypes.c_void_p(buffer.address))
+        if a.kind in cases.ARRAYS:
+            arguments.append(ctypes.c_size_t(len(a.after)))
+    function = library[f"bf_{it.name}"]
+    function.restype = ctypes.c_uint32
+    status = function(*arguments)
+    if status != it.status:
+        return f"status {status} and not {it.status}"
+    for name, buffer, wanted in buffers:
+        found = buffer.read()
+        if found is None:
+            return f"bytes beside {name} were written"
+        if found != wanted:
+            place = next(at for at, (x, y) in enumerate(zip(found, wanted)) if x != y)
+            return f"{name} differs at byte {place}: {found[place:place + 16].hex()} and not {wanted[place:place + 16].hex()}"
+    return None
+
+
+def main():
+    """Runs all cases; the exit status is 1 where one went wrong."""
+    library, began = ctypes.CDLL(sys.argv[1]), time.monotonic()
+    calls, wrong, names = 0, 0, set()
+    for it in cases.all_cases():
+        for n in range(it.each + 1) if it.each is not None else [0]:
+            one = cases.whole_case(it, n)
+            said = call(library, one)
+            calls += 1
+            if said:
+                wrong += 1
+                if wrong < 30:
+                    print(f"check_functions: bf_{it.name}, lengths {[len(a.after) for a in one.arguments if a.kind in cases.ARRAYS]}: {said}")
+        names.add(it.name)
+    if library.bf_version() != cases.definitions.VERSION:
+        wrong += 1
+        print(f"check_functions: bf_version returns {library.bf_version()} and not {cases.definitions.VERSION}")
+    print(f"check_functions: {calls} calls of {len(names) + 1} functions, {wrong} wrong, in {time.monotonic() - began:.0f} s")
+    return 1 if wrong else 0
+
+
+if __name__ == "__main__":
+    sys.exit(main())

@@ -1,0 +1,252 @@
+"""Tests of the Python package over a built library, against the definitions: check_package.py.
+
+The package is the one that Python finds, as in PYTHONPATH=python BINARY_FIELD_LIBRARY=FOLDER/lib.
+"""
+
+import pickle
+import random
+import unittest
+
+import definitions
+import numpy as np
+
+import binary_field as bf
+
+FIELDS = {name: getattr(bf, title) for name, title in definitions.make_c_header.CLASSES.items()}
+
+
+def every_field():
+    """Each class with the definitions of its field, and numbers of elements of which none is 0."""
+    draw = random.Random(47)
+    for name, field in FIELDS.items():
+        defined = definitions.FIELDS[name]
+        yield field, defined, [[draw.getrandbits(defined.bits) or 1 for _ in range(5)] for _ in range(2)]
+
+
+class Elements(unittest.TestCase):
+    """Making arrays, and what they hold."""
+
+    def test_numbers_enter_and_leave(self):
+        for field, _, (x, _) in every_field():
+            a = field(x)
+            self.assertEqual(a.tolist(), x)
+            self.assertEqual([int(it) for it in a], x)
+            self.assertEqual(field([hex(it) for it in x]).tolist(), x)
+            self.assertEqual(field.from_words(a.to_words()).tolist(), x)
+            self.assertEqual(field(list(a)).tolist(), x)
+            self.assertEqual(np.asarray(a).tolist(), x)
+            self.assertEqual(pickle.loads(pickle.dumps(a)).tolist(), x)
+            self.assertEqual((a.shape, a.ndim, a.size, len(a)), ((5,), 1, 5, 5))
+            self.assertEqual(field([[1, 0], [0, 1]]).tolist(), [[1, 0], [0, 1]])
+            self.assertEqual((field.zeros(3).tolist(), field.ones((1, 2)).tolist()), ([0, 0, 0], [[1, 1]]))
+            self.assertEqual((field([]).tolist(), field([]).shape), ([], (0,)))
+
+    def test_other_numbers_are_refused(self):
+        for field, defined, _ in every_field():
+            for value in (1 << defined.bits, -1, [0, 1 << defined.bits]):
+                self.assertRaises(ValueError, field, value)
+            for value in (0.5, [None], 1j):
+                self.assertRaises(TypeError, field, value)
+        self.assertRaises(ValueError, bf.BinaryField4, np.array([3, 16], np.uint8))
+        self.assertRaises(ValueError, bf.BinaryField8, np.array([-1]))
+        self.assertRaises(ValueError, bf.BinaryField4.from_words, np.array([16], np.uint8))
+        self.assertRaises(TypeError, bf.Ghash128.from_words, np.array([1, 2, 3], np.uint64))
+
+    def test_constants(self):
+        for field, defined, _ in every_field():
+            self.assertEqual((field.degree, field.order, field.characteristic), (defined.bits, 1 << defined.bits, 2))
+            self.assertEqual(int(field.primitive_element), defined.generator)
+
+    def test_indexes(self):
+        for field, _, (x, _) in every_field():
+            a = field(x)
+            self.assertEqual((a[1:4].tolist(), a[[4, 0]].tolist(), a[::-1].tolist()), (x[1:4], [x[4], x[0]], x[::-1]))
+            self.assertEqual((int(a[-1]), a[np.array([True, False, False, True, False])].tolist()), (x[-1], [x[0], x[3]]))
+            m = field([x, x[::-1]])
+            self.assertEqual((m[1].tolist(), m[:, 0].tolist(), m[..., 4].tolist()), (x[::-1], [x[0], x[4]], [x[4], x[0]]))
+            a[1:3] = a[0]
+            a[4] = 1
+            self.assertEqual(a.tolist(), [x[0], x[0], x[0], x[3], 1])
+            self.assertEqual(m.reshape(-1).tolist(), x + x[::-1])
+            self.assertEqual(m.reshape(5, 2).shape, (5, 2))
+            self.assertRaises(IndexError, lambda: a[5])
+
+    def test_draws(self):
+        for field, _, _ in every_field():
+            a = field.random(1000, seed=1)
+            self.assertTrue((a == field.random(1000, seed=1)).all())
+            self.assertGreater(len(set(a.tolist())), min(field.order, 200) - 1)
+            self.assertEqual(field.random((2, 3)).shape, (2, 3))
+
+    def test_texts(self):
+        self.assertEqual(repr(bf.BinaryField8([1, 255])), "BinaryField8([0x1, 0xff])")
+        self.assertEqual(str(bf.Ghash128([[1 << 127], [2]])), "[[0x80000000000000000000000000000000], [0x2]]")
+        self.assertEqual(repr(bf.Poly192(1 << 64)), "Poly192(0x10000000000000000)")
+        self.assertEqual(str(bf.Gf2.zeros(5000)), "[0x0, 0x0, 0x0, .., 0x0, 0x0, 0x0], 5000 elements of shape (5000,)")
+
+
+class Arithmetic(unittest.TestCase):
+    """The operators, and numpy's functions."""
+
+    def test_operators(self):
+        for field, defined, (x, y) in every_field():
+            a, b = field(x), field(y)
+            products = [defined.multiply(*it) for it in zip(x, y)]
+            quotients = [defined.multiply(m, defined.inverse(n)) for m, n in zip(x, y)]
+            sums = [m ^ n for m, n in zip(x, y)]
+            inverses = [defined.inverse(it) for it in x]
+            for wanted, found in [
+                (sums, a + b), (sums, a - b), (sums, np.add(a, b)), (sums, np.subtract(a, b)), (x, -a), (x, +a), (x, np.negative(a)),
+                (products, a * b), (products, np.multiply(a, b)), (quotients, a / b), (quotients, np.divide(a, b)),
+                (inverses, 1 / a), (inverses, a**-1), (inverses, np.reciprocal(a)), (x, a * 1), (x, 1 * a), (x, 0 + a), (x, np.uint8(0) + a),
+                ([it ^ 1 for it in x], a + 1), ([it ^ 1 for it in x], 1 - a), ([0] * 5, a * 0), ([0] * 5, a - a),
+                ([defined.square(it) for it in x], np.square(a)), ([defined.square_root(it) for it in x], np.sqrt(a)),
+                ([defined.power(it, 5) for it in x], a**5), ([defined.power(it, 5) for it in x], np.power(a, 5)), ([1] * 5, a**0),
+                ([defined.multiply(it, y[0]) for it in x], a * b[0]), ([defined.multiply(it, y[0]) for it in x], b[0] * a),
+            ]:
+                self.assertEqual(found.tolist(), wanted)
+                self.assertIs(type(found), field)
+            self.assertTrue((a ** (1 << defined.bits) == a).all())
+            self.assertTrue((a ** ((1 << defined.bits) - 2) == 1 / a).all())
+            self.assertEqual((a == b).tolist(), [m == n for m, n in zip(x, y)])
+            self.assertEqual((a != x).tolist(), [False] * 5)
+
+    def test_vectors_and_matrices(self):
+        for field, defined, (x, y) in every_field():
+            a, b = field(x), field(y)
+            dot = definitions.total(defined.multiply(*it) for it in zip(x, y))
+            for found in (a.dot(b), a @ b, np.dot(a, b), (a * b).sum(), np.sum(a * b), np.matmul(a, b)):
+                self.assertEqual(int(found), dot)
+            self.assertEqual(int(np.prod(a)), definitions.running(x, defined.multiply, 1)[-1])
+            self.assertEqual((int(field([]).prod()), int(field([]).sum()), int(field([]) @ field([]))), (1, 0, 0))
+            m = field([x, y])
+            self.assertEqual((m @ b).tolist(), [int(a @ b), int(b @ b)])
+            self.assertEqual((m @ field([[it] for it in y])).tolist(), [[int(a @ b)], [int(b @ b)]])
+            self.assertEqual((m * b).tolist(), [(a * b).tolist(), (b * b).tolist()])
+            self.assertEqual((m * field([[x[0]], [1]])).tolist(), [(a * a[0]).tolist(), y])
+            a.add_scaled(b[1], b)
+            self.assertEqual(a.tolist(), [m ^ defined.multiply(y[1], n) for m, n in zip(x, y)])
+            b.add_scaled(1, b)
+            self.assertEqual(b.tolist(), [0] * 5)
+            self.assertEqual(np.concatenate([field(x), field(y)]).tolist(), x + y)
+            self.assertTrue(np.array_equal(field(x), field(x)) and not np.array_equal(field(x), field(y + [0])))
+
+    def test_polynomials(self):
+        for field, defined, (x, y) in every_field():
+            wanted = []
+            for point in y:
+                value = 0
+                for it in reversed(x):
+                    value = defined.multiply(value, point) ^ it
+                wanted.append(value)
+            self.assertEqual(field.evaluate(field(x), field(y)).tolist(), wanted)
+            self.assertEqual(field.evaluate([], [0, 1]).tolist(), [0, 0])
+
+    def test_what_is_refused(self):
+        for field, _, (x, y) in every_field():
+            a = field(x)
+            for zero in (lambda: a / 0, lambda: 1 / field([1, 0]), lambda: field([0, 1]) ** -1, lambda: np.reciprocal(field([0]))):
+                self.assertRaises(ZeroDivisionError, zero)
+            self.assertEqual(field([0, 1]).inverse_or_zero().tolist(), [0, 1])
+            other = bf.Poly64 if field is not bf.Poly64 else bf.BinaryField64
+            for mixed in (lambda: a * other(x[0] & 1), lambda: a + 2, lambda: a * [1] * 5, lambda: np.arange(5) * a, lambda: a**0.5, lambda: np.exp(a)):
+                self.assertRaises(TypeError, mixed)
+            self.assertRaises(ValueError, lambda: a * field([1, 1]))
+            self.assertRaises(ValueError, lambda: a @ field([1, 1]))
+            self.assertRaises(TypeError, hash, a)
+
+
+class Maps(unittest.TestCase):
+    """Changes of basis, linear maps and transforms."""
+
+    def test_bases(self):
+        for tower, polynomials in ((bf.BinaryField8, bf.Rijndael8b), (bf.BinaryField64, bf.Poly64), (bf.BinaryField128, bf.Ghash128)):
+            a = tower.random((3, 4), seed=5)
+            columns = definitions.columns(tower.degree, False)
+            self.assertEqual(polynomials(a).reshape(-1).tolist(), [definitions.linear_map(columns, it) for it in a.reshape(-1).tolist()])
+            self.assertTrue((a.to(polynomials).to(tower) == a).all())
+            self.assertTrue(((a * a).to(polynomials) == a.to(polynomials) * a.to(polynomials)).all())
+        self.assertRaises(TypeError, bf.BinaryField8, bf.Poly64(1))
+        self.assertRaises(TypeError, bf.Ghash128(1).to, bf.Rijndael8b)
+
+    def test_linear_maps(self):
+        for field in (bf.Rijndael8b, bf.Ghash128):
+            images, values = field.random(field.degree, seed=6), field.random((2, 9), seed=7)
+            wanted = [definitions.linear_map(images.tolist(), it) for it in values.reshape(-1).tolist()]
+            self.assertEqual(bf.linear_map(images, values).reshape(-1).tolist(), wanted)
+            self.assertRaises(ValueError, bf.linear_map, images[:7], values)
+        self.assertRaises(TypeError, bf.linear_map, bf.Poly64.random(64), bf.Poly64.random(1))
+
+    def test_transforms(self):
+        for m in (0, 1, 4, 6):
+            a, shift = bf.Ghash128.random(1 << m, seed=m), bf.Ghash128.random(seed=8)
+            values = bf.transform(a, shift)
+            self.assertEqual(values.tolist(), definitions.transform(a.tolist(), int(shift)))
+            self.assertTrue((bf.inverse_transform(values, shift) == a).all())
+            points = bf.transform_points(1 << m, shift)
+            self.assertEqual(points.tolist(), [int(shift) ^ definitions.linear_map(definitions.cantor_vectors(), p) for p in range(1 << m)])
+        # A long one, at three places.
+        a = bf.Ghash128.random(1 << 10, seed=9)
+        values = bf.transform(a)
+        for place in (0, 77, 1023):
+            self.assertEqual(int(values[place]), definitions.transform_value(a.tolist(), 0, place))
+        a = bf.Ghash128.random(1 << 16, seed=10)
+        self.assertTrue((bf.inverse_transform(bf.transform(a, 3), 3) == a).all())
+        for wrong in (bf.Ghash128.random(0), bf.Ghash128.random(3), bf.Ghash128.random((2, 2)), bf.Ghash128(1)):
+            self.assertRaises(ValueError, bf.transform, wrong)
+            self.assertRaises(ValueError, bf.inverse_transform, wrong)
+
+    def test_stages(self):
+        low, high, scalar = bf.Ghash128.random(9, seed=11), bf.Ghash128.random(9, seed=12), bf.Ghash128.random(seed=13)
+        a, b = low.copy(), high.copy()
+        bf.butterfly_forward(a, b, scalar)
+        self.assertTrue((a == low + scalar * high).all() and (b == high + a).all())
+        bf.butterfly_inverse(a, b, scalar)
+        self.assertTrue((a == low).all() and (b == high).all())
+        self.assertRaises(TypeError, bf.butterfly_forward, a, a, scalar)
+        values, shifts, basis = bf.Ghash128.random(32, seed=14), bf.Ghash128.random(4, seed=15), bf.Ghash128.random(6, seed=16)
+        wanted = definitions.low_stages(values.tolist(), shifts.tolist(), basis.tolist(), 3)
+        self.assertEqual(bf.low_stages(values, shifts, basis, 3).tolist(), wanted)
+        self.assertRaises(ValueError, bf.low_stages, values, shifts, basis, 7)
+        self.assertRaises(ValueError, bf.low_stages, values, shifts, basis, 1 << 64)
+
+
+class Bytes(unittest.TestCase):
+    """Tags and codes."""
+
+    def test_tags(self):
+        draw = random.Random(48)
+        for length in (0, 1, 16, 100):
+            key, message = draw.randbytes(16), draw.randbytes(length)
+            self.assertEqual(bf.ghash(key, message), definitions.ghash(key, message))
+            self.assertEqual(bf.polyval(key, bytearray(message)), definitions.polyval(key, message))
+            self.assertEqual(bf.gcm_ghash(key, message, np.frombuffer(key, np.uint8)), definitions.gcm_ghash(key, message, key))
+        self.assertTrue(bf.tags_are_equal(b"tag", b"tag"))
+        self.assertFalse(bf.tags_are_equal(b"tag", b"tags"))
+        self.assertRaises(ValueError, bf.ghash, b"short", b"")
+        self.assertRaises(TypeError, bf.ghash, "text", b"")
+
+    def test_codes(self):
+        code = bf.ReedSolomon(4, 2)
+        content = random.Random(49).randbytes(36)
+        data = np.frombuffer(content, np.uint8).reshape(4, 9)
+        shards = code.encode(data)
+        self.assertEqual(shards.tobytes(), definitions.encoded(4, 2, content))
+        self.assertTrue(code.verify(shards))
+        damaged = [None if it in (0, 5) else row.tobytes() for it, row in enumerate(shards)]
+        self.assertTrue((code.reconstruct(damaged) == shards).all())
+        self.assertTrue((code.reconstruct_data(damaged) == data).all())
+        wrong = shards.copy()
+        wrong[2, 3] ^= 1
+        self.assertFalse(code.verify(wrong))
+        self.assertTrue((code.reconstruct(wrong, [True, True, False, True, True, True]) == shards).all())
+        for given in ([None] * 6, [None] * 3 + damaged[1:4], damaged[:5], [b"ab", b"a", b"a", b"a", None, None]):
+            self.assertRaises(ValueError, code.reconstruct, given)
+        self.assertRaises(ValueError, code.encode, np.zeros((3, 9), np.uint8))
+        self.assertRaises(ValueError, code.encode, np.zeros((4, 0), np.uint8))
+        for data, parity in ((0, 1), (1, 0), (200, 57), (-1, 3)):
+            self.assertRaises(ValueError, bf.ReedSolomon, data, parity)
+
+
+if __name__ == "__main__":
+    unittest.main()

@@ -1,0 +1,272 @@
+"""Every function of the C library by its definition, over plain integers, with shifts and exclusive ors.
+
+An element is an integer, and a sum is `^`. An element of p192 has the coefficient of y^i in its bits 64 i to 64 i + 63. A field is
+an object of `Field`, by its name in FIELDS; the functions that belong to no field are here under their own names.
+"""
+
+import functools
+import pathlib
+import sys
+
+TOP = pathlib.Path(__file__).resolve().parent.parent
+sys.path.insert(0, str(TOP / "scripts"))
+import c_library
+import make_basis
+import make_c_header
+import make_shards
+import tower
+
+# Products of small elements come again and again in one of a large level.
+tower.multiply = functools.lru_cache(1 << 16)(tower.multiply)
+
+MODULI = {"r8": 0x11B, "p64": 1 << 64 | 0x1B, "g128": 1 << 128 | 0x87}
+# The generators that the library names; `has_full_order` says whether one is a generator.
+GENERATORS = {
+    "gf2": 1, "t2": 2, "t4": 5, "t8": 0x13, "t16": 0x102, "t32": 0x1_0005, "t64": 0x1_0000_0004, "t128": 0x1_0000_0000_0000_0005,
+    "r8": 0x88, "p64": 0xC313_D8D1_BFAE_2150, "g128": 0xE5A5_755A_D217_F07D_1DA7_0A74_7203_D630, "p192": 5 | 3 << 64 | 1 << 128,
+}
+# What bf_version returns.
+VERSION = make_c_header.VERSION[0] << 16 | make_c_header.VERSION[1] << 8 | make_c_header.VERSION[2]
+# The primes that divide 2^n - 1 for the degrees n of the fields.
+PRIMES = [3, 5, 7, 13, 17, 97, 193, 241, 257, 641, 673, 65537, 274177, 6700417, 22253377, 67280421310721, 18446744069414584321]
+
+
+class Field:
+    """A field by its product."""
+
+    def __init__(self, name, word, bits):
+        self.name, self.word, self.bits = name, word, bits
+        self.modulus = MODULI.get(name)
+        self.generator = GENERATORS[name]
+
+    def multiply(self, a, b):
+        """The product: in the tower by halves, else modulo the field's polynomial."""
+        if self.modulus:
+            return make_basis.multiply(self.bits, self.modulus, a, b)
+        if self.name == "p192":
+            return self.cubic_product(a, b)
+        return tower.multiply(self.bits.bit_length() - 1, a, b)
+
+    @staticmethod
+    def cubic_product(a, b):
+        """The product over p64, with y^3 = y + 1 and y^4 = y^2 + y."""
+        parts = [0] * 5
+        for i in range(3):
+            for j in range(3):
+                parts[i + j] ^= FIELDS["p64"].multiply(a >> 64 * i & MASK_64, b >> 64 * j & MASK_64)
+        for i in (4, 3):
+            parts[i - 2] ^= parts[i]
+            parts[i - 3] ^= parts[i]
+        return parts[0] | parts[1] << 64 | parts[2] << 128
+
+    def square(self, a):
+        return self.multiply(a, a)
+
+    @functools.cache
+    def power(self, a, exponent):
+        """By the bits of the exponent, highest first."""
+        result = 1
+        for bit in bin(exponent)[2:]:
+            result = self.square(result)
+            if bit == "1":
+                result = self.multiply(result, a)
+        return result
+
+    @functools.cache
+    def inverse(self, a):
+        """The element whose product with `a` is 1, and 0 for 0. It is found by a chain, and then multiplied."""
+        if a == 0:
+            return 0
+        # a^(2^m - 1) for growing m, by a^(2^(m + k) - 1) = (a^(2^m - 1))^(2^k) a^(2^k - 1); the inverse is the square at m = n - 1.
+        reached, power = 1, a
+        for bit in bin(self.bits - 1)[3:]:
+            power, reached = self.multiply(self.frobenius(power, reached), power), 2 * reached
+            if bit == "1":
+                power, reached = self.multiply(self.square(power), a), reached + 1
+        found = self.square(power) if self.bits > 1 else a
+        assert self.multiply(a, found) == 1
+        return found
+
+    def frobenius(self, a, times):
+        for _ in range(times):
+            a = self.square(a)
+        return a
+
+    @functools.cache
+    def square_root(self, a):
+        """The element whose square is `a`: the sum, over its bits, of the roots of the powers of two."""
+        root = make_basis.literals.image(self.roots, a)
+        assert self.square(root) == a
+        return root
+
+    @functools.cached_property
+    def roots(self):
+        return [self.frobenius(1 << i, self.bits - 1) for i in range(self.bits)]
+
+    def has_full_order(self, a):
+        """Whether every element but 0 is a power of `a`."""
+        order = (1 << self.bits) - 1
+        return self.power(a, order) == 1 and all(self.power(a, order // it) != 1 for it in PRIMES if order % it == 0)
+
+
+MASK_64 = (1 << 64) - 1
+FIELDS = {name: Field(name, word, bits) for name, word, bits, _ in c_library.FIELDS}
+GHASH = FIELDS["g128"]
+
+
+def total(values):
+    """The sum of elements."""
+    result = 0
+    for it in values:
+        result ^= it
+    return result
+
+
+def running(values, step, first):
+    """What `step` makes of `first` and the values one by one: a list that begins with `first`."""
+    result = [first]
+    for it in values:
+        result.append(step(result[-1], it))
+    return result
+
+
+def columns(width, inverted):
+    """The images of the bits of a level of the tower in the polynomial basis of the same degree, or those back."""
+    _, modulus, images, _ = next(it for it in make_basis.FIELDS if it[0] == width)
+    found = make_basis.columns_of(width, modulus, images)
+    return make_basis.inverse_of(found) if inverted else found
+
+
+def linear_map(images, value):
+    """The sum of the images at the set bits."""
+    return make_basis.literals.image(images, value)
+
+
+# ---- additive transforms over g128
+
+
+@functools.cache
+def cantor_vectors():
+    """The vectors of the tower by their rule, the even solution each, and their images."""
+    import make_cantor
+
+    rows, vectors = make_cantor.reduced_images(), [1]
+    while len(vectors) < 128:
+        vectors.append(make_cantor.even_solution(rows, vectors[-1]))
+    return [linear_map(columns(128, False), it) for it in vectors]
+
+
+def subspace_values(x, count):
+    """s_0(x) to s_(count - 1)(x)."""
+    values = [x]
+    while len(values) < count:
+        values.append(GHASH.square(values[-1]) ^ values[-1])
+    return values
+
+
+def sum_of_factors(coefficients, factors):
+    """The sum of each coefficient k times the product of the factors at the set bits of k."""
+    products = [1]
+    for it in factors:
+        products += [GHASH.multiply(product, it) for product in products]
+    return total(GHASH.multiply(coefficient, product) for coefficient, product in zip(coefficients, products))
+
+
+def transform_value(coefficients, shift, place):
+    """The value at one point of the polynomial with 2^m coefficients."""
+    m = len(coefficients).bit_length() - 1
+    point = shift ^ linear_map(cantor_vectors(), place)
+    return sum_of_factors(coefficients, subspace_values(point, m) if m else [])
+
+
+def transform(coefficients, shift):
+    return [transform_value(coefficients, shift, place) for place in range(len(coefficients))]
+
+
+def low_stages(values, shifts, basis, first_run):
+    """What the four lowest stages leave in runs of sixteen places."""
+    result = []
+    for start in range(0, len(values), 16):
+        for i in range(16):
+            place = 16 * first_run + start + i
+            factors = [shifts[j] ^ linear_map(basis, place >> (j + 1)) ^ (place >> j & 1) for j in range(4)]
+            result.append(sum_of_factors(values[start : start + 16], factors))
+    return result
+
+
+# ---- tags
+
+
+def blocks(message):
+    """Blocks of 16 bytes, the last filled up with zeros."""
+    return [message[at : at + 16].ljust(16, b"\0") for at in range(0, len(message), 16)]
+
+
+def gcm_product(x, y):
+    """The product of two blocks as numbers, the first bit highest (NIST SP 800-38D, section 6.3)."""
+    z, v = 0, y
+    for i in range(128):
+        if x >> (127 - i) & 1:
+            z ^= v
+        v = v >> 1 ^ (0xE1 << 120 if v & 1 else 0)
+    return z
+
+
+def ghash_blocks(key, message_blocks):
+    """Section 6.4."""
+    y = 0
+    for block in message_blocks:
+        y = gcm_product(y ^ int.from_bytes(block, "big"), int.from_bytes(key, "big"))
+    return y.to_bytes(16, "big")
+
+
+def ghash(key, message):
+    return ghash_blocks(key, blocks(message))
+
+
+def gcm_ghash(key, associated, ciphertext):
+    lengths = (8 * len(associated)).to_bytes(8, "big") + (8 * len(ciphertext)).to_bytes(8, "big")
+    return ghash_blocks(key, [*blocks(associated), *blocks(ciphertext), lengths])
+
+
+def polyval(key, message):
+    """RFC 8452, section 3: the product of each step is a b x^-128."""
+    modulus = 1 << 128 | 1 << 127 | 1 << 126 | 1 << 121 | 1
+    inverse = 1 << 127 | 1 << 124 | 1 << 121 | 1 << 114 | 1
+    s = 0
+    for block in blocks(message):
+        s = make_basis.multiply(128, modulus, s ^ int.from_bytes(block, "little"), int.from_bytes(key, "little"))
+        s = make_basis.multiply(128, modulus, s, inverse)
+    return s.to_bytes(16, "little")
+
+
+# ---- Reed-Solomon codes
+
+
+@functools.cache
+def byte_inverse(a):
+    """The inverse of a byte but 0 in the field of the codes."""
+    return next(b for b in range(256) if make_shards.multiply(a, b) == 1)
+
+
+def codeword(column, total):
+    """The values at the bytes 0 to total - 1 of the polynomial with these values at the first of them, by divided differences."""
+    newton = list(column)
+    for j in range(1, len(newton)):
+        for i in range(len(newton) - 1, j - 1, -1):
+            newton[i] = make_shards.multiply(newton[i] ^ newton[i - 1], byte_inverse(i ^ (i - j)))
+    values = []
+    for x in range(total):
+        value = 0
+        for i in range(len(newton) - 1, -1, -1):
+            value = make_shards.multiply(value, x ^ i) ^ newton[i]
+        values.append(value)
+    assert values[: len(newton)] == list(column)
+    return values
+
+
+def encoded(data, parity, content):
+    """All shards, one after the other, of the bytes of those of data."""
+    size = len(content) // data
+    columns = [codeword(content[at::size], data + parity) for at in range(size)]
+    return b"".join(bytes(shard) for shard in zip(*columns))
