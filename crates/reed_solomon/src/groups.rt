@@ -32,6 +32,7 @@ pub(crate) fn set_rows<const N: usize>(
 )
     requires rows { N ≤ 4 }
     requires listed { first + N ≤ 256 }
+    requires apart { (j row : ℕ) → j < sample.now.count → row < N → slice_index sample.now.places j ≢ slice_index targets.now (first + row) }
     ensures { (row : ℕ) → row < N → HasRow
         (λ j. lagrange 8 erasure_product (slice_index sample.now.places) sample.now.count j (slice_index targets.now (first + row)))
         tables.new.entries row sample.now.count }

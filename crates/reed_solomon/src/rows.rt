@@ -69,6 +69,7 @@ fn matches_shard(shards: &[u8], size: usize, sample: &Sample, target: usize) -> 
     requires point { target < 256 }
     requires inside { (j : ℕ) → j < sample.now.count → slice_index sample.now.places j * size + size ≤ length shards.now }
     requires room { target * size + size ≤ length shards.now }
+    requires apart { (j : ℕ) → j < sample.now.count → slice_index sample.now.places j ≢ target }
     ensures { IsTrue result ↔ MatchesShard sample.now.count size (slice_index sample.now.places) shards.now target }
 {
     let factors = sample.factors(target as u8);
@@ -108,6 +109,7 @@ pub(crate) fn write_symbols(
     requires point { target < 256 }
     requires inside { (j : ℕ) → j < sample.now.count → slice_index sample.now.places j * size + size ≤ length shards.now }
     requires room { begin + size ≤ length out.old }
+    requires apart { (j : ℕ) → j < sample.now.count → slice_index sample.now.places j ≢ target }
     ensures long { length out.new ≡ length out.old }
     ensures written { (column : ℕ) → column < size → slice_index out.new (begin + column)
         ≡ symbol_at sample.now.count size (slice_index sample.now.places) shards.now column target }
@@ -131,6 +133,7 @@ pub(crate) fn write_parity(
     requires points { first + count ≤ 256 }
     requires inside { (j : ℕ) → j < sample.now.count → slice_index sample.now.places j * size + size ≤ length shards.now }
     requires room { length parity.old ≡ count * size }
+    requires before { (j : ℕ) → j < sample.now.count → slice_index sample.now.places j < first }
     ensures long { length parity.new ≡ length parity.old }
     ensures rows { (row column : ℕ) → row < count → column < size → slice_index parity.new (row * size + column)
         ≡ symbol_at sample.now.count size (slice_index sample.now.places) shards.now column (first + row) }
