@@ -1,9 +1,12 @@
 -- The steps of the loops over the shards of a sample.
-use Rattle.std.proofs.Common.{◌≡◌, ◌≢◌, ℕ, ◌+◌, ◌^◌, ◌<◌, refl, sym, ◌∙◌, ap, ap₂, arith, lit<}
+use Rattle.std.proofs.Common.{◌≡◌, ◌≢◌, inl, inr, ℕ, zero, suc, ◌+◌, ◌^◌, ◌<◌, ◌≤◌, refl, sym, ◌∙◌, ap, ap₂, arith, lit<}
+use Rattle.std.proofs.lemmas.Bool.Decides.{eqb_tells}
 use Rattle.std.specs.Prelude.{bit_xor}
 use native.Mathlib.Numerals.{add-one}
 use Rattle.field_base.specs.Basis.{sum_below, product_below}
 use Rattle.field_base.proofs.FieldLemmas.{inverse-power}
+use Rattle.field_base.proofs.PowerLemmas.{times-one}
+use Rattle.field_base.proofs.RingLemmas.{xor_nothing}
 use Rattle.field_laws.specs.Interpolation.{other_factors, lagrange}
 use Rattle.field_laws.specs.PolynomialRoots.{AreDistinctBelow}
 use Rattle.field_laws.proofs.Interpolation.{factors-lt, factors_more, factors_skip, factors-nonzero}
@@ -38,15 +41,69 @@ denominator-nonzero point own count i denominator distinct within all is =
     factors-nonzero 8 erasure_product erasure_field (lit< tt) point count distinct.below distinct.differ own within i (omega (arith, all))
     (sym is ∙ nothing)
 
--- the quotient of all factors is Lagrange's
-pub quotient : (point : ℕ → ℕ) (own x count i numerator denominator inverse : ℕ) → inverse < 2 ^ 8 → i ≡ count
-    → numerator ≡ other_factors erasure_product point own x i → denominator ≡ other_factors erasure_product point own (point own) i
-    → erasure_product denominator inverse ≡ 1 → erasure_product numerator inverse ≡ lagrange 8 erasure_product point count own x
-quotient point own x count i numerator denominator inverse fits all over under inverts =
-    ap₂ erasure_product (over ∙ ap (other_factors erasure_product point own x) all)
-    (inverse-power 8 erasure_product erasure_field (lit< tt) (other_factors erasure_product point own (point own) count) inverse
-    (factors-lt 8 erasure_product erasure_field (lit< tt) point own (point own) count) fits
-    (ap (λ (z : ℕ). erasure_product z inverse) (sym (under ∙ ap (other_factors erasure_product point own (point own)) all)) ∙ inverts))
+-- a difference of two points is not 0
+pub difference-nonzero : (x place : ℕ) → place ≢ x → bit_xor x place ≢ 0
+difference-nonzero x place different = λ nothing. different (sym (xor_nothing x place nothing))
+
+-- the product of all differences grows
+pub no_difference : (point : ℕ → ℕ) (x : ℕ) → 1 ≡ product_below erasure_product (λ i. bit_xor x (point i)) 0
+unfolding product_below
+no_difference point x = refl
+
+pub difference_more : (point : ℕ → ℕ) (x i so_far : ℕ) → so_far ≡ product_below erasure_product (λ n. bit_xor x (point n)) i
+    → erasure_product so_far (bit_xor x (point i)) ≡ product_below erasure_product (λ n. bit_xor x (point n)) (i + 1)
+unfolding product_below
+difference_more point x i so_far is =
+    ap (λ (z : ℕ). erasure_product z (bit_xor x (point i))) is
+    ∙ ap (product_below erasure_product (λ n. bit_xor x (point n))) (sym (add-one i))
+
+-- up to the own point the two products are one
+same_before : (point : ℕ → ℕ) (own x n : ℕ) → n ≤ own
+    → other_factors erasure_product point own x n ≡ product_below erasure_product (λ i. bit_xor x (point i)) n
+unfolding product_below
+same_before point own x zero within = refl
+same_before point own x (suc n) within =
+    factors_more 8 erasure_product erasure_field (lit< tt) point own x n (λ e. absurd (omega (arith, e, within)))
+    ∙ ap (λ (z : ℕ). erasure_product z (bit_xor x (point n))) (same_before point own x n (omega (arith, within)))
+
+-- all differences are those to the other points times that to the own point
+all_differences : (point : ℕ → ℕ) (own x n : ℕ) → own < n
+    → product_below erasure_product (λ i. bit_xor x (point i)) n ≡ erasure_product (other_factors erasure_product point own x n) (bit_xor x (point own))
+unfolding product_below
+all_differences point own x zero within = absurd (omega (arith, within))
+all_differences point own x (suc n) within =
+    elim (eqb_tells n own) [
+      | inl same ↦ ap₂ erasure_product
+          (sym (same_before point own x n (omega (arith, same.1)))
+          ∙ sym (factors_skip 8 erasure_product erasure_field (lit< tt) point own x n same.1))
+          (ap (λ (i : ℕ). bit_xor x (point i)) same.1)
+      | inr other ↦ ap (λ (z : ℕ). erasure_product z (bit_xor x (point n))) (all_differences point own x n (earlier n within other.1))
+          ∙ swapped (other_factors erasure_product point own x n) (bit_xor x (point own)) (bit_xor x (point n))
+          ∙ ap (λ (z : ℕ). erasure_product z (bit_xor x (point own)))
+          (sym (factors_more 8 erasure_product erasure_field (lit< tt) point own x n other.1))
+    ]
+  where
+    earlier : (n : ℕ) → own < suc n → (n ≡ own → ⊥) → own < n
+    earlier n below different = omega (arith, below, different)
+
+    swapped : (a b c : ℕ) → erasure_product (erasure_product a b) c ≡ erasure_product (erasure_product a c) b
+    swapped a b c =
+        erasure_field.ring.assoc a b c ∙ ap (erasure_product a) (erasure_field.ring.comm b c) ∙ sym (erasure_field.ring.assoc a c b)
+
+-- all differences without the own one, times the weight, are Lagrange's factor
+pub weighed_factor : (point : ℕ → ℕ) (count own x all inverse weight : ℕ) → own < count → weight < 2 ^ 8
+    → all ≡ product_below erasure_product (λ i. bit_xor x (point i)) count → erasure_product (bit_xor x (point own)) inverse ≡ 1
+    → erasure_product (other_factors erasure_product point own (point own) count) weight ≡ 1
+    → erasure_product (erasure_product all inverse) weight ≡ lagrange 8 erasure_product point count own x
+weighed_factor point count own x all inverse weight within fits is inverts weighs =
+    ap₂ erasure_product
+    (ap (λ (z : ℕ). erasure_product z inverse) (is ∙ all_differences point own x count within)
+    ∙ erasure_field.ring.assoc (other_factors erasure_product point own x count) (bit_xor x (point own)) inverse
+    ∙ ap (erasure_product (other_factors erasure_product point own x count)) inverts
+    ∙ times-one 8 1 erasure_product erasure_field.ring (other_factors erasure_product point own x count)
+    (factors-lt 8 erasure_product erasure_field (lit< tt) point own x count))
+    (inverse-power 8 erasure_product erasure_field (lit< tt) (other_factors erasure_product point own (point own) count) weight
+    (factors-lt 8 erasure_product erasure_field (lit< tt) point own (point own) count) fits weighs)
 
 -- a sum with one term more
 pub sum_none : (term : ℕ → ℕ) → 0 ≡ sum_below term 0

@@ -1,9 +1,13 @@
 mod ByteTables
 mod Factors
 mod Flags
+mod GroupWriting
 mod Matching
+mod NibbleTables
 mod Restoring
 mod RoundTrip
+mod RowTables
+mod RowWriting
 mod Samples
 mod Separate
 mod Writing

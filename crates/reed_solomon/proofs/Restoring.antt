@@ -1,4 +1,4 @@
--- The loop that writes the missing shards, and what they are in the end.
+-- The missing shards that are written, and what they are in the end.
 use Rattle.std.proofs.Common.{◌≡◌, ◌≢◌, ◌⊎◌, inl, inr, ℕ, ◌+◌, ◌*◌, ◌<◌, ◌≤◌, Bool, List, length, get_or, take, refl, sym, ◌∙◌, ap, subst, arith, lit<}
 use Rattle.field_laws.specs.Codewords.{IsCodeword}
 use Rattle.field_laws.specs.Interpolation.{lagrange}
@@ -26,51 +26,6 @@ pub record RestoresBefore (total size count : ℕ) (place : ℕ → ℕ) (presen
       → shard_byte size now i column ≡ symbol_at count size place old column i
   pub others : (i column : ℕ) → i < total → column < size → (IsPresent present i) ⊎ (target ≤ i)
       → shard_byte size now i column ≡ shard_byte size old i column
-
-pub nothing_restored : (total size count : ℕ) (place : ℕ → ℕ) (present : List Bool) (old : List ℕ)
-    → RestoresBefore total size count place present old 0 old
-nothing_restored total size count place present old =
-    record { long = refl; missing = λ i column below inside absent. absurd (omega (arith, below)); others = λ i column below inside why. refl }
-
-module _ (total size count : ℕ) (place : ℕ → ℕ) (present : List Bool) (old now : List ℕ) (target : ℕ)
-    (before : RestoresBefore total size count place present old target now) where
-  -- the shard is at hand
-  pub shard_kept : IsPresent present target → RestoresBefore total size count place present old (target + 1) now
-  shard_kept here =
-      record {
-        long = before.long;
-        missing = λ i column below inside absent.
-            below_next (λ n. (IsPresent present n → ⊥) → shard_byte size now n column ≡ symbol_at count size place old column n) target i below
-            (λ was missing. before.missing i column was inside missing) (λ missing. absurd (missing here)) absent;
-        others = λ i column below inside why.
-            before.others i column below inside (elim why [ inl is ↦ inl is | inr past ↦ inr (omega (arith, past)) ]);
-      }
-
-  -- the shard is written
-  pub shard_written : (next : List ℕ) → (IsPresent present target → ⊥) → length next ≡ length now
-      → ((j : ℕ) → j < count → (place j < total) × IsPresent present (place j))
-      → ((column : ℕ) → column < size → shard_byte size next target column ≡ symbol_at count size place now column target)
-      → ((i : ℕ) → (i < target * size) ⊎ (target * size + size ≤ i) → get_or next i 0 ≡ get_or now i 0)
-      → RestoresBefore total size count place present old (target + 1) next
-  shard_written next absent long chosen written others =
-      let elsewhere : (i column : ℕ) → column < size → i ≢ target → shard_byte size next i column ≡ shard_byte size now i column =
-      λ i column inside apart. others (i * size + column) (apart_from size target i column size inside (omega arith) apart) in
-      record {
-        long = long ∙ before.long;
-        missing = λ i column below inside is_missing.
-            below_next (λ n. (IsPresent present n → ⊥) → shard_byte size next n column ≡ symbol_at count size place old column n) target i below
-            (λ was missing. elsewhere i column inside (λ e. absurd (omega (arith, was, e))) ∙ before.missing i column was inside missing)
-            (λ missing. written column inside
-            ∙ symbol_at-same count size place old now column target
-            (λ j j_below. before.others (place j) column (chosen j j_below).0 inside (inl (chosen j j_below).1)))
-            is_missing;
-        others = λ i column below inside why.
-            elim why [
-              | inl is ↦ elsewhere i column inside (λ e. absent (subst (IsPresent present) e is)) ∙ before.others i column below inside (inl is)
-              | inr past ↦ elsewhere i column inside (λ e. absurd (omega (arith, past, e)))
-                  ∙ before.others i column below inside (inr (omega (arith, past)))
-            ];
-      }
 
 -- what the sample gives is a codeword
 pub sample_word : (total size count : ℕ) (present : List Bool) (places shards : List ℕ) (column : ℕ)

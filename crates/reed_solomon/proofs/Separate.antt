@@ -132,3 +132,14 @@ source_inside k m total size flags places source count total_is are_true are_fal
     within place is_data =
         let one_more : place + 1 ≤ k = omega (arith, is_data) in
         omega (arith, mul-le-mul_left size one_more, mul_comm size place, mul_comm size k, long)
+
+-- the shards of a sample of the data are of the data
+pub source_before : (k m total : ℕ) (flags : List Bool) (places : List ℕ) (count : ℕ) → total ≡ k + m
+    → ((i : ℕ) → i < k → get_or flags i false ≡ true) → ((i : ℕ) → k ≤ i → get_or flags i false ≡ false)
+    → IsSample k (take total flags) (length (take total flags)) places count → (j : ℕ) → j < count → get_or places j 0 < k
+source_before k m total flags places count total_is are_true are_false sample j below =
+    let first : AreFirst k (take total flags) = first_of_flags k total flags (omega (arith, total_is)) are_true are_false in
+    elim (cases_lt (get_or places j 0) k) [
+      | inl is_data ↦ is_data
+      | inr past ↦ absurd (first.missing (get_or places j 0) past (sample.is_present j below))
+    ]

@@ -1,5 +1,7 @@
 pub mod ErasureField
+pub mod Missing
 pub mod RoundTrip
 pub mod Samples
 pub mod Shards
 pub mod Sizes
+pub mod Tables

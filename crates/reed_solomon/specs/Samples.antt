@@ -1,6 +1,6 @@
 -- The sample of shards that the missing ones are computed from: the first k that are at hand.
 use Rattle.std.specs.Prelude.{◌≡◌, ℕ, ◌<◌, ◌≤◌, Bool, List, slice_index, take}
-use Rattle.field_laws.specs.Interpolation.{interpolated}
+use Rattle.field_laws.specs.Interpolation.{interpolated, other_factors}
 use Rattle.reed_solomon.specs.ErasureField.{erasure_product}
 use Rattle.reed_solomon.specs.Shards.{IsPresent, IsAmongFirst, present_count, shard_byte}
 
@@ -25,3 +25,9 @@ symbol_at count size place shards column x =
 abbrev pub MatchesShard : ℕ → ℕ → (ℕ → ℕ) → List ℕ → ℕ → Type 0
 MatchesShard count size place shards x =
     (column : ℕ) → column < size → shard_byte size shards x column ≡ symbol_at count size place shards column x
+
+-- the weight of each of `count` points: the inverse of the product of its differences to the others (J.-P. Berrut and
+-- L. N. Trefethen, Barycentric Lagrange interpolation, 2004)
+abbrev pub AreWeights : (ℕ → ℕ) → ℕ → (ℕ → ℕ) → Type 0
+AreWeights point count weight =
+    (j : ℕ) → j < count → erasure_product (other_factors erasure_product point j (point j) count) (weight j) ≡ 1

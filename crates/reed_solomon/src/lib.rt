@@ -1,12 +1,16 @@
 //! Reed-Solomon codes over bytes: of the shards of data and of parity any as many as there are shards of data restore the rest.
 #![tactic(auto)]
 
+mod blocks;
 mod byte_field;
 mod codec;
 mod error;
+mod groups;
+mod lanes;
 mod laws;
 mod rows;
 mod sample;
+mod tables;
 
 pub use crate::byte_field::erasure_field;
 pub use crate::codec::ReedSolomon;

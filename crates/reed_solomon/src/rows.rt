@@ -2,10 +2,12 @@
 ghost use Rattle.std.specs.Prelude.{◌≡◌, ◌≢◌, ◌⊎◌, ◌+◌, ◌*◌, ◌<◌, ◌≤◌, ◌↔◌, ℕ, length, slice_index, take, IsTrue};
 ghost use Rattle.field_base.specs.Basis.{sum_below};
 ghost use Rattle.reed_solomon.specs.ErasureField.{erasure_product};
+ghost use Rattle.reed_solomon.specs.Missing.{AreMissing};
 ghost use Rattle.reed_solomon.specs.Samples.{IsSample, MatchesShard, symbol_at};
 ghost use Rattle.reed_solomon.specs.Shards.{AreCodewords, IsPresent, IsReconstructed, present_count, shard_byte};
 
 use crate::byte_field::multiply;
+use crate::groups::{bytes_fit, write_shards};
 use crate::sample::Sample;
 
 // The sum of the products of the factors and the sample's symbols in one column.
@@ -24,21 +26,22 @@ fn symbol(sample: &Sample, factors: &[u8; 256], shards: &[u8], size: usize, colu
     sum
 }
 
-// Writes the shard at `target`, which is none of the sample.
-fn write_shard(shards: &mut [u8], size: usize, sample: &Sample, target: usize)
-    requires point { target < 256 }
-    requires inside { (j : ℕ) → j < sample.now.count → slice_index sample.now.places j * size + size ≤ length shards.old }
-    requires room { target * size + size ≤ length shards.old }
-    requires apart { (j : ℕ) → j < sample.now.count → slice_index sample.now.places j ≢ target }
-    ensures long { length shards.new ≡ length shards.old }
-    ensures written { (column : ℕ) → column < size → shard_byte size shards.new target column
-        ≡ symbol_at sample.now.count size (slice_index sample.now.places) shards.old column target }
-    ensures others { (i : ℕ) → (i < target * size) ⊎ (target * size + size ≤ i) → slice_index shards.new i ≡ slice_index shards.old i }
+// The places before `until` of the missing shards, in order, and how many there are.
+fn missing_places(present: &[bool], until: usize) -> ([u8; 256], usize)
+    requires fit { length present.now ≤ 256 }
+    requires inside { until ≤ length present.now }
+    ensures missing { AreMissing present.now until result.0 result.1 }
+    ensures few { result.1 ≤ until }
 {
-    let factors = sample.factors(target as u8);
-    for column in 0..size {
-        shards[target * size + column] = symbol(sample, &factors, shards, size, column);
+    let mut places = [0; 256];
+    let mut count = 0;
+    for i in 0..until {
+        if !present[i] {
+            places[count] = i as u8;
+            count += 1;
+        }
     }
+    (places, count)
 }
 
 // Writes the missing shards before shard `until` from the sample.
@@ -57,11 +60,8 @@ pub(crate) fn restore(
     ensures restored { IsReconstructed sample.now.count (length present.now) size until present.now shards.old shards.new }
 {
     bytes_fit(shards);
-    for target in 0..until {
-        if !present[target] {
-            write_shard(shards, size, sample, target);
-        }
-    }
+    let (places, count) = missing_places(present, until);
+    write_shards(shards, size, sample, &places, count);
 }
 
 // Whether the shard at `target` has the symbols that the sample gives it.
@@ -69,6 +69,7 @@ fn matches_shard(shards: &[u8], size: usize, sample: &Sample, target: usize) -> 
     requires point { target < 256 }
     requires inside { (j : ℕ) → j < sample.now.count → slice_index sample.now.places j * size + size ≤ length shards.now }
     requires room { target * size + size ≤ length shards.now }
+    requires apart { (j : ℕ) → j < sample.now.count → slice_index sample.now.places j ≢ target }
     ensures { IsTrue result ↔ MatchesShard sample.now.count size (slice_index sample.now.places) shards.now target }
 {
     let factors = sample.factors(target as u8);
@@ -108,6 +109,7 @@ pub(crate) fn write_symbols(
     requires point { target < 256 }
     requires inside { (j : ℕ) → j < sample.now.count → slice_index sample.now.places j * size + size ≤ length shards.now }
     requires room { begin + size ≤ length out.old }
+    requires apart { (j : ℕ) → j < sample.now.count → slice_index sample.now.places j ≢ target }
     ensures long { length out.new ≡ length out.old }
     ensures written { (column : ℕ) → column < size → slice_index out.new (begin + column)
         ≡ symbol_at sample.now.count size (slice_index sample.now.places) shards.now column target }
@@ -131,6 +133,7 @@ pub(crate) fn write_parity(
     requires points { first + count ≤ 256 }
     requires inside { (j : ℕ) → j < sample.now.count → slice_index sample.now.places j * size + size ≤ length shards.now }
     requires room { length parity.old ≡ count * size }
+    requires before { (j : ℕ) → j < sample.now.count → slice_index sample.now.places j < first }
     ensures long { length parity.new ≡ length parity.old }
     ensures rows { (row column : ℕ) → row < count → column < size → slice_index parity.new (row * size + column)
         ≡ symbol_at sample.now.count size (slice_index sample.now.places) shards.now column (first + row) }
@@ -139,8 +142,3 @@ pub(crate) fn write_parity(
         write_symbols(shards, size, sample, first + row, parity, row * size);
     }
 }
-
-// A byte is below 256: it computes nothing.
-fn bytes_fit(bytes: &[u8])
-    ensures { (i : ℕ) → slice_index bytes.now i < 256 }
-{}

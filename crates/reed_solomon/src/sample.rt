@@ -1,19 +1,24 @@
 // The shards that the missing ones are computed from, and the factors of their symbols.
-ghost use Rattle.std.specs.Prelude.{◌≡◌, ◌<◌, ◌≤◌, ◌^◌, ℕ, length, slice_index};
-ghost use Rattle.field_laws.specs.Interpolation.{lagrange};
+ghost use Rattle.std.specs.Prelude.{◌≡◌, ◌≢◌, ◌<◌, ◌≤◌, ◌^◌, ℕ, length, slice_index, bit_xor};
+ghost use Rattle.field_base.specs.Basis.{product_below};
+ghost use Rattle.field_laws.specs.Interpolation.{lagrange, other_factors};
 ghost use Rattle.field_laws.specs.PolynomialRoots.{AreDistinctBelow};
 ghost use Rattle.reed_solomon.specs.ErasureField.{erasure_product};
-ghost use Rattle.reed_solomon.specs.Samples.{IsSample};
+ghost use Rattle.reed_solomon.specs.Samples.{AreWeights, IsSample};
 
 use crate::byte_field::{invert, multiply};
+use crate::groups::bytes_fit;
 
-// The first `count` entries of `places` are the places of shards. The place of a shard is its point too.
+// The first `count` entries of `places` are the places of shards. The place of a shard is its point too. The weight of a shard is
+// what Lagrange's formula divides by for it, inverted (the barycentric form).
 #[derive(Clone, Copy)]
 pub(crate) struct Sample {
     pub(crate) places: [u8; 256],
     pub(crate) count: usize,
+    weights: [u8; 256],
     ghost few: { count ≤ 256 },
     ghost distinct: { AreDistinctBelow count (2 ^ 8) (slice_index places) },
+    ghost weighed: { AreWeights (slice_index places) count (slice_index weights) },
 }
 
 impl Sample {
@@ -31,36 +36,69 @@ impl Sample {
                 count += 1;
             }
         }
-        Sample { places, count }
-    }
-
-    // The factor of the symbol of the sample's shard `own` in the symbol of the shard at x: the product of
-    // (x - p) / (own place - p) over the other places p.
-    fn factor(&self, own: usize, x: u8) -> u8
-        requires within { own < self.now.count }
-        ensures { result ≡ lagrange 8 erasure_product (slice_index self.now.places) self.now.count own x }
-    {
-        let own_place = self.places[own];
-        let mut numerator = 1;
-        let mut denominator = 1;
-        for i in 0..self.count {
-            if i != own {
-                numerator = multiply(numerator, x ^ self.places[i]);
-                denominator = multiply(denominator, own_place ^ self.places[i]);
-            }
+        Sample {
+            places,
+            count,
+            weights: weights_of(&places, count),
         }
-        multiply(numerator, invert(denominator))
     }
 
-    // The factors of all shards of the sample.
+    // The factors of all shards of the sample in the symbol of the shard at x, which is none of them: the factor of shard j is the
+    // product of (x - p) / (place j - p) over the other places p. The weights are what does not depend on x.
     pub(crate) fn factors(&self, x: u8) -> [u8; 256]
+        requires apart { (j : ℕ) → j < self.now.count → slice_index self.now.places j ≢ x }
         ensures { (j : ℕ) → j < self.now.count
             → slice_index result j ≡ lagrange 8 erasure_product (slice_index self.now.places) self.now.count j x }
     {
+        bytes_fit(&self.weights);
+        let all = self.differences(x);
         let mut factors = [0; 256];
         for j in 0..self.count {
-            factors[j] = self.factor(j, x);
+            let others = multiply(all, invert(x ^ self.places[j]));
+            factors[j] = multiply(others, self.weights[j]);
         }
         factors
     }
+
+    // The product of x - p over all places p.
+    fn differences(&self, x: u8) -> u8
+        ensures { result ≡ product_below erasure_product (λ i. bit_xor x (slice_index self.now.places i)) self.now.count }
+    {
+        let mut product = 1;
+        for i in 0..self.count {
+            product = multiply(product, x ^ self.places[i]);
+        }
+        product
+    }
+}
+
+// The inverse of the product of the differences of each place to the others.
+fn weights_of(places: &[u8; 256], count: usize) -> [u8; 256]
+    requires few { count ≤ 256 }
+    requires distinct { AreDistinctBelow count (2 ^ 8) (slice_index places.now) }
+    ensures { AreWeights (slice_index places.now) count (slice_index result) }
+{
+    let mut weights = [0; 256];
+    for own in 0..count {
+        weights[own] = invert(other_differences(places, count, own));
+    }
+    weights
+}
+
+// The product of the differences of place `own` to the others.
+fn other_differences(places: &[u8; 256], count: usize, own: usize) -> u8
+    requires few { count ≤ 256 }
+    requires within { own < count }
+    requires distinct { AreDistinctBelow count (2 ^ 8) (slice_index places.now) }
+    ensures product { result ≡ other_factors erasure_product (slice_index places.now) own (slice_index places.now own) count }
+    ensures invertible { result ≢ 0 }
+{
+    let own_place = places[own];
+    let mut product = 1;
+    for i in 0..count {
+        if i != own {
+            product = multiply(product, own_place ^ places[i]);
+        }
+    }
+    product
 }

@@ -1,7 +1,12 @@
-use Rattle.std.proofs.Common.{refl, length, sym, ◌∙◌, arith}
-use Rattle.std.proofs.lemmas.Bool.{false≢true}
+use Rattle.std.proofs.Common.{ℕ, false, slice_index_or, refl, length, sym, ◌∙◌, ap, arith}
+use Rattle.std.proofs.lemmas.Bool.{false≢true, true≢false}
 use Rattle.reed_solomon.proofs.Matching.{codewords_match, matching_codewords}
 use Rattle.reed_solomon.proofs.rows.matches.Goals as goal
+
+-- the shards of the sample are at hand, and this one is not
+pub matches_shard-requires-clause-apart : goal.matches_shard-requires-clause-apart
+matches_shard-requires-clause-apart c = λ j below same.
+    true≢false (sym (c.requires.chosen.is_present j below) ∙ ap (λ (p : ℕ). slice_index_or c.args.present.now p false) same ∙ c.if-not-present-target.true)
 
 pub returns-then-not-matches_shard : goal.returns-then-not-matches_shard
 returns-then-not-matches_shard c = (

@@ -1,7 +1,7 @@
 -- Parity apart from the data is that of the data.
 use Rattle.std.proofs.Common.{ℕ, ◌+◌, ◌++◌, subst}
 use Rattle.reed_solomon.specs.Shards.{IsEncoded}
-use Rattle.reed_solomon.proofs.Separate.{separate_by_flags, source_inside}
+use Rattle.reed_solomon.proofs.Separate.{separate_by_flags, source_before, source_inside}
 use Rattle.reed_solomon.proofs.codec.ReedSolomon.encode_sep.Goals as goal
 
 pub returns-clause-encoded : goal.returns-clause-encoded
@@ -23,3 +23,9 @@ write_parity-requires-clause-inside c =
     c.first_flags-flags.result c.of_present-sample.result.places c.args.data_bytes.now c.of_present-sample.result.count
     c.total_shard_count-total.ensures c.first_flags-flags.ensures.present c.first_flags-flags.ensures.missing c.of_present-sample.ensures
     c.in_ok-size.ensures.size.1
+
+pub write_parity-requires-clause-before : goal.write_parity-requires-clause-before
+write_parity-requires-clause-before c =
+    source_before c.args.self.now.data_shards c.args.self.now.parity_shards c.total_shard_count-total.result c.first_flags-flags.result
+    c.of_present-sample.result.places c.of_present-sample.result.count c.total_shard_count-total.ensures c.first_flags-flags.ensures.present
+    c.first_flags-flags.ensures.missing c.of_present-sample.ensures

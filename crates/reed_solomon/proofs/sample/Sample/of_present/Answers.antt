@@ -1,7 +1,7 @@
 use Rattle.std.proofs.Common.{◌+◌, ◌<◌, ℕ, List, length, sym, ◌∙◌, ap, subst, arith}
 use Rattle.std.proofs.lemmas.List.{length-set}
 use Rattle.reed_solomon.specs.Samples.{IsSample}
-use Rattle.reed_solomon.proofs.Samples.{sample-absent, sample-full, sample-taken}
+use Rattle.reed_solomon.proofs.Samples.{sample-absent, sample-full, sample-taken, sample_distinct}
 use Rattle.reed_solomon.proofs.sample.Sample.of_present.Goals as goal
 use Rattle.reed_solomon.proofs.sample.Sample.of_present.Goals.{then-present-i+then-count-k, else-present-i, else-present-i-via-then-present-i+else-count-k, else-present-i-via-else-present-i}
 
@@ -33,3 +33,7 @@ loop-i-preserved c =
         ap length w.places-is ∙ c.loop-i.invariant.2,
       )
     ]
+
+pub weights_of-requires-clause-distinct : goal.weights_of-requires-clause-distinct
+weights_of-requires-clause-distinct c =
+    sample_distinct c.args.k c.args.present.now c.loop-i.i c.loop-i.places c.loop-i.count 256 c.loop-i.invariant.0 (omega (arith, c.requires.fit))

@@ -1,0 +1,21 @@
+use Rattle.std.proofs.Common.{◌+◌, ◌*◌, ◌≡◌, ◌∙◌, ap, refl, get_or, slice_index, arith}
+use Rattle.std.proofs.lemmas.Simd.{get_or-chunk}
+use Rattle.reed_solomon.specs.Tables.{nibble_sum}
+use Rattle.reed_solomon.proofs.RowWriting.{no_sums, row_added}
+use Rattle.reed_solomon.proofs.blocks.block_sums.Goals as goal
+
+pub loop-j-init : goal.loop-j-init
+loop-j-init g c = no_sums _ g.row.N
+
+pub loop-row-preserved : goal.loop-row-preserved
+loop-row-preserved g c =
+    let row = c.loop-row.row in
+    let j = c.loop-j.j in
+    let shards = c.args.shards.now in
+    let start = slice_index c.args.starts.now j in
+    row_added _ g.row.N row j c.loop-row.sums _ c.nibble_sums.result c.loop-row.invariant c.loop-row-test.true refl c.nibble_sums.ensures.long
+    (λ lane below.
+    let place : start + c.args.column + lane ≡ start + (c.args.column + lane) = omega arith in
+    c.nibble_sums.ensures.sums lane below
+    ∙ ap (nibble_sum c.args.tables.now.entries (128 * j + 32 * row)) (get_or-chunk (start + c.args.column) 32 shards lane 0 below
+    ∙ ap (slice_index shards) place))

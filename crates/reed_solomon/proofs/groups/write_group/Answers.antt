@@ -1,0 +1,43 @@
+use Rattle.std.proofs.Common.{◌≡◌, ◌+◌, ◌*◌, ◌<◌, ℕ, take, sym, ◌∙◌, slice_index, subst, arith}
+use Rattle.std.proofs.lemmas.List.{get_or-take}
+use Rattle.reed_solomon.specs.Tables.{AreApart}
+use Rattle.reed_solomon.proofs.GroupWriting.{apart_places, row_symbol}
+use Rattle.reed_solomon.proofs.RowWriting.{written_at, written_by}
+use Rattle.reed_solomon.proofs.groups.write_group.Goals as goal
+
+pub write_rows-requires-clause-apart : goal.write_rows-requires-clause-apart
+write_rows-requires-clause-apart g c = λ row other less within.
+    let targets = slice_index c.args.targets.now in
+    let rows = slice_index (take g.row.N c.starts_of-rows.result) in
+    let inside : row < g.row.N = within in
+    let other_inside : other < g.row.N = omega (arith, less, inside) in
+    let row_is : rows row ≡ targets (c.args.first + row) * c.args.size =
+    get_or-take g.row.N c.starts_of-rows.result row 0 inside ∙ c.starts_of-rows.ensures.starts row inside in
+    let other_is : rows other ≡ targets (c.args.first + other) * c.args.size =
+    get_or-take g.row.N c.starts_of-rows.result other 0 other_inside ∙ c.starts_of-rows.ensures.starts other other_inside in
+    subst (λ (p : ℕ). AreApart c.args.size p (rows other)) (sym row_is)
+    (subst (λ (p : ℕ). AreApart c.args.size (targets (c.args.first + row) * c.args.size) p) (sym other_is)
+    (apart_places c.args.size (targets (c.args.first + row)) (targets (c.args.first + other)) (c.requires.distinct row other less inside)))
+
+pub write_rows-requires-clause-read : goal.write_rows-requires-clause-read
+write_rows-requires-clause-read g c = λ j row below within.
+    let targets = slice_index c.args.targets.now in
+    let places = slice_index c.args.sample.now.places in
+    let rows = slice_index (take g.row.N c.starts_of-rows.result) in
+    let inside : row < g.row.N = within in
+    let of_sample : j < c.args.sample.now.count = omega (arith, below, c.requires.counted) in
+    let row_is : rows row ≡ targets (c.args.first + row) * c.args.size =
+    get_or-take g.row.N c.starts_of-rows.result row 0 inside ∙ c.starts_of-rows.ensures.starts row inside in
+    subst (λ (p : ℕ). AreApart c.args.size p (rows row)) (sym (c.requires.begun j of_sample))
+    (subst (λ (p : ℕ). AreApart c.args.size (places j * c.args.size) p) (sym row_is)
+    (apart_places c.args.size (places j) (targets (c.args.first + row)) (c.requires.apart j row of_sample inside)))
+
+pub returns : goal.returns
+returns g c =
+    let place = slice_index c.args.sample.now.places in
+    written_at _ _ _ g.row.N c.args.size c.args.shards.now _
+    (written_by _ _ _ g.row.N c.args.size c.args.shards.now _ c.write_rows.ensures
+    (λ row column within inside.
+    row_symbol c.args.sample.now.count c.args.size place _ c.args.shards.now c.args.starts.now row column
+    (slice_index c.args.targets.now (c.args.first + row)) c.requires.counted c.requires.begun (c.set_rows.ensures row within) c.bytes_fit.ensures))
+    (λ row within. get_or-take g.row.N c.starts_of-rows.result row 0 within ∙ c.starts_of-rows.ensures.starts row within)

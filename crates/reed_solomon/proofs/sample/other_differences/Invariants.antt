@@ -1,0 +1,9 @@
+use Rattle.std.proofs.Common.{◌≡◌, slice_index}
+use Rattle.field_laws.specs.Interpolation.{other_factors}
+use Rattle.reed_solomon.specs.ErasureField.{erasure_product}
+use Rattle.reed_solomon.proofs.sample.other_differences.Given as goal
+
+abbrev pub invariant-loop-i : goal.invariant-loop-i
+invariant-loop-i l =
+    (l.product ≡ other_factors erasure_product (slice_index l.places) l.own (slice_index l.places l.own) l.i)
+    × (l.own_place ≡ slice_index l.places l.own)

@@ -1,0 +1,35 @@
+-- Products by a factor as sums of two entries of tables, one for each half of a byte (J. S. Plank, K. M. Greenan and E. L. Miller,
+-- Screaming fast Galois field arithmetic using Intel SIMD instructions, 2013).
+use Rattle.std.specs.Prelude.{◌≡◌, ◌⊎◌, ℕ, ◌+◌, ◌-◌, ◌*◌, ◌/◌, ◌%◌, ◌<◌, ◌≤◌, List, length, slice_index, bit_xor}
+use Rattle.field_base.specs.Basis.{sum_below}
+use Rattle.reed_solomon.specs.ErasureField.{erasure_product}
+
+-- entry n of a factor's 32 entries: its products by 0, .., 15, and then by 0, 16, .., 240
+pub record IsEntry (factor n entry : ℕ) : Type 0 where
+  pub low : n < 16 → entry ≡ erasure_product factor n
+  pub high : 16 ≤ n → entry ≡ erasure_product factor (16 * (n - 16))
+
+-- row `row` of four has the entries of the factors of `count` shards
+abbrev pub HasRow : (ℕ → ℕ) → List ℕ → ℕ → ℕ → Type 0
+HasRow factor entries row count =
+    (j n : ℕ) → j < count → n < 32 → IsEntry (factor j) n (slice_index entries (128 * j + 32 * row + n))
+
+-- the sum of the entries of a byte's halves, where the 32 entries begin at `start`
+abbrev pub nibble_sum : List ℕ → ℕ → ℕ → ℕ
+nibble_sum entries start byte =
+    bit_xor (slice_index entries (start + byte % 16)) (slice_index entries (start + 16 + byte / 16))
+
+-- what the entries of one row give in one column of the shards that begin at `starts`
+abbrev pub row_sum : List ℕ → List ℕ → List ℕ → ℕ → ℕ → ℕ
+row_sum entries shards starts row column =
+    sum_below (λ j. nibble_sum entries (128 * j + 32 * row) (slice_index shards (slice_index starts j + column))) (length starts)
+
+-- rows of `width` bytes, which begin at their places, have their values, and everything else is as it was
+pub record AreWritten (value : ℕ → ℕ → ℕ) (place : ℕ → ℕ) (rows width : ℕ) (old now : List ℕ) : Type 0 where
+  pub long : length now ≡ length old
+  pub written : (row column : ℕ) → row < rows → column < width → slice_index now (place row + column) ≡ value row column
+  pub others : (i : ℕ) → ((row : ℕ) → row < rows → (i < place row) ⊎ (place row + width ≤ i)) → slice_index now i ≡ slice_index old i
+
+-- rows of `width` bytes that begin at two places do not meet
+abbrev pub AreApart : ℕ → ℕ → ℕ → Type 0
+AreApart width a b = (a + width ≤ b) ⊎ (b + width ≤ a)

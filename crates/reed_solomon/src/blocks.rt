@@ -1,0 +1,128 @@
+// Rows of shards, 32 columns at a time. A shard is known by the place where its bytes begin.
+ghost use Rattle.std.specs.Prelude.{◌≡◌, ◌+◌, ◌*◌, ◌<◌, ◌≤◌, ℕ, [], length, slice_index, slice_index_or};
+ghost use Rattle.reed_solomon.specs.Tables.{AreApart, AreWritten, row_sum};
+
+use crate::lanes::nibble_sums;
+use crate::tables::RowTables;
+use std::simd::prelude::*;
+
+// What the tables of N rows give in the 32 columns from `column` on.
+#[inline(always)]
+pub(crate) fn block_sums<const N: usize>(
+    shards: &[u8],
+    starts: &[usize],
+    tables: &RowTables,
+    column: usize,
+) -> [u8x32; N]
+    requires few { length starts.now ≤ 256 }
+    requires rows { N ≤ 4 }
+    requires inside { (j : ℕ) → j < length starts.now → slice_index starts.now j + column + 32 ≤ length shards.now }
+    ensures long { (row : ℕ) → row < N → length (slice_index_or result row []) ≡ 32 }
+    ensures sums { (row lane : ℕ) → row < N → lane < 32 → slice_index (slice_index_or result row []) lane
+        ≡ row_sum tables.now.entries shards.now starts.now row (column + lane) }
+{
+    let mut sums = [u8x32::splat(0); N];
+    for j in 0..starts.len() {
+        let bytes = u8x32::from_slice(&shards[starts[j] + column..]);
+        for row in 0..N {
+            sums[row] ^= nibble_sums(&tables.entries, 128 * j + 32 * row, bytes);
+        }
+    }
+    sums
+}
+
+// What the tables of one row give in one column.
+pub(crate) fn column_sum(
+    shards: &[u8],
+    starts: &[usize],
+    tables: &RowTables,
+    row: usize,
+    column: usize,
+) -> u8
+    requires few { length starts.now ≤ 256 }
+    requires rows { row < 4 }
+    requires inside { (j : ℕ) → j < length starts.now → slice_index starts.now j + column < length shards.now }
+    ensures { result ≡ row_sum tables.now.entries shards.now starts.now row column }
+{
+    let mut sum = 0;
+    for j in 0..starts.len() {
+        let byte = shards[starts[j] + column] as usize;
+        let start = 128 * j + 32 * row;
+        sum ^= tables.entries[start + byte % 16] ^ tables.entries[start + 16 + byte / 16];
+    }
+    sum
+}
+
+// Writes 32 columns of N rows.
+#[inline(always)]
+fn write_block<const N: usize>(
+    shards: &mut [u8],
+    starts: &[usize],
+    tables: &RowTables,
+    rows: &[usize],
+    column: usize,
+)
+    requires few { length starts.now ≤ 256 }
+    requires rows { N ≤ 4 }
+    requires named { length rows.now ≡ N }
+    requires inside { (j : ℕ) → j < length starts.now → slice_index starts.now j + column + 32 ≤ length shards.old }
+    requires room { (row : ℕ) → row < N → slice_index rows.now row + column + 32 ≤ length shards.old }
+    requires apart { (row other : ℕ) → other < row → row < N → AreApart 32 (slice_index rows.now row) (slice_index rows.now other) }
+    ensures { AreWritten (λ row lane. row_sum tables.now.entries shards.old starts.now row (column + lane))
+        (λ row. slice_index rows.now row + column) N 32 shards.old shards.new }
+{
+    let sums = block_sums::<N>(shards, starts, tables, column);
+    for row in 0..N {
+        sums[row].copy_to_slice(&mut shards[rows[row] + column..]);
+    }
+}
+
+// Writes one column of N rows.
+fn write_column<const N: usize>(
+    shards: &mut [u8],
+    starts: &[usize],
+    tables: &RowTables,
+    rows: &[usize],
+    column: usize,
+)
+    requires few { length starts.now ≤ 256 }
+    requires rows { N ≤ 4 }
+    requires named { length rows.now ≡ N }
+    requires inside { (j : ℕ) → j < length starts.now → slice_index starts.now j + column < length shards.old }
+    requires room { (row : ℕ) → row < N → slice_index rows.now row + column < length shards.old }
+    requires apart { (row other : ℕ) → other < row → row < N → AreApart 1 (slice_index rows.now row) (slice_index rows.now other) }
+    requires read { (j row : ℕ) → j < length starts.now → row < N → AreApart 1 (slice_index starts.now j) (slice_index rows.now row) }
+    ensures { AreWritten (λ row lane. row_sum tables.now.entries shards.old starts.now row (column + lane))
+        (λ row. slice_index rows.now row + column) N 1 shards.old shards.new }
+{
+    for row in 0..N {
+        shards[rows[row] + column] = column_sum(shards, starts, tables, row, column);
+    }
+}
+
+// Writes N rows of `size` bytes from the shards that begin at `starts`, none of which is written.
+#[inline]
+pub(crate) fn write_rows<const N: usize>(
+    shards: &mut [u8],
+    size: usize,
+    starts: &[usize],
+    tables: &RowTables,
+    rows: &[usize],
+)
+    requires few { length starts.now ≤ 256 }
+    requires rows { N ≤ 4 }
+    requires named { length rows.now ≡ N }
+    requires inside { (j : ℕ) → j < length starts.now → slice_index starts.now j + size ≤ length shards.old }
+    requires room { (row : ℕ) → row < N → slice_index rows.now row + size ≤ length shards.old }
+    requires apart { (row other : ℕ) → other < row → row < N → AreApart size (slice_index rows.now row) (slice_index rows.now other) }
+    requires read { (j row : ℕ) → j < length starts.now → row < N → AreApart size (slice_index starts.now j) (slice_index rows.now row) }
+    ensures { AreWritten (row_sum tables.now.entries shards.old starts.now) (slice_index rows.now) N size shards.old shards.new }
+{
+    let whole = size / 32 * 32;
+    for block in 0..size / 32 {
+        write_block::<N>(shards, starts, tables, rows, 32 * block);
+    }
+    for column in whole..size {
+        write_column::<N>(shards, starts, tables, rows, column);
+    }
+}
