@@ -1,0 +1,2 @@
+pub mod BatchInversion
+pub mod Places
