@@ -98,7 +98,7 @@ module _ (width : ℕ) (times : ℕ → ℕ → ℕ) (ring : IsRing width 1 time
   folded-corners m r values are =
       record { count = folded-length m values are.count times r; each_fits = folded-fits m r values are.count are.each_fits }
 
-  one-value : (values : List ℕ) → length values ≡ 1 → values ≡ slice_index values 0 ∷ []
+  pub one-value : (values : List ℕ) → length values ≡ 1 → values ≡ slice_index values 0 ∷ []
   one-value [] count = absurd (omega (arith, count))
   one-value (v ∷ []) count = refl
   one-value (v ∷ w ∷ values) count = absurd (omega (arith, count))
@@ -114,10 +114,10 @@ module _ (width : ℕ) (times : ℕ → ℕ → ℕ) (ring : IsRing width 1 time
       ∙ ap (λ (v : ℕ). v ∷ []) (sym (value-folded r rs values are.count))
 
   module _ (wide : 0 < width) where
-    line-zero : (v w : ℕ) → on_line times 0 v w ≡ v
+    pub line-zero : (v w : ℕ) → on_line times 0 v w ≡ v
     line-zero v w = ap (bit_xor v) (zero-times width 1 times ring (bit_xor v w)) ∙ xor_zero_r v
 
-    line-one : (v w : ℕ) → v < 2 ^ width → w < 2 ^ width → on_line times 1 v w ≡ w
+    pub line-one : (v w : ℕ) → v < 2 ^ width → w < 2 ^ width → on_line times 1 v w ≡ w
     line-one v w v_fits w_fits =
         ap (bit_xor v) (one-times width 1 times ring (bit_xor v w) (xor_lt width v w v_fits w_fits)) ∙ xor_cancel v w
 

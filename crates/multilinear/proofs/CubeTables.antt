@@ -30,7 +30,7 @@ some-unless_empty n empty is fails =
     above : (n : ℕ) → (n ≡ 0 → ⊥) → 0 < n
     above n other = omega (arith, other)
 
-drop-map : {A : Type 0} (repr : A → ℕ) (n : ℕ) (xs : List A) → drop n (map repr xs) ≡ map repr (drop n xs)
+pub drop-map : {A : Type 0} (repr : A → ℕ) (n : ℕ) (xs : List A) → drop n (map repr xs) ≡ map repr (drop n xs)
 drop-map repr zero xs = refl
 drop-map repr (suc n) [] = refl
 drop-map repr (suc n) (x ∷ xs) = drop-map repr n xs
