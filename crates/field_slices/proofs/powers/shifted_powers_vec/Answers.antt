@@ -1,0 +1,25 @@
+use Rattle.std.proofs.Common.{ℕ, map, ◌∙◌, ap}
+use Rattle.field_base.specs.Powers.{power}
+use Rattle.field_slices.proofs.PowerLists.{pushed, shifted-none, shifted-next}
+use Rattle.field_slices.proofs.powers.shifted_powers_vec.Goals as goal
+
+pub loop-init : goal.loop-init
+loop-init g c =
+    let ring = g.R.Represented in (
+      ap (map ring.repr) c.in_ok-powers.ensures.items,
+      shifted-none ring.unit ring.product (ring.repr c.args.base) ring.width ring.ring_law (ring.repr c.args.first)
+          (ring.range_law c.args.first),
+    )
+
+pub loop-preserved : goal.loop-preserved
+loop-preserved g c =
+    let ring = g.R.Represented in
+    let base = ring.repr c.args.base in
+    let first = ring.repr c.args.first in (
+      ap (map ring.repr) c.in_ok-push.ensures.items
+          ∙ pushed ring.repr (λ (i : ℕ). ring.product first (power ring.unit ring.product base i)) c.loop.powers.items c.loop.counter
+          c.loop.current c.loop.invariant.0 c.loop.invariant.1,
+      shifted-next ring.unit ring.product base ring.width ring.ring_law first c.loop.counter (ring.repr c.loop.current)
+          (ring.repr c.mul-current.result) c.loop.invariant.1
+          (g.met.R.Represented.mul_law c.loop.current c.args.base c.mul-current.result c.mul-current.ensures),
+    )

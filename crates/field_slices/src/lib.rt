@@ -1,0 +1,13 @@
+//! Many elements at once, over any field or ring of `field_base`: batch inversion, sums and products of slices, and powers.
+#![tactic(auto)]
+
+mod inversion;
+mod powers;
+mod sums;
+
+pub use crate::inversion::{
+    batch_multiplicative_inverse, batch_multiplicative_inverse_in_place,
+    batch_multiplicative_inverse_into,
+};
+pub use crate::powers::{powers_vec, shifted_powers_vec};
+pub use crate::sums::{add_scaled_slice, add_slice, mixed_dot_product, mul_slice};

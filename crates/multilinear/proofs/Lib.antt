@@ -1,0 +1,3 @@
+pub mod CornerSums
+pub mod CubeLaws
+pub mod CubeTables

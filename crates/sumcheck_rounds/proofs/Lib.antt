@@ -1,0 +1,2 @@
+pub mod Completeness
+pub mod RoundSums
