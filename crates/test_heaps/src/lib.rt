@@ -6,4 +6,4 @@ mod in_turn;
 #[cfg(test)]
 mod tests;
 
-pub use crate::in_turn::{Ending, Growing, is_refused_in_turn, refusals_of};
+pub use crate::in_turn::{Ending, Growing, Rest, is_refused_in_turn, refusals_of};

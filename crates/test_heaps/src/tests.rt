@@ -1,5 +1,5 @@
 // The harness, on vectors of bytes.
-use crate::{Ending, Growing, is_refused_in_turn, refusals_of};
+use crate::{Ending, Growing, Rest, is_refused_in_turn, refusals_of};
 use linked_list_allocator::LocalHeap;
 use std::alloc::{AllocError, Allocator, Global};
 
@@ -19,8 +19,10 @@ fn pushed<A: Allocator>(alloc: A, count: u8) -> Result<usize, AllocError> {
 }
 
 impl Growing for Pushes {
-    fn run(&self, heap: &LocalHeap) -> Result<Ending, AllocError> {
-        Ok(match pushed(heap, self.count) {
+    fn run<'a>(&self, heap: &'a LocalHeap, rest: Rest<'a>) -> Result<Ending, AllocError> {
+        let answer = pushed(heap, self.count);
+        drop(rest);
+        Ok(match answer {
             Ok(len) => Ending::of(!self.forgets, len == self.count as usize),
             Err(_) => Ending::Refused,
         })
