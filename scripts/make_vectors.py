@@ -20,13 +20,9 @@ import sys
 
 FOLDER = pathlib.Path(__file__).resolve().parent.parent / "crates/replay_calls"
 FIELDS = ["t16", "g128"]
-# How many rows are kept of the products by the root, of the repeated squarings, of the elements that change their basis,
-# and of those on which the mixed operators go; and the lengths of the dot products and of the polynomials.
+# How many rows are kept of the products by the root and of the elements that change their basis, and the lengths of the polynomials.
 PRODUCTS_BY_ROOT = 6
-POWERS = 6
 CONVERTED = 4
-MIXED = 2
-DOT_PRODUCTS = [0, 1, 3, 17]
 POLYNOMIALS = [0, 1, 2, 20, 65, 128]
 # The lengths of the slices, of each of which the last row is kept; the most values of the runs of low stages; and how many
 # matrices, polynomials and elements of the byte field.
@@ -36,14 +32,9 @@ BYTE_MAPS = 3
 # The width of rows, and that of their parts.
 ROW = 128
 PART = 8
-# The fields and the lengths of the streams, the pairs of fields with operators, and the pairs of levels and how many of their views.
+# The fields and the lengths of the streams.
 STREAMED = ["t16", "g128", "p192"]
 STREAMS = [0, 3, 5]
-BESIDE = [("g128", "t8")]
-VIEWED = [("t32", "t8")]
-VIEWS = 2
-# The operators between two fields: their name, and in how many ways each is computed. A sum is a difference too.
-OPERATORS = {"*": ("products", 2), "+": ("sums", 5), "-": ("sums", 5)}
 # Lines that are no calls, or whose operands the function does not take.
 REFUSED = [
     "",
@@ -53,11 +44,6 @@ REFUSED = [
     "t16 mul_alpha 1g",
     "t16 mul_alpha 10000",
     "t16 cantor_basis 10",
-    "t16 dot_product 1,2 1",
-    "t16 sum 1,,2",
-    "p64/t128 sums 1 1",
-    "g128/t8 sums 1 100",
-    "g128/t8 quotients 1 1",
     "dot_powers_of_x " + ",".join(["1"] * 129),
     "butterfly_forward 1 1,2 1",
     "mul_slice 1",
@@ -75,17 +61,10 @@ REFUSED = [
     "streams/t16 u16 1",
     "streams/t16 text 1 2",
     "streams/t16 bytes 10000",
-    "t32/t8 as_base 100000000",
-    "t8/t16 coefficients 1",
+    "streams/t16 bytes 1,,2",
 ]
 # Rows that were worked out by hand, and what the calls have to give.
 WORKED = [
-    # The four bytes of an element of 32 bits, and the elements of 8 bits inside.
-    ("t32/t8 coefficients 4030201", "1,2,3,4"),
-    ("t32/t8 as_base 201", "-"),
-    ("t32/t8 as_base a1", "a1"),
-    # The highest bit of 32 beside the root of the field of two bits.
-    ("t32/t8 mixed 80000000 2", "2,80000002,c0000000"),
     # Three elements of 16 bits as words.
     ("streams/t16 u64 102,304,506", "50603040102"),
     ("streams/t16 u32 102,304,506", "3040102,506"),
@@ -104,7 +83,7 @@ WORKED = [
     ("to_matrix 0,1,0,0,0,0,0,0", "1,4,10,40,1b,6c,ab,9a"),
 ]
 # How many calls stand under the heading of each field.
-CALLS = {"t16": 36, "g128": 45}
+CALLS = {"t16": 18, "g128": 27}
 HEAD = """\
 # Calls of the library, and in stdout their answers by the Rust crate p3-binary-field 0.8.0; drawn from the seed {seed}.
 # Written by scripts/make_vectors.py; do not edit.
@@ -162,38 +141,13 @@ def constants(vectors, field):
 
 
 def products(vectors, field):
-    """Products by the root of the field's level, and repeated squarings."""
+    """Products by the root of the field's level."""
     for row in of_field(vectors["mul_alpha"], field)[-PRODUCTS_BY_ROOT:]:
         yield f"{field} mul_alpha {number(row['x'])}", number(row["y"])
-    for row in of_field(vectors["exp_power_of_2"], field)[-POWERS:]:
-        yield f"{field} exp_power_of_2 {number(row['x'])} {int(row['k']):x}", number(row["y"])
-
-
-def dot_products(vectors, field):
-    """Dot products, and the sums and products of their left operands."""
-    for row in of_field(vectors["dot_product"], field):
-        if len(row["u"]) in DOT_PRODUCTS:
-            left, right = listed(row["u"]), listed(row["v"])
-            yield f"{field} dot_product {left} {right}", number(row["dot"])
-            yield f"{field} sum {left}", number(row["sum_u"])
-            yield f"{field} product {left}", number(row["product_u"])
 
 
 def field_calls(vectors, field):
-    return [*constants(vectors, field), *products(vectors, field), *dot_products(vectors, field)]
-
-
-@section("operators between two fields", 4)
-def mixed(vectors):
-    """What an operator gives at an element and one of a level of the tower on its right."""
-    rows = vectors["change_of_basis"]["mixed"][-MIXED:]
-    for name in (name for name in rows[0] if re.search("[-+*]", name)):
-        left, operator, right = re.split("([-+*])", name)
-        operators, ways = OPERATORS[operator]
-        if (left, right) not in BESIDE:
-            continue
-        for row in rows:
-            yield f"{left}/{right} {operators} {number(row[left])} {number(row[right])}", listed([row[name]] * ways)
+    return [*constants(vectors, field), *products(vectors, field)]
 
 
 @section("values of polynomials at x", 6)
@@ -336,16 +290,14 @@ def rows_of_bits(vectors):
             yield f"parts {rows_of([row['x']], ROW)}", rows_of(row["parts"], PART)
 
 
-@section("packings", 12)
+@section("packings", 9)
 def packings(vectors):
-    """Sixteen bytes of AES lane by lane, and four elements of the field of GHASH."""
+    """Sixteen bytes of AES lane by lane."""
     for row in vectors["packed_rijndael8b"]["cases"][-BYTE_MAPS:]:
         x, y = (listed(digits_of(row[name])) for name in "xy")
         yield f"byte_lanes mul {x} {y}", listed(digits_of(row["mul"]))
         yield f"byte_lanes invert_or_zero {x}", listed(digits_of(row["invert_or_zero"]))
         yield f"byte_lanes apply {x} {number(row['matrix_quadword'])}", listed(digits_of(row["apply"]))
-    for row in vectors["packed_ghash128"]["cases"][-BYTE_MAPS:]:
-        yield f"ghash_lanes mul {listed(row['a'])} {listed(row['b'])}", listed(row["mul"])
 
 
 def numbers_of(field, texts):
@@ -367,23 +319,7 @@ def streams(vectors):
             yield f"{call} text {listed(numbers_of(row['field'], [x]))}", listed([f"{ord(letter):x}" for letter in text])
 
 
-@section("views", 8)
-def views(vectors):
-    """Elements as vectors over a smaller level, the operators with an element of it, and the powers of its number."""
-    for pair in vectors["extension_views"]:
-        if (pair["upper"], pair["lower"]) in VIEWED:
-            call = f"{pair['upper']}/{pair['lower']}"
-            for row in pair["cases"][:VIEWS]:
-                x = number(row["x"])
-                yield f"{call} coefficients {x}", listed(row["coefficients"])
-                yield f"{call} as_base {x}", listed([row["as_base"]] if row["as_base"] else [])
-                mixed_with = [row["embedded"], row["x+lower"], row["x*lower"]]
-                yield f"{call} mixed {x} {number(row['lower'])}", listed(mixed_with)
-                powers = [row["frobenius"], row["repeated_frobenius"], row["pseudo_inv"]]
-                yield f"{call} frobenius {x} {int(row['count']):x}", listed(powers)
-
-
-@section("no calls", 31)
+@section("no calls", 25)
 def refused(_):
     """Lines that are answered by a word."""
     return [(line, "error") for line in REFUSED]

@@ -6,20 +6,19 @@
 //!
 //! | Line | Wanted |
 //! |---|---|
-//! | `t16 mul_alpha 53`, `g128 dot_product 1,2 3,4` | what a call of a field gives |
-//! | `g128/t8 sums 1 2`, `g128/t8 products 1 2` | what the operators of a field give with an element of a level on the right |
+//! | `t16 mul_alpha 53`, `g128 cantor_basis 7f` | what a field has of its own |
 //! | `dot_powers_of_x 1,2,3`, `to_tower_64 13` | what a function of one type gives |
 //! | `butterfly_forward 2 1,2 3,4`, `low_stages 1,2,3,4 5,6,7 0 -` | the slices that a function changes, one after the other |
 //! | `streams/t16 u32 102,304,506`, `streams/t16 text 13` | the items of a stream of elements, or the bytes of their text |
-//! | `t32/t8 coefficients 4030201`, `t32/t8 frobenius 4030201 2` | what a view over a smaller level gives |
 //! | `interleave 0 1,2,3,4`, `parts 201,0` | rows of 128 bits by their words, the low one first, as they are changed or cut into bytes |
-//! | `ghash_lanes mul 1,2,3,4 5,6,7,8` | the lanes of packings |
+//! | `byte_lanes mul 1,2,..,10 1,2,..,10` | the lanes of packings |
 //! | `compose 1,2,..,80 1,2,..,80`, `eval 1,0,0,0,0,0,0,0 53` | the images of a matrix of bits, or a value of a polynomial |
 //!
 //! The file `stdout` has the crate's answers to the calls of `stdin`, which were drawn from the seed 20261122, and before them worked
-//! rows. scripts/make_vectors.py writes both. A definition is asked at one instance for each kind of code: calls of a field at a level
-//! of the tower and at a field of polynomials, views at one pair of levels, mixed operators at one pair of fields, rows of bits at one
-//! width. The arithmetic of every field is in the lines of `replay_lines`.
+//! rows. scripts/make_vectors.py writes both. A definition is asked at one instance for each kind of code: what a field has of its own
+//! at a level of the tower and at a field of polynomials, rows of bits at one width, lanes in one packing. The arithmetic of every
+//! field is in the lines of `replay_lines`; sums, products, views over smaller fields and operators between two fields, whose
+//! contracts say them by that arithmetic and by places of bits alone, have worked rows in `test_fields` and `test_views`.
 #![tactic(auto)]
 
 mod basis;
@@ -29,7 +28,6 @@ mod fault;
 mod fields;
 mod linear_map;
 mod packed;
-mod pairs;
 mod reading;
 mod slices;
 mod streams;
@@ -38,8 +36,7 @@ use crate::basis::Change;
 use crate::bits::Rearrangement;
 use crate::bytes::ByteMap;
 use crate::fault::Fault;
-use crate::fields::{Asked, Wanted};
-use crate::packed::Packing;
+use crate::fields::Asked;
 use crate::reading::named;
 use crate::slices::SliceCall;
 use std::alloc::{AllocError, Global};
@@ -49,27 +46,24 @@ use std::io;
 /// What the first word of a line names.
 #[derive(Clone, Copy)]
 enum Subject {
-    Field(Asked, Wanted),
+    Field(Asked),
+    Stream(Asked),
     StreamOfCubics,
-    WithByte,
-    View,
     ValueAtX,
     Basis(Change),
     LinearMap,
     Slices(SliceCall),
     Bytes(ByteMap),
     Bits(Rearrangement),
-    Packings(Packing),
+    SixteenBytes,
 }
 
-static SUBJECTS: [(&str, Subject); 32] = [
-    ("t16", Subject::Field(Asked::T16, Wanted::Value)),
-    ("g128", Subject::Field(Asked::G128, Wanted::Value)),
-    ("streams/t16", Subject::Field(Asked::T16, Wanted::Stream)),
-    ("streams/g128", Subject::Field(Asked::G128, Wanted::Stream)),
+static SUBJECTS: [(&str, Subject); 29] = [
+    ("t16", Subject::Field(Asked::T16)),
+    ("g128", Subject::Field(Asked::G128)),
+    ("streams/t16", Subject::Stream(Asked::T16)),
+    ("streams/g128", Subject::Stream(Asked::G128)),
     ("streams/p192", Subject::StreamOfCubics),
-    ("g128/t8", Subject::WithByte),
-    ("t32/t8", Subject::View),
     ("dot_powers_of_x", Subject::ValueAtX),
     ("to_polynomial_8", Subject::Basis(Change::ToPolynomial8)),
     ("to_polynomial_64", Subject::Basis(Change::ToPolynomial64)),
@@ -99,24 +93,22 @@ static SUBJECTS: [(&str, Subject); 32] = [
     ("transpose", Subject::Bits(Rearrangement::Transpose)),
     ("interleave", Subject::Bits(Rearrangement::Interleave)),
     ("parts", Subject::Bits(Rearrangement::Parts)),
-    ("byte_lanes", Subject::Packings(Packing::SixteenBytes)),
-    ("ghash_lanes", Subject::Packings(Packing::FourOfGhash)),
+    ("byte_lanes", Subject::SixteenBytes),
 ];
 
 /// The answer to a call.
 fn answer(alloc: Global, name: &str, call: &[&str]) -> Result<Vec<u128>, Fault> {
     match named(&SUBJECTS, name)? {
-        Subject::Field(field, wanted) => fields::answer(alloc, field, wanted, call),
+        Subject::Field(field) => Ok(vec![in alloc; fields::answer(field, call)?]?),
+        Subject::Stream(field) => streams::field_call(alloc, field, call),
         Subject::StreamOfCubics => streams::cubic_call(alloc, call),
-        Subject::WithByte => pairs::with_byte(alloc, call),
-        Subject::View => pairs::view(alloc, call),
         Subject::ValueAtX => fields::value_at_x(alloc, call),
         Subject::Basis(change) => Ok(vec![in alloc; basis::changed(change, call)?]?),
         Subject::LinearMap => linear_map::sample(alloc, call),
         Subject::Slices(slices) => slices::changed(alloc, slices, call),
         Subject::Bytes(map) => bytes::mapped(alloc, map, call),
         Subject::Bits(rearrangement) => bits::rearranged(alloc, rearrangement, call),
-        Subject::Packings(packing) => packed::computed(alloc, packing, call),
+        Subject::SixteenBytes => packed::computed(alloc, call),
     }
 }
 

@@ -1,17 +1,10 @@
-// Packings: sixteen bytes of AES, and four elements of the field of GHASH.
+// Packings of sixteen bytes of AES: what is done lane by lane is the same in every packing.
 use crate::fault::Fault;
-use crate::reading::{bytes, named, numbers, word};
+use crate::reading::{bytes, named, word};
 use field_aes::{ByteLanes, ByteMatrix, RijndaelMaps};
-use field_element::{Ghash128, PackedGhash128, PackedRijndael8b, Rijndael8b};
+use field_element::{PackedRijndael8b, Rijndael8b};
 use packed_lanes::PackedValue;
 use std::alloc::Global;
-
-/// A packing.
-#[derive(Clone, Copy)]
-pub(crate) enum Packing {
-    SixteenBytes,
-    FourOfGhash,
-}
 
 /// An operation on packings.
 #[derive(Clone, Copy)]
@@ -27,16 +20,12 @@ static OPERATIONS: [(&str, Operation); 3] = [
     ("apply", Operation::Apply),
 ];
 
-/// What an operation on packings gives: their lanes, those of the first packing first.
-pub(crate) fn computed(alloc: Global, packing: Packing, call: &[&str]) -> Result<Vec<u128>, Fault> {
+/// What an operation on packings gives: its lanes.
+pub(crate) fn computed(alloc: Global, call: &[&str]) -> Result<Vec<u128>, Fault> {
     let Some((operation, operands)) = call.split_first() else {
         return Err(Fault::Line);
     };
-    let operation = named(&OPERATIONS, operation)?;
-    match packing {
-        Packing::SixteenBytes => of_sixteen(alloc, operation, operands),
-        Packing::FourOfGhash => of_four(alloc, operation, operands),
-    }
+    of_sixteen(alloc, named(&OPERATIONS, operation)?, operands)
 }
 
 /// What an operation on sixteen bytes of AES gives.
@@ -52,14 +41,6 @@ fn of_sixteen(alloc: Global, operation: Operation, operands: &[&str]) -> Result<
     shown_sixteen(alloc, lanes)
 }
 
-/// What an operation on four elements of the field of GHASH gives.
-fn of_four(alloc: Global, operation: Operation, operands: &[&str]) -> Result<Vec<u128>, Fault> {
-    match (operation, operands) {
-        (Operation::Mul, [x, y]) => shown_four(alloc, four(alloc, *x)? * four(alloc, *y)?),
-        _ => Err(Fault::Line),
-    }
-}
-
 /// The packing of the sixteen lanes that a list writes.
 fn sixteen(alloc: Global, list: &str) -> Result<PackedRijndael8b<16>, Fault> {
     let listed = bytes(alloc, list)?;
@@ -67,25 +48,10 @@ fn sixteen(alloc: Global, list: &str) -> Result<PackedRijndael8b<16>, Fault> {
     Ok(PackedRijndael8b::<16>::from_slice(&(*lanes).map(|byte| Rijndael8b::from_byte(byte))))
 }
 
-/// The packing of the four lanes that a list writes.
-fn four(alloc: Global, list: &str) -> Result<PackedGhash128, Fault> {
-    let listed = numbers(alloc, list)?;
-    let lanes: &[u128; 4] = listed.as_slice().try_into().ok().ok_or(Fault::Line)?;
-    Ok(PackedGhash128::from_slice(&(*lanes).map(|bits| Ghash128::new(bits))))
-}
-
 fn shown_sixteen(alloc: Global, packing: PackedRijndael8b<16>) -> Result<Vec<u128>, Fault> {
     let mut answer = Vec::new(alloc);
     for lane in packing.as_slice() {
         answer.push(u128::from(lane.to_byte()))?;
-    }
-    Ok(answer)
-}
-
-fn shown_four(alloc: Global, packing: PackedGhash128) -> Result<Vec<u128>, Fault> {
-    let mut answer = Vec::new(alloc);
-    for lane in packing.as_slice() {
-        answer.push(lane.to_bits())?;
     }
     Ok(answer)
 }

@@ -1,7 +1,5 @@
 // Operands as words in hexadecimal.
 use crate::fault::Fault;
-use field_base::Unsigned;
-use field_base::traits::TowerLevel;
 use std::alloc::Global;
 
 /// What a word names in a table.
@@ -32,33 +30,6 @@ pub(crate) fn byte(word: &str) -> Result<u8, Fault> {
 /// The place or the count that a word writes.
 pub(crate) fn count(word: &str) -> Result<usize, Fault> {
     usize::from_str_radix(word, 16).ok().ok_or(Fault::Line)
-}
-
-/// The representation of an element as a number.
-pub(crate) fn number_of<F: TowerLevel>(element: F) -> u128 {
-    element.to_repr().to_u128()
-}
-
-/// The element whose representation a word writes.
-pub(crate) fn element<F: TowerLevel>(word: &str) -> Result<F, Fault> {
-    let number = number(word)?;
-    let element = F::from_repr(F::Repr::of_u128(number));
-    if number_of(element) == number {
-        Ok(element)
-    } else {
-        Err(Fault::Line)
-    }
-}
-
-/// The elements whose representations a list writes.
-pub(crate) fn elements<F: TowerLevel>(alloc: Global, list: &str) -> Result<Vec<F>, Fault> {
-    let mut elements = Vec::new(alloc);
-    if list != "-" {
-        for word in list.split(',') {
-            elements.push(element(word)?)?;
-        }
-    }
-    Ok(elements)
 }
 
 /// The numbers that a list writes.

@@ -1,11 +1,16 @@
 // Elements as bytes, as streams of bytes and words, and as text.
 use crate::fault::Fault;
-use crate::reading::{elements, named, word};
-use field_base::traits::TowerLevel;
-use field_bytes::{RawDataSerializable, into_byte_stream, into_u32_stream, into_u64_stream};
-use field_element::{Poly64, Poly192};
+use crate::fields::{Asked, stored};
+use crate::reading::{named, numbers, word};
+use field_base::{FieldKernel, Unsigned};
+use field_bytes::{
+    LittleEndian, RawDataSerializable, into_byte_stream, into_u32_stream, into_u64_stream,
+};
+use field_element::{Element, Poly64, Poly192, element_of_word};
 use std::alloc::Global;
 use std::fmt::Display;
+use word_polynomial::GhashKernel;
+use word_tower::{Bits16, Tower};
 
 /// What is made of elements.
 #[derive(Clone, Copy)]
@@ -24,14 +29,25 @@ static STREAMS: [(&str, Streamed); 4] = [
 ];
 
 /// A stream of elements of a field whose elements are words, or their text.
-pub(crate) fn field_call<F: TowerLevel + RawDataSerializable + Display>(
+pub(crate) fn field_call(alloc: Global, field: Asked, call: &[&str]) -> Result<Vec<u128>, Fault> {
+    match field {
+        Asked::T16 => kernel_call::<u16, Tower<Bits16>>(alloc, call),
+        Asked::G128 => kernel_call::<u128, GhashKernel>(alloc, call),
+    }
+}
+
+/// The same of the field of a kernel.
+fn kernel_call<R: Unsigned + LittleEndian, K: FieldKernel<R>>(
     alloc: Global,
     call: &[&str],
 ) -> Result<Vec<u128>, Fault> {
     let [kind, list] = *call else {
         return Err(Fault::Line);
     };
-    let listed: Vec<F> = elements(alloc, list)?;
+    let mut listed: Vec<Element<R, K>> = Vec::new(alloc);
+    for number in numbers(alloc, list)? {
+        listed.push(element_of_word(stored(number)?))?;
+    }
     stream(alloc, kind, listed.as_slice())
 }
 

@@ -1,7 +1,8 @@
-// Memory that is refused to a challenger over a hash function, by heaps that are full.
+// Memory that is refused to a challenger over a hash function: each of its growths in turn, from initial states of each length from 0 to
+// 257, with the output empty and in the middle of a digest.
 use linked_list_allocator::LocalHeap;
 use std::alloc::{AllocError, Allocator, Global};
-use std::test::Fail;
+use test_heaps::{Ending, Growing, Rest, refusals_of};
 use transcript_bytes::{ByteChallenger, HashChallenger, Sha256Hasher, observe_bytes};
 
 fn challenger_over<A: Allocator + Clone>(
@@ -15,21 +16,23 @@ fn challenger_over<A: Allocator + Clone>(
     Ok(HashChallenger::new(state, Sha256Hasher))
 }
 
-/// Blocks that leave no room in the heap.
-fn blocks_of_all<'a>(
-    alloc: Global,
-    heap: &'a LocalHeap,
-) -> Result<Vec<Vec<u8, &'a LocalHeap>>, AllocError> {
-    let mut blocks = Vec::new(alloc);
-    for size in [1024, 64, 1] {
-        for _ in 0..256 {
-            match Vec::with_capacity(heap, size) {
-                Ok(block) => blocks.push(block)?,
-                Err(_) => break,
-            }
-        }
+/// A call of a byte challenger.
+#[derive(Clone, Copy, PartialEq)]
+enum ByteCall {
+    Observe,
+    Sample,
+    Copy,
+}
+
+static BYTE_CALLS: [ByteCall; 3] = [ByteCall::Observe, ByteCall::Sample, ByteCall::Copy];
+
+// Makes the call, and says whether it was granted.
+fn is_granted<C: ByteChallenger>(challenger: &mut C, call: ByteCall) -> bool {
+    match call {
+        ByteCall::Observe => observe_bytes(challenger, &[7]).is_ok(),
+        ByteCall::Sample => challenger.sample_byte().is_ok(),
+        ByteCall::Copy => challenger.try_clone().is_ok(),
     }
-    Ok(blocks)
 }
 
 /// Whether both sample the same forty bytes.
@@ -45,92 +48,83 @@ fn sample_alike<C: ByteChallenger, D: ByteChallenger>(
     Ok(true)
 }
 
-// With an empty output a challenger in a full heap is refused what grows: the input by a byte, a copy of an input that is not
-// empty, and a digest as the new input where there was no room for one.
-fn refuses_what_grows<C: ByteChallenger, D: ByteChallenger>(
-    challenger: &mut C,
-    model: &mut D,
-    len: usize,
-) -> Result<bool, AllocError> {
-    let copied = challenger.try_clone().is_ok();
-    let silent = !challenger.refused();
-    let observed = challenger.observe_byte(7).is_ok();
-    let sampled = match challenger.sample_byte() {
-        Ok(byte) => byte == model.sample_byte()? && len >= 32,
-        Err(_) => len < 32,
-    };
-    Ok(copied == (len == 0) && silent && !observed && sampled)
-}
-
-// Whether the model, too, observes a byte that the challenger observes.
-fn both_observe<C: ByteChallenger, D: ByteChallenger>(
-    challenger: &mut C,
-    model: &mut D,
-) -> Result<bool, AllocError> {
-    if challenger.observe_byte(7).is_err() {
-        return Ok(false);
-    }
-    model.observe_byte(7)?;
-    Ok(true)
-}
-
-// Whether a byte is refused once the input is full. The model observes those before it.
-fn refuses_once_full<C: ByteChallenger, D: ByteChallenger>(
-    challenger: &mut C,
-    model: &mut D,
-) -> Result<bool, AllocError> {
-    for _ in 0..1024 {
-        if !both_observe(challenger, model)? {
-            return Ok(true);
-        }
-    }
-    Ok(false)
-}
-
-// In the middle of a digest, where a sample needs no memory, it is refused a copy, a byte once the input is full, and several.
-fn refuses_within_a_digest<C: ByteChallenger, D: ByteChallenger>(
-    challenger: &mut C,
-    model: &mut D,
-) -> Result<bool, AllocError> {
-    Ok(
-        challenger.try_clone().is_err()
-            && refuses_once_full(challenger, model)?
-            && observe_bytes(challenger, &[1, 2, 3]).is_err(),
-    )
-}
-
-// What a challenger samples after calls that were refused is as if those had not been, which a model with ample memory shows.
-fn refusals_change_nothing(
+// A call of a challenger whose initial state has `len` bytes and no room for more.
+#[derive(Drop)]
+struct InTurn {
     alloc: Global,
-    heap: &LocalHeap,
+    call: ByteCall,
     len: usize,
     is_within_a_digest: bool,
-) -> Result<bool, AllocError> {
-    let mut model = challenger_over(alloc, len)?;
-    let mut challenger = challenger_over(heap, len)?;
-    let first = !is_within_a_digest || challenger.sample_byte()? == model.sample_byte()?;
-    let blocks = blocks_of_all(alloc, heap)?;
-    let refused = if is_within_a_digest {
-        refuses_within_a_digest(&mut challenger, &mut model)?
-    } else {
-        refuses_what_grows(&mut challenger, &mut model, len)?
+}
+
+impl InTurn {
+    // Whether the call was granted as it was for a model that has ample memory, or as if it had not been made; and only a refused
+    // byte call is remembered as one.
+    fn is_left_right<C: ByteChallenger, D: ByteChallenger>(
+        &self,
+        challenger: &mut C,
+        model: &mut D,
+        was_granted: bool,
+    ) -> Result<bool, AllocError> {
+        if was_granted && !is_granted(model, self.call) {
+            return Ok(false);
+        }
+        let refused = challenger.refused();
+        let is_noted = refused == (!was_granted && self.call != ByteCall::Copy);
+        Ok(is_noted && !challenger.try_clone()?.refused() && sample_alike(challenger, model)?)
+    }
+
+    // Whether the call is refused in some heap if it takes memory, and in none if not: an observed byte needs room, a sample room for
+    // a digest, a copy room for the input. In the middle of a digest, which has grown, only a sample is sure to need none.
+    fn may_be_refused(&self, refusals: u16) -> bool {
+        let takes_memory = match self.call {
+            ByteCall::Sample => self.len < 32 && !self.is_within_a_digest,
+            _ if self.is_within_a_digest => return true,
+            ByteCall::Observe => true,
+            ByteCall::Copy => self.len > 0,
+        };
+        takes_memory == (refusals > 0)
+    }
+}
+
+impl Growing for InTurn {
+    fn run<'a>(&self, heap: &'a LocalHeap, rest: Rest<'a>) -> Result<Ending, AllocError> {
+        let mut model = challenger_over(self.alloc, self.len)?;
+        let mut challenger = challenger_over(heap, self.len)?;
+        if self.is_within_a_digest {
+            let sampled = challenger.sample_byte()?;
+            if model.sample_byte()? != sampled {
+                return Ok(Ending::Wrong);
+            }
+        }
+        let was_granted = is_granted(&mut challenger, self.call);
+        drop(rest);
+        let is_right = self.is_left_right(&mut challenger, &mut model, was_granted)?;
+        Ok(Ending::of(was_granted, is_right))
+    }
+}
+
+fn is_right(alloc: Global, call: ByteCall, len: usize, is_within_a_digest: bool) -> bool {
+    let in_turn = InTurn {
+        alloc,
+        call,
+        len,
+        is_within_a_digest,
     };
-    let noted = challenger.refused();
-    drop(blocks);
-    let copy_refused = challenger.try_clone()?.refused();
-    Ok(first && refused && noted && !copy_refused && sample_alike(&mut challenger, &mut model)?)
+    match refusals_of(alloc, &in_turn, 4096) {
+        Ok(Some(refusals)) => in_turn.may_be_refused(refusals),
+        _ => false,
+    }
 }
 
 #[test]
-fn refused_calls_keep_the_buffers(rt: HostRuntime) -> Result<(), Fail> {
-    let heap = LocalHeap::new(rt.alloc(), 4096)?;
-    for len in 0..100usize {
-        assert!(rt;
-            refusals_change_nothing(rt.alloc(), &heap, len, false)?
-                && refusals_change_nothing(rt.alloc(), &heap, len, true)?
-                && heap.used() == 0,
-            "{len} bytes"
-        );
+fn refused_calls_keep_the_buffers(rt: HostRuntime) {
+    for len in 0..258usize {
+        for call in &BYTE_CALLS {
+            assert!(rt;
+                is_right(rt.alloc(), *call, len, false) && is_right(rt.alloc(), *call, len, true),
+                "{len} bytes"
+            );
+        }
     }
-    Ok(())
 }
