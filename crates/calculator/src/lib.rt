@@ -22,6 +22,8 @@
 //! | `error 3` | it has too few or too many operands |
 //! | `error 4` | an operand has another length, or a byte that is no hexadecimal digit |
 //! | `error 5` | an operand is no element of the field |
+//!
+//! A line is kept whole in memory until its line feed, however long it is.
 #![tactic(auto)]
 
 mod calculation;

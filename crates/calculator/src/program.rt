@@ -9,7 +9,8 @@ use crate::watched::Watched;
 use std::io::{Read, Write};
 use std::process::ExitCode;
 
-/// Calls [`run`] on `reader` and `writer`. If that fails, it writes the reason to standard error and returns status 1.
+/// Calls [`run`] on `reader` and `writer`. If that fails, it writes the reason to standard error and returns status 1. A line is kept
+/// whole in memory until its line feed.
 pub fn run_program<H: Alloc + Eprint, R: Read, W: Write>(
     rt: &H,
     reader: &mut Watched<R>,

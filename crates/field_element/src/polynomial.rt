@@ -17,7 +17,8 @@ use word_tower::{Level, Tower};
 impl<R: Unsigned, L: Level<R>, M: Modulus<R, L>> Element<R, Polynomials<M, L>> {
     ghost use Rattle.field_element.specs.Element.{repr_of};
 
-    /// The inverse, and 0 for 0, by a chain that looks up nothing by the operand.
+    /// The inverse, and 0 for 0. That of bytes is looked up; the others are chains of products and squares, which look up nothing at
+    /// a place that the operand says.
     pub fn invert_or_zero(self) -> Element<R, Polynomials<M, L>>
         ensures zero { repr_of self ≡ 0 → repr_of result ≡ 0 }
         ensures inverse { repr_of self ≢ 0 → mul_mod M.width M.modulus (repr_of self) (repr_of result) ≡ 1 }

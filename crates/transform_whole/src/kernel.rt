@@ -62,7 +62,7 @@ pub trait Kernel {
 /// The kernel over plain numbers, by the butterflies and the low stages of `poly_basis`.
 #[derive(Drop)]
 pub struct PolyKernel {
-    /// The pairs that were computed, each with one product.
+    /// The pairs that were computed. A pair takes one product, which in long slices is looked up.
     pub products: u64,
 }
 

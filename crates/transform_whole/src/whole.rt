@@ -13,7 +13,7 @@ use transform_slices::{LOW_STAGES, LowStageTwiddles};
 
 /// Leaves at each place p the value, at point p, of the polynomial with the coefficients `values` in the basis of the products of
 /// the s_j: point p is `z`, and Cantor vector b for each set bit b of p. The length of `values` has to be 2^m for an m from 0 to 40.
-/// `products` rises by the m * 2^(m - 1) pairs of places that are computed, each with one product, and has to fit 64 bits after it.
+/// `products` rises by the m * 2^(m - 1) pairs of places that are computed, and has to fit 64 bits after it.
 /// Where `alloc` refuses the twiddles, it fails, and leaves `values` and `products` untouched; with fewer than 16 values it takes no
 /// memory, and does not fail.
 pub fn forward<A: Allocator>(
