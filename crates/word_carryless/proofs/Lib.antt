@@ -19,3 +19,4 @@ pub mod LaneProducts
 pub mod LaneReductions
 pub mod ListLoops
 pub mod MaskedLanes
+pub mod DotProducts

@@ -3,8 +3,8 @@
 ghost use Rattle.std.specs.Prelude.{◌≤◌};
 
 use word_carryless::{
-    masked_products, multiply_128, multiply_128_twice, multiply_each_mod_128, multiply_mod_128,
-    multiply_mod_128_four_times, multiply_mod_128_twice,
+    dot_product_mod_128, masked_products, multiply_128, multiply_128_twice, multiply_each_mod_128,
+    multiply_mod_128, multiply_mod_128_four_times, multiply_mod_128_twice,
 };
 
 static CORNERS: [u128; 8] = [
@@ -44,6 +44,7 @@ fn four_times_is_single(left: [u128; 4], right: [u128; 4]) -> bool {
     same
 }
 
+// The products of both kinds over slices of this length, whose sum is the dot product.
 fn slice_is_single(length: usize) -> bool
     requires { length ≤ 257 }
 {
@@ -54,8 +55,10 @@ fn slice_is_single(length: usize) -> bool
         right[i] = drawn(257 + i);
     }
     let before = left;
+    let sum = dot_product_mod_128(&left[..length], &right[..length]);
     multiply_each_mod_128(&mut left[..length], &right[..length]);
     let mut same = true;
+    let mut total = 0;
     for i in 0..257 {
         let want = if i < length {
             multiply_mod_128(before[i], right[i])
@@ -63,8 +66,11 @@ fn slice_is_single(length: usize) -> bool
             before[i]
         };
         same = same && left[i] == want;
+        if i < length {
+            total ^= want;
+        }
     }
-    same
+    same && sum == total
 }
 
 #[test]
