@@ -26,6 +26,15 @@ fn counts_from(values: &[u128], first: u128) -> bool {
     true
 }
 
+// Whether places 2 i and 2 i + 1 hold i.
+fn counts_pairs(values: &[u128; 64]) -> bool {
+    let mut counts = true;
+    for place in 0..64 {
+        counts = counts && values[place] == (place / 2) as u128;
+    }
+    counts
+}
+
 // Four runs, each with a 1 at one place and 0 at the others.
 fn ones_at(place: usize) -> [u128; 64] {
     let mut values = [0; 64];
@@ -54,7 +63,7 @@ fn runs_of_given_twiddles(rt: HostRuntime) -> Result<(), Fail> {
     twiddles.forward(&mut at_two, 0);
     let mut at_three = ones_at(3);
     twiddles.forward(&mut at_three, 0);
-    assert!(rt; counts_from(&at_one, 0) && at_two[3] == 1 && at_two[62] == 31 && at_two[63] == 31);
+    assert!(rt; counts_from(&at_one, 0) && counts_pairs(&at_two));
     assert!(rt; at_three[3] == 3 && at_three[63] == 0x2b5);
     let mut none: [u128; 0] = [];
     twiddles.forward(&mut none, usize::MAX);

@@ -1,4 +1,5 @@
 // Worked rows of products and butterflies of slices.
+use crate::tests::drawn::{fill, next_number};
 use transform_slices::{butterfly_forward, butterfly_inverse, mul, mul_slice, square};
 
 #[test]
@@ -31,4 +32,46 @@ fn products_of_slices_of_high_powers(rt: HostRuntime) {
     let mut ones = [u128::MAX; 5];
     mul_slice(&mut ones, u128::MAX);
     assert!(rt; ones == [0x5555_5555_5555_5555_5555_5555_5555_402f; 5]);
+}
+
+// Whether products of a slice by a scalar, and both butterflies, at so many places are those of the scalar operation, and leave the
+// places behind.
+fn kernels_agree(places: usize, scalar: u128) -> bool {
+    let mut values = [0; 401];
+    fill(&mut values, 1);
+    let mut others = [0; 401];
+    fill(&mut others, 2);
+    let count = places.min(401);
+    let mut products = values;
+    mul_slice(&mut products[..count], scalar);
+    let (mut lo, mut hi) = (values, others);
+    butterfly_forward(&mut lo[..count], &mut hi[..count], scalar);
+    let (mut back, mut back_high) = (lo, hi);
+    butterfly_inverse(&mut back[..count], &mut back_high[..count], scalar);
+    let mut agree = back == values && back_high == others;
+    for place in 0..401 {
+        let (value, other) = (values[place], others[place]);
+        let (product, low, high) = if place < count {
+            let low = value ^ mul(scalar, other);
+            (mul(scalar, value), low, other ^ low)
+        } else {
+            (value, value, other)
+        };
+        agree = agree && products[place] == product && lo[place] == low && hi[place] == high;
+    }
+    agree
+}
+
+// At the lengths where another way of computing begins, one less and one more, too.
+#[test]
+fn slices_of_every_length(rt: HostRuntime) {
+    let mut state = 3;
+    let mut agree = true;
+    for places in 0..41 {
+        agree = agree && kernels_agree(places, next_number(&mut state));
+    }
+    for places in [257, 399, 400, 401] {
+        agree = agree && kernels_agree(places, next_number(&mut state));
+    }
+    assert!(rt; agree);
 }
