@@ -5,14 +5,15 @@ mod bits;
 mod coefficients;
 mod cubic_traits;
 mod cubic_word;
+mod lanes;
 mod operators;
-mod pairs;
 mod ring;
 mod stored;
 mod texts;
 
 pub use crate::element::coefficients::Coefficients;
 pub use crate::element::cubic_word::CubicKernel;
+pub use crate::element::lanes::HasPacking;
 pub use crate::element::stored::{element_of_word, word_of};
 use field_base::{FieldKernel, Gf2, Stored};
 use std::alloc::AllocError;
@@ -53,21 +54,6 @@ fn value<R: Stored, K: FieldKernel<R>>(x: &Element<R, K>) -> Element<R, K>
     Element {
         repr: x.repr,
         field: PhantomData,
-    }
-}
-
-/// A kernel whose elements have a packing, which `Field::Packing` of them is: for most it is the element itself.
-pub trait HasPacking<R: Stored>: FieldKernel<R> {
-    /// The packing of the elements.
-    type Packing;
-
-    /// Two products, `a` by `p` and `b` by `q`, which a kernel over vectors takes at once.
-    #[inline]
-    fn multiply_twice(a: R, b: R, p: R, q: R) -> (R, R)
-        ensures first { R.number result.0 ≡ Self.product (R.number a) (R.number p) }
-        ensures second { R.number result.1 ≡ Self.product (R.number b) (R.number q) }
-    {
-        (Self::multiply(a, p), Self::multiply(b, q))
     }
 }
 

@@ -21,4 +21,5 @@ pub use crate::names::{
     BinaryField2, BinaryField4, BinaryField8, BinaryField16, BinaryField32, BinaryField64,
     BinaryField128, Ghash128, PackedGhash128, PackedRijndael8b, Poly64, Poly192, Rijndael8b,
 };
+pub use crate::packings::{read_bytes, write_bytes};
 pub use crate::subfields::Below;

@@ -1,5 +1,6 @@
 // The fields by their names.
 use crate::element::{Coefficients, CubicKernel, Element, HasPacking};
+use crate::packings::multiply_bytes;
 use field_base::Unsigned;
 use packed_lanes::Packed;
 use word_carryless::multiply_mod_128_twice;
@@ -73,6 +74,11 @@ impl<R: Unsigned, L: Level<R>> HasPacking<R> for Tower<L> {
 
 impl HasPacking<u8> for RijndaelKernel {
     type Packing = PackedRijndael8b<16>;
+
+    #[inline]
+    fn multiply_each(left: &mut [Rijndael8b], right: &[Rijndael8b]) {
+        multiply_bytes(left, right);
+    }
 }
 
 impl HasPacking<u64> for Poly64Kernel {

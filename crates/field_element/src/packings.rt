@@ -10,10 +10,13 @@ ghost use Rattle.field_element.specs.GhashLanes.{ghash_image, ghash_image_lanes}
 ghost use Rattle.packed_lanes.specs.Packed.{EachLaneIs, lanes_of};
 ghost use Rattle.field_base.specs.Chunks.{joined};
 
+mod bytes;
 mod left;
 
 use crate::element::{Element, HasPacking};
 use crate::names::{BinaryField128, Ghash128, PackedGhash128};
+pub(crate) use crate::packings::bytes::multiply_bytes;
+pub use crate::packings::bytes::{read_bytes, write_bytes};
 use field_base::Stored;
 use field_base::traits::Algebra;
 use packed_lanes::WiderField;

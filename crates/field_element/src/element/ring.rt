@@ -6,7 +6,6 @@ ghost use Rattle.field_base.specs.Orders.{HasFullOrder};
 ghost use Rattle.field_base.specs.Powers.{repeated_square};
 ghost use Rattle.field_element.specs.RangeLemmas.{number_of_stored, one_in_range, stored_in_range, zero_in_range};
 
-use crate::element::pairs::multiply_by_pairs;
 use crate::element::{Element, HasPacking, value};
 use field_base::traits::{Field, PrimeCharacteristicRing, Represented, Sealed, TowerLevel};
 use field_base::{FieldKernel, Gf2, LevelKernel, Stored, Unsigned};
@@ -155,7 +154,7 @@ impl<R: Stored, K: HasPacking<R>> Laned for Element<R, K> {
 
     #[inline]
     fn multiply_lanes(left: &mut [Element<R, K>], right: &[Element<R, K>]) {
-        multiply_by_pairs(left, right);
+        K::multiply_each(left, right);
     }
 
     ghost zero_lane_law = { R.zero_number };
