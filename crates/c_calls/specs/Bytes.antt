@@ -1,5 +1,5 @@
 -- Calls over messages and over shards.
-use Rattle.std.specs.Prelude.{◌≡◌, ◌≢◌, ℕ, ◌+◌, ◌/◌, ◌^◌, ◌<◌, ◌≤◌, Bool, not, nat_eq, List, length, map}
+use Rattle.std.specs.Prelude.{◌≡◌, ◌≢◌, ℕ, ◌+◌, ◌/◌, ◌<◌, ◌≤◌, Bool, not, nat_eq, List, length, map}
 use Rattle.reed_solomon.specs.Shards.{AreCodewords, IsEncoded, IsReconstructed, present_count}
 use Rattle.reed_solomon.specs.Sizes.{HasShardSize}
 use Rattle.c_slices.specs.Calls.{CallOf}

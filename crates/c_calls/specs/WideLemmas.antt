@@ -1,5 +1,5 @@
 -- The numbers of words of 128 bits.
-use Rattle.std.proofs.Common.{ℕ, ◌^◌, ◌<◌, arith}
+use Rattle.std.proofs.Common.{◌^◌, ◌<◌, arith}
 use Rattle.c_slices.specs.Fields.{wide_number}
 use Rattle.c_slices.specs.declared.wide.Wide.{Wide}
 

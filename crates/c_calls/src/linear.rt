@@ -1,8 +1,6 @@
 // Linear maps of bytes and of words of 128 bits.
-ghost use Rattle.std.specs.Prelude.{◌≡◌, length};
 ghost use Rattle.c_calls.specs.Linear.{MapsLinearly};
 ghost use Rattle.c_slices.specs.Fields.{itself, wide_number};
-ghost use Rattle.word_basis.specs.LinearMap.{byte_map_of};
 
 use crate::numbers::numbers_of;
 use c_slices::{Wide, status};

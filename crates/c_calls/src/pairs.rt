@@ -1,6 +1,4 @@
 // The butterflies of words of 128 bits.
-ghost use Rattle.std.specs.Prelude.{◌≡◌, ℕ, ◌^◌, ◌<◌, bit_xor};
-
 use c_slices::Wide;
 use transform_whole::PairKernel;
 use word_carryless::multiply_mod_128;

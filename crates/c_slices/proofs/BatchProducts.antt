@@ -1,7 +1,7 @@
 -- Products of the numbers that are not 0, and the inverse of such a product split in two.
-use Rattle.std.proofs.Common.{◌≡◌, ◌≢◌, ℕ, zero, suc, ◌+◌, ◌-◌, ◌^◌, ◌<◌, List, length, get_or, set, take, inl, inr, refl, sym, ◌∙◌, ap, arith, below_more, get_or-set_other, get_or-set_same}
+use Rattle.std.proofs.Common.{◌≡◌, ◌≢◌, ℕ, zero, suc, ◌+◌, ◌^◌, ◌<◌, List, length, get_or, set, take, inl, inr, refl, sym, ◌∙◌, ap, arith, below_more, get_or-set_other, get_or-set_same}
 use Rattle.std.proofs.lemmas.List.Sums.{fold_more}
-use Rattle.field_base.specs.Field.{IsField, IsInverseOrZero}
+use Rattle.field_base.specs.Field.{IsField}
 use Rattle.field_base.proofs.FieldLemmas.{no_zero_divisors}
 use Rattle.c_slices.specs.Batch.{nonzero_product, times_nonzero}
 use Rattle.c_slices.specs.Fields.{WordField}

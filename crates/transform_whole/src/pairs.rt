@@ -4,7 +4,6 @@ ghost use Rattle.field_base.specs.LinearMaps.{linear_image};
 ghost use Rattle.transform_slices.specs.LowStages.{ghash_product, HoldSums};
 ghost use Rattle.transform_slices.specs.Slices.{IsForward, IsInverse};
 ghost use Rattle.transform_slices.specs.Stages.{add_multiple};
-ghost use Rattle.transform_slices.specs.Twiddles.{basis_of, shifts_of};
 ghost use Rattle.transform_whole.specs.Stages.{IsButterfly, IsStageFrom};
 
 use crate::kernel::Kernel;

@@ -1,4 +1,4 @@
-use Rattle.std.proofs.Common.{◌≡◌, ℕ, ◌<◌, ◌≤◌, List, [], ◌∷◌, ◌++◌, length, map, sym, ◌∙◌, ap, ap₂, arith, rules}
+use Rattle.std.proofs.Common.{ℕ, ◌<◌, ◌≤◌, List, [], ◌∷◌, ◌++◌, length, map, sym, ◌∙◌, ap, ap₂, arith, rules}
 use Rattle.std.proofs.lemmas.List.{map_more, take_all, take_more_set}
 use Rattle.c_slices.specs.Fields.{wide_number}
 use Rattle.c_calls.proofs.numbers.four_numbers.Goals as goal

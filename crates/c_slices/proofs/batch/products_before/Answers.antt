@@ -1,4 +1,4 @@
-use Rattle.std.proofs.Common.{◌≡◌, ◌<◌, ◌^◌, length, take, subst, sym, ◌∙◌, ap, arith}
+use Rattle.std.proofs.Common.{◌<◌, ◌^◌, length, take, subst, sym, ◌∙◌, ap, arith}
 use Rattle.std.proofs.lemmas.Nat.{pow_below}
 use Rattle.c_slices.specs.Batch.{nonzero_product, times_nonzero}
 use Rattle.c_slices.proofs.BatchProducts.{nonzero_product-more, times_nonzero-lt, times_nonzero-nonzero, written-more}

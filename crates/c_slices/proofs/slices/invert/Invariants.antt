@@ -1,4 +1,4 @@
-use Rattle.std.proofs.Common.{◌≡◌, ℕ, ◌<◌, ◌^◌, get_or}
+use Rattle.std.proofs.Common.{ℕ, ◌<◌, ◌^◌, get_or}
 use Rattle.field_base.specs.Field.{IsInverseOrZero}
 use Rattle.c_slices.proofs.slices.invert.Given as goal
 

@@ -1,6 +1,5 @@
-use Rattle.std.proofs.Common.{ℕ, ◌<◌, length, ◌∙◌, ap, arith}
+use Rattle.std.proofs.Common.{◌<◌, length, ◌∙◌, ap, arith}
 use Rattle.std.specs.Prelude.{bit_xor}
-use Rattle.field_base.specs.Powers.{dot_of}
 use Rattle.field_base.proofs.DotLemmas.{dot_of-drop, dot_step}
 use Rattle.c_slices.proofs.fields.Arithmetic.dot_product.Goals as goal
 

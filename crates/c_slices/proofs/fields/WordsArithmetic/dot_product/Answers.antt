@@ -1,7 +1,6 @@
-use Rattle.std.proofs.Common.{ℕ, ◌<◌, length, ◌∙◌, ap, ap₂, arith}
+use Rattle.std.proofs.Common.{ℕ, ◌<◌, length, ◌∙◌, ap₂, arith}
 use Rattle.std.specs.Prelude.{bit_xor}
-use Rattle.field_base.specs.Powers.{dot_of}
-use Rattle.field_base.proofs.DotLemmas.{dot_of-drop, dot_step, dot_end}
+use Rattle.field_base.proofs.DotLemmas.{dot_of-drop, dot_step}
 use Rattle.c_slices.proofs.fields.WordsArithmetic.dot_product.Goals as goal
 
 pub loop-place-preserved : goal.loop-place-preserved
