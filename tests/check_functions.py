@@ -20,14 +20,12 @@ class Buffer:
 
     def __init__(self, content, word):
         self.content = content
-        self.memory = ctypes.create_string_buffer(GUARD + b"\0" * 8 + content + GUARD, len(content) + 40)
+        self.memory = ctypes.create_string_buffer(len(content) + 48)
         # An address that a word's own alignment divides and no larger one.
         alignment = min(cases.SIZES[word], 8)
         start = ctypes.addressof(self.memory) + 16
-        self.shift = -start % alignment
-        if (start + self.shift) % (2 * alignment) == 0:
-            self.shift = (self.shift + alignment) % 8 if alignment < 8 else 0
-        self.address = start + self.shift
+        start += -start % alignment
+        self.address = start if start % (2 * alignment) else start + alignment
         ctypes.memmove(self.address - 16, GUARD + content + GUARD, len(content) + 32)
 
     def read(self):

@@ -3,6 +3,9 @@
 //! An element is an unsigned number, its representation, and a sum is the exclusive or. In the tower the low half of the bits is
 //! the part without the root; in a polynomial basis bit i is the coefficient of x^i. Nothing is claimed on timing.
 //!
+//! `scripts/build-library FOLDER` makes the library, and cargo finds it by `BINARY_FIELD_LIBRARY=FOLDER/lib`. An operator is a call
+//! of the library over slices of one element; the functions over slices cost less an element.
+//!
 //! ```
 //! use binary_field::{BinaryField128, Field, Ghash128};
 //!
