@@ -12,15 +12,16 @@ use Rattle.reed_solomon.specs.Shards.{IsPresent, shard_byte}
 use Rattle.reed_solomon.specs.Tables.{AreApart, AreWritten, HasRow, IsEntry, nibble_sum, row_sum}
 use Rattle.reed_solomon.proofs.NibbleTables.{nibble_product}
 use Rattle.reed_solomon.proofs.Restoring.{RestoresBefore, symbol_at-same}
+use Rattle.reed_solomon.proofs.RowWriting.{written_by}
 use Rattle.reed_solomon.proofs.Samples.{below_next}
 use Rattle.reed_solomon.proofs.Writing.{apart_from, sum_below-same}
 
 -- ---- entries that are set in turn
 
-pub entry_next : (value : ℕ → ℕ) (i entry : ℕ) (entries : List ℕ) → length entries ≡ 256 → i < 256
+pub entry_next : (value : ℕ → ℕ) (room i entry : ℕ) (entries : List ℕ) → length entries ≡ room → i < room
     → ((n : ℕ) → n < i → get_or entries n 0 ≡ value n) → entry ≡ value i
-    → (length (set entries i entry) ≡ 256) × ((n : ℕ) → n < i + 1 → get_or (set entries i entry) n 0 ≡ value n)
-entry_next value i entry entries long inside before is = (
+    → (length (set entries i entry) ≡ room) × ((n : ℕ) → n < i + 1 → get_or (set entries i entry) n 0 ≡ value n)
+entry_next value room i entry entries long inside before is = (
   length-set entries i entry ∙ long,
   λ n below.
       below_next (λ m. get_or (set entries i entry) m 0 ≡ value m) i n below
@@ -72,50 +73,58 @@ apart_places size a b different =
 
 -- ---- groups of shards
 
+-- rows behind the rows that are written
+pub rows_joined : (value : ℕ → ℕ → ℕ) (spot : ℕ → ℕ) (size all : ℕ) → ((s t : ℕ) → s < t → t < all → spot t ≢ spot s)
+    → (reached done n next : ℕ) (old mid now : List ℕ) → reached ≡ done → next ≡ done + n → done + n ≤ all
+    → AreWritten value (λ t. spot t * size) reached size old mid
+    → AreWritten (λ row column. value (done + row) column) (λ row. spot (done + row) * size) n size mid now
+    → AreWritten value (λ t. spot t * size) next size old now
+rows_joined value spot size all distinct reached done n next old mid now reached_is next_is fits before more =
+    record {
+      long = more.long ∙ before.long;
+      written = λ t column below inside.
+          elim (cases_lt t done) [
+            | inl early ↦ more.others (spot t * size + column) (λ r within. beside t column r inside early within)
+                ∙ before.written t column (omega (arith, early, reached_is)) inside
+            | inr late ↦ last t column below inside late
+          ];
+      others = λ i outside.
+          more.others i (λ r within. outside (done + r) (omega (arith, within, next_is)))
+          ∙ before.others i (λ t below. outside t (omega (arith, below, next_is, reached_is)));
+    }
+  where
+    beside : (t column r : ℕ) → column < size → t < done → r < n
+        → (spot t * size + column < spot (done + r) * size) ⊎ (spot (done + r) * size + size ≤ spot t * size + column)
+    beside t column r inside early within =
+        apart_from size (spot (done + r)) (spot t) column size inside (omega arith)
+        (λ e. distinct t (done + r) (omega (arith, early)) (omega (arith, within, fits)) (sym e))
+
+    last : (t column : ℕ) → t < next → column < size → done ≤ t → get_or now (spot t * size + column) 0 ≡ value t column
+    last t column below inside late =
+        let back : done + (t - done) ≡ t = omega (arith, late) in
+        subst (λ (m : ℕ). get_or now (spot m * size + column) 0 ≡ value m column) back
+        (more.written (t - done) column (omega (arith, late, below, next_is)) inside)
+
 module _ (count size : ℕ) (place target : ℕ → ℕ) (all : ℕ)
     (apart : (j t : ℕ) → j < count → t < all → place j ≢ target t) (distinct : (s t : ℕ) → s < t → t < all → target t ≢ target s) where
+  -- where they are written among the shards of the sample, which stay as they are
   pub group_written : (reached done n next : ℕ) (old mid now : List ℕ) → reached ≡ done → next ≡ done + n → done + n ≤ all
       → AreWritten (λ t column. symbol_at count size place old column (target t)) (λ t. target t * size) reached size old mid
       → AreWritten (λ row column. symbol_at count size place mid column (target (done + row))) (λ row. target (done + row) * size) n size mid now
       → AreWritten (λ t column. symbol_at count size place old column (target t)) (λ t. target t * size) next size old now
-  group_written reached done n next old mid now reached_is next_is fits all_before more =
-      record {
-        long = more.long ∙ before.long;
-        written = λ t column below inside.
-            elim (cases_lt t done) [
-              | inl early ↦ more.others (target t * size + column) (λ r within. beside t column r inside early within)
-                  ∙ before.written t column early inside
-              | inr late ↦ last t column below inside late
-            ];
-        others = λ i outside.
-            more.others i (λ r within. outside (done + r) (omega (arith, within, next_is)))
-            ∙ before.others i (λ t below. outside t (omega (arith, below, next_is)));
-      }
+  group_written reached done n next old mid now reached_is next_is fits before more =
+      rows_joined (λ t column. symbol_at count size place old column (target t)) target size all distinct reached done n next old mid now reached_is
+      next_is fits before
+      (written_by (λ row column. symbol_at count size place mid column (target (done + row)))
+      (λ row column. symbol_at count size place old column (target (done + row))) (λ row. target (done + row) * size) n size mid now more
+      (λ row column within inside.
+      symbol_at-same count size place old mid column (target (done + row)) (λ j j_below. read column j inside j_below)))
     where
-      before : AreWritten (λ t column. symbol_at count size place old column (target t)) (λ t. target t * size) done size old mid
-      before =
-          subst (λ (n : ℕ). AreWritten (λ t column. symbol_at count size place old column (target t)) (λ t. target t * size) n size old mid) reached_is
-          all_before
-
-      beside : (t column r : ℕ) → column < size → t < done → r < n
-          → (target t * size + column < target (done + r) * size) ⊎ (target (done + r) * size + size ≤ target t * size + column)
-      beside t column r inside early within =
-          apart_from size (target (done + r)) (target t) column size inside (omega arith)
-          (λ e. distinct t (done + r) (omega (arith, early)) (omega (arith, within, fits)) (sym e))
-
-      -- the sample's shards are not written
       read : (column j : ℕ) → column < size → j < count → shard_byte size mid (place j) column ≡ shard_byte size old (place j) column
       read column j inside below =
           before.others (place j * size + column)
-          (λ t within. apart_from size (target t) (place j) column size inside (omega arith) (apart j t below (omega (arith, within, fits))))
-
-      last : (t column : ℕ) → t < next → column < size → done ≤ t
-          → get_or now (target t * size + column) 0 ≡ symbol_at count size place old column (target t)
-      last t column below inside late =
-          let back : done + (t - done) ≡ t = omega (arith, late) in
-          subst (λ (n : ℕ). get_or now (target n * size + column) 0 ≡ symbol_at count size place old column (target n)) back
-          (more.written (t - done) column (omega (arith, late, below, next_is)) inside
-          ∙ symbol_at-same count size place old mid column (target (done + (t - done))) (λ j j_below. read column j inside j_below))
+          (λ t within. apart_from size (target t) (place j) column size inside (omega arith)
+          (apart j t below (omega (arith, within, fits, reached_is))))
 
 -- ---- the missing shards
 

@@ -11,46 +11,9 @@ use Rattle.reed_solomon.proofs.Restoring.{sample_agrees, sample_word}
 use Rattle.reed_solomon.proofs.Samples.{below_next}
 use Rattle.reed_solomon.proofs.Writing.{apart_from}
 
--- the first bytes from `begin` on are values, and everything else is as it was
-pub record FillsBefore (begin : ℕ) (value : ℕ → ℕ) (old : List ℕ) (column : ℕ) (now : List ℕ) : Type 0 where
-  pub long : length now ≡ length old
-  pub written : (c : ℕ) → c < column → get_or now (begin + c) 0 ≡ value c
-  pub others : (i : ℕ) → (i < begin) ⊎ (begin + column ≤ i) → get_or now i 0 ≡ get_or old i 0
-
-pub nothing_filled : (begin : ℕ) (value : ℕ → ℕ) (old : List ℕ) → FillsBefore begin value old 0 old
-nothing_filled begin value old =
-    record { long = refl; written = λ c below. absurd (omega (arith, below)); others = λ i outside. refl }
-
-pub byte_filled : (begin : ℕ) (value : ℕ → ℕ) (old now : List ℕ) (column byte : ℕ) → FillsBefore begin value old column now
-    → begin + column < length old → byte ≡ value column → FillsBefore begin value old (column + 1) (set now (begin + column) byte)
-byte_filled begin value old now column byte before inside is =
-    record {
-      long = length-set now (begin + column) byte ∙ before.long;
-      written = λ c below.
-          below_next (λ n. get_or (set now (begin + column) byte) (begin + n) 0 ≡ value n) column c below
-          (λ was. get_or-set_other now (begin + column) (begin + c) byte 0 (λ e. absurd (omega (arith, was, e))) ∙ before.written c was)
-          (get_or-set_same now (begin + column) byte 0 (subst (λ (n : ℕ). begin + column < n) (sym before.long) inside) ∙ is);
-      others = λ i outside.
-          get_or-set_other now (begin + column) i byte 0 (elsewhere i outside)
-          ∙ before.others i (elim outside [ inl low ↦ inl low | inr high ↦ inr (omega (arith, high)) ]);
-    }
-  where
-    elsewhere : (i : ℕ) → (i < begin) ⊎ (begin + (column + 1) ≤ i) → i ≢ begin + column
-    elsewhere i outside = λ e. elim outside [ inl low ↦ absurd (omega (arith, low, e)) | inr high ↦ absurd (omega (arith, high, e)) ]
-
 -- the first rows have their values
 abbrev pub RowsBefore : ℕ → (ℕ → ℕ → ℕ) → ℕ → List ℕ → Type 0
 RowsBefore size value row now = (r c : ℕ) → r < row → c < size → get_or now (r * size + c) 0 ≡ value r c
-
-pub row_filled : (size : ℕ) (value : ℕ → ℕ → ℕ) (row : ℕ) (now next : List ℕ) → RowsBefore size value row now
-    → ((c : ℕ) → c < size → get_or next (row * size + c) 0 ≡ value row c)
-    → ((i : ℕ) → (i < row * size) ⊎ (row * size + size ≤ i) → get_or next i 0 ≡ get_or now i 0)
-    → RowsBefore size value (row + 1) next
-row_filled size value row now next before written others =
-    λ r c below inside.
-    below_next (λ n. get_or next (n * size + c) 0 ≡ value n c) row r below
-    (λ was. others (r * size + c) (apart_from size row r c size inside (omega arith) (λ e. absurd (omega (arith, was, e)))) ∙ before r c was inside)
-    (written c inside)
 
 -- parity of those values behind the data is that of the data
 pub separate_encoded : (k m size : ℕ) (present : List Bool) (places source before after : List ℕ) → k + m ≤ 256

@@ -53,50 +53,51 @@ pub(crate) fn column_sum(
     sum
 }
 
-// Writes 32 columns of N rows.
-#[inline(always)]
-fn write_block<const N: usize>(
-    shards: &mut [u8],
+// What the tables of N rows give in one column.
+#[inline]
+fn column_sums<const N: usize>(
+    shards: &[u8],
     starts: &[usize],
     tables: &RowTables,
-    rows: &[usize],
     column: usize,
-)
+) -> [u8; N]
     requires few { length starts.now ≤ 256 }
     requires rows { N ≤ 4 }
-    requires named { length rows.now ≡ N }
-    requires inside { (j : ℕ) → j < length starts.now → slice_index starts.now j + column + 32 ≤ length shards.old }
-    requires room { (row : ℕ) → row < N → slice_index rows.now row + column + 32 ≤ length shards.old }
-    requires apart { (row other : ℕ) → other < row → row < N → AreApart 32 (slice_index rows.now row) (slice_index rows.now other) }
-    ensures { AreWritten (λ row lane. row_sum tables.now.entries shards.old starts.now row (column + lane))
-        (λ row. slice_index rows.now row + column) N 32 shards.old shards.new }
+    requires inside { (j : ℕ) → j < length starts.now → slice_index starts.now j + column < length shards.now }
+    ensures { (row : ℕ) → row < N → slice_index result row ≡ row_sum tables.now.entries shards.now starts.now row column }
 {
-    let sums = block_sums::<N>(shards, starts, tables, column);
+    let mut sums = [0; N];
     for row in 0..N {
-        sums[row].copy_to_slice(&mut shards[rows[row] + column..]);
+        sums[row] = column_sum(shards, starts, tables, row, column);
+    }
+    sums
+}
+
+// Stores 32 columns of N rows.
+#[inline(always)]
+fn store_block<const N: usize>(out: &mut [u8], rows: &[usize], column: usize, sums: &[u8x32; N])
+    requires named { length rows.now ≡ N }
+    requires lanes { (row : ℕ) → row < N → length (slice_index_or sums.now row []) ≡ 32 }
+    requires room { (row : ℕ) → row < N → slice_index rows.now row + column + 32 ≤ length out.old }
+    requires apart { (row other : ℕ) → other < row → row < N → AreApart 32 (slice_index rows.now row) (slice_index rows.now other) }
+    ensures { AreWritten (λ row lane. slice_index (slice_index_or sums.now row []) lane)
+        (λ row. slice_index rows.now row + column) N 32 out.old out.new }
+{
+    for row in 0..N {
+        sums[row].copy_to_slice(&mut out[rows[row] + column..]);
     }
 }
 
-// Writes one column of N rows.
-fn write_column<const N: usize>(
-    shards: &mut [u8],
-    starts: &[usize],
-    tables: &RowTables,
-    rows: &[usize],
-    column: usize,
-)
-    requires few { length starts.now ≤ 256 }
-    requires rows { N ≤ 4 }
+// Stores one column of N rows.
+#[inline]
+fn store_column<const N: usize>(out: &mut [u8], rows: &[usize], column: usize, sums: &[u8; N])
     requires named { length rows.now ≡ N }
-    requires inside { (j : ℕ) → j < length starts.now → slice_index starts.now j + column < length shards.old }
-    requires room { (row : ℕ) → row < N → slice_index rows.now row + column < length shards.old }
+    requires room { (row : ℕ) → row < N → slice_index rows.now row + column < length out.old }
     requires apart { (row other : ℕ) → other < row → row < N → AreApart 1 (slice_index rows.now row) (slice_index rows.now other) }
-    requires read { (j row : ℕ) → j < length starts.now → row < N → AreApart 1 (slice_index starts.now j) (slice_index rows.now row) }
-    ensures { AreWritten (λ row lane. row_sum tables.now.entries shards.old starts.now row (column + lane))
-        (λ row. slice_index rows.now row + column) N 1 shards.old shards.new }
+    ensures { AreWritten (λ row lane. slice_index sums.now row) (λ row. slice_index rows.now row + column) N 1 out.old out.new }
 {
     for row in 0..N {
-        shards[rows[row] + column] = column_sum(shards, starts, tables, row, column);
+        out[rows[row] + column] = sums[row];
     }
 }
 
@@ -120,9 +121,40 @@ pub(crate) fn write_rows<const N: usize>(
 {
     let whole = size / 32 * 32;
     for block in 0..size / 32 {
-        write_block::<N>(shards, starts, tables, rows, 32 * block);
+        let sums = block_sums::<N>(shards, starts, tables, 32 * block);
+        store_block::<N>(shards, rows, 32 * block, &sums);
     }
     for column in whole..size {
-        write_column::<N>(shards, starts, tables, rows, column);
+        let sums = column_sums::<N>(shards, starts, tables, column);
+        store_column::<N>(shards, rows, column, &sums);
+    }
+}
+
+// Writes N rows of `size` bytes of another slice from the shards that begin at `starts`.
+#[inline]
+pub(crate) fn write_rows_apart<const N: usize>(
+    shards: &[u8],
+    size: usize,
+    starts: &[usize],
+    tables: &RowTables,
+    out: &mut [u8],
+    rows: &[usize],
+)
+    requires few { length starts.now ≤ 256 }
+    requires rows { N ≤ 4 }
+    requires named { length rows.now ≡ N }
+    requires inside { (j : ℕ) → j < length starts.now → slice_index starts.now j + size ≤ length shards.now }
+    requires room { (row : ℕ) → row < N → slice_index rows.now row + size ≤ length out.old }
+    requires apart { (row other : ℕ) → other < row → row < N → AreApart size (slice_index rows.now row) (slice_index rows.now other) }
+    ensures { AreWritten (row_sum tables.now.entries shards.now starts.now) (slice_index rows.now) N size out.old out.new }
+{
+    let whole = size / 32 * 32;
+    for block in 0..size / 32 {
+        let sums = block_sums::<N>(shards, starts, tables, 32 * block);
+        store_block::<N>(out, rows, 32 * block, &sums);
+    }
+    for column in whole..size {
+        let sums = column_sums::<N>(shards, starts, tables, column);
+        store_column::<N>(out, rows, column, &sums);
     }
 }

@@ -5,7 +5,7 @@ ghost use Rattle.reed_solomon.specs.ErasureField.{erasure_product};
 ghost use Rattle.reed_solomon.specs.Samples.{symbol_at};
 ghost use Rattle.reed_solomon.specs.Tables.{AreWritten, HasRow};
 
-use crate::blocks::write_rows;
+use crate::blocks::{write_rows, write_rows_apart};
 use crate::sample::Sample;
 use crate::tables::RowTables;
 
@@ -107,6 +107,116 @@ pub(crate) fn write_shards(
         3 => write_group::<3>(shards, size, sample, starts, &mut tables, targets, whole),
         2 => write_group::<2>(shards, size, sample, starts, &mut tables, targets, whole),
         1 => write_group::<1>(shards, size, sample, starts, &mut tables, targets, whole),
+        _ => {}
+    }
+}
+
+// Where the bytes of `count` rows begin, from row `first` on.
+fn rows_from(first: usize, count: usize, size: usize) -> [usize; 256]
+    requires listed { first + count ≤ 256 }
+    requires fit { (i : ℕ) → i < count → (first + i) * size < 2 ^ 64 }
+    ensures long { length result ≡ 256 }
+    ensures starts { (i : ℕ) → i < count → slice_index result i ≡ (first + i) * size }
+{
+    let mut starts = [0; 256];
+    for i in 0..count {
+        starts[i] = (first + i) * size;
+    }
+    starts
+}
+
+// Writes N rows of another slice from row `first` on: the shards at the places from entry `first` on.
+#[inline(never)]
+fn write_group_apart<const N: usize>(
+    shards: &[u8],
+    size: usize,
+    sample: &Sample,
+    starts: &[usize],
+    tables: &mut RowTables,
+    targets: &[u8; 256],
+    first: usize,
+    out: &mut [u8],
+)
+    requires rows { N ≤ 4 }
+    requires listed { first + N ≤ 256 }
+    requires counted { length starts.now ≡ sample.now.count }
+    requires begun { (j : ℕ) → j < sample.now.count → slice_index starts.now j ≡ slice_index sample.now.places j * size }
+    requires inside { (j : ℕ) → j < sample.now.count → slice_index sample.now.places j * size + size ≤ length shards.now }
+    requires room { (row : ℕ) → row < N → (first + row) * size + size ≤ length out.old }
+    requires apart { (j row : ℕ) → j < sample.now.count → row < N → slice_index sample.now.places j ≢ slice_index targets.now (first + row) }
+    ensures { AreWritten
+        (λ row column. symbol_at sample.now.count size (slice_index sample.now.places) shards.now column (slice_index targets.now (first + row)))
+        (λ row. (first + row) * size) N size out.old out.new }
+{
+    bytes_fit(shards);
+    set_rows::<N>(tables, sample, targets, first);
+    let rows = rows_from(first, N, size);
+    write_rows_apart::<N>(shards, size, starts, tables, out, &rows[..N]);
+}
+
+// Writes the shards at the first `count` places into another slice, one after the other, where none of them is of the sample.
+pub(crate) fn write_shards_apart(
+    shards: &[u8],
+    size: usize,
+    sample: &Sample,
+    targets: &[u8; 256],
+    count: usize,
+    out: &mut [u8],
+)
+    requires few { count ≤ 256 }
+    requires inside { (j : ℕ) → j < sample.now.count → slice_index sample.now.places j * size + size ≤ length shards.now }
+    requires room { (t : ℕ) → t < count → t * size + size ≤ length out.old }
+    requires apart { (j t : ℕ) → j < sample.now.count → t < count → slice_index sample.now.places j ≢ slice_index targets.now t }
+    ensures { AreWritten (λ t column. symbol_at sample.now.count size (slice_index sample.now.places) shards.now column (slice_index targets.now t))
+        (λ t. t * size) count size out.old out.new }
+{
+    let starts = starts_of(&sample.places, 0, sample.count, size);
+    let starts = &starts[..sample.count];
+    let mut tables = RowTables::empty();
+    let whole = count / 4 * 4;
+    for group in 0..count / 4 {
+        write_group_apart::<4>(
+            shards,
+            size,
+            sample,
+            starts,
+            &mut tables,
+            targets,
+            4 * group,
+            out,
+        );
+    }
+    match count % 4 {
+        3 => write_group_apart::<3>(
+            shards,
+            size,
+            sample,
+            starts,
+            &mut tables,
+            targets,
+            whole,
+            out,
+        ),
+        2 => write_group_apart::<2>(
+            shards,
+            size,
+            sample,
+            starts,
+            &mut tables,
+            targets,
+            whole,
+            out,
+        ),
+        1 => write_group_apart::<1>(
+            shards,
+            size,
+            sample,
+            starts,
+            &mut tables,
+            targets,
+            whole,
+            out,
+        ),
         _ => {}
     }
 }

@@ -7,7 +7,7 @@ ghost use Rattle.reed_solomon.specs.Samples.{IsSample, MatchesShard, symbol_at};
 ghost use Rattle.reed_solomon.specs.Shards.{AreCodewords, IsPresent, IsReconstructed, present_count, shard_byte};
 
 use crate::byte_field::multiply;
-use crate::groups::{bytes_fit, write_shards};
+use crate::groups::{bytes_fit, write_shards, write_shards_apart};
 use crate::sample::Sample;
 
 // The sum of the products of the factors and the sample's symbols in one column.
@@ -97,28 +97,16 @@ pub(crate) fn matches(shards: &[u8], size: usize, sample: &Sample, present: &[bo
     true
 }
 
-// Writes the symbols that the sample's shards give to the shard at `target` into the bytes from `begin` on.
-pub(crate) fn write_symbols(
-    shards: &[u8],
-    size: usize,
-    sample: &Sample,
-    target: usize,
-    out: &mut [u8],
-    begin: usize,
-)
-    requires point { target < 256 }
-    requires inside { (j : ℕ) → j < sample.now.count → slice_index sample.now.places j * size + size ≤ length shards.now }
-    requires room { begin + size ≤ length out.old }
-    requires apart { (j : ℕ) → j < sample.now.count → slice_index sample.now.places j ≢ target }
-    ensures long { length out.new ≡ length out.old }
-    ensures written { (column : ℕ) → column < size → slice_index out.new (begin + column)
-        ≡ symbol_at sample.now.count size (slice_index sample.now.places) shards.now column target }
-    ensures others { (i : ℕ) → (i < begin) ⊎ (begin + size ≤ i) → slice_index out.new i ≡ slice_index out.old i }
+// The places of `count` shards from shard `first` on.
+fn places_from(first: usize, count: usize) -> [u8; 256]
+    requires { first + count ≤ 256 }
+    ensures { (i : ℕ) → i < count → slice_index result i ≡ first + i }
 {
-    let factors = sample.factors(target as u8);
-    for column in 0..size {
-        out[begin + column] = symbol(sample, &factors, shards, size, column);
+    let mut places = [0; 256];
+    for i in 0..count {
+        places[i] = (first + i) as u8;
     }
+    places
 }
 
 // Writes the shards of parity behind one another, from a sample of the data. The first of them is shard `first`.
@@ -138,7 +126,6 @@ pub(crate) fn write_parity(
     ensures rows { (row column : ℕ) → row < count → column < size → slice_index parity.new (row * size + column)
         ≡ symbol_at sample.now.count size (slice_index sample.now.places) shards.now column (first + row) }
 {
-    for row in 0..count {
-        write_symbols(shards, size, sample, first + row, parity, row * size);
-    }
+    let targets = places_from(first, count);
+    write_shards_apart(shards, size, sample, &targets, count, parity);
 }

@@ -1,4 +1,4 @@
-use Rattle.std.proofs.Common.{◌+◌, ◌*◌, ◌/◌, ◌≡◌, ◌≤◌, ◌<◌, refl, slice_index, arith}
+use Rattle.std.proofs.Common.{◌+◌, ◌*◌, ◌/◌, ◌≡◌, ◌≤◌, ◌<◌, ℕ, ◌∙◌, ap, refl, slice_index, arith}
 use Rattle.reed_solomon.specs.Tables.{row_sum}
 use Rattle.reed_solomon.proofs.RowWriting.{columns_written, still_read, written_by}
 use Rattle.reed_solomon.proofs.blocks.write_rows.Goals as goal
@@ -13,9 +13,10 @@ loop-block-preserved g c =
     let next : 32 * (c.loop-block.block + 1) ≡ columns + 32 = omega arith in
     columns_written (row_sum entries c.args.shards.now starts) rows g.row.N columns 32 (32 * (c.loop-block.block + 1)) c.args.size c.args.shards.now
     c.loop-block.shards _ c.loop-block.invariant
-    (written_by _ _ _ g.row.N 32 c.loop-block.shards _ c.write_block.ensures
+    (written_by _ _ _ g.row.N 32 c.loop-block.shards _ c.store_block.ensures
     (λ row lane within inside.
-    still_read _ entries starts rows g.row.N columns c.args.size c.args.shards.now c.loop-block.shards c.loop-block.invariant (omega (arith, fits))
+    c.block_sums-sums.ensures.sums row lane within inside
+    ∙ still_read _ entries starts rows g.row.N columns c.args.size c.args.shards.now c.loop-block.shards c.loop-block.invariant (omega (arith, fits))
     c.requires.read row (columns + lane) (omega (arith, fits, inside))))
     next fits c.requires.apart
 
@@ -28,8 +29,11 @@ loop-column-preserved g c =
     let fits : column + 1 ≤ c.args.size = omega (arith, c.loop-column-test.true) in
     columns_written (row_sum entries c.args.shards.now starts) rows g.row.N column 1 (column + 1) c.args.size c.args.shards.now
     c.loop-column.shards _ c.loop-column.invariant
-    (written_by _ _ _ g.row.N 1 c.loop-column.shards _ c.write_column.ensures
+    (written_by _ _ _ g.row.N 1 c.loop-column.shards _ c.store_column.ensures
     (λ row lane within inside.
-    still_read _ entries starts rows g.row.N column c.args.size c.args.shards.now c.loop-column.shards c.loop-column.invariant (omega (arith, fits))
-    c.requires.read row (column + lane) (omega (arith, fits, inside))))
+    let here : column ≡ column + lane = omega (arith, inside) in
+    c.column_sums-sums.ensures row within
+    ∙ still_read _ entries starts rows g.row.N column c.args.size c.args.shards.now c.loop-column.shards c.loop-column.invariant (omega (arith, fits))
+    c.requires.read row column (omega (arith, fits))
+    ∙ ap (row_sum entries c.args.shards.now starts row) here))
     refl fits c.requires.apart

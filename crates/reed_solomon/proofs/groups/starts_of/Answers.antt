@@ -4,5 +4,5 @@ use Rattle.reed_solomon.proofs.groups.starts_of.Goals as goal
 
 pub loop-i-preserved : goal.loop-i-preserved
 loop-i-preserved c =
-    entry_next (λ i. slice_index c.args.places.now (c.args.first + i) * c.args.size) c.loop-i.i _ c.loop-i.starts c.loop-i.invariant.0
+    entry_next (λ i. slice_index c.args.places.now (c.args.first + i) * c.args.size) 256 c.loop-i.i _ c.loop-i.starts c.loop-i.invariant.0
     (omega (arith, c.requires.listed, c.loop-i-test.true)) c.loop-i.invariant.1 refl

@@ -1,13 +1,14 @@
--- Row by row.
-use Rattle.std.proofs.Common.{◌≡◌, ◌+◌, slice_index, ◌∙◌, arith}
+use Rattle.std.proofs.Common.{◌≡◌, ◌+◌, ℕ, slice_index, sym, ◌∙◌, ap, arith}
 use Rattle.reed_solomon.specs.Samples.{symbol_at}
-use Rattle.reed_solomon.proofs.Separate.{row_filled}
 use Rattle.reed_solomon.proofs.rows.write_parity.Goals as goal
 
-pub loop-row-preserved : goal.loop-row-preserved
-loop-row-preserved c =
-    let place = slice_index c.args.sample.now.places in (
-      c.write_symbols.ensures.long ∙ c.loop-row.invariant.0,
-      row_filled c.args.size (λ r n. symbol_at c.args.sample.now.count c.args.size place c.args.shards.now n (c.args.first + r)) c.loop-row.row
-          c.loop-row.parity _ c.loop-row.invariant.1 c.write_symbols.ensures.written c.write_symbols.ensures.others,
-    )
+pub write_shards_apart-requires-clause-apart : goal.write_shards_apart-requires-clause-apart
+write_shards_apart-requires-clause-apart c = λ j t below within same.
+    let less = c.requires.before j below in
+    absurd (omega (arith, less, same ∙ c.places_from-targets.ensures t within))
+
+pub returns-clause-rows : goal.returns-clause-rows
+returns-clause-rows c = λ row column below inside.
+    c.write_shards_apart.ensures.written row column below inside
+    ∙ ap (symbol_at c.args.sample.now.count c.args.size (slice_index c.args.sample.now.places) c.args.shards.now column)
+    (c.places_from-targets.ensures row below)

@@ -9,7 +9,7 @@ pub loop-j-preserved : goal.loop-j-preserved
 loop-j-preserved c =
     let point = slice_index c.args.self.now.places in
     let within = c.loop-j-test.true in
-    entry_next (λ j. lagrange 8 erasure_product point c.args.self.now.count j c.args.x) c.loop-j.j _ c.loop-j.factors c.loop-j.invariant.0
+    entry_next (λ j. lagrange 8 erasure_product point c.args.self.now.count j c.args.x) 256 c.loop-j.j _ c.loop-j.factors c.loop-j.invariant.0
     (omega (arith, c.args.self.now.few, within)) c.loop-j.invariant.1
     (c.multiply.ensures
     ∙ ap (λ (z : ℕ). erasure_product z (slice_index c.args.self.now.weights c.loop-j.j)) c.multiply-others.ensures

@@ -1,0 +1,163 @@
+/* Reed-Solomon codes of this library beside ISA-L (Debian's libisal-dev), on one core.
+ *
+ *   gcc -O2 -o erasure bench/erasure.c crates/binary_field_c/out/libbinary_field_c.a -lisal && ./erasure [ROUNDS]
+ *
+ * It links one build of the library: `rt lib` for x86-64-v2, `rt lib --cpu x86-64-v3` for AVX2. Each row is the least of many
+ * samples, taken by turns with those of ISA-L in one run, and the results are compared byte for byte. ISA-L has its tables from
+ * before; the library makes its own in each call. The shards of a row stand one after the other, 64 bytes apart.
+ */
+#include <isa-l/erasure_code.h>
+#include <stdint.h>
+#include <stdio.h>
+#include <stdlib.h>
+#include <string.h>
+#include <time.h>
+
+uint32_t bf_rs_encode(uint64_t data, uint64_t parity, uint8_t *shards, size_t shards_length);
+uint32_t bf_rs_reconstruct(uint64_t data, uint64_t parity, uint8_t *shards, size_t shards_length, const uint8_t *present,
+                           size_t present_length);
+
+enum { MOST = 256 };
+
+static int data, parity, lost;
+static size_t size;
+static uint8_t *ours, *theirs, *whole;
+static uint8_t present[MOST], factors[MOST * MOST], tables[32 * MOST * MOST];
+static uint8_t *sources[MOST], *targets[MOST];
+static int rows;
+
+static double now(void) {
+    struct timespec time;
+    clock_gettime(CLOCK_PROCESS_CPUTIME_ID, &time);
+    return time.tv_sec + 1e-9 * time.tv_nsec;
+}
+
+/* Lagrange's factor of point `own` at x. */
+static uint8_t lagrange(const int *points, int own, int x) {
+    uint8_t over = 1, under = 1;
+    for (int i = 0; i < data; i++) {
+        if (i != own) {
+            over = gf_mul(over, x ^ points[i]);
+            under = gf_mul(under, points[own] ^ points[i]);
+        }
+    }
+    return gf_mul(over, gf_inv(under));
+}
+
+/* Tables of ISA-L for the missing shards by the first that are present. */
+static void prepare(void) {
+    int points[MOST], count = 0;
+    rows = 0;
+    for (int i = 0; i < data + parity && count < data; i++) {
+        if (present[i]) {
+            sources[count] = theirs + i * size;
+            points[count++] = i;
+        }
+    }
+    for (int i = 0; i < data + parity; i++) {
+        if (!present[i]) {
+            for (int j = 0; j < data; j++) {
+                factors[rows * data + j] = lagrange(points, j, i);
+            }
+            targets[rows++] = theirs + i * size;
+        }
+    }
+    ec_init_tables(data, rows, factors, tables);
+}
+
+static void encode(void) {
+    if (bf_rs_encode(data, parity, ours, (data + parity) * size) != 0) {
+        puts("encode was refused");
+    }
+}
+
+static void reconstruct(void) {
+    if (bf_rs_reconstruct(data, parity, ours, (data + parity) * size, present, data + parity) != 0) {
+        puts("reconstruct was refused");
+    }
+}
+
+static void with_sse(void) { ec_encode_data_sse(size, data, rows, tables, sources, targets); }
+static void with_avx2(void) { ec_encode_data_avx2(size, data, rows, tables, sources, targets); }
+static void with_best(void) { ec_encode_data(size, data, rows, tables, sources, targets); }
+static void with_c(void) { ec_encode_data_base(size, data, rows, tables, sources, targets); }
+
+static void damage(uint8_t *shards) {
+    for (int i = 0; i < data + parity; i++) {
+        if (!present[i]) {
+            memset(shards + i * size, 0xaa, size);
+        }
+    }
+}
+
+static void measure(const char *name, void (*library)(void), int rounds) {
+    struct {
+        const char *name;
+        void (*call)(void);
+        double best;
+    } column[] = {{"ours", library, 1}, {"SSE", with_sse, 1}, {"AVX2", with_avx2, 1}, {"best", with_best, 1}, {"C", with_c, 1}};
+    size_t bytes = data * size;
+    prepare();
+    for (int c = 0; c < 5; c++) {
+        damage(ours);
+        damage(theirs);
+        column[c].call();
+        if (memcmp(c == 0 ? ours : theirs, whole, (data + parity) * size) != 0) {
+            printf("%s differs\n", column[c].name);
+        }
+    }
+    for (int round = 0; round < rounds; round++) {
+        for (int c = 0; c < (round < 3 ? 5 : 4); c++) {
+            int calls = c == 4 ? 1 : 1 + 3000000 / bytes;
+            double begin = now();
+            for (int call = 0; call < calls; call++) {
+                column[c].call();
+            }
+            double taken = (now() - begin) / calls;
+            if (taken < column[c].best) {
+                column[c].best = taken;
+            }
+        }
+    }
+    printf("(%d, %d) %7zu %-14s", data, parity, size, name);
+    for (int c = 0; c < 5; c++) {
+        printf("  %s %.2f GB/s", column[c].name, bytes / column[c].best / 1e9);
+    }
+    printf("  time to SSE %.2f, to AVX2 %.2f\n", column[0].best / column[1].best, column[0].best / column[2].best);
+    fflush(stdout);
+}
+
+int main(int count, char **words) {
+    int rounds = count > 1 ? atoi(words[1]) : 40;
+    int codes[2][2] = {{10, 4}, {17, 3}};
+    size_t sizes[2] = {65536, 1 << 20};
+    for (int c = 0; c < 2; c++) {
+        for (int s = 0; s < 2; s++) {
+            data = codes[c][0];
+            parity = codes[c][1];
+            size = sizes[s] + 64;
+            size_t all = (data + parity) * size;
+            ours = aligned_alloc(64, all), theirs = aligned_alloc(64, all), whole = aligned_alloc(64, all);
+            for (size_t i = 0; i < data * size; i++) {
+                ours[i] = rand() >> 7;
+            }
+            encode();
+            memcpy(whole, ours, all);
+            memcpy(theirs, ours, all);
+            for (int i = 0; i < data + parity; i++) {
+                present[i] = i < data;
+            }
+            measure("encode", encode, rounds);
+            for (lost = 1; lost <= parity; lost += parity - 1) {
+                for (int i = 0; i < data + parity; i++) {
+                    present[i] = i >= lost;
+                }
+                char name[32];
+                snprintf(name, sizeof name, "reconstruct %d", lost);
+                measure(name, reconstruct, rounds);
+            }
+            free(ours), free(theirs), free(whole);
+        }
+    }
+    return 0;
+}
