@@ -19,22 +19,25 @@ half_product a b = carryless (a % 2 ^ 32) (b % 2 ^ 32)
 masked_fits : (a : ℕ) → bit_and a 0xffff_ffff < 2 ^ 64
 masked_fits a = subst (λ (x : ℕ). x < 2 ^ 64) (sym (and_mask a 32)) (let low : a % 2 ^ 32 < 2 ^ 32 = mod-lt a (lit< tt) in omega arith)
 
--- one lane, as the code computes it
-abbrev lane : ℕ → ℕ → ℕ
-lane a b =
-    let x = bit_and a 0xffff_ffff in
-    let y = bit_and b 0xffff_ffff in
+-- the sixteen products of classes, as the code adds them, over words or over lanes: `sum`, `times` and `mask` are the operations
+-- on both. The products of one line have the bits of one class
+abbrev line : {A : Type 0} → (A → A → A) → (A → A → A) → (A → ℕ → A) → A → A → ℕ → ℕ → ℕ → ℕ → A
+line sum times mask x y m0 m1 m2 m3 =
+    sum (sum (sum (times (mask x 0x1111_1111_1111_1111) (mask y m0)) (times (mask x 0x2222_2222_2222_2222) (mask y m1)))
+    (times (mask x 0x4444_4444_4444_4444) (mask y m2))) (times (mask x 0x8888_8888_8888_8888) (mask y m3))
+
+abbrev sixteen : {A : Type 0} → (A → A → A) → (A → A → A) → (A → ℕ → A) → A → A → A
+sixteen sum times mask x y =
     let c0 : ℕ = 0x1111_1111_1111_1111 in
     let c1 : ℕ = 0x2222_2222_2222_2222 in
     let c2 : ℕ = 0x4444_4444_4444_4444 in
     let c3 : ℕ = 0x8888_8888_8888_8888 in
-    bit_xor
-    (bit_xor
-    (bit_xor
-    (bit_and (bit_xor (bit_xor (bit_xor (bit_and x c0 * bit_and y c0 % 2 ^ 64) (bit_and x c1 * bit_and y c3 % 2 ^ 64)) (bit_and x c2 * bit_and y c2 % 2 ^ 64)) (bit_and x c3 * bit_and y c1 % 2 ^ 64)) c0)
-    (bit_and (bit_xor (bit_xor (bit_xor (bit_and x c0 * bit_and y c1 % 2 ^ 64) (bit_and x c1 * bit_and y c0 % 2 ^ 64)) (bit_and x c2 * bit_and y c3 % 2 ^ 64)) (bit_and x c3 * bit_and y c2 % 2 ^ 64)) c1))
-    (bit_and (bit_xor (bit_xor (bit_xor (bit_and x c0 * bit_and y c2 % 2 ^ 64) (bit_and x c1 * bit_and y c1 % 2 ^ 64)) (bit_and x c2 * bit_and y c0 % 2 ^ 64)) (bit_and x c3 * bit_and y c3 % 2 ^ 64)) c2))
-    (bit_and (bit_xor (bit_xor (bit_xor (bit_and x c0 * bit_and y c3 % 2 ^ 64) (bit_and x c1 * bit_and y c2 % 2 ^ 64)) (bit_and x c2 * bit_and y c1 % 2 ^ 64)) (bit_and x c3 * bit_and y c0 % 2 ^ 64)) c3)
+    sum (sum (sum (mask (line sum times mask x y c0 c3 c2 c1) c0) (mask (line sum times mask x y c1 c0 c3 c2) c1))
+    (mask (line sum times mask x y c2 c1 c0 c3) c2)) (mask (line sum times mask x y c3 c2 c1 c0) c3)
+
+-- one lane, as the code computes it
+abbrev lane : ℕ → ℕ → ℕ
+lane a b = sixteen bit_xor (λ (x y : ℕ). x * y % 2 ^ 64) bit_and (bit_and a 0xffff_ffff) (bit_and b 0xffff_ffff)
 
 one_lane : (a b : ℕ) → lane a b ≡ half_product a b
 one_lane a b =
@@ -53,20 +56,7 @@ abbrev Xors : List ℕ → List ℕ → List ℕ
 Xors = zip2 bit_xor
 
 abbrev lanes : ℕ → List ℕ → List ℕ → List ℕ
-lanes n xs ys =
-    let x = Ands n xs 0xffff_ffff in
-    let y = Ands n ys 0xffff_ffff in
-    let c0 : ℕ = 0x1111_1111_1111_1111 in
-    let c1 : ℕ = 0x2222_2222_2222_2222 in
-    let c2 : ℕ = 0x4444_4444_4444_4444 in
-    let c3 : ℕ = 0x8888_8888_8888_8888 in
-    Xors
-    (Xors
-    (Xors
-    (Ands n (Xors (Xors (Xors (Times (Ands n x c0) (Ands n y c0)) (Times (Ands n x c1) (Ands n y c3))) (Times (Ands n x c2) (Ands n y c2))) (Times (Ands n x c3) (Ands n y c1))) c0)
-    (Ands n (Xors (Xors (Xors (Times (Ands n x c0) (Ands n y c1)) (Times (Ands n x c1) (Ands n y c0))) (Times (Ands n x c2) (Ands n y c3))) (Times (Ands n x c3) (Ands n y c2))) c1))
-    (Ands n (Xors (Xors (Xors (Times (Ands n x c0) (Ands n y c2)) (Times (Ands n x c1) (Ands n y c1))) (Times (Ands n x c2) (Ands n y c0))) (Times (Ands n x c3) (Ands n y c3))) c2))
-    (Ands n (Xors (Xors (Xors (Times (Ands n x c0) (Ands n y c3)) (Times (Ands n x c1) (Ands n y c2))) (Times (Ands n x c2) (Ands n y c1))) (Times (Ands n x c3) (Ands n y c0))) c3)
+lanes n xs ys = sixteen Xors Times (Ands n) (Ands n xs 0xffff_ffff) (Ands n ys 0xffff_ffff)
 
 pub half_products : (n : ℕ) (xs ys : List ℕ) → length xs ≡ n → length ys ≡ n → lanes n xs ys ≡ zip2 half_product xs ys
 half_products zero [] [] long also = refl
