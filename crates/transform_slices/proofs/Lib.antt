@@ -1,7 +1,9 @@
 mod BlockLemmas
+mod DigitMultiples
 mod HornerProducts
 mod NibbleTables
 mod RunStages
+mod ShiftedBytes
 mod SliceBlocks
 mod SliceLemmas
 pub mod CantorValues

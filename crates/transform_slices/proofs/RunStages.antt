@@ -179,43 +179,31 @@ stage_step twiddles low j start n old now few small whole fits so_far lower uppe
         let off_upper : start + q ≢ upper = omega arith in
         kept (start + q) off_lower off_upper ∙ so_far.done q within (omega arith)
 
--- two more pairs done, by products of what they held before
-pub stage_two_steps : (twiddles low : List ℕ) (j start n : ℕ) (old now middle new : List ℕ) → j < 4 → n + 1 < 8 → start + 16 ≤ length old
-    → ((p : ℕ) → slice_index old p < 2 ^ 128) → StageSoFar twiddles low j start n old now
-    → (first second product product' : ℕ) → first ≡ start + lower_of j n → second ≡ start + lower_of j (n + 1)
+-- the pairs that are to come hold what they held
+pub upper_read : (twiddles low : List ℕ) (j start n m : ℕ) (old now : List ℕ) → j < 4 → n ≤ m → m < 8 → StageSoFar twiddles low j start n old now
+    → (place : ℕ) → place ≡ start + lower_of j m → slice_index now (place + 2 ^ j) ≡ values_from old start (lower_of j m + 2 ^ j)
+upper_read twiddles low j start n m old now few later small so_far place place_is =
+    let places = pair_places j m few small in
+    let at : place + 2 ^ j ≡ start + (lower_of j m + 2 ^ j) = omega (arith, place_is) in
+    let here = places.upper_pair in
+    ap (slice_index now) at ∙ so_far.rest (lower_of j m + 2 ^ j) places.upper_fits (omega (arith, here, later))
+
+-- one more pair done, by a product of what it held at first
+pub pair_done : (twiddles low : List ℕ) (j start n : ℕ) (old now new : List ℕ) → j < 4 → n < 8 → start + 16 ≤ length old
+    → ((p : ℕ) → slice_index old p < 2 ^ 128) → StageSoFar twiddles low j start n old now → (place product : ℕ) → place ≡ start + lower_of j n
     → product
-    ≡ ghash_product (bit_xor (slice_index twiddles j) (slice_index low (n / 2 ^ j))) (slice_index now (first + 2 ^ j))
-    → product'
-    ≡ ghash_product (bit_xor (slice_index twiddles j) (slice_index low ((n + 1) / 2 ^ j))) (slice_index now (second + 2 ^ j))
-    → middle ≡ with_pair now first (first + 2 ^ j) product → new ≡ with_pair middle second (second + 2 ^ j) product'
-    → StageSoFar twiddles low j start (n + 1 + 1) old new
-stage_two_steps twiddles low j start n old now middle new few small whole fits so_far first second product product' first_is second_is
-    product_is product'_is middle_is new_is =
-    subst (StageSoFar twiddles low j start (n + 1 + 1) old) (sym new_is)
-    (stage_step twiddles low j start (n + 1) old middle few small whole fits one second (second + 2 ^ j)
-    (bit_xor (slice_index middle second) product') (bit_xor (slice_index middle (second + 2 ^ j)) (bit_xor (slice_index middle second) product'))
-    second_is (omega (arith, second_is))
-    (ap (bit_xor (slice_index middle second))
-    (product'_is
-    ∙ ap (ghash_product (bit_xor (slice_index twiddles j) (slice_index low ((n + 1) / 2 ^ j)))) (sym kept)))
+    ≡ ghash_product (bit_xor (slice_index twiddles j) (slice_index low (n / 2 ^ j))) (values_from old start (lower_of j n + 2 ^ j))
+    → new ≡ with_pair now place (place + 2 ^ j) product → StageSoFar twiddles low j start (n + 1) old new
+pair_done twiddles low j start n old now new few small whole fits so_far place product place_is product_is new_is =
+    subst (StageSoFar twiddles low j start (n + 1) old) (sym new_is)
+    (stage_step twiddles low j start n old now few small whole fits so_far place (place + 2 ^ j)
+    (bit_xor (slice_index now place) product) (bit_xor (slice_index now (place + 2 ^ j)) (bit_xor (slice_index now place) product))
+    place_is (omega (arith, place_is))
+    (ap (bit_xor (slice_index now place))
+    (product_is
+    ∙ ap (ghash_product (bit_xor (slice_index twiddles j) (slice_index low (n / 2 ^ j))))
+    (sym (upper_read twiddles low j start n n old now few (omega arith) small so_far place place_is))))
     refl)
-  where
-    one : StageSoFar twiddles low j start (n + 1) old middle
-    one =
-        subst (StageSoFar twiddles low j start (n + 1) old) (sym middle_is)
-        (stage_step twiddles low j start n old now few (omega arith) whole fits so_far first (first + 2 ^ j)
-        (bit_xor (slice_index now first) product) (bit_xor (slice_index now (first + 2 ^ j)) (bit_xor (slice_index now first) product))
-        first_is (omega (arith, first_is)) (ap (bit_xor (slice_index now first)) product_is) refl)
-
-    places : PairPlaces j (n + 1)
-    places = pair_places j (n + 1) few small
-
-    kept : slice_index middle (second + 2 ^ j) ≡ slice_index now (second + 2 ^ j)
-    kept =
-        let at : second + 2 ^ j ≡ start + (lower_of j (n + 1) + 2 ^ j) = omega (arith, second_is) in
-        let here = places.upper_pair in
-        ap (slice_index middle) at ∙ one.rest (lower_of j (n + 1) + 2 ^ j) places.upper_fits (omega (arith, here))
-        ∙ sym (ap (slice_index now) at ∙ so_far.rest (lower_of j (n + 1) + 2 ^ j) places.upper_fits (omega (arith, here)))
 
 -- after the eight pairs the stage is done
 pub stage_ends : (twiddles low : List ℕ) (j start n : ℕ) (old now : List ℕ) → j < 4 → 8 ≤ n → StageSoFar twiddles low j start n old now

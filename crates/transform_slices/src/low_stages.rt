@@ -7,7 +7,7 @@ ghost use Rattle.transform_slices.specs.Runs.{AreLowSums, AreWithImages, HoldsRu
 
 use std::alloc::{AllocError, Allocator};
 use word_basis::sum_of_images;
-use word_carryless::multiply_mod_128_twice;
+use word_carryless::{multiply_mod_128_four_times, multiply_mod_128_twice};
 
 /// The stages that `LowStageTwiddles::forward` runs.
 pub const LOW_STAGES: usize = 4;
@@ -78,6 +78,28 @@ impl<A: Allocator> LowStageTwiddles<A> {
         ensures sums { HoldSums (shifts_of self.now) (basis_of self.now) first_run values.old values.new }
         ensures values { HoldValuesAtCantorPoints (shifts_of self.now) (basis_of self.now) first_run values.old values.new }
     {
+        self.run_all(values, first_run, false);
+    }
+
+    /// As `forward`, with four products at once. It is made for x86-64-v3, whose vectors have 256 bits; on x86-64-v2 `forward` is faster.
+    pub fn forward_by_fours(&self, values: &mut [u128], first_run: usize)
+        requires whole { length values.old % 16 ≡ 0 }
+        requires numbered { values.old ≢ [] → first_run + length values.old / 16 ≤ 2 ^ (length (basis_of self.now) - 3) }
+        ensures length { length values.new ≡ length values.old }
+        ensures sums { HoldSums (shifts_of self.now) (basis_of self.now) first_run values.old values.new }
+        ensures values { HoldValuesAtCantorPoints (shifts_of self.now) (basis_of self.now) first_run values.old values.new }
+    {
+        self.run_all(values, first_run, true);
+    }
+
+    // The stages of all runs, by two products at once or by four.
+    fn run_all(&self, values: &mut [u128], first_run: usize, by_fours: bool)
+        requires whole { length values.old % 16 ≡ 0 }
+        requires numbered { values.old ≢ [] → first_run + length values.old / 16 ≤ 2 ^ (length (basis_of self.now) - 3) }
+        ensures length { length values.new ≡ length values.old }
+        ensures sums { HoldSums (shifts_of self.now) (basis_of self.now) first_run values.old values.new }
+        ensures values { HoldValuesAtCantorPoints (shifts_of self.now) (basis_of self.now) first_run values.old values.new }
+    {
         let low = sums_of_three(&self.basis);
         let mut number = first_run as u128;
         let mut twiddles = with_images(&self.shifts, &self.basis, number);
@@ -87,7 +109,7 @@ impl<A: Allocator> LowStageTwiddles<A> {
                 twiddles = with_images(&twiddles, &self.basis, number ^ next);
                 number = next;
             }
-            transform_run(values, 16 * run, &twiddles, &low);
+            transform_run(values, 16 * run, &twiddles, &low, by_fours);
         }
     }
 }
@@ -118,23 +140,58 @@ fn with_images(twiddles: &[u128; 4], basis: &[u128], bits: u128) -> [u128; 4]
 }
 
 // The four stages of the run of sixteen values from `start` on, by its twiddles and the sums of three elements of the basis.
-fn transform_run(values: &mut [u128], start: usize, twiddles: &[u128; 4], low: &[u128; 8])
+fn transform_run(
+    values: &mut [u128],
+    start: usize,
+    twiddles: &[u128; 4],
+    low: &[u128; 8],
+    by_fours: bool,
+)
     requires { start + 16 ≤ length values.old }
     ensures length { length values.new ≡ length values.old }
     ensures run { HoldsRunSums (run_factor twiddles.now low.now) start values.old values.new }
     ensures before { (p : ℕ) → p < start → slice_index values.new p ≡ slice_index values.old p }
     ensures behind { (p : ℕ) → start + 16 ≤ p → slice_index values.new p ≡ slice_index values.old p }
 {
-    run_stage(values, start, 3, twiddles, low);
-    run_stage(values, start, 2, twiddles, low);
-    run_stage(values, start, 1, twiddles, low);
-    run_stage(values, start, 0, twiddles, low);
+    run_stage(values, start, 3, twiddles, low, by_fours);
+    run_stage(values, start, 2, twiddles, low, by_fours);
+    run_stage(values, start, 1, twiddles, low, by_fours);
+    run_stage(values, start, 0, twiddles, low, by_fours);
 }
 
-// One stage of that run, two pairs at once, since their products share the lanes of vectors: two places whose numbers differ in the
-// bit of the stage alone are a pair.
+// One stage of that run, pair by pair: two places whose numbers differ in the bit of the stage alone are a pair.
 #[inline]
-fn run_stage(values: &mut [u128], start: usize, bit: usize, twiddles: &[u128; 4], low: &[u128; 8])
+fn run_stage(
+    values: &mut [u128],
+    start: usize,
+    bit: usize,
+    twiddles: &[u128; 4],
+    low: &[u128; 8],
+    by_fours: bool,
+)
+    requires bit { bit < 4 }
+    requires whole { start + 16 ≤ length values.old }
+    ensures length { length values.new ≡ length values.old }
+    ensures run { HoldsRunStage (run_factor twiddles.now low.now) bit start values.old values.new }
+    ensures before { (p : ℕ) → p < start → slice_index values.new p ≡ slice_index values.old p }
+    ensures behind { (p : ℕ) → start + 16 ≤ p → slice_index values.new p ≡ slice_index values.old p }
+{
+    if by_fours {
+        stage_by_fours(values, start, bit, twiddles, low);
+    } else {
+        stage_by_pairs(values, start, bit, twiddles, low);
+    }
+}
+
+// The stage with two products at once, which share the lanes of vectors.
+#[inline]
+fn stage_by_pairs(
+    values: &mut [u128],
+    start: usize,
+    bit: usize,
+    twiddles: &[u128; 4],
+    low: &[u128; 8],
+)
     requires bit { bit < 4 }
     requires whole { start + 16 ≤ length values.old }
     ensures length { length values.new ≡ length values.old }
@@ -154,6 +211,48 @@ fn run_stage(values: &mut [u128], start: usize, bit: usize, twiddles: &[u128; 4]
         );
         add_to_pair(values, first, first + half, first_product);
         add_to_pair(values, second, second + half, second_product);
+    }
+}
+
+// The stage with four products at once.
+#[inline]
+fn stage_by_fours(
+    values: &mut [u128],
+    start: usize,
+    bit: usize,
+    twiddles: &[u128; 4],
+    low: &[u128; 8],
+)
+    requires bit { bit < 4 }
+    requires whole { start + 16 ≤ length values.old }
+    ensures length { length values.new ≡ length values.old }
+    ensures run { HoldsRunStage (run_factor twiddles.now low.now) bit start values.old values.new }
+    ensures before { (p : ℕ) → p < start → slice_index values.new p ≡ slice_index values.old p }
+    ensures behind { (p : ℕ) → start + 16 ≤ p → slice_index values.new p ≡ slice_index values.old p }
+{
+    let half = half_of(bit);
+    for turn in 0..2 {
+        let first = start + lower_of(4 * turn, half);
+        let second = start + lower_of(4 * turn + 1, half);
+        let third = start + lower_of(4 * turn + 2, half);
+        let fourth = start + lower_of(4 * turn + 3, half);
+        let scalars = [
+            twiddles[bit] ^ low[4 * turn / half],
+            twiddles[bit] ^ low[(4 * turn + 1) / half],
+            twiddles[bit] ^ low[(4 * turn + 2) / half],
+            twiddles[bit] ^ low[(4 * turn + 3) / half],
+        ];
+        let uppers = [
+            values[first + half],
+            values[second + half],
+            values[third + half],
+            values[fourth + half],
+        ];
+        let products = multiply_mod_128_four_times(scalars, uppers);
+        add_to_pair(values, first, first + half, products[0]);
+        add_to_pair(values, second, second + half, products[1]);
+        add_to_pair(values, third, third + half, products[2]);
+        add_to_pair(values, fourth, fourth + half, products[3]);
     }
 }
 

@@ -64,7 +64,9 @@ fn runs_of_given_twiddles(rt: HostRuntime) -> Result<(), Fail> {
     let mut at_three = ones_at(3);
     twiddles.forward(&mut at_three, 0);
     assert!(rt; counts_from(&at_one, 0) && counts_pairs(&at_two));
-    assert!(rt; at_three[3] == 3 && at_three[63] == 0x2b5);
+    let mut by_fours = ones_at(3);
+    twiddles.forward_by_fours(&mut by_fours, 0);
+    assert!(rt; at_three[3] == 3 && at_three[63] == 0x2b5 && by_fours == at_three);
     let mut none: [u128; 0] = [];
     twiddles.forward(&mut none, usize::MAX);
     Ok(())

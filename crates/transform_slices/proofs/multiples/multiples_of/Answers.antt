@@ -1,5 +1,5 @@
 use Rattle.std.proofs.Common.{◌<◌, ◌≤◌, refl, arith}
-use Rattle.transform_slices.proofs.HornerProducts.{first_multiples, next_multiples}
+use Rattle.transform_slices.proofs.DigitMultiples.{first_multiples, next_multiples}
 use Rattle.transform_slices.proofs.multiples.multiples_of.Goals as goal
 
 pub loop-half-init : goal.loop-half-init

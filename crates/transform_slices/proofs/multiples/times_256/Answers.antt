@@ -1,7 +1,8 @@
 use Rattle.std.proofs.Common.{ℕ, ◌*◌, ◌/◌, ◌%◌, ◌<◌, ◌≤◌, List, map, replicate, get_or, refl, ◌∙◌, ap, ap₂, arith}
 use Rattle.std.specs.Prelude.{bit_xor, slice_index}
 use Rattle.std.specs.Simd.Lanes.{put_chunk, zip2}
-use Rattle.transform_slices.proofs.HornerProducts.{high_tails_high, high_tails_low, low_tails_high, low_tails_low, row_moved, rows_moved, two_rows}
+use Rattle.transform_slices.proofs.HornerProducts.{row_moved, rows_moved, two_rows}
+use Rattle.transform_slices.proofs.ShiftedBytes.{high_tails_high, high_tails_low, low_tails_high, low_tails_low}
 use Rattle.transform_slices.proofs.multiples.times_256.Goals as goal
 
 pub loop-row-init : goal.loop-row-init

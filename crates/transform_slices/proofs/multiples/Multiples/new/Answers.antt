@@ -3,7 +3,8 @@ use Rattle.std.specs.Prelude.{slice_index}
 use native.Mathlib.Nat.{zero-add}
 use Rattle.transform_slices.specs.LowStages.{ghash_product}
 use Rattle.transform_slices.proofs.BlockLemmas.{rows_of}
-use Rattle.transform_slices.proofs.HornerProducts.{high_multiple, rows_same}
+use Rattle.transform_slices.proofs.DigitMultiples.{high_multiple}
+use Rattle.transform_slices.proofs.HornerProducts.{rows_same}
 use Rattle.transform_slices.proofs.multiples.Multiples.new.Goals as goal
 
 pub invariant_of-result : goal.invariant_of-result

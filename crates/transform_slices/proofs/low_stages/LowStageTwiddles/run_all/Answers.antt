@@ -3,8 +3,8 @@ use Rattle.std.specs.Prelude.{bit_xor, slice_index}
 use Rattle.field_base.specs.LinearMaps.{linear_image}
 use Rattle.transform_slices.specs.Runs.{AreLowSums}
 use Rattle.transform_slices.proofs.LowRuns.{forward_ends, forward_step, ReadyFor, ready_after, ready_at_first, ready_same, values_at_points}
-use Rattle.transform_slices.proofs.low_stages.LowStageTwiddles.forward.Goals as goal
-use Rattle.transform_slices.proofs.low_stages.LowStageTwiddles.forward.Goals.{then-run-gt0, else-run-gt0}
+use Rattle.transform_slices.proofs.low_stages.LowStageTwiddles.run_all.Goals as goal
+use Rattle.transform_slices.proofs.low_stages.LowStageTwiddles.run_all.Goals.{then-run-gt0, else-run-gt0}
 
 pub loop-run-preserved : goal.loop-run-preserved
 loop-run-preserved g c =

@@ -1,10 +1,10 @@
-use Rattle.std.proofs.Common.{◌≡◌, ℕ, ◌+◌, ◌-◌, ◌*◌, ◌/◌, ◌%◌, ◌<◌, ◌∙◌, ap, subst, arith}
+use Rattle.std.proofs.Common.{◌≡◌, ℕ, ◌+◌, ◌-◌, ◌*◌, ◌/◌, ◌%◌, ◌^◌, ◌<◌, ◌∙◌, ap, subst, arith}
 use Rattle.std.specs.Prelude.{bit_xor, slice_index}
 use Rattle.transform_slices.specs.LowStages.{ghash_product}
 use Rattle.transform_slices.specs.Runs.{with_pair}
 use Rattle.transform_slices.proofs.RunPlaces.{upper_inside}
-use Rattle.transform_slices.proofs.RunStages.{StageSoFar, stage_ends, stage_starts, stage_two_steps}
-use Rattle.transform_slices.proofs.low_stages.run_stage.Goals as goal
+use Rattle.transform_slices.proofs.RunStages.{pair_done, StageSoFar, stage_ends, stage_starts, upper_read}
+use Rattle.transform_slices.proofs.low_stages.stage_by_pairs.Goals as goal
 
 pub bounds-values-first : goal.bounds-values-first
 bounds-values-first c =
@@ -39,28 +39,39 @@ loop-turn-preserved c =
     let turn = c.loop-turn.turn in
     let twiddles = c.args.twiddles.now in
     let low = c.args.low.now in
+    let old = c.args.values.now in
     let values = c.loop-turn.values in
     let few : 2 * turn + 1 < 8 = omega arith in
     let half = c.half_of-half.ensures in
     let first : ℕ = start + c.lower_of.result in
     let second : ℕ = start + c.lower_of-in-loop-turn.result in
+    let first_is : first ≡ start + (2 * (2 * turn) - 2 * turn % 2 ^ bit) =
+    ap (λ (n : ℕ). start + n) (c.lower_of.ensures ∙ ap (λ (h : ℕ). 2 * (2 * turn) - 2 * turn % h) half) in
+    let second_is : second ≡ start + (2 * (2 * turn + 1) - (2 * turn + 1) % 2 ^ bit) =
+    ap (λ (n : ℕ). start + n) (c.lower_of-in-loop-turn.ensures ∙ ap (λ (h : ℕ). 2 * (2 * turn + 1) - (2 * turn + 1) % h) half) in
     let products = c.multiply_mod_128_twice-first_product in
+    let so_far = c.loop-turn.invariant.1 in
+    let one =
+    pair_done twiddles low bit start (2 * turn) old values c.add_to_pair.new.values c.requires.bit (omega arith) c.requires.whole
+    c.loop-turn.invariant.0 so_far first products.result.0 first_is
+    (products.ensures.first
+    ∙ ap (λ (h : ℕ). ghash_product (bit_xor (slice_index twiddles bit) (slice_index low (2 * turn / h))) (slice_index values (first + h))) half
+    ∙ ap (ghash_product (bit_xor (slice_index twiddles bit) (slice_index low (2 * turn / 2 ^ bit))))
+    (upper_read twiddles low bit start (2 * turn) (2 * turn) old values c.requires.bit (omega arith) (omega arith) so_far first first_is))
+    (c.add_to_pair.ensures ∙ ap (λ (h : ℕ). with_pair values first (first + h) products.result.0) half) in
+    let two =
+    pair_done twiddles low bit start (2 * turn + 1) old c.add_to_pair.new.values c.add_to_pair-in-loop-turn.new.values c.requires.bit few
+    c.requires.whole c.loop-turn.invariant.0 one second products.result.1 second_is
+    (products.ensures.second
+    ∙ ap (λ (h : ℕ). ghash_product (bit_xor (slice_index twiddles bit) (slice_index low ((2 * turn + 1) / h)))
+    (slice_index values (second + h))) half
+    ∙ ap (ghash_product (bit_xor (slice_index twiddles bit) (slice_index low ((2 * turn + 1) / 2 ^ bit))))
+    (upper_read twiddles low bit start (2 * turn) (2 * turn + 1) old values c.requires.bit (omega arith) few so_far second second_is))
+    (c.add_to_pair-in-loop-turn.ensures
+    ∙ ap (λ (h : ℕ). with_pair c.add_to_pair.new.values second (second + h) products.result.1) half) in
     let next : 2 * turn + 1 + 1 ≡ 2 * (turn + 1) = omega arith in (
       c.loop-turn.invariant.0,
-      subst (λ (n : ℕ). StageSoFar twiddles low bit start n c.args.values.now c.add_to_pair-in-loop-turn.new.values) next
-          (stage_two_steps twiddles low bit start (2 * turn) c.args.values.now values c.add_to_pair.new.values
-          c.add_to_pair-in-loop-turn.new.values c.requires.bit few c.requires.whole c.loop-turn.invariant.0 c.loop-turn.invariant.1
-          first second products.result.0 products.result.1
-          (ap (λ (n : ℕ). start + n) (c.lower_of.ensures ∙ ap (λ (h : ℕ). 2 * (2 * turn) - 2 * turn % h) half))
-          (ap (λ (n : ℕ). start + n) (c.lower_of-in-loop-turn.ensures ∙ ap (λ (h : ℕ). 2 * (2 * turn + 1) - (2 * turn + 1) % h) half))
-          (products.ensures.first
-          ∙ ap (λ (h : ℕ). ghash_product (bit_xor (slice_index twiddles bit) (slice_index low (2 * turn / h))) (slice_index values (first + h))) half)
-          (products.ensures.second
-          ∙ ap (λ (h : ℕ). ghash_product (bit_xor (slice_index twiddles bit) (slice_index low ((2 * turn + 1) / h)))
-          (slice_index values (second + h))) half)
-          (c.add_to_pair.ensures ∙ ap (λ (h : ℕ). with_pair values first (first + h) products.result.0) half)
-          (c.add_to_pair-in-loop-turn.ensures
-          ∙ ap (λ (h : ℕ). with_pair c.add_to_pair.new.values second (second + h) products.result.1) half)),
+      subst (λ (n : ℕ). StageSoFar twiddles low bit start n old c.add_to_pair-in-loop-turn.new.values) next two,
     )
 
 pub returns-clause-run : goal.returns-clause-run

@@ -1,7 +1,7 @@
 use Rattle.std.proofs.Common.{ℕ, ◌*◌, ◌^◌, ◌<◌}
 use Rattle.std.specs.Prelude.{slice_index}
 use Rattle.transform_slices.proofs.RunStages.{StageSoFar}
-use Rattle.transform_slices.proofs.low_stages.run_stage.Given as goal
+use Rattle.transform_slices.proofs.low_stages.stage_by_pairs.Given as goal
 
 abbrev pub invariant-loop-turn : goal.invariant-loop-turn
 invariant-loop-turn l =

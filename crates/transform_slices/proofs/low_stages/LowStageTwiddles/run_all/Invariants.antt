@@ -1,5 +1,5 @@
 use Rattle.transform_slices.proofs.LowRuns.{Forwarded}
-use Rattle.transform_slices.proofs.low_stages.LowStageTwiddles.forward.Given as goal
+use Rattle.transform_slices.proofs.low_stages.LowStageTwiddles.run_all.Given as goal
 
 abbrev pub invariant-loop-run : goal.invariant-loop-run
 invariant-loop-run g l =
