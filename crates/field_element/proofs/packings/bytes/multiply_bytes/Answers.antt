@@ -1,4 +1,4 @@
-use Rattle.std.proofs.Common.{◌≡◌, ◌∙◌, ◌+◌, ◌-◌, ◌*◌, ◌<◌, ◌≤◌, get_or, length, map, refl, sym, ap, arith}
+use Rattle.std.proofs.Common.{◌≡◌, ◌∙◌, ◌+◌, ◌-◌, ◌*◌, ◌<◌, ◌≤◌, length, map, sym, ap, arith}
 use Rattle.std.proofs.lemmas.List.{get_or-map, length-map, length-set}
 use borrow.Rule.Slice.PartMut.{same_len_mid}
 use Rattle.field_base.specs.Remainder.{aes_modulus, mul_mod}

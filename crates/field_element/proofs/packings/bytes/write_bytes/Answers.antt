@@ -1,4 +1,4 @@
-use Rattle.std.proofs.Common.{◌≡◌, ◌∙◌, ◌<◌, get_or, length, map, refl, sym, arith}
+use Rattle.std.proofs.Common.{◌∙◌, ◌<◌, get_or, length, map, refl, sym, arith}
 use Rattle.std.proofs.lemmas.List.{get_or_default, length-map}
 use native.Mathlib.Nat.{mod-eq_of_lt}
 use Rattle.field_element.specs.Element.{repr_of}
