@@ -2,7 +2,11 @@
 """Writes the exported functions of the fields in crates/binary_field_c/src/, a file for each field, from the table of c_library.py.
 
 An exported function has no type parameter, and a macro cannot write it; each passes its slices on to a function over any field.
+The other exported functions are written by hand. Of all it is seen that their names and parameters are those of the table.
 """
+import re
+import sys
+
 import c_library
 import literals
 
@@ -123,10 +127,31 @@ def head(field, text):
     ])
 
 
+def exported():
+    """Every exported function by its name, with its parameters as they are written."""
+    head = re.compile(r'pub extern "C" fn (\w+)\(([^)]*)\) -> u32')
+    for path in sorted((literals.CRATES / "binary_field_c/src").glob("*.rt")):
+        for name, parameters in head.findall(path.read_text(encoding="utf-8")):
+            yield name, [it.strip() for it in parameters.split(",") if it.strip()]
+
+
+def compare_with_table():
+    """Fails where an exported function is not as the table has it, or one of the table is missing."""
+    words = {"u128": "Wide", "u192": "Cubic"}
+    wanted = {f"bf_{name}": [] for name, _, _ in c_library.PLAIN_FUNCTIONS}
+    for name, parameters, _ in c_library.functions():
+        wanted[f"bf_{name}"] = [parameter(kind, it, words.get(word, word)) for kind, it, word in parameters]
+    found = dict(exported())
+    for name in sorted(wanted.keys() | found.keys()):
+        if wanted.get(name) != found.get(name):
+            sys.exit(f"{name}: the table has {wanted.get(name)}, the crate {found.get(name)}")
+
+
 def main():
     for field, _, _, text in c_library.FIELDS:
         functions = [function(field, *it) for it in c_library.FIELD_FUNCTIONS]
         literals.write(f"binary_field_c/src/{field}.rt", head(field, text), functions)
+    compare_with_table()
 
 
 if __name__ == "__main__":
