@@ -13,8 +13,7 @@
  * A comment begins with the name of what the function writes. Where it says nothing of lengths, every length will do.
  *
  * Statuses. Every function but bf_version returns a status. On a status that is not BF_OK everything that the function could
- * write is as before the call. The first status applies, in the order in which a function's comment names them. No function of
- * this version takes memory, so that none returns BF_MEMORY.
+ * write is as before the call. The first status applies, in the order in which a function's comment names them.
  *
  * Threads. A call reads and writes its arguments alone and keeps nothing, so that threads may call at the same time, as long as
  * none writes what another reads or writes. Nothing is claimed on timing.
@@ -54,7 +53,7 @@ typedef struct bf_u192 {
 #define BF_LENGTH 1u
 /* A word is no element of the field. */
 #define BF_NOT_AN_ELEMENT 2u
-/* Memory was refused. */
+/* Memory was refused, which no function of this version tells, since none takes memory. */
 #define BF_MEMORY 3u
 /* No code has so many shards of data and parity. */
 #define BF_CODE 4u
@@ -68,7 +67,7 @@ static inline const char *bf_status_text(uint32_t status)
     case BF_OK: return "the call did what it says";
     case BF_LENGTH: return "the lengths do not fit each other, or are not what the function takes";
     case BF_NOT_AN_ELEMENT: return "a word is no element of the field";
-    case BF_MEMORY: return "memory was refused";
+    case BF_MEMORY: return "memory was refused, which no function of this version tells, since none takes memory";
     case BF_CODE: return "no code has so many shards of data and parity";
     case BF_TOO_FEW_SHARDS: return "fewer shards are present than the data have";
     default: return "no status of this library";
@@ -901,15 +900,16 @@ uint32_t bf_g128_butterfly_forward(
 uint32_t bf_g128_butterfly_inverse(
     bf_u128 *low, size_t low_length, bf_u128 *high, size_t high_length, const bf_u128 *scalar) BF_NONNULL;
 
-/* The four lowest stages of an additive transform over runs of sixteen values, the first of which is run first_run.
- * BF_LENGTH unless values has a multiple of 16, shifts 4 and basis 3 to 128; where there are values, the number of the last
- * run is below 2 to the power of 3 less than the length of basis. */
+/* The four lowest stages of an additive transform over runs of sixteen values, the first of which is run first_run; four
+ * shifts, and a basis of 3 to 128 elements, 2 to the power of three less than which is at least the number behind the last
+ * run. BF_LENGTH unless values has a multiple of 16, shifts 4 and basis 3 to 128; where there are values, first_run and the
+ * number of runs are together at most 2 to the power of 3 less than the length of basis. */
 uint32_t bf_g128_low_stages(
     bf_u128 *values, size_t values_length, const bf_u128 *shifts, size_t shifts_length, const bf_u128 *basis,
     size_t basis_length, uint64_t first_run) BF_NONNULL;
 
-/* The value at each of 2^m points of the polynomial with these coefficients in the basis of subspace polynomials. BF_LENGTH
- * unless values has 2^m elements, for an m from 0 to 40. */
+/* The value at each of 2^m points, m from 0 to 40, of the polynomial with these coefficients in the basis of subspace
+ * polynomials. BF_LENGTH unless values has 2^m elements, for an m from 0 to 40. */
 uint32_t bf_g128_transform(
     bf_u128 *values, size_t values_length, const bf_u128 *shift) BF_NONNULL;
 
@@ -933,8 +933,8 @@ uint32_t bf_tag_polyval(
     const uint8_t *key, size_t key_length, const uint8_t *message, size_t message_length, uint8_t *hash,
     size_t hash_length) BF_NONNULL;
 
-/* hash: the hash of GCM over associated data and ciphertext with the block of their lengths; key and hash have 16 bytes.
- * BF_LENGTH unless key and hash have 16 bytes, and associated and ciphertext below 2^61 each. */
+/* hash: the hash of GCM over associated data and ciphertext, each below 2^61 bytes, with the block of their lengths; key and
+ * hash have 16 bytes. BF_LENGTH unless key and hash have 16 bytes, and associated and ciphertext below 2^61 each. */
 uint32_t bf_tag_gcm_ghash(
     const uint8_t *key, size_t key_length, const uint8_t *associated, size_t associated_length,
     const uint8_t *ciphertext, size_t ciphertext_length, uint8_t *hash, size_t hash_length) BF_NONNULL;

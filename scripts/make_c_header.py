@@ -29,8 +29,8 @@ LENGTHS = {
     "evaluate": "points and values have one length",
     "r8_linear_map": "values and mapped have one length, and there are 8 images",
     "g128_linear_map": "values and mapped have one length, and there are 128 images",
-    "low_stages": "values has a multiple of 16, shifts 4 and basis 3 to 128; where there are values, the number of the last run is "
-    "below 2 to the power of 3 less than the length of basis",
+    "low_stages": "values has a multiple of 16, shifts 4 and basis 3 to 128; where there are values, first_run and the number of runs "
+    "are together at most 2 to the power of 3 less than the length of basis",
     "transform": "values has 2^m elements, for an m from 0 to 40",
     "tag_ghash": "key and hash have 16 bytes",
     "tag_polyval": "key and hash have 16 bytes",
@@ -230,8 +230,7 @@ HEAD = """\
  * A comment begins with the name of what the function writes. Where it says nothing of lengths, every length will do.
  *
  * Statuses. Every function but bf_version returns a status. On a status that is not BF_OK everything that the function could
- * write is as before the call. The first status applies, in the order in which a function's comment names them. No function of
- * this version takes memory, so that none returns BF_MEMORY.
+ * write is as before the call. The first status applies, in the order in which a function's comment names them.
  *
  * Threads. A call reads and writes its arguments alone and keeps nothing, so that threads may call at the same time, as long as
  * none writes what another reads or writes. Nothing is claimed on timing.
