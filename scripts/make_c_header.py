@@ -168,7 +168,7 @@ def header():
             # Lines are cut between parameters alone.
             wrapped = textwrap.wrap(", ".join(it.replace(" ", "\0") for it in declared(parameters)), 108)
             inside = "\n    ".join(wrapped).replace("\0", " ")
-            out.append(f"uint32_t bf_{name}(\n    {inside}) BF_NONNULL;\n\n")
+            out.append(f"uint32_t bf_{name}(\n    {inside});\n\n")
     out.append(TAIL)
     return "".join(out)
 
@@ -224,9 +224,9 @@ HEAD = """\
  * the other way round. A bf_u128 has the low 64 bits in words[0]; a bf_u192 has the coefficient of 1 in words[0], that of y in
  * words[1] and that of y^2 in words[2].
  *
- * Arrays. An array is a pointer and a length, which counts elements and not bytes. No pointer may be NULL, not even beside a
- * length of 0: give the address of anything of the type. Each pointer is aligned as C aligns its type. An array or a result that
- * a function writes may overlap no other array, result or scalar of the same call; what is only read may overlap each other.
+ * Arrays. An array is a pointer and a length, which counts elements and not bytes. The pointer may be NULL where the length is
+ * 0; a scalar or a result is never NULL. Each pointer is aligned as C aligns its type. An array or a result that a function
+ * writes may overlap no other array, result or scalar of the same call; what is only read may overlap each other.
  * A comment begins with the name of what the function writes. Where it says nothing of lengths, every length will do.
  *
  * Statuses. Every function but bf_version returns a status. On a status that is not BF_OK everything that the function could
@@ -243,12 +243,6 @@ HEAD = """\
 
 #ifdef __cplusplus
 extern "C" {{
-#endif
-
-#if defined(__GNUC__) || defined(__clang__)
-#define BF_NONNULL __attribute__((nonnull))
-#else
-#define BF_NONNULL
 #endif
 
 /* The version that this header belongs to, {number}; bf_version returns that of the library. */
@@ -289,7 +283,7 @@ from ._arrays import FieldArray
 RUST_HEAD = """\
 //! The functions of libbinary_field. Written by scripts/make_c_header.py from scripts/c_library.py; do not edit.
 //!
-//! An array is a pointer that is not null, also beside a length of 0, and a length that counts elements. What is written overlaps
+//! An array is a pointer, which may be null beside a length of 0, and a length that counts elements. What is written overlaps
 //! nothing else of the call. On a status that is not `BF_OK` everything that a function could write is as before.
 
 """

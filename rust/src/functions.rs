@@ -1,6 +1,6 @@
 //! The functions of libbinary_field. Written by scripts/make_c_header.py from scripts/c_library.py; do not edit.
 //!
-//! An array is a pointer that is not null, also beside a length of 0, and a length that counts elements. What is written overlaps
+//! An array is a pointer, which may be null beside a length of 0, and a length that counts elements. What is written overlaps
 //! nothing else of the call. On a status that is not `BF_OK` everything that a function could write is as before.
 
 /// The call did what it says.
