@@ -42,6 +42,7 @@ LENGTHS = {
     "reconstruct_data": "shards has a multiple, but not 0, of data + parity bytes, and present has data + parity",
 }
 
+
 def lengths_of(name, parameters):
     """What has to hold of the lengths, or nothing where every length will do."""
     for end in sorted(LENGTHS, key=len, reverse=True):
@@ -66,10 +67,9 @@ def statuses_of(name, parameters, bits):
         yield "BF_TOO_FEW_SHARDS", "at least as many entries of present as data are not 0"
 
 
-def comment(text, margin=""):
+def comment(text):
     """A comment of C, its lines filled."""
-    lines = textwrap.wrap(text, 122 - len(margin), break_long_words=False)
-    return f"{margin}/* " + f"\n{margin} * ".join(lines) + " */\n"
+    return "/* " + "\n * ".join(textwrap.wrap(text, 122, break_long_words=False)) + " */\n"
 
 
 def sentence(text):
