@@ -29,8 +29,8 @@ LENGTHS = {
     "evaluate": "points and values have one length",
     "r8_linear_map": "values and mapped have one length, and there are 8 images",
     "g128_linear_map": "values and mapped have one length, and there are 128 images",
-    "low_stages": "values has a multiple of 16, shifts 4 and basis 3 to 128; where there are values, the number of the last run is "
-    "below 2 to the power of 3 less than the length of basis",
+    "low_stages": "values has a multiple of 16, shifts 4 and basis 3 to 128; where there are values, first_run and the number of runs "
+    "are together at most 2 to the power of 3 less than the length of basis",
     "transform": "values has 2^m elements, for an m from 0 to 40",
     "tag_ghash": "key and hash have 16 bytes",
     "tag_polyval": "key and hash have 16 bytes",
@@ -41,6 +41,7 @@ LENGTHS = {
     "reconstruct": "shards has a multiple, but not 0, of data + parity bytes, and present has data + parity",
     "reconstruct_data": "shards has a multiple, but not 0, of data + parity bytes, and present has data + parity",
 }
+
 
 def lengths_of(name, parameters):
     """What has to hold of the lengths, or nothing where every length will do."""
@@ -66,10 +67,9 @@ def statuses_of(name, parameters, bits):
         yield "BF_TOO_FEW_SHARDS", "at least as many entries of present as data are not 0"
 
 
-def comment(text, margin=""):
+def comment(text):
     """A comment of C, its lines filled."""
-    lines = textwrap.wrap(text, 122 - len(margin), break_long_words=False)
-    return f"{margin}/* " + f"\n{margin} * ".join(lines) + " */\n"
+    return "/* " + "\n * ".join(textwrap.wrap(text, 122, break_long_words=False)) + " */\n"
 
 
 def sentence(text):
@@ -168,7 +168,7 @@ def header():
             # Lines are cut between parameters alone.
             wrapped = textwrap.wrap(", ".join(it.replace(" ", "\0") for it in declared(parameters)), 108)
             inside = "\n    ".join(wrapped).replace("\0", " ")
-            out.append(f"uint32_t bf_{name}(\n    {inside}) BF_NONNULL;\n\n")
+            out.append(f"uint32_t bf_{name}(\n    {inside});\n\n")
     out.append(TAIL)
     return "".join(out)
 
@@ -224,14 +224,13 @@ HEAD = """\
  * the other way round. A bf_u128 has the low 64 bits in words[0]; a bf_u192 has the coefficient of 1 in words[0], that of y in
  * words[1] and that of y^2 in words[2].
  *
- * Arrays. An array is a pointer and a length, which counts elements and not bytes. No pointer may be NULL, not even beside a
- * length of 0: give the address of anything of the type. Each pointer is aligned as C aligns its type. An array or a result that
- * a function writes may overlap no other array, result or scalar of the same call; what is only read may overlap each other.
+ * Arrays. An array is a pointer and a length, which counts elements and not bytes. The pointer may be NULL where the length is
+ * 0; a scalar or a result is never NULL. Each pointer is aligned as C aligns its type. An array or a result that a function
+ * writes may overlap no other array, result or scalar of the same call; what is only read may overlap each other.
  * A comment begins with the name of what the function writes. Where it says nothing of lengths, every length will do.
  *
  * Statuses. Every function but bf_version returns a status. On a status that is not BF_OK everything that the function could
- * write is as before the call. The first status applies, in the order in which a function's comment names them. No function of
- * this version takes memory, so that none returns BF_MEMORY.
+ * write is as before the call. The first status applies, in the order in which a function's comment names them.
  *
  * Threads. A call reads and writes its arguments alone and keeps nothing, so that threads may call at the same time, as long as
  * none writes what another reads or writes. Nothing is claimed on timing.
@@ -244,12 +243,6 @@ HEAD = """\
 
 #ifdef __cplusplus
 extern "C" {{
-#endif
-
-#if defined(__GNUC__) || defined(__clang__)
-#define BF_NONNULL __attribute__((nonnull))
-#else
-#define BF_NONNULL
 #endif
 
 /* The version that this header belongs to, {number}; bf_version returns that of the library. */
@@ -290,7 +283,7 @@ from ._arrays import FieldArray
 RUST_HEAD = """\
 //! The functions of libbinary_field. Written by scripts/make_c_header.py from scripts/c_library.py; do not edit.
 //!
-//! An array is a pointer that is not null, also beside a length of 0, and a length that counts elements. What is written overlaps
+//! An array is a pointer, which may be null beside a length of 0, and a length that counts elements. What is written overlaps
 //! nothing else of the call. On a status that is not `BF_OK` everything that a function could write is as before.
 
 """

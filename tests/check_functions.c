@@ -1,6 +1,6 @@
 /* Runs the cases that tests/write_cases.py wrote, and compares statuses and what the calls leave: check_functions FILE [STEP].
  * Of a case with many lengths each STEP-th is called, and the last. An array has a block of its own of exactly its bytes, so that
- * sanitizers and valgrind see what reads or writes beside it. */
+ * sanitizers and valgrind see what reads or writes beside it, and an empty one is NULL. */
 #include "binary_field.h"
 
 #include <stdio.h>
@@ -88,9 +88,10 @@ static void run(const struct function *function, uint32_t status, struct paramet
         /* Words of 16 and 24 bytes have the alignment of 8, and no larger one in every other call. */
         size_t skipped = p[i].size > 8 && n % 2 ? 8 : 0;
         b[i].block = allocate(bytes + skipped);
-        b[i].data = (unsigned char *)b[i].block + skipped;
+        /* An empty array may have no place. */
+        b[i].data = bytes ? (unsigned char *)b[i].block + skipped : NULL;
         b[i].length = count;
-        if (p[i].before) {
+        if (bytes && p[i].before) {
             memcpy(b[i].data, p[i].before, bytes);
         } else if (bytes) {
             memset(b[i].data, FILL, bytes);

@@ -192,9 +192,11 @@ class FieldArray(metaclass=_Constants):
     def __iter__(self: A) -> Iterator[A]:
         return (self[at] for at in range(len(self)))
 
-    def _index(self, key: Any) -> Any:
+    def _index(self, key: Any) -> tuple:
+        """The same index into the words."""
         key = key if isinstance(key, tuple) else (key,)
-        return (*key, *([] if Ellipsis in [it for it in key if it is Ellipsis] else [Ellipsis]), *(slice(None) for _ in self._inner()))
+        rest = () if any(it is Ellipsis for it in key) else (Ellipsis,)
+        return (*key, *rest, *(slice(None) for _ in self._inner()))
 
     def __getitem__(self: A, key: Any) -> A:
         # A copy, so that the words of an array are always one after the other.

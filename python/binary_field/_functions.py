@@ -8,7 +8,7 @@ STATUSES: dict[int, tuple[str, str]] = {
     0: ("BF_OK", "the call did what it says"),
     1: ("BF_LENGTH", "the lengths do not fit each other, or are not what the function takes"),
     2: ("BF_NOT_AN_ELEMENT", "a word is no element of the field"),
-    3: ("BF_MEMORY", "memory was refused"),
+    3: ("BF_MEMORY", "memory was refused, which no function of this version tells, since none takes memory"),
     4: ("BF_CODE", "no code has so many shards of data and parity"),
     5: ("BF_TOO_FEW_SHARDS", "fewer shards are present than the data have"),
 }

@@ -16,7 +16,7 @@ ARRAYS = ("in", "inout", "out")
 NARROW = {"u8": ctypes.c_uint8, "u16": ctypes.c_uint16, "u32": ctypes.c_uint32, "u64": ctypes.c_uint64}
 # The type of numpy that holds a word, and how many of them do.
 WORDS = {"u8": (np.uint8, 1), "u16": (np.uint16, 1), "u32": (np.uint32, 1), "u64": (np.uint64, 1), "u128": (np.uint64, 2), "u192": (np.uint64, 3)}
-# What an empty array is passed as, since no pointer may be null.
+# What an empty array is passed as: the address of something.
 EMPTY = ctypes.create_string_buffer(32)
 
 

@@ -1,6 +1,6 @@
 //! The functions of libbinary_field. Written by scripts/make_c_header.py from scripts/c_library.py; do not edit.
 //!
-//! An array is a pointer that is not null, also beside a length of 0, and a length that counts elements. What is written overlaps
+//! An array is a pointer, which may be null beside a length of 0, and a length that counts elements. What is written overlaps
 //! nothing else of the call. On a status that is not `BF_OK` everything that a function could write is as before.
 
 /// The call did what it says.
@@ -9,7 +9,7 @@ pub const BF_OK: u32 = 0;
 pub const BF_LENGTH: u32 = 1;
 /// A word is no element of the field.
 pub const BF_NOT_AN_ELEMENT: u32 = 2;
-/// Memory was refused.
+/// Memory was refused, which no function of this version tells, since none takes memory.
 pub const BF_MEMORY: u32 = 3;
 /// No code has so many shards of data and parity.
 pub const BF_CODE: u32 = 4;
@@ -1349,8 +1349,10 @@ unsafe extern "C" {
         scalar: *const [u64; 2],
     ) -> u32;
     /// The four lowest stages of an additive transform over runs of sixteen values, the first of which is run
-    /// first_run. BF_LENGTH unless values has a multiple of 16, shifts 4 and basis 3 to 128; where there are values,
-    /// the number of the last run is below 2 to the power of 3 less than the length of basis.
+    /// first_run; four shifts, and a basis of 3 to 128 elements, 2 to the power of three less than which is at least
+    /// the number behind the last run. BF_LENGTH unless values has a multiple of 16, shifts 4 and basis 3 to 128;
+    /// where there are values, first_run and the number of runs are together at most 2 to the power of 3 less than
+    /// the length of basis.
     pub fn bf_g128_low_stages(
         values: *mut [u64; 2],
         values_length: usize,
@@ -1360,8 +1362,8 @@ unsafe extern "C" {
         basis_length: usize,
         first_run: u64,
     ) -> u32;
-    /// The value at each of 2^m points of the polynomial with these coefficients in the basis of subspace
-    /// polynomials. BF_LENGTH unless values has 2^m elements, for an m from 0 to 40.
+    /// The value at each of 2^m points, m from 0 to 40, of the polynomial with these coefficients in the basis of
+    /// subspace polynomials. BF_LENGTH unless values has 2^m elements, for an m from 0 to 40.
     pub fn bf_g128_transform(
         values: *mut [u64; 2],
         values_length: usize,
@@ -1394,8 +1396,9 @@ unsafe extern "C" {
         hash: *mut u8,
         hash_length: usize,
     ) -> u32;
-    /// hash: the hash of GCM over associated data and ciphertext with the block of their lengths; key and hash have
-    /// 16 bytes. BF_LENGTH unless key and hash have 16 bytes, and associated and ciphertext below 2^61 each.
+    /// hash: the hash of GCM over associated data and ciphertext, each below 2^61 bytes, with the block of their
+    /// lengths; key and hash have 16 bytes. BF_LENGTH unless key and hash have 16 bytes, and associated and
+    /// ciphertext below 2^61 each.
     pub fn bf_tag_gcm_ghash(
         key: *const u8,
         key_length: usize,
