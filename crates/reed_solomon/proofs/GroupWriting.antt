@@ -1,5 +1,5 @@
 -- Shards that are written group by group from a sample, and the list of the missing ones.
-use Rattle.std.proofs.Common.{◌≡◌, ◌≢◌, ◌⊎◌, inl, inr, ℕ, ◌+◌, ◌-◌, ◌*◌, ◌/◌, ◌%◌, ◌<◌, ◌≤◌, Bool, true, false, List, length, get_or, set, refl, sym, ◌∙◌, ap, subst, arith}
+use Rattle.std.proofs.Common.{◌≡◌, ◌≢◌, ◌⊎◌, inl, inr, ℕ, ◌+◌, ◌-◌, ◌*◌, ◌/◌, ◌%◌, ◌<◌, ◌≤◌, Bool, true, false, List, length, get_or, set, sym, ◌∙◌, ap, subst, arith}
 use Rattle.std.proofs.Math.Nat.{mul-le-mul_right}
 use Rattle.std.proofs.lemmas.Bool.{cases_lt, true≢false}
 use Rattle.std.proofs.lemmas.List.{get_or-set_same, get_or-set_other, length-set}
@@ -7,7 +7,7 @@ use Rattle.field_base.specs.Basis.{sum_below}
 use Rattle.field_laws.specs.Interpolation.{lagrange}
 use Rattle.reed_solomon.specs.ErasureField.{erasure_product}
 use Rattle.reed_solomon.specs.Missing.{AreMissing}
-use Rattle.reed_solomon.specs.Samples.{IsSample, symbol_at}
+use Rattle.reed_solomon.specs.Samples.{symbol_at}
 use Rattle.reed_solomon.specs.Shards.{IsPresent, shard_byte}
 use Rattle.reed_solomon.specs.Tables.{AreApart, AreWritten, HasRow, IsEntry, nibble_sum, row_sum}
 use Rattle.reed_solomon.proofs.NibbleTables.{nibble_product}
@@ -29,6 +29,12 @@ entry_next value room i entry entries long inside before is = (
       (get_or-set_same entries i entry 0 (omega (arith, long, inside)) ∙ is),
 )
 
+-- other names of the factors
+pub row_factors : (factor other : ℕ → ℕ) (entries : List ℕ) (row count : ℕ) → HasRow factor entries row count
+    → ((j : ℕ) → j < count → factor j ≡ other j) → HasRow other entries row count
+row_factors factor other entries row count set same =
+    λ j n within inside. subst (λ (f : ℕ). IsEntry f n (get_or entries (128 * j + 32 * row + n) 0)) (same j within) (set j n within inside)
+
 -- one row of tables more
 pub rows_set : (factors : ℕ → ℕ → ℕ) (factor : ℕ → ℕ) (row count : ℕ) (old now : List ℕ) → row < 4
     → ((r : ℕ) → r < row → HasRow (factors r) old r count) → HasRow factor now row count
@@ -38,7 +44,7 @@ rows_set factors factor row count old now few before new same others r below =
     below_next (λ n. HasRow (factors n) now n count) row r below
     (λ was j n within inside.
     subst (IsEntry (factors r j) n) (sym (others (128 * j + 32 * r + n) (λ e. absurd (omega (arith, e, was, inside, few))))) (before r was j n within inside))
-    (λ j n within inside. subst (λ (f : ℕ). IsEntry f n (get_or now (128 * j + 32 * row + n) 0)) (same j within) (new j n within inside))
+    (row_factors factor (factors row) now row count new same)
 
 -- ---- a row of the tables gives the symbols of its shard
 
@@ -70,6 +76,32 @@ apart_places size a b different =
     after x y less =
         let one_more : x + 1 ≤ y = omega (arith, less) in
         omega (arith, mul-le-mul_right size one_more)
+
+-- a block of a row that matches, and one that does not
+pub block_matches : (entries shards starts lanes : List ℕ) (begin columns : ℕ) → ((n : ℕ) → n < columns → get_or shards (begin + n) 0 ≡ row_sum entries shards starts 0 n)
+    → ((lane : ℕ) → lane < 32 → get_or lanes lane 0 ≡ row_sum entries shards starts 0 (columns + lane))
+    → ((lane : ℕ) → lane < 32 → get_or shards (begin + columns + lane) 0 ≡ get_or lanes lane 0)
+    → (n : ℕ) → n < columns + 32 → get_or shards (begin + n) 0 ≡ row_sum entries shards starts 0 n
+block_matches entries shards starts lanes begin columns before sums here n below =
+    elim (cases_lt n columns) [
+      | inl early ↦ before n early
+      | inr late ↦ last late
+    ]
+  where
+    last : columns ≤ n → get_or shards (begin + n) 0 ≡ row_sum entries shards starts 0 n
+    last late =
+        let back : columns + (n - columns) ≡ n = omega (arith, late) in
+        let place : begin + n ≡ begin + columns + (n - columns) = omega (arith, late) in
+        let inside : n - columns < 32 = omega (arith, late, below) in
+        ap (λ (p : ℕ). get_or shards p 0) place ∙ here (n - columns) inside ∙ sums (n - columns) inside ∙ ap (row_sum entries shards starts 0) back
+
+pub block_of_row : (entries shards starts lanes : List ℕ) (begin columns size : ℕ) → columns + 32 ≤ size
+    → ((n : ℕ) → n < size → get_or shards (begin + n) 0 ≡ row_sum entries shards starts 0 n)
+    → ((lane : ℕ) → lane < 32 → get_or lanes lane 0 ≡ row_sum entries shards starts 0 (columns + lane))
+    → (lane : ℕ) → lane < 32 → get_or shards (begin + columns + lane) 0 ≡ get_or lanes lane 0
+block_of_row entries shards starts lanes begin columns size fits all sums lane inside =
+    let place : begin + columns + lane ≡ begin + (columns + lane) = omega arith in
+    ap (λ (p : ℕ). get_or shards p 0) place ∙ all (columns + lane) (omega (arith, fits, inside)) ∙ sym (sums lane inside)
 
 -- ---- groups of shards
 

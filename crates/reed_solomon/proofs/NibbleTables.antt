@@ -1,15 +1,13 @@
 -- Look-ups by the halves of bytes in lanes, and what they give: products by a factor.
-use Rattle.std.proofs.Common.{◌≡◌, ℕ, ◌+◌, ◌-◌, ◌*◌, ◌/◌, ◌%◌, ◌^◌, ◌<◌, ◌≤◌, List, length, get_or, map, replicate, refl, sym, ◌∙◌, ap, ap₂, subst, arith, lit<, w8, Fits}
+use Rattle.std.proofs.Common.{◌≡◌, ℕ, ◌+◌, ◌-◌, ◌*◌, ◌/◌, ◌%◌, ◌^◌, ◌<◌, List, length, get_or, map, replicate, refl, sym, ◌∙◌, ap, ap₂, subst, arith, lit<, w8, Fits}
 use Rattle.std.specs.Prelude.{bit_and, bit_xor}
 use Rattle.std.specs.List.{range_with_len}
 use Rattle.std.specs.Simd.Lanes.{zip2, chunk, pick_l, Each1}
 use Rattle.std.proofs.lemmas.List.FromFn.{get_or-map-range_with_len}
 use Rattle.std.proofs.lemmas.Nat.{and_mask, xor_block, xor_comm}
-use Rattle.std.proofs.lemmas.Simd.{SwzOk, swz_l, SwzOk-from_below, Each1-from_get_or, Each1-get_or, get_or-chunk, get_or-replicate, get_or-swz_l_below, get_or-zip2, length-replicate, length-swz_l, length-zip2, map-map, pick_l_left}
+use Rattle.std.proofs.lemmas.Simd.{SwzOk, swz_l, SwzOk-from_below, Each1-from_get_or, Each1-get_or, get_or-chunk, get_or-replicate, get_or-swz_l_below, get_or-zip2, length-replicate, length-swz_l, length-zip2, map-map}
 use native.Mathlib.Nat.{mod-lt}
 use lib.Bits.{xor_zero_r}
-use Rattle.field_base.specs.Ring.{IsRing}
-use Rattle.field_base.specs.Field.{IsField}
 use Rattle.reed_solomon.specs.ErasureField.{erasure_product}
 use Rattle.reed_solomon.specs.Tables.{HasRow, nibble_sum}
 use Rattle.reed_solomon.proofs.ByteTables.{erasure_field}

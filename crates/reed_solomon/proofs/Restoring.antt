@@ -1,5 +1,5 @@
 -- The missing shards that are written, and what they are in the end.
-use Rattle.std.proofs.Common.{◌≡◌, ◌≢◌, ◌⊎◌, inl, inr, ℕ, ◌+◌, ◌*◌, ◌<◌, ◌≤◌, Bool, List, length, get_or, take, refl, sym, ◌∙◌, ap, subst, arith, lit<}
+use Rattle.std.proofs.Common.{◌≡◌, ◌⊎◌, ℕ, ◌+◌, ◌*◌, ◌<◌, ◌≤◌, Bool, List, length, get_or, take, sym, ap, subst, arith, lit<}
 use Rattle.field_laws.specs.Codewords.{IsCodeword}
 use Rattle.field_laws.specs.Interpolation.{lagrange}
 use Rattle.field_laws.proofs.Codewords.{codeword_exists}
@@ -7,8 +7,8 @@ use Rattle.reed_solomon.specs.ErasureField.{erasure_product}
 use Rattle.reed_solomon.specs.Samples.{IsSample, symbol_at}
 use Rattle.reed_solomon.specs.Shards.{IsPresent, IsAmongFirst, IsReconstructed, present_count, shard_byte}
 use Rattle.reed_solomon.proofs.ByteTables.{erasure_field}
-use Rattle.reed_solomon.proofs.Samples.{below_next, sample_distinct}
-use Rattle.reed_solomon.proofs.Writing.{apart_from, sum_below-same}
+use Rattle.reed_solomon.proofs.Samples.{sample_distinct}
+use Rattle.reed_solomon.proofs.Writing.{sum_below-same}
 
 -- the symbols that two lists of shards give are the same where the shards at the places are
 pub symbol_at-same : (count size : ℕ) (place : ℕ → ℕ) (old now : List ℕ) (column x : ℕ)

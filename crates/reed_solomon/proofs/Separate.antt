@@ -1,15 +1,13 @@
 -- Parity that stands apart from the data.
-use Rattle.std.proofs.Common.{◌≡◌, ◌≢◌, ◌⊎◌, inl, inr, ℕ, ◌+◌, ◌-◌, ◌*◌, ◌<◌, ◌≤◌, ◌++◌, Bool, true, false, List, length, get_or, set, take, refl, sym, ◌∙◌, ap, subst, arith}
+use Rattle.std.proofs.Common.{◌≡◌, inl, inr, ℕ, ◌+◌, ◌-◌, ◌*◌, ◌<◌, ◌≤◌, ◌++◌, Bool, true, false, List, length, get_or, take, sym, ◌∙◌, ap, subst, arith}
 use Rattle.std.proofs.lemmas.Bool.{cases_lt}
-use Rattle.std.proofs.lemmas.List.{get_or-append-add, get_or_append_left, get_or-set_same, get_or-set_other, length-set, length-take-le}
+use Rattle.std.proofs.lemmas.List.{get_or-append-add, get_or_append_left, length-take-le}
 use Rattle.std.proofs.lemmas.Nat.{mul-add-lt}
 use Rattle.std.proofs.Math.Nat.{mul-le-mul_left, mul_comm}
 use Rattle.reed_solomon.specs.Samples.{IsSample, symbol_at}
 use Rattle.reed_solomon.specs.Shards.{IsEncoded, shard_byte}
 use Rattle.reed_solomon.proofs.Flags.{AreFirst, before-lt, first_of_flags, first_sample-count}
 use Rattle.reed_solomon.proofs.Restoring.{sample_agrees, sample_word}
-use Rattle.reed_solomon.proofs.Samples.{below_next}
-use Rattle.reed_solomon.proofs.Writing.{apart_from}
 
 -- the first rows have their values
 abbrev pub RowsBefore : ℕ → (ℕ → ℕ → ℕ) → ℕ → List ℕ → Type 0

@@ -1,5 +1,5 @@
 // Rows of shards, 32 columns at a time. A shard is known by the place where its bytes begin.
-ghost use Rattle.std.specs.Prelude.{◌≡◌, ◌+◌, ◌*◌, ◌<◌, ◌≤◌, ℕ, [], length, slice_index, slice_index_or};
+ghost use Rattle.std.specs.Prelude.{◌≡◌, ◌+◌, ◌*◌, ◌<◌, ◌≤◌, ◌↔◌, ℕ, [], length, slice_index, slice_index_or, IsTrue};
 ghost use Rattle.reed_solomon.specs.Tables.{AreApart, AreWritten, row_sum};
 
 use crate::lanes::nibble_sums;
@@ -157,4 +157,48 @@ pub(crate) fn write_rows_apart<const N: usize>(
         let sums = column_sums::<N>(shards, starts, tables, column);
         store_column::<N>(out, rows, column, &sums);
     }
+}
+
+// Whether the bytes from `begin` on are what row 0 of the tables gives.
+pub(crate) fn matches_row(
+    shards: &[u8],
+    size: usize,
+    starts: &[usize],
+    tables: &RowTables,
+    begin: usize,
+) -> bool
+    requires few { length starts.now ≤ 256 }
+    requires inside { (j : ℕ) → j < length starts.now → slice_index starts.now j + size ≤ length shards.now }
+    requires room { begin + size ≤ length shards.now }
+    ensures { IsTrue result ↔ ((column : ℕ) → column < size
+        → slice_index shards.now (begin + column) ≡ row_sum tables.now.entries shards.now starts.now 0 column) }
+{
+    let whole = size / 32 * 32;
+    for block in 0..size / 32 {
+        let sums = block_sums::<1>(shards, starts, tables, 32 * block);
+        if !has_lanes(shards, begin + 32 * block, sums[0]) {
+            return false;
+        }
+    }
+    for column in whole..size {
+        if shards[begin + column] != column_sum(shards, starts, tables, 0, column) {
+            return false;
+        }
+    }
+    true
+}
+
+// Whether the 32 bytes from `begin` on are these.
+#[inline]
+fn has_lanes(bytes: &[u8], begin: usize, lanes: u8x32) -> bool
+    requires { begin + 32 ≤ length bytes.now }
+    ensures { IsTrue result ↔ ((lane : ℕ) → lane < 32 → slice_index bytes.now (begin + lane) ≡ slice_index lanes lane) }
+{
+    let wanted = lanes.to_array();
+    for lane in 0..32 {
+        if bytes[begin + lane] != wanted[lane] {
+            return false;
+        }
+    }
+    true
 }

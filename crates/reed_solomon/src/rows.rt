@@ -1,30 +1,13 @@
 // One shard as the sums of products of others. Shards of one size stand one after the other in a slice.
 ghost use Rattle.std.specs.Prelude.{◌≡◌, ◌≢◌, ◌⊎◌, ◌+◌, ◌*◌, ◌<◌, ◌≤◌, ◌↔◌, ℕ, length, slice_index, take, IsTrue};
-ghost use Rattle.field_base.specs.Basis.{sum_below};
-ghost use Rattle.reed_solomon.specs.ErasureField.{erasure_product};
 ghost use Rattle.reed_solomon.specs.Missing.{AreMissing};
 ghost use Rattle.reed_solomon.specs.Samples.{IsSample, MatchesShard, symbol_at};
-ghost use Rattle.reed_solomon.specs.Shards.{AreCodewords, IsPresent, IsReconstructed, present_count, shard_byte};
+ghost use Rattle.reed_solomon.specs.Shards.{AreCodewords, IsPresent, IsReconstructed, present_count};
 
-use crate::byte_field::multiply;
-use crate::groups::{bytes_fit, write_shards, write_shards_apart};
+use crate::blocks::matches_row;
+use crate::groups::{bytes_fit, starts_of, write_shards, write_shards_apart};
 use crate::sample::Sample;
-
-// The sum of the products of the factors and the sample's symbols in one column.
-fn symbol(sample: &Sample, factors: &[u8; 256], shards: &[u8], size: usize, column: usize) -> u8
-    requires inside { (j : ℕ) → j < sample.now.count → slice_index sample.now.places j * size + column < length shards.now }
-    ensures { result ≡ sum_below
-        (λ j. erasure_product (slice_index factors.now j) (shard_byte size shards.now (slice_index sample.now.places j) column)) sample.now.count }
-{
-    let mut sum = 0;
-    for j in 0..sample.count {
-        sum ^= multiply(
-            factors[j],
-            shards[sample.places[j] as usize * size + column],
-        );
-    }
-    sum
-}
+use crate::tables::RowTables;
 
 // The places before `until` of the missing shards, in order, and how many there are.
 fn missing_places(present: &[bool], until: usize) -> ([u8; 256], usize)
@@ -64,21 +47,27 @@ pub(crate) fn restore(
     write_shards(shards, size, sample, &places, count);
 }
 
-// Whether the shard at `target` has the symbols that the sample gives it.
-fn matches_shard(shards: &[u8], size: usize, sample: &Sample, target: usize) -> bool
+// Whether the shard at `target` has the symbols that the sample gives it. `starts` has where the sample's shards begin.
+fn matches_shard(
+    shards: &[u8],
+    size: usize,
+    sample: &Sample,
+    starts: &[usize],
+    tables: &mut RowTables,
+    target: usize,
+) -> bool
     requires point { target < 256 }
+    requires counted { length starts.now ≡ sample.now.count }
+    requires begun { (j : ℕ) → j < sample.now.count → slice_index starts.now j ≡ slice_index sample.now.places j * size }
     requires inside { (j : ℕ) → j < sample.now.count → slice_index sample.now.places j * size + size ≤ length shards.now }
     requires room { target * size + size ≤ length shards.now }
     requires apart { (j : ℕ) → j < sample.now.count → slice_index sample.now.places j ≢ target }
     ensures { IsTrue result ↔ MatchesShard sample.now.count size (slice_index sample.now.places) shards.now target }
 {
+    bytes_fit(shards);
     let factors = sample.factors(target as u8);
-    for column in 0..size {
-        if shards[target * size + column] != symbol(sample, &factors, shards, size, column) {
-            return false;
-        }
-    }
-    true
+    tables.set_row(0, &factors, sample.count);
+    matches_row(shards, size, starts, tables, target * size)
 }
 
 // Whether all shards have the symbols that the sample gives them, where it has all that are present.
@@ -89,8 +78,11 @@ pub(crate) fn matches(shards: &[u8], size: usize, sample: &Sample, present: &[bo
     requires all { (i : ℕ) → IsPresent present.now i → present_count (take i present.now) < sample.now.count }
     ensures { IsTrue result ↔ AreCodewords sample.now.count (length present.now) size shards.now }
 {
+    let starts = starts_of(&sample.places, 0, sample.count, size);
+    let starts = &starts[..sample.count];
+    let mut tables = RowTables::empty();
     for target in 0..present.len() {
-        if !present[target] && !matches_shard(shards, size, sample, target) {
+        if !present[target] && !matches_shard(shards, size, sample, starts, &mut tables, target) {
             return false;
         }
     }

@@ -1,4 +1,4 @@
-// A published example, every pattern of missing shards of small codes, drawn patterns of larger ones, sizes, and errors. Numbers
+// A published example, every pattern of missing shards of small codes, drawn patterns of larger ones, sizes, parity apart, and errors. Numbers
 // are drawn from the seed 20261126.
 use reed_solomon::{ReedSolomon, ReedSolomonError};
 
@@ -82,7 +82,13 @@ fn all_six_come_back(data_shards: usize) -> bool {
 }
 
 // Whether drawn patterns do, of which each shard is missing with the chance of one in so many.
-fn drawn_come_back(data_shards: usize, parity_shards: usize, chance: u64, runs: usize) -> bool {
+fn drawn_come_back(
+    data_shards: usize,
+    parity_shards: usize,
+    size: usize,
+    chance: u64,
+    runs: usize,
+) -> bool {
     let mut state = 20261126;
     match code_of(data_shards, parity_shards) {
         Some(code) => {
@@ -92,7 +98,7 @@ fn drawn_come_back(data_shards: usize, parity_shards: usize, chance: u64, runs: 
                 for i in 0..total {
                     present[i] = chance == 0 || next_word(&mut state) % chance != 0;
                 }
-                if !comes_back(&code, 16, &present[..total]) {
+                if !comes_back(&code, size, &present[..total]) {
                     return false;
                 }
             }
@@ -129,9 +135,9 @@ fn all_patterns_of_small_codes(rt: HostRuntime) {
 #[test]
 fn drawn_patterns_of_large_codes(rt: HostRuntime) {
     assert!(rt;
-        drawn_come_back(10, 4, 5, 8)
-            && drawn_come_back(17, 3, 8, 8)
-            && drawn_come_back(128, 128, 3, 1)
+        drawn_come_back(10, 4, 75, 5, 8)
+            && drawn_come_back(17, 3, 75, 8, 8)
+            && drawn_come_back(128, 128, 16, 3, 1)
     );
 }
 
@@ -146,6 +152,35 @@ fn all_sizes(rt: HostRuntime) {
         }
         None => assert!(rt; false, "no code of 4 and 2"),
     }
+}
+
+// Whether parity that stands apart is that of `encode`.
+fn apart_is_behind(data_shards: usize, parity_shards: usize, size: usize) -> bool {
+    let mut whole = [0; 2048];
+    let mut parity = [0x5a; 2048];
+    if data_shards > 16 || parity_shards > 8 || size > 80 {
+        return false;
+    }
+    let middle = data_shards * size;
+    let end = middle + parity_shards * size;
+    fill(&mut whole, 20261126);
+    match code_of(data_shards, parity_shards) {
+        Some(code) => code.encode(&mut whole[..end]).is_ok()
+            && code
+                .encode_sep(&whole[..middle], &mut parity[..end - middle])
+                .is_ok()
+            && parity[..end - middle] == whole[middle..end]
+            && code.encode_sep(&whole[..middle], &mut parity[..end - middle + 1])
+                == Err(ReedSolomonError::IncorrectShardSize),
+        None => false,
+    }
+}
+
+#[test]
+fn parity_apart(rt: HostRuntime) {
+    assert!(rt;
+        apart_is_behind(10, 4, 75) && apart_is_behind(5, 3, 64) && apart_is_behind(4, 5, 7)
+    );
 }
 
 // Whether the data alone come back, and the missing parity stays.

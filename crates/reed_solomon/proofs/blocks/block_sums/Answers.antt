@@ -1,4 +1,4 @@
-use Rattle.std.proofs.Common.{◌+◌, ◌*◌, ◌≡◌, ◌∙◌, ap, refl, get_or, slice_index, arith}
+use Rattle.std.proofs.Common.{◌+◌, ◌*◌, ◌≡◌, ◌∙◌, ap, refl, slice_index, arith}
 use Rattle.std.proofs.lemmas.Simd.{get_or-chunk}
 use Rattle.reed_solomon.specs.Tables.{nibble_sum}
 use Rattle.reed_solomon.proofs.RowWriting.{no_sums, row_added}

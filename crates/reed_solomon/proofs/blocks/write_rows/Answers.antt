@@ -1,4 +1,4 @@
-use Rattle.std.proofs.Common.{◌+◌, ◌*◌, ◌/◌, ◌≡◌, ◌≤◌, ◌<◌, ℕ, ◌∙◌, ap, refl, slice_index, arith}
+use Rattle.std.proofs.Common.{◌+◌, ◌*◌, ◌≡◌, ◌≤◌, ◌∙◌, ap, refl, slice_index, arith}
 use Rattle.reed_solomon.specs.Tables.{row_sum}
 use Rattle.reed_solomon.proofs.RowWriting.{columns_written, still_read, written_by}
 use Rattle.reed_solomon.proofs.blocks.write_rows.Goals as goal

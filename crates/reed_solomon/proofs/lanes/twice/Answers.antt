@@ -1,4 +1,4 @@
-use Rattle.std.proofs.Common.{List, ℕ, ◌%◌, ◌++◌, get_or, map, ◌∙◌, ap}
+use Rattle.std.proofs.Common.{List, ℕ, ◌%◌, get_or, map, ◌∙◌, ap}
 use Rattle.std.specs.List.{range_with_len}
 use Rattle.std.proofs.lemmas.Simd.{pick_l_left}
 use Rattle.reed_solomon.proofs.NibbleTables.{twice_entries}

@@ -1,4 +1,4 @@
-use Rattle.std.proofs.Common.{◌≡◌, ◌+◌, ℕ, slice_index, sym, ◌∙◌, ap, arith}
+use Rattle.std.proofs.Common.{slice_index, ◌∙◌, ap, arith}
 use Rattle.reed_solomon.specs.Samples.{symbol_at}
 use Rattle.reed_solomon.proofs.rows.write_parity.Goals as goal
 
