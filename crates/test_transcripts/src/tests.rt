@@ -1,12 +1,10 @@
-mod calls;
+mod asked;
 mod grinding;
-mod hashed;
-mod lengths;
+mod heaps;
+mod lists;
 mod many_calls;
-mod memory;
-mod refusals;
+mod partners;
 mod scripts;
 mod seeds;
-mod single_calls;
-mod stopped_lists;
 mod trials;
+mod vectors;

@@ -1,14 +1,9 @@
-// Searches for witnesses: outside vectors over SHA-256, doubles that sample one byte always or refuse, and the texts of the errors.
-use super::single_calls::{Hashed, element, grind_fails, grinds, hashed, samples};
+// Searches for witnesses over SHA-256, outside vectors, and the texts of the errors.
+use super::asked::{Hashed, follows};
 use std::alloc::{AllocError, Global};
-use std::cell::Cell;
 use std::test::Fail;
-use test_byte_challengers::{Copies, Double, Seen};
-use transcript_bytes::{ByteChallenger, ChallengerError, Sha256Hasher};
-use transcript_elements::{
-    BinaryChallenger, ByteLevel, CanObserve, CanSampleBits, GrindError, GrindingChallenger,
-    Transcript,
-};
+use transcript_bytes::{ChallengerError, Sha256Hasher};
+use transcript_elements::{BinaryChallenger, ByteLevel, GrindError, TranscriptError};
 
 // An initial state as eight bytes from the lowest, the least witness of eight bits at `BinaryField16`, and the element that is
 // sampled after it, by the Rust crate p3-binary-field 0.8.0. The states were drawn by splitmix64 from the seed 7.
@@ -35,112 +30,18 @@ fn finds_least<F: ByteLevel>(alloc: Global, row: &(u64, u16, u16)) -> Result<boo
     let (state, witness, next) = *row;
     let state = Vec::from_slice(alloc, &state.to_le_bytes())?;
     let mut challenger: Hashed<F> = BinaryChallenger::from_hasher(state, Sha256Hasher);
-    Ok(grinds(&mut challenger, 8, witness as u128) && samples(&mut challenger, next as u128))
+    let rows = [[4, 8, 0, witness as u128], [1, 0, 0, next as u128]];
+    Ok(follows(alloc, &mut challenger, &rows))
 }
 
-// Outside vectors.
-fn finds_each_least<F: ByteLevel>(alloc: Global) -> Result<bool, AllocError> {
+/// Whether searches at a field of 16 bits find the least witness.
+pub(crate) fn finds_each_least<F: ByteLevel>(alloc: Global) -> Result<bool, AllocError> {
     for row in 0..16 {
         if !finds_least::<F>(alloc, &LEAST_WITNESSES[row])? {
             return Ok(false);
         }
     }
     Ok(true)
-}
-
-// Whether the call of a row returns what the row says.
-fn call_returns<F: ByteLevel, Inner: ByteChallenger>(
-    challenger: &mut BinaryChallenger<F, Inner>,
-    row: &[u128; 4],
-) -> Result<bool, ChallengerError> {
-    let bits = (row[1] % 64) as usize;
-    let operand = element::<F>(row[2]);
-    Ok(match row[0] {
-        0 => {
-            challenger.observe(operand)?;
-            true
-        }
-        1 => samples(challenger, row[3]),
-        2 => challenger.sample_bits(bits)? as u128 == row[3],
-        3 => challenger.check_witness(bits, operand)? == (row[3] == 1),
-        _ => grinds(challenger, bits, row[3]),
-    })
-}
-
-/// Outside vectors: whether a script of calls over SHA-256 is followed.
-pub(crate) fn script_is_followed<F: ByteLevel>(alloc: Global, script: &[[u128; 4]]) -> bool {
-    let mut challenger: Hashed<F> = hashed(alloc);
-    for row in 0..script.len() {
-        if !call_returns(&mut challenger, &script[row]).unwrap_or(false) {
-            return false;
-        }
-    }
-    true
-}
-
-type OverDouble<'a, F> = BinaryChallenger<F, Double<'a>>;
-
-fn goes_on_with<F: ByteLevel>(challenger: &mut OverDouble<'_, F>, wanted: u128) -> bool {
-    !challenger.failed() && samples(challenger, wanted)
-}
-
-// Whether a search whose copy is refused, or refuses a byte call, ends without memory after so many byte calls of the copy. None
-// of them reaches the challenger, so that its own two are granted later.
-fn search_is_refused<F: ByteLevel>(copies: Copies, observed: u32, sampled: u32) -> bool {
-    let seen = Cell::new(Seen::default());
-    let double = Double::new(&seen, 7, 2, copies);
-    let mut challenger: OverDouble<'_, F> = BinaryChallenger::new(double);
-    grind_fails(&mut challenger, 8, GrindError::Memory)
-        && seen.get() == Seen::new(observed, sampled, 0)
-        && goes_on_with(&mut challenger, 0x0707)
-}
-
-// Whether a search returns the element of this representation, or without one that there is no witness.
-fn search_gives<F: ByteLevel>(challenger: &mut OverDouble<'_, F>, answer: Option<u128>) -> bool {
-    match answer {
-        Some(number) => grinds(challenger, 8, number),
-        None => grind_fails(challenger, 8, GrindError::NoWitness),
-    }
-}
-
-// Whether a search over a double that refuses nothing gives this after these byte calls, and the challenger then samples `next`.
-fn constant_gives<F: ByteLevel>(byte: u8, answer: Option<u128>, calls: Seen, next: u128) -> bool {
-    let seen = Cell::new(Seen::default());
-    let mut challenger: OverDouble<'_, F> = BinaryChallenger::new(Double::constant(&seen, byte));
-    search_gives(&mut challenger, answer)
-        && seen.get() == calls
-        && goes_on_with(&mut challenger, next)
-}
-
-// All 65,536 elements are tried, each by two bytes and eight samples; the last four are 0xfffc to 0xffff. Over a double that samples
-// 0 the first candidate passes, and no other is tried.
-fn searches_over_constants<F: ByteLevel>() -> bool {
-    let all = Seen::new(131_072, 524_288, 0xfcff_fdff_feff_ffff);
-    constant_gives::<F>(255, None, all, 0xffff)
-        && constant_gives::<F>(0, Some(0), Seen::new(2, 8, 0), 0)
-}
-
-// For no bits nothing is asked of the challenger, not a copy either.
-fn no_bits<F: ByteLevel>() -> bool {
-    let seen = Cell::new(Seen::default());
-    let double = Double::new(&seen, 255, 0, Copies::Refused);
-    let mut challenger: OverDouble<'_, F> = BinaryChallenger::new(double);
-    grinds(&mut challenger, 0, 0) && seen.get() == Seen::new(0, 0, 0) && !challenger.failed()
-}
-
-// Doubles that refuse, three of them in worked rows, and worked rows of doubles that sample one byte always.
-fn searches_over_doubles<F: ByteLevel>() -> bool {
-    search_is_refused::<F>(Copies::Refused, 0, 0)
-        && search_is_refused::<F>(Copies::RefusingAfter(0), 0, 0)
-        && search_is_refused::<F>(Copies::RefusingAfter(1), 1, 0)
-        && search_is_refused::<F>(Copies::RefusingAfter(9), 2, 7)
-        && searches_over_constants::<F>()
-        && no_bits::<F>()
-}
-
-/// Whether searches in a field of 16 bits find the least witness, or end without.
-pub(crate) fn searches_end<F: ByteLevel>(alloc: Global) -> Result<bool, AllocError> {
-    Ok(finds_each_least::<F>(alloc)? && searches_over_doubles::<F>())
 }
 
 // Printed text: whether `{}` prints `text` of the error.
@@ -151,6 +52,11 @@ fn reads(alloc: Global, error: GrindError, text: &str) -> Result<bool, AllocErro
 
 #[test]
 fn errors_read_as_sentences(rt: HostRuntime) -> Result<(), Fail> {
+    let short = TranscriptError::Short {
+        needed: 2,
+        found: 1,
+    };
+    let printed = format!(in rt.alloc(); "{short}")?;
     assert!(rt;
         reads(rt.alloc(), GrindError::NoWitness, "no candidate passes")?
             && reads(rt.alloc(), GrindError::Memory, "out of memory")?
@@ -159,6 +65,7 @@ fn errors_read_as_sentences(rt: HostRuntime) -> Result<(), Fail> {
                 GrindError::from(ChallengerError::Failed),
                 "the challenger has failed"
             )?
+            && printed.as_str() == "an element has 2 bytes, and there are 1"
     );
     Ok(())
 }

@@ -1,7 +1,9 @@
 // Calls of a challenger of `BinaryField32` over SHA-256 from an empty initial state, with what the Rust crate
-// p3-binary-field 0.8.0 returns. The operands were drawn by splitmix64 from the seed 20261123. Rows are those of `scripts`.
+// p3-binary-field 0.8.0 returns. The operands were drawn by splitmix64 from the seed 20261123. Rows are those of `asked`.
 
-pub static CALLS: [[u64; 4]; 257] = [
+use super::asked::Row;
+
+pub(crate) static CALLS: [Row; 257] = [
     [1, 0, 0, 0x7852_b855],
     [1, 0, 0, 0xa495_991b],
     [3, 1, 0x80fa_717d, 0],

@@ -1,13 +1,12 @@
 // Worked rows: seeds as elements, elements as bytes, and a tag. Expected values follow from the representations that stand beside
 // them.
-use super::single_calls::{element, number_of};
+use super::asked::{element, number_of};
 use std::alloc::{AllocError, Global};
-use std::test::Fail;
 use transcript_elements::{Recorder, TranscriptError, TranscriptField, TypeTag};
 
 /// What a field makes of bytes, elements by their representations.
 #[derive(Clone, Copy)]
-pub(crate) enum Row {
+pub(crate) enum SeedRow {
     /// A seed, and the elements that are observed of it.
     Seed(&'static [u8], &'static [u128]),
     /// An element, and its bytes.
@@ -16,31 +15,31 @@ pub(crate) enum Row {
     Tag(TypeTag),
 }
 
-pub(crate) static ROWS_8: [Row; 2] = [
-    Row::Seed(&[1, 2, 3], &[3, 0, 0, 0, 0, 0, 0, 0, 1, 2, 3]),
-    Row::Seed(&[], &[0, 0, 0, 0, 0, 0, 0, 0]),
+pub(crate) static ROWS_8: [SeedRow; 2] = [
+    SeedRow::Seed(&[1, 2, 3], &[3, 0, 0, 0, 0, 0, 0, 0, 1, 2, 3]),
+    SeedRow::Seed(&[], &[0, 0, 0, 0, 0, 0, 0, 0]),
 ];
 
-pub(crate) static ROWS_16: [Row; 3] = [
-    Row::Seed(&[1], &[1, 0, 0, 0, 1]),
-    Row::Seed(&[1, 0], &[2, 0, 0, 0, 1]),
-    Row::Bytes(0xa5c3, &[0xa5, 0xc3]),
+pub(crate) static ROWS_16: [SeedRow; 3] = [
+    SeedRow::Seed(&[1], &[1, 0, 0, 0, 1]),
+    SeedRow::Seed(&[1, 0], &[2, 0, 0, 0, 1]),
+    SeedRow::Bytes(0xa5c3, &[0xa5, 0xc3]),
 ];
 
-pub(crate) static ROWS_128: [Row; 2] = [
-    Row::Seed(
+pub(crate) static ROWS_128: [SeedRow; 2] = [
+    SeedRow::Seed(
         &[
             0, 1, 2, 3, 4, 5, 6, 7, 8, 9, 10, 11, 12, 13, 14, 15, 16, 17, 18, 19,
         ],
         &[20, 0x0f0e_0d0c_0b0a_0908_0706_0504_0302_0100, 0x1312_1110],
     ),
-    Row::Bytes(
+    SeedRow::Bytes(
         0x0001_0203_0405_0607_0809_0a0b_0c0d_0e0f,
         &[0, 1, 2, 3, 4, 5, 6, 7, 8, 9, 10, 11, 12, 13, 14, 15],
     ),
 ];
 
-pub(crate) static ROWS_OF_POLY_64: [Row; 1] = [Row::Tag(TypeTag::BinaryPoly {
+pub(crate) static ROWS_OF_POLY_64: [SeedRow; 1] = [SeedRow::Tag(TypeTag::BinaryPoly {
     bits: 64,
     degree: 1,
     basis: [0; 32],
@@ -79,13 +78,14 @@ fn bytes_are<F: TranscriptField>(
     Ok(decoded && &out.as_slice()[1..len + 1] == bytes)
 }
 
-// Hostile inputs: each number of bytes below those of an element.
-fn too_few_bytes_are_refused<F: TranscriptField>(bytes: &[u8]) -> bool {
-    for len in 0..bytes.len() {
+/// Whether each number of bytes below those of an element is refused.
+pub(crate) fn too_few_bytes_are_refused<F: TranscriptField>() -> bool {
+    let bytes = [1; 16];
+    for len in 0..F::NUM_BYTES.min(16) {
         match F::decode(&bytes[..len]) {
             Ok(_) => return false,
             Err(TranscriptError::Short { needed, found }) => {
-                if needed != bytes.len() || found != len {
+                if needed != F::NUM_BYTES || found != len {
                     return false;
                 }
             }
@@ -97,31 +97,17 @@ fn too_few_bytes_are_refused<F: TranscriptField>(bytes: &[u8]) -> bool {
 /// Whether all rows hold in the field.
 pub(crate) fn rows_hold<F: TranscriptField>(
     alloc: Global,
-    rows: &[Row],
+    rows: &[SeedRow],
 ) -> Result<bool, AllocError> {
     for place in 0..rows.len() {
         let holds = match rows[place] {
-            Row::Seed(seed, wanted) => seed_is::<F>(alloc, seed, wanted),
-            Row::Bytes(number, bytes) => {
-                bytes_are::<F>(alloc, number, bytes)? && too_few_bytes_are_refused::<F>(bytes)
-            }
-            Row::Tag(tag) => F::algebra_tag(1, [0; 32]) == tag,
+            SeedRow::Seed(seed, wanted) => seed_is::<F>(alloc, seed, wanted),
+            SeedRow::Bytes(number, bytes) => bytes_are::<F>(alloc, number, bytes)?,
+            SeedRow::Tag(tag) => F::algebra_tag(1, [0; 32]) == tag,
         };
         if !holds {
             return Ok(false);
         }
     }
     Ok(true)
-}
-
-// Printed text.
-#[test]
-fn errors_read_as_sentences(rt: HostRuntime) -> Result<(), Fail> {
-    let error = TranscriptError::Short {
-        needed: 2,
-        found: 1,
-    };
-    let printed = format!(in rt.alloc(); "{error}")?;
-    assert!(rt; printed.as_str() == "an element has 2 bytes, and there are 1");
-    Ok(())
 }

@@ -1,4 +1,4 @@
-use Rattle.test_transcripts.proofs.tests.stopped_lists.agreed.Goals as goal
+use Rattle.test_transcripts.proofs.tests.vectors.agreed.Goals as goal
 
 pub returns-clause-same : goal.returns-clause-same
 returns-clause-same g c =

@@ -1,6 +1,6 @@
 use Rattle.std.proofs.Common.{All}
 use Rattle.transcript_elements.specs.Calls.{MayCall}
-use Rattle.test_transcripts.proofs.tests.calls.calls_of_rows.Given as goal
+use Rattle.test_transcripts.proofs.tests.lists.calls_of_rows.Given as goal
 
 -- every call so far may be made
 abbrev pub invariant-rows : goal.invariant-rows

@@ -1,0 +1,250 @@
+// Hostile partners: doubles that refuse a byte call or a copy, or sample one byte always; what a challenger over them returns, what they
+// have seen of it, and what it returns to each call after that.
+use super::asked::{Row, Said, answer_to, only_fails};
+use std::alloc::Global;
+use std::cell::Cell;
+use test_byte_challengers::{Copies, Double, Seen};
+use transcript_elements::{BinaryChallenger, ByteLevel};
+
+/// A double, a call of a challenger over it, what that returns and what the double has seen by then, and what a sample then returns.
+pub(crate) struct Partner {
+    byte: u8,
+    // The byte calls before the one that is refused.
+    granted: u32,
+    copies: Copies,
+    call: Row,
+    said: Said,
+    seen: Seen,
+    next: Said,
+}
+
+/// Copies are granted, and refuse nothing.
+const GRANTED: Copies = Copies::RefusingAfter(u32::MAX);
+
+/// Partners of a challenger of a field of 32 bits. The third and the fifth byte call are refused in worked rows. The digest of a
+/// word is one too, and other digests and caps are observed in the order of their parts.
+pub(crate) static PARTNERS_OF_32: [Partner; 7] = [
+    Partner {
+        byte: 5,
+        granted: 2,
+        copies: GRANTED,
+        call: [0, 0, 0x0403_0201, 0],
+        said: Said::Memory,
+        seen: Seen {
+            observed: 2,
+            sampled: 0,
+            bytes: 0x0102,
+        },
+        next: Said::Failed,
+    },
+    Partner {
+        byte: 5,
+        granted: 4,
+        copies: GRANTED,
+        call: [2, 12, 0, 0],
+        said: Said::Memory,
+        seen: Seen {
+            observed: 0,
+            sampled: 4,
+            bytes: 0,
+        },
+        next: Said::Failed,
+    },
+    Partner {
+        byte: 5,
+        granted: 5,
+        copies: GRANTED,
+        call: [3, 0, 9, 0],
+        said: Said::Number(1),
+        seen: Seen {
+            observed: 0,
+            sampled: 0,
+            bytes: 0,
+        },
+        next: Said::Number(0x0505_0505),
+    },
+    Partner {
+        byte: 0,
+        granted: 12,
+        copies: GRANTED,
+        call: [7, 0, 0, 0],
+        said: Said::Number(0),
+        seen: Seen {
+            observed: 8,
+            sampled: 0,
+            bytes: 0x0201_0000_0000_0000,
+        },
+        next: Said::Number(0),
+    },
+    Partner {
+        byte: 0,
+        granted: 7,
+        copies: GRANTED,
+        call: [6, 0, 0, 0],
+        said: Said::Number(0),
+        seen: Seen {
+            observed: 3,
+            sampled: 0,
+            bytes: 0x0405_06,
+        },
+        next: Said::Number(0),
+    },
+    Partner {
+        byte: 0,
+        granted: 8,
+        copies: GRANTED,
+        call: [8, 0, 0, 0],
+        said: Said::Number(0),
+        seen: Seen {
+            observed: 4,
+            sampled: 0,
+            bytes: 0x0102_0304,
+        },
+        next: Said::Number(0),
+    },
+    Partner {
+        byte: 0,
+        granted: 20,
+        copies: GRANTED,
+        call: [9, 0, 0, 0],
+        said: Said::Number(0),
+        seen: Seen {
+            observed: 16,
+            sampled: 0,
+            bytes: 0x0800_0000_0000_0000,
+        },
+        next: Said::Number(0),
+    },
+];
+
+/// Partners of a search at a field of 16 bits. None of the byte calls of a copy reaches the challenger, whose own two are granted
+/// later. All 65,536 elements are tried, each by two bytes and eight samples, the last four 0xfffc to 0xffff. Over a double that
+/// samples 0 the first candidate passes, and no other is tried. For no bits nothing is asked, not a copy either.
+pub(crate) static PARTNERS_OF_16: [Partner; 7] = [
+    Partner {
+        byte: 7,
+        granted: 2,
+        copies: Copies::Refused,
+        call: [4, 8, 0, 0],
+        said: Said::Memory,
+        seen: Seen {
+            observed: 0,
+            sampled: 0,
+            bytes: 0,
+        },
+        next: Said::Number(0x0707),
+    },
+    Partner {
+        byte: 7,
+        granted: 2,
+        copies: Copies::RefusingAfter(0),
+        call: [4, 8, 0, 0],
+        said: Said::Memory,
+        seen: Seen {
+            observed: 0,
+            sampled: 0,
+            bytes: 0,
+        },
+        next: Said::Number(0x0707),
+    },
+    Partner {
+        byte: 7,
+        granted: 2,
+        copies: Copies::RefusingAfter(1),
+        call: [4, 8, 0, 0],
+        said: Said::Memory,
+        seen: Seen {
+            observed: 1,
+            sampled: 0,
+            bytes: 0,
+        },
+        next: Said::Number(0x0707),
+    },
+    Partner {
+        byte: 7,
+        granted: 2,
+        copies: Copies::RefusingAfter(9),
+        call: [4, 8, 0, 0],
+        said: Said::Memory,
+        seen: Seen {
+            observed: 2,
+            sampled: 7,
+            bytes: 0,
+        },
+        next: Said::Number(0x0707),
+    },
+    Partner {
+        byte: 255,
+        granted: 2,
+        copies: GRANTED,
+        call: [4, 8, 0, 0],
+        said: Said::NoWitness,
+        seen: Seen {
+            observed: 131_072,
+            sampled: 524_288,
+            bytes: 0xfcff_fdff_feff_ffff,
+        },
+        next: Said::Number(0xffff),
+    },
+    Partner {
+        byte: 0,
+        granted: 2,
+        copies: GRANTED,
+        call: [4, 8, 0, 0],
+        said: Said::Number(0),
+        seen: Seen {
+            observed: 2,
+            sampled: 8,
+            bytes: 0,
+        },
+        next: Said::Number(0),
+    },
+    Partner {
+        byte: 9,
+        granted: 2,
+        copies: Copies::Refused,
+        call: [4, 0, 0, 0],
+        said: Said::Number(0),
+        seen: Seen {
+            observed: 0,
+            sampled: 0,
+            bytes: 0,
+        },
+        next: Said::Number(0x0909),
+    },
+];
+
+// Whether a copy of a challenger that has failed has failed.
+fn copy_fails<F: ByteLevel>(alloc: Global, challenger: &BinaryChallenger<F, Double<'_>>) -> bool {
+    match challenger.try_clone() {
+        Ok(mut copy) => only_fails(alloc, &mut copy),
+        Err(_) => false,
+    }
+}
+
+// Whether the challenger over the partner returns what is wanted. Where it has failed, all calls say so and none reaches the partner.
+fn is_answered<F: ByteLevel>(alloc: Global, partner: &Partner) -> bool {
+    let seen = Cell::new(Seen::default());
+    let double = Double::new(&seen, partner.byte, partner.granted, partner.copies);
+    let mut challenger: BinaryChallenger<F, Double<'_>> = BinaryChallenger::new(double);
+    let answer = answer_to(alloc, &mut challenger, &partner.call);
+    if answer != partner.said || seen.get() != partner.seen {
+        return false;
+    }
+    if partner.next != Said::Failed {
+        return answer_to(alloc, &mut challenger, &[1, 0, 0, 0]) == partner.next;
+    }
+    only_fails(alloc, &mut challenger)
+        && copy_fails(alloc, &challenger)
+        && seen.get() == partner.seen
+}
+
+/// Whether a challenger over each of the partners returns what is wanted.
+pub(crate) fn are_answered<F: ByteLevel>(alloc: Global, partners: &[Partner]) -> bool {
+    for place in 0..partners.len() {
+        if !is_answered::<F>(alloc, &partners[place]) {
+            return false;
+        }
+    }
+    true
+}
