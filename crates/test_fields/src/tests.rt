@@ -1,3 +1,4 @@
+mod byte_lanes;
 mod carryless;
 mod constants;
 mod evaluate;
