@@ -32,7 +32,8 @@ pub(crate) fn set_rows<const N: usize>(
 )
     requires rows { N ≤ 4 }
     requires listed { first + N ≤ 256 }
-    requires apart { (j row : ℕ) → j < sample.now.count → row < N → slice_index sample.now.places j ≢ slice_index targets.now (first + row) }
+    requires apart { (j row : ℕ) → j < sample.now.count → row < N
+        → slice_index sample.now.places j ≢ slice_index targets.now (first + row) }
     ensures { (row : ℕ) → row < N → HasRow
         (λ j. lagrange 8 erasure_product (slice_index sample.now.places) sample.now.count j (slice_index targets.now (first + row)))
         tables.new.entries row sample.now.count }
@@ -60,10 +61,13 @@ fn write_group<const N: usize>(
     requires begun { (j : ℕ) → j < sample.now.count → slice_index starts.now j ≡ slice_index sample.now.places j * size }
     requires inside { (j : ℕ) → j < sample.now.count → slice_index sample.now.places j * size + size ≤ length shards.old }
     requires room { (row : ℕ) → row < N → slice_index targets.now (first + row) * size + size ≤ length shards.old }
-    requires apart { (j row : ℕ) → j < sample.now.count → row < N → slice_index sample.now.places j ≢ slice_index targets.now (first + row) }
-    requires distinct { (row other : ℕ) → other < row → row < N → slice_index targets.now (first + row) ≢ slice_index targets.now (first + other) }
+    requires apart { (j row : ℕ) → j < sample.now.count → row < N
+        → slice_index sample.now.places j ≢ slice_index targets.now (first + row) }
+    requires distinct { (row other : ℕ) → other < row → row < N
+        → slice_index targets.now (first + row) ≢ slice_index targets.now (first + other) }
     ensures { AreWritten
-        (λ row column. symbol_at sample.now.count size (slice_index sample.now.places) shards.old column (slice_index targets.now (first + row)))
+        (λ row column. symbol_at sample.now.count size (slice_index sample.now.places) shards.old column
+        (slice_index targets.now (first + row)))
         (λ row. slice_index targets.now (first + row) * size) N size shards.old shards.new }
 {
     bytes_fit(shards);
@@ -85,7 +89,8 @@ pub(crate) fn write_shards(
     requires room { (t : ℕ) → t < count → slice_index targets.now t * size + size ≤ length shards.old }
     requires apart { (j t : ℕ) → j < sample.now.count → t < count → slice_index sample.now.places j ≢ slice_index targets.now t }
     requires distinct { (s t : ℕ) → s < t → t < count → slice_index targets.now t ≢ slice_index targets.now s }
-    ensures { AreWritten (λ t column. symbol_at sample.now.count size (slice_index sample.now.places) shards.old column (slice_index targets.now t))
+    ensures { AreWritten
+        (λ t column. symbol_at sample.now.count size (slice_index sample.now.places) shards.old column (slice_index targets.now t))
         (λ t. slice_index targets.now t * size) count size shards.old shards.new }
 {
     let starts = starts_of(&sample.places, 0, sample.count, size);
@@ -143,9 +148,11 @@ fn write_group_apart<const N: usize>(
     requires begun { (j : ℕ) → j < sample.now.count → slice_index starts.now j ≡ slice_index sample.now.places j * size }
     requires inside { (j : ℕ) → j < sample.now.count → slice_index sample.now.places j * size + size ≤ length shards.now }
     requires room { (row : ℕ) → row < N → (first + row) * size + size ≤ length out.old }
-    requires apart { (j row : ℕ) → j < sample.now.count → row < N → slice_index sample.now.places j ≢ slice_index targets.now (first + row) }
+    requires apart { (j row : ℕ) → j < sample.now.count → row < N
+        → slice_index sample.now.places j ≢ slice_index targets.now (first + row) }
     ensures { AreWritten
-        (λ row column. symbol_at sample.now.count size (slice_index sample.now.places) shards.now column (slice_index targets.now (first + row)))
+        (λ row column. symbol_at sample.now.count size (slice_index sample.now.places) shards.now column
+        (slice_index targets.now (first + row)))
         (λ row. (first + row) * size) N size out.old out.new }
 {
     bytes_fit(shards);
@@ -167,7 +174,8 @@ pub(crate) fn write_shards_apart(
     requires inside { (j : ℕ) → j < sample.now.count → slice_index sample.now.places j * size + size ≤ length shards.now }
     requires room { (t : ℕ) → t < count → t * size + size ≤ length out.old }
     requires apart { (j t : ℕ) → j < sample.now.count → t < count → slice_index sample.now.places j ≢ slice_index targets.now t }
-    ensures { AreWritten (λ t column. symbol_at sample.now.count size (slice_index sample.now.places) shards.now column (slice_index targets.now t))
+    ensures { AreWritten
+        (λ t column. symbol_at sample.now.count size (slice_index sample.now.places) shards.now column (slice_index targets.now t))
         (λ t. t * size) count size out.old out.new }
 {
     let starts = starts_of(&sample.places, 0, sample.count, size);
