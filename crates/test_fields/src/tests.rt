@@ -1,7 +1,7 @@
 mod carryless;
 mod constants;
-mod evaluate;
 mod images;
 mod matrices;
 mod printed;
 mod sbox;
+mod slices;
