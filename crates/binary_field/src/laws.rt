@@ -9,7 +9,7 @@ pub use field_laws::{
 };
 
 // masked products
-pub use word_carryless::{carry_isolation, class_is_places};
+pub use word_carryless::{carry_isolation, carry_isolation_in_lanes, class_is_places};
 
 // changes of basis, and linear maps
 pub use word_basis::{images_give_linear_map, isomorphism_8, isomorphism_64, isomorphism_128};

@@ -1,9 +1,9 @@
 mod byte_lanes;
 mod carryless;
 mod constants;
-mod evaluate;
 mod images;
 mod lanes;
 mod matrices;
 mod printed;
 mod sbox;
+mod slices;

@@ -58,6 +58,7 @@ pub(crate) struct Sink {
     takes_none: bool,
     refusals: usize,
     flush_fails: bool,
+    flushes: usize,
 }
 
 impl Sink {
@@ -69,6 +70,7 @@ impl Sink {
             takes_none: false,
             refusals: 0,
             flush_fails: false,
+            flushes: 0,
         }
     }
 
@@ -80,6 +82,7 @@ impl Sink {
             takes_none,
             refusals: 0,
             flush_fails: false,
+            flushes: 0,
         }
     }
 
@@ -91,6 +94,7 @@ impl Sink {
             takes_none: false,
             refusals: 0,
             flush_fails: true,
+            flushes: 0,
         }
     }
 }
@@ -110,6 +114,7 @@ impl Write for Sink {
     }
 
     fn flush(&mut self) -> io::Result<()> {
+        self.flushes = self.flushes.saturating_add(1);
         if self.flush_fails {
             Err(ErrorKind::Interrupted.into())
         } else {
@@ -126,6 +131,7 @@ pub(crate) struct Outcome {
     pub(crate) unread: usize,
     pub(crate) failures: usize,
     pub(crate) refusals: usize,
+    pub(crate) flushes: usize,
     pub(crate) reader_failed: bool,
     pub(crate) writer_failed: bool,
 }
@@ -178,6 +184,7 @@ pub(crate) fn run_over<A: Allocator>(alloc: A, source: Source<'_>, sink: Sink) -
         unread: source.rest.len(),
         failures: source.failures,
         refusals: sink.refusals,
+        flushes: sink.flushes,
         reader_failed,
         writer_failed,
     }

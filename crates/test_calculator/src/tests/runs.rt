@@ -87,11 +87,12 @@ fn a_writer_that_fails_or_takes_none(rt: HostRuntime) {
     }
 }
 
+// The flush that fails is not tried again.
 #[test]
 fn a_writer_that_does_not_flush(rt: HostRuntime) {
     let sink = Sink::without_flush(rt.alloc());
     let after = run_over(rt.alloc(), Source::new(b"t8 inv 00", 1), sink);
-    assert!(rt; after.is_unwritten(b"none\n"));
+    assert!(rt; after.is_unwritten(b"none\n") && after.flushes == 1);
 }
 
 #[test]

@@ -1,8 +1,11 @@
 // The generators, whose orders above 16 bits no contract says: an element whose powers by the quotients of the group's order by its
-// primes are not 1 generates all. Beside them worked rows of Cantor vectors and of repeated squarings.
+// primes are not 1 generates all. Beside them worked rows of Cantor vectors and of values of polynomials, and outside vectors of
+// repeated squarings, of sums and of products, drawn from the seed 20261122.
 use field_base::traits::{Field, PrimeCharacteristicRing, TowerLevel};
 use field_base::{LevelKernel, Unsigned};
 use field_element::{Element, HasPacking};
+use std::alloc::Global;
+use transform_whole::over;
 use word_polynomial::{GhashKernel, Poly64Kernel, RijndaelKernel};
 use word_tower::{Bits2, Bits4, Bits8, Bits16, Bits32, Bits64, Bits128, Level, Tower};
 
@@ -77,6 +80,48 @@ fn squarings_give<F: TowerLevel>(number: u128, count: usize, wanted: u128) -> bo
     element.exp_power_of_2(count).to_repr().to_u128() == wanted
 }
 
+/// The elements of these representations, or fewer where memory is refused.
+fn elements<F: TowerLevel>(alloc: Global, numbers: &[u128]) -> Vec<F> {
+    let mut elements: Vec<F> = Vec::new(alloc);
+    for number in numbers {
+        if elements
+            .push(F::from_repr(F::Repr::of_u128(*number)))
+            .is_err()
+        {
+            break;
+        }
+    }
+    elements
+}
+
+/// Whether the sum of products of two lists, and the sum and the product of the first, are these.
+fn sums_are<F: TowerLevel>(
+    alloc: Global,
+    first: &[u128],
+    second: &[u128],
+    wanted: [u128; 3],
+) -> bool {
+    let left: Vec<F> = elements(alloc, first);
+    let right: Vec<F> = elements(alloc, second);
+    if left.len() != right.len() || left.len() != first.len() {
+        return false;
+    }
+    let dot = F::dot_product_of_slices(left.as_slice(), right.as_slice());
+    let sum: F = left.iter().copied().sum();
+    let product: F = left.iter().copied().product();
+    dot.to_repr().to_u128() == wanted[0]
+        && sum.to_repr().to_u128() == wanted[1]
+        && product.to_repr().to_u128() == wanted[2]
+}
+
+/// Whether the polynomial with these coefficients, the lowest first, has this value at x.
+fn value_is<F: TowerLevel>(alloc: Global, coefficients: &[u128], x: u128, value: u128) -> bool {
+    let listed: Vec<F> = elements(alloc, coefficients);
+    let x = F::from_repr(F::Repr::of_u128(x));
+    listed.len() == coefficients.len()
+        && over::evaluate(listed.as_slice(), x).to_repr().to_u128() == value
+}
+
 /// What is known of a field, elements by their representations.
 #[derive(Clone, Copy)]
 enum Known {
@@ -86,54 +131,121 @@ enum Known {
     CantorVector(usize, u128),
     /// An element, and what so many squarings take it to.
     Squared(u128, usize, u128),
+    /// Two lists, and the sum of their products, the sum and the product of the first.
+    Sums(&'static [u128], &'static [u128], [u128; 3]),
+    /// A polynomial, an element, and the value there.
+    Value(&'static [u128], u128, u128),
 }
 
-fn holds<F: TowerLevel>(known: Known) -> bool {
+fn holds<F: TowerLevel>(alloc: Global, known: Known) -> bool {
     match known {
         Known::Generator(number) => generator_is::<F>(number),
         Known::CantorVector(place, number) => cantor_vector_is::<F>(place, number),
         Known::Squared(number, count, wanted) => squarings_give::<F>(number, count, wanted),
+        Known::Sums(left, right, wanted) => sums_are::<F>(alloc, left, right, wanted),
+        Known::Value(coefficients, x, value) => value_is::<F>(alloc, coefficients, x, value),
     }
 }
 
-/// The same of the field of a kernel.
-fn holds_at<R: Unsigned, K: LevelKernel<R> + HasPacking<R>>(known: Known) -> bool {
-    holds::<Element<R, K>>(known)
+static OF_2_BITS: [Known; 3] = [
+    Known::Generator(2),
+    Known::Value(&[1, 1, 1], 2, 0),
+    Known::Value(&[], 2, 0),
+];
+
+static OF_8_BITS: [Known; 3] = [
+    Known::Generator(0x13),
+    Known::CantorVector(1, 2),
+    Known::CantorVector(2, 0x0c),
+];
+
+static OF_16_BITS: [Known; 10] = [
+    Known::Generator(0x0102),
+    Known::Squared(0x0100, 8, 0x0110),
+    Known::Squared(0x0100, 16, 0x0100),
+    Known::Squared(0x1001, usize::MAX, 0x0100),
+    Known::Squared(0xfb38, 0x23, 0xd36d),
+    Known::Squared(0xd984, usize::MAX, 0xa29b),
+    Known::Squared(0x6cb5, 0x1fdc_e9e5_61ac_fc3b, 0xb81),
+    Known::Sums(&[], &[], [0, 0, 1]),
+    Known::Sums(&[0x6f65], &[0xc0fe], [0x949c, 0x6f65, 0x6f65]),
+    Known::Sums(
+        &[0xcb78, 0xd478, 0xc68b],
+        &[0x7eeb, 0x8b4c, 0xa2e5],
+        [0x6c03, 0xd98b, 0x64c9],
+    ),
+];
+
+static OF_GHASH: [Known; 5] = [
+    Known::Generator(0xe5a5_755a_d217_f07d_1da7_0a74_7203_d630),
+    Known::Value(&[5, 0, 1], 2, 1),
+    Known::Squared(
+        0x3bf4_491f_f32b_4d9a_204e_585a_1369_734f,
+        0x103,
+        0xf547_19ff_ff91_a56c_7a0b_1ae6_9712_77d6,
+    ),
+    Known::Squared(
+        0xab37_a518_9a9f_2140_c90a_7fa1_6f4c_241a,
+        usize::MAX,
+        0xabc0_5cf6_cdd5_2b2d_eb74_a203_c68e_c70a,
+    ),
+    Known::Sums(
+        &[
+            0x4c6e_fb81_ffc1_a5fd_6f2d_b152_db61_2fe7,
+            0x8fcc_5ed4_b048_845c_590c_cb66_7c3b_0650,
+            0xfd9e_a377_d167_7368_9e3a_b083_a043_729a,
+        ],
+        &[
+            0x615a_a4e9_5278_e1f3_06c6_abb2_c7bb_b831,
+            0xbce1_91cf_be89_04a8_4546_ee22_f519_fbb3,
+            0xeed0_f670_4b8c_437f_ff8b_9573_ae8f_3aa1,
+        ],
+        [
+            0x52d8_6f0e_5f8b_94ba_1456_e712_522f_3252,
+            0x3e3c_0622_9eee_52c9_a81b_cab7_0719_5b2d,
+            0xf56d_3a5d_bf95_cc85_33b4_aa88_ea98_ea13,
+        ],
+    ),
+];
+
+/// Whether all of it holds in the field of a kernel.
+fn all_hold_at<R: Unsigned, K: LevelKernel<R> + HasPacking<R>>(
+    alloc: Global,
+    known: &[Known],
+) -> bool {
+    for place in 0..known.len() {
+        if !holds::<Element<R, K>>(alloc, known[place]) {
+            return false;
+        }
+    }
+    true
 }
 
 /// The same of a level of the tower.
-fn holds_at_level<R: Unsigned, L: Level<R>>(known: Known) -> bool {
-    holds_at::<R, Tower<L>>(known)
+fn all_hold<R: Unsigned, L: Level<R>>(alloc: Global, known: &[Known]) -> bool {
+    all_hold_at::<R, Tower<L>>(alloc, known)
 }
 
 #[test]
-fn generators_have_full_order(rt: HostRuntime) {
+fn the_tower_is_as_known(rt: HostRuntime) {
+    let alloc = rt.alloc();
     assert!(rt;
-        holds_at_level::<u8, Bits2>(Known::Generator(2))
-            && holds_at_level::<u8, Bits4>(Known::Generator(5))
-            && holds_at_level::<u8, Bits8>(Known::Generator(0x13))
-            && holds_at_level::<u16, Bits16>(Known::Generator(0x0102))
-            && holds_at_level::<u32, Bits32>(Known::Generator(0x0001_0005))
-            && holds_at_level::<u64, Bits64>(Known::Generator(0x0000_0001_0000_0004))
-            && holds_at_level::<u128, Bits128>(Known::Generator((1 << 64) | 5))
-    );
-    assert!(rt;
-        holds_at::<u8, RijndaelKernel>(Known::Generator(0x88))
-            && holds_at::<u64, Poly64Kernel>(Known::Generator(0xc313_d8d1_bfae_2150))
-            && holds_at::<u128, GhashKernel>(Known::Generator(
-                0xe5a5_755a_d217_f07d_1da7_0a74_7203_d630
-            ))
+        all_hold::<u8, Bits2>(alloc, &OF_2_BITS)
+            && all_hold::<u8, Bits4>(alloc, &[Known::Generator(5)])
+            && all_hold::<u8, Bits8>(alloc, &OF_8_BITS)
+            && all_hold::<u16, Bits16>(alloc, &OF_16_BITS)
+            && all_hold::<u32, Bits32>(alloc, &[Known::Generator(0x0001_0005)])
+            && all_hold::<u64, Bits64>(alloc, &[Known::Generator(0x0000_0001_0000_0004)])
+            && all_hold::<u128, Bits128>(alloc, &[Known::Generator((1 << 64) | 5)])
     );
 }
 
-// Worked rows.
 #[test]
-fn cantor_vectors_and_repeated_squares(rt: HostRuntime) {
+fn fields_of_polynomials_are_as_known(rt: HostRuntime) {
+    let alloc = rt.alloc();
     assert!(rt;
-        holds_at_level::<u8, Bits8>(Known::CantorVector(1, 2))
-            && holds_at_level::<u8, Bits8>(Known::CantorVector(2, 0x0c))
-            && holds_at_level::<u16, Bits16>(Known::Squared(0x0100, 8, 0x0110))
-            && holds_at_level::<u16, Bits16>(Known::Squared(0x0100, 16, 0x0100))
-            && holds_at_level::<u16, Bits16>(Known::Squared(0x1001, usize::MAX, 0x0100))
+        all_hold_at::<u8, RijndaelKernel>(alloc, &[Known::Generator(0x88)])
+            && all_hold_at::<u64, Poly64Kernel>(alloc, &[Known::Generator(0xc313_d8d1_bfae_2150)])
+            && all_hold_at::<u128, GhashKernel>(alloc, &OF_GHASH)
     );
 }

@@ -1,118 +1,86 @@
-// The change of basis between the tower and `Poly64` and `Ghash128`: worked rows, and vectors of images where there is memory, and
-// refused where there is not.
-use field_base::traits::TowerLevel;
-use field_base::{LevelKernel, Unsigned};
-use field_element::{
-    BinaryField64, BinaryField128, Element, Ghash128, HasPacking, Poly64, element_of_word,
-};
+// Vectors of images of the tower in a field of polynomials: each growth refused in turn, and success where there is memory, at each length
+// from 0 to 257. The images themselves are replayed by `replay_calls`.
+use field_base::Unsigned;
+use field_element::{Element, element_of_word, word_of};
 use linked_list_allocator::LocalHeap;
-use std::alloc::AllocError;
-use std::test::Fail;
-use word_polynomial::{GhashKernel, Poly64Kernel};
+use std::alloc::{AllocError, Global};
+use std::marker::PhantomData;
+use test_heaps::{Ending, Growing, Rest, is_refused_in_turn};
+use word_polynomial::{GhashModulus, Modulus, Poly64Modulus, Polynomials};
 use word_tower::{Bits64, Bits128, Level, Tower};
 
-/// An element of the tower, and its image.
-static IMAGES_64: [[u128; 2]; 2] = [[1, 1], [1 << 32, 0x3f2a_7c50_1e89_8bcd]];
-
-/// An element of the tower, and its image. The root of the last level has XI[6].
-static IMAGES_128: [[u128; 2]; 3] = [
-    [1, 1],
-    [2, 0x295a_c0b1_f473_1af9_676a_ac9f_a4b2_0b08],
-    [1 << 64, 0x9cfc_a256_33f9_993f_4e1f_5110_70b2_3e78],
-];
-
-/// The element of this representation.
-fn element<F: TowerLevel>(number: u128) -> F {
-    F::from_repr(F::Repr::of_u128(number))
+/// The elements of the words 0, 0x0101..01, 0x0202..02 and so on, and whether images are theirs.
+fn numbers<R: Unsigned, L: Level<R>>(
+    alloc: Global,
+    len: usize,
+) -> Result<Vec<Element<R, Tower<L>>>, AllocError> {
+    let mut elements = Vec::new(alloc);
+    for place in 0..len {
+        let number = (place as u128).wrapping_mul(u128::MAX / 0xff);
+        elements.push(element_of_word(R::of_u128(number)))?;
+    }
+    Ok(elements)
 }
 
-/// Whether each row is an element of the tower and its image, which goes back to it.
-fn images_are<P: TowerLevel + From<T>, T: TowerLevel + From<P>>(rows: &[[u128; 2]]) -> bool {
-    for row in rows {
-        let (x, image) = (element::<T>(row[0]), element::<P>(row[1]));
-        if P::from(x) != image || T::from(image) != x {
+fn are_images<R: Unsigned, L: Level<R>, M: Modulus<R, L>>(
+    images: &[Element<R, Polynomials<M, L>>],
+    elements: &[Element<R, Tower<L>>],
+) -> bool {
+    for place in 0..images.len() {
+        if place >= elements.len() {
+            return false;
+        }
+        let image = M::to_polynomial(word_of(&elements[place]));
+        if word_of(&images[place]).to_u128() != image.to_u128() {
+            return false;
+        }
+    }
+    images.len() == elements.len()
+}
+
+/// The images of `len` elements.
+#[derive(Drop)]
+struct Images<R, L, M> {
+    alloc: Global,
+    len: usize,
+    kernel: PhantomData<(R, L, M)>,
+}
+
+impl<R: Unsigned, L: Level<R>, M: Modulus<R, L>> Growing for Images<R, L, M> {
+    fn run<'a>(&self, heap: &'a LocalHeap, rest: Rest<'a>) -> Result<Ending, AllocError> {
+        let elements = numbers::<R, L>(self.alloc, self.len)?;
+        let images = Element::<R, Polynomials<M, L>>::from_tower_vec(heap, elements.as_slice());
+        drop(rest);
+        Ok(match images {
+            Ok(images) => {
+                Ending::of(
+                    true,
+                    are_images::<R, L, M>(images.as_slice(), elements.as_slice()),
+                )
+            }
+            Err(_) => Ending::Refused,
+        })
+    }
+}
+
+fn are_refused<R: Unsigned, L: Level<R>, M: Modulus<R, L>>(alloc: Global) -> bool {
+    for len in 0..258usize {
+        let images: Images<R, L, M> = Images {
+            alloc,
+            len,
+            kernel: PhantomData,
+        };
+        if !is_refused_in_turn(alloc, &images, len > 0) {
             return false;
         }
     }
     true
 }
 
-/// The same for the field of the kernel `K`, whose level of the tower is `L`.
-fn field_has_images<R, L, K>(rows: &[[u128; 2]]) -> bool
-where
-    R: Unsigned,
-    L: Level<R>,
-    K: LevelKernel<R> + HasPacking<R>,
-    Element<R, K>: From<Element<R, Tower<L>>>,
-    Element<R, Tower<L>>: From<Element<R, K>>,
-{
-    images_are::<Element<R, K>, Element<R, Tower<L>>>(rows)
-}
-
 #[test]
-fn the_roots_have_their_images(rt: HostRuntime) {
+fn vectors_of_images_are_granted_or_refused(rt: HostRuntime) {
     assert!(rt;
-        field_has_images::<u64, Bits64, Poly64Kernel>(&IMAGES_64)
-            && field_has_images::<u128, Bits128, GhashKernel>(&IMAGES_128)
+        are_refused::<u64, Bits64, Poly64Modulus>(rt.alloc())
+            && are_refused::<u128, Bits128, GhashModulus>(rt.alloc())
     );
-}
-
-// Whether there is room for the images in the heap, and all are there.
-fn grants(
-    heap: &LocalHeap,
-    narrow: &[BinaryField64],
-    wide: &[BinaryField128],
-) -> Result<bool, AllocError> {
-    Ok(
-        Poly64::from_tower_vec(heap, narrow)?.len() == narrow.len()
-            && Ghash128::from_tower_vec(heap, wide)?.len() == wide.len(),
-    )
-}
-
-// Whether both heaps refuse the images exactly where there are more than two, and are as empty as before.
-fn refuses_three(
-    heaps: [&LocalHeap; 2],
-    narrow: &[BinaryField64],
-    wide: &[BinaryField128],
-) -> bool {
-    let [small, wider] = heaps;
-    let refused = Poly64::from_tower_vec(small, narrow).is_err();
-    let wide_refused = Ghash128::from_tower_vec(wider, wide).is_err();
-    refused == (narrow.len() > 2)
-        && wide_refused == refused
-        && small.used() == 0
-        && wider.used() == 0
-}
-
-// Each small heap has room for two images. The first element of each vector is a worked row.
-#[test]
-fn vectors_of_images_are_granted_or_refused(rt: HostRuntime) -> Result<(), Fail> {
-    let narrow: [BinaryField64; 3] = [
-        element_of_word(1 << 32),
-        element_of_word(0),
-        element_of_word(u64::MAX),
-    ];
-    let wide: [BinaryField128; 3] = [
-        element_of_word(2),
-        element_of_word(0),
-        element_of_word(u128::MAX),
-    ];
-    let polynomials = Poly64::from_tower_vec(rt.alloc(), &narrow)?;
-    let hashes = Ghash128::from_tower_vec(rt.alloc(), &wide)?;
-    assert!(rt; polynomials.len() == 3 && hashes.len() == 3);
-    assert!(rt;
-        polynomials[0].to_bits() == 0x3f2a_7c50_1e89_8bcd
-            && hashes[0].to_bits() == 0x295a_c0b1_f473_1af9_676a_ac9f_a4b2_0b08
-    );
-    let large = LocalHeap::new(rt.alloc(), 1024)?;
-    let small = LocalHeap::new(rt.alloc(), 16)?;
-    let wider = LocalHeap::new(rt.alloc(), 32)?;
-    for len in 0..4usize {
-        assert!(rt;
-            grants(&large, &narrow[..len], &wide[..len])?
-                && refuses_three([&small, &wider], &narrow[..len], &wide[..len]),
-            "{len} elements"
-        );
-    }
-    Ok(())
 }

@@ -1,10 +1,12 @@
-// Vectors of zeros where there is memory, and refused where there is not: `zero_vec` has one body for every ring.
+// Vectors of zeros: each growth refused in turn, and success where there is memory, at each length from 0 to 257, and of bits. `zero_vec`
+// has one body for every ring.
 use field_base::traits::PrimeCharacteristicRing;
-use field_base::{FieldKernel, Stored};
-use field_element::Element;
+use field_base::{FieldKernel, Gf2, Stored};
+use field_element::{Coefficients, CubicKernel, Element};
 use linked_list_allocator::LocalHeap;
-use std::alloc::{AllocError, Allocator};
-use std::test::Fail;
+use std::alloc::{AllocError, Global};
+use std::marker::PhantomData;
+use test_heaps::{Ending, Growing, Rest, is_refused_in_turn};
 use word_polynomial::GhashKernel;
 
 /// Whether all of the elements are 0.
@@ -17,48 +19,49 @@ fn are_zeros<R: PrimeCharacteristicRing>(elements: &[R]) -> bool {
     true
 }
 
-/// Whether `alloc` grants `len` elements, all of them 0.
-fn zeros_are_granted<R: PrimeCharacteristicRing, A: Allocator>(
-    alloc: A,
+/// So many zeros.
+#[derive(Drop)]
+struct Zeros<R> {
     len: usize,
-) -> Result<bool, AllocError> {
-    let zeros = R::zero_vec(alloc, len)?;
-    Ok(zeros.len() == len && are_zeros(zeros.as_slice()))
+    ring: PhantomData<R>,
 }
 
-/// Whether `large` grants `len` zeros, and `small`, which has room for one, grants no more and gets back what it lent.
-fn zeros_are_as_wanted<R: PrimeCharacteristicRing>(
-    large: &LocalHeap,
-    small: &LocalHeap,
-    len: usize,
-) -> Result<bool, AllocError> {
-    let granted = R::zero_vec(small, len).is_ok();
-    Ok(
-        zeros_are_granted::<R, &LocalHeap>(large, len)?
-            && granted == (len <= 1)
-            && small.used() == 0,
-    )
+impl<R: PrimeCharacteristicRing> Growing for Zeros<R> {
+    fn run<'a>(&self, heap: &'a LocalHeap, rest: Rest<'a>) -> Result<Ending, AllocError> {
+        let zeros = R::zero_vec(heap, self.len);
+        drop(rest);
+        Ok(match zeros {
+            Ok(zeros) => {
+                Ending::of(true, zeros.len() == self.len && are_zeros(zeros.as_slice()))
+            }
+            Err(_) => Ending::Refused,
+        })
+    }
+}
+
+fn are_refused<R: PrimeCharacteristicRing>(alloc: Global) -> bool {
+    for len in 0..258usize {
+        let zeros: Zeros<R> = Zeros {
+            len,
+            ring: PhantomData,
+        };
+        if !is_refused_in_turn(alloc, &zeros, len > 0) {
+            return false;
+        }
+    }
+    true
 }
 
 /// The same for elements of the field of a kernel.
-fn elements_are_as_wanted<R: Stored, K: FieldKernel<R>>(
-    large: &LocalHeap,
-    small: &LocalHeap,
-    len: usize,
-) -> Result<bool, AllocError> {
-    zeros_are_as_wanted::<Element<R, K>>(large, small, len)
+fn elements_are_refused<R: Stored, K: FieldKernel<R>>(alloc: Global) -> bool {
+    are_refused::<Element<R, K>>(alloc)
 }
 
 #[test]
-fn zeros_are_granted_or_refused(rt: HostRuntime) -> Result<(), Fail> {
-    let large = LocalHeap::new(rt.alloc(), 8192)?;
-    let small = LocalHeap::new(rt.alloc(), 16)?;
-    for len in 0..258usize {
-        assert!(rt;
-            elements_are_as_wanted::<u128, GhashKernel>(&large, &small, len)?,
-            "{len} zeros"
-        );
-    }
-    assert!(rt; large.used() == 0);
-    Ok(())
+fn zeros_are_granted_or_refused(rt: HostRuntime) {
+    assert!(rt;
+        elements_are_refused::<u128, GhashKernel>(rt.alloc())
+            && elements_are_refused::<Coefficients, CubicKernel>(rt.alloc())
+            && are_refused::<Gf2>(rt.alloc())
+    );
 }

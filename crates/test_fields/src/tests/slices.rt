@@ -1,0 +1,167 @@
+// Slices of each length about the blocks of the code, and about the length from which it uses tables, against one value after the other.
+// The contracts say so of all lengths; the values here are drawn from the seed 42.
+use field_aes::ByteMatrix;
+use field_element::{Ghash128, element_of_word};
+use std::alloc::{AllocError, Global};
+use std::test::Fail;
+use transform_slices::{butterfly_forward, butterfly_inverse, mul, mul_slice};
+use word_basis::{to_polynomial_128, to_polynomial_slice_128, to_tower_128, to_tower_slice_128};
+
+/// Lengths: of no value, of one, about each power of two up to 128, and the greatest.
+static LENGTHS: [usize; 23] = [
+    0, 1, 2, 3, 4, 5, 7, 8, 9, 15, 16, 17, 31, 32, 33, 63, 64, 65, 127, 128, 129, 256, 257,
+];
+
+/// The next word of splitmix64 (Steele, Lea and Flood 2014).
+fn next_word(state: &mut u64) -> u64 {
+    *state = state.wrapping_add(0x9e37_79b9_7f4a_7c15);
+    let mut word = *state;
+    word = (word ^ (word >> 30)).wrapping_mul(0xbf58_476d_1ce4_e5b9);
+    word = (word ^ (word >> 27)).wrapping_mul(0x94d0_49bb_1331_11eb);
+    word ^ (word >> 31)
+}
+
+/// So many numbers of two words, the low one first.
+fn drawn(alloc: Global, seed: u64, len: usize) -> Result<Vec<u128>, AllocError> {
+    let mut state = seed;
+    let mut numbers = Vec::new(alloc);
+    for _ in 0..len {
+        let low = u128::from(next_word(&mut state));
+        numbers.push(u128::from(next_word(&mut state)) << 64 | low)?;
+    }
+    Ok(numbers)
+}
+
+/// A function of slices over the field of GHASH.
+#[derive(Clone, Copy)]
+enum Kernel {
+    Product,
+    Forward,
+    Inverse,
+    ToPolynomial,
+    ToTower,
+}
+
+/// What a function of slices does to both.
+fn run(kernel: Kernel, low: &mut [u128], high: &mut [u128], scalar: u128) {
+    match kernel {
+        Kernel::Product => mul_slice(low, scalar),
+        Kernel::Forward if low.len() == high.len() => butterfly_forward(low, high, scalar),
+        Kernel::Inverse if low.len() == high.len() => butterfly_inverse(low, high, scalar),
+        Kernel::ToPolynomial => to_polynomial_slice_128(low),
+        Kernel::ToTower => to_tower_slice_128(low),
+        _ => {}
+    }
+}
+
+/// What it should do to one pair.
+fn wanted(kernel: Kernel, low: u128, high: u128, scalar: u128) -> (u128, u128) {
+    match kernel {
+        Kernel::Product => (mul(low, scalar), high),
+        Kernel::Forward => {
+            let sum = low ^ mul(scalar, high);
+            (sum, sum ^ high)
+        }
+        Kernel::Inverse => {
+            let sum = low ^ high;
+            (low ^ mul(scalar, sum), sum)
+        }
+        Kernel::ToPolynomial => (to_polynomial_128(low), high),
+        Kernel::ToTower => (to_tower_128(low), high),
+    }
+}
+
+fn goes_value_by_value(alloc: Global, kernel: Kernel, len: usize) -> Result<bool, AllocError> {
+    let mut low = drawn(alloc, 42, len)?;
+    let mut high = drawn(alloc, 43, len)?;
+    let (first, second) = (low.clone()?, high.clone()?);
+    let scalar = 0x0123_4567_89ab_cdef_0123_4567_89ab_cdef;
+    run(kernel, low.as_mut_slice(), high.as_mut_slice(), scalar);
+    for place in 0..len {
+        if place >= first.len() || place >= second.len() {
+            return Ok(false);
+        }
+        let values = wanted(kernel, first[place], second[place], scalar);
+        if low.get(place) != Some(&values.0) || high.get(place) != Some(&values.1) {
+            return Ok(false);
+        }
+    }
+    Ok(true)
+}
+
+#[test]
+fn slices_go_value_by_value(rt: HostRuntime) -> Result<(), Fail> {
+    for len in LENGTHS.iter() {
+        for kernel in [
+            Kernel::Product,
+            Kernel::Forward,
+            Kernel::Inverse,
+            Kernel::ToPolynomial,
+            Kernel::ToTower,
+        ] {
+            assert!(rt;
+                goes_value_by_value(rt.alloc(), kernel, *len)?,
+                "{len} values"
+            );
+        }
+    }
+    Ok(())
+}
+
+/// Whether a matrix at bytes gives what it gives at each.
+fn bytes_go_one_by_one(alloc: Global, len: usize) -> Result<bool, AllocError> {
+    let mut bytes = Vec::new(alloc);
+    for place in 0..len {
+        bytes.push((place % 256) as u8)?;
+    }
+    let matrix = ByteMatrix::from_quadword(0x0123_4567_89ab_cdef);
+    matrix.apply_slice(bytes.as_mut_slice());
+    for place in 0..len {
+        if bytes.get(place) != Some(&matrix.apply((place % 256) as u8)) {
+            return Ok(false);
+        }
+    }
+    Ok(true)
+}
+
+#[test]
+fn matrices_go_byte_by_byte(rt: HostRuntime) -> Result<(), Fail> {
+    for len in LENGTHS.iter() {
+        assert!(rt; bytes_go_one_by_one(rt.alloc(), *len)?, "{len} bytes");
+    }
+    Ok(())
+}
+
+/// The sum of the products of a value and each power of x below this one.
+fn times_powers_of_x(value: u128, count: usize) -> u128 {
+    let mut sum = 0;
+    let mut term = value;
+    for _ in 0..count {
+        sum ^= term;
+        term = mul(term, 2);
+    }
+    sum
+}
+
+/// The value at x, of at most 128 coefficients.
+fn value_at_x(values: &[Ghash128]) -> u128 {
+    if values.len() > 128 {
+        return 0;
+    }
+    Ghash128::dot_powers_of_x(values).to_bits()
+}
+
+// The highest coefficient in each value is where shifted values pass the top of both words.
+#[test]
+fn highest_values_at_x(rt: HostRuntime) -> Result<(), Fail> {
+    let mut values = Vec::new(rt.alloc());
+    for count in 0..129usize {
+        let value = value_at_x(values.as_slice());
+        assert!(rt;
+            value == times_powers_of_x(1 << 127, count),
+            "{count} values"
+        );
+        values.push(element_of_word(1 << 127))?;
+    }
+    Ok(())
+}
