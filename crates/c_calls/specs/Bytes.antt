@@ -35,12 +35,13 @@ pub record CallOfCode {T : Type 0} (is_code fits enough written : Type 0) (old n
 abbrev pub flags_of : List ℕ → List Bool
 flags_of bytes = map (λ byte. not (nat_eq byte 0)) bytes
 
--- the calls, of so many shards of data and of all
+-- a call that writes the parity of k shards of data
 abbrev pub Encodes : ℕ → ℕ → List ℕ → List ℕ → ℕ → Type 0
 Encodes k parity old new status =
     CallOfCode (IsCode k parity) (HasShardSize (k + parity) (length old)) (Unit {0})
     (IsEncoded k (k + parity) (length old / (k + parity)) old new) old new status
 
+-- a call that answers whether the parity is that of the data
 abbrev pub Verifies : ℕ → ℕ → List ℕ → ℕ → ℕ → ℕ → Type 0
 Verifies k parity shards old new status =
     CallOfCode (IsCode k parity) (HasShardSize (k + parity) (length shards)) (Unit {0})

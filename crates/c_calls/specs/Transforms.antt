@@ -17,6 +17,7 @@ ButterfliesForward scalar lo hi lo' hi' status =
     CallOf {T = List Wide × List Wide} (length lo ≡ length hi) (Unit {0})
     (IsForward scalar (wide_numbers lo) (wide_numbers hi) (wide_numbers lo') (wide_numbers hi')) (lo, hi) (lo', hi') status
 
+-- the same two steps, the last first
 abbrev pub ButterfliesInverse : ℕ → List Wide → List Wide → List Wide → List Wide → ℕ → Type 0
 ButterfliesInverse scalar lo hi lo' hi' status =
     CallOf {T = List Wide × List Wide} (length lo ≡ length hi) (Unit {0})
@@ -36,11 +37,12 @@ RunsLowStages shifts basis first_run old new status =
     CallOf (FitLowStages (length shifts) (length basis) (length old) first_run) (Unit {0})
     (HoldSums (wide_numbers shifts) (wide_numbers basis) first_run (wide_numbers old) (wide_numbers new)) old new status
 
--- a transform of 2^m values, m from 0 to 40, and its inverse
+-- a transform of 2^m values, m from 0 to 40
 abbrev pub Transforms : ℕ → List Wide → List Wide → ℕ → Type 0
 Transforms z old new status =
     CallOf ((m : ℕ) × HasStages m (length old)) (Unit {0}) (HoldPolynomialValues z (wide_numbers old) (wide_numbers new)) old new status
 
+-- the inverse transform
 abbrev pub InvertsTransform : ℕ → List Wide → List Wide → ℕ → Type 0
 InvertsTransform z old new status =
     CallOf ((m : ℕ) × HasStages m (length old)) (Unit {0}) (AreOnlyCoefficients z (wide_numbers old) (wide_numbers new)) old new status

@@ -4,8 +4,8 @@ ghost use Rattle.c_slices.specs.Fields.{wide_number};
 
 use c_slices::Wide;
 
-// The numbers of up to 128 words, and zeros.
-pub fn numbers_of(words: &[Wide]) -> [u128; 128]
+/// The numbers of up to 128 words, and zeros.
+pub(crate) fn numbers_of(words: &[Wide]) -> [u128; 128]
     requires { length words.now ≤ 128 }
     ensures { take (length words.now) result ≡ map wide_number words.now }
 {
@@ -16,8 +16,8 @@ pub fn numbers_of(words: &[Wide]) -> [u128; 128]
     numbers
 }
 
-// The numbers of four words.
-pub fn four_numbers(words: &[Wide]) -> [u128; 4]
+/// The numbers of four words.
+pub(crate) fn four_numbers(words: &[Wide]) -> [u128; 4]
     requires { length words.now ≡ 4 }
     ensures { result ≡ map wide_number words.now }
 {

@@ -3,7 +3,7 @@ use Rattle.std.proofs.Common.{◌≡◌, ◌≢◌, ℕ, zero, suc, ◌+◌, ◌
 use Rattle.std.proofs.lemmas.List.Sums.{fold_more}
 use Rattle.field_base.specs.Field.{IsField}
 use Rattle.field_base.proofs.FieldLemmas.{no_zero_divisors}
-use Rattle.c_slices.specs.Batch.{nonzero_product, times_nonzero}
+use Rattle.c_slices.specs.Batch.{product_of_nonzero, times_nonzero}
 use Rattle.c_slices.specs.Fields.{WordField}
 
 -- where the second number is 0 nothing is multiplied, and else both are
@@ -36,11 +36,11 @@ module _ (width : ℕ) (times : ℕ → ℕ → ℕ) (law : IsField width times)
 
 module _ {W : Type 0} (field : WordField W) where
   -- the product of one word more
-  pub nonzero_product-more : (xs : List W) (k : ℕ) (x : W) → k < length xs → x ≡ get_or xs k x
-      → nonzero_product field (take (k + 1) xs) ≡ times_nonzero field.times (nonzero_product field (take k xs)) (field.number x)
-  nonzero_product-more xs k x within x_is =
+  pub product_of_nonzero-more : (xs : List W) (k : ℕ) (x : W) → k < length xs → x ≡ get_or xs k x
+      → product_of_nonzero field (take (k + 1) xs) ≡ times_nonzero field.times (product_of_nonzero field (take k xs)) (field.number x)
+  product_of_nonzero-more xs k x within x_is =
       fold_more (λ (product : ℕ) (y : W). times_nonzero field.times product (field.number y)) 1 xs k x within
-      ∙ ap (λ (y : W). times_nonzero field.times (nonzero_product field (take k xs)) (field.number y)) (sym x_is)
+      ∙ ap (λ (y : W). times_nonzero field.times (product_of_nonzero field (take k xs)) (field.number y)) (sym x_is)
 
   -- one number more is written
   pub written-more : (ys : List W) (k : ℕ) (y : W) (value : ℕ → ℕ) → k < length ys

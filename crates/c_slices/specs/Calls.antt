@@ -45,31 +45,35 @@ module _ {W : Type 0} (field : WordField W) where
       CallOf ((length xs ≡ length old) × (length ys ≡ length old)) (AreElements xs × AreElements ys)
       (EachOfTwo relates xs ys new) old new status
 
-  -- sums and products
+  -- sums
   abbrev pub Adds : List W → List W → List W → List W → ℕ → Type 0
   Adds xs ys old new status = CallOnTwo (λ x y z. z ≡ bit_xor x y) xs ys old new status
 
+  -- products
   abbrev pub Multiplies : List W → List W → List W → List W → ℕ → Type 0
   Multiplies xs ys old new status = CallOnTwo (λ x y z. z ≡ field.times x y) xs ys old new status
 
-  -- squares, inverses, 0 for 0, and square roots, all of them elements
+  -- squares
   abbrev pub Squares : List W → List W → List W → ℕ → Type 0
   Squares xs old new status = CallOnEach (λ x y. y ≡ field.times x x) xs old new status
 
-  abbrev pub AreInverses : List W → List W → Type 0
-  AreInverses xs ys = Each (λ x y. (y < 2 ^ field.width) × IsInverseOrZero field.times x y) xs ys
+  -- the words of `ys` are the inverses of those of `xs`, 0 for 0, and elements
+  abbrev pub HoldInverses : List W → List W → Type 0
+  HoldInverses xs ys = Each (λ x y. (y < 2 ^ field.width) × IsInverseOrZero field.times x y) xs ys
 
+  -- a call that writes them
   abbrev pub Inverts : List W → List W → List W → ℕ → Type 0
-  Inverts xs old new status = CallOf (length xs ≡ length old) (AreElements xs) (AreInverses xs new) old new status
+  Inverts xs old new status = CallOf (length xs ≡ length old) (AreElements xs) (HoldInverses xs new) old new status
 
+  -- square roots, which are elements
   abbrev pub TakesRoots : List W → List W → List W → ℕ → Type 0
   TakesRoots xs old new status = CallOnEach (λ x y. (y < 2 ^ field.width) × (field.times y y ≡ x)) xs old new status
 
   -- products with one scalar
   abbrev pub MultipliesBy : W → List W → List W → List W → ℕ → Type 0
   MultipliesBy scalar xs old new status =
-      CallOf (length xs ≡ length old) (IsElement scalar × AreElements xs) (Each (λ x y. y ≡ field.times x (field.number scalar)) xs new)
-      old new status
+      CallOf (length xs ≡ length old) (IsElement scalar × AreElements xs)
+      (Each (λ x y. y ≡ field.times x (field.number scalar)) xs new) old new status
 
   -- the scalar times each word is added to the word at its place
   abbrev pub AddsScaled : W → List W → List W → List W → ℕ → Type 0
@@ -81,11 +85,12 @@ module _ {W : Type 0} (field : WordField W) where
   abbrev pub RaisesTo : ℕ → List W → List W → List W → ℕ → Type 0
   RaisesTo exponent xs old new status = CallOnEach (λ x y. y ≡ power 1 field.times x exponent) xs old new status
 
-  -- the product of all words, and the sum of the products at each place
+  -- the product of all words
   abbrev pub TakesProduct : List W → W → W → ℕ → Type 0
   TakesProduct xs old new status =
       CallOf (Unit {0}) (AreElements xs) (field.number new ≡ product_of 1 field.times field.number xs) old new status
 
+  -- the sum of the products at each place
   abbrev pub TakesDotProduct : List W → List W → W → W → ℕ → Type 0
   TakesDotProduct xs ys old new status =
       CallOf (length xs ≡ length ys) (AreElements xs × AreElements ys) (field.number new ≡ dot_of field.times field.number xs ys)
@@ -103,12 +108,13 @@ module _ {W : Type 0} (field : WordField W) where
       (status ≡ OK) × (field.number new ≡ field.generator)
       × (field.width ≤ 16 → HasFullOrder field.width field.times field.generator)
 
--- the images under a map between two fields of every word, and what they are the images of
+-- the images under a map between two fields of every word
 abbrev pub TakesImages : {W : Type 0} → (W → ℕ) → (ℕ → ℕ) → List W → List W → List W → ℕ → Type 0
 TakesImages number image xs old new status =
     CallOf (length xs ≡ length old) (Unit {0})
     ((k : ℕ) → k < length new → (d : _) → number (get_or new k d) ≡ image (number (get_or xs k d))) old new status
 
+-- the call back: each word has the word given as its image
 abbrev pub TakesPreimages : {W : Type 0} → (W → ℕ) → (ℕ → ℕ) → List W → List W → List W → ℕ → Type 0
 TakesPreimages number image xs old new status =
     CallOf (length xs ≡ length old) (Unit {0})

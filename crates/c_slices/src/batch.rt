@@ -1,8 +1,8 @@
 // The inverses of many words by the inverse of one product, and three products a word.
-ghost use Rattle.std.specs.Prelude.{◌≡◌, ◌≢◌, ℕ, ◌<◌, ◌^◌, get_or, length, take};
+ghost use Rattle.std.specs.Prelude.{◌≡◌, ◌≢◌, ◌<◌, ◌^◌, length};
 ghost use Rattle.field_base.specs.Field.{IsInverseOrZero};
-ghost use Rattle.c_slices.specs.Batch.{nonzero_product, times_nonzero};
-ghost use Rattle.c_slices.specs.Calls.{AreElements, Inverts, AreInverses};
+ghost use Rattle.c_slices.specs.Batch.{AreProductsBefore, product_of_nonzero, times_nonzero};
+ghost use Rattle.c_slices.specs.Calls.{AreElements, Inverts, HoldInverses};
 
 use crate::fields::Arithmetic;
 use crate::slices::are_elements;
@@ -29,8 +29,8 @@ pub fn batch_invert<W: Copy, A: Arithmetic<W>>(words: &[W], inverses: &mut [W]) 
 fn products_before<W: Copy, A: Arithmetic<W>>(words: &[W], products: &mut [W]) -> W
     requires long { length words.now ≡ length products.old }
     requires elements { AreElements A.field words.now }
-    ensures before { (k : ℕ) → k < length words.now → (d : _) → A.field.number (get_or products.new k d) ≡ nonzero_product A.field (take k words.now) }
-    ensures all { A.field.number result ≡ nonzero_product A.field words.now }
+    ensures before { AreProductsBefore A.field words.now products.new }
+    ensures all { A.field.number result ≡ product_of_nonzero A.field words.now }
     ensures fits { A.field.number result < 2 ^ A.field.width }
     ensures nonzero { A.field.number result ≢ 0 }
 {
@@ -48,9 +48,9 @@ fn products_before<W: Copy, A: Arithmetic<W>>(words: &[W], products: &mut [W]) -
 fn inverses_of<W: Copy, A: Arithmetic<W>>(words: &[W], products: &mut [W], inverse: W)
     requires long { length words.now ≡ length products.old }
     requires elements { AreElements A.field words.now }
-    requires before { (k : ℕ) → k < length words.now → (d : _) → A.field.number (get_or products.old k d) ≡ nonzero_product A.field (take k words.now) }
-    requires inverse { A.field.times (A.field.number inverse) (nonzero_product A.field words.now) ≡ 1 }
-    ensures { AreInverses A.field words.now products.new }
+    requires before { AreProductsBefore A.field words.now products.old }
+    requires inverse { A.field.times (A.field.number inverse) (product_of_nonzero A.field words.now) ≡ 1 }
+    ensures { HoldInverses A.field words.now products.new }
 {
     let mut inverse = inverse;
     for place in (0..words.len()).rev() {
@@ -76,7 +76,8 @@ fn with_nonzero<W: Copy, A: Arithmetic<W>>(product: W, word: W) -> W
 #[inline]
 fn split_inverse<W: Copy, A: Arithmetic<W>>(inverse: W, product: W, word: W) -> (W, W)
     requires word { A.field.number word < 2 ^ A.field.width }
-    requires inverse { A.field.times (A.field.number inverse) (times_nonzero A.field.times (A.field.number product) (A.field.number word)) ≡ 1 }
+    requires inverse { let both = times_nonzero A.field.times (A.field.number product) (A.field.number word) in
+        A.field.times (A.field.number inverse) both ≡ 1 }
     ensures fits { A.field.number result.0 < 2 ^ A.field.width }
     ensures of_word { IsInverseOrZero A.field.times (A.field.number word) (A.field.number result.0) }
     ensures of_rest { A.field.times (A.field.number result.1) (A.field.number product) ≡ 1 }

@@ -1,7 +1,7 @@
 use Rattle.std.proofs.Common.{◌<◌, ◌^◌, length, take, subst, sym, ◌∙◌, ap, arith}
 use Rattle.std.proofs.lemmas.Nat.{pow_below}
-use Rattle.c_slices.specs.Batch.{nonzero_product, times_nonzero}
-use Rattle.c_slices.proofs.BatchProducts.{nonzero_product-more, times_nonzero-lt, times_nonzero-nonzero, written-more}
+use Rattle.c_slices.specs.Batch.{product_of_nonzero, times_nonzero}
+use Rattle.c_slices.proofs.BatchProducts.{product_of_nonzero-more, times_nonzero-lt, times_nonzero-nonzero, written-more}
 use Rattle.c_slices.proofs.batch.products_before.Goals as goal
 
 pub loop-place-init : goal.loop-place-init
@@ -25,11 +25,11 @@ loop-place-preserved g c =
     let within : place < length words = omega arith in
     let fits =
     subst (λ x. field.number x < 2 ^ field.width) (sym c.index-words-place.is) (c.requires.elements place within word) in (
-      written-more field c.loop-place.products place c.loop-place.product (λ k. nonzero_product field (take k words)) (omega arith)
+      written-more field c.loop-place.products place c.loop-place.product (λ k. product_of_nonzero field (take k words)) (omega arith)
           before.0 before.1,
       c.with_nonzero-product.ensures
           ∙ ap (λ n. times_nonzero field.times n (field.number word)) before.1
-          ∙ sym (nonzero_product-more field words place word within c.index-words-place.is),
+          ∙ sym (product_of_nonzero-more field words place word within c.index-words-place.is),
       subst (λ n. n < 2 ^ field.width) (sym c.with_nonzero-product.ensures)
           (times_nonzero-lt field.width field.times law (field.number c.loop-place.product) (field.number word) before.2),
       (λ none.

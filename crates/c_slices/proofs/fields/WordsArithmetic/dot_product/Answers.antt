@@ -15,4 +15,5 @@ loop-place-preserved g c =
     (dot_of-drop kernel.product number c.args.left.now c.args.right.now c.loop-place.place x y within within_right
     c.index-left-place.is c.index-right-place.is)
     (c.add_product.ensures
-    ∙ ap₂ (λ (m n : ℕ). bit_xor (kernel.reduced c.loop-place.low c.loop-place.high) (kernel.product m n)) c.stored.ensures.number c.stored-in-loop-place.ensures.number)
+    ∙ ap₂ (λ (m n : ℕ). bit_xor (kernel.reduced c.loop-place.low c.loop-place.high) (kernel.product m n)) c.stored.ensures.number
+    c.stored-in-loop-place.ensures.number)
