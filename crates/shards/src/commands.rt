@@ -1,5 +1,6 @@
 // What the program does. Files are written beside their names, and renamed when they are whole.
 use crate::header::{HEAD, Header};
+use crate::progress::Progress;
 use crate::split::{join, split_into};
 use anyhow::{Result, bail};
 use reed_solomon::ReedSolomon;
@@ -7,7 +8,7 @@ use std::fs;
 use std::rt::Files;
 
 /// Writes the shards of a file beside it: FILE.0, FILE.1, ..
-pub(crate) fn split_file<R: Files + AllocGlobal + Print>(
+pub(crate) fn split_file<R: Files + AllocGlobal + Print + Eprint>(
     rt: &R,
     file: &str,
     data_shards: &str,
@@ -27,6 +28,7 @@ pub(crate) fn split_file<R: Files + AllocGlobal + Print>(
         content.as_slice(),
         shards.as_mut_slice(),
     )?;
+    let mut progress = Progress::new();
     for index in 0..total {
         let header = Header {
             data_shards,
@@ -35,6 +37,7 @@ pub(crate) fn split_file<R: Files + AllocGlobal + Print>(
             length,
         };
         write_shard(rt, file, &header, part_of(shards.as_slice(), size, index))?;
+        progress.add(rt, "wrote", size)?;
     }
     println!(rt;
         "{total} shards of {size} bytes, of which any {data_shards} restore {length} bytes"
@@ -43,7 +46,7 @@ pub(crate) fn split_file<R: Files + AllocGlobal + Print>(
 }
 
 /// Writes a file from its shards, as far as they are whole.
-pub(crate) fn join_file<R: Files + AllocGlobal + Print>(rt: &R, file: &str) -> Result<()> {
+pub(crate) fn join_file<R: Files + AllocGlobal + Print + Eprint>(rt: &R, file: &str) -> Result<()> {
     let mut found = find_shards(rt, file)?;
     let size = found.size;
     let header = found.header;
@@ -71,7 +74,10 @@ pub(crate) fn join_file<R: Files + AllocGlobal + Print>(rt: &R, file: &str) -> R
 }
 
 /// Says of each shard whether it is whole, and fails where one is not, or where the parity is not that of the data.
-pub(crate) fn verify_file<R: Files + AllocGlobal + Print>(rt: &R, file: &str) -> Result<()> {
+pub(crate) fn verify_file<R: Files + AllocGlobal + Print + Eprint>(
+    rt: &R,
+    file: &str,
+) -> Result<()> {
     let found = find_shards(rt, file)?;
     let header = found.header;
     let code = ReedSolomon::new(header.data_shards as usize, header.parity_shards as usize)?;
@@ -106,14 +112,16 @@ struct Found {
 
 // Reads the shards of a file. The first that is whole says how many there are and how long they and the file are, and others
 // that say otherwise are not taken.
-fn find_shards<R: Files + AllocGlobal>(rt: &R, file: &str) -> Result<Found> {
+fn find_shards<R: Files + AllocGlobal + Eprint>(rt: &R, file: &str) -> Result<Found> {
     let mut first: Option<Found> = None;
+    let mut progress = Progress::new();
     for index in 0..256 {
         let path = format!(in rt.alloc(); "{file}.{index}")?;
         let bytes = match fs::read(rt, path.as_str()) {
             Ok(bytes) => bytes,
             Err(_) => continue,
         };
+        progress.add(rt, "read", bytes.len())?;
         let header = match Header::of_file(bytes.as_slice()) {
             Some(header) => header,
             None => continue,

@@ -3,6 +3,7 @@
 
 mod commands;
 mod header;
+mod progress;
 mod split;
 
 use anyhow::Result;
