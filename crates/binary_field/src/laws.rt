@@ -35,6 +35,10 @@ pub use transform_slices::{
 };
 pub use transform_whole::values_commute_with_images;
 
+// polynomials in many variables, and the sum-check protocol
+pub use multilinear::{corner_values_extend, first_coordinate_is_linear, folding_evaluates};
+pub use sumcheck_rounds::honest_is_accepted;
+
 // universal hashes
 pub use tags::{few_keys_collide, products_are_reversed};
 

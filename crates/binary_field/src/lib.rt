@@ -60,6 +60,14 @@ pub use bits_packed::{
 // values of polynomials over any field
 pub use transform_whole::over;
 
+// many elements at once: inverses, sums, products and powers
+pub use field_slices;
+
+// polynomials in many variables by their values at corners, in one by those at the first elements, and rounds of sum-check
+pub use interpolation;
+pub use multilinear;
+pub use sumcheck_rounds;
+
 // universal hashes of two authenticated ciphers
 pub use tags;
 
