@@ -60,9 +60,9 @@ pub record IsMade {Z : Type 0} (size i : ℕ) (bytes : List ℕ) (is_present : B
   pub long : length (shard_content size made) ≡ size
   pub bytes_are : is_present ≡ false → (column : ℕ) → column < size → slice_index (shard_content size made) column ≡ shard_byte size bytes i column
 
--- vectors for the missing shards, from the bytes of all as they are reconstructed
-pub record AreMade {Z : Type 0} (k total size : ℕ) (present : List Bool) (shards made : List (Option (Vec ℕ Z))) : Type 0 where
+-- vectors for the missing shards before shard `until`, from the bytes of all as they are reconstructed
+pub record AreMade {Z : Type 0} (k total until size : ℕ) (present : List Bool) (shards made : List (Option (Vec ℕ Z))) : Type 0 where
   pub joined : List ℕ
-  pub reconstructed : IsReconstructed k total size total present (joined_shards size shards) joined
-  pub count : length made ≡ total
-  pub each : (i : ℕ) → i < total → IsMade size i joined (slice_index_or present i false) (slice_index_or made i None)
+  pub reconstructed : IsReconstructed k total size until present (joined_shards size shards) joined
+  pub count : length made ≡ until
+  pub each : (i : ℕ) → i < until → IsMade size i joined (slice_index_or present i false) (slice_index_or made i None)

@@ -6,4 +6,4 @@ mod parts;
 mod restore;
 
 pub use crate::error::ShardVectorError;
-pub use crate::restore::reconstruct;
+pub use crate::restore::{reconstruct, reconstruct_data};

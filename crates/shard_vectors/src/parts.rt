@@ -111,14 +111,14 @@ fn made_shard<A: Allocator>(
     Ok(Some(shard))
 }
 
-// A vector for each missing shard before shard `until`, with its bytes.
+// A vector for each missing shard among those that have a flag, with its bytes.
 pub(crate) fn made_shards<A: Allocator + Copy>(
     alloc: A,
     bytes: &[u8],
     size: usize,
     present: &[bool],
 ) -> Result<Vec<Option<Vec<u8, A>>, A>, AllocError>
-    requires { length bytes.now ≡ length present.now * size }
+    requires { length present.now * size ≤ length bytes.now }
     ensures { IfOk result (λ made. (length made.items ≡ length present.now) × ((i : ℕ) → i < length present.now
         → IsMade size i bytes.now (slice_index_or present.now i false) (slice_index_or made.items i None))) }
 {
@@ -134,10 +134,10 @@ pub(crate) fn put<A: Allocator>(
     shards: &mut [Option<Vec<u8, A>>],
     mut made: Vec<Option<Vec<u8, A>>, A>,
 )
-    requires { length made.items ≡ length shards.old }
+    requires { length made.items ≤ length shards.old }
     ensures { (i : ℕ) → slice_index_or shards.new i None ≡ option_or (slice_index_or made.items i None) (slice_index_or shards.old i None) }
 {
-    for i in 0..shards.len() {
+    for i in 0..made.len() {
         let found = shards[i].take();
         shards[i] = made[i].take().or(found);
     }
