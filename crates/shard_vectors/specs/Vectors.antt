@@ -49,7 +49,8 @@ pub record RestoreError {Z : Type 0} (k total : ℕ) (shards : List (Option (Vec
   pub few : length shards < total → error ≡ TooFewShards
   pub many : total < length shards → error ≡ TooManyShards
   pub sizes : length shards ≡ total → (HaveSize (first_size shards) shards → ⊥) → error ≡ IncorrectShardSize
-  pub present : length shards ≡ total → HaveSize (first_size shards) shards → present_count (shard_flags shards) < k → error ≡ TooFewShardsPresent
+  pub present : length shards ≡ total → HaveSize (first_size shards) shards
+      → present_count (shard_flags shards) < k → error ≡ TooFewShardsPresent
   pub empty : length shards ≡ total → HaveSize (first_size shards) shards → k ≤ present_count (shard_flags shards)
       → first_size shards ≡ 0 → error ≡ EmptyShard
   pub memory : CanRestore k total shards → error ≡ Memory
@@ -58,7 +59,8 @@ pub record RestoreError {Z : Type 0} (k total : ℕ) (shards : List (Option (Vec
 pub record IsMade {Z : Type 0} (size i : ℕ) (bytes : List ℕ) (is_present : Bool) (made : Option (Vec ℕ Z)) : Type 0 where
   pub where_missing : is_some made ≡ not is_present
   pub long : length (shard_content size made) ≡ size
-  pub bytes_are : is_present ≡ false → (column : ℕ) → column < size → slice_index (shard_content size made) column ≡ shard_byte size bytes i column
+  pub bytes_are : is_present ≡ false → (column : ℕ) → column < size
+      → slice_index (shard_content size made) column ≡ shard_byte size bytes i column
 
 -- vectors for the missing shards before shard `until`, from the bytes of all as they are reconstructed
 pub record AreMade {Z : Type 0} (k total until size : ℕ) (present : List Bool) (shards made : List (Option (Vec ℕ Z))) : Type 0 where
