@@ -1,6 +1,8 @@
-// A published example, every pattern of missing shards of small codes, drawn patterns of larger ones, sizes, parity apart, and errors. Numbers
-// are drawn from the seed 20261126.
+// A published example, every pattern of missing shards of small codes, drawn patterns of larger ones, sizes, parity apart, shards in
+// vectors, and errors. Numbers are drawn from the seed 20261126.
 use reed_solomon::{ReedSolomon, ReedSolomonError};
+
+mod vectors;
 
 // The shards of TestOneEncode of klauspost/reedsolomon (reedsolomon_test.go): five of data, then five of parity.
 static ONE_ENCODE: [u8; 20] = [
