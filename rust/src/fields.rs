@@ -10,6 +10,9 @@ use core::ops::{Add, AddAssign, Div, DivAssign, Mul, MulAssign, Neg, Sub, SubAss
 pub trait Word: Copy {
     type Scalar;
 
+    /// The word without the bits above the lowest `degree`, of which a word of coefficients has none.
+    fn truncated(self, degree: u32) -> Self;
+
     fn scalar(&self) -> Self::Scalar;
 
     fn write(&self, formatter: &mut fmt::Formatter<'_>) -> fmt::Result;
@@ -19,6 +22,10 @@ macro_rules! narrow {
     ($($word:ty),*) => {$(
         impl Word for $word {
             type Scalar = $word;
+
+            fn truncated(self, degree: u32) -> $word {
+                self & <$word>::MAX >> (<$word>::BITS - degree)
+            }
 
             fn scalar(&self) -> $word {
                 *self
@@ -36,6 +43,10 @@ narrow!(u8, u16, u32, u64);
 impl Word for u128 {
     type Scalar = *const [u64; 2];
 
+    fn truncated(self, degree: u32) -> u128 {
+        self & u128::MAX >> (u128::BITS - degree)
+    }
+
     fn scalar(&self) -> *const [u64; 2] {
         core::ptr::from_ref(self).cast()
     }
@@ -47,6 +58,10 @@ impl Word for u128 {
 
 impl Word for [u64; 3] {
     type Scalar = *const [u64; 3];
+
+    fn truncated(self, _degree: u32) -> [u64; 3] {
+        self
+    }
 
     fn scalar(&self) -> *const [u64; 3] {
         self
@@ -263,6 +278,34 @@ macro_rules! field {
         impl Product for $field {
             fn product<I: Iterator<Item = $field>>(values: I) -> $field {
                 values.fold($field::ONE, |product, it| product * it)
+            }
+        }
+
+        /// The number of the representation; of `Poly192` the array of its coefficients.
+        #[cfg(feature = "serde")]
+        impl serde::Serialize for $field {
+            fn serialize<S: serde::Serializer>(&self, serializer: S) -> Result<S::Ok, S::Error> {
+                self.0.serialize(serializer)
+            }
+        }
+
+        /// It refuses a number above the field.
+        #[cfg(feature = "serde")]
+        impl<'de> serde::Deserialize<'de> for $field {
+            fn deserialize<D: serde::Deserializer<'de>>(deserializer: D) -> Result<$field, D::Error> {
+                let word = <$word>::deserialize(deserializer)?;
+                if word.truncated($degree) != word {
+                    return Err(serde::de::Error::custom("Value is out of range"));
+                }
+                Ok($field(word))
+            }
+        }
+
+        /// Every element is as likely as every other.
+        #[cfg(feature = "rand")]
+        impl rand::distributions::Distribution<$field> for rand::distributions::Standard {
+            fn sample<R: rand::Rng + ?Sized>(&self, source: &mut R) -> $field {
+                $field(source.r#gen::<$word>().truncated($degree))
             }
         }
 

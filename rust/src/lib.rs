@@ -6,6 +6,10 @@
 //! `scripts/build-library FOLDER` makes the library, and cargo finds it by `BINARY_FIELD_LIBRARY=FOLDER/lib`. An operator is a call
 //! of the library over slices of one element; the functions over slices cost less an element.
 //!
+//! Behind the feature `serde` an element is the number of its representation (`Poly192` the array of its coefficients), and a
+//! number above the field is refused. Behind the feature `rand` the distribution `Standard` draws every element with the same
+//! likelihood.
+//!
 //! ```
 //! use binary_field::{BinaryField128, Field, Ghash128};
 //!
