@@ -161,12 +161,24 @@ impl<R: Unsigned, W: Holds<R>, K: FieldKernel<R>> Arithmetic<W> for Words<R, K> 
         W::of_stored(K::sqrt(x.stored()))
     }
 
-    // The kernel reduces the sum of the products once.
+    // Two products at once, and where the count is odd the last alone. The kernel reduces their sum once.
     #[inline]
     fn dot_product(left: &[W], right: &[W]) -> W {
         let (mut low, mut high) = K::no_products();
-        for place in 0..left.len() {
-            (low, high) = K::add_product(low, high, left[place].stored(), right[place].stored());
+        let pair_count = left.len() / 2;
+        'pairs: for pair in 0..pair_count {
+            let at = 2 * pair;
+            (low, high) = K::add_two_products(
+                low,
+                high,
+                left[at].stored(),
+                left[at + 1].stored(),
+                right[at].stored(),
+                right[at + 1].stored(),
+            );
+        }
+        'rest: for at in 2 * pair_count..left.len() {
+            (low, high) = K::add_product(low, high, left[at].stored(), right[at].stored());
         }
         W::of_stored(K::reduce_sum(low, high))
     }

@@ -82,6 +82,16 @@ pub trait FieldKernel<R: Stored> {
     fn add_product(low: R, high: R, x: R, y: R) -> (R, R)
         ensures { reduced result.0 result.1 ≡ bit_xor (reduced low high) (product (R.number x) (R.number y)) };
 
+    /// The sum of two words, and the products of `a` by `p` and of `b` by `q`, which a kernel over vectors takes at once.
+    #[inline]
+    fn add_two_products(low: R, high: R, a: R, b: R, p: R, q: R) -> (R, R)
+        ensures { reduced result.0 result.1
+            ≡ bit_xor (bit_xor (reduced low high) (product (R.number a) (R.number p))) (product (R.number b) (R.number q)) }
+    {
+        let (first_low, first_high) = Self::add_product(low, high, a, p);
+        Self::add_product(first_low, first_high, b, q)
+    }
+
     /// The element that the sum reduces to.
     fn reduce_sum(low: R, high: R) -> R
         ensures { R.number result ≡ reduced low high };

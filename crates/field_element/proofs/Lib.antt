@@ -1,2 +1,3 @@
 pub mod Arrays
+mod NumberDigits
 pub mod PlaceProducts

@@ -1,5 +1,5 @@
 -- Elements as numbers.
-use Rattle.std.specs.Prelude.{◌≡◌, ℕ, ◌^◌, ◌<◌}
+use Rattle.std.specs.Prelude.{◌≡◌, ℕ, ◌^◌, ◌<◌, Option, None, Some, if◌then◌else◌, nat_lt}
 use Rattle.std.specs.declared.cmp.Ord
 use Rattle.std.specs.declared.cmp.PartialEq
 use Rattle.std.specs.declared.cmp.PartialOrd
@@ -15,6 +15,10 @@ use Rattle.field_element.specs.declared.element.Element.{Element}
 abbrev pub repr_of : {R K : Type 0} {w : Stored.Ghosts R} {d : Debug.Ghosts R} {o : Ord.Ghosts R} {e : PartialEq.Ghosts R}
     {p : PartialOrd.Ghosts R} {h : Hash.Ghosts R} {k : FieldKernel.Ghosts K R} → Element R K w d o e p h k → ℕ
 repr_of {w = w} x = w.number x.repr
+
+-- the number, where it has 64 bits at most
+abbrev pub number_of_64_bits : ℕ → Option ℕ
+number_of_64_bits n = if nat_lt n (2 ^ 64) then Some n else None
 
 -- elements that one word stores are one
 pub same_word : {R K : Type 0} {w : Stored.Ghosts R} {d : Debug.Ghosts R} {o : Ord.Ghosts R} {e : PartialEq.Ghosts R}

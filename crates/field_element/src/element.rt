@@ -5,6 +5,7 @@ mod bits;
 mod coefficients;
 mod cubic_traits;
 mod cubic_word;
+mod hexadecimal;
 mod lanes;
 mod operators;
 mod ring;

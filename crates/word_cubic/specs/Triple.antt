@@ -1,5 +1,6 @@
--- Three words as one number, as `serde` reads them, and as they are drawn at random.
-use Rattle.std.specs.Prelude.{ℕ, List, [], ◌∷◌, None}
+-- Three words as one number, as text, as `serde` reads them, and as they are drawn at random.
+use Rattle.std.specs.Prelude.{ℕ, Bool, List, [], ◌∷◌, ◌++◌, None, codes}
+use Rattle.std.specs.Fmt.{digits}
 use Rattle.rand_core.specs.Stream.{Stream}
 use Rattle.serde.specs.Event.{Event, seq_begins, seq_ends, unsigned}
 use Rattle.word_cubic.specs.Cubic.{triple}
@@ -8,6 +9,11 @@ use Rattle.word_cubic.specs.declared.triple.Triple.{Triple}
 -- the number of three words, the first lowest
 abbrev pub triple_number : Triple → ℕ
 triple_number x = triple 64 x.c0 x.c1 x.c2
+
+-- the text `A + B*y + C*y^2`, with the three words in hexadecimal, in large letters or small
+abbrev pub hexadecimal_of : Bool → Triple → List ℕ
+hexadecimal_of upper x =
+    digits 16 upper x.c0 ++ codes " + " ++ digits 16 upper x.c1 ++ codes "*y + " ++ digits 16 upper x.c2 ++ codes "*y^2"
 
 -- what stands where three words are read: an array of three numbers
 abbrev pub events_of : Triple → List Event

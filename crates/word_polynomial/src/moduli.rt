@@ -17,8 +17,9 @@ use word_basis::{
     to_polynomial_8, to_polynomial_64, to_polynomial_128, to_tower_8, to_tower_64, to_tower_128,
 };
 use word_carryless::{
-    invert_mod_64, invert_mod_128, multiply_64, multiply_128, multiply_mod_64, multiply_mod_128,
-    reduce_64, reduce_128, split_128, sqrt_mod_64, sqrt_mod_128, square_mod_64, square_mod_128,
+    invert_mod_64, invert_mod_128, multiply_64, multiply_64_twice, multiply_128,
+    multiply_128_twice, multiply_mod_64, multiply_mod_128, reduce_64, reduce_128, split_128,
+    sqrt_mod_64, sqrt_mod_128, square_mod_64, square_mod_128,
 };
 use word_tables::rijndael::{invert, multiply, sqrt, square};
 use word_tower::{Bits8, Bits16, Bits32, Bits64, Bits128};
@@ -194,6 +195,17 @@ impl Modulus<u64, Bits64> for Poly64Modulus {
     }
 
     #[inline]
+    fn add_two_products(low: u64, high: u64, a: u64, b: u64, p: u64, q: u64) -> (u64, u64) {
+        let (first, second) = multiply_64_twice(a, b, p, q);
+        let (first_low, first_high) = split_128(first);
+        let (second_low, second_high) = split_128(second);
+        (
+            low ^ first_low ^ second_low,
+            high ^ first_high ^ second_high,
+        )
+    }
+
+    #[inline]
     fn reduce_sum(low: u64, high: u64) -> u64 {
         reduce_64(low, high)
     }
@@ -290,6 +302,15 @@ impl Modulus<u128, Bits128> for GhashModulus {
     fn add_product(low: u128, high: u128, x: u128, y: u128) -> (u128, u128) {
         let (product_low, product_high) = multiply_128(x, y);
         (low ^ product_low, high ^ product_high)
+    }
+
+    #[inline]
+    fn add_two_products(low: u128, high: u128, a: u128, b: u128, p: u128, q: u128) -> (u128, u128) {
+        let ((first_low, first_high), (second_low, second_high)) = multiply_128_twice(a, b, p, q);
+        (
+            low ^ first_low ^ second_low,
+            high ^ first_high ^ second_high,
+        )
     }
 
     #[inline]

@@ -77,6 +77,18 @@ pub trait Modulus<R: Unsigned, L: Level<R>> {
     fn add_product(low: R, high: R, x: R, y: R) -> (R, R)
         ensures { reduced result.0 result.1 ≡ bit_xor (reduced low high) (mul_mod width modulus (R.number x) (R.number y)) };
 
+    /// The sum of the double word and the carryless products of `a` by `p` and of `b` by `q`, not reduced yet. Bodies over vectors
+    /// take both at once.
+    #[inline]
+    fn add_two_products(low: R, high: R, a: R, b: R, p: R, q: R) -> (R, R)
+        ensures { reduced result.0 result.1
+            ≡ bit_xor (bit_xor (reduced low high) (mul_mod width modulus (R.number a) (R.number p)))
+            (mul_mod width modulus (R.number b) (R.number q)) }
+    {
+        let (first_low, first_high) = Self::add_product(low, high, a, p);
+        Self::add_product(first_low, first_high, b, q)
+    }
+
     /// The remainder of the sum.
     fn reduce_sum(low: R, high: R) -> R
         ensures { R.number result ≡ reduced low high };

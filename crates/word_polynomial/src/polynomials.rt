@@ -97,6 +97,11 @@ impl<R: Unsigned, L: Level<R>, M: Modulus<R, L>> FieldKernel<R> for Polynomials<
     }
 
     #[inline]
+    fn add_two_products(low: R, high: R, a: R, b: R, p: R, q: R) -> (R, R) {
+        M::add_two_products(low, high, a, b, p, q)
+    }
+
+    #[inline]
     fn reduce_sum(low: R, high: R) -> R {
         M::reduce_sum(low, high)
     }

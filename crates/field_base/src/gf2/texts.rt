@@ -1,6 +1,6 @@
-// Bits as text, and as numbers for `serde`: 0 or 1.
-ghost use Rattle.std.specs.Prelude.{◌≡◌, ◌<◌, ◌↔◌, IfOk, IfSome, IsSome, Some};
-ghost use Rattle.std.specs.Fmt.{decimal};
+// Bits as text, in decimal and hexadecimal, and as numbers for `serde`: 0 or 1.
+ghost use Rattle.std.specs.Prelude.{◌≡◌, ◌<◌, ◌↔◌, IfOk, IfSome, IsSome, Some, true, false};
+ghost use Rattle.std.specs.Fmt.{WritesOnOk, decimal, digits};
 ghost use Rattle.serde.specs.Event.{unsigned};
 ghost use Rattle.serde.specs.Steps.{Gives};
 
@@ -18,6 +18,31 @@ impl fmt::Display for Gf2 {
 
     fn fmt<W: fmt::Write>(&self, f: &mut fmt::Formatter<W>) -> fmt::Result {
         fmt::Display::fmt(&self.repr, f)
+    }
+}
+
+// What `{:x}`, `{:X}`, `{:o}` and `{:b}` of a format string write.
+impl fmt::HasDigits for Gf2 {
+    ghost word = { λ x. Some x.repr };
+
+    fn bits(self) -> (u64, u64) {
+        (0, self.repr as u64)
+    }
+}
+
+impl fmt::LowerHex for Gf2 {
+    fn fmt<W: fmt::Write>(&self, f: &mut fmt::Formatter<W>) -> fmt::Result
+        ensures { WritesOnOk W.write_str_gives f.old result (digits 16 false self.now.repr) f.new }
+    {
+        fmt::LowerHex::fmt(&self.repr, f)
+    }
+}
+
+impl fmt::UpperHex for Gf2 {
+    fn fmt<W: fmt::Write>(&self, f: &mut fmt::Formatter<W>) -> fmt::Result
+        ensures { WritesOnOk W.write_str_gives f.old result (digits 16 true self.now.repr) f.new }
+    {
+        fmt::UpperHex::fmt(&self.repr, f)
     }
 }
 

@@ -1,10 +1,11 @@
 // The coefficients that store an element of `Poly192` are compared, hashed, written, read and drawn as their words.
-ghost use Rattle.std.specs.Prelude.{None};
+ghost use Rattle.std.specs.Prelude.{None, true, false};
 ghost use Rattle.std.proofs.Common.{ap, rules};
 ghost use Rattle.std.specs.Cmp.{on_equiv, on_per, on_po, on_total, partial_order_from_own_ties};
 ghost use Rattle.std.specs.Cmp.Rules.{comparing};
+ghost use Rattle.std.specs.Fmt.{WritesOnOk};
 ghost use Rattle.field_element.specs.Coefficients.{stored_words};
-ghost use Rattle.word_cubic.specs.Triple.{events_of};
+ghost use Rattle.word_cubic.specs.Triple.{events_of, hexadecimal_of};
 ghost use Rattle.word_cubic.proofs.TripleNumbers.{same_number, words_law};
 
 use crate::element::Coefficients;
@@ -86,6 +87,22 @@ impl fmt::Display for Coefficients {
 
     fn fmt<W: fmt::Write>(&self, f: &mut fmt::Formatter<W>) -> fmt::Result {
         fmt::Display::fmt(&self.words(), f)
+    }
+}
+
+impl fmt::LowerHex for Coefficients {
+    fn fmt<W: fmt::Write>(&self, f: &mut fmt::Formatter<W>) -> fmt::Result
+        ensures { WritesOnOk W.write_str_gives f.old result (hexadecimal_of false (stored_words self.now)) f.new }
+    {
+        fmt::LowerHex::fmt(&self.words(), f)
+    }
+}
+
+impl fmt::UpperHex for Coefficients {
+    fn fmt<W: fmt::Write>(&self, f: &mut fmt::Formatter<W>) -> fmt::Result
+        ensures { WritesOnOk W.write_str_gives f.old result (hexadecimal_of true (stored_words self.now)) f.new }
+    {
+        fmt::UpperHex::fmt(&self.words(), f)
     }
 }
 

@@ -104,11 +104,23 @@ impl<R: Stored, K: FieldKernel<R>> PrimeCharacteristicRing for Element<R, K> {
         }
     }
 
-    // The kernel reduces the sum of the products once.
+    // Two products at once, and where the count is odd the last alone. The kernel reduces their sum once.
     fn dot_product_of_slices(left: &[Element<R, K>], right: &[Element<R, K>]) -> Element<R, K> {
         let (mut low, mut high) = K::no_products();
-        for place in 0..left.len() {
-            (low, high) = K::add_product(low, high, left[place].repr, right[place].repr);
+        let pair_count = left.len() / 2;
+        'pairs: for pair in 0..pair_count {
+            let at = 2 * pair;
+            (low, high) = K::add_two_products(
+                low,
+                high,
+                left[at].repr,
+                left[at + 1].repr,
+                right[at].repr,
+                right[at + 1].repr,
+            );
+        }
+        'rest: for at in 2 * pair_count..left.len() {
+            (low, high) = K::add_product(low, high, left[at].repr, right[at].repr);
         }
         Element {
             repr: K::reduce_sum(low, high),

@@ -1,9 +1,10 @@
-// The text that `{:?}` prints of an element: the name of its type, and its number.
+// The text that `{:?}` prints of an element: the name of its type, and its number; and its number in hexadecimal.
 use field_base::traits::PrimeCharacteristicRing;
-use field_base::{FieldKernel, Gf2, Stored};
-use field_element::{Element, element_of_word};
+use field_base::{FieldKernel, Gf2, Stored, Unsigned};
+use field_element::{Element, Poly64, Poly192, element_of_word};
 use std::alloc::Global;
-use std::fmt::Debug;
+use std::fmt;
+use std::fmt::{Debug, Display, HasDigits, LowerHex, UpperHex};
 use word_polynomial::{GhashKernel, Poly64Kernel, RijndaelKernel};
 use word_tower::{Bits2, Bits4, Bits8, Bits16, Bits32, Bits64, Bits128, Tower};
 
@@ -44,5 +45,78 @@ fn elements_print_their_type_and_their_number(rt: HostRuntime) {
             && element_prints::<u8, RijndaelKernel>(alloc, 83, "Rijndael8b { repr: 83 }")
             && element_prints::<u64, Poly64Kernel>(alloc, 7, "Poly64 { repr: 7 }")
             && element_prints::<u128, GhashKernel>(alloc, 7, "Ghash128 { repr: 7 }")
+    );
+}
+
+/// Whether `{:x} {:#x} {:X} {:#X}` prints `text` of `value`.
+fn has_digits<T: HasDigits + Copy>(alloc: Global, value: T, text: &str) -> bool {
+    match format!(in alloc; "{value:x} {value:#x} {value:X} {value:#X}") {
+        Ok(printed) => printed.as_str() == text,
+        Err(_) => false,
+    }
+}
+
+/// Whether `{:x} {:#x} {:X} {:#X}` prints `text` of the element of a word.
+fn element_has_digits<R: Unsigned, K: FieldKernel<R>>(alloc: Global, word: R, text: &str) -> bool {
+    let element: Element<R, K> = element_of_word(word);
+    has_digits(alloc, element, text)
+}
+
+/// What `{}` prints by a value's `LowerHex` and by its `UpperHex`, under the same options.
+#[derive(Drop)]
+struct Hexadecimal<T>(T);
+
+impl<T: LowerHex + UpperHex> Display for Hexadecimal<T> {
+    fn fmt<W: fmt::Write>(&self, f: &mut fmt::Formatter<W>) -> fmt::Result {
+        LowerHex::fmt(&self.0, f)?;
+        f.write_str(" ")?;
+        UpperHex::fmt(&self.0, f)
+    }
+}
+
+/// Whether `{} {:#}` of `Hexadecimal` prints `text` of `value`.
+fn prints_hexadecimal<T: LowerHex + UpperHex + Drop>(alloc: Global, value: T, text: &str) -> bool {
+    let shown = Hexadecimal(value);
+    match format!(in alloc; "{shown} {shown:#}") {
+        Ok(printed) => printed.as_str() == text,
+        Err(_) => false,
+    }
+}
+
+#[test]
+fn elements_have_hexadecimal_digits(rt: HostRuntime) {
+    let alloc = rt.alloc();
+    assert!(rt;
+        has_digits(alloc, Gf2::ONE, "1 0x1 1 0x1")
+            && element_has_digits::<u8, Tower<Bits4>>(alloc, 13, "d 0xd D 0xD")
+            && element_has_digits::<u16, Tower<Bits16>>(alloc, 0x0a0b, "a0b 0xa0b A0B 0xA0B")
+            && element_has_digits::<u8, RijndaelKernel>(alloc, 0, "0 0x0 0 0x0")
+            && element_has_digits::<u128, GhashKernel>(
+                alloc,
+                0xc0 << 64,
+                "c00000000000000000 0xc00000000000000000 C00000000000000000 0xC00000000000000000"
+            )
+    );
+}
+
+#[test]
+fn elements_print_in_hexadecimal(rt: HostRuntime) {
+    let alloc = rt.alloc();
+    let bit: Element<u8, Tower<Bits8>> = element_of_word(0x53);
+    let wide: Element<u128, GhashKernel> = element_of_word(0xc0 << 64);
+    let cubic = Poly192::new([Poly64::new(10), Poly64::new(0), Poly64::new(0x1f)]);
+    assert!(rt;
+        prints_hexadecimal(alloc, Gf2::ONE, "1 1 0x1 0x1")
+            && prints_hexadecimal(alloc, bit, "53 53 0x53 0x53")
+            && prints_hexadecimal(
+                alloc,
+                wide,
+                "c00000000000000000 C00000000000000000 0xc00000000000000000 0xC00000000000000000"
+            )
+            && prints_hexadecimal(
+                alloc,
+                cubic,
+                "a + 0*y + 1f*y^2 A + 0*y + 1F*y^2 0xa + 0x0*y + 0x1f*y^2 0xA + 0x0*y + 0x1F*y^2"
+            )
     );
 }
