@@ -62,44 +62,44 @@ module _ (width modulus : ℕ) (wide : 0 < width) (degree : HasDegree width modu
   whole = isomorphism width modulus wide degree images keeps (columns_in rows to_tower) at_powers
 
   -- the image of what the inverse's table gives at x is x
-  image_of : length to_tower ≡ 256 * rows → (x r : ℕ) → x < 2 ^ width → r ≡ sum_of_entries rows to_tower x
+  image_of : (x r : ℕ) → x < 2 ^ width → r ≡ sum_of_entries rows to_tower x
       → basis_image width modulus images r ≡ x
-  image_of size x r fits of_r =
+  image_of x r fits of_r =
       ap (basis_image width modulus images)
-      (of_r ∙ tabled rows (columns_in rows to_tower) to_tower x pass.2 size (length-columns_in rows to_tower))
+      (of_r ∙ tabled rows (columns_in rows to_tower) to_tower x pass.2 (length-columns_in rows to_tower))
       ∙ basis_image-undoes width modulus wide degree images keeps (columns_in rows to_tower) at_powers x fits
 
   -- tables that pass the checks make a change of basis
-  pub change : 2 ^ length images ≡ width → width ≡ 8 * rows → length to_polynomial ≡ 256 * rows → length to_tower ≡ 256 * rows
+  pub change : 2 ^ length images ≡ width → width ≡ 8 * rows
       → IsChange (length images) width modulus images rows to_polynomial to_tower
-  change bits bytes size inverse_size = record {
+  change bits bytes = record {
     roots = roots;
     isomorphic = whole;
     field = isomorphic-field width modulus wide degree images whole bits;
-    image = λ x. tabled rows (image_columns width modulus images) to_polynomial x pass.1 size
+    image = λ x. tabled rows (image_columns width modulus images) to_polynomial x pass.1
         (length-level_columns (mul_mod width modulus) (slice_index images) (length images) ∙ bits ∙ bytes)
         ∙ sym (basis_image-columns width modulus wide degree images x);
-    element = image_of inverse_size;
+    element = image_of;
     only = λ x r fits r_fits of_r a a_fits of_a. basis_image-injective width modulus wide degree images keeps a r
         (subst (λ (n : ℕ). a < 2 ^ n) (sym bits) a_fits) (subst (λ (n : ℕ). r < 2 ^ n) (sym bits) r_fits)
-        (of_a ∙ sym (image_of inverse_size x r fits of_r));
+        (of_a ∙ sym (image_of x r fits of_r));
   }
 
 -- ---- 8, 64 and 128 bits
 
 -- the change of basis at 8 bits
 pub change_8 : IsChange 3 8 aes_modulus aes_images 1 TO_POLYNOMIAL_8 TO_TOWER_8
-change_8 = change 8 aes_modulus (lit< tt) refl aes_images 1 TO_POLYNOMIAL_8 TO_TOWER_8 changes_pass.0 refl refl refl refl
+change_8 = change 8 aes_modulus (lit< tt) refl aes_images 1 TO_POLYNOMIAL_8 TO_TOWER_8 changes_pass.0 refl refl
 
 -- the change of basis at 64 bits
 pub change_64 : IsChange 6 64 poly64_modulus poly64_images 8 TO_POLYNOMIAL_64 TO_TOWER_64
 change_64 =
-    change 64 poly64_modulus (lit< tt) refl poly64_images 8 TO_POLYNOMIAL_64 TO_TOWER_64 changes_pass.1 refl refl refl refl
+    change 64 poly64_modulus (lit< tt) refl poly64_images 8 TO_POLYNOMIAL_64 TO_TOWER_64 changes_pass.1 refl refl
 
 -- the change of basis at 128 bits
 pub change_128 : IsChange 7 128 ghash_modulus ghash_images 16 TO_POLYNOMIAL_128 TO_TOWER_128
 change_128 =
-    change 128 ghash_modulus (lit< tt) refl ghash_images 16 TO_POLYNOMIAL_128 TO_TOWER_128 changes_pass.2 refl refl refl refl
+    change 128 ghash_modulus (lit< tt) refl ghash_images 16 TO_POLYNOMIAL_128 TO_TOWER_128 changes_pass.2 refl refl
 
 -- level 3 of the tower is isomorphic to the polynomials modulo x^8 + x^4 + x^3 + x + 1
 pub isomorphic_8 : IsChangeOfBasis 3 8 aes_modulus aes_images

@@ -1,18 +1,20 @@
 -- Tables of linear maps: what a checked table sums to, and the entries of a table that is made.
-use Rattle.std.proofs.Common.{◌≡◌, ◌≢◌, ℕ, zero, suc, ◌+◌, ◌*◌, ◌/◌, ◌%◌, ◌^◌, ◌<◌, ◌≤◌, Bool, true, List, ◌∷◌, [], length, take, drop, get_or, get_or-set_other, get_or-set_same, below_more, length-drop, length-take-le, take-append-drop, refl, sym, ◌∙◌, ap, ap₂, subst, arith, lit<}
+use Rattle.std.proofs.Common.{◌≡◌, ◌≢◌, ℕ, zero, suc, ◌+◌, ◌*◌, ◌/◌, ◌%◌, ◌^◌, ◌<◌, ◌≤◌, List, ◌∷◌, [], ◌++◌, length, take, drop, get_or, get_or-set_other, get_or-set_same, below_more, length-drop, length-take-le, take-append-drop, refl, sym, ◌∙◌, ap, ap₂, subst, arith, lit<}
 use Rattle.std.specs.Prelude.{bit_xor, slice_index}
+use Rattle.std.specs.Int.Bits.{xor_zero_l}
 use Rattle.std.proofs.Math.ListN.{set}
+use Rattle.std.proofs.Math.Nat.{div-eq_of_lt, mul-suc, mul-zero, mul_assoc, two-pow-succ}
+use Rattle.std.proofs.lemmas.List.{get_or-append-add, get_or_append_left}
 use Rattle.std.proofs.lemmas.Nat.{mod_low, pow-add, pow_pos, shl-shr, xor_comm}
-use native.Mathlib.Nat.{add-zero, mod-lt}
+use native.Mathlib.Nat.{add-zero, mod-lt, mul-one, one-mul, zero-mul}
 use lib.Bits.{xor_shifted, xor_zero_r}
 use Rattle.field_base.specs.ByteTables.{sum_of_entries}
 use Rattle.field_base.specs.LinearMaps.{linear_image}
 use Rattle.field_base.proofs.AdditiveMaps.{KeepsSums}
 use Rattle.field_base.proofs.BasisColumns.{sum_of_columns, sum_of_columns-append, sum_of_columns-mod, sum_of_columns-nothing, sum_of_columns-sum}
-use Rattle.field_base.proofs.ByteTableSums.{entries_hold, entry_passes, sum_of_entries_is}
+use Rattle.field_base.proofs.ByteTableSums.{sum_of_entries_is}
 use Rattle.field_base.proofs.CarrylessProduct.{xor_shl}
 use Rattle.field_base.proofs.LinearMapLemmas.{image_enters, image_stays, images_end, linear_image-columns, the_linear_map}
-use Rattle.field_base.proofs.TableChecks.{passes}
 
 -- ---- a sum of images, one after another
 
@@ -27,17 +29,170 @@ pub ruleset image_steps = (image_enters, image_stays, images_end, no_bit_left)
 
 -- ---- a table that is a literal
 
--- whether the entries of a table are the values of the map by these columns
-unfoldable pub tabulates_map : List ℕ → List ℕ → Bool
-tabulates_map columns table = passes (entry_passes (λ y. y) (sum_of_columns columns)) 0 table
+-- each number, and behind it its sum with c
+unfoldable pub with_sums : ℕ → List ℕ → List ℕ
+with_sums c [] = []
+with_sums c (y ∷ ys) = y ∷ bit_xor c y ∷ with_sums c ys
 
--- so its sums are the map
-pub tabled : (rows : ℕ) (columns table : List ℕ) (x : ℕ) → tabulates_map columns table ≡ true → length table ≡ 256 * rows
-    → length columns ≡ 8 * rows → sum_of_entries rows table x ≡ sum_of_columns columns x
-unfolding tabulates_map
-tabled rows columns table x pass size whole =
+-- the values at 0, 1, 2, .. of the map by these columns, each by one sum
+unfoldable pub values_of : List ℕ → List ℕ
+values_of [] = 0 ∷ []
+values_of (c ∷ cs) = with_sums c (values_of cs)
+
+-- the tables of the values at the digits of each place, of n columns a place
+unfoldable pub place_tables : ℕ → ℕ → List ℕ → List ℕ
+place_tables n zero columns = []
+place_tables n (suc places) columns = values_of (take n columns) ++ place_tables n places (drop n columns)
+
+-- there are twice as many
+length-with_sums : (c : ℕ) (ys : List ℕ) → length (with_sums c ys) ≡ 2 * length ys
+unfolding with_sums
+length-with_sums c [] = refl
+length-with_sums c (y ∷ ys) = let more = length-with_sums c ys in omega (arith, more)
+
+-- at an even place stands a number, and at an odd one a sum
+with_sums-at : (c : ℕ) (ys : List ℕ) (x : ℕ) → x < 2 * length ys
+    → get_or (with_sums c ys) x 0 ≡ bit_xor (x % 2 * c) (get_or ys (x / 2) 0)
+unfolding with_sums
+with_sums-at c [] x inside = absurd (omega (arith, inside))
+with_sums-at c (y ∷ ys) zero inside = sym (ap (λ (z : ℕ). bit_xor z y) (zero-mul c) ∙ xor_zero_l y)
+with_sums-at c (y ∷ ys) (suc zero) inside = sym (ap (λ (z : ℕ). bit_xor z y) (one-mul c))
+with_sums-at c (y ∷ ys) (suc (suc x)) inside =
+    let parity : suc (suc x) % 2 ≡ x % 2 = omega arith in
+    let half : suc (suc x) / 2 ≡ suc (x / 2) = omega arith in
+    with_sums-at c ys x (omega (arith, inside))
+    ∙ sym (ap₂ (λ (b h : ℕ). bit_xor (b * c) (get_or (y ∷ ys) h 0)) parity half)
+
+-- n columns have 2^n values
+length-values_of : (columns : List ℕ) → length (values_of columns) ≡ 2 ^ length columns
+unfolding values_of
+length-values_of [] = refl
+length-values_of (c ∷ cs) =
+    let double = two-pow-succ (length cs) in
+    let all = length-with_sums c (values_of cs) in
+    let half = length-values_of cs in
+    omega (arith, double, all, half)
+
+-- the value at place x is that of the map
+values_of-at : (columns : List ℕ) (x : ℕ) → x < 2 ^ length columns → get_or (values_of columns) x 0 ≡ sum_of_columns columns x
+unfolding values_of sum_of_columns
+values_of-at [] zero inside = refl
+values_of-at [] (suc x) inside = absurd (omega (arith, inside))
+values_of-at (c ∷ cs) x inside =
+    let double = two-pow-succ (length cs) in
+    let half = length-values_of cs in
+    with_sums-at c (values_of cs) x (omega (arith, inside, double, half))
+    ∙ ap (bit_xor (x % 2 * c)) (values_of-at cs (x / 2) (omega (arith, inside, double)))
+
+-- the columns from place n on at x are all of them at x 2^n
+from_place : (columns : List ℕ) (n x : ℕ) → n ≤ length columns
+    → sum_of_columns columns (x * 2 ^ n) ≡ sum_of_columns (drop n columns) x
+from_place columns n x enough =
+    ap (λ (cs : List ℕ). sum_of_columns cs (x * 2 ^ n)) (sym (take-append-drop n columns))
+    ∙ sum_of_columns-append (take n columns) (drop n columns) (x * 2 ^ n)
+    ∙ ap₂ bit_xor below (ap (λ (m : ℕ). sum_of_columns (drop n columns) (x * 2 ^ n / 2 ^ m)) first
+    ∙ ap (sum_of_columns (drop n columns)) (shl-shr x n))
+    ∙ xor_comm 0 (sum_of_columns (drop n columns) x) ∙ xor_zero_r (sum_of_columns (drop n columns) x)
+  where
+    first : length (take n columns) ≡ n
+    first = length-take-le n columns enough
+
+    none : x * 2 ^ n % 2 ^ n ≡ 0
+    none = ap (λ (y : ℕ). y % 2 ^ n) (sym (add-zero (x * 2 ^ n))) ∙ mod_low x n 0 (pow_pos n)
+
+    below : sum_of_columns (take n columns) (x * 2 ^ n) ≡ 0
+    below =
+        sym (sum_of_columns-mod (take n columns) (x * 2 ^ n))
+        ∙ ap (λ (m : ℕ). sum_of_columns (take n columns) (x * 2 ^ n % 2 ^ m)) first
+        ∙ ap (sum_of_columns (take n columns)) none ∙ sum_of_columns-nothing (take n columns)
+
+-- the first n columns alone at x below 2^n
+to_place : (columns : List ℕ) (n x : ℕ) → n ≤ length columns → x < 2 ^ n → sum_of_columns columns x ≡ sum_of_columns (take n columns) x
+to_place columns n x enough fits =
+    ap (λ (cs : List ℕ). sum_of_columns cs x) (sym (take-append-drop n columns))
+    ∙ sum_of_columns-append (take n columns) (drop n columns) x
+    ∙ ap (bit_xor (sum_of_columns (take n columns) x)) (ap (λ (m : ℕ). sum_of_columns (drop n columns) (x / 2 ^ m)) first
+    ∙ ap (sum_of_columns (drop n columns)) (div-eq_of_lt fits) ∙ sum_of_columns-nothing (drop n columns))
+    ∙ xor_zero_r (sum_of_columns (take n columns) x)
+  where
+    first : length (take n columns) ≡ n
+    first = length-take-le n columns enough
+
+module _ (n : ℕ) where
+  -- a digit moved up by one place more
+  one_up : (d j : ℕ) → d * 2 ^ (n * j) * 2 ^ n ≡ d * 2 ^ (n * suc j)
+  one_up d j =
+      mul_assoc d (2 ^ (n * j)) (2 ^ n)
+      ∙ ap (λ (z : ℕ). d * z) (sym (pow-add 2 (n * j) n) ∙ ap (λ (e : ℕ). 2 ^ e) (sym (mul-suc n j)))
+
+  module _ (places : ℕ) (columns : List ℕ) (whole : length columns ≡ n * suc places) where
+    enough : n ≤ length columns
+    enough = let more = mul-suc n places in omega (arith, whole, more)
+
+    first : length (take n columns) ≡ n
+    first = length-take-le n columns enough
+
+    others : length (drop n columns) ≡ n * places
+    others = let more = mul-suc n places in omega (arith, whole, more, length-drop n columns)
+
+    size : length (values_of (take n columns)) ≡ 2 ^ n
+    size = length-values_of (take n columns) ∙ ap (λ (k : ℕ). 2 ^ k) first
+
+    -- the lowest digit
+    at_first : (d : ℕ) → d < 2 ^ n → get_or (values_of (take n columns) ++ place_tables n places (drop n columns)) (2 ^ n * 0 + d) 0
+        ≡ sum_of_columns columns (d * 2 ^ (n * 0))
+    at_first d small =
+        let place : 2 ^ n * 0 + d ≡ d = omega arith in
+        ap (λ (i : ℕ). get_or (values_of (take n columns) ++ place_tables n places (drop n columns)) i 0) place
+        ∙ get_or_append_left (values_of (take n columns)) _ 0 d (subst (λ (s : ℕ). d < s) (sym size) small)
+        ∙ values_of-at (take n columns) d (subst (λ (k : ℕ). d < 2 ^ k) (sym first) small)
+        ∙ sym (to_place columns n d enough small)
+        ∙ ap (sum_of_columns columns) (sym (ap (λ (e : ℕ). d * 2 ^ e) (mul-zero n) ∙ mul-one d))
+
+    -- a higher one, by what holds of the other places
+    at_other : (j d : ℕ)
+        → get_or (place_tables n places (drop n columns)) (2 ^ n * j + d) 0 ≡ sum_of_columns (drop n columns) (d * 2 ^ (n * j))
+        → get_or (values_of (take n columns) ++ place_tables n places (drop n columns)) (2 ^ n * suc j + d) 0
+        ≡ sum_of_columns columns (d * 2 ^ (n * suc j))
+    at_other j d holds =
+        let more = mul-suc (2 ^ n) j in
+        let place : 2 ^ n * suc j + d ≡ length (values_of (take n columns)) + (2 ^ n * j + d) = omega (arith, more, size) in
+        ap (λ (i : ℕ). get_or (values_of (take n columns) ++ place_tables n places (drop n columns)) i 0) place
+        ∙ get_or-append-add (values_of (take n columns)) _ (2 ^ n * j + d) 0
+        ∙ holds ∙ sym (from_place columns n (d * 2 ^ (n * j)) enough)
+        ∙ ap (sum_of_columns columns) (one_up d j)
+
+  -- the entry of digit d at place j is the value of the map there
+  pub place_tables-at : (places : ℕ) (columns : List ℕ) → length columns ≡ n * places → (j d : ℕ) → j < places → d < 2 ^ n
+      → get_or (place_tables n places columns) (2 ^ n * j + d) 0 ≡ sum_of_columns columns (d * 2 ^ (n * j))
+  unfolding place_tables
+  place_tables-at zero columns whole j d inside small = absurd (omega (arith, inside))
+  place_tables-at (suc places) columns whole zero d inside small = at_first places columns whole d small
+  place_tables-at (suc places) columns whole (suc j) d inside small =
+      at_other places columns whole j d
+      (place_tables-at places (drop n columns) (others places columns whole) j d (omega (arith, inside)) small)
+
+-- the entry at place p of a table for digits to base 16, and of one for bytes
+pub digit_table-at : (places : ℕ) (columns : List ℕ) → length columns ≡ 4 * places → (p : ℕ) → p < 16 * places
+    → get_or (place_tables 4 places columns) p 0 ≡ sum_of_columns columns (p % 16 * 2 ^ (4 * (p / 16)))
+digit_table-at places columns whole p inside =
+    let place : p ≡ 16 * (p / 16) + p % 16 = omega arith in
+    ap (λ (i : ℕ). get_or (place_tables 4 places columns) i 0) place
+    ∙ place_tables-at 4 places columns whole (p / 16) (p % 16) (omega (arith, inside)) (mod-lt p (lit< tt))
+
+byte_table-at : (places : ℕ) (columns : List ℕ) → length columns ≡ 8 * places → (p : ℕ) → p < 256 * places
+    → get_or (place_tables 8 places columns) p 0 ≡ sum_of_columns columns (p % 256 * 2 ^ (8 * (p / 256)))
+byte_table-at places columns whole p inside =
+    let place : p ≡ 256 * (p / 256) + p % 256 = omega arith in
+    ap (λ (i : ℕ). get_or (place_tables 8 places columns) i 0) place
+    ∙ place_tables-at 8 places columns whole (p / 256) (p % 256) (omega (arith, inside)) (mod-lt p (lit< tt))
+
+-- so the sums of such a table are the map
+pub tabled : (rows : ℕ) (columns table : List ℕ) (x : ℕ) → table ≡ place_tables 8 rows columns → length columns ≡ 8 * rows
+    → sum_of_entries rows table x ≡ sum_of_columns columns x
+tabled rows columns table x same whole =
     sum_of_entries_is (λ y. y) (sum_of_columns columns) (λ a b. refl) (sum_of_columns-sum columns) table rows x
-    (λ p below. entries_hold (λ y. y) (sum_of_columns columns) table pass p (subst (λ (n : ℕ). p < n) (sym size) below))
+    (λ p below. ap (λ (t : List ℕ). get_or t p 0) same ∙ byte_table-at rows columns whole p below)
     ∙ ap (λ (n : ℕ). sum_of_columns columns (x % 2 ^ n)) (sym whole)
     ∙ sum_of_columns-mod columns x
 
@@ -95,28 +250,6 @@ by_digits columns x enough =
   where
     four : length (take 4 columns) ≡ 4
     four = length-take-le 4 columns enough
-
--- the columns from place n on at x are all of them at x 2^n
-from_place : (columns : List ℕ) (n x : ℕ) → n ≤ length columns
-    → sum_of_columns columns (x * 2 ^ n) ≡ sum_of_columns (drop n columns) x
-from_place columns n x enough =
-    ap (λ (cs : List ℕ). sum_of_columns cs (x * 2 ^ n)) (sym (take-append-drop n columns))
-    ∙ sum_of_columns-append (take n columns) (drop n columns) (x * 2 ^ n)
-    ∙ ap₂ bit_xor below (ap (λ (m : ℕ). sum_of_columns (drop n columns) (x * 2 ^ n / 2 ^ m)) first
-    ∙ ap (sum_of_columns (drop n columns)) (shl-shr x n))
-    ∙ xor_comm 0 (sum_of_columns (drop n columns) x) ∙ xor_zero_r (sum_of_columns (drop n columns) x)
-  where
-    first : length (take n columns) ≡ n
-    first = length-take-le n columns enough
-
-    none : x * 2 ^ n % 2 ^ n ≡ 0
-    none = ap (λ (y : ℕ). y % 2 ^ n) (sym (add-zero (x * 2 ^ n))) ∙ mod_low x n 0 (pow_pos n)
-
-    below : sum_of_columns (take n columns) (x * 2 ^ n) ≡ 0
-    below =
-        sym (sum_of_columns-mod (take n columns) (x * 2 ^ n))
-        ∙ ap (λ (m : ℕ). sum_of_columns (take n columns) (x * 2 ^ n % 2 ^ m)) first
-        ∙ ap (sum_of_columns (take n columns)) none ∙ sum_of_columns-nothing (take n columns)
 
 -- the four images from place n on, at a digit d, are the map at d 2^n
 pub value_at_digit : (images : List ℕ) (n d : ℕ) → d < 16 → n + 4 ≤ length images

@@ -1,7 +1,8 @@
 -- The power maps of GHASH: columns that are the values of a number of squarings.
-use Rattle.std.proofs.Common.{◌≡◌, ℕ, ◌+◌, ◌-◌, ◌*◌, ◌/◌, ◌%◌, ◌^◌, ◌<◌, true, List, length, drop, get_or, refl, sym, ◌∙◌, ap, lit<}
+use Rattle.std.proofs.Common.{◌≡◌, ℕ, zero, suc, ◌+◌, ◌-◌, ◌*◌, ◌/◌, ◌%◌, ◌^◌, ◌<◌, Bool, true, List, length, drop, get_or, refl, sym, ◌∙◌, ap, ap₂, subst, lit<, arith}
 use Rattle.std.specs.Prelude.{bit_and, bit_xor}
-use Rattle.std.proofs.lemmas.Nat.{and_mask}
+use Rattle.std.proofs.Math.Nat.{two-pow-succ}
+use Rattle.std.proofs.lemmas.Nat.{and_mask, pow_below}
 use native.Mathlib.Nat.{mod-eq_of_lt, mod-lt, one-mul, zero-mul}
 use lib.Bits.{and_zero_r, xor_assoc}
 use Rattle.field_base.specs.BitRingLemmas.{two_cases}
@@ -12,9 +13,11 @@ use Rattle.field_base.specs.Remainder.{rem, rem_in, mul_mod, ghash_modulus}
 use Rattle.field_base.specs.Ring.{IsRing}
 use Rattle.field_base.proofs.AdditiveMaps.{KeepsSums, maps_agree, agree_on_powers, agree_on_powers-true}
 use Rattle.field_base.proofs.BasisColumns.{sum_of_columns, sum_of_columns-sum}
+use Rattle.field_base.proofs.CarrylessProduct.{carryless_double, carryless_one}
 use Rattle.field_base.proofs.LinearMapLemmas.{image_from, linear_image-columns}
-use Rattle.field_base.proofs.PowerLemmas.{one-times, repeated_square-add, repeated_square-lt, square_xor}
-use Rattle.field_base.proofs.RemainderRing.{mul_mod_ring}
+use Rattle.field_base.proofs.PowerLemmas.{one-times, repeated_square-add, repeated_square-lt, repeated_square_times, square_xor}
+use Rattle.field_base.proofs.RemainderLaws.{rem_small}
+use Rattle.field_base.proofs.RemainderRing.{mul_mod-rem, mul_mod_ring}
 use Rattle.word_carryless.specs.declared.power_maps.literals.TheConstants.{SQUARED_28_TIMES, SQUARED_63_TIMES}
 
 -- ---- one column after another
@@ -71,15 +74,57 @@ composed m n f g is_f is_g = (
       ∙ sym (repeated_square-add 128 1 (mul_mod 128 ghash_modulus) ring m n x),
 )
 
--- columns that agree with such a map at the powers of two give it
-by_columns : (n : ℕ) (f : ℕ → ℕ) (columns : List ℕ) → IsPowerMap n f → agree_on_powers (sum_of_columns columns) f 128 ≡ true
-    → IsPowerMap n (sum_of_columns columns)
-by_columns n f columns is_f agree = (
-  sum_of_columns-sum columns,
-  λ x fits. maps_agree (sum_of_columns columns) f (sum_of_columns-sum columns) is_f.0 128
-      (agree_on_powers-true (sum_of_columns columns) f 128 agree) x fits
-      ∙ is_f.1 x fits,
-)
+-- the product of a polynomial of degree below 127 by x
+times_x : (a : ℕ) → a < 2 ^ 128 → a * 2 < 2 ^ 128 → mul_mod 128 ghash_modulus a 2 ≡ a * 2
+times_x a fits double =
+    mul_mod-rem 128 ghash_modulus refl a 2 fits (lit< tt)
+    ∙ ap (rem 128 ghash_modulus) (carryless_double a 1 ∙ ap (λ (z : ℕ). z * 2) (carryless_one a))
+    ∙ rem_small 128 ghash_modulus refl (a * 2) double
+
+-- the power of x above x^i
+next_power : (i : ℕ) → 2 ^ suc i ≡ 2 ^ i * 2
+next_power i = let twice = two-pow-succ i in omega (arith, twice)
+
+-- whether each column is the one before it times the column of x
+abbrev goes_by_x : List ℕ → Bool
+goes_by_x columns =
+    agree_on_powers (λ x. sum_of_columns columns (x * 2))
+    (λ x. mul_mod 128 ghash_modulus (sum_of_columns columns x) (sum_of_columns columns 2)) 127
+
+module _ (n : ℕ) (f : ℕ → ℕ) (is_f : IsPowerMap n f) where
+  -- such a map takes each power of x to its value at the power before times its value at x
+  value_above : (i : ℕ) → suc i < 128 → f (2 ^ i * 2) ≡ mul_mod 128 ghash_modulus (f (2 ^ i)) (f 2)
+  value_above i less =
+      is_f.1 (2 ^ i * 2) above
+      ∙ ap (squared n) (sym (times_x (2 ^ i) below above))
+      ∙ repeated_square_times 128 1 (mul_mod 128 ghash_modulus) ring n (2 ^ i) 2
+      ∙ sym (ap₂ (mul_mod 128 ghash_modulus) (is_f.1 (2 ^ i) below) (is_f.1 2 (lit< tt)))
+    where
+      below : 2 ^ i < 2 ^ 128
+      below = pow_below i 128 (omega (arith, less))
+
+      above : 2 ^ i * 2 < 2 ^ 128
+      above = subst (λ (z : ℕ). z < 2 ^ 128) (next_power i) (pow_below (suc i) 128 less)
+
+  module _ (columns : List ℕ) (at_1 : sum_of_columns columns 1 ≡ f 1) (at_x : sum_of_columns columns 2 ≡ f 2)
+      (steps : goes_by_x columns ≡ true) where
+    -- columns that have its values at 1 and at x, and from each power of x to the next the product by that at x, have its values
+    at_power : (i : ℕ) → i < 128 → sum_of_columns columns (2 ^ i) ≡ f (2 ^ i)
+    at_power zero less = at_1
+    at_power (suc i) less =
+        ap (sum_of_columns columns) (next_power i)
+        ∙ agree_on_powers-true (λ x. sum_of_columns columns (x * 2))
+        (λ x. mul_mod 128 ghash_modulus (sum_of_columns columns x) (sum_of_columns columns 2)) 127 steps i (omega (arith, less))
+        ∙ ap₂ (mul_mod 128 ghash_modulus) (at_power i (omega (arith, less))) at_x
+        ∙ sym (value_above i less)
+        ∙ ap f (sym (next_power i))
+
+    -- so they give it
+    by_columns : IsPowerMap n (sum_of_columns columns)
+    by_columns = (
+      sum_of_columns-sum columns,
+      λ x fits. maps_agree (sum_of_columns columns) f (sum_of_columns-sum columns) is_f.0 128 at_power x fits ∙ is_f.1 x fits,
+    )
 
 -- seven squarings
 abbrev by_7 : ℕ → ℕ
@@ -89,15 +134,24 @@ by_7 x = square (square (square (square (square (square (square x))))))
 abbrev by_28 : ℕ → ℕ
 by_28 = sum_of_columns SQUARED_28_TIMES
 
--- at every power of two the columns for 28 squarings give 28 squares (computed)
-agree_28 : agree_on_powers (sum_of_columns SQUARED_28_TIMES) (λ x. by_7 (by_7 (by_7 (by_7 x)))) 128 ≡ true
+-- the columns for 28 squarings at 1 and at x, and from each power of x to the next (computed)
+begins_28 : (sum_of_columns SQUARED_28_TIMES 1 ≡ by_7 (by_7 (by_7 (by_7 1))))
+    × (sum_of_columns SQUARED_28_TIMES 2 ≡ by_7 (by_7 (by_7 (by_7 2))))
 unfolding sum_of_columns square mul_mod rem rem_in carryless carryless_in
-agree_28 = refl
+begins_28 = (refl, refl)
 
--- at every power of two the columns for 63 squarings give 28 and 28 and 7 (computed)
-agree_63 : agree_on_powers (sum_of_columns SQUARED_63_TIMES) (λ x. by_28 (by_28 (by_7 x))) 128 ≡ true
+steps_28 : goes_by_x SQUARED_28_TIMES ≡ true
+unfolding sum_of_columns mul_mod rem rem_in carryless carryless_in
+steps_28 = refl
+
+-- the same of those for 63, which are 28 and 28 and 7 (computed)
+begins_63 : (sum_of_columns SQUARED_63_TIMES 1 ≡ by_28 (by_28 (by_7 1))) × (sum_of_columns SQUARED_63_TIMES 2 ≡ by_28 (by_28 (by_7 2)))
 unfolding sum_of_columns square mul_mod rem rem_in carryless carryless_in
-agree_63 = refl
+begins_63 = (refl, refl)
+
+steps_63 : goes_by_x SQUARED_63_TIMES ≡ true
+unfolding sum_of_columns mul_mod rem rem_in carryless carryless_in
+steps_63 = refl
 
 -- one squaring more
 once_more : (n : ℕ) (f : ℕ → ℕ) → IsPowerMap n f → IsPowerMap (1 + n) (λ x. square (f x))
@@ -111,15 +165,17 @@ map_7 =
 -- the columns for 28 squarings give the map of 28 squarings
 map_28 : IsPowerMap 28 by_28
 map_28 =
-    by_columns 28 (λ x. by_7 (by_7 (by_7 (by_7 x)))) SQUARED_28_TIMES
+    by_columns 28 (λ x. by_7 (by_7 (by_7 (by_7 x))))
     (composed 7 21 by_7 (λ x. by_7 (by_7 (by_7 x))) map_7
-    (composed 7 14 by_7 (λ x. by_7 (by_7 x)) map_7 (composed 7 7 by_7 by_7 map_7 map_7))) agree_28
+    (composed 7 14 by_7 (λ x. by_7 (by_7 x)) map_7 (composed 7 7 by_7 by_7 map_7 map_7)))
+    SQUARED_28_TIMES begins_28.0 begins_28.1 steps_28
 
 -- the columns for 63 squarings give the map of 63 squarings
 map_63 : IsPowerMap 63 (sum_of_columns SQUARED_63_TIMES)
 map_63 =
-    by_columns 63 (λ x. by_28 (by_28 (by_7 x))) SQUARED_63_TIMES
-    (composed 28 35 by_28 (λ x. by_28 (by_7 x)) map_28 (composed 28 7 by_28 by_7 map_28 map_7)) agree_63
+    by_columns 63 (λ x. by_28 (by_28 (by_7 x)))
+    (composed 28 35 by_28 (λ x. by_28 (by_7 x)) map_28 (composed 28 7 by_28 by_7 map_28 map_7))
+    SQUARED_63_TIMES begins_63.0 begins_63.1 steps_63
 
 -- as the code calls them
 pub times_28 : (x : ℕ) → x < 2 ^ 128 → linear_image SQUARED_28_TIMES x ≡ squared 28 x

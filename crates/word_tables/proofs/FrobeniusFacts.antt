@@ -1,10 +1,10 @@
 -- The tables by computation: each holds the values of the map of its columns, the first map is that of squares, and each
 -- other one is the one before it twice.
-use Rattle.std.proofs.Common.{◌≡◌, ℕ, zero, suc, ◌*◌, ◌/◌, ◌%◌, ◌^◌, ◌<◌, Bool, true, eqb, List, [], ◌∷◌, drop, length, refl, arith}
+use Rattle.std.proofs.Common.{◌≡◌, ℕ, zero, suc, ◌<◌, true, List, [], ◌∷◌, drop, map, refl, arith}
 use Rattle.std.specs.Prelude.{slice_index}
 use Rattle.field_base.proofs.AdditiveMaps.{agree_on_powers}
 use Rattle.field_base.proofs.BasisColumns.{sum_of_columns}
-use Rattle.field_base.proofs.TableChecks.{passes}
+use Rattle.word_basis.proofs.TabledMaps.{place_tables, values_of, with_sums}
 use Rattle.word_tables.proofs.Squares.{root_product, square_of, squares_joined}
 use Rattle.word_tables.specs.declared.frobenius.literals.TheConstants.{SQUARED_1, SQUARED_2, SQUARED_4, SQUARED_8, SQUARED_16, SQUARED_32}
 
@@ -18,17 +18,9 @@ columns_in (suc rows) table =
 unfoldable pub map_of : List ℕ → ℕ → ℕ
 map_of table = sum_of_columns (columns_in 32 table)
 
--- whether the entry y at the place p is the value at its digit
-unfoldable pub entry_passes : List ℕ → ℕ → ℕ → Bool
-entry_passes table p y = eqb y (map_of table (p % 16 * 2 ^ (4 * (p / 16))))
-
--- whether all entries of a table are
-unfoldable pub holds_values : List ℕ → Bool
-holds_values table = passes (entry_passes table) 0 table
-
--- whether the map of the second table is that of the first one twice, at the powers of two below 2 ^ 128
-unfoldable pub is_twice : List ℕ → List ℕ → Bool
-is_twice once twice = agree_on_powers (map_of twice) (λ b. map_of once (map_of once b)) 128
+-- the columns of the map that is another one twice: its values at the columns of that one
+abbrev pub columns_twice : List ℕ → List ℕ
+columns_twice columns = map (sum_of_columns columns) columns
 
 -- ---- the tables, each for twice as many squarings as the one before it
 
@@ -41,24 +33,24 @@ table_at (suc (suc (suc zero))) = SQUARED_8
 table_at (suc (suc (suc (suc zero)))) = SQUARED_16
 table_at (suc (suc (suc (suc (suc more))))) = SQUARED_32
 
--- the table of each step has 512 entries and holds the values of its columns (computed)
-pub holds : (step : ℕ) → (length (table_at step) ≡ 512) × (holds_values (table_at step) ≡ true)
-unfolding holds_values entry_passes map_of columns_in sum_of_columns passes
-holds zero = (refl, refl)
-holds (suc zero) = (refl, refl)
-holds (suc (suc zero)) = (refl, refl)
-holds (suc (suc (suc zero))) = (refl, refl)
-holds (suc (suc (suc (suc zero)))) = (refl, refl)
-holds (suc (suc (suc (suc (suc more))))) = (refl, refl)
+-- the table of each step is that of the map by its columns (computed)
+pub holds : (step : ℕ) → table_at step ≡ place_tables 4 32 (columns_in 32 (table_at step))
+unfolding columns_in place_tables values_of with_sums
+holds zero = refl
+holds (suc zero) = refl
+holds (suc (suc zero)) = refl
+holds (suc (suc (suc zero))) = refl
+holds (suc (suc (suc (suc zero)))) = refl
+holds (suc (suc (suc (suc (suc more))))) = refl
 
 -- the map of the first table is the square at level 7, at every power of two (computed)
 pub squares : agree_on_powers (map_of (table_at 0)) (square_of 7) 128 ≡ true
 unfolding map_of columns_in sum_of_columns square_of squares_joined root_product
 squares = refl
 
--- the map of each later table is the map of the one before, applied twice, at every power of two (computed)
-pub doubles : (step : ℕ) → step < 5 → is_twice (table_at step) (table_at (suc step)) ≡ true
-unfolding is_twice map_of columns_in sum_of_columns
+-- the map of each later table is the map of the one before, applied twice (computed)
+pub doubles : (step : ℕ) → step < 5 → columns_in 32 (table_at (suc step)) ≡ columns_twice (columns_in 32 (table_at step))
+unfolding columns_in sum_of_columns
 doubles zero below = refl
 doubles (suc zero) below = refl
 doubles (suc (suc zero)) below = refl
