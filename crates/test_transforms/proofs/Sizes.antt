@@ -1,7 +1,8 @@
 -- Transforms of few values.
 use Rattle.std.proofs.Common.{◌≡◌, ℕ, ◌+◌, ◌-◌, ◌*◌, ◌%◌, ◌^◌, ◌<◌, ◌≤◌, arith, lit<}
 use Rattle.std.proofs.Math.Nat.{mul-le-mul, pow-le-pow_right}
-use Rattle.transform_whole.specs.Transform.{FitsTransform}
+use Rattle.transform_levels.specs.Levels.{FitsField}
+use Rattle.transform_whole.specs.Transform.{FitsTransform, HasStages}
 
 pub few_places : (m count products : ℕ) → m ≤ 10 → count ≡ 1 * 2 ^ m % 18446744073709551616 → products ≤ 1000 → FitsTransform count products
 few_places m count products few is little =
@@ -14,3 +15,13 @@ few_places m count products few is little =
     let own : count ≡ 2 ^ m = omega (arith, is, most) in
     let room : products + m * 2 ^ (m - 1) < 2 ^ 64 = omega (arith, pairs, little) in
     (m, (all, own), room)
+
+-- the same without a count
+pub few_stages : (m count : ℕ) → m ≤ 10 → count ≡ 1 * 2 ^ m % 18446744073709551616 → HasStages m count
+few_stages m count few is =
+    let most : 2 ^ m ≤ 2 ^ 10 = pow-le-pow_right (lit< tt) few in
+    (omega (arith, few), omega (arith, is, most))
+
+-- of elements of a field with as many bits
+pub few_elements : (width m count : ℕ) → m ≤ 5 → m ≤ width → count ≡ 1 * 2 ^ m % 18446744073709551616 → FitsField width count
+few_elements width m count few fits is = (m, few_stages m count (omega (arith, few)) is, fits)

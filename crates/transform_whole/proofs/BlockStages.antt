@@ -5,21 +5,22 @@ use Rattle.std.proofs.Math.Nat.{mul-le-mul_right, two-pow-succ}
 use Rattle.std.proofs.lemmas.Bool.{cases_lt}
 use borrow.Rule.Slice.PartMut.{mid_of, put_mid}
 use Rattle.field_base.specs.LinearMaps.{linear_image}
-use Rattle.transform_slices.specs.LowStages.{ghash_product, values_from}
+use Rattle.transform_slices.specs.LowStages.{values_from}
 use Rattle.transform_whole.specs.Stages.{IsButterfly}
 use Rattle.transform_whole.proofs.Written.{read_before, read_behind, read_inside, read_lent}
 
 -- arrays that are the same in a block
-pub butterfly-same : (t half : ℕ) (a b c d : ℕ → ℕ) → ((r : ℕ) → r < half + half → c r ≡ a r) → ((r : ℕ) → r < half + half → d r ≡ b r)
-    → IsButterfly t half a b → IsButterfly t half c d
-butterfly-same t half a b c d same same' is =
+pub butterfly-same : (times : ℕ → ℕ → ℕ) (t half : ℕ) (a b c d : ℕ → ℕ)
+    → ((r : ℕ) → r < half + half → c r ≡ a r) → ((r : ℕ) → r < half + half → d r ≡ b r)
+    → IsButterfly times t half a b → IsButterfly times t half c d
+butterfly-same times t half a b c d same same' is =
     record {
       lower =
           λ r below.
           let low : r < half + half = omega arith in
           let high : half + r < half + half = omega arith in
           same' r low ∙ is.lower r below
-          ∙ ap₂ (λ (x y : ℕ). bit_xor x (ghash_product t y)) (sym (same r low)) (sym (same (half + r) high));
+          ∙ ap₂ (λ (x y : ℕ). bit_xor x (times t y)) (sym (same r low)) (sym (same (half + r) high));
       upper =
           λ r below.
           let low : r < half + half = omega arith in
@@ -28,9 +29,10 @@ butterfly-same t half a b c d same same' is =
     }
 
 -- the same scalar and length
-pub butterfly-at : (t t' half half' : ℕ) (a b : ℕ → ℕ) → t ≡ t' → half ≡ half' → IsButterfly t half a b → IsButterfly t' half' a b
-butterfly-at t t' half half' a b scalar length is =
-    subst (λ (h : ℕ). IsButterfly t' h a b) length (subst (λ (s : ℕ). IsButterfly s half a b) scalar is)
+pub butterfly-at : (times : ℕ → ℕ → ℕ) (t t' half half' : ℕ) (a b : ℕ → ℕ) → t ≡ t' → half ≡ half' → IsButterfly times t half a b
+    → IsButterfly times t' half' a b
+butterfly-at times t t' half half' a b scalar length is =
+    subst (λ (h : ℕ). IsButterfly times t' h a b) length (subst (λ (s : ℕ). IsButterfly times s half a b) scalar is)
 
 -- a block's places are before those of a later one
 pub blocks_apart : (q n size r : ℕ) → q < n → r < size → q * size + r < n * size
@@ -103,12 +105,12 @@ module _ {A : Type 0} (value : A → ℕ) (size : ℕ) (holds : ℕ → (ℕ →
 -- ---- the blocks of a stage
 
 -- the forward butterfly takes what was there to what is there, and the inverse one the other way
-abbrev pub forward_in : List ℕ → List ℕ → ℕ → ℕ → (ℕ → ℕ) → (ℕ → ℕ) → Type 0
-forward_in shifts basis j q old now = IsButterfly (bit_xor (slice_index shifts j) (linear_image basis q)) (2 ^ j) old now
+abbrev pub forward_in : (ℕ → ℕ → ℕ) → ℕ → List ℕ → ℕ → ℕ → (ℕ → ℕ) → (ℕ → ℕ) → Type 0
+forward_in times shift basis j q old now = IsButterfly times (bit_xor shift (linear_image basis q)) (2 ^ j) old now
 
 -- the inverse butterfly of a block: the forward one read backwards
-abbrev pub inverse_in : List ℕ → List ℕ → ℕ → ℕ → (ℕ → ℕ) → (ℕ → ℕ) → Type 0
-inverse_in shifts basis j q old now = IsButterfly (bit_xor (slice_index shifts j) (linear_image basis q)) (2 ^ j) now old
+abbrev pub inverse_in : (ℕ → ℕ → ℕ) → ℕ → List ℕ → ℕ → ℕ → (ℕ → ℕ) → (ℕ → ℕ) → Type 0
+inverse_in times shift basis j q old now = IsButterfly times (bit_xor shift (linear_image basis q)) (2 ^ j) now old
 
 -- a place of a block of 2 ^ (j + 1) lies in its two halves
 both_halves : (j r : ℕ) → r < 2 ^ suc j → r < 2 ^ j + 2 ^ j
@@ -118,30 +120,31 @@ both_halves j r below = let halves = two-pow-succ j in omega (arith, halves)
 both_halves' : (j r : ℕ) → r < 2 ^ j + 2 ^ j → r < 2 ^ suc j
 both_halves' j r below = let halves = two-pow-succ j in omega (arith, halves)
 
--- the forward butterfly of a block depends on the block's values alone
-pub forward_local : (shifts basis : List ℕ) (j : ℕ) → InBlocks (2 ^ suc j) (forward_in shifts basis j)
-forward_local shifts basis j =
-    record {
-      same =
-          λ q a b c d first second.
-          butterfly-same (bit_xor (slice_index shifts j) (linear_image basis q)) (2 ^ j) a b c d
-          (λ r below. first r (both_halves' j r below)) (λ r below. second r (both_halves' j r below));
-    }
+module _ (times : ℕ → ℕ → ℕ) (shift : ℕ) (basis : List ℕ) (j : ℕ) where
+  -- the forward butterfly of a block depends on the block's values alone
+  pub forward_local : InBlocks (2 ^ suc j) (forward_in times shift basis j)
+  forward_local =
+      record {
+        same =
+            λ q a b c d first second.
+            butterfly-same times (bit_xor shift (linear_image basis q)) (2 ^ j) a b c d
+            (λ r below. first r (both_halves' j r below)) (λ r below. second r (both_halves' j r below));
+      }
 
--- and so does the inverse one
-pub inverse_local : (shifts basis : List ℕ) (j : ℕ) → InBlocks (2 ^ suc j) (inverse_in shifts basis j)
-inverse_local shifts basis j =
-    record {
-      same =
-          λ q a b c d first second.
-          butterfly-same (bit_xor (slice_index shifts j) (linear_image basis q)) (2 ^ j) b a d c
-          (λ r below. second r (both_halves' j r below)) (λ r below. first r (both_halves' j r below));
-    }
+  -- and so does the inverse one
+  pub inverse_local : InBlocks (2 ^ suc j) (inverse_in times shift basis j)
+  inverse_local =
+      record {
+        same =
+            λ q a b c d first second.
+            butterfly-same times (bit_xor shift (linear_image basis q)) (2 ^ j) b a d c
+            (λ r below. second r (both_halves' j r below)) (λ r below. first r (both_halves' j r below));
+      }
 
--- the same where the first of the blocks has the number `first`
-abbrev pub forward_from : List ℕ → List ℕ → ℕ → ℕ → ℕ → (ℕ → ℕ) → (ℕ → ℕ) → Type 0
-forward_from shifts basis j first q old now = forward_in shifts basis j (first + q) old now
+  -- the same where the first of the blocks has the number `first`
+  abbrev pub forward_from : ℕ → ℕ → (ℕ → ℕ) → (ℕ → ℕ) → Type 0
+  forward_from first q old now = forward_in times shift basis j (first + q) old now
 
--- and that depends on the block's values alone, too
-pub from_local : (shifts basis : List ℕ) (j first : ℕ) → InBlocks (2 ^ suc j) (forward_from shifts basis j first)
-from_local shifts basis j first = record { same = λ q. (forward_local shifts basis j).same (first + q) }
+  -- and that depends on the block's values alone, too
+  pub from_local : (first : ℕ) → InBlocks (2 ^ suc j) (forward_from first)
+  from_local first = record { same = λ q. forward_local.same (first + q) }

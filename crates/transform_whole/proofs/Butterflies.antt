@@ -5,8 +5,6 @@ use Rattle.std.specs.Simd.Lanes.{zip2}
 use Rattle.std.proofs.lemmas.List.{get_or-append-add, get_or_append_left, length-map, map-append}
 use Rattle.std.proofs.lemmas.Simd.{get_or-zip2, length-zip2}
 use lib.Bits.{xor_assoc, xor_self, xor_zero_r}
-use Rattle.transform_slices.specs.LowStages.{ghash_product}
-use Rattle.transform_slices.specs.Slices.{IsForward, IsInverse}
 use Rattle.transform_slices.specs.Stages.{add_multiple}
 use Rattle.transform_whole.specs.Stages.{IsButterfly}
 
@@ -33,36 +31,38 @@ read_both f n xs ys long long' r below =
     let right : r < length ys = omega arith in
     get_or-zip2 f xs ys r 0 0 0 left right
 
-module _ (t n : ℕ) (lo hi lo' hi' : List ℕ) (low : length lo ≡ n) (high : length hi ≡ n) where
+module _ (times : ℕ → ℕ → ℕ) (t n : ℕ) (lo hi lo' hi' : List ℕ) (low : length lo ≡ n) (high : length hi ≡ n) where
   -- the forward butterfly of two lists is that of the block that they make
-  pub forward_numbers : IsForward t lo hi lo' hi' → IsButterfly t n (slice_index (lo ++ hi)) (slice_index (lo' ++ hi'))
-  forward_numbers is =
+  pub forward_numbers : lo' ≡ zip2 (add_multiple times t) lo hi → hi' ≡ zip2 bit_xor hi lo'
+      → IsButterfly times t n (slice_index (lo ++ hi)) (slice_index (lo' ++ hi'))
+  forward_numbers low_is high_is =
       record {
         lower =
             λ r below.
-            read_lower n lo' hi' low' r below ∙ ap (λ (l : List ℕ). slice_index l r) is.low
-            ∙ read_both (add_multiple ghash_product t) n lo hi low high r below
-            ∙ ap₂ (λ (x y : ℕ). bit_xor x (ghash_product t y)) (sym (read_lower n lo hi low r below)) (sym (read_upper n lo hi low r));
+            read_lower n lo' hi' low' r below ∙ ap (λ (l : List ℕ). slice_index l r) low_is
+            ∙ read_both (add_multiple times t) n lo hi low high r below
+            ∙ ap₂ (λ (x y : ℕ). bit_xor x (times t y)) (sym (read_lower n lo hi low r below)) (sym (read_upper n lo hi low r));
         upper =
             λ r below.
-            read_upper n lo' hi' low' r ∙ ap (λ (l : List ℕ). slice_index l r) is.high
+            read_upper n lo' hi' low' r ∙ ap (λ (l : List ℕ). slice_index l r) high_is
             ∙ read_both bit_xor n hi lo' high low' r below
             ∙ ap₂ bit_xor (sym (read_upper n lo hi low r)) (sym (read_lower n lo' hi' low' r below));
       }
     where
       low' : length lo' ≡ n
-      low' = ap length is.low ∙ length-zip2 (add_multiple ghash_product t) lo hi (low ∙ sym high) ∙ low
+      low' = ap length low_is ∙ length-zip2 (add_multiple times t) lo hi (low ∙ sym high) ∙ low
 
   -- and so is the inverse one
-  pub inverse_numbers : IsInverse t lo hi lo' hi' → IsButterfly t n (slice_index (lo' ++ hi')) (slice_index (lo ++ hi))
-  inverse_numbers is =
+  pub inverse_numbers : hi' ≡ zip2 bit_xor hi lo → lo' ≡ zip2 (add_multiple times t) lo hi'
+      → IsButterfly times t n (slice_index (lo' ++ hi')) (slice_index (lo ++ hi))
+  inverse_numbers high_is low_is =
       record {
         lower =
             λ r below.
             read_lower n lo hi low r below
-            ∙ sym (ap (λ (x : ℕ). bit_xor x (ghash_product t (slice_index hi' r))) (low_read r below)
-            ∙ twice (slice_index lo r) (ghash_product t (slice_index hi' r)))
-            ∙ ap₂ (λ (x y : ℕ). bit_xor x (ghash_product t y)) (sym (read_lower n lo' hi' low' r below)) (sym (read_upper n lo' hi' low' r));
+            ∙ sym (ap (λ (x : ℕ). bit_xor x (times t (slice_index hi' r))) (low_read r below)
+            ∙ twice (slice_index lo r) (times t (slice_index hi' r)))
+            ∙ ap₂ (λ (x y : ℕ). bit_xor x (times t y)) (sym (read_lower n lo' hi' low' r below)) (sym (read_upper n lo' hi' low' r));
         upper =
             λ r below.
             read_upper n lo hi low r
@@ -71,20 +71,20 @@ module _ (t n : ℕ) (lo hi lo' hi' : List ℕ) (low : length lo ≡ n) (high : 
       }
     where
       high' : length hi' ≡ n
-      high' = ap length is.high ∙ length-zip2 bit_xor hi lo (high ∙ sym low) ∙ high
+      high' = ap length high_is ∙ length-zip2 bit_xor hi lo (high ∙ sym low) ∙ high
 
       low' : length lo' ≡ n
-      low' = ap length is.low ∙ length-zip2 (add_multiple ghash_product t) lo hi' (low ∙ sym high') ∙ low
+      low' = ap length low_is ∙ length-zip2 (add_multiple times t) lo hi' (low ∙ sym high') ∙ low
 
       high_read : (r : ℕ) → r < n → slice_index hi' r ≡ bit_xor (slice_index hi r) (slice_index lo r)
-      high_read r below = ap (λ (l : List ℕ). slice_index l r) is.high ∙ read_both bit_xor n hi lo high low r below
+      high_read r below = ap (λ (l : List ℕ). slice_index l r) high_is ∙ read_both bit_xor n hi lo high low r below
 
-      low_read : (r : ℕ) → r < n → slice_index lo' r ≡ bit_xor (slice_index lo r) (ghash_product t (slice_index hi' r))
-      low_read r below = ap (λ (l : List ℕ). slice_index l r) is.low ∙ read_both (add_multiple ghash_product t) n lo hi' low high' r below
+      low_read : (r : ℕ) → r < n → slice_index lo' r ≡ bit_xor (slice_index lo r) (times t (slice_index hi' r))
+      low_read r below = ap (λ (l : List ℕ). slice_index l r) low_is ∙ read_both (add_multiple times t) n lo hi' low high' r below
 
 -- ---- elements, by their values
 
-module _ {A : Type 0} (value : A → ℕ) (t n : ℕ) (block lo hi lo' hi' : List A) (parts : block ≡ lo ++ hi) (low : length lo ≡ n) (high : length hi ≡ n) where
+module _ {A : Type 0} (value : A → ℕ) (times : ℕ → ℕ → ℕ) (t n : ℕ) (block lo hi lo' hi' : List A) (parts : block ≡ lo ++ hi) (low : length lo ≡ n) (high : length hi ≡ n) where
   -- the lower half has n values
   low_count : length (map value lo) ≡ n
   low_count = length-map lo value ∙ low
@@ -98,19 +98,21 @@ module _ {A : Type 0} (value : A → ℕ) (t n : ℕ) (block lo hi lo' hi' : Lis
   before = ap (map value) parts ∙ map-append value lo hi
 
   -- the forward butterfly of the values of two slices is that of the block that was split
-  pub forward_values : IsForward t (map value lo) (map value hi) (map value lo') (map value hi')
-      → IsButterfly t n (slice_index (map value block)) (slice_index (map value (lo' ++ hi')))
-  forward_values is =
-      subst (λ (l : List ℕ). IsButterfly t n (slice_index l) (slice_index (map value (lo' ++ hi')))) (sym before)
-      (subst (λ (l : List ℕ). IsButterfly t n (slice_index (map value lo ++ map value hi)) (slice_index l))
+  pub forward_values : map value lo' ≡ zip2 (add_multiple times t) (map value lo) (map value hi)
+      → map value hi' ≡ zip2 bit_xor (map value hi) (map value lo')
+      → IsButterfly times t n (slice_index (map value block)) (slice_index (map value (lo' ++ hi')))
+  forward_values low_is high_is =
+      subst (λ (l : List ℕ). IsButterfly times t n (slice_index l) (slice_index (map value (lo' ++ hi')))) (sym before)
+      (subst (λ (l : List ℕ). IsButterfly times t n (slice_index (map value lo ++ map value hi)) (slice_index l))
       (sym (map-append value lo' hi'))
-      (forward_numbers t n (map value lo) (map value hi) (map value lo') (map value hi') low_count high_count is))
+      (forward_numbers times t n (map value lo) (map value hi) (map value lo') (map value hi') low_count high_count low_is high_is))
 
   -- and so is the inverse one
-  pub inverse_values : IsInverse t (map value lo) (map value hi) (map value lo') (map value hi')
-      → IsButterfly t n (slice_index (map value (lo' ++ hi'))) (slice_index (map value block))
-  inverse_values is =
-      subst (λ (l : List ℕ). IsButterfly t n (slice_index (map value (lo' ++ hi'))) (slice_index l)) (sym before)
-      (subst (λ (l : List ℕ). IsButterfly t n (slice_index l) (slice_index (map value lo ++ map value hi)))
+  pub inverse_values : map value hi' ≡ zip2 bit_xor (map value hi) (map value lo)
+      → map value lo' ≡ zip2 (add_multiple times t) (map value lo) (map value hi')
+      → IsButterfly times t n (slice_index (map value (lo' ++ hi'))) (slice_index (map value block))
+  inverse_values high_is low_is =
+      subst (λ (l : List ℕ). IsButterfly times t n (slice_index (map value (lo' ++ hi'))) (slice_index l)) (sym before)
+      (subst (λ (l : List ℕ). IsButterfly times t n (slice_index l) (slice_index (map value lo ++ map value hi)))
       (sym (map-append value lo' hi'))
-      (inverse_numbers t n (map value lo) (map value hi) (map value lo') (map value hi') low_count high_count is))
+      (inverse_numbers times t n (map value lo) (map value hi) (map value lo') (map value hi') low_count high_count high_is low_is))

@@ -1,8 +1,10 @@
 -- The number of stages, the blocks of a stage, and the pairs that are counted.
 use Rattle.std.proofs.Common.{◌≡◌, ◌⊎◌, inl, inr, ℕ, suc, ◌+◌, ◌-◌, ◌*◌, ◌/◌, ◌%◌, ◌^◌, ◌<◌, ◌≤◌, refl, ◌∙◌, ap, arith, lit<}
 use Rattle.std.proofs.Math.Nat.{mul-le-mul_right, pow-le-pow_right, two-pow-succ}
+use Rattle.std.proofs.Math.Pow.{pow_mono}
 use Rattle.std.proofs.lemmas.Bool.{cases_order}
 use Rattle.std.proofs.lemmas.Nat.{div-mul-add, mod-mul-add, pow-add, pow_pos}
+use Rattle.transform_whole.specs.Transform.{FitsTransform, HasStages}
 
 -- ---- powers of two
 
@@ -77,3 +79,12 @@ low_counted old now next m h enough is more =
 pub low_room : (old now m h : ℕ) → 4 ≤ m → old + m * h < 2 ^ 64 → now ≡ old + (m - 4) * h → now + 4 * h < 2 ^ 64
 low_room old now m h enough room is =
     let last = low_counted old now (now + 4 * h) m h enough is refl in omega (arith, last, room)
+
+-- where none is counted yet, a transform of at most 40 stages has room
+pub transform_room : (values count : ℕ) → count ≡ 0 → (m : ℕ) × HasStages m values → FitsTransform values count
+transform_room values count none stages =
+    let m = stages.0 in
+    let few : m ≤ 40 = stages.1.0 in
+    let half : 2 ^ (m - 1) ≤ 2 ^ 39 = pow_mono {i = m - 1} {j = 39} (omega (arith, few)) in
+    let pairs : m * 2 ^ (m - 1) ≤ 40 * 2 ^ (m - 1) = mul-le-mul_right (2 ^ (m - 1)) few in
+    (m, stages.1, omega (arith, none, half, pairs))

@@ -6,18 +6,16 @@ use Rattle.std.proofs.Math.ListN.{set}
 use Rattle.std.proofs.lemmas.Bool.{cases_lt}
 use Rattle.std.proofs.lemmas.List.{ext_get_or, get_or-map, length-map, length-set, map-set}
 use Rattle.std.proofs.lemmas.Simd.{length-zip2}
-use Rattle.transform_slices.specs.LowStages.{ghash_product}
-use Rattle.transform_slices.specs.Slices.{IsForward, IsInverse}
 use Rattle.transform_slices.specs.Stages.{add_multiple}
 use Rattle.transform_whole.proofs.Butterflies.{read_both}
 
 -- the forward butterfly takes a pair to a pair
-abbrev pub forward_of : ℕ → ℕ → ℕ → ℕ → ℕ → Type 0
-forward_of s x y x' y' = (x' ≡ add_multiple ghash_product s x y) × (y' ≡ bit_xor y x')
+abbrev pub forward_of : (ℕ → ℕ → ℕ) → ℕ → ℕ → ℕ → ℕ → ℕ → Type 0
+forward_of times s x y x' y' = (x' ≡ add_multiple times s x y) × (y' ≡ bit_xor y x')
 
 -- and the inverse one
-abbrev pub inverse_of : ℕ → ℕ → ℕ → ℕ → ℕ → Type 0
-inverse_of s x y x' y' = (y' ≡ bit_xor y x) × (x' ≡ add_multiple ghash_product s x y')
+abbrev pub inverse_of : (ℕ → ℕ → ℕ) → ℕ → ℕ → ℕ → ℕ → ℕ → Type 0
+inverse_of times s x y x' y' = (y' ≡ bit_xor y x) × (x' ≡ add_multiple times s x y')
 
 -- the pairs before place n are done, and those from it on are as they were
 pub record PairsSoFar (pair : ℕ → ℕ → ℕ → ℕ → Type 0) (n : ℕ) (lo hi lo' hi' : List ℕ) : Type 0 where
@@ -80,58 +78,54 @@ module _ {A : Type 0} (value : A → ℕ) (pair : ℕ → ℕ → ℕ → ℕ �
           (same _ _ _ _ _ _ _ _ (so_far.low_rest n from) (so_far.high_rest n from) (sym (at low x low_in)) (sym (at high y high_in)) is)
 
 -- a pair that was read from the slices
-module _ {A : Type 0} (value : A → ℕ) (s n : ℕ) (low high : List A) (x y x' y' : A) (low_in : n < length low) (high_in : n < length high) where
+module _ {A : Type 0} (value : A → ℕ) (times : ℕ → ℕ → ℕ) (s n : ℕ) (low high : List A) (x y x' y' : A) (low_in : n < length low) (high_in : n < length high) where
   first : value (get_or low n x) ≡ slice_index (map value low) n
   first = sym (get_or-map value low n x 0 low_in)
 
   second : value (get_or high n y) ≡ slice_index (map value high) n
   second = sym (get_or-map value high n y 0 high_in)
 
-  pub forward_read : forward_of s (value (get_or low n x)) (value (get_or high n y)) (value x') (value y')
-      → forward_of s (slice_index (map value low) n) (slice_index (map value high) n) (value x') (value y')
+  pub forward_read : forward_of times s (value (get_or low n x)) (value (get_or high n y)) (value x') (value y')
+      → forward_of times s (slice_index (map value low) n) (slice_index (map value high) n) (value x') (value y')
   forward_read is =
-      subst (λ (v : ℕ). forward_of s v (slice_index (map value high) n) (value x') (value y')) first
-      (subst (λ (v : ℕ). forward_of s (value (get_or low n x)) v (value x') (value y')) second is)
+      subst (λ (v : ℕ). forward_of times s v (slice_index (map value high) n) (value x') (value y')) first
+      (subst (λ (v : ℕ). forward_of times s (value (get_or low n x)) v (value x') (value y')) second is)
 
-  pub inverse_read : inverse_of s (value (get_or low n x)) (value (get_or high n y)) (value x') (value y')
-      → inverse_of s (slice_index (map value low) n) (slice_index (map value high) n) (value x') (value y')
+  pub inverse_read : inverse_of times s (value (get_or low n x)) (value (get_or high n y)) (value x') (value y')
+      → inverse_of times s (slice_index (map value low) n) (slice_index (map value high) n) (value x') (value y')
   inverse_read is =
-      subst (λ (v : ℕ). inverse_of s v (slice_index (map value high) n) (value x') (value y')) first
-      (subst (λ (v : ℕ). inverse_of s (value (get_or low n x)) v (value x') (value y')) second is)
+      subst (λ (v : ℕ). inverse_of times s v (slice_index (map value high) n) (value x') (value y')) first
+      (subst (λ (v : ℕ). inverse_of times s (value (get_or low n x)) v (value x') (value y')) second is)
 
 -- after the last pair each slice is the butterfly's
-module _ (s n : ℕ) (lo hi lo' hi' : List ℕ) (equal : length lo ≡ length hi) (all : length lo ≤ n) where
-  pub forward_ends : PairsSoFar (forward_of s) n lo hi lo' hi' → IsForward s lo hi lo' hi'
-  forward_ends so_far =
-      record {
-        low =
-            ext_get_or 0 lo' (zip2 (add_multiple ghash_product s) lo hi)
-            (so_far.low_length ∙ sym (length-zip2 (add_multiple ghash_product s) lo hi equal))
-            (λ p below.
-            let inside : p < length lo = let same = so_far.low_length in omega (arith, same) in
-            (so_far.done p (omega arith)).0
-            ∙ sym (read_both (add_multiple ghash_product s) (length lo) lo hi refl (sym equal) p inside));
-        high =
-            ext_get_or 0 hi' (zip2 bit_xor hi lo') (so_far.high_length ∙ sym (length-zip2 bit_xor hi lo' (sym (so_far.low_length ∙ equal))))
-            (λ p below.
-            let inside : p < length hi = let same = so_far.high_length in omega (arith, same) in
-            (so_far.done p (omega arith)).1
-            ∙ sym (read_both bit_xor (length hi) hi lo' refl (so_far.low_length ∙ equal) p inside));
-      }
+module _ (times : ℕ → ℕ → ℕ) (s n : ℕ) (lo hi lo' hi' : List ℕ) (equal : length lo ≡ length hi) (all : length lo ≤ n) where
+  pub forward_ends : PairsSoFar (forward_of times s) n lo hi lo' hi'
+      → (lo' ≡ zip2 (add_multiple times s) lo hi) × (hi' ≡ zip2 bit_xor hi lo')
+  forward_ends so_far = (
+    ext_get_or 0 lo' (zip2 (add_multiple times s) lo hi)
+        (so_far.low_length ∙ sym (length-zip2 (add_multiple times s) lo hi equal))
+        (λ p below.
+        let inside : p < length lo = let same = so_far.low_length in omega (arith, same) in
+        (so_far.done p (omega arith)).0
+        ∙ sym (read_both (add_multiple times s) (length lo) lo hi refl (sym equal) p inside)),
+    ext_get_or 0 hi' (zip2 bit_xor hi lo') (so_far.high_length ∙ sym (length-zip2 bit_xor hi lo' (sym (so_far.low_length ∙ equal))))
+        (λ p below.
+        let inside : p < length hi = let same = so_far.high_length in omega (arith, same) in
+        (so_far.done p (omega arith)).1
+        ∙ sym (read_both bit_xor (length hi) hi lo' refl (so_far.low_length ∙ equal) p inside)),
+  )
 
-  pub inverse_ends : PairsSoFar (inverse_of s) n lo hi lo' hi' → IsInverse s lo hi lo' hi'
-  inverse_ends so_far =
-      record {
-        high =
-            ext_get_or 0 hi' (zip2 bit_xor hi lo) (so_far.high_length ∙ sym (length-zip2 bit_xor hi lo (sym equal)))
-            (λ p below.
-            let inside : p < length hi = let same = so_far.high_length in omega (arith, same) in
-            (so_far.done p (omega arith)).0 ∙ sym (read_both bit_xor (length hi) hi lo refl equal p inside));
-        low =
-            ext_get_or 0 lo' (zip2 (add_multiple ghash_product s) lo hi')
-            (so_far.low_length ∙ sym (length-zip2 (add_multiple ghash_product s) lo hi' (equal ∙ sym so_far.high_length)))
-            (λ p below.
-            let inside : p < length lo = let same = so_far.low_length in omega (arith, same) in
-            (so_far.done p (omega arith)).1
-            ∙ sym (read_both (add_multiple ghash_product s) (length lo) lo hi' refl (so_far.high_length ∙ sym equal) p inside));
-      }
+  pub inverse_ends : PairsSoFar (inverse_of times s) n lo hi lo' hi'
+      → (hi' ≡ zip2 bit_xor hi lo) × (lo' ≡ zip2 (add_multiple times s) lo hi')
+  inverse_ends so_far = (
+    ext_get_or 0 hi' (zip2 bit_xor hi lo) (so_far.high_length ∙ sym (length-zip2 bit_xor hi lo (sym equal)))
+        (λ p below.
+        let inside : p < length hi = let same = so_far.high_length in omega (arith, same) in
+        (so_far.done p (omega arith)).0 ∙ sym (read_both bit_xor (length hi) hi lo refl equal p inside)),
+    ext_get_or 0 lo' (zip2 (add_multiple times s) lo hi')
+        (so_far.low_length ∙ sym (length-zip2 (add_multiple times s) lo hi' (equal ∙ sym so_far.high_length)))
+        (λ p below.
+        let inside : p < length lo = let same = so_far.low_length in omega (arith, same) in
+        (so_far.done p (omega arith)).1
+        ∙ sym (read_both (add_multiple times s) (length lo) lo hi' refl (so_far.high_length ∙ sym equal) p inside)),
+  )

@@ -3,6 +3,7 @@ use Rattle.std.proofs.Common.{◌≡◌, ℕ, zero, suc, ◌+◌, ◌-◌, ◌*�
 use Rattle.std.specs.Prelude.{bit_xor, slice_index}
 use Rattle.std.specs.Int.{bit_at}
 use Rattle.field_base.specs.LinearMaps.{linear_image}
+use Rattle.field_base.proofs.RemainderRing.{ghash_ring}
 use Rattle.transform_slices.specs.LowStages.{ghash_product, HoldSums, values_from}
 use Rattle.transform_slices.specs.Runs.{AreLowSums, run_factor}
 use Rattle.transform_slices.specs.Stages.{factor, stage}
@@ -82,29 +83,32 @@ module _ (shifts basis : List ℕ) (first_run r : ℕ) where
 
   -- so a stage of all the blocks is the stage of the run
   run_stage : (j count : ℕ) (v w : List ℕ) → j < 4 → 16 * r + 16 ≤ count → ((p : ℕ) → slice_index v p < 2 ^ 128)
-      → IsStageFrom shifts basis j (first_run * 2 ^ (3 - j)) (count / 2 ^ (j + 1)) v w
+      → IsStageFrom ghash_product (slice_index shifts j) basis j (first_run * 2 ^ (3 - j)) (count / 2 ^ (j + 1)) v w
       → (q : ℕ) → q < 16 → slice_index w (16 * r + q) ≡ stage ghash_product (run_factor twiddles low) j (values_from v (16 * r)) q
   run_stage j count v w few whole fits is q small =
       let block = run_block j r q count few small whole in
-      stage-at (run_factor twiddles low) j q _ (values_from v (16 * r)) (values_from w (16 * r)) (λ k. fits (16 * r + k))
+      stage-at 128 ghash_product ghash_ring (run_factor twiddles low) j q _ (values_from v (16 * r)) (values_from w (16 * r))
+      (λ k. fits (16 * r + k))
       (block_factor j q few small)
-      (butterfly-same _ (2 ^ j) _ _ _ _ (λ k below. ap (slice_index v) (block.place k)) (λ k below. ap (slice_index w) (block.place k))
+      (butterfly-same ghash_product _ (2 ^ j) _ _ _ _ (λ k below. ap (slice_index v) (block.place k))
+      (λ k below. ap (slice_index w) (block.place k))
       (is (r * 2 ^ (3 - j) + q / 2 ^ suc j) block.inside))
 
 -- the same count of values
 pub stage-count : (shifts basis : List ℕ) (j first count count' : ℕ) (v w : List ℕ) → count ≡ count'
-    → IsStageFrom shifts basis j first (count / 2 ^ (j + 1)) v w → IsStageFrom shifts basis j first (count' / 2 ^ (j + 1)) v w
+    → IsStageFrom ghash_product (slice_index shifts j) basis j first (count / 2 ^ (j + 1)) v w
+    → IsStageFrom ghash_product (slice_index shifts j) basis j first (count' / 2 ^ (j + 1)) v w
 stage-count shifts basis j first count count' v w same =
-    subst (λ (n : ℕ). IsStageFrom shifts basis j first (n / 2 ^ (j + 1)) v w) same
+    subst (λ (n : ℕ). IsStageFrom ghash_product (slice_index shifts j) basis j first (n / 2 ^ (j + 1)) v w) same
 
 -- the four stages leave the sums
 pub low_stages_hold : (shifts basis : List ℕ) (first_run count : ℕ) (v0 v1 v2 v3 v4 : List ℕ) → length v0 ≡ count → count % 16 ≡ 0
     → ((p : ℕ) → slice_index v0 p < 2 ^ 128) → ((p : ℕ) → slice_index v1 p < 2 ^ 128) → ((p : ℕ) → slice_index v2 p < 2 ^ 128)
     → ((p : ℕ) → slice_index v3 p < 2 ^ 128) → ((p : ℕ) → slice_index v4 p < 2 ^ 128)
-    → IsStageFrom shifts basis 3 (first_run * 2 ^ (3 - 3)) (count / 2 ^ (3 + 1)) v0 v1
-    → IsStageFrom shifts basis 2 (first_run * 2 ^ (3 - 2)) (count / 2 ^ (2 + 1)) v1 v2
-    → IsStageFrom shifts basis 1 (first_run * 2 ^ (3 - 1)) (count / 2 ^ (1 + 1)) v2 v3
-    → IsStageFrom shifts basis 0 (first_run * 2 ^ (3 - 0)) (count / 2 ^ (0 + 1)) v3 v4
+    → IsStageFrom ghash_product (slice_index shifts 3) basis 3 (first_run * 2 ^ (3 - 3)) (count / 2 ^ (3 + 1)) v0 v1
+    → IsStageFrom ghash_product (slice_index shifts 2) basis 2 (first_run * 2 ^ (3 - 2)) (count / 2 ^ (2 + 1)) v1 v2
+    → IsStageFrom ghash_product (slice_index shifts 1) basis 1 (first_run * 2 ^ (3 - 1)) (count / 2 ^ (1 + 1)) v2 v3
+    → IsStageFrom ghash_product (slice_index shifts 0) basis 0 (first_run * 2 ^ (3 - 0)) (count / 2 ^ (0 + 1)) v3 v4
     → HoldSums shifts basis first_run v0 v4
 low_stages_hold shifts basis first_run count v0 v1 v2 v3 v4 long whole fits0 fits1 fits2 fits3 fits4 third second first last run i small inside =
     let room : 16 * run + 16 ≤ count = omega (arith, long, whole, inside) in

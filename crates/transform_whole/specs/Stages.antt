@@ -1,26 +1,26 @@
--- One stage of a transform, block by block. An array is a function from its places to its values, in the field of GHASH.
-use Rattle.std.specs.Prelude.{◌≡◌, ℕ, suc, ◌+◌, ◌*◌, ◌^◌, ◌<◌, List, slice_index, bit_xor}
+-- One stage of a transform, block by block, over any ring of characteristic two whose elements are numbers. An array is a function
+-- from its places to its values.
+use Rattle.std.specs.Prelude.{◌≡◌, ℕ, suc, ◌+◌, ◌*◌, ◌^◌, ◌<◌, List, bit_xor}
 use Rattle.field_base.specs.LinearMaps.{linear_image}
-use Rattle.transform_slices.specs.LowStages.{ghash_product, values_from}
+use Rattle.transform_slices.specs.LowStages.{values_from}
 use Rattle.transform_slices.specs.Stages.{add_multiple}
 
 -- in a block of twice `half` places the array a becomes b by the forward butterfly with the scalar t. A pair is a place of the
 -- block's lower half with the place `half` further.
-pub record IsButterfly (t half : ℕ) (a b : ℕ → ℕ) : Type 0 where
-  pub lower : (r : ℕ) → r < half → b r ≡ add_multiple ghash_product t (a r) (a (half + r))
+pub record IsButterfly (times : ℕ → ℕ → ℕ) (t half : ℕ) (a b : ℕ → ℕ) : Type 0 where
+  pub lower : (r : ℕ) → r < half → b r ≡ add_multiple times t (a r) (a (half + r))
   pub upper : (r : ℕ) → r < half → b (half + r) ≡ bit_xor (a (half + r)) (b r)
 
 -- stage j takes the values a to the values b in so many blocks of 2 ^ (j + 1) places: the scalar of a block is its twiddle, which
 -- is the shift of the stage, and the elements of the basis at the set bits of the block's number
-abbrev pub IsStage : List ℕ → List ℕ → ℕ → ℕ → List ℕ → List ℕ → Type 0
-IsStage shifts basis j blocks a b =
+abbrev pub IsStage : (ℕ → ℕ → ℕ) → ℕ → List ℕ → ℕ → ℕ → List ℕ → List ℕ → Type 0
+IsStage times shift basis j blocks a b =
     (q : ℕ) → q < blocks
-    → IsButterfly (bit_xor (slice_index shifts j) (linear_image basis q)) (2 ^ j) (values_from a (q * 2 ^ suc j))
-    (values_from b (q * 2 ^ suc j))
+    → IsButterfly times (bit_xor shift (linear_image basis q)) (2 ^ j) (values_from a (q * 2 ^ suc j)) (values_from b (q * 2 ^ suc j))
 
 -- the same where the first of the blocks has the number `first`
-abbrev pub IsStageFrom : List ℕ → List ℕ → ℕ → ℕ → ℕ → List ℕ → List ℕ → Type 0
-IsStageFrom shifts basis j first blocks a b =
+abbrev pub IsStageFrom : (ℕ → ℕ → ℕ) → ℕ → List ℕ → ℕ → ℕ → ℕ → List ℕ → List ℕ → Type 0
+IsStageFrom times shift basis j first blocks a b =
     (q : ℕ) → q < blocks
-    → IsButterfly (bit_xor (slice_index shifts j) (linear_image basis (first + q))) (2 ^ j) (values_from a (q * 2 ^ suc j))
+    → IsButterfly times (bit_xor shift (linear_image basis (first + q))) (2 ^ j) (values_from a (q * 2 ^ suc j))
     (values_from b (q * 2 ^ suc j))

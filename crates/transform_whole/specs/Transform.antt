@@ -1,4 +1,4 @@
--- What a whole transform leaves, in the field of GHASH.
+-- What a whole transform leaves, over any field with Cantor vectors, and over that of GHASH.
 use Rattle.std.specs.Prelude.{◌≡◌, ℕ, ◌+◌, ◌-◌, ◌*◌, ◌^◌, ◌<◌, ◌≤◌, List, length, slice_index}
 use Rattle.transform_slices.specs.LowStages.{ghash_cantor_vector, ghash_product}
 use Rattle.transform_slices.specs.Cantor.{point, polynomial_value}
@@ -15,16 +15,22 @@ FitsTransform values count = (m : ℕ) × HasStages m values × (count + m * 2 ^
 abbrev pub CountsPairs : ℕ → ℕ → ℕ → Type 0
 CountsPairs values old new = (m : ℕ) → values ≡ 2 ^ m → new ≡ old + m * 2 ^ (m - 1)
 
--- place p of the values is the value at point p of the polynomial with these coefficients: point p is z, and a Cantor vector for
--- each set bit of p
-abbrev pub HoldPolynomialValues : ℕ → List ℕ → List ℕ → Type 0
-HoldPolynomialValues z coefficients values =
+-- place p of the values is the value at point p of the polynomial with these coefficients, in a ring of `width` bits with these
+-- vectors: point p is z, and vector b for each set bit b of p
+abbrev pub HoldValuesAtPoints : ℕ → (ℕ → ℕ → ℕ) → (ℕ → ℕ) → ℕ → List ℕ → List ℕ → Type 0
+HoldValuesAtPoints width times vector z coefficients values =
     (m : ℕ) → length coefficients ≡ 2 ^ m → (p : ℕ) → p < 2 ^ m
-    → slice_index values p
-    ≡ polynomial_value ghash_product m (slice_index coefficients) (point 128 ghash_cantor_vector z p)
+    → slice_index values p ≡ polynomial_value times m (slice_index coefficients) (point width vector z p)
 
 -- these coefficients have those values, and no other list of as many elements has them
-pub record AreOnlyCoefficients (z : ℕ) (values coefficients : List ℕ) : Type 0 where
-  pub have : HoldPolynomialValues z coefficients values
-  pub only : (others : List ℕ) → length others ≡ length values → ((p : ℕ) → slice_index others p < 2 ^ 128)
-      → HoldPolynomialValues z others values → others ≡ coefficients
+pub record AreTheCoefficients (width : ℕ) (times : ℕ → ℕ → ℕ) (vector : ℕ → ℕ) (z : ℕ) (values coefficients : List ℕ) : Type 0 where
+  pub have : HoldValuesAtPoints width times vector z coefficients values
+  pub only : (others : List ℕ) → length others ≡ length values → ((p : ℕ) → slice_index others p < 2 ^ width)
+      → HoldValuesAtPoints width times vector z others values → others ≡ coefficients
+
+-- the same in the field of GHASH
+abbrev pub HoldPolynomialValues : ℕ → List ℕ → List ℕ → Type 0
+HoldPolynomialValues = HoldValuesAtPoints 128 ghash_product ghash_cantor_vector
+
+abbrev pub AreOnlyCoefficients : ℕ → List ℕ → List ℕ → Type 0
+AreOnlyCoefficients = AreTheCoefficients 128 ghash_product ghash_cantor_vector

@@ -22,4 +22,8 @@ pub use crate::kernel::{Kernel, PolyKernel};
 pub use crate::laws::values_commute_with_images;
 pub use crate::pairs::{PairByPair, PairKernel, low_stages};
 pub use crate::points::point;
-pub use crate::whole::{forward, forward_by_butterflies, forward_with, inverse, inverse_with};
+pub use crate::stages::{half_of, start_of};
+pub use crate::whole::{
+    forward, forward_by_butterflies, forward_numbers, forward_with, inverse, inverse_numbers,
+    inverse_with, stages_of,
+};

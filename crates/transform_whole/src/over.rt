@@ -71,8 +71,8 @@ fn first_or_zero<F: Field>(coefficients: &[F]) -> F
     }
 }
 
-// s_j(x).
-fn subspace_value<F: Field>(x: F, j: usize) -> F
+/// s_j(x), where s_0(x) = x and s_(j + 1)(x) = s_j(x)^2 + s_j(x). It takes j squares.
+pub fn subspace_value<F: Field>(x: F, j: usize) -> F
     ensures { F.repr result ≡ subspace_value F.product j (F.repr x) }
 {
     let mut value = x;

@@ -126,7 +126,7 @@ fn low_stage<P: PairKernel>(
 )
     requires { stage < 4 }
     ensures length { length values.new ≡ length values.old }
-    ensures stage { IsStageFrom shifts.now basis.now stage (first_run * 2 ^ (3 - stage))
+    ensures stage { IsStageFrom ghash_product (slice_index shifts.now stage) basis.now stage (first_run * 2 ^ (3 - stage))
         (length values.old / 2 ^ (stage + 1)) (map P.value values.old) (map P.value values.new) }
 {
     let half = half_of(stage);
@@ -150,7 +150,7 @@ fn twiddle_of(shifts: &[u128; 4], basis: &[u128], stage: usize, block: u128) -> 
 fn pairs_of_block<P: PairKernel>(pairs: &mut P, block: &mut [P::Elem], half: usize, twiddle: u128)
     requires { length block.old ≡ 2 * half }
     ensures length { length block.new ≡ length block.old }
-    ensures values { IsButterfly twiddle half (slice_index (map P.value block.old)) (slice_index (map P.value block.new)) }
+    ensures values { IsButterfly ghash_product twiddle half (slice_index (map P.value block.old)) (slice_index (map P.value block.new)) }
 {
     let (lower, upper) = block.split_at_mut(half);
     forward_pairs(pairs, lower, upper, twiddle);

@@ -1,5 +1,6 @@
 // One stage of a transform, block by block.
 ghost use Rattle.std.specs.Prelude.{◌≡◌, ℕ, ◌+◌, ◌*◌, ◌/◌, ◌%◌, ◌^◌, ◌<◌, ◌≤◌, length, map, slice_index};
+ghost use Rattle.transform_slices.specs.LowStages.{ghash_product};
 ghost use Rattle.transform_whole.specs.Stages.{IsButterfly, IsStage};
 
 use crate::kernel::Kernel;
@@ -16,8 +17,8 @@ pub(crate) fn forward_stage<K: Kernel>(
     requires whole { length values.old % 2 ^ (stage + 1) ≡ 0 }
     requires room { K.count kernel.old + length values.old / 2 < 2 ^ 64 }
     ensures length { length values.new ≡ length values.old }
-    ensures stage { IsStage twiddles.now.shifts twiddles.now.basis stage (length values.old / 2 ^ (stage + 1))
-        (map K.value values.old) (map K.value values.new) }
+    ensures stage { IsStage ghash_product (slice_index twiddles.now.shifts stage) twiddles.now.basis stage
+        (length values.old / 2 ^ (stage + 1)) (map K.value values.old) (map K.value values.new) }
     ensures count { K.count kernel.new ≡ K.count kernel.old + length values.old / 2 }
 {
     let half = half_of(stage);
@@ -39,8 +40,8 @@ pub(crate) fn inverse_stage<K: Kernel>(
     requires whole { length values.old % 2 ^ (stage + 1) ≡ 0 }
     requires room { K.count kernel.old + length values.old / 2 < 2 ^ 64 }
     ensures length { length values.new ≡ length values.old }
-    ensures stage { IsStage twiddles.now.shifts twiddles.now.basis stage (length values.old / 2 ^ (stage + 1))
-        (map K.value values.new) (map K.value values.old) }
+    ensures stage { IsStage ghash_product (slice_index twiddles.now.shifts stage) twiddles.now.basis stage
+        (length values.old / 2 ^ (stage + 1)) (map K.value values.new) (map K.value values.old) }
     ensures count { K.count kernel.new ≡ K.count kernel.old + length values.old / 2 }
 {
     let half = half_of(stage);
@@ -51,8 +52,8 @@ pub(crate) fn inverse_stage<K: Kernel>(
     }
 }
 
-/// Half the places of a block of a stage, whose pairs are as far apart.
-pub(crate) fn half_of(stage: usize) -> usize
+/// Half the places of a block of a stage, whose pairs are as far apart: 2^stage. The stage has to be below 40.
+pub fn half_of(stage: usize) -> usize
     requires { stage < 40 }
     ensures half { result ≡ 2 ^ stage }
     ensures few { result ≤ 2 ^ 39 }
@@ -60,8 +61,9 @@ pub(crate) fn half_of(stage: usize) -> usize
     1 << stage
 }
 
-/// The first place of a block of `size` places, of the whole blocks among `length` places.
-pub(crate) fn start_of(block: usize, size: usize, length: usize) -> usize
+/// The first place of block number `block`, of the blocks of `size` places that lie whole among `length` places. There has to be such a
+/// block.
+pub fn start_of(block: usize, size: usize, length: usize) -> usize
     requires block { block < length / size }
     ensures start { result ≡ block * size }
     ensures inside { result + size ≤ length }
@@ -74,7 +76,7 @@ fn forward_block<K: Kernel>(kernel: &mut K, block: &mut [K::Elem], half: usize, 
     requires pairs { length block.old ≡ 2 * half }
     requires room { K.count kernel.old + half < 2 ^ 64 }
     ensures length { length block.new ≡ length block.old }
-    ensures values { IsButterfly twiddle half (slice_index (map K.value block.old)) (slice_index (map K.value block.new)) }
+    ensures values { IsButterfly ghash_product twiddle half (slice_index (map K.value block.old)) (slice_index (map K.value block.new)) }
     ensures count { K.count kernel.new ≡ K.count kernel.old + half }
 {
     let (lower, upper) = block.split_at_mut(half);
@@ -86,7 +88,7 @@ fn inverse_block<K: Kernel>(kernel: &mut K, block: &mut [K::Elem], half: usize, 
     requires pairs { length block.old ≡ 2 * half }
     requires room { K.count kernel.old + half < 2 ^ 64 }
     ensures length { length block.new ≡ length block.old }
-    ensures values { IsButterfly twiddle half (slice_index (map K.value block.new)) (slice_index (map K.value block.old)) }
+    ensures values { IsButterfly ghash_product twiddle half (slice_index (map K.value block.new)) (slice_index (map K.value block.old)) }
     ensures count { K.count kernel.new ≡ K.count kernel.old + half }
 {
     let (lower, upper) = block.split_at_mut(half);

@@ -54,6 +54,37 @@ pub fn inverse(values: &mut [u128], z: u128, products: &mut u64)
     *products = kernel.products;
 }
 
+/// The transform `forward` without a count. The length of `values` has to be 2^m for an m from 0 to 40. Where `alloc` refuses the
+/// twiddles, it fails, and leaves `values` untouched; with fewer than 16 values it takes no memory, and does not fail.
+///
+/// Its low stages go in lanes and its long butterflies by tables, so over the field of GHASH it is the fastest form. Elements of any
+/// field with Cantor vectors are transformed by `forward_elements` of `transform_levels`.
+pub fn forward_numbers<A: Allocator>(
+    alloc: A,
+    values: &mut [u128],
+    z: u128,
+) -> Result<(), AllocError>
+    requires { (m : ℕ) × HasStages m (length values.old) }
+    ensures length { length values.new ≡ length values.old }
+    ensures values { IfOk result (λ _. HoldPolynomialValues z values.old values.new) }
+    ensures refused { IfErr result (λ _. values.new ≡ values.old) }
+    ensures large { IfErr result (λ _. 16 ≤ length values.old) }
+{
+    let mut products = 0;
+    forward(alloc, values, z, &mut products)
+}
+
+/// The transform `inverse` without a count: it takes back what `forward_numbers` did with the same `z`. The length of `values` has to
+/// be 2^m for an m from 0 to 40. It takes no memory.
+pub fn inverse_numbers(values: &mut [u128], z: u128)
+    requires { (m : ℕ) × HasStages m (length values.old) }
+    ensures length { length values.new ≡ length values.old }
+    ensures coefficients { AreOnlyCoefficients z values.old values.new }
+{
+    let mut products = 0;
+    inverse(values, z, &mut products);
+}
+
 /// The transform `forward` by any kernel: nothing but the kernel computes on its elements. The length of `values` has to be 2^m
 /// for an m from 0 to 40, and the kernel's count and the m * 2^(m - 1) pairs of places together have to fit 64 bits; the count
 /// rises by those pairs. Where `alloc` refuses the twiddles, it fails, and leaves `values` and the kernel untouched; with fewer than
@@ -110,8 +141,8 @@ pub fn inverse_with<K: Kernel>(kernel: &mut K, values: &mut [K::Elem], z: u128)
     }
 }
 
-// The stages of a transform of so many values: the m for which there are 2^m.
-fn stages_of(count: usize) -> usize
+/// The stages of a transform of so many values: the m for which there are 2^m. There has to be one, from 0 to 40.
+pub fn stages_of(count: usize) -> usize
     requires { (m : ℕ) × HasStages m count }
     ensures stages { HasStages result count }
     ensures only { (m : ℕ) → count ≡ 2 ^ m → m ≡ result }

@@ -1,7 +1,6 @@
-// Worked rows of the low stages, and twiddles where there is memory, and refused where there is not.
+// Worked rows of the low stages.
 use field_base::traits::TowerLevel;
 use field_element::Ghash128;
-use linked_list_allocator::LocalHeap;
 use std::test::Fail;
 use transform_slices::{LOW_STAGES, LowStageTwiddles};
 
@@ -79,15 +78,5 @@ fn a_run_of_cantor_twiddles(rt: HostRuntime) -> Result<(), Fail> {
     values[8] = 1;
     twiddles.forward(&mut values, 0);
     assert!(rt; values == [0, 0, 0, 0, 0, 0, 0, 0, 1, 1, 1, 1, 1, 1, 1, 1]);
-    Ok(())
-}
-
-#[test]
-fn twiddles_are_granted_or_refused(rt: HostRuntime) -> Result<(), Fail> {
-    let large = LocalHeap::new(rt.alloc(), 1024)?;
-    let small = LocalHeap::new(rt.alloc(), 32)?;
-    let granted = LowStageTwiddles::new(&large, &[1, 2, 3, 4, 5], &[2, 4, 8]).is_ok();
-    let refused = LowStageTwiddles::new(&small, &[1, 2, 3, 4, 5], &[2, 4, 8]).is_err();
-    assert!(rt; granted && refused && small.used() == 0);
     Ok(())
 }

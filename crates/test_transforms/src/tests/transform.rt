@@ -1,5 +1,4 @@
-// The whole transform and its inverse: worked rows, where there is memory and where there is not.
-use linked_list_allocator::LocalHeap;
+// The whole transform and its inverse: worked rows.
 use std::alloc::{AllocError, Allocator, Global};
 use std::test::Fail;
 use transform_whole::{forward, inverse};
@@ -109,19 +108,5 @@ fn rows_of_the_transform(rt: HostRuntime) -> Result<(), Fail> {
     let mut undone = 0;
     let runs = inverse_of(&mut ones, 5, 0, &mut undone);
     assert!(rt; runs && ones[0] == 1 && are_same(&ones[1..], &[0; 31]) && undone == 80);
-    Ok(())
-}
-
-// Success where there is memory, and a refusal where there is not.
-#[test]
-fn the_transform_is_granted_or_refused(rt: HostRuntime) -> Result<(), Fail> {
-    let large = LocalHeap::new(rt.alloc(), 1024)?;
-    let small = LocalHeap::new(rt.alloc(), 32)?;
-    let mut values = [1; 16];
-    let mut products = 9;
-    let refused = forward_of(&small, &mut values, 4, 3, &mut products).is_err();
-    assert!(rt; refused && values == [1; 16] && products == 9 && small.used() == 0);
-    let granted = forward_of(&large, &mut values, 4, 3, &mut products).is_ok();
-    assert!(rt; granted && products == 41 && large.used() == 0);
     Ok(())
 }

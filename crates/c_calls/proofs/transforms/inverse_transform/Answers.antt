@@ -1,5 +1,5 @@
 use Rattle.std.proofs.Common.{length}
-use Rattle.c_calls.proofs.Room.{transform_room}
+use Rattle.transform_whole.proofs.Counts.{transform_room}
 use Rattle.c_calls.proofs.transforms.inverse_transform.Goals as goal
 
 pub inverse_with-requires : goal.inverse_with-requires

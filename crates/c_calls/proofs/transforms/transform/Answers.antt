@@ -1,5 +1,5 @@
 use Rattle.std.proofs.Common.{length}
-use Rattle.c_calls.proofs.Room.{transform_room}
+use Rattle.transform_whole.proofs.Counts.{transform_room}
 use Rattle.c_calls.proofs.transforms.transform.Goals as goal
 
 pub forward_by_butterflies-requires : goal.forward_by_butterflies-requires

@@ -1,9 +1,10 @@
 use Rattle.std.proofs.Common.{map}
+use Rattle.transform_slices.specs.LowStages.{ghash_product}
 use Rattle.transform_whole.proofs.PairLoops.{PairsSoFar, inverse_of}
 use Rattle.transform_whole.proofs.pairs.inverse_pairs.Given as goal
 
 -- the pairs before this one are done
 abbrev pub invariant-loop-place : goal.invariant-loop-place
 invariant-loop-place g l =
-    PairsSoFar (inverse_of l.s) l.place (map g.P.PairKernel.value l.fn.lo) (map g.P.PairKernel.value l.fn.hi) (map g.P.PairKernel.value l.lo)
-    (map g.P.PairKernel.value l.hi)
+    let value = g.P.PairKernel.value in
+    PairsSoFar (inverse_of ghash_product l.s) l.place (map value l.fn.lo) (map value l.fn.hi) (map value l.lo) (map value l.hi)

@@ -1,4 +1,6 @@
 use Rattle.std.proofs.Common.{◌≡◌, suc, ◌-◌, ◌*◌, ◌^◌, length, map}
+use Rattle.std.specs.Prelude.{slice_index}
+use Rattle.transform_slices.specs.LowStages.{ghash_product}
 use Rattle.transform_whole.proofs.BlockStages.{BlocksSoFar, forward_from}
 use Rattle.transform_whole.proofs.pairs.low_stage.Given as goal
 
@@ -6,5 +8,6 @@ use Rattle.transform_whole.proofs.pairs.low_stage.Given as goal
 abbrev pub invariant-loop-block : goal.invariant-loop-block
 invariant-loop-block g l =
     (length l.values ≡ length l.fn.values)
-    × BlocksSoFar (2 ^ suc l.stage) (forward_from l.shifts l.basis l.stage (l.fn.first_run * 2 ^ (3 - l.stage))) l.block
+    × BlocksSoFar (2 ^ suc l.stage)
+    (forward_from ghash_product (slice_index l.shifts l.stage) l.basis l.stage (l.fn.first_run * 2 ^ (3 - l.stage))) l.block
     (map g.P.PairKernel.value l.fn.values) (map g.P.PairKernel.value l.values)

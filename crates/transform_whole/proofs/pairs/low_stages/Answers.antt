@@ -7,7 +7,7 @@ use Rattle.transform_whole.proofs.pairs.low_stages.Goals as goal
 pub returns-clause-sums : goal.returns-clause-sums
 returns-clause-sums g c =
     let value = g.P.PairKernel.value in
-    let fits = values_fit value g.P.PairKernel.range_law in
+    let fits = values_fit 128 value g.P.PairKernel.range_law in
     let shifts = c.args.shifts.now in
     let basis = c.args.basis.now in
     let third = c.low_stage.ensures.length in

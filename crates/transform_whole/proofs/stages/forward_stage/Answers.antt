@@ -1,11 +1,14 @@
 use Rattle.std.proofs.Common.{◌≡◌, ℕ, suc, ◌+◌, ◌-◌, ◌*◌, ◌/◌, ◌^◌, ◌≤◌, length, ◌∙◌, ap, arith}
 use Rattle.std.proofs.Math.Nat.{two-pow-succ}
 use borrow.Rule.Slice.PartMut.{mid_len, same_len_mid}
+use Rattle.std.specs.Prelude.{slice_index}
+use Rattle.transform_slices.specs.LowStages.{ghash_product}
 use Rattle.transform_whole.proofs.BlockStages.{blocks_step, butterfly-at, forward_in, forward_local}
 use Rattle.transform_whole.proofs.stages.forward_stage.Goals as goal
 
 pub loop-block-preserved : goal.loop-block-preserved
 loop-block-preserved g c =
+    let shift = slice_index c.args.twiddles.now.shifts c.args.stage in
     let halves = two-pow-succ c.args.stage in
     let half = c.half_of-half.ensures.half in
     let size : 2 * c.half_of-half.result ≡ 2 ^ suc c.args.stage = omega (arith, half, halves) in
@@ -14,11 +17,11 @@ loop-block-preserved g c =
     let inside : c.start_of-start.result + 2 ^ suc c.args.stage ≤ length c.loop-block.values =
     let fits = c.start_of-start.ensures.inside in omega (arith, fits, size) in (
       same_len_mid _ _ c.loop-block.values c.forward_block.new.block c.forward_block.ensures.length ∙ c.loop-block.invariant.0,
-      blocks_step g.K.Kernel.value (2 ^ suc c.args.stage) (forward_in c.args.twiddles.now.shifts c.args.twiddles.now.basis c.args.stage)
-          (forward_local c.args.twiddles.now.shifts c.args.twiddles.now.basis c.args.stage) c.loop-block.block c.start_of-start.result _
+      blocks_step g.K.Kernel.value (2 ^ suc c.args.stage) (forward_in ghash_product shift c.args.twiddles.now.basis c.args.stage)
+          (forward_local ghash_product shift c.args.twiddles.now.basis c.args.stage) c.loop-block.block c.start_of-start.result _
           c.args.values.now c.loop-block.values c.forward_block.new.block start part inside
           (c.forward_block.ensures.length ∙ mid_len _ _ c.loop-block.values c.start_of-start.ensures.inside)
-          (butterfly-at _ _ _ _ _ _ c.of_block-twiddle.ensures half c.forward_block.ensures.values)
+          (butterfly-at ghash_product _ _ _ _ _ _ c.of_block-twiddle.ensures half c.forward_block.ensures.values)
           c.loop-block.invariant.1,
       let count = c.forward_block.ensures.count in
           let so_far = c.loop-block.invariant.2 in omega (arith, count, so_far, half),

@@ -1,4 +1,6 @@
 use Rattle.std.proofs.Common.{◌≡◌, suc, ◌+◌, ◌*◌, ◌^◌, length, map}
+use Rattle.std.specs.Prelude.{slice_index}
+use Rattle.transform_slices.specs.LowStages.{ghash_product}
 use Rattle.transform_whole.proofs.BlockStages.{BlocksSoFar, inverse_in}
 use Rattle.transform_whole.proofs.stages.inverse_stage.Given as goal
 
@@ -6,6 +8,6 @@ use Rattle.transform_whole.proofs.stages.inverse_stage.Given as goal
 abbrev pub invariant-loop-block : goal.invariant-loop-block
 invariant-loop-block g l =
     (length l.values ≡ length l.fn.values)
-    × BlocksSoFar (2 ^ suc l.stage) (inverse_in l.twiddles.shifts l.twiddles.basis l.stage) l.block
+    × BlocksSoFar (2 ^ suc l.stage) (inverse_in ghash_product (slice_index l.twiddles.shifts l.stage) l.twiddles.basis l.stage) l.block
     (map g.K.Kernel.value l.fn.values) (map g.K.Kernel.value l.values)
     × (g.K.Kernel.count l.kernel ≡ g.K.Kernel.count l.fn.kernel + l.block * 2 ^ l.stage)

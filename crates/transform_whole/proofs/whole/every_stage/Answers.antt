@@ -1,7 +1,9 @@
 use Rattle.std.proofs.Common.{◌≡◌, ℕ, suc, ◌+◌, ◌-◌, ◌*◌, ◌^◌, ◌<◌, length, map, refl, sym, ◌∙◌, ap, subst, arith}
 use Rattle.std.proofs.lemmas.List.{length-map}
+use Rattle.field_base.proofs.RemainderRing.{ghash_ring}
+use Rattle.transform_slices.specs.LowStages.{ghash_product}
 use Rattle.transform_whole.proofs.Counts.{block_count, half_count, stage_counted, stage_room, whole_blocks}
-use Rattle.transform_whole.proofs.OnlyStages.{all_leave, values_fit}
+use Rattle.transform_whole.proofs.OnlyStages.{ghash_all_leave, values_fit}
 use Rattle.transform_whole.proofs.WholeStages.{AreLeft, left_step}
 use Rattle.transform_whole.proofs.whole.every_stage.Goals as goal
 
@@ -42,10 +44,11 @@ loop-stage-preserved g c =
     let above : 0 < m = omega arith in
     let done : suc (m - stage) ≡ m - (stage - 1) = omega arith in (
       c.forward_stage.ensures.length ∙ c.loop-stage.invariant.0,
-      left_step twiddles.shifts twiddles.basis m (stage - 1) _ (map value c.args.values.now) (map value c.loop-stage.values)
-          (map value c.forward_stage.new.values) below (block_count m (stage - 1) _ below is)
-          (values_fit value g.K.Kernel.range_law c.loop-stage.values) c.forward_stage.ensures.stage
-          (subst (λ (n : ℕ). AreLeft twiddles.shifts twiddles.basis m n (map value c.args.values.now) (map value c.loop-stage.values))
+      left_step 128 ghash_product ghash_ring twiddles.shifts twiddles.basis m (stage - 1) _ (map value c.args.values.now)
+          (map value c.loop-stage.values) (map value c.forward_stage.new.values) below (block_count m (stage - 1) _ below is)
+          (values_fit 128 value g.K.Kernel.range_law c.loop-stage.values) c.forward_stage.ensures.stage
+          (subst (λ (n : ℕ). AreLeft ghash_product twiddles.shifts twiddles.basis m n (map value c.args.values.now)
+          (map value c.loop-stage.values))
           (sym next) c.loop-stage.invariant.1),
       stage_counted _ _ _ (m - stage) (2 ^ (m - 1)) c.loop-stage.invariant.2
           (c.forward_stage.ensures.count ∙ ap (λ (n : ℕ). g.K.Kernel.count c.loop-stage.kernel + n) (half_count m _ above is))
@@ -56,11 +59,11 @@ pub returns-clause-values : goal.returns-clause-values
 returns-clause-values g c =
     let value = g.K.Kernel.value in
     let last : c.loop-stage.stage ≡ 0 = omega arith in
-    all_leave c.args.twiddles.now.shifts c.args.twiddles.now.basis c.args.z c.requires.twiddles c.requires.reach c.args.stages
+    ghash_all_leave c.args.twiddles.now.shifts c.args.twiddles.now.basis c.args.z c.requires.twiddles c.requires.reach c.args.stages
     c.requires.stages.0 (map value c.args.values.now) (map value c.loop-stage.values)
-    (length-map c.args.values.now value ∙ c.requires.stages.1) (values_fit value g.K.Kernel.range_law c.loop-stage.values)
-    (subst (λ (n : ℕ). AreLeft c.args.twiddles.now.shifts c.args.twiddles.now.basis c.args.stages n (map value c.args.values.now)
-    (map value c.loop-stage.values)) last c.loop-stage.invariant.1)
+    (length-map c.args.values.now value ∙ c.requires.stages.1) (values_fit 128 value g.K.Kernel.range_law c.loop-stage.values)
+    (subst (λ (n : ℕ). AreLeft ghash_product c.args.twiddles.now.shifts c.args.twiddles.now.basis c.args.stages n
+    (map value c.args.values.now) (map value c.loop-stage.values)) last c.loop-stage.invariant.1)
 
 pub returns-clause-count : goal.returns-clause-count
 returns-clause-count g c =

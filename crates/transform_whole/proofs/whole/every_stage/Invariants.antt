@@ -1,4 +1,5 @@
 use Rattle.std.proofs.Common.{◌≡◌, ◌+◌, ◌-◌, ◌*◌, ◌^◌, length, map}
+use Rattle.transform_slices.specs.LowStages.{ghash_product}
 use Rattle.transform_whole.proofs.WholeStages.{AreLeft}
 use Rattle.transform_whole.proofs.whole.every_stage.Given as goal
 
@@ -6,5 +7,6 @@ use Rattle.transform_whole.proofs.whole.every_stage.Given as goal
 abbrev pub invariant-loop-stage : goal.invariant-loop-stage
 invariant-loop-stage g l =
     (length l.values ≡ length l.fn.values)
-    × AreLeft l.twiddles.shifts l.twiddles.basis l.stages l.stage (map g.K.Kernel.value l.fn.values) (map g.K.Kernel.value l.values)
+    × AreLeft ghash_product l.twiddles.shifts l.twiddles.basis l.stages l.stage (map g.K.Kernel.value l.fn.values)
+    (map g.K.Kernel.value l.values)
     × (g.K.Kernel.count l.kernel ≡ g.K.Kernel.count l.fn.kernel + (l.stages - l.stage) * 2 ^ (l.stages - 1))

@@ -2,6 +2,8 @@ use Rattle.std.proofs.Common.{◌≡◌, ℕ, suc, ◌+◌, ◌-◌, ◌*◌, �
 use Rattle.std.proofs.lemmas.List.{length-map}
 use lib.Seq.{length-take-le}
 use Rattle.transform_slices.specs.Twiddles.{basis_of}
+use Rattle.field_base.proofs.RemainderRing.{ghash_ring}
+use Rattle.transform_slices.specs.LowStages.{ghash_product}
 use Rattle.transform_whole.proofs.Counts.{block_count, half_count, low_counted, low_room, stage_counted, stage_room, two_halves, whole_blocks}
 use Rattle.transform_whole.proofs.OnlyStages.{forward_leaves, values_fit}
 use Rattle.transform_whole.proofs.WholeStages.{AreLeft, left_step}
@@ -35,10 +37,11 @@ loop-stage-preserved g c =
     let done : suc (m - stage) ≡ m - (stage - 1) = omega arith in (
       c.forward_stage.ensures.length ∙ c.loop-stage.invariant.0,
       omega arith,
-      left_step twiddles.shifts twiddles.basis m (stage - 1) _ (map value c.args.values.now) (map value c.loop-stage.values)
-          (map value c.forward_stage.new.values) below (block_count m (stage - 1) _ below is)
-          (values_fit value g.K.Kernel.range_law c.loop-stage.values) c.forward_stage.ensures.stage
-          (subst (λ (n : ℕ). AreLeft twiddles.shifts twiddles.basis m n (map value c.args.values.now) (map value c.loop-stage.values))
+      left_step 128 ghash_product ghash_ring twiddles.shifts twiddles.basis m (stage - 1) _ (map value c.args.values.now)
+          (map value c.loop-stage.values) (map value c.forward_stage.new.values) below (block_count m (stage - 1) _ below is)
+          (values_fit 128 value g.K.Kernel.range_law c.loop-stage.values) c.forward_stage.ensures.stage
+          (subst (λ (n : ℕ). AreLeft ghash_product twiddles.shifts twiddles.basis m n (map value c.args.values.now)
+          (map value c.loop-stage.values))
           (sym next) c.loop-stage.invariant.2),
       stage_counted _ _ _ (m - stage) (2 ^ (m - 1)) c.loop-stage.invariant.3
           (c.forward_stage.ensures.count ∙ ap (λ (n : ℕ). g.K.Kernel.count c.loop-stage.kernel + n) (half_count m _ above is))
@@ -80,8 +83,8 @@ returns-clause-values g c =
     c.requires.stages.0 c.requires.enough _ _ (map value c.args.values.now) (map value c.loop-stage.values) _ c.requires.shifts
     c.requires.basis (length-map c.args.values.now value ∙ c.requires.stages.1)
     (length-map c.loop-stage.values value ∙ c.loop-stage.invariant.0 ∙ c.requires.stages.1)
-    (subst (λ (n : ℕ). AreLeft c.args.twiddles.now.shifts c.args.twiddles.now.basis c.args.stages n (map value c.args.values.now)
-    (map value c.loop-stage.values)) last c.loop-stage.invariant.2)
+    (subst (λ (n : ℕ). AreLeft ghash_product c.args.twiddles.now.shifts c.args.twiddles.now.basis c.args.stages n
+    (map value c.args.values.now) (map value c.loop-stage.values)) last c.loop-stage.invariant.2)
     c.low_forward.ensures.sums
 
 pub returns-clause-count : goal.returns-clause-count

@@ -1,12 +1,14 @@
 use Rattle.std.proofs.Common.{◌≡◌, ℕ, suc, ◌+◌, ◌-◌, ◌*◌, ◌^◌, ◌<◌, length, map, refl, ◌∙◌, ap, subst, arith}
 use Rattle.std.proofs.lemmas.List.{length-map}
+use Rattle.field_base.proofs.RemainderRing.{ghash_ring}
+use Rattle.transform_slices.specs.LowStages.{ghash_product}
 use Rattle.transform_whole.proofs.Counts.{block_count, half_count, stage_counted, whole_blocks}
-use Rattle.transform_whole.proofs.OnlyStages.{inverse_leaves, values_fit}
+use Rattle.transform_whole.proofs.OnlyStages.{ghash_inverse_leaves, values_fit}
 use Rattle.transform_whole.proofs.WholeStages.{AreUndone, undone_start, undone_step}
 use Rattle.transform_whole.proofs.whole.inverse_with.Goals as goal
 
 pub loop-stage-init : goal.loop-stage-init
-loop-stage-init g c = (refl, undone_start _ _ _ _, omega arith)
+loop-stage-init g c = (refl, undone_start _ _ _ _ _, omega arith)
 
 pub inverse_stage-requires-clause-whole : goal.inverse_stage-requires-clause-whole
 inverse_stage-requires-clause-whole g c =
@@ -24,10 +26,11 @@ loop-stage-preserved g c =
     let above : 0 < m = omega arith in
     let next : suc stage ≡ stage + 1 = omega arith in (
       c.inverse_stage.ensures.length ∙ c.loop-stage.invariant.0,
-      subst (λ (n : ℕ). AreUndone twiddles.shifts twiddles.basis m n (map value c.args.values.now) (map value c.inverse_stage.new.values)) next
-          (undone_step twiddles.shifts twiddles.basis m stage _ (map value c.args.values.now) (map value c.loop-stage.values)
-          (map value c.inverse_stage.new.values) below (block_count m stage _ below is)
-          (values_fit value g.K.Kernel.range_law c.inverse_stage.new.values) c.inverse_stage.ensures.stage c.loop-stage.invariant.1),
+      subst (λ (n : ℕ). AreUndone ghash_product twiddles.shifts twiddles.basis m n (map value c.args.values.now)
+          (map value c.inverse_stage.new.values)) next
+          (undone_step 128 ghash_product ghash_ring twiddles.shifts twiddles.basis m stage _ (map value c.args.values.now)
+          (map value c.loop-stage.values) (map value c.inverse_stage.new.values) below (block_count m stage _ below is)
+          (values_fit 128 value g.K.Kernel.range_law c.inverse_stage.new.values) c.inverse_stage.ensures.stage c.loop-stage.invariant.1),
       stage_counted _ _ _ stage (2 ^ (m - 1)) c.loop-stage.invariant.2
           (c.inverse_stage.ensures.count ∙ ap (λ (n : ℕ). g.K.Kernel.count c.loop-stage.kernel + n) (half_count m _ above is))
           ∙ ap (λ (n : ℕ). g.K.Kernel.count c.args.kernel.now + n * 2 ^ (m - 1)) next,
@@ -40,9 +43,10 @@ returns-clause-coefficients g c =
     let twiddles = c.new-twiddles.result in
     let stages = c.stages_of-stages.ensures.stages in
     let last : c.loop-stage.stage ≡ m = omega arith in
-    inverse_leaves twiddles.shifts twiddles.basis c.args.z c.new-twiddles.ensures.twiddles c.new-twiddles.ensures.reach m stages.0
+    ghash_inverse_leaves twiddles.shifts twiddles.basis c.args.z c.new-twiddles.ensures.twiddles c.new-twiddles.ensures.reach m stages.0
     (map value c.args.values.now) (map value c.loop-stage.values) (length-map c.args.values.now value ∙ stages.1)
     (length-map c.loop-stage.values value ∙ c.loop-stage.invariant.0 ∙ stages.1)
-    (values_fit value g.K.Kernel.range_law c.args.values.now) (values_fit value g.K.Kernel.range_law c.loop-stage.values)
-    (subst (λ (n : ℕ). AreUndone twiddles.shifts twiddles.basis m n (map value c.args.values.now) (map value c.loop-stage.values)) last
+    (values_fit 128 value g.K.Kernel.range_law c.args.values.now) (values_fit 128 value g.K.Kernel.range_law c.loop-stage.values)
+    (subst (λ (n : ℕ). AreUndone ghash_product twiddles.shifts twiddles.basis m n (map value c.args.values.now)
+    (map value c.loop-stage.values)) last
     c.loop-stage.invariant.1)

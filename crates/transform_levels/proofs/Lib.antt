@@ -1,0 +1,3 @@
+pub mod Carries
+pub mod LevelStages
+pub mod LevelPoints
