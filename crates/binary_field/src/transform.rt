@@ -4,6 +4,6 @@
 pub use transform_elements::{ElementKernel, ElementPairs};
 pub use transform_levels::{element_point, forward_elements, inverse_elements};
 pub use transform_whole::{
-    Kernel, PairByPair, PairKernel, PolyKernel, forward, forward_numbers, forward_with, inverse,
-    inverse_numbers, inverse_with, point,
+    Kernel, PairByPair, PairKernel, PolyKernel, Transform, forward, forward_numbers, forward_with,
+    inverse, inverse_numbers, inverse_with, point,
 };

@@ -80,11 +80,15 @@ pub low_room : (old now m h : ℕ) → 4 ≤ m → old + m * h < 2 ^ 64 → now 
 low_room old now m h enough room is =
     let last = low_counted old now (now + 4 * h) m h enough is refl in omega (arith, last, room)
 
+-- the pairs of at most 40 stages
+pub pairs_fit : (m : ℕ) → m ≤ 40 → m * 2 ^ (m - 1) < 2 ^ 64
+pairs_fit m few =
+    let half : 2 ^ (m - 1) ≤ 2 ^ 39 = pow_mono {i = m - 1} {j = 39} (omega (arith, few)) in
+    let pairs : m * 2 ^ (m - 1) ≤ 40 * 2 ^ (m - 1) = mul-le-mul_right (2 ^ (m - 1)) few in
+    omega (arith, half, pairs)
+
 -- where none is counted yet, a transform of at most 40 stages has room
 pub transform_room : (values count : ℕ) → count ≡ 0 → (m : ℕ) × HasStages m values → FitsTransform values count
 transform_room values count none stages =
-    let m = stages.0 in
-    let few : m ≤ 40 = stages.1.0 in
-    let half : 2 ^ (m - 1) ≤ 2 ^ 39 = pow_mono {i = m - 1} {j = 39} (omega (arith, few)) in
-    let pairs : m * 2 ^ (m - 1) ≤ 40 * 2 ^ (m - 1) = mul-le-mul_right (2 ^ (m - 1)) few in
-    (m, stages.1, omega (arith, none, half, pairs))
+    let room = pairs_fit stages.0 stages.1.0 in
+    (stages.0, stages.1, omega (arith, none, room))

@@ -14,6 +14,7 @@ mod laws;
 pub mod over;
 mod pairs;
 mod points;
+mod prepared;
 mod stages;
 mod twiddles;
 mod whole;
@@ -22,6 +23,7 @@ pub use crate::kernel::{Kernel, PolyKernel};
 pub use crate::laws::values_commute_with_images;
 pub use crate::pairs::{PairByPair, PairKernel, low_stages};
 pub use crate::points::point;
+pub use crate::prepared::Transform;
 pub use crate::stages::{half_of, start_of};
 pub use crate::whole::{
     forward, forward_by_butterflies, forward_numbers, forward_with, inverse, inverse_numbers,

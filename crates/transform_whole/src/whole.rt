@@ -136,9 +136,7 @@ pub fn inverse_with<K: Kernel>(kernel: &mut K, values: &mut [K::Elem], z: u128)
 {
     let stages = stages_of(values.len());
     let twiddles = Twiddles::new(z);
-    for stage in 0..stages {
-        inverse_stage(kernel, values, stage, &twiddles);
-    }
+    undo_stages(kernel, values, stages, &twiddles, z);
 }
 
 /// The stages of a transform of so many values: the m for which there are 2^m. There has to be one, from 0 to 40.
@@ -156,8 +154,29 @@ pub fn stages_of(count: usize) -> usize
     40
 }
 
+// The stages of an inverse transform, from the lowest up.
+pub(crate) fn undo_stages<K: Kernel>(
+    kernel: &mut K,
+    values: &mut [K::Elem],
+    stages: usize,
+    twiddles: &Twiddles,
+    z: u128,
+)
+    requires stages { HasStages stages (length values.old) }
+    requires room { K.count kernel.old + stages * 2 ^ (stages - 1) < 2 ^ 64 }
+    requires twiddles { AreCantorTwiddles 128 ghash_product ghash_cantor_vector z 40 twiddles.now.shifts twiddles.now.basis }
+    requires reach { length twiddles.now.basis ≡ 39 }
+    ensures length { length values.new ≡ length values.old }
+    ensures coefficients { AreOnlyCoefficients z (map K.value values.old) (map K.value values.new) }
+    ensures count { K.count kernel.new ≡ K.count kernel.old + stages * 2 ^ (stages - 1) }
+{
+    for stage in 0..stages {
+        inverse_stage(kernel, values, stage, twiddles);
+    }
+}
+
 // The stages of a forward transform, from the highest down.
-fn every_stage<K: Kernel>(
+pub(crate) fn every_stage<K: Kernel>(
     kernel: &mut K,
     values: &mut [K::Elem],
     stages: usize,
@@ -179,7 +198,7 @@ fn every_stage<K: Kernel>(
 
 // The stages of a forward transform that has four or more, from the highest down: those from the fourth on by butterflies, and the
 // lowest in runs.
-fn forward_stages<K: Kernel, A: Allocator>(
+pub(crate) fn forward_stages<K: Kernel, A: Allocator>(
     kernel: &mut K,
     values: &mut [K::Elem],
     stages: usize,
@@ -205,6 +224,6 @@ fn forward_stages<K: Kernel, A: Allocator>(
 }
 
 // States that the values are numbers of 128 bits: what a contract may say of a slice's numbers is known where they are read.
-fn numbers_fit(values: &[u128])
+pub(crate) fn numbers_fit(values: &[u128])
     ensures { (p : ℕ) → slice_index values.now p < 2 ^ 128 }
 {}

@@ -5,23 +5,23 @@ use Rattle.transform_slices.specs.LowStages.{ghash_product}
 use Rattle.transform_whole.proofs.Counts.{block_count, half_count, stage_counted, whole_blocks}
 use Rattle.transform_whole.proofs.OnlyStages.{ghash_inverse_leaves, values_fit}
 use Rattle.transform_whole.proofs.WholeStages.{AreUndone, undone_start, undone_step}
-use Rattle.transform_whole.proofs.whole.inverse_with.Goals as goal
+use Rattle.transform_whole.proofs.whole.undo_stages.Goals as goal
 
 pub loop-stage-init : goal.loop-stage-init
 loop-stage-init g c = (refl, undone_start _ _ _ _ _, omega arith)
 
 pub inverse_stage-requires-clause-whole : goal.inverse_stage-requires-clause-whole
 inverse_stage-requires-clause-whole g c =
-    whole_blocks c.stages_of-stages.result c.loop-stage.stage (length c.loop-stage.values) (omega arith)
-    (c.loop-stage.invariant.0 ∙ c.stages_of-stages.ensures.stages.1)
+    whole_blocks c.args.stages c.loop-stage.stage (length c.loop-stage.values) (omega arith)
+    (c.loop-stage.invariant.0 ∙ c.requires.stages.1)
 
 pub loop-stage-preserved : goal.loop-stage-preserved
 loop-stage-preserved g c =
-    let m = c.stages_of-stages.result in
+    let m = c.args.stages in
     let stage = c.loop-stage.stage in
     let value = g.K.Kernel.value in
-    let twiddles = c.new-twiddles.result in
-    let is = c.loop-stage.invariant.0 ∙ c.stages_of-stages.ensures.stages.1 in
+    let twiddles = c.args.twiddles.now in
+    let is = c.loop-stage.invariant.0 ∙ c.requires.stages.1 in
     let below : stage < m = omega arith in
     let above : 0 < m = omega arith in
     let next : suc stage ≡ stage + 1 = omega arith in (
@@ -38,12 +38,12 @@ loop-stage-preserved g c =
 
 pub returns-clause-coefficients : goal.returns-clause-coefficients
 returns-clause-coefficients g c =
-    let m = c.stages_of-stages.result in
+    let m = c.args.stages in
     let value = g.K.Kernel.value in
-    let twiddles = c.new-twiddles.result in
-    let stages = c.stages_of-stages.ensures.stages in
+    let twiddles = c.args.twiddles.now in
+    let stages = c.requires.stages in
     let last : c.loop-stage.stage ≡ m = omega arith in
-    ghash_inverse_leaves twiddles.shifts twiddles.basis c.args.z c.new-twiddles.ensures.twiddles c.new-twiddles.ensures.reach m stages.0
+    ghash_inverse_leaves twiddles.shifts twiddles.basis c.args.z c.requires.twiddles c.requires.reach m stages.0
     (map value c.args.values.now) (map value c.loop-stage.values) (length-map c.args.values.now value ∙ stages.1)
     (length-map c.loop-stage.values value ∙ c.loop-stage.invariant.0 ∙ stages.1)
     (values_fit 128 value g.K.Kernel.range_law c.args.values.now) (values_fit 128 value g.K.Kernel.range_law c.loop-stage.values)

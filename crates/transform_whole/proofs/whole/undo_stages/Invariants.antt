@@ -1,7 +1,7 @@
 use Rattle.std.proofs.Common.{◌≡◌, ◌+◌, ◌-◌, ◌*◌, ◌^◌, length, map}
 use Rattle.transform_slices.specs.LowStages.{ghash_product}
 use Rattle.transform_whole.proofs.WholeStages.{AreUndone}
-use Rattle.transform_whole.proofs.whole.inverse_with.Given as goal
+use Rattle.transform_whole.proofs.whole.undo_stages.Given as goal
 
 -- the stages before this one are undone, and each counted its pairs
 abbrev pub invariant-loop-stage : goal.invariant-loop-stage
