@@ -3,6 +3,7 @@ mod grinding;
 mod heaps;
 mod lists;
 mod many_calls;
+mod numbers;
 mod partners;
 mod scripts;
 mod seeds;
