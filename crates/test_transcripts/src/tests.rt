@@ -7,5 +7,6 @@ mod numbers;
 mod partners;
 mod scripts;
 mod seeds;
+mod slices;
 mod trials;
 mod vectors;
