@@ -47,6 +47,7 @@ pub use reed_solomon::{erasure_field, lost_shards_return};
 
 // transcripts
 pub use transcript_bytes::runs_join;
+pub use transcript_elements::elements_join;
 
 // lines of text and their answers
 pub use calculator::{

@@ -80,7 +80,7 @@ pub use transcript_bytes::{
 pub use transcript_elements::{
     BinaryChallenger, ByteLevel, Call, CanObserve, CanSample, CanSampleBits, CanSampleUniformBits,
     Digest, FieldChallenger, GrindError, GrindingChallenger, Hash, MerkleCap, Recorder, Reply,
-    Transcript, TranscriptError, TranscriptField, TypeTag, run_calls,
+    SampleArray, Transcript, TranscriptError, TranscriptField, TypeTag, run_calls,
 };
 
 // Reed-Solomon codes over bytes

@@ -1,9 +1,9 @@
 -- Bytes and the numbers that they represent: a number is built byte by byte, cut into bytes, and recovered from them. low_bytes
 -- has the lowest byte first, be_bytes the highest.
 use Rattle.std.proofs.Common.{◌≡◌, ◌<◌, ◌≤◌, ◌+◌, ◌-◌, ◌*◌, ◌/◌, ◌%◌, ◌^◌, ℕ, zero, suc, List, [], ◌∷◌, ◌++◌, length, take, drop, reverse, get_or, refl, sym, lit<, ap, ap₂, subst, ◌∙◌, arith}
-use Rattle.std.proofs.Math.Pow.{mod-mod-pow, pow_mono}
-use Rattle.std.proofs.Math.Nat.{add-mul-mod_self_left, div-div-eq-div-mul, lt_of_lt_of_le, mod-one, pow-suc}
-use Rattle.std.proofs.Math.Seq.{drop-cons, take-append_seam, take-suc}
+use Rattle.std.proofs.Math.Pow.{mod-mod-pow}
+use Rattle.std.proofs.Math.Nat.{add-mul-mod_self_left, div-div-eq-div-mul, mod-one, pow-suc}
+use Rattle.std.proofs.Math.Seq.{take-append_seam}
 use Rattle.std.proofs.lemmas.Nat.{div-mul-add, mod-pow-add, pow-add}
 use native.Mathlib.Nat.{div-one, mod-eq_of_lt, mul-suc}
 use native.Mathlib.Numerals.{add-one}

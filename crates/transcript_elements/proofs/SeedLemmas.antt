@@ -9,8 +9,10 @@ use Rattle.std.proofs.lemmas.List.{append-nil, append_assoc, append_cancel_left,
 use Rattle.field_bytes.specs.Bytes.{low_bytes, number_of_bytes}
 use Rattle.field_bytes.specs.Streams.{joined_bytes}
 use Rattle.field_base.specs.Chunks.{chunks, joined}
+use Rattle.transcript_elements.proofs.ListLemmas.{in_turn-append, none_in_turn, pushed_in_turn}
 use Rattle.transcript_elements.proofs.LowBytes.{fits-take, length-low, low-cons, number-low, number-lt}
-use Rattle.transcript_elements.specs.Seeds.{AreOfSeed, missing, NeitherBegins, Observes, ObservesAll, ObservesPart, padded, seed_bytes}
+use Rattle.transcript_elements.specs.Lists.{InTurn}
+use Rattle.transcript_elements.specs.Seeds.{AreOfSeed, missing, NeitherBegins, Observes, ObservesPart, padded, seed_bytes}
 
 -- ---- bytes filled with zeros
 
@@ -109,32 +111,12 @@ on_err-with (Err error) gives holds = gives holds
 pub record Absorbed {E C : Type 0} (size : ℕ) (repr : E → ℕ) (observes : C → E → C → Type 0) (bytes rest : List ℕ) (old now : C) : Type 0 where
   pub elements : List E
   pub joined : joined_bytes size repr elements ++ padded size rest ≡ padded size bytes
-  pub run : ObservesAll observes elements old now
-
--- elements that are observed after others are observed after those that the others begin with
-observes_joined : {E C : Type 0} (observes : C → E → C → Type 0) (first second : List E) (old now next : C)
-    → ObservesAll observes first old now → ObservesAll observes second now next → ObservesAll observes (first ++ second) old next
-unfolding ObservesAll
-observes_joined observes [] second old now next none run =
-    subst (λ transcript. ObservesAll observes second transcript next) none run
-observes_joined observes (x ∷ first) second old now next (after, step, rest) run =
-    (after, step, observes_joined observes first second after now next rest run)
-
--- one element that is observed
-observes_one : {E C : Type 0} (observes : C → E → C → Type 0) (x : E) (old new : C) → observes old x new
-    → ObservesAll observes (x ∷ []) old new
-unfolding ObservesAll
-observes_one observes x old new step = (new, step, refl)
-
--- no elements are observed, and the transcript stays
-pub observes_none : {E C : Type 0} (observes : C → E → C → Type 0) (old : C) → ObservesAll observes [] old old
-unfolding ObservesAll
-observes_none observes old = refl
+  pub run : InTurn observes elements old now
 
 module _ {E C : Type 0} (size : ℕ) (repr : E → ℕ) (observes : C → E → C → Type 0) (bytes : List ℕ) (old : C) where
   -- at first no elements were observed, and all bytes are left
   pub absorbed_none : Absorbed size repr observes bytes bytes old old
-  absorbed_none = record { elements = []; joined = refl; run = observes_none observes old }
+  absorbed_none = record { elements = []; joined = refl; run = none_in_turn observes old }
 
   -- one more element was observed, that of the first of the bytes that are left
   pub absorbed_more : (width taken : ℕ) (rest : List ℕ) (x : E) (now next : C) → Absorbed size repr observes bytes rest old now
@@ -152,7 +134,7 @@ module _ {E C : Type 0} (size : ℕ) (repr : E → ℕ) (observes : C → E → 
         ∙ ap (λ xs. joined_bytes size repr before.elements ++ xs) (sym (padded_first size taken rest some count))
         ∙ before.joined;
     run =
-        observes_joined observes before.elements (x ∷ []) old now next before.run (observes_one observes x now next step);
+        pushed_in_turn observes before.elements x old now next before.run step;
   }
     where
       count : (taken ≡ size) × (size ≤ length rest) ⊎ (taken ≡ length rest) × (length rest < size)
@@ -207,7 +189,7 @@ module _ {E C : Type 0} (size : ℕ) (repr : E → ℕ) (observes : C → E → 
   observes_both first second now next before after = (
     before.0 ++ after.0,
     flat_map-append (λ y. low_bytes size (repr y)) before.0 after.0 ∙ ap₂ (λ xs ys. xs ++ ys) before.1 after.1,
-    observes_joined observes before.0 after.0 old now next before.2 after.2,
+    in_turn-append observes before.0 after.0 old now next before.2 after.2,
   )
 
   -- if the second loop failed, part of the joined bytes was observed
@@ -224,7 +206,7 @@ module _ {E C : Type 0} (size : ℕ) (repr : E → ℕ) (observes : C → E → 
           ∙ ap₂ (λ xs ys. xs ++ ys) before.1 begins,
       more,
     ),
-    observes_joined observes before.0 elements old now last before.2 run,
+    in_turn-append observes before.0 elements old now last before.2 run,
     leaves,
   )
 

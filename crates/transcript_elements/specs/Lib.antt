@@ -4,6 +4,8 @@ pub mod Digests
 pub mod Grinding
 pub mod Sampled
 pub mod BigEndian
+pub mod Joined
+pub mod Lists
 pub mod Recorders
 pub mod Seeds
 pub mod StateLemmas

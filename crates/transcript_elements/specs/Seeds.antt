@@ -1,8 +1,9 @@
 -- How a seed, a string of bytes, is read as elements of `size` bytes each: its length as eight bytes and then the seed, each filled
 -- with zeros to whole elements. This encoding is prefix-free.
-use Rattle.std.specs.Prelude.{◌≡◌, ◌≢◌, ◌<◌, ◌-◌, ◌%◌, ◌^◌, ℕ, List, [], ◌∷◌, ◌++◌, length, replicate}
+use Rattle.std.specs.Prelude.{◌≡◌, ◌≢◌, ◌<◌, ◌-◌, ◌%◌, ◌^◌, ℕ, List, ◌++◌, length, replicate}
 use Rattle.field_bytes.specs.Bytes.{low_bytes}
 use Rattle.field_bytes.specs.Streams.{joined_bytes}
+use Rattle.transcript_elements.specs.Lists.{InTurn}
 
 -- how many bytes are missing to a whole number of elements
 abbrev pub missing : ℕ → ℕ → ℕ
@@ -34,21 +35,15 @@ IsPrefixFree {E} size repr seed =
     (other : List ℕ) → length other < 2 ^ 64 → other ≢ seed
     → (xs ys : List E) → AreOfSeed size repr seed xs → AreOfSeed size repr other ys → NeitherBegins xs ys
 
--- elements are observed one after the other, each in the transcript that the one before it has left
-unfoldable pub ObservesAll : {E C : Type 0} → (C → E → C → Type 0) → List E → C → C → Type 0
-ObservesAll observes [] old new = new ≡ old
-ObservesAll {C = C} observes (element ∷ elements) old new =
-    (next : C) × observes old element next × ObservesAll observes elements next new
-
 -- elements whose bytes are those given are observed in order
 abbrev pub Observes : {E C : Type 0} → ℕ → (E → ℕ) → (C → E → C → Type 0) → List ℕ → C → C → Type 0
 Observes {E} size repr observes bytes old new =
-    (elements : List E) × (joined_bytes size repr elements ≡ bytes) × ObservesAll observes elements old new
+    (elements : List E) × (joined_bytes size repr elements ≡ bytes) × InTurn observes elements old new
 
 -- elements whose bytes are a proper prefix of those given are observed, and the call for the next element fails
 abbrev pub ObservesPart : {E C : Type 0} → ℕ → (E → ℕ) → (C → E → C → Type 0) → (C → C → Type 0) → List ℕ → C → C → Type 0
 ObservesPart {E} {C} size repr observes may_leave bytes old new =
-    (elements : List E) × (last : C) × BeginBytes size repr bytes elements × ObservesAll observes elements old last × may_leave last new
+    (elements : List E) × (last : C) × BeginBytes size repr bytes elements × InTurn observes elements old last × may_leave last new
 
 -- the elements of the bytes, filled with zeros to whole elements, are observed in order
 abbrev pub ObservesPadded : {E C : Type 0} → ℕ → (E → ℕ) → (C → E → C → Type 0) → List ℕ → C → C → Type 0

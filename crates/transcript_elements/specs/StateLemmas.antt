@@ -1,6 +1,6 @@
 -- What a challenger does depends on the state of its byte challenger alone. It stands here since implementations of the traits cite
 -- it.
-use Rattle.std.proofs.Common.{◌≡◌, ◌<◌, ◌+◌, ◌*◌, ◌%◌, ◌^◌, ℕ, zero, suc, List, ap, ap₂, arith, sym, subst, ◌∙◌}
+use Rattle.std.proofs.Common.{◌≡◌, ◌<◌, ◌+◌, ◌*◌, ◌%◌, ◌^◌, ℕ, zero, suc, ap, ap₂, arith, sym, subst, ◌∙◌}
 use Rattle.std.proofs.Math.Nat.{mod-eq_of_lt, mod-one}
 use Rattle.std.proofs.lemmas.List.{same_from_push}
 use Rattle.std.proofs.lemmas.Nat.{mod-pow-add}

@@ -3,6 +3,7 @@ ghost use Rattle.std.specs.Prelude.{◌≡◌, ◌<◌, ◌*◌, ◌^◌, ℕ, t
 ghost use Rattle.transcript_bytes.specs.ByteCalls.{after, observing};
 ghost use Rattle.transcript_bytes.specs.GuardedAnswers.{GuardedAnswer};
 ghost use Rattle.transcript_elements.specs.Challengers.{state_after, state_of};
+ghost use Rattle.transcript_elements.specs.Lists.{InTurn};
 ghost use Rattle.transcript_elements.specs.Sampled.{coefficient_bytes, SamplesCoefficients};
 ghost use Rattle.transcript_elements.specs.StateLemmas.{same_samples, same_value};
 ghost use Rattle.transcript_elements.specs.States.{GivesByState, LeadsByState};
@@ -46,6 +47,26 @@ pub trait FieldChallenger<F: PrimeCharacteristicRing>: CanObserve<F>
     // Of representations that fit in so many coefficients.
     ghost gives_algebra_law: { (n : ℕ) → GivesByState Self.state
         (λ (old : Self) (x : ℕ) (new : Self). (x < 2 ^ (F.width * n)) × gives_algebra old n x new) };
+
+    /// Observes the elements in order, as so many calls of `observe_algebra_element` do. It fails with `Memory` if memory was
+    /// refused, and with `Failed` if an earlier call had failed.
+    final fn observe_algebra_slice<E: BasedVectorSpace<F>>(
+        &mut self,
+        elements: &[E],
+    ) -> Result<(), ChallengerError>
+        ensures ok { OnOk result (InTurn (λ old element new. observes_algebra old E.DIMENSION (E.repr element) new)
+            elements.now self.old self.new) }
+        ensures kept { Self.has_failed self.old ≡ true → self.new ≡ self.old }
+        ensures answer { GuardedAnswer (Self.has_failed self.old) (Self.has_failed self.new) (Self.has_refused self.new) result }
+    {
+        if self.failed() {
+            return Err(ChallengerError::Failed);
+        }
+        'elements: for index in 0..elements.len() {
+            self.observe_algebra_element(elements[index])?;
+        }
+        Ok(())
+    }
 }
 
 impl<F: ByteLevel + BasedVectorSpace<F>, Inner: ByteChallenger> FieldChallenger<F>

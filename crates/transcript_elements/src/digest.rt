@@ -9,6 +9,8 @@ ghost use Rattle.transcript_elements.specs.Challengers.{state_after, state_of};
 ghost use Rattle.transcript_elements.specs.Digests.{roots_of, words_of};
 ghost use Rattle.transcript_elements.specs.StateLemmas.{same_value};
 
+mod numbers;
+
 use crate::challenger::BinaryChallenger;
 use crate::{ByteLevel, CanObserve};
 use std::alloc::{Allocator, Global};
@@ -30,6 +32,22 @@ impl<G, W: Copy, const N: usize> From<[W; N]> for Hash<G, W, N> {
             words,
             of: PhantomData,
         }
+    }
+}
+
+impl<G, W: Copy, const N: usize> From<Hash<G, W, N>> for [W; N] {
+    ghost from_gives = { λ hash words. words ≡ words_of hash };
+
+    fn from(hash: Hash<G, W, N>) -> [W; N] {
+        hash.words
+    }
+}
+
+impl<G, W, const N: usize> AsRef<[W; N]> for Hash<G, W, N> {
+    fn as_ref(&self) -> &[W; N]
+        ensures { result.now ≡ words_of self.now }
+    {
+        &self.words
     }
 }
 
@@ -56,6 +74,14 @@ impl<G, D: Drop, A: Allocator> MerkleCap<G, D, A> {
         ensures { result.now ≡ roots_of self.now }
     {
         self.roots.as_slice()
+    }
+
+    /// Gives the vector of the roots back.
+    pub fn into_roots(self) -> Vec<D, A>
+        ensures { result.items ≡ roots_of self }
+    {
+        let MerkleCap { roots, of: _ } = self;
+        roots
     }
 }
 

@@ -1,12 +1,14 @@
 // Transcripts, and the values that they observe.
 ghost use Rattle.std.specs.Prelude.{◌≡◌, false, true, Bool, OnErr, OnOk};
 ghost use Rattle.transcript_bytes.specs.GuardedAnswers.{GuardedAnswer};
+ghost use Rattle.transcript_elements.specs.Lists.{BeginsInTurn, InTurn};
 ghost use Rattle.transcript_elements.specs.States.{LeadsByState};
 
 use transcript_bytes::ChallengerError;
 
 /// A transcript. It has one state, which changes with what is observed and sampled. A call that is refused memory returns `Memory`,
-/// and the transcript has failed from then on: every later call returns `Failed`, and changes nothing.
+/// and the transcript has failed from then on: every later call returns `Failed`, and changes nothing. A call that takes memory of
+/// its own as well, as `sample_vec`, says what it leaves where that is refused.
 pub trait Transcript {
     // The states.
     ghost State: { Type 0 };
@@ -45,4 +47,23 @@ pub trait CanObserve<T>: Transcript {
     ghost may_stay: { (transcript : Self) → may_leave transcript transcript };
 
     ghost observes_law: { (value : T) → LeadsByState Self.state (λ old new. observes old value new) };
+
+    /// Observes the values in order, as so many calls of `observe` do. It fails with `Memory` at the first value for which memory was
+    /// refused; the values before it are then observed. It fails with `Failed` if an earlier call had failed.
+    final fn observe_slice(&mut self, values: &[T]) -> Result<(), ChallengerError>
+    where
+        T: Copy,
+        ensures ok { OnOk result (InTurn observes values.now self.old self.new) }
+        ensures err { Self.has_failed self.old ≡ false → OnErr result (BeginsInTurn observes may_leave values.now self.old self.new) }
+        ensures kept { Self.has_failed self.old ≡ true → self.new ≡ self.old }
+        ensures answer { GuardedAnswer (Self.has_failed self.old) (Self.has_failed self.new) (Self.has_refused self.new) result }
+    {
+        if self.failed() {
+            return Err(ChallengerError::Failed);
+        }
+        'values: for index in 0..values.len() {
+            self.observe(values[index])?;
+        }
+        Ok(())
+    }
 }

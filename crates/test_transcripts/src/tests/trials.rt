@@ -9,6 +9,7 @@ use super::scripts;
 use super::seeds::{
     ROWS_8, ROWS_16, ROWS_128, ROWS_OF_POLY_64, SeedRow, rows_hold, too_few_bytes_are_refused,
 };
+use super::slices::{slices_are_taken_at, vectors_go_in_one_call_at};
 use super::vectors::vectors_are_taken_at;
 use field_element::{Coefficients, CubicKernel, Element, Poly64, Poly192};
 use std::alloc::{AllocError, Global};
@@ -160,6 +161,19 @@ fn vectors_go_by_coefficients(rt: HostRuntime) -> Result<(), Fail> {
     let vector = Poly192::new([Poly64::new(1), Poly64::new(2), Poly64::new(3)]);
     assert!(rt;
         vectors_are_taken_at::<Coefficients, CubicKernel, u64, Poly64Kernel>(rt.alloc(), vector)
+    );
+    Ok(())
+}
+
+#[test]
+fn lists_of_values_go_in_one_call(rt: HostRuntime) -> Result<(), Fail> {
+    let vector = Poly192::new([Poly64::new(1), Poly64::new(2), Poly64::new(3)]);
+    assert!(rt;
+        slices_are_taken_at::<u32, Tower<Bits32>>(rt.alloc())?
+            && vectors_go_in_one_call_at::<Coefficients, CubicKernel, u64, Poly64Kernel>(
+                rt.alloc(),
+                vector
+            )?
     );
     Ok(())
 }

@@ -1,7 +1,8 @@
 -- The length and the bytes of a seed, one after the other.
 use Rattle.std.proofs.Common.{◌∙◌, [], arith, length, refl, rules}
 use Rattle.field_bytes.proofs.WordBytes.{eight_bytes}
-use Rattle.transcript_elements.proofs.SeedLemmas.{neither_begins, observes_none, on_err-with, on_ok-with, seed_is_long, seed_observed, seed_part_of_both, seed_part_of_first}
+use Rattle.transcript_elements.proofs.ListLemmas.{none_in_turn}
+use Rattle.transcript_elements.proofs.SeedLemmas.{neither_begins, on_err-with, on_ok-with, seed_is_long, seed_observed, seed_part_of_both, seed_part_of_first}
 use Rattle.transcript_elements.proofs.field.TranscriptField.observe_seed.Goals as goal
 
 pub returns-then-failed-clause-err : goal.returns-then-failed-clause-err
@@ -9,7 +10,7 @@ returns-then-failed-clause-err g c = (
   [],
   _,
   (_, refl, seed_is_long g.Self.RawDataSerializable.NUM_BYTES c.args.seed.now),
-  observes_none g.C.CanObserve.observes _,
+  none_in_turn g.C.CanObserve.observes _,
   g.met.C.CanObserve.may_stay _,
 )
 
