@@ -21,3 +21,9 @@ abbrev pub ArePowersOf : {R : Type 0} → (R → ℕ) → ℕ → (ℕ → ℕ �
 ArePowersOf {R} repr unit times a powers =
     (xs : List R) (rest : Powers R) → Yields (GivesNextPower repr times) powers xs rest
     → map repr xs ≡ powers_from unit times a 0 (length xs)
+
+-- whatever number of items is taken, they are b times the powers of a from a ^ 0 on
+abbrev pub AreShiftedPowersOf : {R : Type 0} → (R → ℕ) → ℕ → (ℕ → ℕ → ℕ) → ℕ → ℕ → Powers R → Type 0
+AreShiftedPowersOf {R} repr unit times b a powers =
+    (xs : List R) (rest : Powers R) → Yields (GivesNextPower repr times) powers xs rest
+    → map repr xs ≡ map (times b) (powers_from unit times a 0 (length xs))
