@@ -15,13 +15,7 @@ pub fn powers_vec<R: PrimeCharacteristicRing, A: Allocator>(
     ensures { IfOk result (λ powers. map R.repr powers.items
         ≡ map (λ i. power R.unit R.product (R.repr base) i) (range_with_len 0 count)) }
 {
-    let mut powers = Vec::with_capacity(alloc, count)?;
-    let mut current = R::ONE;
-    for _ in 0..count {
-        powers.push(current)?;
-        current = current * base;
-    }
-    Ok(powers)
+    shifted_powers_vec(alloc, base, R::ONE, count)
 }
 
 /// The first `count` powers of `base`, each times `first`: `first`, `first` `base`, `first` `base`², .. It fails only where the
