@@ -1,0 +1,2 @@
+pub mod LaneLists
+pub mod PackedPowers
