@@ -2,16 +2,25 @@
 //! shards. A call returns a status, and on every status but `OK` what it would have written is as before. None takes memory.
 #![tactic(auto)]
 
+mod blocks;
+mod changes;
+mod fours;
+mod kernel;
 mod linear;
 mod messages;
 mod numbers;
 mod pairs;
+mod products;
+mod scalars;
 mod shards;
+mod stages;
 mod transforms;
 
 pub use crate::linear::{map_bytes, map_wide};
 pub use crate::messages::{gcm_ghash, ghash, polyval, tags_are_equal};
+pub use crate::products::{dot_product, dot_product_wide, multiply, multiply_wide};
+pub use crate::scalars::{add_scaled, multiply_by};
 pub use crate::shards::{encode, reconstruct, reconstruct_data, verify};
 pub use crate::transforms::{
-    butterfly_forward, butterfly_inverse, inverse_transform, low_stages, transform,
+    butterfly_forward, butterfly_inverse, inverse_transform, low_stages, low_stages_wide, transform,
 };

@@ -28,7 +28,7 @@ pub fn map_wide(values: &[Wide], images: &[Wide], mapped: &mut [Wide]) -> u32
     if images.len() != 128 || values.len() != mapped.len() {
         return status::LENGTH;
     }
-    let map = ByteMap::new(&numbers_of(images));
+    let map = ByteMap::new(&numbers_of::<128>(images));
     for place in 0..mapped.len() {
         mapped[place] = Wide::new(map.apply(values[place].number()));
     }

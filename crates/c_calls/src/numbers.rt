@@ -1,15 +1,16 @@
 // The numbers of words of 128 bits.
-ghost use Rattle.std.specs.Prelude.{◌≡◌, ◌≤◌, length, map, take};
+ghost use Rattle.std.specs.Prelude.{◌≡◌, ℕ, ◌<◌, ◌≤◌, length, get_or, map, take};
 ghost use Rattle.c_slices.specs.Fields.{wide_number};
 
 use c_slices::Wide;
 
-/// The numbers of up to 128 words, and zeros.
-pub(crate) fn numbers_of(words: &[Wide]) -> [u128; 128]
-    requires { length words.now ≤ 128 }
+/// The numbers of up to N words, and zeros.
+pub(crate) fn numbers_of<const N: usize>(words: &[Wide]) -> [u128; N]
+    requires size { N ≤ 128 }
+    requires few { length words.now ≤ N }
     ensures { take (length words.now) result ≡ map wide_number words.now }
 {
-    let mut numbers = [0; 128];
+    let mut numbers = [0; N];
     for place in 0..words.len() {
         numbers[place] = words[place].number();
     }
@@ -26,4 +27,24 @@ pub(crate) fn four_numbers(words: &[Wide]) -> [u128; 4]
         numbers[place] = words[place].number();
     }
     numbers
+}
+
+/// Writes the first of the numbers, as many as there are words.
+pub(crate) fn put_numbers<const N: usize>(words: &mut [Wide], numbers: &[u128; N])
+    requires { length words.old ≤ N }
+    ensures { map wide_number words.new ≡ take (length words.old) numbers.now }
+{
+    for place in 0..words.len() {
+        words[place] = Wide::new(numbers[place]);
+    }
+}
+
+/// Makes every word 0.
+pub(crate) fn clear(words: &mut [Wide])
+    ensures length { length words.new ≡ length words.old }
+    ensures zeros { (k : ℕ) → k < length words.new → (d : _) → wide_number (get_or words.new k d) ≡ 0 }
+{
+    for place in 0..words.len() {
+        words[place] = Wide::new(0);
+    }
 }

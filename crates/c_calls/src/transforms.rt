@@ -4,10 +4,11 @@ ghost use Rattle.transform_whole.specs.Transform.{HasStages};
 ghost use Rattle.c_slices.specs.Fields.{wide_number};
 ghost use Rattle.c_calls.specs.Transforms.{ButterfliesForward, ButterfliesInverse, InvertsTransform, RunsLowStages, Transforms};
 
+use crate::kernel::WideKernel;
 use crate::numbers::{four_numbers, numbers_of};
-use crate::pairs::WidePairs;
+use crate::stages::run_stages;
 use c_slices::{Wide, status};
-use transform_whole::{Kernel, PairByPair, forward_by_butterflies, inverse_with};
+use transform_whole::{Kernel, forward_by_butterflies, inverse_with};
 
 /// At each place `low += scalar * high`, and then `high += low`.
 pub fn butterfly_forward(low: &mut [Wide], high: &mut [Wide], scalar: Wide) -> u32
@@ -16,7 +17,7 @@ pub fn butterfly_forward(low: &mut [Wide], high: &mut [Wide], scalar: Wide) -> u
     if low.len() != high.len() {
         return status::LENGTH;
     }
-    pair_by_pair().butterfly_forward(low, high, scalar.number());
+    WideKernel::new().butterfly_forward(low, high, scalar.number());
     status::OK
 }
 
@@ -27,12 +28,32 @@ pub fn butterfly_inverse(low: &mut [Wide], high: &mut [Wide], scalar: Wide) -> u
     if low.len() != high.len() {
         return status::LENGTH;
     }
-    pair_by_pair().butterfly_inverse(low, high, scalar.number());
+    WideKernel::new().butterfly_inverse(low, high, scalar.number());
     status::OK
 }
 
-/// The four lowest stages of a transform over runs of sixteen values, the first of which is run `first_run`.
+/// The four lowest stages of a transform over runs of sixteen values, the first of which is run `first_run`, with two products at once.
 pub fn low_stages(values: &mut [Wide], shifts: &[Wide], basis: &[Wide], first_run: u64) -> u32
+    ensures { RunsLowStages shifts.now basis.now first_run values.old values.new result }
+{
+    low_stages_by_some(values, shifts, basis, first_run, false)
+}
+
+/// The same with four products at once, made for x86-64-v3.
+pub fn low_stages_wide(values: &mut [Wide], shifts: &[Wide], basis: &[Wide], first_run: u64) -> u32
+    ensures { RunsLowStages shifts.now basis.now first_run values.old values.new result }
+{
+    low_stages_by_some(values, shifts, basis, first_run, true)
+}
+
+// Both, by two products at once or by four.
+fn low_stages_by_some(
+    values: &mut [Wide],
+    shifts: &[Wide],
+    basis: &[Wide],
+    first_run: u64,
+    by_fours: bool,
+) -> u32
     ensures { RunsLowStages shifts.now basis.now first_run values.old values.new result }
 {
     if shifts.len() != 4 || basis.len() < 3 || basis.len() > 128 || values.len() % 16 != 0 {
@@ -42,15 +63,9 @@ pub fn low_stages(values: &mut [Wide], shifts: &[Wide], basis: &[Wide], first_ru
         return status::LENGTH;
     }
     let four = four_numbers(shifts);
-    let numbers = numbers_of(basis);
+    let numbers = numbers_of::<128>(basis);
     let elements = &numbers[..basis.len()];
-    transform_whole::low_stages(
-        &mut WidePairs {},
-        &four,
-        elements,
-        values,
-        first_run as usize,
-    );
+    run_stages(&four, elements, values, u128::from(first_run), by_fours);
     status::OK
 }
 
@@ -61,7 +76,7 @@ pub fn transform(values: &mut [Wide], shift: Wide) -> u32
     if !has_stages(values.len()) {
         return status::LENGTH;
     }
-    forward_by_butterflies(&mut pair_by_pair(), values, shift.number());
+    forward_by_butterflies(&mut WideKernel::new(), values, shift.number());
     status::OK
 }
 
@@ -72,18 +87,8 @@ pub fn inverse_transform(values: &mut [Wide], shift: Wide) -> u32
     if !has_stages(values.len()) {
         return status::LENGTH;
     }
-    inverse_with(&mut pair_by_pair(), values, shift.number());
+    inverse_with(&mut WideKernel::new(), values, shift.number());
     status::OK
-}
-
-// The kernel, before it has counted a pair.
-fn pair_by_pair() -> PairByPair<WidePairs>
-    ensures { result.products ≡ 0 }
-{
-    PairByPair {
-        pairs: WidePairs {},
-        products: 0,
-    }
 }
 
 // Whether so many values are 2^m, m from 0 to 40.

@@ -78,7 +78,7 @@ impl<A: Allocator> LowStageTwiddles<A> {
         ensures sums { HoldSums (shifts_of self.now) (basis_of self.now) first_run values.old values.new }
         ensures values { HoldValuesAtCantorPoints (shifts_of self.now) (basis_of self.now) first_run values.old values.new }
     {
-        self.run_all(values, first_run, false);
+        run_low_stages(&self.shifts, &self.basis, values, first_run as u128);
     }
 
     /// As `forward`, with four products at once. It is made for x86-64-v3, whose vectors have 256 bits; on x86-64-v2 `forward` is faster.
@@ -89,28 +89,62 @@ impl<A: Allocator> LowStageTwiddles<A> {
         ensures sums { HoldSums (shifts_of self.now) (basis_of self.now) first_run values.old values.new }
         ensures values { HoldValuesAtCantorPoints (shifts_of self.now) (basis_of self.now) first_run values.old values.new }
     {
-        self.run_all(values, first_run, true);
+        run_low_stages_by_fours(&self.shifts, &self.basis, values, first_run as u128);
     }
+}
 
-    // The stages of all runs, by two products at once or by four.
-    fn run_all(&self, values: &mut [u128], first_run: usize, by_fours: bool)
-        requires whole { length values.old % 16 ≡ 0 }
-        requires numbered { values.old ≢ [] → first_run + length values.old / 16 ≤ 2 ^ (length (basis_of self.now) - 3) }
-        ensures length { length values.new ≡ length values.old }
-        ensures sums { HoldSums (shifts_of self.now) (basis_of self.now) first_run values.old values.new }
-        ensures values { HoldValuesAtCantorPoints (shifts_of self.now) (basis_of self.now) first_run values.old values.new }
-    {
-        let low = sums_of_three(&self.basis);
-        let mut number = first_run as u128;
-        let mut twiddles = with_images(&self.shifts, &self.basis, number);
-        for run in 0..values.len() / 16 {
-            if run > 0 {
-                let next = number + 1;
-                twiddles = with_images(&twiddles, &self.basis, number ^ next);
-                number = next;
-            }
-            transform_run(values, 16 * run, &twiddles, &low, by_fours);
+/// What `LowStageTwiddles::forward` does, by four shifts and a basis of at least three elements. The numbers of the runs have at most
+/// 127 bits.
+pub fn run_low_stages(shifts: &[u128; 4], basis: &[u128], values: &mut [u128], first_run: u128)
+    requires basis { 3 ≤ length basis.now }
+    requires whole { length values.old % 16 ≡ 0 }
+    requires numbered { values.old ≢ [] → first_run + length values.old / 16 ≤ 2 ^ (length basis.now - 3) }
+    requires fits { first_run + length values.old / 16 ≤ 2 ^ 127 }
+    ensures length { length values.new ≡ length values.old }
+    ensures sums { HoldSums shifts.now basis.now first_run values.old values.new }
+    ensures values { HoldValuesAtCantorPoints shifts.now basis.now first_run values.old values.new }
+{
+    run_all(shifts, basis, values, first_run, false);
+}
+
+/// The same with four products at once. It is made for x86-64-v3, whose vectors have 256 bits; on x86-64-v2 `run_low_stages` is faster.
+pub fn run_low_stages_by_fours(
+    shifts: &[u128; 4],
+    basis: &[u128],
+    values: &mut [u128],
+    first_run: u128,
+)
+    requires basis { 3 ≤ length basis.now }
+    requires whole { length values.old % 16 ≡ 0 }
+    requires numbered { values.old ≢ [] → first_run + length values.old / 16 ≤ 2 ^ (length basis.now - 3) }
+    requires fits { first_run + length values.old / 16 ≤ 2 ^ 127 }
+    ensures length { length values.new ≡ length values.old }
+    ensures sums { HoldSums shifts.now basis.now first_run values.old values.new }
+    ensures values { HoldValuesAtCantorPoints shifts.now basis.now first_run values.old values.new }
+{
+    run_all(shifts, basis, values, first_run, true);
+}
+
+// The stages of all runs, by two products at once or by four.
+fn run_all(shifts: &[u128; 4], basis: &[u128], values: &mut [u128], first_run: u128, by_fours: bool)
+    requires basis { 3 ≤ length basis.now }
+    requires whole { length values.old % 16 ≡ 0 }
+    requires numbered { values.old ≢ [] → first_run + length values.old / 16 ≤ 2 ^ (length basis.now - 3) }
+    requires fits { first_run + length values.old / 16 ≤ 2 ^ 127 }
+    ensures length { length values.new ≡ length values.old }
+    ensures sums { HoldSums shifts.now basis.now first_run values.old values.new }
+    ensures values { HoldValuesAtCantorPoints shifts.now basis.now first_run values.old values.new }
+{
+    let low = sums_of_three(basis);
+    let mut number = first_run;
+    let mut twiddles = with_images(shifts, basis, number);
+    for run in 0..values.len() / 16 {
+        if run > 0 {
+            let next = number + 1;
+            twiddles = with_images(&twiddles, basis, number ^ next);
+            number = next;
         }
+        transform_run(values, 16 * run, &twiddles, &low, by_fours);
     }
 }
 

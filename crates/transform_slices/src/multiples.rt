@@ -28,9 +28,10 @@ const HIGH_TAILS_HIGH: [u8; 16] = [
     0, 8, 16, 24, 33, 41, 49, 57, 67, 75, 83, 91, 98, 106, 114, 122,
 ];
 
-/// The multiples of a scalar by the digits of a byte to base 16, in rows: those of the low digit, and those of the high one.
+/// The multiples of a scalar by the digits of a byte to base 16, in rows: those of the low digit, and those of the high one. They are
+/// looked up in registers.
 #[derive(Drop)]
-pub(crate) struct Multiples {
+pub struct Multiples {
     scalar: u128,
     low: [u8; 256],
     high: [u8; 256],
@@ -42,7 +43,7 @@ impl Multiples {
     ghost use Rattle.transform_slices.specs.Multiples.{horner_step, scalar_of};
 
     /// The multiples of this scalar.
-    pub(crate) fn new(scalar: u128) -> Multiples
+    pub fn new(scalar: u128) -> Multiples
         ensures { scalar_of result ≡ scalar }
     {
         let low = transposed(&bytes_from(&multiples_of(scalar), 0));

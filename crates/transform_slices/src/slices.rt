@@ -18,10 +18,10 @@ use word_basis::LinearMap;
 use word_carryless::multiply_mod_128;
 
 /// The least number of elements for which a slice is multiplied in lanes, and not element by element.
-pub(crate) const LEAST_IN_LANES: usize = 16;
+pub const LEAST_IN_LANES: usize = 16;
 
 /// The least number of elements for which a slice is multiplied by the tables of a scalar in memory.
-pub(crate) const LEAST_TABLED: usize = 400;
+pub const LEAST_TABLED: usize = 400;
 
 /// Multiplies each value by `scalar`. From 16 values on it does so in lanes, by tables that it looks up in registers, so that no address
 /// depends on a value. From 400 values on it looks up tables by the digits of the values, which it makes on the stack.
@@ -126,8 +126,9 @@ fn add_products(values: &mut [u128], others: &[u128], scalar: u128)
     }
 }
 
-// Adds the products in blocks of sixteen, of which the last may be short.
-fn add_in_lanes(values: &mut [u128], others: &[u128], multiples: &Multiples)
+/// Adds to each value the product of the scalar and the other value at its place, in blocks of sixteen, of which the last may be short.
+/// No address depends on a value. The slices are of one length.
+pub fn add_in_lanes(values: &mut [u128], others: &[u128], multiples: &Multiples)
     requires { length values.old ≡ length others.now }
     ensures { values.new ≡ zip2 (add_multiple ghash_product (scalar_of multiples.now)) values.old others.now }
 {
@@ -148,7 +149,8 @@ fn add_block(values: &mut [u128], others: &[u128], start: usize, multiples: &Mul
     }
 }
 
-fn add_images(values: &mut [u128], others: &[u128], linear: &LinearMap)
+/// Adds to each value the image of the other value at its place. The slices are of one length.
+pub fn add_images(values: &mut [u128], others: &[u128], linear: &LinearMap)
     requires { length values.old ≡ length others.now }
     ensures { values.new ≡ zip2 (λ x y. bit_xor x (map_of linear.now y)) values.old others.now }
 {
@@ -157,8 +159,8 @@ fn add_images(values: &mut [u128], others: &[u128], linear: &LinearMap)
     }
 }
 
-// Adds to each value the other value at its place.
-fn add_each(values: &mut [u128], others: &[u128])
+/// Adds to each value the other value at its place. The slices are of one length.
+pub fn add_each(values: &mut [u128], others: &[u128])
     requires { length values.old ≡ length others.now }
     ensures { values.new ≡ zip2 bit_xor values.old others.now }
 {
@@ -167,8 +169,8 @@ fn add_each(values: &mut [u128], others: &[u128])
     }
 }
 
-// The product by a scalar as a linear map, which takes bit j to the product of the scalar and x^j.
-fn linear_multiples(scalar: u128) -> LinearMap
+/// The product by a scalar as a linear map, which takes bit j to the product of the scalar and x^j. Its tables stand in memory.
+pub fn linear_multiples(scalar: u128) -> LinearMap
     ensures { (x : ℕ) → map_of result x ≡ mul_mod 128 ghash_modulus scalar x }
 {
     let mut images = [0; 128];

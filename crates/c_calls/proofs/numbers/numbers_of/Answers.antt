@@ -4,7 +4,7 @@ use Rattle.c_slices.specs.Fields.{wide_number}
 use Rattle.c_calls.proofs.numbers.numbers_of.Goals as goal
 
 pub loop-place-preserved : goal.loop-place-preserved
-loop-place-preserved c =
+loop-place-preserved g c =
     let place = c.loop-place.place in
     let words = c.args.words.now in
     let within : place < length words = omega arith in
@@ -16,7 +16,7 @@ loop-place-preserved c =
     )
 
 pub returns : goal.returns
-returns c =
+returns g c =
     let place = c.loop-place.place in
     let words = c.args.words.now in
     let all : place ≡ length words = omega arith in

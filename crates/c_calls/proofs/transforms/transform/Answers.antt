@@ -4,5 +4,5 @@ use Rattle.c_calls.proofs.transforms.transform.Goals as goal
 
 pub forward_by_butterflies-requires : goal.forward_by_butterflies-requires
 forward_by_butterflies-requires c =
-    transform_room (length c.args.values.now) c.pair_by_pair.result.products c.pair_by_pair.ensures
+    transform_room (length c.args.values.now) c.new.result.pairs.products c.new.ensures
     (c.has_stages.ensures.0 c.if-not-has_stages.false)

@@ -1,0 +1,4 @@
+pub mod FourProducts
+pub mod WordDots
+pub mod WordRuns
+pub mod Words
