@@ -966,6 +966,27 @@ uint32_t bf_rs_reconstruct_data(
     uint64_t data, uint64_t parity, uint8_t *shards, size_t shards_length, const uint8_t *present,
     size_t present_length);
 
+/* --------------------------------------------------------------------------------------------------------------------- */
+/* Second forms, made for x86-64-v3, whose vectors have 256 bits. Each gives the same as the function without _wide, in every
+ * library; in one built for x86-64-v2 it is the slower of the two. The file libbinary_field.cpu beside the library says
+ * which it is. */
+
+/* products: the same as g128_multiply, made for x86-64-v3. BF_LENGTH unless left, right and products have one length. */
+uint32_t bf_g128_multiply_wide(
+    const bf_u128 *left, size_t left_length, const bf_u128 *right, size_t right_length, bf_u128 *products,
+    size_t products_length);
+
+/* sum: the same as g128_dot_product, made for x86-64-v3. BF_LENGTH unless left and right have one length. */
+uint32_t bf_g128_dot_product_wide(
+    const bf_u128 *left, size_t left_length, const bf_u128 *right, size_t right_length, bf_u128 *sum);
+
+/* The same as g128_low_stages, made for x86-64-v3. BF_LENGTH unless values has a multiple of 16, shifts 4 and basis 3 to
+ * 128; where there are values, first_run and the number of runs are together at most 2 to the power of 3 less than the
+ * length of basis. */
+uint32_t bf_g128_low_stages_wide(
+    bf_u128 *values, size_t values_length, const bf_u128 *shifts, size_t shifts_length, const bf_u128 *basis,
+    size_t basis_length, uint64_t first_run);
+
 #ifdef __cplusplus
 }
 #endif

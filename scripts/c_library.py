@@ -92,6 +92,10 @@ OTHER_FUNCTIONS = [
      "writes the missing shards of data alone"),
 ]
 
+# Of these there is a second form, bf_NAME_wide. It gives the same, and is made for x86-64-v3, whose vectors have 256 bits: in a library
+# built for x86-64-v2 it is the slower one.
+WIDE = ["g128_multiply", "g128_dot_product", "g128_low_stages"]
+
 # These return no status.
 PLAIN_FUNCTIONS = [
     ("version", "uint32_t", "the version of the library, 65536 times the major number, 256 times the minor one, and the patch"),
@@ -105,3 +109,12 @@ def functions():
             yield f"{field}_{name}", [(*it, word)[:3] if it[0] != "number" else (*it, "u64") for it in parameters], text
     for name, parameters, text in OTHER_FUNCTIONS:
         yield name, [it if len(it) == 3 else (*it, "u64") for it in parameters], text
+    yield from wide_functions()
+
+
+def wide_functions():
+    """The second forms."""
+    named = {f"g128_{name}": [(*it, "u128") for it in parameters] for name, parameters, _ in FIELD_FUNCTIONS}
+    named |= {name: parameters for name, parameters, _ in OTHER_FUNCTIONS}
+    for name in WIDE:
+        yield f"{name}_wide", [it if len(it) == 3 else (*it, "u64") for it in named[name]], f"the same as {name}, made for x86-64-v3"

@@ -43,6 +43,9 @@ CALLS = {
     "generator": ("slices::generator", "NamesGenerator"),
 }
 
+# What a field does by functions of its own, which are named as the table's.
+OWN_CALLS = {"g128": ("multiply", "multiply_by", "add_scaled", "dot_product")}
+
 # The columns of a line of code.
 COLUMNS = 100
 
@@ -96,6 +99,7 @@ def function(field, name, parameters, text):
     """An exported function, with its contract."""
     kernel, word, named = FIELDS[field]
     call, contract = CALLS[name]
+    called = f"c_calls::{name}" if name in OWN_CALLS.get(field, ()) else f"{call}::<{word}, {kernel}>"
     typed = [(it[0], it[1], word) for it in parameters]
     arguments = [f"*{it[1]}" if it[0] == "scalar" and word in ("Wide", "Cubic") else it[1] for it in typed]
     return "\n".join([
@@ -104,7 +108,7 @@ def function(field, name, parameters, text):
         signature(f"bf_{field}_{name}", [parameter(*it) for it in typed]),
         f"    ensures {{ {clause(contract, named, typed)} }}",
         "{",
-        f"    {call}::<{word}, {kernel}>({', '.join(arguments)})",
+        f"    {called}({', '.join(arguments)})",
         "}",
         "",
     ])

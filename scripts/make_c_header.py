@@ -46,7 +46,7 @@ LENGTHS = {
 def lengths_of(name, parameters):
     """What has to hold of the lengths, or nothing where every length will do."""
     for end in sorted(LENGTHS, key=len, reverse=True):
-        if name.endswith(end):
+        if name.removesuffix("_wide").endswith(end):
             return LENGTHS[end]
     names = [it[1] for it in parameters if it[0] in ARRAYS]
     if len(names) < 2:
@@ -136,10 +136,12 @@ def sections():
         "tag_": "Hashes of authentication tags. Nothing is claimed on timing.",
         "rs_": "Reed-Solomon codes over bytes modulo x^8 + x^4 + x^3 + x^2 + 1: shard i has the values at the byte i of the polynomials "
         "that the data determine.",
+        "_wide": "Second forms, made for x86-64-v3, whose vectors have 256 bits. Each gives the same as the function without _wide, in every "
+        "library; in one built for x86-64-v2 it is the slower of the two. The file libbinary_field.cpu beside the library says which it is.",
     }
     groups = []
     for row in rest:
-        start = next((it for it in headings if row[0].startswith(it)), None)
+        start = "_wide" if row[0].endswith("_wide") else next((it for it in headings if row[0].startswith(it)), None)
         if start and (not groups or groups[-1][0] != start):
             if not any(it[0] == start for it in groups):
                 groups.append((start, []))
@@ -207,6 +209,8 @@ def rust_functions():
             # A doc comment reads an index in brackets as a link.
             doc = told(name, parameters, bits, text).replace("[", "\\[").replace("]", "\\]")
             out += [f"    /// {line}\n" for line in textwrap.wrap(doc, 110, break_long_words=False)]
+            if name in c_library.WIDE:
+                out.append(f'    #[cfg_attr(binary_field_wide, link_name = "bf_{name}_wide")]\n')
             out.append(f"    pub fn bf_{name}(\n")
             out += [f"        {it},\n" for it in rust_declared(parameters)]
             out.append("    ) -> u32;\n")
@@ -284,7 +288,8 @@ RUST_HEAD = """\
 //! The functions of libbinary_field. Written by scripts/make_c_header.py from scripts/c_library.py; do not edit.
 //!
 //! An array is a pointer, which may be null beside a length of 0, and a length that counts elements. What is written overlaps
-//! nothing else of the call. On a status that is not `BF_OK` everything that a function could write is as before.
+//! nothing else of the call. On a status that is not `BF_OK` everything that a function could write is as before. Where the library was
+//! built for x86-64-v3, a function that has a form `_wide` is that form.
 
 """
 

@@ -152,6 +152,24 @@ def stage_cases(draw):
         yield case("g128_inverse_transform", (values, coefficients), shift)
 
 
+def long_cases(draw):
+    """Products by a scalar of slices that go by tables in memory, and of the longest ones that do not."""
+    field = FIELDS["g128"]
+    scalar = draw.getrandbits(128)
+    for length in (399, 400, 700):
+        low, high = drawn(field, draw, length), drawn(field, draw, length, 24)
+        scaled = [field.multiply(scalar, it) for it in high]
+        low_after = [a ^ b for a, b in zip(low, scaled)]
+        high_after = [a ^ b for a, b in zip(high, low_after)]
+        yield case("g128_multiply_by", high, scalar, scaled)
+        yield case("g128_add_scaled", (low, low_after), scalar, high)
+        yield case("g128_butterfly_forward", (low, low_after), (high, high_after), scalar)
+        yield case("g128_butterfly_inverse", (low_after, low), (high_after, high), scalar)
+    # More runs than a block has.
+    values, shifts, basis = (drawn(field, draw, it) for it in (16 * 9, 4, 70))
+    yield case("g128_low_stages", (values, definitions.low_stages(values, shifts, basis, (1 << 64) - 4)), shifts, basis, (1 << 64) - 4)
+
+
 def tag_cases(draw):
     """Hashes of tags, with the examples of their standards."""
     h = bytes.fromhex("66e94bd4ef8a2c3b884cfa59ca342b2e")
@@ -308,14 +326,23 @@ def status_cases(cases):
     yield case("g128_low_stages", (values, values), shifts, basis, 7, status="BF_LENGTH")
 
 
+def with_second_forms(cases):
+    """The cases, and those of each function with a second form again by that."""
+    for it in cases:
+        yield it
+        if it.name in c_library.WIDE:
+            yield dataclasses.replace(it, name=f"{it.name}_wide")
+
+
 def all_cases():
     """Every case, and the same in every run."""
     draw = random.Random(20261126)
     cases = []
     for field in FIELDS.values():
         cases += field_cases(field, draw)
-    for them in (basis_cases, stage_cases, tag_cases, code_cases):
+    for them in (basis_cases, stage_cases, tag_cases, code_cases, long_cases):
         cases += them(draw)
+    cases = list(with_second_forms(cases + list(status_cases(cases))))
     missing = FUNCTIONS.keys() - {it.name for it in cases}
     assert not missing, f"no case calls {sorted(missing)}"
-    return cases + list(status_cases(cases))
+    return cases

@@ -192,4 +192,7 @@ FUNCTIONS: dict[str, list[tuple[str, str, str]]] = {
     "rs_verify": [("number", "data", "u64"), ("number", "parity", "u64"), ("in", "shards", "u8"), ("result", "whole", "u8")],
     "rs_reconstruct": [("number", "data", "u64"), ("number", "parity", "u64"), ("inout", "shards", "u8"), ("in", "present", "u8")],
     "rs_reconstruct_data": [("number", "data", "u64"), ("number", "parity", "u64"), ("inout", "shards", "u8"), ("in", "present", "u8")],
+    "g128_multiply_wide": [("in", "left", "u128"), ("in", "right", "u128"), ("out", "products", "u128")],
+    "g128_dot_product_wide": [("in", "left", "u128"), ("in", "right", "u128"), ("result", "sum", "u128")],
+    "g128_low_stages_wide": [("inout", "values", "u128"), ("in", "shifts", "u128"), ("in", "basis", "u128"), ("number", "first_run", "u64")],
 }

@@ -1,7 +1,8 @@
 """The library, found and loaded, and calls of its functions.
 
 It is looked for in the folder that the environment variable BINARY_FIELD_LIBRARY names, then beside this file, where a wheel has
-it, and then where the system looks for libraries.
+it, and then where the system looks for libraries. Where the file libbinary_field.cpu beside it says that it was built for x86-64-v3, a
+function that has a form made for that processor is that form, which gives the same.
 """
 
 import ctypes
@@ -32,11 +33,18 @@ def _load() -> dict:
     library.bf_version.restype = ctypes.c_uint32
     if library.bf_version() != VERSION:
         raise ImportError(f"binary_field: {path} has version {library.bf_version()}, and this package belongs to {VERSION}")
-    functions = {name: library[f"bf_{name}"] for name in FUNCTIONS}
+    is_wide = _cpu(path) == "x86-64-v3"
+    functions = {name: library[f"bf_{name}_wide" if is_wide and f"{name}_wide" in FUNCTIONS else f"bf_{name}"] for name in FUNCTIONS}
     for name, function in functions.items():
         function.restype = ctypes.c_uint32
         function.argtypes = [it for kind, _, word in FUNCTIONS[name] for it in _types(kind, word)]
     return functions
+
+
+def _cpu(path: str) -> str:
+    """The processor that the library was built for, or nothing where no file beside it says so."""
+    beside = pathlib.Path(path).with_suffix(".cpu")
+    return beside.read_text(encoding="ascii").strip() if "/" in path and beside.is_file() else ""
 
 
 def _types(kind: str, word: str) -> list:

@@ -1,7 +1,8 @@
 //! The functions of libbinary_field. Written by scripts/make_c_header.py from scripts/c_library.py; do not edit.
 //!
 //! An array is a pointer, which may be null beside a length of 0, and a length that counts elements. What is written overlaps
-//! nothing else of the call. On a status that is not `BF_OK` everything that a function could write is as before.
+//! nothing else of the call. On a status that is not `BF_OK` everything that a function could write is as before. Where the library was
+//! built for x86-64-v3, a function that has a form `_wide` is that form.
 
 /// The call did what it says.
 pub const BF_OK: u32 = 0;
@@ -1071,6 +1072,7 @@ unsafe extern "C" {
     ) -> u32;
     /// products: the product of the elements at each place. BF_LENGTH unless left, right and products have one
     /// length.
+    #[cfg_attr(binary_field_wide, link_name = "bf_g128_multiply_wide")]
     pub fn bf_g128_multiply(
         left: *const [u64; 2],
         left_length: usize,
@@ -1141,6 +1143,7 @@ unsafe extern "C" {
         product: *mut [u64; 2],
     ) -> u32;
     /// sum: the sum of the products at each place, 0 of none. BF_LENGTH unless left and right have one length.
+    #[cfg_attr(binary_field_wide, link_name = "bf_g128_dot_product_wide")]
     pub fn bf_g128_dot_product(
         left: *const [u64; 2],
         left_length: usize,
@@ -1353,6 +1356,7 @@ unsafe extern "C" {
     /// the number behind the last run. BF_LENGTH unless values has a multiple of 16, shifts 4 and basis 3 to 128;
     /// where there are values, first_run and the number of runs are together at most 2 to the power of 3 less than
     /// the length of basis.
+    #[cfg_attr(binary_field_wide, link_name = "bf_g128_low_stages_wide")]
     pub fn bf_g128_low_stages(
         values: *mut [u64; 2],
         values_length: usize,
@@ -1457,5 +1461,35 @@ unsafe extern "C" {
         shards_length: usize,
         present: *const u8,
         present_length: usize,
+    ) -> u32;
+    /// products: the same as g128_multiply, made for x86-64-v3. BF_LENGTH unless left, right and products have one
+    /// length.
+    pub fn bf_g128_multiply_wide(
+        left: *const [u64; 2],
+        left_length: usize,
+        right: *const [u64; 2],
+        right_length: usize,
+        products: *mut [u64; 2],
+        products_length: usize,
+    ) -> u32;
+    /// sum: the same as g128_dot_product, made for x86-64-v3. BF_LENGTH unless left and right have one length.
+    pub fn bf_g128_dot_product_wide(
+        left: *const [u64; 2],
+        left_length: usize,
+        right: *const [u64; 2],
+        right_length: usize,
+        sum: *mut [u64; 2],
+    ) -> u32;
+    /// The same as g128_low_stages, made for x86-64-v3. BF_LENGTH unless values has a multiple of 16, shifts 4 and
+    /// basis 3 to 128; where there are values, first_run and the number of runs are together at most 2 to the power
+    /// of 3 less than the length of basis.
+    pub fn bf_g128_low_stages_wide(
+        values: *mut [u64; 2],
+        values_length: usize,
+        shifts: *const [u64; 2],
+        shifts_length: usize,
+        basis: *const [u64; 2],
+        basis_length: usize,
+        first_run: u64,
     ) -> u32;
 }

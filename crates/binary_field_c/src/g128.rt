@@ -18,7 +18,7 @@ pub extern "C" fn bf_g128_add(left: &[Wide], right: &[Wide], sums: &mut [Wide]) 
 pub extern "C" fn bf_g128_multiply(left: &[Wide], right: &[Wide], products: &mut [Wide]) -> u32
     ensures { Multiplies ghash_field left.now right.now products.old products.new result }
 {
-    slices::multiply::<Wide, Ghash>(left, right, products)
+    c_calls::multiply(left, right, products)
 }
 
 /// The product of each element and the scalar.
@@ -26,7 +26,7 @@ pub extern "C" fn bf_g128_multiply(left: &[Wide], right: &[Wide], products: &mut
 pub extern "C" fn bf_g128_multiply_by(values: &[Wide], scalar: &Wide, products: &mut [Wide]) -> u32
     ensures { MultipliesBy ghash_field scalar.now values.now products.old products.new result }
 {
-    slices::multiply_by::<Wide, Ghash>(values, *scalar, products)
+    c_calls::multiply_by(values, *scalar, products)
 }
 
 /// Adds to each element of sums the scalar times the value at its place.
@@ -34,7 +34,7 @@ pub extern "C" fn bf_g128_multiply_by(values: &[Wide], scalar: &Wide, products: 
 pub extern "C" fn bf_g128_add_scaled(sums: &mut [Wide], scalar: &Wide, values: &[Wide]) -> u32
     ensures { AddsScaled ghash_field scalar.now values.now sums.old sums.new result }
 {
-    slices::add_scaled::<Wide, Ghash>(sums, *scalar, values)
+    c_calls::add_scaled(sums, *scalar, values)
 }
 
 /// The square of each element.
@@ -90,7 +90,7 @@ pub extern "C" fn bf_g128_product(values: &[Wide], product: &mut Wide) -> u32
 pub extern "C" fn bf_g128_dot_product(left: &[Wide], right: &[Wide], sum: &mut Wide) -> u32
     ensures { TakesDotProduct ghash_field left.now right.now sum.old sum.new result }
 {
-    slices::dot_product::<Wide, Ghash>(left, right, sum)
+    c_calls::dot_product(left, right, sum)
 }
 
 /// The value at each point of the polynomial with these coefficients, the constant one first; any number of coefficients.

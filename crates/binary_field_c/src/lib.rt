@@ -21,3 +21,4 @@ mod t64;
 mod t8;
 mod transforms;
 mod version;
+mod wide;
