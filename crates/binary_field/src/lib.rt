@@ -23,6 +23,11 @@ pub use word_basis::{LinearMap, to_polynomial_slice_64, to_tower_slice_64};
 // packings of N lanes, and their traits
 pub use packed_lanes::{Packed, PackedField, PackedFieldPow2, PackedValue, WiderField};
 
+// slices of elements as packings and back, sums of lanes, and powers in lanes
+pub use packed_slices::{
+    pack_slice, pack_slice_into, packed_powers, packed_powers_vec, sum_of_lanes, unpack_slice,
+};
+
 // the fields, and their packings
 pub use field_element::{
     BinaryField2, BinaryField4, BinaryField8, BinaryField16, BinaryField32, BinaryField64,
@@ -83,8 +88,9 @@ pub use transcript_elements::{
     SampleArray, Transcript, TranscriptError, TranscriptField, TypeTag, run_calls,
 };
 
-// Reed-Solomon codes over bytes
+// Reed-Solomon codes over bytes, and over vectors of bytes
 pub use reed_solomon::{ReedSolomon, ReedSolomonError};
+pub use shard_vectors;
 
 // lines of text and their answers
 pub use calculator as calc;

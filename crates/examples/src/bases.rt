@@ -1,8 +1,5 @@
 // One field in two bases, and linear maps over it.
-use binary_field::{
-    BinaryField64, BinaryField128, Ghash128, LinearMap, Poly64, PrimeCharacteristicRing,
-    TowerLevel, to_polynomial_slice_64,
-};
+use binary_field::{BinaryField128, Ghash128, LinearMap, PrimeCharacteristicRing, TowerLevel};
 
 #[test]
 fn a_product_in_both_bases(rt: HostRuntime) {
@@ -11,15 +8,6 @@ fn a_product_in_both_bases(rt: HostRuntime) {
     let product = Ghash128::from(left) * Ghash128::from(right);
     assert!(rt;
         BinaryField128::from(product) == left * right && Ghash128::from(left) * right == product
-    );
-}
-
-#[test]
-fn words_of_a_slice(rt: HostRuntime) {
-    let mut words = [1, 1 << 32, u64::MAX];
-    to_polynomial_slice_64(&mut words);
-    assert!(rt;
-        Poly64::new(words[1]) == Poly64::from(BinaryField64::from_repr(1 << 32)) && words[0] == 1
     );
 }
 

@@ -1,6 +1,6 @@
 //! Examples of programs over `binary_field`: sums and products of slices with a contract of their own, secret sharing over
-//! any field, elements as keys of a hash map, one product in both bases, a linear map of a few elements, and
-//! generic code over packings and over elements as data.
+//! any field, elements as keys of a hash map, one product in both bases, a linear map of a few elements, generic code over
+//! packings and over elements as data, elements as JSON, and the errors of a transcript in one of the program's own.
 #![tactic(auto)]
 
 #[cfg(test)]
@@ -13,6 +13,10 @@ mod logarithms;
 mod packings;
 #[cfg(test)]
 mod sharing;
+#[cfg(test)]
+mod texts;
+#[cfg(test)]
+mod transcripts;
 
 pub use crate::contracts::{product_of_slice, sum_of_slice};
 pub use crate::packings::{front_packing, packed_dot_product};

@@ -1,4 +1,5 @@
 mod arrays;
 mod bits;
 mod packings;
+mod slices;
 mod zeros;
