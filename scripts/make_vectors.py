@@ -1,14 +1,19 @@
 #!/usr/bin/env python3
-"""Writes the calls that crates/replay_calls is run on and the answers that it has to print: its files stdin and stdout.
+"""Writes the calls that crates/replay_calls is run on and the answers that it has to print, its files stdin and stdout, and the
+calls of the C library with what they leave, tests/replayed_calls.txt.
 
     make_vectors.py VECTORS
 
 VECTORS is the JSON of another implementation's answers: a map with its seed, and a list or a map for each kind of call. A
-few rows of each kind are kept, under a heading for each of two fields and for each kind that is no method of a field; what is
+few rows of each kind are kept: where a function of the C library has the definition, as its calls, and else as those of
+crates/replay_calls, under a heading for each of two fields and for each kind that is no method of a field; what is
 generic in the width is one piece of code for all fields. Rows that were worked out by hand stand first. Numbers are
 hexadecimal without zeros before them, a list has commas between its numbers, and `-` is the empty list.
 
-With --check alone it reads both files back, and says whether they hold as many calls under each heading as are expected,
+A line of tests/replayed_calls.txt is the name of a function without `bf_` and a word for each of its parameters: what is read, what
+has to be written, and `before/after` of what is read and written.
+
+With --check alone it reads the files back, and says whether they hold as many calls under each heading as are expected,
 and answers in the form that it writes.
 """
 
@@ -18,16 +23,19 @@ import pathlib
 import re
 import sys
 
-FOLDER = pathlib.Path(__file__).resolve().parent.parent / "crates/replay_calls"
+TOP = pathlib.Path(__file__).resolve().parent.parent
+FOLDER = TOP / "crates/replay_calls"
+LIBRARY = TOP / "tests/replayed_calls.txt"
 FIELDS = ["t16", "g128"]
 # How many rows are kept of the products by the root and of the elements that change their basis, and the lengths of the polynomials.
 PRODUCTS_BY_ROOT = 6
 CONVERTED = 4
 POLYNOMIALS = [0, 1, 2, 20, 65, 128]
-# The lengths of the slices, of each of which the last row is kept; the most values of the runs of low stages; and how many
-# matrices, polynomials and elements of the byte field.
+# The lengths of the slices, of each of which the last row is kept; the most values of the runs of low stages; how many elements
+# of a linear map; and how many matrices, polynomials and elements of the byte field.
 SLICES = [0, 1, 2, 5, 17, 257]
 LOW_STAGES = 64
+MAPPED = 40
 BYTE_MAPS = 3
 # The width of rows, and that of their parts.
 ROW = 128
@@ -44,20 +52,10 @@ REFUSED = [
     "t16 mul_alpha 1g",
     "t16 mul_alpha 10000",
     "t16 cantor_basis 10",
-    "dot_powers_of_x " + ",".join(["1"] * 129),
-    "butterfly_forward 1 1,2 1",
-    "mul_slice 1",
-    "low_stages 1,2,3 1,2,3 0 -",
-    "low_stages 1,2,3,4 1,2,3 0 1,2",
-    "low_stages 1,2,3,4 1,2,3 1 0,0,0,0,0,0,0,0,0,0,0,0,0,0,0,0",
-    "apply_slice 1,2,3 4",
     "eval 1,2,3,4,5,6,7,8 100",
     "transpose 1,2,3,4,5,6",
     "interleave 8 1,2,3,4",
     "parts 1",
-    "to_tower_8 100",
-    "to_tower_16 1",
-    "linear_map 1,2,3 0 1000",
     "streams/t16 u16 1",
     "streams/t16 text 1 2",
     "streams/t16 bytes 10000",
@@ -68,19 +66,20 @@ WORKED = [
     # Three elements of 16 bits as words.
     ("streams/t16 u64 102,304,506", "50603040102"),
     ("streams/t16 u32 102,304,506", "3040102,506"),
-    # Values at x of no coefficients, of one, of the highest alone, and of 128 times x^127.
-    ("dot_powers_of_x -", "0"),
-    ("dot_powers_of_x 1234", "1234"),
-    (f"dot_powers_of_x {'0,' * 127}2", "87"),
-    (f"dot_powers_of_x {','.join(['8' + '0' * 31] * 128)}", "1fc7"),
-    # The byte field of AES: images of the tower's elements, a product by 2, and the polynomial X^2.
-    ("to_polynomial_8 2", "bc"),
-    ("to_polynomial_8 4", "c"),
-    ("to_polynomial_8 10", "35"),
-    ("to_polynomial_8 13", "88"),
+    # The byte field of AES: a product by 2, and the polynomial X^2.
     ("scaling_matrix 2", "2,4,8,10,20,40,80,1b"),
     ("eval 0,1,0,0,0,0,0,0 10", "1b"),
     ("to_matrix 0,1,0,0,0,0,0,0", "1,4,10,40,1b,6c,ab,9a"),
+]
+# The same of the C library.
+WORKED_CALLS = [
+    # Values at x of no coefficients, of one, of the highest alone, and of 128 times x^127.
+    "g128_evaluate - 2 0",
+    "g128_evaluate 1234 2 1234",
+    f"g128_evaluate {'0,' * 127}2 2 87",
+    f"g128_evaluate {','.join(['8' + '0' * 31] * 128)} 2 1fc7",
+    # Images of the tower's elements in the byte field of AES.
+    "t8_to_r8 2,4,10,13 bc,c,35,88",
 ]
 # How many calls stand under the heading of each field.
 CALLS = {"t16": 18, "g128": 27}
@@ -88,20 +87,30 @@ HEAD = """\
 # Calls of the library, and in stdout their answers by the Rust crate p3-binary-field 0.8.0; drawn from the seed {seed}.
 # Written by scripts/make_vectors.py; do not edit.
 """
+LIBRARY_HEAD = """\
+# Calls of the C library, and what they have to leave by the Rust crate p3-binary-field 0.8.0; drawn from the seed {seed}.
+# Written by scripts/make_vectors.py; do not edit.
+"""
 
 
-# What gives the calls under each heading after those of the fields, and how many they are, in the order of this file.
+# What gives the calls under each heading after those of the fields, and how many they are, in the order of this file; and
+# the same of the C library.
 SECTIONS = {}
+LIBRARY_SECTIONS = {}
 
 
-def section(name, count):
+def section(name, count, sections=SECTIONS):
     """Keeps a function that gives the calls under a heading."""
 
     def keep(calls):
-        SECTIONS[name] = calls, count
+        sections[name] = calls, count
         return calls
 
     return keep
+
+
+def library_section(name, count):
+    return section(name, count, LIBRARY_SECTIONS)
 
 
 def number(text):
@@ -150,12 +159,12 @@ def field_calls(vectors, field):
     return [*constants(vectors, field), *products(vectors, field)]
 
 
-@section("values of polynomials at x", 6)
+@library_section("values of polynomials at x", 6)
 def values_at_x(vectors):
     """The values at x of polynomials over the field of GHASH."""
     for row in vectors["dot_powers_of_x"]:
         if len(row["values"]) in POLYNOMIALS:
-            yield f"dot_powers_of_x {listed(row['values'])}", number(row["sum"])
+            yield f"g128_evaluate {listed(row['values'])} 2 {number(row['sum'])}"
 
 
 def conversions(vectors, name):
@@ -176,12 +185,12 @@ def conversions(vectors, name):
     return rows + drawn
 
 
-@section("changes of basis", 72)
+@library_section("changes of basis", 6)
 def changes_of_basis(vectors):
-    for name, bits in (("r8", 8), ("p64", 64), ("g128", 128)):
-        for tower, polynomial in conversions(vectors, name):
-            yield f"to_polynomial_{bits} {number(tower)}", number(polynomial)
-            yield f"to_tower_{bits} {number(polynomial)}", number(tower)
+    for tower, name in (("t8", "r8"), ("t64", "p64"), ("t128", "g128")):
+        elements, images = map(listed, zip(*conversions(vectors, name)))
+        yield f"{tower}_to_{name} {elements} {images}"
+        yield f"{name}_to_{tower} {images} {elements}"
 
 
 def drawn_words(seed):
@@ -195,49 +204,55 @@ def drawn_words(seed):
 
 
 def results_of(row):
-    """The results of a linear map on elements of two words each, the low one first; their SHA-256 has to be the row's."""
+    """Elements of two words each, the low one first, with their results of a linear map; the SHA-256 of all has to be the row's."""
     images = [int(image, 16) for image in row["images"]]
     words = drawn_words(int(row["input_seed"], 16))
-    results = []
+    elements, results = [], []
     for _ in range(row["len"]):
         element = next(words) | next(words) << 64
         result = 0
         for bit, image in enumerate(images):
             if element >> bit & 1:
                 result ^= image
+        elements.append(f"{element:x}")
         results.append(f"{result:032x}")
     if hashlib.sha256(bytes.fromhex("".join(results))).hexdigest() != row["sha256_of_be_bytes"]:
         sys.exit("the results of the linear map are others")
-    return results
+    return elements, results
 
 
-@section("a linear map", 1)
+@library_section("linear maps", 13)
 def linear_maps(vectors):
-    """A map that was drawn. Of its results the vectors have the SHA-256."""
+    """A map of the bits of 128-bit words that was drawn, of whose results the vectors have the SHA-256, and maps of bytes."""
     row = vectors["try_apply_linear_map_into"][0]
-    call = f"linear_map {listed(row['images'])} {number(row['input_seed'])} {row['len']:x}"
-    yield call, listed(results_of(row))
+    elements, results = results_of(row)
+    yield f"g128_linear_map {listed(elements[:MAPPED])} {listed(row['images'])} {listed(results[:MAPPED])}"
+    for row in vectors["byte_matrix"][-BYTE_MAPS:]:
+        for applied in row["apply_slice"]:
+            if len(applied["in"]) // 2 in SLICES + [40]:
+                values, mapped = listed(digits_of(applied["in"])), listed(digits_of(applied["out"]))
+                yield f"r8_linear_map {values} {listed(row['images'])} {mapped}"
 
 
-@section("slices", 18)
+@library_section("slices", 18)
 def slices(vectors):
-    """Products of slices by a scalar, and butterflies, which give both slices, the low one first."""
+    """Products of slices by a scalar, and butterflies."""
     for length in SLICES:
         row = [row for row in vectors["mul_slice"] if len(row["in"]) == length][-1]
-        yield f"mul_slice {number(row['scalar'])} {listed(row['in'])}", listed(row["out"])
+        yield f"g128_multiply_by {listed(row['in'])} {number(row['scalar'])} {listed(row['out'])}"
         for name in ("butterfly_forward", "butterfly_inverse"):
             row = [row for row in vectors[name] if len(row["lo"]) == length][-1]
-            call = f"{name} {number(row['scalar'])} {listed(row['lo'])} {listed(row['hi'])}"
-            yield call, listed(row["lo_out"] + row["hi_out"])
+            low, high = (f"{listed(row[it])}/{listed(row[it + '_out'])}" for it in ("lo", "hi"))
+            yield f"g128_{name} {low} {high} {number(row['scalar'])}"
 
 
-@section("low stages", 12)
+@library_section("low stages", 12)
 def low_stages(vectors):
     """Runs of the low stages, by twiddles that were drawn and by those of Cantor points."""
     for row in vectors["low_stages_forward"]:
         if len(row["in"]) <= LOW_STAGES:
-            call = f"low_stages {listed(row['shifts'])} {listed(row['basis'])} {int(row['first_run']):x} {listed(row['in'])}"
-            yield call, listed(row["out"])
+            values = f"{listed(row['in'])}/{listed(row['out'])}"
+            yield f"g128_low_stages {values} {listed(row['shifts'][:4])} {listed(row['basis'])} {int(row['first_run']):x}"
 
 
 def digits_of(text):
@@ -245,7 +260,7 @@ def digits_of(text):
     return [text[at : at + 2] for at in range(0, len(text), 2)]
 
 
-@section("maps of bytes", 42)
+@section("maps of bytes", 30)
 def byte_maps(vectors):
     """Matrices of 8 by 8 bits, linearized polynomials, and the maps of elements of the byte field."""
     for row in vectors["byte_matrix"][-BYTE_MAPS:]:
@@ -253,9 +268,6 @@ def byte_maps(vectors):
         yield f"compose {images} {listed(row['first_images'])}", listed(row["compose_images"])
         yield f"to_quadword {images}", number(row["quadword"])
         yield f"from_quadword {number(row['from_quadword'])}", listed(row["from_quadword_images"])
-        for applied in row["apply_slice"]:
-            if len(applied["in"]) // 2 in SLICES + [40]:
-                yield f"apply_slice {images} {listed(digits_of(applied['in']))}", listed(digits_of(applied["out"]))
     for row in vectors["linearized_poly8b"][-BYTE_MAPS:]:
         coefficients, values = listed(row["coefficients"]), digits_of(row["eval_all"])
         yield f"to_matrix {coefficients}", listed(row["matrix_images"])
@@ -319,7 +331,7 @@ def streams(vectors):
             yield f"{call} text {listed(numbers_of(row['field'], [x]))}", listed([f"{ord(letter):x}" for letter in text])
 
 
-@section("no calls", 25)
+@section("no calls", 15)
 def refused(_):
     """Lines that are answered by a word."""
     return [(line, "error") for line in REFUSED]
@@ -342,6 +354,16 @@ def texts_of(sections, seed):
     return calls, answers
 
 
+def chosen_of_library(vectors):
+    """The calls of the C library under each heading."""
+    return {"worked rows": WORKED_CALLS} | {name: list(calls(vectors)) for name, (calls, _) in LIBRARY_SECTIONS.items()}
+
+
+def library_text(sections, seed):
+    lines = "".join(f"# {name}\n" + "".join(f"{call}\n" for call in calls) for name, calls in sections.items())
+    return LIBRARY_HEAD.format(seed=seed) + lines
+
+
 def read(calls, answers):
     """The calls and their answers under each heading of two files."""
     sections = {}
@@ -353,21 +375,46 @@ def read(calls, answers):
     return sections
 
 
+def read_library(text):
+    """The calls of the C library under each heading of its file."""
+    return {name: [call for call, _ in rows] for name, rows in read(text, text).items()}
+
+
+def seed_of(text):
+    return re.search(r"drawn from the seed (\d+)", text).group(1)
+
+
+def counts_of(sections):
+    return {name: count for name, (_, count) in sections.items()}
+
+
 def check():
     calls, answers = ((FOLDER / name).read_text(encoding="ascii") for name in ("stdin", "stdout"))
-    seed = re.search(r"drawn from the seed (\d+)", calls).group(1)
     sections = read(calls, answers)
-    if texts_of(sections, seed) != (calls, answers):
+    if texts_of(sections, seed_of(calls)) != (calls, answers):
         sys.exit("stdin and stdout are not in the form that this script writes")
-    expected = CALLS | {name: count for name, (_, count) in SECTIONS.items()}
     if sections.pop("worked rows") != WORKED:
         sys.exit("the worked rows are others")
-    if {name: len(rows) for name, rows in sections.items()} != expected:
+    if {name: len(rows) for name, rows in sections.items()} != CALLS | counts_of(SECTIONS):
         sys.exit("there are not as many calls under each heading as are kept")
     for name, rows in sections.items():
         form = "error" if name == "no calls" else "-|[0-9a-f]+(,[0-9a-f]+)*"
         if not all(re.fullmatch(form, answer) for _, answer in rows):
             sys.exit(f"an answer under {name} has another form")
+    check_library(LIBRARY.read_text(encoding="ascii"))
+
+
+def check_library(text):
+    sections = read_library(text)
+    if library_text(sections, seed_of(text)) != text:
+        sys.exit("the calls of the C library are not in the form that this script writes")
+    if sections.pop("worked rows") != WORKED_CALLS:
+        sys.exit("the worked rows of the C library are others")
+    if {name: len(calls) for name, calls in sections.items()} != counts_of(LIBRARY_SECTIONS):
+        sys.exit("there are not as many calls of the C library under each heading as are kept")
+    listed_form = "(-|[0-9a-f]+(,[0-9a-f]+)*)"
+    if not all(re.fullmatch(rf"[0-9a-z_]+( {listed_form}(/{listed_form})?)+", call) for calls in sections.values() for call in calls):
+        sys.exit("a call of the C library has another form")
 
 
 def main():
@@ -375,9 +422,11 @@ def main():
         return check()
     [path] = sys.argv[1:]
     vectors = json.loads(pathlib.Path(path).read_text(encoding="ascii"))
-    calls, answers = texts_of(chosen(vectors), vectors["seed"])
+    seed = vectors["seed"]
+    calls, answers = texts_of(chosen(vectors), seed)
     (FOLDER / "stdin").write_text(calls, encoding="ascii")
     (FOLDER / "stdout").write_text(answers, encoding="ascii")
+    LIBRARY.write_text(library_text(chosen_of_library(vectors), seed), encoding="ascii")
 
 
 if __name__ == "__main__":

@@ -5,6 +5,7 @@ definition once for each element. Where a definition is dear, the elements of an
 """
 
 import dataclasses
+import pathlib
 import random
 
 import definitions
@@ -12,6 +13,7 @@ from definitions import FIELDS, c_library
 
 LONGEST = 257
 ARRAYS = ("in", "inout", "out")
+REPLAYED = pathlib.Path(__file__).resolve().parent / "replayed_calls.txt"
 STATUS = {name: value for name, value, _ in c_library.STATUSES}
 FUNCTIONS = {name: parameters for name, parameters, _ in c_library.functions()}
 SIZES = {"u8": 1, "u16": 2, "u32": 4, "u64": 8, "u128": 16, "u192": 24}
@@ -334,6 +336,21 @@ def with_second_forms(cases):
             yield dataclasses.replace(it, name=f"{it.name}_wide")
 
 
+def replayed_cases():
+    """Calls with what they have to leave by the Rust crate p3-binary-field 0.8.0; scripts/make_vectors.py says how a line is read."""
+    for line in REPLAYED.read_text(encoding="ascii").splitlines():
+        if not line.startswith("#"):
+            name, *words = line.split()
+            yield case(name, *(value_of(*it) for it in zip(FUNCTIONS[name], words, strict=True)))
+
+
+def value_of(parameter, word):
+    """The value of a parameter as `case` takes it, from a word of a line."""
+    kind = parameter[0]
+    lists = [[int(it, 16) for it in text.split(",")] if text != "-" else [] for text in word.split("/")]
+    return lists if kind == "inout" else lists[0] if kind in (*ARRAYS, "result") else lists[0][0]
+
+
 def all_cases():
     """Every case, and the same in every run."""
     draw = random.Random(20261126)
@@ -345,4 +362,4 @@ def all_cases():
     cases = list(with_second_forms(cases + list(status_cases(cases))))
     missing = FUNCTIONS.keys() - {it.name for it in cases}
     assert not missing, f"no case calls {sorted(missing)}"
-    return cases
+    return [*cases, *replayed_cases()]

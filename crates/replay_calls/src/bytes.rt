@@ -13,7 +13,6 @@ pub(crate) enum ByteMap {
     ScalingMatrix,
     FrobeniusOrbit,
     ToMatrix,
-    ApplySlice,
     Compose,
     Eval,
 }
@@ -45,7 +44,6 @@ fn of_one(alloc: Global, map: ByteMap, operand: &str) -> Result<Vec<u128>, Fault
 /// What a call of two operands gives.
 fn of_two(alloc: Global, map: ByteMap, left: &str, right: &str) -> Result<Vec<u128>, Fault> {
     match map {
-        ByteMap::ApplySlice => applied(alloc, matrix(alloc, left)?, right),
         ByteMap::Compose => {
             images_of(alloc, matrix(alloc, left)?.compose(matrix(alloc, right)?))
         }
@@ -86,17 +84,6 @@ fn images_of(alloc: Global, matrix: ByteMatrix) -> Result<Vec<u128>, Fault> {
         images.push(u128::from(*image))?;
     }
     Ok(images)
-}
-
-/// What a matrix makes of the bytes that a list writes.
-fn applied(alloc: Global, matrix: ByteMatrix, list: &str) -> Result<Vec<u128>, Fault> {
-    let mut bytes = bytes(alloc, list)?;
-    matrix.apply_slice(bytes.as_mut_slice());
-    let mut answer = Vec::new(alloc);
-    for byte in bytes.as_slice() {
-        answer.push(u128::from(*byte))?;
-    }
-    Ok(answer)
 }
 
 /// An element squared 0 to 7 times.

@@ -1,9 +1,7 @@
 // What two fields have of their own, by their arithmetic on words: what is generic in the width is the same code at every other.
 use crate::fault::Fault;
-use crate::reading::{count, named, number, numbers};
+use crate::reading::{count, named, number};
 use field_base::{LevelKernel, Unsigned};
-use field_element::Ghash128;
-use std::alloc::Global;
 use word_polynomial::GhashKernel;
 use word_tower::{Bits16, Tower};
 
@@ -68,22 +66,6 @@ pub(crate) fn stored<R: Unsigned>(number: u128) -> Result<R, Fault> {
     let word = R::of_u128(number);
     if word.to_u128() == number {
         Ok(word)
-    } else {
-        Err(Fault::Line)
-    }
-}
-
-/// The value at x of the polynomial over GHASH's field whose at most 128 coefficients are listed.
-pub(crate) fn value_at_x(alloc: Global, call: &[&str]) -> Result<Vec<u128>, Fault> {
-    let [list] = *call else {
-        return Err(Fault::Line);
-    };
-    let mut values = Vec::new(alloc);
-    for value in numbers(alloc, list)? {
-        values.push(Ghash128::new(value))?;
-    }
-    if values.len() <= 128 {
-        Ok(vec![in alloc; Ghash128::dot_powers_of_x(values.as_slice()).to_bits()]?)
     } else {
         Err(Fault::Line)
     }

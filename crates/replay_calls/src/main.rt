@@ -7,8 +7,6 @@
 //! | Line | Wanted |
 //! |---|---|
 //! | `t16 mul_alpha 53`, `g128 cantor_basis 7f` | what a field has of its own |
-//! | `dot_powers_of_x 1,2,3`, `to_tower_64 13` | what a function of one type gives |
-//! | `butterfly_forward 2 1,2 3,4`, `low_stages 1,2,3,4 5,6,7 0 -` | the slices that a function changes, one after the other |
 //! | `streams/t16 u32 102,304,506`, `streams/t16 text 13` | the items of a stream of elements, or the bytes of their text |
 //! | `interleave 0 1,2,3,4`, `parts 201,0` | rows of 128 bits by their words, the low one first, as they are changed or cut into bytes |
 //! | `byte_lanes mul 1,2,..,10 1,2,..,10` | the lanes of packings |
@@ -19,26 +17,22 @@
 //! at a level of the tower and at a field of polynomials, rows of bits at one width, lanes in one packing. The arithmetic of every
 //! field is in the lines of `replay_lines`; sums, products, views over smaller fields and operators between two fields, whose
 //! contracts say them by that arithmetic and by places of bits alone, have rows in `test_fields`, `test_views` and `examples`.
+//! What a function of the C library defines, as changes of basis, linear maps, slices and low stages, is replayed through it.
 #![tactic(auto)]
 
-mod basis;
 mod bits;
 mod bytes;
 mod fault;
 mod fields;
-mod linear_map;
 mod packed;
 mod reading;
-mod slices;
 mod streams;
 
-use crate::basis::Change;
 use crate::bits::Rearrangement;
 use crate::bytes::ByteMap;
 use crate::fault::Fault;
 use crate::fields::Asked;
 use crate::reading::named;
-use crate::slices::SliceCall;
 use std::alloc::{AllocError, Global};
 use std::fmt::Write;
 use std::io;
@@ -49,45 +43,22 @@ enum Subject {
     Field(Asked),
     Stream(Asked),
     StreamOfCubics,
-    ValueAtX,
-    Basis(Change),
-    LinearMap,
-    Slices(SliceCall),
     Bytes(ByteMap),
     Bits(Rearrangement),
     SixteenBytes,
 }
 
-static SUBJECTS: [(&str, Subject); 29] = [
+static SUBJECTS: [(&str, Subject); 16] = [
     ("t16", Subject::Field(Asked::T16)),
     ("g128", Subject::Field(Asked::G128)),
     ("streams/t16", Subject::Stream(Asked::T16)),
     ("streams/g128", Subject::Stream(Asked::G128)),
     ("streams/p192", Subject::StreamOfCubics),
-    ("dot_powers_of_x", Subject::ValueAtX),
-    ("to_polynomial_8", Subject::Basis(Change::ToPolynomial8)),
-    ("to_polynomial_64", Subject::Basis(Change::ToPolynomial64)),
-    ("to_polynomial_128", Subject::Basis(Change::ToPolynomial128)),
-    ("to_tower_8", Subject::Basis(Change::ToTower8)),
-    ("to_tower_64", Subject::Basis(Change::ToTower64)),
-    ("to_tower_128", Subject::Basis(Change::ToTower128)),
-    ("linear_map", Subject::LinearMap),
-    ("mul_slice", Subject::Slices(SliceCall::MulSlice)),
-    (
-        "butterfly_forward",
-        Subject::Slices(SliceCall::ButterflyForward),
-    ),
-    (
-        "butterfly_inverse",
-        Subject::Slices(SliceCall::ButterflyInverse),
-    ),
-    ("low_stages", Subject::Slices(SliceCall::LowStages)),
     ("to_quadword", Subject::Bytes(ByteMap::ToQuadword)),
     ("from_quadword", Subject::Bytes(ByteMap::FromQuadword)),
     ("scaling_matrix", Subject::Bytes(ByteMap::ScalingMatrix)),
     ("frobenius_orbit", Subject::Bytes(ByteMap::FrobeniusOrbit)),
     ("to_matrix", Subject::Bytes(ByteMap::ToMatrix)),
-    ("apply_slice", Subject::Bytes(ByteMap::ApplySlice)),
     ("compose", Subject::Bytes(ByteMap::Compose)),
     ("eval", Subject::Bytes(ByteMap::Eval)),
     ("transpose", Subject::Bits(Rearrangement::Transpose)),
@@ -102,10 +73,6 @@ fn answer(alloc: Global, name: &str, call: &[&str]) -> Result<Vec<u128>, Fault> 
         Subject::Field(field) => Ok(vec![in alloc; fields::answer(field, call)?]?),
         Subject::Stream(field) => streams::field_call(alloc, field, call),
         Subject::StreamOfCubics => streams::cubic_call(alloc, call),
-        Subject::ValueAtX => fields::value_at_x(alloc, call),
-        Subject::Basis(change) => Ok(vec![in alloc; basis::changed(change, call)?]?),
-        Subject::LinearMap => linear_map::sample(alloc, call),
-        Subject::Slices(slices) => slices::changed(alloc, slices, call),
         Subject::Bytes(map) => bytes::mapped(alloc, map, call),
         Subject::Bits(rearrangement) => bits::rearranged(alloc, rearrangement, call),
         Subject::SixteenBytes => packed::computed(alloc, call),

@@ -84,30 +84,47 @@ fn stream<E: RawDataSerializable + Display>(
     kind: &str,
     elements: &[E],
 ) -> Result<Vec<u128>, Fault> {
-    let mut items = Vec::new(alloc);
-    let elements = elements.iter().copied();
     match named(&STREAMS, kind)? {
-        Streamed::Bytes => {
-            for byte in into_byte_stream(elements) {
-                items.push(u128::from(byte))?;
-            }
-        }
-        Streamed::Words32 => {
-            for word in into_u32_stream(elements) {
-                items.push(u128::from(word))?;
-            }
-        }
-        Streamed::Words64 => {
-            for word in into_u64_stream(elements) {
-                items.push(u128::from(word))?;
-            }
-        }
-        Streamed::Text => {
-            for element in elements {
-                for byte in format!(in alloc; "{element}")?.as_bytes() {
-                    items.push(u128::from(*byte))?;
-                }
-            }
+        Streamed::Bytes => bytes(alloc, elements),
+        Streamed::Words32 => words_32(alloc, elements),
+        Streamed::Words64 => words_64(alloc, elements),
+        Streamed::Text => text(alloc, elements),
+    }
+}
+
+/// The bytes of a stream of elements.
+fn bytes<E: RawDataSerializable>(alloc: Global, elements: &[E]) -> Result<Vec<u128>, Fault> {
+    let mut items = Vec::new(alloc);
+    for byte in into_byte_stream(elements.iter().copied()) {
+        items.push(u128::from(byte))?;
+    }
+    Ok(items)
+}
+
+/// Its words of 32 bits.
+fn words_32<E: RawDataSerializable>(alloc: Global, elements: &[E]) -> Result<Vec<u128>, Fault> {
+    let mut items = Vec::new(alloc);
+    for word in into_u32_stream(elements.iter().copied()) {
+        items.push(u128::from(word))?;
+    }
+    Ok(items)
+}
+
+/// Its words of 64 bits.
+fn words_64<E: RawDataSerializable>(alloc: Global, elements: &[E]) -> Result<Vec<u128>, Fault> {
+    let mut items = Vec::new(alloc);
+    for word in into_u64_stream(elements.iter().copied()) {
+        items.push(u128::from(word))?;
+    }
+    Ok(items)
+}
+
+/// The bytes of the elements' text.
+fn text<E: Display>(alloc: Global, elements: &[E]) -> Result<Vec<u128>, Fault> {
+    let mut items = Vec::new(alloc);
+    for element in elements {
+        for byte in format!(in alloc; "{element}")?.as_bytes() {
+            items.push(u128::from(*byte))?;
         }
     }
     Ok(items)

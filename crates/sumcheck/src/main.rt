@@ -11,11 +11,11 @@ use crate::error::SumcheckError;
 use crate::protocol::{prove, prove_and_verify, verify};
 use anyhow::Result;
 use field_base::LevelKernel;
-use field_base::traits::{Field, PrimeCharacteristicRing};
+use field_base::traits::Field;
 use field_element::{Element, HasPacking};
 use std::alloc::{AllocError, Global};
-use transcript_bytes::Sha256Hasher;
-use transcript_elements::{BinaryChallenger, ShortWord};
+use transcript_bytes::{HashChallenger, Sha256Hasher};
+use transcript_elements::{BinaryChallenger, FieldChallenger, ShortWord};
 use word_polynomial::GhashKernel;
 
 /// Eight values, each the one before times the generator, and 1.
@@ -31,31 +31,50 @@ fn values_from<F: Field>(alloc: Global, first: F) -> Result<Vec<F>, AllocError>
     Ok(values)
 }
 
-/// Whether an honest proof is accepted, and whether its messages prove another sum.
-fn outcomes<R: ShortWord, K: LevelKernel<R> + HasPacking<R>>(
+/// Whether the messages of an honest prover prove another sum of the products of eight values.
+fn is_deceived<F: Field, C: FieldChallenger<F>>(
     alloc: Global,
-) -> Result<(bool, bool), SumcheckError> {
-    let first: Vec<Element<R, K>> = values_from(alloc, Element::ONE)?;
-    let second: Vec<Element<R, K>> = values_from(alloc, Element::GENERATOR)?;
+    prover: &mut C,
+    verifier: &mut C,
+    left: &[F],
+    right: &[F],
+) -> Result<bool, SumcheckError>
+    requires left_count { length left.now ≡ 8 }
+    requires right_count { length right.now ≡ 8 }
+{
+    let claim = F::dot_product_of_slices(left, right) + F::ONE;
+    let messages = prove(alloc, prover, left, right, 3)?;
+    verify(alloc, verifier, claim, messages.as_slice(), left, right)
+}
+
+/// Whether an honest proof is accepted, and whether its messages prove another sum, in challengers that begin in the same state.
+fn outcomes<F: Field, C: FieldChallenger<F>>(
+    alloc: Global,
+    prover: &mut C,
+    verifier: &mut C,
+) -> Result<(bool, bool), SumcheckError>
+    requires state { C.state prover.old ≡ C.state verifier.old }
+{
+    let first = values_from(alloc, F::ONE)?;
+    let second = values_from(alloc, F::GENERATOR)?;
     let (left, right) = (first.as_slice(), second.as_slice());
-    let mut prover = BinaryChallenger::from_hasher(Vec::new(alloc), Sha256Hasher);
-    let mut verifier = BinaryChallenger::from_hasher(Vec::new(alloc), Sha256Hasher);
-    let accepted = prove_and_verify(alloc, &mut prover, &mut verifier, left, right, 3)?;
-    let messages = prove(alloc, &mut prover, left, right, 3)?;
-    let claim = Element::dot_product_of_slices(left, right) + Element::ONE;
-    let deceived = verify(
-        alloc,
-        &mut verifier,
-        claim,
-        messages.as_slice(),
-        &left,
-        &right,
-    )?;
+    let accepted = prove_and_verify(alloc, prover, verifier, left, right, 3)?;
+    let deceived = is_deceived(alloc, prover, verifier, left, right)?;
     Ok((accepted, deceived))
 }
 
+/// The outcomes over the field of a kernel, in transcripts over SHA-256.
+fn outcomes_over<R: ShortWord, K: LevelKernel<R> + HasPacking<R>>(
+    alloc: Global,
+) -> Result<(bool, bool), SumcheckError> {
+    let mut prover: BinaryChallenger<Element<R, K>, HashChallenger<Sha256Hasher, Global>> =
+        BinaryChallenger::from_hasher(Vec::new(alloc), Sha256Hasher);
+    let mut verifier = BinaryChallenger::from_hasher(Vec::new(alloc), Sha256Hasher);
+    outcomes(alloc, &mut prover, &mut verifier)
+}
+
 fn main(rt: HostRuntime) -> Result<()> {
-    let (accepted, deceived) = outcomes::<u128, GhashKernel>(rt.alloc())?;
+    let (accepted, deceived) = outcomes_over::<u128, GhashKernel>(rt.alloc())?;
     println!(rt; "a true sum is accepted: {accepted}")?;
     println!(rt; "another sum is accepted: {deceived}")?;
     Ok(())

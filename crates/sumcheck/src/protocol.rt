@@ -9,10 +9,10 @@ ghost use Rattle.sumcheck.specs.Protocol.{AreTurns, IsTurn};
 use crate::error::SumcheckError;
 use field_base::traits::Field;
 use multilinear::{evaluate_multilinear, fold};
-use std::alloc::Global;
+use std::alloc::{AllocError, Global};
 use sumcheck_rounds::RoundPolynomial;
 use transcript_bytes::ChallengerError;
-use transcript_elements::FieldChallenger;
+use transcript_elements::{CanObserve, CanSample, FieldChallenger};
 
 /// Proves the sum of the products of the values of both polynomials, and verifies the proof in a challenger that begins in the same
 /// state. The verifier accepts, whatever the challenger is.
@@ -49,10 +49,8 @@ pub fn prove<F: Field, C: FieldChallenger<F>>(
         × AreTurns C.observes C.gives challenger.old messages.items challenges challenger.new
         × AreHonest F.product (map F.repr left.now) (map F.repr right.now) (map (quadratic_of F.repr) messages.items) (map F.repr challenges)) }
 {
-    let mut left_rest = F::zero_vec(alloc, left.len())?;
-    left_rest.copy_from_slice(left);
-    let mut right_rest = F::zero_vec(alloc, right.len())?;
-    right_rest.copy_from_slice(right);
+    let mut left_rest = copied(alloc, left)?;
+    let mut right_rest = copied(alloc, right)?;
     let mut messages = Vec::new(alloc);
     prove_rounds(
         challenger,
@@ -64,8 +62,17 @@ pub fn prove<F: Field, C: FieldChallenger<F>>(
     Ok(messages)
 }
 
+// A copy of values.
+fn copied<F: Field>(alloc: Global, values: &[F]) -> Result<Vec<F>, AllocError>
+    ensures { IfOk result (λ copy. copy.items ≡ values.now) }
+{
+    let mut copy = F::zero_vec(alloc, values.len())?;
+    copy.copy_from_slice(values);
+    Ok(copy)
+}
+
 // Appends the messages of the rounds that are left, and folds the values by the challenges.
-fn prove_rounds<F: Field, C: FieldChallenger<F>>(
+fn prove_rounds<F: Field, C: CanObserve<F> + CanSample<F>>(
     challenger: &mut C,
     left: &mut [F],
     right: &mut [F],
@@ -123,7 +130,7 @@ pub fn verify<F: Field, C: FieldChallenger<F>>(
 }
 
 // Appends the challenges, and returns whether each message has the claim of its round as its sum, with the last claim.
-fn verify_rounds<F: Field, C: FieldChallenger<F>>(
+fn verify_rounds<F: Field, C: CanObserve<F> + CanSample<F>>(
     challenger: &mut C,
     claim: F,
     messages: &[RoundPolynomial<F>],
@@ -157,7 +164,7 @@ fn both(one: bool, other: bool) -> bool
 }
 
 // Observes a message, and samples its challenge.
-fn turn<F: Field, C: FieldChallenger<F>>(
+fn turn<F: Field, C: CanObserve<F> + CanSample<F>>(
     challenger: &mut C,
     message: RoundPolynomial<F>,
 ) -> Result<F, ChallengerError>

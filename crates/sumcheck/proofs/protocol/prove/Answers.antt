@@ -8,5 +8,5 @@ returns g c =
     proved-whole g.C.CanObserve.observes g.C.CanSample.gives g.F.Represented.product repr c.args.challenger.now
     c.prove_rounds.new.challenger (map repr c.args.left.now) (map repr c.args.right.now) (map repr c.as_mut_slice.result.now)
     (map repr c.as_mut_slice-2.result.now) c.args.rounds c.new-messages.result.items c.prove_rounds.new.messages.items
-    c.new-messages.ensures.items (ap (map repr) (c.as_mut_slice.ensures.value ∙ c.copy_from_slice.ensures.items))
-    (ap (map repr) (c.as_mut_slice-2.ensures.value ∙ c.copy_from_slice-2.ensures.items)) c.in_ok-prove_rounds.ensures
+    c.new-messages.ensures.items (ap (map repr) (c.as_mut_slice.ensures.value ∙ c.in_ok-left_rest.ensures))
+    (ap (map repr) (c.as_mut_slice-2.ensures.value ∙ c.in_ok-right_rest.ensures)) c.in_ok-prove_rounds.ensures
