@@ -1,5 +1,4 @@
 mod bytes;
 mod cut;
-mod owned;
 mod spaces;
 mod texts;

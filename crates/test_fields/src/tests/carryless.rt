@@ -16,13 +16,43 @@ fn products_of_words(rt: HostRuntime) {
     );
 }
 
+/// The word with all bits of class 0.
+const CLASS: u64 = 0x1111_1111_1111_1111;
+
 #[test]
 fn sixteen_bits_of_one_class_meet_at_the_top(rt: HostRuntime) {
-    let class = 0x1111_1111_1111_1111;
-    assert!(rt; masked_product(class, class, 0, 0) == 0x0101_0101_0101_0101);
-    let mut words = [class, 1];
-    masked_products(&mut words, class, 0, 0);
-    assert!(rt; words == [0x0101_0101_0101_0101, class]);
+    assert!(rt; masked_product(CLASS, CLASS, 0, 0) == 0x0101_0101_0101_0101);
+    let mut words = [CLASS, 1];
+    masked_products(&mut words, CLASS, 0, 0);
+    assert!(rt; words == [0x0101_0101_0101_0101, CLASS]);
+}
+
+/// Whether so many words, which are all one, get its product, and the words behind them stay.
+fn first_words_are_multiplied(count: usize) -> bool {
+    let mut words = [CLASS; 257];
+    if count > 257 {
+        return false;
+    }
+    masked_products(&mut words[..count], CLASS, 0, 0);
+    let mut are_right = true;
+    for place in 0..257usize {
+        let want = if place < count {
+            0x0101_0101_0101_0101
+        } else {
+            CLASS
+        };
+        are_right = are_right && words[place] == want;
+    }
+    are_right
+}
+
+#[test]
+fn masked_products_of_every_length(rt: HostRuntime) {
+    let mut are_right = first_words_are_multiplied(257);
+    for count in 0..41usize {
+        are_right = are_right && first_words_are_multiplied(count);
+    }
+    assert!(rt; are_right);
 }
 
 #[test]

@@ -1,5 +1,5 @@
-// Slices of each length about the blocks of the code, and about the length from which it uses tables, against one value after the other.
-// The contracts say so of all lengths; the values here are drawn from the seed 42.
+// Slices of each length about the blocks of the code, and about the length from which a scalar's tables stand in memory, against one value
+// after the other. The contracts say so of all lengths; the values here are drawn from the seed 42.
 use field_aes::ByteMatrix;
 use field_element::{Ghash128, element_of_word};
 use std::alloc::{AllocError, Global};
@@ -7,9 +7,10 @@ use std::test::Fail;
 use transform_slices::{butterfly_forward, butterfly_inverse, mul, mul_slice};
 use word_basis::{to_polynomial_128, to_polynomial_slice_128, to_tower_128, to_tower_slice_128};
 
-/// Lengths: of no value, of one, about each power of two up to 128, and the greatest.
-static LENGTHS: [usize; 23] = [
-    0, 1, 2, 3, 4, 5, 7, 8, 9, 15, 16, 17, 31, 32, 33, 63, 64, 65, 127, 128, 129, 256, 257,
+/// Lengths: of no value, of one, about each power of two up to 128, and about 256 and 400.
+static LENGTHS: [usize; 26] = [
+    0, 1, 2, 3, 4, 5, 7, 8, 9, 15, 16, 17, 31, 32, 33, 63, 64, 65, 127, 128, 129, 256, 257, 399,
+    400, 401,
 ];
 
 /// The next word of splitmix64 (Steele, Lea and Flood 2014).

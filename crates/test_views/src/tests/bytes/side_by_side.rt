@@ -1,12 +1,11 @@
 // Worked rows, and how often the iterators are asked: streams of elements side by side.
-use field_base::traits::TowerLevel;
 use field_bytes::{
     into_parallel_byte_streams, into_parallel_u32_streams, into_parallel_u64_streams,
 };
-use field_element::BinaryField16;
+use field_element::{BinaryField16, element_of_word};
 
 fn element(number: u16) -> BinaryField16 {
-    BinaryField16::from_repr(number)
+    element_of_word(number)
 }
 
 // Whether the streams of the rows, side by side, are these bytes and these words.

@@ -1,6 +1,11 @@
 // Elements of the cubic extension by their coefficients.
-use field_element::{Poly64, Poly192};
-use field_space::{BasedVectorSpace, HasFrobenius, HasPowers};
+use field_base::traits::PrimeCharacteristicRing;
+use field_base::{FieldKernel, Stored};
+use field_element::{Coefficients, CubicKernel, Element, Poly64, Poly192, element_of_word};
+use field_space::{BasedVectorSpace, HasFrobenius, HasPowers, PackedFieldExtension, SpaceOver};
+use std::alloc::Global;
+use word_polynomial::Poly64Kernel;
+use word_tower::{Bits8, Bits32, Tower};
 
 /// The element of these coefficients, the lowest first.
 pub(crate) fn cubic(c0: u64, c1: u64, c2: u64) -> Poly192 {
@@ -23,6 +28,24 @@ fn frobenius_of_the_root(rt: HostRuntime) {
     );
 }
 
+// The first powers, each as a packing of one lane.
+fn packed_powers_begin(base: Poly192, first: &[Poly192]) -> bool {
+    <Poly192 as PackedFieldExtension<Poly64, Poly192>>::packed_ext_powers(base)
+        .take(first.len())
+        .eq(first.iter().copied())
+}
+
+#[test]
+fn packed_powers_of_the_root(rt: HostRuntime) {
+    let first = [
+        cubic(1, 0, 0),
+        cubic(0, 1, 0),
+        cubic(0, 0, 1),
+        cubic(1, 1, 0),
+    ];
+    assert!(rt; packed_powers_begin(cubic(0, 1, 0), &first));
+}
+
 // How often a closure is called, and in which order.
 #[test]
 fn a_closure_is_called_for_each_coefficient_in_order(rt: HostRuntime) {
@@ -35,23 +58,53 @@ fn a_closure_is_called_for_each_coefficient_in_order(rt: HostRuntime) {
     assert!(rt; counted == cubic(1, 2, 3) && calls == 0o123);
 }
 
-// The coefficients 1, 2, 3, ..
-static COEFFICIENTS: [u64; 5] = [1, 2, 3, 4, 5];
+// Whether an element comes of the coefficients where they are as many as it has, and the one from place `left` on is the next of an
+// iterator that is kept.
+fn are_taken<R: Stored, K: SpaceOver<R, S, J>, S: Stored, J: FieldKernel<S>>(
+    coefficients: &[Element<S, J>],
+    is_whole: bool,
+    left: usize,
+) -> bool {
+    let mut kept = coefficients.iter().copied();
+    let is_read = Element::<R, K>::from_basis_coefficients_iter_by_ref(&mut kept).is_some();
+    let is_given = Element::<R, K>::from_basis_coefficients_iter(coefficients.iter().copied());
+    let is_left = match (kept.next(), coefficients.get(left)) {
+        (Some(next), Some(want)) => next == *want,
+        (None, None) => true,
+        _ => false,
+    };
+    is_read == is_whole && is_given.is_some() == is_whole && is_left
+}
 
-// What the first `count` of them are the coefficients of.
-fn of_first(count: usize) -> Option<Poly192> {
-    let items = COEFFICIENTS.iter().take(count);
-    Poly192::from_basis_coefficients_iter(items.map(|bits| Poly64::new(*bits)))
+// Whether that holds of the first powers of the generator, for 0 to two more of them than there are coefficients. Of too many one more
+// is taken.
+fn first_are_taken<R: Stored, K: SpaceOver<R, S, J>, S: Stored, J: FieldKernel<S>>(
+    alloc: Global,
+) -> bool {
+    let dimension = <Element<R, K> as BasedVectorSpace<Element<S, J>>>::DIMENSION;
+    let mut coefficients = Vec::new(alloc);
+    let mut power = Element::<S, J>::ONE;
+    for count in 0..8usize {
+        let is_whole = count == dimension;
+        if !are_taken::<R, K, S, J>(
+            coefficients.as_slice(),
+            is_whole,
+            dimension.saturating_add(1),
+        ) || coefficients.push(power).is_err()
+        {
+            return false;
+        }
+        power = power * element_of_word(J::GENERATOR);
+    }
+    dimension < 6
 }
 
 // Iterators of too few, enough and too many items; that two give nothing is a worked row.
 #[test]
 fn an_iterator_gives_as_many_coefficients_as_there_are(rt: HostRuntime) {
     assert!(rt;
-        of_first(0).is_none()
-            && of_first(2).is_none()
-            && of_first(3) == Some(cubic(1, 2, 3))
-            && of_first(4).is_none()
+        first_are_taken::<Coefficients, CubicKernel, u64, Poly64Kernel>(rt.alloc())
+            && first_are_taken::<u32, Tower<Bits32>, u8, Tower<Bits8>>(rt.alloc())
     );
 }
 

@@ -1,6 +1,7 @@
 // The order of the generator of the cubic extension: an element whose powers by the quotients of 2^192 - 1 by its primes are not 1 generates all.
-use field_base::traits::{Field, PrimeCharacteristicRing};
-use field_element::Poly192;
+use field_base::traits::PrimeCharacteristicRing;
+use field_base::{FieldKernel, Stored};
+use field_element::{Coefficients, CubicKernel, Element, element_of_word};
 
 /// The primes of 2^192 - 1, as often as they divide it.
 static PRIMES: [u64; 16] = [
@@ -52,7 +53,7 @@ fn quotient(number: Words, divisor: u64) -> Option<Words> {
 }
 
 /// The element to the power of a number.
-fn power(element: Poly192, exponent: Words) -> Poly192 {
+fn power<R: Stored, K: FieldKernel<R>>(element: Element<R, K>, exponent: Words) -> Element<R, K> {
     let shifted = element.exp_power_of_2(64);
     element.exp_u64(exponent[0])
         * shifted.exp_u64(exponent[1])
@@ -60,18 +61,22 @@ fn power(element: Poly192, exponent: Words) -> Poly192 {
 }
 
 /// Whether no quotient of the order by one of the primes is an exponent that gives 1.
-fn order_is_full(element: Poly192) -> bool {
+fn order_is_full<R: Stored, K: FieldKernel<R>>(element: Element<R, K>) -> bool {
     for prime in PRIMES.iter() {
         match quotient(ORDER, *prime) {
-            Some(exponent) if !power(element, exponent).is_one() => {}
+            Some(exponent) if power(element, exponent) != Element::ONE => {}
             _ => return false,
         }
     }
-    power(element, ORDER).is_one()
+    power(element, ORDER) == Element::ONE
 }
 
-#[test]
-fn the_primes_multiply_to_the_order(rt: HostRuntime) {
+/// Whether that holds of the generator, and not of 1.
+fn generator_has_full_order<R: Stored, K: FieldKernel<R>>() -> bool {
+    order_is_full::<R, K>(element_of_word(K::GENERATOR)) && !order_is_full::<R, K>(Element::ONE)
+}
+
+fn primes_multiply_to_the_order() -> bool {
     let mut rest = Some(ORDER);
     for prime in PRIMES.iter() {
         rest = match rest {
@@ -79,10 +84,12 @@ fn the_primes_multiply_to_the_order(rt: HostRuntime) {
             None => None,
         };
     }
-    assert!(rt; rest == Some([1, 0, 0]));
+    rest == Some([1, 0, 0])
 }
 
 #[test]
 fn the_generator_has_full_order(rt: HostRuntime) {
-    assert!(rt; order_is_full(Poly192::GENERATOR) && !order_is_full(Poly192::ONE));
+    assert!(rt;
+        primes_multiply_to_the_order() && generator_has_full_order::<Coefficients, CubicKernel>()
+    );
 }

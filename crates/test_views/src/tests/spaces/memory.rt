@@ -1,15 +1,14 @@
-// Vectors of coefficients, elements of them, and texts of algebras, where there is memory, and refused where there is not. One vector
-// each way is a worked row, and so are both texts.
+// Vectors of coefficients, and elements of them, at each length, where there is memory, and refused where there is not. What is in them
+// the contracts say.
 use super::coefficients::cubic;
+use field_base::traits::PrimeCharacteristicRing;
 use field_base::{FieldKernel, Stored};
-use field_element::{
-    BinaryField8, BinaryField128, Coefficients, CubicKernel, Element, Poly64, Poly192,
-};
-use field_space::{AlgebraIdentity, BasedVectorSpace, SpaceOver};
+use field_element::{Coefficients, CubicKernel, Element, Poly64, Poly192, element_of_word};
+use field_space::{BasedVectorSpace, SpaceOver};
 use linked_list_allocator::LocalHeap;
-use std::alloc::{AllocError, Allocator};
-use std::test::Fail;
+use std::alloc::{AllocError, Allocator, Global};
 use word_polynomial::Poly64Kernel;
+use word_tower::{Bits64, Bits128, Tower};
 
 /// The coefficients of the elements of a space over a smaller field.
 fn flattened<R: Stored, K: SpaceOver<R, S, J>, S: Stored, J: FieldKernel<S>, A: Allocator>(
@@ -32,78 +31,101 @@ fn reconstituted<R: Stored, K: SpaceOver<R, S, J>, S: Stored, J: FieldKernel<S>,
     }
 }
 
-/// The coefficients of the elements over `Poly64`.
-fn coefficients_of<A: Allocator>(
-    alloc: A,
-    elements: &[Poly192],
-) -> Result<Vec<Poly64, A>, AllocError> {
-    flattened::<Coefficients, CubicKernel, u64, Poly64Kernel, A>(alloc, elements)
-}
+/// Bytes of heaps. The first has no room for one element, and the last has room for all. Each has twice the room of the one before,
+/// and a vector grows to twice its length at least: so each growth is the first to be refused in one.
+static ROOMS: [usize; 13] = [
+    16, 32, 64, 128, 256, 512, 1024, 2048, 4096, 8192, 16384, 32768, 65536,
+];
 
-/// The elements of the coefficients.
-fn elements_of<A: Allocator>(
-    alloc: A,
-    coefficients: &[Poly64],
-) -> Result<Vec<Poly192, A>, AllocError> {
-    reconstituted::<Coefficients, CubicKernel, u64, Poly64Kernel, A>(alloc, coefficients)
-}
-
-/// Whether the coefficients of the elements, and the elements of those coefficients, are granted, and these are the elements again.
-fn round_trip<A: Allocator, B: Allocator>(
-    alloc: A,
-    other: B,
-    elements: &[Poly192],
-) -> Result<bool, Fail> {
-    let flat = coefficients_of(alloc, elements)?;
-    let back = elements_of(other, flat.as_slice())?;
-    Ok(flat.len() / 3 == elements.len() && back.as_slice() == elements)
-}
-
-#[test]
-fn coefficients_of_one_element(rt: HostRuntime) -> Result<(), Fail> {
-    let flat = coefficients_of(rt.alloc(), &[cubic(1, 2, 3)])?;
-    assert!(rt; flat.as_slice() == [Poly64::new(1), Poly64::new(2), Poly64::new(3)].as_slice());
-    let back = elements_of(rt.alloc(), flat.as_slice())?;
-    assert!(rt; back.as_slice() == [cubic(1, 2, 3)].as_slice());
-    Ok(())
-}
-
-// The small heap has no room for one element.
-#[test]
-fn vectors_are_granted_or_refused(rt: HostRuntime) -> Result<(), Fail> {
-    let large = LocalHeap::new(rt.alloc(), 65536)?;
-    let small = LocalHeap::new(rt.alloc(), 16)?;
-    let mut elements = Vec::new(rt.alloc());
-    for len in 0..258usize {
-        assert!(rt;
-            round_trip(&large, &large, elements.as_slice())?,
-            "{len} elements"
-        );
-        let flat = coefficients_of(rt.alloc(), elements.as_slice())?;
-        let refused = coefficients_of(&small, elements.as_slice()).is_err()
-            && elements_of(&small, flat.as_slice()).is_err();
-        assert!(rt; refused == (len > 0) && small.used() == 0, "{len} elements");
-        elements.push(cubic(len as u64, len as u64 + 1000, len as u64 + 2000))?;
+/// Whether a call may end so in a heap of so many bytes.
+fn is_due(is_granted: bool, room: usize, takes_memory: bool) -> bool {
+    if is_granted {
+        room > 16 || !takes_memory
+    } else {
+        room < 65536 && takes_memory
     }
-    assert!(rt; large.used() == 0);
-    Ok(())
 }
 
-/// The text of the cubic extension.
-fn cubic_text<A: Allocator>(alloc: A) -> Result<Vec<u8, A>, AllocError> {
-    <Poly192 as AlgebraIdentity<Poly64>>::algebra_id(alloc)
+/// Whether both ways end as they may in a heap of so many bytes, which gets all of them back.
+fn both_are_due<R: Stored, K: SpaceOver<R, S, J>, S: Stored, J: FieldKernel<S>>(
+    alloc: Global,
+    room: usize,
+    elements: &[Element<R, K>],
+    flat: &[Element<S, J>],
+) -> bool {
+    match LocalHeap::new(alloc, room) {
+        Ok(heap) => {
+            let is_flattened = flattened::<R, K, S, J, _>(&heap, elements).is_ok();
+            let is_made = reconstituted::<R, K, S, J, _>(&heap, flat).is_ok();
+            is_due(is_flattened, room, elements.len() > 0)
+                && is_due(is_made, room, elements.len() > 0)
+                && heap.used() == 0
+        }
+        Err(_) => false,
+    }
+}
+
+/// Whether that holds in each heap, and of the elements' coefficients.
+fn each_is_due<R: Stored, K: SpaceOver<R, S, J>, S: Stored, J: FieldKernel<S>>(
+    alloc: Global,
+    elements: &[Element<R, K>],
+) -> bool {
+    match flattened::<R, K, S, J, _>(alloc, elements) {
+        Ok(flat) => {
+            for room in ROOMS.iter() {
+                if !both_are_due::<R, K, S, J>(alloc, *room, elements, flat.as_slice()) {
+                    return false;
+                }
+            }
+            true
+        }
+        Err(_) => false,
+    }
+}
+
+/// Whether that holds of the first powers of the generator, for 0 to 257 of them.
+fn powers_are_due<R: Stored, K: SpaceOver<R, S, J>, S: Stored, J: FieldKernel<S>>(
+    alloc: Global,
+) -> bool {
+    let mut elements = Vec::new(alloc);
+    let mut power = Element::<R, K>::ONE;
+    for _ in 0..258 {
+        if !each_is_due::<R, K, S, J>(alloc, elements.as_slice()) || elements.push(power).is_err() {
+            return false;
+        }
+        power = power * element_of_word(K::GENERATOR);
+    }
+    true
 }
 
 #[test]
-fn texts_of_algebras(rt: HostRuntime) -> Result<(), Fail> {
-    let small = LocalHeap::new(rt.alloc(), 16)?;
-    let text = cubic_text(rt.alloc())?;
-    let other = <BinaryField128 as AlgebraIdentity<BinaryField8>>::algebra_id(rt.alloc())?;
+fn vectors_are_granted_or_refused(rt: HostRuntime) {
     assert!(rt;
-        text.as_slice() == b"p3-binary-cubic-v1:y^3+y+1:64:192".as_slice()
-            && other.as_slice() == b"p3-Wiedemann-tower-v1:chunk-basis:8:128".as_slice()
-            && cubic_text(&small).is_err()
-            && small.used() == 0
+        powers_are_due::<Coefficients, CubicKernel, u64, Poly64Kernel>(rt.alloc())
+            && powers_are_due::<u128, Tower<Bits128>, u64, Tower<Bits64>>(rt.alloc())
     );
-    Ok(())
+}
+
+fn coefficients_are(alloc: Global, element: Poly192, want: [Poly64; 3]) -> bool {
+    match flattened::<Coefficients, CubicKernel, u64, Poly64Kernel, _>(alloc, &[element]) {
+        Ok(flat) => flat.as_slice() == want.as_slice(),
+        Err(_) => false,
+    }
+}
+
+fn element_is(alloc: Global, coefficients: [Poly64; 3], want: Poly192) -> bool {
+    match reconstituted::<Coefficients, CubicKernel, u64, Poly64Kernel, _>(alloc, &coefficients) {
+        Ok(elements) => elements.as_slice() == [want].as_slice(),
+        Err(_) => false,
+    }
+}
+
+// A worked row.
+#[test]
+fn coefficients_of_one_element(rt: HostRuntime) {
+    let coefficients = [Poly64::new(1), Poly64::new(2), Poly64::new(3)];
+    assert!(rt;
+        coefficients_are(rt.alloc(), cubic(1, 2, 3), coefficients)
+            && element_is(rt.alloc(), coefficients, cubic(1, 2, 3))
+    );
 }

@@ -1,17 +1,38 @@
-// Elements to JSON and back, and numbers that are refused. No contract says when reading succeeds, nor which text an error holds.
+// Elements to JSON and back, and numbers that are refused, from a text and from a value that is given away. No contract says when
+// reading succeeds, nor which text an error holds.
 use field_aes::LinearizedPoly8b;
 use field_base::{FieldKernel, Gf2, ReadWord};
 use field_element::{Coefficients, CubicKernel, Element};
 use serde::{Deserialize, DeserializeOwned, Serialize};
 use serde_json::{Error, Value};
-use std::alloc::{AllocError, Global};
+use std::alloc::Global;
 use word_polynomial::{GhashKernel, Poly64Kernel};
 use word_tower::{Bits2, Bits4, Tower};
 
-// Whether the text is read as an element, which is written as that text again.
-fn returns<'a, E: Copy + Serialize + Deserialize<'a>>(alloc: Global, text: &'a str) -> bool {
-    match serde_json::from_str::<E>(alloc, text) {
-        Ok(element) => match serde_json::to_string(alloc, &element) {
+/// The numbers of a byte.
+static NUMBERS: &str =
+    "0 1 2 3 4 5 6 7 8 9 10 11 12 13 14 15 16 17 18 19 20 21 22 23 24 25 26 27 28 29 30 31 32 33 34 35 \
+    36 37 38 39 40 41 42 43 44 45 46 47 48 49 50 51 52 53 54 55 56 57 58 59 60 61 62 63 64 65 66 67 68 \
+    69 70 71 72 73 74 75 76 77 78 79 80 81 82 83 84 85 86 87 88 89 90 91 92 93 94 95 96 97 98 99 100 \
+    101 102 103 104 105 106 107 108 109 110 111 112 113 114 115 116 117 118 119 120 121 122 123 124 125 \
+    126 127 128 129 130 131 132 133 134 135 136 137 138 139 140 141 142 143 144 145 146 147 148 149 150 \
+    151 152 153 154 155 156 157 158 159 160 161 162 163 164 165 166 167 168 169 170 171 172 173 174 175 \
+    176 177 178 179 180 181 182 183 184 185 186 187 188 189 190 191 192 193 194 195 196 197 198 199 200 \
+    201 202 203 204 205 206 207 208 209 210 211 212 213 214 215 216 217 218 219 220 221 222 223 224 225 \
+    226 227 228 229 230 231 232 233 234 235 236 237 238 239 240 241 242 243 244 245 246 247 248 249 250 \
+    251 252 253 254 255";
+
+fn read_owned<E: DeserializeOwned>(alloc: Global, text: &str) -> Result<E, Error> {
+    match Value::from_str(alloc, text) {
+        Ok(value) => serde_json::from_value::<E>(alloc, value),
+        Err(error) => Err(error),
+    }
+}
+
+// Whether an element was read that is written as the text.
+fn is_written<E: Copy + Serialize>(alloc: Global, answer: &Result<E, Error>, text: &str) -> bool {
+    match answer {
+        Ok(element) => match serde_json::to_string(alloc, element) {
             Ok(again) => again.as_str() == text,
             Err(_) => false,
         },
@@ -19,131 +40,61 @@ fn returns<'a, E: Copy + Serialize + Deserialize<'a>>(alloc: Global, text: &'a s
     }
 }
 
-// Whether the refusal says that the value is out of range.
-fn says_out_of_range(alloc: Global, error: &Error) -> bool {
-    match format!(in alloc; "{error}") {
-        Ok(said) => said.as_str().starts_with("Value is out of range"),
-        Err(_) => false,
-    }
-}
-
-fn is_out_of_range<'a, E: Copy + Deserialize<'a>>(alloc: Global, text: &'a str) -> bool {
-    match serde_json::from_str::<E>(alloc, text) {
+// Whether none was read, for a reason that begins so.
+fn is_refused<E: Copy>(alloc: Global, answer: &Result<E, Error>, reason: &str) -> bool {
+    match answer {
         Ok(_) => false,
-        Err(error) => says_out_of_range(alloc, &error),
-    }
-}
-
-// The same where the element borrows nothing of what it is read from.
-fn is_out_of_range_owned<E: Copy + DeserializeOwned>(alloc: Global, text: &str) -> bool {
-    match Value::from_str(alloc, text) {
-        Ok(value) => match serde_json::from_value::<E>(alloc, value) {
-            Ok(_) => false,
-            Err(error) => says_out_of_range(alloc, &error),
+        Err(error) => match format!(in alloc; "{error}") {
+            Ok(said) => said.as_str().starts_with(reason),
+            Err(_) => false,
         },
-        Err(_) => false,
     }
 }
 
-// The numbers from `first` to `last`, a space after each.
-fn numbers_between(alloc: Global, first: u8, last: u8) -> Result<String, AllocError> {
-    let mut texts = String::new(alloc);
-    for number in first..=last {
-        texts.push_str(format!(in alloc; "{number} ")?.as_str())?;
-    }
-    Ok(texts)
-}
-
-// Whether each of the numbers is read and written again.
-fn all_return<'a, E: Copy + Serialize + Deserialize<'a>>(alloc: Global, texts: &'a str) -> bool {
-    for text in texts.split_whitespace() {
-        if !returns::<E>(alloc, text) {
-            return false;
-        }
-    }
-    true
-}
-
-// Whether each of the numbers is refused as out of range, by both ways of reading it.
-fn are_out_of_range<'a, E: Copy + Deserialize<'a> + DeserializeOwned>(
+// Whether the first texts, so many of them, are read and written again, and the others are refused for this reason.
+fn takes<'a, E: Copy + Serialize + Deserialize<'a> + DeserializeOwned>(
     alloc: Global,
     texts: &'a str,
+    taken: usize,
+    reason: &str,
 ) -> bool {
-    for text in texts.split_whitespace() {
-        if !is_out_of_range::<E>(alloc, text) || !is_out_of_range_owned::<E>(alloc, text) {
+    for (place, text) in texts.split_whitespace().enumerate() {
+        let lent = serde_json::from_str::<E>(alloc, text);
+        let owned = read_owned::<E>(alloc, text);
+        let is_right = if place < taken {
+            is_written(alloc, &lent, text) && is_written(alloc, &owned, text)
+        } else {
+            is_refused(alloc, &lent, reason) && is_refused(alloc, &owned, reason)
+        };
+        if !is_right {
             return false;
         }
     }
     true
-}
-
-// Whether the numbers of the field are read and written again, and those past it are refused as out of range.
-fn ends_between<'a, E: Copy + Serialize + Deserialize<'a> + DeserializeOwned>(
-    alloc: Global,
-    of_field: &'a str,
-    past_field: &'a str,
-) -> bool {
-    all_return::<E>(alloc, of_field) && are_out_of_range::<E>(alloc, past_field)
-}
-
-// The same for elements of the field of a kernel.
-fn elements_end_between<'a, R: ReadWord + Serialize, K: FieldKernel<R>>(
-    alloc: Global,
-    of_field: &'a str,
-    past_field: &'a str,
-) -> bool {
-    ends_between::<Element<R, K>>(alloc, of_field, past_field)
-}
-
-// Each number of a byte, at the fields that a byte stores with bits to spare. That GF(2) refuses 2, the field of two bits 4 and 7,
-// and that of four bits 16 are worked rows.
-#[test]
-fn numbers_of_a_byte_are_read_or_refused(rt: HostRuntime) -> Result<(), AllocError> {
-    let alloc = rt.alloc();
-    let of_1_bit = numbers_between(alloc, 0, 1)?;
-    let past_1_bit = numbers_between(alloc, 2, 255)?;
-    let of_2_bits = numbers_between(alloc, 0, 3)?;
-    let past_2_bits = numbers_between(alloc, 4, 255)?;
-    let of_4_bits = numbers_between(alloc, 0, 15)?;
-    let past_4_bits = numbers_between(alloc, 16, 255)?;
-    assert!(rt; of_1_bit.as_str() == "0 1 " && of_2_bits.as_str() == "0 1 2 3 ");
-    assert!(rt;
-        ends_between::<Gf2>(alloc, of_1_bit.as_str(), past_1_bit.as_str())
-            && elements_end_between::<u8, Tower<Bits2>>(
-                alloc,
-                of_2_bits.as_str(),
-                past_2_bits.as_str()
-            )
-            && elements_end_between::<u8, Tower<Bits4>>(
-                alloc,
-                of_4_bits.as_str(),
-                past_4_bits.as_str()
-            )
-    );
-    Ok(())
-}
-
-// Whether each of the first texts is read and written again, and each of the second is refused.
-fn takes<'a, E: Copy + Serialize + Deserialize<'a>>(
-    alloc: Global,
-    taken: &'a str,
-    refused: &'a str,
-) -> bool {
-    for text in refused.split_whitespace() {
-        if serde_json::from_str::<E>(alloc, text).is_ok() {
-            return false;
-        }
-    }
-    all_return::<E>(alloc, taken)
 }
 
 // The same for elements of the field of a kernel.
 fn elements_take<'a, R: ReadWord + Serialize, K: FieldKernel<R>>(
     alloc: Global,
-    taken: &'a str,
-    refused: &'a str,
+    texts: &'a str,
+    taken: usize,
+    reason: &str,
 ) -> bool {
-    takes::<Element<R, K>>(alloc, taken, refused)
+    takes::<Element<R, K>>(alloc, texts, taken, reason)
+}
+
+const RANGE: &str = "Value is out of range";
+
+// Each number of a byte, at the fields that a byte stores with bits to spare. That GF(2) refuses 2, the field of two bits 4 and 7,
+// and that of four bits 16 are worked rows.
+#[test]
+fn numbers_of_a_byte_are_read_or_refused(rt: HostRuntime) {
+    let alloc = rt.alloc();
+    assert!(rt;
+        takes::<Gf2>(alloc, NUMBERS, 2, RANGE)
+            && elements_take::<u8, Tower<Bits2>>(alloc, NUMBERS, 4, RANGE)
+            && elements_take::<u8, Tower<Bits4>>(alloc, NUMBERS, 16, RANGE)
+    );
 }
 
 // The greatest numbers and some others, and numbers past the word, below 0 and of too many and too few coefficients.
@@ -151,18 +102,25 @@ fn elements_take<'a, R: ReadWord + Serialize, K: FieldKernel<R>>(
 fn numbers_past_the_word_are_refused(rt: HostRuntime) {
     let alloc = rt.alloc();
     assert!(rt;
-        takes::<Gf2>(alloc, "0 1", "256 -1")
+        takes::<Gf2>(alloc, "0 1 256 -1", 2, "")
             && elements_take::<u64, Poly64Kernel>(
                 alloc,
-                "18446744073709551615",
-                "18446744073709551616"
+                "18446744073709551615 18446744073709551616",
+                1,
+                ""
             )
-            && elements_take::<u128, GhashKernel>(alloc, "18446744073709551614", "-1")
+            && elements_take::<u128, GhashKernel>(
+                alloc,
+                "18446744073709551615 18446744073709551614 -1",
+                2,
+                ""
+            )
             && elements_take::<Coefficients, CubicKernel>(
                 alloc,
-                "[1,0,18446744073709551615]",
-                "[1,2] [1,2,3,4] 1"
+                "[1,2,3] [1,0,18446744073709551615] [1,2] [1,2,3,4] 1",
+                2,
+                ""
             )
-            && takes::<LinearizedPoly8b>(alloc, "[0,1,2,3,4,5,128,255]", "[0,1,2,3,4,5,6,256]")
+            && takes::<LinearizedPoly8b>(alloc, "[0,1,2,3,4,5,128,255] [0,1,2,3,4,5,6,256]", 1, "")
     );
 }
