@@ -19,12 +19,14 @@ fn five_are_packed(alloc: Global) -> Result<bool, AllocError> {
     let (packings, suffix) = pack_slice::<Ghash128, 2, Global>(alloc, &values)?;
     let mut again = [Ghash128::new(0); 4];
     unpack_slice(packings.as_slice(), &mut again);
-    Ok(packings.len() == 2
-        && suffix.len() == 1
-        && suffix[0].to_bits() == 5
-        && again[0].to_bits() == 1
-        && again[3].to_bits() == 4
-        && sum_of_lanes(packings[1]).to_bits() == 7)
+    Ok(
+        packings.len() == 2
+            && suffix.len() == 1
+            && suffix[0].to_bits() == 5
+            && again[0].to_bits() == 1
+            && again[3].to_bits() == 4
+            && sum_of_lanes(packings[1]).to_bits() == 7,
+    )
 }
 
 #[test]
@@ -51,7 +53,7 @@ impl Growing for Packs {
                 true,
                 packings.len() == self.len / 3
                     && suffix.len() == self.len % 3
-                    && powers.len() == self.len
+                    && powers.len() == self.len,
             ),
             _ => Ending::Refused,
         })

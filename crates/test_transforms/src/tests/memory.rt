@@ -4,7 +4,9 @@ use linked_list_allocator::LocalHeap;
 use std::alloc::{AllocError, Allocator, Global};
 use test_heaps::{Ending, Growing, Rest, is_refused_in_turn};
 use transform_slices::LowStageTwiddles;
-use transform_whole::{PolyKernel, forward, forward_numbers, forward_with, inverse_numbers};
+use transform_whole::{
+    PolyKernel, Transform as KeptTransform, forward, forward_numbers, forward_with, inverse_numbers,
+};
 
 // Twiddles with a basis of so many elements.
 #[derive(Drop)]
@@ -66,6 +68,7 @@ enum Way {
     ByKernel,
     Counted,
     Uncounted,
+    Kept,
 }
 
 // The transform of 2^m drawn numbers, which are `count`.
@@ -98,6 +101,10 @@ fn transform_of<A: Allocator>(
         }
         Way::Counted => forward(alloc, values, 3, products)?,
         Way::Uncounted => forward_numbers(alloc, values, 3)?,
+        Way::Kept => {
+            let kept = KeptTransform::new(alloc, m, 3)?;
+            kept.forward(values);
+        }
     }
     Ok(true)
 }
@@ -124,7 +131,7 @@ static PAIRS: [u64; 9] = [0, 1, 4, 12, 32, 80, 192, 448, 1024];
 // Whether the count has risen from 5 by the pairs, or stayed where nothing is counted.
 fn is_counted(way: Way, m: usize, products: u64) -> bool {
     match way {
-        Way::Uncounted => products == 5,
+        Way::Uncounted | Way::Kept => products == 5,
         _ => m < 9 && products == 5 + PAIRS[m],
     }
 }
@@ -157,7 +164,7 @@ fn are_transforms_refused(alloc: Global, way: Way) -> bool {
             count: 1 << m,
             way,
         };
-        if !is_refused_in_turn(alloc, &transform, m >= 4) {
+        if !is_refused_in_turn(alloc, &transform, m >= 4 || way == Way::Kept) {
             return false;
         }
     }
@@ -170,5 +177,6 @@ fn the_transform_is_granted_or_refused(rt: HostRuntime) {
         are_transforms_refused(rt.alloc(), Way::ByKernel)
             && are_transforms_refused(rt.alloc(), Way::Counted)
             && are_transforms_refused(rt.alloc(), Way::Uncounted)
+            && are_transforms_refused(rt.alloc(), Way::Kept)
     );
 }
