@@ -14,7 +14,6 @@ use Rattle.field_base.specs.BitRingLemmas.{two_cases}
 use Rattle.field_base.proofs.RemainderRing.{ghash_ring}
 use Rattle.word_basis.proofs.Isomorphisms.{field_128, isomorphic_128}
 use Rattle.word_tables.specs.Cantor.{cantor_vector}
-use Rattle.field_laws.specs.PolynomialRoots.{AreDistinctBelow}
 use Rattle.field_laws.proofs.Polynomials.{polynomial-unique}
 use Rattle.transform_slices.specs.Cantor.{point, polynomial_value}
 use Rattle.transform_slices.specs.LowStages.{ghash_cantor_vector, ghash_product}
