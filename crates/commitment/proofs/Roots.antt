@@ -1,5 +1,5 @@
 -- Node 1 of the tree over some words is the root of those words.
-use Rattle.std.proofs.Common.{◌≡◌, ℕ, zero, suc, ◌+◌, ◌*◌, ◌^◌, ◌<◌, ◌≤◌, List, refl, sym, ◌∙◌, ap, ap₂, arith}
+use Rattle.std.proofs.Common.{◌≡◌, ℕ, zero, suc, ◌+◌, ◌*◌, ◌^◌, ◌<◌, ◌≤◌, List, ◌∙◌, ap, ap₂, arith}
 use Rattle.std.proofs.Math.Nat.{mul-le-mul_left, two-pow-succ}
 use Rattle.std.proofs.lemmas.Nat.{pow_pos}
 use Rattle.commitment.specs.MerkleTrees.{leaf_input, node_input, root}
