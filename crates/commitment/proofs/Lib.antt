@@ -1,0 +1,6 @@
+mod Binding
+mod Filling
+mod Paths
+mod Roots
+mod Turns
+mod Verified

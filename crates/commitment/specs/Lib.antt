@@ -1,0 +1,3 @@
+pub mod Commitments
+pub mod MerkleTrees
+pub mod Runs

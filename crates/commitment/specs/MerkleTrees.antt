@@ -1,0 +1,61 @@
+-- Merkle trees (R. C. Merkle, A digital signature based on a conventional encryption function, 1987) over 2 ^ n leaves, which are
+-- words of 64 bits. A leaf and a node are told apart by the first byte that is hashed, as in RFC 6962, section 2.1. A digest is a
+-- list of bytes, and `hash` any function from lists of bytes to digests.
+use Rattle.std.specs.Prelude.{◌≡◌, ◌≢◌, ℕ, zero, suc, ◌+◌, ◌/◌, ◌%◌, ◌^◌, ◌<◌, List, [], ◌∷◌, ◌++◌, length, get_or, cond, nat_eq}
+use Rattle.std.specs.Int.{to_le_bytes, w64}
+
+-- what is hashed of a leaf: the byte 0, and the eight bytes of its word, the lowest first
+abbrev pub leaf_input : ℕ → List ℕ
+leaf_input word = 0 ∷ to_le_bytes w64 word
+
+-- and of a node: the byte 1, and the digests of its children
+abbrev pub node_input : List ℕ → List ℕ → List ℕ
+node_input left right = 1 ∷ left ++ right
+
+-- the root of the tree over the leaves word 0, word 1, .., word (2 ^ n - 1)
+unfoldable pub root : (List ℕ → List ℕ) → ℕ → (ℕ → ℕ) → List ℕ
+root hash zero word = hash (leaf_input (word 0))
+root hash (suc n) word = hash (node_input (root hash n word) (root hash n (λ i. word (2 ^ n + i))))
+
+-- ---- paths
+
+-- what is hashed of a node whose child at an even or an odd place has this digest, and the child beside it that one
+abbrev pub pair_input : ℕ → List ℕ → List ℕ → List ℕ
+pair_input place digest sibling = cond (nat_eq (place % 2) 0) (node_input digest sibling) (node_input sibling digest)
+
+-- what is hashed along a path of siblings, from the child at `place` up, of which `input` is hashed
+unfoldable pub inputs : (List ℕ → List ℕ) → ℕ → List ℕ → List (List ℕ) → List (List ℕ)
+inputs hash place input [] = input ∷ []
+inputs hash place input (sibling ∷ path) = input ∷ inputs hash (place / 2) (pair_input place (hash input) sibling) path
+
+-- the digest at the end of a path
+unfoldable pub ending : (List ℕ → List ℕ) → ℕ → List ℕ → List (List ℕ) → List ℕ
+ending hash place digest [] = digest
+ending hash place digest (sibling ∷ path) = ending hash (place / 2) (hash (pair_input place digest sibling)) path
+
+-- a path leads from the leaf at `index`, of 2 ^ depth, to the root
+pub record Leads (hash : List ℕ → List ℕ) (depth : ℕ) (root : List ℕ) (index word : ℕ) (path : List (List ℕ)) : Type 0 where
+  pub within : index < 2 ^ depth
+  pub whole : length path ≡ depth
+  pub ends : ending hash index (hash (leaf_input word)) path ≡ root
+
+-- ---- binding
+
+-- two inputs with one digest
+abbrev pub IsCollision : (List ℕ → List ℕ) → List ℕ → List ℕ → Type 0
+IsCollision hash one other = (one ≢ other) × (hash one ≡ hash other)
+
+-- each digest of a path has so many bytes
+abbrev pub HaveSize : ℕ → List (List ℕ) → Type 0
+HaveSize size path = (k : ℕ) → k < length path → length (get_or path k []) ≡ size
+
+-- two paths that lead from different words at one index to one root have a collision of the hash function between what is hashed
+-- along them, at the same height
+abbrev pub PathsBind : Type 0
+PathsBind =
+    (hash : List ℕ → List ℕ) (size : ℕ) → ((bytes : List ℕ) → length (hash bytes) ≡ size)
+    → (depth : ℕ) (root : List ℕ) (index word other : ℕ) (path other_path : List (List ℕ))
+    → word < 2 ^ 64 → other < 2 ^ 64 → word ≢ other → HaveSize size path → HaveSize size other_path
+    → Leads hash depth root index word path → Leads hash depth root index other other_path
+    → (height : ℕ) × IsCollision hash (get_or (inputs hash index (leaf_input word) path) height [])
+    (get_or (inputs hash index (leaf_input other) other_path) height [])
