@@ -12,6 +12,15 @@ pub(crate) fn cubic(c0: u64, c1: u64, c2: u64) -> Poly192 {
     Poly192::new([Poly64::new(c0), Poly64::new(c1), Poly64::new(c2)])
 }
 
+/// Puts the next power of the base behind those that are there, and returns whether there was room.
+pub(crate) fn push_power<F: PrimeCharacteristicRing>(powers: &mut Vec<F>, base: F) -> bool {
+    let next = match powers.last() {
+        Some(last) => *last * base,
+        None => F::ONE,
+    };
+    powers.push(next).is_ok()
+}
+
 // Whether Frobenius's map takes `element` to `image`, and three of them return it.
 fn frobenius_takes(element: Poly192, image: Poly192) -> bool {
     HasFrobenius::<Poly64>::frobenius(&element) == image
@@ -83,18 +92,16 @@ fn first_are_taken<R: Stored, K: SpaceOver<R, S, J>, S: Stored, J: FieldKernel<S
 ) -> bool {
     let dimension = <Element<R, K> as BasedVectorSpace<Element<S, J>>>::DIMENSION;
     let mut coefficients = Vec::new(alloc);
-    let mut power = Element::<S, J>::ONE;
     for count in 0..8usize {
         let is_whole = count == dimension;
         if !are_taken::<R, K, S, J>(
             coefficients.as_slice(),
             is_whole,
             dimension.saturating_add(1),
-        ) || coefficients.push(power).is_err()
+        ) || !push_power(&mut coefficients, element_of_word::<S, J>(J::GENERATOR))
         {
             return false;
         }
-        power = power * element_of_word(J::GENERATOR);
     }
     dimension < 6
 }

@@ -53,19 +53,29 @@ fn quotient(number: Words, divisor: u64) -> Option<Words> {
 }
 
 /// The element to the power of a number.
-fn power<R: Stored, K: FieldKernel<R>>(element: Element<R, K>, exponent: Words) -> Element<R, K> {
+fn power<R: Stored, K: FieldKernel<R>>(element: &Element<R, K>, exponent: Words) -> Element<R, K> {
     let shifted = element.exp_power_of_2(64);
     element.exp_u64(exponent[0])
         * shifted.exp_u64(exponent[1])
         * shifted.exp_power_of_2(64).exp_u64(exponent[2])
 }
 
+/// Whether the element to the power of a number is 1, or there is no number.
+fn may_be_one<R: Stored, K: FieldKernel<R>>(
+    element: &Element<R, K>,
+    exponent: Option<Words>,
+) -> bool {
+    match exponent {
+        Some(exponent) => power(element, exponent) == Element::ONE,
+        None => true,
+    }
+}
+
 /// Whether no quotient of the order by one of the primes is an exponent that gives 1.
-fn order_is_full<R: Stored, K: FieldKernel<R>>(element: Element<R, K>) -> bool {
+fn order_is_full<R: Stored, K: FieldKernel<R>>(element: &Element<R, K>) -> bool {
     for prime in PRIMES.iter() {
-        match quotient(ORDER, *prime) {
-            Some(exponent) if power(element, exponent) != Element::ONE => {}
-            _ => return false,
+        if may_be_one(element, quotient(ORDER, *prime)) {
+            return false;
         }
     }
     power(element, ORDER) == Element::ONE
@@ -73,7 +83,7 @@ fn order_is_full<R: Stored, K: FieldKernel<R>>(element: Element<R, K>) -> bool {
 
 /// Whether that holds of the generator, and not of 1.
 fn generator_has_full_order<R: Stored, K: FieldKernel<R>>() -> bool {
-    order_is_full::<R, K>(element_of_word(K::GENERATOR)) && !order_is_full::<R, K>(Element::ONE)
+    order_is_full::<R, K>(&element_of_word(K::GENERATOR)) && !order_is_full::<R, K>(&Element::ONE)
 }
 
 fn primes_multiply_to_the_order() -> bool {

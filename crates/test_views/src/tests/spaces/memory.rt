@@ -1,6 +1,6 @@
 // Vectors of coefficients, and elements of them, at each length, where there is memory, and refused where there is not. What is in them
 // the contracts say.
-use super::coefficients::cubic;
+use super::coefficients::{cubic, push_power};
 use field_base::traits::PrimeCharacteristicRing;
 use field_base::{FieldKernel, Stored};
 use field_element::{Coefficients, CubicKernel, Element, Poly64, Poly192, element_of_word};
@@ -88,12 +88,12 @@ fn powers_are_due<R: Stored, K: SpaceOver<R, S, J>, S: Stored, J: FieldKernel<S>
     alloc: Global,
 ) -> bool {
     let mut elements = Vec::new(alloc);
-    let mut power = Element::<R, K>::ONE;
     for _ in 0..258 {
-        if !each_is_due::<R, K, S, J>(alloc, elements.as_slice()) || elements.push(power).is_err() {
+        if !each_is_due::<R, K, S, J>(alloc, elements.as_slice())
+            || !push_power(&mut elements, element_of_word::<R, K>(K::GENERATOR))
+        {
             return false;
         }
-        power = power * element_of_word(K::GENERATOR);
     }
     true
 }
