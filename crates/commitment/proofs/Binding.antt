@@ -6,7 +6,7 @@ use Rattle.std.proofs.lemmas.Bool.{false≢true}
 use Rattle.std.proofs.lemmas.Nat.{from_le_bytes-to_le_bytes_8}
 use Rattle.std.proofs.lemmas.Slice.Eq.{bytes_eq-Decides}
 use Rattle.std.proofs.Math.Seq.{drop-append_seam, take-append_seam}
-use Rattle.commitment.specs.MerkleTrees.{ending, HaveSize, inputs, IsCollision, leaf_input, node_input, pair_input, PathsBind}
+use Rattle.commitment.specs.MerkleTrees.{ending, HaveDigestSize, inputs, IsCollision, leaf_input, node_input, pair_input, PathsBind}
 
 -- ---- inputs tell what they are made of
 
@@ -47,7 +47,7 @@ module _ (hash : List ℕ → List ℕ) (size : ℕ) (whole : (bytes : List ℕ)
       (height : ℕ) × IsCollision hash (get_or (inputs hash place one path) height []) (get_or (inputs hash place other other_path) height [])
 
   climb : (path other_path : List (List ℕ)) (place : ℕ) (one other : List ℕ) → length path ≡ length other_path
-      → HaveSize size path → HaveSize size other_path → one ≢ other
+      → HaveDigestSize size path → HaveDigestSize size other_path → one ≢ other
       → ending hash place (hash one) path ≡ ending hash place (hash other) other_path → Collides place one other path other_path
   unfolding inputs ending
   climb [] [] place one other count sizes other_sizes differ same = (0, (differ, same))

@@ -2,11 +2,11 @@
 use Rattle.std.proofs.Common.{◌≡◌, ℕ, zero, suc, ◌+◌, ◌*◌, ◌^◌, ◌<◌, ◌≤◌, List, ◌∙◌, ap, ap₂, arith}
 use Rattle.std.proofs.Math.Nat.{mul-le-mul_left, two-pow-succ}
 use Rattle.std.proofs.lemmas.Nat.{pow_pos}
-use Rattle.commitment.specs.MerkleTrees.{leaf_input, node_input, root}
+use Rattle.commitment.specs.MerkleTrees.{leaf_input, node_input, merkle_root}
 
 -- the same words have the same root
-root-same : (hash : List ℕ → List ℕ) (n : ℕ) (f g : ℕ → ℕ) → ((i : ℕ) → i < 2 ^ n → f i ≡ g i) → root hash n f ≡ root hash n g
-unfolding root
+root-same : (hash : List ℕ → List ℕ) (n : ℕ) (f g : ℕ → ℕ) → ((i : ℕ) → i < 2 ^ n → f i ≡ g i) → merkle_root hash n f ≡ merkle_root hash n g
+unfolding merkle_root
 root-same hash zero f g same = ap (λ (w : ℕ). hash (leaf_input w)) (same 0 (omega arith))
 root-same hash (suc n) f g same =
     let twice = two-pow-succ n in
@@ -19,8 +19,8 @@ module _ (hash : List ℕ → List ℕ) (depth : ℕ) (word : ℕ → ℕ) (dige
     (node : (i : ℕ) → 1 ≤ i → i < 2 ^ depth → digest i ≡ hash (node_input (digest (2 * i)) (digest (2 * i + 1)))) where
   -- node i is the root of the 2 ^ m leaves below it, of which the first has the number `first`
   subtree : (m i first : ℕ) → i * 2 ^ m ≡ 2 ^ depth + first → first + 2 ^ m ≤ 2 ^ depth
-      → digest i ≡ root hash m (λ j. word (first + j))
-  unfolding root
+      → digest i ≡ merkle_root hash m (λ j. word (first + j))
+  unfolding merkle_root
   subtree zero i first at fits =
       let here : i ≡ 2 ^ depth + first = omega (arith, at) in
       let within : first < 2 ^ depth = omega (arith, fits) in
@@ -47,7 +47,7 @@ module _ (hash : List ℕ → List ℕ) (depth : ℕ) (word : ℕ → ℕ) (dige
       positive zero some = absurd (omega (arith, some))
       positive (suc n) some = omega arith
 
-  pub tree-root : digest 1 ≡ root hash depth word
+  pub tree-root : digest 1 ≡ merkle_root hash depth word
   tree-root =
       subtree depth 1 0 (omega arith) (omega arith)
       ∙ root-same hash depth (λ j. word (0 + j)) word (λ j within. let same : 0 + j ≡ j = omega arith in ap word same)

@@ -13,9 +13,9 @@ abbrev pub node_input : List ℕ → List ℕ → List ℕ
 node_input left right = 1 ∷ left ++ right
 
 -- the root of the tree over the leaves word 0, word 1, .., word (2 ^ n - 1)
-unfoldable pub root : (List ℕ → List ℕ) → ℕ → (ℕ → ℕ) → List ℕ
-root hash zero word = hash (leaf_input (word 0))
-root hash (suc n) word = hash (node_input (root hash n word) (root hash n (λ i. word (2 ^ n + i))))
+unfoldable pub merkle_root : (List ℕ → List ℕ) → ℕ → (ℕ → ℕ) → List ℕ
+merkle_root hash zero word = hash (leaf_input (word 0))
+merkle_root hash (suc n) word = hash (node_input (merkle_root hash n word) (merkle_root hash n (λ i. word (2 ^ n + i))))
 
 -- ---- paths
 
@@ -46,8 +46,8 @@ abbrev pub IsCollision : (List ℕ → List ℕ) → List ℕ → List ℕ → T
 IsCollision hash one other = (one ≢ other) × (hash one ≡ hash other)
 
 -- each digest of a path has so many bytes
-abbrev pub HaveSize : ℕ → List (List ℕ) → Type 0
-HaveSize size path = (k : ℕ) → k < length path → length (get_or path k []) ≡ size
+abbrev pub HaveDigestSize : ℕ → List (List ℕ) → Type 0
+HaveDigestSize size path = (k : ℕ) → k < length path → length (get_or path k []) ≡ size
 
 -- two paths that lead from different words at one index to one root have a collision of the hash function between what is hashed
 -- along them, at the same height
@@ -55,7 +55,7 @@ abbrev pub PathsBind : Type 0
 PathsBind =
     (hash : List ℕ → List ℕ) (size : ℕ) → ((bytes : List ℕ) → length (hash bytes) ≡ size)
     → (depth : ℕ) (root : List ℕ) (index word other : ℕ) (path other_path : List (List ℕ))
-    → word < 2 ^ 64 → other < 2 ^ 64 → word ≢ other → HaveSize size path → HaveSize size other_path
+    → word < 2 ^ 64 → other < 2 ^ 64 → word ≢ other → HaveDigestSize size path → HaveDigestSize size other_path
     → Leads hash depth root index word path → Leads hash depth root index other other_path
     → (height : ℕ) × IsCollision hash (get_or (inputs hash index (leaf_input word) path) height [])
     (get_or (inputs hash index (leaf_input other) other_path) height [])

@@ -1,7 +1,7 @@
 // Commitments to words, and their openings, by Merkle trees.
 ghost use Rattle.std.specs.Prelude.{◌≡◌, ◌↔◌, ◌+◌, ◌*◌, ◌/◌, ◌%◌, ◌^◌, ◌<◌, ◌≤◌, ℕ, List, length, slice_index, vec_len, IfOk, IsTrue};
 ghost use Rattle.commitment.specs.Commitments.{IsTreeOf, root_of};
-ghost use Rattle.commitment.specs.MerkleTrees.{ending, Leads, PathsBind, root};
+ghost use Rattle.commitment.specs.MerkleTrees.{ending, Leads, PathsBind, merkle_root};
 
 use crate::digests::{leaf_digest, node_digest, pair_digest};
 use crate::nodes::MerkleTree;
@@ -47,7 +47,7 @@ impl<A: Allocator> MerkleTree<A> {
         ensures depth { result.depth ≡ self.now.depth }
         ensures held { result.root ≡ root_of self.now }
         ensures root { (hash : List ℕ → List ℕ) (words : List ℕ) → IsTreeOf hash words self.now
-            → result.root ≡ root hash self.now.depth (slice_index words) }
+            → result.root ≡ merkle_root hash self.now.depth (slice_index words) }
     {
         Commitment {
             depth: self.depth,
