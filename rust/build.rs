@@ -7,7 +7,8 @@ fn main() {
     if let Ok(folder) = std::env::var("BINARY_FIELD_LIBRARY") {
         println!("cargo::rerun-if-changed={folder}/libbinary_field.a");
         println!("cargo::rerun-if-changed={folder}/libbinary_field.cpu");
-        let cpu = std::fs::read_to_string(format!("{folder}/libbinary_field.cpu")).unwrap_or_default();
+        let cpu =
+            std::fs::read_to_string(format!("{folder}/libbinary_field.cpu")).unwrap_or_default();
         if cpu.trim() == "x86-64-v3" {
             println!("cargo::rustc-cfg=binary_field_wide");
         }

@@ -11,6 +11,7 @@ pub trait Word: Copy {
     type Scalar;
 
     /// The word without the bits above the lowest `degree`, of which a word of coefficients has none.
+    #[cfg(any(feature = "serde", feature = "rand"))]
     fn truncated(self, degree: u32) -> Self;
 
     fn scalar(&self) -> Self::Scalar;
@@ -23,6 +24,7 @@ macro_rules! narrow {
         impl Word for $word {
             type Scalar = $word;
 
+            #[cfg(any(feature = "serde", feature = "rand"))]
             fn truncated(self, degree: u32) -> $word {
                 self & <$word>::MAX >> (<$word>::BITS - degree)
             }
@@ -43,6 +45,7 @@ narrow!(u8, u16, u32, u64);
 impl Word for u128 {
     type Scalar = *const [u64; 2];
 
+    #[cfg(any(feature = "serde", feature = "rand"))]
     fn truncated(self, degree: u32) -> u128 {
         self & u128::MAX >> (u128::BITS - degree)
     }
@@ -59,6 +62,7 @@ impl Word for u128 {
 impl Word for [u64; 3] {
     type Scalar = *const [u64; 3];
 
+    #[cfg(any(feature = "serde", feature = "rand"))]
     fn truncated(self, _degree: u32) -> [u64; 3] {
         self
     }
