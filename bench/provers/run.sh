@@ -1,7 +1,7 @@
 #!/bin/sh
 # Times what provers call, in nanoseconds an element: run.sh [ROUNDS] prints the field, the call, and the least of so many rounds.
 #
-# The program stands here as text, main.txt, and not among the crates: it is for timing alone, and the gate has nothing to gain from it.
+# The program stands here as text, main.txt with the proof of a goal, answers.txt, and not among the crates: it is for timing alone, and the gate has nothing to gain from it.
 # It is proved, built and run in a copy of the crates.
 set -eu
 here=$(cd "$(dirname "$0")" && pwd)
@@ -18,6 +18,8 @@ for crate in "$here"/../../crates/*; do
 done
 mkdir -p "$copy/crates/bench_provers/src"
 cp "$here/main.txt" "$copy/crates/bench_provers/src/main.rt"
+mkdir -p "$copy/crates/bench_provers/proofs/transform_elements"
+cp "$here/answers.txt" "$copy/crates/bench_provers/proofs/transform_elements/Answers.antt"
 echo "bench_provers: field_base field_element field_slices multilinear sumcheck_rounds transform_whole transform_levels anyhow" >> "$copy/crates.txt"
 
 processor=$(sed -n 's/^model name[^:]*: //p' /proc/cpuinfo | head -n 1)
