@@ -1,4 +1,4 @@
-//! Examples of programs over `binary_field`: sums and products of slices with a contract of their own, secret sharing over
+//! Examples of programs over `binary_field`: contracts of their own over any ring and at a field by its name, secret sharing over
 //! any field, elements as keys of a hash map, one product in both bases, a linear map of a few elements, generic code over
 //! packings and over elements as data, elements as JSON, and the errors of a transcript in one of the program's own.
 #![tactic(auto)]
@@ -18,5 +18,5 @@ mod texts;
 #[cfg(test)]
 mod transcripts;
 
-pub use crate::contracts::{product_of_slice, sum_of_slice};
+pub use crate::contracts::{product_of_slice, sum_of_slice, value_on_line};
 pub use crate::packings::{front_packing, packed_dot_product};
