@@ -1,117 +1,41 @@
 -- Look-ups by the halves of bytes in lanes, and what they give: products by a factor.
-use Rattle.std.proofs.Common.{◌≡◌, ℕ, ◌+◌, ◌-◌, ◌*◌, ◌/◌, ◌%◌, ◌^◌, ◌<◌, List, length, get_or, map, replicate, refl, sym, ◌∙◌, ap, ap₂, subst, arith, lit<, w8, Fits}
-use Rattle.std.specs.Prelude.{bit_and, bit_xor}
-use Rattle.std.specs.List.{range_with_len}
-use Rattle.std.specs.Simd.Lanes.{zip2, chunk, pick_l, Each1}
-use Rattle.std.proofs.lemmas.List.FromFn.{get_or-map-range_with_len}
-use Rattle.std.proofs.lemmas.Nat.{and_mask, xor_block, xor_comm}
-use Rattle.std.proofs.lemmas.Simd.{SwzOk, swz_l, SwzOk-from_below, Each1-from_get_or, Each1-get_or, get_or-chunk, get_or-replicate, get_or-swz_l_below, get_or-zip2, length-replicate, length-swz_l, length-zip2, map-map}
+use Rattle.std.proofs.Common.{◌≡◌, ℕ, ◌+◌, ◌-◌, ◌*◌, ◌/◌, ◌%◌, ◌^◌, ◌<◌, List, length, get_or, map, sym, ◌∙◌, ap, ap₂, arith, lit<, w8, Fits}
+use Rattle.std.specs.Prelude.{bit_xor}
+use Rattle.std.specs.Simd.Lanes.{zip2, chunk, Each1}
+use Rattle.std.proofs.lemmas.List.{get_or-map, length-map}
+use Rattle.std.proofs.lemmas.Nat.{xor_block, xor_comm}
+use Rattle.std.proofs.lemmas.Simd.{Each1-get_or, get_or-chunk, zip2-map}
 use native.Mathlib.Nat.{mod-lt}
 use lib.Bits.{xor_zero_r}
 use Rattle.reed_solomon.specs.ErasureField.{erasure_product}
 use Rattle.reed_solomon.specs.Tables.{HasRow, nibble_sum}
 use Rattle.reed_solomon.proofs.ByteTables.{erasure_field}
 
--- ---- a table twice
+-- ---- the look-ups
 
-twice_places : List ℕ
-twice_places = map (λ i. i % 16) (range_with_len 0 32)
+-- the sums of what two tables have at the halves of bytes
+abbrev sums_of : List ℕ → List ℕ → List ℕ → List ℕ
+sums_of low high bytes = zip2 bit_xor (map (λ byte. get_or low (byte % 16) 0) bytes) (map (λ byte. get_or high (byte / 16) 0) bytes)
 
-pub twice_entries : (table : List ℕ) → length table ≡ 16 → (n : ℕ) → n < 32
-    → get_or (pick_l 0 table (map (λ i. i % 16) (range_with_len 0 32))) n 0 ≡ get_or table (n % 16) 0
-twice_entries table long n below =
-    ap (λ (xs : List ℕ). get_or xs n 0) (map-map (λ k. get_or table k 0) (λ i. i % 16) (range_with_len 0 32))
-    ∙ get_or-map-range_with_len (λ i. get_or table (i % 16) 0) 0 32 n n 0 below (omega arith)
+-- as one list
+as_one : (low high bytes : List ℕ) → sums_of low high bytes ≡ map (λ byte. bit_xor (get_or low (byte % 16) 0) (get_or high (byte / 16) 0)) bytes
+as_one low high bytes = zip2-map bit_xor (λ byte. get_or low (byte % 16) 0) (λ byte. get_or high (byte / 16) 0) bytes
 
--- ---- the places of the halves
+-- are as many as the bytes
+pub sums-length : (low high bytes : List ℕ) → length bytes ≡ 32 → length (sums_of low high bytes) ≡ 32
+sums-length low high bytes long = ap length (as_one low high bytes) ∙ length-map bytes _ ∙ long
 
-module _ (bytes : List ℕ) (long : length bytes ≡ 32) where
-  length-masked : length (zip2 bit_and bytes (replicate 32 15)) ≡ 32
-  length-masked = length-zip2 bit_and bytes (replicate 32 15) (long ∙ sym (length-replicate {A = ℕ} 32 15)) ∙ long
-
-  length-shifted : length (zip2 (λ (a b : ℕ). a / 2 ^ b) bytes (replicate 32 4)) ≡ 32
-  length-shifted = length-zip2 (λ (a b : ℕ). a / 2 ^ b) bytes (replicate 32 4) (long ∙ sym (length-replicate {A = ℕ} 32 4)) ∙ long
-
-  masked_at : (lane : ℕ) → lane < 32 → get_or (zip2 bit_and bytes (replicate 32 15)) lane 0 ≡ get_or bytes lane 0 % 16
-  masked_at lane below =
-      get_or-zip2 bit_and bytes (replicate 32 15) lane 0 0 0 (omega (arith, long, below)) (omega (arith, length-replicate {A = ℕ} 32 15, below))
-      ∙ ap (bit_and (get_or bytes lane 0)) (get_or-replicate 32 lane 15 0 below)
-      ∙ and_mask (get_or bytes lane 0) 4
-
-  shifted_at : (lane : ℕ) → lane < 32 → get_or (zip2 (λ (a b : ℕ). a / 2 ^ b) bytes (replicate 32 4)) lane 0 ≡ get_or bytes lane 0 / 16
-  shifted_at lane below =
-      get_or-zip2 (λ (a b : ℕ). a / 2 ^ b) bytes (replicate 32 4) lane 0 0 0 (omega (arith, long, below)) (omega (arith, length-replicate {A = ℕ} 32 4, below))
-      ∙ ap (λ (b : ℕ). get_or bytes lane 0 / 2 ^ b) (get_or-replicate 32 lane 4 0 below)
-
-  pub low_in_table : SwzOk w8 16 32 0 (zip2 bit_and bytes (replicate 32 15))
-  low_in_table =
-      SwzOk-from_below w8 16 2 32 0 (zip2 bit_and bytes (replicate 32 15)) refl (omega (arith, length-masked))
-      (Each1-from_get_or (λ place. place < 16) (zip2 bit_and bytes (replicate 32 15)) 0
-      (λ lane below. subst (λ (n : ℕ). n < 16) (sym (masked_at lane (omega (arith, below, length-masked)))) (mod-lt (get_or bytes lane 0) (lit< tt))))
-
-  module _ (fits : Each1 (Fits w8) bytes) where
-    pub byte_fits : (lane : ℕ) → lane < 32 → get_or bytes lane 0 < 256
-    byte_fits lane below = let fit = Each1-get_or (Fits w8) bytes lane 0 (omega (arith, long, below)) fits in fit.fits
-
-    pub high_in_table : SwzOk w8 16 32 0 (zip2 (λ (a b : ℕ). a / 2 ^ b) bytes (replicate 32 4))
-    high_in_table =
-        SwzOk-from_below w8 16 2 32 0 (zip2 (λ (a b : ℕ). a / 2 ^ b) bytes (replicate 32 4)) refl (omega (arith, length-shifted))
-        (Each1-from_get_or (λ place. place < 16) (zip2 (λ (a b : ℕ). a / 2 ^ b) bytes (replicate 32 4)) 0
-        (λ lane below.
-        let inside : lane < 32 = omega (arith, below, length-shifted) in
-        subst (λ (n : ℕ). n < 16) (sym (shifted_at lane inside)) (omega (arith, byte_fits lane inside))))
-
-    -- ---- the look-ups
-
-    pub nibbles-length : (low high : List ℕ)
-        → length
-        (zip2 bit_xor (swz_l w8 16 low 0 (zip2 bit_and bytes (replicate 32 15)))
-        (swz_l w8 16 high 0 (zip2 (λ (a b : ℕ). a / 2 ^ b) bytes (replicate 32 4))))
-        ≡ 32
-    nibbles-length low high =
-        length-zip2 bit_xor (swz_l w8 16 low 0 (zip2 bit_and bytes (replicate 32 15)))
-        (swz_l w8 16 high 0 (zip2 (λ (a b : ℕ). a / 2 ^ b) bytes (replicate 32 4)))
-        (low_length ∙ sym (length-swz_l w8 16 high 0 (zip2 (λ (a b : ℕ). a / 2 ^ b) bytes (replicate 32 4)) ∙ length-shifted))
-        ∙ low_length
-      where
-        low_length : length (swz_l w8 16 low 0 (zip2 bit_and bytes (replicate 32 15))) ≡ 32
-        low_length = length-swz_l w8 16 low 0 (zip2 bit_and bytes (replicate 32 15)) ∙ length-masked
-
-    module _ (entries low high : List ℕ) (start : ℕ)
-        (lows : (n : ℕ) → n < 32 → get_or low n 0 ≡ get_or (chunk start 16 entries) (n % 16) 0)
-        (highs : (n : ℕ) → n < 32 → get_or high n 0 ≡ get_or (chunk (start + 16) 16 entries) (n % 16) 0) where
-      pub nibbles_looked_up : (lane : ℕ) → lane < 32
-          → get_or
-          (zip2 bit_xor (swz_l w8 16 low 0 (zip2 bit_and bytes (replicate 32 15)))
-          (swz_l w8 16 high 0 (zip2 (λ (a b : ℕ). a / 2 ^ b) bytes (replicate 32 4))))
-          lane 0
-          ≡ nibble_sum entries start (get_or bytes lane 0)
-      nibbles_looked_up lane below =
-          get_or-zip2 bit_xor (swz_l w8 16 low 0 masked) (swz_l w8 16 high 0 shifted) lane 0 0 0
-          (omega (arith, length-swz_l w8 16 low 0 masked, length-masked, below))
-          (omega (arith, length-swz_l w8 16 high 0 shifted, length-shifted, below))
-          ∙ ap₂ bit_xor
-          (looked_up low start lows masked (get_or bytes lane 0 % 16) length-masked (masked_at lane below) (mod-lt (get_or bytes lane 0) (lit< tt)))
-          (looked_up high (start + 16) highs shifted (get_or bytes lane 0 / 16) length-shifted (shifted_at lane below) (omega (arith, byte_fits lane below)))
-        where
-          masked : List ℕ
-          masked = zip2 bit_and bytes (replicate 32 15)
-
-          shifted : List ℕ
-          shifted = zip2 (λ (a b : ℕ). a / 2 ^ b) bytes (replicate 32 4)
-
-          looked_up : (table : List ℕ) (from : ℕ) → ((n : ℕ) → n < 32 → get_or table n 0 ≡ get_or (chunk from 16 entries) (n % 16) 0)
-              → (places : List ℕ) (place : ℕ) → length places ≡ 32 → get_or places lane 0 ≡ place → place < 16
-              → get_or (swz_l w8 16 table 0 places) lane 0 ≡ get_or entries (from + place) 0
-          looked_up table from is places place count at small =
-              get_or-swz_l_below w8 16 table 0 places lane (omega (arith, count, below)) (subst (λ (n : ℕ). n < 16) (sym at) small)
-              ∙ ap (λ (p : ℕ). get_or table (16 * ((0 + lane) / 16) + p) 0) at
-              ∙ is (16 * ((0 + lane) / 16) + place) (omega (arith, small, below))
-              ∙ ap (λ (n : ℕ). get_or (chunk from 16 entries) n 0) (same_place place small)
-              ∙ get_or-chunk from 16 entries place 0 small
-            where
-              same_place : (place : ℕ) → place < 16 → (16 * ((0 + lane) / 16) + place) % 16 ≡ place
-              same_place place small = omega (arith, small)
+-- and each is that of its byte
+pub sum_at : (entries : List ℕ) (start : ℕ) (bytes : List ℕ) → length bytes ≡ 32 → Each1 (Fits w8) bytes → (lane : ℕ) → lane < 32
+    → get_or (sums_of (chunk start 16 entries) (chunk (start + 16) 16 entries) bytes) lane 0 ≡ nibble_sum entries start (get_or bytes lane 0)
+sum_at entries start bytes long fits lane below =
+    let inside : lane < length bytes = omega (arith, long, below) in
+    let byte = (Each1-get_or (Fits w8) bytes lane 0 inside fits).fits in
+    ap (λ (l : List ℕ). get_or l lane 0) (as_one (chunk start 16 entries) (chunk (start + 16) 16 entries) bytes)
+    ∙ get_or-map (λ byte. bit_xor (get_or (chunk start 16 entries) (byte % 16) 0) (get_or (chunk (start + 16) 16 entries) (byte / 16) 0)) bytes lane 0 0
+    inside
+    ∙ ap₂ bit_xor (get_or-chunk start 16 entries (get_or bytes lane 0 % 16) 0 (mod-lt (get_or bytes lane 0) (lit< tt)))
+    (get_or-chunk (start + 16) 16 entries (get_or bytes lane 0 / 16) 0 (omega (arith, byte)))
 
 -- ---- products
 

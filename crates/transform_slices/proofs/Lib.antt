@@ -1,11 +1,11 @@
 mod BlockLemmas
 mod DigitMultiples
 mod HornerProducts
-mod NibbleTables
 mod RunStages
 mod ShiftedBytes
 mod SliceBlocks
 mod SliceLemmas
+mod TwoBlocks
 pub mod CantorValues
 pub mod GhashVectors
 pub mod LowRuns

@@ -16,6 +16,7 @@ use Rattle.field_base.proofs.ValueLemmas.{carryless_power}
 use Rattle.word_carryless.specs.Tail.{ghash_tail}
 use Rattle.word_carryless.proofs.TailFolds.{fold_128}
 use Rattle.transform_slices.specs.LowStages.{ghash_product}
+use Rattle.transform_slices.specs.Tails.{byte_of_tail}
 
 -- byte k of a number
 abbrev pub byte : ℕ → ℕ → ℕ
@@ -161,7 +162,7 @@ tail_halves : (h : ℕ) → carryless h ghash_tail ≡ bit_xor (carryless (h % 1
 tail_halves h = ap (λ (n : ℕ). carryless n ghash_tail) (sym (two_halves h)) ∙ sum_carryless (h % 16) (h / 16 * 16) ghash_tail
 
 pub tail_low : (h : ℕ) → h < 256
-    → bit_xor (slice_index low_tails_low (h % 16)) (slice_index high_tails_low (h / 16)) ≡ carryless h ghash_tail % 256
+    → bit_xor (slice_index low_tails_low (h % 16)) (slice_index high_tails_low (h / 16)) ≡ byte_of_tail 0 h
 tail_low h fits =
     let digit : h % 16 < 16 = omega arith in
     let other : h / 16 < 16 = omega arith in
@@ -169,9 +170,10 @@ tail_low h fits =
     (tabulates_at (λ n. carryless (n * 16) ghash_tail % 256) high_tails_low (h / 16) high_low_checked other)
     ∙ sym (xor_mod (carryless (h % 16) ghash_tail) (carryless (h / 16 * 16) ghash_tail) 8)
     ∙ ap (λ (z : ℕ). z % 256) (sym (tail_halves h))
+    ∙ (let whole : carryless h ghash_tail ≡ carryless h ghash_tail / 2 ^ (8 * 0) = omega arith in ap (λ (z : ℕ). z % 256) whole)
 
 pub tail_high : (h : ℕ) → h < 256
-    → bit_xor (slice_index low_tails_high (h % 16)) (slice_index high_tails_high (h / 16)) ≡ carryless h ghash_tail / 256 % 256
+    → bit_xor (slice_index low_tails_high (h % 16)) (slice_index high_tails_high (h / 16)) ≡ byte_of_tail 1 h
 tail_high h fits =
     let digit : h % 16 < 16 = omega arith in
     let other : h / 16 < 16 = omega arith in

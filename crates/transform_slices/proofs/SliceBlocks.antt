@@ -90,6 +90,28 @@ module _ (f : ℕ → ℕ) where
           let here : p < length now = let same_length = so_far.same_length in omega arith in
           written.block p later (omega arith) here ∙ same p later
 
+  -- two blocks more, one after the other
+  pub two_blocks_step : (g h : ℕ → ℕ) (pair : ℕ) (old now mid new : List ℕ) → ((p : ℕ) → 32 * pair ≤ p → g p ≡ f p)
+      → ((p : ℕ) → 32 * pair + 16 ≤ p → h p ≡ f p) → HoldsBlock g (32 * pair) now mid → HoldsBlock h (32 * pair + 16) mid new
+      → BlocksSoFar (2 * pair) old now → BlocksSoFar (2 * (pair + 1)) old new
+  two_blocks_step g h pair old now mid new same also first second so_far =
+      let one : 32 * pair ≡ 16 * (2 * pair) = omega arith in
+      let other : 32 * pair + 16 ≡ 16 * (2 * pair + 1) = omega arith in
+      let both : 2 * pair + 1 + 1 ≡ 2 * (pair + 1) = omega arith in
+      subst (λ (n : ℕ). BlocksSoFar n old new) both
+      (blocks_step h (2 * pair + 1) old mid new (λ p later. also p (omega arith)) (subst (λ (s : ℕ). HoldsBlock h s mid new) other second)
+      (blocks_step g (2 * pair) old now mid (λ p later. same p (omega arith)) (subst (λ (s : ℕ). HoldsBlock g s now mid) one first) so_far))
+
+-- a block holds what is equal to what it holds
+pub holds_same : (f g : ℕ → ℕ) (start : ℕ) (old new : List ℕ) → ((p : ℕ) → start ≤ p → f p ≡ g p) → HoldsBlock f start old new
+    → HoldsBlock g start old new
+holds_same f g start old new same held = record {
+  same_length = held.same_length;
+  block = λ p from below inside. held.block p from below inside ∙ same p from;
+  before = held.before;
+  behind = held.behind;
+}
+
 -- a slice whose places are all written is the old one mapped
 pub blocks_map : (h : ℕ → ℕ) (block : ℕ) (old now : List ℕ) → length old ≤ 16 * block
     → BlocksSoFar (λ p. h (slice_index old p)) block old now → now ≡ map h old

@@ -1,5 +1,5 @@
 -- Sixteen numbers of 128 bits as 256 bytes, in two orders, and what becomes of sixteen places of a slice.
-use Rattle.std.specs.Prelude.{◌≡◌, ℕ, ◌+◌, ◌*◌, ◌/◌, ◌%◌, ◌^◌, ◌<◌, ◌≤◌, List, length, slice_index}
+use Rattle.std.specs.Prelude.{◌≡◌, ℕ, ◌+◌, ◌*◌, ◌/◌, ◌%◌, ◌^◌, ◌<◌, ◌≤◌, List, [], length, slice_index, slice_index_or}
 use Rattle.transform_slices.specs.LowStages.{ghash_product}
 use Rattle.transform_slices.specs.Stages.{add_multiple}
 
@@ -12,6 +12,11 @@ pub record HoldBytes (bytes : List ℕ) (values : ℕ → ℕ) : Type 0 where
 pub record HoldRows (rows : List ℕ) (values : ℕ → ℕ) : Type 0 where
   pub fits : (e : ℕ) → e < 16 → values e < 2 ^ 128
   pub each : (k e : ℕ) → k < 16 → e < 16 → slice_index rows (16 * k + e) ≡ values e / 2 ^ (8 * k) % 256
+
+-- row k has byte k of each of so many numbers
+pub record HoldLanes (lanes : ℕ) (rows : List (List ℕ)) (values : ℕ → ℕ) : Type 0 where
+  pub fits : (e : ℕ) → e < lanes → values e < 2 ^ 128
+  pub each : (k e : ℕ) → k < 16 → e < lanes → slice_index (slice_index_or rows k []) e ≡ values e / 2 ^ (8 * k) % 256
 
 -- of the places of a list the sixteen from `start` on hold the values of f at their numbers, and the others are as they were
 pub record HoldsBlock (f : ℕ → ℕ) (start : ℕ) (old new : List ℕ) : Type 0 where

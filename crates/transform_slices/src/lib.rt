@@ -8,7 +8,6 @@ mod blocks;
 mod laws;
 mod low_stages;
 mod multiples;
-mod nibble_tables;
 mod slices;
 
 ghost use Rattle.std.specs.Prelude.{◌≡◌};
@@ -22,8 +21,8 @@ pub use crate::low_stages::{
 };
 pub use crate::multiples::Multiples;
 pub use crate::slices::{
-    LEAST_IN_LANES, LEAST_TABLED, add_each, add_images, add_in_lanes, butterflies_restore,
-    butterfly_forward, butterfly_inverse, linear_multiples, mul_slice,
+    LEAST_IN_LANES, LEAST_TABLED, add_each, add_images, add_in_lanes, add_in_wide_lanes,
+    butterflies_restore, butterfly_forward, butterfly_inverse, linear_multiples, mul_slice,
 };
 use word_carryless::{multiply_mod_128, square_mod_128};
 pub use word_carryless::{masked_product, masked_products};

@@ -1,15 +1,19 @@
-// Products of sixteen values by one scalar, in lanes: byte k of each of the values is one vector.
+// Products of sixteen values by one scalar, in lanes: byte k of each of the values is one vector. Two such blocks go at once where a
+// vector has thirty-two bytes.
 //
 // The product is linear in the value, so it is taken byte by byte, from the highest down (Horner's rule): the sum so far times x^8, and
 // the products of the scalar by the two digits of the next byte to base 16. These and the remainders of a shift by a byte are looked up in
 // registers.
-ghost use Rattle.std.specs.Prelude.{◌≡◌, ℕ, ◌+◌, ◌*◌, ◌<◌, bit_xor, slice_index};
+ghost use Rattle.std.specs.Prelude.{◌≡◌, ℕ, ◌+◌, ◌*◌, ◌<◌, [], bit_xor, length, map, slice_index, slice_index_or};
 ghost use Rattle.field_base.specs.Remainder.{ghash_modulus, mul_mod};
-ghost use Rattle.transform_slices.specs.Blocks.{HoldBytes, HoldRows};
+ghost use Rattle.transform_slices.specs.Blocks.{HoldBytes, HoldLanes, HoldRows};
 ghost use Rattle.transform_slices.specs.LowStages.{ghash_product};
+ghost use Rattle.transform_slices.specs.Tails.{byte_of_tail};
 
 use crate::blocks::{bytes_from, lanes_at, put_lanes, transposed};
-use crate::nibble_tables::{high_entries, low_entries};
+use nibble_lookups::{
+    halves, high_entries, high_entries_of_32, joined, low_entries, low_entries_of_32,
+};
 use std::simd::prelude::*;
 use word_carryless::reduce_128;
 
@@ -40,7 +44,7 @@ pub struct Multiples {
 }
 
 impl Multiples {
-    ghost use Rattle.transform_slices.specs.Multiples.{horner_step, scalar_of};
+    ghost use Rattle.transform_slices.specs.Multiples.{byte_of_multiple, horner_step, scalar_of};
 
     /// The multiples of this scalar.
     pub fn new(scalar: u128) -> Multiples
@@ -56,46 +60,195 @@ impl Multiples {
         ensures { (values : ℕ → ℕ) → HoldBytes bytes.now values → HoldBytes result (λ e. ghash_product (scalar_of self.now) (values e)) }
     {
         let rows = transposed(bytes);
-        let mut sums = [0; 256];
+        let mut sums = [u8x16::splat(0); 16];
         for turn in 0..16 {
-            sums = self.next_sums(&sums, lanes_at(&rows, 15 - turn));
+            self.step(&mut sums, lanes_at(&rows, 15 - turn));
         }
-        transposed(&sums)
+        transposed(&bytes_of_rows(&sums))
     }
 
-    // The sums times x^8, with the products of the scalar by one byte more of each value.
-    #[inline(always)]
-    fn next_sums(&self, sums: &[u8; 256], bytes: u8x16) -> [u8; 256]
-        ensures { (values : ℕ → ℕ) → HoldRows sums.now values → HoldRows result (horner_step (scalar_of self.now) values bytes) }
+    /// The products of the scalar and each value of two blocks, of which it looks up a row of both at once.
+    pub(crate) fn products_of_two(
+        &self,
+        first: &[u8; 256],
+        second: &[u8; 256],
+    ) -> ([u8; 256], [u8; 256])
+        ensures { (one other : ℕ → ℕ) → HoldBytes first.now one → HoldBytes second.now other
+            → HoldBytes result.0 (λ e. ghash_product (scalar_of self.now) (one e))
+            × HoldBytes result.1 (λ e. ghash_product (scalar_of self.now) (other e)) }
     {
-        let moved = times_256(sums);
-        let mut next = [0; 256];
-        for row in 0..16 {
-            let low = low_entries(lanes_at(&self.low, row), bytes);
-            let high = high_entries(lanes_at(&self.high, row), bytes);
-            put_lanes(&mut next, 16 * row, lanes_at(&moved, row) ^ low ^ high);
+        let sums = self.sums_of_two(&transposed(first), &transposed(second));
+        let (first_sums, second_sums) = bytes_of_both(&sums);
+        (transposed(&first_sums), transposed(&second_sums))
+    }
+
+    // The rows of these products: in a row stand the bytes of the first block, and then those of the second.
+    #[inline(always)]
+    fn sums_of_two(&self, first_rows: &[u8; 256], second_rows: &[u8; 256]) -> [u8x32; 16]
+        ensures { (values : ℕ → ℕ) → HoldRows first_rows.now values → HoldRows second_rows.now (λ e. values (16 + e))
+            → HoldLanes 32 result (λ e. ghash_product (scalar_of self.now) (values e)) }
+    {
+        let mut sums = [u8x32::splat(0); 16];
+        for turn in 0..16 {
+            let row = 15 - turn;
+            let bytes = joined(lanes_at(first_rows, row), lanes_at(second_rows, row));
+            self.step_of_32(&mut sums, bytes);
         }
-        next
+        sums
+    }
+
+    // The sums become their products by x^8, with the products of the scalar by one byte more of each value. From the highest row down to
+    // the third, a row is what stood in the one below it; what leaves the highest row enters the lowest two by its product with the tail.
+    #[inline(always)]
+    fn step(&self, sums: &mut [u8x16; 16], bytes: u8x16)
+        ensures { (values : ℕ → ℕ) → HoldLanes 16 sums.old values → HoldLanes 16 sums.new (horner_step (scalar_of self.now) values bytes) }
+    {
+        let top = row_at(sums, 15);
+        for turn in 0..14 {
+            let row = 15 - turn;
+            let below = row_at(sums, row - 1);
+            sums[row] = below ^ self.entries(row, bytes);
+        }
+        let lowest = row_at(sums, 0);
+        sums[1] = lowest ^ second_tails(top) ^ self.entries(1, bytes);
+        sums[0] = first_tails(top) ^ self.entries(0, bytes);
+    }
+
+    // The same in thirty-two lanes.
+    #[inline(always)]
+    fn step_of_32(&self, sums: &mut [u8x32; 16], bytes: u8x32)
+        ensures { (values : ℕ → ℕ) → HoldLanes 32 sums.old values → HoldLanes 32 sums.new (horner_step (scalar_of self.now) values bytes) }
+    {
+        let top = row_of_32(sums, 15);
+        for turn in 0..14 {
+            let row = 15 - turn;
+            let below = row_of_32(sums, row - 1);
+            sums[row] = below ^ self.entries_of_32(row, bytes);
+        }
+        let lowest = row_of_32(sums, 0);
+        sums[1] = lowest ^ second_tails_of_32(top) ^ self.entries_of_32(1, bytes);
+        sums[0] = first_tails_of_32(top) ^ self.entries_of_32(0, bytes);
+    }
+
+    // Byte `row` of the products of the scalar and each byte.
+    #[inline(always)]
+    fn entries(&self, row: usize, bytes: u8x16) -> u8x16
+        requires { row < 16 }
+        ensures { result ≡ map (byte_of_multiple (scalar_of self.now) row) bytes }
+    {
+        let low = low_entries(lanes_at(&self.low, row), bytes);
+        low ^ high_entries(lanes_at(&self.high, row), bytes)
+    }
+
+    // The same of thirty-two bytes.
+    #[inline(always)]
+    fn entries_of_32(&self, row: usize, bytes: u8x32) -> u8x32
+        requires { row < 16 }
+        ensures { result ≡ map (byte_of_multiple (scalar_of self.now) row) bytes }
+    {
+        let low = low_entries_of_32(lanes_at(&self.low, row), bytes);
+        low ^ high_entries_of_32(lanes_at(&self.high, row), bytes)
     }
 }
 
-// The values times x^8: each row moves up by one, and the remainder of what leaves the highest enters the lowest two.
+// A row of sixteen bytes.
 #[inline(always)]
-fn times_256(rows: &[u8; 256]) -> [u8; 256]
-    ensures { (values : ℕ → ℕ) → HoldRows rows.now values → HoldRows result (λ e. ghash_product (values e) 256) }
+fn row_at(rows: &[u8x16; 16], row: usize) -> u8x16
+    requires { row < 16 }
+    ensures lanes { result ≡ slice_index_or rows.now row [] }
+    ensures count { length result ≡ 16 }
 {
-    let mut moved = [0; 256];
-    let top = lanes_at(rows, 15);
-    let first = low_entries(u8x16::from_array(LOW_TAILS_LOW), top)
-        ^ high_entries(u8x16::from_array(HIGH_TAILS_LOW), top);
-    let second = low_entries(u8x16::from_array(LOW_TAILS_HIGH), top)
-        ^ high_entries(u8x16::from_array(HIGH_TAILS_HIGH), top);
-    put_lanes(&mut moved, 0, first);
-    put_lanes(&mut moved, 16, lanes_at(rows, 0) ^ second);
-    for row in 2..16 {
-        put_lanes(&mut moved, 16 * row, lanes_at(rows, row - 1));
+    counted_16(rows[row])
+}
+
+// These lanes. As a parameter a vector is known to have its sixteen lanes, and as an element of an array it is not.
+#[inline(always)]
+fn counted_16(lanes: u8x16) -> u8x16
+    ensures same { result ≡ lanes }
+    ensures count { length lanes ≡ 16 }
+{
+    lanes
+}
+
+// A row of thirty-two bytes.
+#[inline(always)]
+fn row_of_32(rows: &[u8x32; 16], row: usize) -> u8x32
+    requires { row < 16 }
+    ensures lanes { result ≡ slice_index_or rows.now row [] }
+    ensures count { length result ≡ 32 }
+{
+    counted_32(rows[row])
+}
+
+// These lanes, in the same way.
+#[inline(always)]
+fn counted_32(lanes: u8x32) -> u8x32
+    ensures same { result ≡ lanes }
+    ensures count { length lanes ≡ 32 }
+{
+    lanes
+}
+
+// The bytes of rows of sixteen.
+#[inline(always)]
+fn bytes_of_rows(rows: &[u8x16; 16]) -> [u8; 256]
+    ensures { (values : ℕ → ℕ) → HoldLanes 16 rows.now values → HoldRows result values }
+{
+    let mut bytes = [0; 256];
+    for row in 0..16 {
+        put_lanes(&mut bytes, 16 * row, row_at(rows, row));
     }
-    moved
+    bytes
+}
+
+// The bytes of the first halves of rows of thirty-two, and those of the second halves.
+#[inline(always)]
+fn bytes_of_both(rows: &[u8x32; 16]) -> ([u8; 256], [u8; 256])
+    ensures { (values : ℕ → ℕ) → HoldLanes 32 rows.now values → HoldRows result.0 values × HoldRows result.1 (λ e. values (16 + e)) }
+{
+    let mut first = [0; 256];
+    let mut second = [0; 256];
+    for row in 0..16 {
+        let (one, other) = halves(row_of_32(rows, row));
+        put_lanes(&mut first, 16 * row, one);
+        put_lanes(&mut second, 16 * row, other);
+    }
+    (first, second)
+}
+
+// The low bytes of the products of bytes and the tail of the polynomial, x^7 + x^2 + x + 1.
+#[inline(always)]
+fn first_tails(bytes: u8x16) -> u8x16
+    ensures { result ≡ map (byte_of_tail 0) bytes }
+{
+    low_entries(u8x16::from_array(LOW_TAILS_LOW), bytes)
+        ^ high_entries(u8x16::from_array(HIGH_TAILS_LOW), bytes)
+}
+
+// The high bytes of these products.
+#[inline(always)]
+fn second_tails(bytes: u8x16) -> u8x16
+    ensures { result ≡ map (byte_of_tail 1) bytes }
+{
+    low_entries(u8x16::from_array(LOW_TAILS_HIGH), bytes)
+        ^ high_entries(u8x16::from_array(HIGH_TAILS_HIGH), bytes)
+}
+
+// The same of thirty-two bytes.
+#[inline(always)]
+fn first_tails_of_32(bytes: u8x32) -> u8x32
+    ensures { result ≡ map (byte_of_tail 0) bytes }
+{
+    low_entries_of_32(u8x16::from_array(LOW_TAILS_LOW), bytes)
+        ^ high_entries_of_32(u8x16::from_array(HIGH_TAILS_LOW), bytes)
+}
+
+#[inline(always)]
+fn second_tails_of_32(bytes: u8x32) -> u8x32
+    ensures { result ≡ map (byte_of_tail 1) bytes }
+{
+    low_entries_of_32(u8x16::from_array(LOW_TAILS_HIGH), bytes)
+        ^ high_entries_of_32(u8x16::from_array(HIGH_TAILS_HIGH), bytes)
 }
 
 // The products of the scalar by the numbers below 16.

@@ -2,11 +2,11 @@
 //
 // Few values are multiplied one by one, and more in lanes, sixteen at a time. A product by one scalar is a linear map, and from some
 // length on it pays to make tables of it in memory, by the digits of a value to base 16.
-ghost use Rattle.std.specs.Prelude.{◌≡◌, ℕ, ◌+◌, ◌<◌, ◌≤◌, length, map, bit_xor, slice_index};
+ghost use Rattle.std.specs.Prelude.{◌≡◌, ℕ, ◌+◌, ◌-◌, ◌<◌, ◌≤◌, length, map, bit_xor, slice_index};
 ghost use Rattle.std.specs.Simd.Lanes.{zip2};
 ghost use Rattle.field_base.specs.Remainder.{ghash_modulus, mul_mod};
 ghost use Rattle.word_basis.specs.LinearMap.{map_of};
-ghost use Rattle.transform_slices.specs.Blocks.{HoldsBlock, added_at, multiplied_at};
+ghost use Rattle.transform_slices.specs.Blocks.{HoldBytes, HoldsBlock, added_at, multiplied_at};
 ghost use Rattle.transform_slices.specs.LowStages.{ghash_product};
 ghost use Rattle.transform_slices.specs.Multiples.{scalar_of};
 ghost use Rattle.transform_slices.specs.Slices.{ButterfliesRestore};
@@ -137,15 +137,46 @@ pub fn add_in_lanes(values: &mut [u128], others: &[u128], multiples: &Multiples)
     }
 }
 
+/// The same with two blocks at once while there are two, made for x86-64-v3, whose vectors have 256 bits.
+pub fn add_in_wide_lanes(values: &mut [u128], others: &[u128], multiples: &Multiples)
+    requires { length values.old ≡ length others.now }
+    ensures { values.new ≡ zip2 (add_multiple ghash_product (scalar_of multiples.now)) values.old others.now }
+{
+    let pairs = values.len() / 32;
+    for pair in 0..pairs {
+        let start = 32 * pair;
+        let first = bytes_from(others, start);
+        let second = bytes_from(others, start + 16);
+        let (first_products, second_products) = multiples.products_of_two(&first, &second);
+        add_bytes(values, start, &first_products);
+        add_bytes(values, start + 16, &second_products);
+    }
+    for block in 2 * pairs..values.len().div_ceil(16) {
+        add_block(values, others, 16 * block, multiples);
+    }
+}
+
 // Adds the products of the block of sixteen other values from `start` on, or of what there is of it.
 fn add_block(values: &mut [u128], others: &[u128], start: usize, multiples: &Multiples)
     requires same { length values.old ≡ length others.now }
     requires inside { start ≤ length values.old }
     ensures { HoldsBlock (added_at (scalar_of multiples.now) values.old others.now) start values.old values.new }
 {
-    let products = multiples.products(&bytes_from(others, start));
+    add_bytes(
+        values,
+        start,
+        &multiples.products(&bytes_from(others, start)),
+    );
+}
+
+// Adds the sixteen values of a block to those from `start` on, or to what there is of them.
+fn add_bytes(values: &mut [u128], start: usize, bytes: &[u8; 256])
+    requires { start ≤ length values.old }
+    ensures { (added : ℕ → ℕ) → HoldBytes bytes.now added
+        → HoldsBlock (λ p. bit_xor (slice_index values.old p) (added (p - start))) start values.old values.new }
+{
     for place in 0..count_from(values.len(), start) {
-        values[start + place] ^= value_at(&products, place);
+        values[start + place] ^= value_at(bytes, place);
     }
 }
 

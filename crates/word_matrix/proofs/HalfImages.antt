@@ -1,9 +1,9 @@
 -- A linear map of bytes by two tables of sixteen entries: the sums of the first four images, and those of the others.
-use Rattle.std.proofs.Common.{◌≡◌, ℕ, zero, suc, ◌*◌, ◌/◌, ◌%◌, ◌^◌, ◌<◌, Bool, true, false, List, [], ◌∷◌, length, map, take, drop, cond, sym, ◌∙◌, ap, ap₂, refl, arith}
+use Rattle.std.proofs.Common.{◌≡◌, ℕ, zero, suc, ◌*◌, ◌/◌, ◌%◌, ◌^◌, ◌<◌, Bool, true, false, List, [], ◌∷◌, length, map, take, drop, cond, sym, ◌∙◌, ap, ap₂, refl, arith, lit<, w8, Fits}
 use Rattle.std.specs.Prelude.{bit_and, bit_xor, slice_index}
-use Rattle.std.specs.Simd.Lanes.{zip2}
+use Rattle.std.specs.Simd.Lanes.{zip2, Each1}
 use Rattle.std.proofs.lemmas.Nat.{and_mask}
-use native.Mathlib.Nat.{mod-eq_of_lt, zero-mul, one-mul}
+use native.Mathlib.Nat.{mod-eq_of_lt, mod-lt, zero-mul, one-mul}
 use lib.Bits.{xor_assoc, xor_zero_r}
 use Rattle.field_base.specs.LinearMaps.{linear_image}
 use Rattle.field_base.proofs.BasisColumns.{sum_of_columns}
@@ -112,6 +112,20 @@ halves [] long x = absurd (omega arith)
 halves (c0 ∷ []) long x = absurd (omega arith)
 halves (c0 ∷ c1 ∷ []) long x = absurd (omega arith)
 halves (c0 ∷ c1 ∷ c2 ∷ []) long x = absurd (omega arith)
+
+-- ---- the bytes that are looked up
+
+-- what a table of the first four images has at the low four bits of bytes
+pub low_values : (table images bytes : List ℕ) → HasImages (take 4 images) table
+    → map (λ byte. slice_index table (byte % 16)) bytes ≡ map (λ byte. linear_image (take 4 images) (byte % 16)) bytes
+low_values table images bytes has = ap (λ (f : ℕ → ℕ). map f bytes) (λ i byte. has (byte % 16) (mod-lt byte (lit< tt)) i)
+
+-- and one of the others at the high four bits
+pub high_values : (table images bytes : List ℕ) → HasImages (drop 4 images) table → Each1 (Fits w8) bytes
+    → map (λ byte. slice_index table (byte / 16)) bytes ≡ map (λ byte. linear_image (drop 4 images) (byte / 16)) bytes
+high_values table images [] has fit = refl
+high_values table images (byte ∷ bytes) has fit =
+    ap₂ (λ (x : ℕ) (xs : List ℕ). x ∷ xs) (has (byte / 16) (let below = fit.0.fits in omega (arith, below))) (high_values table images bytes has fit.1)
 
 -- the sums of what the two tables have at the halves of bytes are the images of the bytes
 pub images_by_halves : (images : List ℕ) → length images ≡ 8 → (bytes : List ℕ)

@@ -2,4 +2,3 @@ mod BlockLemmas
 mod ColumnLemmas
 mod HalfImages
 mod ImageLemmas
-mod NibbleLookups

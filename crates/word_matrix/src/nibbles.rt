@@ -1,9 +1,10 @@
 // Linear maps of bytes in lanes, by two tables of sixteen entries: the values of the map at the numbers below 16, and at 16 times
 // these. A table is one vector, so that a look-up is one instruction on x86-64-v2 and no address depends on the bytes.
-ghost use Rattle.std.specs.Prelude.{◌≡◌, [], ◌∷◌, ◌++◌, drop, map, take};
+ghost use Rattle.std.specs.Prelude.{◌≡◌, [], ◌∷◌, drop, map, take};
 ghost use Rattle.field_base.specs.LinearMaps.{linear_image};
 ghost use Rattle.word_matrix.specs.Nibbles.{HasImages};
 
+use nibble_lookups::{high_entries, high_entries_of_32, low_entries, low_entries_of_32};
 use std::simd::prelude::*;
 
 // The numbers below 16 that have bit 0, 1, 2 or 3, as masks.
@@ -41,9 +42,7 @@ pub(crate) fn images_of_16(images: &[u8; 8], low: u8x16, high: u8x16, bytes: u8x
     requires high { HasImages (drop 4 images.now) high }
     ensures { result ≡ map (linear_image images.now) bytes }
 {
-    let low_images = low.swizzle_dyn(bytes & u8x16::splat(15));
-    let high_images = high.swizzle_dyn(bytes >> u8x16::splat(4));
-    low_images ^ high_images
+    low_entries(low, bytes) ^ high_entries(high, bytes)
 }
 
 /// The images of thirty-two bytes, each half of which is looked up in a copy of the tables: on AVX2 a look-up of all is one
@@ -54,18 +53,5 @@ pub(crate) fn images_of_32(images: &[u8; 8], low: u8x16, high: u8x16, bytes: u8x
     requires high { HasImages (drop 4 images.now) high }
     ensures { result ≡ map (linear_image images.now) bytes }
 {
-    let low_images = twice(low).swizzle_dyn_within::<16>(bytes & u8x32::splat(15));
-    let high_images = twice(high).swizzle_dyn_within::<16>(bytes >> u8x32::splat(4));
-    low_images ^ high_images
-}
-
-// A table, and the same table again behind it.
-#[inline(always)]
-fn twice(table: u8x16) -> u8x32
-    ensures { result ≡ table ++ table }
-{
-    table.swizzle([
-        0, 1, 2, 3, 4, 5, 6, 7, 8, 9, 10, 11, 12, 13, 14, 15, 0, 1, 2, 3, 4, 5, 6, 7, 8, 9, 10, 11,
-        12, 13, 14, 15,
-    ])
+    low_entries_of_32(low, bytes) ^ high_entries_of_32(high, bytes)
 }

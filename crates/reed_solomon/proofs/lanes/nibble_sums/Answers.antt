@@ -1,16 +1,15 @@
-use Rattle.reed_solomon.proofs.NibbleTables.{low_in_table, high_in_table, nibbles-length, nibbles_looked_up}
+use Rattle.std.proofs.Common.{List, ℕ, ◌+◌, length, get_or, ◌∙◌, ap, ap₂}
+use Rattle.std.specs.Prelude.{bit_xor}
+use Rattle.std.specs.Simd.Lanes.{chunk, zip2}
+use Rattle.reed_solomon.proofs.NibbleTables.{sum_at, sums-length}
 use Rattle.reed_solomon.proofs.lanes.nibble_sums.Goals as goal
 
-pub swizzle : goal.swizzle
-swizzle c = low_in_table c.args.bytes c.fits-bytes.0
-
-pub swizzle-2 : goal.swizzle-2
-swizzle-2 c = high_in_table c.args.bytes c.fits-bytes.0 c.fits-bytes.1
-
 pub returns-clause-sums : goal.returns-clause-sums
-returns-clause-sums c =
-    nibbles_looked_up c.args.bytes c.fits-bytes.0 c.fits-bytes.1 c.args.entries.now c.twice-low.result c.twice-high.result c.args.start
-    c.twice-low.ensures c.twice-high.ensures
+returns-clause-sums c lane below =
+    ap (λ (l : List ℕ). get_or l lane 0) (ap₂ (zip2 bit_xor) c.low_entries_of_32.ensures c.high_entries_of_32.ensures)
+    ∙ sum_at c.args.entries.now c.args.start c.args.bytes c.fits-bytes.0 c.fits-bytes.1 lane below
 
 pub returns-clause-long : goal.returns-clause-long
-returns-clause-long c = nibbles-length c.args.bytes c.fits-bytes.0 c.fits-bytes.1 c.twice-low.result c.twice-high.result
+returns-clause-long c =
+    ap length (ap₂ (zip2 bit_xor) c.low_entries_of_32.ensures c.high_entries_of_32.ensures)
+    ∙ sums-length (chunk c.args.start 16 c.args.entries.now) (chunk (c.args.start + 16) 16 c.args.entries.now) c.args.bytes c.fits-bytes.0
