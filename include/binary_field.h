@@ -976,9 +976,26 @@ uint32_t bf_g128_multiply_wide(
     const bf_u128 *left, size_t left_length, const bf_u128 *right, size_t right_length, bf_u128 *products,
     size_t products_length);
 
+/* products: the same as g128_multiply_by, made for x86-64-v3. BF_LENGTH unless values and products have one length. */
+uint32_t bf_g128_multiply_by_wide(
+    const bf_u128 *values, size_t values_length, const bf_u128 *scalar, bf_u128 *products,
+    size_t products_length);
+
+/* The same as g128_add_scaled, made for x86-64-v3. BF_LENGTH unless sums and values have one length. */
+uint32_t bf_g128_add_scaled_wide(
+    bf_u128 *sums, size_t sums_length, const bf_u128 *scalar, const bf_u128 *values, size_t values_length);
+
 /* sum: the same as g128_dot_product, made for x86-64-v3. BF_LENGTH unless left and right have one length. */
 uint32_t bf_g128_dot_product_wide(
     const bf_u128 *left, size_t left_length, const bf_u128 *right, size_t right_length, bf_u128 *sum);
+
+/* The same as g128_butterfly_forward, made for x86-64-v3. BF_LENGTH unless low and high have one length. */
+uint32_t bf_g128_butterfly_forward_wide(
+    bf_u128 *low, size_t low_length, bf_u128 *high, size_t high_length, const bf_u128 *scalar);
+
+/* The same as g128_butterfly_inverse, made for x86-64-v3. BF_LENGTH unless low and high have one length. */
+uint32_t bf_g128_butterfly_inverse_wide(
+    bf_u128 *low, size_t low_length, bf_u128 *high, size_t high_length, const bf_u128 *scalar);
 
 /* The same as g128_low_stages, made for x86-64-v3. BF_LENGTH unless values has a multiple of 16, shifts 4 and basis 3 to
  * 128; where there are values, first_run and the number of runs are together at most 2 to the power of 3 less than the
@@ -986,6 +1003,14 @@ uint32_t bf_g128_dot_product_wide(
 uint32_t bf_g128_low_stages_wide(
     bf_u128 *values, size_t values_length, const bf_u128 *shifts, size_t shifts_length, const bf_u128 *basis,
     size_t basis_length, uint64_t first_run);
+
+/* The same as g128_transform, made for x86-64-v3. BF_LENGTH unless values has 2^m elements, for an m from 0 to 40. */
+uint32_t bf_g128_transform_wide(
+    bf_u128 *values, size_t values_length, const bf_u128 *shift);
+
+/* The same as g128_inverse_transform, made for x86-64-v3. BF_LENGTH unless values has 2^m elements, for an m from 0 to 40. */
+uint32_t bf_g128_inverse_transform_wide(
+    bf_u128 *values, size_t values_length, const bf_u128 *shift);
 
 #ifdef __cplusplus
 }

@@ -193,6 +193,12 @@ FUNCTIONS: dict[str, list[tuple[str, str, str]]] = {
     "rs_reconstruct": [("number", "data", "u64"), ("number", "parity", "u64"), ("inout", "shards", "u8"), ("in", "present", "u8")],
     "rs_reconstruct_data": [("number", "data", "u64"), ("number", "parity", "u64"), ("inout", "shards", "u8"), ("in", "present", "u8")],
     "g128_multiply_wide": [("in", "left", "u128"), ("in", "right", "u128"), ("out", "products", "u128")],
+    "g128_multiply_by_wide": [("in", "values", "u128"), ("scalar", "scalar", "u128"), ("out", "products", "u128")],
+    "g128_add_scaled_wide": [("inout", "sums", "u128"), ("scalar", "scalar", "u128"), ("in", "values", "u128")],
     "g128_dot_product_wide": [("in", "left", "u128"), ("in", "right", "u128"), ("result", "sum", "u128")],
+    "g128_butterfly_forward_wide": [("inout", "low", "u128"), ("inout", "high", "u128"), ("scalar", "scalar", "u128")],
+    "g128_butterfly_inverse_wide": [("inout", "low", "u128"), ("inout", "high", "u128"), ("scalar", "scalar", "u128")],
     "g128_low_stages_wide": [("inout", "values", "u128"), ("in", "shifts", "u128"), ("in", "basis", "u128"), ("number", "first_run", "u64")],
+    "g128_transform_wide": [("inout", "values", "u128"), ("scalar", "shift", "u128")],
+    "g128_inverse_transform_wide": [("inout", "values", "u128"), ("scalar", "shift", "u128")],
 }

@@ -1082,6 +1082,7 @@ unsafe extern "C" {
         products_length: usize,
     ) -> u32;
     /// products: the product of each element and the scalar. BF_LENGTH unless values and products have one length.
+    #[cfg_attr(binary_field_wide, link_name = "bf_g128_multiply_by_wide")]
     pub fn bf_g128_multiply_by(
         values: *const [u64; 2],
         values_length: usize,
@@ -1091,6 +1092,7 @@ unsafe extern "C" {
     ) -> u32;
     /// Adds to each element of sums the scalar times the value at its place. BF_LENGTH unless sums and values have
     /// one length.
+    #[cfg_attr(binary_field_wide, link_name = "bf_g128_add_scaled_wide")]
     pub fn bf_g128_add_scaled(
         sums: *mut [u64; 2],
         sums_length: usize,
@@ -1336,6 +1338,7 @@ unsafe extern "C" {
         mapped_length: usize,
     ) -> u32;
     /// low += scalar * high, and then high += low, at each place. BF_LENGTH unless low and high have one length.
+    #[cfg_attr(binary_field_wide, link_name = "bf_g128_butterfly_forward_wide")]
     pub fn bf_g128_butterfly_forward(
         low: *mut [u64; 2],
         low_length: usize,
@@ -1344,6 +1347,7 @@ unsafe extern "C" {
         scalar: *const [u64; 2],
     ) -> u32;
     /// high += low, and then low += scalar * high, at each place. BF_LENGTH unless low and high have one length.
+    #[cfg_attr(binary_field_wide, link_name = "bf_g128_butterfly_inverse_wide")]
     pub fn bf_g128_butterfly_inverse(
         low: *mut [u64; 2],
         low_length: usize,
@@ -1368,6 +1372,7 @@ unsafe extern "C" {
     ) -> u32;
     /// The value at each of 2^m points, m from 0 to 40, of the polynomial with these coefficients in the basis of
     /// subspace polynomials. BF_LENGTH unless values has 2^m elements, for an m from 0 to 40.
+    #[cfg_attr(binary_field_wide, link_name = "bf_g128_transform_wide")]
     pub fn bf_g128_transform(
         values: *mut [u64; 2],
         values_length: usize,
@@ -1375,6 +1380,7 @@ unsafe extern "C" {
     ) -> u32;
     /// The coefficients that g128_transform takes to these values. BF_LENGTH unless values has 2^m elements, for an m
     /// from 0 to 40.
+    #[cfg_attr(binary_field_wide, link_name = "bf_g128_inverse_transform_wide")]
     pub fn bf_g128_inverse_transform(
         values: *mut [u64; 2],
         values_length: usize,
@@ -1472,6 +1478,23 @@ unsafe extern "C" {
         products: *mut [u64; 2],
         products_length: usize,
     ) -> u32;
+    /// products: the same as g128_multiply_by, made for x86-64-v3. BF_LENGTH unless values and products have one
+    /// length.
+    pub fn bf_g128_multiply_by_wide(
+        values: *const [u64; 2],
+        values_length: usize,
+        scalar: *const [u64; 2],
+        products: *mut [u64; 2],
+        products_length: usize,
+    ) -> u32;
+    /// The same as g128_add_scaled, made for x86-64-v3. BF_LENGTH unless sums and values have one length.
+    pub fn bf_g128_add_scaled_wide(
+        sums: *mut [u64; 2],
+        sums_length: usize,
+        scalar: *const [u64; 2],
+        values: *const [u64; 2],
+        values_length: usize,
+    ) -> u32;
     /// sum: the same as g128_dot_product, made for x86-64-v3. BF_LENGTH unless left and right have one length.
     pub fn bf_g128_dot_product_wide(
         left: *const [u64; 2],
@@ -1479,6 +1502,22 @@ unsafe extern "C" {
         right: *const [u64; 2],
         right_length: usize,
         sum: *mut [u64; 2],
+    ) -> u32;
+    /// The same as g128_butterfly_forward, made for x86-64-v3. BF_LENGTH unless low and high have one length.
+    pub fn bf_g128_butterfly_forward_wide(
+        low: *mut [u64; 2],
+        low_length: usize,
+        high: *mut [u64; 2],
+        high_length: usize,
+        scalar: *const [u64; 2],
+    ) -> u32;
+    /// The same as g128_butterfly_inverse, made for x86-64-v3. BF_LENGTH unless low and high have one length.
+    pub fn bf_g128_butterfly_inverse_wide(
+        low: *mut [u64; 2],
+        low_length: usize,
+        high: *mut [u64; 2],
+        high_length: usize,
+        scalar: *const [u64; 2],
     ) -> u32;
     /// The same as g128_low_stages, made for x86-64-v3. BF_LENGTH unless values has a multiple of 16, shifts 4 and
     /// basis 3 to 128; where there are values, first_run and the number of runs are together at most 2 to the power
@@ -1491,5 +1530,19 @@ unsafe extern "C" {
         basis: *const [u64; 2],
         basis_length: usize,
         first_run: u64,
+    ) -> u32;
+    /// The same as g128_transform, made for x86-64-v3. BF_LENGTH unless values has 2^m elements, for an m from 0 to
+    /// 40.
+    pub fn bf_g128_transform_wide(
+        values: *mut [u64; 2],
+        values_length: usize,
+        shift: *const [u64; 2],
+    ) -> u32;
+    /// The same as g128_inverse_transform, made for x86-64-v3. BF_LENGTH unless values has 2^m elements, for an m
+    /// from 0 to 40.
+    pub fn bf_g128_inverse_transform_wide(
+        values: *mut [u64; 2],
+        values_length: usize,
+        shift: *const [u64; 2],
     ) -> u32;
 }

@@ -1,7 +1,7 @@
 // Second forms of calls in the field of GHASH, made for x86-64-v3, whose vectors have 256 bits.
-ghost use Rattle.c_calls.specs.Transforms.{RunsLowStages};
-ghost use Rattle.c_slices.specs.Calls.{Multiplies, TakesDotProduct};
-ghost use Rattle.c_slices.specs.Fields.{ghash_field};
+ghost use Rattle.c_calls.specs.Transforms.{ButterfliesForward, ButterfliesInverse, InvertsTransform, RunsLowStages, Transforms};
+ghost use Rattle.c_slices.specs.Calls.{AddsScaled, Multiplies, MultipliesBy, TakesDotProduct};
+ghost use Rattle.c_slices.specs.Fields.{ghash_field, wide_number};
 
 use c_slices::Wide;
 
@@ -13,12 +13,56 @@ pub extern "C" fn bf_g128_multiply_wide(left: &[Wide], right: &[Wide], products:
     c_calls::multiply_wide(left, right, products)
 }
 
+/// The product of each element and the scalar.
+#[unsafe(no_mangle)]
+pub extern "C" fn bf_g128_multiply_by_wide(
+    values: &[Wide],
+    scalar: &Wide,
+    products: &mut [Wide],
+) -> u32
+    ensures { MultipliesBy ghash_field scalar.now values.now products.old products.new result }
+{
+    c_calls::multiply_by_wide(values, *scalar, products)
+}
+
+/// Adds to each element of sums the scalar times the value at its place.
+#[unsafe(no_mangle)]
+pub extern "C" fn bf_g128_add_scaled_wide(sums: &mut [Wide], scalar: &Wide, values: &[Wide]) -> u32
+    ensures { AddsScaled ghash_field scalar.now values.now sums.old sums.new result }
+{
+    c_calls::add_scaled_wide(sums, *scalar, values)
+}
+
 /// The sum of the products at each place, 0 of none.
 #[unsafe(no_mangle)]
 pub extern "C" fn bf_g128_dot_product_wide(left: &[Wide], right: &[Wide], sum: &mut Wide) -> u32
     ensures { TakesDotProduct ghash_field left.now right.now sum.old sum.new result }
 {
     c_calls::dot_product_wide(left, right, sum)
+}
+
+/// At each place `low += scalar * high`, and then `high += low`.
+#[unsafe(no_mangle)]
+pub extern "C" fn bf_g128_butterfly_forward_wide(
+    low: &mut [Wide],
+    high: &mut [Wide],
+    scalar: &Wide,
+) -> u32
+    ensures { ButterfliesForward (wide_number scalar.now) low.old high.old low.new high.new result }
+{
+    c_calls::butterfly_forward_wide(low, high, *scalar)
+}
+
+/// At each place `high += low`, and then `low += scalar * high`.
+#[unsafe(no_mangle)]
+pub extern "C" fn bf_g128_butterfly_inverse_wide(
+    low: &mut [Wide],
+    high: &mut [Wide],
+    scalar: &Wide,
+) -> u32
+    ensures { ButterfliesInverse (wide_number scalar.now) low.old high.old low.new high.new result }
+{
+    c_calls::butterfly_inverse_wide(low, high, *scalar)
 }
 
 /// The four lowest stages of an additive transform over runs of sixteen values, the first of which is run `first_run`.
@@ -32,4 +76,20 @@ pub extern "C" fn bf_g128_low_stages_wide(
     ensures { RunsLowStages shifts.now basis.now first_run values.old values.new result }
 {
     c_calls::low_stages_wide(values, shifts, basis, first_run)
+}
+
+/// The value at each of 2^m points of the polynomial with these coefficients in the basis of subspace polynomials.
+#[unsafe(no_mangle)]
+pub extern "C" fn bf_g128_transform_wide(values: &mut [Wide], shift: &Wide) -> u32
+    ensures { Transforms (wide_number shift.now) values.old values.new result }
+{
+    c_calls::transform_wide(values, *shift)
+}
+
+/// The coefficients that `bf_g128_transform` takes to these values.
+#[unsafe(no_mangle)]
+pub extern "C" fn bf_g128_inverse_transform_wide(values: &mut [Wide], shift: &Wide) -> u32
+    ensures { InvertsTransform (wide_number shift.now) values.old values.new result }
+{
+    c_calls::inverse_transform_wide(values, *shift)
 }

@@ -1,12 +1,11 @@
 -- Lists of words and of their numbers: read place by place, cut in two, and changed by others.
-use Rattle.std.proofs.Common.{◌≡◌, ℕ, zero, suc, ◌+◌, ◌<◌, ◌≤◌, List, [], ◌∷◌, ◌++◌, length, get_or, map, take, drop, refl, sym, ◌∙◌, ap, ap₂, arith}
+use Rattle.std.proofs.Common.{◌≡◌, ℕ, suc, ◌<◌, ◌≤◌, List, [], ◌∷◌, ◌++◌, length, get_or, map, take, refl, sym, ◌∙◌, ap, ap₂, arith}
 use Rattle.std.specs.Prelude.{bit_xor}
 use Rattle.std.specs.Simd.Lanes.{zip2}
 use Rattle.std.specs.Int.Bits.{xor_zero_l}
-use Rattle.std.proofs.lemmas.List.{get_or-map, length-map, map-append, take-append-le, take_all}
+use Rattle.std.proofs.lemmas.List.{get_or-map, length-map, map-append}
 use Rattle.std.proofs.lemmas.Simd.{get_or-zip2, length-zip2}
 use native.Mathlib.Nat.{suc_inj}
-use Rattle.field_base.specs.Remainder.{ghash_modulus, mul_mod}
 use Rattle.field_base.proofs.RemainderRing.{ghash_ring}
 use Rattle.transform_slices.specs.LowStages.{ghash_product}
 use Rattle.transform_slices.specs.Stages.{add_multiple}

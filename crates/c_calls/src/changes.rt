@@ -12,7 +12,8 @@ use crate::blocks::{ChangesNumbers, change_words};
 use crate::fours::multiply_each_by_fours;
 use c_slices::Wide;
 use transform_slices::{
-    LEAST_TABLED, Multiples, add_each, add_images, add_in_lanes, linear_multiples,
+    LEAST_TABLED, Multiples, add_each, add_images, add_in_lanes, add_in_wide_lanes,
+    linear_multiples,
 };
 use word_basis::LinearMap;
 use word_carryless::multiply_each_mod_128;
@@ -66,6 +67,22 @@ impl ChangesNumbers for Multiples {
     }
 }
 
+/// Multiples that are looked up in vectors of 256 bits.
+#[derive(Drop)]
+struct WideMultiples {
+    multiples: Multiples,
+}
+
+// Adds the product of the scalar and the other number.
+impl ChangesNumbers for WideMultiples {
+    ghost changed = { λ wide. add_multiple ghash_product (scalar_of wide.multiples) };
+
+    #[inline]
+    fn change(&self, numbers: &mut [u128], others: &[u128]) {
+        add_in_wide_lanes(numbers, others, &self.multiples);
+    }
+}
+
 // Adds the image of the other number.
 impl ChangesNumbers for LinearMap {
     ghost changed = { λ linear x y. bit_xor x (map_of linear y) };
@@ -96,14 +113,17 @@ pub(crate) fn multiply_words(words: &mut [Wide], others: &[Wide], by_fours: bool
     }
 }
 
-/// Adds to each word the product of the scalar and the other word at its place. The slices are of one length. Below 400 words that is
-/// done in lanes, and from 400 on by tables in memory.
-pub(crate) fn add_multiples(words: &mut [Wide], others: &[Wide], scalar: u128)
+/// Adds to each word the product of the scalar and the other word at its place. The slices are of one length. With wide vectors, of 256
+/// bits, that is done in lanes, and else in lanes below 400 words, and from there on by tables in memory.
+pub(crate) fn add_multiples(words: &mut [Wide], others: &[Wide], scalar: u128, wide_vectors: bool)
     requires { length words.old ≡ length others.now }
     ensures { map wide_number words.new
         ≡ zip2 (add_multiple ghash_product scalar) (map wide_number words.old) (map wide_number others.now) }
 {
-    if words.len() < LEAST_TABLED {
+    if wide_vectors {
+        let multiples = Multiples::new(scalar);
+        change_words(&WideMultiples { multiples }, words, others);
+    } else if words.len() < LEAST_TABLED {
         change_words(&Multiples::new(scalar), words, others);
     } else {
         change_words(&linear_multiples(scalar), words, others);

@@ -8,15 +8,16 @@ use std::alloc::Allocator;
 use transform_slices::{LEAST_IN_LANES, LowStageTwiddles};
 use transform_whole::{Kernel, PairByPair};
 
-/// Butterflies of words: of fewer than 16 pairs one by one, and of more in blocks.
+/// Butterflies of words: of fewer than 16 pairs one by one, and of more in blocks, in vectors of 128 bits or of 256.
 #[derive(Drop)]
 pub struct WideKernel {
     pairs: PairByPair<WidePairs>,
+    wide_vectors: bool,
 }
 
 impl WideKernel {
     /// The kernel, before it has counted a pair.
-    pub(crate) fn new() -> WideKernel
+    pub(crate) fn new(wide_vectors: bool) -> WideKernel
         ensures { result.pairs.products ≡ 0 }
     {
         WideKernel {
@@ -24,6 +25,7 @@ impl WideKernel {
                 pairs: WidePairs {},
                 products: 0,
             },
+            wide_vectors,
         }
     }
 }
@@ -46,7 +48,7 @@ impl Kernel for WideKernel {
             return;
         }
         self.pairs.products += lo.len() as u64;
-        add_multiples(lo, hi, s);
+        add_multiples(lo, hi, s, self.wide_vectors);
         add_words(hi, lo);
     }
 
@@ -57,7 +59,7 @@ impl Kernel for WideKernel {
         }
         self.pairs.products += lo.len() as u64;
         add_words(hi, lo);
-        add_multiples(lo, hi, s);
+        add_multiples(lo, hi, s, self.wide_vectors);
     }
 
     fn low_forward<A: Allocator>(

@@ -14,10 +14,24 @@ use transform_whole::{Kernel, forward_by_butterflies, inverse_with};
 pub fn butterfly_forward(low: &mut [Wide], high: &mut [Wide], scalar: Wide) -> u32
     ensures { ButterfliesForward (wide_number scalar) low.old high.old low.new high.new result }
 {
+    change_forward(low, high, scalar, false)
+}
+
+/// The same in vectors of 256 bits, made for x86-64-v3.
+pub fn butterfly_forward_wide(low: &mut [Wide], high: &mut [Wide], scalar: Wide) -> u32
+    ensures { ButterfliesForward (wide_number scalar) low.old high.old low.new high.new result }
+{
+    change_forward(low, high, scalar, true)
+}
+
+// Both, in vectors of 128 bits or of 256.
+fn change_forward(low: &mut [Wide], high: &mut [Wide], scalar: Wide, wide_vectors: bool) -> u32
+    ensures { ButterfliesForward (wide_number scalar) low.old high.old low.new high.new result }
+{
     if low.len() != high.len() {
         return status::LENGTH;
     }
-    WideKernel::new().butterfly_forward(low, high, scalar.number());
+    WideKernel::new(wide_vectors).butterfly_forward(low, high, scalar.number());
     status::OK
 }
 
@@ -25,10 +39,24 @@ pub fn butterfly_forward(low: &mut [Wide], high: &mut [Wide], scalar: Wide) -> u
 pub fn butterfly_inverse(low: &mut [Wide], high: &mut [Wide], scalar: Wide) -> u32
     ensures { ButterfliesInverse (wide_number scalar) low.old high.old low.new high.new result }
 {
+    change_inverse(low, high, scalar, false)
+}
+
+/// The same in vectors of 256 bits, made for x86-64-v3.
+pub fn butterfly_inverse_wide(low: &mut [Wide], high: &mut [Wide], scalar: Wide) -> u32
+    ensures { ButterfliesInverse (wide_number scalar) low.old high.old low.new high.new result }
+{
+    change_inverse(low, high, scalar, true)
+}
+
+// Both, in vectors of 128 bits or of 256.
+fn change_inverse(low: &mut [Wide], high: &mut [Wide], scalar: Wide, wide_vectors: bool) -> u32
+    ensures { ButterfliesInverse (wide_number scalar) low.old high.old low.new high.new result }
+{
     if low.len() != high.len() {
         return status::LENGTH;
     }
-    WideKernel::new().butterfly_inverse(low, high, scalar.number());
+    WideKernel::new(wide_vectors).butterfly_inverse(low, high, scalar.number());
     status::OK
 }
 
@@ -73,10 +101,24 @@ fn low_stages_by_some(
 pub fn transform(values: &mut [Wide], shift: Wide) -> u32
     ensures { Transforms (wide_number shift) values.old values.new result }
 {
+    evaluate(values, shift, false)
+}
+
+/// The same in vectors of 256 bits, made for x86-64-v3.
+pub fn transform_wide(values: &mut [Wide], shift: Wide) -> u32
+    ensures { Transforms (wide_number shift) values.old values.new result }
+{
+    evaluate(values, shift, true)
+}
+
+// Both, in vectors of 128 bits or of 256.
+fn evaluate(values: &mut [Wide], shift: Wide, wide_vectors: bool) -> u32
+    ensures { Transforms (wide_number shift) values.old values.new result }
+{
     if !has_stages(values.len()) {
         return status::LENGTH;
     }
-    forward_by_butterflies(&mut WideKernel::new(), values, shift.number());
+    forward_by_butterflies(&mut WideKernel::new(wide_vectors), values, shift.number());
     status::OK
 }
 
@@ -84,10 +126,24 @@ pub fn transform(values: &mut [Wide], shift: Wide) -> u32
 pub fn inverse_transform(values: &mut [Wide], shift: Wide) -> u32
     ensures { InvertsTransform (wide_number shift) values.old values.new result }
 {
+    interpolate(values, shift, false)
+}
+
+/// The same in vectors of 256 bits, made for x86-64-v3.
+pub fn inverse_transform_wide(values: &mut [Wide], shift: Wide) -> u32
+    ensures { InvertsTransform (wide_number shift) values.old values.new result }
+{
+    interpolate(values, shift, true)
+}
+
+// Both, in vectors of 128 bits or of 256.
+fn interpolate(values: &mut [Wide], shift: Wide, wide_vectors: bool) -> u32
+    ensures { InvertsTransform (wide_number shift) values.old values.new result }
+{
     if !has_stages(values.len()) {
         return status::LENGTH;
     }
-    inverse_with(&mut WideKernel::new(), values, shift.number());
+    inverse_with(&mut WideKernel::new(wide_vectors), values, shift.number());
     status::OK
 }
 

@@ -8,7 +8,7 @@ use Rattle.c_calls.proofs.changes.add_multiples.Goals as goal
 
 pub returns-then-words-lt-LEAST_TABLED : goal.returns-then-words-lt-LEAST_TABLED
 returns-then-words-lt-LEAST_TABLED c =
-    c.change_words.ensures
+    c.change_words-then-words-lt-LEAST_TABLED.ensures
     ∙ ap (λ (s : ℕ). zip2 (add_multiple ghash_product s) (map wide_number c.args.words.now) (map wide_number c.args.others.now)) c.new.ensures
 
 pub returns-else-words-lt-LEAST_TABLED : goal.returns-else-words-lt-LEAST_TABLED

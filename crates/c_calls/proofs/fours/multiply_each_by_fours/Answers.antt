@@ -1,4 +1,4 @@
-use Rattle.std.proofs.Common.{ℕ, List, get_or, ◌*◌, ◌+◌, ◌∙◌, ap, arith}
+use Rattle.std.proofs.Common.{ℕ, List, get_or, ◌*◌, ◌∙◌, ap, arith}
 use Rattle.transform_slices.specs.LowStages.{ghash_product}
 use Rattle.word_carryless.proofs.ListLoops.{Written, one_written}
 use Rattle.c_calls.proofs.FourProducts.{four_written}

@@ -1,4 +1,4 @@
-use Rattle.std.proofs.Common.{◌≤◌, length, ap, ◌∙◌, take, arith}
+use Rattle.std.proofs.Common.{ap, ◌∙◌, take, arith}
 use Rattle.c_slices.specs.Fields.{wide_number}
 use Rattle.c_calls.proofs.Words.{numbers_of_words}
 use Rattle.c_calls.proofs.numbers.put_numbers.Goals as goal

@@ -1,4 +1,4 @@
-use Rattle.std.proofs.Common.{ℕ, sym, ◌∙◌, ap, ap₂, take}
+use Rattle.std.proofs.Common.{ℕ, ◌∙◌, ap, ap₂, take}
 use Rattle.field_base.specs.Powers.{dot_of}
 use Rattle.c_slices.specs.Fields.{wide_number}
 use Rattle.transform_slices.specs.LowStages.{ghash_product}

@@ -1,4 +1,4 @@
-use Rattle.std.proofs.Common.{◌≡◌, ◌*◌, ◌/◌, length, sym, ◌∙◌, arith}
+use Rattle.std.proofs.Common.{◌≡◌, ◌*◌, ◌/◌, ◌∙◌, arith}
 use Rattle.c_slices.specs.Fields.{wide_number}
 use Rattle.c_calls.proofs.WordRuns.{word_runs_in_parts}
 use Rattle.c_calls.proofs.stages.+run_stages.Goals as goal

@@ -1,11 +1,11 @@
-use Rattle.std.proofs.Common.{ℕ, get_or, map, refl, sym, ◌∙◌, ap, arith}
+use Rattle.std.proofs.Common.{ℕ, get_or, map, refl, sym, ◌∙◌, ap}
 use Rattle.std.specs.Simd.Lanes.{zip2}
 use Rattle.c_slices.specs.Fields.{wide_number}
 use Rattle.transform_slices.specs.LowStages.{ghash_product}
 use Rattle.transform_slices.specs.Stages.{add_multiple}
 use Rattle.c_calls.specs.WideLemmas.{wide_number-lt}
 use Rattle.c_calls.proofs.Words.{changed_at}
-use Rattle.c_calls.proofs.scalars.add_scaled.Goals as goal
+use Rattle.c_calls.proofs.scalars.add_scaled_words.Goals as goal
 
 pub returns : goal.returns
 returns c =
