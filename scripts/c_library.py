@@ -96,7 +96,7 @@ OTHER_FUNCTIONS = [
 # built for x86-64-v2 it is the slower one.
 WIDE = [
     "g128_multiply", "g128_multiply_by", "g128_add_scaled", "g128_dot_product", "g128_butterfly_forward", "g128_butterfly_inverse",
-    "g128_low_stages", "g128_transform", "g128_inverse_transform",
+    "g128_low_stages", "g128_transform", "g128_inverse_transform", "r8_multiply",
 ]
 
 # These return no status.
@@ -107,17 +107,21 @@ PLAIN_FUNCTIONS = [
 
 def functions():
     """Every function that returns a status: its name without `bf_`, its parameters with their words, and what it computes."""
+    yield from first_functions()
+    yield from wide_functions()
+
+
+def first_functions():
+    """Those that are no second forms."""
     for field, word, _, _ in FIELDS:
         for name, parameters, text in FIELD_FUNCTIONS:
             yield f"{field}_{name}", [(*it, word)[:3] if it[0] != "number" else (*it, "u64") for it in parameters], text
     for name, parameters, text in OTHER_FUNCTIONS:
         yield name, [it if len(it) == 3 else (*it, "u64") for it in parameters], text
-    yield from wide_functions()
 
 
 def wide_functions():
     """The second forms."""
-    named = {f"g128_{name}": [(*it, "u128") for it in parameters] for name, parameters, _ in FIELD_FUNCTIONS}
-    named |= {name: parameters for name, parameters, _ in OTHER_FUNCTIONS}
+    named = {name: parameters for name, parameters, _ in first_functions()}
     for name in WIDE:
-        yield f"{name}_wide", [it if len(it) == 3 else (*it, "u64") for it in named[name]], f"the same as {name}, made for x86-64-v3"
+        yield f"{name}_wide", named[name], f"the same as {name}, made for x86-64-v3"

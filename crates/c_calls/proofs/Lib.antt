@@ -1,3 +1,4 @@
+mod ByteProducts
 pub mod FourProducts
 pub mod WordDots
 pub mod WordRuns
