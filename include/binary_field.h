@@ -1012,11 +1012,6 @@ uint32_t bf_g128_transform_wide(
 uint32_t bf_g128_inverse_transform_wide(
     bf_u128 *values, size_t values_length, const bf_u128 *shift);
 
-/* products: the same as r8_multiply, made for x86-64-v3. BF_LENGTH unless left, right and products have one length. */
-uint32_t bf_r8_multiply_wide(
-    const uint8_t *left, size_t left_length, const uint8_t *right, size_t right_length, uint8_t *products,
-    size_t products_length);
-
 #ifdef __cplusplus
 }
 #endif

@@ -96,7 +96,7 @@ OTHER_FUNCTIONS = [
 # built for x86-64-v2 it is the slower one.
 WIDE = [
     "g128_multiply", "g128_multiply_by", "g128_add_scaled", "g128_dot_product", "g128_butterfly_forward", "g128_butterfly_inverse",
-    "g128_low_stages", "g128_transform", "g128_inverse_transform", "r8_multiply",
+    "g128_low_stages", "g128_transform", "g128_inverse_transform",
 ]
 
 # These return no status.

@@ -43,8 +43,11 @@ CALLS = {
     "generator": ("slices::generator", "NamesGenerator"),
 }
 
-# What a field does by functions of its own, which are named as the table's.
-OWN_CALLS = {"g128": ("multiply", "multiply_by", "add_scaled", "dot_product")}
+# What a field does by functions of its own.
+OWN_CALLS = {
+    "g128": {"multiply": "multiply", "multiply_by": "multiply_by", "add_scaled": "add_scaled", "dot_product": "dot_product"},
+    "r8": {"multiply": "multiply_bytes"},
+}
 
 # The columns of a line of code.
 COLUMNS = 100
@@ -99,7 +102,8 @@ def function(field, name, parameters, text):
     """An exported function, with its contract."""
     kernel, word, named = FIELDS[field]
     call, contract = CALLS[name]
-    called = f"c_calls::{name}" if name in OWN_CALLS.get(field, ()) else f"{call}::<{word}, {kernel}>"
+    own = OWN_CALLS.get(field, {}).get(name)
+    called = f"c_calls::{own}" if own else f"{call}::<{word}, {kernel}>"
     typed = [(it[0], it[1], word) for it in parameters]
     arguments = [f"*{it[1]}" if it[0] == "scalar" and word in ("Wide", "Cubic") else it[1] for it in typed]
     return "\n".join([

@@ -201,5 +201,4 @@ FUNCTIONS: dict[str, list[tuple[str, str, str]]] = {
     "g128_low_stages_wide": [("inout", "values", "u128"), ("in", "shifts", "u128"), ("in", "basis", "u128"), ("number", "first_run", "u64")],
     "g128_transform_wide": [("inout", "values", "u128"), ("scalar", "shift", "u128")],
     "g128_inverse_transform_wide": [("inout", "values", "u128"), ("scalar", "shift", "u128")],
-    "r8_multiply_wide": [("in", "left", "u8"), ("in", "right", "u8"), ("out", "products", "u8")],
 }

@@ -868,7 +868,6 @@ unsafe extern "C" {
     ) -> u32;
     /// products: the product of the elements at each place. BF_LENGTH unless left, right and products have one
     /// length.
-    #[cfg_attr(binary_field_wide, link_name = "bf_r8_multiply_wide")]
     pub fn bf_r8_multiply(
         left: *const u8,
         left_length: usize,
@@ -1545,15 +1544,5 @@ unsafe extern "C" {
         values: *mut [u64; 2],
         values_length: usize,
         shift: *const [u64; 2],
-    ) -> u32;
-    /// products: the same as r8_multiply, made for x86-64-v3. BF_LENGTH unless left, right and products have one
-    /// length.
-    pub fn bf_r8_multiply_wide(
-        left: *const u8,
-        left_length: usize,
-        right: *const u8,
-        right_length: usize,
-        products: *mut u8,
-        products_length: usize,
     ) -> u32;
 }

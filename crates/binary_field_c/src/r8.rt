@@ -18,7 +18,7 @@ pub extern "C" fn bf_r8_add(left: &[u8], right: &[u8], sums: &mut [u8]) -> u32
 pub extern "C" fn bf_r8_multiply(left: &[u8], right: &[u8], products: &mut [u8]) -> u32
     ensures { Multiplies rijndael_field left.now right.now products.old products.new result }
 {
-    slices::multiply::<u8, Rijndael>(left, right, products)
+    c_calls::multiply_bytes(left, right, products)
 }
 
 /// The product of each element and the scalar.

@@ -1,7 +1,7 @@
-// Second forms of calls, made for x86-64-v3, whose vectors have 256 bits.
+// Second forms of calls in the field of GHASH, made for x86-64-v3, whose vectors have 256 bits.
 ghost use Rattle.c_calls.specs.Transforms.{ButterfliesForward, ButterfliesInverse, InvertsTransform, RunsLowStages, Transforms};
 ghost use Rattle.c_slices.specs.Calls.{AddsScaled, Multiplies, MultipliesBy, TakesDotProduct};
-ghost use Rattle.c_slices.specs.Fields.{ghash_field, rijndael_field, wide_number};
+ghost use Rattle.c_slices.specs.Fields.{ghash_field, wide_number};
 
 use c_slices::Wide;
 
@@ -11,14 +11,6 @@ pub extern "C" fn bf_g128_multiply_wide(left: &[Wide], right: &[Wide], products:
     ensures { Multiplies ghash_field left.now right.now products.old products.new result }
 {
     c_calls::multiply_wide(left, right, products)
-}
-
-/// The product of the bytes at each place.
-#[unsafe(no_mangle)]
-pub extern "C" fn bf_r8_multiply_wide(left: &[u8], right: &[u8], products: &mut [u8]) -> u32
-    ensures { Multiplies rijndael_field left.now right.now products.old products.new result }
-{
-    c_calls::multiply_bytes_wide(left, right, products)
 }
 
 /// The product of each element and the scalar.

@@ -9,9 +9,8 @@ use std::simd::prelude::*;
 use word_polynomial::multiply_32_bytes;
 use word_tables::rijndael;
 
-/// Writes the product of the bytes at each place, in vectors of 256 bits, made for x86-64-v3: thirty-two at once by shift and add, which
-/// looks up nothing, and what is left by tables.
-pub fn multiply_bytes_wide(left: &[u8], right: &[u8], products: &mut [u8]) -> u32
+/// Writes the product of the bytes at each place: thirty-two at once by shift and add, which looks up nothing, and what is left by tables.
+pub fn multiply_bytes(left: &[u8], right: &[u8], products: &mut [u8]) -> u32
     ensures { Multiplies rijndael_field left.now right.now products.old products.new result }
 {
     if left.len() != products.len() {

@@ -17,7 +17,7 @@ mod shards;
 mod stages;
 mod transforms;
 
-pub use crate::bytes::multiply_bytes_wide;
+pub use crate::bytes::multiply_bytes;
 pub use crate::linear::{map_bytes, map_wide};
 pub use crate::messages::{gcm_ghash, ghash, polyval, tags_are_equal};
 pub use crate::products::{dot_product, dot_product_wide, multiply, multiply_wide};

@@ -1,7 +1,7 @@
 use Rattle.std.proofs.Common.{ℕ, ◌^◌, ◌<◌, List, length, get_or, refl, ◌∙◌, ap₂, subst, arith, w8, Fits}
 use Rattle.std.proofs.lemmas.List.{get_or_default}
 use Rattle.field_base.specs.Remainder.{aes_modulus, mul_mod}
-use Rattle.c_calls.proofs.bytes.multiply_bytes_wide.Goals as goal
+use Rattle.c_calls.proofs.bytes.multiply_bytes.Goals as goal
 
 -- every byte is an element
 elements : (xs : List ℕ) → ((i : ℕ) → Fits w8 (get_or xs i 0)) → (k : ℕ) → k < length xs → (d : ℕ) → get_or xs k d < 2 ^ 8
