@@ -7,6 +7,5 @@ mod numbers;
 mod partners;
 mod scripts;
 mod seeds;
-mod slices;
 mod trials;
 mod vectors;

@@ -1,10 +1,10 @@
-// Calls of a challenger of any field as rows of numbers, and what they return. What the tests do with challengers is written over
-// fields, and each field is named once, in `trials`: there the check has to show that the field has the laws of the bound, which
-// takes longer than all else.
+// Calls of challengers as rows of numbers, and what they return. Here alone the calls of a challenger of any field are made. What the
+// tests do with challengers is written over `Asked`, which has no laws: a function over the bounds of fields and of byte challengers
+// takes the check longer.
 ghost use Rattle.std.specs.Prelude.{◌<◌};
 
 use field_base::Unsigned;
-use std::alloc::Global;
+use std::alloc::{AllocError, Global};
 use transcript_bytes::{ByteChallenger, ChallengerError, HashChallenger, Sha256Hasher};
 use transcript_elements::{
     BinaryChallenger, ByteLevel, CanObserve, CanSampleBits, CanSampleUniformBits, GrindError,
@@ -13,12 +13,13 @@ use transcript_elements::{
 
 /// A call, its bits, its operand, and what it returns, elements by their representations. 0 observes the operand, 1 samples an
 /// element, 2 samples bits, 3 checks the operand as a witness and returns 1 where it passes, 4 searches for a witness, and 5
-/// samples bits as uniform ones. The others observe digests: 6 three bytes, 7 a word, 8 a cap of two roots of two bytes, which is
-/// lent, and 9 one of two roots of a word, which is given away. What is observed returns 0.
+/// samples bits as uniform ones. 6 to 9 observe digests: 6 three bytes, 7 a word, 8 a cap of two roots of two bytes, which is
+/// lent, and 9 one of two roots of a word, which is given away. 10 samples an element of a copy, and 11 observes the operand in one
+/// slice, as often as there are bits. What is observed returns 0.
 pub(crate) type Row = [u128; 4];
 
 /// Every call of a challenger of a field.
-pub(crate) static EVERY_CALL: [Row; 13] = [
+pub(crate) static EVERY_CALL: [Row; 16] = [
     [0, 0, 0x0403_0201, 0],
     [1, 0, 0, 0],
     [2, 0, 0, 0],
@@ -32,6 +33,9 @@ pub(crate) static EVERY_CALL: [Row; 13] = [
     [7, 0, 0, 0],
     [8, 0, 0, 0],
     [9, 0, 0, 0],
+    [10, 0, 0, 0],
+    [11, 0, 1, 0],
+    [11, 4, 0x0403_0201, 0],
 ];
 
 /// What a call returned.
@@ -45,12 +49,18 @@ pub(crate) enum Said {
     Nothing,
 }
 
+/// A challenger that is asked by rows.
+pub(crate) trait Asked {
+    /// What the call of a row returns.
+    fn answer(&mut self, alloc: Global, row: &Row) -> Said;
+}
+
 /// A challenger over SHA-256.
 pub(crate) type Hashed<F> = BinaryChallenger<F, HashChallenger<Sha256Hasher>>;
 
-/// A challenger over SHA-256 from an empty initial state.
-pub(crate) fn hashed<F>(alloc: Global) -> Hashed<F> {
-    BinaryChallenger::from_hasher(Vec::new(alloc), Sha256Hasher)
+/// A challenger over SHA-256 from this initial state.
+pub(crate) fn hashed<F>(state: Vec<u8>) -> Hashed<F> {
+    BinaryChallenger::from_hasher(state, Sha256Hasher)
 }
 
 /// The element of this representation.
@@ -63,10 +73,20 @@ pub(crate) fn number_of<F: ByteLevel>(element: F) -> u128 {
     element.to_repr().to_u128()
 }
 
+/// Whether the elements have these representations.
+pub(crate) fn are<F: ByteLevel>(elements: &[F], wanted: &[u128]) -> bool {
+    for place in 0..elements.len() {
+        if place >= wanted.len() || number_of(elements[place]) != wanted[place] {
+            return false;
+        }
+    }
+    elements.len() == wanted.len()
+}
+
 // What digests are of.
 struct Tree;
 
-// Two roots, or none where memory is refused.
+// Two roots, or fewer where memory is refused.
 fn roots<D: Copy + Drop>(alloc: Global, roots: [D; 2]) -> MerkleCap<Tree, D> {
     let mut kept = Vec::new(alloc);
     for root in roots {
@@ -77,18 +97,33 @@ fn roots<D: Copy + Drop>(alloc: Global, roots: [D; 2]) -> MerkleCap<Tree, D> {
     MerkleCap::new(kept)
 }
 
-fn observe_digest<F: ByteLevel, Inner: ByteChallenger>(
+/// The value so many times, or fewer where memory is refused.
+pub(crate) fn repeated<T: Copy + Drop>(alloc: Global, value: T, count: usize) -> Vec<T> {
+    let mut values = Vec::new(alloc);
+    for _ in 0..count {
+        if values.push(value).is_err() {
+            break;
+        }
+    }
+    values
+}
+
+fn observe_many<F: ByteLevel, Inner: ByteChallenger>(
     alloc: Global,
     challenger: &mut BinaryChallenger<F, Inner>,
-    kind: u128,
+    row: &Row,
 ) -> Result<(), ChallengerError> {
     let bytes: Hash<Tree, u8, 3> = Hash::from([4, 5, 6]);
     let word: Hash<Tree, u64, 1> = Hash::from([0x0102]);
-    match kind {
+    match row[0] {
         6 => challenger.observe(bytes),
         7 => challenger.observe(word),
         8 => challenger.observe(&roots(alloc, [[1u8, 2], [3, 4]])),
-        _ => challenger.observe(roots(alloc, [[7u64], [8]])),
+        9 => challenger.observe(roots(alloc, [[7u64], [8]])),
+        _ => {
+            let values = repeated::<F>(alloc, element(row[2]), (row[1] % 64) as usize);
+            challenger.observe_slice(values.as_slice())
+        }
     }
 }
 
@@ -99,24 +134,6 @@ fn sample_uniform_bits<F, C: CanSampleUniformBits<F>>(
     requires { bits < 64 }
 {
     challenger.sample_uniform_bits(bits)
-}
-
-// What the call of a row returns, which is no search.
-fn number_returned<F: ByteLevel, Inner: ByteChallenger>(
-    alloc: Global,
-    challenger: &mut BinaryChallenger<F, Inner>,
-    row: &Row,
-) -> Result<u128, ChallengerError> {
-    let bits = (row[1] % 64) as usize;
-    match row[0] {
-        0 => challenger.observe(element::<F>(row[2]))?,
-        1 => return Ok(number_of(challenger.sample_element()?)),
-        2 => return Ok(challenger.sample_bits(bits)? as u128),
-        3 => return Ok(u128::from(challenger.check_witness(bits, element(row[2]))?)),
-        5 => return Ok(sample_uniform_bits::<F, _>(challenger, bits)? as u128),
-        kind => observe_digest(alloc, challenger, kind)?,
-    }
-    Ok(0)
 }
 
 // What a search returns.
@@ -135,45 +152,84 @@ fn searched<F: ByteLevel, Inner: ByteChallenger>(
     }
 }
 
-/// What the call of a row returns.
-pub(crate) fn answer_to<F: ByteLevel, Inner: ByteChallenger>(
-    alloc: Global,
-    challenger: &mut BinaryChallenger<F, Inner>,
-    row: &Row,
-) -> Said {
-    if row[0] == 4 {
-        return searched(challenger, (row[1] % 64) as usize);
+/// What is said of an error.
+pub(crate) fn error_said(error: ChallengerError) -> Said {
+    match error {
+        ChallengerError::Memory => Said::Memory,
+        ChallengerError::Failed => Said::Failed,
     }
-    match number_returned(alloc, challenger, row) {
-        Ok(number) => Said::Number(number),
-        Err(ChallengerError::Memory) => Said::Memory,
-        Err(ChallengerError::Failed) => Said::Failed,
+}
+
+/// What is said where something is observed.
+pub(crate) fn observed_said(answer: Result<(), ChallengerError>) -> Said {
+    match answer {
+        Ok(()) => Said::Number(0),
+        Err(error) => error_said(error),
+    }
+}
+
+fn element_said<F: ByteLevel>(answer: Result<F, ChallengerError>) -> Said {
+    match answer {
+        Ok(element) => Said::Number(number_of(element)),
+        Err(error) => error_said(error),
+    }
+}
+
+fn bits_said(answer: Result<usize, ChallengerError>) -> Said {
+    match answer {
+        Ok(bits) => Said::Number(bits as u128),
+        Err(error) => error_said(error),
+    }
+}
+
+fn passed_said(answer: Result<bool, ChallengerError>) -> Said {
+    match answer {
+        Ok(passed) => Said::Number(u128::from(passed)),
+        Err(error) => error_said(error),
+    }
+}
+
+fn copy_said<F: ByteLevel, Inner: ByteChallenger>(
+    copy: Result<BinaryChallenger<F, Inner>, AllocError>,
+) -> Said {
+    match copy {
+        Ok(mut copy) => element_said(copy.sample_element()),
+        Err(_) => Said::Memory,
+    }
+}
+
+impl<F: ByteLevel, Inner: ByteChallenger> Asked for BinaryChallenger<F, Inner> {
+    fn answer(&mut self, alloc: Global, row: &Row) -> Said {
+        let bits = (row[1] % 64) as usize;
+        match row[0] {
+            0 => observed_said(self.observe(element::<F>(row[2]))),
+            1 => element_said(self.sample_element()),
+            2 => bits_said(self.sample_bits(bits)),
+            3 => passed_said(self.check_witness(bits, element(row[2]))),
+            4 => searched(self, bits),
+            5 => bits_said(sample_uniform_bits::<F, _>(self, bits)),
+            10 => copy_said(self.try_clone()),
+            _ => observed_said(observe_many(alloc, self, row)),
+        }
     }
 }
 
 /// Whether the calls of the rows return what these say.
-pub(crate) fn follows<F: ByteLevel, Inner: ByteChallenger>(
-    alloc: Global,
-    challenger: &mut BinaryChallenger<F, Inner>,
-    rows: &[Row],
-) -> bool {
+pub(crate) fn follows<C: Asked>(alloc: Global, challenger: &mut C, rows: &[Row]) -> bool {
     for place in 0..rows.len() {
-        if answer_to(alloc, challenger, &rows[place]) != Said::Number(rows[place][3]) {
+        if challenger.answer(alloc, &rows[place]) != Said::Number(rows[place][3]) {
             return false;
         }
     }
     true
 }
 
-/// Whether the challenger has failed, and each call says so.
-pub(crate) fn only_fails<F: ByteLevel, Inner: ByteChallenger>(
-    alloc: Global,
-    challenger: &mut BinaryChallenger<F, Inner>,
-) -> bool {
-    for place in 0..EVERY_CALL.len() {
-        if answer_to(alloc, challenger, &EVERY_CALL[place]) != Said::Failed {
+/// Whether each of the calls says that the challenger has failed.
+pub(crate) fn only_fails<C: Asked>(alloc: Global, challenger: &mut C, calls: &[Row]) -> bool {
+    for place in 0..calls.len() {
+        if challenger.answer(alloc, &calls[place]) != Said::Failed {
             return false;
         }
     }
-    challenger.failed()
+    true
 }

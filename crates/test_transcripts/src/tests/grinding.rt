@@ -1,13 +1,12 @@
 // Searches for witnesses over SHA-256, outside vectors, and the texts of the errors.
-use super::asked::{Hashed, follows};
-use std::alloc::{AllocError, Global};
-use std::test::Fail;
-use transcript_bytes::{ChallengerError, Sha256Hasher};
-use transcript_elements::{BinaryChallenger, ByteLevel, GrindError, TranscriptError};
+use std::alloc::Global;
+use std::fmt::Display;
+use transcript_bytes::ChallengerError;
+use transcript_elements::{GrindError, TranscriptError};
 
-// An initial state as eight bytes from the lowest, the least witness of eight bits at `BinaryField16`, and the element that is
-// sampled after it, by the Rust crate p3-binary-field 0.8.0. The states were drawn by splitmix64 from the seed 7.
-static LEAST_WITNESSES: [(u64, u16, u16); 16] = [
+/// An initial state as eight bytes from the lowest, the least witness of eight bits at `BinaryField16`, and the element that is
+/// sampled after it, by the Rust crate p3-binary-field 0.8.0. The states were drawn by splitmix64 from the seed 7.
+pub(crate) static LEAST_WITNESSES: [(u64, u16, u16); 16] = [
     (0x63cb_e1e4_5932_0dd7, 0x022a, 0xf127),
     (0x044c_3cd7_f43c_661c, 0x0087, 0xede7),
     (0xe698_4080_bab1_2a02, 0x0133, 0x87a0),
@@ -26,46 +25,29 @@ static LEAST_WITNESSES: [(u64, u16, u16); 16] = [
     (0x8c5c_906b_1aeb_85f8, 0x008a, 0xa993),
 ];
 
-fn finds_least<F: ByteLevel>(alloc: Global, row: &(u64, u16, u16)) -> Result<bool, AllocError> {
-    let (state, witness, next) = *row;
-    let state = Vec::from_slice(alloc, &state.to_le_bytes())?;
-    let mut challenger: Hashed<F> = BinaryChallenger::from_hasher(state, Sha256Hasher);
-    let rows = [[4, 8, 0, witness as u128], [1, 0, 0, next as u128]];
-    Ok(follows(alloc, &mut challenger, &rows))
-}
-
-/// Whether searches at a field of 16 bits find the least witness.
-pub(crate) fn finds_each_least<F: ByteLevel>(alloc: Global) -> Result<bool, AllocError> {
-    for row in 0..16 {
-        if !finds_least::<F>(alloc, &LEAST_WITNESSES[row])? {
-            return Ok(false);
-        }
-    }
-    Ok(true)
-}
-
 // Printed text: whether `{}` prints `text` of the error.
-fn reads(alloc: Global, error: GrindError, text: &str) -> Result<bool, AllocError> {
-    let printed = format!(in alloc; "{error}")?;
-    Ok(printed.as_str() == text)
+fn reads<E: Display>(alloc: Global, error: &E, text: &str) -> bool {
+    match format!(in alloc; "{error}") {
+        Ok(printed) => printed.as_str() == text,
+        Err(_) => false,
+    }
 }
 
 #[test]
-fn errors_read_as_sentences(rt: HostRuntime) -> Result<(), Fail> {
+fn errors_read_as_sentences(rt: HostRuntime) {
+    let alloc = rt.alloc();
     let short = TranscriptError::Short {
         needed: 2,
         found: 1,
     };
-    let printed = format!(in rt.alloc(); "{short}")?;
     assert!(rt;
-        reads(rt.alloc(), GrindError::NoWitness, "no candidate passes")?
-            && reads(rt.alloc(), GrindError::Memory, "out of memory")?
+        reads(alloc, &GrindError::NoWitness, "no candidate passes")
+            && reads(alloc, &GrindError::Memory, "out of memory")
             && reads(
-                rt.alloc(),
-                GrindError::from(ChallengerError::Failed),
+                alloc,
+                &GrindError::from(ChallengerError::Failed),
                 "the challenger has failed"
-            )?
-            && printed.as_str() == "an element has 2 bytes, and there are 1"
+            )
+            && reads(alloc, &short, "an element has 2 bytes, and there are 1")
     );
-    Ok(())
 }

@@ -1,17 +1,19 @@
 // Lists of calls: success where there is memory at each length from 0 to 257 against outside vectors, each growth refused in turn, and
-// each byte call.
-ghost use Rattle.std.specs.Prelude.{◌≡◌, All, IfOk, IsTrue, false, true};
+// each byte call. What a list that is refused has done the contracts say.
+ghost use Rattle.std.specs.Prelude.{All, IfOk};
 ghost use Rattle.transcript_elements.specs.Calls.{MayCall};
 
-use super::asked::{Row, element, number_of, only_fails};
+use super::asked::{EVERY_CALL, Row, element, number_of, only_fails};
 use super::heaps::InHeap;
 use super::many_calls::CALLS;
 use linked_list_allocator::LocalHeap;
 use std::alloc::{AllocError, Global};
+use std::cell::Cell;
 use std::marker::PhantomData;
+use test_byte_challengers::{Copies, Double, Seen};
 use test_heaps::{Ending, Growing, Rest, is_refused_in_turn};
-use transcript_bytes::{ByteChallenger, ChallengerError, HashChallenger, Sha256Hasher};
-use transcript_elements::{BinaryChallenger, ByteLevel, Call, Reply, Transcript, run_calls};
+use transcript_bytes::{ChallengerError, Sha256Hasher};
+use transcript_elements::{BinaryChallenger, ByteLevel, Call, Reply, run_calls};
 
 // The call of a row.
 fn call_of<F: ByteLevel>(row: &Row) -> Call<F>
@@ -38,30 +40,36 @@ fn calls_of_rows<F: ByteLevel>(alloc: Global, rows: &[Row]) -> Result<Vec<Call<F
     Ok(calls)
 }
 
-// Whether the reply is that of a row.
-fn reply_is<F: ByteLevel>(reply: &Reply<F>, row: &Row) -> bool {
+// The kind of the call that a reply is to, and its number.
+fn said<F: ByteLevel>(reply: &Reply<F>) -> [u128; 2] {
     match *reply {
-        Reply::Done => row[0] == 0,
-        Reply::Element(sampled) => row[0] == 1 && number_of(sampled) == row[3],
-        Reply::Bits(bits) => row[0] == 2 && bits as u128 == row[3],
-        Reply::Passed(passed) => row[0] == 3 && passed == (row[3] == 1),
+        Reply::Done => [0, 0],
+        Reply::Element(sampled) => [1, number_of(sampled)],
+        Reply::Bits(bits) => [2, bits as u128],
+        Reply::Passed(passed) => [3, u128::from(passed)],
     }
 }
 
-// Whether the first reply is an old one, and the others are those of the first rows.
-fn stand_behind_one<F: ByteLevel>(replies: &[Reply<F>]) -> bool {
-    for place in 1..replies.len() {
-        if place > CALLS.len() || !reply_is(&replies[place], &CALLS[place - 1]) {
+// What the reply to the call of a row is: what stands in the row, or, over a partner that samples zeros, 0, and that a witness passes.
+fn wanted(row: &Row, over_zeros: bool) -> [u128; 2] {
+    if over_zeros {
+        [row[0], u128::from(row[0] == 3)]
+    } else {
+        [row[0], row[3]]
+    }
+}
+
+// Whether the replies are those to the calls of the first rows.
+fn begin<F: ByteLevel>(replies: &[Reply<F>], rows: &[Row], over_zeros: bool) -> bool {
+    for place in 0..replies.len() {
+        if place >= rows.len() || said(&replies[place]) != wanted(&rows[place], over_zeros) {
             return false;
         }
     }
-    match replies.first() {
-        Some(Reply::Passed(passed)) => *passed,
-        _ => false,
-    }
+    true
 }
 
-// The first so many calls, whose replies stand behind an old one.
+// The first so many calls.
 #[derive(Drop)]
 struct List<F> {
     alloc: Global,
@@ -69,125 +77,44 @@ struct List<F> {
     field: PhantomData<F>,
 }
 
-// What is refused, the reserve or a call, leaves the replies before it, and a challenger that fails for good.
+// Whether the list of calls is granted in a heap, with the replies of `CALLS`.
+fn ending_of_list<F: ByteLevel>(heap: &LocalHeap, calls: &[Call<F>], rest: Rest<'_>) -> Ending
+    requires { All MayCall calls.now }
+{
+    let mut challenger: InHeap<'_, F> = BinaryChallenger::from_hasher(Vec::new(heap), Sha256Hasher);
+    let mut replies = Vec::new(heap);
+    let answer = run_calls(&mut challenger, calls, &mut replies);
+    drop(rest);
+    let are_right = begin(replies.as_slice(), &CALLS, false);
+    match answer {
+        Ok(()) => Ending::of(true, are_right && replies.len() == calls.len()),
+        Err(error) => Ending::of(false, are_right && error == ChallengerError::Memory),
+    }
+}
+
+// What is refused is the reserve or a call. That the challenger then has failed is a clause of `run_calls`.
 impl<F: ByteLevel> Growing for List<F> {
     fn run<'a>(&self, heap: &'a LocalHeap, rest: Rest<'a>) -> Result<Ending, AllocError> {
         let calls = calls_of_rows::<F>(self.alloc, &CALLS[..self.len.min(257)])?;
-        let mut challenger: InHeap<'_, F> = BinaryChallenger::from_hasher(
-            Vec::new(heap),
-            Sha256Hasher,
-        );
-        let mut replies = Vec::with_capacity(heap, 1)?;
-        replies.push(Reply::Passed(true))?;
-        let answer = run_calls(&mut challenger, calls.as_slice(), &mut replies);
-        drop(rest);
-        let are_right = stand_behind_one(replies.as_slice());
-        Ok(match answer {
-            Ok(()) => {
-                let is_whole = replies.len() == self.len.saturating_add(1) && !challenger.failed();
-                Ending::of(true, are_right && is_whole)
-            }
-            Err(error) => {
-                let is_left = error == ChallengerError::Memory && replies.len() <= self.len;
-                Ending::of(
-                    false,
-                    are_right && is_left && only_fails(self.alloc, &mut challenger),
-                )
-            }
-        })
+        Ok(ending_of_list(heap, calls.as_slice(), rest))
     }
 }
 
-// A byte challenger that refuses the byte call after so many, and those after it, and passes the others on to another one.
-#[derive(Drop)]
-struct Refusing<C: ByteChallenger> {
-    inner: C,
-    calls_left: usize,
-    has_refused: bool,
-}
-
-impl<C: ByteChallenger> Refusing<C> {
-    fn new(inner: C, calls_left: usize) -> Refusing<C>
-        ensures inner { result.inner ≡ inner }
-        ensures fresh { result.has_refused ≡ false }
-    {
-        Refusing {
-            inner,
-            calls_left,
-            has_refused: false,
-        }
-    }
-
-    // Whether this byte call is passed on.
-    fn passes_call(&mut self) -> bool
-        ensures inner { self.new.inner ≡ self.old.inner }
-        ensures passed { IsTrue result → self.new.has_refused ≡ self.old.has_refused }
-        ensures refused { result ≡ false → self.new.has_refused ≡ true }
-    {
-        if self.calls_left == 0 {
-            self.has_refused = true;
-            return false;
-        }
-        self.calls_left -= 1;
-        true
-    }
-}
-
-impl<C: ByteChallenger> ByteChallenger for Refusing<C> {
-    ghost State = { C.State };
-
-    ghost state = { λ refusing. C.state refusing.inner };
-
-    ghost has_refused = { λ refusing. refusing.has_refused };
-
-    ghost transitions = { C.transitions };
-
-    fn observe_byte(&mut self, byte: u8) -> Result<(), AllocError> {
-        if !self.passes_call() {
-            return Err(AllocError);
-        }
-        let answer = self.inner.observe_byte(byte);
-        if answer.is_err() {
-            self.has_refused = true;
-        }
-        answer
-    }
-
-    fn sample_byte(&mut self) -> Result<u8, AllocError> {
-        if !self.passes_call() {
-            return Err(AllocError);
-        }
-        let answer = self.inner.sample_byte();
-        if answer.is_err() {
-            self.has_refused = true;
-        }
-        answer
-    }
-
-    fn try_clone(&self) -> Result<Refusing<C>, AllocError> {
-        Ok(Refusing::new(self.inner.try_clone()?, self.calls_left))
-    }
-
-    fn refused(&self) -> bool {
-        self.has_refused
-    }
-}
-
-// How many byte calls the call of a row makes.
-fn byte_calls_of<F: ByteLevel>(row: &Row) -> usize {
+// How many byte calls the call of a row makes, for elements of so many bytes.
+fn byte_calls_of(row: &Row, size: usize) -> usize {
     match row[0] {
-        0 | 1 => F::NUM_BYTES,
+        0 | 1 => size,
         2 => 8,
         _ if row[1] == 0 => 0,
-        _ => F::NUM_BYTES.saturating_add(8),
+        _ => size.saturating_add(8),
     }
 }
 
 // How many of the rows, from the first on, are called with so many byte calls.
-fn calls_within<F: ByteLevel>(rows: &[Row], granted: usize) -> usize {
-    let mut left = granted;
+fn calls_within(rows: &[Row], size: usize, granted: u32) -> usize {
+    let mut left = granted as usize;
     for place in 0..rows.len() {
-        let taken = byte_calls_of::<F>(&rows[place]);
+        let taken = byte_calls_of(&rows[place], size);
         if taken > left {
             return place;
         }
@@ -196,49 +123,42 @@ fn calls_within<F: ByteLevel>(rows: &[Row], granted: usize) -> usize {
     rows.len()
 }
 
-// Whether, with so many byte calls granted, the replies are those to the calls that they suffice for.
-fn stops_there<F: ByteLevel>(alloc: Global, calls: &[Call<F>], rows: &[Row], granted: usize) -> bool
+// Whether, over a partner that samples zeros and refuses the byte call after so many, the first `made` calls have replies, and the next
+// is refused.
+fn stops_there<F: ByteLevel>(alloc: Global, calls: &[Call<F>], made: usize, granted: u32) -> bool
     requires { All MayCall calls.now }
 {
+    let seen = Cell::new(Seen::default());
+    let double = Double::new(&seen, 0, granted, Copies::RefusingAfter(u32::MAX));
+    let mut challenger: BinaryChallenger<F, Double<'_>> = BinaryChallenger::new(double);
     let mut replies = Vec::new(alloc);
-    if replies.push(Reply::Passed(true)).is_err() {
-        return false;
-    }
-    let hashed = HashChallenger::new(Vec::new(alloc), Sha256Hasher);
-    let mut challenger = BinaryChallenger::new(Refusing::new(hashed, granted));
     let answer = run_calls(&mut challenger, calls, &mut replies);
-    let made = calls_within::<F>(rows, granted);
-    let ends = if made < rows.len() {
-        answer == Err(ChallengerError::Memory) && only_fails(alloc, &mut challenger)
+    let ends = if made < calls.len() {
+        answer == Err(ChallengerError::Memory) && only_fails(alloc, &mut challenger, &EVERY_CALL)
     } else {
-        answer.is_ok() && !challenger.failed()
+        answer == Ok(())
     };
-    ends && replies.len() == made.saturating_add(1) && stand_behind_one(replies.as_slice())
+    ends && replies.len() == made && begin(replies.as_slice(), &CALLS, true)
 }
 
-// Each byte call of a list is refused in turn.
-fn stops_at_each<F: ByteLevel>(alloc: Global) -> Result<bool, AllocError> {
+/// Whether the first 40 calls stop where the byte call after so many is refused.
+pub(crate) fn stops_after<F: ByteLevel>(alloc: Global, granted: u32) -> bool {
     let rows = &CALLS[..40];
-    let calls = calls_of_rows::<F>(alloc, rows)?;
-    for granted in 0..300 {
-        if !stops_there(alloc, calls.as_slice(), rows, granted) {
-            return Ok(false);
+    match calls_of_rows::<F>(alloc, rows) {
+        Ok(calls) => {
+            let made = calls_within(rows, F::NUM_BYTES, granted);
+            stops_there(alloc, calls.as_slice(), made, granted)
         }
+        Err(_) => false,
     }
-    Ok(true)
 }
 
-/// Whether lists of calls of a field of 32 bits are run, and stop where they are refused.
-pub(crate) fn lists_are_run<F: ByteLevel>(alloc: Global) -> Result<bool, AllocError> {
-    for len in 0..258usize {
-        let list: List<F> = List {
-            alloc,
-            len,
-            field: PhantomData,
-        };
-        if !is_refused_in_turn(alloc, &list, len > 0) {
-            return Ok(false);
-        }
-    }
-    stops_at_each::<F>(alloc)
+/// Whether the first so many calls are refused in turn.
+pub(crate) fn list_is_refused<F: ByteLevel>(alloc: Global, len: usize) -> bool {
+    let list: List<F> = List {
+        alloc,
+        len,
+        field: PhantomData,
+    };
+    is_refused_in_turn(alloc, &list, len > 0)
 }

@@ -1,6 +1,6 @@
 // Hostile partners: doubles that refuse a byte call or a copy, or sample one byte always; what a challenger over them returns, what they
 // have seen of it, and what it returns to each call after that.
-use super::asked::{Row, Said, answer_to, only_fails};
+use super::asked::{Asked, EVERY_CALL, Row, Said, only_fails};
 use std::alloc::Global;
 use std::cell::Cell;
 use test_byte_challengers::{Copies, Double, Seen};
@@ -21,9 +21,9 @@ pub(crate) struct Partner {
 /// Copies are granted, and refuse nothing.
 const GRANTED: Copies = Copies::RefusingAfter(u32::MAX);
 
-/// Partners of a challenger of a field of 32 bits. The third and the fifth byte call are refused in worked rows. The digest of a
-/// word is one too, and other digests and caps are observed in the order of their parts.
-pub(crate) static PARTNERS_OF_32: [Partner; 7] = [
+/// Partners of a challenger of a field of 32 bits. The third and the fifth byte call are refused in worked rows, and the seventh, in the
+/// second element of a slice. The digest of a word is one too, and other digests and caps are observed in the order of their parts.
+pub(crate) static PARTNERS_OF_32: [Partner; 8] = [
     Partner {
         byte: 5,
         granted: 2,
@@ -47,6 +47,19 @@ pub(crate) static PARTNERS_OF_32: [Partner; 7] = [
             observed: 0,
             sampled: 4,
             bytes: 0,
+        },
+        next: Said::Failed,
+    },
+    Partner {
+        byte: 5,
+        granted: 6,
+        copies: GRANTED,
+        call: [11, 4, 0x0403_0201, 0],
+        said: Said::Memory,
+        seen: Seen {
+            observed: 6,
+            sampled: 0,
+            bytes: 0x0102_0304_0102,
         },
         next: Said::Failed,
     },
@@ -214,37 +227,26 @@ pub(crate) static PARTNERS_OF_16: [Partner; 7] = [
     },
 ];
 
-// Whether a copy of a challenger that has failed has failed.
-fn copy_fails<F: ByteLevel>(alloc: Global, challenger: &BinaryChallenger<F, Double<'_>>) -> bool {
-    match challenger.try_clone() {
-        Ok(mut copy) => only_fails(alloc, &mut copy),
-        Err(_) => false,
-    }
-}
-
-// Whether the challenger over the partner returns what is wanted. Where it has failed, all calls say so and none reaches the partner.
-fn is_answered<F: ByteLevel>(alloc: Global, partner: &Partner) -> bool {
+/// Whether the challenger over the partner returns what is wanted. Where it has failed, all calls say so and none reaches the partner.
+pub(crate) fn is_answered<F: ByteLevel>(alloc: Global, partner: &Partner) -> bool {
     let seen = Cell::new(Seen::default());
     let double = Double::new(&seen, partner.byte, partner.granted, partner.copies);
     let mut challenger: BinaryChallenger<F, Double<'_>> = BinaryChallenger::new(double);
-    let answer = answer_to(alloc, &mut challenger, &partner.call);
-    if answer != partner.said || seen.get() != partner.seen {
+    ends_as_wanted(alloc, &mut challenger, partner, &seen)
+}
+
+fn ends_as_wanted<C: Asked>(
+    alloc: Global,
+    challenger: &mut C,
+    partner: &Partner,
+    seen: &Cell<Seen>,
+) -> bool {
+    let said = challenger.answer(alloc, &partner.call);
+    if said != partner.said || seen.get() != partner.seen {
         return false;
     }
     if partner.next != Said::Failed {
-        return answer_to(alloc, &mut challenger, &[1, 0, 0, 0]) == partner.next;
+        return challenger.answer(alloc, &[1, 0, 0, 0]) == partner.next;
     }
-    only_fails(alloc, &mut challenger)
-        && copy_fails(alloc, &challenger)
-        && seen.get() == partner.seen
-}
-
-/// Whether a challenger over each of the partners returns what is wanted.
-pub(crate) fn are_answered<F: ByteLevel>(alloc: Global, partners: &[Partner]) -> bool {
-    for place in 0..partners.len() {
-        if !is_answered::<F>(alloc, &partners[place]) {
-            return false;
-        }
-    }
-    true
+    only_fails(alloc, challenger, &EVERY_CALL) && seen.get() == partner.seen
 }

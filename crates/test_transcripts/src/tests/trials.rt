@@ -1,69 +1,71 @@
 // What is tried of fields. To show that a field has the laws of the bound of transcripts takes the check longer than a trial does, so
-// that all of them are handed over here, in one function, by their kernels.
-use super::asked::{Hashed, Row, follows, hashed};
-use super::grinding::finds_each_least;
-use super::heaps::{calls_are_refused, texts_are_refused};
-use super::lists::lists_are_run;
-use super::partners::{PARTNERS_OF_16, PARTNERS_OF_32, Partner, are_answered};
+// that all of them are handed over here, in one function, by their kernels. A trial is one row, and loops stand here too.
+use super::asked::{EVERY_CALL, Row, follows, hashed};
+use super::grinding::LEAST_WITNESSES;
+use super::heaps::{call_is_refused, text_is_refused};
+use super::lists::{list_is_refused, stops_after};
+use super::partners::{PARTNERS_OF_16, PARTNERS_OF_32, Partner, is_answered};
 use super::scripts;
-use super::seeds::{
-    ROWS_8, ROWS_16, ROWS_128, ROWS_OF_POLY_64, SeedRow, rows_hold, too_few_bytes_are_refused,
-};
-use super::slices::{slices_are_taken_at, vectors_go_in_one_call_at};
+use super::seeds::{bytes_are, seed_is, too_few_bytes_are_refused};
 use super::vectors::vectors_are_taken_at;
-use field_element::{Coefficients, CubicKernel, Element, Poly64, Poly192};
-use std::alloc::{AllocError, Global};
-use std::test::Fail;
-use transcript_elements::{ShortWord, TranscriptField, TranscriptKernel};
+use field_element::{Coefficients, CubicKernel, Element};
+use std::alloc::Global;
+use transcript_elements::{ShortWord, TranscriptField, TranscriptKernel, TypeTag};
 use word_polynomial::Poly64Kernel;
 use word_tower::{Bits8, Bits16, Bits32, Bits64, Bits128, Tower};
 
-/// A trial of a field.
+/// A trial of a field. Elements stand by their representations.
 #[derive(Clone, Copy)]
-enum Trial {
-    /// Scripts of calls over SHA-256.
-    Scripts(&'static [&'static [Row]]),
-    /// Worked rows of seeds, bytes and tags.
-    Seeds(&'static [SeedRow]),
-    /// Searches for witnesses.
-    Searches,
-    /// Doubles that refuse, or sample one byte always.
-    Partners(&'static [Partner]),
-    /// Calls of a challenger in heaps that are full.
-    Calls,
-    /// Lists of calls.
-    Lists,
-    /// Too few bytes, and seeds and encoded elements in heaps that are full.
-    Texts,
+enum Trial<'a> {
+    /// Calls over SHA-256 from an initial state.
+    Script(&'a [u8], &'a [Row]),
+    /// A seed, and the elements that are observed of it.
+    Seed(&'a [u8], &'a [u128]),
+    /// An element, and its bytes.
+    Bytes(u128, &'a [u8]),
+    /// The tag of the field as an algebra over itself, of no basis.
+    Tag(TypeTag),
+    /// Too few bytes for an element.
+    TooFewBytes,
+    /// A double that refuses, or samples one byte always.
+    Partner(&'a Partner),
+    /// A call of a challenger in heaps that are full, from an initial state of so many bytes.
+    Call(&'a Row, usize),
+    /// A list of so many calls in heaps that are full.
+    List(usize),
+    /// A list of calls of which the byte call after so many is refused.
+    Stop(u32),
+    /// A seed of so many bytes, and an element that is encoded behind them, in heaps that are full.
+    Text(usize),
 }
 
-fn scripts_are_followed<F: TranscriptField>(alloc: Global, scripts: &[&[Row]]) -> bool {
-    for place in 0..scripts.len() {
-        let mut challenger: Hashed<F> = hashed(alloc);
-        if !follows(alloc, &mut challenger, scripts[place]) {
-            return false;
+fn script_is_followed<F: TranscriptField>(alloc: Global, state: &[u8], rows: &[Row]) -> bool {
+    match Vec::from_slice(alloc, state) {
+        Ok(state) => {
+            let mut challenger = hashed::<F>(state);
+            follows(alloc, &mut challenger, rows)
         }
+        Err(_) => false,
     }
-    true
 }
 
-fn succeeds<F: TranscriptField>(alloc: Global, trial: Trial) -> Result<bool, AllocError> {
+fn succeeds<F: TranscriptField>(alloc: Global, trial: Trial<'_>) -> bool {
     match trial {
-        Trial::Scripts(scripts) => Ok(scripts_are_followed::<F>(alloc, scripts)),
-        Trial::Seeds(rows) => rows_hold::<F>(alloc, rows),
-        Trial::Searches => finds_each_least::<F>(alloc),
-        Trial::Partners(partners) => Ok(are_answered::<F>(alloc, partners)),
-        Trial::Calls => Ok(calls_are_refused::<F>(alloc)),
-        Trial::Lists => lists_are_run::<F>(alloc),
-        Trial::Texts => Ok(too_few_bytes_are_refused::<F>() && texts_are_refused::<F>(alloc)),
+        Trial::Script(state, rows) => script_is_followed::<F>(alloc, state, rows),
+        Trial::Seed(seed, wanted) => seed_is::<F>(alloc, seed, wanted),
+        Trial::Bytes(number, bytes) => bytes_are::<F>(alloc, number, bytes),
+        Trial::Tag(tag) => F::algebra_tag(1, [0; 32]) == tag,
+        Trial::TooFewBytes => too_few_bytes_are_refused::<F>(),
+        Trial::Partner(partner) => is_answered::<F>(alloc, partner),
+        Trial::Call(row, len) => call_is_refused::<F>(alloc, *row, len),
+        Trial::List(len) => list_is_refused::<F>(alloc, len),
+        Trial::Stop(granted) => stops_after::<F>(alloc, granted),
+        Trial::Text(len) => text_is_refused::<F>(alloc, len),
     }
 }
 
 /// The same of the field of a kernel.
-fn succeeds_at<R: ShortWord, K: TranscriptKernel<R>>(
-    alloc: Global,
-    trial: Trial,
-) -> Result<bool, AllocError> {
+fn succeeds_at<R: ShortWord, K: TranscriptKernel<R>>(alloc: Global, trial: Trial<'_>) -> bool {
     succeeds::<Element<R, K>>(alloc, trial)
 }
 
@@ -78,7 +80,7 @@ enum Field {
     Poly64,
 }
 
-fn succeeds_in(alloc: Global, field: Field, trial: Trial) -> Result<bool, AllocError> {
+fn succeeds_in(alloc: Global, field: Field, trial: Trial<'_>) -> bool {
     match field {
         Field::Tower8 => succeeds_at::<u8, Tower<Bits8>>(alloc, trial),
         Field::Tower16 => succeeds_at::<u16, Tower<Bits16>>(alloc, trial),
@@ -98,82 +100,153 @@ static FIELDS: [Field; 6] = [
     Field::Poly64,
 ];
 
-#[test]
-fn scripts_are_followed_and_searches_end(rt: HostRuntime) -> Result<(), Fail> {
-    assert!(rt;
-        succeeds_in(rt.alloc(), Field::Tower8, Trial::Scripts(&scripts::OF_8))?
-            && succeeds_in(rt.alloc(), Field::Tower16, Trial::Scripts(&scripts::OF_16))?
-            && succeeds_in(
-                rt.alloc(),
-                Field::Tower128,
-                Trial::Scripts(&scripts::OF_128)
-            )?
-            && succeeds_in(rt.alloc(), Field::Tower16, Trial::Searches)?
-    );
-    Ok(())
-}
-
-#[test]
-fn seeds_and_elements_are_bytes(rt: HostRuntime) -> Result<(), Fail> {
-    assert!(rt;
-        succeeds_in(rt.alloc(), Field::Tower8, Trial::Seeds(&ROWS_8))?
-            && succeeds_in(rt.alloc(), Field::Tower16, Trial::Seeds(&ROWS_16))?
-            && succeeds_in(rt.alloc(), Field::Tower128, Trial::Seeds(&ROWS_128))?
-            && succeeds_in(rt.alloc(), Field::Poly64, Trial::Seeds(&ROWS_OF_POLY_64))?
-    );
-    Ok(())
-}
-
-#[test]
-fn texts_are_granted_or_refused(rt: HostRuntime) -> Result<(), Fail> {
-    for field in &FIELDS {
-        assert!(rt; succeeds_in(rt.alloc(), *field, Trial::Texts)?);
+fn all_succeed(alloc: Global, field: Field, trials: &[Trial<'_>]) -> bool {
+    for place in 0..trials.len() {
+        if !succeeds_in(alloc, field, trials[place]) {
+            return false;
+        }
     }
-    Ok(())
+    true
+}
+
+// Whether the scripts are followed from an empty initial state.
+fn all_are_followed(alloc: Global, field: Field, scripts: &[&[Row]]) -> bool {
+    for place in 0..scripts.len() {
+        if !succeeds_in(alloc, field, Trial::Script(&[], scripts[place])) {
+            return false;
+        }
+    }
+    true
+}
+
+// Whether a search from the state finds the least witness, and leaves the challenger as after it.
+fn is_found(alloc: Global, row: &(u64, u16, u16)) -> bool {
+    let (state, witness, next) = *row;
+    let rows = [[4, 8, 0, witness as u128], [1, 0, 0, next as u128]];
+    succeeds_in(
+        alloc,
+        Field::Tower16,
+        Trial::Script(&state.to_le_bytes(), &rows),
+    )
 }
 
 #[test]
-fn hostile_partners_are_answered(rt: HostRuntime) -> Result<(), Fail> {
+fn scripts_are_followed_and_searches_end(rt: HostRuntime) {
+    let alloc = rt.alloc();
     assert!(rt;
-        succeeds_in(rt.alloc(), Field::Tower16, Trial::Partners(&PARTNERS_OF_16))?
-            && succeeds_in(rt.alloc(), Field::Tower32, Trial::Partners(&PARTNERS_OF_32))?
+        all_are_followed(alloc, Field::Tower8, &scripts::OF_8)
+            && all_are_followed(alloc, Field::Tower16, &scripts::OF_16)
+            && all_are_followed(alloc, Field::Tower128, &scripts::OF_128)
     );
-    Ok(())
+    for row in &LEAST_WITNESSES {
+        assert!(rt; is_found(alloc, row));
+    }
 }
 
+// Worked rows: expected values follow from the representations that stand beside them.
+static OF_8: [Trial<'static>; 2] = [
+    Trial::Seed(&[1, 2, 3], &[3, 0, 0, 0, 0, 0, 0, 0, 1, 2, 3]),
+    Trial::Seed(&[], &[0, 0, 0, 0, 0, 0, 0, 0]),
+];
+
+static OF_16: [Trial<'static>; 3] = [
+    Trial::Seed(&[1], &[1, 0, 0, 0, 1]),
+    Trial::Seed(&[1, 0], &[2, 0, 0, 0, 1]),
+    Trial::Bytes(0xa5c3, &[0xa5, 0xc3]),
+];
+
+static OF_128: [Trial<'static>; 2] = [
+    Trial::Seed(
+        &[
+            0, 1, 2, 3, 4, 5, 6, 7, 8, 9, 10, 11, 12, 13, 14, 15, 16, 17, 18, 19,
+        ],
+        &[20, 0x0f0e_0d0c_0b0a_0908_0706_0504_0302_0100, 0x1312_1110],
+    ),
+    Trial::Bytes(
+        0x0001_0203_0405_0607_0809_0a0b_0c0d_0e0f,
+        &[0, 1, 2, 3, 4, 5, 6, 7, 8, 9, 10, 11, 12, 13, 14, 15],
+    ),
+];
+
+static OF_POLY_64: [Trial<'static>; 1] = [Trial::Tag(TypeTag::BinaryPoly {
+    bits: 64,
+    degree: 1,
+    basis: [0; 32],
+})];
+
 #[test]
-fn calls_are_granted_or_refused(rt: HostRuntime) -> Result<(), Fail> {
+fn seeds_and_elements_are_bytes(rt: HostRuntime) {
+    let alloc = rt.alloc();
     assert!(rt;
-        succeeds_in(rt.alloc(), Field::Tower16, Trial::Calls)?
-            && succeeds_in(rt.alloc(), Field::Poly64, Trial::Calls)?
+        all_succeed(alloc, Field::Tower8, &OF_8)
+            && all_succeed(alloc, Field::Tower16, &OF_16)
+            && all_succeed(alloc, Field::Tower128, &OF_128)
+            && all_succeed(alloc, Field::Poly64, &OF_POLY_64)
     );
-    Ok(())
+}
+
+fn texts_are_refused(alloc: Global, field: Field) -> bool {
+    for len in 0..258usize {
+        if !succeeds_in(alloc, field, Trial::Text(len)) {
+            return false;
+        }
+    }
+    succeeds_in(alloc, field, Trial::TooFewBytes)
 }
 
 #[test]
-fn lists_of_calls_are_run(rt: HostRuntime) -> Result<(), Fail> {
-    assert!(rt; succeeds_in(rt.alloc(), Field::Tower32, Trial::Lists)?);
-    Ok(())
+fn texts_are_granted_or_refused(rt: HostRuntime) {
+    for field in &FIELDS {
+        assert!(rt; texts_are_refused(rt.alloc(), *field));
+    }
 }
 
 #[test]
-fn vectors_go_by_coefficients(rt: HostRuntime) -> Result<(), Fail> {
-    let vector = Poly192::new([Poly64::new(1), Poly64::new(2), Poly64::new(3)]);
+fn hostile_partners_are_answered(rt: HostRuntime) {
+    for partner in &PARTNERS_OF_16 {
+        assert!(rt; succeeds_in(rt.alloc(), Field::Tower16, Trial::Partner(partner)));
+    }
+    for partner in &PARTNERS_OF_32 {
+        assert!(rt; succeeds_in(rt.alloc(), Field::Tower32, Trial::Partner(partner)));
+    }
+}
+
+// Every call of a challenger from each initial state. A search takes many calls, and is made from 16 states.
+fn calls_are_refused(alloc: Global, field: Field) -> bool {
+    for len in 0..258usize {
+        for row in &EVERY_CALL {
+            let is_search = row[0] == 4 && row[1] > 0;
+            if (len < 16 || !is_search) && !succeeds_in(alloc, field, Trial::Call(row, len)) {
+                return false;
+            }
+        }
+    }
+    true
+}
+
+#[test]
+fn calls_are_granted_or_refused(rt: HostRuntime) {
     assert!(rt;
-        vectors_are_taken_at::<Coefficients, CubicKernel, u64, Poly64Kernel>(rt.alloc(), vector)
+        calls_are_refused(rt.alloc(), Field::Tower16)
+            && calls_are_refused(rt.alloc(), Field::Poly64)
     );
-    Ok(())
+}
+
+// Lists of each length in heaps, and a list of which each byte call is refused in turn.
+#[test]
+fn lists_of_calls_are_run(rt: HostRuntime) {
+    for len in 0..258usize {
+        assert!(rt;
+            succeeds_in(rt.alloc(), Field::Tower32, Trial::List(len)),
+            "{len} calls"
+        );
+    }
+    for granted in 0..300u32 {
+        assert!(rt; succeeds_in(rt.alloc(), Field::Tower32, Trial::Stop(granted)));
+    }
 }
 
 #[test]
-fn lists_of_values_go_in_one_call(rt: HostRuntime) -> Result<(), Fail> {
-    let vector = Poly192::new([Poly64::new(1), Poly64::new(2), Poly64::new(3)]);
-    assert!(rt;
-        slices_are_taken_at::<u32, Tower<Bits32>>(rt.alloc())?
-            && vectors_go_in_one_call_at::<Coefficients, CubicKernel, u64, Poly64Kernel>(
-                rt.alloc(),
-                vector
-            )?
-    );
-    Ok(())
+fn vectors_go_by_coefficients(rt: HostRuntime) {
+    assert!(rt; vectors_are_taken_at::<Coefficients, CubicKernel, u64, Poly64Kernel>(rt.alloc()));
 }

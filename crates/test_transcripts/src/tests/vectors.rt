@@ -1,10 +1,10 @@
-// Elements of extensions in challengers, coefficient by coefficient, and code that names challengers by a trait alone.
-ghost use Rattle.std.specs.Prelude.{◌≡◌, IfOk, OnOk};
-
-use super::asked::{Hashed, element, hashed, number_of};
-use super::heaps::InHeap;
+// Elements of extensions in challengers, coefficient by coefficient, and values that are sampled into a vector.
+use super::asked::{
+    Asked, EVERY_CALL, Row, Said, are, error_said, follows, hashed, number_of, observed_said,
+    only_fails, repeated,
+};
+use super::heaps::{InHeap, KnownCall, ending_of, known_call};
 use field_base::Stored;
-use field_base::traits::PrimeCharacteristicRing;
 use field_element::Element;
 use field_space::{BasedVectorSpace, SpaceOver};
 use linked_list_allocator::LocalHeap;
@@ -13,216 +13,223 @@ use std::marker::PhantomData;
 use test_heaps::{Ending, Growing, Rest, is_refused_in_turn};
 use transcript_bytes::{ByteChallenger, ChallengerError, Sha256Hasher};
 use transcript_elements::{
-    BinaryChallenger, ByteLevel, CanSample, FieldChallenger, ShortWord, Transcript,
-    TranscriptKernel,
+    BinaryChallenger, ByteLevel, CanSample, FieldChallenger, ShortWord, TranscriptKernel,
 };
 
-// Observes an element and then samples one, in any challenger of the field.
-fn turn<F: PrimeCharacteristicRing, C: FieldChallenger<F>>(
-    challenger: &mut C,
-    element: F,
-) -> Result<F, ChallengerError>
-    ensures { IfOk result (λ sampled. (between : C) × C.observes challenger.old element between × C.gives between sampled challenger.new) }
-{
-    challenger.observe(element)?;
-    challenger.sample()
+/// A challenger of a field that is asked for elements of an extension. To the rows of `asked` come 20, which samples an element of
+/// the extension by `sample` and returns the coefficient in the place of the bits, 21, which does so by `sample_algebra_element`, and
+/// 22 and 23, which sample an element and observe it, once and twice in one slice.
+#[derive(Drop)]
+struct Extended<F, E, Inner: ByteChallenger> {
+    challenger: BinaryChallenger<F, Inner>,
+    extension: PhantomData<E>,
 }
 
-// Two challengers in one state that observe the same sample the same, and are in one state again: a prover and a verifier agree.
-fn agreed<F: PrimeCharacteristicRing, C: FieldChallenger<F>>(
-    prover: &mut C,
-    verifier: &mut C,
-    element: F,
-) -> Result<(F, F), ChallengerError>
-    requires { C.state prover.old ≡ C.state verifier.old }
-    ensures same { IfOk result (λ sampled. sampled.0 ≡ sampled.1) }
-    ensures state { OnOk result (C.state prover.new ≡ C.state verifier.new) }
-{
-    let proved = turn(prover, element)?;
-    let verified = turn(verifier, element)?;
-    Ok((proved, verified))
-}
+// Every call of elements of an extension.
+static VECTOR_CALLS: [Row; 4] = [[20, 0, 0, 0], [21, 0, 0, 0], [22, 0, 0, 0], [23, 0, 0, 0]];
 
-// Whether two challengers over SHA-256 agree.
-fn agree<F: ByteLevel + BasedVectorSpace<F>>(alloc: Global) -> bool {
-    let mut prover: Hashed<F> = BinaryChallenger::from_hasher(Vec::new(alloc), Sha256Hasher);
-    let mut verifier: Hashed<F> = BinaryChallenger::from_hasher(Vec::new(alloc), Sha256Hasher);
-    match agreed(&mut prover, &mut verifier, F::ONE) {
-        Ok((proved, verified)) => proved == verified,
-        Err(_) => false,
-    }
-}
-
-/// A call of an element of an extension.
-#[derive(Clone, Copy, PartialEq)]
-enum VectorCall {
-    Observe,
-    SampleAlgebra,
-    Sample,
-}
-
-static VECTOR_CALLS: [VectorCall; 3] = [
-    VectorCall::Observe,
-    VectorCall::SampleAlgebra,
-    VectorCall::Sample,
+// The words of the digest of no byte (FIPS 180-4), the last one first.
+static OF_NO_BYTE: [u128; 4] = [
+    0xa495_991b_7852_b855,
+    0x27ae_41e4_649b_934c,
+    0x9afb_f4c8_996f_b924,
+    0xe3b0_c442_98fc_1c14,
 ];
 
-// Makes the call. What is observed is the element, which is returned.
-fn made<F, E, Inner>(
+// Calls over SHA-256 from an empty initial state. An element has three coefficients, and is sampled from the digest of no byte. That
+// digest is hashed with the words that are observed, by Python's hashlib.
+static SCRIPTS: [&[Row]; 5] = [
+    &[
+        [20, 0, 0, 0xa495_991b_7852_b855],
+        [1, 0, 0, 0xe3b0_c442_98fc_1c14],
+    ],
+    &[[20, 1, 0, 0x27ae_41e4_649b_934c]],
+    &[
+        [21, 2, 0, 0x9afb_f4c8_996f_b924],
+        [1, 0, 0, 0xe3b0_c442_98fc_1c14],
+    ],
+    &[[22, 0, 0, 0], [1, 0, 0, 0x7be7_d15a_d360_3483]],
+    &[[23, 0, 0, 0], [1, 0, 0, 0x9e_2474_ea3a_2bba]],
+];
+
+// The coefficient of an element, which has three.
+fn coefficient<F: ByteLevel, E: BasedVectorSpace<F>>(element: &E, place: usize) -> u128 {
+    if place < E::DIMENSION && E::DIMENSION == 3 {
+        number_of::<F>(element.basis_coefficient(place))
+    } else {
+        0
+    }
+}
+
+fn observe_twice<F, E, Inner>(
+    alloc: Global,
     challenger: &mut BinaryChallenger<F, Inner>,
-    call: VectorCall,
-    vector: E,
-) -> Result<E, ChallengerError>
+    element: E,
+) -> Result<(), ChallengerError>
 where
     F: ByteLevel + BasedVectorSpace<F>,
     E: BasedVectorSpace<F>,
     Inner: ByteChallenger,
 {
-    match call {
-        VectorCall::Observe => {
-            challenger.observe_algebra_element(vector)?;
-            Ok(vector)
-        }
-        VectorCall::SampleAlgebra => challenger.sample_algebra_element(),
-        VectorCall::Sample => challenger.sample(),
-    }
+    let elements = repeated(alloc, element, 2);
+    challenger.observe_algebra_slice(elements.as_slice())
 }
 
-// Whether each call says that the challenger has failed.
-fn all_fail<F, E, Inner>(challenger: &mut BinaryChallenger<F, Inner>, vector: E) -> bool
+impl<F, E, Inner> Asked for Extended<F, E, Inner>
 where
     F: ByteLevel + BasedVectorSpace<F>,
     E: BasedVectorSpace<F>,
     Inner: ByteChallenger,
 {
-    for call in &VECTOR_CALLS {
-        match made(challenger, *call, vector) {
-            Err(ChallengerError::Failed) => {}
-            _ => return false,
+    fn answer(&mut self, alloc: Global, row: &Row) -> Said {
+        if row[0] < 20 {
+            return self.challenger.answer(alloc, row);
+        }
+        let sampled: Result<E, ChallengerError> = if row[0] == 20 {
+            self.challenger.sample()
+        } else {
+            self.challenger.sample_algebra_element()
+        };
+        match sampled {
+            Ok(element) if row[0] == 22 => {
+                observed_said(self.challenger.observe_algebra_element(element))
+            }
+            Ok(element) if row[0] == 23 => {
+                observed_said(observe_twice(alloc, &mut self.challenger, element))
+            }
+            Ok(element) => {
+                let place = (row[1] % 3) as usize;
+                Said::Number(coefficient::<F, E>(&element, place))
+            }
+            Err(error) => error_said(error),
         }
     }
-    challenger.failed()
 }
 
-// Whether the element has these coefficients, of which there are three.
-fn has_coefficients<F: ByteLevel, E: BasedVectorSpace<F>>(vector: E, wanted: &[u128; 3]) -> bool {
-    for place in 0..E::DIMENSION.min(3) {
-        if number_of::<F>(vector.basis_coefficient(place)) != wanted[place] {
-            return false;
-        }
+fn asked_for<F, E, Inner: ByteChallenger>(
+    challenger: BinaryChallenger<F, Inner>,
+) -> Extended<F, E, Inner> {
+    Extended {
+        challenger,
+        extension: PhantomData,
     }
-    E::DIMENSION == 3
-}
-
-// Whether the challenger samples elements of these representations.
-fn samples<F: ByteLevel, Inner: ByteChallenger>(
-    challenger: &mut BinaryChallenger<F, Inner>,
-    wanted: &[u128; 3],
-) -> bool {
-    for number in wanted {
-        match challenger.sample_element() {
-            Ok(element) if number_of(element) == *number => {}
-            _ => return false,
-        }
-    }
-    true
-}
-
-// A worked row, what is sampled first from the digest of no byte; and what is sampled after an element was observed, coefficient by
-// coefficient.
-fn rows_hold<F, E>(alloc: Global, vector: E) -> Result<bool, ChallengerError>
-where
-    F: ByteLevel + BasedVectorSpace<F>,
-    E: BasedVectorSpace<F>,
-{
-    let mut first: Hashed<F> = hashed(alloc);
-    let sampled: E = made(&mut first, VectorCall::Sample, vector)?;
-    let digest = [
-        0xa495_991b_7852_b855,
-        0x27ae_41e4_649b_934c,
-        0x9afb_f4c8_996f_b924,
-    ];
-    let mut parts: Hashed<F> = hashed(alloc);
-    for number in [1, 2, 3] {
-        transcript_elements::CanObserve::observe(&mut parts, element::<F>(number))?;
-    }
-    let mut whole: Hashed<F> = hashed(alloc);
-    made(&mut whole, VectorCall::Observe, vector)?;
-    let next: E = made(&mut whole, VectorCall::SampleAlgebra, vector)?;
-    let mut numbers = [0; 3];
-    for place in 0..E::DIMENSION.min(3) {
-        numbers[place] = number_of::<F>(next.basis_coefficient(place));
-    }
-    Ok(has_coefficients(sampled, &digest) && samples(&mut parts, &numbers))
 }
 
 // A call of a challenger in a heap, from an empty initial state.
 #[derive(Drop)]
-struct InTurn<F, E> {
-    call: VectorCall,
-    vector: E,
+struct VectorCall<F, E> {
+    alloc: Global,
+    known: KnownCall,
     field: PhantomData<F>,
+    extension: PhantomData<E>,
 }
 
-impl<F, E> Growing for InTurn<F, E>
+impl<F, E> Growing for VectorCall<F, E>
 where
     F: ByteLevel + BasedVectorSpace<F>,
     E: BasedVectorSpace<F>,
 {
     fn run<'a>(&self, heap: &'a LocalHeap, rest: Rest<'a>) -> Result<Ending, AllocError> {
+        let challenger: InHeap<'_, F> = BinaryChallenger::from_hasher(Vec::new(heap), Sha256Hasher);
+        let mut asked = asked_for::<F, E, _>(challenger);
+        Ok(ending_of(self.alloc, &mut asked, &self.known, &VECTOR_CALLS, rest))
+    }
+}
+
+// Whether the script is followed.
+fn is_followed<F, E>(alloc: Global, script: &[Row]) -> bool
+where
+    F: ByteLevel + BasedVectorSpace<F>,
+    E: BasedVectorSpace<F>,
+{
+    let mut challenger = asked_for::<F, E, _>(hashed::<F>(Vec::new(alloc)));
+    follows(alloc, &mut challenger, script)
+}
+
+// Whether the call of a row is refused in turn.
+fn is_refused<F, E>(alloc: Global, row: Row) -> bool
+where
+    F: ByteLevel + BasedVectorSpace<F>,
+    E: BasedVectorSpace<F>,
+{
+    let mut first = asked_for::<F, E, _>(hashed::<F>(Vec::new(alloc)));
+    let mut second = asked_for::<F, E, _>(hashed::<F>(Vec::new(alloc)));
+    let call: VectorCall<F, E> = VectorCall {
+        alloc,
+        known: known_call(alloc, row, &mut first, &mut second),
+        field: PhantomData,
+        extension: PhantomData,
+    };
+    is_refused_in_turn(alloc, &call, true)
+}
+
+// Four samples from an empty initial state, whose vector and whose challenger are in one heap.
+#[derive(Drop)]
+struct FourSamples<F> {
+    alloc: Global,
+    field: PhantomData<F>,
+}
+
+// Whether the challenger samples as before the first sample, or has failed for good.
+fn is_before_or_fails<C: Asked>(alloc: Global, challenger: &mut C) -> bool {
+    match challenger.answer(alloc, &[1, 0, 0, 0]) {
+        Said::Number(number) => number == OF_NO_BYTE[0],
+        Said::Failed => only_fails(alloc, challenger, &EVERY_CALL),
+        _ => false,
+    }
+}
+
+// What is refused is the vector, or a sample.
+impl<F: ByteLevel + BasedVectorSpace<F>> Growing for FourSamples<F> {
+    fn run<'a>(&self, heap: &'a LocalHeap, rest: Rest<'a>) -> Result<Ending, AllocError> {
         let mut challenger: InHeap<'_, F> = BinaryChallenger::from_hasher(
             Vec::new(heap),
             Sha256Hasher,
         );
-        let answer = made(&mut challenger, self.call, self.vector);
+        let sampled: Result<Vec<F, &LocalHeap>, ChallengerError> = challenger.sample_vec(heap, 4);
         drop(rest);
-        Ok(match answer {
-            Ok(_) => Ending::of(true, !challenger.failed()),
-            Err(error) => {
-                let fails = all_fail(&mut challenger, self.vector);
-                Ending::of(false, fails && error == ChallengerError::Memory)
-            }
+        Ok(match sampled {
+            Ok(sampled) => Ending::of(true, are(sampled.as_slice(), &OF_NO_BYTE)),
+            Err(_) => Ending::of(false, is_before_or_fails(self.alloc, &mut challenger)),
         })
     }
 }
 
-// Whether each call is refused in turn.
-fn are_refused<F, E>(alloc: Global, vector: E) -> bool
+// Whether four samples are refused in turn.
+fn samples_are_refused<F: ByteLevel + BasedVectorSpace<F>>(alloc: Global) -> bool {
+    let samples: FourSamples<F> = FourSamples {
+        alloc,
+        field: PhantomData,
+    };
+    is_refused_in_turn(alloc, &samples, true)
+}
+
+// Whether the scripts of an extension of a field of 64 bits are followed, and each call is refused in turn, as four samples are.
+fn vectors_are_taken<F, E>(alloc: Global) -> bool
 where
     F: ByteLevel + BasedVectorSpace<F>,
     E: BasedVectorSpace<F>,
 {
-    for call in &VECTOR_CALLS {
-        let in_turn: InTurn<F, E> = InTurn {
-            call: *call,
-            vector,
-            field: PhantomData,
-        };
-        if !is_refused_in_turn(alloc, &in_turn, true) {
+    for script in &SCRIPTS {
+        if !is_followed::<F, E>(alloc, script) {
             return false;
         }
     }
-    true
-}
-
-// Whether the rows of a space hold, whose element has the coefficients 1, 2 and 3.
-fn vectors_are_taken<F, E>(alloc: Global, vector: E) -> bool
-where
-    F: ByteLevel + BasedVectorSpace<F>,
-    E: BasedVectorSpace<F>,
-{
-    rows_hold::<F, E>(alloc, vector).unwrap_or(false)
-        && are_refused::<F, E>(alloc, vector)
-        && agree::<F>(alloc)
+    for row in &VECTOR_CALLS {
+        if !is_refused::<F, E>(alloc, *row) {
+            return false;
+        }
+    }
+    samples_are_refused::<F>(alloc)
 }
 
 /// The same at a kernel: a space of three coefficients over a field of 64 bits.
-pub(crate) fn vectors_are_taken_at<R, K, S, J>(alloc: Global, vector: Element<R, K>) -> bool
+pub(crate) fn vectors_are_taken_at<R, K, S, J>(alloc: Global) -> bool
 where
     R: Stored,
     K: SpaceOver<R, S, J>,
     S: ShortWord,
     J: TranscriptKernel<S>,
 {
-    vectors_are_taken::<Element<S, J>, Element<R, K>>(alloc, vector)
+    vectors_are_taken::<Element<S, J>, Element<R, K>>(alloc)
 }
