@@ -1,7 +1,5 @@
 // The order of the generator of the cubic extension: an element whose powers by the quotients of 2^192 - 1 by its primes are not 1 generates all.
 use field_base::traits::PrimeCharacteristicRing;
-use field_base::{FieldKernel, Stored};
-use field_element::{Coefficients, CubicKernel, Element, element_of_word};
 
 /// The primes of 2^192 - 1, as often as they divide it.
 static PRIMES: [u64; 16] = [
@@ -53,37 +51,25 @@ fn quotient(number: Words, divisor: u64) -> Option<Words> {
 }
 
 /// The element to the power of a number.
-fn power<R: Stored, K: FieldKernel<R>>(element: &Element<R, K>, exponent: Words) -> Element<R, K> {
+fn power<F: PrimeCharacteristicRing>(element: F, exponent: Words) -> F {
     let shifted = element.exp_power_of_2(64);
     element.exp_u64(exponent[0])
         * shifted.exp_u64(exponent[1])
         * shifted.exp_power_of_2(64).exp_u64(exponent[2])
 }
 
-/// Whether the element to the power of a number is 1, or there is no number.
-fn may_be_one<R: Stored, K: FieldKernel<R>>(
-    element: &Element<R, K>,
-    exponent: Option<Words>,
-) -> bool {
-    match exponent {
-        Some(exponent) => power(element, exponent) == Element::ONE,
-        None => true,
-    }
-}
-
 /// Whether no quotient of the order by one of the primes is an exponent that gives 1.
-fn order_is_full<R: Stored, K: FieldKernel<R>>(element: &Element<R, K>) -> bool {
+fn order_is_full<F: PrimeCharacteristicRing>(element: F) -> bool {
     for prime in PRIMES.iter() {
-        if may_be_one(element, quotient(ORDER, *prime)) {
+        let is_one = match quotient(ORDER, *prime) {
+            Some(exponent) => power(element, exponent) == F::ONE,
+            None => true,
+        };
+        if is_one {
             return false;
         }
     }
-    power(element, ORDER) == Element::ONE
-}
-
-/// Whether that holds of the generator, and not of 1.
-fn generator_has_full_order<R: Stored, K: FieldKernel<R>>() -> bool {
-    order_is_full::<R, K>(&element_of_word(K::GENERATOR)) && !order_is_full::<R, K>(&Element::ONE)
+    power(element, ORDER) == F::ONE
 }
 
 fn primes_multiply_to_the_order() -> bool {
@@ -97,9 +83,7 @@ fn primes_multiply_to_the_order() -> bool {
     rest == Some([1, 0, 0])
 }
 
-#[test]
-fn the_generator_has_full_order(rt: HostRuntime) {
-    assert!(rt;
-        primes_multiply_to_the_order() && generator_has_full_order::<Coefficients, CubicKernel>()
-    );
+/// Whether that holds of the generator of a field of 192 bits, and not of 1.
+pub(crate) fn generator_has_full_order<F: PrimeCharacteristicRing>(generator: F) -> bool {
+    primes_multiply_to_the_order() && order_is_full(generator) && !order_is_full(F::ONE)
 }

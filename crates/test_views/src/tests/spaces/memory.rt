@@ -1,34 +1,17 @@
 // Vectors of coefficients, and elements of them, at each length, where there is memory, and refused where there is not. What is in them
 // the contracts say.
-use super::coefficients::{cubic, push_power};
 use field_base::traits::PrimeCharacteristicRing;
-use field_base::{FieldKernel, Stored};
-use field_element::{Coefficients, CubicKernel, Element, Poly64, Poly192, element_of_word};
-use field_space::{BasedVectorSpace, SpaceOver};
+use field_space::BasedVectorSpace;
 use linked_list_allocator::LocalHeap;
-use std::alloc::{AllocError, Allocator, Global};
-use word_polynomial::Poly64Kernel;
-use word_tower::{Bits64, Bits128, Tower};
+use std::alloc::Global;
 
-/// The coefficients of the elements of a space over a smaller field.
-fn flattened<R: Stored, K: SpaceOver<R, S, J>, S: Stored, J: FieldKernel<S>, A: Allocator>(
-    alloc: A,
-    elements: &[Element<R, K>],
-) -> Result<Vec<Element<S, J>, A>, AllocError> {
-    Element::flatten_to_base(alloc, elements)
-}
-
-/// The elements of the coefficients, and none where those are not of whole elements.
-fn reconstituted<R: Stored, K: SpaceOver<R, S, J>, S: Stored, J: FieldKernel<S>, A: Allocator>(
-    alloc: A,
-    coefficients: &[Element<S, J>],
-) -> Result<Vec<Element<R, K>, A>, AllocError> {
-    let dimension = <Element<R, K> as BasedVectorSpace<Element<S, J>>>::DIMENSION;
-    if dimension != 0 && coefficients.len() % dimension == 0 {
-        Element::reconstitute_from_base(alloc, coefficients)
-    } else {
-        Ok(Vec::new(alloc))
-    }
+/// Puts the next power of the last base behind those that are there, and returns whether there was room.
+pub(crate) fn push_power<F: PrimeCharacteristicRing>(powers: &mut Vec<F>, bases: &[F]) -> bool {
+    let next = match (powers.last(), bases.last()) {
+        (Some(last), Some(base)) => *last * *base,
+        _ => F::ONE,
+    };
+    powers.push(next).is_ok()
 }
 
 /// Bytes of heaps. The first has no room for one element, and the last has room for all. Each has twice the room of the one before,
@@ -46,19 +29,29 @@ fn is_due(is_granted: bool, room: usize, takes_memory: bool) -> bool {
     }
 }
 
+/// Whether the coefficients are those of whole elements, and elements of them are granted.
+fn are_made<F: PrimeCharacteristicRing, E: BasedVectorSpace<F>>(
+    heap: &LocalHeap,
+    coefficients: &[F],
+) -> bool {
+    E::DIMENSION != 0
+        && coefficients.len() % E::DIMENSION == 0
+        && E::reconstitute_from_base(heap, coefficients).is_ok()
+}
+
 /// Whether both ways end as they may in a heap of so many bytes, which gets all of them back.
-fn both_are_due<R: Stored, K: SpaceOver<R, S, J>, S: Stored, J: FieldKernel<S>>(
+fn both_are_due<F: PrimeCharacteristicRing, E: BasedVectorSpace<F>>(
     alloc: Global,
     room: usize,
-    elements: &[Element<R, K>],
-    flat: &[Element<S, J>],
+    elements: &[E],
+    coefficients: &[F],
 ) -> bool {
     match LocalHeap::new(alloc, room) {
         Ok(heap) => {
-            let is_flattened = flattened::<R, K, S, J, _>(&heap, elements).is_ok();
-            let is_made = reconstituted::<R, K, S, J, _>(&heap, flat).is_ok();
+            let is_flattened = E::flatten_to_base(&heap, elements).is_ok();
+            let are_made = are_made::<F, E>(&heap, coefficients);
             is_due(is_flattened, room, elements.len() > 0)
-                && is_due(is_made, room, elements.len() > 0)
+                && is_due(are_made, room, elements.len() > 0)
                 && heap.used() == 0
         }
         Err(_) => false,
@@ -66,14 +59,14 @@ fn both_are_due<R: Stored, K: SpaceOver<R, S, J>, S: Stored, J: FieldKernel<S>>(
 }
 
 /// Whether that holds in each heap, and of the elements' coefficients.
-fn each_is_due<R: Stored, K: SpaceOver<R, S, J>, S: Stored, J: FieldKernel<S>>(
+fn each_is_due<F: PrimeCharacteristicRing, E: BasedVectorSpace<F>>(
     alloc: Global,
-    elements: &[Element<R, K>],
+    elements: &[E],
 ) -> bool {
-    match flattened::<R, K, S, J, _>(alloc, elements) {
+    match E::flatten_to_base(alloc, elements) {
         Ok(flat) => {
             for room in ROOMS.iter() {
-                if !both_are_due::<R, K, S, J>(alloc, *room, elements, flat.as_slice()) {
+                if !both_are_due::<F, E>(alloc, *room, elements, flat.as_slice()) {
                     return false;
                 }
             }
@@ -83,49 +76,32 @@ fn each_is_due<R: Stored, K: SpaceOver<R, S, J>, S: Stored, J: FieldKernel<S>>(
     }
 }
 
-/// Whether that holds of the first powers of the generator, for 0 to 257 of them.
-fn powers_are_due<R: Stored, K: SpaceOver<R, S, J>, S: Stored, J: FieldKernel<S>>(
+/// Whether that holds of 0 to 257 times an element.
+pub(crate) fn powers_are_due<F: PrimeCharacteristicRing, E: BasedVectorSpace<F>>(
     alloc: Global,
+    element: E,
 ) -> bool {
     let mut elements = Vec::new(alloc);
     for _ in 0..258 {
-        if !each_is_due::<R, K, S, J>(alloc, elements.as_slice())
-            || !push_power(&mut elements, element_of_word::<R, K>(K::GENERATOR))
-        {
+        if !each_is_due::<F, E>(alloc, elements.as_slice()) || elements.push(element).is_err() {
             return false;
         }
     }
     true
 }
 
-#[test]
-fn vectors_are_granted_or_refused(rt: HostRuntime) {
-    assert!(rt;
-        powers_are_due::<Coefficients, CubicKernel, u64, Poly64Kernel>(rt.alloc())
-            && powers_are_due::<u128, Tower<Bits128>, u64, Tower<Bits64>>(rt.alloc())
-    );
-}
-
-fn coefficients_are(alloc: Global, element: Poly192, want: [Poly64; 3]) -> bool {
-    match flattened::<Coefficients, CubicKernel, u64, Poly64Kernel, _>(alloc, &[element]) {
-        Ok(flat) => flat.as_slice() == want.as_slice(),
+/// Whether the coefficients of an element are these.
+pub(crate) fn is_flattened<F: PrimeCharacteristicRing, E: BasedVectorSpace<F>>(
+    alloc: Global,
+    element: E,
+    coefficients: &[F],
+) -> bool {
+    let mut elements = Vec::new(alloc);
+    if elements.push(element).is_err() {
+        return false;
+    }
+    match E::flatten_to_base(alloc, elements.as_slice()) {
+        Ok(flat) => flat.as_slice() == coefficients,
         Err(_) => false,
     }
-}
-
-fn element_is(alloc: Global, coefficients: [Poly64; 3], want: Poly192) -> bool {
-    match reconstituted::<Coefficients, CubicKernel, u64, Poly64Kernel, _>(alloc, &coefficients) {
-        Ok(elements) => elements.as_slice() == [want].as_slice(),
-        Err(_) => false,
-    }
-}
-
-// A worked row.
-#[test]
-fn coefficients_of_one_element(rt: HostRuntime) {
-    let coefficients = [Poly64::new(1), Poly64::new(2), Poly64::new(3)];
-    assert!(rt;
-        coefficients_are(rt.alloc(), cubic(1, 2, 3), coefficients)
-            && element_is(rt.alloc(), coefficients, cubic(1, 2, 3))
-    );
 }

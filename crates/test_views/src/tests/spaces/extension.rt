@@ -1,0 +1,37 @@
+// Extensions of a field: the text that names one, with memory and in a heap without room, and Frobenius's map. `algebra_id` has one
+// body for every algebra, and each text a contract says.
+use field_base::traits::Field;
+use field_space::{AlgebraIdentity, ExtensionField, HasFrobenius};
+use linked_list_allocator::LocalHeap;
+use std::alloc::{AllocError, Allocator, Global};
+
+fn is_text<A: Allocator>(text: Result<Vec<u8, A>, AllocError>, want: &str) -> bool {
+    match text {
+        Ok(text) => text.as_slice() == want.as_bytes(),
+        Err(_) => false,
+    }
+}
+
+/// Whether the algebra has this text, and is refused it where there is no room.
+pub(crate) fn has_text<F: Field, E: AlgebraIdentity<F>>(alloc: Global, want: &str) -> bool {
+    match LocalHeap::new(alloc, 16) {
+        Ok(small) => {
+            is_text(E::algebra_id(alloc), want)
+                && E::algebra_id(&small).is_err()
+                && small.used() == 0
+        }
+        Err(_) => false,
+    }
+}
+
+/// Whether Frobenius's map takes the first of each pair to the second, and three of them return it.
+pub(crate) fn frobenius_takes<F: Field, E: ExtensionField<F>>(images: &[(E, E)]) -> bool {
+    for (element, image) in images {
+        if HasFrobenius::<F>::frobenius(element) != *image
+            || HasFrobenius::<F>::repeated_frobenius(element, 3) != *element
+        {
+            return false;
+        }
+    }
+    true
+}

@@ -1,0 +1,149 @@
+// Trials of spaces and of an extension, which are written over the bounds of such. That a field meets the bound takes the check longer
+// than a trial does, so that fields are named here alone, once for all trials.
+use super::coefficients::{all_powers_are_left, first_are_taken, is_called_in_order};
+use super::extension::{frobenius_takes, has_text};
+use super::generator::generator_has_full_order;
+use super::memory::{is_flattened, powers_are_due};
+use field_base::traits::{Field, PrimeCharacteristicRing};
+use field_base::{FieldKernel, Stored};
+use field_element::{Coefficients, CubicKernel, Element, Poly64, Poly192, element_of_word};
+use field_space::{AlgebraIdentity, BasedVectorSpace, SpaceOver};
+use std::alloc::Global;
+use word_polynomial::Poly64Kernel;
+use word_tower::{Bits64, Bits128, Tower};
+
+/// A trial of a space.
+#[derive(Clone, Copy)]
+enum Trial {
+    /// A worked row.
+    Row,
+    /// Vectors in heaps that are full.
+    Vectors,
+    /// How a closure is called.
+    Closure,
+    /// Iterators of few and of many coefficients.
+    Iterators,
+    /// An iterator without end.
+    WithoutEnd,
+}
+
+/// Whether a trial of a space succeeds. An element is given, and its coefficients.
+fn succeeds<F: PrimeCharacteristicRing, E: BasedVectorSpace<F>>(
+    alloc: Global,
+    trial: Trial,
+    element: E,
+    coefficients: &[F],
+) -> bool {
+    match trial {
+        Trial::Row => is_flattened(alloc, element, coefficients),
+        Trial::Vectors => powers_are_due::<F, E>(alloc, element),
+        Trial::Closure => is_called_in_order::<F, E>(element, coefficients),
+        Trial::Iterators => first_are_taken::<F, E>(alloc, coefficients),
+        Trial::WithoutEnd => all_powers_are_left::<F, E>(coefficients),
+    }
+}
+
+/// The same of the field of a kernel.
+fn succeeds_at<R: Stored, K: SpaceOver<R, S, J>, S: Stored, J: FieldKernel<S>>(
+    alloc: Global,
+    trial: Trial,
+    element: Element<R, K>,
+    coefficients: &[Element<S, J>],
+) -> bool {
+    succeeds::<Element<S, J>, Element<R, K>>(alloc, trial, element, coefficients)
+}
+
+/// The element of these coefficients, the lowest first.
+fn cubic(c0: u64, c1: u64, c2: u64) -> Poly192 {
+    Poly192::new([Poly64::new(c0), Poly64::new(c1), Poly64::new(c2)])
+}
+
+/// Whether the trial succeeds where three coefficients stand in words of their own, and where two are parts of a word.
+fn succeeds_in_both(alloc: Global, trial: Trial) -> bool {
+    let thirds = [Poly64::new(1), Poly64::new(2), Poly64::new(3)];
+    let halves = [element_of_word(5), element_of_word(6)];
+    let whole = element_of_word(6 << 64 | 5);
+    succeeds_at::<Coefficients, CubicKernel, u64, Poly64Kernel>(
+        alloc,
+        trial,
+        cubic(1, 2, 3),
+        &thirds,
+    ) && succeeds_at::<u128, Tower<Bits128>, u64, Tower<Bits64>>(alloc, trial, whole, &halves)
+}
+
+#[test]
+fn coefficients_of_one_element(rt: HostRuntime) {
+    assert!(rt; succeeds_in_both(rt.alloc(), Trial::Row));
+}
+
+#[test]
+fn vectors_are_granted_or_refused(rt: HostRuntime) {
+    assert!(rt; succeeds_in_both(rt.alloc(), Trial::Vectors));
+}
+
+#[test]
+fn a_closure_is_called_for_each_coefficient_in_order(rt: HostRuntime) {
+    assert!(rt; succeeds_in_both(rt.alloc(), Trial::Closure));
+}
+
+// That two items give nothing where there are three coefficients is a worked row.
+#[test]
+fn an_iterator_gives_as_many_coefficients_as_there_are(rt: HostRuntime) {
+    assert!(rt; succeeds_in_both(rt.alloc(), Trial::Iterators));
+}
+
+#[test]
+fn an_iterator_without_end_is_left(rt: HostRuntime) {
+    assert!(rt; succeeds_in_both(rt.alloc(), Trial::WithoutEnd));
+}
+
+/// A trial of an extension.
+#[derive(Clone, Copy)]
+enum ExtensionTrial {
+    /// The text that names it.
+    Text,
+    /// Frobenius's map.
+    Frobenius,
+    /// The order of the generator.
+    Generator,
+}
+
+/// Whether a trial of an extension of 192 bits succeeds. Its text is given, and the images of elements.
+fn extension_succeeds<F: Field, E: AlgebraIdentity<F>>(
+    alloc: Global,
+    trial: ExtensionTrial,
+    text: &str,
+    images: &[(E, E)],
+) -> bool {
+    match trial {
+        ExtensionTrial::Text => has_text::<F, E>(alloc, text),
+        ExtensionTrial::Frobenius => frobenius_takes::<F, E>(images),
+        ExtensionTrial::Generator => generator_has_full_order(E::GENERATOR),
+    }
+}
+
+// Worked rows of the cubic extension.
+fn cubic_succeeds(alloc: Global, trial: ExtensionTrial) -> bool {
+    let text = "p3-binary-cubic-v1:y^3+y+1:64:192";
+    let images = [
+        (cubic(0, 1, 0), cubic(0, 0, 1)),
+        (cubic(0, 0, 1), cubic(0, 1, 1)),
+        (cubic(1, 2, 3), cubic(1, 3, 1)),
+    ];
+    extension_succeeds::<Poly64, Poly192>(alloc, trial, text, &images)
+}
+
+#[test]
+fn texts_of_algebras(rt: HostRuntime) {
+    assert!(rt; cubic_succeeds(rt.alloc(), ExtensionTrial::Text));
+}
+
+#[test]
+fn frobenius_of_the_root(rt: HostRuntime) {
+    assert!(rt; cubic_succeeds(rt.alloc(), ExtensionTrial::Frobenius));
+}
+
+#[test]
+fn the_generator_has_full_order(rt: HostRuntime) {
+    assert!(rt; cubic_succeeds(rt.alloc(), ExtensionTrial::Generator));
+}
