@@ -17,19 +17,14 @@ static SAMPLE: Row = [1, 0, 0, 0];
 /// A call, what it returns where there is memory, and what is sampled after it, and in its place.
 #[derive(Clone, Copy)]
 pub(crate) struct KnownCall {
-    row: Row,
-    said: Said,
-    after: Said,
-    before: Said,
+    pub(crate) row: Row,
+    pub(crate) said: Said,
+    pub(crate) after: Said,
+    pub(crate) before: Said,
 }
 
-/// The call of a row, by two challengers in the state in which it is made.
-pub(crate) fn known_call<C: Asked>(
-    alloc: Global,
-    row: Row,
-    first: &mut C,
-    second: &mut C,
-) -> KnownCall {
+// The call of a row, by two challengers in the state in which it is made.
+fn known_call<C: Asked>(alloc: Global, row: Row, first: &mut C, second: &mut C) -> KnownCall {
     KnownCall {
         row,
         said: first.answer(alloc, &row),

@@ -12,7 +12,7 @@ use std::cell::Cell;
 use std::marker::PhantomData;
 use test_byte_challengers::{Copies, Double, Seen};
 use test_heaps::{Ending, Growing, Rest, is_refused_in_turn};
-use transcript_bytes::{ChallengerError, Sha256Hasher};
+use transcript_bytes::Sha256Hasher;
 use transcript_elements::{BinaryChallenger, ByteLevel, Call, Reply, run_calls};
 
 // The call of a row.
@@ -83,16 +83,16 @@ fn ending_of_list<F: ByteLevel>(heap: &LocalHeap, calls: &[Call<F>], rest: Rest<
 {
     let mut challenger: InHeap<'_, F> = BinaryChallenger::from_hasher(Vec::new(heap), Sha256Hasher);
     let mut replies = Vec::new(heap);
-    let answer = run_calls(&mut challenger, calls, &mut replies);
+    let is_granted = run_calls(&mut challenger, calls, &mut replies).is_ok();
     drop(rest);
     let are_right = begin(replies.as_slice(), &CALLS, false);
-    match answer {
-        Ok(()) => Ending::of(true, are_right && replies.len() == calls.len()),
-        Err(error) => Ending::of(false, are_right && error == ChallengerError::Memory),
-    }
+    Ending::of(
+        is_granted,
+        are_right && (!is_granted || replies.len() == calls.len()),
+    )
 }
 
-// What is refused is the reserve or a call. That the challenger then has failed is a clause of `run_calls`.
+// What is refused is the reserve or a call. That the challenger has then failed, and the error is `Memory`, are clauses of `run_calls`.
 impl<F: ByteLevel> Growing for List<F> {
     fn run<'a>(&self, heap: &'a LocalHeap, rest: Rest<'a>) -> Result<Ending, AllocError> {
         let calls = calls_of_rows::<F>(self.alloc, &CALLS[..self.len.min(257)])?;
@@ -132,13 +132,11 @@ fn stops_there<F: ByteLevel>(alloc: Global, calls: &[Call<F>], made: usize, gran
     let double = Double::new(&seen, 0, granted, Copies::RefusingAfter(u32::MAX));
     let mut challenger: BinaryChallenger<F, Double<'_>> = BinaryChallenger::new(double);
     let mut replies = Vec::new(alloc);
-    let answer = run_calls(&mut challenger, calls, &mut replies);
-    let ends = if made < calls.len() {
-        answer == Err(ChallengerError::Memory) && only_fails(alloc, &mut challenger, &EVERY_CALL)
-    } else {
-        answer == Ok(())
-    };
-    ends && replies.len() == made && begin(replies.as_slice(), &CALLS, true)
+    let is_granted = run_calls(&mut challenger, calls, &mut replies).is_ok();
+    is_granted == (made == calls.len())
+        && replies.len() == made
+        && begin(replies.as_slice(), &CALLS, true)
+        && (is_granted || only_fails(alloc, &mut challenger, &EVERY_CALL))
 }
 
 /// Whether the first 40 calls stop where the byte call after so many is refused.

@@ -7,8 +7,8 @@ use super::lists::{list_is_refused, stops_after};
 use super::partners::{PARTNERS_OF_16, PARTNERS_OF_32, Partner, is_answered};
 use super::scripts;
 use super::seeds::{bytes_are, seed_is, too_few_bytes_are_refused};
-use super::vectors::vectors_are_taken_at;
-use field_element::{Coefficients, CubicKernel, Element};
+use super::vectors::vectors_are_taken;
+use field_element::{Element, Poly64, Poly192};
 use std::alloc::Global;
 use transcript_elements::{ShortWord, TranscriptField, TranscriptKernel, TypeTag};
 use word_polynomial::Poly64Kernel;
@@ -248,5 +248,5 @@ fn lists_of_calls_are_run(rt: HostRuntime) {
 
 #[test]
 fn vectors_go_by_coefficients(rt: HostRuntime) {
-    assert!(rt; vectors_are_taken_at::<Coefficients, CubicKernel, u64, Poly64Kernel>(rt.alloc()));
+    assert!(rt; vectors_are_taken::<Poly64, Poly192>(rt.alloc()));
 }

@@ -1,24 +1,19 @@
 // Elements of extensions in challengers, coefficient by coefficient, and values that are sampled into a vector.
 use super::asked::{
-    Asked, EVERY_CALL, Row, Said, are, error_said, follows, hashed, number_of, observed_said,
-    only_fails, repeated,
+    Asked, EVERY_CALL, Row, Said, are, error_said, number_of, observed_said, only_fails,
 };
-use super::heaps::{InHeap, KnownCall, ending_of, known_call};
-use field_base::Stored;
-use field_element::Element;
-use field_space::{BasedVectorSpace, SpaceOver};
+use super::heaps::{InHeap, KnownCall, ending_of};
+use field_space::BasedVectorSpace;
 use linked_list_allocator::LocalHeap;
 use std::alloc::{AllocError, Global};
 use std::marker::PhantomData;
 use test_heaps::{Ending, Growing, Rest, is_refused_in_turn};
 use transcript_bytes::{ByteChallenger, ChallengerError, Sha256Hasher};
-use transcript_elements::{
-    BinaryChallenger, ByteLevel, CanSample, FieldChallenger, ShortWord, TranscriptKernel,
-};
+use transcript_elements::{BinaryChallenger, ByteLevel, CanSample, FieldChallenger};
 
 /// A challenger of a field that is asked for elements of an extension. To the rows of `asked` come 20, which samples an element of
 /// the extension by `sample` and returns the coefficient in the place of the bits, 21, which does so by `sample_algebra_element`, and
-/// 22 and 23, which sample an element and observe it, once and twice in one slice.
+/// 22, which samples an element and observes it.
 #[derive(Drop)]
 struct Extended<F, E, Inner: ByteChallenger> {
     challenger: BinaryChallenger<F, Inner>,
@@ -26,7 +21,7 @@ struct Extended<F, E, Inner: ByteChallenger> {
 }
 
 // Every call of elements of an extension.
-static VECTOR_CALLS: [Row; 4] = [[20, 0, 0, 0], [21, 0, 0, 0], [22, 0, 0, 0], [23, 0, 0, 0]];
+static VECTOR_CALLS: [Row; 3] = [[20, 0, 0, 0], [21, 0, 0, 0], [22, 0, 0, 0]];
 
 // The words of the digest of no byte (FIPS 180-4), the last one first.
 static OF_NO_BYTE: [u128; 4] = [
@@ -36,21 +31,24 @@ static OF_NO_BYTE: [u128; 4] = [
     0xe3b0_c442_98fc_1c14,
 ];
 
-// Calls over SHA-256 from an empty initial state. An element has three coefficients, and is sampled from the digest of no byte. That
-// digest is hashed with the words that are observed, by Python's hashlib.
-static SCRIPTS: [&[Row]; 5] = [
-    &[
-        [20, 0, 0, 0xa495_991b_7852_b855],
-        [1, 0, 0, 0xe3b0_c442_98fc_1c14],
-    ],
-    &[[20, 1, 0, 0x27ae_41e4_649b_934c]],
-    &[
-        [21, 2, 0, 0x9afb_f4c8_996f_b924],
-        [1, 0, 0, 0xe3b0_c442_98fc_1c14],
-    ],
-    &[[22, 0, 0, 0], [1, 0, 0, 0x7be7_d15a_d360_3483]],
-    &[[23, 0, 0, 0], [1, 0, 0, 0x9e_2474_ea3a_2bba]],
+// Calls of an extension of three coefficients, with what they return, and what is sampled after each. An element is sampled from the
+// digest of no byte. Where that element is observed, its three words are hashed behind that digest, by Python's hashlib.
+static KNOWN_ROWS: [(Row, u128); 4] = [
+    ([20, 0, 0, 0xa495_991b_7852_b855], 0xe3b0_c442_98fc_1c14),
+    ([20, 1, 0, 0x27ae_41e4_649b_934c], 0xe3b0_c442_98fc_1c14),
+    ([21, 2, 0, 0x9afb_f4c8_996f_b924], 0xe3b0_c442_98fc_1c14),
+    ([22, 0, 0, 0], 0x7be7_d15a_d360_3483),
 ];
+
+fn known_call(known: &(Row, u128)) -> KnownCall {
+    let (row, after) = *known;
+    KnownCall {
+        row,
+        said: Said::Number(row[3]),
+        after: Said::Number(after),
+        before: Said::Number(OF_NO_BYTE[0]),
+    }
+}
 
 // The coefficient of an element, which has three.
 fn coefficient<F: ByteLevel, E: BasedVectorSpace<F>>(element: &E, place: usize) -> u128 {
@@ -59,20 +57,6 @@ fn coefficient<F: ByteLevel, E: BasedVectorSpace<F>>(element: &E, place: usize) 
     } else {
         0
     }
-}
-
-fn observe_twice<F, E, Inner>(
-    alloc: Global,
-    challenger: &mut BinaryChallenger<F, Inner>,
-    element: E,
-) -> Result<(), ChallengerError>
-where
-    F: ByteLevel + BasedVectorSpace<F>,
-    E: BasedVectorSpace<F>,
-    Inner: ByteChallenger,
-{
-    let elements = repeated(alloc, element, 2);
-    challenger.observe_algebra_slice(elements.as_slice())
 }
 
 impl<F, E, Inner> Asked for Extended<F, E, Inner>
@@ -93,9 +77,6 @@ where
         match sampled {
             Ok(element) if row[0] == 22 => {
                 observed_said(self.challenger.observe_algebra_element(element))
-            }
-            Ok(element) if row[0] == 23 => {
-                observed_said(observe_twice(alloc, &mut self.challenger, element))
             }
             Ok(element) => {
                 let place = (row[1] % 3) as usize;
@@ -134,33 +115,6 @@ where
         let mut asked = asked_for::<F, E, _>(challenger);
         Ok(ending_of(self.alloc, &mut asked, &self.known, &VECTOR_CALLS, rest))
     }
-}
-
-// Whether the script is followed.
-fn is_followed<F, E>(alloc: Global, script: &[Row]) -> bool
-where
-    F: ByteLevel + BasedVectorSpace<F>,
-    E: BasedVectorSpace<F>,
-{
-    let mut challenger = asked_for::<F, E, _>(hashed::<F>(Vec::new(alloc)));
-    follows(alloc, &mut challenger, script)
-}
-
-// Whether the call of a row is refused in turn.
-fn is_refused<F, E>(alloc: Global, row: Row) -> bool
-where
-    F: ByteLevel + BasedVectorSpace<F>,
-    E: BasedVectorSpace<F>,
-{
-    let mut first = asked_for::<F, E, _>(hashed::<F>(Vec::new(alloc)));
-    let mut second = asked_for::<F, E, _>(hashed::<F>(Vec::new(alloc)));
-    let call: VectorCall<F, E> = VectorCall {
-        alloc,
-        known: known_call(alloc, row, &mut first, &mut second),
-        field: PhantomData,
-        extension: PhantomData,
-    };
-    is_refused_in_turn(alloc, &call, true)
 }
 
 // Four samples from an empty initial state, whose vector and whose challenger are in one heap.
@@ -204,32 +158,22 @@ fn samples_are_refused<F: ByteLevel + BasedVectorSpace<F>>(alloc: Global) -> boo
     is_refused_in_turn(alloc, &samples, true)
 }
 
-// Whether the scripts of an extension of a field of 64 bits are followed, and each call is refused in turn, as four samples are.
-fn vectors_are_taken<F, E>(alloc: Global) -> bool
+/// Whether each call of an extension of three coefficients over a field of 64 bits is refused in turn, and four samples are.
+pub(crate) fn vectors_are_taken<F, E>(alloc: Global) -> bool
 where
     F: ByteLevel + BasedVectorSpace<F>,
     E: BasedVectorSpace<F>,
 {
-    for script in &SCRIPTS {
-        if !is_followed::<F, E>(alloc, script) {
-            return false;
-        }
-    }
-    for row in &VECTOR_CALLS {
-        if !is_refused::<F, E>(alloc, *row) {
+    for known in &KNOWN_ROWS {
+        let call: VectorCall<F, E> = VectorCall {
+            alloc,
+            known: known_call(known),
+            field: PhantomData,
+            extension: PhantomData,
+        };
+        if !is_refused_in_turn(alloc, &call, true) {
             return false;
         }
     }
     samples_are_refused::<F>(alloc)
-}
-
-/// The same at a kernel: a space of three coefficients over a field of 64 bits.
-pub(crate) fn vectors_are_taken_at<R, K, S, J>(alloc: Global) -> bool
-where
-    R: Stored,
-    K: SpaceOver<R, S, J>,
-    S: ShortWord,
-    J: TranscriptKernel<S>,
-{
-    vectors_are_taken::<Element<S, J>, Element<R, K>>(alloc)
 }
