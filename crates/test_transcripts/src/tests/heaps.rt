@@ -1,6 +1,8 @@
 // Each growth refused in turn, and success where there is memory: single calls of challengers whose bytes are in a heap, seeds, and
-// encoded elements, at each length from 0 to 257. What is observed of a seed, and what is appended, the contracts say.
-use super::asked::{Asked, EVERY_CALL, Hashed, Row, Said, element, hashed, only_fails, repeated};
+// encoded elements, at each length from 0 to 257. What is appended where there is memory the contracts say.
+use super::asked::{
+    Asked, EVERY_CALL, Hashed, Row, Said, element, hashed, number_of, only_fails, repeated,
+};
 use linked_list_allocator::LocalHeap;
 use std::alloc::{AllocError, Allocator, Global};
 use std::marker::PhantomData;
@@ -111,17 +113,52 @@ struct Seed<F> {
     field: PhantomData<F>,
 }
 
-// A recorder that is refused memory has failed for good.
+// The byte at a place of what is observed of a seed: its length in eight bytes, zeros to whole elements, the seed, and zeros.
+fn wanted_byte(seed: &[u8], header: usize, place: usize) -> u8 {
+    if place < 8 {
+        let length = (seed.len() as u64).to_le_bytes();
+        return length[place];
+    }
+    if place < header || place - header >= seed.len() {
+        return 0;
+    }
+    seed[place - header]
+}
+
+// Whether the elements are all that are observed of the seed, or a beginning of them.
+fn are_of_seed<F: TranscriptField>(elements: &[F], seed: &[u8], is_whole: bool) -> bool {
+    let header = F::NUM_BYTES.max(8);
+    let mut place = 0usize;
+    for index in 0..elements.len() {
+        let bytes = number_of(elements[index]).to_le_bytes();
+        for offset in 0..F::NUM_BYTES.min(16) {
+            if bytes[offset] != wanted_byte(seed, header, place) {
+                return false;
+            }
+            place = place.saturating_add(1);
+        }
+    }
+    let wanted = header.saturating_add(seed.len());
+    if is_whole {
+        place >= wanted && place - wanted < F::NUM_BYTES
+    } else {
+        place < wanted
+    }
+}
+
+// A recorder keeps all of the seed, or a beginning of it, and then fails for good.
 impl<F: TranscriptField> Growing for Seed<F> {
     fn run<'a>(&self, heap: &'a LocalHeap, rest: Rest<'a>) -> Result<Ending, AllocError> {
+        let seed = &BYTES[..self.len.min(257)];
         let mut recorder: Recorder<F, &LocalHeap> = Recorder::new(heap);
-        let answer = F::observe_seed(&mut recorder, &BYTES[..self.len.min(257)]);
+        let answer = F::observe_seed(&mut recorder, seed);
         drop(rest);
+        let is_kept = are_of_seed(recorder.items(), seed, answer.is_ok());
         Ok(match answer {
-            Ok(()) => Ending::Granted,
+            Ok(()) => Ending::of(true, is_kept),
             Err(ChallengerError::Memory) => {
                 let after = F::observe_seed(&mut recorder, &[]);
-                Ending::of(false, after == Err(ChallengerError::Failed))
+                Ending::of(false, is_kept && after == Err(ChallengerError::Failed))
             }
             Err(ChallengerError::Failed) => Ending::Wrong,
         })
@@ -140,7 +177,8 @@ impl<F: TranscriptField> Growing for Encoding<F> {
         let mut out = some_bytes(heap, self.len)?;
         let is_granted = element::<F>(5).encode(&mut out).is_ok();
         drop(rest);
-        Ok(Ending::of(is_granted, (out.len() > self.len) == is_granted))
+        let is_as_before = out.as_slice() == &BYTES[..self.len.min(257)];
+        Ok(Ending::of(is_granted, is_as_before != is_granted))
     }
 }
 

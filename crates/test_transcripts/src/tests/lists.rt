@@ -12,7 +12,7 @@ use std::cell::Cell;
 use std::marker::PhantomData;
 use test_byte_challengers::{Copies, Double, Seen};
 use test_heaps::{Ending, Growing, Rest, is_refused_in_turn};
-use transcript_bytes::Sha256Hasher;
+use transcript_bytes::{ChallengerError, Sha256Hasher};
 use transcript_elements::{BinaryChallenger, ByteLevel, Call, Reply, run_calls};
 
 // The call of a row.
@@ -77,26 +77,35 @@ struct List<F> {
     field: PhantomData<F>,
 }
 
-// Whether the list of calls is granted in a heap, with the replies of `CALLS`.
-fn ending_of_list<F: ByteLevel>(heap: &LocalHeap, calls: &[Call<F>], rest: Rest<'_>) -> Ending
+// Whether the list of calls is granted in a heap, with the replies of `CALLS`, or fails for good behind some of them.
+fn ending_of_list<F: ByteLevel>(
+    alloc: Global,
+    heap: &LocalHeap,
+    calls: &[Call<F>],
+    rest: Rest<'_>,
+) -> Ending
     requires { All MayCall calls.now }
 {
     let mut challenger: InHeap<'_, F> = BinaryChallenger::from_hasher(Vec::new(heap), Sha256Hasher);
     let mut replies = Vec::new(heap);
-    let is_granted = run_calls(&mut challenger, calls, &mut replies).is_ok();
+    let answer = run_calls(&mut challenger, calls, &mut replies);
     drop(rest);
     let are_right = begin(replies.as_slice(), &CALLS, false);
-    Ending::of(
-        is_granted,
-        are_right && (!is_granted || replies.len() == calls.len()),
-    )
+    match answer {
+        Ok(()) => Ending::of(true, are_right && replies.len() == calls.len()),
+        Err(error) => {
+            let is_memory = error == ChallengerError::Memory;
+            let fails = only_fails(alloc, &mut challenger, &EVERY_CALL);
+            Ending::of(false, are_right && is_memory && fails)
+        }
+    }
 }
 
-// What is refused is the reserve or a call. That the challenger has then failed, and the error is `Memory`, are clauses of `run_calls`.
+// What is refused is the reserve or a call.
 impl<F: ByteLevel> Growing for List<F> {
     fn run<'a>(&self, heap: &'a LocalHeap, rest: Rest<'a>) -> Result<Ending, AllocError> {
         let calls = calls_of_rows::<F>(self.alloc, &CALLS[..self.len.min(257)])?;
-        Ok(ending_of_list(heap, calls.as_slice(), rest))
+        Ok(ending_of_list(self.alloc, heap, calls.as_slice(), rest))
     }
 }
 

@@ -1,3 +1,4 @@
+mod algebras;
 mod coefficients;
 mod extension;
 mod generator;

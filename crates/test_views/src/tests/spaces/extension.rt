@@ -1,5 +1,4 @@
-// Extensions of a field: the text that names one, with memory and in a heap without room, and Frobenius's map. `algebra_id` has one
-// body for every algebra, and each text a contract says.
+// Extensions of a field: the text that names one, with memory and in a heap without room, and Frobenius's map.
 use field_base::traits::Field;
 use field_space::{AlgebraIdentity, ExtensionField, HasFrobenius};
 use linked_list_allocator::LocalHeap;
