@@ -1,5 +1,5 @@
 -- Lists of calls of a challenger that are made one after the other: the state that they leave, and their sayings.
-use Rattle.std.proofs.Common.{◌≡◌, ◌<◌, ◌+◌, ℕ, Err, Ok, OnErr, Result, List, [], ◌∷◌, ◌++◌, add-one, ap, ap₂, drop, get_or, length, refl, sym, take, ◌∙◌}
+use Rattle.std.proofs.Common.{◌≡◌, ◌<◌, ◌≤◌, ◌+◌, ◌-◌, ℕ, Err, Ok, OnErr, Result, List, [], ◌∷◌, ◌++◌, add-one, ap, ap₂, arith, drop, get_or, length, refl, sym, take, ◌∙◌}
 use Rattle.std.proofs.Math.Seq.{take-suc}
 use Rattle.std.proofs.lemmas.Grind.{flat_map-append}
 use Rattle.std.proofs.lemmas.List.{append-nil, append_assoc, map-append, take-append-drop}
@@ -80,6 +80,15 @@ module _ {F S : Type 0} (size width : ℕ) (repr : F → ℕ) (transitions : Tra
         ∙ sym (sayings-append (take count calls) (call ∷ []) old)
         ∙ ap (λ list. call_sayings size width repr transitions list old) (sym (one_more_call calls count call default inside is)),
   )
+
+-- with room for the replies to the other calls there is room for one
+pub has_room : {index count len capacity : ℕ} → index < count → len + (count - index) ≤ capacity → len < capacity
+has_room less room = omega arith
+
+-- with one reply pushed there is room for those to the calls after it
+pub room_left : {index count next capacity same : ℕ} (len : ℕ) → index < count → next ≡ len + 1 → same ≡ capacity
+    → len + (count - index) ≤ capacity → next + (count - (index + 1)) ≤ same
+room_left len less is kept room = omega arith
 
 -- what holds anyway holds if the result is an error
 pub on_err : {T X P : Type 0} (result : Result T X) → P → OnErr result P

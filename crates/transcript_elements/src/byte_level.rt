@@ -36,7 +36,7 @@ pub trait ByteLevel: TowerLevel + RawDataSerializable {
         requires { length bytes.now ≤ Self.NUM_BYTES }
         ensures { Self.repr result ≡ number_of_bytes bytes.now % 2 ^ Self.width }
     {
-        Self::from_repr(Self::Repr::of_u128(number_of_low_first(bytes)))
+        of_number(number_of_low_first(bytes))
     }
 
     /// The element with these bytes, at most `NUM_BYTES`, the highest first. Bits above the element are dropped.
@@ -44,8 +44,15 @@ pub trait ByteLevel: TowerLevel + RawDataSerializable {
         requires { length bytes.now ≤ Self.NUM_BYTES }
         ensures { Self.repr result ≡ number_of_bytes (reverse bytes.now) % 2 ^ Self.width }
     {
-        Self::from_repr(Self::Repr::of_u128(number_of_high_first(bytes)))
+        of_number(number_of_high_first(bytes))
     }
+}
+
+// The element of a number. Bits above the element are dropped.
+pub(crate) fn of_number<F: TowerLevel>(number: u128) -> F
+    ensures { F.repr result ≡ number % 2 ^ F.width }
+{
+    F::from_repr(F::Repr::of_u128(number))
 }
 
 /// A word of at most 16 bytes, as every integer of Rust is.

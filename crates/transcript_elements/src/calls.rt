@@ -68,7 +68,7 @@ pub fn run_calls<F: ByteLevel, Inner: ByteChallenger, A: Allocator>(
     }
     'calls: for index in 0..calls.len() {
         let reply = challenger.reply_to(&calls[index])?;
-        replies.push(reply).unwrap();
+        replies.push_reserved(reply);
     }
     Ok(())
 }

@@ -11,8 +11,8 @@ ghost use Rattle.transcript_elements.specs.StateLemmas.{same_value};
 
 mod numbers;
 
+use crate::CanObserve;
 use crate::challenger::BinaryChallenger;
-use crate::{ByteLevel, CanObserve};
 use std::alloc::{Allocator, Global};
 use std::marker::PhantomData;
 use transcript_bytes::{ByteChallenger, ChallengerError, Guarded};
@@ -175,9 +175,8 @@ fn observe_digests<D: Digest, C: ByteChallenger>(
     Ok(())
 }
 
-impl<G, W: DigestWord, const N: usize, F: ByteLevel, Inner: ByteChallenger> CanObserve<
-    Hash<G, W, N>,
-> for BinaryChallenger<F, Inner> {
+impl<G, W: DigestWord, const N: usize, F, Inner: ByteChallenger> CanObserve<Hash<G, W, N>>
+    for BinaryChallenger<F, Inner> {
     ghost observes = { λ old value new. state_of new ≡ state_after (observing (W.bytes (words_of value))) old };
 
     ghost may_leave = { λ _ _. Unit {0} };
@@ -195,9 +194,8 @@ impl<G, W: DigestWord, const N: usize, F: ByteLevel, Inner: ByteChallenger> CanO
     }
 }
 
-impl<'a, G, D: Digest, A: Allocator, F: ByteLevel, Inner: ByteChallenger> CanObserve<
-    &'a MerkleCap<G, D, A>,
-> for BinaryChallenger<F, Inner> {
+impl<'a, G, D: Digest, A: Allocator, F, Inner: ByteChallenger> CanObserve<&'a MerkleCap<G, D, A>>
+    for BinaryChallenger<F, Inner> {
     ghost observes = { λ old cap new. state_of new ≡ state_after (observing (flat_map D.bytes (roots_of cap.now))) old };
 
     ghost may_leave = { λ _ _. Unit {0} };
@@ -215,7 +213,7 @@ impl<'a, G, D: Digest, A: Allocator, F: ByteLevel, Inner: ByteChallenger> CanObs
     }
 }
 
-impl<G, D: Digest, A: Allocator, F: ByteLevel, Inner: ByteChallenger> CanObserve<MerkleCap<G, D, A>>
+impl<G, D: Digest, A: Allocator, F, Inner: ByteChallenger> CanObserve<MerkleCap<G, D, A>>
     for BinaryChallenger<F, Inner> {
     ghost observes = { λ old cap new. state_of new ≡ state_after (observing (flat_map D.bytes (roots_of cap))) old };
 

@@ -1,17 +1,19 @@
 // Elements that are observed and sampled, and bits that are sampled.
-ghost use Rattle.std.specs.Prelude.{◌≡◌, ◌<◌, ℕ, false, true, IfOk, OnErr, OnOk};
-ghost use Rattle.transcript_bytes.specs.ByteCalls.{after, observing, sampling};
+ghost use Rattle.std.specs.Prelude.{◌≡◌, ◌<◌, ◌≤◌, ℕ, false, true, IfOk, OnErr, OnOk};
+ghost use Rattle.transcript_bytes.specs.ByteCalls.{after, observing, sampling, squeezed};
+ghost use Rattle.transcript_bytes.specs.Guarded.{guarded_after, guarded_failed, guarded_refused, guarded_state, RunsPartly};
 ghost use Rattle.transcript_bytes.specs.GuardedAnswers.{GuardedAnswer};
-ghost use Rattle.field_bytes.specs.Bytes.{low_bytes};
+ghost use Rattle.field_bytes.specs.Bytes.{low_bytes, number_of_bytes};
 ghost use Rattle.transcript_elements.specs.Challengers.{challenger_failed, challenger_refused, state_after, state_of, StopsWithin};
 ghost use Rattle.transcript_elements.specs.Sampled.{SamplesBits, squeezed_element};
 ghost use Rattle.transcript_elements.specs.StateLemmas.{same_bits, same_value};
 ghost use Rattle.transcript_elements.specs.States.{GivesByState};
 
-use crate::byte_level::MOST_BYTES;
+use crate::byte_level::{MOST_BYTES, of_number};
 use crate::challenger::BinaryChallenger;
 use crate::{ByteLevel, CanObserve, Transcript};
-use transcript_bytes::{ByteChallenger, ChallengerError};
+use field_bytes::number_of_low_first;
+use transcript_bytes::{ByteChallenger, ChallengerError, Guarded};
 
 impl<F: ByteLevel, Inner: ByteChallenger> CanObserve<F> for BinaryChallenger<F, Inner> {
     ghost observes = { λ old value new. state_of new ≡ state_after (observing (low_bytes F.NUM_BYTES (F.repr value))) old };
@@ -51,12 +53,12 @@ impl<F: ByteLevel, Inner: ByteChallenger> BinaryChallenger<F, Inner> {
         ensures kept { challenger_failed self.old ≡ true → self.new ≡ self.old }
         ensures err { challenger_failed self.old ≡ false → OnErr result (StopsWithin (sampling F.NUM_BYTES) self.old self.new) }
     {
-        let mut bytes = [0; MOST_BYTES];
-        let read = &mut bytes[..F::NUM_BYTES];
-        self.guarded.sample_bytes(read)?;
-        Ok(F::of_low_first(read))
+        let number = sample_number(&mut self.guarded, F::NUM_BYTES)?;
+        Ok(of_number(number))
     }
+}
 
+impl<F, Inner: ByteChallenger> BinaryChallenger<F, Inner> {
     // Samples eight bytes, for 0 bits too, and takes the low bits of their word.
     pub(crate) fn sample_low_bits(&mut self, bits: usize) -> Result<usize, ChallengerError>
         requires { bits < 64 }
@@ -68,6 +70,24 @@ impl<F: ByteLevel, Inner: ByteChallenger> BinaryChallenger<F, Inner> {
         let word = self.guarded.sample_u64()?;
         Ok((word % (1 << bits)) as usize)
     }
+}
+
+// Samples so many bytes, at most 16, and reads them as a number, the lowest first.
+fn sample_number<C: ByteChallenger>(
+    guarded: &mut Guarded<C>,
+    size: usize,
+) -> Result<u128, ChallengerError>
+    requires { size ≤ 16 }
+    ensures state { OnOk result (guarded_state guarded.new ≡ guarded_after (sampling size) guarded.old) }
+    ensures number { IfOk result (λ number. number ≡ number_of_bytes (squeezed C.transitions (sampling size) (guarded_state guarded.old))) }
+    ensures answer { GuardedAnswer (guarded_failed guarded.old) (guarded_failed guarded.new) (guarded_refused guarded.new) result }
+    ensures kept { guarded_failed guarded.old ≡ true → guarded.new ≡ guarded.old }
+    ensures err { guarded_failed guarded.old ≡ false → OnErr result (RunsPartly (sampling size) guarded.old guarded.new) }
+{
+    let mut bytes = [0; MOST_BYTES];
+    let read = &mut bytes[..size];
+    guarded.sample_bytes(read)?;
+    Ok(number_of_low_first(read))
 }
 
 /// A transcript from which bits are sampled, as a number of the type `T`. The number and the state after it depend on the state
@@ -88,7 +108,7 @@ pub trait CanSampleBits<T>: Transcript {
         (λ (old : Self) (number : T) (new : Self). gives_bits old bits number new) };
 }
 
-impl<F: ByteLevel, Inner: ByteChallenger> CanSampleBits<usize> for BinaryChallenger<F, Inner> {
+impl<F, Inner: ByteChallenger> CanSampleBits<usize> for BinaryChallenger<F, Inner> {
     // Eight bytes are sampled, for 0 bits too, and the number is the low bits of their word.
     ghost gives_bits = { λ old bits number new. SamplesBits Inner.transitions (state_of old) bits number (state_of new) };
 
@@ -115,4 +135,4 @@ pub trait CanSampleUniformBits<F>: CanSampleBits<usize> {
     }
 }
 
-impl<F: ByteLevel, Inner: ByteChallenger> CanSampleUniformBits<F> for BinaryChallenger<F, Inner> {}
+impl<F, Inner: ByteChallenger> CanSampleUniformBits<F> for BinaryChallenger<F, Inner> {}

@@ -2,7 +2,7 @@ use Rattle.std.proofs.Common.{◌≡◌, ◌++◌, ◌∷◌, [], ◌∙◌, ◌
 use Rattle.transcript_bytes.specs.ByteCalls.{IsPartlyRun}
 use Rattle.transcript_elements.specs.Calls.{byte_calls, call_sayings, AppendsSayings, StopsAtCall}
 use Rattle.transcript_elements.specs.Challengers.{inner_of, state_of}
-use Rattle.transcript_elements.proofs.CallLists.{call_apart, called_next, nothing_called, nothing_replied, on_err, replied_next}
+use Rattle.transcript_elements.proofs.CallLists.{call_apart, called_next, has_room, nothing_called, nothing_replied, on_err, replied_next, room_left}
 use Rattle.transcript_elements.proofs.calls.run_calls.Goals as goal
 
 pub calls-init : goal.calls-init
@@ -29,7 +29,7 @@ returns-in_err-reply-clause-err g c goes_on =
     IsPartlyRun g.Inner.ByteChallenger.transitions g.Inner.ByteChallenger.state g.Inner.ByteChallenger.may_leave
     (byte_calls size g.F.Represented.repr call) state (inner_of c.reply_to.new.self))
     c.calls.invariant.run (c.in_err-reply.ensures.err c.calls.invariant.goes_on) in
-    let same : c.reserve.new.self.items ≡ c.args.replies.now.items = search rules in
+    let same : c.reserve.new.self.items ≡ c.args.replies.now.items = c.reserve.ensures.items in
     let replied =
     subst
     (λ items. AppendsSayings g.F.Represented.repr
@@ -47,13 +47,16 @@ returns-in_err-reply-clause-err g c goes_on =
     ) in
     on_err c.from_residual.result (inr stops)
 
+pub push_reserved-requires : goal.push_reserved-requires
+push_reserved-requires g c = has_room c.calls-test.true c.calls.invariant.room
+
 pub calls-preserved : goal.calls-preserved
 calls-preserved g c =
     let call = c.index-calls-index.result in
     let old = state_of c.args.challenger.now in
     let now = state_of c.calls.challenger in
     let next = state_of c.reply_to.new.self in
-    let pushed : c.calls.replies.items ++ c.in_ok-reply.reply ∷ [] ≡ c.push.new.self.items = search (rules, c.calls.invariant.room) in
+    let pushed : c.calls.replies.items ++ c.in_ok-reply.reply ∷ [] ≡ c.push_reserved.new.self.items = sym c.push_reserved.ensures.items in
     record {
       goes_on = c.in_ok-reply.ensures.answer.goes_on;
       run =
@@ -69,5 +72,5 @@ calls-preserved g c =
           c.args.calls.now c.calls.index call call c.in_ok-reply.reply old now c.reserve.new.self.items
           c.calls.replies.items c.calls-test.true c.index-calls-index.is c.calls.invariant.run c.in_ok-reply.ensures.reply
           c.calls.invariant.replied);
-      room = search (rules, c.calls.invariant.room, c.calls-test.true);
+      room = room_left _ c.calls-test.true c.push_reserved.ensures.len c.push_reserved.ensures.capacity c.calls.invariant.room;
     }

@@ -1,7 +1,8 @@
 -- The loop over the elements of the bytes.
-use Rattle.std.proofs.Common.{◌≡◌, ◌<◌, ◌%◌, ◌^◌, ◌∙◌, ℕ, ap, arith, get_or, length, min, rules, subst, sym}
+use Rattle.std.proofs.Common.{◌≡◌, ◌<◌, ◌%◌, ◌^◌, ◌∙◌, ℕ, ap, arith, get_or, length, min, subst, sym}
 use Rattle.std.proofs.lemmas.Bool.{false≢true}
 use Rattle.field_bytes.specs.Bytes.{number_of_bytes}
+use Rattle.transcript_elements.proofs.CallLists.{on_err}
 use Rattle.transcript_elements.proofs.SeedLemmas.{absorbed_all, absorbed_more, absorbed_none, absorbed_part, Absorbed, fits-drop}
 use Rattle.transcript_elements.proofs.seeds.observe_padded.Goals as goal
 
@@ -10,10 +11,10 @@ elements-init g c = record { goes_on = c.requires; fits = λ k. omega (arith, c.
 
 pub returns-in_err-observe-clause-err : goal.returns-in_err-observe-clause-err
 returns-in_err-observe-clause-err g c =
-    let part = absorbed_part g.F.RawDataSerializable.NUM_BYTES g.F.Represented.repr g.C.CanObserve.observes c.args.bytes.now
+    on_err c.from_residual.result
+    (absorbed_part g.F.RawDataSerializable.NUM_BYTES g.F.Represented.repr g.C.CanObserve.observes c.args.bytes.now
     c.args.challenger.now g.C.CanObserve.may_leave c.elements.rest.now c.elements.challenger
-    c.observe.new.self c.elements.invariant.seen c.elements-test.true c.in_err-observe.ensures.err in
-    search (rules, part)
+    c.observe.new.self c.elements.invariant.seen c.elements-test.true c.in_err-observe.ensures.err)
 
 pub elements-preserved : goal.elements-preserved
 elements-preserved g c =

@@ -1,4 +1,4 @@
-use Rattle.std.proofs.Common.{◌≡◌, ◌∙◌, ℕ, ap, arith, sym}
+use Rattle.std.proofs.Common.{◌≡◌, ◌∙◌, ℕ, ap, le_antisymm, sym}
 use Rattle.transcript_bytes.specs.ByteCalls.{observing}
 use Rattle.transcript_elements.specs.Challengers.{state_after, state_of}
 use Rattle.transcript_elements.specs.Sampled.{coefficient_bytes}
@@ -24,7 +24,7 @@ coefficients-preserved g c = record {
 pub returns-clause-ok : goal.returns-clause-ok
 returns-clause-ok g c =
     let all : c.coefficients.i ≡ g.E.BasedVectorSpace.DIMENSION =
-    omega (arith, c.coefficients-test.false, c.coefficients.auto.i-end, c.DIMENSION-i-end.ensures) in
+    le_antisymm c.coefficients.auto.i-end c.coefficients-test.false ∙ c.DIMENSION-i-end.ensures in
     c.coefficients.invariant.run
     ∙ ap (λ (k : ℕ). state_after
     (observing (coefficient_bytes g.F.RawDataSerializable.NUM_BYTES g.F.Represented.width k (g.E.Represented.repr c.args.element)))

@@ -1,5 +1,5 @@
-use Rattle.transcript_elements.proofs.LowBytes.{held}
+use Rattle.std.proofs.Common.{◌%◌, ◌^◌, ◌∙◌, ℕ, ap}
 use Rattle.transcript_elements.proofs.byte_level.ByteLevel.of_high_first.Goals as goal
 
 pub returns : goal.returns
-returns g c = held _ _ g.met.Self.TowerLevel.room_law c.from_repr.ensures c.of_u128.ensures c.number_of_high_first.ensures
+returns g c = c.of_number.ensures ∙ ap (λ (n : ℕ). n % 2 ^ g.Self.Represented.width) c.number_of_high_first.ensures

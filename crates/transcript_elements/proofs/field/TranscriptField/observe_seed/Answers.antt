@@ -1,6 +1,7 @@
 -- The length and the bytes of a seed, one after the other.
-use Rattle.std.proofs.Common.{◌∙◌, [], arith, length, refl, rules}
+use Rattle.std.proofs.Common.{◌∙◌, [], arith, length, refl}
 use Rattle.field_bytes.proofs.WordBytes.{eight_bytes}
+use Rattle.transcript_elements.proofs.CallLists.{on_err}
 use Rattle.transcript_elements.proofs.ListLemmas.{none_in_turn}
 use Rattle.transcript_elements.proofs.SeedLemmas.{neither_begins, on_err-with, on_ok-with, seed_is_long, seed_observed, seed_part_of_both, seed_part_of_first}
 use Rattle.transcript_elements.proofs.field.TranscriptField.observe_seed.Goals as goal
@@ -20,11 +21,10 @@ returns-then-failed-clause-apart g c other fits differ xs ys of_seed of_other =
 
 pub returns-in_err-observe_padded-clause-err : goal.returns-in_err-observe_padded-clause-err
 returns-in_err-observe_padded-clause-err g c =
-    let part =
-    seed_part_of_first g.Self.RawDataSerializable.NUM_BYTES g.Self.Represented.repr g.C.CanObserve.observes c.args.seed.now
+    on_err c.from_residual.result
+    (seed_part_of_first g.Self.RawDataSerializable.NUM_BYTES g.Self.Represented.repr g.C.CanObserve.observes c.args.seed.now
     c.args.challenger.now g.C.CanObserve.may_leave _ c.observe_padded.new.challenger
-    (c.to_le_bytes-header.ensures ∙ eight_bytes (length c.args.seed.now)) c.in_err-observe_padded.ensures.err in
-    search (rules, part)
+    (c.to_le_bytes-header.ensures ∙ eight_bytes (length c.args.seed.now)) c.in_err-observe_padded.ensures.err)
 
 pub returns-in_err-observe_padded-clause-apart : goal.returns-in_err-observe_padded-clause-apart
 returns-in_err-observe_padded-clause-apart g c other fits differ xs ys of_seed of_other =

@@ -1,4 +1,4 @@
-use Rattle.std.proofs.Common.{◌≡◌, ◌*◌, ◌∙◌, ℕ, ap, arith, sym}
+use Rattle.std.proofs.Common.{◌≡◌, ◌*◌, ◌∙◌, ℕ, ap, le_antisymm, sym}
 use Rattle.field_base.specs.Chunks.{chunks}
 use Rattle.transcript_bytes.specs.ByteCalls.{after, sampling}
 use Rattle.transcript_elements.specs.Challengers.{state_of}
@@ -35,7 +35,7 @@ returns-clause-ok g c =
     let width = g.F.Represented.width in
     let old = state_of c.args.self.now in
     let all : c.coefficients.i ≡ g.E.BasedVectorSpace.DIMENSION =
-    omega (arith, c.coefficients-test.false, c.coefficients.auto.i-end, c.DIMENSION-i-end.ensures) in (
+    le_antisymm c.coefficients.auto.i-end c.coefficients-test.false ∙ c.DIMENSION-i-end.ensures in (
       c.coefficients.invariant.seen.run
           ∙ ap (λ (k : ℕ). after g.Inner.ByteChallenger.transitions (sampling (size * k)) old) all,
       sym (ap (λ (k : ℕ). chunks width k (g.E.Represented.repr c.coefficients.element)) all)
