@@ -1,5 +1,5 @@
 -- Interleaved blocks of bits are interleaved lists of lanes.
-use Rattle.std.proofs.Common.{◌≡◌, ◌≢◌, ℕ, zero, suc, ◌+◌, ◌-◌, ◌*◌, ◌/◌, ◌%◌, ◌<◌, ◌≤◌, ◌==◌, ◌⊎◌, inl, inr, Bool, true, false, get_or, length, refl, sym, ap, ◌∙◌, lit<, arith}
+use Rattle.std.proofs.Common.{◌≡◌, ◌≢◌, ℕ, zero, suc, ◌+◌, ◌-◌, ◌*◌, ◌/◌, ◌%◌, ◌<◌, ◌≤◌, ◌==◌, ◌⊎◌, inl, inr, Bool, get_or, length, refl, sym, ap, ◌∙◌, lit<, arith}
 use Rattle.std.specs.Prelude.{if◌then◌else◌}
 use Rattle.std.specs.Int.{bit_at}
 use Rattle.std.proofs.lemmas.Bool.{cases_lt, eq-eqb, ne_eqb}
@@ -9,7 +9,6 @@ use Rattle.bits_rows.specs.ChunkLemmas.{chunks-get, chunks-length}
 use Rattle.bits_rows.specs.Parts.{HasFirstBlocks, HasSecondBlocks}
 use Rattle.bits_rows.proofs.BlockLemmas.{even_has_room}
 use Rattle.bits_rows.proofs.BlockPlaces.{odd_is_above}
-use Rattle.packed_lanes.specs.Lanes.{AreInterleaved}
 use Rattle.bits_packed.specs.Lanes.{AreInterleavedLanes, bits_of}
 use Rattle.bits_packed.proofs.LaneLists.{lane-as_part}
 

@@ -5,7 +5,7 @@ use Rattle.std.proofs.lemmas.Bool.{cases_eq, cases_lt}
 use Rattle.std.proofs.lemmas.List.{get_or-replicate, length-replicate, length-set}
 use Rattle.std.proofs.lemmas.Nat.{div-add-mod', div-mul-add, div_below, mod-mul-add, mul-le, pow-add, pow_pos}
 use Rattle.std.proofs.Math.Nat.{add-mul, div-one, div-eq_of_lt, mul_assoc}
-use native.Mathlib.Nat.{mod-lt, mod-eq_of_lt}
+use native.Mathlib.Nat.{mod-lt, mod-eq_of_lt, zero-mul}
 use Rattle.bits_rows.specs.Parts.{IsBlockSize}
 use Rattle.bits_rows.proofs.BlockPlaces.{mixed}
 use Rattle.bits_packed.specs.Lanes.{AreTransposed}
@@ -173,6 +173,11 @@ module _ (s t count : ℕ) (some : 0 < s) (is : t ≡ count * s) where
     done = λ r less below. absurd (omega arith);
     left = λ r less more. so_far r less;
   }
+
+  -- .. and so begins a pass that goes by groups
+  pub pass_none : (width : ℕ) (old now : List ℕ) → AreMixed width s old now → IsPassTo width s t (0 * t) old now
+  pass_none width old now so_far =
+      subst (λ (n : ℕ). IsPassTo width s t n old now) (sym (zero-mul t)) (pass_begins width old now so_far)
 
   -- a pass over all rows is done: rows mixed below s are mixed below t
   pub pass_ends : (width n : ℕ) (old now : List ℕ) → 0 < count → n ≡ width → IsPassTo width s t n old now → AreMixed width t old now

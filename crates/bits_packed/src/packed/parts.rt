@@ -1,5 +1,5 @@
 // Packed bits as narrower packed bits, as bytes and as words.
-ghost use Rattle.std.specs.Prelude.{◌≡◌, ◌<◌, ◌*◌, ◌/◌, ◌%◌, ◌^◌, IfOk, IsTrue, map};
+ghost use Rattle.std.specs.Prelude.{◌≡◌, ◌<◌, ◌*◌, ◌/◌, ◌%◌, ◌^◌, ◌++◌, IfOk, IsTrue, OnOk, map};
 ghost use Rattle.std.specs.List.{flat_map};
 ghost use Rattle.field_base.specs.Chunks.{chunk, chunks};
 ghost use Rattle.bits_rows.specs.Parts.{IsWithPart};
@@ -7,6 +7,20 @@ ghost use Rattle.bits_rows.specs.Parts.{IsWithPart};
 use crate::packed::PackedGf2;
 use bits_rows::{Divisible, Underlier, narrow_word};
 use std::alloc::{AllocError, Allocator};
+
+// Appends the bytes of packed bits.
+#[inline]
+fn push_bytes<U: Underlier, A: Allocator>(
+    bytes: &mut Vec<u8, A>,
+    packed: &PackedGf2<U>,
+) -> Result<(), AllocError>
+    ensures { OnOk result (bytes.new.items ≡ bytes.old.items ++ chunks 8 (U.BITS / 8) (U.number packed.now.bits)) }
+{
+    for i in 0..U::BITS / 8 {
+        bytes.push(packed.byte(i))?;
+    }
+    Ok(())
+}
 
 impl<U: Underlier> PackedGf2<U> {
     /// Part `i` of the lanes as packed bits: its lane j is lane `V::BITS * i + j`. Requires `i` below the number of parts, `RATIO`
@@ -47,8 +61,9 @@ impl<U: Underlier> PackedGf2<U> {
         let mut parts = Vec::new(alloc);
         for place in 0..packed.len() {
             let row = &packed[place];
+            parts.reserve(<U as Divisible<V>>::RATIO)?;
             for i in 0..<U as Divisible<V>>::RATIO {
-                parts.push(row.narrow(i))?;
+                parts.push_reserved(row.narrow(i));
             }
         }
         Ok(parts)
@@ -72,10 +87,7 @@ impl<U: Underlier> PackedGf2<U> {
     {
         let mut bytes = Vec::new(alloc);
         for place in 0..packed.len() {
-            let row = &packed[place];
-            for i in 0..U::BITS / 8 {
-                bytes.push(row.byte(i))?;
-            }
+            push_bytes(&mut bytes, &packed[place])?;
         }
         Ok(bytes)
     }

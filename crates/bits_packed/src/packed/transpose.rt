@@ -150,7 +150,6 @@ fn one_round<U: Underlier>(rows: &mut [PackedGf2<U>], block: usize)
 
 // `three_rounds`, with each block size that a transposition gives it as a literal: so shifts and masks are constants in the
 // machine code.
-#[tactic(auto, using(crate::proofs::Rounds::rounds_from))]
 fn three_rounds_of_constant<U: Underlier>(rows: &mut [PackedGf2<U>], block: usize)
     requires block { IsBlockSize U.BITS block }
     requires square { length rows.old ≡ U.BITS }
@@ -166,7 +165,6 @@ fn three_rounds_of_constant<U: Underlier>(rows: &mut [PackedGf2<U>], block: usiz
 }
 
 // `one_round`, with each block size that is left after rounds by threes as a literal.
-#[tactic(auto, using(crate::proofs::Rounds::rounds_from))]
 fn one_round_of_constant<U: Underlier>(rows: &mut [PackedGf2<U>], block: usize)
     requires block { IsBlockSize U.BITS block }
     requires square { length rows.old ≡ U.BITS }

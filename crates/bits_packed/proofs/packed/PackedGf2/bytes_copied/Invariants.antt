@@ -1,4 +1,4 @@
-use Rattle.std.proofs.Common.{◌≡◌, ◌++◌, ◌/◌, take}
+use Rattle.std.proofs.Common.{◌≡◌, ◌/◌, take}
 use Rattle.std.specs.List.{flat_map}
 use Rattle.field_base.specs.Chunks.{chunks}
 use Rattle.bits_packed.proofs.packed.PackedGf2.bytes_copied.Given as goal
@@ -8,10 +8,3 @@ abbrev pub invariant-loop-place : goal.invariant-loop-place
 invariant-loop-place g l =
     l.bytes.items
     ≡ flat_map (λ x. chunks 8 (g.U.Underlier.BITS / 8) (g.U.Underlier.number x.bits)) (take l.place l.packed)
-
--- and those of this one
-abbrev pub invariant-loop-i : goal.invariant-loop-i
-invariant-loop-i g l =
-    l.bytes.items
-    ≡ flat_map (λ x. chunks 8 (g.U.Underlier.BITS / 8) (g.U.Underlier.number x.bits)) (take l.place l.packed)
-    ++ chunks 8 l.i (g.U.Underlier.number l.row.bits)

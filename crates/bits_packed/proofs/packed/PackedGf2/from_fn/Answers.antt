@@ -1,4 +1,4 @@
-use Rattle.std.proofs.Common.{◌≡◌, ◌<◌, ℕ, refl, ◌∙◌, ap, arith, rules}
+use Rattle.std.proofs.Common.{◌≡◌, ◌<◌, ℕ, ◌∙◌, ap, arith, rules}
 use Rattle.field_base.specs.Bit.{bit_number}
 use Rattle.bits_rows.proofs.WordLists.{may_call, may_go_on, more_filled, nothing_filled}
 use Rattle.bits_packed.specs.Lanes.{bits_of}

@@ -1,4 +1,4 @@
-use Rattle.std.proofs.Common.{◌≡◌, ◌<◌, sym, subst, ◌∙◌, arith}
+use Rattle.std.proofs.Common.{◌<◌, sym, subst, ◌∙◌}
 use Rattle.bits_rows.proofs.BlockLemmas.{block_some}
 use Rattle.bits_rows.specs.Parts.{IsBlockSize}
 use Rattle.bits_packed.specs.Lanes.{AreInterleavedLanes}

@@ -4,6 +4,10 @@ use Rattle.bits_packed.proofs.LaneAccess.{row_divides}
 use Rattle.bits_packed.proofs.Rounds.{group_first, group_passes, groups_fill, pair_done}
 use Rattle.bits_packed.proofs.packed.transpose.interleave_two_blocks.Goals as goal
 
+pub interleave_pair-requires-clause-inside : goal.interleave_pair-requires-clause-inside
+interleave_pair-requires-clause-inside g c =
+    let room = groups_fill g.U.Underlier.BITS (2 * c.args.block) c.args.group c.requires.inside in omega (arith, room)
+
 pub loop-i-preserved : goal.loop-i-preserved
 loop-i-preserved g c = λ old so_far.
     let divides =

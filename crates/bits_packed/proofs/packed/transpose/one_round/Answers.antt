@@ -1,8 +1,12 @@
-use Rattle.std.proofs.Common.{lit<, arith}
+use Rattle.std.proofs.Common.{◌*◌, refl, lit<, arith}
 use Rattle.bits_rows.proofs.BlockLemmas.{block_some}
 use Rattle.bits_packed.proofs.LaneAccess.{row_divides}
-use Rattle.bits_packed.proofs.Rounds.{groups_end}
+use Rattle.bits_packed.proofs.Rounds.{groups_end, pass_none}
 use Rattle.bits_packed.proofs.packed.transpose.one_round.Goals as goal
+
+pub loop-group-init : goal.loop-group-init
+loop-group-init g c = λ old so_far.
+    pass_none c.args.block (2 * c.args.block) 2 (block_some g.U.Underlier.BITS c.args.block c.requires.block) refl g.U.Underlier.BITS old _ so_far
 
 pub loop-group-preserved : goal.loop-group-preserved
 loop-group-preserved g c = λ old so_far. c.interleave_two_blocks.ensures old (c.loop-group.invariant old so_far)

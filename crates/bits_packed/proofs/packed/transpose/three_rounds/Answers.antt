@@ -1,8 +1,12 @@
-use Rattle.std.proofs.Common.{lit<, arith, ◌*◌}
+use Rattle.std.proofs.Common.{◌*◌, refl, lit<, arith}
 use Rattle.bits_rows.proofs.BlockLemmas.{block_some}
 use Rattle.bits_packed.proofs.LaneAccess.{row_divides}
-use Rattle.bits_packed.proofs.Rounds.{eightfold_fits, fourfold_inside, groups_end}
+use Rattle.bits_packed.proofs.Rounds.{eightfold_fits, fourfold_inside, groups_end, pass_none}
 use Rattle.bits_packed.proofs.packed.transpose.three_rounds.Goals as goal
+
+pub loop-group-init : goal.loop-group-init
+loop-group-init g c = λ old so_far.
+    pass_none c.args.block (8 * c.args.block) 8 (block_some g.U.Underlier.BITS c.args.block c.requires.block) refl g.U.Underlier.BITS old _ so_far
 
 pub loop-group-preserved : goal.loop-group-preserved
 loop-group-preserved g c = λ old so_far. c.interleave_eight_blocks.ensures old (c.loop-group.invariant old so_far)
