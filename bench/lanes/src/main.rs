@@ -22,14 +22,14 @@ const SEED: u64 = 20;
 // The unit of the Rust crate of this name, where it is linked.
 #[cfg(feature = "rust_crate")]
 macro_rules! theirs {
-    ($unit:ident) => {
-        Some(theirs::$unit as Unit)
+    ($($unit:tt)*) => {
+        Some(theirs::$($unit)* as Unit)
     };
 }
 
 #[cfg(not(feature = "rust_crate"))]
 macro_rules! theirs {
-    ($unit:ident) => {
+    ($($unit:tt)*) => {
         None
     };
 }
@@ -158,31 +158,56 @@ fn rows_of_ghash() -> Vec<Row> {
     ]
 }
 
+// Packings of bytes count once for each 16 lanes.
 fn rows_of_bytes() -> Vec<Row> {
     vec![
         Row::fixed(
             "16 bytes by 16 bytes",
-            ours::PACKED_BYTES_PRODUCT,
-            theirs!(packed_bytes_product),
+            ours::PACKED_16_BYTES_PRODUCT,
+            theirs!(packed_bytes_product::<16>),
             |_| 64,
+        ),
+        Row::fixed(
+            "32 bytes by 32 bytes",
+            ours::PACKED_32_BYTES_PRODUCT,
+            theirs!(packed_bytes_product::<32>),
+            |_| 128,
         ),
         Row::fixed(
             "16 bytes by an element",
-            ours::PACKED_BYTES_BY_ELEMENT,
-            theirs!(packed_bytes_by_element),
+            ours::PACKED_16_BYTES_BY_ELEMENT,
+            theirs!(packed_bytes_by_element::<16>),
             |_| 64,
+        ),
+        Row::fixed(
+            "32 bytes by an element",
+            ours::PACKED_32_BYTES_BY_ELEMENT,
+            theirs!(packed_bytes_by_element::<32>),
+            |_| 128,
         ),
         Row::fixed(
             "16 bytes by a bit, and sum",
-            ours::PACKED_BYTES_BY_BIT,
-            theirs!(packed_bytes_by_bit),
+            ours::PACKED_16_BYTES_BY_BIT,
+            theirs!(packed_bytes_by_bit::<16>),
             |_| 64,
         ),
         Row::fixed(
+            "32 bytes by a bit, and sum",
+            ours::PACKED_32_BYTES_BY_BIT,
+            theirs!(packed_bytes_by_bit::<32>),
+            |_| 128,
+        ),
+        Row::fixed(
             "16 bytes by a matrix",
-            ours::PACKED_BYTES_BY_MATRIX,
-            theirs!(packed_bytes_by_matrix),
+            ours::PACKED_16_BYTES_BY_MATRIX,
+            theirs!(packed_bytes_by_matrix::<16>),
             |_| 64,
+        ),
+        Row::fixed(
+            "32 bytes by a matrix",
+            ours::PACKED_32_BYTES_BY_MATRIX,
+            theirs!(packed_bytes_by_matrix::<32>),
+            |_| 128,
         ),
         Row::sliced(
             "bytes by a matrix",

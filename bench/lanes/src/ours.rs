@@ -48,10 +48,14 @@ fixed! {
     LOW_STAGES: v2_bench_low_stages v3_bench_low_stages;
     LOW_STAGES_BY_FOURS: v2_bench_low_stages_by_fours v3_bench_low_stages_by_fours;
     TRANSFORM: v2_bench_transform v3_bench_transform;
-    PACKED_BYTES_PRODUCT: v2_bench_packed_bytes_product v3_bench_packed_bytes_product;
-    PACKED_BYTES_BY_ELEMENT: v2_bench_packed_bytes_by_element v3_bench_packed_bytes_by_element;
-    PACKED_BYTES_BY_BIT: v2_bench_packed_bytes_by_bit v3_bench_packed_bytes_by_bit;
-    PACKED_BYTES_BY_MATRIX: v2_bench_packed_bytes_by_matrix v3_bench_packed_bytes_by_matrix;
+    PACKED_16_BYTES_PRODUCT: v2_bench_packed_16_bytes_product v3_bench_packed_16_bytes_product;
+    PACKED_32_BYTES_PRODUCT: v2_bench_packed_32_bytes_product v3_bench_packed_32_bytes_product;
+    PACKED_16_BYTES_BY_ELEMENT: v2_bench_packed_16_bytes_by_element v3_bench_packed_16_bytes_by_element;
+    PACKED_32_BYTES_BY_ELEMENT: v2_bench_packed_32_bytes_by_element v3_bench_packed_32_bytes_by_element;
+    PACKED_16_BYTES_BY_BIT: v2_bench_packed_16_bytes_by_bit v3_bench_packed_16_bytes_by_bit;
+    PACKED_32_BYTES_BY_BIT: v2_bench_packed_32_bytes_by_bit v3_bench_packed_32_bytes_by_bit;
+    PACKED_16_BYTES_BY_MATRIX: v2_bench_packed_16_bytes_by_matrix v3_bench_packed_16_bytes_by_matrix;
+    PACKED_32_BYTES_BY_MATRIX: v2_bench_packed_32_bytes_by_matrix v3_bench_packed_32_bytes_by_matrix;
 }
 
 sliced! {

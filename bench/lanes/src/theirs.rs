@@ -147,13 +147,13 @@ pub fn low_stages(rounds: u64, seed: u64, _: usize) -> u64 {
     sum_of_numbers(values)
 }
 
-type Bytes = [PackedRijndael8b<16>; 64];
+type Bytes<const N: usize> = [PackedRijndael8b<N>; 64];
 
-fn drawn_bytes(random: &mut Random) -> Bytes {
+fn drawn_bytes<const N: usize>(random: &mut Random) -> Bytes<N> {
     std::array::from_fn(|_| PackedRijndael8b::from_fn(|_| Rijndael8b::from_byte(random.byte())))
 }
 
-fn sum_of_packed_bytes(packings: &Bytes) -> u64 {
+fn sum_of_packed_bytes<const N: usize>(packings: &Bytes<N>) -> u64 {
     sum_of_bytes(
         packings
             .iter()
@@ -161,10 +161,10 @@ fn sum_of_packed_bytes(packings: &Bytes) -> u64 {
     )
 }
 
-pub fn packed_bytes_product(rounds: u64, seed: u64, _: usize) -> u64 {
+pub fn packed_bytes_product<const N: usize>(rounds: u64, seed: u64, _: usize) -> u64 {
     let mut random = Random(seed);
-    let mut left = drawn_bytes(&mut random);
-    let right = drawn_bytes(&mut random);
+    let mut left = drawn_bytes::<N>(&mut random);
+    let right = drawn_bytes::<N>(&mut random);
     for _ in 0..rounds {
         for (left, right) in left.iter_mut().zip(&right) {
             *left = *left * *right;
@@ -173,9 +173,9 @@ pub fn packed_bytes_product(rounds: u64, seed: u64, _: usize) -> u64 {
     sum_of_packed_bytes(&left)
 }
 
-pub fn packed_bytes_by_element(rounds: u64, seed: u64, _: usize) -> u64 {
+pub fn packed_bytes_by_element<const N: usize>(rounds: u64, seed: u64, _: usize) -> u64 {
     let mut random = Random(seed);
-    let mut packings = drawn_bytes(&mut random);
+    let mut packings = drawn_bytes::<N>(&mut random);
     for _ in 0..rounds {
         let element = Rijndael8b::from_byte(random.byte());
         for packing in &mut packings {
@@ -185,10 +185,10 @@ pub fn packed_bytes_by_element(rounds: u64, seed: u64, _: usize) -> u64 {
     sum_of_packed_bytes(&packings)
 }
 
-pub fn packed_bytes_by_bit(rounds: u64, seed: u64, _: usize) -> u64 {
+pub fn packed_bytes_by_bit<const N: usize>(rounds: u64, seed: u64, _: usize) -> u64 {
     let mut random = Random(seed);
-    let mut packings = drawn_bytes(&mut random);
-    let others = drawn_bytes(&mut random);
+    let mut packings = drawn_bytes::<N>(&mut random);
+    let others = drawn_bytes::<N>(&mut random);
     let bits: [Gf2; 64] = std::array::from_fn(|_| Gf2::from_bool(random.word() % 2 == 1));
     for _ in 0..rounds {
         for ((packing, other), bit) in packings.iter_mut().zip(&others).zip(bits) {
@@ -198,9 +198,9 @@ pub fn packed_bytes_by_bit(rounds: u64, seed: u64, _: usize) -> u64 {
     sum_of_packed_bytes(&packings)
 }
 
-pub fn packed_bytes_by_matrix(rounds: u64, seed: u64, _: usize) -> u64 {
+pub fn packed_bytes_by_matrix<const N: usize>(rounds: u64, seed: u64, _: usize) -> u64 {
     let mut random = Random(seed);
-    let mut packings = drawn_bytes(&mut random);
+    let mut packings = drawn_bytes::<N>(&mut random);
     let matrix = drawn_matrix(&mut random);
     for _ in 0..rounds {
         for packing in &mut packings {
