@@ -306,8 +306,13 @@ impl Report {
     fn verdict(self) -> ExitCode {
         println!();
         if self.differing.is_empty() {
+            let absent = if cfg!(feature = "rust_crate") {
+                ""
+            } else {
+                " The Rust crate is not linked: RUST_CRATE was not set."
+            };
             println!(
-                "Checksum {:016x}. The checksums of all sides agree in every row.",
+                "Checksum {:016x}. The checksums of all sides agree in every row.{absent}",
                 self.checksum
             );
             return ExitCode::SUCCESS;
