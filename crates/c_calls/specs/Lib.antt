@@ -1,4 +1,3 @@
 pub mod Bytes
 pub mod Linear
 pub mod Transforms
-pub mod WideLemmas

@@ -2,19 +2,14 @@
 //! shards. A call returns a status, and on every status but `OK` what it would have written is as before. None takes memory.
 #![tactic(auto)]
 
-mod blocks;
 mod bytes;
-mod changes;
-mod fours;
-mod kernel;
+mod lanes;
 mod linear;
 mod messages;
 mod numbers;
-mod pairs;
 mod products;
 mod scalars;
 mod shards;
-mod stages;
 mod transforms;
 
 pub use crate::bytes::multiply_bytes;

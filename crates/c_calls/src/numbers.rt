@@ -29,16 +29,6 @@ pub(crate) fn four_numbers(words: &[Wide]) -> [u128; 4]
     numbers
 }
 
-/// Writes the first of the numbers, as many as there are words.
-pub(crate) fn put_numbers<const N: usize>(words: &mut [Wide], numbers: &[u128; N])
-    requires { length words.old ≤ N }
-    ensures { map wide_number words.new ≡ take (length words.old) numbers.now }
-{
-    for place in 0..words.len() {
-        words[place] = Wide::new(numbers[place]);
-    }
-}
-
 /// Makes every word 0.
 pub(crate) fn clear(words: &mut [Wide])
     ensures length { length words.new ≡ length words.old }

@@ -3,12 +3,11 @@ ghost use Rattle.std.specs.Prelude.{◌≡◌};
 ghost use Rattle.c_slices.specs.Calls.{AddsScaled, MultipliesBy};
 ghost use Rattle.c_slices.specs.Fields.{ghash_field};
 
-use crate::changes::add_multiples;
 use crate::numbers::clear;
-use c_slices::{Ghash, Wide, slices, status};
-use transform_slices::LEAST_IN_LANES;
+use c_slices::{Wide, status};
+use transform_slices::add_multiples;
 
-/// Writes the product of each word and the scalar. Fewer than 16 are multiplied one by one.
+/// Writes the product of each word and the scalar.
 pub fn multiply_by(words: &[Wide], scalar: Wide, products: &mut [Wide]) -> u32
     ensures { MultipliesBy ghash_field scalar words.now products.old products.new result }
 {
@@ -26,9 +25,6 @@ pub fn multiply_by_wide(words: &[Wide], scalar: Wide, products: &mut [Wide]) -> 
 fn write_multiples(words: &[Wide], scalar: Wide, products: &mut [Wide], wide_vectors: bool) -> u32
     ensures { MultipliesBy ghash_field scalar words.now products.old products.new result }
 {
-    if words.len() < LEAST_IN_LANES {
-        return slices::multiply_by::<Wide, Ghash>(words, scalar, products);
-    }
     if words.len() != products.len() {
         return status::LENGTH;
     }
@@ -37,7 +33,7 @@ fn write_multiples(words: &[Wide], scalar: Wide, products: &mut [Wide], wide_vec
     status::OK
 }
 
-/// Adds to each sum the product of the scalar and the word at its place. Fewer than 16 are multiplied one by one.
+/// Adds to each sum the product of the scalar and the word at its place.
 pub fn add_scaled(sums: &mut [Wide], scalar: Wide, words: &[Wide]) -> u32
     ensures { AddsScaled ghash_field scalar words.now sums.old sums.new result }
 {
@@ -55,9 +51,6 @@ pub fn add_scaled_wide(sums: &mut [Wide], scalar: Wide, words: &[Wide]) -> u32
 fn add_scaled_words(sums: &mut [Wide], scalar: Wide, words: &[Wide], wide_vectors: bool) -> u32
     ensures { AddsScaled ghash_field scalar words.now sums.old sums.new result }
 {
-    if words.len() < LEAST_IN_LANES {
-        return slices::add_scaled::<Wide, Ghash>(sums, scalar, words);
-    }
     if words.len() != sums.len() {
         return status::LENGTH;
     }

@@ -4,11 +4,10 @@ ghost use Rattle.transform_whole.specs.Transform.{HasStages};
 ghost use Rattle.c_slices.specs.Fields.{wide_number};
 ghost use Rattle.c_calls.specs.Transforms.{ButterfliesForward, ButterfliesInverse, InvertsTransform, RunsLowStages, Transforms};
 
-use crate::kernel::WideKernel;
 use crate::numbers::{four_numbers, numbers_of};
-use crate::stages::run_stages;
 use c_slices::{Wide, status};
-use transform_whole::{Kernel, forward_by_butterflies, inverse_with};
+use transform_slices::{add_each, add_multiples, run_low_stages};
+use transform_whole::{forward_words, inverse_words};
 
 /// At each place `low += scalar * high`, and then `high += low`.
 pub fn butterfly_forward(low: &mut [Wide], high: &mut [Wide], scalar: Wide) -> u32
@@ -31,7 +30,8 @@ fn change_forward(low: &mut [Wide], high: &mut [Wide], scalar: Wide, wide_vector
     if low.len() != high.len() {
         return status::LENGTH;
     }
-    WideKernel::new(wide_vectors).butterfly_forward(low, high, scalar.number());
+    add_multiples(low, high, scalar.number(), wide_vectors);
+    add_each(high, low);
     status::OK
 }
 
@@ -56,7 +56,8 @@ fn change_inverse(low: &mut [Wide], high: &mut [Wide], scalar: Wide, wide_vector
     if low.len() != high.len() {
         return status::LENGTH;
     }
-    WideKernel::new(wide_vectors).butterfly_inverse(low, high, scalar.number());
+    add_each(high, low);
+    add_multiples(low, high, scalar.number(), wide_vectors);
     status::OK
 }
 
@@ -93,7 +94,7 @@ fn low_stages_by_some(
     let four = four_numbers(shifts);
     let numbers = numbers_of::<128>(basis);
     let elements = &numbers[..basis.len()];
-    run_stages(&four, elements, values, u128::from(first_run), by_fours);
+    run_low_stages(&four, elements, values, u128::from(first_run), by_fours);
     status::OK
 }
 
@@ -118,7 +119,7 @@ fn evaluate(values: &mut [Wide], shift: Wide, wide_vectors: bool) -> u32
     if !has_stages(values.len()) {
         return status::LENGTH;
     }
-    forward_by_butterflies(&mut WideKernel::new(wide_vectors), values, shift.number());
+    forward_words(values, shift.number(), wide_vectors);
     status::OK
 }
 
@@ -143,7 +144,7 @@ fn interpolate(values: &mut [Wide], shift: Wide, wide_vectors: bool) -> u32
     if !has_stages(values.len()) {
         return status::LENGTH;
     }
-    inverse_with(&mut WideKernel::new(wide_vectors), values, shift.number());
+    inverse_words(values, shift.number(), wide_vectors);
     status::OK
 }
 

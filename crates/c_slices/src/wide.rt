@@ -2,6 +2,8 @@
 ghost use Rattle.std.specs.Prelude.{◌≡◌};
 ghost use Rattle.c_slices.specs.Fits.{FitsTwo};
 
+use transform_slices::WideWord;
+
 /// A word of 128 bits as two of 64, low half first.
 #[repr(C)]
 #[derive(Clone, Copy)]
@@ -31,5 +33,24 @@ impl Wide {
         ensures { result ≡ wide_number self }
     {
         u128::from(self.high) * 0x10000000000000000 + u128::from(self.low)
+    }
+}
+
+impl WideWord for Wide {
+    ghost use Rattle.c_slices.specs.Fields.{wide_number};
+    ghost use Rattle.c_slices.specs.WideLemmas.{wide_number-lt};
+
+    ghost value = { wide_number };
+
+    ghost range_law = { wide_number-lt };
+
+    #[inline]
+    fn number(self) -> u128 {
+        self.number()
+    }
+
+    #[inline]
+    fn of_number(number: u128) -> Wide {
+        Wide::new(number)
     }
 }

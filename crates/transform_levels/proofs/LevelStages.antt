@@ -7,11 +7,11 @@ use Rattle.std.proofs.lemmas.List.FromFn.{get_or-map-range_with_len, length-map-
 use Rattle.field_base.specs.Orders.{AreCantorVectors}
 use Rattle.field_base.specs.Ring.{IsRing}
 use Rattle.transform_slices.specs.Cantor.{AreCantorTwiddles, subspace_value}
-use Rattle.transform_whole.specs.Stages.{IsStage}
+use Rattle.transform_whole.specs.Stages.{AreLeft, IsStage}
 use Rattle.transform_whole.specs.Transform.{AreTheCoefficients, HoldValuesAtPoints}
 use Rattle.transform_whole.proofs.Counts.{block_count}
 use Rattle.transform_whole.proofs.OnlyStages.{all_leave, inverse_leaves}
-use Rattle.transform_whole.proofs.WholeStages.{AreLeft, AreUndone, left_step, undone_step}
+use Rattle.transform_whole.proofs.WholeStages.{AreUndone, left_step, undone_step}
 use Rattle.transform_levels.specs.Levels.{FitsField, twiddle_basis}
 
 -- ---- how many

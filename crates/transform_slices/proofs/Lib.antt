@@ -3,7 +3,6 @@ mod DigitMultiples
 mod HornerProducts
 mod RunStages
 mod ShiftedBytes
-mod SliceBlocks
 mod SliceLemmas
 mod TwoBlocks
 pub mod CantorValues
@@ -11,4 +10,6 @@ pub mod GhashVectors
 pub mod LowRuns
 pub mod Places
 pub mod RunPlaces
+pub mod SliceBlocks
 pub mod StageSums
+pub mod WordValues

@@ -1,13 +1,10 @@
--- Loops that change a list place by place by another list, and the product by a scalar as a linear map.
-use Rattle.std.proofs.Common.{◌≡◌, ℕ, zero, suc, ◌+◌, ◌%◌, ◌^◌, ◌<◌, ◌≤◌, List, [], ◌∷◌, ◌++◌, length, take, drop, get_or, refl, sym, ◌∙◌, ap, ap₂, subst, arith, append-nil}
+-- Butterflies that restore, and the product by a scalar as a linear map.
+use Rattle.std.proofs.Common.{◌≡◌, ℕ, ◌%◌, ◌^◌, ◌<◌, List, [], ◌∷◌, length, get_or, refl, sym, ◌∙◌, ap, ap₂, subst, arith}
 use Rattle.std.specs.Prelude.{bit_xor}
 use Rattle.std.specs.Simd.Lanes.{zip2}
-use Rattle.std.proofs.Math.ListN.{set}
-use Rattle.std.proofs.lemmas.List.{drop_all, take_all}
 use Rattle.std.proofs.lemmas.Nat.{pow_pos}
 use Rattle.std.proofs.lemmas.Simd.{length-zip2}
 use native.Mathlib.Nat.{mod-lt, suc_inj}
-use native.Mathlib.Numerals.{add-one}
 use lib.Bits.{xor_assoc, xor_self, xor_zero_r}
 use Rattle.field_base.specs.LinearMaps.{linear_image}
 use Rattle.field_base.specs.Remainder.{ghash_modulus, mul_mod}
@@ -18,37 +15,6 @@ use Rattle.field_base.proofs.RingLemmas.{times-mod}
 use Rattle.transform_slices.specs.LowStages.{ghash_product}
 use Rattle.transform_slices.specs.Slices.{ButterfliesRestore}
 use Rattle.transform_slices.specs.Stages.{add_multiple}
-
--- ---- two lists, place by place
-
--- what a loop has made of xs: f x y at the places below n, and x from there on
-abbrev pub zipped : (ℕ → ℕ → ℕ) → ℕ → List ℕ → List ℕ → List ℕ
-zipped f n xs ys = zip2 f (take n xs) (take n ys) ++ drop n xs
-
--- one more step of the loop changes place n as the function of both values there says
-next : (f : ℕ → ℕ → ℕ) (n : ℕ) (xs ys : List ℕ) → n < length xs → length xs ≡ length ys
-    → set (zipped f n xs ys) n (f (get_or (zipped f n xs ys) n 0) (get_or ys n 0)) ≡ zipped f (suc n) xs ys
-next f n [] ys within same = absurd (omega arith)
-next f n (x ∷ xs) [] within same = absurd (omega arith)
-next f zero (x ∷ xs) (y ∷ ys) within same = refl
-next f (suc n) (x ∷ xs) (y ∷ ys) within same = ap (λ (zs : List ℕ). f x y ∷ zs) (next f n xs ys (omega arith) (suc_inj same))
-
--- one place more
-pub zipped_step : (f : ℕ → ℕ → ℕ) (n : ℕ) (xs ys zs : List ℕ) (r : ℕ) → n < length xs → length xs ≡ length ys
-    → zs ≡ zipped f n xs ys → r ≡ f (get_or zs n 0) (get_or ys n 0) → set zs n r ≡ zipped f (n + 1) xs ys
-zipped_step f n xs ys zs r within same so_far is =
-    ap (set zs n) is ∙ ap (λ (l : List ℕ). set l n (f (get_or l n 0) (get_or ys n 0))) so_far
-    ∙ next f n xs ys within same ∙ ap (λ (m : ℕ). zipped f m xs ys) (sym (add-one n))
-
--- past the last place the loop is done
-pub zipped_end : (f : ℕ → ℕ → ℕ) (n : ℕ) (xs ys zs : List ℕ) → length xs ≤ n → length xs ≡ length ys → zs ≡ zipped f n xs ys
-    → zs ≡ zip2 f xs ys
-zipped_end f n xs ys zs past same so_far =
-    let past_other : length ys ≤ n = omega arith in
-    so_far
-    ∙ ap (λ (l : List ℕ). zip2 f (take n xs) (take n ys) ++ l) (drop_all n xs past)
-    ∙ append-nil (zip2 f (take n xs) (take n ys))
-    ∙ ap₂ (zip2 f) (take_all n xs past) (take_all n ys past_other)
 
 -- ---- butterflies
 

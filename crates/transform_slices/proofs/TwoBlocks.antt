@@ -1,5 +1,5 @@
 -- Rows of lanes as bytes: of one block of sixteen numbers, and of two whose rows stand side by side.
-use Rattle.std.proofs.Common.{◌≡◌, ℕ, zero, suc, ◌+◌, ◌-◌, ◌*◌, ◌/◌, ◌%◌, ◌^◌, ◌<◌, ◌≤◌, ◌⊎◌, inl, inr, Bool, true, false, cond, ltb, List, [], ◌++◌, replicate, length, take, drop, get_or, sym, ◌∙◌, ap, ap₂, refl, subst, arith}
+use Rattle.std.proofs.Common.{◌≡◌, ℕ, zero, suc, ◌+◌, ◌-◌, ◌*◌, ◌/◌, ◌%◌, ◌^◌, ◌<◌, ◌≤◌, ◌⊎◌, inl, inr, Bool, true, false, cond, ltb, List, [], ◌∷◌, ◌++◌, replicate, length, take, drop, get_or, map, sym, ◌∙◌, ap, ap₂, refl, subst, arith}
 use Rattle.std.specs.Simd.Lanes.{chunk, put_chunk}
 use Rattle.std.proofs.lemmas.Bool.{cases_lt, lt-ltb, ltb-true}
 use Rattle.std.proofs.lemmas.List.{get_or-append_right, get_or_append_left, length-drop, take-append-drop, take_all}
@@ -94,3 +94,18 @@ pub zero_rows : (n lanes k e : ℕ) → get_or {A = ℕ} (get_or (replicate n (r
 zero_rows zero lanes k e = refl
 zero_rows (suc n) lanes zero e = zeros lanes e
 zero_rows (suc n) lanes (suc k) e = zero_rows n lanes k e
+
+-- ---- vectors as the lists of their bytes
+
+-- rows are the lists of their bytes
+pub lanes_same : (rows : List (List ℕ)) → map (λ (lanes : List ℕ). lanes) rows ≡ rows
+lanes_same [] = refl
+lanes_same (row ∷ rows) = ap (λ (rest : List (List ℕ)). row ∷ rest) (lanes_same rows)
+
+-- what is said of those lists is said of the rows
+pub of_lanes : (n : ℕ) (old new : List (List ℕ)) (f g : ℕ → ℕ)
+    → (HoldLanes n (map (λ (lanes : List ℕ). lanes) old) f → HoldLanes n (map (λ (lanes : List ℕ). lanes) new) g)
+    → HoldLanes n old f → HoldLanes n new g
+of_lanes n old new f g told held =
+    subst (λ (rows : List (List ℕ)). HoldLanes n rows g) (lanes_same new)
+    (told (subst (λ (rows : List (List ℕ)). HoldLanes n rows f) (sym (lanes_same old)) held))

@@ -18,12 +18,12 @@ pub record HoldLanes (lanes : ℕ) (rows : List (List ℕ)) (values : ℕ → �
   pub fits : (e : ℕ) → e < lanes → values e < 2 ^ 128
   pub each : (k e : ℕ) → k < 16 → e < lanes → slice_index (slice_index_or rows k []) e ≡ values e / 2 ^ (8 * k) % 256
 
--- of the places of a list the sixteen from `start` on hold the values of f at their numbers, and the others are as they were
-pub record HoldsBlock (f : ℕ → ℕ) (start : ℕ) (old new : List ℕ) : Type 0 where
+-- of the places of a list those from `start` up to `end` hold the values of f at their numbers, and the others are as they were
+pub record HoldsPlaces (f : ℕ → ℕ) (start end : ℕ) (old new : List ℕ) : Type 0 where
   pub same_length : length new ≡ length old
-  pub block : (p : ℕ) → start ≤ p → p < start + 16 → p < length old → slice_index new p ≡ f p
+  pub here : (p : ℕ) → start ≤ p → p < end → p < length old → slice_index new p ≡ f p
   pub before : (p : ℕ) → p < start → slice_index new p ≡ slice_index old p
-  pub behind : (p : ℕ) → start + 16 ≤ p → slice_index new p ≡ slice_index old p
+  pub behind : (p : ℕ) → end ≤ p → slice_index new p ≡ slice_index old p
 
 -- the product of the scalar and the value at a place
 abbrev pub multiplied_at : ℕ → List ℕ → ℕ → ℕ

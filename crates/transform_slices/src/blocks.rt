@@ -1,19 +1,24 @@
 // Blocks of sixteen values of 128 bits as 256 bytes: value by value, or in rows, of which row k has byte k of each value.
-ghost use Rattle.std.specs.Prelude.{◌≡◌, ℕ, ◌+◌, ◌-◌, ◌*◌, ◌/◌, ◌%◌, ◌<◌, ◌≤◌, length, slice_index};
+ghost use Rattle.std.specs.Prelude.{◌≡◌, ℕ, ◌+◌, ◌-◌, ◌*◌, ◌/◌, ◌%◌, ◌<◌, ◌≤◌, length, map, slice_index};
 ghost use Rattle.std.specs.Simd.Lanes.{chunk, digits_l, number_l, put_chunk};
 ghost use Rattle.transform_slices.specs.Blocks.{HoldBytes};
 
+use crate::words::{WideWord, number_at};
 use std::simd::prelude::*;
 use word_carryless::split_128;
 
 /// The bytes of the values from `start` on, value by value. Past the last value they are 0.
-pub(crate) fn bytes_from(values: &[u128], start: usize) -> [u8; 256]
+pub(crate) fn bytes_from<W: WideWord>(values: &[W], start: usize) -> [u8; 256]
     requires { start ≤ length values.now }
-    ensures { HoldBytes result (λ e. slice_index values.now (start + e)) }
+    ensures { HoldBytes result (λ e. slice_index (map W.value values.now) (start + e)) }
 {
     let mut bytes = [0; 256];
     for place in 0..count_from(values.len(), start) {
-        put_lanes(&mut bytes, 16 * place, bytes_of(values[start + place]));
+        put_lanes(
+            &mut bytes,
+            16 * place,
+            bytes_of(number_at(values, start + place)),
+        );
     }
     bytes
 }

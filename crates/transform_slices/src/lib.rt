@@ -9,6 +9,7 @@ mod laws;
 mod low_stages;
 mod multiples;
 mod slices;
+mod words;
 
 ghost use Rattle.std.specs.Prelude.{◌≡◌};
 ghost use Rattle.field_base.specs.Remainder.{mul_mod, ghash_modulus};
@@ -16,14 +17,13 @@ ghost use Rattle.field_base.specs.Remainder.{mul_mod, ghash_modulus};
 pub use crate::laws::{
     cantor_vectors_step_down, points_are_distinct, stages_give_sums, sums_are_values,
 };
-pub use crate::low_stages::{
-    LOW_STAGES, LowStageTwiddles, run_low_stages, run_low_stages_by_fours,
-};
+pub use crate::low_stages::{LOW_STAGES, LowStageTwiddles, run_low_stages};
 pub use crate::multiples::Multiples;
 pub use crate::slices::{
-    LEAST_IN_LANES, LEAST_TABLED, add_each, add_images, add_in_lanes, add_in_wide_lanes,
-    butterflies_restore, butterfly_forward, butterfly_inverse, linear_multiples, mul_slice,
+    LEAST_IN_LANES, LEAST_TABLED, add_each, add_in_lanes, add_in_wide_lanes, add_multiples,
+    butterflies_restore, butterfly_forward, butterfly_inverse, mul_slice,
 };
+pub use crate::words::{WideWord, number_at, numbers_are_values, put_number};
 use word_carryless::{multiply_mod_128, square_mod_128};
 pub use word_carryless::{masked_product, masked_products};
 

@@ -1,10 +1,11 @@
 // The four lowest stages of an additive transform, fused over runs of sixteen places.
-ghost use Rattle.std.specs.Prelude.{◌≡◌, ◌≢◌, ℕ, ◌+◌, ◌-◌, ◌*◌, ◌%◌, ◌/◌, ◌^◌, ◌<◌, ◌≤◌, [], length, take, slice_index, bit_xor, IfOk};
+ghost use Rattle.std.specs.Prelude.{◌≡◌, ◌≢◌, ℕ, ◌+◌, ◌-◌, ◌*◌, ◌%◌, ◌/◌, ◌^◌, ◌<◌, ◌≤◌, [], length, map, take, slice_index, bit_xor, IfOk};
 ghost use Rattle.field_base.specs.LinearMaps.{linear_image};
 ghost use Rattle.transform_slices.specs.LowStages.{ghash_product, HoldSums, HoldValuesAtCantorPoints, values_from};
 ghost use Rattle.transform_slices.specs.Stages.{stage};
 ghost use Rattle.transform_slices.specs.Runs.{AreLowSums, AreWithImages, HoldsRunStage, HoldsRunSums, run_factor, with_pair};
 
+use crate::words::{WideWord, number_at, numbers_are_values, put_number};
 use std::alloc::{AllocError, Allocator};
 use word_basis::sum_of_images;
 use word_carryless::{multiply_mod_128_four_times, multiply_mod_128_twice};
@@ -78,7 +79,9 @@ impl<A: Allocator> LowStageTwiddles<A> {
         ensures sums { HoldSums (shifts_of self.now) (basis_of self.now) first_run values.old values.new }
         ensures values { HoldValuesAtCantorPoints (shifts_of self.now) (basis_of self.now) first_run values.old values.new }
     {
-        run_low_stages(&self.shifts, &self.basis, values, first_run as u128);
+        numbers_are_values(values);
+        run_low_stages(&self.shifts, &self.basis, values, first_run as u128, false);
+        numbers_are_values(values);
     }
 
     /// As `forward`, with four products at once. It is made for x86-64-v3, whose vectors have 256 bits; on x86-64-v2 `forward` is faster.
@@ -89,51 +92,28 @@ impl<A: Allocator> LowStageTwiddles<A> {
         ensures sums { HoldSums (shifts_of self.now) (basis_of self.now) first_run values.old values.new }
         ensures values { HoldValuesAtCantorPoints (shifts_of self.now) (basis_of self.now) first_run values.old values.new }
     {
-        run_low_stages_by_fours(&self.shifts, &self.basis, values, first_run as u128);
+        numbers_are_values(values);
+        run_low_stages(&self.shifts, &self.basis, values, first_run as u128, true);
+        numbers_are_values(values);
     }
 }
 
-/// What `LowStageTwiddles::forward` does, by four shifts and a basis of at least three elements. The numbers of the runs have at most
-/// 127 bits.
-pub fn run_low_stages(shifts: &[u128; 4], basis: &[u128], values: &mut [u128], first_run: u128)
-    requires basis { 3 ≤ length basis.now }
-    requires whole { length values.old % 16 ≡ 0 }
-    requires numbered { values.old ≢ [] → first_run + length values.old / 16 ≤ 2 ^ (length basis.now - 3) }
-    requires fits { first_run + length values.old / 16 ≤ 2 ^ 127 }
-    ensures length { length values.new ≡ length values.old }
-    ensures sums { HoldSums shifts.now basis.now first_run values.old values.new }
-    ensures values { HoldValuesAtCantorPoints shifts.now basis.now first_run values.old values.new }
-{
-    run_all(shifts, basis, values, first_run, false);
-}
-
-/// The same with four products at once. It is made for x86-64-v3, whose vectors have 256 bits; on x86-64-v2 `run_low_stages` is faster.
-pub fn run_low_stages_by_fours(
+/// What `LowStageTwiddles::forward` does, by four shifts and a basis of at least three elements, over words that hold numbers. The numbers
+/// of the runs have at most 127 bits. With wide vectors it takes four products at once, which is made for x86-64-v3, and else two.
+pub fn run_low_stages<W: WideWord>(
     shifts: &[u128; 4],
     basis: &[u128],
-    values: &mut [u128],
+    values: &mut [W],
     first_run: u128,
+    wide_vectors: bool,
 )
     requires basis { 3 ≤ length basis.now }
     requires whole { length values.old % 16 ≡ 0 }
     requires numbered { values.old ≢ [] → first_run + length values.old / 16 ≤ 2 ^ (length basis.now - 3) }
     requires fits { first_run + length values.old / 16 ≤ 2 ^ 127 }
     ensures length { length values.new ≡ length values.old }
-    ensures sums { HoldSums shifts.now basis.now first_run values.old values.new }
-    ensures values { HoldValuesAtCantorPoints shifts.now basis.now first_run values.old values.new }
-{
-    run_all(shifts, basis, values, first_run, true);
-}
-
-// The stages of all runs, by two products at once or by four.
-fn run_all(shifts: &[u128; 4], basis: &[u128], values: &mut [u128], first_run: u128, by_fours: bool)
-    requires basis { 3 ≤ length basis.now }
-    requires whole { length values.old % 16 ≡ 0 }
-    requires numbered { values.old ≢ [] → first_run + length values.old / 16 ≤ 2 ^ (length basis.now - 3) }
-    requires fits { first_run + length values.old / 16 ≤ 2 ^ 127 }
-    ensures length { length values.new ≡ length values.old }
-    ensures sums { HoldSums shifts.now basis.now first_run values.old values.new }
-    ensures values { HoldValuesAtCantorPoints shifts.now basis.now first_run values.old values.new }
+    ensures sums { HoldSums shifts.now basis.now first_run (map W.value values.old) (map W.value values.new) }
+    ensures values { HoldValuesAtCantorPoints shifts.now basis.now first_run (map W.value values.old) (map W.value values.new) }
 {
     let low = sums_of_three(basis);
     let mut number = first_run;
@@ -144,7 +124,7 @@ fn run_all(shifts: &[u128; 4], basis: &[u128], values: &mut [u128], first_run: u
             twiddles = with_images(&twiddles, basis, number ^ next);
             number = next;
         }
-        transform_run(values, 16 * run, &twiddles, &low, by_fours);
+        transform_run(values, 16 * run, &twiddles, &low, wide_vectors);
     }
 }
 
@@ -174,43 +154,43 @@ fn with_images(twiddles: &[u128; 4], basis: &[u128], bits: u128) -> [u128; 4]
 }
 
 // The four stages of the run of sixteen values from `start` on, by its twiddles and the sums of three elements of the basis.
-fn transform_run(
-    values: &mut [u128],
+fn transform_run<W: WideWord>(
+    values: &mut [W],
     start: usize,
     twiddles: &[u128; 4],
     low: &[u128; 8],
-    by_fours: bool,
+    wide_vectors: bool,
 )
     requires { start + 16 ≤ length values.old }
     ensures length { length values.new ≡ length values.old }
-    ensures run { HoldsRunSums (run_factor twiddles.now low.now) start values.old values.new }
-    ensures before { (p : ℕ) → p < start → slice_index values.new p ≡ slice_index values.old p }
-    ensures behind { (p : ℕ) → start + 16 ≤ p → slice_index values.new p ≡ slice_index values.old p }
+    ensures run { HoldsRunSums (run_factor twiddles.now low.now) start (map W.value values.old) (map W.value values.new) }
+    ensures before { (p : ℕ) → p < start → slice_index (map W.value values.new) p ≡ slice_index (map W.value values.old) p }
+    ensures behind { (p : ℕ) → start + 16 ≤ p → slice_index (map W.value values.new) p ≡ slice_index (map W.value values.old) p }
 {
-    run_stage(values, start, 3, twiddles, low, by_fours);
-    run_stage(values, start, 2, twiddles, low, by_fours);
-    run_stage(values, start, 1, twiddles, low, by_fours);
-    run_stage(values, start, 0, twiddles, low, by_fours);
+    run_stage(values, start, 3, twiddles, low, wide_vectors);
+    run_stage(values, start, 2, twiddles, low, wide_vectors);
+    run_stage(values, start, 1, twiddles, low, wide_vectors);
+    run_stage(values, start, 0, twiddles, low, wide_vectors);
 }
 
 // One stage of that run, pair by pair: two places whose numbers differ in the bit of the stage alone are a pair.
 #[inline]
-fn run_stage(
-    values: &mut [u128],
+fn run_stage<W: WideWord>(
+    values: &mut [W],
     start: usize,
     bit: usize,
     twiddles: &[u128; 4],
     low: &[u128; 8],
-    by_fours: bool,
+    wide_vectors: bool,
 )
     requires bit { bit < 4 }
     requires whole { start + 16 ≤ length values.old }
     ensures length { length values.new ≡ length values.old }
-    ensures run { HoldsRunStage (run_factor twiddles.now low.now) bit start values.old values.new }
-    ensures before { (p : ℕ) → p < start → slice_index values.new p ≡ slice_index values.old p }
-    ensures behind { (p : ℕ) → start + 16 ≤ p → slice_index values.new p ≡ slice_index values.old p }
+    ensures run { HoldsRunStage (run_factor twiddles.now low.now) bit start (map W.value values.old) (map W.value values.new) }
+    ensures before { (p : ℕ) → p < start → slice_index (map W.value values.new) p ≡ slice_index (map W.value values.old) p }
+    ensures behind { (p : ℕ) → start + 16 ≤ p → slice_index (map W.value values.new) p ≡ slice_index (map W.value values.old) p }
 {
-    if by_fours {
+    if wide_vectors {
         stage_by_fours(values, start, bit, twiddles, low);
     } else {
         stage_by_pairs(values, start, bit, twiddles, low);
@@ -219,8 +199,8 @@ fn run_stage(
 
 // The stage with two products at once, which share the lanes of vectors.
 #[inline]
-fn stage_by_pairs(
-    values: &mut [u128],
+fn stage_by_pairs<W: WideWord>(
+    values: &mut [W],
     start: usize,
     bit: usize,
     twiddles: &[u128; 4],
@@ -229,29 +209,31 @@ fn stage_by_pairs(
     requires bit { bit < 4 }
     requires whole { start + 16 ≤ length values.old }
     ensures length { length values.new ≡ length values.old }
-    ensures run { HoldsRunStage (run_factor twiddles.now low.now) bit start values.old values.new }
-    ensures before { (p : ℕ) → p < start → slice_index values.new p ≡ slice_index values.old p }
-    ensures behind { (p : ℕ) → start + 16 ≤ p → slice_index values.new p ≡ slice_index values.old p }
+    ensures run { HoldsRunStage (run_factor twiddles.now low.now) bit start (map W.value values.old) (map W.value values.new) }
+    ensures before { (p : ℕ) → p < start → slice_index (map W.value values.new) p ≡ slice_index (map W.value values.old) p }
+    ensures behind { (p : ℕ) → start + 16 ≤ p → slice_index (map W.value values.new) p ≡ slice_index (map W.value values.old) p }
 {
     let half = half_of(bit);
     for turn in 0..4 {
         let first = start + lower_of(2 * turn, half);
+        let first_upper = first + half;
         let second = start + lower_of(2 * turn + 1, half);
+        let second_upper = second + half;
         let (first_product, second_product) = multiply_mod_128_twice(
             twiddles[bit] ^ low[2 * turn / half],
             twiddles[bit] ^ low[(2 * turn + 1) / half],
-            values[first + half],
-            values[second + half],
+            number_at(values, first_upper),
+            number_at(values, second_upper),
         );
-        add_to_pair(values, first, first + half, first_product);
-        add_to_pair(values, second, second + half, second_product);
+        add_to_pair(values, first, first_upper, first_product);
+        add_to_pair(values, second, second_upper, second_product);
     }
 }
 
 // The stage with four products at once.
 #[inline]
-fn stage_by_fours(
-    values: &mut [u128],
+fn stage_by_fours<W: WideWord>(
+    values: &mut [W],
     start: usize,
     bit: usize,
     twiddles: &[u128; 4],
@@ -260,16 +242,20 @@ fn stage_by_fours(
     requires bit { bit < 4 }
     requires whole { start + 16 ≤ length values.old }
     ensures length { length values.new ≡ length values.old }
-    ensures run { HoldsRunStage (run_factor twiddles.now low.now) bit start values.old values.new }
-    ensures before { (p : ℕ) → p < start → slice_index values.new p ≡ slice_index values.old p }
-    ensures behind { (p : ℕ) → start + 16 ≤ p → slice_index values.new p ≡ slice_index values.old p }
+    ensures run { HoldsRunStage (run_factor twiddles.now low.now) bit start (map W.value values.old) (map W.value values.new) }
+    ensures before { (p : ℕ) → p < start → slice_index (map W.value values.new) p ≡ slice_index (map W.value values.old) p }
+    ensures behind { (p : ℕ) → start + 16 ≤ p → slice_index (map W.value values.new) p ≡ slice_index (map W.value values.old) p }
 {
     let half = half_of(bit);
     for turn in 0..2 {
         let first = start + lower_of(4 * turn, half);
+        let first_upper = first + half;
         let second = start + lower_of(4 * turn + 1, half);
+        let second_upper = second + half;
         let third = start + lower_of(4 * turn + 2, half);
+        let third_upper = third + half;
         let fourth = start + lower_of(4 * turn + 3, half);
+        let fourth_upper = fourth + half;
         let scalars = [
             twiddles[bit] ^ low[4 * turn / half],
             twiddles[bit] ^ low[(4 * turn + 1) / half],
@@ -277,30 +263,30 @@ fn stage_by_fours(
             twiddles[bit] ^ low[(4 * turn + 3) / half],
         ];
         let uppers = [
-            values[first + half],
-            values[second + half],
-            values[third + half],
-            values[fourth + half],
+            number_at(values, first_upper),
+            number_at(values, second_upper),
+            number_at(values, third_upper),
+            number_at(values, fourth_upper),
         ];
         let products = multiply_mod_128_four_times(scalars, uppers);
-        add_to_pair(values, first, first + half, products[0]);
-        add_to_pair(values, second, second + half, products[1]);
-        add_to_pair(values, third, third + half, products[2]);
-        add_to_pair(values, fourth, fourth + half, products[3]);
+        add_to_pair(values, first, first_upper, products[0]);
+        add_to_pair(values, second, second_upper, products[1]);
+        add_to_pair(values, third, third_upper, products[2]);
+        add_to_pair(values, fourth, fourth_upper, products[3]);
     }
 }
 
 // Adds a product to the lower value of a pair, and then the lower value to the upper one.
 #[inline]
-fn add_to_pair(values: &mut [u128], lower: usize, upper: usize, product: u128)
+fn add_to_pair<W: WideWord>(values: &mut [W], lower: usize, upper: usize, product: u128)
     requires apart { lower < upper }
     requires inside { upper < length values.old }
-    ensures { values.new ≡ with_pair values.old lower upper product }
+    ensures { map W.value values.new ≡ with_pair (map W.value values.old) lower upper product }
 {
-    let hi = values[upper];
-    let lo = values[lower] ^ product;
-    values[lower] = lo;
-    values[upper] = hi ^ lo;
+    let hi = number_at(values, upper);
+    let lo = number_at(values, lower) ^ product;
+    put_number(values, lower, lo);
+    put_number(values, upper, hi ^ lo);
 }
 
 // Half the places of a block of a stage, whose pairs are as far apart.

@@ -4,13 +4,16 @@
 // The product is linear in the value, so it is taken byte by byte, from the highest down (Horner's rule): the sum so far times x^8, and
 // the products of the scalar by the two digits of the next byte to base 16. These and the remainders of a shift by a byte are looked up in
 // registers.
-ghost use Rattle.std.specs.Prelude.{◌≡◌, ℕ, ◌+◌, ◌*◌, ◌<◌, [], bit_xor, length, map, slice_index, slice_index_or};
+ghost use Rattle.std.specs.Prelude.{◌≡◌, ℕ, ◌+◌, ◌*◌, ◌/◌, ◌%◌, ◌<◌, List, [], bit_xor, length, map, slice_index, slice_index_or};
+ghost use Rattle.std.specs.Simd.Lanes.{Each1, zip2};
+ghost use Rattle.std.proofs.Common.{Fits, w8};
 ghost use Rattle.field_base.specs.Remainder.{ghash_modulus, mul_mod};
 ghost use Rattle.transform_slices.specs.Blocks.{HoldBytes, HoldLanes, HoldRows};
 ghost use Rattle.transform_slices.specs.LowStages.{ghash_product};
 ghost use Rattle.transform_slices.specs.Tails.{byte_of_tail};
 
 use crate::blocks::{bytes_from, lanes_at, put_lanes, transposed};
+use crate::words::numbers_are_values;
 use nibble_lookups::{
     halves, high_entries, high_entries_of_32, joined, low_entries, low_entries_of_32,
 };
@@ -32,6 +35,84 @@ const HIGH_TAILS_HIGH: [u8; 16] = [
     0, 8, 16, 24, 33, 41, 49, 57, 67, 75, 83, 91, 98, 106, 114, 122,
 ];
 
+/// A vector of bytes, in which multiples are looked up: sixteen or thirty-two lanes.
+pub(crate) trait ByteVector: Copy {
+    // The bytes of a vector, and how many they are.
+    ghost bytes: { Self → List ℕ };
+
+    ghost lanes: { ℕ };
+
+    /// This vector, of whose bytes it is known how many they are, and that they are bytes.
+    fn known(self) -> Self
+        ensures same { result ≡ self }
+        ensures count { length (bytes self) ≡ lanes }
+        ensures fit { Each1 (Fits w8) (bytes self) };
+
+    /// The sums of the bytes in each lane.
+    fn sum(self, other: Self) -> Self
+        ensures { bytes result ≡ zip2 bit_xor (bytes self) (bytes other) };
+
+    /// The entry of the table at the low four bits of each byte.
+    fn low_entries_of(self, table: u8x16) -> Self
+        ensures { bytes result ≡ map (λ byte. slice_index table (byte % 16)) (bytes self) };
+
+    /// The entry of the table at the high four bits of each byte.
+    fn high_entries_of(self, table: u8x16) -> Self
+        ensures { bytes result ≡ map (λ byte. slice_index table (byte / 16)) (bytes self) };
+}
+
+impl ByteVector for u8x16 {
+    ghost bytes = { λ lanes. lanes };
+
+    ghost lanes = { 16 };
+
+    #[inline(always)]
+    fn known(self) -> u8x16 {
+        self
+    }
+
+    #[inline(always)]
+    fn sum(self, other: u8x16) -> u8x16 {
+        self ^ other
+    }
+
+    #[inline(always)]
+    fn low_entries_of(self, table: u8x16) -> u8x16 {
+        low_entries(table, self)
+    }
+
+    #[inline(always)]
+    fn high_entries_of(self, table: u8x16) -> u8x16 {
+        high_entries(table, self)
+    }
+}
+
+impl ByteVector for u8x32 {
+    ghost bytes = { λ lanes. lanes };
+
+    ghost lanes = { 32 };
+
+    #[inline(always)]
+    fn known(self) -> u8x32 {
+        self
+    }
+
+    #[inline(always)]
+    fn sum(self, other: u8x32) -> u8x32 {
+        self ^ other
+    }
+
+    #[inline(always)]
+    fn low_entries_of(self, table: u8x16) -> u8x32 {
+        low_entries_of_32(table, self)
+    }
+
+    #[inline(always)]
+    fn high_entries_of(self, table: u8x16) -> u8x32 {
+        high_entries_of_32(table, self)
+    }
+}
+
 /// The multiples of a scalar by the digits of a byte to base 16, in rows: those of the low digit, and those of the high one. They are
 /// looked up in registers.
 #[derive(Drop)]
@@ -50,9 +131,17 @@ impl Multiples {
     pub fn new(scalar: u128) -> Multiples
         ensures { scalar_of result ≡ scalar }
     {
-        let low = transposed(&bytes_from(&multiples_of(scalar), 0));
-        let high = transposed(&bytes_from(&multiples_of(times_16(scalar)), 0));
+        let low = rows_of(&multiples_of(scalar));
+        let high = rows_of(&multiples_of(times_16(scalar)));
         Multiples { scalar, low, high }
+    }
+
+    /// The scalar.
+    #[inline]
+    pub(crate) fn scalar(&self) -> u128
+        ensures { result ≡ scalar_of self.now }
+    {
+        self.scalar
     }
 
     /// The products of the scalar and each value of a block.
@@ -92,7 +181,7 @@ impl Multiples {
         for turn in 0..16 {
             let row = 15 - turn;
             let bytes = joined(lanes_at(first_rows, row), lanes_at(second_rows, row));
-            self.step_of_32(&mut sums, bytes);
+            self.step(&mut sums, bytes);
         }
         sums
     }
@@ -100,93 +189,42 @@ impl Multiples {
     // The sums become their products by x^8, with the products of the scalar by one byte more of each value. From the highest row down to
     // the third, a row is what stood in the one below it; what leaves the highest row enters the lowest two by its product with the tail.
     #[inline(always)]
-    fn step(&self, sums: &mut [u8x16; 16], bytes: u8x16)
-        ensures { (values : ℕ → ℕ) → HoldLanes 16 sums.old values → HoldLanes 16 sums.new (horner_step (scalar_of self.now) values bytes) }
+    fn step<V: ByteVector>(&self, sums: &mut [V; 16], bytes: V)
+        ensures { (values : ℕ → ℕ) → HoldLanes V.lanes (map V.bytes sums.old) values
+            → HoldLanes V.lanes (map V.bytes sums.new) (horner_step (scalar_of self.now) values (V.bytes bytes)) }
     {
         let top = row_at(sums, 15);
         for turn in 0..14 {
             let row = 15 - turn;
             let below = row_at(sums, row - 1);
-            sums[row] = below ^ self.entries(row, bytes);
+            sums[row] = below.sum(self.entries(row, bytes));
         }
         let lowest = row_at(sums, 0);
-        sums[1] = lowest ^ second_tails(top) ^ self.entries(1, bytes);
-        sums[0] = first_tails(top) ^ self.entries(0, bytes);
-    }
-
-    // The same in thirty-two lanes.
-    #[inline(always)]
-    fn step_of_32(&self, sums: &mut [u8x32; 16], bytes: u8x32)
-        ensures { (values : ℕ → ℕ) → HoldLanes 32 sums.old values → HoldLanes 32 sums.new (horner_step (scalar_of self.now) values bytes) }
-    {
-        let top = row_of_32(sums, 15);
-        for turn in 0..14 {
-            let row = 15 - turn;
-            let below = row_of_32(sums, row - 1);
-            sums[row] = below ^ self.entries_of_32(row, bytes);
-        }
-        let lowest = row_of_32(sums, 0);
-        sums[1] = lowest ^ second_tails_of_32(top) ^ self.entries_of_32(1, bytes);
-        sums[0] = first_tails_of_32(top) ^ self.entries_of_32(0, bytes);
+        sums[1] = lowest.sum(second_tails(top)).sum(self.entries(1, bytes));
+        sums[0] = first_tails(top).sum(self.entries(0, bytes));
     }
 
     // Byte `row` of the products of the scalar and each byte.
     #[inline(always)]
-    fn entries(&self, row: usize, bytes: u8x16) -> u8x16
+    fn entries<V: ByteVector>(&self, row: usize, bytes: V) -> V
         requires { row < 16 }
-        ensures { result ≡ map (byte_of_multiple (scalar_of self.now) row) bytes }
+        ensures bytes { V.bytes result ≡ map (byte_of_multiple (scalar_of self.now) row) (V.bytes bytes) }
+        ensures count { length (V.bytes bytes) ≡ V.lanes }
     {
-        let low = low_entries(lanes_at(&self.low, row), bytes);
-        low ^ high_entries(lanes_at(&self.high, row), bytes)
-    }
-
-    // The same of thirty-two bytes.
-    #[inline(always)]
-    fn entries_of_32(&self, row: usize, bytes: u8x32) -> u8x32
-        requires { row < 16 }
-        ensures { result ≡ map (byte_of_multiple (scalar_of self.now) row) bytes }
-    {
-        let low = low_entries_of_32(lanes_at(&self.low, row), bytes);
-        low ^ high_entries_of_32(lanes_at(&self.high, row), bytes)
+        let known = bytes.known();
+        let low = known.low_entries_of(lanes_at(&self.low, row));
+        low.sum(known.high_entries_of(lanes_at(&self.high, row)))
     }
 }
 
-// A row of sixteen bytes.
+// A row of bytes. As a parameter a vector is known to have its lanes, and as an element of an array it is not.
 #[inline(always)]
-fn row_at(rows: &[u8x16; 16], row: usize) -> u8x16
+fn row_at<V: ByteVector>(rows: &[V; 16], row: usize) -> V
     requires { row < 16 }
-    ensures lanes { result ≡ slice_index_or rows.now row [] }
-    ensures count { length result ≡ 16 }
+    ensures bytes { V.bytes result ≡ slice_index_or (map V.bytes rows.now) row [] }
+    ensures count { length (V.bytes result) ≡ V.lanes }
 {
-    counted_16(rows[row])
-}
-
-// These lanes. As a parameter a vector is known to have its sixteen lanes, and as an element of an array it is not.
-#[inline(always)]
-fn counted_16(lanes: u8x16) -> u8x16
-    ensures same { result ≡ lanes }
-    ensures count { length lanes ≡ 16 }
-{
-    lanes
-}
-
-// A row of thirty-two bytes.
-#[inline(always)]
-fn row_of_32(rows: &[u8x32; 16], row: usize) -> u8x32
-    requires { row < 16 }
-    ensures lanes { result ≡ slice_index_or rows.now row [] }
-    ensures count { length result ≡ 32 }
-{
-    counted_32(rows[row])
-}
-
-// These lanes, in the same way.
-#[inline(always)]
-fn counted_32(lanes: u8x32) -> u8x32
-    ensures same { result ≡ lanes }
-    ensures count { length lanes ≡ 32 }
-{
-    lanes
+    rows[row].known()
 }
 
 // The bytes of rows of sixteen.
@@ -209,7 +247,7 @@ fn bytes_of_both(rows: &[u8x32; 16]) -> ([u8; 256], [u8; 256])
     let mut first = [0; 256];
     let mut second = [0; 256];
     for row in 0..16 {
-        let (one, other) = halves(row_of_32(rows, row));
+        let (one, other) = halves(row_at(rows, row));
         put_lanes(&mut first, 16 * row, one);
         put_lanes(&mut second, 16 * row, other);
     }
@@ -218,37 +256,30 @@ fn bytes_of_both(rows: &[u8x32; 16]) -> ([u8; 256], [u8; 256])
 
 // The low bytes of the products of bytes and the tail of the polynomial, x^7 + x^2 + x + 1.
 #[inline(always)]
-fn first_tails(bytes: u8x16) -> u8x16
-    ensures { result ≡ map (byte_of_tail 0) bytes }
+fn first_tails<V: ByteVector>(bytes: V) -> V
+    ensures { V.bytes result ≡ map (byte_of_tail 0) (V.bytes bytes) }
 {
-    low_entries(u8x16::from_array(LOW_TAILS_LOW), bytes)
-        ^ high_entries(u8x16::from_array(HIGH_TAILS_LOW), bytes)
+    let known = bytes.known();
+    let low = known.low_entries_of(u8x16::from_array(LOW_TAILS_LOW));
+    low.sum(known.high_entries_of(u8x16::from_array(HIGH_TAILS_LOW)))
 }
 
 // The high bytes of these products.
 #[inline(always)]
-fn second_tails(bytes: u8x16) -> u8x16
-    ensures { result ≡ map (byte_of_tail 1) bytes }
+fn second_tails<V: ByteVector>(bytes: V) -> V
+    ensures { V.bytes result ≡ map (byte_of_tail 1) (V.bytes bytes) }
 {
-    low_entries(u8x16::from_array(LOW_TAILS_HIGH), bytes)
-        ^ high_entries(u8x16::from_array(HIGH_TAILS_HIGH), bytes)
+    let known = bytes.known();
+    let low = known.low_entries_of(u8x16::from_array(LOW_TAILS_HIGH));
+    low.sum(known.high_entries_of(u8x16::from_array(HIGH_TAILS_HIGH)))
 }
 
-// The same of thirty-two bytes.
-#[inline(always)]
-fn first_tails_of_32(bytes: u8x32) -> u8x32
-    ensures { result ≡ map (byte_of_tail 0) bytes }
+// The rows of sixteen numbers.
+fn rows_of(numbers: &[u128; 16]) -> [u8; 256]
+    ensures { HoldRows result (slice_index numbers.now) }
 {
-    low_entries_of_32(u8x16::from_array(LOW_TAILS_LOW), bytes)
-        ^ high_entries_of_32(u8x16::from_array(HIGH_TAILS_LOW), bytes)
-}
-
-#[inline(always)]
-fn second_tails_of_32(bytes: u8x32) -> u8x32
-    ensures { result ≡ map (byte_of_tail 1) bytes }
-{
-    low_entries_of_32(u8x16::from_array(LOW_TAILS_HIGH), bytes)
-        ^ high_entries_of_32(u8x16::from_array(HIGH_TAILS_HIGH), bytes)
+    numbers_are_values(numbers);
+    transposed(&bytes_from(numbers, 0))
 }
 
 // The products of the scalar by the numbers below 16.

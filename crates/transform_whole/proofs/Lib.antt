@@ -2,7 +2,6 @@ pub mod BlockStages
 pub mod Butterflies
 pub mod Counts
 pub mod OnlyStages
-pub mod Values
 pub mod WholeStages
 pub mod Written
 pub mod CantorSums

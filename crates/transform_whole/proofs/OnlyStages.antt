@@ -1,10 +1,10 @@
 -- What all the stages leave has one origin.
-use Rattle.std.proofs.Common.{◌≡◌, ℕ, zero, suc, ◌+◌, ◌-◌, ◌*◌, ◌/◌, ◌%◌, ◌^◌, ◌<◌, ◌≤◌, List, [], ◌∷◌, length, map, take, refl, sym, ◌∙◌, ap, ap₂, subst, arith, lit<}
+use Rattle.std.proofs.Common.{◌≡◌, ℕ, zero, suc, ◌+◌, ◌-◌, ◌*◌, ◌/◌, ◌%◌, ◌^◌, ◌<◌, ◌≤◌, List, length, take, refl, sym, ◌∙◌, ap, ap₂, subst, arith, lit<}
 use Rattle.std.specs.Prelude.{bit_xor, slice_index}
 use Rattle.std.specs.Int.{bit_at}
 use Rattle.std.proofs.Math.Nat.{two-pow-succ}
 use Rattle.std.proofs.lemmas.List.{ext_get_or}
-use Rattle.std.proofs.lemmas.Nat.{div-mul-add, mod-mul-add, pow_pos, xor_lt}
+use Rattle.std.proofs.lemmas.Nat.{div-mul-add, mod-mul-add, xor_lt}
 use native.Mathlib.Nat.{mod-eq_of_lt}
 use lib.Bits.{xor_assoc, xor_zero_r}
 use Rattle.field_base.specs.BitRingLemmas.{two_cases}
@@ -13,6 +13,7 @@ use Rattle.field_base.specs.Orders.{AreCantorVectors}
 use Rattle.field_base.specs.Ring.{IsRing}
 use Rattle.field_base.proofs.RemainderRing.{ghash_ring}
 use Rattle.field_base.proofs.RingLemmas.{sum_times, xor_cancel}
+use Rattle.transform_whole.specs.Stages.{AreLeft}
 use Rattle.transform_slices.specs.Stages.{factor, lower_place, stage, stages, upper_place}
 use Rattle.transform_slices.specs.Cantor.{AreCantorTwiddles, point, polynomial_value}
 use Rattle.transform_slices.proofs.GhashVectors.{ghash_vectors}
@@ -20,7 +21,7 @@ use Rattle.transform_slices.specs.LowStages.{ghash_cantor_vector, ghash_product,
 use Rattle.transform_whole.specs.Transform.{AreOnlyCoefficients, AreTheCoefficients, HoldPolynomialValues, HoldValuesAtPoints}
 use Rattle.transform_whole.proofs.Butterflies.{twice}
 use Rattle.transform_whole.proofs.Counts.{one_exponent}
-use Rattle.transform_whole.proofs.WholeStages.{AreLeft, AreUndone, SplitPlace, end_before, low_stages_are, split_place, stages_are_values, whole_blocks}
+use Rattle.transform_whole.proofs.WholeStages.{AreUndone, SplitPlace, end_before, low_stages_are, split_place, stages_are_values, whole_blocks}
 
 -- ---- both places of a pair
 
@@ -258,10 +259,3 @@ module _ (shifts basis : List ℕ) (z : ℕ) (twiddles : AreCantorTwiddles 128 g
       (subst (λ (s : List ℕ). HoldSums s low_basis 0 now new) are_shifts sums))
       p inside
       ∙ ap (λ (v : ℕ). v % 2 ^ 128) (left p inside))
-
--- the values of elements
-pub values_fit : {A : Type 0} (width : ℕ) (value : A → ℕ) → ((x : A) → value x < 2 ^ width) → (xs : List A) (p : ℕ)
-    → slice_index (map value xs) p < 2 ^ width
-values_fit width value fits [] p = pow_pos width
-values_fit width value fits (x ∷ xs) zero = fits x
-values_fit width value fits (x ∷ xs) (suc p) = values_fit width value fits xs p

@@ -22,7 +22,7 @@ use Rattle.transform_slices.proofs.GhashVectors.{ghash_vectors}
 use Rattle.transform_slices.proofs.Places.{next_quotient}
 use Rattle.transform_slices.proofs.StageSums.{stages_sum, sum_of_factors-same, sum_of_factors-values}
 use Rattle.transform_slices.specs.LowStages.{ghash_cantor_vector, ghash_product, HoldSums, values_from}
-use Rattle.transform_whole.specs.Stages.{IsButterfly, IsStage}
+use Rattle.transform_whole.specs.Stages.{AreLeft, IsButterfly, IsStage}
 
 -- ---- places
 
@@ -169,13 +169,6 @@ module _ (times : ℕ → ℕ → ℕ) (shifts basis : List ℕ) where
   stages-same m (suc n) within a b same p inside =
       stages-same m n (omega arith) (stage times (factor shifts basis) n a) (stage times (factor shifts basis) n b)
       (λ k below. stage-here m n (omega arith) a b same k below) p inside
-
-  -- the stages below n that are left take what is there to what all of them take the coefficients to
-  abbrev pub AreLeft : ℕ → ℕ → List ℕ → List ℕ → Type 0
-  AreLeft m n old now =
-      (p : ℕ) → p < 2 ^ m
-      → stages times (factor shifts basis) n (slice_index now) p
-      ≡ stages times (factor shifts basis) m (slice_index old) p
 
   -- the stages below n take what is there to the values
   abbrev pub AreUndone : ℕ → ℕ → List ℕ → List ℕ → Type 0

@@ -32,5 +32,6 @@ pub record AreTheCoefficients (width : ℕ) (times : ℕ → ℕ → ℕ) (vecto
 abbrev pub HoldPolynomialValues : ℕ → List ℕ → List ℕ → Type 0
 HoldPolynomialValues = HoldValuesAtPoints 128 ghash_product ghash_cantor_vector
 
+-- and these coefficients, and no others, have those values there
 abbrev pub AreOnlyCoefficients : ℕ → List ℕ → List ℕ → Type 0
 AreOnlyCoefficients = AreTheCoefficients 128 ghash_product ghash_cantor_vector

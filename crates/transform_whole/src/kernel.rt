@@ -7,7 +7,8 @@ ghost use native.Mathlib.Nat.{mod-lt};
 ghost use Rattle.std.proofs.lemmas.Nat.{pow_pos};
 
 use std::alloc::Allocator;
-use transform_slices::{LowStageTwiddles, butterfly_forward, butterfly_inverse};
+use std::marker::PhantomData;
+use transform_slices::{LowStageTwiddles, WideWord, add_each, add_multiples, run_low_stages};
 
 /// What computes on the values of a transform: nothing else does. Each element stands for a value, which is a number of 128
 /// bits in the field of GHASH. A kernel counts the pairs of places that it computes.
@@ -77,12 +78,14 @@ impl Kernel for PolyKernel {
 
     fn butterfly_forward(&mut self, lo: &mut [u128], hi: &mut [u128], s: u128) {
         self.products += lo.len() as u64;
-        butterfly_forward(lo, hi, s);
+        add_multiples(lo, hi, s, false);
+        add_each(hi, lo);
     }
 
     fn butterfly_inverse(&mut self, lo: &mut [u128], hi: &mut [u128], s: u128) {
         self.products += lo.len() as u64;
-        butterfly_inverse(lo, hi, s);
+        add_each(hi, lo);
+        add_multiples(lo, hi, s, false);
     }
 
     fn low_forward<A: Allocator>(
@@ -92,6 +95,62 @@ impl Kernel for PolyKernel {
         first_run: usize,
     ) {
         self.products += 2 * values.len() as u64;
-        twiddles.forward(values, first_run);
+        let (shifts, basis) = (twiddles.shifts(), twiddles.basis());
+        run_low_stages(shifts, basis, values, first_run as u128, false);
+    }
+}
+
+/// The kernel over words that hold numbers, where they lie, in vectors of 128 bits or of 256.
+#[derive(Drop)]
+pub struct WordKernel<W> {
+    /// The pairs that were computed.
+    pub products: u64,
+    wide_vectors: bool,
+    words: PhantomData<W>,
+}
+
+impl<W: WideWord> WordKernel<W> {
+    /// The kernel, before it has counted a pair. Wide vectors are made for x86-64-v3.
+    pub fn new(wide_vectors: bool) -> WordKernel<W>
+        ensures { result.products ≡ 0 }
+    {
+        WordKernel {
+            products: 0,
+            wide_vectors,
+            words: PhantomData,
+        }
+    }
+}
+
+impl<W: WideWord> Kernel for WordKernel<W> {
+    type Elem = W;
+
+    ghost value = { W.value };
+
+    ghost count = { λ kernel. kernel.products };
+
+    ghost range_law = { W.range_law };
+
+    fn butterfly_forward(&mut self, lo: &mut [W], hi: &mut [W], s: u128) {
+        self.products += lo.len() as u64;
+        add_multiples(lo, hi, s, self.wide_vectors);
+        add_each(hi, lo);
+    }
+
+    fn butterfly_inverse(&mut self, lo: &mut [W], hi: &mut [W], s: u128) {
+        self.products += lo.len() as u64;
+        add_each(hi, lo);
+        add_multiples(lo, hi, s, self.wide_vectors);
+    }
+
+    fn low_forward<A: Allocator>(
+        &mut self,
+        twiddles: &LowStageTwiddles<A>,
+        values: &mut [W],
+        first_run: usize,
+    ) {
+        self.products += 2 * values.len() as u64;
+        let (shifts, basis) = (twiddles.shifts(), twiddles.basis());
+        run_low_stages(shifts, basis, values, first_run as u128, self.wide_vectors);
     }
 }

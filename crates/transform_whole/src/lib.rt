@@ -19,13 +19,13 @@ mod stages;
 mod twiddles;
 mod whole;
 
-pub use crate::kernel::{Kernel, PolyKernel};
+pub use crate::kernel::{Kernel, PolyKernel, WordKernel};
 pub use crate::laws::values_commute_with_images;
 pub use crate::pairs::{PairByPair, PairKernel, low_stages};
 pub use crate::points::point;
 pub use crate::prepared::Transform;
 pub use crate::stages::{half_of, start_of};
 pub use crate::whole::{
-    forward, forward_by_butterflies, forward_numbers, forward_with, inverse, inverse_numbers,
-    inverse_with, stages_of,
+    forward, forward_numbers, forward_with, forward_words, inverse, inverse_numbers, inverse_with,
+    inverse_words, stages_of,
 };

@@ -6,9 +6,9 @@ ghost use Rattle.transform_slices.specs.Twiddles.{basis_of, shifts_of};
 
 use crate::kernel::{Kernel, PolyKernel};
 use crate::twiddles::Twiddles;
-use crate::whole::{every_stage, forward_stages, numbers_fit, undo_stages};
+use crate::whole::{every_stage, forward_stages, undo_stages};
 use std::alloc::{AllocError, Allocator};
-use transform_slices::{LOW_STAGES, LowStageTwiddles};
+use transform_slices::{LOW_STAGES, LowStageTwiddles, numbers_are_values};
 
 /// The transforms of 2^m values from one shift on, for one m from 0 to 40: the twiddles are made once, so that a call takes no
 /// memory, and does not fail. `forward` and `inverse` make them in each call, which counts where there are few values.
@@ -52,7 +52,7 @@ impl<A: Allocator> Transform<A> {
         ensures length { length values.new ≡ length values.old }
         ensures values { HoldPolynomialValues self.now.z values.old values.new }
     {
-        numbers_fit(values);
+        numbers_are_values(values);
         self.forward_with(&mut PolyKernel { products: 0 }, values);
     }
 
@@ -63,7 +63,7 @@ impl<A: Allocator> Transform<A> {
         ensures length { length values.new ≡ length values.old }
         ensures coefficients { AreOnlyCoefficients self.now.z values.old values.new }
     {
-        numbers_fit(values);
+        numbers_are_values(values);
         self.inverse_with(&mut PolyKernel { products: 0 }, values);
     }
 

@@ -1,5 +1,5 @@
 // The twiddles of all the stages of a transform.
-ghost use Rattle.std.specs.Prelude.{◌≡◌, ◌<◌, ◌≤◌, ℕ, bit_xor, length, slice_index};
+ghost use Rattle.std.specs.Prelude.{◌≡◌, ◌<◌, ◌≤◌, ℕ, bit_xor, length, slice_index, take};
 ghost use Rattle.field_base.specs.LinearMaps.{linear_image};
 ghost use Rattle.transform_slices.specs.LowStages.{ghash_cantor_vector, ghash_product};
 ghost use Rattle.transform_slices.specs.Cantor.{AreCantorTwiddles};
@@ -29,6 +29,18 @@ impl Twiddles {
             basis[t] = to_polynomial_128(cantor_vector(t + 1));
         }
         Twiddles { shifts, basis }
+    }
+
+    /// The shifts of the four lowest stages.
+    pub(crate) fn low_shifts(&self) -> [u128; 4]
+        ensures { result ≡ take 4 self.now.shifts }
+    {
+        [
+            self.shifts[0],
+            self.shifts[1],
+            self.shifts[2],
+            self.shifts[3],
+        ]
     }
 
     /// The twiddle of all pairs of a block of a stage: the shift of the stage, and the elements of the basis at the set bits of

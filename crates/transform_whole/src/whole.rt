@@ -4,12 +4,15 @@ ghost use Rattle.transform_whole.specs.Transform.{AreOnlyCoefficients, CountsPai
 ghost use Rattle.transform_slices.specs.LowStages.{ghash_cantor_vector, ghash_product};
 ghost use Rattle.transform_slices.specs.Twiddles.{basis_of, shifts_of};
 ghost use Rattle.transform_slices.specs.Cantor.{AreCantorTwiddles};
+ghost use Rattle.transform_whole.specs.Stages.{AreLeft};
 
-use crate::kernel::{Kernel, PolyKernel};
+use crate::kernel::{Kernel, PolyKernel, WordKernel};
 use crate::stages::{forward_stage, inverse_stage};
 use crate::twiddles::Twiddles;
 use std::alloc::{AllocError, Allocator};
-use transform_slices::{LOW_STAGES, LowStageTwiddles};
+use transform_slices::{
+    LOW_STAGES, LowStageTwiddles, WideWord, numbers_are_values, run_low_stages,
+};
 
 /// Leaves at each place p the value, at point p, of the polynomial with the coefficients `values` in the basis of the products of
 /// the s_j: point p is `z`, and Cantor vector b for each set bit b of p. The length of `values` has to be 2^m for an m from 0 to 40.
@@ -29,7 +32,7 @@ pub fn forward<A: Allocator>(
     ensures refused { IfErr result (λ _. (values.new ≡ values.old) × (products.new ≡ products.old)) }
     ensures large { IfErr result (λ _. 16 ≤ length values.old) }
 {
-    numbers_fit(values);
+    numbers_are_values(values);
     let mut kernel = PolyKernel {
         products: *products,
     };
@@ -46,7 +49,7 @@ pub fn inverse(values: &mut [u128], z: u128, products: &mut u64)
     ensures coefficients { AreOnlyCoefficients z values.old values.new }
     ensures count { CountsPairs (length values.old) products.old products.new }
 {
-    numbers_fit(values);
+    numbers_are_values(values);
     let mut kernel = PolyKernel {
         products: *products,
     };
@@ -113,17 +116,33 @@ pub fn forward_with<K: Kernel, A: Allocator>(
     Ok(())
 }
 
-/// The transform `forward_with` by butterflies alone, the low stages too: it asks and does the same, takes no memory, and does not
-/// fail.
-pub fn forward_by_butterflies<K: Kernel>(kernel: &mut K, values: &mut [K::Elem], z: u128)
-    requires { FitsTransform (length values.old) (K.count kernel.old) }
-    ensures length { length values.new ≡ length values.old }
-    ensures values { HoldPolynomialValues z (map K.value values.old) (map K.value values.new) }
-    ensures count { CountsPairs (length values.old) (K.count kernel.old) (K.count kernel.new) }
+/// The transform `forward` of words that hold numbers, where they lie, without a count. The length of `words` has to be 2^m for an m
+/// from 0 to 40. It takes no memory. Wide vectors are made for x86-64-v3.
+pub fn forward_words<W: WideWord>(words: &mut [W], z: u128, wide_vectors: bool)
+    requires { (m : ℕ) × HasStages m (length words.old) }
+    ensures length { length words.new ≡ length words.old }
+    ensures values { HoldPolynomialValues z (map W.value words.old) (map W.value words.new) }
 {
-    let stages = stages_of(values.len());
+    let stages = stages_of(words.len());
     let twiddles = Twiddles::new(z);
-    every_stage(kernel, values, stages, &twiddles, z);
+    let mut kernel = WordKernel::new(wide_vectors);
+    if stages < LOW_STAGES {
+        every_stage(&mut kernel, words, stages, &twiddles, z);
+        return;
+    }
+    stages_down_to(&mut kernel, words, stages, LOW_STAGES, &twiddles);
+    let basis = &twiddles.basis[..stages - 1];
+    run_low_stages(&twiddles.low_shifts(), basis, words, 0, wide_vectors);
+}
+
+/// The transform `inverse` of words that hold numbers, where they lie, without a count: it takes back what `forward_words` did with the
+/// same `z`. The length of `words` has to be 2^m for an m from 0 to 40. It takes no memory. Wide vectors are made for x86-64-v3.
+pub fn inverse_words<W: WideWord>(words: &mut [W], z: u128, wide_vectors: bool)
+    requires { (m : ℕ) × HasStages m (length words.old) }
+    ensures length { length words.new ≡ length words.old }
+    ensures coefficients { AreOnlyCoefficients z (map W.value words.old) (map W.value words.new) }
+{
+    inverse_with(&mut WordKernel::new(wide_vectors), words, z);
 }
 
 /// The transform `inverse` by any kernel: nothing but the kernel computes on its elements. It asks what `forward_with` asks, and
@@ -191,9 +210,7 @@ pub(crate) fn every_stage<K: Kernel>(
     ensures values { HoldPolynomialValues z (map K.value values.old) (map K.value values.new) }
     ensures count { K.count kernel.new ≡ K.count kernel.old + stages * 2 ^ (stages - 1) }
 {
-    for stage in (0..stages).rev() {
-        forward_stage(kernel, values, stage, twiddles);
-    }
+    stages_down_to(kernel, values, stages, 0, twiddles);
 }
 
 // The stages of a forward transform that has four or more, from the highest down: those from the fourth on by butterflies, and the
@@ -217,13 +234,27 @@ pub(crate) fn forward_stages<K: Kernel, A: Allocator>(
     ensures values { HoldPolynomialValues z (map K.value values.old) (map K.value values.new) }
     ensures count { K.count kernel.new ≡ K.count kernel.old + stages * 2 ^ (stages - 1) }
 {
-    for stage in (LOW_STAGES..stages).rev() {
-        forward_stage(kernel, values, stage, twiddles);
-    }
+    stages_down_to(kernel, values, stages, LOW_STAGES, twiddles);
     kernel.low_forward(low, values, 0);
 }
 
-// States that the values are numbers of 128 bits: what a contract may say of a slice's numbers is known where they are read.
-pub(crate) fn numbers_fit(values: &[u128])
-    ensures { (p : ℕ) → slice_index values.now p < 2 ^ 128 }
-{}
+// The stages of a forward transform by butterflies, from the highest down to the stage `lowest`.
+fn stages_down_to<K: Kernel>(
+    kernel: &mut K,
+    values: &mut [K::Elem],
+    stages: usize,
+    lowest: usize,
+    twiddles: &Twiddles,
+)
+    requires some { lowest ≤ stages }
+    requires stages { HasStages stages (length values.old) }
+    requires room { K.count kernel.old + stages * 2 ^ (stages - 1) < 2 ^ 64 }
+    ensures length { length values.new ≡ length values.old }
+    ensures left { AreLeft ghash_product twiddles.now.shifts twiddles.now.basis stages lowest (map K.value values.old)
+        (map K.value values.new) }
+    ensures count { K.count kernel.new ≡ K.count kernel.old + (stages - lowest) * 2 ^ (stages - 1) }
+{
+    for stage in (lowest..stages).rev() {
+        forward_stage(kernel, values, stage, twiddles);
+    }
+}

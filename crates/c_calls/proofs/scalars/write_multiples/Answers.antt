@@ -3,7 +3,7 @@ use Rattle.std.specs.Simd.Lanes.{zip2}
 use Rattle.c_slices.specs.Fields.{wide_number}
 use Rattle.transform_slices.specs.LowStages.{ghash_product}
 use Rattle.transform_slices.specs.Stages.{add_multiple}
-use Rattle.c_calls.specs.WideLemmas.{wide_number-lt}
+use Rattle.c_slices.specs.WideLemmas.{wide_number-lt}
 use Rattle.c_calls.proofs.Words.{products_at}
 use Rattle.c_calls.proofs.scalars.write_multiples.Goals as goal
 

@@ -1,10 +1,10 @@
 use Rattle.std.proofs.Common.{◌≡◌, ℕ, suc, ◌-◌, ◌<◌, length, map, refl, ◌∙◌, subst, arith}
 use Rattle.std.proofs.lemmas.List.{length-map}
+use Rattle.transform_whole.specs.Stages.{AreLeft}
 use Rattle.transform_levels.specs.Levels.{twiddle_basis}
 use Rattle.transform_levels.proofs.LevelStages.{few_blocks, fits_stages, level_left, level_shifts, level_values}
 use Rattle.transform_whole.proofs.Counts.{block_count, whole_blocks}
-use Rattle.transform_whole.proofs.OnlyStages.{values_fit}
-use Rattle.transform_whole.proofs.WholeStages.{AreLeft}
+use Rattle.transform_slices.proofs.WordValues.{values_fit}
 use Rattle.transform_levels.proofs.whole.forward_elements.Goals as goal
 
 pub stages_of-stages-requires : goal.stages_of-stages-requires

@@ -1,7 +1,7 @@
 use Rattle.std.proofs.Common.{◌≡◌, length, map}
+use Rattle.transform_whole.specs.Stages.{AreLeft}
 use Rattle.transform_levels.specs.Levels.{twiddle_basis}
 use Rattle.transform_levels.proofs.LevelStages.{level_shifts}
-use Rattle.transform_whole.proofs.WholeStages.{AreLeft}
 use Rattle.transform_levels.proofs.whole.forward_elements.Given as goal
 
 -- the stages from this one on are done

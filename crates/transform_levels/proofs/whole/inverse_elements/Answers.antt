@@ -3,7 +3,7 @@ use Rattle.std.proofs.lemmas.List.{length-map}
 use Rattle.transform_levels.specs.Levels.{twiddle_basis}
 use Rattle.transform_levels.proofs.LevelStages.{few_blocks, fits_stages, level_coefficients, level_shifts, level_undone}
 use Rattle.transform_whole.proofs.Counts.{block_count, whole_blocks}
-use Rattle.transform_whole.proofs.OnlyStages.{values_fit}
+use Rattle.transform_slices.proofs.WordValues.{values_fit}
 use Rattle.transform_whole.proofs.WholeStages.{AreUndone, undone_start}
 use Rattle.transform_levels.proofs.whole.inverse_elements.Goals as goal
 

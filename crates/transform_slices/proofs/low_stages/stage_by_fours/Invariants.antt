@@ -1,9 +1,10 @@
-use Rattle.std.proofs.Common.{ℕ, ◌*◌, ◌^◌, ◌<◌}
-use Rattle.std.specs.Prelude.{slice_index}
+use Rattle.std.proofs.Common.{◌≡◌, ◌*◌, length, map}
 use Rattle.transform_slices.proofs.RunStages.{StageSoFar}
 use Rattle.transform_slices.proofs.low_stages.stage_by_fours.Given as goal
 
+-- the pairs before are done
 abbrev pub invariant-loop-turn : goal.invariant-loop-turn
-invariant-loop-turn l =
-    ((p : ℕ) → slice_index l.fn.values p < 2 ^ 128)
-    × StageSoFar l.twiddles l.low l.bit l.start (4 * l.turn) l.fn.values l.values
+invariant-loop-turn g l =
+    let value = g.W.WideWord.value in
+    (length l.values ≡ length l.fn.values)
+    × StageSoFar l.twiddles l.low l.bit l.start (4 * l.turn) (map value l.fn.values) (map value l.values)

@@ -3,7 +3,7 @@ use native.Mathlib.Nat.{zero-add}
 use Rattle.std.specs.Simd.Lanes.{chunk, put_chunk}
 use Rattle.std.proofs.lemmas.Simd.{get_or-chunk, length-chunk}
 use Rattle.transform_slices.proofs.HornerProducts.{row_of, rows_same}
-use Rattle.transform_slices.proofs.TwoBlocks.{lanes_hold, lanes_written, two_halves_of}
+use Rattle.transform_slices.proofs.TwoBlocks.{lanes_hold, lanes_same, lanes_written, two_halves_of}
 use Rattle.transform_slices.proofs.multiples.bytes_of_both.Goals as goal
 
 pub loop-row-preserved : goal.loop-row-preserved
@@ -12,10 +12,11 @@ loop-row-preserved c =
     let few : row < 16 = omega arith in
     let rows = c.args.rows.now in
     let lanes : List ℕ = row_of rows row in
-    let long = ap length (sym c.row_of_32.ensures.lanes) ∙ c.row_of_32.ensures.count in
+    let is = c.row_at.ensures.bytes ∙ ap (λ (l : List (List ℕ)). row_of l row) (lanes_same rows) in
+    let long = ap length (sym is) ∙ c.row_at.ensures.count in
     let one_long : length (chunk 0 16 lanes) ≡ 16 = length-chunk 0 16 lanes (omega (arith, long)) in
     let other_long : length (chunk 16 16 lanes) ≡ 16 = length-chunk 16 16 lanes (omega (arith, long)) in
-    let split = c.halves.ensures (chunk 0 16 lanes) (chunk 16 16 lanes) one_long other_long (c.row_of_32.ensures.lanes ∙ two_halves_of lanes long) in
+    let split = c.halves.ensures (chunk 0 16 lanes) (chunk 16 16 lanes) one_long other_long (is ∙ two_halves_of lanes long) in
     let before = c.loop-row.invariant in (
       (
         c.put_lanes.auto.bytes ∙ before.0.0,

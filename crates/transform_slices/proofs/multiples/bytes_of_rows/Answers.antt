@@ -2,18 +2,19 @@ use Rattle.std.proofs.Common.{◌<◌, ◌+◌, ◌*◌, ◌∙◌, ℕ, List, l
 use Rattle.std.specs.Simd.Lanes.{put_chunk}
 use native.Mathlib.Nat.{zero-add}
 use Rattle.transform_slices.proofs.HornerProducts.{row_of, rows_same}
-use Rattle.transform_slices.proofs.TwoBlocks.{lanes_hold, lanes_written}
+use Rattle.transform_slices.proofs.TwoBlocks.{lanes_hold, lanes_same, lanes_written}
 use Rattle.transform_slices.proofs.multiples.bytes_of_rows.Goals as goal
 
 pub loop-row-preserved : goal.loop-row-preserved
 loop-row-preserved c =
     let row = c.loop-row.row in
     let few : row < 16 = omega arith in
-    let rows = c.args.rows.now in (
+    let rows = c.args.rows.now in
+    let is = c.row_at.ensures.bytes ∙ ap (λ (l : List (List ℕ)). row_of l row) (lanes_same rows) in (
       c.put_lanes.auto.bytes ∙ c.loop-row.invariant.0,
       λ p below.
-          ap (λ (l : List ℕ). get_or l p 0) (c.put_lanes.ensures ∙ ap (put_chunk (16 * row) c.loop-row.bytes) c.row_at.ensures.lanes)
-          ∙ lanes_written rows 0 row c.loop-row.bytes (row_of rows row) c.loop-row.invariant.0 few (ap length (sym c.row_at.ensures.lanes) ∙ c.row_at.ensures.count)
+          ap (λ (l : List ℕ). get_or l p 0) (c.put_lanes.ensures ∙ ap (put_chunk (16 * row) c.loop-row.bytes) is)
+          ∙ lanes_written rows 0 row c.loop-row.bytes (row_of rows row) c.loop-row.invariant.0 few (ap length (sym is) ∙ c.row_at.ensures.count)
           (λ e small. ap (λ (n : ℕ). get_or (row_of rows row) n 0) (sym (zero-add e))) c.loop-row.invariant.1 p below,
     )
 

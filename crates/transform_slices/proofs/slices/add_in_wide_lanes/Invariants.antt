@@ -1,11 +1,11 @@
-use Rattle.std.proofs.Common.{◌*◌}
-use Rattle.transform_slices.specs.Blocks.{added_at}
+use Rattle.std.proofs.Common.{◌*◌, map}
+use Rattle.transform_slices.specs.Blocks.{HoldsPlaces, added_at}
 use Rattle.transform_slices.specs.Multiples.{scalar_of}
-use Rattle.transform_slices.proofs.SliceBlocks.{BlocksSoFar}
 use Rattle.transform_slices.proofs.slices.add_in_wide_lanes.Given as goal
 
+-- the pairs of blocks before are done
 abbrev pub invariant-loop-pair : goal.invariant-loop-pair
-invariant-loop-pair l = BlocksSoFar (added_at (scalar_of l.multiples) l.fn.values l.others) (2 * l.pair) l.fn.values l.values
-
-abbrev pub invariant-loop-block : goal.invariant-loop-block
-invariant-loop-block l = BlocksSoFar (added_at (scalar_of l.multiples) l.fn.values l.others) l.block l.fn.values l.values
+invariant-loop-pair g l =
+    let value = g.W.WideWord.value in
+    HoldsPlaces (added_at (scalar_of l.multiples) (map value l.fn.values) (map value l.others)) 0 (32 * l.pair)
+    (map value l.fn.values) (map value l.values)

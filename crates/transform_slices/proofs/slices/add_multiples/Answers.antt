@@ -1,9 +1,14 @@
-use Rattle.std.proofs.Common.{ℕ, ◌∙◌, ap}
-use Rattle.std.specs.Prelude.{bit_xor}
-use Rattle.std.specs.Simd.Lanes.{zip2}
+use Rattle.std.proofs.Common.{length, map, sym, ◌∙◌, arith}
+use Rattle.std.proofs.lemmas.List.{length-map}
+use Rattle.transform_slices.specs.LowStages.{ghash_product}
+use Rattle.transform_slices.specs.Stages.{add_multiple}
+use Rattle.transform_slices.proofs.SliceBlocks.{held_zip2}
 use Rattle.transform_slices.proofs.slices.add_multiples.Goals as goal
 
-pub returns-else-values-lt-LEAST_TABLED : goal.returns-else-values-lt-LEAST_TABLED
-returns-else-values-lt-LEAST_TABLED c =
-    c.add_images.ensures
-    ∙ ap (λ (f : ℕ → ℕ). zip2 (λ x y. bit_xor x (f y)) c.args.values.now c.args.others.now) (λ i y. c.linear_multiples.ensures y i)
+pub returns-then-values-lt-LEAST_IN_LANES : goal.returns-then-values-lt-LEAST_IN_LANES
+returns-then-values-lt-LEAST_IN_LANES g c =
+    let value = g.W.WideWord.value in
+    let long = length-map c.args.values.now value in
+    held_zip2 (add_multiple ghash_product c.args.scalar) (length c.args.values.now) (map value c.args.values.now)
+    (map value c.args.others.now) (map value c.add_products.new.values) (long ∙ c.requires ∙ sym (length-map c.args.others.now value))
+    (omega (arith, long)) c.add_products.ensures

@@ -1,9 +1,15 @@
-use Rattle.std.proofs.Common.{◌≡◌}
-use Rattle.transform_slices.specs.LowStages.{ghash_product}
-use Rattle.transform_slices.specs.Stages.{add_multiple}
-use Rattle.transform_slices.proofs.SliceLemmas.{zipped}
+use Rattle.std.proofs.Common.{◌+◌, ◌*◌, map}
+use Rattle.transform_slices.specs.Blocks.{HoldsPlaces, added_at}
 use Rattle.transform_slices.proofs.slices.add_products.Given as goal
 
--- the places before have their products added
-abbrev pub invariant-loop-place : goal.invariant-loop-place
-invariant-loop-place l = l.values ≡ zipped (add_multiple ghash_product l.fn.scalar) l.place l.fn.values l.others
+-- the places of the pairs before are written
+abbrev pub invariant-pairs : goal.invariant-pairs
+invariant-pairs g l =
+    let value = g.W.WideWord.value in
+    HoldsPlaces (added_at l.scalar (map value l.fn.values) (map value l.others)) l.start (l.start + 2 * l.pair) (map value l.fn.values) (map value l.values)
+
+-- the places before are written
+abbrev pub invariant-rest : goal.invariant-rest
+invariant-rest g l =
+    let value = g.W.WideWord.value in
+    HoldsPlaces (added_at l.scalar (map value l.fn.values) (map value l.others)) l.start l.place (map value l.fn.values) (map value l.values)

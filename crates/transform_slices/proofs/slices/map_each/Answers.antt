@@ -1,14 +1,27 @@
-use Rattle.std.proofs.Common.{ℕ, ◌<◌, length, get_or, ap, ◌∙◌, arith}
-use Rattle.std.proofs.Math.ListN.{set}
-use Rattle.std.proofs.lemmas.List.{get_or_default}
-use Rattle.std.proofs.lemmas.List.Edits.{map_over_more}
+use Rattle.std.proofs.Common.{◌≤◌, map, ◌∙◌, ap, arith}
+use Rattle.std.proofs.lemmas.List.{length-map}
+use Rattle.std.specs.Prelude.{slice_index}
 use Rattle.word_basis.specs.LinearMap.{map_of}
+use Rattle.transform_slices.proofs.SliceBlocks.{held_map, none_held, place_written}
 use Rattle.transform_slices.proofs.slices.map_each.Goals as goal
 
-pub loop-value-preserved : goal.loop-value-preserved
-loop-value-preserved c =
-    let within : c.loop-value.value-index < length c.loop-value.values = omega arith in
-    ap (λ (r : ℕ). set c.loop-value.values c.loop-value.value-index r) c.apply.ensures
-    ∙ map_over_more (map_of c.args.linear.now) c.args.values.now c.loop-value.values c.loop-value.value-index
-    (get_or c.loop-value.values c.loop-value.value-index 0) (omega arith) c.loop-value.invariant
-    (get_or_default c.loop-value.values c.loop-value.value-index 0 (get_or c.loop-value.values c.loop-value.value-index 0) within)
+pub loop-place-init : goal.loop-place-init
+loop-place-init g c =
+    let value = g.W.WideWord.value in
+    none_held (λ p. map_of c.args.linear.now (slice_index (map value c.args.values.now) p)) 0 (map value c.args.values.now)
+
+pub loop-place-preserved : goal.loop-place-preserved
+loop-place-preserved g c =
+    let value = g.W.WideWord.value in
+    let long = length-map c.loop-place.values value in
+    let here : c.loop-place.place ≤ c.loop-place.place = omega arith in
+    place_written (λ p. map_of c.args.linear.now (slice_index (map value c.args.values.now) p)) 0 c.loop-place.place
+    (map value c.args.values.now) (map value c.loop-place.values) (map value c.put_number.new.words) c.apply-image.result (omega arith) (omega (arith, long))
+    c.put_number.ensures (c.apply-image.ensures ∙ ap (map_of c.args.linear.now) (c.number_at.ensures ∙ c.loop-place.invariant.behind c.loop-place.place here))
+    c.loop-place.invariant
+
+pub returns : goal.returns
+returns g c =
+    let value = g.W.WideWord.value in
+    let long = length-map c.args.values.now value in
+    held_map (map_of c.args.linear.now) c.loop-place.place (map value c.args.values.now) (map value c.loop-place.values) (omega (arith, long)) c.loop-place.invariant

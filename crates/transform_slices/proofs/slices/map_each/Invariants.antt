@@ -1,8 +1,11 @@
-use Rattle.std.proofs.Common.{◌≡◌, ◌++◌, map, take, drop}
+use Rattle.std.proofs.Common.{map}
+use Rattle.std.specs.Prelude.{slice_index}
 use Rattle.word_basis.specs.LinearMap.{map_of}
+use Rattle.transform_slices.specs.Blocks.{HoldsPlaces}
 use Rattle.transform_slices.proofs.slices.map_each.Given as goal
 
--- the values before the index are mapped
-abbrev pub invariant-loop-value : goal.invariant-loop-value
-invariant-loop-value l =
-    l.values ≡ map (map_of l.linear) (take l.value-index l.fn.values) ++ drop l.value-index l.fn.values
+-- the places before are written
+abbrev pub invariant-loop-place : goal.invariant-loop-place
+invariant-loop-place g l =
+    let value = g.W.WideWord.value in
+    HoldsPlaces (λ p. map_of l.linear (slice_index (map value l.fn.values) p)) 0 l.place (map value l.fn.values) (map value l.values)

@@ -1,8 +1,15 @@
-use Rattle.std.proofs.Common.{◌≡◌, ◌++◌, map, take, drop}
-use Rattle.field_base.specs.Remainder.{ghash_modulus, mul_mod}
+use Rattle.std.proofs.Common.{◌+◌, ◌*◌, map}
+use Rattle.transform_slices.specs.Blocks.{HoldsPlaces, multiplied_at}
 use Rattle.transform_slices.proofs.slices.multiply_each.Given as goal
 
--- the values before the index are multiplied
-abbrev pub invariant-loop-value : goal.invariant-loop-value
-invariant-loop-value l =
-    l.values ≡ map (λ x. mul_mod 128 ghash_modulus l.fn.scalar x) (take l.value-index l.fn.values) ++ drop l.value-index l.fn.values
+-- the places of the pairs before are written
+abbrev pub invariant-pairs : goal.invariant-pairs
+invariant-pairs g l =
+    let value = g.W.WideWord.value in
+    HoldsPlaces (multiplied_at l.scalar (map value l.fn.values)) l.start (l.start + 2 * l.pair) (map value l.fn.values) (map value l.values)
+
+-- the places before are written
+abbrev pub invariant-rest : goal.invariant-rest
+invariant-rest g l =
+    let value = g.W.WideWord.value in
+    HoldsPlaces (multiplied_at l.scalar (map value l.fn.values)) l.start l.place (map value l.fn.values) (map value l.values)

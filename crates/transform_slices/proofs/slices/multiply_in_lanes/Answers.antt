@@ -1,20 +1,18 @@
-use Rattle.std.proofs.Common.{◌*◌, ◌≤◌, length, ap, arith, lit<}
-use Rattle.std.proofs.lemmas.Grind.{div_ceil_times}
-use Rattle.transform_slices.specs.Blocks.{multiplied_at}
+use Rattle.std.proofs.Common.{◌≡◌, ◌+◌, ◌*◌, map, ap, subst, arith}
+use Rattle.transform_slices.specs.Blocks.{HoldsPlaces, multiplied_at}
 use Rattle.transform_slices.specs.LowStages.{ghash_product}
-use Rattle.transform_slices.proofs.SliceBlocks.{blocks_map, blocks_step}
+use Rattle.transform_slices.proofs.SliceBlocks.{then_held}
 use Rattle.transform_slices.proofs.slices.multiply_in_lanes.Goals as goal
 
 pub loop-block-preserved : goal.loop-block-preserved
-loop-block-preserved c =
+loop-block-preserved g c =
+    let value = g.W.WideWord.value in
     let scalar = c.args.multiples.now.scalar in
-    let old = c.args.values.now in
-    blocks_step (multiplied_at scalar old) (multiplied_at scalar c.loop-block.values) c.loop-block.block old c.loop-block.values
-    c.multiply_block.new.values (λ p later. ap (ghash_product scalar) (c.loop-block.invariant.rest p later)) c.multiply_block.ensures
-    c.loop-block.invariant
-
-pub returns : goal.returns
-returns c =
-    let reach = div_ceil_times (length c.args.values.now) 16 (lit< tt) in
-    let all : length c.args.values.now ≤ 16 * c.loop-block.block = omega (arith, reach.0, c.div_ceil-block-end.ensures) in
-    blocks_map (ghash_product c.args.multiples.now.scalar) c.loop-block.block c.args.values.now c.loop-block.values all c.loop-block.invariant
+    let old = map value c.args.values.now in
+    let now = map value c.loop-block.values in
+    let block = c.loop-block.block in
+    let next : 16 * block + 16 ≡ 16 * (block + 1) = omega arith in
+    subst (λ n. HoldsPlaces (multiplied_at scalar old) 0 n old (map value c.multiply_block.new.values)) next
+    (then_held (multiplied_at scalar old) (multiplied_at scalar now) 0 (16 * block) (16 * block + 16) old now
+    (map value c.multiply_block.new.values) (omega arith) (omega arith)
+    (λ p later. ap (ghash_product scalar) (c.loop-block.invariant.behind p later)) c.loop-block.invariant c.multiply_block.ensures)

@@ -1,6 +1,6 @@
 use Rattle.std.proofs.Common.{◌-◌, ◌*◌, ◌^◌, length, map, ◌∙◌}
 use Rattle.std.proofs.lemmas.List.{length-map}
-use Rattle.transform_whole.proofs.OnlyStages.{values_fit}
+use Rattle.transform_slices.proofs.WordValues.{values_fit}
 use Rattle.transform_whole.proofs.PairStages.{low_stages_hold, stage-count}
 use Rattle.transform_whole.proofs.pairs.low_stages.Goals as goal
 

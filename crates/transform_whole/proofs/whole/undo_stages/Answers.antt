@@ -3,7 +3,8 @@ use Rattle.std.proofs.lemmas.List.{length-map}
 use Rattle.field_base.proofs.RemainderRing.{ghash_ring}
 use Rattle.transform_slices.specs.LowStages.{ghash_product}
 use Rattle.transform_whole.proofs.Counts.{block_count, half_count, stage_counted, whole_blocks}
-use Rattle.transform_whole.proofs.OnlyStages.{ghash_inverse_leaves, values_fit}
+use Rattle.transform_slices.proofs.WordValues.{values_fit}
+use Rattle.transform_whole.proofs.OnlyStages.{ghash_inverse_leaves}
 use Rattle.transform_whole.proofs.WholeStages.{AreUndone, undone_start, undone_step}
 use Rattle.transform_whole.proofs.whole.undo_stages.Goals as goal
 

@@ -3,7 +3,7 @@ use Rattle.std.proofs.lemmas.Simd.{get_or-chunk}
 use Rattle.transform_slices.specs.LowStages.{ghash_product}
 use Rattle.transform_slices.proofs.BlockLemmas.{rows_of, values_of}
 use Rattle.transform_slices.proofs.HornerProducts.{all_taken, byte_taken, nothing_taken, products_of_high}
-use Rattle.transform_slices.proofs.TwoBlocks.{zero_rows}
+use Rattle.transform_slices.proofs.TwoBlocks.{of_lanes, zero_rows}
 use Rattle.transform_slices.proofs.multiples.Multiples.products.Goals as goal
 
 pub loop-turn-init : goal.loop-turn-init
@@ -20,7 +20,8 @@ loop-turn-preserved c values held =
     byte_taken 16 scalar values held.fits turn c.lanes_at.result c.step.new.sums few
     (λ e small. ap (λ (l : List ℕ). get_or l e 0) c.lanes_at.ensures.lanes ∙ get_or-chunk (16 * (15 - turn)) 16 rows e 0 small
     ∙ held_rows.each (15 - turn) e (omega arith) small)
-    (c.step.ensures (products_of_high scalar values (16 - turn)) (c.loop-turn.invariant values held))
+    (of_lanes 16 c.loop-turn.sums c.step.new.sums _ _ (c.step.ensures (products_of_high scalar values (16 - turn)))
+    (c.loop-turn.invariant values held))
 
 pub returns : goal.returns
 returns c values held =

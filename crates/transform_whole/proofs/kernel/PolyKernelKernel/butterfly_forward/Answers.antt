@@ -1,6 +1,7 @@
-use Rattle.transform_whole.proofs.Values.{forward_low}
 use Rattle.transform_whole.proofs.kernel.PolyKernelKernel.butterfly_forward.Goals as goal
 
 pub returns-clause-values : goal.returns-clause-values
-returns-clause-values c =
-    forward_low c.args.s c.args.lo.now c.args.hi.now _ _ c.butterfly_forward.ensures.low c.butterfly_forward.ensures.high
+returns-clause-values c = record {
+  low = c.add_multiples.ensures;
+  high = c.add_each.ensures;
+}

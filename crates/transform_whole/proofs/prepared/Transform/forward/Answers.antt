@@ -1,7 +1,7 @@
 use Rattle.std.proofs.Common.{ℕ, List, map, subst, arith}
 use Rattle.transform_whole.specs.Transform.{HoldPolynomialValues}
 use Rattle.transform_whole.proofs.Counts.{pairs_fit}
-use Rattle.transform_whole.proofs.Values.{low_of, own_low}
+use Rattle.transform_slices.proofs.WordValues.{low_of, own_low}
 use Rattle.transform_whole.proofs.prepared.Transform.forward.Goals as goal
 
 pub forward_with-requires-clause-room : goal.forward_with-requires-clause-room
@@ -10,6 +10,6 @@ forward_with-requires-clause-room g c =
 
 pub returns-clause-values : goal.returns-clause-values
 returns-clause-values g c =
-    subst (λ (l : List ℕ). HoldPolynomialValues c.args.self.now.z l c.forward_with.new.values) (own_low c.args.values.now c.numbers_fit.ensures)
+    subst (λ (l : List ℕ). HoldPolynomialValues c.args.self.now.z l c.forward_with.new.values) c.numbers_are_values.ensures
     (subst (λ (l : List ℕ). HoldPolynomialValues c.args.self.now.z (map low_of c.args.values.now) l)
     (own_low c.forward_with.new.values (λ p. (c.type_inv.values p).fits)) c.forward_with.ensures.values)
