@@ -1,6 +1,8 @@
 // Worked rows of products and butterflies of slices.
 use crate::tests::drawn::{fill, next_number};
-use transform_slices::{butterfly_forward, butterfly_inverse, mul, mul_slice, square};
+use transform_slices::{
+    add_multiples, butterfly_forward, butterfly_inverse, mul, mul_slice, square,
+};
 
 #[test]
 fn products_and_squares_of_high_powers(rt: HostRuntime) {
@@ -34,8 +36,8 @@ fn products_of_slices_of_high_powers(rt: HostRuntime) {
     assert!(rt; ones == [0x5555_5555_5555_5555_5555_5555_5555_402f; 5]);
 }
 
-// Whether products of a slice by a scalar, and both butterflies, at so many places are those of the scalar operation, and leave the
-// places behind.
+// Whether products of a slice by a scalar, both butterflies, and products that are added in wide vectors, at so many places are those of
+// the scalar operation, and leave the places behind.
 fn kernels_agree(places: usize, scalar: u128) -> bool {
     let mut values = [0; 401];
     fill(&mut values, 1);
@@ -48,7 +50,9 @@ fn kernels_agree(places: usize, scalar: u128) -> bool {
     butterfly_forward(&mut lo[..count], &mut hi[..count], scalar);
     let (mut back, mut back_high) = (lo, hi);
     butterfly_inverse(&mut back[..count], &mut back_high[..count], scalar);
-    let mut agree = back == values && back_high == others;
+    let mut wide = values;
+    add_multiples(&mut wide[..count], &others[..count], scalar, true);
+    let mut agree = back == values && back_high == others && wide == lo;
     for place in 0..401 {
         let (value, other) = (values[place], others[place]);
         let (product, low, high) = if place < count {
