@@ -112,7 +112,8 @@ pub struct WordKernel<W> {
 impl<W: WideWord> WordKernel<W> {
     /// The kernel, before it has counted a pair. Wide vectors are made for x86-64-v3.
     pub fn new(wide_vectors: bool) -> WordKernel<W>
-        ensures { result.products ≡ 0 }
+        ensures count { result.products ≡ 0 }
+        ensures width { result.wide_vectors ≡ wide_vectors }
     {
         WordKernel {
             products: 0,
