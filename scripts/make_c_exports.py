@@ -49,6 +49,11 @@ OWN_CALLS = {
     "r8": {"multiply": "multiply_bytes"},
 }
 
+# Second forms of calls over any field, for fields whose code they are faster in.
+FORMS = {
+    field: {"square": "slices::square_by_pairs", "square_root": "slices::square_root_by_pairs"} for field in ("t16", "t32")
+}
+
 # The columns of a line of code.
 COLUMNS = 100
 
@@ -103,7 +108,8 @@ def function(field, name, parameters, text):
     kernel, word, named = FIELDS[field]
     call, contract = CALLS[name]
     own = OWN_CALLS.get(field, {}).get(name)
-    called = f"c_calls::{own}" if own else f"{call}::<{word}, {kernel}>"
+    form = FORMS.get(field, {}).get(name, call)
+    called = f"c_calls::{own}" if own else f"{form}::<{word}, {kernel}>"
     typed = [(it[0], it[1], word) for it in parameters]
     arguments = [f"*{it[1]}" if it[0] == "scalar" and word in ("Wide", "Cubic") else it[1] for it in typed]
     return "\n".join([

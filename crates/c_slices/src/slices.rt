@@ -59,6 +59,29 @@ pub fn square<W: Copy, A: Arithmetic<W>>(words: &[W], squares: &mut [W]) -> u32
     status::OK
 }
 
+/// The same two in a turn, for fields that look squares up: the loop then loads the address of a table once for both.
+#[inline]
+pub fn square_by_pairs<W: Copy, A: Arithmetic<W>>(words: &[W], squares: &mut [W]) -> u32
+    ensures { Squares A.field words.now squares.old squares.new result }
+{
+    if words.len() != squares.len() {
+        return status::LENGTH;
+    }
+    if !are_elements::<W, A>(words) {
+        return status::NOT_AN_ELEMENT;
+    }
+    let pairs = squares.len() / 2;
+    'pairs: for pair in 0..pairs {
+        let place = 2 * pair;
+        squares[place] = A::square(words[place]);
+        squares[place + 1] = A::square(words[place + 1]);
+    }
+    'rest: for place in 2 * pairs..squares.len() {
+        squares[place] = A::square(words[place]);
+    }
+    status::OK
+}
+
 /// Writes the inverse of the word at each place, and 0 for 0.
 #[inline]
 pub fn invert<W: Copy, A: Arithmetic<W>>(words: &[W], inverses: &mut [W]) -> u32
@@ -88,6 +111,29 @@ pub fn square_root<W: Copy, A: Arithmetic<W>>(words: &[W], roots: &mut [W]) -> u
         return status::NOT_AN_ELEMENT;
     }
     for place in 0..roots.len() {
+        roots[place] = A::sqrt(words[place]);
+    }
+    status::OK
+}
+
+/// The same two in a turn, for fields that look roots up.
+#[inline]
+pub fn square_root_by_pairs<W: Copy, A: Arithmetic<W>>(words: &[W], roots: &mut [W]) -> u32
+    ensures { TakesRoots A.field words.now roots.old roots.new result }
+{
+    if words.len() != roots.len() {
+        return status::LENGTH;
+    }
+    if !are_elements::<W, A>(words) {
+        return status::NOT_AN_ELEMENT;
+    }
+    let pairs = roots.len() / 2;
+    'pairs: for pair in 0..pairs {
+        let place = 2 * pair;
+        roots[place] = A::sqrt(words[place]);
+        roots[place + 1] = A::sqrt(words[place + 1]);
+    }
+    'rest: for place in 2 * pairs..roots.len() {
         roots[place] = A::sqrt(words[place]);
     }
     status::OK
