@@ -232,22 +232,11 @@ fn main() -> ExitCode {
             .next()
             .map_or(otherwise, |word| word.parse().expect(usage))
     };
-    let samples = number(100);
     let plan = Plan {
-        samples,
+        samples: number(100),
         sample: Duration::from_millis(number(2).into()),
     };
-    println!(
-        "One thread, nanoseconds an operation, the least of {samples} samples of {} ms.",
-        plan.sample.as_millis()
-    );
-    println!();
-    println!(
-        "| operation                    |    v2 ns |    v3 ns |  Rust ns | v2 ratio | v3 ratio |"
-    );
-    println!(
-        "|------------------------------|---------:|---------:|---------:|---------:|---------:|"
-    );
+    print_heading(plan);
     let mut report = Report {
         plan,
         checksum: 0,
@@ -259,6 +248,21 @@ fn main() -> ExitCode {
         }
     }
     report.verdict()
+}
+
+fn print_heading(plan: Plan) {
+    println!(
+        "One thread, nanoseconds an operation, the least of {} samples of {} ms.",
+        plan.samples,
+        plan.sample.as_millis()
+    );
+    println!();
+    println!(
+        "| operation                    |    v2 ns |    v3 ns |  Rust ns | v2 ratio | v3 ratio |"
+    );
+    println!(
+        "|------------------------------|---------:|---------:|---------:|---------:|---------:|"
+    );
 }
 
 /// What was found so far.
