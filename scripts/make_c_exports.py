@@ -49,10 +49,8 @@ OWN_CALLS = {
     "r8": {"multiply": "multiply_bytes"},
 }
 
-# Second forms of calls over any field, for fields whose code they are faster in.
-FORMS = {
-    field: {"square": "slices::square_by_pairs", "square_root": "slices::square_root_by_pairs"} for field in ("t16", "t32")
-}
+# Calls whose loops may take two elements in a turn, and the fields in which they do, since those look up what they write.
+IN_TURNS, LOOKED_UP = {"square", "square_root"}, {"t16", "t32"}
 
 # The columns of a line of code.
 COLUMNS = 100
@@ -108,10 +106,11 @@ def function(field, name, parameters, text):
     kernel, word, named = FIELDS[field]
     call, contract = CALLS[name]
     own = OWN_CALLS.get(field, {}).get(name)
-    form = FORMS.get(field, {}).get(name, call)
-    called = f"c_calls::{own}" if own else f"{form}::<{word}, {kernel}>"
+    called = f"c_calls::{own}" if own else f"{call}::<{word}, {kernel}>"
     typed = [(it[0], it[1], word) for it in parameters]
     arguments = [f"*{it[1]}" if it[0] == "scalar" and word in ("Wide", "Cubic") else it[1] for it in typed]
+    if name in IN_TURNS:
+        arguments.append("true" if field in LOOKED_UP else "false")
     return "\n".join([
         f"/// {text[0].upper()}{text[1:]}.",
         "#[unsafe(no_mangle)]",

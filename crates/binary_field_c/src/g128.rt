@@ -42,7 +42,7 @@ pub extern "C" fn bf_g128_add_scaled(sums: &mut [Wide], scalar: &Wide, values: &
 pub extern "C" fn bf_g128_square(values: &[Wide], squares: &mut [Wide]) -> u32
     ensures { Squares ghash_field values.now squares.old squares.new result }
 {
-    slices::square::<Wide, Ghash>(values, squares)
+    slices::square::<Wide, Ghash>(values, squares, false)
 }
 
 /// The inverse of each element, and 0 for 0.
@@ -66,7 +66,7 @@ pub extern "C" fn bf_g128_batch_inverse(values: &[Wide], inverses: &mut [Wide]) 
 pub extern "C" fn bf_g128_square_root(values: &[Wide], roots: &mut [Wide]) -> u32
     ensures { TakesRoots ghash_field values.now roots.old roots.new result }
 {
-    slices::square_root::<Wide, Ghash>(values, roots)
+    slices::square_root::<Wide, Ghash>(values, roots, false)
 }
 
 /// Each element to the power of the exponent; to the power 0 it is 1.

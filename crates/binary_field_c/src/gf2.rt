@@ -42,7 +42,7 @@ pub extern "C" fn bf_gf2_add_scaled(sums: &mut [u8], scalar: u8, values: &[u8]) 
 pub extern "C" fn bf_gf2_square(values: &[u8], squares: &mut [u8]) -> u32
     ensures { Squares (level_field 0) values.now squares.old squares.new result }
 {
-    slices::square::<u8, Gf2>(values, squares)
+    slices::square::<u8, Gf2>(values, squares, false)
 }
 
 /// The inverse of each element, and 0 for 0.
@@ -66,7 +66,7 @@ pub extern "C" fn bf_gf2_batch_inverse(values: &[u8], inverses: &mut [u8]) -> u3
 pub extern "C" fn bf_gf2_square_root(values: &[u8], roots: &mut [u8]) -> u32
     ensures { TakesRoots (level_field 0) values.now roots.old roots.new result }
 {
-    slices::square_root::<u8, Gf2>(values, roots)
+    slices::square_root::<u8, Gf2>(values, roots, false)
 }
 
 /// Each element to the power of the exponent; to the power 0 it is 1.

@@ -46,7 +46,7 @@ pub extern "C" fn bf_p192_add_scaled(sums: &mut [Cubic], scalar: &Cubic, values:
 pub extern "C" fn bf_p192_square(values: &[Cubic], squares: &mut [Cubic]) -> u32
     ensures { Squares cubic_field values.now squares.old squares.new result }
 {
-    slices::square::<Cubic, CubicField>(values, squares)
+    slices::square::<Cubic, CubicField>(values, squares, false)
 }
 
 /// The inverse of each element, and 0 for 0.
@@ -70,7 +70,7 @@ pub extern "C" fn bf_p192_batch_inverse(values: &[Cubic], inverses: &mut [Cubic]
 pub extern "C" fn bf_p192_square_root(values: &[Cubic], roots: &mut [Cubic]) -> u32
     ensures { TakesRoots cubic_field values.now roots.old roots.new result }
 {
-    slices::square_root::<Cubic, CubicField>(values, roots)
+    slices::square_root::<Cubic, CubicField>(values, roots, false)
 }
 
 /// Each element to the power of the exponent; to the power 0 it is 1.

@@ -42,7 +42,7 @@ pub extern "C" fn bf_p64_add_scaled(sums: &mut [u64], scalar: u64, values: &[u64
 pub extern "C" fn bf_p64_square(values: &[u64], squares: &mut [u64]) -> u32
     ensures { Squares poly64_field values.now squares.old squares.new result }
 {
-    slices::square::<u64, Poly64>(values, squares)
+    slices::square::<u64, Poly64>(values, squares, false)
 }
 
 /// The inverse of each element, and 0 for 0.
@@ -66,7 +66,7 @@ pub extern "C" fn bf_p64_batch_inverse(values: &[u64], inverses: &mut [u64]) -> 
 pub extern "C" fn bf_p64_square_root(values: &[u64], roots: &mut [u64]) -> u32
     ensures { TakesRoots poly64_field values.now roots.old roots.new result }
 {
-    slices::square_root::<u64, Poly64>(values, roots)
+    slices::square_root::<u64, Poly64>(values, roots, false)
 }
 
 /// Each element to the power of the exponent; to the power 0 it is 1.

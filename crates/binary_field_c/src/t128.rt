@@ -42,7 +42,7 @@ pub extern "C" fn bf_t128_add_scaled(sums: &mut [Wide], scalar: &Wide, values: &
 pub extern "C" fn bf_t128_square(values: &[Wide], squares: &mut [Wide]) -> u32
     ensures { Squares wide_level_field values.now squares.old squares.new result }
 {
-    slices::square::<Wide, Level128>(values, squares)
+    slices::square::<Wide, Level128>(values, squares, false)
 }
 
 /// The inverse of each element, and 0 for 0.
@@ -66,7 +66,7 @@ pub extern "C" fn bf_t128_batch_inverse(values: &[Wide], inverses: &mut [Wide]) 
 pub extern "C" fn bf_t128_square_root(values: &[Wide], roots: &mut [Wide]) -> u32
     ensures { TakesRoots wide_level_field values.now roots.old roots.new result }
 {
-    slices::square_root::<Wide, Level128>(values, roots)
+    slices::square_root::<Wide, Level128>(values, roots, false)
 }
 
 /// Each element to the power of the exponent; to the power 0 it is 1.

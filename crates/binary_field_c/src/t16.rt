@@ -42,7 +42,7 @@ pub extern "C" fn bf_t16_add_scaled(sums: &mut [u16], scalar: u16, values: &[u16
 pub extern "C" fn bf_t16_square(values: &[u16], squares: &mut [u16]) -> u32
     ensures { Squares (level_field 4) values.now squares.old squares.new result }
 {
-    slices::square_by_pairs::<u16, Level16>(values, squares)
+    slices::square::<u16, Level16>(values, squares, true)
 }
 
 /// The inverse of each element, and 0 for 0.
@@ -66,7 +66,7 @@ pub extern "C" fn bf_t16_batch_inverse(values: &[u16], inverses: &mut [u16]) -> 
 pub extern "C" fn bf_t16_square_root(values: &[u16], roots: &mut [u16]) -> u32
     ensures { TakesRoots (level_field 4) values.now roots.old roots.new result }
 {
-    slices::square_root_by_pairs::<u16, Level16>(values, roots)
+    slices::square_root::<u16, Level16>(values, roots, true)
 }
 
 /// Each element to the power of the exponent; to the power 0 it is 1.

@@ -42,7 +42,7 @@ pub extern "C" fn bf_t32_add_scaled(sums: &mut [u32], scalar: u32, values: &[u32
 pub extern "C" fn bf_t32_square(values: &[u32], squares: &mut [u32]) -> u32
     ensures { Squares (level_field 5) values.now squares.old squares.new result }
 {
-    slices::square_by_pairs::<u32, Level32>(values, squares)
+    slices::square::<u32, Level32>(values, squares, true)
 }
 
 /// The inverse of each element, and 0 for 0.
@@ -66,7 +66,7 @@ pub extern "C" fn bf_t32_batch_inverse(values: &[u32], inverses: &mut [u32]) -> 
 pub extern "C" fn bf_t32_square_root(values: &[u32], roots: &mut [u32]) -> u32
     ensures { TakesRoots (level_field 5) values.now roots.old roots.new result }
 {
-    slices::square_root_by_pairs::<u32, Level32>(values, roots)
+    slices::square_root::<u32, Level32>(values, roots, true)
 }
 
 /// Each element to the power of the exponent; to the power 0 it is 1.

@@ -1,3 +1,4 @@
 pub mod Bytes
+pub mod Lanes
 pub mod Linear
 pub mod Transforms

@@ -3,7 +3,9 @@ ghost use Rattle.std.specs.Prelude.{◌≡◌, ◌+◌, ◌≤◌, [], ◌∷◌
 ghost use Rattle.std.specs.Simd.Lanes.{zip2};
 ghost use Rattle.c_slices.specs.Fields.{wide_number};
 ghost use Rattle.field_base.specs.Powers.{dot_of};
+ghost use Rattle.transform_slices.specs.Blocks.{HoldsPlaces};
 ghost use Rattle.transform_slices.specs.LowStages.{ghash_product};
+ghost use Rattle.c_calls.specs.Lanes.{product_at};
 
 use c_slices::Wide;
 use transform_slices::{number_at, put_number};
@@ -20,18 +22,20 @@ pub(crate) fn multiply_words(words: &mut [Wide], others: &[Wide], by_fours: bool
     if by_fours {
         multiply_by_fours(words, others);
     } else {
-        multiply_by_pairs(words, others);
+        multiply_by_pairs(words, others, 0);
     }
 }
 
-// Two at once.
-fn multiply_by_pairs(words: &mut [Wide], others: &[Wide])
-    requires { length words.old ≡ length others.now }
-    ensures { map wide_number words.new ≡ zip2 ghash_product (map wide_number words.old) (map wide_number others.now) }
+// From a place on, two at once.
+fn multiply_by_pairs(words: &mut [Wide], others: &[Wide], start: usize)
+    requires same { length words.old ≡ length others.now }
+    requires inside { start ≤ length words.old }
+    ensures { HoldsPlaces (product_at (map wide_number words.old) (map wide_number others.now)) start (length words.old)
+        (map wide_number words.old) (map wide_number words.new) }
 {
-    let pair_count = words.len() / 2;
+    let pair_count = (words.len() - start) / 2;
     'pairs: for pair in 0..pair_count {
-        let at = 2 * pair;
+        let at = start + 2 * pair;
         let (first, second) = multiply_mod_128_twice(
             number_at(words, at),
             number_at(words, at + 1),
@@ -41,7 +45,7 @@ fn multiply_by_pairs(words: &mut [Wide], others: &[Wide])
         put_number(words, at, first);
         put_number(words, at + 1, second);
     }
-    'rest: for at in 2 * pair_count..words.len() {
+    'rest: for at in start + 2 * pair_count..words.len() {
         let product = multiply_mod_128(number_at(words, at), number_at(others, at));
         put_number(words, at, product);
     }
@@ -61,10 +65,7 @@ fn multiply_by_fours(words: &mut [Wide], others: &[Wide])
         put_number(words, at + 2, products[2]);
         put_number(words, at + 3, products[3]);
     }
-    'rest: for at in 4 * four_count..words.len() {
-        let product = multiply_mod_128(number_at(words, at), number_at(others, at));
-        put_number(words, at, product);
-    }
+    multiply_by_pairs(words, others, 4 * four_count);
 }
 
 /// The sum of the products at each place, which is 0 of none: two at once, and reduced once. The slices are of one length.

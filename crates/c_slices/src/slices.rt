@@ -1,6 +1,6 @@
 // Arithmetic on slices of words, place by place, over any field whose elements are words. Each function returns a status: the
 // lengths are compared first, then it is seen that all words are elements, and nothing is written before.
-ghost use Rattle.std.specs.Prelude.{◌≡◌, ◌↔◌, IsTrue};
+ghost use Rattle.std.specs.Prelude.{◌≡◌, ◌↔◌, ◌*◌, ◌≤◌, IsTrue};
 ghost use Rattle.field_base.specs.Powers.{power, value_of};
 ghost use Rattle.c_slices.specs.Calls.{Adds, AddsScaled, AreElements, Evaluates, Inverts, Multiplies, MultipliesBy, NamesGenerator};
 ghost use Rattle.c_slices.specs.Calls.{RaisesTo, Squares, TakesDotProduct, TakesImages, TakesPreimages, TakesProduct, TakesRoots};
@@ -42,9 +42,10 @@ pub fn multiply<W: Copy, A: Arithmetic<W>>(left: &[W], right: &[W], products: &m
     status::OK
 }
 
-/// Writes the square of the word at each place.
+/// Writes the square of the word at each place. Fields that look squares up take two in a turn, for which the address of a table is loaded
+/// once.
 #[inline]
-pub fn square<W: Copy, A: Arithmetic<W>>(words: &[W], squares: &mut [W]) -> u32
+pub fn square<W: Copy, A: Arithmetic<W>>(words: &[W], squares: &mut [W], two_in_a_turn: bool) -> u32
     ensures { Squares A.field words.now squares.old squares.new result }
 {
     if words.len() != squares.len() {
@@ -53,24 +54,7 @@ pub fn square<W: Copy, A: Arithmetic<W>>(words: &[W], squares: &mut [W]) -> u32
     if !are_elements::<W, A>(words) {
         return status::NOT_AN_ELEMENT;
     }
-    for place in 0..squares.len() {
-        squares[place] = A::square(words[place]);
-    }
-    status::OK
-}
-
-/// The same two in a turn, for fields that look squares up: the loop then loads the address of a table once for both.
-#[inline]
-pub fn square_by_pairs<W: Copy, A: Arithmetic<W>>(words: &[W], squares: &mut [W]) -> u32
-    ensures { Squares A.field words.now squares.old squares.new result }
-{
-    if words.len() != squares.len() {
-        return status::LENGTH;
-    }
-    if !are_elements::<W, A>(words) {
-        return status::NOT_AN_ELEMENT;
-    }
-    let pairs = squares.len() / 2;
+    let pairs = pairs_of(squares.len(), two_in_a_turn);
     'pairs: for pair in 0..pairs {
         let place = 2 * pair;
         squares[place] = A::square(words[place]);
@@ -80,6 +64,14 @@ pub fn square_by_pairs<W: Copy, A: Arithmetic<W>>(words: &[W], squares: &mut [W]
         squares[place] = A::square(words[place]);
     }
     status::OK
+}
+
+// The pairs of so many places that a loop takes two in a turn.
+#[inline(always)]
+fn pairs_of(count: usize, two_in_a_turn: bool) -> usize
+    ensures { 2 * result ≤ count }
+{
+    if two_in_a_turn { count / 2 } else { 0 }
 }
 
 /// Writes the inverse of the word at each place, and 0 for 0.
@@ -99,9 +91,13 @@ pub fn invert<W: Copy, A: Arithmetic<W>>(words: &[W], inverses: &mut [W]) -> u32
     status::OK
 }
 
-/// Writes the square root of the word at each place.
+/// Writes the square root of the word at each place. Fields that look roots up take two in a turn.
 #[inline]
-pub fn square_root<W: Copy, A: Arithmetic<W>>(words: &[W], roots: &mut [W]) -> u32
+pub fn square_root<W: Copy, A: Arithmetic<W>>(
+    words: &[W],
+    roots: &mut [W],
+    two_in_a_turn: bool,
+) -> u32
     ensures { TakesRoots A.field words.now roots.old roots.new result }
 {
     if words.len() != roots.len() {
@@ -110,24 +106,7 @@ pub fn square_root<W: Copy, A: Arithmetic<W>>(words: &[W], roots: &mut [W]) -> u
     if !are_elements::<W, A>(words) {
         return status::NOT_AN_ELEMENT;
     }
-    for place in 0..roots.len() {
-        roots[place] = A::sqrt(words[place]);
-    }
-    status::OK
-}
-
-/// The same two in a turn, for fields that look roots up.
-#[inline]
-pub fn square_root_by_pairs<W: Copy, A: Arithmetic<W>>(words: &[W], roots: &mut [W]) -> u32
-    ensures { TakesRoots A.field words.now roots.old roots.new result }
-{
-    if words.len() != roots.len() {
-        return status::LENGTH;
-    }
-    if !are_elements::<W, A>(words) {
-        return status::NOT_AN_ELEMENT;
-    }
-    let pairs = roots.len() / 2;
+    let pairs = pairs_of(roots.len(), two_in_a_turn);
     'pairs: for pair in 0..pairs {
         let place = 2 * pair;
         roots[place] = A::sqrt(words[place]);

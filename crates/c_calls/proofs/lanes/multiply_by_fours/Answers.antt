@@ -1,4 +1,4 @@
-use Rattle.std.proofs.Common.{◌≡◌, ℕ, ◌+◌, ◌*◌, ◌≤◌, List, get_or, map, sym, ◌∙◌, ap, ap₂, subst, arith}
+use Rattle.std.proofs.Common.{◌≡◌, ℕ, ◌+◌, ◌*◌, ◌/◌, ◌≤◌, List, get_or, length, map, sym, ◌∙◌, ap, ap₂, subst, arith}
 use Rattle.std.specs.Prelude.{slice_index}
 use Rattle.std.specs.Simd.Lanes.{zip2}
 use Rattle.std.proofs.Math.ListN.{set}
@@ -6,12 +6,9 @@ use Rattle.std.proofs.lemmas.List.{length-map}
 use Rattle.c_slices.specs.Fields.{wide_number}
 use Rattle.transform_slices.specs.Blocks.{HoldsPlaces}
 use Rattle.transform_slices.specs.LowStages.{ghash_product}
-use Rattle.transform_slices.proofs.SliceBlocks.{held_zip2, none_held, pair_written, place_written}
+use Rattle.transform_slices.proofs.SliceBlocks.{held_zip2, none_held, pair_written, then_held}
+use Rattle.c_calls.specs.Lanes.{product_at}
 use Rattle.c_calls.proofs.lanes.multiply_by_fours.Goals as goal
-
--- the product at a place
-abbrev product_at : List ℕ → List ℕ → ℕ → ℕ
-product_at old others p = ghash_product (slice_index old p) (slice_index others p)
 
 pub fours-init : goal.fours-init
 fours-init c =
@@ -51,21 +48,21 @@ fours-preserved c =
     (ap (λ (l : List ℕ). get_or l 1 0) are ∙ ap (λ (x : ℕ). ghash_product x (slice_index others (at + 1))) (behind (at + 1) second))
     c.fours.invariant))
 
-pub rest-preserved : goal.rest-preserved
-rest-preserved c =
-    let old = map wide_number c.args.words.now in
-    let others = map wide_number c.args.others.now in
-    let at = c.rest.at in
-    let long = length-map c.rest.words wide_number in
-    let here : at ≤ at = omega arith in
-    place_written (product_at old others) 0 at old (map wide_number c.rest.words) (map wide_number c.put_number-in-rest.new.words)
-    c.multiply_mod_128-product.result (omega arith) (omega (arith, long)) c.put_number-in-rest.ensures
-    (c.multiply_mod_128-product.ensures
-    ∙ ap₂ ghash_product (c.number_at.ensures ∙ c.rest.invariant.behind at here) c.number_at-in-rest.ensures)
-    c.rest.invariant
-
 pub returns : goal.returns
 returns c =
+    let old = map wide_number c.args.words.now in
+    let now = map wide_number c.fours.words in
+    let others = map wide_number c.args.others.now in
+    let new = map wide_number c.multiply_by_pairs.new.words in
     let long = length-map c.args.words.now wide_number in
-    held_zip2 ghash_product c.rest.at (map wide_number c.args.words.now) (map wide_number c.args.others.now) (map wide_number c.rest.words)
-    (long ∙ c.requires ∙ sym (length-map c.args.others.now wide_number)) (omega (arith, long)) c.rest.invariant
+    let long_now = length-map c.fours.words wide_number in
+    let same = c.fours.invariant.same_length in
+    let done : 4 * c.fours.four ≡ 4 * (length c.args.words.now / 4) = omega arith in
+    let all : length c.fours.words ≡ length c.args.words.now = omega (arith, long, long_now, same) in
+    held_zip2 ghash_product (length c.args.words.now) old others new (long ∙ c.requires ∙ sym (length-map c.args.others.now wide_number))
+    (omega (arith, long))
+    (then_held (product_at old others) (product_at now others) 0 (4 * (length c.args.words.now / 4)) (length c.args.words.now) old now new
+    (omega arith) (omega arith)
+    (λ p later. ap (λ (x : ℕ). ghash_product x (slice_index others p)) (c.fours.invariant.behind p (omega (arith, done))))
+    (subst (λ (n : ℕ). HoldsPlaces (product_at old others) 0 n old now) done c.fours.invariant)
+    (subst (λ (n : ℕ). HoldsPlaces (product_at now others) (4 * (length c.args.words.now / 4)) n now new) all c.multiply_by_pairs.ensures))
