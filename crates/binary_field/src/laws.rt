@@ -12,7 +12,7 @@ pub use field_laws::{
 pub use word_carryless::{carry_isolation, carry_isolation_in_lanes, class_is_places};
 
 // changes of basis, and linear maps
-pub use word_basis::{images_give_linear_map, isomorphism_8, isomorphism_64, isomorphism_128};
+pub use word_tables::{images_give_linear_map, isomorphism_8, isomorphism_64, isomorphism_128};
 
 // tables
 pub use word_tables::{
@@ -29,15 +29,16 @@ pub use field_aes::{columns_are_transposed, zero_and_identity};
 pub use bits_packed::transposing_twice_returns;
 
 // transforms
-pub use transform_slices::{
+pub use additive_transforms::values_commute_with_images;
+pub use ghash_slices::{
     butterflies_restore, cantor_vectors_step_down, points_are_distinct, stages_give_sums,
     sums_are_values,
 };
-pub use transform_whole::values_commute_with_images;
 
 // polynomials in many variables, and the sum-check protocol
-pub use multilinear::{corner_values_extend, first_coordinate_is_linear, folding_evaluates};
-pub use sumcheck_rounds::honest_is_accepted;
+pub use polynomials::{
+    corner_values_extend, first_coordinate_is_linear, folding_evaluates, honest_is_accepted,
+};
 
 // universal hashes
 pub use tags::{few_keys_collide, products_are_reversed};

@@ -5,6 +5,7 @@
 #![tactic(auto)]
 
 pub mod laws;
+pub mod over;
 pub mod poly_basis;
 pub mod transform;
 
@@ -15,16 +16,16 @@ pub use field_base::traits::{
 };
 
 // integers as elements of GF(2)
-pub use field_numbers::{PrimeField, PrimeField32, PrimeField64, QuotientMap};
+pub use field_integers::{PrimeField, PrimeField32, PrimeField64, QuotientMap};
 
 // changes of basis of slices, and tabled linear maps
-pub use word_basis::{LinearMap, to_polynomial_slice_64, to_tower_slice_64};
+pub use word_tables::{LinearMap, to_polynomial_slice_64, to_tower_slice_64};
 
 // packings of N lanes, and their traits
 pub use packed_lanes::{Packed, PackedField, PackedFieldPow2, PackedValue, WiderField};
 
 // slices of elements as packings and back, sums of lanes, and powers in lanes
-pub use packed_slices::{
+pub use field_slices::{
     pack_slice, pack_slice_into, packed_powers, packed_powers_vec, sum_of_lanes, unpack_slice,
 };
 
@@ -62,16 +63,11 @@ pub use bits_packed::{
     PackedGf2x256, PackedGf2x512,
 };
 
-// values of polynomials over any field
-pub use transform_whole::over;
-
 // many elements at once: inverses, sums, products and powers
 pub use field_slices;
 
 // polynomials in many variables by their values at corners, in one by those at the first elements, and rounds of sum-check
-pub use interpolation;
-pub use multilinear;
-pub use sumcheck_rounds;
+pub use polynomials;
 
 // universal hashes of two authenticated ciphers
 pub use tags;
@@ -89,8 +85,7 @@ pub use transcript_elements::{
 };
 
 // Reed-Solomon codes over bytes, and over vectors of bytes
-pub use reed_solomon::{ReedSolomon, ReedSolomonError};
-pub use shard_vectors;
+pub use reed_solomon::{ReedSolomon, ReedSolomonError, shard_vectors};
 
 // lines of text and their answers
 pub use calculator as calc;

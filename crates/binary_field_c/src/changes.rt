@@ -1,10 +1,10 @@
 // Calls over slices of elements of a level of the tower, and of their images in a field of polynomials.
 ghost use Rattle.field_base.specs.Basis.{aes_images, basis_image, ghash_images, poly64_images};
 ghost use Rattle.field_base.specs.Remainder.{aes_modulus, ghash_modulus, poly64_modulus};
-ghost use Rattle.c_slices.specs.Calls.{TakesImages, TakesPreimages};
-ghost use Rattle.c_slices.specs.Fields.{itself, wide_number};
+ghost use Rattle.c_arithmetic.specs.Calls.{TakesImages, TakesPreimages};
+ghost use Rattle.c_arithmetic.specs.Fields.{itself, wide_number};
 
-use c_slices::{Ghash, Poly64, Rijndael, Wide, slices};
+use c_arithmetic::{Ghash, Poly64, Rijndael, Wide, slices};
 
 /// The image in r8 of each element of t8.
 #[unsafe(no_mangle)]

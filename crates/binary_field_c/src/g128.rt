@@ -1,9 +1,9 @@
 // Calls over slices of elements of GF(2)[x] modulo x^128 + x^7 + x^2 + x + 1, the field of GHASH (NIST SP 800-38D), bit i for x^i.
-ghost use Rattle.c_slices.specs.Calls.{Adds, AddsScaled, Evaluates, Inverts, Multiplies, MultipliesBy, NamesGenerator};
-ghost use Rattle.c_slices.specs.Calls.{RaisesTo, Squares, TakesDotProduct, TakesProduct, TakesRoots};
-ghost use Rattle.c_slices.specs.Fields.{ghash_field};
+ghost use Rattle.c_arithmetic.specs.Calls.{Adds, AddsScaled, Evaluates, Inverts, Multiplies, MultipliesBy, NamesGenerator};
+ghost use Rattle.c_arithmetic.specs.Calls.{RaisesTo, Squares, TakesDotProduct, TakesProduct, TakesRoots};
+ghost use Rattle.c_arithmetic.specs.Fields.{ghash_field};
 
-use c_slices::{Ghash, Wide, batch_invert, slices};
+use c_arithmetic::{Ghash, Wide, batch_invert, slices};
 
 /// The sum of the elements at each place.
 #[unsafe(no_mangle)]
@@ -18,7 +18,7 @@ pub extern "C" fn bf_g128_add(left: &[Wide], right: &[Wide], sums: &mut [Wide]) 
 pub extern "C" fn bf_g128_multiply(left: &[Wide], right: &[Wide], products: &mut [Wide]) -> u32
     ensures { Multiplies ghash_field left.now right.now products.old products.new result }
 {
-    c_calls::multiply(left, right, products)
+    c_arithmetic::multiply(left, right, products)
 }
 
 /// The product of each element and the scalar.
@@ -26,7 +26,7 @@ pub extern "C" fn bf_g128_multiply(left: &[Wide], right: &[Wide], products: &mut
 pub extern "C" fn bf_g128_multiply_by(values: &[Wide], scalar: &Wide, products: &mut [Wide]) -> u32
     ensures { MultipliesBy ghash_field scalar.now values.now products.old products.new result }
 {
-    c_calls::multiply_by(values, *scalar, products)
+    c_arithmetic::multiply_by(values, *scalar, products)
 }
 
 /// Adds to each element of sums the scalar times the value at its place.
@@ -34,7 +34,7 @@ pub extern "C" fn bf_g128_multiply_by(values: &[Wide], scalar: &Wide, products: 
 pub extern "C" fn bf_g128_add_scaled(sums: &mut [Wide], scalar: &Wide, values: &[Wide]) -> u32
     ensures { AddsScaled ghash_field scalar.now values.now sums.old sums.new result }
 {
-    c_calls::add_scaled(sums, *scalar, values)
+    c_arithmetic::add_scaled(sums, *scalar, values)
 }
 
 /// The square of each element.
@@ -90,7 +90,7 @@ pub extern "C" fn bf_g128_product(values: &[Wide], product: &mut Wide) -> u32
 pub extern "C" fn bf_g128_dot_product(left: &[Wide], right: &[Wide], sum: &mut Wide) -> u32
     ensures { TakesDotProduct ghash_field left.now right.now sum.old sum.new result }
 {
-    c_calls::dot_product(left, right, sum)
+    c_arithmetic::dot_product(left, right, sum)
 }
 
 /// The value at each point of the polynomial with these coefficients, the constant one first; any number of coefficients.

@@ -1,9 +1,9 @@
 // Calls over slices of elements of GF(2).
-ghost use Rattle.c_slices.specs.Calls.{Adds, AddsScaled, Evaluates, Inverts, Multiplies, MultipliesBy, NamesGenerator};
-ghost use Rattle.c_slices.specs.Calls.{RaisesTo, Squares, TakesDotProduct, TakesProduct, TakesRoots};
-ghost use Rattle.c_slices.specs.Fields.{level_field};
+ghost use Rattle.c_arithmetic.specs.Calls.{Adds, AddsScaled, Evaluates, Inverts, Multiplies, MultipliesBy, NamesGenerator};
+ghost use Rattle.c_arithmetic.specs.Calls.{RaisesTo, Squares, TakesDotProduct, TakesProduct, TakesRoots};
+ghost use Rattle.c_arithmetic.specs.Fields.{level_field};
 
-use c_slices::{Gf2, batch_invert, slices};
+use c_arithmetic::{Gf2, batch_invert, slices};
 
 /// The sum of the elements at each place.
 #[unsafe(no_mangle)]

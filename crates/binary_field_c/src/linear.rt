@@ -1,9 +1,8 @@
 // Calls that map words linearly.
-ghost use Rattle.c_calls.specs.Linear.{MapsLinearly};
-ghost use Rattle.c_slices.specs.Fields.{itself, wide_number};
+ghost use Rattle.c_arithmetic.specs.Linear.{MapsLinearly};
+ghost use Rattle.c_arithmetic.specs.Fields.{itself, wide_number};
 
-use c_calls::{map_bytes, map_wide};
-use c_slices::Wide;
+use c_arithmetic::{Wide, map_bytes, map_wide};
 
 /// For each byte the sum of the images at its set bits; eight images, that of bit 0 first.
 #[unsafe(no_mangle)]

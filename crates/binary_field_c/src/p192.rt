@@ -1,9 +1,9 @@
 // Calls over slices of elements of GF(2^64)[y] modulo y^3 + y + 1 over p64, the coefficient of 1 first.
-ghost use Rattle.c_slices.specs.Calls.{Adds, AddsScaled, Evaluates, Inverts, Multiplies, MultipliesBy, NamesGenerator};
-ghost use Rattle.c_slices.specs.Calls.{RaisesTo, Squares, TakesDotProduct, TakesProduct, TakesRoots};
-ghost use Rattle.c_slices.specs.Fields.{cubic_field};
+ghost use Rattle.c_arithmetic.specs.Calls.{Adds, AddsScaled, Evaluates, Inverts, Multiplies, MultipliesBy, NamesGenerator};
+ghost use Rattle.c_arithmetic.specs.Calls.{RaisesTo, Squares, TakesDotProduct, TakesProduct, TakesRoots};
+ghost use Rattle.c_arithmetic.specs.Fields.{cubic_field};
 
-use c_slices::{Cubic, CubicField, batch_invert, slices};
+use c_arithmetic::{Cubic, CubicField, batch_invert, slices};
 
 /// The sum of the elements at each place.
 #[unsafe(no_mangle)]

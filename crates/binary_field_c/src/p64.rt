@@ -1,9 +1,9 @@
 // Calls over slices of elements of GF(2)[x] modulo x^64 + x^4 + x^3 + x + 1.
-ghost use Rattle.c_slices.specs.Calls.{Adds, AddsScaled, Evaluates, Inverts, Multiplies, MultipliesBy, NamesGenerator};
-ghost use Rattle.c_slices.specs.Calls.{RaisesTo, Squares, TakesDotProduct, TakesProduct, TakesRoots};
-ghost use Rattle.c_slices.specs.Fields.{poly64_field};
+ghost use Rattle.c_arithmetic.specs.Calls.{Adds, AddsScaled, Evaluates, Inverts, Multiplies, MultipliesBy, NamesGenerator};
+ghost use Rattle.c_arithmetic.specs.Calls.{RaisesTo, Squares, TakesDotProduct, TakesProduct, TakesRoots};
+ghost use Rattle.c_arithmetic.specs.Fields.{poly64_field};
 
-use c_slices::{Poly64, batch_invert, slices};
+use c_arithmetic::{Poly64, batch_invert, slices};
 
 /// The sum of the elements at each place.
 #[unsafe(no_mangle)]

@@ -1,9 +1,9 @@
 // Calls over slices of elements of GF(2)[x] modulo x^8 + x^4 + x^3 + x + 1, the bytes of AES (FIPS 197).
-ghost use Rattle.c_slices.specs.Calls.{Adds, AddsScaled, Evaluates, Inverts, Multiplies, MultipliesBy, NamesGenerator};
-ghost use Rattle.c_slices.specs.Calls.{RaisesTo, Squares, TakesDotProduct, TakesProduct, TakesRoots};
-ghost use Rattle.c_slices.specs.Fields.{rijndael_field};
+ghost use Rattle.c_arithmetic.specs.Calls.{Adds, AddsScaled, Evaluates, Inverts, Multiplies, MultipliesBy, NamesGenerator};
+ghost use Rattle.c_arithmetic.specs.Calls.{RaisesTo, Squares, TakesDotProduct, TakesProduct, TakesRoots};
+ghost use Rattle.c_arithmetic.specs.Fields.{rijndael_field};
 
-use c_slices::{Rijndael, batch_invert, slices};
+use c_arithmetic::{Rijndael, batch_invert, slices};
 
 /// The sum of the elements at each place.
 #[unsafe(no_mangle)]
@@ -18,7 +18,7 @@ pub extern "C" fn bf_r8_add(left: &[u8], right: &[u8], sums: &mut [u8]) -> u32
 pub extern "C" fn bf_r8_multiply(left: &[u8], right: &[u8], products: &mut [u8]) -> u32
     ensures { Multiplies rijndael_field left.now right.now products.old products.new result }
 {
-    c_calls::multiply_bytes(left, right, products)
+    c_arithmetic::multiply_bytes(left, right, products)
 }
 
 /// The product of each element and the scalar.

@@ -1,13 +1,13 @@
 // Calls over shards, which stand one after the other and have one size: those of data, and then those of parity.
 ghost use Rattle.std.specs.Prelude.{◌+◌};
-ghost use Rattle.c_calls.specs.Bytes.{Encodes, Reconstructs, Verifies};
+ghost use Rattle.c_arithmetic.specs.Bytes.{Encodes, Reconstructs, Verifies};
 
 /// Writes the shards of parity.
 #[unsafe(no_mangle)]
 pub extern "C" fn bf_rs_encode(data: u64, parity: u64, shards: &mut [u8]) -> u32
     ensures { Encodes «data» parity shards.old shards.new result }
 {
-    c_calls::encode(data, parity, shards)
+    c_arithmetic::encode(data, parity, shards)
 }
 
 /// 1 where the shards of parity are those of the data, else 0.
@@ -15,7 +15,7 @@ pub extern "C" fn bf_rs_encode(data: u64, parity: u64, shards: &mut [u8]) -> u32
 pub extern "C" fn bf_rs_verify(data: u64, parity: u64, shards: &[u8], whole: &mut u8) -> u32
     ensures { Verifies «data» parity shards.now whole.old whole.new result }
 {
-    c_calls::verify(data, parity, shards, whole)
+    c_arithmetic::verify(data, parity, shards, whole)
 }
 
 /// Writes the missing shards: shard i is missing where `present[i]` is 0.
@@ -28,7 +28,7 @@ pub extern "C" fn bf_rs_reconstruct(
 ) -> u32
     ensures { Reconstructs «data» parity («data» + parity) present.now shards.old shards.new result }
 {
-    c_calls::reconstruct(data, parity, shards, present)
+    c_arithmetic::reconstruct(data, parity, shards, present)
 }
 
 /// Writes the missing shards of data alone.
@@ -41,5 +41,5 @@ pub extern "C" fn bf_rs_reconstruct_data(
 ) -> u32
     ensures { Reconstructs «data» parity «data» present.now shards.old shards.new result }
 {
-    c_calls::reconstruct_data(data, parity, shards, present)
+    c_arithmetic::reconstruct_data(data, parity, shards, present)
 }

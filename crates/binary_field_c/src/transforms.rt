@@ -1,8 +1,8 @@
 // Calls that transform values in the field of GHASH.
-ghost use Rattle.c_calls.specs.Transforms.{ButterfliesForward, ButterfliesInverse, InvertsTransform, RunsLowStages, Transforms};
-ghost use Rattle.c_slices.specs.Fields.{wide_number};
+ghost use Rattle.c_arithmetic.specs.Transforms.{ButterfliesForward, ButterfliesInverse, InvertsTransform, RunsLowStages, Transforms};
+ghost use Rattle.c_arithmetic.specs.Fields.{wide_number};
 
-use c_slices::Wide;
+use c_arithmetic::Wide;
 
 /// At each place `low += scalar * high`, and then `high += low`.
 #[unsafe(no_mangle)]
@@ -13,7 +13,7 @@ pub extern "C" fn bf_g128_butterfly_forward(
 ) -> u32
     ensures { ButterfliesForward (wide_number scalar.now) low.old high.old low.new high.new result }
 {
-    c_calls::butterfly_forward(low, high, *scalar)
+    c_arithmetic::butterfly_forward(low, high, *scalar)
 }
 
 /// At each place `high += low`, and then `low += scalar * high`.
@@ -25,7 +25,7 @@ pub extern "C" fn bf_g128_butterfly_inverse(
 ) -> u32
     ensures { ButterfliesInverse (wide_number scalar.now) low.old high.old low.new high.new result }
 {
-    c_calls::butterfly_inverse(low, high, *scalar)
+    c_arithmetic::butterfly_inverse(low, high, *scalar)
 }
 
 /// The four lowest stages of an additive transform over runs of sixteen values, the first of which is run `first_run`.
@@ -38,7 +38,7 @@ pub extern "C" fn bf_g128_low_stages(
 ) -> u32
     ensures { RunsLowStages shifts.now basis.now first_run values.old values.new result }
 {
-    c_calls::low_stages(values, shifts, basis, first_run)
+    c_arithmetic::low_stages(values, shifts, basis, first_run)
 }
 
 /// The value at each of 2^m points of the polynomial with these coefficients in the basis of subspace polynomials.
@@ -46,7 +46,7 @@ pub extern "C" fn bf_g128_low_stages(
 pub extern "C" fn bf_g128_transform(values: &mut [Wide], shift: &Wide) -> u32
     ensures { Transforms (wide_number shift.now) values.old values.new result }
 {
-    c_calls::transform(values, *shift)
+    c_arithmetic::transform(values, *shift)
 }
 
 /// The coefficients that `bf_g128_transform` takes to these values.
@@ -54,5 +54,5 @@ pub extern "C" fn bf_g128_transform(values: &mut [Wide], shift: &Wide) -> u32
 pub extern "C" fn bf_g128_inverse_transform(values: &mut [Wide], shift: &Wide) -> u32
     ensures { InvertsTransform (wide_number shift.now) values.old values.new result }
 {
-    c_calls::inverse_transform(values, *shift)
+    c_arithmetic::inverse_transform(values, *shift)
 }

@@ -1,16 +1,16 @@
 // Second forms of calls in the field of GHASH, made for x86-64-v3, whose vectors have 256 bits.
-ghost use Rattle.c_calls.specs.Transforms.{ButterfliesForward, ButterfliesInverse, InvertsTransform, RunsLowStages, Transforms};
-ghost use Rattle.c_slices.specs.Calls.{AddsScaled, Multiplies, MultipliesBy, TakesDotProduct};
-ghost use Rattle.c_slices.specs.Fields.{ghash_field, wide_number};
+ghost use Rattle.c_arithmetic.specs.Transforms.{ButterfliesForward, ButterfliesInverse, InvertsTransform, RunsLowStages, Transforms};
+ghost use Rattle.c_arithmetic.specs.Calls.{AddsScaled, Multiplies, MultipliesBy, TakesDotProduct};
+ghost use Rattle.c_arithmetic.specs.Fields.{ghash_field, wide_number};
 
-use c_slices::Wide;
+use c_arithmetic::Wide;
 
 /// The product of the elements at each place.
 #[unsafe(no_mangle)]
 pub extern "C" fn bf_g128_multiply_wide(left: &[Wide], right: &[Wide], products: &mut [Wide]) -> u32
     ensures { Multiplies ghash_field left.now right.now products.old products.new result }
 {
-    c_calls::multiply_wide(left, right, products)
+    c_arithmetic::multiply_wide(left, right, products)
 }
 
 /// The product of each element and the scalar.
@@ -22,7 +22,7 @@ pub extern "C" fn bf_g128_multiply_by_wide(
 ) -> u32
     ensures { MultipliesBy ghash_field scalar.now values.now products.old products.new result }
 {
-    c_calls::multiply_by_wide(values, *scalar, products)
+    c_arithmetic::multiply_by_wide(values, *scalar, products)
 }
 
 /// Adds to each element of sums the scalar times the value at its place.
@@ -30,7 +30,7 @@ pub extern "C" fn bf_g128_multiply_by_wide(
 pub extern "C" fn bf_g128_add_scaled_wide(sums: &mut [Wide], scalar: &Wide, values: &[Wide]) -> u32
     ensures { AddsScaled ghash_field scalar.now values.now sums.old sums.new result }
 {
-    c_calls::add_scaled_wide(sums, *scalar, values)
+    c_arithmetic::add_scaled_wide(sums, *scalar, values)
 }
 
 /// The sum of the products at each place, 0 of none.
@@ -38,7 +38,7 @@ pub extern "C" fn bf_g128_add_scaled_wide(sums: &mut [Wide], scalar: &Wide, valu
 pub extern "C" fn bf_g128_dot_product_wide(left: &[Wide], right: &[Wide], sum: &mut Wide) -> u32
     ensures { TakesDotProduct ghash_field left.now right.now sum.old sum.new result }
 {
-    c_calls::dot_product_wide(left, right, sum)
+    c_arithmetic::dot_product_wide(left, right, sum)
 }
 
 /// At each place `low += scalar * high`, and then `high += low`.
@@ -50,7 +50,7 @@ pub extern "C" fn bf_g128_butterfly_forward_wide(
 ) -> u32
     ensures { ButterfliesForward (wide_number scalar.now) low.old high.old low.new high.new result }
 {
-    c_calls::butterfly_forward_wide(low, high, *scalar)
+    c_arithmetic::butterfly_forward_wide(low, high, *scalar)
 }
 
 /// At each place `high += low`, and then `low += scalar * high`.
@@ -62,7 +62,7 @@ pub extern "C" fn bf_g128_butterfly_inverse_wide(
 ) -> u32
     ensures { ButterfliesInverse (wide_number scalar.now) low.old high.old low.new high.new result }
 {
-    c_calls::butterfly_inverse_wide(low, high, *scalar)
+    c_arithmetic::butterfly_inverse_wide(low, high, *scalar)
 }
 
 /// The four lowest stages of an additive transform over runs of sixteen values, the first of which is run `first_run`.
@@ -75,7 +75,7 @@ pub extern "C" fn bf_g128_low_stages_wide(
 ) -> u32
     ensures { RunsLowStages shifts.now basis.now first_run values.old values.new result }
 {
-    c_calls::low_stages_wide(values, shifts, basis, first_run)
+    c_arithmetic::low_stages_wide(values, shifts, basis, first_run)
 }
 
 /// The value at each of 2^m points of the polynomial with these coefficients in the basis of subspace polynomials.
@@ -83,7 +83,7 @@ pub extern "C" fn bf_g128_low_stages_wide(
 pub extern "C" fn bf_g128_transform_wide(values: &mut [Wide], shift: &Wide) -> u32
     ensures { Transforms (wide_number shift.now) values.old values.new result }
 {
-    c_calls::transform_wide(values, *shift)
+    c_arithmetic::transform_wide(values, *shift)
 }
 
 /// The coefficients that `bf_g128_transform` takes to these values.
@@ -91,5 +91,5 @@ pub extern "C" fn bf_g128_transform_wide(values: &mut [Wide], shift: &Wide) -> u
 pub extern "C" fn bf_g128_inverse_transform_wide(values: &mut [Wide], shift: &Wide) -> u32
     ensures { InvertsTransform (wide_number shift.now) values.old values.new result }
 {
-    c_calls::inverse_transform_wide(values, *shift)
+    c_arithmetic::inverse_transform_wide(values, *shift)
 }

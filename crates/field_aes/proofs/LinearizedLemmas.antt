@@ -9,7 +9,7 @@ use Rattle.field_base.specs.Remainder.{aes_modulus, mul_mod}
 use Rattle.field_base.proofs.LinearMapLemmas.{the_linear_map}
 use Rattle.field_base.proofs.PowerLemmas.{repeated_square_xor}
 use Rattle.field_base.proofs.RingLemmas.{xor_left_comm}
-use Rattle.word_basis.proofs.Isomorphisms.{field_8}
+use Rattle.word_tables.proofs.Isomorphisms.{field_8}
 use Rattle.field_aes.specs.Linearized.{linearized_value}
 use Rattle.field_base.proofs.EightCases.{eight_cases}
 

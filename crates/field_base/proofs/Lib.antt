@@ -34,3 +34,4 @@ pub mod TowerRing
 pub mod TowerSqrt
 pub mod TowerTraces
 pub mod ValueLemmas
+pub mod Horner

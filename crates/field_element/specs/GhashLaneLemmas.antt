@@ -8,7 +8,7 @@ use Rattle.field_base.specs.Tower.{tower_mul}
 use Rattle.field_element.specs.GhashLanes.{ghash_image, ghash_image_lanes}
 use Rattle.packed_lanes.specs.LaneListLemmas.{every_product, every_same, every_sum}
 use Rattle.packed_lanes.specs.Lanes.{lane_product}
-use Rattle.word_basis.proofs.Isomorphisms.{field_128, isomorphic_128}
+use Rattle.word_tables.proofs.Isomorphisms.{field_128, isomorphic_128}
 
 -- an image is an element of the field
 pub ghash_image-below : (a : ℕ) → ghash_image a < 2 ^ 128

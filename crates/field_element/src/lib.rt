@@ -10,6 +10,7 @@ mod linear_map;
 mod names;
 mod packings;
 mod polynomial;
+mod polynomial_words;
 mod subfields;
 mod tower;
 
@@ -22,4 +23,5 @@ pub use crate::names::{
     BinaryField128, Ghash128, PackedGhash128, PackedRijndael8b, Poly64, Poly192, Rijndael8b,
 };
 pub use crate::packings::{read_bytes, write_bytes};
+pub use crate::polynomial_words::{from_tower, from_tower_slice, to_tower, to_tower_slice};
 pub use crate::subfields::Below;

@@ -5,7 +5,7 @@ ghost use Rattle.field_element.specs.Element.{repr_of};
 
 use crate::names::{BinaryField128, Ghash128};
 use field_base::traits::TowerLevel;
-use word_basis::ByteMap;
+use word_tables::ByteMap;
 
 /// The least number of elements for which `Ghash128::try_apply_linear_map_into` makes the tables of a linear map.
 pub const LEAST_TABLED: usize = 4096;

@@ -95,7 +95,7 @@ impl MulAssign<BinaryField128> for PackedGhash128 {
 
 impl Algebra<BinaryField128> for PackedGhash128 {
     ghost use Rattle.std.proofs.Common.{ap};
-    ghost use Rattle.word_basis.proofs.Isomorphisms.{field_128};
+    ghost use Rattle.word_tables.proofs.Isomorphisms.{field_128};
     ghost use Rattle.packed_lanes.specs.PackedLemmas.{packed_product_every, packed_sum_every};
 
     ghost image = { ghash_image_lanes };

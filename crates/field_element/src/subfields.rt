@@ -13,8 +13,8 @@ use crate::names::{
 };
 use field_base::traits::{Algebra, TowerLevel};
 use field_base::{Contains, LevelKernel, Unsigned};
-use word_basis::{to_tower_8, to_tower_64, to_tower_128};
 use word_polynomial::{EmbedsIn, Modulus, Polynomials};
+use word_tables::{to_tower_8, to_tower_64, to_tower_128};
 use word_tower::{Bits2, Bits8, Bits16, Bits32, Bits64, Bits128, Level, LiesIn, Tower};
 
 impl<

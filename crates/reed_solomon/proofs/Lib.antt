@@ -10,4 +10,5 @@ mod RowTables
 mod RowWriting
 mod Samples
 mod Separate
+mod VectorRestoring
 mod Writing

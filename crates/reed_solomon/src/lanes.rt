@@ -2,7 +2,7 @@
 ghost use Rattle.std.specs.Prelude.{◌≡◌, ◌+◌, ◌<◌, ◌≤◌, ℕ, length, slice_index};
 ghost use Rattle.reed_solomon.specs.Tables.{nibble_sum};
 
-use nibble_lookups::{high_entries_of_32, low_entries_of_32};
+use byte_maps::{high_entries_of_32, low_entries_of_32};
 use std::simd::prelude::*;
 
 // The sums of the entries of the halves of 32 bytes. The 32 entries begin at `start`.

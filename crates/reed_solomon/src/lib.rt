@@ -10,6 +10,7 @@ mod lanes;
 mod laws;
 mod rows;
 mod sample;
+pub mod shard_vectors;
 mod tables;
 
 pub use crate::byte_field::erasure_field;

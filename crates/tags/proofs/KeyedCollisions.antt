@@ -3,7 +3,7 @@ use Rattle.std.proofs.Common.{◌≡◌, ℕ, zero, suc, ◌^◌, ◌<◌, List,
 use Rattle.std.specs.Prelude.{bit_xor, fold, map, reverse}
 use Rattle.std.specs.List.{All}
 use Rattle.std.proofs.lemmas.List.{length-map, map-append, reverse-append}
-use Rattle.word_basis.proofs.Isomorphisms.{field_128}
+use Rattle.word_tables.proofs.Isomorphisms.{field_128}
 use Rattle.tags.specs.Collisions.{GhashCollides, HaveSameBlocks, IsMessage, PolyvalCollides}
 use Rattle.tags.specs.Gcm.{gcm_hash, gcm_product, shifted}
 use Rattle.tags.specs.Hash.{polynomial_hash}

@@ -1,5 +1,6 @@
 mod drawn;
 mod elements;
+mod kernel;
 mod levels;
 mod low_stages;
 mod memory;

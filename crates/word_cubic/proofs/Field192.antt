@@ -7,7 +7,7 @@ use Rattle.field_base.specs.Orders.{HasFullOrder}
 use Rattle.field_base.specs.Remainder.{mul_mod, poly64_modulus}
 use Rattle.word_cubic.proofs.CubicField.{cubic_is_field}
 use Rattle.word_cubic.proofs.CubicRing.{triple-lt}
-use Rattle.word_basis.proofs.Isomorphisms.{field_64}
+use Rattle.word_tables.proofs.Isomorphisms.{field_64}
 use Rattle.word_cubic.specs.Triple.{triple_number}
 use Rattle.word_cubic.specs.declared.triple.Triple.{Triple}
 

@@ -7,8 +7,8 @@ ghost use Rattle.field_base.specs.Remainder.{mul_mod, poly64_modulus};
 ghost use Rattle.word_cubic.specs.Triple.{triple_number};
 
 use crate::triple::Triple;
-use word_basis::{to_polynomial_64, to_tower_64};
 use word_carryless::{multiply_mod_64, sqrt_mod_64, square_mod_64};
+use word_tables::{to_polynomial_64, to_tower_64};
 use word_tower::{Bits64, Level};
 
 /// The product, by Karatsuba's rule: six products of coefficients in place of nine.

@@ -4,7 +4,7 @@ use Rattle.field_base.specs.Field.{IsField}
 use Rattle.field_base.specs.Powers.{power}
 use Rattle.field_base.specs.Remainder.{ghash_modulus, mul_mod, poly64_modulus}
 use Rattle.field_base.proofs.FieldLemmas.{power-inverts}
-use Rattle.word_basis.proofs.Isomorphisms.{field_64, field_128}
+use Rattle.word_tables.proofs.Isomorphisms.{field_64, field_128}
 use Rattle.word_carryless.proofs.Chains.{power_of_zero}
 
 -- the power 2^width - 2 of 0 is 0, and that of another element is its inverse

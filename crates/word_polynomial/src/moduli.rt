@@ -6,22 +6,22 @@ ghost use native.Mathlib.Nat.{mod-lt};
 ghost use Rattle.field_base.specs.Basis.{aes_images, ghash_images, poly64_images};
 ghost use Rattle.field_base.specs.Remainder.{aes_modulus, ghash_modulus, poly64_modulus, rem};
 ghost use Rattle.field_base.proofs.RemainderLaws.{rem_lt, rem_small};
-ghost use Rattle.word_basis.proofs.Isomorphisms.{field_8, field_64, field_128, isomorphic_8, isomorphic_64, isomorphic_128};
-ghost use Rattle.word_basis.proofs.RootImages.{ghash_alpha, poly64_alpha, rijndael_alpha};
-ghost use Rattle.word_basis.proofs.RootImages.{ghash_generator, poly64_generator, rijndael_generator};
+ghost use Rattle.word_tables.proofs.Isomorphisms.{field_8, field_64, field_128, isomorphic_8, isomorphic_64, isomorphic_128};
+ghost use Rattle.word_tables.proofs.RootImages.{ghash_alpha, poly64_alpha, rijndael_alpha};
+ghost use Rattle.word_tables.proofs.RootImages.{ghash_generator, poly64_generator, rijndael_generator};
 
 use crate::modulus::Modulus;
 use crate::polynomials::Polynomials;
 use crate::subfields::EmbedsIn;
-use word_basis::{
-    to_polynomial_8, to_polynomial_64, to_polynomial_128, to_tower_8, to_tower_64, to_tower_128,
-};
 use word_carryless::{
     invert_mod_64, invert_mod_128, multiply_64, multiply_64_twice, multiply_128,
     multiply_128_twice, multiply_mod_64, multiply_mod_128, reduce_64, reduce_128, split_128,
     sqrt_mod_64, sqrt_mod_128, square_mod_64, square_mod_128,
 };
 use word_tables::rijndael::{invert, multiply, sqrt, square};
+use word_tables::{
+    to_polynomial_8, to_polynomial_64, to_polynomial_128, to_tower_8, to_tower_64, to_tower_128,
+};
 use word_tower::{Bits8, Bits16, Bits32, Bits64, Bits128};
 
 /// x^8 + x^4 + x^3 + x + 1, the modulus of AES (FIPS 197, section 4.2).

@@ -4,7 +4,7 @@ use Rattle.std.proofs.Common.{◌≡◌, ℕ, zero, suc, ◌<◌, true, List, []
 use Rattle.std.specs.Prelude.{slice_index}
 use Rattle.field_base.proofs.AdditiveMaps.{agree_on_powers}
 use Rattle.field_base.proofs.BasisColumns.{sum_of_columns}
-use Rattle.word_basis.proofs.TabledMaps.{place_tables, values_of, with_sums}
+use Rattle.word_tables.proofs.TabledMaps.{place_tables, values_of, with_sums}
 use Rattle.word_tables.proofs.Squares.{root_product, square_of, squares_joined}
 use Rattle.word_tables.specs.declared.frobenius.literals.TheConstants.{SQUARED_1, SQUARED_2, SQUARED_4, SQUARED_8, SQUARED_16, SQUARED_32}
 

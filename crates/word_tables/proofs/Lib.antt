@@ -1,11 +1,17 @@
 pub mod ByteTables
 pub mod CantorVectors
+pub mod DigitMaps
 pub mod FrobeniusFacts
 pub mod GeneratorImages
+pub mod Isomorphisms
 pub mod LevelLaws
 pub mod LinearMaps
 pub mod Orders
 pub mod RepeatedSquares
 pub mod RijndaelTables
+pub mod RootImages
+pub mod SliceSteps
 pub mod SquareTables
 pub mod Squares
+pub mod TableFacts
+pub mod TabledMaps

@@ -17,9 +17,9 @@ use Rattle.field_base.proofs.LinearMapLemmas.{linear_image-columns}
 use Rattle.field_base.proofs.PowerLemmas.{square_xor, repeated_square-add, repeated_square-lt, repeated_square_square, repeated_square-none}
 use Rattle.field_base.proofs.TowerProducts.{level-lt, tower_mul-low}
 use Rattle.field_base.proofs.TowerRing.{tower_ring}
-use Rattle.word_basis.specs.LinearMap.{sum_of_values}
-use Rattle.word_basis.proofs.DigitMaps.{sum_of_values_is}
-use Rattle.word_basis.proofs.TabledMaps.{Hold, digit_table-at, digit_value, place_tables}
+use Rattle.word_tables.specs.LinearMap.{sum_of_values}
+use Rattle.word_tables.proofs.DigitMaps.{sum_of_values_is}
+use Rattle.word_tables.proofs.TabledMaps.{Hold, digit_table-at, digit_value, place_tables}
 use Rattle.word_tables.proofs.Squares.{square_of, square_of_is}
 use Rattle.word_tables.proofs.FrobeniusFacts.{columns_in, columns_twice, map_of, table_at, holds, squares, doubles}
 

@@ -1,4 +1,5 @@
 pub mod Cantor
 pub mod Generators
 pub mod Linear
+pub mod LinearMap
 pub mod Tables

@@ -3,14 +3,14 @@
 ghost use Rattle.std.specs.Prelude.{◌≡◌, ◌<◌, ◌≤◌, ◌*◌, ◌^◌, ℕ};
 ghost use Rattle.field_base.specs.Powers.{repeated_square};
 ghost use Rattle.field_base.specs.Tower.{tower_mul};
-ghost use Rattle.word_basis.specs.LinearMap.{sum_of_values};
+ghost use Rattle.word_tables.specs.LinearMap.{sum_of_values};
 
 mod literals;
 
 use crate::frobenius::literals::{
     SQUARED_1, SQUARED_2, SQUARED_4, SQUARED_8, SQUARED_16, SQUARED_32,
 };
-use word_basis::sum_of_values;
+use crate::sum_of_values;
 
 /// The element `x` of a level of the tower squared `count` times, by one table for each set bit of `count`. The level is
 /// one from 2, of 4 bits, to 7, of 128 bits; `x` is one of its elements, and `count` is below 64. It is inlined, so that for a

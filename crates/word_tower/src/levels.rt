@@ -8,11 +8,11 @@ ghost use Rattle.std.proofs.Common.{lit≤};
 use crate::extension::Extension;
 use crate::level::Level;
 use crate::quadratic;
-use word_basis::{to_polynomial_64, to_polynomial_128, to_tower_64, to_tower_128};
 use word_carryless::{multiply_mod_64, multiply_mod_128};
 use word_tables::{
     divide_8, invert_8, multiply_8, multiply_by_root_8, sqrt_8, sqrt_16, sqrt_32, sqrt_64,
-    square_8, square_16, square_32, square_64,
+    square_8, square_16, square_32, square_64, to_polynomial_64, to_polynomial_128, to_tower_64,
+    to_tower_128,
 };
 
 /// The level of 1 bit, GF(2), on which the others are built.

@@ -5,7 +5,7 @@ ghost use Rattle.field_base.specs.Steps.{GivesEach};
 
 use crate::element::{Coefficients, Element};
 use field_base::{FieldKernel, ReadWord, Stored, Unsigned};
-use field_numbers::write_decimal;
+use field_integers::write_decimal;
 use serde::{
     Described, Deserialize, DeserializeOwned, Deserializer, Format, Serialize, Serializer,
 };

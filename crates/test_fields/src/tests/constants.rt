@@ -4,8 +4,8 @@
 use field_base::traits::{Field, PrimeCharacteristicRing, TowerLevel};
 use field_base::{LevelKernel, Unsigned};
 use field_element::{Element, HasPacking};
+use polynomials::evaluate;
 use std::alloc::Global;
-use transform_whole::over;
 use word_polynomial::{GhashKernel, Poly64Kernel, RijndaelKernel};
 use word_tower::{Bits2, Bits4, Bits8, Bits16, Bits32, Bits64, Bits128, Level, Tower};
 
@@ -119,7 +119,7 @@ fn value_is<F: TowerLevel>(alloc: Global, coefficients: &[u128], x: u128, value:
     let listed: Vec<F> = elements(alloc, coefficients);
     let x = F::from_repr(F::Repr::of_u128(x));
     listed.len() == coefficients.len()
-        && over::evaluate(listed.as_slice(), x).to_repr().to_u128() == value
+        && evaluate(listed.as_slice(), x).to_repr().to_u128() == value
 }
 
 /// What is known of a field, elements by their representations.

@@ -5,7 +5,7 @@ use field_element::{Element, element_of_word, word_of};
 use linked_list_allocator::LocalHeap;
 use std::alloc::{AllocError, Global};
 use std::marker::PhantomData;
-use test_heaps::{Ending, Growing, Rest, is_refused_in_turn};
+use test_support::{Ending, Growing, Rest, is_refused_in_turn};
 use word_polynomial::{GhashModulus, Modulus, Poly64Modulus, Polynomials};
 use word_tower::{Bits64, Bits128, Level, Tower};
 

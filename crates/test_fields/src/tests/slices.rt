@@ -2,10 +2,10 @@
 // after the other. The contracts say so of all lengths; the values here are drawn from the seed 42.
 use field_aes::ByteMatrix;
 use field_element::{Ghash128, element_of_word};
+use ghash_slices::{butterfly_forward, butterfly_inverse, mul, mul_slice};
 use std::alloc::{AllocError, Global};
 use std::test::Fail;
-use transform_slices::{butterfly_forward, butterfly_inverse, mul, mul_slice};
-use word_basis::{to_polynomial_128, to_polynomial_slice_128, to_tower_128, to_tower_slice_128};
+use word_tables::{to_polynomial_128, to_polynomial_slice_128, to_tower_128, to_tower_slice_128};
 
 /// Lengths: of no value, of one, about each power of two up to 128, and about 256 and 400.
 static LENGTHS: [usize; 26] = [

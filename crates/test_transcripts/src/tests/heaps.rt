@@ -6,7 +6,7 @@ use super::asked::{
 use linked_list_allocator::LocalHeap;
 use std::alloc::{AllocError, Allocator, Global};
 use std::marker::PhantomData;
-use test_heaps::{Ending, Growing, Rest, is_refused_in_turn};
+use test_support::{Ending, Growing, Rest, is_refused_in_turn};
 use transcript_bytes::{ChallengerError, HashChallenger, Sha256Hasher};
 use transcript_elements::{BinaryChallenger, ByteLevel, Recorder, TranscriptField};
 

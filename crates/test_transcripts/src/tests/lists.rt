@@ -10,8 +10,7 @@ use linked_list_allocator::LocalHeap;
 use std::alloc::{AllocError, Global};
 use std::cell::Cell;
 use std::marker::PhantomData;
-use test_byte_challengers::{Copies, Double, Seen};
-use test_heaps::{Ending, Growing, Rest, is_refused_in_turn};
+use test_support::{Copies, Double, Ending, Growing, Rest, Seen, is_refused_in_turn};
 use transcript_bytes::{ChallengerError, Sha256Hasher};
 use transcript_elements::{BinaryChallenger, ByteLevel, Call, Reply, run_calls};
 

@@ -3,7 +3,7 @@
 use super::asked::{Asked, EVERY_CALL, Row, Said, only_fails};
 use std::alloc::Global;
 use std::cell::Cell;
-use test_byte_challengers::{Copies, Double, Seen};
+use test_support::{Copies, Double, Seen};
 use transcript_elements::{BinaryChallenger, ByteLevel};
 
 /// A double, a call of a challenger over it, what that returns and what the double has seen by then, and what a sample then returns.

@@ -7,7 +7,7 @@ use field_space::BasedVectorSpace;
 use linked_list_allocator::LocalHeap;
 use std::alloc::{AllocError, Global};
 use std::marker::PhantomData;
-use test_heaps::{Ending, Growing, Rest, is_refused_in_turn};
+use test_support::{Ending, Growing, Rest, is_refused_in_turn};
 use transcript_bytes::{ByteChallenger, ChallengerError, Sha256Hasher};
 use transcript_elements::{BinaryChallenger, ByteLevel, CanSample, FieldChallenger};
 

@@ -1,11 +1,11 @@
 // The transform of elements pair by pair, against that of numbers: the same values and the same count, and back. It is called
 // through its bounds at a kernel whose elements are no numbers, of 1 to 1,024 values.
 use super::drawn::{fill, next_number};
+use super::kernel::{ElementKernel, ElementPairs};
+use additive_transforms::{forward, forward_with, inverse_with, point};
 use field_element::Ghash128;
 use std::alloc::{AllocError, Allocator, Global};
 use std::test::Fail;
-use transform_elements::{ElementKernel, ElementPairs};
-use transform_whole::{forward, forward_with, inverse_with, point};
 
 // Runs the transform of 2^m numbers for an m up to 10, or returns false.
 fn numbers_forward<A: Allocator>(

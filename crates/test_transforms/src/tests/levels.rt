@@ -1,11 +1,11 @@
 // The transform of elements of a narrow field: each place holds the value of the polynomial at its point, and the inverse takes the values
 // back.
+use additive_transforms::over::evaluate_cantor;
+use additive_transforms::{element_point, forward_elements, inverse_elements};
 use field_base::Unsigned;
 use field_base::traits::TowerLevel;
 use field_element::{BinaryField2, BinaryField8};
 use std::test::Fail;
-use transform_levels::{element_point, forward_elements, inverse_elements};
-use transform_whole::over::evaluate_cantor;
 
 // Runs the transform of 2^m elements for an m up to 5 and the field's bits, or returns false.
 fn forward_of<F: TowerLevel>(values: &mut [F], m: usize, z: F) -> bool {

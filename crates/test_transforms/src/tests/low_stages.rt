@@ -1,8 +1,8 @@
 // Worked rows of the low stages.
 use field_base::traits::TowerLevel;
 use field_element::Ghash128;
+use ghash_slices::{LOW_STAGES, LowStageTwiddles};
 use std::test::Fail;
-use transform_slices::{LOW_STAGES, LowStageTwiddles};
 
 // Cantor vectors 1 to 3.
 fn basis() -> [u128; 3] {

@@ -1,12 +1,12 @@
 // Calls that take memory, with each growth refused in turn, and granted where there is memory, at all lengths up to 257.
 use super::drawn::fill;
-use linked_list_allocator::LocalHeap;
-use std::alloc::{AllocError, Allocator, Global};
-use test_heaps::{Ending, Growing, Rest, is_refused_in_turn};
-use transform_slices::LowStageTwiddles;
-use transform_whole::{
+use additive_transforms::{
     PolyKernel, Transform as KeptTransform, forward, forward_numbers, forward_with, inverse_numbers,
 };
+use ghash_slices::LowStageTwiddles;
+use linked_list_allocator::LocalHeap;
+use std::alloc::{AllocError, Allocator, Global};
+use test_support::{Ending, Growing, Rest, is_refused_in_turn};
 
 // Twiddles with a basis of so many elements.
 #[derive(Drop)]

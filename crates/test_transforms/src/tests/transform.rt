@@ -1,7 +1,7 @@
 // The whole transform and its inverse: worked rows.
+use additive_transforms::{forward, inverse};
 use std::alloc::{AllocError, Allocator, Global};
 use std::test::Fail;
-use transform_whole::{forward, inverse};
 
 // Runs the transform of 2^m values for an m from 4 to 10, or returns false.
 fn forward_of<A: Allocator>(

@@ -1,7 +1,7 @@
 // Worked rows: integers as elements of GF(2).
 use field_base::Gf2;
 use field_base::traits::PrimeCharacteristicRing;
-use field_numbers::QuotientMap;
+use field_integers::QuotientMap;
 
 #[test]
 fn integers_by_parity(rt: HostRuntime) {

@@ -1,7 +1,7 @@
 use Rattle.std.proofs.Common.{sym, refl, lit<}
 use Rattle.std.proofs.lemmas.Nat.{xor_lt}
 use Rattle.field_base.specs.Remainder.{mul_mod, poly64_modulus}
-use Rattle.word_basis.proofs.Isomorphisms.{field_64}
+use Rattle.word_tables.proofs.Isomorphisms.{field_64}
 use Rattle.word_cubic.proofs.CubicField.{cubic_frobenius}
 use Rattle.word_cubic.proofs.cubic.automorphism_192.Goals as goal
 

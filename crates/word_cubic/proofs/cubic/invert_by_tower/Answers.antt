@@ -2,7 +2,7 @@ use Rattle.std.proofs.Common.{◌≡◌, sym, ◌∙◌, ap, lit<}
 use Rattle.field_base.specs.Basis.{poly64_images, basis_image}
 use Rattle.field_base.specs.Remainder.{poly64_modulus}
 use Rattle.field_base.proofs.BasisFields.{image_inverse, image_nonzero}
-use Rattle.word_basis.proofs.Isomorphisms.{isomorphic_64}
+use Rattle.word_tables.proofs.Isomorphisms.{isomorphic_64}
 use Rattle.word_cubic.proofs.cubic.invert_by_tower.Goals as goal
 
 pub returns-clause-zero : goal.returns-clause-zero

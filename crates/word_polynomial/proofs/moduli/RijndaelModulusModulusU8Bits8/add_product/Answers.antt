@@ -2,7 +2,7 @@ use Rattle.std.proofs.Common.{ℕ, ◌%◌, ◌^◌, ◌∙◌, ap}
 use Rattle.std.specs.Prelude.{bit_xor}
 use Rattle.std.proofs.lemmas.Nat.{xor_mod}
 use native.Mathlib.Nat.{mod-eq_of_lt}
-use Rattle.word_basis.proofs.Isomorphisms.{field_8}
+use Rattle.word_tables.proofs.Isomorphisms.{field_8}
 use Rattle.word_polynomial.proofs.moduli.RijndaelModulusModulusU8Bits8.add_product.Goals as goal
 
 -- a product is a byte

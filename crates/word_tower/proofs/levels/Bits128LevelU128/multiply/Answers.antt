@@ -1,6 +1,6 @@
 use Rattle.field_base.specs.Basis.{ghash_images}
 use Rattle.field_base.specs.Remainder.{ghash_modulus}
-use Rattle.word_basis.proofs.Isomorphisms.{isomorphic_128}
+use Rattle.word_tables.proofs.Isomorphisms.{isomorphic_128}
 use Rattle.word_tower.proofs.Images.{product_by_images}
 use Rattle.word_tower.proofs.levels.Bits128LevelU128.multiply.Goals as goal
 

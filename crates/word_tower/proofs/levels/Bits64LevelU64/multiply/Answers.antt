@@ -1,6 +1,6 @@
 use Rattle.field_base.specs.Basis.{poly64_images}
 use Rattle.field_base.specs.Remainder.{poly64_modulus}
-use Rattle.word_basis.proofs.Isomorphisms.{isomorphic_64}
+use Rattle.word_tables.proofs.Isomorphisms.{isomorphic_64}
 use Rattle.word_tower.proofs.Images.{product_by_images}
 use Rattle.word_tower.proofs.levels.Bits64LevelU64.multiply.Goals as goal
 

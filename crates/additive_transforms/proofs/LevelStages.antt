@@ -1,0 +1,105 @@
+-- The stages of a transform over a field of `width` bits, whose twiddles reach as many stages as it has bits.
+use Rattle.std.proofs.Common.{◌≡◌, ℕ, suc, ◌+◌, ◌-◌, ◌/◌, ◌^◌, ◌<◌, ◌≤◌, List, length, map, sym, ◌∙◌, ap, subst, arith, lit<}
+use Rattle.std.specs.List.{range_with_len}
+use Rattle.std.specs.Prelude.{slice_index}
+use Rattle.std.proofs.Math.Nat.{pow-le-pow_right}
+use Rattle.std.proofs.lemmas.List.FromFn.{get_or-map-range_with_len, length-map-range_with_len}
+use Rattle.field_base.specs.Orders.{AreCantorVectors}
+use Rattle.field_base.specs.Ring.{IsRing}
+use Rattle.ghash_slices.specs.Cantor.{AreCantorTwiddles, subspace_value}
+use Rattle.additive_transforms.specs.Stages.{AreLeft, IsStage}
+use Rattle.additive_transforms.specs.Transform.{AreTheCoefficients, HoldValuesAtPoints}
+use Rattle.additive_transforms.proofs.Counts.{block_count}
+use Rattle.additive_transforms.proofs.OnlyStages.{all_leave, inverse_leaves}
+use Rattle.additive_transforms.proofs.WholeStages.{AreUndone, left_step, undone_step}
+use Rattle.additive_transforms.specs.Levels.{FitsField, twiddle_basis}
+
+-- ---- how many
+
+-- the stages of the values are those that the field has room for
+pub fits_stages : (width values stages : ℕ) → FitsField width values → ((m : ℕ) → values ≡ 2 ^ m → m ≡ stages) → stages ≤ width
+fits_stages width values stages fits only = subst (λ (m : ℕ). m ≤ width) (only fits.0 fits.1.1) fits.2
+
+-- so the blocks of a stage have numbers below half the elements of the field
+pub few_blocks : (width m s values : ℕ) → s < m → m ≤ width → values ≡ 2 ^ m → values / 2 ^ (s + 1) ≤ 2 ^ (width - 1)
+few_blocks width m s values below few is =
+    let blocks = block_count m s values below is in
+    let most : 2 ^ (m - suc s) ≤ 2 ^ (width - 1) = pow-le-pow_right (lit< tt) (omega (arith, below, few)) in
+    omega (arith, blocks, most)
+
+-- ---- the twiddles
+
+-- shift j is s_j(z), of as many as the field has bits
+pub level_shifts : ℕ → (ℕ → ℕ → ℕ) → ℕ → List ℕ
+level_shifts width times z = map (λ j. subspace_value times j z) (range_with_len 0 width)
+
+-- the basis is one shorter than that
+pub basis_length : (width : ℕ) (vector : ℕ → ℕ) → 0 < width → suc (length (twiddle_basis width vector)) ≡ width
+unfolding twiddle_basis
+basis_length width vector wide =
+    let next : suc (width - 1) ≡ width = omega (arith, wide) in
+    ap suc (length-map-range_with_len (λ t. vector (suc t)) 0 (width - 1)) ∙ next
+
+-- element t of the basis
+pub basis_at : (width : ℕ) (vector : ℕ → ℕ) (t : ℕ) → t < width - 1 → slice_index (twiddle_basis width vector) t ≡ vector (suc t)
+unfolding twiddle_basis
+basis_at width vector t below = get_or-map-range_with_len (λ i. vector (suc i)) 0 (width - 1) t t 0 below (omega arith)
+
+-- shift j
+pub shift_at : (width : ℕ) (times : ℕ → ℕ → ℕ) (z j : ℕ) → j < width
+    → slice_index (level_shifts width times z) j ≡ subspace_value times j z
+unfolding level_shifts
+shift_at width times z j below = get_or-map-range_with_len (λ i. subspace_value times i z) 0 width j j 0 below (omega arith)
+
+-- ---- the stages
+
+module _ (width : ℕ) (times : ℕ → ℕ → ℕ) (vector : ℕ → ℕ) (wide : 0 < width) (ring : IsRing width 1 times) (vectors : AreCantorVectors width times vector) (z m : ℕ) (few : m ≤ width) where
+  -- they are the twiddles for the points from z on
+  twiddles : AreCantorTwiddles width times vector z width (level_shifts width times z) (twiddle_basis width vector)
+  twiddles =
+      let long = basis_length width vector wide in
+      record {
+        stages_fit = omega arith;
+        basis_fits = omega (arith, long);
+        shifts_are = shift_at width times z;
+        basis_is = λ t below. basis_at width vector t (omega (arith, long, below));
+      }
+
+  -- one more stage of the forward transform, with its shift as it was computed
+  pub level_left : (n blocks shift : ℕ) (old now next : List ℕ) → n < m → blocks ≡ 2 ^ (m - suc n)
+      → ((p : ℕ) → slice_index now p < 2 ^ width) → shift ≡ subspace_value times n z
+      → IsStage times shift (twiddle_basis width vector) n blocks now next
+      → AreLeft times (level_shifts width times z) (twiddle_basis width vector) m (suc n) old now
+      → AreLeft times (level_shifts width times z) (twiddle_basis width vector) m n old next
+  level_left n blocks shift old now next below count fits shift_is is =
+      left_step width times ring (level_shifts width times z) (twiddle_basis width vector) m n blocks old now next below count fits
+      (subst (λ (s : ℕ). IsStage times s (twiddle_basis width vector) n blocks now next)
+      (shift_is ∙ sym (shift_at width times z n (omega (arith, below, few)))) is)
+
+  -- one more stage of the inverse transform
+  pub level_undone : (n blocks shift : ℕ) (old now next : List ℕ) → n < m → blocks ≡ 2 ^ (m - suc n)
+      → ((p : ℕ) → slice_index next p < 2 ^ width) → shift ≡ subspace_value times n z
+      → IsStage times shift (twiddle_basis width vector) n blocks next now
+      → AreUndone times (level_shifts width times z) (twiddle_basis width vector) m n old now
+      → AreUndone times (level_shifts width times z) (twiddle_basis width vector) m (suc n) old next
+  level_undone n blocks shift old now next below count fits shift_is is =
+      undone_step width times ring (level_shifts width times z) (twiddle_basis width vector) m n blocks old now next below count fits
+      (subst (λ (s : ℕ). IsStage times s (twiddle_basis width vector) n blocks next now)
+      (shift_is ∙ sym (shift_at width times z n (omega (arith, below, few)))) is)
+
+  -- after all the stages there are the values
+  pub level_values : (old new : List ℕ) → length old ≡ 2 ^ m → ((p : ℕ) → slice_index new p < 2 ^ width)
+      → AreLeft times (level_shifts width times z) (twiddle_basis width vector) m 0 old new
+      → HoldValuesAtPoints width times vector z old new
+  level_values =
+      all_leave width times vector wide ring vectors (level_shifts width times z) (twiddle_basis width vector) z width twiddles
+      (basis_length width vector wide) m few
+
+  -- and before all of them the coefficients
+  pub level_coefficients : (old new : List ℕ) → length old ≡ 2 ^ m → length new ≡ 2 ^ m → ((p : ℕ) → slice_index old p < 2 ^ width)
+      → ((p : ℕ) → slice_index new p < 2 ^ width)
+      → AreUndone times (level_shifts width times z) (twiddle_basis width vector) m m old new
+      → AreTheCoefficients width times vector z old new
+  level_coefficients =
+      inverse_leaves width times vector wide ring vectors (level_shifts width times z) (twiddle_basis width vector) z width twiddles
+      (basis_length width vector wide) m few

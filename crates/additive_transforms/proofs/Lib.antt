@@ -1,0 +1,14 @@
+pub mod BlockStages
+pub mod Butterflies
+pub mod CantorSums
+pub mod Carries
+pub mod Counts
+pub mod ImageValues
+pub mod LevelPoints
+pub mod LevelStages
+pub mod OnlyStages
+pub mod PairLoops
+pub mod PairStages
+pub mod PointSums
+pub mod WholeStages
+pub mod Written

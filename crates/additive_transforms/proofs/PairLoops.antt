@@ -1,0 +1,131 @@
+-- Pairs of places of two slices, one after another.
+use Rattle.std.proofs.Common.{◌≡◌, ◌≢◌, ◌⊎◌, inl, inr, ℕ, ◌+◌, ◌<◌, ◌≤◌, List, length, map, get_or, refl, sym, ◌∙◌, ap, subst, arith, get_or-set_other, get_or-set_same}
+use Rattle.std.specs.Prelude.{bit_xor, slice_index}
+use Rattle.std.specs.Simd.Lanes.{zip2}
+use Rattle.std.proofs.Math.ListN.{set}
+use Rattle.std.proofs.lemmas.Bool.{cases_lt}
+use Rattle.std.proofs.lemmas.List.{ext_get_or, get_or-map, length-map, length-set, map-set}
+use Rattle.std.proofs.lemmas.Simd.{length-zip2}
+use Rattle.ghash_slices.specs.Stages.{add_multiple}
+use Rattle.additive_transforms.proofs.Butterflies.{read_both}
+
+-- the forward butterfly takes a pair to a pair
+abbrev pub forward_of : (ℕ → ℕ → ℕ) → ℕ → ℕ → ℕ → ℕ → ℕ → Type 0
+forward_of times s x y x' y' = (x' ≡ add_multiple times s x y) × (y' ≡ bit_xor y x')
+
+-- and the inverse one
+abbrev pub inverse_of : (ℕ → ℕ → ℕ) → ℕ → ℕ → ℕ → ℕ → ℕ → Type 0
+inverse_of times s x y x' y' = (y' ≡ bit_xor y x) × (x' ≡ add_multiple times s x y')
+
+-- the pairs before place n are done, and those from it on are as they were
+pub record PairsSoFar (pair : ℕ → ℕ → ℕ → ℕ → Type 0) (n : ℕ) (lo hi lo' hi' : List ℕ) : Type 0 where
+  pub low_length : length lo' ≡ length lo
+  pub high_length : length hi' ≡ length hi
+  pub done : (p : ℕ) → p < n → pair (slice_index lo p) (slice_index hi p) (slice_index lo' p) (slice_index hi' p)
+  pub low_rest : (p : ℕ) → n ≤ p → slice_index lo' p ≡ slice_index lo p
+  pub high_rest : (p : ℕ) → n ≤ p → slice_index hi' p ≡ slice_index hi p
+
+-- before the first pair nothing is done
+pub pairs_start : (pair : ℕ → ℕ → ℕ → ℕ → Type 0) (lo hi : List ℕ) → PairsSoFar pair 0 lo hi lo hi
+pairs_start pair lo hi =
+    record {
+      low_length = refl;
+      high_length = refl;
+      done = λ p below. absurd (omega arith);
+      low_rest = λ p past. refl;
+      high_rest = λ p past. refl;
+    }
+
+-- one more pair done, of elements by their values
+module _ {A : Type 0} (value : A → ℕ) (pair : ℕ → ℕ → ℕ → ℕ → Type 0) (n : ℕ) (lo hi low high : List A) (x y : A) (low_in : n < length low) (high_in : n < length high) where
+  at : (xs : List A) (z : A) → n < length xs → slice_index (map value (set xs n z)) n ≡ value z
+  at xs z inside =
+      ap (λ (l : List ℕ). slice_index l n) (map-set value xs n z)
+      ∙ get_or-set_same (map value xs) n (value z) 0 (let same = length-map xs value in omega (arith, same))
+
+  off : (xs : List A) (z : A) (p : ℕ) → p ≢ n → slice_index (map value (set xs n z)) p ≡ slice_index (map value xs) p
+  off xs z p other = ap (λ (l : List ℕ). slice_index l p) (map-set value xs n z) ∙ get_or-set_other (map value xs) n p (value z) 0 other
+
+  as_long : (xs : List A) (z : A) → length (map value (set xs n z)) ≡ length (map value xs)
+  as_long xs z = ap length (map-set value xs n z) ∙ length-set (map value xs) n (value z)
+
+  pub pairs_step : pair (slice_index (map value low) n) (slice_index (map value high) n) (value x) (value y)
+      → PairsSoFar pair n (map value lo) (map value hi) (map value low) (map value high)
+      → PairsSoFar pair (n + 1) (map value lo) (map value hi) (map value (set low n x)) (map value (set high n y))
+  pairs_step is so_far =
+      record {
+        low_length = as_long low x ∙ so_far.low_length;
+        high_length = as_long high y ∙ so_far.high_length;
+        done = λ p below. pick p below (cases_lt p n);
+        low_rest = λ p past. off low x p (omega arith) ∙ so_far.low_rest p (omega arith);
+        high_rest = λ p past. off high y p (omega arith) ∙ so_far.high_rest p (omega arith);
+      }
+    where
+      same : (a b a' b' c d c' d' : ℕ) → a ≡ a' → b ≡ b' → c ≡ c' → d ≡ d' → pair a b c d → pair a' b' c' d'
+      same a b a' b' c d c' d' first second third fourth holds =
+          subst (λ (v : ℕ). pair a' b' c' v) fourth (subst (λ (v : ℕ). pair a' b' v d) third
+          (subst (λ (v : ℕ). pair a' v c d) second (subst (λ (v : ℕ). pair v b c d) first holds)))
+
+      pick : (p : ℕ) → p < n + 1 → (p < n) ⊎ (n ≤ p) → pair (slice_index (map value lo) p) (slice_index (map value hi) p)
+          (slice_index (map value (set low n x)) p) (slice_index (map value (set high n y)) p)
+      pick p below (inl earlier) =
+          same _ _ _ _ _ _ _ _ refl refl (sym (off low x p (omega arith))) (sym (off high y p (omega arith))) (so_far.done p earlier)
+      pick p below (inr last) =
+          let here : n ≡ p = omega arith in
+          let from : n ≤ n = omega arith in
+          subst (λ (m : ℕ). pair (slice_index (map value lo) m) (slice_index (map value hi) m)
+          (slice_index (map value (set low n x)) m) (slice_index (map value (set high n y)) m)) here
+          (same _ _ _ _ _ _ _ _ (so_far.low_rest n from) (so_far.high_rest n from) (sym (at low x low_in)) (sym (at high y high_in)) is)
+
+-- a pair that was read from the slices
+module _ {A : Type 0} (value : A → ℕ) (times : ℕ → ℕ → ℕ) (s n : ℕ) (low high : List A) (x y x' y' : A) (low_in : n < length low) (high_in : n < length high) where
+  first : value (get_or low n x) ≡ slice_index (map value low) n
+  first = sym (get_or-map value low n x 0 low_in)
+
+  second : value (get_or high n y) ≡ slice_index (map value high) n
+  second = sym (get_or-map value high n y 0 high_in)
+
+  pub forward_read : forward_of times s (value (get_or low n x)) (value (get_or high n y)) (value x') (value y')
+      → forward_of times s (slice_index (map value low) n) (slice_index (map value high) n) (value x') (value y')
+  forward_read is =
+      subst (λ (v : ℕ). forward_of times s v (slice_index (map value high) n) (value x') (value y')) first
+      (subst (λ (v : ℕ). forward_of times s (value (get_or low n x)) v (value x') (value y')) second is)
+
+  pub inverse_read : inverse_of times s (value (get_or low n x)) (value (get_or high n y)) (value x') (value y')
+      → inverse_of times s (slice_index (map value low) n) (slice_index (map value high) n) (value x') (value y')
+  inverse_read is =
+      subst (λ (v : ℕ). inverse_of times s v (slice_index (map value high) n) (value x') (value y')) first
+      (subst (λ (v : ℕ). inverse_of times s (value (get_or low n x)) v (value x') (value y')) second is)
+
+-- after the last pair each slice is the butterfly's
+module _ (times : ℕ → ℕ → ℕ) (s n : ℕ) (lo hi lo' hi' : List ℕ) (equal : length lo ≡ length hi) (all : length lo ≤ n) where
+  pub forward_ends : PairsSoFar (forward_of times s) n lo hi lo' hi'
+      → (lo' ≡ zip2 (add_multiple times s) lo hi) × (hi' ≡ zip2 bit_xor hi lo')
+  forward_ends so_far = (
+    ext_get_or 0 lo' (zip2 (add_multiple times s) lo hi)
+        (so_far.low_length ∙ sym (length-zip2 (add_multiple times s) lo hi equal))
+        (λ p below.
+        let inside : p < length lo = let same = so_far.low_length in omega (arith, same) in
+        (so_far.done p (omega arith)).0
+        ∙ sym (read_both (add_multiple times s) (length lo) lo hi refl (sym equal) p inside)),
+    ext_get_or 0 hi' (zip2 bit_xor hi lo') (so_far.high_length ∙ sym (length-zip2 bit_xor hi lo' (sym (so_far.low_length ∙ equal))))
+        (λ p below.
+        let inside : p < length hi = let same = so_far.high_length in omega (arith, same) in
+        (so_far.done p (omega arith)).1
+        ∙ sym (read_both bit_xor (length hi) hi lo' refl (so_far.low_length ∙ equal) p inside)),
+  )
+
+  pub inverse_ends : PairsSoFar (inverse_of times s) n lo hi lo' hi'
+      → (hi' ≡ zip2 bit_xor hi lo) × (lo' ≡ zip2 (add_multiple times s) lo hi')
+  inverse_ends so_far = (
+    ext_get_or 0 hi' (zip2 bit_xor hi lo) (so_far.high_length ∙ sym (length-zip2 bit_xor hi lo (sym equal)))
+        (λ p below.
+        let inside : p < length hi = let same = so_far.high_length in omega (arith, same) in
+        (so_far.done p (omega arith)).0 ∙ sym (read_both bit_xor (length hi) hi lo refl equal p inside)),
+    ext_get_or 0 lo' (zip2 (add_multiple times s) lo hi')
+        (so_far.low_length ∙ sym (length-zip2 (add_multiple times s) lo hi' (equal ∙ sym so_far.high_length)))
+        (λ p below.
+        let inside : p < length lo = let same = so_far.low_length in omega (arith, same) in
+        (so_far.done p (omega arith)).1
+        ∙ sym (read_both (add_multiple times s) (length lo) lo hi' refl (so_far.high_length ∙ sym equal) p inside)),
+  )

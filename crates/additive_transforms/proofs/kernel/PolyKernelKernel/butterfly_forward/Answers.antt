@@ -1,0 +1,7 @@
+use Rattle.additive_transforms.proofs.kernel.PolyKernelKernel.butterfly_forward.Goals as goal
+
+pub returns-clause-values : goal.returns-clause-values
+returns-clause-values c = record {
+  low = c.add_multiples.ensures;
+  high = c.add_each.ensures;
+}

@@ -1,0 +1,7 @@
+use Rattle.additive_transforms.proofs.kernel.PolyKernelKernel.butterfly_inverse.Goals as goal
+
+pub returns-clause-values : goal.returns-clause-values
+returns-clause-values c = record {
+  high = c.add_each.ensures;
+  low = c.add_multiples.ensures;
+}

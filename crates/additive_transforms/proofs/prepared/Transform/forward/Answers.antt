@@ -1,0 +1,15 @@
+use Rattle.std.proofs.Common.{ℕ, List, map, subst, arith}
+use Rattle.additive_transforms.specs.Transform.{HoldPolynomialValues}
+use Rattle.additive_transforms.proofs.Counts.{pairs_fit}
+use Rattle.ghash_slices.proofs.WordValues.{low_of, own_low}
+use Rattle.additive_transforms.proofs.prepared.Transform.forward.Goals as goal
+
+pub forward_with-requires-clause-room : goal.forward_with-requires-clause-room
+forward_with-requires-clause-room g c =
+    let room = pairs_fit c.args.self.now.stages c.args.self.now.few in omega (arith, room)
+
+pub returns-clause-values : goal.returns-clause-values
+returns-clause-values g c =
+    subst (λ (l : List ℕ). HoldPolynomialValues c.args.self.now.z l c.forward_with.new.values) c.numbers_are_values.ensures
+    (subst (λ (l : List ℕ). HoldPolynomialValues c.args.self.now.z (map low_of c.args.values.now) l)
+    (own_low c.forward_with.new.values (λ p. (c.type_inv.values p).fits)) c.forward_with.ensures.values)

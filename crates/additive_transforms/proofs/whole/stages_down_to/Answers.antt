@@ -1,0 +1,69 @@
+use Rattle.std.proofs.Common.{◌≡◌, ℕ, suc, ◌+◌, ◌-◌, ◌*◌, ◌^◌, ◌<◌, length, map, refl, sym, ◌∙◌, ap, subst, arith}
+use Rattle.field_base.proofs.RemainderRing.{ghash_ring}
+use Rattle.ghash_slices.specs.LowStages.{ghash_product}
+use Rattle.ghash_slices.proofs.WordValues.{values_fit}
+use Rattle.additive_transforms.specs.Stages.{AreLeft}
+use Rattle.additive_transforms.proofs.Counts.{block_count, half_count, stage_counted, stage_room, whole_blocks}
+use Rattle.additive_transforms.proofs.WholeStages.{left_step}
+use Rattle.additive_transforms.proofs.whole.stages_down_to.Goals as goal
+
+-- before the first stage nothing is counted
+start : (count stages half : ℕ) → count ≡ count + (stages - stages) * half
+start count stages half =
+    let none : stages - stages ≡ 0 = omega arith in
+    let same : count ≡ count + 0 * half = omega arith in
+    same ∙ ap (λ (n : ℕ). count + n * half) (sym none)
+
+pub loop-stage-init : goal.loop-stage-init
+loop-stage-init g c = (refl, omega arith, (λ p inside. refl), start (g.K.Kernel.count c.args.kernel.now) c.args.stages (2 ^ (c.args.stages - 1)))
+
+pub forward_stage-requires-clause-whole : goal.forward_stage-requires-clause-whole
+forward_stage-requires-clause-whole g c =
+    whole_blocks c.args.stages (c.loop-stage.stage - 1) (length c.loop-stage.values) (omega arith)
+    (c.loop-stage.invariant.0 ∙ c.requires.stages.1)
+
+pub forward_stage-requires-clause-room : goal.forward_stage-requires-clause-room
+forward_stage-requires-clause-room g c =
+    let m = c.args.stages in
+    let above : 0 < m = omega arith in
+    let below : m - c.loop-stage.stage < m = omega arith in
+    let half = half_count m (length c.loop-stage.values) above (c.loop-stage.invariant.0 ∙ c.requires.stages.1) in
+    let room = stage_room (g.K.Kernel.count c.args.kernel.now) (g.K.Kernel.count c.loop-stage.kernel) (m - c.loop-stage.stage) m
+    (2 ^ (m - 1)) below c.requires.room c.loop-stage.invariant.3 in
+    subst (λ (h : ℕ). g.K.Kernel.count c.loop-stage.kernel + h < 2 ^ 64) (sym half) room
+
+pub loop-stage-preserved : goal.loop-stage-preserved
+loop-stage-preserved g c =
+    let m = c.args.stages in
+    let stage = c.loop-stage.stage in
+    let value = g.K.Kernel.value in
+    let twiddles = c.args.twiddles.now in
+    let is = c.loop-stage.invariant.0 ∙ c.requires.stages.1 in
+    let next : suc (stage - 1) ≡ stage = omega arith in
+    let below : stage - 1 < m = omega arith in
+    let above : 0 < m = omega arith in
+    let done : suc (m - stage) ≡ m - (stage - 1) = omega arith in (
+      c.forward_stage.ensures.length ∙ c.loop-stage.invariant.0,
+      omega arith,
+      left_step 128 ghash_product ghash_ring twiddles.shifts twiddles.basis m (stage - 1) _ (map value c.args.values.now)
+          (map value c.loop-stage.values) (map value c.forward_stage.new.values) below (block_count m (stage - 1) _ below is)
+          (values_fit 128 value g.K.Kernel.range_law c.loop-stage.values) c.forward_stage.ensures.stage
+          (subst (λ (n : ℕ). AreLeft ghash_product twiddles.shifts twiddles.basis m n (map value c.args.values.now)
+          (map value c.loop-stage.values))
+          (sym next) c.loop-stage.invariant.2),
+      stage_counted _ _ _ (m - stage) (2 ^ (m - 1)) c.loop-stage.invariant.3
+          (c.forward_stage.ensures.count ∙ ap (λ (n : ℕ). g.K.Kernel.count c.loop-stage.kernel + n) (half_count m _ above is))
+          ∙ ap (λ (n : ℕ). g.K.Kernel.count c.args.kernel.now + n * 2 ^ (m - 1)) done,
+    )
+
+pub returns-clause-left : goal.returns-clause-left
+returns-clause-left g c =
+    let value = g.K.Kernel.value in
+    let last : c.loop-stage.stage ≡ c.args.lowest = omega arith in
+    subst (λ (n : ℕ). AreLeft ghash_product c.args.twiddles.now.shifts c.args.twiddles.now.basis c.args.stages n
+    (map value c.args.values.now) (map value c.loop-stage.values)) last c.loop-stage.invariant.2
+
+pub returns-clause-count : goal.returns-clause-count
+returns-clause-count g c =
+    let last : c.args.stages - c.loop-stage.stage ≡ c.args.stages - c.args.lowest = omega arith in
+    c.loop-stage.invariant.3 ∙ ap (λ (n : ℕ). g.K.Kernel.count c.args.kernel.now + n * 2 ^ (c.args.stages - 1)) last

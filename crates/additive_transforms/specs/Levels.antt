@@ -1,0 +1,12 @@
+-- Additive transforms over any field with Cantor vectors.
+use Rattle.std.specs.List.{range_with_len}
+use Rattle.std.specs.Prelude.{ℕ, suc, ◌-◌, ◌≤◌, List, map}
+use Rattle.additive_transforms.specs.Transform.{HasStages}
+
+-- a transform of so many values has some number m of stages, and a field of `width` bits has no fewer points
+abbrev pub FitsField : ℕ → ℕ → Type 0
+FitsField width values = (m : ℕ) × HasStages m values × (m ≤ width)
+
+-- the basis of the twiddles: element t is vector t + 1
+unfoldable pub twiddle_basis : ℕ → (ℕ → ℕ) → List ℕ
+twiddle_basis width vector = map (λ t. vector (suc t)) (range_with_len 0 (width - 1))

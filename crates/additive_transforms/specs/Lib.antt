@@ -1,0 +1,4 @@
+pub mod Levels
+pub mod Stages
+pub mod Transform
+pub mod Values

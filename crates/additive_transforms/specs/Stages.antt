@@ -1,0 +1,32 @@
+-- One stage of a transform, block by block, over any ring of characteristic two whose elements are numbers. An array is a function
+-- from its places to its values.
+use Rattle.std.specs.Prelude.{◌≡◌, ℕ, suc, ◌+◌, ◌*◌, ◌^◌, ◌<◌, List, bit_xor, slice_index}
+use Rattle.field_base.specs.LinearMaps.{linear_image}
+use Rattle.ghash_slices.specs.LowStages.{values_from}
+use Rattle.ghash_slices.specs.Stages.{add_multiple, factor, stages}
+
+-- in a block of twice `half` places the array a becomes b by the forward butterfly with the scalar t. A pair is a place of the
+-- block's lower half with the place `half` further.
+pub record IsButterfly (times : ℕ → ℕ → ℕ) (t half : ℕ) (a b : ℕ → ℕ) : Type 0 where
+  pub lower : (r : ℕ) → r < half → b r ≡ add_multiple times t (a r) (a (half + r))
+  pub upper : (r : ℕ) → r < half → b (half + r) ≡ bit_xor (a (half + r)) (b r)
+
+-- stage j takes the values a to the values b in so many blocks of 2 ^ (j + 1) places: the scalar of a block is its twiddle, which
+-- is the shift of the stage, and the elements of the basis at the set bits of the block's number
+abbrev pub IsStage : (ℕ → ℕ → ℕ) → ℕ → List ℕ → ℕ → ℕ → List ℕ → List ℕ → Type 0
+IsStage times shift basis j blocks a b =
+    (q : ℕ) → q < blocks
+    → IsButterfly times (bit_xor shift (linear_image basis q)) (2 ^ j) (values_from a (q * 2 ^ suc j)) (values_from b (q * 2 ^ suc j))
+
+-- the same where the first of the blocks has the number `first`
+abbrev pub IsStageFrom : (ℕ → ℕ → ℕ) → ℕ → List ℕ → ℕ → ℕ → ℕ → List ℕ → List ℕ → Type 0
+IsStageFrom times shift basis j first blocks a b =
+    (q : ℕ) → q < blocks
+    → IsButterfly times (bit_xor shift (linear_image basis (first + q))) (2 ^ j) (values_from a (q * 2 ^ suc j))
+    (values_from b (q * 2 ^ suc j))
+
+-- the stages below n that are left take the values there are now to what all m stages take the old ones to: in 2 ^ m places
+abbrev pub AreLeft : (ℕ → ℕ → ℕ) → List ℕ → List ℕ → ℕ → ℕ → List ℕ → List ℕ → Type 0
+AreLeft times shifts basis m n old now =
+    (p : ℕ) → p < 2 ^ m
+    → stages times (factor shifts basis) n (slice_index now) p ≡ stages times (factor shifts basis) m (slice_index old) p

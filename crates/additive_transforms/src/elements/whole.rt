@@ -1,0 +1,40 @@
+// Whole transforms.
+ghost use Rattle.std.specs.Prelude.{◌≡◌, length, map};
+ghost use Rattle.additive_transforms.specs.Levels.{FitsField};
+ghost use Rattle.additive_transforms.specs.Transform.{AreTheCoefficients, HoldValuesAtPoints};
+
+use crate::elements::stages::{forward_stage, inverse_stage};
+use crate::over::subspace_value;
+use crate::stages_of;
+use field_base::traits::TowerLevel;
+
+/// Leaves at each place p the value, at point p, of the polynomial with the coefficients `values` in the basis of the products of
+/// the s_j: point p is `z`, and Cantor vector b for each set bit b of p. The length of `values` has to be 2^m, where m is at most
+/// 40 and at most the bits of the field. It takes no memory: m stages of 2^(m - 1) butterflies, with one product each.
+///
+/// Over the field of GHASH `forward_numbers` of `transform_whole`, on the numbers of the elements, does the same faster.
+pub fn forward_elements<F: TowerLevel>(values: &mut [F], z: F)
+    requires { FitsField F.width (length values.old) }
+    ensures length { length values.new ≡ length values.old }
+    ensures values { HoldValuesAtPoints F.width F.product (λ i. F.basis (F.cantor i)) (F.repr z)
+        (map F.repr values.old) (map F.repr values.new) }
+{
+    let stages = stages_of(values.len());
+    for stage in (0..stages).rev() {
+        forward_stage(values, stage, subspace_value(z, stage));
+    }
+}
+
+/// Replaces the values at the points by the coefficients of their polynomial, of which there is one list: with the same `z` it
+/// takes back what `forward_elements` did. It requires what `forward_elements` requires, and takes no memory.
+pub fn inverse_elements<F: TowerLevel>(values: &mut [F], z: F)
+    requires { FitsField F.width (length values.old) }
+    ensures length { length values.new ≡ length values.old }
+    ensures coefficients { AreTheCoefficients F.width F.product (λ i. F.basis (F.cantor i)) (F.repr z)
+        (map F.repr values.old) (map F.repr values.new) }
+{
+    let stages = stages_of(values.len());
+    for stage in 0..stages {
+        inverse_stage(values, stage, subspace_value(z, stage));
+    }
+}

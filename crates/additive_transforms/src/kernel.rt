@@ -1,0 +1,157 @@
+// What computes on the values of a transform.
+ghost use Rattle.std.specs.Prelude.{◌≡◌, ◌≢◌, ℕ, ◌+◌, ◌-◌, ◌*◌, ◌%◌, ◌/◌, ◌^◌, ◌<◌, ◌≤◌, [], length, map};
+ghost use Rattle.ghash_slices.specs.LowStages.{HoldSums};
+ghost use Rattle.ghash_slices.specs.Slices.{IsForward, IsInverse};
+ghost use Rattle.ghash_slices.specs.Twiddles.{basis_of, shifts_of};
+ghost use native.Mathlib.Nat.{mod-lt};
+ghost use Rattle.std.proofs.lemmas.Nat.{pow_pos};
+
+use ghash_slices::{LowStageTwiddles, WideWord, add_each, add_multiples, run_low_stages};
+use std::alloc::Allocator;
+use std::marker::PhantomData;
+
+/// What computes on the values of a transform: nothing else does. Each element stands for a value, which is a number of 128
+/// bits in the field of GHASH. A kernel counts the pairs of places that it computes.
+pub trait Kernel {
+    /// An element of the slices that are transformed.
+    type Elem;
+
+    // The value of an element.
+    ghost value: { Self.Elem → ℕ };
+
+    // The pairs that were computed.
+    ghost count: { Self → ℕ };
+
+    ghost range_law: { (x : Self.Elem) → value x < 2 ^ 128 };
+
+    /// The butterfly of the forward transform, place by place: `lo += s * hi`, and then `hi += lo`. Both slices have to be of one
+    /// length, by which the count rises; it has to fit 64 bits.
+    fn butterfly_forward(&mut self, lo: &mut [Self::Elem], hi: &mut [Self::Elem], s: u128)
+        requires pairs { length lo.old ≡ length hi.old }
+        requires room { Self.count self.old + length lo.old < 2 ^ 64 }
+        ensures values { IsForward s (map Self.value lo.old) (map Self.value hi.old) (map Self.value lo.new) (map Self.value hi.new) }
+        ensures count { Self.count self.new ≡ Self.count self.old + length lo.old };
+
+    /// The butterfly of the inverse transform, place by place: `hi += lo`, and then `lo += s * hi`. Both slices have to be of one
+    /// length, by which the count rises; it has to fit 64 bits.
+    fn butterfly_inverse(&mut self, lo: &mut [Self::Elem], hi: &mut [Self::Elem], s: u128)
+        requires pairs { length lo.old ≡ length hi.old }
+        requires room { Self.count self.old + length lo.old < 2 ^ 64 }
+        ensures values { IsInverse s (map Self.value lo.old) (map Self.value hi.old) (map Self.value lo.new) (map Self.value hi.new) }
+        ensures count { Self.count self.new ≡ Self.count self.old + length lo.old };
+
+    /// Stages 3, 2, 1 and 0 over each run of sixteen values, as `LowStageTwiddles::forward` does, of which the first is run
+    /// `first_run` of the transform. The length has to be a multiple of 16, and where there are values, the number of the last
+    /// run has to be below 2 to the power of three less than the elements of the twiddles' basis; it may pass 64 bits. The count
+    /// rises by 32 a run; it has to fit 64 bits. `LowStageTwiddles::of_block` gives the twiddle of a block, and `PairByPair` runs
+    /// these stages for any kernel of single pairs.
+    fn low_forward<A: Allocator>(
+        &mut self,
+        twiddles: &LowStageTwiddles<A>,
+        values: &mut [Self::Elem],
+        first_run: usize,
+    )
+        requires whole { length values.old % 16 ≡ 0 }
+        requires numbered { values.old ≢ [] → first_run + length values.old / 16 ≤ 2 ^ (length (basis_of twiddles.now) - 3) }
+        requires room { Self.count self.old + 2 * length values.old < 2 ^ 64 }
+        ensures length { length values.new ≡ length values.old }
+        ensures sums { HoldSums (shifts_of twiddles.now) (basis_of twiddles.now) first_run
+            (map Self.value values.old) (map Self.value values.new) }
+        ensures count { Self.count self.new ≡ Self.count self.old + 2 * length values.old };
+}
+
+/// The kernel over plain numbers, by the butterflies and the low stages of `poly_basis`.
+#[derive(Drop)]
+pub struct PolyKernel {
+    /// The pairs that were computed. A pair takes one product, which in long slices is looked up.
+    pub products: u64,
+}
+
+impl Kernel for PolyKernel {
+    type Elem = u128;
+
+    ghost value = { λ x. x % 2 ^ 128 };
+
+    ghost count = { λ kernel. kernel.products };
+
+    ghost range_law = { λ x. mod-lt x (pow_pos 128) };
+
+    fn butterfly_forward(&mut self, lo: &mut [u128], hi: &mut [u128], s: u128) {
+        self.products += lo.len() as u64;
+        add_multiples(lo, hi, s, false);
+        add_each(hi, lo);
+    }
+
+    fn butterfly_inverse(&mut self, lo: &mut [u128], hi: &mut [u128], s: u128) {
+        self.products += lo.len() as u64;
+        add_each(hi, lo);
+        add_multiples(lo, hi, s, false);
+    }
+
+    fn low_forward<A: Allocator>(
+        &mut self,
+        twiddles: &LowStageTwiddles<A>,
+        values: &mut [u128],
+        first_run: usize,
+    ) {
+        self.products += 2 * values.len() as u64;
+        let (shifts, basis) = (twiddles.shifts(), twiddles.basis());
+        run_low_stages(shifts, basis, values, first_run as u128, false);
+    }
+}
+
+/// The kernel over words that hold numbers, where they lie, in vectors of 128 bits or of 256.
+#[derive(Drop)]
+pub struct WordKernel<W> {
+    /// The pairs that were computed.
+    pub products: u64,
+    wide_vectors: bool,
+    words: PhantomData<W>,
+}
+
+impl<W: WideWord> WordKernel<W> {
+    /// The kernel, before it has counted a pair. Wide vectors are made for x86-64-v3.
+    pub fn new(wide_vectors: bool) -> WordKernel<W>
+        ensures count { result.products ≡ 0 }
+        ensures width { result.wide_vectors ≡ wide_vectors }
+    {
+        WordKernel {
+            products: 0,
+            wide_vectors,
+            words: PhantomData,
+        }
+    }
+}
+
+impl<W: WideWord> Kernel for WordKernel<W> {
+    type Elem = W;
+
+    ghost value = { W.value };
+
+    ghost count = { λ kernel. kernel.products };
+
+    ghost range_law = { W.range_law };
+
+    fn butterfly_forward(&mut self, lo: &mut [W], hi: &mut [W], s: u128) {
+        self.products += lo.len() as u64;
+        add_multiples(lo, hi, s, self.wide_vectors);
+        add_each(hi, lo);
+    }
+
+    fn butterfly_inverse(&mut self, lo: &mut [W], hi: &mut [W], s: u128) {
+        self.products += lo.len() as u64;
+        add_each(hi, lo);
+        add_multiples(lo, hi, s, self.wide_vectors);
+    }
+
+    fn low_forward<A: Allocator>(
+        &mut self,
+        twiddles: &LowStageTwiddles<A>,
+        values: &mut [W],
+        first_run: usize,
+    ) {
+        self.products += 2 * values.len() as u64;
+        let (shifts, basis) = (twiddles.shifts(), twiddles.basis());
+        run_low_stages(shifts, basis, values, first_run as u128, self.wide_vectors);
+    }
+}

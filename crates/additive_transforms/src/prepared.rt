@@ -1,0 +1,119 @@
+// Transforms whose twiddles are made once.
+ghost use Rattle.std.specs.Prelude.{◌≡◌, ℕ, ◌+◌, ◌-◌, ◌*◌, ◌^◌, ◌<◌, ◌≤◌, IfOk, length, map, take};
+ghost use Rattle.ghash_slices.specs.Cantor.{AreCantorTwiddles};
+ghost use Rattle.ghash_slices.specs.LowStages.{ghash_cantor_vector, ghash_product};
+ghost use Rattle.ghash_slices.specs.Twiddles.{basis_of, shifts_of};
+
+use crate::kernel::{Kernel, PolyKernel};
+use crate::twiddles::Twiddles;
+use crate::whole::{every_stage, forward_stages, undo_stages};
+use ghash_slices::{LOW_STAGES, LowStageTwiddles, numbers_are_values};
+use std::alloc::{AllocError, Allocator};
+
+/// The transforms of 2^m values from one shift on, for one m from 0 to 40: the twiddles are made once, so that a call takes no
+/// memory, and does not fail. `forward` and `inverse` make them in each call, which counts where there are few values.
+#[derive(Drop)]
+pub struct Transform<A: Allocator> {
+    stages: usize,
+    z: u128,
+    twiddles: Twiddles,
+    low: LowStageTwiddles<A>,
+    ghost few: { stages ≤ 40 },
+    ghost twiddles_are: { AreCantorTwiddles 128 ghash_product ghash_cantor_vector z 40 twiddles.shifts twiddles.basis },
+    ghost reach: { length twiddles.basis ≡ 39 },
+    ghost shifts_are: { shifts_of low ≡ take 4 twiddles.shifts },
+    ghost basis_is: { 4 ≤ stages → basis_of low ≡ take (stages - 1) twiddles.basis },
+}
+
+impl<A: Allocator> Transform<A> {
+    ghost use Rattle.additive_transforms.specs.Transform.{AreOnlyCoefficients, HoldPolynomialValues};
+
+    /// The transforms of 2 to the power of `stages` values, of which there may be at most 40 stages, from the shift `z` on. It fails
+    /// only where the allocator refuses.
+    pub fn new(alloc: A, stages: usize, z: u128) -> Result<Transform<A>, AllocError>
+        requires { stages ≤ 40 }
+        ensures { IfOk result (λ transform. (transform.stages ≡ stages) × (transform.z ≡ z)) }
+    {
+        let twiddles = Twiddles::new(z);
+        let elements = elements_for(stages);
+        let low = LowStageTwiddles::new(alloc, &twiddles.shifts, &twiddles.basis[..elements])?;
+        Ok(Transform {
+            stages,
+            z,
+            twiddles,
+            low,
+        })
+    }
+
+    /// Leaves at each place the value at its point of the polynomial with the coefficients `values`, as `forward` does. There have to be 2
+    /// to the power of the stages values.
+    pub fn forward(&self, values: &mut [u128])
+        requires { length values.old ≡ 2 ^ self.now.stages }
+        ensures length { length values.new ≡ length values.old }
+        ensures values { HoldPolynomialValues self.now.z values.old values.new }
+    {
+        numbers_are_values(values);
+        self.forward_with(&mut PolyKernel { products: 0 }, values);
+    }
+
+    /// Replaces the values at the points by the coefficients of their polynomial, as `inverse` does. There have to be 2 to the power of the
+    /// stages values.
+    pub fn inverse(&self, values: &mut [u128])
+        requires { length values.old ≡ 2 ^ self.now.stages }
+        ensures length { length values.new ≡ length values.old }
+        ensures coefficients { AreOnlyCoefficients self.now.z values.old values.new }
+    {
+        numbers_are_values(values);
+        self.inverse_with(&mut PolyKernel { products: 0 }, values);
+    }
+
+    /// The transform `forward` by any kernel: nothing but the kernel computes on its elements. There have to be 2 to the power of the
+    /// stages values, and the kernel's count and the pairs together have to fit 64 bits; the count rises by the pairs, half the values
+    /// for each stage.
+    pub fn forward_with<K: Kernel>(&self, kernel: &mut K, values: &mut [K::Elem])
+        requires whole { length values.old ≡ 2 ^ self.now.stages }
+        requires room { K.count kernel.old + self.now.stages * 2 ^ (self.now.stages - 1) < 2 ^ 64 }
+        ensures length { length values.new ≡ length values.old }
+        ensures values { HoldPolynomialValues self.now.z (map K.value values.old) (map K.value values.new) }
+        ensures count { K.count kernel.new ≡ K.count kernel.old + self.now.stages * 2 ^ (self.now.stages - 1) }
+    {
+        if self.stages < LOW_STAGES {
+            every_stage(kernel, values, self.stages, &self.twiddles, self.z);
+        } else {
+            forward_stages(
+                kernel,
+                values,
+                self.stages,
+                &self.twiddles,
+                &self.low,
+                self.z,
+            );
+        }
+    }
+
+    /// The transform `inverse` by any kernel: nothing but the kernel computes on its elements. It requires what `forward_with` requires, and
+    /// the count rises by as much.
+    pub fn inverse_with<K: Kernel>(&self, kernel: &mut K, values: &mut [K::Elem])
+        requires whole { length values.old ≡ 2 ^ self.now.stages }
+        requires room { K.count kernel.old + self.now.stages * 2 ^ (self.now.stages - 1) < 2 ^ 64 }
+        ensures length { length values.new ≡ length values.old }
+        ensures coefficients { AreOnlyCoefficients self.now.z (map K.value values.old) (map K.value values.new) }
+        ensures count { K.count kernel.new ≡ K.count kernel.old + self.now.stages * 2 ^ (self.now.stages - 1) }
+    {
+        undo_stages(kernel, values, self.stages, &self.twiddles, self.z);
+    }
+}
+
+// How many elements the basis of the low stages has: one fewer than there are stages, and at least three.
+fn elements_for(stages: usize) -> usize
+    requires { stages ≤ 40 }
+    ensures least { 3 ≤ result }
+    ensures most { result ≤ 39 }
+    ensures enough { 4 ≤ stages → result ≡ stages - 1 }
+{
+    if stages < LOW_STAGES {
+        LOW_STAGES - 1
+    } else {
+        stages - 1
+    }
+}

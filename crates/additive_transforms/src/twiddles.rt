@@ -1,0 +1,53 @@
+// The twiddles of all the stages of a transform.
+ghost use Rattle.std.specs.Prelude.{◌≡◌, ◌<◌, ◌≤◌, ℕ, bit_xor, length, slice_index, take};
+ghost use Rattle.field_base.specs.LinearMaps.{linear_image};
+ghost use Rattle.ghash_slices.specs.LowStages.{ghash_cantor_vector, ghash_product};
+ghost use Rattle.ghash_slices.specs.Cantor.{AreCantorTwiddles};
+
+use word_carryless::square_mod_128;
+use word_tables::{cantor_vector, sum_of_images, to_polynomial_128};
+
+/// The twiddles of a transform with the shift z: shift j is s_j(z), and element t of the basis is Cantor vector t + 1.
+#[derive(Drop)]
+pub(crate) struct Twiddles {
+    pub(crate) shifts: [u128; 40],
+    pub(crate) basis: [u128; 39],
+}
+
+impl Twiddles {
+    pub(crate) fn new(z: u128) -> Twiddles
+        ensures twiddles { AreCantorTwiddles 128 ghash_product ghash_cantor_vector z 40 result.shifts result.basis }
+        ensures reach { length result.basis ≡ 39 }
+    {
+        let mut shifts = [z; 40];
+        for j in 1..40 {
+            shifts[j] = square_mod_128(shifts[j - 1]) ^ shifts[j - 1];
+        }
+        let mut basis = [0; 39];
+        for t in 0..39 {
+            basis[t] = to_polynomial_128(cantor_vector(t + 1));
+        }
+        Twiddles { shifts, basis }
+    }
+
+    /// The shifts of the four lowest stages.
+    pub(crate) fn low_shifts(&self) -> [u128; 4]
+        ensures { result ≡ take 4 self.now.shifts }
+    {
+        [
+            self.shifts[0],
+            self.shifts[1],
+            self.shifts[2],
+            self.shifts[3],
+        ]
+    }
+
+    /// The twiddle of all pairs of a block of a stage: the shift of the stage, and the elements of the basis at the set bits of
+    /// the block's number.
+    pub(crate) fn of_block(&self, stage: usize, block: usize) -> u128
+        requires { stage < 40 }
+        ensures { result ≡ bit_xor (slice_index self.now.shifts stage) (linear_image self.now.basis block) }
+    {
+        self.shifts[stage] ^ sum_of_images(&self.basis, block as u128)
+    }
+}

@@ -1,0 +1,258 @@
+// Whole transforms.
+ghost use Rattle.std.specs.Prelude.{◌≡◌, ℕ, ◌+◌, ◌-◌, ◌*◌, ◌^◌, ◌<◌, ◌≤◌, IfErr, IfOk, length, map, slice_index, take};
+ghost use Rattle.additive_transforms.specs.Transform.{AreOnlyCoefficients, CountsPairs, FitsTransform, HasStages, HoldPolynomialValues};
+ghost use Rattle.ghash_slices.specs.LowStages.{ghash_cantor_vector, ghash_product};
+ghost use Rattle.ghash_slices.specs.Twiddles.{basis_of, shifts_of};
+ghost use Rattle.ghash_slices.specs.Cantor.{AreCantorTwiddles};
+ghost use Rattle.additive_transforms.specs.Stages.{AreLeft};
+
+use crate::kernel::{Kernel, PolyKernel, WordKernel};
+use crate::stages::{forward_stage, inverse_stage};
+use crate::twiddles::Twiddles;
+use ghash_slices::{LOW_STAGES, LowStageTwiddles, WideWord, numbers_are_values, run_low_stages};
+use std::alloc::{AllocError, Allocator};
+
+/// Leaves at each place p the value, at point p, of the polynomial with the coefficients `values` in the basis of the products of
+/// the s_j: point p is `z`, and Cantor vector b for each set bit b of p. The length of `values` has to be 2^m for an m from 0 to 40.
+/// `products` rises by the m * 2^(m - 1) pairs of places that are computed, and has to fit 64 bits after it.
+/// Where `alloc` refuses the twiddles, it fails, and leaves `values` and `products` untouched; with fewer than 16 values it takes no
+/// memory, and does not fail.
+pub fn forward<A: Allocator>(
+    alloc: A,
+    values: &mut [u128],
+    z: u128,
+    products: &mut u64,
+) -> Result<(), AllocError>
+    requires { FitsTransform (length values.old) products.old }
+    ensures length { length values.new ≡ length values.old }
+    ensures values { IfOk result (λ _. HoldPolynomialValues z values.old values.new) }
+    ensures count { IfOk result (λ _. CountsPairs (length values.old) products.old products.new) }
+    ensures refused { IfErr result (λ _. (values.new ≡ values.old) × (products.new ≡ products.old)) }
+    ensures large { IfErr result (λ _. 16 ≤ length values.old) }
+{
+    numbers_are_values(values);
+    let mut kernel = PolyKernel {
+        products: *products,
+    };
+    forward_with(alloc, &mut kernel, values, z)?;
+    *products = kernel.products;
+    Ok(())
+}
+
+/// Replaces the values at the points by the coefficients of their polynomial, of which there is one list: with the same `z` it
+/// takes back what `forward` did. It asks what `forward` asks, and takes no memory; `products` rises by as much.
+pub fn inverse(values: &mut [u128], z: u128, products: &mut u64)
+    requires { FitsTransform (length values.old) products.old }
+    ensures length { length values.new ≡ length values.old }
+    ensures coefficients { AreOnlyCoefficients z values.old values.new }
+    ensures count { CountsPairs (length values.old) products.old products.new }
+{
+    numbers_are_values(values);
+    let mut kernel = PolyKernel {
+        products: *products,
+    };
+    inverse_with(&mut kernel, values, z);
+    *products = kernel.products;
+}
+
+/// The transform `forward` without a count. The length of `values` has to be 2^m for an m from 0 to 40. Where `alloc` refuses the
+/// twiddles, it fails, and leaves `values` untouched; with fewer than 16 values it takes no memory, and does not fail.
+///
+/// Its low stages go in lanes and its long butterflies by tables, so over the field of GHASH it is the fastest form. Elements of any
+/// field with Cantor vectors are transformed by `forward_elements` of `transform_levels`.
+pub fn forward_numbers<A: Allocator>(
+    alloc: A,
+    values: &mut [u128],
+    z: u128,
+) -> Result<(), AllocError>
+    requires { (m : ℕ) × HasStages m (length values.old) }
+    ensures length { length values.new ≡ length values.old }
+    ensures values { IfOk result (λ _. HoldPolynomialValues z values.old values.new) }
+    ensures refused { IfErr result (λ _. values.new ≡ values.old) }
+    ensures large { IfErr result (λ _. 16 ≤ length values.old) }
+{
+    let mut products = 0;
+    forward(alloc, values, z, &mut products)
+}
+
+/// The transform `inverse` without a count: it takes back what `forward_numbers` did with the same `z`. The length of `values` has to
+/// be 2^m for an m from 0 to 40. It takes no memory.
+pub fn inverse_numbers(values: &mut [u128], z: u128)
+    requires { (m : ℕ) × HasStages m (length values.old) }
+    ensures length { length values.new ≡ length values.old }
+    ensures coefficients { AreOnlyCoefficients z values.old values.new }
+{
+    let mut products = 0;
+    inverse(values, z, &mut products);
+}
+
+/// The transform `forward` by any kernel: nothing but the kernel computes on its elements. The length of `values` has to be 2^m
+/// for an m from 0 to 40, and the kernel's count and the m * 2^(m - 1) pairs of places together have to fit 64 bits; the count
+/// rises by those pairs. Where `alloc` refuses the twiddles, it fails, and leaves `values` and the kernel untouched; with fewer than
+/// 16 values it takes no memory, and does not fail.
+pub fn forward_with<K: Kernel, A: Allocator>(
+    alloc: A,
+    kernel: &mut K,
+    values: &mut [K::Elem],
+    z: u128,
+) -> Result<(), AllocError>
+    requires { FitsTransform (length values.old) (K.count kernel.old) }
+    ensures length { length values.new ≡ length values.old }
+    ensures values { IfOk result (λ _. HoldPolynomialValues z (map K.value values.old) (map K.value values.new)) }
+    ensures count { IfOk result (λ _. CountsPairs (length values.old) (K.count kernel.old) (K.count kernel.new)) }
+    ensures refused { IfErr result (λ _. (values.new ≡ values.old) × (kernel.new ≡ kernel.old)) }
+    ensures large { IfErr result (λ _. 16 ≤ length values.old) }
+{
+    let stages = stages_of(values.len());
+    let twiddles = Twiddles::new(z);
+    if stages < LOW_STAGES {
+        every_stage(kernel, values, stages, &twiddles, z);
+        return Ok(());
+    }
+    let low = LowStageTwiddles::new(alloc, &twiddles.shifts, &twiddles.basis[..stages - 1])?;
+    forward_stages(kernel, values, stages, &twiddles, &low, z);
+    Ok(())
+}
+
+/// The transform `forward` of words that hold numbers, where they lie, without a count. The length of `words` has to be 2^m for an m
+/// from 0 to 40. It takes no memory. Wide vectors are made for x86-64-v3.
+pub fn forward_words<W: WideWord>(words: &mut [W], z: u128, wide_vectors: bool)
+    requires { (m : ℕ) × HasStages m (length words.old) }
+    ensures length { length words.new ≡ length words.old }
+    ensures values { HoldPolynomialValues z (map W.value words.old) (map W.value words.new) }
+{
+    let stages = stages_of(words.len());
+    let twiddles = Twiddles::new(z);
+    let mut kernel = WordKernel::new(wide_vectors);
+    if stages < LOW_STAGES {
+        every_stage(&mut kernel, words, stages, &twiddles, z);
+        return;
+    }
+    stages_down_to(&mut kernel, words, stages, LOW_STAGES, &twiddles);
+    let basis = &twiddles.basis[..stages - 1];
+    run_low_stages(&twiddles.low_shifts(), basis, words, 0, wide_vectors);
+}
+
+/// The transform `inverse` of words that hold numbers, where they lie, without a count: it takes back what `forward_words` did with the
+/// same `z`. The length of `words` has to be 2^m for an m from 0 to 40. It takes no memory. Wide vectors are made for x86-64-v3.
+pub fn inverse_words<W: WideWord>(words: &mut [W], z: u128, wide_vectors: bool)
+    requires { (m : ℕ) × HasStages m (length words.old) }
+    ensures length { length words.new ≡ length words.old }
+    ensures coefficients { AreOnlyCoefficients z (map W.value words.old) (map W.value words.new) }
+{
+    inverse_with(&mut WordKernel::new(wide_vectors), words, z);
+}
+
+/// The transform `inverse` by any kernel: nothing but the kernel computes on its elements. It asks what `forward_with` asks, and
+/// takes no memory; the kernel's count rises by m * 2^(m - 1), as many pairs of places as there are.
+pub fn inverse_with<K: Kernel>(kernel: &mut K, values: &mut [K::Elem], z: u128)
+    requires { FitsTransform (length values.old) (K.count kernel.old) }
+    ensures length { length values.new ≡ length values.old }
+    ensures coefficients { AreOnlyCoefficients z (map K.value values.old) (map K.value values.new) }
+    ensures count { CountsPairs (length values.old) (K.count kernel.old) (K.count kernel.new) }
+{
+    let stages = stages_of(values.len());
+    let twiddles = Twiddles::new(z);
+    undo_stages(kernel, values, stages, &twiddles, z);
+}
+
+/// The stages of a transform of so many values: the m for which there are 2^m. There has to be one, from 0 to 40.
+pub fn stages_of(count: usize) -> usize
+    requires { (m : ℕ) × HasStages m count }
+    ensures stages { HasStages result count }
+    ensures only { (m : ℕ) → count ≡ 2 ^ m → m ≡ result }
+    ensures large { 4 ≤ result → 16 ≤ count }
+{
+    for stages in 0..40 {
+        if count == 1 << stages {
+            return stages;
+        }
+    }
+    40
+}
+
+// The stages of an inverse transform, from the lowest up.
+pub(crate) fn undo_stages<K: Kernel>(
+    kernel: &mut K,
+    values: &mut [K::Elem],
+    stages: usize,
+    twiddles: &Twiddles,
+    z: u128,
+)
+    requires stages { HasStages stages (length values.old) }
+    requires room { K.count kernel.old + stages * 2 ^ (stages - 1) < 2 ^ 64 }
+    requires twiddles { AreCantorTwiddles 128 ghash_product ghash_cantor_vector z 40 twiddles.now.shifts twiddles.now.basis }
+    requires reach { length twiddles.now.basis ≡ 39 }
+    ensures length { length values.new ≡ length values.old }
+    ensures coefficients { AreOnlyCoefficients z (map K.value values.old) (map K.value values.new) }
+    ensures count { K.count kernel.new ≡ K.count kernel.old + stages * 2 ^ (stages - 1) }
+{
+    for stage in 0..stages {
+        inverse_stage(kernel, values, stage, twiddles);
+    }
+}
+
+// The stages of a forward transform, from the highest down.
+pub(crate) fn every_stage<K: Kernel>(
+    kernel: &mut K,
+    values: &mut [K::Elem],
+    stages: usize,
+    twiddles: &Twiddles,
+    z: u128,
+)
+    requires stages { HasStages stages (length values.old) }
+    requires room { K.count kernel.old + stages * 2 ^ (stages - 1) < 2 ^ 64 }
+    requires twiddles { AreCantorTwiddles 128 ghash_product ghash_cantor_vector z 40 twiddles.now.shifts twiddles.now.basis }
+    requires reach { length twiddles.now.basis ≡ 39 }
+    ensures length { length values.new ≡ length values.old }
+    ensures values { HoldPolynomialValues z (map K.value values.old) (map K.value values.new) }
+    ensures count { K.count kernel.new ≡ K.count kernel.old + stages * 2 ^ (stages - 1) }
+{
+    stages_down_to(kernel, values, stages, 0, twiddles);
+}
+
+// The stages of a forward transform that has four or more, from the highest down: those from the fourth on by butterflies, and the
+// lowest in runs.
+pub(crate) fn forward_stages<K: Kernel, A: Allocator>(
+    kernel: &mut K,
+    values: &mut [K::Elem],
+    stages: usize,
+    twiddles: &Twiddles,
+    low: &LowStageTwiddles<A>,
+    z: u128,
+)
+    requires enough { 4 ≤ stages }
+    requires stages { HasStages stages (length values.old) }
+    requires room { K.count kernel.old + stages * 2 ^ (stages - 1) < 2 ^ 64 }
+    requires twiddles { AreCantorTwiddles 128 ghash_product ghash_cantor_vector z 40 twiddles.now.shifts twiddles.now.basis }
+    requires reach { length twiddles.now.basis ≡ 39 }
+    requires shifts { shifts_of low.now ≡ take 4 twiddles.now.shifts }
+    requires basis { basis_of low.now ≡ take (stages - 1) twiddles.now.basis }
+    ensures length { length values.new ≡ length values.old }
+    ensures values { HoldPolynomialValues z (map K.value values.old) (map K.value values.new) }
+    ensures count { K.count kernel.new ≡ K.count kernel.old + stages * 2 ^ (stages - 1) }
+{
+    stages_down_to(kernel, values, stages, LOW_STAGES, twiddles);
+    kernel.low_forward(low, values, 0);
+}
+
+// The stages of a forward transform by butterflies, from the highest down to the stage `lowest`.
+fn stages_down_to<K: Kernel>(
+    kernel: &mut K,
+    values: &mut [K::Elem],
+    stages: usize,
+    lowest: usize,
+    twiddles: &Twiddles,
+)
+    requires some { lowest ≤ stages }
+    requires stages { HasStages stages (length values.old) }
+    requires room { K.count kernel.old + stages * 2 ^ (stages - 1) < 2 ^ 64 }
+    ensures length { length values.new ≡ length values.old }
+    ensures left { AreLeft ghash_product twiddles.now.shifts twiddles.now.basis stages lowest (map K.value values.old)
+        (map K.value values.new) }
+    ensures count { K.count kernel.new ≡ K.count kernel.old + (stages - lowest) * 2 ^ (stages - 1) }
+{
+    for stage in (lowest..stages).rev() {
+        forward_stage(kernel, values, stage, twiddles);
+    }
+}

@@ -1,0 +1,5 @@
+mod BlockLemmas
+mod ColumnLemmas
+mod HalfImages
+mod ImageLemmas
+mod Lookups

@@ -1,0 +1,32 @@
+use Rattle.std.proofs.Common.{◌≡◌, ◌*◌, ◌+◌, ◌-◌, ◌≤◌, length, arith}
+use Rattle.field_base.specs.LinearMaps.{linear_image}
+use Rattle.byte_maps.proofs.BlockLemmas.{block_done, end_done}
+use Rattle.byte_maps.proofs.images.map_blocks.Goals as goal
+
+pub loop-pair-preserved : goal.loop-pair-preserved
+loop-pair-preserved c =
+    let pair = c.loop-pair.pair in
+    let next : 32 * (pair + 1) ≡ 32 * pair + 32 = omega arith in
+    let test = c.loop-pair-test.true in
+    let room : 32 * pair + 32 ≤ length c.args.bytes.now = omega arith in
+    block_done (linear_image c.args.images.now) 32 (32 * pair) (32 * (pair + 1)) c.args.bytes.now c.loop-pair.bytes
+    c.images_of_32-mapped.result next room c.loop-pair.invariant c.images_of_32-mapped.ensures
+
+pub loop-block-preserved : goal.loop-block-preserved
+loop-block-preserved c =
+    let block = c.loop-block.block in
+    let next : 16 * (block + 1) ≡ 16 * block + 16 = omega arith in
+    let test = c.loop-block-test.true in
+    let room : 16 * block + 16 ≤ length c.args.bytes.now = omega arith in
+    block_done (linear_image c.args.images.now) 16 (16 * block) (16 * (block + 1)) c.args.bytes.now c.loop-block.bytes
+    c.images_of_16-mapped.result next room c.loop-block.invariant c.images_of_16-mapped.ensures
+
+pub returns : goal.returns
+returns c =
+    let last = length c.args.bytes.now - 16 in
+    let room = c.requires in
+    let whole : last + 16 ≡ length c.args.bytes.now = omega arith in
+    let over = c.loop-block-test.false in
+    let reach : last ≤ 16 * c.loop-block.block = omega arith in
+    end_done (linear_image c.args.images.now) last 16 (16 * c.loop-block.block) c.args.bytes.now c.loop-block.bytes
+    c.images_of_16-end.result whole reach c.loop-block.invariant c.images_of_16-end.ensures

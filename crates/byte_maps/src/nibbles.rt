@@ -1,0 +1,57 @@
+// Linear maps of bytes in lanes, by two tables of sixteen entries: the values of the map at the numbers below 16, and at 16 times
+// these. A table is one vector, so that a look-up is one instruction on x86-64-v2 and no address depends on the bytes.
+ghost use Rattle.std.specs.Prelude.{◌≡◌, [], ◌∷◌, drop, map, take};
+ghost use Rattle.field_base.specs.LinearMaps.{linear_image};
+ghost use Rattle.byte_maps.specs.Nibbles.{HasImages};
+
+use crate::{high_entries, high_entries_of_32, low_entries, low_entries_of_32};
+use std::simd::prelude::*;
+
+// The numbers below 16 that have bit 0, 1, 2 or 3, as masks.
+const HAVE_BIT_0: [u8; 16] = [
+    0, 255, 0, 255, 0, 255, 0, 255, 0, 255, 0, 255, 0, 255, 0, 255,
+];
+
+const HAVE_BIT_1: [u8; 16] = [
+    0, 0, 255, 255, 0, 0, 255, 255, 0, 0, 255, 255, 0, 0, 255, 255,
+];
+
+const HAVE_BIT_2: [u8; 16] = [
+    0, 0, 0, 0, 255, 255, 255, 255, 0, 0, 0, 0, 255, 255, 255, 255,
+];
+
+const HAVE_BIT_3: [u8; 16] = [
+    0, 0, 0, 0, 0, 0, 0, 0, 255, 255, 255, 255, 255, 255, 255, 255,
+];
+
+/// The sums of four images: entry n is the sum of those at the set bits of n.
+#[inline(always)]
+pub(crate) fn sums_of_four(a: u8, b: u8, c: u8, d: u8) -> u8x16
+    ensures { HasImages (a ∷ b ∷ c ∷ d ∷ []) result }
+{
+    (u8x16::splat(a) & u8x16::from_array(HAVE_BIT_0))
+        ^ (u8x16::splat(b) & u8x16::from_array(HAVE_BIT_1))
+        ^ (u8x16::splat(c) & u8x16::from_array(HAVE_BIT_2))
+        ^ (u8x16::splat(d) & u8x16::from_array(HAVE_BIT_3))
+}
+
+/// The images of sixteen bytes, by the tables of the first four images and of the others.
+#[inline(always)]
+pub(crate) fn images_of_16(images: &[u8; 8], low: u8x16, high: u8x16, bytes: u8x16) -> u8x16
+    requires low { HasImages (take 4 images.now) low }
+    requires high { HasImages (drop 4 images.now) high }
+    ensures { result ≡ map (linear_image images.now) bytes }
+{
+    low_entries(low, bytes) ^ high_entries(high, bytes)
+}
+
+/// The images of thirty-two bytes, each half of which is looked up in a copy of the tables: on AVX2 a look-up of all is one
+/// instruction, and on x86-64-v2 two.
+#[inline(always)]
+pub(crate) fn images_of_32(images: &[u8; 8], low: u8x16, high: u8x16, bytes: u8x32) -> u8x32
+    requires low { HasImages (take 4 images.now) low }
+    requires high { HasImages (drop 4 images.now) high }
+    ensures { result ≡ map (linear_image images.now) bytes }
+{
+    low_entries_of_32(low, bytes) ^ high_entries_of_32(high, bytes)
+}

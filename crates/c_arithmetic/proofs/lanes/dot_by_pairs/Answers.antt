@@ -1,0 +1,48 @@
+use Rattle.std.proofs.Common.{◌+◌, ◌*◌, ◌^◌, map, sym, ◌∙◌, ap₂, arith}
+use Rattle.std.proofs.lemmas.List.{length-map}
+use Rattle.field_base.specs.Carryless.{carryless}
+use Rattle.field_base.specs.Remainder.{ghash_modulus, rem}
+use Rattle.field_base.proofs.DotLemmas.{dot_end}
+use Rattle.word_carryless.proofs.DotProducts.{none_added, one_added, two_added}
+use Rattle.c_arithmetic.specs.Fields.{wide_number}
+use Rattle.c_arithmetic.specs.WideLemmas.{wide_number-lt}
+use Rattle.ghash_slices.specs.LowStages.{ghash_product}
+use Rattle.ghash_slices.proofs.WordValues.{values_fit}
+use Rattle.c_arithmetic.proofs.WordDots.{dot_of-map}
+use Rattle.c_arithmetic.proofs.lanes.dot_by_pairs.Goals as goal
+
+pub pairs-init : goal.pairs-init
+pairs-init c = none_added (map wide_number c.args.left.now) (map wide_number c.args.right.now)
+
+pub pairs-preserved : goal.pairs-preserved
+pairs-preserved c =
+    let left = map wide_number c.args.left.now in
+    let right = map wide_number c.args.right.now in
+    let products = c.multiply_128_twice-a_low in
+    two_added left right (2 * c.pairs.pair) (2 * (c.pairs.pair + 1)) c.pairs.low c.pairs.high
+    products.result.0.0 products.result.0.1 products.result.1.0 products.result.1.1 _ (omega arith)
+    (omega (arith, length-map c.args.left.now wide_number)) (omega (arith, length-map c.args.right.now wide_number, c.requires))
+    (values_fit 128 wide_number wide_number-lt c.args.left.now) (values_fit 128 wide_number wide_number-lt c.args.right.now)
+    (omega arith) (omega arith) (omega arith)
+    (sym (ap₂ carryless c.number_at.ensures c.number_at-in-pairs-2.ensures) ∙ products.ensures.first)
+    (sym (ap₂ carryless c.number_at-in-pairs.ensures c.number_at-in-pairs-3.ensures) ∙ products.ensures.second)
+    c.pairs.invariant
+
+pub rest-preserved : goal.rest-preserved
+rest-preserved c =
+    let left = map wide_number c.args.left.now in
+    let right = map wide_number c.args.right.now in
+    one_added left right c.rest.at c.rest.low c.rest.high c.multiply_128-product_low.result.0 c.multiply_128-product_low.result.1 _
+    (omega (arith, length-map c.args.left.now wide_number)) (omega (arith, length-map c.args.right.now wide_number, c.requires))
+    (values_fit 128 wide_number wide_number-lt c.args.left.now) (values_fit 128 wide_number wide_number-lt c.args.right.now)
+    (omega arith) (omega arith)
+    (sym (ap₂ carryless c.number_at-in-rest.ensures c.number_at-in-rest-2.ensures) ∙ c.multiply_128-product_low.ensures) c.rest.invariant
+
+pub returns : goal.returns
+returns c =
+    let left = map wide_number c.args.left.now in
+    let right = map wide_number c.args.right.now in
+    c.reduce_128.ensures
+    ∙ dot_end ghash_product (λ n. n) left right c.rest.at _ (rem 128 ghash_modulus (c.rest.high * 2 ^ 128 + c.rest.low))
+    (omega (arith, length-map c.args.left.now wide_number)) c.rest.invariant
+    ∙ dot_of-map ghash_product wide_number c.args.left.now c.args.right.now

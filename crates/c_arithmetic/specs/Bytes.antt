@@ -1,0 +1,55 @@
+-- Calls over messages and over shards.
+use Rattle.std.specs.Prelude.{◌≡◌, ◌≢◌, ℕ, ◌+◌, ◌/◌, ◌<◌, ◌≤◌, Bool, not, nat_eq, List, length, map}
+use Rattle.reed_solomon.specs.Shards.{AreCodewords, IsEncoded, IsReconstructed, present_count}
+use Rattle.reed_solomon.specs.Sizes.{HasShardSize}
+use Rattle.c_arithmetic.specs.Calls.{CallOf}
+use Rattle.c_arithmetic.specs.declared.status.TheConstants.{OK, LENGTH, CODE, TOO_FEW_SHARDS}
+
+-- a call that hashes: the key and the hash have 16 bytes
+abbrev pub Hashes : Type 0 → List ℕ → List ℕ → List ℕ → List ℕ → ℕ → Type 0
+Hashes fits key hash old new status =
+    CallOf ((length key ≡ 16) × (length old ≡ 16) × fits) (Unit {0}) (new ≡ hash) old new status
+
+-- a byte that answers whether a fact holds
+pub record Answers (fact : Type 0) (answer : ℕ) : Type 0 where
+  pub yes : fact → answer ≡ 1
+  pub no : ¬ fact → answer ≡ 0
+
+-- a call that compares two tags, which may be of any length
+abbrev pub Compares : List ℕ → List ℕ → ℕ → ℕ → Type 0
+Compares left right answer status = (status ≡ OK) × Answers (left ≡ right) answer
+
+-- a code has so many shards of data and of parity
+abbrev pub IsCode : ℕ → ℕ → Type 0
+IsCode data_shards parity_shards = (0 < data_shards) × (0 < parity_shards) × (data_shards + parity_shards ≤ 256)
+
+-- how a call of a code ends: that there is no such code is told first, then lengths, and then that too few shards are there
+pub record CallOfCode {T : Type 0} (is_code fits enough written : Type 0) (old new : T) (status : ℕ) : Type 0 where
+  pub code : ¬ is_code → status ≡ CODE
+  pub length : is_code → ¬ fits → status ≡ LENGTH
+  pub few : is_code → fits → ¬ enough → status ≡ TOO_FEW_SHARDS
+  pub ok : is_code → fits → enough → (status ≡ OK) × written
+  pub kept : status ≢ OK → new ≡ old
+
+-- the shards that bytes say are there: those of a byte that is not 0
+abbrev pub flags_of : List ℕ → List Bool
+flags_of bytes = map (λ byte. not (nat_eq byte 0)) bytes
+
+-- a call that writes the parity of k shards of data
+abbrev pub Encodes : ℕ → ℕ → List ℕ → List ℕ → ℕ → Type 0
+Encodes k parity old new status =
+    CallOfCode (IsCode k parity) (HasShardSize (k + parity) (length old)) (Unit {0})
+    (IsEncoded k (k + parity) (length old / (k + parity)) old new) old new status
+
+-- a call that answers whether the parity is that of the data
+abbrev pub Verifies : ℕ → ℕ → List ℕ → ℕ → ℕ → ℕ → Type 0
+Verifies k parity shards old new status =
+    CallOfCode (IsCode k parity) (HasShardSize (k + parity) (length shards)) (Unit {0})
+    (Answers (AreCodewords k (k + parity) (length shards / (k + parity)) shards) new) old new status
+
+-- the missing shards before shard `until` are restored
+abbrev pub Reconstructs : ℕ → ℕ → ℕ → List ℕ → List ℕ → List ℕ → ℕ → Type 0
+Reconstructs k parity until present old new status =
+    CallOfCode (IsCode k parity) ((length present ≡ k + parity) × HasShardSize (k + parity) (length old))
+    (k ≤ present_count (flags_of present))
+    (IsReconstructed k (k + parity) (length old / (k + parity)) until (flags_of present) old new) old new status

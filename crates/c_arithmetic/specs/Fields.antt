@@ -1,0 +1,68 @@
+-- Fields whose elements are words of other languages, by what a word stands for and how it is multiplied.
+use Rattle.std.specs.Prelude.{ℕ, ◌+◌, ◌*◌, ◌^◌}
+use Rattle.field_base.specs.Basis.{aes_images, basis_image, ghash_images, poly64_images}
+use Rattle.field_base.specs.Remainder.{aes_modulus, ghash_modulus, mul_mod, poly64_modulus}
+use Rattle.field_base.specs.Tower.{tower_mul}
+use Rattle.field_base.specs.TowerBasis.{tower_generator}
+use Rattle.word_cubic.specs.Cubic.{cubic_mul, triple}
+use Rattle.c_arithmetic.specs.declared.words.Cubic.{Cubic}
+use Rattle.c_arithmetic.specs.declared.wide.Wide.{Wide}
+
+-- a field of 2 ^ width elements: the number that a word stands for, the product over numbers, and the number of the generator that
+-- the library names. A word is an element where its number is below 2 ^ width; a sum is the exclusive or.
+pub record WordField (W : Type 0) : Type 0 where
+  pub number : W → ℕ
+  pub width : ℕ
+  pub times : ℕ → ℕ → ℕ
+  pub generator : ℕ
+
+-- the number that a word of 8 to 64 bits is
+abbrev pub itself : ℕ → ℕ
+itself word = word
+
+-- the number of 128 bits that two words of 64 are, low half first
+abbrev pub wide_number : Wide → ℕ
+wide_number word = word.high * 2 ^ 64 + word.low
+
+-- the number of 192 bits that three words of 64 are, the lowest first
+abbrev pub cubic_number : Cubic → ℕ
+cubic_number word = triple 64 word.c0 word.c1 word.c2
+
+-- level k of the tower, with words of up to 64 bits
+abbrev pub level_field : ℕ → WordField ℕ
+level_field k = record { number = itself; width = 2 ^ k; times = tower_mul k; generator = tower_generator k }
+
+-- level 7, with words of 128 bits
+abbrev pub wide_level_field : WordField Wide
+wide_level_field = record { number = wide_number; width = 128; times = tower_mul 7; generator = tower_generator 7 }
+
+-- the bytes of AES
+abbrev pub rijndael_field : WordField ℕ
+rijndael_field = record {
+  number = itself;
+  width = 8;
+  times = mul_mod 8 aes_modulus;
+  generator = basis_image 8 aes_modulus aes_images (tower_generator 3);
+}
+
+-- the polynomials modulo x^64 + x^4 + x^3 + x + 1
+abbrev pub poly64_field : WordField ℕ
+poly64_field = record {
+  number = itself;
+  width = 64;
+  times = mul_mod 64 poly64_modulus;
+  generator = basis_image 64 poly64_modulus poly64_images (tower_generator 6);
+}
+
+-- the field of GHASH
+abbrev pub ghash_field : WordField Wide
+ghash_field = record {
+  number = wide_number;
+  width = 128;
+  times = mul_mod 128 ghash_modulus;
+  generator = basis_image 128 ghash_modulus ghash_images (tower_generator 7);
+}
+
+-- the cubic extension of GF(2^64)
+abbrev pub cubic_field : WordField Cubic
+cubic_field = record { number = cubic_number; width = 192; times = cubic_mul; generator = triple 64 5 3 1 }

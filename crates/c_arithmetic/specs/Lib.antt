@@ -1,0 +1,9 @@
+pub mod Batch
+pub mod Bytes
+pub mod Calls
+pub mod Fields
+pub mod Fits
+pub mod Lanes
+pub mod Linear
+pub mod Transforms
+pub mod WideLemmas

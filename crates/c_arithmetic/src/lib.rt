@@ -1,0 +1,39 @@
+//! Arithmetic on slices of words, for calls from other languages: over any field, over words of 128 bits in the field of GHASH, the values
+//! of transforms and linear maps, messages and shards. A call compares the lengths, refuses words that are no elements, and returns a
+//! status. On every status but `OK` what it would have written is as before. None takes memory.
+#![tactic(auto)]
+
+mod batch;
+mod bytes;
+mod fields;
+mod lanes;
+mod linear;
+mod messages;
+mod numbers;
+mod products;
+mod scalars;
+mod shards;
+pub mod slices;
+pub mod status;
+mod transforms;
+mod wide;
+mod words;
+
+pub use crate::batch::batch_invert;
+pub use crate::bytes::multiply_bytes;
+pub use crate::fields::{
+    Arithmetic, Basis, CubicField, Gf2, Ghash, Level2, Level4, Level8, Level16, Level32, Level64,
+    Level128, Poly64, Rijndael, Words,
+};
+pub use crate::linear::{map_bytes, map_wide};
+pub use crate::messages::{gcm_ghash, ghash, polyval, tags_are_equal};
+pub use crate::products::{dot_product, dot_product_wide, multiply, multiply_wide};
+pub use crate::scalars::{add_scaled, add_scaled_wide, multiply_by, multiply_by_wide};
+pub use crate::shards::{encode, reconstruct, reconstruct_data, verify};
+pub use crate::transforms::{
+    butterfly_forward, butterfly_forward_wide, butterfly_inverse, butterfly_inverse_wide,
+    inverse_transform, inverse_transform_wide, low_stages, low_stages_wide, transform,
+    transform_wide,
+};
+pub use crate::wide::Wide;
+pub use crate::words::{Cubic, Holds};

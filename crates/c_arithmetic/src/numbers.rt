@@ -1,0 +1,40 @@
+// The numbers of words of 128 bits.
+ghost use Rattle.std.specs.Prelude.{◌≡◌, ℕ, ◌<◌, ◌≤◌, length, get_or, map, take};
+ghost use Rattle.c_arithmetic.specs.Fields.{wide_number};
+
+use crate::Wide;
+
+/// The numbers of up to N words, and zeros.
+pub(crate) fn numbers_of<const N: usize>(words: &[Wide]) -> [u128; N]
+    requires size { N ≤ 128 }
+    requires few { length words.now ≤ N }
+    ensures { take (length words.now) result ≡ map wide_number words.now }
+{
+    let mut numbers = [0; N];
+    for place in 0..words.len() {
+        numbers[place] = words[place].number();
+    }
+    numbers
+}
+
+/// The numbers of four words.
+pub(crate) fn four_numbers(words: &[Wide]) -> [u128; 4]
+    requires { length words.now ≡ 4 }
+    ensures { result ≡ map wide_number words.now }
+{
+    let mut numbers = [0; 4];
+    for place in 0..4 {
+        numbers[place] = words[place].number();
+    }
+    numbers
+}
+
+/// Makes every word 0.
+pub(crate) fn clear(words: &mut [Wide])
+    ensures length { length words.new ≡ length words.old }
+    ensures zeros { (k : ℕ) → k < length words.new → (d : _) → wide_number (get_or words.new k d) ≡ 0 }
+{
+    for place in 0..words.len() {
+        words[place] = Wide::new(0);
+    }
+}

@@ -1,3 +1,0 @@
-mod ByteProducts
-pub mod WordDots
-pub mod Words

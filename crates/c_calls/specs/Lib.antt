@@ -1,4 +1,0 @@
-pub mod Bytes
-pub mod Lanes
-pub mod Linear
-pub mod Transforms

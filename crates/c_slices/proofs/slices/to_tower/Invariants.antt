@@ -1,7 +1,0 @@
-use Rattle.std.proofs.Common.{◌≡◌, ℕ, ◌<◌, get_or}
-use Rattle.c_slices.proofs.slices.to_tower.Given as goal
-
-abbrev pub invariant-loop-place : goal.invariant-loop-place
-invariant-loop-place g l =
-    let basis = g.B.Basis in
-    (k : ℕ) → k < l.place → (d : _) → basis.image (basis.number (get_or l.elements k d)) ≡ basis.number (get_or l.words k d)

@@ -1,8 +1,0 @@
-use Rattle.std.proofs.Common.{◌≡◌, drop}
-use Rattle.field_base.specs.Powers.{value_of}
-use Rattle.c_slices.proofs.slices.value_at.Given as goal
-
-abbrev pub invariant-loop-place : goal.invariant-loop-place
-invariant-loop-place g l =
-    let field = g.A.Arithmetic.field in
-    field.number l.value ≡ value_of 1 field.times field.number (drop l.place l.coefficients) (field.number l.point)

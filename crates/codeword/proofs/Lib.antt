@@ -1,3 +1,0 @@
-mod Points
-mod Polynomials
-mod Words

@@ -1,6 +1,0 @@
-mod Binding
-mod Filling
-mod Paths
-mod Roots
-mod Turns
-mod Verified

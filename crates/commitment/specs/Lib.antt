@@ -1,3 +1,0 @@
-pub mod Commitments
-pub mod MerkleTrees
-pub mod Runs

@@ -1,0 +1,100 @@
+use Rattle.std.proofs.Common.{◌≡◌, ℕ, ◌+◌, ◌-◌, ◌*◌, ◌/◌, ◌%◌, ◌^◌, ◌<◌, ◌∙◌, ap, subst, arith, length, map, refl, ◌≤◌}
+use Rattle.std.specs.Prelude.{bit_xor, slice_index}
+use Rattle.std.proofs.lemmas.List.{length-map}
+use Rattle.ghash_slices.specs.LowStages.{ghash_product}
+use Rattle.ghash_slices.specs.Runs.{with_pair}
+use Rattle.ghash_slices.proofs.RunPlaces.{upper_inside}
+use Rattle.ghash_slices.proofs.RunStages.{pair_done, StageSoFar, stage_ends, stage_starts, upper_read}
+use Rattle.ghash_slices.proofs.WordValues.{values_fit}
+use Rattle.ghash_slices.proofs.low_stages.stage_by_pairs.Goals as goal
+
+pub overflow_add-first_upper : goal.overflow_add-first_upper
+overflow_add-first_upper g c =
+    let inside = upper_inside c.args.bit c.args.start c.requires.bit (omega arith) c.requires.whole c.lower_of.ensures c.half_of-half.ensures
+    c.loop-turn.invariant.0 in
+    record { fits = omega (arith, inside) }
+
+pub overflow_add-second_upper : goal.overflow_add-second_upper
+overflow_add-second_upper g c =
+    let inside = upper_inside c.args.bit c.args.start c.requires.bit (omega arith) c.requires.whole c.lower_of-in-loop-turn.ensures c.half_of-half.ensures
+    c.loop-turn.invariant.0 in
+    record { fits = omega (arith, inside) }
+
+pub number_at-requires : goal.number_at-requires
+number_at-requires g c =
+    upper_inside c.args.bit c.args.start c.requires.bit (omega arith) c.requires.whole c.lower_of.ensures c.half_of-half.ensures
+    c.loop-turn.invariant.0
+
+pub number_at-requires-in-loop-turn : goal.number_at-requires-in-loop-turn
+number_at-requires-in-loop-turn g c =
+    upper_inside c.args.bit c.args.start c.requires.bit (omega arith) c.requires.whole c.lower_of-in-loop-turn.ensures
+    c.half_of-half.ensures c.loop-turn.invariant.0
+
+pub add_to_pair-requires-clause-inside : goal.add_to_pair-requires-clause-inside
+add_to_pair-requires-clause-inside g c =
+    upper_inside c.args.bit c.args.start c.requires.bit (omega arith) c.requires.whole c.lower_of.ensures c.half_of-half.ensures
+    c.loop-turn.invariant.0
+
+pub add_to_pair-requires-in-loop-turn-clause-inside : goal.add_to_pair-requires-in-loop-turn-clause-inside
+add_to_pair-requires-in-loop-turn-clause-inside g c =
+    upper_inside c.args.bit c.args.start c.requires.bit (omega arith) c.requires.whole c.lower_of-in-loop-turn.ensures
+    c.half_of-half.ensures (c.add_to_pair.auto.values ∙ c.loop-turn.invariant.0)
+
+pub loop-turn-init : goal.loop-turn-init
+loop-turn-init g c = (
+  refl,
+  stage_starts c.args.twiddles.now c.args.low.now c.args.bit c.args.start (map g.W.WideWord.value c.args.values.now),
+)
+
+pub loop-turn-preserved : goal.loop-turn-preserved
+loop-turn-preserved g c =
+    let bit = c.args.bit in
+    let start = c.args.start in
+    let turn = c.loop-turn.turn in
+    let twiddles = c.args.twiddles.now in
+    let low = c.args.low.now in
+    let value = g.W.WideWord.value in
+    let old = map value c.args.values.now in
+    let values = map value c.loop-turn.values in
+    let whole : start + 16 ≤ length old = omega (arith, c.requires.whole, length-map c.args.values.now value) in
+    let fits = values_fit 128 value g.W.WideWord.range_law c.args.values.now in
+    let few : 2 * turn + 1 < 8 = omega arith in
+    let half = c.half_of-half.ensures in
+    let first : ℕ = start + c.lower_of.result in
+    let second : ℕ = start + c.lower_of-in-loop-turn.result in
+    let first_is : first ≡ start + (2 * (2 * turn) - 2 * turn % 2 ^ bit) =
+    ap (λ (n : ℕ). start + n) (c.lower_of.ensures ∙ ap (λ (h : ℕ). 2 * (2 * turn) - 2 * turn % h) half) in
+    let second_is : second ≡ start + (2 * (2 * turn + 1) - (2 * turn + 1) % 2 ^ bit) =
+    ap (λ (n : ℕ). start + n) (c.lower_of-in-loop-turn.ensures ∙ ap (λ (h : ℕ). 2 * (2 * turn + 1) - (2 * turn + 1) % h) half) in
+    let products = c.multiply_mod_128_twice-first_product in
+    let so_far = c.loop-turn.invariant.1 in
+    let one =
+    pair_done twiddles low bit start (2 * turn) old values (map value c.add_to_pair.new.values) c.requires.bit (omega arith) whole
+    fits so_far first products.result.0 first_is
+    (products.ensures.first
+    ∙ ap (ghash_product (bit_xor (slice_index twiddles bit) (slice_index low (2 * turn / c.half_of-half.result)))) c.number_at.ensures
+    ∙ ap (λ (h : ℕ). ghash_product (bit_xor (slice_index twiddles bit) (slice_index low (2 * turn / h))) (slice_index values (first + h))) half
+    ∙ ap (ghash_product (bit_xor (slice_index twiddles bit) (slice_index low (2 * turn / 2 ^ bit))))
+    (upper_read twiddles low bit start (2 * turn) (2 * turn) old values c.requires.bit (omega arith) (omega arith) so_far first first_is))
+    (c.add_to_pair.ensures ∙ ap (λ (h : ℕ). with_pair values first (first + h) products.result.0) half) in
+    let two =
+    pair_done twiddles low bit start (2 * turn + 1) old (map value c.add_to_pair.new.values) (map value c.add_to_pair-in-loop-turn.new.values) c.requires.bit few
+    whole fits one second products.result.1 second_is
+    (products.ensures.second
+    ∙ ap (ghash_product (bit_xor (slice_index twiddles bit) (slice_index low ((2 * turn + 1) / c.half_of-half.result)))) c.number_at-in-loop-turn.ensures
+    ∙ ap (λ (h : ℕ). ghash_product (bit_xor (slice_index twiddles bit) (slice_index low ((2 * turn + 1) / h)))
+    (slice_index values (second + h))) half
+    ∙ ap (ghash_product (bit_xor (slice_index twiddles bit) (slice_index low ((2 * turn + 1) / 2 ^ bit))))
+    (upper_read twiddles low bit start (2 * turn) (2 * turn + 1) old values c.requires.bit (omega arith) few so_far second second_is))
+    (c.add_to_pair-in-loop-turn.ensures
+    ∙ ap (λ (h : ℕ). with_pair (map value c.add_to_pair.new.values) second (second + h) products.result.1) half) in
+    let next : 2 * turn + 1 + 1 ≡ 2 * (turn + 1) = omega arith in (
+      c.add_to_pair-in-loop-turn.auto.values ∙ c.add_to_pair.auto.values ∙ c.loop-turn.invariant.0,
+      subst (λ (n : ℕ). StageSoFar twiddles low bit start n old (map value c.add_to_pair-in-loop-turn.new.values)) next two,
+    )
+
+pub returns-clause-run : goal.returns-clause-run
+returns-clause-run g c =
+    stage_ends c.args.twiddles.now c.args.low.now c.args.bit c.args.start (2 * c.loop-turn.turn)
+    (map g.W.WideWord.value c.args.values.now) (map g.W.WideWord.value c.loop-turn.values) c.requires.bit (omega arith)
+    c.loop-turn.invariant.1

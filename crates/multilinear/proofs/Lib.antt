@@ -1,3 +1,0 @@
-pub mod CornerSums
-pub mod CubeLaws
-pub mod CubeTables

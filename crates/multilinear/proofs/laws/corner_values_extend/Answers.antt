@@ -1,5 +1,0 @@
-use Rattle.multilinear.proofs.CubeLaws.{extends-corners}
-use Rattle.multilinear.proofs.laws.corner_values_extend.Goals as goal
-
-pub returns : goal.returns
-returns c width times n values ring wide are i below = extends-corners width times ring wide n values are i below

@@ -1,6 +1,0 @@
-use Rattle.nibble_lookups.proofs.Lookups.{first_half, second_half}
-use Rattle.nibble_lookups.proofs.halves.Goals as goal
-
-pub returns : goal.returns
-returns c first second long also is =
-    (first_half c.args.lanes first second c.fits-lanes.0 long is, second_half c.args.lanes first second c.fits-lanes.0 long also is)

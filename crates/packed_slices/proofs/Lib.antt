@@ -1,2 +1,0 @@
-pub mod LaneLists
-pub mod PackedPowers

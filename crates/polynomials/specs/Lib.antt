@@ -1,0 +1,3 @@
+pub mod Multilinear
+pub mod Rounds
+pub mod Sumcheck

@@ -1,0 +1,12 @@
+use Rattle.std.proofs.Common.{map, ◌∙◌, ap}
+use Rattle.protocols.proofs.Wholes.{proved-whole}
+use Rattle.protocols.proofs.sumcheck.prove.Goals as goal
+
+pub returns : goal.returns
+returns g c =
+    let repr = g.F.Represented.repr in
+    proved-whole g.C.CanObserve.observes g.C.CanSample.gives g.F.Represented.product repr c.args.challenger.now
+    c.prove_rounds.new.challenger (map repr c.args.left.now) (map repr c.args.right.now) (map repr c.as_mut_slice.result.now)
+    (map repr c.as_mut_slice-2.result.now) c.args.rounds c.new-messages.result.items c.prove_rounds.new.messages.items
+    c.new-messages.ensures.items (ap (map repr) (c.as_mut_slice.ensures.value ∙ c.in_ok-left_rest.ensures))
+    (ap (map repr) (c.as_mut_slice-2.ensures.value ∙ c.in_ok-right_rest.ensures)) c.in_ok-prove_rounds.ensures

@@ -1,0 +1,5 @@
+pub mod CodeWords
+pub mod Commitments
+pub mod MerkleTrees
+pub mod Runs
+pub mod Sumcheck

@@ -1,0 +1,50 @@
+// Why the protocol stopped.
+use std::alloc::{AllocError, AllocFailed};
+use thiserror::Error;
+use transcript_bytes::ChallengerError;
+use transcript_elements::GrindError;
+
+/// Why the protocol stopped.
+#[derive(Clone, Copy, Debug, Error)]
+pub enum ProtocolError {
+    /// Memory was refused.
+    #[error("out of memory")]
+    Memory,
+    /// A call of the challenger failed.
+    #[error("the challenger has failed")]
+    Challenger,
+    /// No element is a witness of the work.
+    #[error("no element is a witness")]
+    NoWitness,
+}
+
+impl From<AllocError> for ProtocolError {
+    fn from(_error: AllocError) -> ProtocolError {
+        ProtocolError::Memory
+    }
+}
+
+impl<T: Drop> From<AllocFailed<T>> for ProtocolError {
+    fn from(_error: AllocFailed<T>) -> ProtocolError {
+        ProtocolError::Memory
+    }
+}
+
+impl From<ChallengerError> for ProtocolError {
+    fn from(error: ChallengerError) -> ProtocolError {
+        match error {
+            ChallengerError::Memory => ProtocolError::Memory,
+            ChallengerError::Failed => ProtocolError::Challenger,
+        }
+    }
+}
+
+impl From<GrindError> for ProtocolError {
+    fn from(error: GrindError) -> ProtocolError {
+        match error {
+            GrindError::Memory => ProtocolError::Memory,
+            GrindError::Failed => ProtocolError::Challenger,
+            GrindError::NoWitness => ProtocolError::NoWitness,
+        }
+    }
+}

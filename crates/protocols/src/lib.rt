@@ -1,0 +1,16 @@
+//! Protocols over any field: the sum-check protocol for a product of two multilinear polynomials, commitments by Merkle trees with work and
+//! openings, and the low-degree extension of a message by an additive transform.
+//!
+//! A prover and a verifier share a transcript: a challenger that observes what is sent and samples the challenges (A. Fiat and A. Shamir,
+//! How to prove yourself, 1986).
+#![tactic(auto)]
+
+pub mod commitment;
+mod digests;
+mod error;
+pub mod extension;
+pub mod merkle_paths;
+pub mod merkle_tree;
+pub mod sumcheck;
+
+pub use crate::error::ProtocolError;

@@ -1,0 +1,126 @@
+// Commitments to words, and their openings, by Merkle trees.
+ghost use Rattle.std.specs.Prelude.{◌≡◌, ◌↔◌, ◌+◌, ◌*◌, ◌/◌, ◌%◌, ◌^◌, ◌<◌, ◌≤◌, ℕ, List, length, slice_index, vec_len, IfOk, IsTrue};
+ghost use Rattle.protocols.specs.Commitments.{IsTreeOf, root_of};
+ghost use Rattle.protocols.specs.MerkleTrees.{ending, Leads, PathsBind, merkle_root};
+
+use crate::digests::{leaf_digest, node_digest, pair_digest};
+use crate::merkle_tree::MerkleTree;
+use std::alloc::{AllocError, Allocator};
+use transcript_bytes::ByteHasher32;
+
+/// A commitment to 2^depth words: the root of their tree.
+#[derive(Clone, Copy)]
+pub struct Commitment {
+    /// The number of nodes on the way from a leaf to the root.
+    pub depth: usize,
+    /// The root.
+    pub root: [u8; 32],
+}
+
+impl<A: Allocator> MerkleTree<A> {
+    /// The tree over 2^depth words, depth from 0 to 40. It fails if memory was refused.
+    pub fn new<H: ByteHasher32>(
+        alloc: A,
+        hasher: &H,
+        words: &[u64],
+        depth: usize,
+    ) -> Result<MerkleTree<A>, AllocError>
+        requires few { depth ≤ 40 }
+        requires count { length words.now ≡ 2 ^ depth }
+        ensures { IfOk result (λ tree. IsTreeOf (H.digest hasher.now) words.now tree) }
+    {
+        let leaves = words.len();
+        let mut nodes = vec![in alloc; [0; 32]; 2 * leaves]?;
+        'leaves: for index in 0..leaves {
+            let digest = leaf_digest(hasher, words[index]);
+            nodes[leaves + index] = digest;
+        }
+        'nodes: for node in (1..leaves).rev() {
+            let digest = node_digest(hasher, nodes[2 * node], nodes[2 * node + 1]);
+            nodes[node] = digest;
+        }
+        Ok(MerkleTree { depth, nodes })
+    }
+
+    /// The commitment to the words of the tree.
+    pub fn commitment(&self) -> Commitment
+        ensures depth { result.depth ≡ self.now.depth }
+        ensures held { result.root ≡ root_of self.now }
+        ensures root { (hash : List ℕ → List ℕ) (words : List ℕ) → IsTreeOf hash words self.now
+            → result.root ≡ merkle_root hash self.now.depth (slice_index words) }
+    {
+        Commitment {
+            depth: self.depth,
+            root: self.nodes[1],
+        }
+    }
+
+    /// The path from the word at `index`, below 2^depth, to the root: the siblings of the nodes on the way. It fails if memory was
+    /// refused.
+    pub fn open<B: Allocator>(&self, alloc: B, index: usize) -> Result<Vec<[u8; 32], B>, AllocError>
+        requires { index < 2 ^ self.now.depth }
+        ensures { IfOk result (λ path. (hash : List ℕ → List ℕ) (words : List ℕ) → IsTreeOf hash words self.now
+            → Leads hash self.now.depth (root_of self.now) index (slice_index words index) path.items) }
+    {
+        let mut path = Vec::new(alloc);
+        let mut node = (1 << self.depth) + index;
+        'levels: for level in 0..self.depth {
+            path.push(self.nodes[sibling_of(node)])?;
+            node /= 2;
+        }
+        Ok(path)
+    }
+}
+
+// The other child of the same node.
+fn sibling_of(node: usize) -> usize
+    requires { node + 1 < 2 ^ 64 }
+    ensures even { node % 2 ≡ 0 → result ≡ node + 1 }
+    ensures odd { node % 2 ≡ 1 → result + 1 ≡ node }
+{
+    if node % 2 == 0 { node + 1 } else { node - 1 }
+}
+
+/// Whether a path leads from this word at `index` to the root.
+pub fn verify<H: ByteHasher32>(
+    hasher: &H,
+    commitment: Commitment,
+    index: usize,
+    word: u64,
+    path: &[[u8; 32]],
+) -> bool
+    ensures { IsTrue result ↔ Leads (H.digest hasher.now) commitment.depth commitment.root index word path.now }
+{
+    if path.len() != commitment.depth {
+        return false;
+    }
+    let leaf = leaf_digest(hasher, word);
+    let (place, digest) = end_of(hasher, index, leaf, path);
+    if place != 0 {
+        return false;
+    }
+    digest == commitment.root
+}
+
+// The place and the digest at the end of a path from the child at `place` up.
+fn end_of<H: ByteHasher32>(
+    hasher: &H,
+    place: usize,
+    digest: [u8; 32],
+    path: &[[u8; 32]],
+) -> (usize, [u8; 32])
+    ensures place { result.0 ≡ place / 2 ^ length path.now }
+    ensures digest { result.1 ≡ ending (H.digest hasher.now) place digest path.now }
+{
+    if path.is_empty() {
+        return (place, digest);
+    }
+    let above = pair_digest(hasher, place, digest, path[0]);
+    end_of(hasher, place / 2, above, &path[1..])
+}
+
+/// States that a commitment binds, for every hash function whose digests have one length: two paths that lead from different words
+/// at one index to one root have two inputs of the hash function along them that differ and have one digest.
+pub fn paths_bind()
+    ensures { PathsBind }
+{}

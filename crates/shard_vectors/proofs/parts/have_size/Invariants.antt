@@ -1,6 +1,0 @@
-use Rattle.std.proofs.Common.{◌≡◌, ◌<◌, ℕ, length, slice_index_or, None}
-use Rattle.shard_vectors.specs.Vectors.{shard_content}
-use Rattle.shard_vectors.proofs.parts.have_size.Given as goal
-
-abbrev pub invariant-loop-i : goal.invariant-loop-i
-invariant-loop-i g l = (k : ℕ) → k < l.i → length (shard_content l.size (slice_index_or l.shards k None)) ≡ l.size

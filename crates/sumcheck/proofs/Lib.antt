@@ -1,3 +1,0 @@
-pub mod Steps
-pub mod Turns
-pub mod Wholes

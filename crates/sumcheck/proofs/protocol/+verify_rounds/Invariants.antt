@@ -1,5 +1,0 @@
-use Rattle.std.proofs.Common.{length}
-use Rattle.sumcheck.proofs.protocol.+verify_rounds.Given as goal
-
-abbrev pub decreases-verify_rounds : goal.decreases-verify_rounds
-decreases-verify_rounds g l = length l.messages.now

@@ -1,2 +1,0 @@
-pub mod Completeness
-pub mod RoundSums

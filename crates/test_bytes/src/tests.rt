@@ -1,0 +1,4 @@
+mod answers;
+mod challengers;
+mod codes;
+mod hashes;

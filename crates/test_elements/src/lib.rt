@@ -1,0 +1,6 @@
+//! Tests of packings of elements, of packed bits, of vectors of zeros, and of what provers call on many elements. The crate has nothing to
+//! call.
+#![tactic(auto)]
+
+#[cfg(test)]
+mod tests;

@@ -1,0 +1,6 @@
+mod arrays;
+mod bits;
+mod packings;
+mod provers;
+mod slices;
+mod zeros;

@@ -1,0 +1,67 @@
+// Vectors of zeros: each growth refused in turn, and success where there is memory, at each length from 0 to 257, and of bits. `zero_vec`
+// has one body for every ring.
+use field_base::traits::PrimeCharacteristicRing;
+use field_base::{FieldKernel, Gf2, Stored};
+use field_element::{Coefficients, CubicKernel, Element};
+use linked_list_allocator::LocalHeap;
+use std::alloc::{AllocError, Global};
+use std::marker::PhantomData;
+use test_support::{Ending, Growing, Rest, is_refused_in_turn};
+use word_polynomial::GhashKernel;
+
+/// Whether all of the elements are 0.
+fn are_zeros<R: PrimeCharacteristicRing>(elements: &[R]) -> bool {
+    for element in elements {
+        if *element != R::ZERO {
+            return false;
+        }
+    }
+    true
+}
+
+/// So many zeros.
+#[derive(Drop)]
+struct Zeros<R> {
+    len: usize,
+    ring: PhantomData<R>,
+}
+
+impl<R: PrimeCharacteristicRing> Growing for Zeros<R> {
+    fn run<'a>(&self, heap: &'a LocalHeap, rest: Rest<'a>) -> Result<Ending, AllocError> {
+        let zeros = R::zero_vec(heap, self.len);
+        drop(rest);
+        Ok(match zeros {
+            Ok(zeros) => {
+                Ending::of(true, zeros.len() == self.len && are_zeros(zeros.as_slice()))
+            }
+            Err(_) => Ending::Refused,
+        })
+    }
+}
+
+fn are_refused<R: PrimeCharacteristicRing>(alloc: Global) -> bool {
+    for len in 0..258usize {
+        let zeros: Zeros<R> = Zeros {
+            len,
+            ring: PhantomData,
+        };
+        if !is_refused_in_turn(alloc, &zeros, len > 0) {
+            return false;
+        }
+    }
+    true
+}
+
+/// The same for elements of the field of a kernel.
+fn elements_are_refused<R: Stored, K: FieldKernel<R>>(alloc: Global) -> bool {
+    are_refused::<Element<R, K>>(alloc)
+}
+
+#[test]
+fn zeros_are_granted_or_refused(rt: HostRuntime) {
+    assert!(rt;
+        elements_are_refused::<u128, GhashKernel>(rt.alloc())
+            && elements_are_refused::<Coefficients, CubicKernel>(rt.alloc())
+            && are_refused::<Gf2>(rt.alloc())
+    );
+}

@@ -1,5 +1,0 @@
-mod arrays;
-mod bits;
-mod packings;
-mod slices;
-mod zeros;

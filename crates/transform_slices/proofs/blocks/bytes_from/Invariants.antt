@@ -1,6 +1,0 @@
-use Rattle.std.proofs.Common.{map}
-use Rattle.transform_slices.proofs.BlockLemmas.{BytesSoFar}
-use Rattle.transform_slices.proofs.blocks.bytes_from.Given as goal
-
-abbrev pub invariant-loop-place : goal.invariant-loop-place
-invariant-loop-place g l = BytesSoFar (map g.W.WideWord.value l.values) l.start l.place l.bytes

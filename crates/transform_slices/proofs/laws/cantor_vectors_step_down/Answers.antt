@@ -1,5 +1,0 @@
-use Rattle.transform_slices.proofs.CantorValues.{cantor_vectors_step_down}
-use Rattle.transform_slices.proofs.laws.cantor_vectors_step_down.Goals as goal
-
-pub returns : goal.returns
-returns c = cantor_vectors_step_down

@@ -1,5 +1,0 @@
-use Rattle.transform_slices.proofs.SliceLemmas.{butterflies_restore}
-use Rattle.transform_slices.proofs.slices.butterflies_restore.Goals as goal
-
-pub returns : goal.returns
-returns c = butterflies_restore

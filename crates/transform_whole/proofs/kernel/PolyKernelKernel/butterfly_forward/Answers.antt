@@ -1,7 +1,0 @@
-use Rattle.transform_whole.proofs.kernel.PolyKernelKernel.butterfly_forward.Goals as goal
-
-pub returns-clause-values : goal.returns-clause-values
-returns-clause-values c = record {
-  low = c.add_multiples.ensures;
-  high = c.add_each.ensures;
-}

@@ -1,4 +1,0 @@
-use Rattle.transform_whole.proofs.over.+value_by_halves.Given as goal
-
-abbrev pub decreases-value_by_halves : goal.decreases-value_by_halves
-decreases-value_by_halves g l = l.levels

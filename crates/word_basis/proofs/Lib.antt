@@ -1,6 +1,0 @@
-pub mod DigitMaps
-pub mod Isomorphisms
-pub mod RootImages
-pub mod TableFacts
-pub mod SliceSteps
-pub mod TabledMaps

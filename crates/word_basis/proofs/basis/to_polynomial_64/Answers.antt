@@ -1,6 +1,0 @@
-use Rattle.std.proofs.Common.{◌∙◌}
-use Rattle.word_basis.proofs.Isomorphisms.{change_64}
-use Rattle.word_basis.proofs.basis.to_polynomial_64.Goals as goal
-
-pub returns : goal.returns
-returns c = c.sum_of_entries_64.ensures ∙ change_64.image c.args.x

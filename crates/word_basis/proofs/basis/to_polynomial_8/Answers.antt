@@ -1,8 +1,0 @@
-use Rattle.std.proofs.Common.{◌∙◌, arith}
-use Rattle.word_basis.proofs.Isomorphisms.{change_8}
-use Rattle.word_basis.proofs.TabledMaps.{one_entry}
-use Rattle.word_basis.specs.declared.literals.to_polynomial.TheConstants.{TO_POLYNOMIAL_8}
-use Rattle.word_basis.proofs.basis.to_polynomial_8.Goals as goal
-
-pub returns : goal.returns
-returns c = one_entry TO_POLYNOMIAL_8 c.args.x (omega arith) ∙ change_8.image c.args.x

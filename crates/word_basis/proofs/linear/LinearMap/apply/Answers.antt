@@ -1,6 +1,0 @@
-use Rattle.word_basis.specs.LinearMap.{map_of}
-use Rattle.word_basis.proofs.linear.LinearMap.apply.Goals as goal
-
-pub returns : goal.returns
-unfolding map_of
-returns c = c.sum_of_values.ensures

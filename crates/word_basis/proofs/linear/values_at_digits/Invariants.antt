@@ -1,7 +1,0 @@
-use Rattle.std.proofs.Common.{◌≡◌, length}
-use Rattle.word_basis.proofs.TabledMaps.{Hold, digit_value}
-use Rattle.word_basis.proofs.linear.values_at_digits.Given as goal
-
--- the places before hold their values
-abbrev pub invariant-loop-place : goal.invariant-loop-place
-invariant-loop-place l = (length l.values ≡ 512) × Hold (digit_value l.images) l.place l.values

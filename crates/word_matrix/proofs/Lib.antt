@@ -1,4 +1,0 @@
-mod BlockLemmas
-mod ColumnLemmas
-mod HalfImages
-mod ImageLemmas

@@ -1,0 +1,8 @@
+use Rattle.std.proofs.Common.{◌≡◌, ◌++◌, map, take, drop}
+use Rattle.field_base.specs.Basis.{basis_image, ghash_images}
+use Rattle.field_base.specs.Remainder.{ghash_modulus}
+use Rattle.word_tables.proofs.basis.to_polynomial_slice_128.Given as goal
+
+-- the elements before the index are images, the others are as they were
+abbrev pub invariant-loop-x : goal.invariant-loop-x
+invariant-loop-x l = l.xs ≡ map (basis_image 128 ghash_modulus ghash_images) (take l.x-index l.fn.xs) ++ drop l.x-index l.fn.xs

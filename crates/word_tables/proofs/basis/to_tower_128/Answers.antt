@@ -1,0 +1,9 @@
+use Rattle.std.proofs.Common.{arith}
+use Rattle.word_tables.proofs.Isomorphisms.{change_128}
+use Rattle.word_tables.proofs.basis.to_tower_128.Goals as goal
+
+pub returns-clause-image : goal.returns-clause-image
+returns-clause-image c = change_128.element c.args.x _ (omega arith) c.sum_of_entries_128.ensures
+
+pub returns-clause-only : goal.returns-clause-only
+returns-clause-only c = change_128.only c.args.x _ (omega arith) (omega arith) c.sum_of_entries_128.ensures

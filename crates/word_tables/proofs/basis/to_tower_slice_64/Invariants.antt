@@ -1,0 +1,8 @@
+use Rattle.std.proofs.Common.{◌≡◌, ◌++◌, map, take, drop}
+use Rattle.field_base.specs.Basis.{basis_image, poly64_images}
+use Rattle.field_base.specs.Remainder.{poly64_modulus}
+use Rattle.word_tables.proofs.basis.to_tower_slice_64.Given as goal
+
+-- the polynomials were the images of the elements before the index, and the others as they are
+abbrev pub invariant-loop-x : goal.invariant-loop-x
+invariant-loop-x l = map (basis_image 64 poly64_modulus poly64_images) (take l.x-index l.xs) ++ drop l.x-index l.xs ≡ l.fn.xs
