@@ -1,4 +1,4 @@
 mod ByteProducts
 pub mod BatchProducts
 pub mod WordDots
-pub mod Words
+pub mod WordNumbers

@@ -4,7 +4,7 @@ use Rattle.c_arithmetic.specs.Fields.{wide_number}
 use Rattle.c_arithmetic.specs.declared.wide.Wide.{Wide}
 use Rattle.ghash_slices.specs.LowStages.{ghash_product}
 use Rattle.c_arithmetic.specs.WideLemmas.{wide_number-lt}
-use Rattle.c_arithmetic.proofs.Words.{changed_at}
+use Rattle.c_arithmetic.proofs.WordNumbers.{changed_at}
 use Rattle.c_arithmetic.proofs.products.multiply_by_some.Goals as goal
 
 pub returns : goal.returns

@@ -4,7 +4,7 @@ use Rattle.c_arithmetic.specs.Fields.{wide_number}
 use Rattle.ghash_slices.specs.LowStages.{ghash_product}
 use Rattle.ghash_slices.specs.Stages.{add_multiple}
 use Rattle.c_arithmetic.specs.WideLemmas.{wide_number-lt}
-use Rattle.c_arithmetic.proofs.Words.{changed_at}
+use Rattle.c_arithmetic.proofs.WordNumbers.{changed_at}
 use Rattle.c_arithmetic.proofs.scalars.add_scaled_words.Goals as goal
 
 pub returns : goal.returns

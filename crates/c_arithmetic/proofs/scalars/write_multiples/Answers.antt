@@ -4,7 +4,7 @@ use Rattle.c_arithmetic.specs.Fields.{wide_number}
 use Rattle.ghash_slices.specs.LowStages.{ghash_product}
 use Rattle.ghash_slices.specs.Stages.{add_multiple}
 use Rattle.c_arithmetic.specs.WideLemmas.{wide_number-lt}
-use Rattle.c_arithmetic.proofs.Words.{products_at}
+use Rattle.c_arithmetic.proofs.WordNumbers.{products_at}
 use Rattle.c_arithmetic.proofs.scalars.write_multiples.Goals as goal
 
 pub returns : goal.returns
