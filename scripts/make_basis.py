@@ -1,5 +1,5 @@
 #!/usr/bin/env python3
-"""Writes the byte tables of the changes of basis: crates/word_basis/src/literals/{to_polynomial,to_tower}.rt.
+"""Writes the byte tables of the changes of basis: crates/word_tables/src/literals/{to_polynomial,to_tower}.rt.
 
 With --check it compares instead. Entry 256 * j + b of a table is the value at b * 256 ** j. The map from the tower to a
 polynomial basis sends bit j to the product of the images of the roots over the set bits of j; the map back is the inverse
@@ -93,7 +93,7 @@ def byte_table(columns):
 def write(name, head, tables):
     head = f"// {head} Written by scripts/make_basis.py; do not edit.\n"
     arrays = [literals.array(comment, f"{name}_{width}".upper(), width, byte_table(columns)) for comment, width, columns in tables]
-    literals.write(f"word_basis/src/literals/{name}.rt", head, arrays)
+    literals.write(f"word_tables/src/literals/{name}.rt", head, arrays)
 
 
 def main():

@@ -106,7 +106,7 @@ def function(field, name, parameters, text):
     kernel, word, named = FIELDS[field]
     call, contract = CALLS[name]
     own = OWN_CALLS.get(field, {}).get(name)
-    called = f"c_calls::{own}" if own else f"{call}::<{word}, {kernel}>"
+    called = f"c_arithmetic::{own}" if own else f"{call}::<{word}, {kernel}>"
     typed = [(it[0], it[1], word) for it in parameters]
     arguments = [f"*{it[1]}" if it[0] == "scalar" and word in ("Wide", "Cubic") else it[1] for it in typed]
     if name in IN_TURNS:
@@ -131,11 +131,11 @@ def head(field, text):
     names = ", ".join([*sorted([kernel, *wide]), "batch_invert", "slices"])
     return "\n".join([
         f"// Calls over slices of elements of {text}.",
-        f"ghost use Rattle.c_slices.specs.Calls.{{{', '.join(words[:7])}}};",
-        f"ghost use Rattle.c_slices.specs.Calls.{{{', '.join(words[7:])}}};",
-        f"ghost use Rattle.c_slices.specs.Fields.{{{named.split()[0]}}};",
+        f"ghost use Rattle.c_arithmetic.specs.Calls.{{{', '.join(words[:7])}}};",
+        f"ghost use Rattle.c_arithmetic.specs.Calls.{{{', '.join(words[7:])}}};",
+        f"ghost use Rattle.c_arithmetic.specs.Fields.{{{named.split()[0]}}};",
         "",
-        f"use c_slices::{{{names}}};",
+        f"use c_arithmetic::{{{names}}};",
         "",
     ])
 

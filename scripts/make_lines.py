@@ -1,13 +1,14 @@
 #!/usr/bin/env python3
-"""Writes the lines that crates/replay_lines is run on and the answers that it has to print: its files stdin and stdout.
+"""Writes the lines that crates/binfield is run on and the answers that it has to print: its files stdin and stdout.
 
     make_lines.py LINES ANSWERS
 
 LINES is a file of the calculator's lines, and ANSWERS one of the answers that another implementation of the same
 calculator gave to them, a line for a line. Of each of the calculator's fields and each operation the first 57 lines that
-were answered are kept, and of each error the first 20: with 8,000 lines drawn 3,540 in all, in their order.
+were answered are kept, and of each error the first 20: with 8,000 lines drawn 3,540 in all, in their order. The three lines
+of the worked example stand behind them, the last without a line feed.
 
-With --check alone it reads both files back, and says whether they hold those 3,540 lines and nothing else.
+With --check alone it reads both files back, and says whether they hold those 3,543 lines and nothing else.
 """
 
 import collections
@@ -20,7 +21,10 @@ OPERATIONS = ["add", "mul", "square", "inv", "sqrt"]
 ERRORS = [f"error {number}" for number in range(1, 7)]
 ANSWERED = 57
 REFUSED = 20
-FOLDER = pathlib.Path(__file__).resolve().parent.parent / "crates/replay_lines"
+# The worked example, which has an empty line and no line feed at its end.
+EXAMPLE = b"t8 mul 10 10\n\nt8 inv 00"
+EXAMPLE_ANSWERS = "41\nerror 1\nnone\n"
+FOLDER = pathlib.Path(__file__).resolve().parent.parent / "crates/binfield"
 
 
 def kind_of(line, answer):
@@ -49,17 +53,24 @@ def chosen(rows):
     return kept
 
 
-def read(lines, answers):
-    """The rows of two files."""
-    lines = pathlib.Path(lines).read_bytes().split(b"\n")
-    answers = pathlib.Path(answers).read_text(encoding="ascii").split("\n")
+def rows_of(lines, answers):
+    """The rows of the lines and answers of two files."""
+    lines, answers = lines.split(b"\n"), answers.split("\n")
     if lines.pop() != b"" or answers.pop() != "":
         sys.exit("a file does not end with a line feed")
     return list(zip(lines, answers, strict=True))
 
 
+def read(lines, answers):
+    """The content of two files."""
+    return pathlib.Path(lines).read_bytes(), pathlib.Path(answers).read_text(encoding="ascii")
+
+
 def check():
-    rows = read(FOLDER / "stdin", FOLDER / "stdout")
+    lines, answers = read(FOLDER / "stdin", FOLDER / "stdout")
+    if not lines.endswith(EXAMPLE) or not answers.endswith(EXAMPLE_ANSWERS):
+        sys.exit("the worked example does not stand at the end")
+    rows = rows_of(lines.removesuffix(EXAMPLE), answers.removesuffix(EXAMPLE_ANSWERS))
     counts = collections.Counter(kind_of(*row) for row in rows)
     if counts != wanted():
         sys.exit(f"there are {len(rows)} lines, and not as many of each kind as are kept")
@@ -72,9 +83,9 @@ def main():
     if sys.argv[1:] == ["--check"]:
         return check()
     lines, answers = sys.argv[1:]
-    rows = chosen(read(lines, answers))
-    (FOLDER / "stdin").write_bytes(b"".join(line + b"\n" for line, _ in rows))
-    (FOLDER / "stdout").write_text("".join(answer + "\n" for _, answer in rows), encoding="ascii")
+    rows = chosen(rows_of(*read(lines, answers)))
+    (FOLDER / "stdin").write_bytes(b"".join(line + b"\n" for line, _ in rows) + EXAMPLE)
+    (FOLDER / "stdout").write_text("".join(answer + "\n" for _, answer in rows) + EXAMPLE_ANSWERS, encoding="ascii")
 
 
 if __name__ == "__main__":

@@ -20,7 +20,7 @@ mkdir -p "$copy/crates/bench_provers/src"
 cp "$here/main.txt" "$copy/crates/bench_provers/src/main.rt"
 mkdir -p "$copy/crates/bench_provers/proofs/transform_elements"
 cp "$here/answers.txt" "$copy/crates/bench_provers/proofs/transform_elements/Answers.antt"
-echo "bench_provers: field_base field_element field_slices multilinear sumcheck_rounds transform_whole transform_levels anyhow" >> "$copy/crates.txt"
+echo "bench_provers: field_base field_element field_slices polynomials additive_transforms anyhow" >> "$copy/crates.txt"
 
 processor=$(sed -n 's/^model name[^:]*: //p' /proc/cpuinfo | head -n 1)
 echo "$(date -u +%Y-%m-%d); $processor; $("$RT" version)"
