@@ -1,6 +1,6 @@
 use Rattle.std.proofs.Common.{◌≡◌, drop}
 use Rattle.field_base.specs.Powers.{value_of}
-use Rattle.additive_transforms.proofs.over.evaluate.Given as goal
+use Rattle.polynomials.proofs.horner.evaluate.Given as goal
 
 -- what is there is the value of the coefficients from this place on
 abbrev pub invariant-loop-place : goal.invariant-loop-place

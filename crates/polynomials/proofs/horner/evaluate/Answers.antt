@@ -1,7 +1,7 @@
 use Rattle.std.proofs.Common.{ℕ, ◌∙◌, ap, arith}
 use Rattle.std.specs.Prelude.{bit_xor}
 use Rattle.field_base.proofs.Horner.{horner_step}
-use Rattle.additive_transforms.proofs.over.evaluate.Goals as goal
+use Rattle.polynomials.proofs.horner.evaluate.Goals as goal
 
 pub loop-place-preserved : goal.loop-place-preserved
 loop-place-preserved g c =
