@@ -17,7 +17,7 @@ if [ -n "${RUST_CRATE:-}" ]; then
     mkdir -p "$both"
     ln -sfn "$here/src" "$both/src"
     {
-        sed "s|path = \"../rust\"|path = \"$here/../rust\"|" "$here/Cargo.toml"
+        sed "s|\"../rust|\"$here/../rust|" "$here/Cargo.toml"
         echo "p3-binary-field = { path = \"$rust_crate\" }"
         # The traits of its fields, from where it has them.
         grep '^p3-field ' "$rust_crate/Cargo.toml" | sed "s|path = \"|path = \"$rust_crate/|"

@@ -1,6 +1,6 @@
 /* Binary fields, proved: the functions of libbinary_field.
  *
- * Written by scripts/make_c_header.py from scripts/c_library.py; do not edit.
+ * Written by scripts/make_c_header.py; do not edit.
  *
  * Elements. An element is an unsigned number, and a sum is the exclusive or. In the tower the low half of the bits is the part
  * without the root that the level adjoins. In a polynomial basis bit i is the coefficient of x^i; a block of GCM has its bits

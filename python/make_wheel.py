@@ -12,9 +12,8 @@ import zipfile
 
 HERE = pathlib.Path(__file__).resolve().parent
 sys.path.insert(0, str(HERE.parent / "scripts"))
-import make_c_header
+from fields import VERSION_TEXT as VERSION
 
-VERSION = ".".join(map(str, make_c_header.VERSION))
 INFO = f"binary_field-{VERSION}.dist-info"
 TAG = "py3-none-linux_x86_64"
 METADATA = f"""\

@@ -1,6 +1,6 @@
 """The functions of the C library, in one table, from which scripts write the header and the calls of other languages.
 
-A field is (name, word, bits, what it is). A parameter is (kind, name) or (kind, name, word), where the field gives no word:
+The fields are those of fields.py. A parameter is (kind, name) or (kind, name, word), where the field gives no word:
   in      an array that is read: a pointer and a length
   inout   an array that is read and written: a pointer and a length
   out     an array that is written: a pointer and a length
@@ -9,6 +9,8 @@ A field is (name, word, bits, what it is). A parameter is (kind, name) or (kind,
   number  a number of 64 bits, by value
 Every function returns a status but where the table says otherwise. Lengths count words, not bytes.
 """
+
+from fields import FIELDS
 
 STATUSES = [
     ("BF_OK", 0, "the call did what it says"),
@@ -21,21 +23,6 @@ STATUSES = [
 
 # The word of C for each word of the table. The wide ones are structs of words of 64 bits, the lowest first.
 WORDS = {"u8": "uint8_t", "u16": "uint16_t", "u32": "uint32_t", "u64": "uint64_t", "u128": "bf_u128", "u192": "bf_u192"}
-
-FIELDS = [
-    ("gf2", "u8", 1, "GF(2)"),
-    ("t2", "u8", 2, "GF(2^2), a level of the tower"),
-    ("t4", "u8", 4, "GF(2^4), a level of the tower"),
-    ("t8", "u8", 8, "GF(2^8), a level of the tower"),
-    ("t16", "u16", 16, "GF(2^16), a level of the tower"),
-    ("t32", "u32", 32, "GF(2^32), a level of the tower"),
-    ("t64", "u64", 64, "GF(2^64), a level of the tower"),
-    ("t128", "u128", 128, "GF(2^128), a level of the tower"),
-    ("r8", "u8", 8, "GF(2)[x] modulo x^8 + x^4 + x^3 + x + 1, the bytes of AES (FIPS 197)"),
-    ("p64", "u64", 64, "GF(2)[x] modulo x^64 + x^4 + x^3 + x + 1"),
-    ("g128", "u128", 128, "GF(2)[x] modulo x^128 + x^7 + x^2 + x + 1, the field of GHASH (NIST SP 800-38D), bit i for x^i"),
-    ("p192", "u192", 192, "GF(2^64)[y] modulo y^3 + y + 1 over p64, the coefficient of 1 first"),
-]
 
 # For every field, as bf_FIELD_NAME. Arrays have one length unless the text says otherwise.
 FIELD_FUNCTIONS = [
@@ -57,8 +44,9 @@ FIELD_FUNCTIONS = [
 
 # (name, parameters, what it computes). The word of every parameter stands in it.
 OTHER_FUNCTIONS = [
-    *[(f"{a}_to_{b}", [("in", "values", w), ("out", "images", w)], f"the image in {b} of each element of {a}, by the isomorphism of the two fields")
-      for x, y, w in [("t8", "r8", "u8"), ("t64", "p64", "u64"), ("t128", "g128", "u128")] for a, b in [(x, y), (y, x)]],
+    *[(f"{a.name}_to_{b.name}", [("in", "values", a.word), ("out", "images", a.word)],
+       f"the image in {b.name} of each element of {a.name}, by the isomorphism of the two fields")
+      for it in FIELDS if it.modulus for a, b in [(it.partner, it), (it, it.partner)]],
     ("r8_linear_map", [("in", "values", "u8"), ("in", "images", "u8"), ("out", "mapped", "u8")],
      "for each byte the sum of the images at its set bits; eight images, that of bit 0 first"),
     ("g128_linear_map", [("in", "values", "u128"), ("in", "images", "u128"), ("out", "mapped", "u128")],
@@ -111,11 +99,22 @@ def functions():
     yield from wide_functions()
 
 
+def sentence(text, parameters=()):
+    """A text as a sentence; it keeps its first letter where it begins with the name of a parameter."""
+    keeps = text.split()[0] in [it[1] for it in parameters]
+    return f"{text}." if keeps else f"{text[0].upper()}{text[1:]}."
+
+
+def typed(parameters, word):
+    """The parameters of a function of a field, with the field's word."""
+    return [(*it, word)[:3] if it[0] != "number" else (*it, "u64") for it in parameters]
+
+
 def first_functions():
     """Those that are no second forms."""
-    for field, word, _, _ in FIELDS:
+    for field in FIELDS:
         for name, parameters, text in FIELD_FUNCTIONS:
-            yield f"{field}_{name}", [(*it, word)[:3] if it[0] != "number" else (*it, "u64") for it in parameters], text
+            yield f"{field.name}_{name}", typed(parameters, field.word), text
     for name, parameters, text in OTHER_FUNCTIONS:
         yield name, [it if len(it) == 3 else (*it, "u64") for it in parameters], text
 

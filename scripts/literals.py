@@ -1,18 +1,4 @@
-"""Writing files of literals, and comparing them with what is there."""
-
-import pathlib
-import sys
-
-CRATES = pathlib.Path(__file__).resolve().parent.parent / "crates"
-
-
-def image(columns, x):
-    """The value of a linear map at x: the sum of its columns at the set bits of x."""
-    total = 0
-    for place, column in enumerate(columns):
-        if x >> place & 1:
-            total ^= column
-    return total
+"""Arrays of literals in Rattle."""
 
 
 def array(comment, name, bits, values):
@@ -27,16 +13,3 @@ def array(comment, name, bits, values):
 def arrays(bits, values_of):
     """Arrays of numbers of so many bits, of which each name is given with its comment and its values."""
     return [array(comment, name, bits, values) for name, (comment, values) in values_of.items()]
-
-
-def write(place, head, arrays):
-    """Writes the file at `place` in crates/, or with the argument `--check` says whether it is what would be written."""
-    path = CRATES / place
-    text = "\n".join([head, *arrays])
-    if "--check" in sys.argv[1:]:
-        with open(path, encoding="utf-8") as file:
-            if file.read() != text:
-                sys.exit(f"{path} is not what this script writes")
-        return
-    with open(path, "w", encoding="utf-8") as file:
-        file.write(text)

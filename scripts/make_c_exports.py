@@ -1,30 +1,20 @@
 #!/usr/bin/env python3
-"""Writes the exported functions of the fields in crates/binary_field_c/src/, a file for each field, from the table of c_library.py.
+"""Writes the exported functions of crates/binary_field_c/src/, a file for each field and for each group of other functions, from the
+tables of fields.py and c_library.py. With --check it compares instead.
 
-An exported function has no type parameter, and a macro cannot write it; each passes its slices on to a function over any field.
-The other exported functions are written by hand. Of all it is seen that their names and parameters are those of the table.
+An exported function has no type parameter, and a macro cannot write it; each passes its slices on to a function of c_arithmetic, which
+has the same contract. Only lib.rt is written by hand.
 """
 import re
 import sys
+import textwrap
 
 import c_library
-import literals
+import fields
+import files
 
-# The kernel that computes in a field, the words `W` of its slices, and the field of the contracts, with the words that it cites.
-FIELDS = {
-    "gf2": ("Gf2", "u8", "level_field 0"),
-    "t2": ("Level2", "u8", "level_field 1"),
-    "t4": ("Level4", "u8", "level_field 2"),
-    "t8": ("Level8", "u8", "level_field 3"),
-    "t16": ("Level16", "u16", "level_field 4"),
-    "t32": ("Level32", "u32", "level_field 5"),
-    "t64": ("Level64", "u64", "level_field 6"),
-    "t128": ("Level128", "Wide", "wide_level_field"),
-    "r8": ("Rijndael", "u8", "rijndael_field"),
-    "p64": ("Poly64", "u64", "poly64_field"),
-    "g128": ("Ghash", "Wide", "ghash_field"),
-    "p192": ("CubicField", "Cubic", "cubic_field"),
-}
+# The words `W` of slices by those of the table.
+WORDS = {"u128": "Wide", "u192": "Cubic"}
 
 # The function over any field that a call goes to, and the word of its contract.
 CALLS = {
@@ -49,21 +39,73 @@ OWN_CALLS = {
     "r8": {"multiply": "multiply_bytes"},
 }
 
-# Calls whose loops may take two elements in a turn, and the fields in which they do, since those look up what they write.
-IN_TURNS, LOOKED_UP = {"square", "square_root"}, {"t16", "t32"}
+# Calls whose loops may take two elements in a turn.
+IN_TURNS = {"square", "square_root"}
 
-# The columns of a line of code.
-COLUMNS = 100
+# The functions of no field and of the stages: the file, the function of c_arithmetic, and the contract.
+OTHER_CALLS = {
+    "r8_linear_map": ("linear", "map_bytes", "MapsLinearly itself 8 images.now values.now mapped.old mapped.new result"),
+    "g128_linear_map": ("linear", "map_wide", "MapsLinearly wide_number 128 images.now values.now mapped.old mapped.new result"),
+    "g128_butterfly_forward": (
+        "transforms", "butterfly_forward", "ButterfliesForward (wide_number scalar.now) low.old high.old low.new high.new result"),
+    "g128_butterfly_inverse": (
+        "transforms", "butterfly_inverse", "ButterfliesInverse (wide_number scalar.now) low.old high.old low.new high.new result"),
+    "g128_low_stages": ("transforms", "low_stages", "RunsLowStages shifts.now basis.now first_run values.old values.new result"),
+    "g128_transform": ("transforms", "transform", "Transforms (wide_number shift.now) values.old values.new result"),
+    "g128_inverse_transform": ("transforms", "inverse_transform", "InvertsTransform (wide_number shift.now) values.old values.new result"),
+    "tag_ghash": ("messages", "ghash", "Hashes (Unit {0}) key.now (ghash key.now (blocks_of message.now)) hash.old hash.new result"),
+    "tag_polyval": ("messages", "polyval", "Hashes (Unit {0}) key.now (polyval key.now (blocks_of message.now)) hash.old hash.new result"),
+    "tag_gcm_ghash": (
+        "messages", "gcm_ghash",
+        "Hashes ((length associated.now < 2 ^ 61) × (length ciphertext.now < 2 ^ 61)) key.now\n"
+        "        (ghash key.now (gcm_blocks associated.now ciphertext.now)) hash.old hash.new result"),
+    "tags_are_equal": ("messages", "tags_are_equal", "Compares left.now right.now equal.new result"),
+    "rs_encode": ("shards", "encode", "Encodes «data» parity shards.old shards.new result"),
+    "rs_verify": ("shards", "verify", "Verifies «data» parity shards.now whole.old whole.new result"),
+    "rs_reconstruct": (
+        "shards", "reconstruct", "Reconstructs «data» parity («data» + parity) present.now shards.old shards.new result"),
+    "rs_reconstruct_data": (
+        "shards", "reconstruct_data", "Reconstructs «data» parity «data» present.now shards.old shards.new result"),
+}
+
+# What each file of such functions has.
+ABOUT = {
+    "changes": "Calls over slices of elements of a level of the tower, and of their images in a field of polynomials.",
+    "linear": "Calls that map words linearly.",
+    "transforms": "Calls that transform values in the field of GHASH.",
+    "messages": "Calls over messages.",
+    "shards": "Calls over shards, which stand one after the other and have one size: those of data, and then those of parity.",
+    "wide": "Second forms of calls in the field of GHASH, made for x86-64-v3, whose vectors have 256 bits.",
+}
+
+# The modules that define the words of contracts, in the order in which a file brings them in.
+HOMES = {
+    "std.specs.Prelude": ["◌^◌", "◌<◌", "◌+◌", "length"],
+    "field_base.specs.Basis": ["aes_images", "basis_image", "ghash_images", "poly64_images"],
+    "field_base.specs.Remainder": ["aes_modulus", "ghash_modulus", "poly64_modulus"],
+    "tags.specs.Blocks": ["blocks_of", "gcm_blocks"],
+    "tags.specs.Gcm": ["ghash"],
+    "tags.specs.Polyval": ["polyval"],
+    "c_arithmetic.specs.Bytes": ["Compares", "Encodes", "Hashes", "Reconstructs", "Verifies"],
+    "c_arithmetic.specs.Linear": ["MapsLinearly"],
+    "c_arithmetic.specs.Transforms": ["ButterfliesForward", "ButterfliesInverse", "InvertsTransform", "RunsLowStages", "Transforms"],
+    "c_arithmetic.specs.Calls": sorted({word for _, word in CALLS.values()} | {"TakesImages", "TakesPreimages"}),
+    "c_arithmetic.specs.Fields": [
+        "cubic_field", "ghash_field", "itself", "level_field", "poly64_field", "rijndael_field", "wide_level_field", "wide_number",
+    ],
+}
+
+# The columns of a line of code, and of those that `rt fmt` does not break.
+COLUMNS, LONG_COLUMNS = 100, 135
 
 
 def parameter(kind, name, word):
     """A parameter as the signature has it."""
-    wide = word in ("Wide", "Cubic")
     types = {
         "in": f"&[{word}]",
         "out": f"&mut [{word}]",
         "inout": f"&mut [{word}]",
-        "scalar": f"&{word}" if wide else word,
+        "scalar": f"&{word}" if word in WORDS.values() else word,
         "result": f"&mut {word}",
         "number": "u64",
     }
@@ -72,27 +114,18 @@ def parameter(kind, name, word):
 
 def clause_words(kind, name, word):
     """What a contract says of a parameter: before the words that are written, and those."""
-    if kind in ("in",) or kind == "scalar" and word in ("Wide", "Cubic"):
+    if kind == "in" or kind == "scalar" and word in WORDS.values():
         return [f"{name}.now"], []
     if kind in ("out", "inout", "result"):
         return [], [f"{name}.old", f"{name}.new"]
     return [name], []
 
 
-def signature(name, parameters):
-    """The head of a function, on one line where it fits."""
-    line = f'pub extern "C" fn {name}({", ".join(parameters)}) -> u32'
-    if len(line) <= COLUMNS:
-        return line
-    rows = "".join(f"    {it},\n" for it in parameters)
-    return f'pub extern "C" fn {name}(\n{rows}) -> u32'
-
-
-def clause(contract, field, parameters):
-    """The contract: the field, a scalar or an exponent, what is read, what is written, and the status."""
+def field_clause(contract, field, parameters):
+    """The contract over a field: the field, a scalar or an exponent, what is read, what is written, and the status."""
     reads, writes = [], []
-    for kind, name, word in sorted(parameters, key=lambda it: it[0] not in ("scalar", "number")):
-        read, written = clause_words(kind, name, word)
+    for it in sorted(parameters, key=lambda it: it[0] not in ("scalar", "number")):
+        read, written = clause_words(*it)
         reads += read
         writes += written
     if contract == "NamesGenerator":
@@ -101,70 +134,143 @@ def clause(contract, field, parameters):
     return " ".join([contract, named, *reads, *writes, "result"])
 
 
-def function(field, name, parameters, text):
-    """An exported function, with its contract."""
-    kernel, word, named = FIELDS[field]
-    call, contract = CALLS[name]
-    own = OWN_CALLS.get(field, {}).get(name)
-    called = f"c_arithmetic::{own}" if own else f"{call}::<{word}, {kernel}>"
-    typed = [(it[0], it[1], word) for it in parameters]
-    arguments = [f"*{it[1]}" if it[0] == "scalar" and word in ("Wide", "Cubic") else it[1] for it in typed]
-    if name in IN_TURNS:
-        arguments.append("true" if field in LOOKED_UP else "false")
+def function(name, parameters, text, called, clause, more=()):
+    """An exported function: what it computes, its signature, its contract and its call, with arguments behind its own."""
+    typed = [(kind, it, WORDS.get(word, word)) for kind, it, word in parameters]
+    arguments = [f"*{it}" if kind == "scalar" and word in WORDS.values() else it for kind, it, word in typed]
+    shown = [parameter(*it) for it in typed]
+    signature = f'pub extern "C" fn bf_{name}({", ".join(shown)}) -> u32'
+    if len(signature) > COLUMNS:
+        rows = "".join(f"    {it},\n" for it in shown)
+        signature = f'pub extern "C" fn bf_{name}(\n{rows}) -> u32'
     return "\n".join([
-        f"/// {text[0].upper()}{text[1:]}.",
+        *(f"/// {it}" for it in textwrap.wrap(c_library.sentence(text, parameters), LONG_COLUMNS)),
         "#[unsafe(no_mangle)]",
-        signature(f"bf_{field}_{name}", [parameter(*it) for it in typed]),
-        f"    ensures {{ {clause(contract, named, typed)} }}",
+        signature,
+        f"    ensures {{ {clause} }}",
         "{",
-        f"    {called}({', '.join(arguments)})",
+        f"    {called}({', '.join([*arguments, *more])})",
         "}",
         "",
     ])
 
 
-def head(field, text):
-    """The first lines of a field's file."""
-    kernel, word, named = FIELDS[field]
-    words = sorted({contract for _, contract in CALLS.values()})
-    wide = [word] if word in ("Wide", "Cubic") else []
-    names = ", ".join([*sorted([kernel, *wide]), "batch_invert", "slices"])
-    return "\n".join([
-        f"// Calls over slices of elements of {text}.",
-        f"ghost use Rattle.c_arithmetic.specs.Calls.{{{', '.join(words[:7])}}};",
-        f"ghost use Rattle.c_arithmetic.specs.Calls.{{{', '.join(words[7:])}}};",
-        f"ghost use Rattle.c_arithmetic.specs.Fields.{{{named.split()[0]}}};",
-        "",
-        f"use c_arithmetic::{{{names}}};",
-        "",
-    ])
+def field_function(field, name, parameters, text):
+    """A function of a field."""
+    call, contract = CALLS[name]
+    own = OWN_CALLS.get(field.name, {}).get(name)
+    word = WORDS.get(field.word, field.word)
+    called = f"c_arithmetic::{own}" if own else f"{call}::<{word}, {field.kernel}>"
+    more = [str(field.is_looked_up).lower()] if name in IN_TURNS else []
+    typed = c_library.typed(parameters, field.word)
+    clause = field_clause(contract, field.contract, [(kind, it, WORDS.get(of, of)) for kind, it, of in typed])
+    return function(f"{field.name}_{name}", typed, text, called, clause, more)
 
 
-def exported():
-    """Every exported function by its name, with its parameters as they are written."""
-    head = re.compile(r'pub extern "C" fn (\w+)\(([^)]*)\) -> u32')
-    for path in sorted((literals.CRATES / "binary_field_c/src").glob("*.rt")):
-        for name, parameters in head.findall(path.read_text(encoding="utf-8")):
-            yield name, [it.strip() for it in parameters.split(",") if it.strip()]
+def change_of_basis(name, parameters, text):
+    """A change of basis: the field of polynomials that it goes to or comes from has the map."""
+    source, image = (fields.field_named(it) for it in name.split("_to_"))
+    is_image = image.modulus is not None
+    field = image if is_image else source
+    contract, call = ("TakesImages", "from_tower") if is_image else ("TakesPreimages", "to_tower")
+    number = "wide_number" if field.word in WORDS else "itself"
+    basis = f"(basis_image {field.bits} {field.basis}_modulus {field.basis}_images)"
+    called = f"slices::{call}::<{WORDS.get(field.word, field.word)}, {field.kernel}>"
+    return function(name, parameters, text, called, f"{contract} {number} {basis} values.now images.old images.new result")
 
 
-def compare_with_table():
-    """Fails where an exported function is not as the table has it, or one of the table is missing."""
-    words = {"u128": "Wide", "u192": "Cubic"}
-    wanted = {f"bf_{name}": [] for name, _, _ in c_library.PLAIN_FUNCTIONS}
-    for name, parameters, _ in c_library.functions():
-        wanted[f"bf_{name}"] = [parameter(kind, it, words.get(word, word)) for kind, it, word in parameters]
-    found = dict(exported())
-    for name in sorted(wanted.keys() | found.keys()):
-        if wanted.get(name) != found.get(name):
-            sys.exit(f"{name}: the table has {wanted.get(name)}, the crate {found.get(name)}")
+def other_function(name, parameters, text):
+    """A function of no field, or of stages."""
+    _, call, clause = OTHER_CALLS[name]
+    return function(name, parameters, text, f"c_arithmetic::{call}", clause)
+
+
+def wide_function(name, parameters):
+    """The second form of a function of GHASH."""
+    field_name, own = name.split("_", 1)
+    if name in OTHER_CALLS:
+        _, call, clause = OTHER_CALLS[name]
+    else:
+        field = fields.field_named(field_name)
+        typed = [(kind, it, WORDS.get(word, word)) for kind, it, word in parameters]
+        call, clause = OWN_CALLS[field_name][own], field_clause(CALLS[own][1], field.contract, typed)
+    return function(f"{name}_wide", parameters, f"the same as `bf_{name}`", f"c_arithmetic::{call}_wide", clause)
+
+
+def brought_in(clauses):
+    """The lines that bring in the words of contracts."""
+    words = set(re.findall(r"[\w]+", clauses)) | {f"◌{it}◌" for it in re.findall(r" ([\^<+]) ", clauses)}
+    for home, names in HOMES.items():
+        line = []
+        for name in [it for it in names if it in words]:
+            if line and len(f"ghost use Rattle.{home}.{{{', '.join([*line, name])}}};") > LONG_COLUMNS:
+                yield f"ghost use Rattle.{home}.{{{', '.join(line)}}};"
+                line = []
+            line.append(name)
+        if line:
+            yield f"ghost use Rattle.{home}.{{{', '.join(line)}}};"
+
+
+def used(bodies):
+    """The line that brings in what bodies and signatures name without a path."""
+    names = set(re.findall(r"[&\[]&?(Wide|Cubic)\b|(?:<\w+, )(\w+)>|\b(slices)::|\b(batch_invert)\b", bodies))
+    named = {it for group in names for it in group if it} | {it for it in WORDS.values() if re.search(rf"\b{it}\b", bodies)}
+    return [f"use c_arithmetic::{{{', '.join(sorted(named))}}};" if len(named) > 1 else f"use c_arithmetic::{named.pop()};", ""] if named else []
+
+
+def write(name, about, functions):
+    """Writes a file."""
+    text = "\n".join(functions)
+    clauses = "\n".join(re.findall(r"    ensures \{ (.*?) \}\n\{", text, re.DOTALL))
+    lines = [f"// {about}", f"// {files.generated('make_c_exports.py')}", *brought_in(clauses), "", *used(text)]
+    files.keep(f"crates/binary_field_c/src/{name}.rt", "\n".join([*lines, text]))
+
+
+def write_version():
+    """Writes the file of the version."""
+    major, minor, patch = fields.VERSION
+    (name, _, text), = c_library.PLAIN_FUNCTIONS
+    files.keep("crates/binary_field_c/src/version.rt", f"""\
+// The version of the library.
+// {files.generated("make_c_exports.py")}
+ghost use Rattle.std.specs.Prelude.{{◌≡◌, ◌+◌, ◌*◌}};
+
+// The numbers of the version.
+const MAJOR: u32 = {major};
+
+const MINOR: u32 = {minor};
+
+const PATCH: u32 = {patch};
+
+/// {c_library.sentence(text)}
+#[unsafe(no_mangle)]
+pub extern "C" fn bf_{name}() -> u32
+    ensures {{ result ≡ 65536 * MAJOR + 256 * MINOR + PATCH }}
+{{
+    65536 * MAJOR + 256 * MINOR + PATCH
+}}
+""")
 
 
 def main():
-    for field, _, _, text in c_library.FIELDS:
-        functions = [function(field, *it) for it in c_library.FIELD_FUNCTIONS]
-        literals.write(f"binary_field_c/src/{field}.rt", head(field, text), functions)
-    compare_with_table()
+    for field in fields.FIELDS:
+        functions = [field_function(field, *it) for it in c_library.FIELD_FUNCTIONS]
+        write(field.name, f"Calls over slices of elements of {field.about}.", functions)
+    groups = {it: [] for it in ABOUT}
+    named = {name: parameters for name, parameters, _ in c_library.first_functions()}
+    for name, parameters, text in c_library.first_functions():
+        if "_to_" in name:
+            groups["changes"].append(change_of_basis(name, parameters, text))
+        elif name in OTHER_CALLS:
+            groups[OTHER_CALLS[name][0]].append(other_function(name, parameters, text))
+    groups["wide"] = [wide_function(name, named[name]) for name in c_library.WIDE]
+    for name, functions in groups.items():
+        write(name, ABOUT[name], functions)
+    write_version()
+    root = (files.CRATES / "binary_field_c/src/lib.rt").read_text(encoding="utf-8")
+    modules = sorted([*(it.name for it in fields.FIELDS), *ABOUT, "version"])
+    if re.findall(r"^mod (\w+);$", root, re.MULTILINE) != modules:
+        sys.exit(f"crates/binary_field_c/src/lib.rt does not have the modules {', '.join(modules)}")
 
 
 if __name__ == "__main__":

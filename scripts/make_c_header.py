@@ -1,28 +1,16 @@
 #!/usr/bin/env python3
-"""Writes what other languages call the C library by, from the table in c_library.py. With --check it compares instead.
+"""Writes the header of the C library, include/binary_field.h, for C99 and C++, from the tables of fields.py and c_library.py. With
+--check it compares instead."""
 
-    include/binary_field.h               for C99 and C++
-    python/binary_field/_functions.py    the functions with their parameters, for ctypes
-    python/binary_field/_fields.py       a class for each field
-    rust/src/functions.rs                the functions as Rust declares foreign ones
-"""
-
-import pathlib
-import sys
 import textwrap
 
 import c_library
+import fields
+import files
+from c_library import sentence
 
-TOP = pathlib.Path(__file__).resolve().parent.parent
-VERSION = (0, 1, 0)
 POINTERS = {"in": "const ", "inout": "", "out": "", "result": ""}
 ARRAYS = ("in", "inout", "out")
-RUST_WORDS = {"u8": "u8", "u16": "u16", "u32": "u32", "u64": "u64", "u128": "[u64; 2]", "u192": "[u64; 3]"}
-# The names that the fields have for users of the library.
-CLASSES = {
-    "gf2": "Gf2", "t2": "BinaryField2", "t4": "BinaryField4", "t8": "BinaryField8", "t16": "BinaryField16", "t32": "BinaryField32",
-    "t64": "BinaryField64", "t128": "BinaryField128", "r8": "Rijndael8b", "p64": "Poly64", "g128": "Ghash128", "p192": "Poly192",
-}
 
 # Which lengths a function takes, where they are not all the same, by the end of its name.
 LENGTHS = {
@@ -72,15 +60,10 @@ def comment(text):
     return "/* " + "\n * ".join(textwrap.wrap(text, 122, break_long_words=False)) + " */\n"
 
 
-def sentence(text):
-    return text[0].upper() + text[1:] + "."
-
-
 def told(name, parameters, bits, text):
     """What a function computes, after the name of what it writes where that is one thing, and when it returns which status."""
     written = [it[1] for it in parameters if it[0] in ("out", "result")]
-    names = [it[1] for it in parameters]
-    words = [f"{written[0]}: {text}." if written else f"{text}." if text.split()[0] in names else sentence(text)]
+    words = [f"{written[0]}: {text}." if written else sentence(text, parameters)]
     for status, condition in statuses_of(name, parameters, bits):
         words.append(f"{status} {'if' if status == 'BF_CODE' else 'unless'} {condition}.")
     return " ".join(words)
@@ -101,30 +84,16 @@ def declared(parameters):
             yield f"{it} {name}"
 
 
-def rust_declared(parameters):
-    """The parameters of a function as Rust declares them."""
-    for kind, name, word in parameters:
-        it = RUST_WORDS[word]
-        if kind in ARRAYS:
-            yield f"{name}: *{'const' if kind == 'in' else 'mut'} {it}"
-            yield f"{name}_length: usize"
-        elif kind == "result":
-            yield f"{name}: *mut {it}"
-        elif kind == "scalar" and word in ("u128", "u192"):
-            yield f"{name}: *const {it}"
-        else:
-            yield f"{name}: {it}"
-
-
 def sections():
     """Each section's heading with its functions: their names, parameters, bits of the field (64 for no field), texts."""
     everything = list(c_library.functions())
-    of_fields = len(c_library.FIELDS) * len(c_library.FIELD_FUNCTIONS)
-    for at, (field, word, bits, text) in enumerate(c_library.FIELDS):
+    of_fields = len(fields.FIELDS) * len(c_library.FIELD_FUNCTIONS)
+    for at, field in enumerate(fields.FIELDS):
         count = len(c_library.FIELD_FUNCTIONS)
         rows = everything[at * count : (at + 1) * count]
-        below = f", below {1 << bits}" if bits < 8 else ""
-        yield f"{field}: {text}. An element is a {c_library.WORDS[word]}{below}.", [(*row, bits) for row in rows]
+        below = f", below {1 << field.bits}" if field.bits < 8 else ""
+        heading = f"{field.name}: {field.about}. An element is a {c_library.WORDS[field.word]}{below}."
+        yield heading, [(*row, field.bits) for row in rows]
     rest = everything[of_fields:]
     headings = {
         "t8_to": "Changes of basis, and linear maps over GF(2).",
@@ -152,8 +121,7 @@ def sections():
 
 def header():
     """The header."""
-    major, minor, patch = VERSION
-    out = [HEAD.format(version=(major << 16) + (minor << 8) + patch, number=f"{major}.{minor}.{patch}")]
+    out = [HEAD.format(version=fields.VERSION_NUMBER, number=fields.VERSION_TEXT, written=files.generated("make_c_header.py"))]
     for name, value, text in c_library.STATUSES:
         out.append(comment(sentence(text)))
         out.append(f"#define {name} {value}u\n")
@@ -175,53 +143,10 @@ def header():
     return "".join(out)
 
 
-def python_functions():
-    """The same for ctypes."""
-    out = [PYTHON_HEAD, f"VERSION = {(VERSION[0] << 16) + (VERSION[1] << 8) + VERSION[2]}\n\n"]
-    out.append("# The name of each status, and its sentence.\nSTATUSES: dict[int, tuple[str, str]] = {\n")
-    out += [f'    {value}: ("{name}", "{text}"),\n' for name, value, text in c_library.STATUSES]
-    out.append("}\n\n# The parameters of each function: kind, name and word.\nFUNCTIONS: dict[str, list[tuple[str, str, str]]] = {\n")
-    for name, parameters, _ in c_library.functions():
-        row = ", ".join(f'("{kind}", "{it}", "{word}")' for kind, it, word in parameters)
-        out.append(f'    "{name}": [{row}],\n')
-    return "".join([*out, "}\n"])
-
-
-def python_fields():
-    """The classes of the fields."""
-    out = [PYTHON_FIELDS_HEAD]
-    for name, word, bits, text in c_library.FIELDS:
-        out.append(f'\n\nclass {CLASSES[name]}(FieldArray):\n    """Arrays over {text}."""\n\n')
-        out.append(f'    degree = {bits}\n    _name = "{name}"\n    _word = "{word}"\n')
-    return "".join(out)
-
-
-def rust_functions():
-    """The same for Rust."""
-    out = [RUST_HEAD]
-    for name, value, text in c_library.STATUSES:
-        out.append(f"/// {sentence(text)}\npub const {name}: u32 = {value};\n")
-    out.append('\nunsafe extern "C" {\n')
-    for name, _, text in c_library.PLAIN_FUNCTIONS:
-        out.append(f"    /// {sentence(text)}\n    pub fn bf_{name}() -> u32;\n")
-    for _, rows in sections():
-        for name, parameters, text, bits in rows:
-            # A doc comment reads an index in brackets as a link.
-            doc = told(name, parameters, bits, text).replace("[", "\\[").replace("]", "\\]")
-            out += [f"    /// {line}\n" for line in textwrap.wrap(doc, 110, break_long_words=False)]
-            if name in c_library.WIDE:
-                out.append(f'    #[cfg_attr(binary_field_wide, link_name = "bf_{name}_wide")]\n')
-            out.append(f"    pub fn bf_{name}(\n")
-            out += [f"        {it},\n" for it in rust_declared(parameters)]
-            out.append("    ) -> u32;\n")
-    out.append("}\n")
-    return "".join(out)
-
-
 HEAD = """\
 /* Binary fields, proved: the functions of libbinary_field.
  *
- * Written by scripts/make_c_header.py from scripts/c_library.py; do not edit.
+ * {written}
  *
  * Elements. An element is an unsigned number, and a sum is the exclusive or. In the tower the low half of the bits is the part
  * without the root that the level adjoins. In a polynomial basis bit i is the coefficient of x^i; a block of GCM has its bits
@@ -272,44 +197,9 @@ TAIL = """\
 #endif
 """
 
-PYTHON_HEAD = '''\
-"""The functions of libbinary_field. Written by scripts/make_c_header.py from scripts/c_library.py; do not edit."""
-
-# The version that this package belongs to.
-'''
-
-PYTHON_FIELDS_HEAD = '''\
-"""The fields, each a class of arrays. Written by scripts/make_c_header.py from scripts/c_library.py; do not edit."""
-
-from ._arrays import FieldArray
-'''
-
-RUST_HEAD = """\
-//! The functions of libbinary_field. Written by scripts/make_c_header.py from scripts/c_library.py; do not edit.
-//!
-//! An array is a pointer, which may be null beside a length of 0, and a length that counts elements. What is written overlaps
-//! nothing else of the call. On a status that is not `BF_OK` everything that a function could write is as before. Where the library was
-//! built for x86-64-v3, a function that has a form `_wide` is that form.
-
-"""
-
 
 def main():
-    """Writes the files, or compares them."""
-    wanted = {
-        "include/binary_field.h": header(),
-        "python/binary_field/_functions.py": python_functions(),
-        "python/binary_field/_fields.py": python_fields(),
-        "rust/src/functions.rs": rust_functions(),
-    }
-    for place, text in wanted.items():
-        path = TOP / place
-        if "--check" in sys.argv[1:]:
-            if not path.exists() or path.read_text(encoding="utf-8") != text:
-                sys.exit(f"{path} is not what this script writes")
-        else:
-            path.parent.mkdir(parents=True, exist_ok=True)
-            path.write_text(text, encoding="utf-8")
+    files.keep("include/binary_field.h", header())
 
 
 if __name__ == "__main__":

@@ -16,7 +16,10 @@ import pathlib
 import re
 import sys
 
-FIELDS = ["gf2", "t2", "t4", "t8", "t16", "t32", "t64", "t128", "r8", "p64", "g128", "p192"]
+import fields
+import files
+
+FIELDS = [it.name for it in fields.FIELDS]
 OPERATIONS = ["add", "mul", "square", "inv", "sqrt"]
 ERRORS = [f"error {number}" for number in range(1, 7)]
 ANSWERED = 57
@@ -24,7 +27,7 @@ REFUSED = 20
 # The worked example, which has an empty line and no line feed at its end.
 EXAMPLE = b"t8 mul 10 10\n\nt8 inv 00"
 EXAMPLE_ANSWERS = "41\nerror 1\nnone\n"
-FOLDER = pathlib.Path(__file__).resolve().parent.parent / "crates/binfield"
+FOLDER = files.CRATES / "binfield"
 
 
 def kind_of(line, answer):
@@ -80,7 +83,7 @@ def check():
 
 
 def main():
-    if sys.argv[1:] == ["--check"]:
+    if files.is_check():
         return check()
     lines, answers = sys.argv[1:]
     rows = chosen(rows_of(*read(lines, answers)))

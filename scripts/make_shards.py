@@ -6,33 +6,24 @@ by Lagrange's formula as the crate does. Of six shards one is left out, and one 
 """
 
 import hashlib
-import pathlib
 import sys
 
-DATA = pathlib.Path(__file__).resolve().parent.parent / "crates" / "shards" / "data"
+import files
+import polynomials
+
+DATA = files.CRATES / "shards/data"
 K, M = 4, 2
 MISSING, DAMAGED = 1, 3
 
 
 def multiply(a, b):
-    """The product of two bytes modulo x^8 + x^4 + x^3 + x^2 + 1."""
-    product = 0
-    while b:
-        if b & 1:
-            product ^= a
-        a <<= 1
-        if a >> 8:
-            a ^= 0x11D
-        b >>= 1
-    return product
+    """The product of two bytes."""
+    return polynomials.multiply(polynomials.CODES, a, b)
 
 
 def power(a, n):
     """A byte to the power n."""
-    result = 1
-    for _ in range(n):
-        result = multiply(result, a)
-    return result
+    return polynomials.power(polynomials.CODES, a, n)
 
 
 def inverse(rows):
@@ -78,21 +69,16 @@ def file_of(index, shard, length):
 
 def main():
     content = "".join(f"Line {i} of a letter in shards.\n" for i in range(1, 31)).encode()
-    files = {}
+    names = set()
     for index, shard in enumerate(shards_of(content)):
         if index != MISSING:
             file = bytearray(file_of(index, shard, len(content)))
             if index == DAMAGED:
                 file[100] ^= 1
-            files[f"letter.{index}"] = bytes(file)
-    if "--check" in sys.argv[1:]:
-        found = {path.name: path.read_bytes() for path in DATA.iterdir()}
-        if found != files:
-            sys.exit(f"{DATA} is not what this script writes")
-        return
-    DATA.mkdir(exist_ok=True)
-    for name, file in files.items():
-        (DATA / name).write_bytes(file)
+            names.add(f"letter.{index}")
+            files.keep(DATA / f"letter.{index}", bytes(file))
+    if {it.name for it in DATA.iterdir()} != names:
+        sys.exit(f"{DATA} has other files than {', '.join(sorted(names))}")
 
 
 if __name__ == "__main__":

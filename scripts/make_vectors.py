@@ -23,9 +23,12 @@ import pathlib
 import re
 import sys
 
-TOP = pathlib.Path(__file__).resolve().parent.parent
-FOLDER = TOP / "crates/replay_calls"
-LIBRARY = TOP / "tests/replayed_calls.txt"
+import fields
+import files
+import polynomials
+
+FOLDER = files.CRATES / "replay_calls"
+LIBRARY = files.TOP / "tests/replayed_calls.txt"
 FIELDS = ["t16", "g128"]
 # How many rows are kept of the products by the root and of the elements that change their basis, and the lengths of the polynomials.
 PRODUCTS_BY_ROOT = 6
@@ -85,11 +88,11 @@ WORKED_CALLS = [
 CALLS = {"t16": 18, "g128": 27}
 HEAD = """\
 # Calls of the library, and in stdout their answers by the Rust crate p3-binary-field 0.8.0; drawn from the seed {seed}.
-# Written by scripts/make_vectors.py; do not edit.
+# {written}
 """
 LIBRARY_HEAD = """\
 # Calls of the C library, and what they have to leave by the Rust crate p3-binary-field 0.8.0; drawn from the seed {seed}.
-# Written by scripts/make_vectors.py; do not edit.
+# {written}
 """
 
 
@@ -187,10 +190,10 @@ def conversions(vectors, name):
 
 @library_section("changes of basis", 6)
 def changes_of_basis(vectors):
-    for tower, name in (("t8", "r8"), ("t64", "p64"), ("t128", "g128")):
-        elements, images = map(listed, zip(*conversions(vectors, name)))
-        yield f"{tower}_to_{name} {elements} {images}"
-        yield f"{name}_to_{tower} {images} {elements}"
+    for field in filter(lambda it: it.modulus, fields.FIELDS):
+        elements, images = map(listed, zip(*conversions(vectors, field.name)))
+        yield f"{field.partner.name}_to_{field.name} {elements} {images}"
+        yield f"{field.name}_to_{field.partner.name} {images} {elements}"
 
 
 def drawn_words(seed):
@@ -210,12 +213,8 @@ def results_of(row):
     elements, results = [], []
     for _ in range(row["len"]):
         element = next(words) | next(words) << 64
-        result = 0
-        for bit, image in enumerate(images):
-            if element >> bit & 1:
-                result ^= image
         elements.append(f"{element:x}")
-        results.append(f"{result:032x}")
+        results.append(f"{polynomials.image(images, element):032x}")
     if hashlib.sha256(bytes.fromhex("".join(results))).hexdigest() != row["sha256_of_be_bytes"]:
         sys.exit("the results of the linear map are others")
     return elements, results
@@ -346,7 +345,7 @@ def chosen(vectors):
 
 def texts_of(sections, seed):
     """The two files. A line that begins with `#` stands in both."""
-    calls = answers = HEAD.format(seed=seed)
+    calls = answers = HEAD.format(seed=seed, written=files.generated("make_vectors.py"))
     for name, rows in sections.items():
         heading = f"# {name}\n"
         calls += heading + "".join(f"{call}\n" for call, _ in rows)
@@ -361,7 +360,7 @@ def chosen_of_library(vectors):
 
 def library_text(sections, seed):
     lines = "".join(f"# {name}\n" + "".join(f"{call}\n" for call in calls) for name, calls in sections.items())
-    return LIBRARY_HEAD.format(seed=seed) + lines
+    return LIBRARY_HEAD.format(seed=seed, written=files.generated("make_vectors.py")) + lines
 
 
 def read(calls, answers):
@@ -418,7 +417,7 @@ def check_library(text):
 
 
 def main():
-    if sys.argv[1:] == ["--check"]:
+    if files.is_check():
         return check()
     [path] = sys.argv[1:]
     vectors = json.loads(pathlib.Path(path).read_text(encoding="ascii"))

@@ -118,7 +118,7 @@ def evaluated(field, coefficients, points):
 
 def basis_cases(draw):
     """Changes of basis and linear maps."""
-    for tower, polynomials in (("t8", "r8"), ("t64", "p64"), ("t128", "g128")):
+    for polynomials, tower in ((it.name, it.partner.name) for it in definitions.fields.FIELDS if it.modulus):
         field = FIELDS[tower]
         for inverted, (a, b) in enumerate([(tower, polynomials), (polynomials, tower)]):
             images = definitions.columns(field.bits, inverted)

@@ -12,7 +12,7 @@ import numpy as np
 
 import binary_field as bf
 
-FIELDS = {name: getattr(bf, title) for name, title in definitions.make_c_header.CLASSES.items()}
+FIELDS = {it.name: getattr(bf, it.type_name) for it in definitions.fields.FIELDS}
 
 
 def every_field():

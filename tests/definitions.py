@@ -11,22 +11,17 @@ import sys
 TOP = pathlib.Path(__file__).resolve().parent.parent
 sys.path.insert(0, str(TOP / "scripts"))
 import c_library
-import make_basis
-import make_c_header
+import cantor
+import fields
 import make_shards
+import polynomials
 import tower
 
 # Products of small elements come again and again in one of a large level.
 tower.multiply = functools.lru_cache(1 << 16)(tower.multiply)
 
-MODULI = {"r8": 0x11B, "p64": 1 << 64 | 0x1B, "g128": 1 << 128 | 0x87}
-# The generators that the library names; `has_full_order` says whether one is a generator.
-GENERATORS = {
-    "gf2": 1, "t2": 2, "t4": 5, "t8": 0x13, "t16": 0x102, "t32": 0x1_0005, "t64": 0x1_0000_0004, "t128": 0x1_0000_0000_0000_0005,
-    "r8": 0x88, "p64": 0xC313_D8D1_BFAE_2150, "g128": 0xE5A5_755A_D217_F07D_1DA7_0A74_7203_D630, "p192": 5 | 3 << 64 | 1 << 128,
-}
 # What bf_version returns.
-VERSION = make_c_header.VERSION[0] << 16 | make_c_header.VERSION[1] << 8 | make_c_header.VERSION[2]
+VERSION = fields.VERSION_NUMBER
 # The primes that divide 2^n - 1 for the degrees n of the fields.
 PRIMES = [3, 5, 7, 13, 17, 97, 193, 241, 257, 641, 673, 65537, 274177, 6700417, 22253377, 67280421310721, 18446744069414584321]
 
@@ -34,30 +29,13 @@ PRIMES = [3, 5, 7, 13, 17, 97, 193, 241, 257, 641, 673, 65537, 274177, 6700417, 
 class Field:
     """A field by its product."""
 
-    def __init__(self, name, word, bits):
-        self.name, self.word, self.bits = name, word, bits
-        self.modulus = MODULI.get(name)
-        self.generator = GENERATORS[name]
+    def __init__(self, row):
+        self.row = row
+        self.name, self.word, self.bits, self.generator = row.name, row.word, row.bits, row.generator
 
     def multiply(self, a, b):
         """The product: in the tower by halves, else modulo the field's polynomial."""
-        if self.modulus:
-            return make_basis.multiply(self.bits, self.modulus, a, b)
-        if self.name == "p192":
-            return self.cubic_product(a, b)
-        return tower.multiply(self.bits.bit_length() - 1, a, b)
-
-    @staticmethod
-    def cubic_product(a, b):
-        """The product over p64, with y^3 = y + 1 and y^4 = y^2 + y."""
-        parts = [0] * 5
-        for i in range(3):
-            for j in range(3):
-                parts[i + j] ^= FIELDS["p64"].multiply(a >> 64 * i & MASK_64, b >> 64 * j & MASK_64)
-        for i in (4, 3):
-            parts[i - 2] ^= parts[i]
-            parts[i - 3] ^= parts[i]
-        return parts[0] | parts[1] << 64 | parts[2] << 128
+        return self.row.multiply(a, b)
 
     def square(self, a):
         return self.multiply(a, a)
@@ -95,7 +73,7 @@ class Field:
     @functools.cache
     def square_root(self, a):
         """The element whose square is `a`: the sum, over its bits, of the roots of the powers of two."""
-        root = make_basis.literals.image(self.roots, a)
+        root = polynomials.image(self.roots, a)
         assert self.square(root) == a
         return root
 
@@ -109,8 +87,7 @@ class Field:
         return self.power(a, order) == 1 and all(self.power(a, order // it) != 1 for it in PRIMES if order % it == 0)
 
 
-MASK_64 = (1 << 64) - 1
-FIELDS = {name: Field(name, word, bits) for name, word, bits, _ in c_library.FIELDS}
+FIELDS = {it.name: Field(it) for it in fields.FIELDS}
 GHASH = FIELDS["g128"]
 
 
@@ -132,14 +109,13 @@ def running(values, step, first):
 
 def columns(width, inverted):
     """The images of the bits of a level of the tower in the polynomial basis of the same degree, or those back."""
-    _, modulus, images, _ = next(it for it in make_basis.FIELDS if it[0] == width)
-    found = make_basis.columns_of(width, modulus, images)
-    return make_basis.inverse_of(found) if inverted else found
+    found = next(it for it in fields.FIELDS if it.modulus and it.bits == width).columns
+    return polynomials.inverse_of(found) if inverted else found
 
 
 def linear_map(images, value):
     """The sum of the images at the set bits."""
-    return make_basis.literals.image(images, value)
+    return polynomials.image(images, value)
 
 
 # ---- additive transforms over g128
@@ -147,13 +123,8 @@ def linear_map(images, value):
 
 @functools.cache
 def cantor_vectors():
-    """The vectors of the tower by their rule, the even solution each, and their images."""
-    import make_cantor
-
-    rows, vectors = make_cantor.reduced_images(), [1]
-    while len(vectors) < 128:
-        vectors.append(make_cantor.even_solution(rows, vectors[-1]))
-    return [linear_map(columns(128, False), it) for it in vectors]
+    """The images of the vectors of the tower."""
+    return [linear_map(columns(128, False), it) for it in cantor.vectors()]
 
 
 def subspace_values(x, count):
@@ -235,8 +206,8 @@ def polyval(key, message):
     inverse = 1 << 127 | 1 << 124 | 1 << 121 | 1 << 114 | 1
     s = 0
     for block in blocks(message):
-        s = make_basis.multiply(128, modulus, s ^ int.from_bytes(block, "little"), int.from_bytes(key, "little"))
-        s = make_basis.multiply(128, modulus, s, inverse)
+        s = polynomials.multiply(modulus, s ^ int.from_bytes(block, "little"), int.from_bytes(key, "little"))
+        s = polynomials.multiply(modulus, s, inverse)
     return s.to_bytes(16, "little")
 
 

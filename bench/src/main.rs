@@ -3,6 +3,11 @@
 //! turn.
 
 mod arithmetic;
+// The declarations of the library's functions, which are private in the crate over it.
+#[allow(dead_code)]
+#[path = "../../rust/src/functions.rs"]
+#[rustfmt::skip]
+mod functions;
 mod ours;
 #[cfg(feature = "rust_crate")]
 mod theirs;

@@ -2,7 +2,7 @@
 //! which is how a `u128` lies in memory here.
 
 use crate::arithmetic::{Arithmetic, ByteMaps, Cubic, Polynomials, Stages};
-use binary_field::functions::*;
+use crate::functions::*;
 use binary_field::{Error, Ghash128, ReedSolomon};
 
 /// A call of a function that reads slices and writes one, whose status is asserted.

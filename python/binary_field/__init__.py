@@ -25,9 +25,9 @@ from ._fields import (
     Poly192,
     Rijndael8b,
 )
+from ._functions import VERSION_TEXT as __version__
 from ._transforms import butterfly_forward, butterfly_inverse, inverse_transform, linear_map, low_stages, transform, transform_points
 
-__version__ = "0.1.0"
 __all__ = [
     "BinaryField128", "BinaryField16", "BinaryField2", "BinaryField32", "BinaryField4", "BinaryField64", "BinaryField8", "FieldArray",
     "Gf2", "Ghash128", "Poly192", "Poly64", "ReedSolomon", "Rijndael8b", "butterfly_forward", "butterfly_inverse", "gcm_ghash", "ghash",

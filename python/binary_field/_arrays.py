@@ -11,10 +11,6 @@ from ._library import WORDS, call
 
 A = TypeVar("A", bound="FieldArray")
 
-# The isomorphic fields: a level of the tower and the polynomial basis of its degree.
-_PARTNERS = {"t8": "r8", "r8": "t8", "t64": "p64", "p64": "t64", "t128": "g128", "g128": "t128"}
-# Where inverses one by one cost more than three products an element.
-_BATCHED = ("p64", "g128")
 # An array of more elements is printed by its first and last three.
 _PRINTED = 1000
 _UFUNCS: dict[np.ufunc, Callable] = {}
@@ -54,6 +50,10 @@ class FieldArray(metaclass=_Constants):
     degree: int
     _name: str
     _word: str
+    # The isomorphic field: a level of the tower, or the polynomial basis of its degree.
+    _partner: str | None = None
+    # Whether inverses one by one cost more than three products an element.
+    _is_batched = False
     _words: np.ndarray
 
     __hash__ = None  # type: ignore[assignment]
@@ -162,7 +162,7 @@ class FieldArray(metaclass=_Constants):
         """The images in a field: this one, or the isomorphic one in the other basis."""
         if field is type(self):
             return self  # type: ignore[return-value]
-        if _PARTNERS.get(self._name) != field._name:
+        if self._partner != field._name:
             raise TypeError(f"the library has no change of basis from {type(self).__name__} to {field.__name__}")
         result = field._empty(self.shape)
         call(f"{self._name}_to_{field._name}", self._words, result._words)
@@ -360,7 +360,7 @@ class FieldArray(metaclass=_Constants):
 
     def inverse_or_zero(self: A) -> A:
         """The inverse of each element, and 0 for 0."""
-        return self._each("batch_inverse" if self._name in _BATCHED else "inverse")
+        return self._each("batch_inverse" if self._is_batched else "inverse")
 
     def reciprocal(self: A) -> A:
         """The inverse of each element; ZeroDivisionError where one is 0."""

@@ -1,4 +1,4 @@
-"""The fields, each a class of arrays. Written by scripts/make_c_header.py from scripts/c_library.py; do not edit."""
+"""The fields, each a class of arrays. Written by scripts/make_bindings.py; do not edit."""
 
 from ._arrays import FieldArray
 
@@ -33,6 +33,7 @@ class BinaryField8(FieldArray):
     degree = 8
     _name = "t8"
     _word = "u8"
+    _partner = "r8"
 
 
 class BinaryField16(FieldArray):
@@ -57,6 +58,7 @@ class BinaryField64(FieldArray):
     degree = 64
     _name = "t64"
     _word = "u64"
+    _partner = "p64"
 
 
 class BinaryField128(FieldArray):
@@ -65,6 +67,7 @@ class BinaryField128(FieldArray):
     degree = 128
     _name = "t128"
     _word = "u128"
+    _partner = "g128"
 
 
 class Rijndael8b(FieldArray):
@@ -73,6 +76,7 @@ class Rijndael8b(FieldArray):
     degree = 8
     _name = "r8"
     _word = "u8"
+    _partner = "t8"
 
 
 class Poly64(FieldArray):
@@ -81,6 +85,8 @@ class Poly64(FieldArray):
     degree = 64
     _name = "p64"
     _word = "u64"
+    _partner = "t64"
+    _is_batched = True
 
 
 class Ghash128(FieldArray):
@@ -89,6 +95,8 @@ class Ghash128(FieldArray):
     degree = 128
     _name = "g128"
     _word = "u128"
+    _partner = "t128"
+    _is_batched = True
 
 
 class Poly192(FieldArray):

@@ -1,7 +1,8 @@
-"""The functions of libbinary_field. Written by scripts/make_c_header.py from scripts/c_library.py; do not edit."""
+"""The functions of libbinary_field. Written by scripts/make_bindings.py; do not edit."""
 
-# The version that this package belongs to.
+# The version that this package belongs to, as bf_version returns it and as people write it.
 VERSION = 256
+VERSION_TEXT = "0.1.0"
 
 # The name of each status, and its sentence.
 STATUSES: dict[int, tuple[str, str]] = {

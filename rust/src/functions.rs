@@ -1,4 +1,4 @@
-//! The functions of libbinary_field. Written by scripts/make_c_header.py from scripts/c_library.py; do not edit.
+//! The functions of libbinary_field. Written by scripts/make_bindings.py; do not edit.
 //!
 //! An array is a pointer, which may be null beside a length of 0, and a length that counts elements. What is written overlaps
 //! nothing else of the call. On a status that is not `BF_OK` everything that a function could write is as before. Where the library was
@@ -18,8 +18,6 @@ pub const BF_CODE: u32 = 4;
 pub const BF_TOO_FEW_SHARDS: u32 = 5;
 
 unsafe extern "C" {
-    /// The version of the library, 65536 times the major number, 256 times the minor one, and the patch.
-    pub fn bf_version() -> u32;
     /// sums: the sum of the elements at each place. BF_LENGTH unless left, right and sums have one length.
     /// BF_NOT_AN_ELEMENT unless each word that is read is below 2.
     pub fn bf_gf2_add(
@@ -1467,82 +1465,5 @@ unsafe extern "C" {
         shards_length: usize,
         present: *const u8,
         present_length: usize,
-    ) -> u32;
-    /// products: the same as g128_multiply, made for x86-64-v3. BF_LENGTH unless left, right and products have one
-    /// length.
-    pub fn bf_g128_multiply_wide(
-        left: *const [u64; 2],
-        left_length: usize,
-        right: *const [u64; 2],
-        right_length: usize,
-        products: *mut [u64; 2],
-        products_length: usize,
-    ) -> u32;
-    /// products: the same as g128_multiply_by, made for x86-64-v3. BF_LENGTH unless values and products have one
-    /// length.
-    pub fn bf_g128_multiply_by_wide(
-        values: *const [u64; 2],
-        values_length: usize,
-        scalar: *const [u64; 2],
-        products: *mut [u64; 2],
-        products_length: usize,
-    ) -> u32;
-    /// The same as g128_add_scaled, made for x86-64-v3. BF_LENGTH unless sums and values have one length.
-    pub fn bf_g128_add_scaled_wide(
-        sums: *mut [u64; 2],
-        sums_length: usize,
-        scalar: *const [u64; 2],
-        values: *const [u64; 2],
-        values_length: usize,
-    ) -> u32;
-    /// sum: the same as g128_dot_product, made for x86-64-v3. BF_LENGTH unless left and right have one length.
-    pub fn bf_g128_dot_product_wide(
-        left: *const [u64; 2],
-        left_length: usize,
-        right: *const [u64; 2],
-        right_length: usize,
-        sum: *mut [u64; 2],
-    ) -> u32;
-    /// The same as g128_butterfly_forward, made for x86-64-v3. BF_LENGTH unless low and high have one length.
-    pub fn bf_g128_butterfly_forward_wide(
-        low: *mut [u64; 2],
-        low_length: usize,
-        high: *mut [u64; 2],
-        high_length: usize,
-        scalar: *const [u64; 2],
-    ) -> u32;
-    /// The same as g128_butterfly_inverse, made for x86-64-v3. BF_LENGTH unless low and high have one length.
-    pub fn bf_g128_butterfly_inverse_wide(
-        low: *mut [u64; 2],
-        low_length: usize,
-        high: *mut [u64; 2],
-        high_length: usize,
-        scalar: *const [u64; 2],
-    ) -> u32;
-    /// The same as g128_low_stages, made for x86-64-v3. BF_LENGTH unless values has a multiple of 16, shifts 4 and
-    /// basis 3 to 128; where there are values, first_run and the number of runs are together at most 2 to the power
-    /// of 3 less than the length of basis.
-    pub fn bf_g128_low_stages_wide(
-        values: *mut [u64; 2],
-        values_length: usize,
-        shifts: *const [u64; 2],
-        shifts_length: usize,
-        basis: *const [u64; 2],
-        basis_length: usize,
-        first_run: u64,
-    ) -> u32;
-    /// The same as g128_transform, made for x86-64-v3. BF_LENGTH unless values has 2^m elements, for an m from 0 to
-    /// 40.
-    pub fn bf_g128_transform_wide(
-        values: *mut [u64; 2],
-        values_length: usize,
-        shift: *const [u64; 2],
-    ) -> u32;
-    /// The same as g128_inverse_transform, made for x86-64-v3. BF_LENGTH unless values has 2^m elements, for an m
-    /// from 0 to 40.
-    pub fn bf_g128_inverse_transform_wide(
-        values: *mut [u64; 2],
-        values_length: usize,
-        shift: *const [u64; 2],
     ) -> u32;
 }

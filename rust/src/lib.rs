@@ -24,13 +24,16 @@
 //! ```
 #![no_std]
 
-#[rustfmt::skip]
-pub mod functions;
+#[macro_use]
+mod field_macros;
 
 mod bytes;
 mod error;
 mod field;
+#[rustfmt::skip]
 mod fields;
+#[rustfmt::skip]
+mod functions;
 mod maps;
 
 pub use bytes::{ReedSolomon, gcm_ghash, ghash, polyval, tags_are_equal};

@@ -1,4 +1,5 @@
 // Calls over slices of elements of a level of the tower, and of their images in a field of polynomials.
+// Written by scripts/make_c_exports.py; do not edit.
 ghost use Rattle.field_base.specs.Basis.{aes_images, basis_image, ghash_images, poly64_images};
 ghost use Rattle.field_base.specs.Remainder.{aes_modulus, ghash_modulus, poly64_modulus};
 ghost use Rattle.c_arithmetic.specs.Calls.{TakesImages, TakesPreimages};
@@ -6,7 +7,7 @@ ghost use Rattle.c_arithmetic.specs.Fields.{itself, wide_number};
 
 use c_arithmetic::{Ghash, Poly64, Rijndael, Wide, slices};
 
-/// The image in r8 of each element of t8.
+/// The image in r8 of each element of t8, by the isomorphism of the two fields.
 #[unsafe(no_mangle)]
 pub extern "C" fn bf_t8_to_r8(values: &[u8], images: &mut [u8]) -> u32
     ensures { TakesImages itself (basis_image 8 aes_modulus aes_images) values.now images.old images.new result }
@@ -14,7 +15,7 @@ pub extern "C" fn bf_t8_to_r8(values: &[u8], images: &mut [u8]) -> u32
     slices::from_tower::<u8, Rijndael>(values, images)
 }
 
-/// The element of t8 whose image in r8 each element is.
+/// The image in t8 of each element of r8, by the isomorphism of the two fields.
 #[unsafe(no_mangle)]
 pub extern "C" fn bf_r8_to_t8(values: &[u8], images: &mut [u8]) -> u32
     ensures { TakesPreimages itself (basis_image 8 aes_modulus aes_images) values.now images.old images.new result }
@@ -22,7 +23,7 @@ pub extern "C" fn bf_r8_to_t8(values: &[u8], images: &mut [u8]) -> u32
     slices::to_tower::<u8, Rijndael>(values, images)
 }
 
-/// The image in p64 of each element of t64.
+/// The image in p64 of each element of t64, by the isomorphism of the two fields.
 #[unsafe(no_mangle)]
 pub extern "C" fn bf_t64_to_p64(values: &[u64], images: &mut [u64]) -> u32
     ensures { TakesImages itself (basis_image 64 poly64_modulus poly64_images) values.now images.old images.new result }
@@ -30,7 +31,7 @@ pub extern "C" fn bf_t64_to_p64(values: &[u64], images: &mut [u64]) -> u32
     slices::from_tower::<u64, Poly64>(values, images)
 }
 
-/// The element of t64 whose image in p64 each element is.
+/// The image in t64 of each element of p64, by the isomorphism of the two fields.
 #[unsafe(no_mangle)]
 pub extern "C" fn bf_p64_to_t64(values: &[u64], images: &mut [u64]) -> u32
     ensures { TakesPreimages itself (basis_image 64 poly64_modulus poly64_images) values.now images.old images.new result }
@@ -38,7 +39,7 @@ pub extern "C" fn bf_p64_to_t64(values: &[u64], images: &mut [u64]) -> u32
     slices::to_tower::<u64, Poly64>(values, images)
 }
 
-/// The image in g128 of each element of t128.
+/// The image in g128 of each element of t128, by the isomorphism of the two fields.
 #[unsafe(no_mangle)]
 pub extern "C" fn bf_t128_to_g128(values: &[Wide], images: &mut [Wide]) -> u32
     ensures { TakesImages wide_number (basis_image 128 ghash_modulus ghash_images) values.now images.old images.new result }
@@ -46,7 +47,7 @@ pub extern "C" fn bf_t128_to_g128(values: &[Wide], images: &mut [Wide]) -> u32
     slices::from_tower::<Wide, Ghash>(values, images)
 }
 
-/// The element of t128 whose image in g128 each element is.
+/// The image in t128 of each element of g128, by the isomorphism of the two fields.
 #[unsafe(no_mangle)]
 pub extern "C" fn bf_g128_to_t128(values: &[Wide], images: &mut [Wide]) -> u32
     ensures { TakesPreimages wide_number (basis_image 128 ghash_modulus ghash_images) values.now images.old images.new result }

@@ -1,6 +1,7 @@
 // Calls over slices of elements of GF(2)[x] modulo x^128 + x^7 + x^2 + x + 1, the field of GHASH (NIST SP 800-38D), bit i for x^i.
-ghost use Rattle.c_arithmetic.specs.Calls.{Adds, AddsScaled, Evaluates, Inverts, Multiplies, MultipliesBy, NamesGenerator};
-ghost use Rattle.c_arithmetic.specs.Calls.{RaisesTo, Squares, TakesDotProduct, TakesProduct, TakesRoots};
+// Written by scripts/make_c_exports.py; do not edit.
+ghost use Rattle.c_arithmetic.specs.Calls.{Adds, AddsScaled, Evaluates, Inverts, Multiplies, MultipliesBy, NamesGenerator, RaisesTo};
+ghost use Rattle.c_arithmetic.specs.Calls.{Squares, TakesDotProduct, TakesProduct, TakesRoots};
 ghost use Rattle.c_arithmetic.specs.Fields.{ghash_field};
 
 use c_arithmetic::{Ghash, Wide, batch_invert, slices};

@@ -1,15 +1,16 @@
 // Calls that map words linearly.
+// Written by scripts/make_c_exports.py; do not edit.
 ghost use Rattle.c_arithmetic.specs.Linear.{MapsLinearly};
 ghost use Rattle.c_arithmetic.specs.Fields.{itself, wide_number};
 
-use c_arithmetic::{Wide, map_bytes, map_wide};
+use c_arithmetic::Wide;
 
 /// For each byte the sum of the images at its set bits; eight images, that of bit 0 first.
 #[unsafe(no_mangle)]
 pub extern "C" fn bf_r8_linear_map(values: &[u8], images: &[u8], mapped: &mut [u8]) -> u32
     ensures { MapsLinearly itself 8 images.now values.now mapped.old mapped.new result }
 {
-    map_bytes(values, images, mapped)
+    c_arithmetic::map_bytes(values, images, mapped)
 }
 
 /// For each word the sum of the images at its set bits; 128 images, that of bit 0 first.
@@ -17,5 +18,5 @@ pub extern "C" fn bf_r8_linear_map(values: &[u8], images: &[u8], mapped: &mut [u
 pub extern "C" fn bf_g128_linear_map(values: &[Wide], images: &[Wide], mapped: &mut [Wide]) -> u32
     ensures { MapsLinearly wide_number 128 images.now values.now mapped.old mapped.new result }
 {
-    map_wide(values, images, mapped)
+    c_arithmetic::map_wide(values, images, mapped)
 }

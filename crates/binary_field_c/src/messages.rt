@@ -1,4 +1,5 @@
 // Calls over messages.
+// Written by scripts/make_c_exports.py; do not edit.
 ghost use Rattle.std.specs.Prelude.{◌^◌, ◌<◌, length};
 ghost use Rattle.tags.specs.Blocks.{blocks_of, gcm_blocks};
 ghost use Rattle.tags.specs.Gcm.{ghash};
@@ -21,8 +22,8 @@ pub extern "C" fn bf_tag_polyval(key: &[u8], message: &[u8], hash: &mut [u8]) ->
     c_arithmetic::polyval(key, message, hash)
 }
 
-/// The hash of GCM over associated data and ciphertext, each below 2^61 bytes, with the block of their lengths; key and hash
-/// have 16 bytes.
+/// The hash of GCM over associated data and ciphertext, each below 2^61 bytes, with the block of their lengths; key and hash have 16
+/// bytes.
 #[unsafe(no_mangle)]
 pub extern "C" fn bf_tag_gcm_ghash(
     key: &[u8],
@@ -36,7 +37,7 @@ pub extern "C" fn bf_tag_gcm_ghash(
     c_arithmetic::gcm_ghash(key, associated, ciphertext, hash)
 }
 
-/// 1 where the two have the same bytes, else 0, in a time that depends on the lengths alone.
+/// 1 where the two have the same bytes, else 0.
 #[unsafe(no_mangle)]
 pub extern "C" fn bf_tags_are_equal(left: &[u8], right: &[u8], equal: &mut u8) -> u32
     ensures { Compares left.now right.now equal.new result }

@@ -1,8 +1,9 @@
 // Calls over shards, which stand one after the other and have one size: those of data, and then those of parity.
+// Written by scripts/make_c_exports.py; do not edit.
 ghost use Rattle.std.specs.Prelude.{◌+◌};
 ghost use Rattle.c_arithmetic.specs.Bytes.{Encodes, Reconstructs, Verifies};
 
-/// Writes the shards of parity.
+/// Writes the shards of parity, which stand behind those of data; all shards stand one after the other and have one size.
 #[unsafe(no_mangle)]
 pub extern "C" fn bf_rs_encode(data: u64, parity: u64, shards: &mut [u8]) -> u32
     ensures { Encodes «data» parity shards.old shards.new result }
@@ -18,7 +19,7 @@ pub extern "C" fn bf_rs_verify(data: u64, parity: u64, shards: &[u8], whole: &mu
     c_arithmetic::verify(data, parity, shards, whole)
 }
 
-/// Writes the missing shards: shard i is missing where `present[i]` is 0.
+/// Writes the missing shards: shard i is missing where present[i] is 0.
 #[unsafe(no_mangle)]
 pub extern "C" fn bf_rs_reconstruct(
     data: u64,

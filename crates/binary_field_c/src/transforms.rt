@@ -1,10 +1,11 @@
 // Calls that transform values in the field of GHASH.
+// Written by scripts/make_c_exports.py; do not edit.
 ghost use Rattle.c_arithmetic.specs.Transforms.{ButterfliesForward, ButterfliesInverse, InvertsTransform, RunsLowStages, Transforms};
 ghost use Rattle.c_arithmetic.specs.Fields.{wide_number};
 
 use c_arithmetic::Wide;
 
-/// At each place `low += scalar * high`, and then `high += low`.
+/// low += scalar * high, and then high += low, at each place.
 #[unsafe(no_mangle)]
 pub extern "C" fn bf_g128_butterfly_forward(
     low: &mut [Wide],
@@ -16,7 +17,7 @@ pub extern "C" fn bf_g128_butterfly_forward(
     c_arithmetic::butterfly_forward(low, high, *scalar)
 }
 
-/// At each place `high += low`, and then `low += scalar * high`.
+/// high += low, and then low += scalar * high, at each place.
 #[unsafe(no_mangle)]
 pub extern "C" fn bf_g128_butterfly_inverse(
     low: &mut [Wide],
@@ -28,7 +29,8 @@ pub extern "C" fn bf_g128_butterfly_inverse(
     c_arithmetic::butterfly_inverse(low, high, *scalar)
 }
 
-/// The four lowest stages of an additive transform over runs of sixteen values, the first of which is run `first_run`.
+/// The four lowest stages of an additive transform over runs of sixteen values, the first of which is run first_run; four shifts, and a
+/// basis of 3 to 128 elements, 2 to the power of three less than which is at least the number behind the last run.
 #[unsafe(no_mangle)]
 pub extern "C" fn bf_g128_low_stages(
     values: &mut [Wide],
@@ -41,7 +43,7 @@ pub extern "C" fn bf_g128_low_stages(
     c_arithmetic::low_stages(values, shifts, basis, first_run)
 }
 
-/// The value at each of 2^m points of the polynomial with these coefficients in the basis of subspace polynomials.
+/// The value at each of 2^m points, m from 0 to 40, of the polynomial with these coefficients in the basis of subspace polynomials.
 #[unsafe(no_mangle)]
 pub extern "C" fn bf_g128_transform(values: &mut [Wide], shift: &Wide) -> u32
     ensures { Transforms (wide_number shift.now) values.old values.new result }
@@ -49,7 +51,7 @@ pub extern "C" fn bf_g128_transform(values: &mut [Wide], shift: &Wide) -> u32
     c_arithmetic::transform(values, *shift)
 }
 
-/// The coefficients that `bf_g128_transform` takes to these values.
+/// The coefficients that g128_transform takes to these values.
 #[unsafe(no_mangle)]
 pub extern "C" fn bf_g128_inverse_transform(values: &mut [Wide], shift: &Wide) -> u32
     ensures { InvertsTransform (wide_number shift.now) values.old values.new result }

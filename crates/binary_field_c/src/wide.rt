@@ -1,11 +1,12 @@
 // Second forms of calls in the field of GHASH, made for x86-64-v3, whose vectors have 256 bits.
+// Written by scripts/make_c_exports.py; do not edit.
 ghost use Rattle.c_arithmetic.specs.Transforms.{ButterfliesForward, ButterfliesInverse, InvertsTransform, RunsLowStages, Transforms};
 ghost use Rattle.c_arithmetic.specs.Calls.{AddsScaled, Multiplies, MultipliesBy, TakesDotProduct};
 ghost use Rattle.c_arithmetic.specs.Fields.{ghash_field, wide_number};
 
 use c_arithmetic::Wide;
 
-/// The product of the elements at each place.
+/// The same as `bf_g128_multiply`.
 #[unsafe(no_mangle)]
 pub extern "C" fn bf_g128_multiply_wide(left: &[Wide], right: &[Wide], products: &mut [Wide]) -> u32
     ensures { Multiplies ghash_field left.now right.now products.old products.new result }
@@ -13,7 +14,7 @@ pub extern "C" fn bf_g128_multiply_wide(left: &[Wide], right: &[Wide], products:
     c_arithmetic::multiply_wide(left, right, products)
 }
 
-/// The product of each element and the scalar.
+/// The same as `bf_g128_multiply_by`.
 #[unsafe(no_mangle)]
 pub extern "C" fn bf_g128_multiply_by_wide(
     values: &[Wide],
@@ -25,7 +26,7 @@ pub extern "C" fn bf_g128_multiply_by_wide(
     c_arithmetic::multiply_by_wide(values, *scalar, products)
 }
 
-/// Adds to each element of sums the scalar times the value at its place.
+/// The same as `bf_g128_add_scaled`.
 #[unsafe(no_mangle)]
 pub extern "C" fn bf_g128_add_scaled_wide(sums: &mut [Wide], scalar: &Wide, values: &[Wide]) -> u32
     ensures { AddsScaled ghash_field scalar.now values.now sums.old sums.new result }
@@ -33,7 +34,7 @@ pub extern "C" fn bf_g128_add_scaled_wide(sums: &mut [Wide], scalar: &Wide, valu
     c_arithmetic::add_scaled_wide(sums, *scalar, values)
 }
 
-/// The sum of the products at each place, 0 of none.
+/// The same as `bf_g128_dot_product`.
 #[unsafe(no_mangle)]
 pub extern "C" fn bf_g128_dot_product_wide(left: &[Wide], right: &[Wide], sum: &mut Wide) -> u32
     ensures { TakesDotProduct ghash_field left.now right.now sum.old sum.new result }
@@ -41,7 +42,7 @@ pub extern "C" fn bf_g128_dot_product_wide(left: &[Wide], right: &[Wide], sum: &
     c_arithmetic::dot_product_wide(left, right, sum)
 }
 
-/// At each place `low += scalar * high`, and then `high += low`.
+/// The same as `bf_g128_butterfly_forward`.
 #[unsafe(no_mangle)]
 pub extern "C" fn bf_g128_butterfly_forward_wide(
     low: &mut [Wide],
@@ -53,7 +54,7 @@ pub extern "C" fn bf_g128_butterfly_forward_wide(
     c_arithmetic::butterfly_forward_wide(low, high, *scalar)
 }
 
-/// At each place `high += low`, and then `low += scalar * high`.
+/// The same as `bf_g128_butterfly_inverse`.
 #[unsafe(no_mangle)]
 pub extern "C" fn bf_g128_butterfly_inverse_wide(
     low: &mut [Wide],
@@ -65,7 +66,7 @@ pub extern "C" fn bf_g128_butterfly_inverse_wide(
     c_arithmetic::butterfly_inverse_wide(low, high, *scalar)
 }
 
-/// The four lowest stages of an additive transform over runs of sixteen values, the first of which is run `first_run`.
+/// The same as `bf_g128_low_stages`.
 #[unsafe(no_mangle)]
 pub extern "C" fn bf_g128_low_stages_wide(
     values: &mut [Wide],
@@ -78,7 +79,7 @@ pub extern "C" fn bf_g128_low_stages_wide(
     c_arithmetic::low_stages_wide(values, shifts, basis, first_run)
 }
 
-/// The value at each of 2^m points of the polynomial with these coefficients in the basis of subspace polynomials.
+/// The same as `bf_g128_transform`.
 #[unsafe(no_mangle)]
 pub extern "C" fn bf_g128_transform_wide(values: &mut [Wide], shift: &Wide) -> u32
     ensures { Transforms (wide_number shift.now) values.old values.new result }
@@ -86,7 +87,7 @@ pub extern "C" fn bf_g128_transform_wide(values: &mut [Wide], shift: &Wide) -> u
     c_arithmetic::transform_wide(values, *shift)
 }
 
-/// The coefficients that `bf_g128_transform` takes to these values.
+/// The same as `bf_g128_inverse_transform`.
 #[unsafe(no_mangle)]
 pub extern "C" fn bf_g128_inverse_transform_wide(values: &mut [Wide], shift: &Wide) -> u32
     ensures { InvertsTransform (wide_number shift.now) values.old values.new result }

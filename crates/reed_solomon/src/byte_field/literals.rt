@@ -1,4 +1,4 @@
-// Tables of the bytes of erasure codes. Written by scripts/make_erasure.py; do not edit.
+// Tables of the bytes of erasure codes. Written by scripts/make-tables; do not edit.
 
 // 2 to the power of the place, which is 0 from 511 on.
 #[rattlefmt::skip]

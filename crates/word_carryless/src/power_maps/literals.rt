@@ -1,4 +1,4 @@
-// Power maps modulo x^128 + x^7 + x^2 + x + 1. Written by scripts/make_power_maps.py; do not edit.
+// Power maps modulo x^128 + x^7 + x^2 + x + 1. Written by scripts/make-tables; do not edit.
 
 // Entry j is x^j, squared 28 times.
 #[rattlefmt::skip]

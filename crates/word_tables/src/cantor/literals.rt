@@ -1,4 +1,4 @@
-// The Cantor vectors. Written by scripts/make_cantor.py; do not edit.
+// The Cantor vectors. Written by scripts/make-tables; do not edit.
 
 // The Cantor vector of the place.
 #[rattlefmt::skip]

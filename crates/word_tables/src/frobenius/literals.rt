@@ -1,4 +1,4 @@
-// Repeated squares by digits to base 16. Written by scripts/make_frobenius.py; do not edit.
+// Repeated squares by digits to base 16. Written by scripts/make-tables; do not edit.
 
 // Entry 16 r + d is d 16^r squared once in GF(2^128).
 #[rattlefmt::skip]

@@ -1,4 +1,4 @@
-// From the tower to polynomials, by bytes. Written by scripts/make_basis.py; do not edit.
+// From the tower to polynomials, by bytes. Written by scripts/make-tables; do not edit.
 
 // Entry 256 j + b is the image of b 2^(8 j) modulo x^8 + x^4 + x^3 + x + 1.
 #[rattlefmt::skip]

@@ -1,4 +1,4 @@
-// From polynomials to the tower, by bytes. Written by scripts/make_basis.py; do not edit.
+// From polynomials to the tower, by bytes. Written by scripts/make-tables; do not edit.
 
 // Entry 256 j + b has the image b 2^(8 j) modulo x^8 + x^4 + x^3 + x + 1.
 #[rattlefmt::skip]

@@ -1,4 +1,4 @@
-// Tables of the bytes of AES. Written by scripts/make_rijndael.py; do not edit.
+// Tables of the bytes of AES. Written by scripts/make-tables; do not edit.
 
 // 0x88 to the power of the place, which is 0 from 511 on.
 #[rattlefmt::skip]

@@ -1,4 +1,4 @@
-// Squares and square roots by bytes. Written by scripts/make_linear.py; do not edit.
+// Squares and square roots by bytes. Written by scripts/make-tables; do not edit.
 
 // Entry 256 j + b is the square of b 2^(8 j) in GF(2^16).
 #[rattlefmt::skip]

@@ -1,4 +1,4 @@
-// Tables of GF(2^8), level 3 of the tower. Written by scripts/make_tables.py; do not edit.
+// Tables of GF(2^8), level 3 of the tower. Written by scripts/make-tables; do not edit.
 
 // 0x13 to the power of the place.
 #[rattlefmt::skip]

@@ -1,11 +1,6 @@
-#!/usr/bin/env python3
-"""Writes the Cantor vectors, crates/word_tables/src/cantor/literals.rt. With --check it compares instead.
+"""The Cantor vectors of the tower: vector 0 is 1, and v^2 + v of each other vector v is the one before. Of the two solutions, which
+differ by 1, the even one is taken."""
 
-The vector 0 is 1, and v^2 + v of each other vector v is the one before. Of the two solutions, which differ by 1, the
-even one is taken.
-"""
-
-import literals
 import tower
 
 LEVEL = 7
@@ -38,16 +33,9 @@ def even_solution(rows, value):
     return solution & ~1
 
 
-def main():
-    rows = reduced_images()
-    vectors = [1]
-    while len(vectors) < BITS:
-        vectors.append(even_solution(rows, vectors[-1]))
-    head = "// The Cantor vectors. Written by scripts/make_cantor.py; do not edit.\n"
-    comment = "The Cantor vector of the place."
-    arrays = [literals.array(comment, "VECTORS", 128, vectors)]
-    literals.write("word_tables/src/cantor/literals.rt", head, arrays)
-
-
-if __name__ == "__main__":
-    main()
+def vectors():
+    """All vectors."""
+    rows, found = reduced_images(), [1]
+    while len(found) < BITS:
+        found.append(even_solution(rows, found[-1]))
+    return found

@@ -1,0 +1,33 @@
+"""The folders of the repository, and files that scripts write or compare.
+
+A script that makes files calls `keep` for each: it writes the file, or with the argument `--check` ends the script where the file is
+another. A generated file says in its first lines that it is one, and which command writes it: `generated` gives that sentence.
+"""
+
+import pathlib
+import sys
+
+TOP = pathlib.Path(__file__).resolve().parent.parent
+CRATES = TOP / "crates"
+
+
+def is_check():
+    """Whether files are compared, and not written."""
+    return "--check" in sys.argv[1:]
+
+
+def generated(command):
+    """What the head of a file says that `scripts/COMMAND` writes."""
+    return f"Written by scripts/{command}; do not edit."
+
+
+def keep(path, content):
+    """Writes a text or bytes to a file of the repository, or compares them with what is there."""
+    path = TOP / path
+    data = content.encode() if isinstance(content, str) else content
+    if is_check():
+        if not path.is_file() or path.read_bytes() != data:
+            sys.exit(f"{path} is not what this script writes")
+        return
+    path.parent.mkdir(parents=True, exist_ok=True)
+    path.write_bytes(data)

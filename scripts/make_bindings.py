@@ -1,0 +1,155 @@
+#!/usr/bin/env python3
+"""Writes what Python and Rust call the C library by, from the tables of fields.py and c_library.py. With --check it compares instead.
+
+    python/binary_field/_functions.py    the functions with their parameters, for ctypes
+    python/binary_field/_fields.py       a class for each field
+    rust/src/functions.rs                the functions as Rust declares foreign ones
+    rust/src/fields.rs                   a type for each field, by the macros of rust/src/field_macros.rs
+    python/pyproject.toml                the version alone
+    rust/Cargo.toml                      the version alone
+"""
+
+import re
+import textwrap
+
+import c_library
+import fields
+import files
+from c_library import sentence
+from make_c_header import ARRAYS, sections, told
+
+WRITTEN = files.generated("make_bindings.py")
+# The words of the library as Rust passes them, and as an element holds them.
+PASSED = {"u8": "u8", "u16": "u16", "u32": "u32", "u64": "u64", "u128": "[u64; 2]", "u192": "[u64; 3]"}
+HELD = PASSED | {"u128": "u128"}
+
+
+# ---- Python
+
+
+def python_functions():
+    """The functions for ctypes."""
+    statuses = "".join(f'    {value}: ("{name}", "{text}"),\n' for name, value, text in c_library.STATUSES)
+    functions = ""
+    for name, parameters, _ in c_library.functions():
+        row = ", ".join(f'("{kind}", "{it}", "{word}")' for kind, it, word in parameters)
+        functions += f'    "{name}": [{row}],\n'
+    return f'''\
+"""The functions of libbinary_field. {WRITTEN}"""
+
+# The version that this package belongs to, as bf_version returns it and as people write it.
+VERSION = {fields.VERSION_NUMBER}
+VERSION_TEXT = "{fields.VERSION_TEXT}"
+
+# The name of each status, and its sentence.
+STATUSES: dict[int, tuple[str, str]] = {{
+{statuses}}}
+
+# The parameters of each function: kind, name and word.
+FUNCTIONS: dict[str, list[tuple[str, str, str]]] = {{
+{functions}}}
+'''
+
+
+def python_fields():
+    """The classes of the fields."""
+    out = [f'"""The fields, each a class of arrays. {WRITTEN}"""\n\nfrom ._arrays import FieldArray\n']
+    for field in fields.FIELDS:
+        out.append(f'\n\nclass {field.type_name}(FieldArray):\n    """Arrays over {field.about}."""\n\n')
+        out.append(f'    degree = {field.bits}\n    _name = "{field.name}"\n    _word = "{field.word}"\n')
+        if field.partner:
+            out.append(f'    _partner = "{field.partner.name}"\n')
+        if field.is_batched:
+            out.append("    _is_batched = True\n")
+    return "".join(out)
+
+
+# ---- Rust
+
+
+def rust_declared(parameters):
+    """The parameters of a function as Rust declares them."""
+    for kind, name, word in parameters:
+        it = PASSED[word]
+        if kind in ARRAYS:
+            yield f"{name}: *{'const' if kind == 'in' else 'mut'} {it}"
+            yield f"{name}_length: usize"
+        elif kind == "result":
+            yield f"{name}: *mut {it}"
+        elif kind == "scalar" and it.startswith("["):
+            yield f"{name}: *const {it}"
+        else:
+            yield f"{name}: {it}"
+
+
+def rust_function(name, parameters, bits, text):
+    """A function that Rust declares, with its comment. A doc comment reads an index in brackets as a link."""
+    comment = told(name, parameters, bits, text).replace("[", "\\[").replace("]", "\\]")
+    out = [f"    /// {line}\n" for line in textwrap.wrap(comment, 110, break_long_words=False)]
+    if name in c_library.WIDE:
+        out.append(f'    #[cfg_attr(binary_field_wide, link_name = "bf_{name}_wide")]\n')
+    rows = "".join(f"        {it},\n" for it in rust_declared(parameters))
+    return "".join([*out, f"    pub fn bf_{name}(\n{rows}    ) -> u32;\n"])
+
+
+def rust_functions():
+    """The functions that the crate calls, as Rust declares foreign ones. A second form is linked in place of the first."""
+    out = [f"""\
+//! The functions of libbinary_field. {WRITTEN}
+//!
+//! An array is a pointer, which may be null beside a length of 0, and a length that counts elements. What is written overlaps
+//! nothing else of the call. On a status that is not `BF_OK` everything that a function could write is as before. Where the library was
+//! built for x86-64-v3, a function that has a form `_wide` is that form.
+
+"""]
+    out += [f"/// {sentence(text)}\npub const {name}: u32 = {value};\n" for name, value, text in c_library.STATUSES]
+    out.append('\nunsafe extern "C" {\n')
+    for _, rows in sections():
+        out += [rust_function(name, parameters, bits, text) for name, parameters, text, bits in rows if not name.endswith("_wide")]
+    return "".join([*out, "}\n"])
+
+
+def rust_field(field):
+    """A field by its macro, each function by the name that it has for every field."""
+    one = f"[{', '.join(map(str, field.one))}]" if field.word == "u192" else "1"
+    zero = "[0; 3]" if field.word == "u192" else "0"
+    functions = "".join(f"    {name}: bf_{field.name}_{name},\n" for name, _, _ in c_library.FIELD_FUNCTIONS)
+    return f"field! {{\n    /// {field.about}.\n    {field.type_name}({HELD[field.word]}), {field.bits}, {zero}, {one},\n{functions}}}\n"
+
+
+def rust_fields():
+    """The types of the fields, what makes their elements, and the changes of basis."""
+    whole = "".join(f"    {it.type_name}({HELD[it.word]}),\n" for it in fields.FIELDS if it.bits >= 8)
+    some = ", ".join(it.type_name for it in fields.FIELDS if it.bits < 8)
+    bases = ""
+    for field in filter(lambda it: it.modulus, fields.FIELDS):
+        for a, b in ((field.partner, field), (field, field.partner)):
+            bases += f"    {a.type_name} {b.type_name} bf_{a.name}_to_{b.name};\n"
+    return "\n".join([
+        f"//! The fields. {WRITTEN}\n",
+        "use crate::field_macros::{Word, succeed};\nuse crate::functions::*;\nuse crate::{Error, Field};\nuse core::fmt;\n"
+        "use core::iter::{Product, Sum};\nuse core::ops::{Add, AddAssign, Div, DivAssign, Mul, MulAssign, Neg, Sub, SubAssign};\n",
+        *map(rust_field, fields.FIELDS),
+        f"all_words! {{\n{whole}}}\n",
+        f"some_bytes!({some});\n",
+        f"bases! {{\n{bases}}}\n",
+    ])
+
+
+def with_version(path):
+    """A file with its version, which stands in a line of its own, as the file VERSION has it."""
+    text = (files.TOP / path).read_text(encoding="utf-8")
+    return re.sub(r'^version = ".*"$', f'version = "{fields.VERSION_TEXT}"', text, count=1, flags=re.MULTILINE)
+
+
+def main():
+    files.keep("python/binary_field/_functions.py", python_functions())
+    files.keep("python/binary_field/_fields.py", python_fields())
+    files.keep("rust/src/functions.rs", rust_functions())
+    files.keep("rust/src/fields.rs", rust_fields())
+    for path in ("python/pyproject.toml", "rust/Cargo.toml"):
+        files.keep(path, with_version(path))
+
+
+if __name__ == "__main__":
+    main()
