@@ -1,0 +1,22 @@
+"""The crates, as crates.txt lists them."""
+
+import re
+
+import files
+
+
+def layers():
+    """Each layer by its heading, a comment with an empty line behind it, with its crates: their names and what they depend on."""
+    found, lines = [], (files.TOP / "crates.txt").read_text(encoding="utf-8").splitlines()
+    for line, behind in zip(lines, [*lines[1:], ""]):
+        crate = re.match(r"([a-z0-9_]+)[^:#]*:([^#]*)", line)
+        if crate:
+            found[-1][1].append((crate[1], crate[2].split()))
+        elif line.startswith("# ") and not behind:
+            found.append((line[2:], []))
+    return [(heading, crates) for heading, crates in found if crates]
+
+
+def dependencies():
+    """What each crate depends on, lowest first."""
+    return {name: below for _, crates in layers() for name, below in crates}
