@@ -1,33 +1,37 @@
 -- An honest prover is accepted: by induction on the challenges.
-use Rattle.std.proofs.Common.{◌≡◌, ℕ, zero, suc, ◌+◌, ◌/◌, ◌^◌, ◌<◌, List, [], ◌∷◌, ◌++◌, length, take, drop, refl, sym, ◌∙◌, ap, ap₂, subst, arith}
+use Rattle.std.proofs.Common.{◌≡◌, ℕ, suc, ◌+◌, ◌/◌, ◌^◌, ◌<◌, List, [], ◌∷◌, ◌++◌, length, take, drop, refl, sym, ◌∙◌, ap, ap₂, subst, arith}
 use Rattle.std.specs.Prelude.{bit_xor, slice_index}
 use Rattle.std.proofs.lemmas.List.{ext_get_or, take-append-drop}
 use lib.Bits.{xor_assoc, xor_zero_r}
-use Rattle.field_base.specs.Powers.{dot_of}
 use Rattle.field_base.specs.Ring.{IsRing}
 use Rattle.polynomials.specs.Multilinear.{AreCornerValues, folded, multilinear_value, on_line}
 use Rattle.polynomials.proofs.CubeLaws.{folded-at, folded-corners, folded-length, line-one, line-zero, lower-at, lower-length, one-value, upper-at, upper-length, value-alone, value-folded}
 use Rattle.polynomials.specs.Sumcheck.{Accepts, AreHonest, IsRound, Quadratic, quadratic_at, sum_of_products}
 
 module _ (width : ℕ) (times : ℕ → ℕ → ℕ) (ring : IsRing width 1 times) (wide : 0 < width) where
-  -- folding by 0 and by 1 leaves the lower and the upper half
+  -- folding leaves the half whose places are on the lines through both halves
+  folded-half : (m r : ℕ) (values half : List ℕ) → AreCornerValues width (suc m) values → length half ≡ 2 ^ m
+      → ((i : ℕ) → i < 2 ^ m → on_line times r (slice_index values i) (slice_index values (2 ^ m + i)) ≡ slice_index half i)
+      → folded times r values ≡ half
+  folded-half m r values half are count at =
+      ext_get_or 0 (folded times r values) half (folded-length m values are.count times r ∙ sym count)
+      (λ i inside.
+      let below : i < 2 ^ m = subst (λ (n : ℕ). i < n) (folded-length m values are.count times r) inside in
+      folded-at m values are.count times r i below ∙ at i below)
+
+  -- by 0 it is the lower half
   folded-zero : (m : ℕ) (values : List ℕ) → AreCornerValues width (suc m) values → folded times 0 values ≡ take (length values / 2) values
   folded-zero m values are =
-      ext_get_or 0 (folded times 0 values) (take (length values / 2) values)
-      (folded-length m values are.count times 0 ∙ sym (lower-length m values are.count))
-      (λ i inside.
-      let below : i < 2 ^ m = subst (λ (n : ℕ). i < n) (folded-length m values are.count times 0) inside in
-      folded-at m values are.count times 0 i below
-      ∙ line-zero width times ring wide (slice_index values i) (slice_index values (2 ^ m + i)) ∙ sym (lower-at m values are.count i below))
+      folded-half m 0 values (take (length values / 2) values) are (lower-length m values are.count)
+      (λ i below.
+      line-zero width times ring wide (slice_index values i) (slice_index values (2 ^ m + i)) ∙ sym (lower-at m values are.count i below))
 
+  -- and by 1 the upper half
   folded-one : (m : ℕ) (values : List ℕ) → AreCornerValues width (suc m) values → folded times 1 values ≡ drop (length values / 2) values
   folded-one m values are =
-      ext_get_or 0 (folded times 1 values) (drop (length values / 2) values)
-      (folded-length m values are.count times 1 ∙ sym (upper-length m values are.count))
-      (λ i inside.
-      let below : i < 2 ^ m = subst (λ (n : ℕ). i < n) (folded-length m values are.count times 1) inside in
-      folded-at m values are.count times 1 i below
-      ∙ line-one width times ring wide (slice_index values i) (slice_index values (2 ^ m + i)) (are.each_fits i) (are.each_fits (2 ^ m + i))
+      folded-half m 1 values (drop (length values / 2) values) are (upper-length m values are.count)
+      (λ i below.
+      line-one width times ring wide (slice_index values i) (slice_index values (2 ^ m + i)) (are.each_fits i) (are.each_fits (2 ^ m + i))
       ∙ sym (upper-at m values are.count i))
 
   -- a sum over two parts

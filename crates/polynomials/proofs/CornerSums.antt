@@ -1,16 +1,15 @@
 -- Sums over the corners of the cube, by the halves where the first coordinate is 0 and 1.
-use Rattle.std.proofs.Common.{◌≡◌, ℕ, zero, suc, ◌+◌, ◌-◌, ◌*◌, ◌/◌, ◌%◌, ◌^◌, ◌<◌, ◌≤◌, List, [], ◌∷◌, length, take, drop, refl, sym, ◌∙◌, ap, ap₂, arith}
-use Rattle.std.specs.Prelude.{bit_xor, slice_index}
+use Rattle.std.proofs.Common.{◌≡◌, ℕ, zero, suc, ◌+◌, ◌-◌, ◌*◌, ◌%◌, ◌^◌, ◌<◌, ◌≤◌, List, [], ◌∷◌, length, refl, sym, ◌∙◌, ap, ap₂, arith}
+use Rattle.std.specs.Prelude.{bit_xor}
 use Rattle.std.specs.Int.{bit_at}
-use Rattle.std.specs.Simd.Lanes.{zip2}
 use Rattle.std.proofs.Math.Nat.{two-pow-succ, mod-eq_of_lt}
 use Rattle.std.proofs.lemmas.Nat.{xor_comm, xor_lt, pow_pos}
 use Rattle.std.proofs.lemmas.Nat.Bits.{bit_at_above, bit_at_cat_high, bit_at_cat_low}
-use lib.Bits.{xor_assoc, xor_self, xor_zero_r}
+use lib.Bits.{xor_assoc, xor_zero_r}
 use Rattle.field_base.specs.Basis.{sum_below}
 use Rattle.field_base.specs.Ring.{IsRing}
 use Rattle.field_base.proofs.BasisSums.{sum_below-add, sum_below-same, sum_below_times}
-use Rattle.field_base.proofs.RingLemmas.{xor_left_comm, sum_times, times_left_comm, times-zero, mod-times, times-mod}
+use Rattle.field_base.proofs.RingLemmas.{xor_left_comm, sum_times, times-zero, mod-times}
 use Rattle.polynomials.specs.Multilinear.{eq_coordinate, eq_corner, on_line}
 
 -- ---- bits of corners

@@ -1,10 +1,9 @@
 -- Lagrange's formula at the elements 0, 1, 2, .. of a field, one term and one factor at a time.
-use Rattle.std.proofs.Common.{◌≡◌, ◌≢◌, ℕ, zero, suc, ◌+◌, ◌-◌, ◌^◌, ◌<◌, ◌≤◌, refl, sym, ◌∙◌, ap, ap₂, arith}
+use Rattle.std.proofs.Common.{◌≡◌, ◌≢◌, ℕ, ◌+◌, ◌^◌, ◌<◌, ◌≤◌, refl, sym, ◌∙◌, ap, ap₂, arith}
 use Rattle.std.specs.Prelude.{bit_xor}
 use native.Mathlib.Numerals.{add-one}
 use Rattle.field_base.specs.Basis.{product_below, sum_below}
 use Rattle.field_base.specs.Field.{IsField}
-use Rattle.field_base.specs.Powers.{power}
 use Rattle.field_base.proofs.FieldLemmas.{inverse-power}
 use Rattle.field_laws.specs.Interpolation.{lagrange, other_factors}
 use Rattle.field_laws.proofs.Interpolation.{factors-lt, factors-nonzero, factors_more, factors_skip}

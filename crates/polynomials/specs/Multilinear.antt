@@ -2,7 +2,7 @@
 -- (C. Lund, L. Fortnow, H. Karloff and N. Nisan, Algebraic methods for interactive proof systems, 1992; J. Thaler, Proofs,
 -- Arguments, and Zero-Knowledge, section 3.5). Corner i has bit n - 1 of i as its first coordinate, and bit 0 as its last. A sum is
 -- `bit_xor`, and `times` the product.
-use Rattle.std.specs.Prelude.{◌≡◌, ℕ, zero, suc, ◌-◌, ◌/◌, ◌^◌, ◌<◌, List, [], ◌∷◌, length, take, drop, slice_index, bit_xor}
+use Rattle.std.specs.Prelude.{◌≡◌, ℕ, zero, suc, ◌/◌, ◌^◌, ◌<◌, List, [], ◌∷◌, length, take, drop, slice_index, bit_xor}
 use Rattle.std.specs.Int.{bit_at}
 use Rattle.std.specs.Simd.Lanes.{zip2}
 use Rattle.field_base.specs.Basis.{sum_below}

@@ -1,4 +1,4 @@
-use Rattle.std.proofs.Common.{ℕ, sym, ◌∙◌, ap, ap₂}
+use Rattle.std.proofs.Common.{ℕ, sym, ◌∙◌, ap}
 use Rattle.field_laws.specs.Interpolation.{other_factors}
 use Rattle.polynomials.proofs.LagrangeSteps.{basis-quotient, differences-nonzero}
 use Rattle.polynomials.proofs.nodes.basis_at.Goals as goal

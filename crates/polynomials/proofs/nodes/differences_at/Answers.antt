@@ -1,4 +1,4 @@
-use Rattle.std.proofs.Common.{ℕ, ◌∙◌, ap}
+use Rattle.std.proofs.Common.{◌∙◌, ap}
 use Rattle.std.specs.Prelude.{bit_xor}
 use Rattle.polynomials.proofs.LagrangeSteps.{differences-none, differences-skip, differences-more}
 use Rattle.polynomials.proofs.nodes.differences_at.Goals as goal
