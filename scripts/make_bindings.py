@@ -127,7 +127,7 @@ def rust_fields():
             bases += f"    {a.type_name} {b.type_name} bf_{a.name}_to_{b.name};\n"
     return "\n".join([
         f"//! The fields. {WRITTEN}\n",
-        "use crate::field_macros::{Word, succeed};\nuse crate::functions::*;\nuse crate::{Error, Field};\nuse core::fmt;\n"
+        "use crate::error::succeed;\nuse crate::field_macros::Word;\nuse crate::functions::*;\nuse crate::{Error, Field};\nuse core::fmt;\n"
         "use core::iter::{Product, Sum};\nuse core::ops::{Add, AddAssign, Div, DivAssign, Mul, MulAssign, Neg, Sub, SubAssign};\n",
         *map(rust_field, fields.FIELDS),
         f"all_words! {{\n{whole}}}\n",

@@ -17,21 +17,21 @@ import files
 WORDS = {"u128": "Wide", "u192": "Cubic"}
 
 # The function over any field that a call goes to, and the word of its contract.
-CALLS = {
-    "add": ("slices::add", "Adds"),
-    "multiply": ("slices::multiply", "Multiplies"),
-    "multiply_by": ("slices::multiply_by", "MultipliesBy"),
-    "add_scaled": ("slices::add_scaled", "AddsScaled"),
-    "square": ("slices::square", "Squares"),
-    "inverse": ("slices::invert", "Inverts"),
-    "batch_inverse": ("batch_invert", "Inverts"),
-    "square_root": ("slices::square_root", "TakesRoots"),
-    "power": ("slices::power", "RaisesTo"),
-    "product": ("slices::product", "TakesProduct"),
-    "dot_product": ("slices::dot_product", "TakesDotProduct"),
-    "evaluate": ("slices::evaluate", "Evaluates"),
-    "generator": ("slices::generator", "NamesGenerator"),
-}
+CALLS = {row.split()[0]: row.split()[1:] for row in """\
+add            slices::add          Adds
+multiply       slices::multiply     Multiplies
+multiply_by    slices::multiply_by  MultipliesBy
+add_scaled     slices::add_scaled   AddsScaled
+square         slices::square       Squares
+inverse        slices::invert       Inverts
+batch_inverse  batch_invert         Inverts
+square_root    slices::square_root  TakesRoots
+power          slices::power        RaisesTo
+product        slices::product      TakesProduct
+dot_product    slices::dot_product  TakesDotProduct
+evaluate       slices::evaluate     Evaluates
+generator      slices::generator    NamesGenerator
+""".splitlines()}
 
 # What a field does by functions of its own.
 OWN_CALLS = {

@@ -9,15 +9,16 @@ mod arithmetic;
 #[rustfmt::skip]
 mod functions;
 mod ours;
+mod random;
 #[cfg(feature = "rust_crate")]
 mod theirs;
 mod timing;
 
 use arithmetic::{Arithmetic, ByteMaps, Polynomials, Stages, Unary, Word};
+use random::Random;
 use std::hint::black_box;
 use std::process::ExitCode;
-use std::time::Duration;
-use timing::{Plan, least_times};
+use timing::{Plan, Sums, least_times};
 
 // The elements of a slice.
 const LENGTH: usize = 1024;
@@ -55,39 +56,26 @@ macro_rules! level {
 fn main() -> ExitCode {
     let usage = "bench [SAMPLES] [MILLISECONDS] [tower|polynomials]";
     let mut arguments = std::env::args().skip(1);
-    let mut number = |otherwise: u32| {
-        arguments
-            .next()
-            .map_or(otherwise, |word| word.parse().expect(usage))
-    };
-    let samples = number(100);
-    let sample = Duration::from_millis(number(2).into());
+    let plan = Plan::read(&mut arguments, usage);
     let part = arguments.next().unwrap_or_default();
     let mut report = Report {
-        plan: Plan { samples, sample },
-        checksum: 0,
-        differing: Vec::new(),
+        plan,
+        sums: Sums::default(),
     };
-    println!(
-        "One thread, slices of {LENGTH} elements, the least of {samples} samples of {} ms.",
-        sample.as_millis()
-    );
+    plan.print(&format!("slices of {LENGTH} elements"));
     if part != "polynomials" {
         report.tower();
     }
     if part != "tower" {
         report.fields_of_polynomials();
     }
-    report.verdict()
+    report.sums.verdict()
 }
 
 /// What was found so far.
 struct Report {
     plan: Plan,
-    // of all results of the library
-    checksum: u64,
-    // the rows in which the sides' results differ
-    differing: Vec<String>,
+    sums: Sums,
 }
 
 impl Report {
@@ -294,12 +282,8 @@ impl Report {
             .flatten()
             .map(|call| results_sum(start, call))
             .collect();
-        if calls[0].is_some() {
-            self.checksum = self.checksum.rotate_left(5) ^ sums[0];
-        }
-        if sums.iter().any(|sum| *sum != sums[0]) {
-            self.differing.push(format!("{name}, {} bits", W::BITS));
-        }
+        let row = format!("{name}, {} bits", W::BITS);
+        self.sums.compare(&row, &sums, calls[0].is_some());
         let mut timed: Vec<Box<dyn FnMut()>> = Vec::new();
         for call in calls.iter().flatten() {
             let mut out = start.to_vec();
@@ -311,27 +295,6 @@ impl Report {
             .map(|call| call.as_ref().and_then(|_| times.next()))
             .collect();
         print_row(name, W::BITS, count, &each);
-    }
-
-    /// Says whether the sides' results are the same.
-    fn verdict(self) -> ExitCode {
-        println!();
-        if !cfg!(feature = "rust_crate") {
-            println!(
-                "Checksum {:016x}. The Rust crate is not linked: RUST_CRATE was not set.",
-                self.checksum
-            );
-            return ExitCode::SUCCESS;
-        }
-        if self.differing.is_empty() {
-            println!(
-                "Checksum {:016x}. The checksums of both sides agree in every row.",
-                self.checksum
-            );
-            return ExitCode::SUCCESS;
-        }
-        println!("THE CHECKSUMS DIFFER: {}.", self.differing.join("; "));
-        ExitCode::FAILURE
     }
 }
 
@@ -376,18 +339,7 @@ fn print_row(name: &str, bits: u32, count: usize, times: &[Option<f64>]) {
     );
 }
 
-/// The generator splitmix64.
-struct Random(u64);
-
 impl Random {
-    fn next(&mut self) -> u64 {
-        self.0 = self.0.wrapping_add(0x9e37_79b9_7f4a_7c15);
-        let mut mixed = self.0;
-        mixed = (mixed ^ (mixed >> 30)).wrapping_mul(0xbf58_476d_1ce4_e5b9);
-        mixed = (mixed ^ (mixed >> 27)).wrapping_mul(0x94d0_49bb_1331_11eb);
-        mixed ^ (mixed >> 31)
-    }
-
     /// Words, none of which is 0.
     fn elements<W: Word>(&mut self, count: usize) -> Vec<W> {
         (0..count).map(|_| self.nonzero()).collect()
@@ -395,7 +347,7 @@ impl Random {
 
     fn nonzero<W: Word>(&mut self) -> W {
         loop {
-            let word = W::of(u128::from(self.next()) << 64 | u128::from(self.next()));
+            let word = W::of(u128::from(self.word()) << 64 | u128::from(self.word()));
             if word != W::default() {
                 return word;
             }

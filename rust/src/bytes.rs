@@ -1,47 +1,36 @@
 //! Hashes of authentication tags, and Reed-Solomon codes, over bytes.
 
 use crate::Error;
+use crate::error::succeed;
 use crate::functions::*;
 
-// What no call over keys and hashes of 16 bytes returns.
-fn succeed(status: u32) {
-    if let Err(error) = Error::of(status) {
-        panic!("{error}");
-    }
+// A hash of a message under a key.
+type Hash = unsafe extern "C" fn(*const u8, usize, *const u8, usize, *mut u8, usize) -> u32;
+
+fn hashed(function: Hash, key: &[u8; 16], message: &[u8]) -> [u8; 16] {
+    let mut hash = [0; 16];
+    // SAFETY: the pointers and lengths are those of slices, of which the one that is written overlaps no other. So it is below.
+    succeed(unsafe {
+        function(
+            key.as_ptr(),
+            16,
+            message.as_ptr(),
+            message.len(),
+            hash.as_mut_ptr(),
+            16,
+        )
+    });
+    hash
 }
 
 /// GHASH of the message (NIST SP 800-38D), with zeros added to whole blocks.
 pub fn ghash(key: &[u8; 16], message: &[u8]) -> [u8; 16] {
-    let mut hash = [0; 16];
-    // SAFETY: the pointers and lengths are those of slices, of which the one that is written overlaps no other. So it is below.
-    succeed(unsafe {
-        bf_tag_ghash(
-            key.as_ptr(),
-            16,
-            message.as_ptr(),
-            message.len(),
-            hash.as_mut_ptr(),
-            16,
-        )
-    });
-    hash
+    hashed(bf_tag_ghash, key, message)
 }
 
 /// POLYVAL of the message (RFC 8452), with zeros added to whole blocks.
 pub fn polyval(key: &[u8; 16], message: &[u8]) -> [u8; 16] {
-    let mut hash = [0; 16];
-    // SAFETY: as above.
-    succeed(unsafe {
-        bf_tag_polyval(
-            key.as_ptr(),
-            16,
-            message.as_ptr(),
-            message.len(),
-            hash.as_mut_ptr(),
-            16,
-        )
-    });
-    hash
+    hashed(bf_tag_polyval, key, message)
 }
 
 /// The hash of GCM over associated data and ciphertext, with the block of their lengths.
@@ -78,6 +67,9 @@ pub fn tags_are_equal(left: &[u8], right: &[u8]) -> bool {
     });
     equal == 1
 }
+
+// A function that writes missing shards.
+type Restoring = unsafe extern "C" fn(u64, u64, *mut u8, usize, *const u8, usize) -> u32;
 
 /// The code with so many shards of data and of parity, over bytes modulo x^8 + x^4 + x^3 + x^2 + 1. Shards of one size, which is not
 /// 0, stand one after the other, those of data first.
@@ -125,24 +117,23 @@ impl ReedSolomon {
 
     /// Writes the missing shards: shard i is missing where `present[i]` is false.
     pub fn reconstruct(&self, shards: &mut [u8], present: &[bool]) -> Result<(), Error> {
-        // SAFETY: as above; a bool is the byte 0 or 1.
-        Error::of(unsafe {
-            bf_rs_reconstruct(
-                self.data,
-                self.parity,
-                shards.as_mut_ptr(),
-                shards.len(),
-                present.as_ptr().cast(),
-                present.len(),
-            )
-        })
+        self.restored(bf_rs_reconstruct, shards, present)
     }
 
     /// Writes the missing shards of data alone.
     pub fn reconstruct_data(&self, shards: &mut [u8], present: &[bool]) -> Result<(), Error> {
-        // SAFETY: as above.
+        self.restored(bf_rs_reconstruct_data, shards, present)
+    }
+
+    fn restored(
+        &self,
+        function: Restoring,
+        shards: &mut [u8],
+        present: &[bool],
+    ) -> Result<(), Error> {
+        // SAFETY: as above; a bool is the byte 0 or 1.
         Error::of(unsafe {
-            bf_rs_reconstruct_data(
+            function(
                 self.data,
                 self.parity,
                 shards.as_mut_ptr(),

@@ -33,6 +33,13 @@ impl Error {
     }
 }
 
+/// A call that returns no status but BF_OK: its slices have lengths that fit, and its words are elements.
+pub(crate) fn succeed(status: u32) {
+    if let Err(error) = Error::of(status) {
+        panic!("{error}");
+    }
+}
+
 impl fmt::Display for Error {
     fn fmt(&self, formatter: &mut fmt::Formatter<'_>) -> fmt::Result {
         formatter.write_str(match self {

@@ -1,7 +1,6 @@
 //! What makes a field of its word and of its functions in the library. An element is stored as the word that the library takes, so
 //! that a slice of elements is one of words.
 
-use crate::Error;
 use core::fmt;
 
 /// A representation: how the library takes one, and how it is printed.
@@ -78,13 +77,6 @@ impl Word for [u64; 3] {
     }
 }
 
-/// A call that returns no status but BF_OK: its slices have one length, and its words are elements.
-pub(crate) fn succeed(status: u32) {
-    if let Err(error) = Error::of(status) {
-        panic!("{error}");
-    }
-}
-
 /// A call over slices: each as its pointer and its length, and what is no slice as it is.
 macro_rules! over {
     ($function:ident: $($slices:ident),* $(; $($middle:expr),* ; $last:ident)?) => {
@@ -92,6 +84,21 @@ macro_rules! over {
         // that the library takes; and what is borrowed to be written overlaps nothing.
         unsafe { $function($($slices.as_ptr().cast(), $slices.len(),)* $($($middle,)* $last.as_mut_ptr().cast(), $last.len())?) }
     };
+}
+
+/// Operators that are a call over slices of one element.
+macro_rules! operator {
+    ($field:ident: $($name:ident $method:ident = $function:ident),*) => {$(
+        impl $name for $field {
+            type Output = $field;
+
+            fn $method(self, other: $field) -> $field {
+                let (left, right, mut results) = ([self], [other], [$field::ZERO]);
+                succeed(over!($function: left, right; ; results));
+                results[0]
+            }
+        }
+    )*};
 }
 
 macro_rules! assigning {
@@ -232,15 +239,7 @@ macro_rules! field {
             }
         }
 
-        impl Add for $field {
-            type Output = $field;
-
-            fn add(self, other: $field) -> $field {
-                let (left, right, mut sums) = ([self], [other], [$field::ZERO]);
-                succeed(over!($add: left, right; ; sums));
-                sums[0]
-            }
-        }
+        operator!($field: Add add = $add, Mul mul = $multiply);
 
         // In characteristic two a difference is a sum.
         impl Sub for $field {
@@ -257,16 +256,6 @@ macro_rules! field {
 
             fn neg(self) -> $field {
                 self
-            }
-        }
-
-        impl Mul for $field {
-            type Output = $field;
-
-            fn mul(self, other: $field) -> $field {
-                let (left, right, mut products) = ([self], [other], [$field::ZERO]);
-                succeed(over!($multiply: left, right; ; products));
-                products[0]
             }
         }
 

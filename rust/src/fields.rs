@@ -1,6 +1,7 @@
 //! The fields. Written by scripts/make_bindings.py; do not edit.
 
-use crate::field_macros::{Word, succeed};
+use crate::error::succeed;
+use crate::field_macros::Word;
 use crate::functions::*;
 use crate::{Error, Field};
 use core::fmt;

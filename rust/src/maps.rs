@@ -37,40 +37,24 @@ pub fn linear_map_of_bytes(values: &[u8], images: &[u8], mapped: &mut [u8]) -> R
     })
 }
 
-/// low += scalar * high, and then high += low, at each place.
-pub fn butterfly_forward(
-    low: &mut [Ghash128],
-    high: &mut [Ghash128],
-    scalar: Ghash128,
-) -> Result<(), Error> {
-    // SAFETY: as above.
-    Error::of(unsafe {
-        bf_g128_butterfly_forward(
-            low.as_mut_ptr().cast(),
-            low.len(),
-            high.as_mut_ptr().cast(),
-            high.len(),
-            (&raw const scalar).cast(),
-        )
-    })
+macro_rules! butterflies {
+    ($($(#[$about:meta])* $name:ident = $function:ident;)*) => {$(
+        $(#[$about])*
+        pub fn $name(low: &mut [Ghash128], high: &mut [Ghash128], scalar: Ghash128) -> Result<(), Error> {
+            let scalar = (&raw const scalar).cast();
+            // SAFETY: as above.
+            Error::of(unsafe {
+                $function(low.as_mut_ptr().cast(), low.len(), high.as_mut_ptr().cast(), high.len(), scalar)
+            })
+        }
+    )*};
 }
 
-/// high += low, and then low += scalar * high, at each place: it takes back `butterfly_forward`.
-pub fn butterfly_inverse(
-    low: &mut [Ghash128],
-    high: &mut [Ghash128],
-    scalar: Ghash128,
-) -> Result<(), Error> {
-    // SAFETY: as above.
-    Error::of(unsafe {
-        bf_g128_butterfly_inverse(
-            low.as_mut_ptr().cast(),
-            low.len(),
-            high.as_mut_ptr().cast(),
-            high.len(),
-            (&raw const scalar).cast(),
-        )
-    })
+butterflies! {
+    /// low += scalar * high, and then high += low, at each place.
+    butterfly_forward = bf_g128_butterfly_forward;
+    /// high += low, and then low += scalar * high, at each place: it takes back `butterfly_forward`.
+    butterfly_inverse = bf_g128_butterfly_inverse;
 }
 
 /// Runs the four lowest stages over runs of sixteen values, the first of which is run `first_run`. The factor of stage j at place p
@@ -95,28 +79,23 @@ pub fn low_stages(
     })
 }
 
+// A transform at a shift.
+type Transform = unsafe extern "C" fn(*mut [u64; 2], usize, *const [u64; 2]) -> u32;
+
+fn transformed(function: Transform, values: &mut [Ghash128], shift: Ghash128) -> Result<(), Error> {
+    let shift = (&raw const shift).cast();
+    // SAFETY: as above.
+    Error::of(unsafe { function(values.as_mut_ptr().cast(), values.len(), shift) })
+}
+
 /// Leaves the value at each of 2^m points of the polynomial with these coefficients, for an m from 0 to 40: coefficient k is that
 /// of the product of the s_j over the set bits j of k, where s_0(x) = x and s_(j + 1)(x) = s_j(x)^2 + s_j(x). Point p is the shift,
 /// and Cantor vector b for each set bit b of p.
 pub fn transform(values: &mut [Ghash128], shift: Ghash128) -> Result<(), Error> {
-    // SAFETY: as above.
-    Error::of(unsafe {
-        bf_g128_transform(
-            values.as_mut_ptr().cast(),
-            values.len(),
-            (&raw const shift).cast(),
-        )
-    })
+    transformed(bf_g128_transform, values, shift)
 }
 
 /// Leaves the coefficients that `transform` takes to the values.
 pub fn inverse_transform(values: &mut [Ghash128], shift: Ghash128) -> Result<(), Error> {
-    // SAFETY: as above.
-    Error::of(unsafe {
-        bf_g128_inverse_transform(
-            values.as_mut_ptr().cast(),
-            values.len(),
-            (&raw const shift).cast(),
-        )
-    })
+    transformed(bf_g128_inverse_transform, values, shift)
 }

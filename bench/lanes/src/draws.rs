@@ -1,20 +1,11 @@
 //! Operands that are drawn from a seed, and checksums of results, as the library draws and makes them.
 
+pub use crate::random::Random;
+
 /// The sum of no words.
 pub const EMPTY: u64 = 0xcbf2_9ce4_8422_2325;
 
-/// The generator splitmix64.
-pub struct Random(pub u64);
-
 impl Random {
-    pub fn word(&mut self) -> u64 {
-        self.0 = self.0.wrapping_add(0x9e37_79b9_7f4a_7c15);
-        let mut mixed = self.0;
-        mixed = (mixed ^ (mixed >> 30)).wrapping_mul(0xbf58_476d_1ce4_e5b9);
-        mixed = (mixed ^ (mixed >> 27)).wrapping_mul(0x94d0_49bb_1331_11eb);
-        mixed ^ (mixed >> 31)
-    }
-
     pub fn number(&mut self) -> u128 {
         let high = u128::from(self.word());
         high << 64 | u128::from(self.word())

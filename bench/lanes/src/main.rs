@@ -5,14 +5,17 @@
 mod draws;
 mod ours;
 #[cfg(feature = "rust_crate")]
+#[path = "../../src/random.rs"]
+mod random;
+#[cfg(feature = "rust_crate")]
 mod theirs;
 #[path = "../../src/timing.rs"]
 mod timing;
 
 use std::hint::black_box;
 use std::process::ExitCode;
-use std::time::{Duration, Instant};
-use timing::{Plan, least_times};
+use std::time::Instant;
+use timing::{Plan, Sums, least_times};
 
 /// Does an operation so many rounds over operands of a seed, of which slices have a length, and returns a checksum.
 pub type Unit = fn(u64, u64, usize) -> u64;
@@ -87,6 +90,7 @@ impl Row {
 
 fn rows() -> Vec<Row> {
     let mut rows = rows_of_ghash();
+    rows.extend(rows_of_packings());
     rows.extend(rows_of_bytes());
     rows
 }
@@ -159,56 +163,26 @@ fn rows_of_ghash() -> Vec<Row> {
 }
 
 // Packings of bytes count once for each 16 lanes.
+#[rustfmt::skip]
+fn rows_of_packings() -> impl Iterator<Item = Row> {
+    let rows = [
+        ("16 bytes by 16 bytes", ours::PACKED_16_BYTES_PRODUCT, theirs!(packed_bytes_product::<16>)),
+        ("32 bytes by 32 bytes", ours::PACKED_32_BYTES_PRODUCT, theirs!(packed_bytes_product::<32>)),
+        ("16 bytes by an element", ours::PACKED_16_BYTES_BY_ELEMENT, theirs!(packed_bytes_by_element::<16>)),
+        ("32 bytes by an element", ours::PACKED_32_BYTES_BY_ELEMENT, theirs!(packed_bytes_by_element::<32>)),
+        ("16 bytes by a bit, and sum", ours::PACKED_16_BYTES_BY_BIT, theirs!(packed_bytes_by_bit::<16>)),
+        ("32 bytes by a bit, and sum", ours::PACKED_32_BYTES_BY_BIT, theirs!(packed_bytes_by_bit::<32>)),
+        ("16 bytes by a matrix", ours::PACKED_16_BYTES_BY_MATRIX, theirs!(packed_bytes_by_matrix::<16>)),
+        ("32 bytes by a matrix", ours::PACKED_32_BYTES_BY_MATRIX, theirs!(packed_bytes_by_matrix::<32>)),
+    ];
+    rows.into_iter().map(|(name, ours, theirs)| {
+        let count = if name.starts_with("16") { |_| 64 } else { |_| 128 };
+        Row::fixed(name, ours, theirs, count)
+    })
+}
+
 fn rows_of_bytes() -> Vec<Row> {
     vec![
-        Row::fixed(
-            "16 bytes by 16 bytes",
-            ours::PACKED_16_BYTES_PRODUCT,
-            theirs!(packed_bytes_product::<16>),
-            |_| 64,
-        ),
-        Row::fixed(
-            "32 bytes by 32 bytes",
-            ours::PACKED_32_BYTES_PRODUCT,
-            theirs!(packed_bytes_product::<32>),
-            |_| 128,
-        ),
-        Row::fixed(
-            "16 bytes by an element",
-            ours::PACKED_16_BYTES_BY_ELEMENT,
-            theirs!(packed_bytes_by_element::<16>),
-            |_| 64,
-        ),
-        Row::fixed(
-            "32 bytes by an element",
-            ours::PACKED_32_BYTES_BY_ELEMENT,
-            theirs!(packed_bytes_by_element::<32>),
-            |_| 128,
-        ),
-        Row::fixed(
-            "16 bytes by a bit, and sum",
-            ours::PACKED_16_BYTES_BY_BIT,
-            theirs!(packed_bytes_by_bit::<16>),
-            |_| 64,
-        ),
-        Row::fixed(
-            "32 bytes by a bit, and sum",
-            ours::PACKED_32_BYTES_BY_BIT,
-            theirs!(packed_bytes_by_bit::<32>),
-            |_| 128,
-        ),
-        Row::fixed(
-            "16 bytes by a matrix",
-            ours::PACKED_16_BYTES_BY_MATRIX,
-            theirs!(packed_bytes_by_matrix::<16>),
-            |_| 64,
-        ),
-        Row::fixed(
-            "32 bytes by a matrix",
-            ours::PACKED_32_BYTES_BY_MATRIX,
-            theirs!(packed_bytes_by_matrix::<32>),
-            |_| 128,
-        ),
         Row::sliced(
             "bytes by a matrix",
             ours::MATRIX,
@@ -226,36 +200,22 @@ fn rows_of_bytes() -> Vec<Row> {
 
 fn main() -> ExitCode {
     let usage = "bench-lanes [SAMPLES] [MILLISECONDS]";
-    let mut arguments = std::env::args().skip(1);
-    let mut number = |otherwise: u32| {
-        arguments
-            .next()
-            .map_or(otherwise, |word| word.parse().expect(usage))
-    };
-    let plan = Plan {
-        samples: number(100),
-        sample: Duration::from_millis(number(2).into()),
-    };
+    let plan = Plan::read(&mut std::env::args().skip(1), usage);
     print_heading(plan);
     let mut report = Report {
         plan,
-        checksum: 0,
-        differing: Vec::new(),
+        sums: Sums::default(),
     };
     for row in rows() {
         for length in row.lengths {
             report.row(&row, *length);
         }
     }
-    report.verdict()
+    report.sums.verdict()
 }
 
 fn print_heading(plan: Plan) {
-    println!(
-        "One thread, nanoseconds an operation, the least of {} samples of {} ms.",
-        plan.samples,
-        plan.sample.as_millis()
-    );
+    plan.print("slices as the rows say");
     println!();
     println!(
         "| operation                    |    v2 ns |    v3 ns |  Rust ns | v2 ratio | v3 ratio |"
@@ -268,10 +228,7 @@ fn print_heading(plan: Plan) {
 /// What was found so far.
 struct Report {
     plan: Plan,
-    // of all results of the library
-    checksum: u64,
-    // the rows in which the sides' results differ
-    differing: Vec<String>,
+    sums: Sums,
 }
 
 impl Report {
@@ -297,32 +254,9 @@ impl Report {
                 .iter()
                 .map(|unit| unit(rounds, SEED, length))
                 .collect();
-            if let Some(first) = sums.first() {
-                self.checksum = self.checksum.rotate_left(5) ^ first;
-            }
-            if sums.iter().any(|sum| *sum != sums[0]) {
-                self.differing.push(format!("{name} ({rounds} rounds)"));
-            }
+            self.sums
+                .compare(&format!("{name} ({rounds} rounds)"), &sums, true);
         }
-    }
-
-    /// Says whether the sides' results are the same.
-    fn verdict(self) -> ExitCode {
-        println!();
-        if self.differing.is_empty() {
-            let absent = if cfg!(feature = "rust_crate") {
-                ""
-            } else {
-                " The Rust crate is not linked: RUST_CRATE was not set."
-            };
-            println!(
-                "Checksum {:016x}. The checksums of all sides agree in every row.{absent}",
-                self.checksum
-            );
-            return ExitCode::SUCCESS;
-        }
-        println!("THE CHECKSUMS DIFFER: {}.", self.differing.join("; "));
-        ExitCode::FAILURE
     }
 }
 
