@@ -1,4 +1,9 @@
-// A call in heaps with room for more and more bytes.
+// A call in heaps with room for 0, 16, 32, .. bytes, until one grants it. No contract says that a refusal comes only where memory was
+// refused, nor that a call succeeds where there is memory; this shows both. In each heap the call has to end as refused or as granted,
+// with what it leaves behind as wanted; all blocks have to come back; and where the call takes memory it has to be refused at least once.
+// After a refusal the rest of the heap is given back, so that what a test then asks of the same values has its memory. The heap that grants
+// the call shows that it succeeds where there is memory, with none to spare. A call that says always, or at some lengths, that memory was
+// refused is granted by no heap, and fails.
 use linked_list_allocator::LocalHeap;
 use std::alloc::{AllocError, Global};
 

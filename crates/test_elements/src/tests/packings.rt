@@ -1,4 +1,4 @@
-// Packings of four elements of the field of GHASH.
+// Packings of four elements of the field of GHASH: a worked row, and that `from_fn` calls its closure with each index once, in order.
 use field_element::{Ghash128, PackedGhash128};
 use packed_lanes::{PackedFieldPow2, PackedValue};
 

@@ -1,4 +1,5 @@
-// Each call on its happy path, and refused memory.
+// Each call on its happy path. And refused memory: `batch_multiplicative_inverse`, `powers_vec`, `shifted_powers_vec` and `eq_poly` of two or
+// three elements, each granted in a heap with room, and refused in one without; nothing is left behind.
 use field_base::traits::{Field, PrimeCharacteristicRing, TowerLevel};
 use field_element::{BinaryField8, Ghash128};
 use field_slices::{

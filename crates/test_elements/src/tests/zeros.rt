@@ -1,5 +1,5 @@
-// Vectors of zeros: each growth refused in turn, and success where there is memory, at each length from 0 to 257, and of bits. `zero_vec`
-// has one body for every ring.
+// Vectors of zeros. `zero_vec` has one body for every ring; it is tried over the field of GHASH, the cubic extension and GF(2), at each length
+// from 0 to 257: each growth is refused in turn, nothing is left behind, and the call succeeds where there is memory.
 use field_base::traits::PrimeCharacteristicRing;
 use field_base::{FieldKernel, Gf2, Stored};
 use field_element::{Coefficients, CubicKernel, Element};

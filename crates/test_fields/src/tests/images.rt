@@ -1,5 +1,6 @@
-// Vectors of images of the tower in a field of polynomials: each growth refused in turn, and success where there is memory, at each length
-// from 0 to 257. The images themselves are replayed by `replay_calls`.
+// Vectors of images of the tower in a field of polynomials: `from_tower_vec` of 0 to 257 elements of `Poly64` and of `Ghash128`. Each growth
+// is refused in turn, nothing is left behind, and the call succeeds where there is memory. The images themselves are replayed by
+// `replay_calls`.
 use field_base::Unsigned;
 use field_element::{Element, element_of_word, word_of};
 use linked_list_allocator::LocalHeap;

@@ -1,5 +1,12 @@
-// Each growth refused in turn, and success where there is memory: single calls of challengers whose bytes are in a heap, seeds, and
-// encoded elements, at each length from 0 to 257. What is appended where there is memory the contracts say.
+// Each growth refused in turn, and success where there is memory. What is appended where there is memory the contracts say. After a refusal of
+//
+// - `observe_seed` of 0 to 257 bytes into a `Recorder`, at all six fields: it holds a beginning of the seed's elements, and has failed for good;
+// - `encode` behind 0 to 257 bytes, at all six fields: the bytes are as before;
+// - a call of a challenger over `HashChallenger` from initial states of 0 to 257 bytes (`observe` of an element, of digests of bytes and of
+//   words, of caps lent and given away, `observe_slice`, `sample_element`, `sample_bits`, uniform bits, `check_witness`), at two fields: the
+//   challenger has failed, and every call says so;
+// - `grind(8)` over it from 16 initial states: it samples what a model does that was not called;
+// - `try_clone` of it, and a sample of the copy: the challenger is as before.
 use super::asked::{
     Asked, EVERY_CALL, Hashed, Row, Said, element, hashed, number_of, only_fails, repeated,
 };

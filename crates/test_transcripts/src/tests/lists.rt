@@ -1,5 +1,6 @@
-// Lists of calls: success where there is memory at each length from 0 to 257 against outside vectors, each growth refused in turn, and
-// each byte call. What a list that is refused has done the contracts say.
+// Lists of calls: success where there is memory at each length from 0 to 257 against outside vectors. And refusals: the reserve of `run_calls`
+// and each growth of a call in turn, and each byte call of 40 calls in turn. The replies to the calls before are given, and from then on each
+// call gets `Failed`. What a list that is refused has done the contracts say.
 ghost use Rattle.std.specs.Prelude.{All, IfOk};
 ghost use Rattle.transcript_elements.specs.Calls.{MayCall};
 

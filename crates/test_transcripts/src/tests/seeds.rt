@@ -1,4 +1,5 @@
-// Seeds as elements, and elements as bytes.
+// Seeds as elements, and elements as bytes. `decode` at each count of bytes below an element's, at all six fields, gives `Short` with both
+// counts.
 use super::asked::{are, element, number_of};
 use std::alloc::Global;
 use transcript_elements::{Recorder, TranscriptError, TranscriptField};

@@ -1,4 +1,7 @@
-// Elements of extensions in challengers, coefficient by coefficient, and values that are sampled into a vector.
+// Elements of extensions in challengers, coefficient by coefficient, and values that are sampled into a vector. Each growth is refused in turn:
+// after one of `observe_algebra_element`, `sample_algebra_element` or `sample` of an extension the challenger has failed, and the three say
+// so. Of `sample_vec(4)`, whose vector and challenger are in one heap: where the vector is refused the challenger samples as before; where a
+// sample is, it has failed for good.
 use super::asked::{
     Asked, EVERY_CALL, Row, Said, are, error_said, number_of, observed_said, only_fails,
 };

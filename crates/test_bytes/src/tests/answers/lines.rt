@@ -1,5 +1,5 @@
-// Worked rows and outside vectors: lines and their answers, each asked of the line alone and of a run over memory; and hostile lines of
-// one byte.
+// Worked rows and outside vectors: lines and their answers, each asked of the line alone and of a run over memory. Lines that no field, no
+// operation or no operand fits, and each line of one byte, get their errors.
 ghost use Rattle.std.specs.Prelude.{◌≡◌, IfOk};
 ghost use Rattle.calculator.specs.Lines.{answers};
 

@@ -1,4 +1,4 @@
-// How often a closure is called, and in which order.
+// A closure that counts its calls: `PackedGf2x512::from_fn` and `M256::from_words_fn` call it with each index once, in order.
 use bits_packed::PackedGf2x512;
 use bits_rows::{M256, Underlier};
 use field_base::Gf2;

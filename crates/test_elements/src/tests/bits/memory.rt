@@ -1,5 +1,5 @@
-// Rows and packed bits that are taken apart into vectors: a worked row, and each growth refused in turn, and success where there is memory,
-// at each length from 0 to 257.
+// Rows and packed bits that are taken apart into vectors: a worked row, and `split_copied`, `narrow_copied` and `bytes_copied` of 0 to 257
+// rows of 16 and of 128 bits. Each growth is refused in turn, nothing is left behind, and the call succeeds where there is memory.
 use bits_packed::{PackedGf2, PackedGf2x8, PackedGf2x16};
 use bits_rows::{Divisible, M128, Underlier};
 use linked_list_allocator::LocalHeap;

@@ -1,4 +1,5 @@
-// Iterators of too few bytes for an element, of enough and of more, and what is left of one that the caller keeps.
+// Iterators of 0 to 26 bytes. `from_le_byte_iter` and `from_le_byte_iter_by_ref` at all twelve fields, and `word_from_iter_by_ref` at two
+// words, give None below an element's bytes; an iterator that the caller keeps is left behind those bytes, or at its end.
 use field_base::{FieldKernel, Gf2};
 use field_bytes::{LittleEndian, RawDataSerializable, word_from_iter_by_ref};
 use field_element::{Coefficients, CubicKernel, Element};

@@ -1,4 +1,6 @@
-// Elements of spaces by their coefficients: how often a closure is called, and what is left of iterators.
+// Elements of spaces by their coefficients. `from_basis_coefficients_fn` calls its closure with each index once, in order. An iterator of fewer
+// items than there are coefficients, or of more, gives None, and one of as many gives the element; one that the caller keeps is left behind
+// one item more than the coefficients, or at its end. An iterator without end is left there too.
 use super::memory::push_power;
 use field_base::traits::PrimeCharacteristicRing;
 use field_space::{BasedVectorSpace, HasPowers};

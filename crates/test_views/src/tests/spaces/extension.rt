@@ -1,4 +1,5 @@
-// Extensions of a field: the text that names one, with memory and in a heap without room, and Frobenius's map.
+// Extensions of a field: the text that names one, granted where there is memory and refused in a heap without room, with nothing left behind,
+// and Frobenius's map.
 use field_base::traits::Field;
 use field_space::{AlgebraIdentity, ExtensionField, HasFrobenius};
 use linked_list_allocator::LocalHeap;

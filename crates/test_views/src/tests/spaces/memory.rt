@@ -1,5 +1,6 @@
-// Vectors of coefficients, and elements of them, at each length, where there is memory, and refused where there is not. What is in them
-// the contracts say.
+// `flatten_to_base` and `reconstitute_from_base` of 0 to 257 elements, where there is memory, and refused where there is not, in heaps of
+// 16, 32, 64, .. bytes: a vector grows to twice its length at least, so that each growth is the first to be refused in one of them. Nothing is
+// left behind. What is in the vectors the contracts say.
 use field_base::traits::PrimeCharacteristicRing;
 use field_space::BasedVectorSpace;
 use linked_list_allocator::LocalHeap;
