@@ -43,30 +43,24 @@ OWN_CALLS = {
 IN_TURNS = {"square", "square_root"}
 
 # The functions of no field and of the stages: the file, the function of c_arithmetic, and the contract.
-OTHER_CALLS = {
-    "r8_linear_map": ("linear", "map_bytes", "MapsLinearly itself 8 images.now values.now mapped.old mapped.new result"),
-    "g128_linear_map": ("linear", "map_wide", "MapsLinearly wide_number 128 images.now values.now mapped.old mapped.new result"),
-    "g128_butterfly_forward": (
-        "transforms", "butterfly_forward", "ButterfliesForward (wide_number scalar.now) low.old high.old low.new high.new result"),
-    "g128_butterfly_inverse": (
-        "transforms", "butterfly_inverse", "ButterfliesInverse (wide_number scalar.now) low.old high.old low.new high.new result"),
-    "g128_low_stages": ("transforms", "low_stages", "RunsLowStages shifts.now basis.now first_run values.old values.new result"),
-    "g128_transform": ("transforms", "transform", "Transforms (wide_number shift.now) values.old values.new result"),
-    "g128_inverse_transform": ("transforms", "inverse_transform", "InvertsTransform (wide_number shift.now) values.old values.new result"),
-    "tag_ghash": ("messages", "ghash", "Hashes (Unit {0}) key.now (ghash key.now (blocks_of message.now)) hash.old hash.new result"),
-    "tag_polyval": ("messages", "polyval", "Hashes (Unit {0}) key.now (polyval key.now (blocks_of message.now)) hash.old hash.new result"),
-    "tag_gcm_ghash": (
-        "messages", "gcm_ghash",
-        "Hashes ((length associated.now < 2 ^ 61) × (length ciphertext.now < 2 ^ 61)) key.now\n"
-        "        (ghash key.now (gcm_blocks associated.now ciphertext.now)) hash.old hash.new result"),
-    "tags_are_equal": ("messages", "tags_are_equal", "Compares left.now right.now equal.new result"),
-    "rs_encode": ("shards", "encode", "Encodes «data» parity shards.old shards.new result"),
-    "rs_verify": ("shards", "verify", "Verifies «data» parity shards.now whole.old whole.new result"),
-    "rs_reconstruct": (
-        "shards", "reconstruct", "Reconstructs «data» parity («data» + parity) present.now shards.old shards.new result"),
-    "rs_reconstruct_data": (
-        "shards", "reconstruct_data", "Reconstructs «data» parity «data» present.now shards.old shards.new result"),
-}
+OTHER_CALLS = {row.split()[0]: row.split(maxsplit=3)[1:] for row in """\
+r8_linear_map           linear      map_bytes          MapsLinearly itself 8 images.now values.now mapped.old mapped.new result
+g128_linear_map         linear      map_wide           MapsLinearly wide_number 128 images.now values.now mapped.old mapped.new result
+g128_butterfly_forward  transforms  butterfly_forward  ButterfliesForward (wide_number scalar.now) low.old high.old low.new high.new result
+g128_butterfly_inverse  transforms  butterfly_inverse  ButterfliesInverse (wide_number scalar.now) low.old high.old low.new high.new result
+g128_low_stages         transforms  low_stages         RunsLowStages shifts.now basis.now first_run values.old values.new result
+g128_transform          transforms  transform          Transforms (wide_number shift.now) values.old values.new result
+g128_inverse_transform  transforms  inverse_transform  InvertsTransform (wide_number shift.now) values.old values.new result
+tag_ghash               messages    ghash              Hashes (Unit {0}) key.now (ghash key.now (blocks_of message.now)) hash.old hash.new result
+tag_polyval             messages    polyval            Hashes (Unit {0}) key.now (polyval key.now (blocks_of message.now)) hash.old hash.new result
+tag_gcm_ghash           messages    gcm_ghash          Hashes ((length associated.now < 2 ^ 61) × (length ciphertext.now < 2 ^ 61)) key.now \
+(ghash key.now (gcm_blocks associated.now ciphertext.now)) hash.old hash.new result
+tags_are_equal          messages    tags_are_equal     Compares left.now right.now equal.new result
+rs_encode               shards      encode             Encodes «data» parity shards.old shards.new result
+rs_verify               shards      verify             Verifies «data» parity shards.now whole.old whole.new result
+rs_reconstruct          shards      reconstruct        Reconstructs «data» parity («data» + parity) present.now shards.old shards.new result
+rs_reconstruct_data     shards      reconstruct_data   Reconstructs «data» parity «data» present.now shards.old shards.new result
+""".splitlines()}
 
 # What each file of such functions has.
 ABOUT = {
@@ -95,8 +89,8 @@ HOMES = {
     ],
 }
 
-# The columns of a line of code, and of those that `rt fmt` does not break.
-COLUMNS, LONG_COLUMNS = 100, 135
+# The columns of a line of code, of those that `rt fmt` does not break, and of a contract.
+COLUMNS, LONG_COLUMNS, CONTRACT_COLUMNS = 100, 135, 140
 
 
 def parameter(kind, name, word):
@@ -143,11 +137,14 @@ def function(name, parameters, text, called, clause, more=()):
     if len(signature) > COLUMNS:
         rows = "".join(f"    {it},\n" for it in shown)
         signature = f'pub extern "C" fn bf_{name}(\n{rows}) -> u32'
+    contract = f"    ensures {{ {clause} }}"
+    if len(contract) > CONTRACT_COLUMNS:
+        contract = textwrap.fill(contract, COLUMNS, subsequent_indent=" " * 8, drop_whitespace=True)
     return "\n".join([
         *(f"/// {it}" for it in textwrap.wrap(c_library.sentence(text, parameters), LONG_COLUMNS)),
         "#[unsafe(no_mangle)]",
         signature,
-        f"    ensures {{ {clause} }}",
+        contract,
         "{",
         f"    {called}({', '.join([*arguments, *more])})",
         "}",

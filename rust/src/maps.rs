@@ -9,32 +9,12 @@ pub fn linear_map(
     images: &[Ghash128],
     mapped: &mut [Ghash128],
 ) -> Result<(), Error> {
-    // SAFETY: the pointers and lengths are those of slices, of which the one that is written overlaps no other. So it is below.
-    Error::of(unsafe {
-        bf_g128_linear_map(
-            values.as_ptr().cast(),
-            values.len(),
-            images.as_ptr().cast(),
-            images.len(),
-            mapped.as_mut_ptr().cast(),
-            mapped.len(),
-        )
-    })
+    Error::of(over!(bf_g128_linear_map: values, images; ; mapped))
 }
 
 /// Writes for each byte the sum of the images at its set bits, of eight images.
 pub fn linear_map_of_bytes(values: &[u8], images: &[u8], mapped: &mut [u8]) -> Result<(), Error> {
-    // SAFETY: as above.
-    Error::of(unsafe {
-        bf_r8_linear_map(
-            values.as_ptr(),
-            values.len(),
-            images.as_ptr(),
-            images.len(),
-            mapped.as_mut_ptr(),
-            mapped.len(),
-        )
-    })
+    Error::of(over!(bf_r8_linear_map: values, images; ; mapped))
 }
 
 macro_rules! butterflies {
@@ -42,7 +22,7 @@ macro_rules! butterflies {
         $(#[$about])*
         pub fn $name(low: &mut [Ghash128], high: &mut [Ghash128], scalar: Ghash128) -> Result<(), Error> {
             let scalar = (&raw const scalar).cast();
-            // SAFETY: as above.
+            // SAFETY: the pointers and lengths are those of slices, which overlap no other. So it is below.
             Error::of(unsafe {
                 $function(low.as_mut_ptr().cast(), low.len(), high.as_mut_ptr().cast(), high.len(), scalar)
             })

@@ -56,6 +56,11 @@ fn drawn_packings(random: &mut Random) -> Packings {
     })
 }
 
+fn drawn_factors(seed: u64) -> [Packings; 2] {
+    let mut random = Random(seed);
+    [(); 2].map(|()| drawn_packings(&mut random))
+}
+
 fn sum_of_packings(packings: &Packings) -> u64 {
     sum_of_numbers((0..64).flat_map(|place| {
         packings
@@ -65,9 +70,7 @@ fn sum_of_packings(packings: &Packings) -> u64 {
 }
 
 pub fn packed_ghash_product(rounds: u64, seed: u64, _: usize) -> u64 {
-    let mut random = Random(seed);
-    let mut left = drawn_packings(&mut random);
-    let right = drawn_packings(&mut random);
+    let [mut left, right] = drawn_factors(seed);
     for _ in 0..rounds {
         for (left, right) in left.iter_mut().zip(&right) {
             for (left, right) in left.iter_mut().zip(right) {
@@ -91,9 +94,7 @@ pub fn packed_ghash_by_element(rounds: u64, seed: u64, _: usize) -> u64 {
 }
 
 pub fn packed_ghash_dot_product(rounds: u64, seed: u64, _: usize) -> u64 {
-    let mut random = Random(seed);
-    let mut left = drawn_packings(&mut random);
-    let right = drawn_packings(&mut random);
+    let [mut left, right] = drawn_factors(seed);
     for round in 0..rounds {
         for (left, right) in left.iter_mut().zip(&right) {
             left[(round % 64) as usize] = Packing::dot_product(left, right);
