@@ -41,30 +41,30 @@ typedef struct bf_u192 {
     uint64_t words[3];
 } bf_u192;
 
-/* The call did what it says. */
+/* Success. */
 #define BF_OK 0u
-/* The lengths do not fit each other, or are not what the function takes. */
+/* Mismatched or invalid lengths. */
 #define BF_LENGTH 1u
-/* A word is no element of the field. */
+/* A word is not an element of the field. */
 #define BF_NOT_AN_ELEMENT 2u
-/* Memory was refused, which no function of this version tells, since none takes memory. */
+/* Out of memory, which no function of this version returns. */
 #define BF_MEMORY 3u
-/* No code has so many shards of data and parity. */
+/* Invalid shard counts. */
 #define BF_CODE 4u
-/* Fewer shards are present than the data have. */
+/* Too few shards are present. */
 #define BF_TOO_FEW_SHARDS 5u
 
 /* The sentence of a status, without a full stop. It never returns NULL. */
 static inline const char *bf_status_text(uint32_t status)
 {
     switch (status) {
-    case BF_OK: return "the call did what it says";
-    case BF_LENGTH: return "the lengths do not fit each other, or are not what the function takes";
-    case BF_NOT_AN_ELEMENT: return "a word is no element of the field";
-    case BF_MEMORY: return "memory was refused, which no function of this version tells, since none takes memory";
-    case BF_CODE: return "no code has so many shards of data and parity";
-    case BF_TOO_FEW_SHARDS: return "fewer shards are present than the data have";
-    default: return "no status of this library";
+    case BF_OK: return "success";
+    case BF_LENGTH: return "mismatched or invalid lengths";
+    case BF_NOT_AN_ELEMENT: return "a word is not an element of the field";
+    case BF_MEMORY: return "out of memory, which no function of this version returns";
+    case BF_CODE: return "invalid shard counts";
+    case BF_TOO_FEW_SHARDS: return "too few shards are present";
+    default: return "unknown status";
     }
 }
 

@@ -13,12 +13,12 @@ Every function returns a status but where the table says otherwise. Lengths coun
 from fields import FIELDS
 
 STATUSES = [
-    ("BF_OK", 0, "the call did what it says"),
-    ("BF_LENGTH", 1, "the lengths do not fit each other, or are not what the function takes"),
-    ("BF_NOT_AN_ELEMENT", 2, "a word is no element of the field"),
-    ("BF_MEMORY", 3, "memory was refused, which no function of this version tells, since none takes memory"),
-    ("BF_CODE", 4, "no code has so many shards of data and parity"),
-    ("BF_TOO_FEW_SHARDS", 5, "fewer shards are present than the data have"),
+    ("BF_OK", 0, "success"),
+    ("BF_LENGTH", 1, "mismatched or invalid lengths"),
+    ("BF_NOT_AN_ELEMENT", 2, "a word is not an element of the field"),
+    ("BF_MEMORY", 3, "out of memory, which no function of this version returns"),
+    ("BF_CODE", 4, "invalid shard counts"),
+    ("BF_TOO_FEW_SHARDS", 5, "too few shards are present"),
 ]
 
 # The word of C for each word of the table. The wide ones are structs of words of 64 bits, the lowest first.

@@ -4,6 +4,7 @@
     python/binary_field/_functions.py    the functions with their parameters, for ctypes
     python/binary_field/_fields.py       a class for each field
     rust/src/functions.rs                the functions as Rust declares foreign ones
+    rust/src/error.rs                    the statuses as errors
     rust/src/fields.rs                   a type for each field, by the macros of rust/src/field_macros.rs
     python/pyproject.toml                the version alone
     rust/Cargo.toml                      the version alone
@@ -109,6 +110,51 @@ def rust_functions():
     return "".join([*out, "}\n"])
 
 
+def rust_errors():
+    """The statuses besides BF_OK as an enum, by the words of their names."""
+    rows = [(name, "".join(map(str.title, name.split("_")[1:])), text) for name, value, text in c_library.STATUSES if value]
+    variants = "".join(f"    /// {sentence(text)}\n    {variant},\n" for _, variant, text in rows)
+    statuses = "".join(f"            functions::{name} => Err(Error::{variant}),\n" for name, variant, _ in rows)
+    texts = "".join(f'            Error::{variant} => "{text.partition(",")[0]}",\n' for _, variant, text in rows)
+    return f"""\
+//! The statuses of the library. {WRITTEN}
+
+use crate::functions;
+use core::fmt;
+
+/// Why a call did nothing: everything that it could write is as before.
+#[derive(Clone, Copy, Debug, PartialEq, Eq, Hash)]
+pub enum Error {{
+{variants}}}
+
+impl Error {{
+    /// What a status of the library says.
+    pub(crate) fn of(status: u32) -> Result<(), Error> {{
+        match status {{
+            functions::BF_OK => Ok(()),
+{statuses}            other => panic!("the library has no status {{other}}"),
+        }}
+    }}
+}}
+
+/// A call that returns no status but BF_OK: its slices have lengths that fit, and its words are elements.
+pub(crate) fn succeed(status: u32) {{
+    if let Err(error) = Error::of(status) {{
+        panic!("{{error}}");
+    }}
+}}
+
+impl fmt::Display for Error {{
+    fn fmt(&self, formatter: &mut fmt::Formatter<'_>) -> fmt::Result {{
+        formatter.write_str(match self {{
+{texts}        }})
+    }}
+}}
+
+impl core::error::Error for Error {{}}
+"""
+
+
 def rust_field(field):
     """A field by its macro, each function by the name that it has for every field."""
     one = f"[{', '.join(map(str, field.one))}]" if field.word == "u192" else "1"
@@ -146,6 +192,7 @@ def main():
     files.keep("python/binary_field/_functions.py", python_functions())
     files.keep("python/binary_field/_fields.py", python_fields())
     files.keep("rust/src/functions.rs", rust_functions())
+    files.keep("rust/src/error.rs", rust_errors())
     files.keep("rust/src/fields.rs", rust_fields())
     for path in ("python/pyproject.toml", "rust/Cargo.toml"):
         files.keep(path, with_version(path))

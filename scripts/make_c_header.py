@@ -128,7 +128,7 @@ def header():
     out.append("\n/* The sentence of a status, without a full stop. It never returns NULL. */\n")
     out.append("static inline const char *bf_status_text(uint32_t status)\n{\n    switch (status) {\n")
     out += [f'    case {name}: return "{text}";\n' for name, _, text in c_library.STATUSES]
-    out.append('    default: return "no status of this library";\n    }\n}\n\n')
+    out.append('    default: return "unknown status";\n    }\n}\n\n')
     for name, word, text in c_library.PLAIN_FUNCTIONS:
         out.append(f"{comment(sentence(text))}{word} bf_{name}(void);\n\n")
     for heading, rows in sections():

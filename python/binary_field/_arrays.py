@@ -76,18 +76,18 @@ class FieldArray(metaclass=_Constants):
     def _checked(cls, values: np.ndarray) -> np.ndarray:
         """A copy of integers, of which each has to be an element."""
         if values.size and (int(values.min()) < 0 or int(values.max()) >= cls.order):
-            raise ValueError(f"an element of {cls.__name__} is an integer from 0 to 2**{cls.degree} - 1")
+            raise ValueError(f"elements of {cls.__name__} must be integers from 0 to 2**{cls.degree} - 1")
         return np.array(values, dtype=cls._dtype(), order="C")
 
     @classmethod
     def _integer(cls, value: Any) -> int:
         if isinstance(value, FieldArray):
             if type(value) is not cls:
-                raise TypeError(f"a list of elements of {type(value).__name__} is no array of {cls.__name__}")
+                raise TypeError(f"cannot make an array of {cls.__name__} from a list of elements of {type(value).__name__}")
             return int(value)
         number = int(value, 16) if isinstance(value, str) else operator.index(value)
         if not 0 <= number < cls.order:
-            raise ValueError(f"an element of {cls.__name__} is an integer from 0 to 2**{cls.degree} - 1, and {number:#x} is none")
+            raise ValueError(f"{number:#x} is not an element of {cls.__name__}: it must be from 0 to 2**{cls.degree} - 1")
         return number
 
     @classmethod
@@ -141,7 +141,8 @@ class FieldArray(metaclass=_Constants):
         """The elements that these words hold, copied: of 128 and 192 bits the last axis has 2 or 3 words of 64, the lowest first."""
         words = np.asarray(words)
         if words.dtype != cls._dtype() or (cls._inner() and words.shape[-1:] != cls._inner()):
-            raise TypeError(f"the words of {cls.__name__} are {np.dtype(cls._dtype())}" + (f" with a last axis of {cls._inner()[0]}" if cls._inner() else ""))
+            axis = f" with a last axis of {cls._inner()[0]}" if cls._inner() else ""
+            raise TypeError(f"words of {cls.__name__} must be of type {np.dtype(cls._dtype())}{axis}")
         return cls._of(cls._checked(words) if cls.degree < 8 else np.array(words, order="C"))
 
     @classmethod
@@ -163,7 +164,7 @@ class FieldArray(metaclass=_Constants):
         if field is type(self):
             return self  # type: ignore[return-value]
         if self._partner != field._name:
-            raise TypeError(f"the library has no change of basis from {type(self).__name__} to {field.__name__}")
+            raise TypeError(f"cannot convert {type(self).__name__} to {field.__name__}")
         result = field._empty(self.shape)
         call(f"{self._name}_to_{field._name}", self._words, result._words)
         return result
@@ -207,7 +208,7 @@ class FieldArray(metaclass=_Constants):
 
     def __int__(self) -> int:
         if self.size != 1:
-            raise TypeError("only one element is an integer")
+            raise TypeError("only a single element can be converted to an integer")
         return int.from_bytes(self._words.tobytes(), "little")
 
     def __bool__(self) -> bool:
@@ -223,7 +224,7 @@ class FieldArray(metaclass=_Constants):
     def __array__(self, dtype: Any = None, copy: bool | None = None) -> np.ndarray:
         """The representations, copied: unsigned integers, and above 64 bits integers of Python."""
         if copy is False:
-            raise ValueError("the elements of a field are not an array of numpy without a copy")
+            raise ValueError("cannot make an array of numpy without a copy")
         values = self._words if not self._inner() else np.array(self.tolist(), dtype=object).reshape(self.shape)
         return np.array(values, dtype=dtype)
 
@@ -255,7 +256,7 @@ class FieldArray(metaclass=_Constants):
         """An array of this field, of representations where it is not one already."""
         if isinstance(value, FieldArray):
             if type(value) is not cls:
-                raise TypeError(f"{cls.__name__} and {type(value).__name__} do not meet in one operation; `to` changes the basis")
+                raise TypeError(f"{cls.__name__} and {type(value).__name__} cannot be mixed; convert with .to()")
             return value  # type: ignore[return-value]
         return cls(value)
 
@@ -266,7 +267,7 @@ class FieldArray(metaclass=_Constants):
             return cls._operand(value)
         if isinstance(value, (int, np.integer)) and value in (0, 1):
             return cls.ones(()) if value else cls._empty(())
-        raise TypeError(f"the other operand has to be of {cls.__name__}, or 0 or 1: {cls.__name__}(..) makes elements of representations")
+        raise TypeError(f"the other operand must be of {cls.__name__}, or 0 or 1; make elements of integers with {cls.__name__}(..)")
 
     def _elementwise(self: A, function: str, other: A) -> A:
         """A function of two arrays, after broadcasting."""
@@ -278,7 +279,7 @@ class FieldArray(metaclass=_Constants):
             try:
                 shape = np.broadcast_shapes(left.shape, right.shape)
             except ValueError as error:
-                raise ValueError(f"arrays of the shapes {left.shape} and {right.shape} do not fit each other") from error
+                raise ValueError(f"arrays of shapes {left.shape} and {right.shape} cannot be broadcast together") from error
             left, right = left._broadcast(shape), right._broadcast(shape)
         result = self._of(np.empty_like(left._words))
         call(f"{self._name}_{function}", left._words, right._words, result._words)
@@ -338,7 +339,7 @@ class FieldArray(metaclass=_Constants):
     def __pow__(self: A, exponent: Any) -> A:
         """Each element to the power of one integer, of any size; a negative one is a power of the inverses."""
         if not isinstance(exponent, (int, np.integer)):
-            raise TypeError("an exponent is one integer")
+            raise TypeError("the exponent must be a single integer")
         base, rest = (self, int(exponent)) if exponent >= 0 else (self.reciprocal(), -int(exponent))
         result = base._each("power", rest & _MASK_64)
         while rest := rest >> 64:
@@ -429,7 +430,7 @@ def _binary(method: Callable) -> Callable:
 def _matmul(left: A, right: A) -> A:
     """The product of vectors and matrices, by dot products of rows and columns."""
     if not 1 <= left.ndim <= 2 or not 1 <= right.ndim <= 2 or left.shape[-1] != right.shape[0]:
-        raise ValueError(f"the shapes {left.shape} and {right.shape} are not those of vectors or matrices with a product")
+        raise ValueError(f"cannot multiply arrays of shapes {left.shape} and {right.shape}")
     rows = left._words if left.ndim == 2 else left._words[np.newaxis]
     columns = np.ascontiguousarray(right._words.swapaxes(0, 1) if right.ndim == 2 else right._words[np.newaxis])
     result = left._empty((rows.shape[0], columns.shape[0]))

@@ -12,7 +12,7 @@ from ._library import call
 def _bytes(value: Any) -> np.ndarray:
     """The bytes of an object that lends them; an array of numpy has to be one of bytes."""
     if isinstance(value, np.ndarray) and value.dtype != np.uint8:
-        raise TypeError(f"an array of uint8 is wanted, and not of {value.dtype}")
+        raise TypeError(f"expected an array of uint8, not of {value.dtype}")
     view = memoryview(value)
     return np.ascontiguousarray(np.frombuffer(view.cast("B") if view.nbytes and view.contiguous else view.tobytes(), np.uint8))
 
@@ -53,7 +53,7 @@ class ReedSolomon:
 
     def __init__(self, data: int, parity: int) -> None:
         if not (data >= 1 and parity >= 1 and data + parity <= 256):
-            raise ValueError("a code has at least one shard of data and one of parity, and at most 256 in all")
+            raise ValueError("invalid shard counts: at least one of data and one of parity, and at most 256 in all")
         self.data, self.parity = data, parity
 
     def __repr__(self) -> str:
@@ -86,7 +86,7 @@ class ReedSolomon:
             present = [it is not None for it in shards]
         sizes = [len(it) for it in shards if it is not None]
         if not sizes:
-            raise ValueError("no shard is present")
+            raise ValueError("too few shards are present")
         rows = [np.zeros(sizes[0], np.uint8) if it is None else it for it in shards]
         all_shards = self._rows(rows, self.data + self.parity).copy()
         call(name, self.data, self.parity, all_shards, np.array(present, dtype=bool).astype(np.uint8))
@@ -97,8 +97,8 @@ class ReedSolomon:
         if not isinstance(shards, np.ndarray):
             shards = [_bytes(it) for it in shards]
             if len({len(it) for it in shards}) > 1:
-                raise ValueError("all shards have one size")
+                raise ValueError("all shards must have one size")
             shards = np.array(shards, np.uint8)
         if shards.dtype != np.uint8 or shards.ndim != 2 or len(shards) != count:
-            raise ValueError(f"{count} rows of bytes are wanted")
+            raise ValueError(f"expected {count} rows of bytes")
         return np.ascontiguousarray(shards)

@@ -6,12 +6,12 @@ VERSION_TEXT = "0.1.0"
 
 # The name of each status, and its sentence.
 STATUSES: dict[int, tuple[str, str]] = {
-    0: ("BF_OK", "the call did what it says"),
-    1: ("BF_LENGTH", "the lengths do not fit each other, or are not what the function takes"),
-    2: ("BF_NOT_AN_ELEMENT", "a word is no element of the field"),
-    3: ("BF_MEMORY", "memory was refused, which no function of this version tells, since none takes memory"),
-    4: ("BF_CODE", "no code has so many shards of data and parity"),
-    5: ("BF_TOO_FEW_SHARDS", "fewer shards are present than the data have"),
+    0: ("BF_OK", "success"),
+    1: ("BF_LENGTH", "mismatched or invalid lengths"),
+    2: ("BF_NOT_AN_ELEMENT", "a word is not an element of the field"),
+    3: ("BF_MEMORY", "out of memory, which no function of this version returns"),
+    4: ("BF_CODE", "invalid shard counts"),
+    5: ("BF_TOO_FEW_SHARDS", "too few shards are present"),
 }
 
 # The parameters of each function: kind, name and word.

@@ -32,7 +32,7 @@ def _load() -> dict:
         raise ImportError(f"binary_field: {error}; scripts/build-library makes the library, and BINARY_FIELD_LIBRARY names it") from error
     library.bf_version.restype = ctypes.c_uint32
     if library.bf_version() != VERSION:
-        raise ImportError(f"binary_field: {path} has version {library.bf_version()}, and this package belongs to {VERSION}")
+        raise ImportError(f"binary_field: {path} has version {library.bf_version()}, but this package needs {VERSION}")
     is_wide = _cpu(path) == "x86-64-v3"
     functions = {name: library[f"bf_{name}_wide" if is_wide and f"{name}_wide" in FUNCTIONS else f"bf_{name}"] for name in FUNCTIONS}
     for name, function in functions.items():
@@ -81,14 +81,14 @@ def call(name: str, *arguments) -> None:
             continue
         flags, size = value.flags, value.size
         if value.dtype != dtype or not flags.c_contiguous or not flags.aligned or size % count:
-            raise TypeError(f"{name}: {parameter} is no contiguous array of {dtype}")
+            raise TypeError(f"{name}: {parameter} must be a contiguous array of {dtype}")
         if is_written and not flags.writeable:
             raise ValueError(f"{name}: {parameter} is read-only")
         given.append(value.__array_interface__["data"][0] if size else ctypes.addressof(EMPTY))
         if is_array:
             given.append(size // count)
         elif size != count:
-            raise TypeError(f"{name}: {parameter} is one element")
+            raise TypeError(f"{name}: {parameter} must be one element")
     status = function(*given)
     if status:
         short, text = STATUSES[status]

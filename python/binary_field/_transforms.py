@@ -16,7 +16,7 @@ def _vector(values: Any) -> Ghash128:
     """A copy of an array of one dimension."""
     result = Ghash128._operand(values).copy()
     if result.ndim != 1:
-        raise ValueError("an array of one dimension is wanted")
+        raise ValueError("expected an array of one dimension")
     return result
 
 
@@ -55,7 +55,7 @@ def butterfly_inverse(low: Ghash128, high: Ghash128, scalar: Any) -> None:
 
 def _butterfly(way: str, low: Ghash128, high: Ghash128, scalar: Any) -> None:
     if not isinstance(low, Ghash128) or not isinstance(high, Ghash128) or low is high:
-        raise TypeError("low and high are two arrays of Ghash128")
+        raise TypeError("low and high must be arrays of Ghash128")
     call(f"g128_butterfly_{way}", low._words, high._words, Ghash128._operand(scalar)._words)
 
 
@@ -64,7 +64,7 @@ def low_stages(values: Any, shifts: Any, basis: Any, first_run: int = 0) -> Ghas
     place p is shifts[j], and basis[t] for each set bit t of p >> (j + 1)."""
     result = _vector(values)
     if not 0 <= first_run < 1 << 64:
-        raise ValueError("first_run is from 0 to 2**64 - 1")
+        raise ValueError("first_run must be from 0 to 2**64 - 1")
     call("g128_low_stages", result._words, Ghash128._operand(shifts)._words, Ghash128._operand(basis)._words, first_run)
     return result
 
@@ -75,6 +75,6 @@ def linear_map(images: A, values: A) -> A:
     values = field._operand(values)
     result = field._empty(values.shape)
     if field._name not in ("r8", "g128"):
-        raise TypeError("linear maps are over Rijndael8b and Ghash128")
+        raise TypeError("linear maps are defined over Rijndael8b and Ghash128")
     call(f"{field._name}_linear_map", values._words, images._words, result._words)
     return result

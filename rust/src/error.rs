@@ -1,4 +1,4 @@
-//! The statuses of the library.
+//! The statuses of the library. Written by scripts/make_bindings.py; do not edit.
 
 use crate::functions;
 use core::fmt;
@@ -6,15 +6,15 @@ use core::fmt;
 /// Why a call did nothing: everything that it could write is as before.
 #[derive(Clone, Copy, Debug, PartialEq, Eq, Hash)]
 pub enum Error {
-    /// The lengths do not fit each other, or are not what the function takes.
+    /// Mismatched or invalid lengths.
     Length,
-    /// A word is no element of the field.
+    /// A word is not an element of the field.
     NotAnElement,
-    /// Memory was refused.
+    /// Out of memory, which no function of this version returns.
     Memory,
-    /// No code has so many shards of data and parity.
+    /// Invalid shard counts.
     Code,
-    /// Fewer shards are present than the data have.
+    /// Too few shards are present.
     TooFewShards,
 }
 
@@ -43,13 +43,11 @@ pub(crate) fn succeed(status: u32) {
 impl fmt::Display for Error {
     fn fmt(&self, formatter: &mut fmt::Formatter<'_>) -> fmt::Result {
         formatter.write_str(match self {
-            Error::Length => {
-                "the lengths do not fit each other, or are not what the function takes"
-            }
-            Error::NotAnElement => "a word is no element of the field",
-            Error::Memory => "memory was refused",
-            Error::Code => "no code has so many shards of data and parity",
-            Error::TooFewShards => "fewer shards are present than the data have",
+            Error::Length => "mismatched or invalid lengths",
+            Error::NotAnElement => "a word is not an element of the field",
+            Error::Memory => "out of memory",
+            Error::Code => "invalid shard counts",
+            Error::TooFewShards => "too few shards are present",
         })
     }
 }

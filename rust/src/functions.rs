@@ -4,17 +4,17 @@
 //! nothing else of the call. On a status that is not `BF_OK` everything that a function could write is as before. Where the library was
 //! built for x86-64-v3, a function that has a form `_wide` is that form.
 
-/// The call did what it says.
+/// Success.
 pub const BF_OK: u32 = 0;
-/// The lengths do not fit each other, or are not what the function takes.
+/// Mismatched or invalid lengths.
 pub const BF_LENGTH: u32 = 1;
-/// A word is no element of the field.
+/// A word is not an element of the field.
 pub const BF_NOT_AN_ELEMENT: u32 = 2;
-/// Memory was refused, which no function of this version tells, since none takes memory.
+/// Out of memory, which no function of this version returns.
 pub const BF_MEMORY: u32 = 3;
-/// No code has so many shards of data and parity.
+/// Invalid shard counts.
 pub const BF_CODE: u32 = 4;
-/// Fewer shards are present than the data have.
+/// Too few shards are present.
 pub const BF_TOO_FEW_SHARDS: u32 = 5;
 
 unsafe extern "C" {

@@ -28,6 +28,7 @@
 mod field_macros;
 
 mod bytes;
+#[rustfmt::skip]
 mod error;
 mod field;
 #[rustfmt::skip]

@@ -138,7 +138,7 @@ fn words_outside_a_field_are_refused_and_texts_are_hexadecimal() {
         format!("{:?} {}", Ghash128::new(0x87), Poly192::new([1, 2, 3])),
         "Ghash128(0x87) [0x1, 0x2, 0x3]"
     );
-    assert_eq!(Error::Memory.to_string(), "memory was refused");
+    assert_eq!(Error::Memory.to_string(), "out of memory");
 }
 
 #[test]
