@@ -1,5 +1,5 @@
-// The harness, on vectors of bytes.
-use crate::{Ending, Growing, Rest, is_refused_in_turn, refusals_of};
+// The harness, on vectors of bytes, and the first numbers that are drawn.
+use crate::{Ending, Growing, Rest, fill, fill_bytes, is_refused_in_turn, refusals_of};
 use linked_list_allocator::LocalHeap;
 use std::alloc::{AllocError, Allocator, Global};
 
@@ -58,5 +58,19 @@ fn growths_are_refused_in_turn(rt: HostRuntime) {
             && are_refused_in_turn(rt.alloc(), 1)
             && are_refused_in_turn(rt.alloc(), 100)
             && forgetting(rt.alloc(), 1) == Ok(None)
+    );
+}
+
+// The words that splitmix64 draws from the seed 1234567, as Rosetta Code lists them.
+#[test]
+fn numbers_are_drawn_from_a_seed(rt: HostRuntime) {
+    let mut numbers = [0; 2];
+    fill(&mut numbers, 1_234_567);
+    let mut bytes = [0; 4];
+    fill_bytes(&mut bytes, 1_234_567);
+    assert!(rt;
+        numbers[0] == 3_203_168_211_198_807_973 << 64 | 6_457_827_717_110_365_317
+            && numbers[1] == 4_593_380_528_125_082_431 << 64 | 9_817_491_932_198_370_423
+            && bytes == [0x59, 0x2c, 0x88, 0x3f]
     );
 }
