@@ -41,16 +41,21 @@ module _ (product : ℕ → ℕ → ℕ) (key multiplier : ℕ)
       ∙ ap (λ (z : ℕ). fold (λ y x. ghash_times (bit_xor y x) multiplier) z (map (λ b. reversed 128 (read b)) blocks)) reversed-zero))
       ∙ reversed_twice 128 (polynomial_hash product key (map read blocks)) (fold-lt 0 (map read blocks) (pow_pos 128))
 
+  -- the hash as bytes, however a number is written
+  pub hash_written : (read : List ℕ → ℕ) (write : ℕ → List ℕ) (blocks : List (List ℕ)) (h : ℕ)
+      → h ≡ polynomial_hash ghash_times multiplier (map (λ b. reversed 128 (read b)) blocks)
+      → write (reversed 128 h) ≡ write (polynomial_hash product key (map read blocks))
+  hash_written read write blocks h is = ap write (ap (reversed 128) is ∙ hash_reversed read blocks)
+
 -- GHASH by the field
 pub ghash_result : (key : List ℕ) (blocks : List (List ℕ)) (h : ℕ)
     → h ≡ polynomial_hash ghash_times (ghash_element key) (map ghash_element blocks)
     → to_be_bytes w128 (reverse_bits w128 h) ≡ ghash key blocks
 unfolding ghash
-ghash_result key blocks h is =
-    ap (λ (z : ℕ). to_be_bytes w128 z)
-    (ap (reversed 128) is
-    ∙ hash_reversed gcm_product (from_be_bytes w128 key) (ghash_element key) (λ a. gcm_product-lt a (from_be_bytes w128 key))
-    (λ a. gcm_product_image a (from_be_bytes w128 key)) (from_be_bytes w128) blocks)
+ghash_result key blocks =
+    let k = from_be_bytes w128 key in
+    hash_written gcm_product k (ghash_element key) (λ a. gcm_product-lt a k) (λ a. gcm_product_image a k) (from_be_bytes w128)
+    (to_be_bytes w128) blocks
 
 -- the product of POLYVAL is one by the multiplier
 pub dot_multiplier : (a k : ℕ) → reversed 128 (dot a k) ≡ ghash_times (reversed 128 a) (ghash_times 2 (reversed 128 k))
@@ -61,8 +66,7 @@ pub polyval_result : (key : List ℕ) (blocks : List (List ℕ)) (h : ℕ)
     → h ≡ polynomial_hash ghash_times (polyval_multiplier key) (map polyval_element blocks)
     → to_le_bytes w128 (reverse_bits w128 h) ≡ polyval key blocks
 unfolding polyval
-polyval_result key blocks h is =
-    ap (λ (z : ℕ). to_le_bytes w128 z)
-    (ap (reversed 128) is
-    ∙ hash_reversed dot (from_le_bytes w128 key) (polyval_multiplier key) (λ a. dot-lt a (from_le_bytes w128 key))
-    (λ a. dot_multiplier a (from_le_bytes w128 key)) (from_le_bytes w128) blocks)
+polyval_result key blocks =
+    let k = from_le_bytes w128 key in
+    hash_written dot k (polyval_multiplier key) (λ a. dot-lt a k) (λ a. dot_multiplier a k) (from_le_bytes w128)
+    (to_le_bytes w128) blocks

@@ -2,18 +2,19 @@ use Rattle.std.proofs.Common.{◌≡◌, ℕ, List, ◌+◌, ◌-◌, ◌*◌, �
 use Rattle.tags.proofs.Folding.{hash_from, hash_from_none, hash_from_slice, hash_from_four_slice}
 use Rattle.tags.proofs.blocks.with_blocks.Goals as goal
 
+-- the n bytes from place a to place a + n
+take_exact : (n : ℕ) (m : List ℕ) (a : ℕ) → take (a + n - a) (drop a m) ≡ take n (drop a m)
+take_exact n m a =
+    let whole : a + n - a ≡ n = omega arith in
+    ap (λ (k : ℕ). take k (drop a m)) whole
+
 pub fours-init : goal.fours-init
 fours-init g c = λ key are. sym (hash_from_none g.E.Encoding.element key c.args.sum c.args.blocks.now)
 
 pub fours-preserved : goal.fours-preserved
 fours-preserved g c = λ key are.
     hash_from_four_slice g.E.Encoding.element key c.args.sum c.args.blocks.now c.fours.i c.fours.hash _ _ (c.fours.invariant key are)
-    (omega arith) (take_exact c.args.blocks.now (64 * c.fours.i)) (c.with_four_blocks-hash.ensures key are)
-  where
-    take_exact : (m : List ℕ) (a : ℕ) → take (a + 64 - a) (drop a m) ≡ take 64 (drop a m)
-    take_exact m a =
-        let whole : a + 64 - a ≡ 64 = omega arith in
-        ap (λ (n : ℕ). take n (drop a m)) whole
+    (omega arith) (take_exact 64 c.args.blocks.now (64 * c.fours.i)) (c.with_four_blocks-hash.ensures key are)
 
 pub rest-init : goal.rest-init
 rest-init g c = λ key are.
@@ -23,12 +24,7 @@ rest-init g c = λ key are.
 pub rest-preserved : goal.rest-preserved
 rest-preserved g c = λ key are.
     hash_from_slice g.E.Encoding.element key c.args.sum c.args.blocks.now c.rest.i c.rest.hash _ _ (c.rest.invariant key are)
-    (omega arith) (take_exact c.args.blocks.now (16 * c.rest.i)) (c.with_block-hash.ensures key are)
-  where
-    take_exact : (m : List ℕ) (a : ℕ) → take (a + 16 - a) (drop a m) ≡ take 16 (drop a m)
-    take_exact m a =
-        let whole : a + 16 - a ≡ 16 = omega arith in
-        ap (λ (n : ℕ). take n (drop a m)) whole
+    (omega arith) (take_exact 16 c.args.blocks.now (16 * c.rest.i)) (c.with_block-hash.ensures key are)
 
 pub returns : goal.returns
 returns g c = λ key are.
