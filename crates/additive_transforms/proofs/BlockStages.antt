@@ -1,12 +1,11 @@
 -- One stage, block by block.
-use Rattle.std.proofs.Common.{◌≡◌, ◌⊎◌, inl, inr, ℕ, suc, ◌+◌, ◌*◌, ◌^◌, ◌<◌, ◌≤◌, List, length, map, refl, sym, ◌∙◌, ap, ap₂, subst, arith}
+use Rattle.std.proofs.Common.{◌≡◌, ◌⊎◌, inl, inr, ℕ, suc, ◌+◌, ◌-◌, ◌*◌, ◌/◌, ◌^◌, ◌<◌, ◌≤◌, Bool, true, false, List, length, map, refl, sym, ◌∙◌, ap, ap₂, subst, arith}
 use Rattle.std.specs.Prelude.{bit_xor, slice_index}
 use Rattle.std.proofs.Math.Nat.{mul-le-mul_right, two-pow-succ}
 use Rattle.std.proofs.lemmas.Bool.{cases_lt}
-use borrow.Rule.Slice.PartMut.{mid_of, put_mid}
-use Rattle.field_base.specs.LinearMaps.{linear_image}
+use borrow.Rule.Slice.PartMut.{mid_len, mid_of, put_mid, same_len_mid}
 use Rattle.ghash_slices.specs.LowStages.{values_from}
-use Rattle.additive_transforms.specs.Stages.{IsButterfly}
+use Rattle.additive_transforms.specs.Stages.{IsButterfly, TakesBlock}
 use Rattle.additive_transforms.proofs.Written.{read_before, read_behind, read_inside, read_lent}
 
 -- arrays that are the same in a block
@@ -104,14 +103,6 @@ module _ {A : Type 0} (value : A → ℕ) (size : ℕ) (holds : ℕ → (ℕ →
 
 -- ---- the blocks of a stage
 
--- the forward butterfly takes what was there to what is there, and the inverse one the other way
-abbrev pub forward_in : (ℕ → ℕ → ℕ) → ℕ → List ℕ → ℕ → ℕ → (ℕ → ℕ) → (ℕ → ℕ) → Type 0
-forward_in times shift basis j q old now = IsButterfly times (bit_xor shift (linear_image basis q)) (2 ^ j) old now
-
--- the inverse butterfly of a block: the forward one read backwards
-abbrev pub inverse_in : (ℕ → ℕ → ℕ) → ℕ → List ℕ → ℕ → ℕ → (ℕ → ℕ) → (ℕ → ℕ) → Type 0
-inverse_in times shift basis j q old now = IsButterfly times (bit_xor shift (linear_image basis q)) (2 ^ j) now old
-
 -- a place of a block of 2 ^ (j + 1) lies in its two halves
 both_halves : (j r : ℕ) → r < 2 ^ suc j → r < 2 ^ j + 2 ^ j
 both_halves j r below = let halves = two-pow-succ j in omega (arith, halves)
@@ -120,31 +111,58 @@ both_halves j r below = let halves = two-pow-succ j in omega (arith, halves)
 both_halves' : (j r : ℕ) → r < 2 ^ j + 2 ^ j → r < 2 ^ suc j
 both_halves' j r below = let halves = two-pow-succ j in omega (arith, halves)
 
-module _ (times : ℕ → ℕ → ℕ) (shift : ℕ) (basis : List ℕ) (j : ℕ) where
-  -- the forward butterfly of a block depends on the block's values alone
-  pub forward_local : InBlocks (2 ^ suc j) (forward_in times shift basis j)
-  forward_local =
-      record {
-        same =
-            λ q a b c d first second.
-            butterfly-same times (bit_xor shift (linear_image basis q)) (2 ^ j) a b c d
-            (λ r below. first r (both_halves' j r below)) (λ r below. second r (both_halves' j r below));
-      }
+-- stage j, or its inverse, where the scalar of block q is t q
+module _ (inverse : Bool) (times : ℕ → ℕ → ℕ) (t : ℕ → ℕ) (j : ℕ) where
+  -- block q becomes what it should
+  abbrev pub taken_block : ℕ → (ℕ → ℕ) → (ℕ → ℕ) → Type 0
+  taken_block q old now = TakesBlock inverse times (t q) (2 ^ j) old now
 
-  -- and so does the inverse one
-  pub inverse_local : InBlocks (2 ^ suc j) (inverse_in times shift basis j)
-  inverse_local =
-      record {
-        same =
-            λ q a b c d first second.
-            butterfly-same times (bit_xor shift (linear_image basis q)) (2 ^ j) b a d c
-            (λ r below. second r (both_halves' j r below)) (λ r below. first r (both_halves' j r below));
-      }
+  -- that depends on the block's values alone
+  taken_local : InBlocks (2 ^ suc j) taken_block
+  taken_local = record { same = λ q a b c d first second. local inverse q a b c d first second }
+    where
+      local : (back : Bool) (q : ℕ) (a b c d : ℕ → ℕ) → ((r : ℕ) → r < 2 ^ suc j → c r ≡ a r) → ((r : ℕ) → r < 2 ^ suc j → d r ≡ b r)
+          → TakesBlock back times (t q) (2 ^ j) a b → TakesBlock back times (t q) (2 ^ j) c d
+      local false q a b c d first second =
+          butterfly-same times (t q) (2 ^ j) a b c d (λ r below. first r (both_halves' j r below)) (λ r below. second r (both_halves' j r below))
+      local true q a b c d first second =
+          butterfly-same times (t q) (2 ^ j) b a d c (λ r below. second r (both_halves' j r below)) (λ r below. first r (both_halves' j r below))
 
-  -- the same where the first of the blocks has the number `first`
-  abbrev pub forward_from : ℕ → ℕ → (ℕ → ℕ) → (ℕ → ℕ) → Type 0
-  forward_from first q old now = forward_in times shift basis j (first + q) old now
+  -- the blocks before block n have become that, and the others are as they were: what a loop over the blocks keeps
+  abbrev pub StageSoFar : ℕ → List ℕ → List ℕ → Type 0
+  StageSoFar n old now = BlocksSoFar (2 ^ suc j) taken_block n old now
 
-  -- and that depends on the block's values alone, too
-  pub from_local : (first : ℕ) → InBlocks (2 ^ suc j) (forward_from first)
-  from_local first = record { same = λ q. forward_local.same (first + q) }
+  module _ (half : ℕ) (half_is : half ≡ 2 ^ j) where
+    -- a block in both numbers of its places
+    size : 2 * half ≡ 2 ^ suc j
+    size = let halves = two-pow-succ j in omega (arith, half_is, halves)
+
+    -- one more block, which was lent from its first place on, and its scalar as it was computed
+    pub stage_step : {A : Type 0} (value : A → ℕ) (n start s : ℕ) (old now block : List A) → start ≡ n * (2 * half)
+        → start + 2 * half ≤ length now → length block ≡ length (mid_of start (start + 2 * half - start) now) → s ≡ t n
+        → TakesBlock inverse times s half (slice_index (map value (mid_of start (start + 2 * half - start) now)))
+        (slice_index (map value block))
+        → length now ≡ length old → StageSoFar n (map value old) (map value now)
+        → (length (put_mid start (start + 2 * half - start) now block) ≡ length old)
+        × StageSoFar (n + 1) (map value old) (map value (put_mid start (start + 2 * half - start) now block))
+    stage_step value n start s old now block start_is inside lent scalar is same so_far =
+        let whole = size in
+        let part : start + 2 * half - start ≡ 2 ^ suc j = omega (arith, whole) in
+        let room : start + 2 ^ suc j ≤ length now = omega (arith, inside, whole) in (
+          same_len_mid start (start + 2 * half - start) now block lent ∙ same,
+          blocks_step value (2 ^ suc j) taken_block taken_local n start (start + 2 * half - start) old now block
+              (start_is ∙ ap (λ (m : ℕ). n * m) whole) part room (lent ∙ mid_len start (start + 2 * half) now inside)
+              (butterfly-at times s (t n) half (2 ^ j) _ _ scalar half_is is) so_far,
+        )
+
+    -- a count of values has as many blocks by both numbers
+    pub stage_blocks : (count : ℕ) → count / 2 ^ (j + 1) ≡ count / (2 * half)
+    stage_blocks count =
+        let next : j + 1 ≡ suc j = omega arith in
+        ap (λ (n : ℕ). count / n) (ap (λ (e : ℕ). 2 ^ e) next ∙ sym size)
+
+    -- after the last block the stage is done
+    pub stage_done : (count n : ℕ) (old now : List ℕ) → count / (2 * half) ≤ n → StageSoFar n old now
+        → (q : ℕ) → q < count / 2 ^ (j + 1) → taken_block q (values_from old (q * 2 ^ suc j)) (values_from now (q * 2 ^ suc j))
+    stage_done count n old now last so_far q below =
+        let blocks = stage_blocks count in so_far.done q (omega (arith, blocks, last, below))

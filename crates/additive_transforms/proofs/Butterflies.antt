@@ -1,16 +1,31 @@
 -- Butterflies of a block whose halves are two slices.
-use Rattle.std.proofs.Common.{◌≡◌, ℕ, ◌+◌, ◌<◌, List, ◌++◌, length, map, sym, ◌∙◌, ap, ap₂, subst, arith}
-use Rattle.std.specs.Prelude.{bit_xor, slice_index}
+use Rattle.std.proofs.Common.{◌≡◌, ℕ, ◌+◌, ◌<◌, Bool, true, false, List, ◌++◌, length, map, sym, ◌∙◌, ap, ap₂, subst, arith}
+use Rattle.std.specs.Prelude.{bit_xor, slice_index, IsTrue}
 use Rattle.std.specs.Simd.Lanes.{zip2}
+use Rattle.std.proofs.lemmas.Bool.{false≢true}
 use Rattle.std.proofs.lemmas.List.{get_or-append-add, get_or_append_left, length-map, map-append}
 use Rattle.std.proofs.lemmas.Simd.{get_or-zip2, length-zip2}
 use lib.Bits.{xor_assoc, xor_self, xor_zero_r}
 use Rattle.ghash_slices.specs.Stages.{add_multiple}
-use Rattle.additive_transforms.specs.Stages.{IsButterfly}
+use Rattle.additive_transforms.specs.Stages.{IsButterfly, TakesBlock}
 
 -- what is added twice is gone
 pub twice : (x y : ℕ) → bit_xor (bit_xor x y) y ≡ x
 twice x y = xor_assoc x y y ∙ ap (bit_xor x) (xor_self y) ∙ xor_zero_r x
+
+-- ---- which way
+
+-- where `inverse` is true the inverse butterfly takes the block
+pub taken_back : (times : ℕ → ℕ → ℕ) (t half : ℕ) (old new : ℕ → ℕ) (inverse : Bool) → IsTrue inverse → IsButterfly times t half new old
+    → TakesBlock inverse times t half old new
+taken_back times t half old new true chosen is = is
+taken_back times t half old new false chosen is = absurd (false≢true chosen)
+
+-- and else the forward one
+pub taken_on : (times : ℕ → ℕ → ℕ) (t half : ℕ) (old new : ℕ → ℕ) (inverse : Bool) → inverse ≡ false → IsButterfly times t half old new
+    → TakesBlock inverse times t half old new
+taken_on times t half old new false chosen is = is
+taken_on times t half old new true chosen is = absurd (false≢true (sym chosen))
 
 -- ---- numbers
 

@@ -10,8 +10,8 @@ use Rattle.field_base.specs.LinearMaps.{linear_image}
 use Rattle.field_base.proofs.CarrylessProduct.{xor_shl}
 use Rattle.field_base.proofs.BasisColumns.{sum_of_columns-nothing}
 use Rattle.field_base.proofs.LinearMapLemmas.{linear_image-columns, the_linear_map}
-use Rattle.additive_transforms.specs.Levels.{twiddle_basis}
-use Rattle.additive_transforms.proofs.LevelStages.{basis_at, basis_length}
+use Rattle.additive_transforms.specs.Elements.{twiddle_basis}
+use Rattle.additive_transforms.proofs.ElementStages.{basis_at, basis_length}
 
 -- ---- how far a carry goes
 

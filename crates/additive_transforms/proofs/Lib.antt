@@ -3,12 +3,12 @@ pub mod Butterflies
 pub mod CantorSums
 pub mod Carries
 pub mod Counts
+pub mod ElementPoints
+pub mod ElementStages
 pub mod ImageValues
-pub mod LevelPoints
-pub mod LevelStages
-pub mod OnlyStages
+pub mod LowStageRuns
+pub mod OneOrigin
 pub mod PairLoops
-pub mod PairStages
 pub mod PointSums
 pub mod WholeStages
 pub mod Written

@@ -36,72 +36,68 @@ pairs_start pair lo hi =
       high_rest = λ p past. refl;
     }
 
--- one more pair done, of elements by their values
-module _ {A : Type 0} (value : A → ℕ) (pair : ℕ → ℕ → ℕ → ℕ → Type 0) (n : ℕ) (lo hi low high : List A) (x y : A) (low_in : n < length low) (high_in : n < length high) where
+-- one more pair done, of elements by their values, which were read from both slices and written there
+module _ {A : Type 0} (value : A → ℕ) (pair : ℕ → ℕ → ℕ → ℕ → Type 0) (n : ℕ) (lo hi low high : List A) (x y x' y' : A) where
+  -- place n of a list with a value set there
   at : (xs : List A) (z : A) → n < length xs → slice_index (map value (set xs n z)) n ≡ value z
   at xs z inside =
       ap (λ (l : List ℕ). slice_index l n) (map-set value xs n z)
       ∙ get_or-set_same (map value xs) n (value z) 0 (let same = length-map xs value in omega (arith, same))
 
+  -- any other place
   off : (xs : List A) (z : A) (p : ℕ) → p ≢ n → slice_index (map value (set xs n z)) p ≡ slice_index (map value xs) p
   off xs z p other = ap (λ (l : List ℕ). slice_index l p) (map-set value xs n z) ∙ get_or-set_other (map value xs) n p (value z) 0 other
 
+  -- and the length
   as_long : (xs : List A) (z : A) → length (map value (set xs n z)) ≡ length (map value xs)
   as_long xs z = ap length (map-set value xs n z) ∙ length-set (map value xs) n (value z)
 
-  pub pairs_step : pair (slice_index (map value low) n) (slice_index (map value high) n) (value x) (value y)
+  -- a list of as many values as another has place n where that has it
+  inside_both : (xs ys : List A) → length (map value ys) ≡ length (map value xs) → n < length xs → n < length ys
+  inside_both xs ys same below =
+      let count = length-map xs value in let count' = length-map ys value in omega (arith, same, below, count, count')
+
+  pub pairs_step : length lo ≡ length hi → n < length lo
+      → pair (value (get_or low n x)) (value (get_or high n y)) (value x') (value y')
       → PairsSoFar pair n (map value lo) (map value hi) (map value low) (map value high)
-      → PairsSoFar pair (n + 1) (map value lo) (map value hi) (map value (set low n x)) (map value (set high n y))
-  pairs_step is so_far =
+      → PairsSoFar pair (n + 1) (map value lo) (map value hi) (map value (set low n x')) (map value (set high n y'))
+  pairs_step equal below is so_far =
       record {
-        low_length = as_long low x ∙ so_far.low_length;
-        high_length = as_long high y ∙ so_far.high_length;
-        done = λ p below. pick p below (cases_lt p n);
-        low_rest = λ p past. off low x p (omega arith) ∙ so_far.low_rest p (omega arith);
-        high_rest = λ p past. off high y p (omega arith) ∙ so_far.high_rest p (omega arith);
+        low_length = as_long low x' ∙ so_far.low_length;
+        high_length = as_long high y' ∙ so_far.high_length;
+        done = λ p within. pick p within (cases_lt p n);
+        low_rest = λ p past. off low x' p (omega arith) ∙ so_far.low_rest p (omega arith);
+        high_rest = λ p past. off high y' p (omega arith) ∙ so_far.high_rest p (omega arith);
       }
     where
+      low_in : n < length low
+      low_in = inside_both lo low so_far.low_length below
+
+      high_in : n < length high
+      high_in = inside_both hi high so_far.high_length (subst (λ (m : ℕ). n < m) equal below)
+
       same : (a b a' b' c d c' d' : ℕ) → a ≡ a' → b ≡ b' → c ≡ c' → d ≡ d' → pair a b c d → pair a' b' c' d'
       same a b a' b' c d c' d' first second third fourth holds =
           subst (λ (v : ℕ). pair a' b' c' v) fourth (subst (λ (v : ℕ). pair a' b' v d) third
           (subst (λ (v : ℕ). pair a' v c d) second (subst (λ (v : ℕ). pair v b c d) first holds)))
 
       pick : (p : ℕ) → p < n + 1 → (p < n) ⊎ (n ≤ p) → pair (slice_index (map value lo) p) (slice_index (map value hi) p)
-          (slice_index (map value (set low n x)) p) (slice_index (map value (set high n y)) p)
-      pick p below (inl earlier) =
-          same _ _ _ _ _ _ _ _ refl refl (sym (off low x p (omega arith))) (sym (off high y p (omega arith))) (so_far.done p earlier)
-      pick p below (inr last) =
+          (slice_index (map value (set low n x')) p) (slice_index (map value (set high n y')) p)
+      pick p within (inl earlier) =
+          same _ _ _ _ _ _ _ _ refl refl (sym (off low x' p (omega arith))) (sym (off high y' p (omega arith))) (so_far.done p earlier)
+      pick p within (inr last) =
           let here : n ≡ p = omega arith in
           let from : n ≤ n = omega arith in
           subst (λ (m : ℕ). pair (slice_index (map value lo) m) (slice_index (map value hi) m)
-          (slice_index (map value (set low n x)) m) (slice_index (map value (set high n y)) m)) here
-          (same _ _ _ _ _ _ _ _ (so_far.low_rest n from) (so_far.high_rest n from) (sym (at low x low_in)) (sym (at high y high_in)) is)
+          (slice_index (map value (set low n x')) m) (slice_index (map value (set high n y')) m)) here
+          (same _ _ _ _ _ _ _ _ (sym (get_or-map value low n x 0 low_in) ∙ so_far.low_rest n from)
+          (sym (get_or-map value high n y 0 high_in) ∙ so_far.high_rest n from) (sym (at low x' low_in)) (sym (at high y' high_in)) is)
 
--- a pair that was read from the slices
-module _ {A : Type 0} (value : A → ℕ) (times : ℕ → ℕ → ℕ) (s n : ℕ) (low high : List A) (x y x' y' : A) (low_in : n < length low) (high_in : n < length high) where
-  first : value (get_or low n x) ≡ slice_index (map value low) n
-  first = sym (get_or-map value low n x 0 low_in)
-
-  second : value (get_or high n y) ≡ slice_index (map value high) n
-  second = sym (get_or-map value high n y 0 high_in)
-
-  pub forward_read : forward_of times s (value (get_or low n x)) (value (get_or high n y)) (value x') (value y')
-      → forward_of times s (slice_index (map value low) n) (slice_index (map value high) n) (value x') (value y')
-  forward_read is =
-      subst (λ (v : ℕ). forward_of times s v (slice_index (map value high) n) (value x') (value y')) first
-      (subst (λ (v : ℕ). forward_of times s (value (get_or low n x)) v (value x') (value y')) second is)
-
-  pub inverse_read : inverse_of times s (value (get_or low n x)) (value (get_or high n y)) (value x') (value y')
-      → inverse_of times s (slice_index (map value low) n) (slice_index (map value high) n) (value x') (value y')
-  inverse_read is =
-      subst (λ (v : ℕ). inverse_of times s v (slice_index (map value high) n) (value x') (value y')) first
-      (subst (λ (v : ℕ). inverse_of times s (value (get_or low n x)) v (value x') (value y')) second is)
-
--- after the last pair each slice is the butterfly's
+-- after the last pair each list is the butterfly's
 module _ (times : ℕ → ℕ → ℕ) (s n : ℕ) (lo hi lo' hi' : List ℕ) (equal : length lo ≡ length hi) (all : length lo ≤ n) where
-  pub forward_ends : PairsSoFar (forward_of times s) n lo hi lo' hi'
+  forward_numbers : PairsSoFar (forward_of times s) n lo hi lo' hi'
       → (lo' ≡ zip2 (add_multiple times s) lo hi) × (hi' ≡ zip2 bit_xor hi lo')
-  forward_ends so_far = (
+  forward_numbers so_far = (
     ext_get_or 0 lo' (zip2 (add_multiple times s) lo hi)
         (so_far.low_length ∙ sym (length-zip2 (add_multiple times s) lo hi equal))
         (λ p below.
@@ -115,9 +111,9 @@ module _ (times : ℕ → ℕ → ℕ) (s n : ℕ) (lo hi lo' hi' : List ℕ) (e
         ∙ sym (read_both bit_xor (length hi) hi lo' refl (so_far.low_length ∙ equal) p inside)),
   )
 
-  pub inverse_ends : PairsSoFar (inverse_of times s) n lo hi lo' hi'
+  inverse_numbers : PairsSoFar (inverse_of times s) n lo hi lo' hi'
       → (hi' ≡ zip2 bit_xor hi lo) × (lo' ≡ zip2 (add_multiple times s) lo hi')
-  inverse_ends so_far = (
+  inverse_numbers so_far = (
     ext_get_or 0 hi' (zip2 bit_xor hi lo) (so_far.high_length ∙ sym (length-zip2 bit_xor hi lo (sym equal)))
         (λ p below.
         let inside : p < length hi = let same = so_far.high_length in omega (arith, same) in
@@ -129,3 +125,19 @@ module _ (times : ℕ → ℕ → ℕ) (s n : ℕ) (lo hi lo' hi' : List ℕ) (e
         (so_far.done p (omega arith)).1
         ∙ sym (read_both (add_multiple times s) (length lo) lo hi' refl (so_far.high_length ∙ sym equal) p inside)),
   )
+
+-- so each slice has its values
+module _ {A : Type 0} (value : A → ℕ) (times : ℕ → ℕ → ℕ) (s n : ℕ) (lo hi lo' hi' : List A) (equal : length lo ≡ length hi) (all : length lo ≤ n) where
+  same_count : length (map value lo) ≡ length (map value hi)
+  same_count = length-map lo value ∙ equal ∙ sym (length-map hi value)
+
+  all_counted : length (map value lo) ≤ n
+  all_counted = let count = length-map lo value in omega (arith, count, all)
+
+  pub forward_ends : PairsSoFar (forward_of times s) n (map value lo) (map value hi) (map value lo') (map value hi')
+      → (map value lo' ≡ zip2 (add_multiple times s) (map value lo) (map value hi)) × (map value hi' ≡ zip2 bit_xor (map value hi) (map value lo'))
+  forward_ends = forward_numbers times s n (map value lo) (map value hi) (map value lo') (map value hi') same_count all_counted
+
+  pub inverse_ends : PairsSoFar (inverse_of times s) n (map value lo) (map value hi) (map value lo') (map value hi')
+      → (map value hi' ≡ zip2 bit_xor (map value hi) (map value lo)) × (map value lo' ≡ zip2 (add_multiple times s) (map value lo) (map value hi'))
+  inverse_ends = inverse_numbers times s n (map value lo) (map value hi) (map value lo') (map value hi') same_count all_counted

@@ -1,4 +1,4 @@
-pub mod Levels
+pub mod Elements
 pub mod Stages
 pub mod Transform
 pub mod Values

@@ -1,6 +1,6 @@
 -- One stage of a transform, block by block, over any ring of characteristic two whose elements are numbers. An array is a function
 -- from its places to its values.
-use Rattle.std.specs.Prelude.{◌≡◌, ℕ, suc, ◌+◌, ◌*◌, ◌^◌, ◌<◌, List, bit_xor, slice_index}
+use Rattle.std.specs.Prelude.{◌≡◌, ℕ, suc, ◌+◌, ◌*◌, ◌^◌, ◌<◌, Bool, List, bit_xor, cond, slice_index}
 use Rattle.field_base.specs.LinearMaps.{linear_image}
 use Rattle.ghash_slices.specs.LowStages.{values_from}
 use Rattle.ghash_slices.specs.Stages.{add_multiple, factor, stages}
@@ -11,6 +11,11 @@ pub record IsButterfly (times : ℕ → ℕ → ℕ) (t half : ℕ) (a b : ℕ �
   pub lower : (r : ℕ) → r < half → b r ≡ add_multiple times t (a r) (a (half + r))
   pub upper : (r : ℕ) → r < half → b (half + r) ≡ bit_xor (a (half + r)) (b r)
 
+-- the forward butterfly takes the array `old` to `new`, or, where `inverse` is true, the inverse one does, which the forward one takes
+-- back
+abbrev pub TakesBlock : Bool → (ℕ → ℕ → ℕ) → ℕ → ℕ → (ℕ → ℕ) → (ℕ → ℕ) → Type 0
+TakesBlock inverse times t half old new = IsButterfly times t half (cond inverse new old) (cond inverse old new)
+
 -- stage j takes the values a to the values b in so many blocks of 2 ^ (j + 1) places: the scalar of a block is its twiddle, which
 -- is the shift of the stage, and the elements of the basis at the set bits of the block's number
 abbrev pub IsStage : (ℕ → ℕ → ℕ) → ℕ → List ℕ → ℕ → ℕ → List ℕ → List ℕ → Type 0
@@ -18,7 +23,14 @@ IsStage times shift basis j blocks a b =
     (q : ℕ) → q < blocks
     → IsButterfly times (bit_xor shift (linear_image basis q)) (2 ^ j) (values_from a (q * 2 ^ suc j)) (values_from b (q * 2 ^ suc j))
 
--- the same where the first of the blocks has the number `first`
+-- stage j takes the values `old` to `new`, or, where `inverse` is true, its inverse does
+abbrev pub TakesStage : Bool → (ℕ → ℕ → ℕ) → ℕ → List ℕ → ℕ → ℕ → List ℕ → List ℕ → Type 0
+TakesStage inverse times shift basis j blocks old new =
+    (q : ℕ) → q < blocks
+    → TakesBlock inverse times (bit_xor shift (linear_image basis q)) (2 ^ j) (values_from old (q * 2 ^ suc j))
+    (values_from new (q * 2 ^ suc j))
+
+-- the forward one where the first of the blocks has the number `first`
 abbrev pub IsStageFrom : (ℕ → ℕ → ℕ) → ℕ → List ℕ → ℕ → ℕ → ℕ → List ℕ → List ℕ → Type 0
 IsStageFrom times shift basis j first blocks a b =
     (q : ℕ) → q < blocks

@@ -7,7 +7,7 @@ ghost use Rattle.ghash_slices.specs.Cantor.{AreCantorTwiddles};
 ghost use Rattle.additive_transforms.specs.Stages.{AreLeft};
 
 use crate::kernel::{Kernel, PolyKernel, WordKernel};
-use crate::stages::{forward_stage, inverse_stage};
+use crate::stages::run_stage;
 use crate::twiddles::Twiddles;
 use ghash_slices::{LOW_STAGES, LowStageTwiddles, WideWord, numbers_are_values, run_low_stages};
 use std::alloc::{AllocError, Allocator};
@@ -59,7 +59,7 @@ pub fn inverse(values: &mut [u128], z: u128, products: &mut u64)
 /// twiddles, it fails, and leaves `values` untouched; with fewer than 16 values it takes no memory, and does not fail.
 ///
 /// Its low stages go in lanes and its long butterflies by tables, so over the field of GHASH it is the fastest form. Elements of any
-/// field with Cantor vectors are transformed by `forward_elements` of `transform_levels`.
+/// field with Cantor vectors are transformed by `forward_elements`.
 pub fn forward_numbers<A: Allocator>(
     alloc: A,
     values: &mut [u128],
@@ -188,7 +188,7 @@ pub(crate) fn undo_stages<K: Kernel>(
     ensures count { K.count kernel.new ≡ K.count kernel.old + stages * 2 ^ (stages - 1) }
 {
     for stage in 0..stages {
-        inverse_stage(kernel, values, stage, twiddles);
+        run_stage(kernel, values, stage, twiddles, true);
     }
 }
 
@@ -253,6 +253,6 @@ fn stages_down_to<K: Kernel>(
     ensures count { K.count kernel.new ≡ K.count kernel.old + (stages - lowest) * 2 ^ (stages - 1) }
 {
     for stage in (lowest..stages).rev() {
-        forward_stage(kernel, values, stage, twiddles);
+        run_stage(kernel, values, stage, twiddles, false);
     }
 }

@@ -1,7 +1,7 @@
 -- Transforms of few values.
 use Rattle.std.proofs.Common.{◌≡◌, ℕ, ◌+◌, ◌-◌, ◌*◌, ◌%◌, ◌^◌, ◌<◌, ◌≤◌, arith, lit<}
 use Rattle.std.proofs.Math.Nat.{mul-le-mul, pow-le-pow_right}
-use Rattle.additive_transforms.specs.Levels.{FitsField}
+use Rattle.additive_transforms.specs.Elements.{FitsField}
 use Rattle.additive_transforms.specs.Transform.{FitsTransform, HasStages}
 
 pub few_places : (m count products : ℕ) → m ≤ 10 → count ≡ 1 * 2 ^ m % 18446744073709551616 → products ≤ 1000 → FitsTransform count products

@@ -1,7 +1,7 @@
 // The twiddles of a stage, block after block.
 ghost use Rattle.std.specs.Prelude.{◌≡◌, ℕ, ◌+◌, ◌-◌, ◌^◌, ◌<◌, bit_xor};
 ghost use Rattle.field_base.specs.LinearMaps.{linear_image};
-ghost use Rattle.additive_transforms.specs.Levels.{twiddle_basis};
+ghost use Rattle.additive_transforms.specs.Elements.{twiddle_basis};
 
 use field_base::traits::TowerLevel;
 

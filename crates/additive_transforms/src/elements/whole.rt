@@ -1,9 +1,9 @@
 // Whole transforms.
 ghost use Rattle.std.specs.Prelude.{◌≡◌, length, map};
-ghost use Rattle.additive_transforms.specs.Levels.{FitsField};
+ghost use Rattle.additive_transforms.specs.Elements.{FitsField};
 ghost use Rattle.additive_transforms.specs.Transform.{AreTheCoefficients, HoldValuesAtPoints};
 
-use crate::elements::stages::{forward_stage, inverse_stage};
+use crate::elements::stages::run_stage;
 use crate::over::subspace_value;
 use crate::stages_of;
 use field_base::traits::TowerLevel;
@@ -12,7 +12,7 @@ use field_base::traits::TowerLevel;
 /// the s_j: point p is `z`, and Cantor vector b for each set bit b of p. The length of `values` has to be 2^m, where m is at most
 /// 40 and at most the bits of the field. It takes no memory: m stages of 2^(m - 1) butterflies, with one product each.
 ///
-/// Over the field of GHASH `forward_numbers` of `transform_whole`, on the numbers of the elements, does the same faster.
+/// Over the field of GHASH `forward_numbers`, on the numbers of the elements, does the same faster.
 pub fn forward_elements<F: TowerLevel>(values: &mut [F], z: F)
     requires { FitsField F.width (length values.old) }
     ensures length { length values.new ≡ length values.old }
@@ -21,7 +21,7 @@ pub fn forward_elements<F: TowerLevel>(values: &mut [F], z: F)
 {
     let stages = stages_of(values.len());
     for stage in (0..stages).rev() {
-        forward_stage(values, stage, subspace_value(z, stage));
+        run_stage(values, stage, subspace_value(z, stage), false);
     }
 }
 
@@ -35,6 +35,6 @@ pub fn inverse_elements<F: TowerLevel>(values: &mut [F], z: F)
 {
     let stages = stages_of(values.len());
     for stage in 0..stages {
-        inverse_stage(values, stage, subspace_value(z, stage));
+        run_stage(values, stage, subspace_value(z, stage), true);
     }
 }

@@ -1,7 +1,7 @@
 use Rattle.std.proofs.Common.{◌-◌, ◌*◌, ◌^◌, length, map, ◌∙◌}
 use Rattle.std.proofs.lemmas.List.{length-map}
 use Rattle.ghash_slices.proofs.WordValues.{values_fit}
-use Rattle.additive_transforms.proofs.PairStages.{low_stages_hold, stage-count}
+use Rattle.additive_transforms.proofs.LowStageRuns.{low_stages_hold, stage-count}
 use Rattle.additive_transforms.proofs.pairs.low_stages.Goals as goal
 
 pub returns-clause-sums : goal.returns-clause-sums

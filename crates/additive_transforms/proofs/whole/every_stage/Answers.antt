@@ -1,7 +1,7 @@
 use Rattle.std.proofs.Common.{map, ◌∙◌}
 use Rattle.std.proofs.lemmas.List.{length-map}
 use Rattle.ghash_slices.proofs.WordValues.{values_fit}
-use Rattle.additive_transforms.proofs.OnlyStages.{ghash_all_leave}
+use Rattle.additive_transforms.proofs.OneOrigin.{ghash_all_leave}
 use Rattle.additive_transforms.proofs.whole.every_stage.Goals as goal
 
 pub returns-clause-values : goal.returns-clause-values

@@ -3,7 +3,7 @@ use Rattle.std.proofs.lemmas.List.{length-map}
 use lib.Seq.{length-take-le}
 use Rattle.ghash_slices.specs.Twiddles.{basis_of}
 use Rattle.additive_transforms.proofs.Counts.{block_count, low_counted, low_room, two_halves, whole_blocks}
-use Rattle.additive_transforms.proofs.OnlyStages.{forward_leaves}
+use Rattle.additive_transforms.proofs.OneOrigin.{forward_leaves}
 use Rattle.additive_transforms.proofs.whole.forward_stages.Goals as goal
 
 pub low_forward-requires-clause-whole : goal.low_forward-requires-clause-whole

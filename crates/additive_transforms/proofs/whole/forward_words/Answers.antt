@@ -2,7 +2,7 @@ use Rattle.std.proofs.Common.{◌≡◌, ℕ, ◌-◌, ◌^◌, ◌<◌, ◌≤�
 use Rattle.std.proofs.lemmas.List.{length-map}
 use lib.Seq.{length-take-le}
 use Rattle.additive_transforms.proofs.Counts.{block_count, pairs_fit, whole_blocks}
-use Rattle.additive_transforms.proofs.OnlyStages.{forward_leaves}
+use Rattle.additive_transforms.proofs.OneOrigin.{forward_leaves}
 use Rattle.additive_transforms.proofs.whole.forward_words.Goals as goal
 
 pub stages_down_to-requires-clause-room : goal.stages_down_to-requires-clause-room

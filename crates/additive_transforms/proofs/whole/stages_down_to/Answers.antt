@@ -3,7 +3,7 @@ use Rattle.field_base.proofs.RemainderRing.{ghash_ring}
 use Rattle.ghash_slices.specs.LowStages.{ghash_product}
 use Rattle.ghash_slices.proofs.WordValues.{values_fit}
 use Rattle.additive_transforms.specs.Stages.{AreLeft}
-use Rattle.additive_transforms.proofs.Counts.{block_count, half_count, stage_counted, stage_room, whole_blocks}
+use Rattle.additive_transforms.proofs.Counts.{block_count, half_count, half_counted, stage_room, whole_blocks}
 use Rattle.additive_transforms.proofs.WholeStages.{left_step}
 use Rattle.additive_transforms.proofs.whole.stages_down_to.Goals as goal
 
@@ -17,13 +17,13 @@ start count stages half =
 pub loop-stage-init : goal.loop-stage-init
 loop-stage-init g c = (refl, omega arith, (λ p inside. refl), start (g.K.Kernel.count c.args.kernel.now) c.args.stages (2 ^ (c.args.stages - 1)))
 
-pub forward_stage-requires-clause-whole : goal.forward_stage-requires-clause-whole
-forward_stage-requires-clause-whole g c =
+pub run_stage-requires-clause-whole : goal.run_stage-requires-clause-whole
+run_stage-requires-clause-whole g c =
     whole_blocks c.args.stages (c.loop-stage.stage - 1) (length c.loop-stage.values) (omega arith)
     (c.loop-stage.invariant.0 ∙ c.requires.stages.1)
 
-pub forward_stage-requires-clause-room : goal.forward_stage-requires-clause-room
-forward_stage-requires-clause-room g c =
+pub run_stage-requires-clause-room : goal.run_stage-requires-clause-room
+run_stage-requires-clause-room g c =
     let m = c.args.stages in
     let above : 0 < m = omega arith in
     let below : m - c.loop-stage.stage < m = omega arith in
@@ -41,18 +41,16 @@ loop-stage-preserved g c =
     let is = c.loop-stage.invariant.0 ∙ c.requires.stages.1 in
     let next : suc (stage - 1) ≡ stage = omega arith in
     let below : stage - 1 < m = omega arith in
-    let above : 0 < m = omega arith in
     let done : suc (m - stage) ≡ m - (stage - 1) = omega arith in (
-      c.forward_stage.ensures.length ∙ c.loop-stage.invariant.0,
+      c.run_stage.ensures.length ∙ c.loop-stage.invariant.0,
       omega arith,
       left_step 128 ghash_product ghash_ring twiddles.shifts twiddles.basis m (stage - 1) _ (map value c.args.values.now)
-          (map value c.loop-stage.values) (map value c.forward_stage.new.values) below (block_count m (stage - 1) _ below is)
-          (values_fit 128 value g.K.Kernel.range_law c.loop-stage.values) c.forward_stage.ensures.stage
+          (map value c.loop-stage.values) (map value c.run_stage.new.values) below (block_count m (stage - 1) _ below is)
+          (values_fit 128 value g.K.Kernel.range_law c.loop-stage.values) c.run_stage.ensures.stage
           (subst (λ (n : ℕ). AreLeft ghash_product twiddles.shifts twiddles.basis m n (map value c.args.values.now)
           (map value c.loop-stage.values))
           (sym next) c.loop-stage.invariant.2),
-      stage_counted _ _ _ (m - stage) (2 ^ (m - 1)) c.loop-stage.invariant.3
-          (c.forward_stage.ensures.count ∙ ap (λ (n : ℕ). g.K.Kernel.count c.loop-stage.kernel + n) (half_count m _ above is))
+      half_counted _ _ _ (m - stage) m _ (omega arith) is c.loop-stage.invariant.3 c.run_stage.ensures.count
           ∙ ap (λ (n : ℕ). g.K.Kernel.count c.args.kernel.now + n * 2 ^ (m - 1)) done,
     )
 

@@ -1,6 +1,6 @@
 use Rattle.std.proofs.Common.{◌≡◌, ℕ, suc, ◌+◌, ◌/◌, ◌%◌, ◌^◌, ◌∙◌, sym, ap, arith}
 use Rattle.ghash_slices.proofs.Places.{next_quotient}
-use Rattle.additive_transforms.proofs.LevelPoints.{bit_adds, bit_passes, point_ends, point_starts}
+use Rattle.additive_transforms.proofs.ElementPoints.{bit_adds, bit_passes, point_ends, point_starts}
 use Rattle.additive_transforms.proofs.elements.points.element_point.Goals as goal
 use Rattle.additive_transforms.proofs.elements.points.element_point.Goals.{then-rest-eq1, else-rest-eq1}
 

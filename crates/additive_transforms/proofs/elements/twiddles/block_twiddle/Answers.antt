@@ -1,7 +1,7 @@
 use Rattle.std.proofs.Common.{◌≡◌, ℕ, ◌+◌, ◌-◌, ◌<◌, ◌∙◌, ap, arith}
 use Rattle.std.specs.Prelude.{bit_xor}
 use Rattle.field_base.specs.LinearMaps.{linear_image}
-use Rattle.additive_transforms.specs.Levels.{twiddle_basis}
+use Rattle.additive_transforms.specs.Elements.{twiddle_basis}
 use Rattle.additive_transforms.proofs.Carries.{no_image}
 use Rattle.additive_transforms.proofs.elements.twiddles.block_twiddle.Goals as goal
 

@@ -1,10 +1,6 @@
-use Rattle.std.proofs.Common.{◌≡◌, ℕ, suc, ◌-◌, ◌<◌, length, map, refl, ◌∙◌, subst, arith}
-use Rattle.std.proofs.lemmas.List.{length-map}
-use Rattle.additive_transforms.specs.Stages.{AreLeft}
-use Rattle.additive_transforms.specs.Levels.{twiddle_basis}
-use Rattle.additive_transforms.proofs.LevelStages.{few_blocks, fits_stages, level_left, level_shifts, level_values}
-use Rattle.additive_transforms.proofs.Counts.{block_count, whole_blocks}
-use Rattle.ghash_slices.proofs.WordValues.{values_fit}
+use Rattle.std.proofs.Common.{◌-◌, length, refl, ◌∙◌, arith}
+use Rattle.additive_transforms.proofs.Counts.{whole_blocks}
+use Rattle.additive_transforms.proofs.ElementStages.{few_blocks, fits_stages, forward_on, forward_whole}
 use Rattle.additive_transforms.proofs.elements.whole.forward_elements.Goals as goal
 
 pub stages_of-stages-requires : goal.stages_of-stages-requires
@@ -13,50 +9,26 @@ stages_of-stages-requires g c = (c.requires.0, c.requires.1)
 pub loop-stage-init : goal.loop-stage-init
 loop-stage-init g c = (refl, λ p inside. refl)
 
-pub forward_stage-requires-clause-whole : goal.forward_stage-requires-clause-whole
-forward_stage-requires-clause-whole g c =
+pub run_stage-requires-clause-whole : goal.run_stage-requires-clause-whole
+run_stage-requires-clause-whole g c =
     whole_blocks c.stages_of-stages.result (c.loop-stage.stage - 1) (length c.loop-stage.values) (omega arith)
     (c.loop-stage.invariant.0 ∙ c.stages_of-stages.ensures.stages.1)
 
-pub forward_stage-requires-clause-few : goal.forward_stage-requires-clause-few
-forward_stage-requires-clause-few g c =
+pub run_stage-requires-clause-few : goal.run_stage-requires-clause-few
+run_stage-requires-clause-few g c =
     few_blocks g.F.Represented.width c.stages_of-stages.result (c.loop-stage.stage - 1) (length c.loop-stage.values) (omega arith)
     (fits_stages g.F.Represented.width _ _ c.requires c.stages_of-stages.ensures.only)
     (c.loop-stage.invariant.0 ∙ c.stages_of-stages.ensures.stages.1)
 
 pub loop-stage-preserved : goal.loop-stage-preserved
 loop-stage-preserved g c =
-    let field = g.F.Represented in
-    let level = g.F.TowerLevel in
-    let vector : ℕ → ℕ = λ i. level.basis (level.cantor i) in
-    let m = c.stages_of-stages.result in
-    let stage = c.loop-stage.stage in
-    let is = c.loop-stage.invariant.0 ∙ c.stages_of-stages.ensures.stages.1 in
-    let next : suc (stage - 1) ≡ stage = omega arith in
-    let below : stage - 1 < m = omega arith in (
-      c.forward_stage.ensures.length ∙ c.loop-stage.invariant.0,
-      level_left field.width field.product vector g.met.F.Field.wide_law g.met.F.Field.field_law.ring g.met.F.TowerLevel.cantor_image_law
-          (field.repr c.args.z) m (fits_stages field.width _ _ c.requires c.stages_of-stages.ensures.only) (stage - 1) _ _
-          (map field.repr c.args.values.now) (map field.repr c.loop-stage.values) (map field.repr c.forward_stage.new.values) below
-          (block_count m (stage - 1) _ below is) (values_fit field.width field.repr field.range_law c.loop-stage.values)
-          c.subspace_value.ensures c.forward_stage.ensures.stage
-          (subst (λ (n : ℕ). AreLeft field.product (level_shifts field.width field.product (field.repr c.args.z))
-          (twiddle_basis field.width vector) m n (map field.repr c.args.values.now) (map field.repr c.loop-stage.values))
-          (omega (arith, next)) c.loop-stage.invariant.1),
-    )
+    forward_on g.met.F.Field.wide_law g.met.F.Field.field_law.ring g.met.F.TowerLevel.cantor_image_law g.F.Represented.repr
+    g.F.Represented.range_law (g.F.Represented.repr c.args.z) c.args.values.now c.requires c.stages_of-stages.ensures.stages
+    c.stages_of-stages.ensures.only c.loop-stage.stage _ c.loop-stage.values c.run_stage.new.values
+    (omega arith) (omega arith) c.run_stage.ensures.length c.subspace_value.ensures c.run_stage.ensures.stage c.loop-stage.invariant
 
 pub returns-clause-values : goal.returns-clause-values
 returns-clause-values g c =
-    let field = g.F.Represented in
-    let level = g.F.TowerLevel in
-    let vector : ℕ → ℕ = λ i. level.basis (level.cantor i) in
-    let m = c.stages_of-stages.result in
-    let last : c.loop-stage.stage ≡ 0 = omega arith in
-    level_values field.width field.product vector g.met.F.Field.wide_law g.met.F.Field.field_law.ring g.met.F.TowerLevel.cantor_image_law
-    (field.repr c.args.z) m (fits_stages field.width _ _ c.requires c.stages_of-stages.ensures.only)
-    (map field.repr c.args.values.now) (map field.repr c.loop-stage.values)
-    (length-map c.args.values.now field.repr ∙ c.stages_of-stages.ensures.stages.1)
-    (values_fit field.width field.repr field.range_law c.loop-stage.values)
-    (subst (λ (n : ℕ). AreLeft field.product (level_shifts field.width field.product (field.repr c.args.z))
-    (twiddle_basis field.width vector) m n (map field.repr c.args.values.now) (map field.repr c.loop-stage.values))
-    last c.loop-stage.invariant.1)
+    forward_whole g.met.F.Field.wide_law g.met.F.Field.field_law.ring g.met.F.TowerLevel.cantor_image_law g.F.Represented.repr
+    g.F.Represented.range_law (g.F.Represented.repr c.args.z) c.args.values.now c.requires c.stages_of-stages.ensures.stages
+    c.stages_of-stages.ensures.only c.loop-stage.stage c.loop-stage.values (omega arith) c.loop-stage.invariant

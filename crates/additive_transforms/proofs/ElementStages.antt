@@ -1,18 +1,20 @@
 -- The stages of a transform over a field of `width` bits, whose twiddles reach as many stages as it has bits.
-use Rattle.std.proofs.Common.{◌≡◌, ℕ, suc, ◌+◌, ◌-◌, ◌/◌, ◌^◌, ◌<◌, ◌≤◌, List, length, map, sym, ◌∙◌, ap, subst, arith, lit<}
+use Rattle.std.proofs.Common.{◌≡◌, ℕ, suc, true, false, ◌+◌, ◌-◌, ◌/◌, ◌^◌, ◌<◌, ◌≤◌, List, length, map, sym, ◌∙◌, ap, subst, arith, lit<}
 use Rattle.std.specs.List.{range_with_len}
 use Rattle.std.specs.Prelude.{slice_index}
 use Rattle.std.proofs.Math.Nat.{pow-le-pow_right}
+use Rattle.std.proofs.lemmas.List.{length-map}
 use Rattle.std.proofs.lemmas.List.FromFn.{get_or-map-range_with_len, length-map-range_with_len}
 use Rattle.field_base.specs.Orders.{AreCantorVectors}
 use Rattle.field_base.specs.Ring.{IsRing}
 use Rattle.ghash_slices.specs.Cantor.{AreCantorTwiddles, subspace_value}
-use Rattle.additive_transforms.specs.Stages.{AreLeft, IsStage}
-use Rattle.additive_transforms.specs.Transform.{AreTheCoefficients, HoldValuesAtPoints}
+use Rattle.ghash_slices.proofs.WordValues.{values_fit}
+use Rattle.additive_transforms.specs.Stages.{AreLeft, IsStage, TakesStage}
+use Rattle.additive_transforms.specs.Transform.{AreTheCoefficients, HasStages, HoldValuesAtPoints}
 use Rattle.additive_transforms.proofs.Counts.{block_count}
-use Rattle.additive_transforms.proofs.OnlyStages.{all_leave, inverse_leaves}
+use Rattle.additive_transforms.proofs.OneOrigin.{all_leave, inverse_leaves}
 use Rattle.additive_transforms.proofs.WholeStages.{AreUndone, left_step, undone_step}
-use Rattle.additive_transforms.specs.Levels.{FitsField, twiddle_basis}
+use Rattle.additive_transforms.specs.Elements.{FitsField, twiddle_basis}
 
 -- ---- how many
 
@@ -103,3 +105,67 @@ module _ (width : ℕ) (times : ℕ → ℕ → ℕ) (vector : ℕ → ℕ) (wid
   level_coefficients =
       inverse_leaves width times vector wide ring vectors (level_shifts width times z) (twiddle_basis width vector) z width twiddles
       (basis_length width vector wide) m few
+
+-- ---- the loops over the stages of a slice of elements
+
+-- the stages from n on are done
+abbrev pub ForwardSoFar : {A : Type 0} → ℕ → (ℕ → ℕ → ℕ) → (ℕ → ℕ) → ℕ → (A → ℕ) → ℕ → ℕ → List A → List A → Type 0
+ForwardSoFar width times vector z value m n old now =
+    (length now ≡ length old)
+    × AreLeft times (level_shifts width times z) (twiddle_basis width vector) m n (map value old) (map value now)
+
+-- the stages below n are undone
+abbrev pub InverseSoFar : {A : Type 0} → ℕ → (ℕ → ℕ → ℕ) → (ℕ → ℕ) → ℕ → (A → ℕ) → ℕ → ℕ → List A → List A → Type 0
+InverseSoFar width times vector z value m n old now =
+    (length now ≡ length old)
+    × AreUndone times (level_shifts width times z) (twiddle_basis width vector) m n (map value old) (map value now)
+
+module _ {width : ℕ} {times : ℕ → ℕ → ℕ} {vector : ℕ → ℕ} (wide : 0 < width) (ring : IsRing width 1 times) (vectors : AreCantorVectors width times vector) {A : Type 0} (value : A → ℕ) (range : (x : A) → value x < 2 ^ width) (z : ℕ) {m : ℕ} (old : List A) (room : FitsField width (length old)) (has : HasStages m (length old)) (only : (n : ℕ) → length old ≡ 2 ^ n → n ≡ m) where
+  -- the field has room for the stages
+  reach : m ≤ width
+  reach = fits_stages width (length old) m room only
+
+  -- one more stage of the forward transform
+  pub forward_on : (n shift : ℕ) (now next : List A) → 0 < n → n ≤ m → length next ≡ length now → shift ≡ subspace_value times (n - 1) z
+      → TakesStage false times shift (twiddle_basis width vector) (n - 1) (length now / 2 ^ (n - 1 + 1)) (map value now) (map value next)
+      → ForwardSoFar width times vector z value m n old now → ForwardSoFar width times vector z value m (n - 1) old next
+  forward_on n shift now next some most same shift_is taken so_far =
+      let below : n - 1 < m = omega (arith, some, most) in
+      let again : n ≡ suc (n - 1) = omega (arith, some) in (
+        same ∙ so_far.0,
+        level_left width times vector wide ring vectors z m reach (n - 1) (length now / 2 ^ (n - 1 + 1)) shift (map value old) (map value now)
+            (map value next) below (block_count m (n - 1) (length now) below (so_far.0 ∙ has.1)) (values_fit width value range now) shift_is taken
+            (subst (λ (k : ℕ). AreLeft times (level_shifts width times z) (twiddle_basis width vector) m k (map value old) (map value now))
+            again so_far.1),
+      )
+
+  -- one more stage of the inverse transform
+  pub inverse_on : (n shift : ℕ) (now next : List A) → n < m → length next ≡ length now → shift ≡ subspace_value times n z
+      → TakesStage true times shift (twiddle_basis width vector) n (length now / 2 ^ (n + 1)) (map value now) (map value next)
+      → InverseSoFar width times vector z value m n old now → InverseSoFar width times vector z value m (n + 1) old next
+  inverse_on n shift now next below same shift_is taken so_far =
+      let again : suc n ≡ n + 1 = omega arith in (
+        same ∙ so_far.0,
+        subst (λ (k : ℕ). AreUndone times (level_shifts width times z) (twiddle_basis width vector) m k (map value old) (map value next)) again
+            (level_undone width times vector wide ring vectors z m reach n (length now / 2 ^ (n + 1)) shift (map value old) (map value now)
+            (map value next) below (block_count m n (length now) below (so_far.0 ∙ has.1)) (values_fit width value range next) shift_is taken
+            so_far.1),
+      )
+
+  -- after the last stage of the forward transform there are the values
+  pub forward_whole : (n : ℕ) (now : List A) → n ≡ 0 → ForwardSoFar width times vector z value m n old now
+      → HoldValuesAtPoints width times vector z (map value old) (map value now)
+  forward_whole n now last so_far =
+      level_values width times vector wide ring vectors z m reach (map value old) (map value now) (length-map old value ∙ has.1)
+      (values_fit width value range now)
+      (subst (λ (k : ℕ). AreLeft times (level_shifts width times z) (twiddle_basis width vector) m k (map value old) (map value now)) last
+      so_far.1)
+
+  -- and after the last one of the inverse transform the coefficients
+  pub inverse_whole : (n : ℕ) (now : List A) → n ≡ m → InverseSoFar width times vector z value m n old now
+      → AreTheCoefficients width times vector z (map value old) (map value now)
+  inverse_whole n now last so_far =
+      level_coefficients width times vector wide ring vectors z m reach (map value old) (map value now) (length-map old value ∙ has.1)
+      (length-map now value ∙ so_far.0 ∙ has.1) (values_fit width value range old) (values_fit width value range now)
+      (subst (λ (k : ℕ). AreUndone times (level_shifts width times z) (twiddle_basis width vector) m k (map value old) (map value now)) last
+      so_far.1)

@@ -1,7 +1,9 @@
 -- The low stages, one after another over all the runs.
-use Rattle.std.proofs.Common.{◌≡◌, ℕ, zero, suc, ◌+◌, ◌-◌, ◌*◌, ◌/◌, ◌%◌, ◌^◌, ◌<◌, ◌≤◌, List, [], ◌∷◌, length, drop, refl, ◌∙◌, ap, ap₂, subst, arith, rules, lit<}
+use Rattle.std.proofs.Common.{◌≡◌, ℕ, zero, suc, ◌+◌, ◌-◌, ◌*◌, ◌/◌, ◌%◌, ◌^◌, ◌<◌, ◌≤◌, List, length, drop, map, ◌∙◌, ap, ap₂, subst, arith, rules, lit<}
 use Rattle.std.specs.Prelude.{bit_xor, slice_index}
 use Rattle.std.specs.Int.{bit_at}
+use Rattle.std.specs.List.{range_with_len}
+use Rattle.std.proofs.lemmas.List.FromFn.{get_or-map-range_with_len}
 use Rattle.field_base.specs.LinearMaps.{linear_image}
 use Rattle.field_base.proofs.RemainderRing.{ghash_ring}
 use Rattle.ghash_slices.specs.LowStages.{ghash_product, HoldSums, values_from}
@@ -16,29 +18,13 @@ use Rattle.additive_transforms.proofs.WholeStages.{stage-at}
 
 -- ---- lists of the first values of a function
 
--- four of them
-four : (ℕ → ℕ) → List ℕ
-four f = f 0 ∷ f 1 ∷ f 2 ∷ f 3 ∷ []
+-- n of them
+first_values : ℕ → (ℕ → ℕ) → List ℕ
+first_values n f = map f (range_with_len 0 n)
 
-read_four : (f : ℕ → ℕ) (j : ℕ) → j < 4 → slice_index (four f) j ≡ f j
-unfolding four
-read_four f zero below = refl
-read_four f (suc zero) below = refl
-read_four f (suc (suc zero)) below = refl
-read_four f (suc (suc (suc zero))) below = refl
-read_four f (suc (suc (suc (suc j)))) below = absurd (omega arith)
-
--- eight of them
-eight : (ℕ → ℕ) → List ℕ
-eight f = f 0 ∷ f 1 ∷ f 2 ∷ f 3 ∷ four (λ j. f (suc (suc (suc (suc j)))))
-
-read_eight : (f : ℕ → ℕ) (j : ℕ) → j < 8 → slice_index (eight f) j ≡ f j
-unfolding eight
-read_eight f zero below = refl
-read_eight f (suc zero) below = refl
-read_eight f (suc (suc zero)) below = refl
-read_eight f (suc (suc (suc zero))) below = refl
-read_eight f (suc (suc (suc (suc j)))) below = read_four (λ i. f (suc (suc (suc (suc i))))) j (omega arith)
+read_first : (n : ℕ) (f : ℕ → ℕ) (j : ℕ) → j < n → slice_index (first_values n f) j ≡ f j
+unfolding first_values
+read_first n f j below = get_or-map-range_with_len f 0 n j j 0 below (omega arith)
 
 -- ---- the blocks of a run
 
@@ -57,18 +43,18 @@ run_block (suc (suc (suc (suc j)))) r q count few small whole = absurd (omega (a
 module _ (shifts basis : List ℕ) (first_run r : ℕ) where
   -- the twiddles of the run, and the sums of three elements of the basis
   twiddles : List ℕ
-  twiddles = four (λ j. bit_xor (slice_index shifts j) (linear_image (drop (3 - j) basis) (first_run + r)))
+  twiddles = first_values 4 (λ j. bit_xor (slice_index shifts j) (linear_image (drop (3 - j) basis) (first_run + r)))
 
   low : List ℕ
-  low = eight (linear_image basis)
+  low = first_values 8 (linear_image basis)
 
   run_twiddles : AreRunTwiddles shifts basis (first_run + r) twiddles
   unfolding twiddles
-  run_twiddles = read_four (λ j. bit_xor (slice_index shifts j) (linear_image (drop (3 - j) basis) (first_run + r)))
+  run_twiddles = read_first 4 (λ j. bit_xor (slice_index shifts j) (linear_image (drop (3 - j) basis) (first_run + r)))
 
   low_sums : AreLowSums basis low
   unfolding low
-  low_sums = read_eight (linear_image basis)
+  low_sums = read_first 8 (linear_image basis)
 
   -- the factor of a place of the run is the twiddle of its block, and bit j of the place
   block_factor : (j q : ℕ) → j < 4 → q < 16 → run_factor twiddles low j q

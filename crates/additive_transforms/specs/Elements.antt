@@ -1,4 +1,4 @@
--- Additive transforms over any field with Cantor vectors.
+-- Transforms of elements of any field with Cantor vectors.
 use Rattle.std.specs.List.{range_with_len}
 use Rattle.std.specs.Prelude.{ℕ, suc, ◌-◌, ◌≤◌, List, map}
 use Rattle.additive_transforms.specs.Transform.{HasStages}

@@ -1,0 +1,35 @@
+use Rattle.std.proofs.Common.{◌≡◌, ℕ, ◌+◌, ◌-◌, length, refl, ◌∙◌, ap, arith}
+use Rattle.std.specs.Prelude.{bit_xor}
+use Rattle.field_base.specs.LinearMaps.{linear_image}
+use Rattle.additive_transforms.specs.Elements.{twiddle_basis}
+use Rattle.additive_transforms.proofs.BlockStages.{blocks_start, stage_blocks, stage_done, stage_step}
+use Rattle.additive_transforms.proofs.elements.stages.run_stage.Goals as goal
+
+pub loop-block-init : goal.loop-block-init
+loop-block-init g c = (refl, blocks_start _ _ _, λ above. absurd (omega (arith, above)))
+
+pub block_twiddle-twiddle-requires-clause-few : goal.block_twiddle-twiddle-requires-clause-few
+block_twiddle-twiddle-requires-clause-few g c =
+    let field = g.F.Represented in
+    let all = stage_blocks c.args.inverse field.product (λ (q : ℕ). q) c.args.stage _ c.half_of-half.ensures.half (length c.args.values.now) in
+    let few = c.requires.few in
+    let inside = c.loop-block-test.true in
+    omega (arith, all, few, inside)
+
+pub loop-block-preserved : goal.loop-block-preserved
+loop-block-preserved g c =
+    let field = g.F.Represented in
+    let level = g.F.TowerLevel in
+    let twiddle : ℕ → ℕ =
+    λ q. bit_xor (field.repr c.args.shift) (linear_image (twiddle_basis field.width (λ i. level.basis (level.cantor i))) q) in
+    let last : c.loop-block.block ≡ c.loop-block.block + 1 - 1 = omega arith in
+    let both =
+    stage_step c.args.inverse field.product twiddle c.args.stage _ c.half_of-half.ensures.half field.repr _ _ _
+    c.args.values.now c.loop-block.values c.run_block.new.block c.start_of-start.ensures.start c.start_of-start.ensures.inside
+    c.run_block.ensures.length c.block_twiddle-twiddle.ensures c.run_block.ensures.values c.loop-block.invariant.0
+    c.loop-block.invariant.1 in
+    (both.0, both.1, λ above. c.block_twiddle-twiddle.ensures ∙ ap twiddle last)
+
+pub returns-clause-stage : goal.returns-clause-stage
+returns-clause-stage g c =
+    stage_done _ _ _ c.args.stage _ c.half_of-half.ensures.half _ c.loop-block.block _ _ (omega arith) c.loop-block.invariant.1
