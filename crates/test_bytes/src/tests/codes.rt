@@ -1,6 +1,7 @@
 // A published example, every pattern of missing shards of small codes, drawn patterns of larger ones, sizes, parity apart, shards in
 // vectors, and errors. Numbers are drawn from the seed 20261126.
 use reed_solomon::{ReedSolomon, ReedSolomonError};
+use test_support::{fill_bytes, next_word};
 
 mod vectors;
 
@@ -8,22 +9,6 @@ mod vectors;
 static ONE_ENCODE: [u8; 20] = [
     0, 1, 4, 5, 2, 3, 6, 7, 8, 9, 12, 13, 10, 11, 14, 15, 90, 91, 94, 95,
 ];
-
-// The next word of splitmix64 (Steele, Lea and Flood 2014).
-fn next_word(state: &mut u64) -> u64 {
-    *state = state.wrapping_add(0x9e37_79b9_7f4a_7c15);
-    let mut word = *state;
-    word = (word ^ (word >> 30)).wrapping_mul(0xbf58_476d_1ce4_e5b9);
-    word = (word ^ (word >> 27)).wrapping_mul(0x94d0_49bb_1331_11eb);
-    word ^ (word >> 31)
-}
-
-fn fill(bytes: &mut [u8], seed: u64) {
-    let mut state = seed;
-    for byte in bytes.iter_mut() {
-        *byte = (next_word(&mut state) >> 56) as u8;
-    }
-}
 
 // Whether encoded shards come back after the missing ones were overwritten, or are refused where too few are present.
 fn comes_back(code: &ReedSolomon, size: usize, present: &[bool]) -> bool {
@@ -35,7 +20,7 @@ fn comes_back(code: &ReedSolomon, size: usize, present: &[bool]) -> bool {
     if size == 0 || length > 4096 || present.len() != code.total_shard_count() {
         return false;
     }
-    fill(&mut whole, 20261126);
+    fill_bytes(&mut whole, 20261126);
     if code.encode(&mut whole[..length]).is_err() {
         return false;
     }
@@ -165,7 +150,7 @@ fn apart_is_behind(data_shards: usize, parity_shards: usize, size: usize) -> boo
     }
     let middle = data_shards * size;
     let end = middle + parity_shards * size;
-    fill(&mut whole, 20261126);
+    fill_bytes(&mut whole, 20261126);
     match code_of(data_shards, parity_shards) {
         Some(code) => code.encode(&mut whole[..end]).is_ok()
             && code

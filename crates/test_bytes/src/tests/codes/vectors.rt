@@ -1,14 +1,16 @@
-// Shards in vectors: each pair of five is lost and comes back, and memory that is refused leaves them as they were.
-use super::{code_of, fill};
+// Shards in vectors: each pair of five is lost and comes back. In a heap without room `reconstruct` gets `Memory`, and the shards are as they
+// were.
+use super::code_of;
 use linked_list_allocator::LocalHeap;
-use reed_solomon::{ShardVectorError, reconstruct, reconstruct_data};
+use reed_solomon::shard_vectors::{ShardVectorError, reconstruct, reconstruct_data};
 use std::alloc::{AllocError, Allocator};
 use std::test::Fail;
+use test_support::fill_bytes;
 
 // Encoded shards of four bytes, three of data and two of parity.
 fn encoded() -> [u8; 20] {
     let mut shards = [0; 20];
-    fill(&mut shards[..12], 20261126);
+    fill_bytes(&mut shards[..12], 20261126);
     match code_of(3, 2) {
         Some(code) => {
             if code.encode(&mut shards).is_err() {
