@@ -1,4 +1,3 @@
-mod drawn;
 mod elements;
 mod kernel;
 mod levels;

@@ -1,28 +1,14 @@
 // The transform of elements pair by pair, against that of numbers: the same values and the same count, and back. It is called
 // through its bounds at a kernel whose elements are no numbers, of 1 to 1,024 values.
-use super::drawn::{fill, next_number};
 use super::kernel::{ElementKernel, ElementPairs};
-use additive_transforms::{forward, forward_with, inverse_with, point};
+use super::transform::forward_of;
+use additive_transforms::{forward_with, inverse_with, point};
 use field_element::Ghash128;
 use std::alloc::{AllocError, Allocator, Global};
 use std::test::Fail;
+use test_support::{fill, next_number};
 
-// Runs the transform of 2^m numbers for an m up to 10, or returns false.
-fn numbers_forward<A: Allocator>(
-    alloc: A,
-    values: &mut [u128],
-    m: usize,
-    z: u128,
-    products: &mut u64,
-) -> Result<bool, AllocError> {
-    if m > 10 || values.len() != 1 << m || *products > 1000 {
-        return Ok(false);
-    }
-    forward(alloc, values, z, products)?;
-    Ok(true)
-}
-
-// The same by the kernel of elements.
+// Runs the transform of 2^m elements for an m up to 10, or returns false.
 fn elements_forward<A: Allocator>(
     alloc: A,
     elements: &mut [Ghash128],
@@ -85,7 +71,7 @@ fn kernels_agree(alloc: Global, m: usize, count: usize, z: u128) -> Result<bool,
     let mut products = 5;
     let mut there = kernel_at(5);
     let mut back = kernel_at(5);
-    let runs = numbers_forward(alloc, values, m, z, &mut products)?
+    let runs = forward_of(alloc, values, m, z, &mut products)?
         && elements_forward(alloc, elements.as_mut_slice(), m, z, &mut there)?
         && represent(elements.as_slice(), values);
     Ok(

@@ -29,5 +29,5 @@ impl PairKernel for ElementPairs {
 }
 
 /// The kernel over elements of the field of GHASH: it transforms slices of them pair by pair, and counts the pairs. Without a count
-/// `forward_elements` and `inverse_elements` of `transform_levels` do the same.
+/// `forward_elements` and `inverse_elements` of `additive_transforms` do the same.
 pub type ElementKernel = PairByPair<ElementPairs>;

@@ -1,6 +1,6 @@
 // Worked rows of products and butterflies of slices.
-use crate::tests::drawn::{fill, next_number};
 use ghash_slices::{add_multiples, butterfly_forward, butterfly_inverse, mul, mul_slice, square};
+use test_support::{fill, next_number};
 
 #[test]
 fn products_and_squares_of_high_powers(rt: HostRuntime) {

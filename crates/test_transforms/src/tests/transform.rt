@@ -3,15 +3,15 @@ use additive_transforms::{forward, inverse};
 use std::alloc::{AllocError, Allocator, Global};
 use std::test::Fail;
 
-// Runs the transform of 2^m values for an m from 4 to 10, or returns false.
-fn forward_of<A: Allocator>(
+// Runs the transform of 2^m values for an m up to 10, or returns false.
+pub(crate) fn forward_of<A: Allocator>(
     alloc: A,
     values: &mut [u128],
     m: usize,
     z: u128,
     products: &mut u64,
 ) -> Result<bool, AllocError> {
-    if m < 4 || m > 10 || values.len() != 1 << m || *products > 1000 {
+    if m > 10 || values.len() != 1 << m || *products > 1000 {
         return Ok(false);
     }
     forward(alloc, values, z, products)?;
@@ -20,7 +20,7 @@ fn forward_of<A: Allocator>(
 
 // Runs the inverse of that.
 fn inverse_of(values: &mut [u128], m: usize, z: u128, products: &mut u64) -> bool {
-    if m < 4 || m > 10 || values.len() != 1 << m || *products > 1000 {
+    if m > 10 || values.len() != 1 << m || *products > 1000 {
         return false;
     }
     inverse(values, z, products);
