@@ -9,7 +9,7 @@ use Rattle.field_base.specs.Chunks.{chunk, chunks}
 use Rattle.bits_rows.specs.ChunkLemmas.{chunks-front}
 use Rattle.bits_rows.specs.Parts.{IsWithPart}
 use Rattle.bits_rows.proofs.LaneLemmas.{bit_at_shr}
-use Rattle.bits_rows.proofs.PartLists.{part_pushed}
+use Rattle.field_base.proofs.ChunkLists.{chunk_pushed}
 use Rattle.bits_packed.specs.Lanes.{IsWithLane, lanes_from}
 
 -- lane j is digit j in base 2
@@ -56,4 +56,4 @@ lanes_next width next n lane less is =
 pub byte_pushed : (width i n byte : ℕ) (items new begun : List ℕ) → new ≡ items ++ byte ∷ [] → items ≡ begun ++ chunks width i n
     → byte ≡ chunk width i n → new ≡ begun ++ chunks width (i + 1) n
 byte_pushed width i n byte items new begun is so_far value =
-    sym (map-id new) ∙ part_pushed (λ (x : ℕ). x) width i n items new byte begun is (map-id items ∙ so_far) value
+    sym (map-id new) ∙ chunk_pushed (λ (x : ℕ). x) width i n items new byte begun is (map-id items ∙ so_far) value

@@ -7,7 +7,7 @@ use Rattle.std.proofs.Math.Pow.{pow_mono}
 use Rattle.std.proofs.lemmas.Nat.Bits.{same_from_bits_below}
 use native.Mathlib.Nat.{mod-lt}
 use Rattle.field_base.specs.Chunks.{chunk}
-use Rattle.bits_rows.specs.ChunkLemmas.{chunk-lt}
+use Rattle.field_base.proofs.ChunkLists.{chunk-lt}
 use Rattle.bits_rows.specs.Parts.{IsWithField, IsWithPart}
 use Rattle.bits_rows.proofs.BlockLemmas.{place-split, places_up}
 use Rattle.bits_rows.proofs.LaneLemmas.{lane-part, power_some}
@@ -20,8 +20,8 @@ inside_parts w c k j less within = let up = places_up w k c less in omega (arith
 -- part k of part i, of which c make one, is part c * i + k
 pub part_of_part : (w c n i k : ℕ) → k < c → chunk w k (chunk (w * c) i n) ≡ chunk w (c * i + k) n
 part_of_part w c n i k less =
-    same_from_bits_below w (chunk w k (chunk (w * c) i n)) (chunk w (c * i + k) n) (chunk-lt w (chunk (w * c) i n) k)
-    (chunk-lt w n (c * i + k)) each
+    same_from_bits_below w (chunk w k (chunk (w * c) i n)) (chunk w (c * i + k) n) (chunk-lt w k (chunk (w * c) i n))
+    (chunk-lt w (c * i + k) n) each
   where
     each : (j : ℕ) → j < w → bit_at (chunk w k (chunk (w * c) i n)) j ≡ bit_at (chunk w (c * i + k) n) j
     each j within =
@@ -37,12 +37,12 @@ part_in_word w c n index some =
 -- the part of a word that a run of bits was written to is that run
 written_part : (w c m word v x : ℕ) → v < 2 ^ w → IsWithField (w * c) (w * m) w word v x → chunk w m x ≡ v
 written_part w c m word v x fits field =
-    same_from_bits_below w (chunk w m x) v (chunk-lt w x m) fits (λ j less. lane-part w x m j less ∙ field.0 j less)
+    same_from_bits_below w (chunk w m x) v (chunk-lt w m x) fits (λ j less. lane-part w x m j less ∙ field.0 j less)
 
 -- writing a run of bits to one part of a word keeps the other parts
 other_part : (w c m k word v x : ℕ) → k < c → k ≢ m → IsWithField (w * c) (w * m) w word v x → chunk w k x ≡ chunk w k word
 other_part w c m k word v x inside other field =
-    same_from_bits_below w (chunk w k x) (chunk w k word) (chunk-lt w x k) (chunk-lt w word k)
+    same_from_bits_below w (chunk w k x) (chunk w k word) (chunk-lt w k x) (chunk-lt w k word)
     (λ j less. lane-part w x k j less ∙ cases j less (cases_lt k m) ∙ sym (lane-part w word k j less))
   where
     cases : (j : ℕ) → j < w → (k < m) ⊎ (m ≤ k) → bit_at x (w * k + j) ≡ bit_at word (w * k + j)

@@ -4,7 +4,7 @@ use Rattle.std.proofs.lemmas.Bool.{cases_eq, cases_lt}
 use Rattle.std.proofs.lemmas.Nat.{mul-le}
 use Rattle.std.proofs.Math.Nat.{mul-div_cancel_left}
 use Rattle.field_base.specs.Chunks.{chunk}
-use Rattle.bits_rows.specs.ChunkLemmas.{chunk-lt}
+use Rattle.field_base.proofs.ChunkLists.{chunk-lt}
 use Rattle.bits_rows.specs.Parts.{IsWithPart}
 use Rattle.bits_rows.proofs.BlockLemmas.{places_up}
 use Rattle.bits_rows.proofs.LaneLemmas.{power_some, same_from_parts}
@@ -18,14 +18,14 @@ turned c i k = omega arith
 pub same_part : (w c n i r h : ℕ) → 0 < w → ((k : ℕ) → k < c → chunk w (c * h + k) r ≡ chunk w (c * i + k) n)
     → chunk (w * c) h r ≡ chunk (w * c) i n
 same_part w c n i r h some same =
-    same_from_parts w c (chunk (w * c) h r) (chunk (w * c) i n) some (chunk-lt (w * c) r h) (chunk-lt (w * c) n i)
+    same_from_parts w c (chunk (w * c) h r) (chunk (w * c) i n) some (chunk-lt (w * c) h r) (chunk-lt (w * c) i n)
     (λ k less. part_of_part w c r h k less ∙ same k less ∙ sym (part_of_part w c n i k less))
 
 -- a number whose narrow words are those of a part
 pub is_part : (w c wide n i r : ℕ) → 0 < w → wide ≡ w * c → r < 2 ^ wide
     → ((k : ℕ) → k < c → chunk w k r ≡ chunk w (i * c + k) n) → r ≡ chunk wide i n
 is_part w c wide n i r some is fits same =
-    same_from_parts w c r (chunk (w * c) i n) some (subst (λ (z : ℕ). r < 2 ^ z) is fits) (chunk-lt (w * c) n i)
+    same_from_parts w c r (chunk (w * c) i n) some (subst (λ (z : ℕ). r < 2 ^ z) is fits) (chunk-lt (w * c) i n)
     (λ k less. same k less ∙ ap (λ (p : ℕ). chunk w p n) (turned c i k) ∙ sym (part_of_part w c n i k less))
     ∙ ap (λ (z : ℕ). chunk z i n) (sym is)
 

@@ -1,11 +1,12 @@
--- The list of the parts of a number, words that calls give one after the other, and the leave for these calls.
+-- The list of the parts of a number, and words that calls give one after the other.
 use Rattle.std.proofs.Common.{◌≡◌, ◌≢◌, ℕ, ◌+◌, ◌<◌, List, [], ◌∷◌, ◌++◌, length, map, refl, sym, ap, ap₂, ◌∙◌, arith, subst, inl, inr, ◌⊎◌}
-use Rattle.std.specs.Array.{FillsFrom, index_steps}
-use Rattle.std.specs.Iterator.{CallableAtEachTurn}
+use Rattle.std.specs.Array.{FillsFrom}
 use Rattle.std.proofs.lemmas.Bool.{cases_eq}
 use Rattle.std.proofs.lemmas.List.{length-append, map-append}
+use Rattle.field_base.proofs.Calls.{fills_more}
 use Rattle.field_base.specs.Chunks.{chunk, chunks}
-use Rattle.bits_rows.specs.ChunkLemmas.{chunks-next, chunks-none, chunks-same}
+use Rattle.field_base.proofs.ChunkLists.{chunks-next, chunks-none}
+use Rattle.bits_rows.specs.ChunkLemmas.{chunks-same}
 use Rattle.bits_rows.specs.Parts.{IsWithPart, IsZipped}
 
 -- the parts up to the one that is written
@@ -14,23 +15,6 @@ parts-written w count i n v r inside written =
     chunks-next w i r
     ∙ ap₂ (λ (xs : List ℕ) (x : ℕ). xs ++ x ∷ [])
     (chunks-same w i r n (λ k less. written.1 k (omega arith) (λ is. absurd (omega arith)))) written.0
-
--- what calls gave, and what one call more gives
-fills_more : {S A : Type 0} (R : S → ℕ → A → S → Type 0) (s : S) (i : ℕ) (xs : List A) (t u : S) (x : A) (k : ℕ) → k ≡ i + length xs
-    → FillsFrom R s i xs t → R t k x u → FillsFrom R s i (xs ++ x ∷ []) u
-fills_more R s i [] t u x k last same step = (u, subst (λ p. R p i x u) (sym same) (subst (λ n. R t n x u) (omega arith) step), refl)
-fills_more R s i (y ∷ ys) t u x k last fills step = (fills.0, fills.1, fills_more R fills.0 (i + 1) ys t u x k (omega arith) fills.2 step)
-
--- what may be called at each index from i on and below n, may be called at i
-pub may_call : {S : Type 0} {R : S → ℕ → S → Type 0} {Q : S → ℕ → Type 0} {s : S} → (n i : ℕ) → i < n
-    → CallableAtEachTurn (index_steps n) R Q i s → Q s i
-may_call {s = s} n i inside may = may.at [] i s i (i + 1) refl refl (inside, refl, refl)
-
--- and at those from i + 1 on, after the call at i
-pub may_go_on : {S : Type 0} {R : S → ℕ → S → Type 0} {Q : S → ℕ → Type 0} {s : S} → (n i : ℕ) → i < n
-    → CallableAtEachTurn (index_steps n) R Q i s → (t : S) → R s i t → CallableAtEachTurn (index_steps n) R Q (i + 1) t
-may_go_on n i inside may t call =
-    record { at = λ xs u v x w given led next. may.at (i ∷ xs) u v x w (i + 1, (inside, refl, refl), given) (t, call, led) next }
 
 -- the first i words of a row are those that calls gave, from the state `start` to the state `now`
 pub record Filled {S A : Type 0} (w : ℕ) (number : A → ℕ) (step : S → ℕ → A → S → Type 0) (start : S) (i row : ℕ) (now : S) : Type 0 where
@@ -42,7 +26,7 @@ pub record Filled {S A : Type 0} (w : ℕ) (number : A → ℕ) (step : S → �
 module _ {S A : Type 0} (w : ℕ) (number : A → ℕ) (step : S → ℕ → A → S → Type 0) (start : S) where
   -- before the first call no word is filled
   pub nothing_filled : (row : ℕ) → Filled w number step start 0 row start
-  nothing_filled row = record { taken = []; fills = refl; long = refl; are = chunks-none w row }
+  nothing_filled row = record { taken = []; fills = refl; long = refl; are = sym (chunks-none w row) }
 
   -- one more call fills one more word
   pub more_filled : (count i n r : ℕ) (now next : S) (word : A) → Filled w number step start i n now → i < count

@@ -1,4 +1,4 @@
--- The digits of a number, from the front and from the back. These lemmas stand here since those on joined words, which the
+-- The digits of a number, from the front. These lemmas stand here since those on joined words, which the
 -- impls of blocks name, depend on them.
 use Rattle.std.proofs.Common.{◌≡◌, ℕ, zero, suc, ◌+◌, ◌*◌, ◌/◌, ◌%◌, ◌^◌, ◌<◌, List, [], ◌∷◌, ◌++◌, get_or, length, refl, sym, ap, ap₂, ◌∙◌, arith}
 use Rattle.std.proofs.Math.Nat.{div-one}
@@ -6,10 +6,6 @@ use Rattle.std.proofs.lemmas.Nat.{pow_pos, shr-shr}
 use native.Mathlib.Nat.{mod-eq_of_lt, mod-lt}
 use native.Mathlib.Numerals.{add-one}
 use Rattle.field_base.specs.Chunks.{chunk, chunks}
-
--- a digit is below 2 ^ w
-pub chunk-lt : (w n i : ℕ) → chunk w i n < 2 ^ w
-chunk-lt w n i = mod-lt (n / 2 ^ (w * i)) (pow_pos w)
 
 -- digit 0 is the remainder
 pub chunk-zero : (w n : ℕ) → n % 2 ^ w ≡ chunk w 0 n
@@ -23,27 +19,12 @@ chunk-later w n i =
     let more : w * suc i ≡ w + w * i = omega arith in
     ap (λ (x : ℕ). x % 2 ^ w) (shr-shr n w (w * i) ∙ ap (λ (k : ℕ). n / 2 ^ k) (sym more))
 
--- the first 0 digits
-pub chunks-none : (w n : ℕ) → [] ≡ chunks w 0 n
-unfolding chunks
-chunks-none w n = refl
-
--- the first i + 1 digits are the first i and digit i
-pub chunks-next : (w i n : ℕ) → chunks w (i + 1) n ≡ chunks w i n ++ chunk w i n ∷ []
-unfolding chunks
-chunks-next w i n = ap (λ (k : ℕ). chunks w k n) (add-one i)
-
 -- the first i + 1 digits are the remainder and the first i of the quotient
 pub chunks-front : (w i n : ℕ) → chunks w (suc i) n ≡ n % 2 ^ w ∷ chunks w i (n / 2 ^ w)
 unfolding chunks
 chunks-front w zero n = ap (λ (x : ℕ). x ∷ []) (sym (chunk-zero w n))
 chunks-front w (suc i) n =
     ap₂ (λ (xs : List ℕ) (x : ℕ). xs ++ x ∷ []) (chunks-front w i n) (sym (chunk-later w n i))
-
--- the first digit alone
-pub chunks-one : (w n : ℕ) → n < 2 ^ w → n ∷ [] ≡ chunks w 1 n
-unfolding chunks
-chunks-one w n fits = ap (λ (x : ℕ). x ∷ []) (sym (mod-eq_of_lt fits) ∙ chunk-zero w n)
 
 -- there are n digits in a list of the first n
 pub chunks-length : (w n a : ℕ) → length (chunks w n a) ≡ n

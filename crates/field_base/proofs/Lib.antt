@@ -6,9 +6,11 @@ pub mod BasisIsomorphism
 pub mod BasisMaps
 pub mod BasisSums
 pub mod ByteTableSums
+pub mod Calls
 pub mod CarrylessFacts
 pub mod CarrylessPairs
 pub mod CarrylessProduct
+pub mod ChunkLists
 pub mod DotLemmas
 pub mod EightCases
 pub mod FieldLemmas

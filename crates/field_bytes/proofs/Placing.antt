@@ -7,7 +7,7 @@ use native.Mathlib.Nat.{mod-eq_of_lt, mul-add-mod_self_left, mul_assoc}
 use Rattle.field_base.specs.Chunks.{chunk}
 use Rattle.field_base.specs.Quadratic.{pair}
 use Rattle.word_cubic.specs.Cubic.{triple}
-use Rattle.field_space.proofs.Spaces.{more-lt}
+use Rattle.field_base.proofs.ChunkLists.{more-lt}
 
 -- one byte more fits a number of 16 bytes, and is put there whole
 pub byte_placed : (i b : ℕ) → i < 16 → b < 2 ^ 8 → b * 2 ^ (8 * i) % 2 ^ 128 ≡ b * 2 ^ (8 * i)

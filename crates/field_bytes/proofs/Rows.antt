@@ -12,7 +12,7 @@ use Rattle.field_bytes.specs.Streams.{GivesFirst, IsWithin, bytes_pending, joine
 use Rattle.field_bytes.specs.Words.{IsWordRow}
 use Rattle.field_bytes.proofs.Streaming.{bytes_on, first_bytes, length-joined, none_taken, nothing_pending, one_taken, source_ends}
 use Rattle.field_bytes.proofs.Taking.{number-more, yields_append, yields_more}
-use Rattle.field_space.proofs.Spaces.{more-lt}
+use Rattle.field_base.proofs.ChunkLists.{more-lt}
 
 -- a number with a byte more
 pub byte_fits : (i b number more : ℕ) → b < 2 ^ 8 → number < 2 ^ (8 * i) → more ≡ b * 2 ^ (8 * i) + number → more < 2 ^ (8 * (i + 1))

@@ -8,8 +8,8 @@ use native.Mathlib.Nat.{mod-eq_of_lt, mul-suc, mul_assoc, mul_comm}
 use native.Mathlib.Numerals.{add-one}
 use Rattle.std.specs.Iterator.{Count, IsFinite, Yields, size}
 use Rattle.field_base.specs.Chunks.{chunk, chunks, joined}
-use Rattle.field_bytes.specs.Bytes.{TakesUpTo, low_bytes, number_of_bytes}
-use Rattle.field_space.proofs.Spaces.{more-lt}
+use Rattle.field_bytes.specs.Bytes.{ReadsElement, ReadsWord, TakesUpTo, low_bytes, number_of_bytes}
+use Rattle.field_base.proofs.ChunkLists.{more-lt}
 
 -- some items, and one more
 pub yields_more : {S A : Type 0} (next_gives : S → Option A → S → Type 0) (s : S) (xs : List A) (t u : S) (x : A)
@@ -129,3 +129,19 @@ pub same_again : (count width a b : ℕ) (bytes : List ℕ) → a < 2 ^ width �
     → bytes ≡ low_bytes count a → b ≡ a
 same_again count width a b bytes fits room is same =
     is ∙ ap (λ ys. number_of_bytes ys % 2 ^ width) same ∙ given_back count width a fits room
+
+-- the element that a word is cut to is read where the word is
+pub element_read : {S W E : Type 0} {can_next : S → Type 0} {next_gives : S → Option ℕ → S → Type 0} {number : W → ℕ} {n : ℕ} {iter rest : S}
+    {w : W} (repr : E → ℕ) (width : ℕ) (e : E) → width ≤ 8 * n → ReadsWord can_next next_gives number n iter (Some w) rest
+    → repr e ≡ number w % 2 ^ width → ((x : E) → repr x < 2 ^ width) → ((x y : E) → repr x ≡ repr y → x ≡ y)
+    → ReadsElement can_next next_gives repr width n iter (Some e) rest
+element_read {n = n} repr width e room read cut fits same =
+    let value = cut ∙ ap (λ (k : ℕ). k % 2 ^ width) read.value in
+    record {
+      bytes = read.bytes;
+      taken = read.taken;
+      none_if_short = read.none_if_short;
+      value = value;
+      goes_on = read.goes_on;
+      own_bytes_return = λ x own. same e x (same_again n width (repr x) (repr e) read.bytes (fits x) room value own);
+    }

@@ -11,7 +11,7 @@ use Rattle.field_base.specs.Chunks.{chunk, chunks, joined}
 use Rattle.field_base.specs.Quadratic.{pair}
 use Rattle.field_bytes.proofs.Taking.{next_place, number-append, number-more}
 use Rattle.word_cubic.specs.Cubic.{triple}
-use Rattle.field_space.proofs.Spaces.{chunks-whole}
+use Rattle.field_base.proofs.ChunkLists.{chunks-whole}
 
 -- a number below 2 ^ 8 is its only byte
 pub one_byte : (n : ℕ) → n < 2 ^ 8 → n ∷ [] ≡ low_bytes 1 n

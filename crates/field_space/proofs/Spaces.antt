@@ -9,38 +9,11 @@ use Rattle.std.proofs.Math.Seq.{take-suc}
 use Rattle.std.proofs.lemmas.Grind.{flat_map-append}
 use Rattle.std.proofs.lemmas.List.{append-nil, append_assoc, length-append, length-replicate, length-set, map-append, take_all, take_more_set}
 use Rattle.std.specs.List.{flat_map}
-use Rattle.std.specs.Iterator.{CallableAtEachTurn, Yields}
-use Rattle.std.specs.Array.{FillsFrom, index_steps}
+use Rattle.std.specs.Iterator.{Yields}
+use Rattle.std.specs.Array.{FillsFrom}
 use Rattle.field_base.specs.Chunks.{chunk, chunks}
-use Rattle.field_space.specs.ChunkLemmas.{chunk_above}
-
--- a chunk fits its width
-pub chunk-lt : (width i a : ℕ) → chunk width i a < 2 ^ width
-chunk-lt width i a = mod-lt (a / 2 ^ (width * i)) (pow_pos width)
-
--- what stands above n chunks does not change the first i, for i at most n
-chunks_above : (width n i high low : ℕ) → i ≤ n → chunks width i (high * 2 ^ (width * n) + low) ≡ chunks width i low
-unfolding chunks
-chunks_above width n zero high low fits = refl
-chunks_above width n (suc i) high low fits =
-    ap₂ (λ xs x. xs ++ x ∷ []) (chunks_above width n i high low (omega (arith, fits))) (chunk_above width n i high low (omega (arith, fits)))
-
--- one coefficient more
-pub chunks-put : (width i a c x : ℕ) → x < 2 ^ (width * i) → c < 2 ^ width → a ≡ c * 2 ^ (width * i) + x
-    → chunks width (suc i) a ≡ chunks width i x ++ c ∷ []
-unfolding chunks
-chunks-put width i a c x low_fits high_fits is =
-    ap (λ (y : ℕ). chunks width i y ++ chunk width i y ∷ []) is
-    ∙ ap₂ (λ xs y. xs ++ y ∷ []) (chunks_above width i i c x (omega arith))
-    (ap (λ (y : ℕ). y % 2 ^ width) (shr_high c (width * i) x low_fits) ∙ mod-eq_of_lt high_fits)
-
--- a coefficient put above i coefficients leaves i + 1 of them
-pub put-lt : (width i a c x : ℕ) → x < 2 ^ (width * i) → c < 2 ^ width → a ≡ c * 2 ^ (width * i) + x
-    → a < 2 ^ (width * suc i)
-put-lt width i a c x low_fits high_fits is =
-    let bits : 2 ^ (width * suc i) ≡ 2 ^ width * 2 ^ (width * i) =
-    ap (λ (k : ℕ). 2 ^ k) (mul-suc width i ∙ omega arith) ∙ pow-add 2 width (width * i) in
-    omega (arith, bits, is, digits_lt high_fits low_fits)
+use Rattle.field_base.proofs.Calls.{fills_more}
+use Rattle.field_base.proofs.ChunkLists.{chunk-whole, chunks-more, chunks-next, chunks-none, more-lt, none_pushed, put-lt}
 
 -- so that it fits the space
 pub put_fits : (whole width dimension i a c x : ℕ) → whole ≡ width * dimension → i < dimension → x < 2 ^ (width * i) → c < 2 ^ width
@@ -59,62 +32,13 @@ put_fits whole width dimension i a c x bits place low fits is =
 pub whole_bits : (width : ℕ) → width ≡ width * 1
 whole_bits width = omega arith
 
--- an element that fits is its only coefficient
-pub chunk-whole : (width a : ℕ) → a < 2 ^ width → chunk width 0 a ≡ a
-chunk-whole width a fits =
-    ap (λ (k : ℕ). a / 2 ^ k % 2 ^ width) (mul-zero width) ∙ ap (λ (x : ℕ). x % 2 ^ width) (div-one a) ∙ mod-eq_of_lt fits
-
--- and its list of coefficients has that one
-pub chunks-whole : (width a : ℕ) → a < 2 ^ width → a ∷ [] ≡ chunks width 1 a
-unfolding chunks
-chunks-whole width a fits = ap (λ x. x ∷ []) (sym (chunk-whole width a fits))
-
 -- ---- calls that give the coefficients one after the other
-
--- what calls gave, and what one call more gives
-fills_more : {S A : Type 0} (R : S → ℕ → A → S → Type 0) (s : S) (i : ℕ) (xs : List A) (t u : S) (x : A) (k : ℕ) → k ≡ i + length xs
-    → FillsFrom R s i xs t → R t k x u → FillsFrom R s i (xs ++ x ∷ []) u
-fills_more R s i [] t u x k last same step = (u, subst (λ p. R p i x u) (sym same) (subst (λ n. R t n x u) (omega arith) step), refl)
-fills_more R s i (y ∷ ys) t u x k last fills step = (fills.0, fills.1, fills_more R fills.0 (i + 1) ys t u x k (omega arith) fills.2 step)
-
--- what may be called at each index from i on and below n, may be called at i
-pub may_call : {S : Type 0} {R : S → ℕ → S → Type 0} {Q : S → ℕ → Type 0} {s : S} → (n i : ℕ) → i < n
-    → CallableAtEachTurn (index_steps n) R Q i s → Q s i
-may_call {s = s} n i inside may = may.at [] i s i (i + 1) refl refl (inside, refl, refl)
-
--- and at those from i + 1 on, after the call at i
-pub may_go_on : {S : Type 0} {R : S → ℕ → S → Type 0} {Q : S → ℕ → Type 0} {s : S} → (n i : ℕ) → i < n
-    → CallableAtEachTurn (index_steps n) R Q i s → (t : S) → R s i t → CallableAtEachTurn (index_steps n) R Q (i + 1) t
-may_go_on n i inside may t call =
-    record { at = λ xs u v x w given led next. may.at (i ∷ xs) u v x w (i + 1, (inside, refl, refl), given) (t, call, led) next }
 
 -- the calls of an iterator, which know no index
 pub fills-yields : {S A : Type 0} (next_gives : S → Option A → S → Type 0) (s : S) (i : ℕ) (xs : List A) (t : S)
     → FillsFrom (λ p k x q. next_gives p (Some x) q) s i xs t → Yields next_gives s xs t
 fills-yields next_gives s i [] t same = same
 fills-yields next_gives s i (x ∷ xs) t fills = (fills.0, fills.1, fills-yields next_gives fills.0 (i + 1) xs t fills.2)
-
--- with a coefficient put above i coefficients, the list has it behind them
-pub chunks-more : (width i a c x : ℕ) → x < 2 ^ (width * i) → c < 2 ^ width → a ≡ c * 2 ^ (width * i) + x
-    → chunks width (i + 1) a ≡ chunks width i x ++ c ∷ []
-chunks-more width i a c x low_fits high_fits is =
-    ap (λ (k : ℕ). chunks width k a) (add-one i) ∙ chunks-put width i a c x low_fits high_fits is
-
--- and the number has one coefficient more
-pub more-lt : (width i a c x : ℕ) → x < 2 ^ (width * i) → c < 2 ^ width → a ≡ c * 2 ^ (width * i) + x
-    → a < 2 ^ (width * (i + 1))
-more-lt width i a c x low_fits high_fits is =
-    subst (λ (k : ℕ). a < 2 ^ (width * k)) (sym (add-one i)) (put-lt width i a c x low_fits high_fits is)
-
--- no coefficients
-pub chunks-none : (width a : ℕ) → chunks width 0 a ≡ []
-unfolding chunks
-chunks-none width a = refl
-
--- the first i + 1 coefficients are the first i and the next
-pub chunks-next : (width i a : ℕ) → chunks width (i + 1) a ≡ chunks width i a ++ chunk width i a ∷ []
-unfolding chunks
-chunks-next width i a = ap (λ (k : ℕ). chunks width k a) (add-one i)
 
 -- the element of the coefficients so far, from the state `start` to the state `now`
 pub record Coefficients {S A : Type 0} (width : ℕ) (repr : A → ℕ) (step : S → ℕ → A → S → Type 0) (start : S) (i element : ℕ) (now : S)
@@ -163,29 +87,10 @@ one_item_more next_gives s t u i xs x n fills last long = (
   length-append xs (x ∷ []) ∙ add-one (length xs) ∙ ap suc long,
 )
 
--- the chunks of one element more
-pub flat_next : {A B : Type 0} (f : A → List B) (xs : List A) (k : ℕ) (x : A) → k < length xs → x ≡ get_or xs k x
-    → flat_map f (take (k + 1) xs) ≡ flat_map f (take k xs) ++ f x
-flat_next f xs k x within is =
-    ap (λ (n : ℕ). flat_map f (take n xs)) (add-one k)
-    ∙ ap (flat_map f) (take-suc xs k x within ∙ ap (λ y. take k xs ++ y ∷ []) (sym is)) ∙ flat_map-append f (take k xs) (x ∷ [])
-    ∙ ap (λ ys. flat_map f (take k xs) ++ ys) (append-nil (f x))
-
 -- the one coefficient of an element of a field over itself
 pub chunk-of_one : (width i a : ℕ) → i < 1 → a < 2 ^ width → a ≡ chunk width i a
 chunk-of_one width i a first fits =
     let none : i ≡ 0 = omega (arith, first) in sym (ap (λ (k : ℕ). chunk width k a) none ∙ chunk-whole width a fits)
-
--- one coefficient more of the element that is being taken apart
-pub pushed : {A : Type 0} (repr : A → ℕ) (width i x : ℕ) (items new : List A) (v : A) (begun : List ℕ) → new ≡ items ++ v ∷ []
-    → map repr items ≡ begun ++ chunks width i x → repr v ≡ chunk width i x → map repr new ≡ begun ++ chunks width (i + 1) x
-pushed repr width i x items new v begun is so_far value =
-    ap (map repr) is ∙ map-append repr items (v ∷ []) ∙ ap₂ (λ ys y. ys ++ y ∷ []) so_far value
-    ∙ append_assoc begun (chunks width i x) (chunk width i x ∷ []) ∙ ap (λ ys. begun ++ ys) (sym (chunks-next width i x))
-
--- before the first coefficient of an element is pushed
-pub none_pushed : (width x : ℕ) (ys : List ℕ) → ys ≡ ys ++ chunks width 0 x
-none_pushed width x ys = sym (ap (λ zs. ys ++ zs) (chunks-none width x) ∙ append-nil ys)
 
 -- the representations of one element more of a list
 pub map_next : {A : Type 0} (repr : A → ℕ) (xs : List A) (k : ℕ) (x : A) → k < length xs → x ≡ get_or xs k x

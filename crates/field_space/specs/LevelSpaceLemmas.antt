@@ -10,7 +10,7 @@ use Rattle.field_base.specs.Tower.{tower_mul}
 use Rattle.field_base.proofs.TowerProducts.{level-lt, tower_mul-low_times}
 use Rattle.field_base.proofs.TowerRing.{tower_ring}
 use Rattle.field_space.specs.OneCoefficientLemmas.{scales_one_coefficient}
-use Rattle.field_space.specs.ChunkLemmas.{chunk_above}
+use Rattle.field_base.proofs.ChunkLists.{chunk_above}
 
 -- the chunks of a pair of halves of n chunks each
 chunk_of_low : (width n i high low : ℕ) → i < n → chunk width i (pair (width * n) low high) ≡ chunk width i low

@@ -1,4 +1,3 @@
-pub mod ChunkLemmas
 pub mod Items
 pub mod LevelSpaceLemmas
 pub mod OneCoefficientLemmas

@@ -1,4 +1,3 @@
 mod BitProducts
 mod Blocks
-pub mod FillLemmas
 pub mod LanePoints

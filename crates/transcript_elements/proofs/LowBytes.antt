@@ -13,7 +13,7 @@ use Rattle.field_base.specs.Chunks.{chunk, chunks, joined}
 use Rattle.field_bytes.specs.Bytes.{low_bytes, number_of_bytes}
 use Rattle.field_bytes.proofs.Taking.{number-more}
 use Rattle.field_bytes.proofs.WordBytes.{sixteen_bytes}
-use Rattle.field_space.proofs.Spaces.{chunks-put, put-lt}
+use Rattle.field_base.proofs.ChunkLists.{chunks-put, put-lt}
 use Rattle.transcript_elements.specs.BigEndian.{be_bytes}
 
 -- ---- fewer bytes of a number

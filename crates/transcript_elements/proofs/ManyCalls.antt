@@ -10,7 +10,7 @@ use Rattle.field_base.specs.Chunks.{chunk, chunks}
 use Rattle.transcript_bytes.specs.ByteCalls.{after, Observe, observing, Sample, sampling, Transitions}
 use Rattle.transcript_bytes.proofs.Runs.{after_none, state_joined}
 use Rattle.field_bytes.specs.Bytes.{low_bytes}
-use Rattle.field_space.proofs.Spaces.{chunks-more, chunks-next, chunks-none, more-lt}
+use Rattle.field_base.proofs.ChunkLists.{chunks-more, chunks-next, chunks-none, more-lt}
 use Rattle.transcript_elements.specs.Sampled.{coefficient_bytes, squeezed_element, squeezed_elements}
 
 module _ {S : Type 0} (transitions : Transitions S) where

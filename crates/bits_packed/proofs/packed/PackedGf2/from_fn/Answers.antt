@@ -1,6 +1,7 @@
 use Rattle.std.proofs.Common.{◌≡◌, ◌<◌, ℕ, ◌∙◌, ap, arith, rules}
 use Rattle.field_base.specs.Bit.{bit_number}
-use Rattle.bits_rows.proofs.WordLists.{may_call, may_go_on, more_filled, nothing_filled}
+use Rattle.field_base.proofs.Calls.{may_call, may_go_on}
+use Rattle.bits_rows.proofs.WordLists.{more_filled, nothing_filled}
 use Rattle.bits_packed.specs.Lanes.{bits_of}
 use Rattle.bits_packed.proofs.LaneLists.{lane_is_part}
 use Rattle.bits_packed.proofs.packed.PackedGf2.from_fn.Goals as goal

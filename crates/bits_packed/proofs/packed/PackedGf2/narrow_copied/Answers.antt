@@ -2,21 +2,22 @@ use Rattle.std.proofs.Common.{◌≡◌, ◌<◌, ◌≤◌, ◌++◌, ℕ, leng
 use Rattle.std.specs.List.{flat_map}
 use Rattle.std.proofs.lemmas.List.{take_all}
 use Rattle.field_base.specs.Chunks.{chunks}
-use Rattle.bits_rows.proofs.PartLists.{nothing_pushed, part_pushed, row_pushed}
+use Rattle.field_base.proofs.ChunkLists.{chunk_pushed, none_pushed}
+use Rattle.bits_rows.proofs.PartLists.{row_pushed}
 use Rattle.bits_packed.proofs.packed.PackedGf2.narrow_copied.Goals as goal
 
 pub loop-i-init : goal.loop-i-init
 loop-i-init g c = record {
   room = omega (arith, c.in_ok-reserve.ensures.ok);
   so_far =
-      ap (map (λ x. g.V.Underlier.number x.bits)) c.reserve.ensures.items ∙ c.loop-place.invariant ∙ nothing_pushed _ g.V.Underlier.BITS _;
+      ap (map (λ x. g.V.Underlier.number x.bits)) c.reserve.ensures.items ∙ c.loop-place.invariant ∙ none_pushed g.V.Underlier.BITS _ _;
 }
 
 pub loop-i-preserved : goal.loop-i-preserved
 loop-i-preserved g c = record {
   room = omega (arith, c.push_reserved.ensures.len, c.push_reserved.ensures.capacity, c.loop-i.invariant.room);
   so_far =
-      part_pushed (λ x. g.V.Underlier.number x.bits) g.V.Underlier.BITS c.loop-i.i _ _ _ c.narrow.result _
+      chunk_pushed (λ x. g.V.Underlier.number x.bits) g.V.Underlier.BITS c.loop-i.i _ _ _ c.narrow.result _
       c.push_reserved.ensures.items c.loop-i.invariant.so_far c.narrow.ensures;
 }
 

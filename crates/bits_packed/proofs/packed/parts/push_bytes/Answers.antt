@@ -1,11 +1,11 @@
 use Rattle.std.proofs.Common.{◌≡◌, ◌++◌, ◌/◌, ℕ, ◌∙◌, ap, arith}
 use Rattle.field_base.specs.Chunks.{chunks}
-use Rattle.bits_rows.proofs.PartLists.{nothing_pushed}
+use Rattle.field_base.proofs.ChunkLists.{none_pushed}
 use Rattle.bits_packed.proofs.LaneLists.{byte_pushed}
 use Rattle.bits_packed.proofs.packed.parts.push_bytes.Goals as goal
 
 pub loop-i-init : goal.loop-i-init
-loop-i-init g c = nothing_pushed c.args.bytes.now.items 8 (g.U.Underlier.number c.args.packed.now.bits)
+loop-i-init g c = none_pushed 8 (g.U.Underlier.number c.args.packed.now.bits) c.args.bytes.now.items
 
 pub loop-i-preserved : goal.loop-i-preserved
 loop-i-preserved g c =

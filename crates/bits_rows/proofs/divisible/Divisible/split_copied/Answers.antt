@@ -2,15 +2,16 @@ use Rattle.std.proofs.Common.{◌≡◌, ◌<◌, ◌≤◌, ◌++◌, ℕ, leng
 use Rattle.std.specs.List.{flat_map}
 use Rattle.std.proofs.lemmas.List.{take_all}
 use Rattle.field_base.specs.Chunks.{chunks}
-use Rattle.bits_rows.proofs.PartLists.{nothing_pushed, part_pushed, row_pushed}
+use Rattle.field_base.proofs.ChunkLists.{chunk_pushed, none_pushed}
+use Rattle.bits_rows.proofs.PartLists.{row_pushed}
 use Rattle.bits_rows.proofs.divisible.Divisible.split_copied.Goals as goal
 
 pub loop-i-init : goal.loop-i-init
-loop-i-init g c = c.loop-place.invariant ∙ nothing_pushed _ g.V.Underlier.BITS _
+loop-i-init g c = c.loop-place.invariant ∙ none_pushed g.V.Underlier.BITS _ _
 
 pub loop-i-preserved : goal.loop-i-preserved
 loop-i-preserved g c =
-    part_pushed g.V.Underlier.number g.V.Underlier.BITS c.loop-i.i _ _ _ c.part.result _ c.in_ok-push.ensures.items c.loop-i.invariant
+    chunk_pushed g.V.Underlier.number g.V.Underlier.BITS c.loop-i.i _ _ _ c.part.result _ c.in_ok-push.ensures.items c.loop-i.invariant
     c.part.ensures.value
 
 pub loop-place-preserved : goal.loop-place-preserved

@@ -1,6 +1,7 @@
 use Rattle.std.proofs.Common.{◌≡◌, ◌<◌, ℕ, true, ◌∙◌, ap, sym, subst, arith, rules}
 use Rattle.field_base.specs.Chunks.{chunks}
-use Rattle.bits_rows.proofs.WordLists.{may_call, may_go_on, more_filled, nothing_filled}
+use Rattle.field_base.proofs.Calls.{may_call, may_go_on}
+use Rattle.bits_rows.proofs.WordLists.{more_filled, nothing_filled}
 use Rattle.bits_rows.proofs.underlier.Underlier.from_words_fn.Goals as goal
 
 pub loop-i-init : goal.loop-i-init

@@ -1,5 +1,5 @@
 use Rattle.std.proofs.Common.{◌∙◌}
-use Rattle.field_space.proofs.Spaces.{chunk-whole}
+use Rattle.field_base.proofs.ChunkLists.{chunk-whole}
 use Rattle.field_space.proofs.extension.ExtensionField.as_base.Goals as goal
 
 pub returns-then-is_in_basefield-clause-base : goal.returns-then-is_in_basefield-clause-base

@@ -1,6 +1,6 @@
 use Rattle.std.proofs.Common.{◌≡◌, ◌<◌, ◌^◌, sym, ◌∙◌, subst, IsTrue}
 use Rattle.field_base.specs.Chunks.{chunk}
-use Rattle.field_space.proofs.Spaces.{chunk-lt, chunk-whole}
+use Rattle.field_base.proofs.ChunkLists.{chunk-lt, chunk-whole}
 use Rattle.field_space.proofs.extension.ExtensionField.is_in_basefield.Goals as goal
 
 -- the embedded coefficient 0 is the element where its number has no bits above that coefficient

@@ -1,5 +1,5 @@
 use Rattle.std.proofs.Common.{◌∙◌}
-use Rattle.field_space.proofs.Spaces.{none_pushed, pushed}
+use Rattle.field_base.proofs.ChunkLists.{chunk_pushed, none_pushed}
 use Rattle.field_space.proofs.space.BasedVectorSpace.flatten_to_base.Goals as goal
 
 pub loop-i-init : goal.loop-i-init
@@ -7,5 +7,5 @@ loop-i-init g c = c.loop-place.invariant ∙ none_pushed g.F.Represented.width _
 
 pub loop-i-preserved : goal.loop-i-preserved
 loop-i-preserved g c =
-    pushed g.F.Represented.repr g.F.Represented.width c.loop-i.i _ _ _ c.basis_coefficient.result _ c.in_ok-push.ensures.items c.loop-i.invariant
+    chunk_pushed g.F.Represented.repr g.F.Represented.width c.loop-i.i _ _ _ c.basis_coefficient.result _ c.in_ok-push.ensures.items c.loop-i.invariant
     c.basis_coefficient.ensures

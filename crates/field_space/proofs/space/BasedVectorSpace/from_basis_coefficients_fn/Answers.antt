@@ -1,6 +1,7 @@
 use Rattle.std.proofs.Common.{◌≡◌, ◌<◌, ◌∙◌, ap, arith, rules}
 use Rattle.field_base.specs.Chunks.{chunks}
-use Rattle.field_space.proofs.Spaces.{may_call, may_go_on, more_coefficients, no_coefficients}
+use Rattle.field_base.proofs.Calls.{may_call, may_go_on}
+use Rattle.field_space.proofs.Spaces.{more_coefficients, no_coefficients}
 use Rattle.field_space.proofs.space.BasedVectorSpace.from_basis_coefficients_fn.Goals as goal
 
 pub loop-i-init : goal.loop-i-init

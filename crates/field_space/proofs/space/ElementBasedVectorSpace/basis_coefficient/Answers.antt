@@ -1,7 +1,7 @@
 use Rattle.std.proofs.Common.{ℕ, ◌%◌, ◌^◌, ◌∙◌, ap}
 use native.Mathlib.Nat.{mod-eq_of_lt}
 use Rattle.field_base.specs.Chunks.{chunk}
-use Rattle.field_space.proofs.Spaces.{chunk-lt}
+use Rattle.field_base.proofs.ChunkLists.{chunk-lt}
 use Rattle.field_space.proofs.space.ElementBasedVectorSpace.basis_coefficient.Goals as goal
 
 pub returns : goal.returns

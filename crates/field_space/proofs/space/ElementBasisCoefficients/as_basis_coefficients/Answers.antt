@@ -1,5 +1,5 @@
 use Rattle.std.proofs.Common.{◌∷◌, [], ◌∙◌, ap}
-use Rattle.field_space.proofs.Spaces.{chunk-whole, chunks-whole}
+use Rattle.field_base.proofs.ChunkLists.{chunk-whole, chunks-whole}
 use Rattle.field_space.proofs.space.ElementBasisCoefficients.as_basis_coefficients.Goals as goal
 
 pub returns : goal.returns

@@ -1,5 +1,5 @@
 use Rattle.std.proofs.Common.{◌∙◌, ap, map}
-use Rattle.field_space.proofs.Spaces.{chunks-whole}
+use Rattle.field_base.proofs.ChunkLists.{chunks-whole}
 use Rattle.field_space.proofs.space.ElementBasisCoefficientsSlice.as_basis_coefficients_slice.Goals as goal
 
 pub returns : goal.returns

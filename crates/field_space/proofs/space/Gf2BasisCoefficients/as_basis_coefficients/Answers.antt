@@ -1,4 +1,4 @@
-use Rattle.field_space.proofs.Spaces.{chunks-whole}
+use Rattle.field_base.proofs.ChunkLists.{chunks-whole}
 use Rattle.field_space.proofs.space.Gf2BasisCoefficients.as_basis_coefficients.Goals as goal
 
 pub returns : goal.returns

@@ -1,7 +1,7 @@
 use Rattle.std.proofs.Common.{◌≡◌, ◌+◌, ◌<◌, ◌≤◌, length, take, subst, sym, ◌∙◌, ap, arith, rules}
 use Rattle.std.proofs.lemmas.List.{length-take, take_all, take_more_set}
 use Rattle.std.specs.Array.{FillsFrom}
-use Rattle.packed_lanes.proofs.FillLemmas.{fills_more, may_call, may_go_on}
+use Rattle.field_base.proofs.Calls.{fills_more, may_call, may_go_on}
 use Rattle.packed_lanes.proofs.packing.PackedValue.from_fn.Goals as goal
 
 pub f-answer-requires : goal.f-answer-requires
@@ -20,8 +20,8 @@ loop-lane-preserved g c =
     let place : lane ≡ 0 + length (take lane before) = omega (arith, so_far, within) in (
       may_go_on _ lane inside c.loop-lane.invariant.0 c.f-answer.new.self (c.f-answer.result, c.f-answer.ensures),
       subst (λ xs. FillsFrom (λ p i x q. goal.F-step g p i x q) c.args.f 0 xs c.f-answer.new.self) (sym written)
-          (fills_more (λ p i x q. goal.F-step g p i x q) c.args.f 0 lane (take lane before) c.loop-lane.f c.f-answer.new.self
-          c.f-answer.result place c.loop-lane.invariant.1 c.f-answer.ensures),
+          (fills_more (λ p i x q. goal.F-step g p i x q) c.args.f 0 (take lane before) c.loop-lane.f c.f-answer.new.self
+          c.f-answer.result lane place c.loop-lane.invariant.1 c.f-answer.ensures),
     )
 
 pub returns : goal.returns

@@ -1,7 +1,7 @@
 use Rattle.std.proofs.Common.{◌≡◌, ◌+◌, ◌<◌, ◌≤◌, length, take, subst, sym, ◌∙◌, arith}
 use Rattle.std.proofs.lemmas.List.{length-set, length-take, take_all, take_more_set}
 use Rattle.std.specs.Array.{FillsFrom}
-use Rattle.packed_lanes.proofs.FillLemmas.{fills_more}
+use Rattle.field_base.proofs.Calls.{fills_more}
 use Rattle.packed_lanes.proofs.packed.draws.PackedSampleStandard.sample_standard.Goals as goal
 
 pub loop-lane-preserved : goal.loop-lane-preserved
@@ -17,7 +17,7 @@ loop-lane-preserved g c =
     let place : lane ≡ 0 + length (take lane lanes) = omega (arith, so_far, within) in (
       length-set lanes lane drawn ∙ c.loop-lane.invariant.0,
       subst (λ xs. FillsFrom (λ s i x t. g.F.SampleStandard.draws s x t) start 0 xs after) (sym (take_more_set lanes lane drawn within))
-          (fills_more (λ s i x t. g.F.SampleStandard.draws s x t) start 0 lane (take lane lanes) before after drawn place
+          (fills_more (λ s i x t. g.F.SampleStandard.draws s x t) start 0 (take lane lanes) before after drawn lane place
           c.loop-lane.invariant.1 c.sample_standard.ensures.drawn),
     )
 

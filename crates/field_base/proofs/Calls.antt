@@ -1,15 +1,13 @@
 -- Lists that calls in order give, one more at a time, and the leave for these calls.
-use Rattle.std.proofs.Common.{◌≡◌, ℕ, ◌+◌, List, [], ◌∷◌, ◌++◌, length, ◌<◌, refl, sym, ◌∙◌, subst, arith}
+use Rattle.std.proofs.Common.{◌≡◌, ℕ, ◌+◌, List, [], ◌∷◌, ◌++◌, length, ◌<◌, refl, sym, subst, arith}
 use Rattle.std.specs.Array.{FillsFrom, index_steps}
 use Rattle.std.specs.Iterator.{CallableAtEachTurn}
 
--- calls that gave xs and one more that gave y, together gave xs ++ [y]
-pub fills_more : {S A : Type 0} → (step : S → ℕ → A → S → Type 0) → (s : S) (i n : ℕ) (xs : List A) (t u : S) (y : A)
-    → n ≡ i + length xs → FillsFrom step s i xs t → step t n y u → FillsFrom step s i (xs ++ y ∷ []) u
-fills_more step s i n [] t u y place same call =
-    (u, subst (λ (k : ℕ). step s k y u) (place ∙ omega arith) (subst (λ r. step r n y u) (sym same) call), refl)
-fills_more step s i n (x ∷ xs) t u y place (next, first, rest) call =
-    (next, first, fills_more step next (i + 1) n xs t u y (place ∙ omega arith) rest call)
+-- what calls gave, and what one call more gives
+pub fills_more : {S A : Type 0} (R : S → ℕ → A → S → Type 0) (s : S) (i : ℕ) (xs : List A) (t u : S) (x : A) (k : ℕ) → k ≡ i + length xs
+    → FillsFrom R s i xs t → R t k x u → FillsFrom R s i (xs ++ x ∷ []) u
+fills_more R s i [] t u x k last same step = (u, subst (λ p. R p i x u) (sym same) (subst (λ n. R t n x u) (omega arith) step), refl)
+fills_more R s i (y ∷ ys) t u x k last fills step = (fills.0, fills.1, fills_more R fills.0 (i + 1) ys t u x k (omega arith) fills.2 step)
 
 -- what may be called at each index from i on and below n, may be called at i
 pub may_call : {S : Type 0} {R : S → ℕ → S → Type 0} {Q : S → ℕ → Type 0} {s : S} → (n i : ℕ) → i < n
