@@ -1,7 +1,12 @@
 // Maps of bytes by tables of their values, and linear maps of words by tables of their values at bytes: byte j of a word has the
 // 256 entries from 256 j on, and the value at the word is the sum of the entries of its bytes.
 ghost use Rattle.std.specs.Prelude.{◌≡◌, slice_index};
-ghost use Rattle.field_base.specs.ByteTables.{sum_of_entries};
+
+mod sums;
+
+pub use crate::byte_tables::sums::{
+    sum_of_entries_16, sum_of_entries_32, sum_of_entries_64, sum_of_entries_128,
+};
 
 /// The entry of a table at a byte.
 #[inline]
@@ -9,56 +14,4 @@ pub fn entry(table: &[u8; 256], byte: u8) -> u8
     ensures { result ≡ slice_index table.now byte }
 {
     table[byte as usize]
-}
-
-/// The sum of the entries of a table at the two bytes of a word.
-#[inline]
-#[tactic(auto, using(crate::proofs::ByteTableSums::sum_of_entries_none, crate::proofs::ByteTableSums::sum_of_entries_more))]
-pub fn sum_of_entries_16(table: &[u16; 512], x: u16) -> u16
-    ensures { result ≡ sum_of_entries 2 table.now x }
-{
-    let mut sum = 0;
-    for i in 0..2 {
-        sum ^= table[256 * i + (x >> (8 * i)) as usize % 256];
-    }
-    sum
-}
-
-/// The sum of the entries of a table at the four bytes of a word.
-#[inline]
-#[tactic(auto, using(crate::proofs::ByteTableSums::sum_of_entries_none, crate::proofs::ByteTableSums::sum_of_entries_more))]
-pub fn sum_of_entries_32(table: &[u32; 1024], x: u32) -> u32
-    ensures { result ≡ sum_of_entries 4 table.now x }
-{
-    let mut sum = 0;
-    for i in 0..4 {
-        sum ^= table[256 * i + (x >> (8 * i)) as usize % 256];
-    }
-    sum
-}
-
-/// The sum of the entries of a table at the eight bytes of a word.
-#[inline]
-#[tactic(auto, using(crate::proofs::ByteTableSums::sum_of_entries_none, crate::proofs::ByteTableSums::sum_of_entries_more))]
-pub fn sum_of_entries_64(table: &[u64; 2048], x: u64) -> u64
-    ensures { result ≡ sum_of_entries 8 table.now x }
-{
-    let mut sum = 0;
-    for i in 0..8 {
-        sum ^= table[256 * i + (x >> (8 * i)) as usize % 256];
-    }
-    sum
-}
-
-/// The sum of the entries of a table at the sixteen bytes of a word.
-#[inline]
-#[tactic(auto, using(crate::proofs::ByteTableSums::sum_of_entries_none, crate::proofs::ByteTableSums::sum_of_entries_more))]
-pub fn sum_of_entries_128(table: &[u128; 4096], x: u128) -> u128
-    ensures { result ≡ sum_of_entries 16 table.now x }
-{
-    let mut sum = 0;
-    for i in 0..16 {
-        sum ^= table[256 * i + ((x >> (8 * i)) % 256) as usize];
-    }
-    sum
 }

@@ -1,7 +1,9 @@
 // Words as `serde` reads them: an integer is the number that stands there.
-ghost use Rattle.std.specs.Prelude.{IfOk, List, [], ◌∷◌};
-ghost use Rattle.serde.specs.Event.{Event, unsigned};
+ghost use Rattle.std.specs.Prelude.{IfOk, List};
+ghost use Rattle.serde.specs.Event.{Event};
 ghost use Rattle.field_base.specs.Steps.{GivesEach};
+
+mod impls;
 
 use crate::word::Stored;
 use serde::{DeserializeOwned, Deserializer, Format};
@@ -15,52 +17,4 @@ pub trait ReadWord: Stored + DeserializeOwned {
     /// The word that stands next. It fails where none stands there, or a number that is too large for it.
     fn read<F: Format>(alloc: Global, from: &mut Deserializer<'_, '_, F>) -> Result<Self, F::Error>
         ensures { IfOk result (λ word. GivesEach F.gives F.stays from.old (events word) from.new) };
-}
-
-impl ReadWord for u8 {
-    ghost events = { λ word. unsigned word ∷ [] };
-
-    #[tactic(auto, using(crate::proofs::Steps::one_number))]
-    fn read<F: Format>(alloc: Global, from: &mut Deserializer<'_, '_, F>) -> Result<u8, F::Error> {
-        u8::deserialize_owned(alloc, from)
-    }
-}
-
-impl ReadWord for u16 {
-    ghost events = { λ word. unsigned word ∷ [] };
-
-    #[tactic(auto, using(crate::proofs::Steps::one_number))]
-    fn read<F: Format>(alloc: Global, from: &mut Deserializer<'_, '_, F>) -> Result<u16, F::Error> {
-        u16::deserialize_owned(alloc, from)
-    }
-}
-
-impl ReadWord for u32 {
-    ghost events = { λ word. unsigned word ∷ [] };
-
-    #[tactic(auto, using(crate::proofs::Steps::one_number))]
-    fn read<F: Format>(alloc: Global, from: &mut Deserializer<'_, '_, F>) -> Result<u32, F::Error> {
-        u32::deserialize_owned(alloc, from)
-    }
-}
-
-impl ReadWord for u64 {
-    ghost events = { λ word. unsigned word ∷ [] };
-
-    #[tactic(auto, using(crate::proofs::Steps::one_number))]
-    fn read<F: Format>(alloc: Global, from: &mut Deserializer<'_, '_, F>) -> Result<u64, F::Error> {
-        u64::deserialize_owned(alloc, from)
-    }
-}
-
-impl ReadWord for u128 {
-    ghost events = { λ word. unsigned word ∷ [] };
-
-    #[tactic(auto, using(crate::proofs::Steps::one_number))]
-    fn read<F: Format>(
-        alloc: Global,
-        from: &mut Deserializer<'_, '_, F>,
-    ) -> Result<u128, F::Error> {
-        u128::deserialize_owned(alloc, from)
-    }
 }

@@ -1,6 +1,6 @@
 use Rattle.std.proofs.Common.{◌≡◌}
 use Rattle.field_base.specs.ByteTables.{sum_of_entries}
-use Rattle.field_base.proofs.byte_tables.sum_of_entries_128.Given as goal
+use Rattle.field_base.proofs.byte_tables.sums.sum_of_entries_64.Given as goal
 
 -- the entries of the bytes before byte i are in the sum
 abbrev pub invariant-loop-i : goal.invariant-loop-i

@@ -1,0 +1,429 @@
+#!/usr/bin/env python3
+"""Writes the impls of traits for the integers of Rust, and functions of words that differ by the width."""
+
+from string import Template
+
+from impls import COLUMNS, UNSIGNED, keep_all, power
+
+# How many bytes a word of so many bits has.
+COUNTS = {8: "one", 16: "two", 32: "four", 64: "eight", 128: "sixteen"}
+
+# ---- the integers of Rust as words (field_base)
+
+STORED = Template("""\
+impl Stored for u$bits {
+    ghost number = { λ n. n };
+
+    ghost bits = { $bits };
+
+    ghost of_number = { λ n. n % 2 ^ $bits };
+
+    ghost number_of = { λ n. refl };
+
+    const ZERO: u$bits = 0;
+
+    ghost ZERO = { 0 };
+
+    const ONE: u$bits = 1;
+
+    ghost ONE = { 1 };
+
+    ghost zero_number = { refl };
+
+    ghost one_number = { refl };
+
+    ghost same_law = { λ x y e. e };
+
+    fn xor(self, other: u$bits) -> u$bits {
+        self ^ other
+    }
+
+    fn of_index(i: usize) -> u$bits {
+        $of_index
+    }
+
+    ghost eq_law = { Prim.search rules };
+}
+
+impl Unsigned for u$bits {
+    fn of_u128(n: u128) -> u$bits {
+        $of_u128
+    }
+
+    fn to_u128(self) -> u128 {
+        $to_u128
+    }
+}
+""")
+
+
+def stored():
+    yield """\
+// The unsigned integers of Rust as words.
+ghost use Rattle.std.specs.Prelude.{◌≡◌, ◌↔◌, ◌<◌, ◌%◌, ◌^◌, IsTrue, bit_xor, refl};
+ghost use Rattle.std.proofs.Common.{rules};
+
+use crate::word::{Stored, Unsigned};
+"""
+    for bits in UNSIGNED:
+        widest = bits == 128
+        yield STORED.substitute(
+            bits=bits,
+            of_index="u128::from(i as u64)" if widest else f"i as u{bits}",
+            of_u128="n" if widest else f"(n % {power(bits)}) as u{bits}",
+            to_u128="self" if widest else "u128::from(self)",
+        )
+
+
+READ = Template("""\
+impl ReadWord for u$bits {
+    ghost events = { λ word. unsigned word ∷ [] };
+
+    #[tactic(auto, using(crate::proofs::Steps::one_number))]
+    $head
+        u$bits::deserialize_owned(alloc, from)
+    }
+}
+""")
+
+
+def read():
+    yield """\
+// The unsigned integers of Rust as `serde` reads them.
+ghost use Rattle.std.specs.Prelude.{IfOk, List, [], ◌∷◌};
+ghost use Rattle.serde.specs.Event.{Event, unsigned};
+ghost use Rattle.field_base.specs.Steps.{GivesEach};
+
+use crate::reading::ReadWord;
+use serde::{DeserializeOwned, Deserializer, Format};
+use std::alloc::Global;
+"""
+    for bits in UNSIGNED:
+        parameters = ["alloc: Global", "from: &mut Deserializer<'_, '_, F>"]
+        answer = f"Result<u{bits}, F::Error>"
+        head = f"fn read<F: Format>({', '.join(parameters)}) -> {answer} {{"
+        if len(head) + 4 > COLUMNS:
+            lines = "".join(f"        {parameter},\n" for parameter in parameters)
+            head = f"fn read<F: Format>(\n{lines}    ) -> {answer} {{"
+        yield READ.substitute(bits=bits, head=head)
+
+
+# ---- tables of the values at bytes (field_base)
+
+SUM_OF_ENTRIES = Template("""\
+/// The sum of the entries of a table at the $count bytes of a word.
+#[inline]
+#[tactic(auto, using(crate::proofs::ByteTableSums::sum_of_entries_none, crate::proofs::ByteTableSums::sum_of_entries_more))]
+pub fn sum_of_entries_$bits(table: &[u$bits; $places], x: u$bits) -> u$bits
+    ensures { result ≡ sum_of_entries $size table.now x }
+{
+    let mut sum = 0;
+    for i in 0..$size {
+        sum ^= table[256 * i + $byte];
+    }
+    sum
+}
+""")
+
+
+def byte_tables():
+    yield """\
+// Sums of the entries of a byte table at the bytes of a word, for each width of words.
+ghost use Rattle.std.specs.Prelude.{◌≡◌, slice_index};
+ghost use Rattle.field_base.specs.ByteTables.{sum_of_entries};
+"""
+    for bits, count in COUNTS.items():
+        if bits == 8:
+            continue
+        byte = "((x >> (8 * i)) % 256) as usize" if bits == 128 else "(x >> (8 * i)) as usize % 256"
+        yield SUM_OF_ENTRIES.substitute(
+            bits=bits, count=count, size=bits // 8, places=32 * bits, byte=byte
+        )
+
+
+# ---- words of rows (bits_rows)
+
+ROW_WORD = Template("""\
+impl Sealed for u$bits {}
+
+impl Word for u$bits {
+    ghost number = { λ n. n };
+
+    ghost log_bits = { $log_bits };
+
+    const BITS: u32 = $bits;
+
+    ghost BITS = { $bits };
+
+    const ZERO: u$bits = 0;
+
+    ghost ZERO = { 0 };
+
+    const ONES: u$bits = u$bits::MAX;
+
+    ghost ONES = { 2 ^ $bits - 1 };
+
+    fn to_u64(self) -> u64 {
+        $to_u64
+    }
+
+    fn from_u64(n: u64) -> u$bits {
+        $from_u64
+    }
+
+    ghost sizes_law = { (refl, lit≤ tt, refl, lit< tt) };
+
+    ghost numbers_law = { (refl, refl, λ x y e. e) };
+
+    ghost eq_law = { Prim.search rules };
+
+    ghost default_law = { λ r is. is };
+
+    ghost on_and = { λ x y. (tt, λ r is. is) };
+
+    ghost on_or = { λ x y. (tt, λ r is. is) };
+
+    ghost on_xor = { λ x y. (tt, λ r is. is) };
+
+    ghost on_not = { λ x. (tt, λ r is. is) };
+
+    ghost on_shl = { λ x k. (λ fits. fits, λ r is. is) };
+
+    ghost on_shr = { λ x k. (λ fits. fits, λ r is. is) };
+}
+
+impl Underlier for u$bits {
+    type Word = u$bits;
+
+    ghost number = { λ n. n };
+
+    ghost is_whole = { λ n. nat_lt n (2 ^ $bits) };
+
+    ghost log_words = { 0 };
+
+    const WORD_COUNT: usize = 1;
+
+    ghost WORD_COUNT = { 1 };
+
+    const BITS: usize = $bits;
+
+    ghost BITS = { $bits };
+
+    const ZERO: u$bits = 0;
+
+    ghost ZERO = { 0 };
+
+    const ONES: u$bits = u$bits::MAX;
+
+    ghost ONES = { 2 ^ $bits - 1 };
+
+    fn words(&self) -> &[u$bits] {
+        only_word(self)
+    }
+
+    fn word(&self, _i: usize) -> u$bits {
+        *self
+    }
+
+    fn set_word(&mut self, _i: usize, word: u$bits) {
+        *self = word;
+    }
+
+    fn checked(&self) -> u$bits {
+        *self
+    }
+
+    fn interleave_in_words(&self, other: &u$bits, block: u32) -> (u$bits, u$bits) {
+        interleave_word(*self, *other, block)
+    }
+
+    ghost words_law = { refl };
+
+    ghost bits_law = { refl };
+
+    ghost narrow_law = { lit< tt };
+
+    ghost zero_whole = { refl };
+
+    ghost zero_number = { refl };
+
+    ghost ones_whole = { refl };
+
+    ghost ones_number = { refl };
+
+    ghost range_law = { λ x whole. ltb-true x (2 ^ $bits) whole };
+
+    ghost same_law = { λ x y left right same. same };
+
+    ghost eq_law = { Prim.search rules };
+
+    ghost default_law = { λ r is. is };
+}
+""")
+
+
+def row_words():
+    yield """\
+// The unsigned integers of Rust of up to 64 bits, as words of rows and as rows of one word.
+ghost use Rattle.std.specs.Prelude.{◌≡◌, refl};
+ghost use Rattle.std.proofs.Common.{lit<, lit≤, rules, ◌^◌, ◌-◌};
+ghost use Rattle.std.specs.Bool.{nat_lt};
+ghost use Rattle.std.proofs.lemmas.Bool.{ltb-true};
+
+use crate::bits::interleave_word;
+use crate::sealed::Sealed;
+use crate::underlier::Underlier;
+use crate::word::Word;
+use crate::words::only_word;
+"""
+    for log_bits, bits in enumerate(UNSIGNED[:4], start=3):
+        widest = bits == 64
+        yield ROW_WORD.substitute(
+            bits=bits,
+            log_bits=log_bits,
+            to_u64="self" if widest else "u64::from(self)",
+            from_u64="n" if widest else f"(n % {power(bits)}) as u{bits}",
+        )
+
+
+DIVISIBLE = Template("""\
+impl Divisible<$part> for $row {
+    const RATIO: usize = $ratio;
+
+    ghost RATIO = { $ratio };
+
+    ghost ratio_law = { refl };
+
+    ghost divides_law = { refl };
+}
+""")
+
+# The rows by their bits, the widest first.
+ROWS = {512: "M512", 256: "M256", 128: "M128", 64: "u64", 32: "u32", 16: "u16", 8: "u8"}
+
+
+def row_pairs():
+    yield """\
+// The pairs of a row and its parts: each of M512, M256, M128, u64, u32 and u16 with every narrower row.
+ghost use Rattle.std.specs.Prelude.{refl};
+
+use crate::divisible::Divisible;
+use crate::{M128, M256, M512};
+"""
+    for row in ROWS:
+        for part in ROWS:
+            if part < row:
+                yield DIVISIBLE.substitute(row=ROWS[row], part=ROWS[part], ratio=row // part)
+
+
+# ---- words by their bytes (field_bytes)
+
+LITTLE_ENDIAN = Template("""\
+impl LittleEndian for u$bits {
+    const SIZE: usize = $size;
+
+    ghost SIZE = { $size };
+
+    type Bytes = [u8; $size];
+
+    ghost listed = { λ bytes. bytes };
+
+    #[tactic(auto, using(crate::proofs::WordBytes::$bytes))]
+    fn to_bytes(self) -> [u8; $size] {
+        self.to_le_bytes()
+    }
+
+    fn byte(self, i: usize) -> u8 {
+        read_byte(self, i)
+    }
+
+    fn with_byte(self, i: usize, byte: u8) -> u$bits {
+        put_byte(self, i, byte)
+    }
+
+    #[inline]
+    fn wide(self, k: usize) -> u64 {
+        wide_of(self, k)
+    }
+
+    #[inline]
+    fn of_wide(n: u64) -> u$bits {
+        u$bits::of_u128(u128::from(n))
+    }
+
+    #[inline]
+    #[tactic(auto, using(crate::proofs::WordBytes::of_$count))]
+    fn from_bytes(bytes: [u8; $size]) -> u$bits {
+        u$bits::from_le_bytes(bytes)
+    }
+
+    ghost size_law = { refl };
+
+    ghost wide_law = { lit< tt };
+}
+""")
+
+
+def little_endian():
+    yield """\
+// The unsigned integers of Rust by their bytes.
+ghost use Rattle.std.specs.Prelude.{◌≡◌, ◌<◌, ◌*◌, ◌+◌, ◌^◌, ◌%◌, refl};
+ghost use Rattle.std.proofs.Common.{lit<};
+ghost use Rattle.field_base.specs.Chunks.{chunk};
+ghost use Rattle.field_bytes.specs.Bytes.{low_bytes, number_of_bytes};
+
+use crate::little_endian::{LittleEndian, put_byte, read_byte, wide_of};
+use field_base::Unsigned;
+"""
+    for bits, count in COUNTS.items():
+        yield LITTLE_ENDIAN.substitute(
+            bits=bits,
+            size=bits // 8,
+            count=count,
+            bytes=f"{count}_byte" if bits == 8 else f"{count}_bytes",
+        )
+
+
+# ---- all integers of Rust as numbers (field_integers)
+
+INTEGER = Template("""\
+impl Integer for $integer {
+    ghost value = { λ n. $value };
+
+    fn is_odd(self) -> bool {
+        self % 2 != 0
+    }
+
+    fn is_bit(self) -> bool {
+        self == 0 || self == 1
+    }
+}
+""")
+
+
+def integers():
+    yield """\
+// The integers of Rust by their parity, and by the numbers 0 and 1.
+ghost use Rattle.std.specs.Prelude.{◌≡◌, ◌⊎◌, ◌↔◌, pos, IsTrue};
+ghost use Rattle.field_base.specs.Powers.{parity};
+
+use crate::integer::Integer;
+"""
+    for sign, value in (("u", "pos n"), ("i", "n")):
+        for bits in [*UNSIGNED, "size"]:
+            yield INTEGER.substitute(integer=f"{sign}{bits}", value=value)
+
+
+if __name__ == "__main__":
+    keep_all(
+        "make_word_impls.py",
+        {
+            "field_base/src/word/impls.rt": stored,
+            "field_base/src/reading/impls.rt": read,
+            "field_base/src/byte_tables/sums.rt": byte_tables,
+            "bits_rows/src/words/impls.rt": row_words,
+            "bits_rows/src/pairs.rt": row_pairs,
+            "field_bytes/src/little_endian/impls.rt": little_endian,
+            "field_integers/src/integer/impls.rt": integers,
+        },
+    )
