@@ -8,6 +8,17 @@ from impls import COLUMNS, UNSIGNED, keep_all, power
 # How many bytes a word of so many bits has.
 COUNTS = {8: "one", 16: "two", 32: "four", 64: "eight", 128: "sixteen"}
 
+
+def low_bits(bits, widest):
+    """The word of the low bits of `n`, an integer of the widest word."""
+    return "n" if bits == widest else f"(n % {power(bits)}) as u{bits}"
+
+
+def widened(bits, widest):
+    """The word `self` as an integer of the widest word."""
+    return "self" if bits == widest else f"u{widest}::from(self)"
+
+
 # ---- the integers of Rust as words (field_base)
 
 STORED = Template("""\
@@ -66,13 +77,8 @@ ghost use Rattle.std.proofs.Common.{rules};
 use crate::word::{Stored, Unsigned};
 """
     for bits in UNSIGNED:
-        widest = bits == 128
-        yield STORED.substitute(
-            bits=bits,
-            of_index="u128::from(i as u64)" if widest else f"i as u{bits}",
-            of_u128="n" if widest else f"(n % {power(bits)}) as u{bits}",
-            to_u128="self" if widest else "u128::from(self)",
-        )
+        of_index = "u128::from(i as u64)" if bits == 128 else f"i as u{bits}"
+        yield STORED.substitute(bits=bits, of_index=of_index, of_u128=low_bits(bits, 128), to_u128=widened(bits, 128))
 
 
 READ = Template("""\
@@ -277,13 +283,7 @@ use crate::word::Word;
 use crate::words::only_word;
 """
     for log_bits, bits in enumerate(UNSIGNED[:4], start=3):
-        widest = bits == 64
-        yield ROW_WORD.substitute(
-            bits=bits,
-            log_bits=log_bits,
-            to_u64="self" if widest else "u64::from(self)",
-            from_u64="n" if widest else f"(n % {power(bits)}) as u{bits}",
-        )
+        yield ROW_WORD.substitute(bits=bits, log_bits=log_bits, to_u64=widened(bits, 64), from_u64=low_bits(bits, 64))
 
 
 DIVISIBLE = Template("""\
