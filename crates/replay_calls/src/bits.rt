@@ -22,10 +22,20 @@ pub(crate) fn rearranged(
     rearrangement: Rearrangement,
     call: &[&str],
 ) -> Result<Vec<u128>, Fault> {
+    rearranged_rows::<M128, u8>(alloc, rearrangement, call)
+}
+
+/// The same of rows that are `U`, and of parts that are `V`. Types are named in one call alone: that they meet the bounds takes the check
+/// longer than what is done with them.
+fn rearranged_rows<U: Divisible<V>, V: Underlier>(
+    alloc: Global,
+    rearrangement: Rearrangement,
+    call: &[&str],
+) -> Result<Vec<u128>, Fault> {
     match (rearrangement, call) {
-        (Rearrangement::Transpose, [list]) => transposed::<M128>(alloc, *list),
-        (Rearrangement::Interleave, [log, list]) => interleaved::<M128>(alloc, count(*log)?, *list),
-        (Rearrangement::Parts, [list]) => parts::<M128, u8>(alloc, *list),
+        (Rearrangement::Transpose, [list]) => transposed::<U>(alloc, *list),
+        (Rearrangement::Interleave, [log, list]) => interleaved::<U>(alloc, count(*log)?, *list),
+        (Rearrangement::Parts, [list]) => parts::<U, V>(alloc, *list),
         _ => Err(Fault::Line),
     }
 }
