@@ -8,7 +8,7 @@ use lib.Bits.{xor_assoc, xor_zero_r}
 use Rattle.field_base.specs.LinearMaps.{linear_image}
 use Rattle.field_base.proofs.BasisColumns.{sum_of_columns}
 use Rattle.field_base.proofs.LinearMapLemmas.{linear_image-columns}
-use Rattle.byte_maps.specs.Nibbles.{HasImages}
+use Rattle.byte_maps.specs.Nibbles.{HasImages, entry_sum}
 
 -- ---- the sums of four images
 
@@ -115,23 +115,12 @@ halves (c0 ∷ c1 ∷ c2 ∷ []) long x = absurd (omega arith)
 
 -- ---- the bytes that are looked up
 
--- what a table of the first four images has at the low four bits of bytes
-pub low_values : (table images bytes : List ℕ) → HasImages (take 4 images) table
-    → map (λ byte. slice_index table (byte % 16)) bytes ≡ map (λ byte. linear_image (take 4 images) (byte % 16)) bytes
-low_values table images bytes has = ap (λ (f : ℕ → ℕ). map f bytes) (λ i byte. has (byte % 16) (mod-lt byte (lit< tt)) i)
-
--- and one of the others at the high four bits
-pub high_values : (table images bytes : List ℕ) → HasImages (drop 4 images) table → Each1 (Fits w8) bytes
-    → map (λ byte. slice_index table (byte / 16)) bytes ≡ map (λ byte. linear_image (drop 4 images) (byte / 16)) bytes
-high_values table images [] has fit = refl
-high_values table images (byte ∷ bytes) has fit =
-    ap₂ (λ (x : ℕ) (xs : List ℕ). x ∷ xs) (has (byte / 16) (let below = fit.0.fits in omega (arith, below))) (high_values table images bytes has fit.1)
-
--- the sums of what the two tables have at the halves of bytes are the images of the bytes
-pub images_by_halves : (images : List ℕ) → length images ≡ 8 → (bytes : List ℕ)
-    → zip2 bit_xor (map (λ byte. linear_image (take 4 images) (byte % 16)) bytes)
-    (map (λ byte. linear_image (drop 4 images) (byte / 16)) bytes)
-    ≡ map (linear_image images) bytes
-images_by_halves images long [] = refl
-images_by_halves images long (byte ∷ bytes) =
-    ap₂ (λ (x : ℕ) (xs : List ℕ). x ∷ xs) (sym (halves images long byte)) (images_by_halves images long bytes)
+-- the sums of what the tables of the first four images and of the others have at the halves of bytes are the images of the bytes
+pub images_by_halves : (images low high : List ℕ) → length images ≡ 8 → HasImages (take 4 images) low → HasImages (drop 4 images) high
+    → (bytes : List ℕ) → Each1 (Fits w8) bytes → map (entry_sum low high) bytes ≡ map (linear_image images) bytes
+images_by_halves images low high long has also [] fit = refl
+images_by_halves images low high long has also (byte ∷ bytes) fit =
+    let below = fit.0.fits in
+    ap₂ (λ (x : ℕ) (xs : List ℕ). x ∷ xs)
+    (ap₂ bit_xor (has (byte % 16) (mod-lt byte (lit< tt))) (also (byte / 16) (omega (arith, below))) ∙ sym (halves images long byte))
+    (images_by_halves images low high long has also bytes fit.1)

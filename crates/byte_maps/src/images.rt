@@ -2,7 +2,7 @@
 ghost use Rattle.std.specs.Prelude.{◌≡◌, ◌≤◌, length, map};
 ghost use Rattle.field_base.specs.LinearMaps.{linear_image};
 
-use crate::nibbles::{images_of_16, images_of_32, sums_of_four};
+use crate::nibbles::{images_in_lanes, sums_of_four};
 use std::simd::prelude::*;
 
 /// Writes over each byte what the linear map makes of it that takes bit b to `images[b]`. From 16 bytes on it goes by blocks, which
@@ -35,16 +35,16 @@ fn map_blocks(images: &[u8; 8], bytes: &mut [u8])
     let low = sums_of_four(images[0], images[1], images[2], images[3]);
     let high = sums_of_four(images[4], images[5], images[6], images[7]);
     let last = bytes.len() - 16;
-    let end = images_of_16(images, low, high, u8x16::from_slice(&bytes[last..]));
+    let end = images_in_lanes(images, low, high, u8x16::from_slice(&bytes[last..]));
     let pairs = bytes.len() / 32;
     for pair in 0..pairs {
         let start = 32 * pair;
-        let mapped = images_of_32(images, low, high, u8x32::from_slice(&bytes[start..]));
+        let mapped = images_in_lanes(images, low, high, u8x32::from_slice(&bytes[start..]));
         mapped.copy_to_slice(&mut bytes[start..]);
     }
     for block in 2 * pairs..(bytes.len() - 1) / 16 {
         let start = 16 * block;
-        let mapped = images_of_16(images, low, high, u8x16::from_slice(&bytes[start..]));
+        let mapped = images_in_lanes(images, low, high, u8x16::from_slice(&bytes[start..]));
         mapped.copy_to_slice(&mut bytes[start..]);
     }
     end.copy_to_slice(&mut bytes[last..]);

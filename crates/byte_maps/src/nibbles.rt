@@ -4,7 +4,7 @@ ghost use Rattle.std.specs.Prelude.{◌≡◌, [], ◌∷◌, drop, map, take};
 ghost use Rattle.field_base.specs.LinearMaps.{linear_image};
 ghost use Rattle.byte_maps.specs.Nibbles.{HasImages};
 
-use crate::{high_entries, high_entries_of_32, low_entries, low_entries_of_32};
+use crate::{ByteVector, entry_sums};
 use std::simd::prelude::*;
 
 // The numbers below 16 that have bit 0, 1, 2 or 3, as masks.
@@ -35,23 +35,18 @@ pub(crate) fn sums_of_four(a: u8, b: u8, c: u8, d: u8) -> u8x16
         ^ (u8x16::splat(d) & u8x16::from_array(HAVE_BIT_3))
 }
 
-/// The images of sixteen bytes, by the tables of the first four images and of the others.
+/// The images of the bytes of a vector, by the tables of the first four images and of the others.
 #[inline(always)]
-pub(crate) fn images_of_16(images: &[u8; 8], low: u8x16, high: u8x16, bytes: u8x16) -> u8x16
+pub(crate) fn images_in_lanes<V: ByteVector>(
+    images: &[u8; 8],
+    low: u8x16,
+    high: u8x16,
+    bytes: V,
+) -> V
     requires low { HasImages (take 4 images.now) low }
     requires high { HasImages (drop 4 images.now) high }
-    ensures { result ≡ map (linear_image images.now) bytes }
+    ensures { V.bytes result ≡ map (linear_image images.now) (V.bytes bytes) }
 {
-    low_entries(low, bytes) ^ high_entries(high, bytes)
-}
-
-/// The images of thirty-two bytes, each half of which is looked up in a copy of the tables: on AVX2 a look-up of all is one
-/// instruction, and on x86-64-v2 two.
-#[inline(always)]
-pub(crate) fn images_of_32(images: &[u8; 8], low: u8x16, high: u8x16, bytes: u8x32) -> u8x32
-    requires low { HasImages (take 4 images.now) low }
-    requires high { HasImages (drop 4 images.now) high }
-    ensures { result ≡ map (linear_image images.now) bytes }
-{
-    low_entries_of_32(low, bytes) ^ high_entries_of_32(high, bytes)
+    bytes.holds_bytes();
+    entry_sums(low, high, bytes)
 }

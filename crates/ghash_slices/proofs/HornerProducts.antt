@@ -14,6 +14,7 @@ use Rattle.field_base.specs.Carryless.{carryless}
 use Rattle.field_base.proofs.RemainderRing.{ghash_ring}
 use Rattle.field_base.proofs.RingLemmas.{times-zero}
 use Rattle.word_carryless.specs.Tail.{ghash_tail}
+use Rattle.byte_maps.specs.Nibbles.{entry_sum}
 use Rattle.ghash_slices.specs.Blocks.{HoldLanes, HoldRows}
 use Rattle.ghash_slices.specs.LowStages.{ghash_product}
 use Rattle.ghash_slices.specs.Multiples.{byte_of_multiple, horner_step}
@@ -50,7 +51,7 @@ rows_same rows values others same held = record {
 -- where two tables have at the halves of every byte summands of f, the look-ups give f
 pub looked_up : (f : ℕ → ℕ) (low high : List ℕ) → ((b : ℕ) → b < 256 → bit_xor (slice_index low (b % 16)) (slice_index high (b / 16)) ≡ f b)
     → (bytes : List ℕ) → Each1 (Fits w8) bytes
-    → zip2 bit_xor (map (λ b. slice_index low (b % 16)) bytes) (map (λ b. slice_index high (b / 16)) bytes) ≡ map f bytes
+    → map (entry_sum low high) bytes ≡ map f bytes
 looked_up f low high are [] fit = refl
 looked_up f low high are (b ∷ bytes) fit = ap₂ (λ (x : ℕ) (xs : List ℕ). x ∷ xs) (are b fit.0.fits) (looked_up f low high are bytes fit.1)
 

@@ -1,11 +1,11 @@
 // Blocks of sixteen values of 128 bits as 256 bytes: value by value, or in rows, of which row k has byte k of each value.
 ghost use Rattle.std.specs.Prelude.{◌≡◌, ℕ, ◌+◌, ◌-◌, ◌*◌, ◌/◌, ◌%◌, ◌<◌, ◌≤◌, length, map, slice_index};
-ghost use Rattle.std.specs.Simd.Lanes.{chunk, digits_l, number_l, put_chunk};
+ghost use Rattle.std.specs.Simd.Lanes.{chunk, put_chunk};
 ghost use Rattle.ghash_slices.specs.Blocks.{HoldBytes};
 
 use crate::words::{WideWord, number_at};
 use std::simd::prelude::*;
-use word_carryless::split_128;
+use word_carryless::{bytes_of_128, number_of_bytes};
 
 /// The bytes of the values from `start` on, value by value. Past the last value they are 0.
 pub(crate) fn bytes_from<W: WideWord>(values: &[W], start: usize) -> [u8; 256]
@@ -17,7 +17,7 @@ pub(crate) fn bytes_from<W: WideWord>(values: &[W], start: usize) -> [u8; 256]
         put_lanes(
             &mut bytes,
             16 * place,
-            bytes_of(number_at(values, start + place)),
+            bytes_of_128(number_at(values, start + place)),
         );
     }
     bytes
@@ -41,7 +41,7 @@ pub(crate) fn value_at(bytes: &[u8; 256], place: usize) -> u128
     requires { place < 16 }
     ensures { (values : ℕ → ℕ) → HoldBytes bytes.now values → result ≡ values place }
 {
-    number_of(lanes_at(bytes, place))
+    number_of_bytes(lanes_at(bytes, place))
 }
 
 /// Sixteen bytes: a row, or a value.
@@ -84,22 +84,4 @@ fn interleaved(bytes: &[u8; 256]) -> [u8; 256]
         put_lanes(&mut mixed, 32 * row + 16, second);
     }
     mixed
-}
-
-// The bytes of a value, the lowest first.
-#[inline(always)]
-fn bytes_of(value: u128) -> u8x16
-    ensures { result ≡ digits_l 256 16 value }
-{
-    let (low, high) = split_128(value);
-    u64x2::from_array([low, high]).to_le_bytes()
-}
-
-// The value of sixteen bytes, the lowest first.
-#[inline(always)]
-fn number_of(bytes: u8x16) -> u128
-    ensures { result ≡ number_l 256 bytes }
-{
-    let words = u64x2::from_le_bytes(bytes).to_array();
-    ((words[1] as u128) << 64) ^ (words[0] as u128)
 }

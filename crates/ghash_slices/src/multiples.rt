@@ -14,7 +14,7 @@ ghost use Rattle.ghash_slices.specs.Tails.{byte_of_tail};
 
 use crate::blocks::{bytes_from, lanes_at, put_lanes, transposed};
 use crate::words::numbers_are_values;
-use byte_maps::{halves, high_entries, high_entries_of_32, joined, low_entries, low_entries_of_32};
+use byte_maps::{ByteVector, entry_sums, halves, joined};
 use std::simd::prelude::*;
 use word_carryless::reduce_128;
 
@@ -32,84 +32,6 @@ const HIGH_TAILS_LOW: [u8; 16] = [
 const HIGH_TAILS_HIGH: [u8; 16] = [
     0, 8, 16, 24, 33, 41, 49, 57, 67, 75, 83, 91, 98, 106, 114, 122,
 ];
-
-/// A vector of bytes, in which multiples are looked up: sixteen or thirty-two lanes.
-pub(crate) trait ByteVector: Copy {
-    // The bytes of a vector, and how many they are.
-    ghost bytes: { Self → List ℕ };
-
-    ghost lanes: { ℕ };
-
-    /// This vector, of whose bytes it is known how many they are, and that they are bytes.
-    fn known(self) -> Self
-        ensures same { result ≡ self }
-        ensures count { length (bytes self) ≡ lanes }
-        ensures fit { Each1 (Fits w8) (bytes self) };
-
-    /// The sums of the bytes in each lane.
-    fn sum(self, other: Self) -> Self
-        ensures { bytes result ≡ zip2 bit_xor (bytes self) (bytes other) };
-
-    /// The entry of the table at the low four bits of each byte.
-    fn low_entries_of(self, table: u8x16) -> Self
-        ensures { bytes result ≡ map (λ byte. slice_index table (byte % 16)) (bytes self) };
-
-    /// The entry of the table at the high four bits of each byte.
-    fn high_entries_of(self, table: u8x16) -> Self
-        ensures { bytes result ≡ map (λ byte. slice_index table (byte / 16)) (bytes self) };
-}
-
-impl ByteVector for u8x16 {
-    ghost bytes = { λ lanes. lanes };
-
-    ghost lanes = { 16 };
-
-    #[inline(always)]
-    fn known(self) -> u8x16 {
-        self
-    }
-
-    #[inline(always)]
-    fn sum(self, other: u8x16) -> u8x16 {
-        self ^ other
-    }
-
-    #[inline(always)]
-    fn low_entries_of(self, table: u8x16) -> u8x16 {
-        low_entries(table, self)
-    }
-
-    #[inline(always)]
-    fn high_entries_of(self, table: u8x16) -> u8x16 {
-        high_entries(table, self)
-    }
-}
-
-impl ByteVector for u8x32 {
-    ghost bytes = { λ lanes. lanes };
-
-    ghost lanes = { 32 };
-
-    #[inline(always)]
-    fn known(self) -> u8x32 {
-        self
-    }
-
-    #[inline(always)]
-    fn sum(self, other: u8x32) -> u8x32 {
-        self ^ other
-    }
-
-    #[inline(always)]
-    fn low_entries_of(self, table: u8x16) -> u8x32 {
-        low_entries_of_32(table, self)
-    }
-
-    #[inline(always)]
-    fn high_entries_of(self, table: u8x16) -> u8x32 {
-        high_entries_of_32(table, self)
-    }
-}
 
 /// The multiples of a scalar by the digits of a byte to base 16, in rows: those of the low digit, and those of the high one. They are
 /// looked up in registers.
@@ -209,9 +131,8 @@ impl Multiples {
         ensures bytes { V.bytes result ≡ map (byte_of_multiple (scalar_of self.now) row) (V.bytes bytes) }
         ensures count { length (V.bytes bytes) ≡ V.lanes }
     {
-        let known = bytes.known();
-        let low = known.low_entries_of(lanes_at(&self.low, row));
-        low.sum(known.high_entries_of(lanes_at(&self.high, row)))
+        bytes.holds_bytes();
+        entry_sums(lanes_at(&self.low, row), lanes_at(&self.high, row), bytes)
     }
 }
 
@@ -222,7 +143,9 @@ fn row_at<V: ByteVector>(rows: &[V; 16], row: usize) -> V
     ensures bytes { V.bytes result ≡ slice_index_or (map V.bytes rows.now) row [] }
     ensures count { length (V.bytes result) ≡ V.lanes }
 {
-    rows[row].known()
+    let bytes = rows[row];
+    bytes.holds_bytes();
+    bytes
 }
 
 // The bytes of rows of sixteen.
@@ -257,9 +180,12 @@ fn bytes_of_both(rows: &[u8x32; 16]) -> ([u8; 256], [u8; 256])
 fn first_tails<V: ByteVector>(bytes: V) -> V
     ensures { V.bytes result ≡ map (byte_of_tail 0) (V.bytes bytes) }
 {
-    let known = bytes.known();
-    let low = known.low_entries_of(u8x16::from_array(LOW_TAILS_LOW));
-    low.sum(known.high_entries_of(u8x16::from_array(HIGH_TAILS_LOW)))
+    bytes.holds_bytes();
+    entry_sums(
+        u8x16::from_array(LOW_TAILS_LOW),
+        u8x16::from_array(HIGH_TAILS_LOW),
+        bytes,
+    )
 }
 
 // The high bytes of these products.
@@ -267,9 +193,12 @@ fn first_tails<V: ByteVector>(bytes: V) -> V
 fn second_tails<V: ByteVector>(bytes: V) -> V
     ensures { V.bytes result ≡ map (byte_of_tail 1) (V.bytes bytes) }
 {
-    let known = bytes.known();
-    let low = known.low_entries_of(u8x16::from_array(LOW_TAILS_HIGH));
-    low.sum(known.high_entries_of(u8x16::from_array(HIGH_TAILS_HIGH)))
+    bytes.holds_bytes();
+    entry_sums(
+        u8x16::from_array(LOW_TAILS_HIGH),
+        u8x16::from_array(HIGH_TAILS_HIGH),
+        bytes,
+    )
 }
 
 // The rows of sixteen numbers.

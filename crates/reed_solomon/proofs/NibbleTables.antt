@@ -7,33 +7,20 @@ use Rattle.std.proofs.lemmas.Nat.{xor_block, xor_comm}
 use Rattle.std.proofs.lemmas.Simd.{Each1-get_or, get_or-chunk, zip2-map}
 use native.Mathlib.Nat.{mod-lt}
 use lib.Bits.{xor_zero_r}
+use Rattle.byte_maps.specs.Nibbles.{entry_sum}
 use Rattle.reed_solomon.specs.ErasureField.{erasure_product}
 use Rattle.reed_solomon.specs.Tables.{HasRow, nibble_sum}
 use Rattle.reed_solomon.proofs.ByteTables.{erasure_field}
 
 -- ---- the look-ups
 
--- the sums of what two tables have at the halves of bytes
-abbrev sums_of : List ℕ → List ℕ → List ℕ → List ℕ
-sums_of low high bytes = zip2 bit_xor (map (λ byte. get_or low (byte % 16) 0) bytes) (map (λ byte. get_or high (byte / 16) 0) bytes)
-
--- as one list
-as_one : (low high bytes : List ℕ) → sums_of low high bytes ≡ map (λ byte. bit_xor (get_or low (byte % 16) 0) (get_or high (byte / 16) 0)) bytes
-as_one low high bytes = zip2-map bit_xor (λ byte. get_or low (byte % 16) 0) (λ byte. get_or high (byte / 16) 0) bytes
-
--- are as many as the bytes
-pub sums-length : (low high bytes : List ℕ) → length bytes ≡ 32 → length (sums_of low high bytes) ≡ 32
-sums-length low high bytes long = ap length (as_one low high bytes) ∙ length-map bytes _ ∙ long
-
--- and each is that of its byte
+-- the sum of what two tables have at the halves of a byte
 pub sum_at : (entries : List ℕ) (start : ℕ) (bytes : List ℕ) → length bytes ≡ 32 → Each1 (Fits w8) bytes → (lane : ℕ) → lane < 32
-    → get_or (sums_of (chunk start 16 entries) (chunk (start + 16) 16 entries) bytes) lane 0 ≡ nibble_sum entries start (get_or bytes lane 0)
+    → get_or (map (entry_sum (chunk start 16 entries) (chunk (start + 16) 16 entries)) bytes) lane 0 ≡ nibble_sum entries start (get_or bytes lane 0)
 sum_at entries start bytes long fits lane below =
     let inside : lane < length bytes = omega (arith, long, below) in
     let byte = (Each1-get_or (Fits w8) bytes lane 0 inside fits).fits in
-    ap (λ (l : List ℕ). get_or l lane 0) (as_one (chunk start 16 entries) (chunk (start + 16) 16 entries) bytes)
-    ∙ get_or-map (λ byte. bit_xor (get_or (chunk start 16 entries) (byte % 16) 0) (get_or (chunk (start + 16) 16 entries) (byte / 16) 0)) bytes lane 0 0
-    inside
+    get_or-map (entry_sum (chunk start 16 entries) (chunk (start + 16) 16 entries)) bytes lane 0 0 inside
     ∙ ap₂ bit_xor (get_or-chunk start 16 entries (get_or bytes lane 0 % 16) 0 (mod-lt (get_or bytes lane 0) (lit< tt)))
     (get_or-chunk (start + 16) 16 entries (get_or bytes lane 0 / 16) 0 (omega (arith, byte)))
 

@@ -2,7 +2,7 @@
 ghost use Rattle.std.specs.Prelude.{◌≡◌, ◌+◌, ◌<◌, ◌≤◌, ℕ, length, slice_index};
 ghost use Rattle.reed_solomon.specs.Tables.{nibble_sum};
 
-use byte_maps::{high_entries_of_32, low_entries_of_32};
+use byte_maps::entry_sums;
 use std::simd::prelude::*;
 
 // The sums of the entries of the halves of 32 bytes. The 32 entries begin at `start`.
@@ -14,5 +14,5 @@ pub(crate) fn nibble_sums(entries: &[u8], start: usize, bytes: u8x32) -> u8x32
 {
     let low = u8x16::from_slice(&entries[start..]);
     let high = u8x16::from_slice(&entries[start + 16..]);
-    low_entries_of_32(low, bytes) ^ high_entries_of_32(high, bytes)
+    entry_sums(low, high, bytes)
 }

@@ -1,8 +1,8 @@
 -- Karatsuba's rule for the carryless product: a product of twice the width by three of the width.
 use Rattle.std.proofs.Common.{◌≡◌, ℕ, ◌+◌, ◌*◌, ◌/◌, ◌%◌, ◌^◌, ◌<◌, sym, ◌∙◌, ap, ap₂, arith, lit<, lit≤}
 use Rattle.std.specs.Prelude.{bit_xor}
-use Rattle.std.proofs.lemmas.Nat.{xor_comm, xor_lt, shl_whole, shl_below, mod_low}
-use native.Mathlib.Nat.{mod-lt, mod-eq_of_lt, mul_assoc}
+use Rattle.std.proofs.lemmas.Nat.{xor_comm, xor_lt, shl_whole, shl_below, mod_low, pow-add, pow_pos, shr_split}
+use native.Mathlib.Nat.{add-mul, mod-lt, mod-eq_of_lt, mul_assoc}
 use lib.Bits.{xor_assoc, xor_self, xor_shifted}
 use Rattle.field_base.specs.Carryless.{carryless}
 use Rattle.word_carryless.specs.Karatsuba.{karatsuba_sum}
@@ -81,29 +81,35 @@ pub carryless_64 : (x y x0 x1 y0 y1 low high both r : ℕ) → x0 < 2 ^ 32 → y
 carryless_64 x y x0 x1 y0 y1 low high both r x0_fits y0_fits of_x of_y of_low of_high of_both of_sum =
     of_sum ∙ sym (carryless_halves 32 x y x0 x1 y0 y1 low high both x0_fits y0_fits of_x of_y of_low of_high of_both)
 
--- a shift by a whole half, as what stays in the double word and what leaves it
-shift_parts : (m : ℕ) → m * 2 ^ 64 ≡ bit_xor (m / 2 ^ 64 * 2 ^ 128) (m * 2 ^ 64 % 2 ^ 128)
-shift_parts m =
-    whole ∙ sym (xor_shifted (m / 2 ^ 64) 128 (m % 2 ^ 64 * 2 ^ 64) fits)
-    ∙ ap (bit_xor (m / 2 ^ 64 * 2 ^ 128))
-    (sym (ap (λ (z : ℕ). z % 2 ^ 128) whole ∙ mod_low (m / 2 ^ 64) 128 (m % 2 ^ 64 * 2 ^ 64) fits))
+-- a shift by twice a half
+twice_up : (w m : ℕ) → m * 2 ^ w * 2 ^ w ≡ m * 2 ^ (w + w)
+twice_up w m = mul_assoc m (2 ^ w) (2 ^ w) ∙ ap (λ (z : ℕ). m * z) (sym (pow-add 2 w w))
+
+-- a shift by a half, as what stays in the two halves and what leaves them
+shift_parts : (w m : ℕ) → m * 2 ^ w ≡ bit_xor (m / 2 ^ w * 2 ^ (w + w)) (m * 2 ^ w % 2 ^ (w + w))
+shift_parts w m =
+    whole ∙ sym (xor_shifted (m / 2 ^ w) (w + w) (m % 2 ^ w * 2 ^ w) fits)
+    ∙ ap (bit_xor (m / 2 ^ w * 2 ^ (w + w)))
+    (sym (ap (λ (z : ℕ). z % 2 ^ (w + w)) whole ∙ mod_low (m / 2 ^ w) (w + w) (m % 2 ^ w * 2 ^ w) fits))
   where
-    whole : m * 2 ^ 64 ≡ m / 2 ^ 64 * 2 ^ 128 + m % 2 ^ 64 * 2 ^ 64
-    whole = omega arith
+    whole : m * 2 ^ w ≡ m / 2 ^ w * 2 ^ (w + w) + m % 2 ^ w * 2 ^ w
+    whole =
+        ap (λ (z : ℕ). z * 2 ^ w) (sym (shr_split m w)) ∙ add-mul (m / 2 ^ w * 2 ^ w) (m % 2 ^ w) (2 ^ w)
+        ∙ ap (λ (z : ℕ). z + m % 2 ^ w * 2 ^ w) (twice_up w (m / 2 ^ w))
 
-    fits : m % 2 ^ 64 * 2 ^ 64 < 2 ^ 128
-    fits = shl_below (m % 2 ^ 64) 64 64 (mod-lt m (lit< tt))
+    fits : m % 2 ^ w * 2 ^ w < 2 ^ (w + w)
+    fits = shl_below (m % 2 ^ w) w w (mod-lt m (pow_pos w))
 
--- the three products of Karatsuba's rule at 64 bits, joined into two double words
-joined_128 : (low middle high : ℕ) → low < 2 ^ 128
-    → bit_xor low (bit_xor (middle * 2 ^ 64) (high * 2 ^ 64 * 2 ^ 64))
-    ≡ bit_xor high (middle / 2 ^ 64) * 2 ^ 128 + bit_xor low (middle * 2 ^ 64 % 2 ^ 128)
-joined_128 low middle high low_fits =
-    ap₂ (λ (a b : ℕ). bit_xor low (bit_xor a b)) (shift_parts middle) (mul_assoc high (2 ^ 64) (2 ^ 64))
-    ∙ placed low (middle / 2 ^ 64 * 2 ^ 128) (middle * 2 ^ 64 % 2 ^ 128) (high * 2 ^ 128)
-    ∙ ap (λ (z : ℕ). bit_xor z (bit_xor low (middle * 2 ^ 64 % 2 ^ 128))) (xor_shl 128 high (middle / 2 ^ 64))
-    ∙ xor_shifted (bit_xor high (middle / 2 ^ 64)) 128 (bit_xor low (middle * 2 ^ 64 % 2 ^ 128))
-    (xor_lt 128 low (middle * 2 ^ 64 % 2 ^ 128) low_fits (mod-lt (middle * 2 ^ 64) (lit< tt)))
+-- the three products of Karatsuba's rule, joined into two parts of twice the width
+pub joined_halves : (w low middle high : ℕ) → low < 2 ^ (w + w)
+    → bit_xor low (bit_xor (middle * 2 ^ w) (high * 2 ^ w * 2 ^ w))
+    ≡ bit_xor high (middle / 2 ^ w) * 2 ^ (w + w) + bit_xor low (middle * 2 ^ w % 2 ^ (w + w))
+joined_halves w low middle high low_fits =
+    ap₂ (λ (a b : ℕ). bit_xor low (bit_xor a b)) (shift_parts w middle) (twice_up w high)
+    ∙ placed low (middle / 2 ^ w * 2 ^ (w + w)) (middle * 2 ^ w % 2 ^ (w + w)) (high * 2 ^ (w + w))
+    ∙ ap (λ (z : ℕ). bit_xor z (bit_xor low (middle * 2 ^ w % 2 ^ (w + w)))) (xor_shl (w + w) high (middle / 2 ^ w))
+    ∙ xor_shifted (bit_xor high (middle / 2 ^ w)) (w + w) (bit_xor low (middle * 2 ^ w % 2 ^ (w + w)))
+    (xor_lt (w + w) low (middle * 2 ^ w % 2 ^ (w + w)) low_fits (mod-lt (middle * 2 ^ w) (pow_pos (w + w))))
   where
     placed : (a b c d : ℕ) → bit_xor a (bit_xor (bit_xor b c) d) ≡ bit_xor (bit_xor d b) (bit_xor a c)
     placed a b c d = simp (xor_assoc, xor_comm, xor_left_comm)
@@ -115,4 +121,4 @@ pub carryless_128 : (x y x0 x1 y0 y1 low high both : ℕ) → x0 < 2 ^ 64 → y0
     + bit_xor low (bit_xor (bit_xor both low) high * 2 ^ 64 % 2 ^ 128)
 carryless_128 x y x0 x1 y0 y1 low high both x0_fits y0_fits low_fits of_x of_y of_low of_high of_both =
     carryless_halves 64 x y x0 x1 y0 y1 low high both x0_fits y0_fits of_x of_y of_low of_high of_both
-    ∙ joined_128 low (bit_xor (bit_xor both low) high) high low_fits
+    ∙ joined_halves 64 low (bit_xor (bit_xor both low) high) high low_fits

@@ -1,6 +1,6 @@
 -- Products of double words in lanes, and their remainders modulo the polynomial of GHASH, each lane by the theorem on one product:
 -- for any number of lanes.
-use Rattle.std.proofs.Common.{◌≡◌, ℕ, zero, suc, ◌+◌, ◌*◌, ◌/◌, ◌%◌, ◌^◌, ◌<◌, List, [], ◌∷◌, length, map, replicate, refl, sym, ◌∙◌, ap, ap₂, arith, lit<, w64, Fits}
+use Rattle.std.proofs.Common.{◌≡◌, ℕ, ◌+◌, ◌*◌, ◌/◌, ◌%◌, ◌^◌, ◌<◌, List, [], ◌∷◌, map, refl, sym, ◌∙◌, ap, ap₂, arith, lit<, w64, Fits}
 use Rattle.std.specs.Prelude.{bit_xor, slice_index}
 use Rattle.std.specs.Simd.Lanes.{zip2, Each1}
 use Rattle.std.proofs.lemmas.Nat.{xor_block, xor_comm, xor_lt, xor_mod, xor_shr, shr_split}
@@ -19,11 +19,11 @@ use Rattle.word_carryless.proofs.TailFolds.{fold_128, word_high, word_low}
 abbrev Xors : List ℕ → List ℕ → List ℕ
 Xors = zip2 bit_xor
 
-abbrev Ups : ℕ → ℕ → List ℕ → List ℕ
-Ups n k xs = zip2 (λ (a b : ℕ). a * 2 ^ b % 2 ^ 64) xs (replicate n k)
+abbrev Ups : ℕ → List ℕ → List ℕ
+Ups k = map (λ a. a * 2 ^ k % 2 ^ 64)
 
-abbrev Downs : ℕ → ℕ → List ℕ → List ℕ
-Downs n k xs = zip2 (λ (a b : ℕ). a / 2 ^ b) xs (replicate n k)
+abbrev Downs : ℕ → List ℕ → List ℕ
+Downs k = map (λ a. a / 2 ^ k)
 
 -- ---- four words of a product
 
@@ -110,32 +110,19 @@ high_word a b = carryless a b / 2 ^ 64
 abbrev FourWords : List ℕ → List ℕ → List ℕ → List ℕ → List ℕ → List ℕ → List ℕ
 FourWords l0 l1 h0 h1 b0 b1 = quadruple_words l0 (Xors (Xors (Xors l1 h0) l0) b0) (Xors (Xors (Xors l1 h0) h1) b1) h1
 
-each_product : (n : ℕ) (x0 x1 y0 y1 : List ℕ) → length x0 ≡ n → length x1 ≡ n → length y0 ≡ n → length y1 ≡ n
-    → Each1 (Fits w64) x0 → Each1 (Fits w64) x1 → Each1 (Fits w64) y0 → Each1 (Fits w64) y1
+-- the products of double words in lanes, from the words of three products of words
+pub double_products : (x0 x1 y0 y1 : List ℕ) → Each1 (Fits w64) x0 → Each1 (Fits w64) x1 → Each1 (Fits w64) y0 → Each1 (Fits w64) y1
     → FourWords (zip2 low_word x0 y0) (zip2 high_word x0 y0) (zip2 low_word x1 y1) (zip2 high_word x1 y1)
     (zip2 low_word (Xors x0 x1) (Xors y0 y1)) (zip2 high_word (Xors x0 x1) (Xors y0 y1))
     ≡ zip2 carryless (double_words x0 x1) (double_words y0 y1)
-each_product zero [] [] [] [] e0 e1 e2 e3 f0 f1 f2 f3 = refl
-each_product zero (_ ∷ _) x1 y0 y1 e0 e1 e2 e3 f0 f1 f2 f3 = absurd (omega arith)
-each_product zero [] (_ ∷ _) y0 y1 e0 e1 e2 e3 f0 f1 f2 f3 = absurd (omega arith)
-each_product zero [] [] (_ ∷ _) y1 e0 e1 e2 e3 f0 f1 f2 f3 = absurd (omega arith)
-each_product zero [] [] [] (_ ∷ _) e0 e1 e2 e3 f0 f1 f2 f3 = absurd (omega arith)
-each_product (suc n) [] x1 y0 y1 e0 e1 e2 e3 f0 f1 f2 f3 = absurd (omega arith)
-each_product (suc n) (_ ∷ _) [] y0 y1 e0 e1 e2 e3 f0 f1 f2 f3 = absurd (omega arith)
-each_product (suc n) (_ ∷ _) (_ ∷ _) [] y1 e0 e1 e2 e3 f0 f1 f2 f3 = absurd (omega arith)
-each_product (suc n) (_ ∷ _) (_ ∷ _) (_ ∷ _) [] e0 e1 e2 e3 f0 f1 f2 f3 = absurd (omega arith)
-each_product (suc n) (a ∷ x0) (b ∷ x1) (c ∷ y0) (d ∷ y1) e0 e1 e2 e3 f0 f1 f2 f3 =
+double_products [] x1 y0 y1 f0 f1 f2 f3 = refl
+double_products (a ∷ x0) [] [] y1 f0 f1 f2 f3 = refl
+double_products (a ∷ x0) [] (c ∷ y0) y1 f0 f1 f2 f3 = refl
+double_products (a ∷ x0) (b ∷ x1) [] y1 f0 f1 f2 f3 = refl
+double_products (a ∷ x0) (b ∷ x1) (c ∷ y0) [] f0 f1 f2 f3 = refl
+double_products (a ∷ x0) (b ∷ x1) (c ∷ y0) (d ∷ y1) f0 f1 f2 f3 =
     ap₂ (λ (z : ℕ) (zs : List ℕ). z ∷ zs) (four_words a b c d f0.0.fits f1.0.fits f2.0.fits f3.0.fits)
-    (each_product n x0 x1 y0 y1 (omega arith) (omega arith) (omega arith) (omega arith) f0.1 f1.1 f2.1 f3.1)
-
--- the products of double words in lanes, from the words of three products of words
-pub double_products : (n : ℕ) (x0 x1 y0 y1 : List ℕ) → length x0 ≡ n → length x1 ≡ n → length y0 ≡ n → length y1 ≡ n
-    → Each1 (Fits w64) x0 → Each1 (Fits w64) x1 → Each1 (Fits w64) y0 → Each1 (Fits w64) y1
-    → (l0 l1 h0 h1 b0 b1 : List ℕ) → l0 ≡ zip2 low_word x0 y0 → l1 ≡ zip2 high_word x0 y0 → h0 ≡ zip2 low_word x1 y1
-    → h1 ≡ zip2 high_word x1 y1 → b0 ≡ zip2 low_word (Xors x0 x1) (Xors y0 y1) → b1 ≡ zip2 high_word (Xors x0 x1) (Xors y0 y1)
-    → FourWords l0 l1 h0 h1 b0 b1 ≡ zip2 carryless (double_words x0 x1) (double_words y0 y1)
-double_products n x0 x1 y0 y1 e0 e1 e2 e3 f0 f1 f2 f3 l0 l1 h0 h1 b0 b1 is_l0 is_l1 is_h0 is_h1 is_b0 is_b1 =
-    rw (is_l0, is_l1, is_h0, is_h1, is_b0, is_b1) (each_product n x0 x1 y0 y1 e0 e1 e2 e3 f0 f1 f2 f3)
+    (double_products x0 x1 y0 y1 f0.1 f1.1 f2.1 f3.1)
 
 -- ---- remainders
 
@@ -146,19 +133,13 @@ abbrev spilt : ℕ → ℕ
 spilt h = carryless h ghash_tail / 2 ^ 64
 
 -- the products by the tail, below x^64 and past it, as the code computes them
-pub tails : (n : ℕ) (hs : List ℕ) → length hs ≡ n → Each1 (Fits w64) hs
-    → Xors (Xors (Xors (Ups n 7 hs) (Ups n 2 hs)) (Ups n 1 hs)) hs ≡ map tailed hs
-tails zero [] e f = refl
-tails zero (_ ∷ _) e f = absurd (omega arith)
-tails (suc n) [] e f = absurd (omega arith)
-tails (suc n) (h ∷ hs) e f = ap₂ (λ (z : ℕ) (zs : List ℕ). z ∷ zs) (word_low h f.0.fits) (tails n hs (omega arith) f.1)
+pub tails : (hs : List ℕ) → Each1 (Fits w64) hs → Xors (Xors (Xors (Ups 7 hs) (Ups 2 hs)) (Ups 1 hs)) hs ≡ map tailed hs
+tails [] f = refl
+tails (h ∷ hs) f = ap₂ (λ (z : ℕ) (zs : List ℕ). z ∷ zs) (word_low h f.0.fits) (tails hs f.1)
 
-pub spills : (n : ℕ) (hs : List ℕ) → length hs ≡ n → Each1 (Fits w64) hs
-    → Xors (Xors (Downs n 57 hs) (Downs n 62 hs)) (Downs n 63 hs) ≡ map spilt hs
-spills zero [] e f = refl
-spills zero (_ ∷ _) e f = absurd (omega arith)
-spills (suc n) [] e f = absurd (omega arith)
-spills (suc n) (h ∷ hs) e f = ap₂ (λ (z : ℕ) (zs : List ℕ). z ∷ zs) (word_high h f.0.fits) (spills n hs (omega arith) f.1)
+pub spills : (hs : List ℕ) → Each1 (Fits w64) hs → Xors (Xors (Downs 57 hs) (Downs 62 hs)) (Downs 63 hs) ≡ map spilt hs
+spills [] f = refl
+spills (h ∷ hs) f = ap₂ (λ (z : ℕ) (zs : List ℕ). z ∷ zs) (word_high h f.0.fits) (spills hs f.1)
 
 tail_product_fits : (h : ℕ) → h < 2 ^ 64 → carryless h ghash_tail < 2 ^ 72
 tail_product_fits h fits = carryless_lt 64 8 h ghash_tail fits (lit< tt)
@@ -215,31 +196,18 @@ folded w0 w1 w2 w3 w0_fits w1_fits w2_fits w3_fits =
         ∙ ap₂ bit_xor (xor_high w1 w0 t w0_fits) (sym (shr_split c 64))
         ∙ xor_block 64 (bit_xor w1 t) (c / 2 ^ 64) w0 (c % 2 ^ 64) w0_fits (low_fits c)
 
-each_remainder : (n : ℕ) (w0 w1 w2 w3 : List ℕ) → length w0 ≡ n → length w1 ≡ n → length w2 ≡ n → length w3 ≡ n
-    → Each1 (Fits w64) w0 → Each1 (Fits w64) w1 → Each1 (Fits w64) w2 → Each1 (Fits w64) w3
+-- the remainders in lanes, from the products of words by the tail
+pub remainders : (w0 w1 w2 w3 : List ℕ) → Each1 (Fits w64) w0 → Each1 (Fits w64) w1 → Each1 (Fits w64) w2 → Each1 (Fits w64) w3
     → double_words (Xors w0 (map tailed (Xors w2 (map spilt w3)))) (Xors (Xors w1 (map tailed w3)) (map spilt (Xors w2 (map spilt w3))))
     ≡ map (rem 128 ghash_modulus) (quadruple_words w0 w1 w2 w3)
-each_remainder zero [] [] [] [] e0 e1 e2 e3 f0 f1 f2 f3 = refl
-each_remainder zero (_ ∷ _) w1 w2 w3 e0 e1 e2 e3 f0 f1 f2 f3 = absurd (omega arith)
-each_remainder zero [] (_ ∷ _) w2 w3 e0 e1 e2 e3 f0 f1 f2 f3 = absurd (omega arith)
-each_remainder zero [] [] (_ ∷ _) w3 e0 e1 e2 e3 f0 f1 f2 f3 = absurd (omega arith)
-each_remainder zero [] [] [] (_ ∷ _) e0 e1 e2 e3 f0 f1 f2 f3 = absurd (omega arith)
-each_remainder (suc n) [] w1 w2 w3 e0 e1 e2 e3 f0 f1 f2 f3 = absurd (omega arith)
-each_remainder (suc n) (_ ∷ _) [] w2 w3 e0 e1 e2 e3 f0 f1 f2 f3 = absurd (omega arith)
-each_remainder (suc n) (_ ∷ _) (_ ∷ _) [] w3 e0 e1 e2 e3 f0 f1 f2 f3 = absurd (omega arith)
-each_remainder (suc n) (_ ∷ _) (_ ∷ _) (_ ∷ _) [] e0 e1 e2 e3 f0 f1 f2 f3 = absurd (omega arith)
-each_remainder (suc n) (a ∷ w0) (b ∷ w1) (c ∷ w2) (d ∷ w3) e0 e1 e2 e3 f0 f1 f2 f3 =
-    ap₂ (λ (z : ℕ) (zs : List ℕ). z ∷ zs) (folded a b c d f0.0.fits f1.0.fits f2.0.fits f3.0.fits)
-    (each_remainder n w0 w1 w2 w3 (omega arith) (omega arith) (omega arith) (omega arith) f0.1 f1.1 f2.1 f3.1)
-
--- the remainders in lanes, from the products of words by the tail
-pub remainders : (n : ℕ) (w0 w1 w2 w3 : List ℕ) → length w0 ≡ n → length w1 ≡ n → length w2 ≡ n → length w3 ≡ n
-    → Each1 (Fits w64) w0 → Each1 (Fits w64) w1 → Each1 (Fits w64) w2 → Each1 (Fits w64) w3
-    → (spill_3 tail_next tail_3 spill_next : List ℕ) → spill_3 ≡ map spilt w3 → tail_next ≡ map tailed (Xors w2 spill_3)
-    → tail_3 ≡ map tailed w3 → spill_next ≡ map spilt (Xors w2 spill_3)
-    → double_words (Xors w0 tail_next) (Xors (Xors w1 tail_3) spill_next) ≡ map (rem 128 ghash_modulus) (quadruple_words w0 w1 w2 w3)
-remainders n w0 w1 w2 w3 e0 e1 e2 e3 f0 f1 f2 f3 spill_3 tail_next tail_3 spill_next is_spill_3 is_tail_next is_tail_3 is_spill_next =
-    rw (is_tail_next, is_spill_next, is_spill_3, is_tail_3) (each_remainder n w0 w1 w2 w3 e0 e1 e2 e3 f0 f1 f2 f3)
+remainders [] w1 w2 w3 f0 f1 f2 f3 = refl
+remainders (a ∷ w0) [] [] w3 f0 f1 f2 f3 = refl
+remainders (a ∷ w0) [] (c ∷ w2) [] f0 f1 f2 f3 = refl
+remainders (a ∷ w0) [] (c ∷ w2) (d ∷ w3) f0 f1 f2 f3 = refl
+remainders (a ∷ w0) (b ∷ w1) [] w3 f0 f1 f2 f3 = refl
+remainders (a ∷ w0) (b ∷ w1) (c ∷ w2) [] f0 f1 f2 f3 = refl
+remainders (a ∷ w0) (b ∷ w1) (c ∷ w2) (d ∷ w3) f0 f1 f2 f3 =
+    ap₂ (λ (z : ℕ) (zs : List ℕ). z ∷ zs) (folded a b c d f0.0.fits f1.0.fits f2.0.fits f3.0.fits) (remainders w0 w1 w2 w3 f0.1 f1.1 f2.1 f3.1)
 
 -- double words fit
 double_words_fit : (lows highs : List ℕ) → Each1 (Fits w64) lows → Each1 (Fits w64) highs → Each1 (λ x. x < 2 ^ 128) (double_words lows highs)

@@ -8,7 +8,7 @@ use Rattle.std.proofs.lemmas.List.{get_or_default}
 use Rattle.std.proofs.lemmas.List.Edits.{map_over_more}
 use Rattle.std.proofs.lemmas.Simd.{length-chunk, get_or-chunk}
 use Rattle.field_base.specs.Carryless.{carryless}
-use Rattle.word_carryless.specs.Masked.{CarryIsolationInLanes, IsInClass}
+use Rattle.word_carryless.specs.Masked.{CarryIsolationInLanes, IsInClass, products_in_lanes}
 use Rattle.word_carryless.proofs.CarryIsolation.{carry_isolation, masked_carryless}
 
 -- ---- lanes
@@ -27,7 +27,7 @@ isolated_in_lanes i j (x ∷ xs) (y ∷ ys) i_small j_small x_class y_class =
 
 -- lanes by one word, as the code computes them
 pub masked_lanes : (n i j y : ℕ) (xs : List ℕ) → length xs ≡ n → i < 4 → j < 4 → All (IsInClass i) xs → IsInClass j y
-    → zip2 bit_and (zip2 (λ (a b : ℕ). a * b % 2 ^ 64) xs (replicate n y)) (replicate n (0x1111_1111_1111_1111 * 2 ^ ((i + j) % 4) % 2 ^ 64))
+    → map (λ a. bit_and a (0x1111_1111_1111_1111 * 2 ^ ((i + j) % 4) % 2 ^ 64)) (products_in_lanes xs (replicate n y))
     ≡ map (λ x. carryless x y % 2 ^ 64) xs
 masked_lanes zero i j y [] long i_small j_small x_class y_class = refl
 masked_lanes zero i j y (x ∷ xs) long i_small j_small x_class y_class = absurd (omega arith)

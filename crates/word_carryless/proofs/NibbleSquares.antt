@@ -1,12 +1,10 @@
 -- Squares by the halves of bytes: a table of the squares of four bits, read in lanes, and the squares of all halves, in turn,
 -- as the bytes of the square of the whole.
-use Rattle.std.proofs.Common.{◌≡◌, ℕ, zero, suc, ◌+◌, ◌*◌, ◌/◌, ◌%◌, ◌^◌, ◌<◌, ◌≤◌, Bool, true, false, List, [], ◌∷◌, ◌++◌, length, get_or, map, replicate, cond, eqb, leb, refl, sym, ◌∙◌, ap, ap₂, subst, arith, lit<, lit≤, w8, Fits}
-use Rattle.std.specs.Prelude.{bit_and, bit_xor}
-use Rattle.std.specs.Simd.Lanes.{zip2, Each1, digits_l, number_l, pick_l}
-use Rattle.std.proofs.lemmas.Bool.{eqb-true, leb-true}
-use Rattle.std.proofs.lemmas.List.{length-map}
-use Rattle.std.proofs.lemmas.Nat.{and_mask, xor_comm, shl_whole}
-use Rattle.std.proofs.lemmas.Simd.{SwzOk, swz_l, SwzOk-from_below, Each1-weaker, Each1-all, zip2_splat}
+use Rattle.std.proofs.Common.{◌≡◌, ℕ, zero, suc, ◌+◌, ◌*◌, ◌/◌, ◌%◌, ◌^◌, ◌<◌, Bool, true, List, [], ◌∷◌, ◌++◌, length, get_or, map, eqb, refl, sym, ◌∙◌, ap, ap₂, subst, arith, lit<, lit≤, w8, Fits}
+use Rattle.std.specs.Prelude.{bit_xor, slice_index}
+use Rattle.std.specs.Simd.Lanes.{Each1, digits_l, number_l, pick_l}
+use Rattle.std.proofs.lemmas.Bool.{eqb-true}
+use Rattle.std.proofs.lemmas.Nat.{xor_comm, shl_whole}
 use native.Mathlib.Nat.{mul_assoc, mul_comm, mod-lt, zero-add, pow-suc}
 use lib.Bits.{xor_shifted}
 use Rattle.field_base.specs.Carryless.{carryless, carryless_in}
@@ -39,98 +37,24 @@ entry n below =
 square_fits : (n : ℕ) → n < 16 → carryless n n < 256
 square_fits n below = carryless_lt 4 4 n n below below
 
--- ---- look-ups in lanes
-
--- a lane's place in the table, where f chooses it
-abbrev pub Chooses : (ℕ → ℕ) → List ℕ → Type 0
-Chooses f = Each1 (λ lane. f lane < 16)
-
--- the places chosen are below 16
-places_below : (f : ℕ → ℕ) (lanes : List ℕ) → Chooses f lanes → Each1 (λ place. place < 16) (map f lanes)
-places_below f [] small = tt
-places_below f (lane ∷ lanes) small = (small.0, places_below f lanes small.1)
-
--- sixteen lanes with places below 16 may be looked up
-may_look_up : (f : ℕ → ℕ) (lanes : List ℕ) → length lanes ≡ 16 → Chooses f lanes → SwzOk w8 16 16 0 (map f lanes)
-may_look_up f lanes long small =
-    let same = length-map lanes f in
-    SwzOk-from_below w8 16 1 16 0 (map f lanes) refl (omega arith) (places_below f lanes small)
-
--- a number below 128 is not at least 128, the mark of a lane that is to be 0
-not_above : (n : ℕ) (b : Bool) → leb 128 n ≡ b → n < 128 → b ≡ false
-not_above n true above below = let high = leb-true 128 n above in absurd (omega arith)
-not_above n false above below = refl
-
--- what is looked up in each lane is the square of the place that f chooses
-looked_up : (f : ℕ → ℕ) (lanes : List ℕ) (i : ℕ) → i + length lanes ≤ 16 → Chooses f lanes
-    → swz_l w8 16 nibble_squares i (map f lanes) ≡ map (λ lane. carryless (f lane) (f lane)) lanes
-looked_up f [] i room small = refl
-looked_up f (lane ∷ lanes) i room small =
-    ap₂ (λ (x : ℕ) (xs : List ℕ). x ∷ xs)
-    (ap (λ (b : Bool). cond b 0 (get_or nibble_squares (16 * (i / 16) + f lane) 0)) low
-    ∙ ap (λ (place : ℕ). get_or nibble_squares place 0) first ∙ entry (f lane) small.0)
-    (looked_up f lanes (suc i) (omega arith) small.1)
-  where
-    below : f lane < 128
-    below = let place = small.0 in omega arith
-
-    low : leb 128 (f lane) ≡ false
-    low = not_above (f lane) (leb 128 (f lane)) refl below
-
-    first : 16 * (i / 16) + f lane ≡ f lane
-    first = omega arith
-
--- the places that the code asks for
-masked : (lanes : List ℕ) → length lanes ≡ 16 → zip2 bit_and lanes (replicate 16 15) ≡ map (λ lane. lane % 16) lanes
-masked lanes long = zip2_splat bit_and lanes 16 15 long ∙ masks lanes
-  where
-    masks : (xs : List ℕ) → map (λ x. bit_and x 15) xs ≡ map (λ x. x % 16) xs
-    masks [] = refl
-    masks (x ∷ xs) = ap₂ (λ (y : ℕ) (ys : List ℕ). y ∷ ys) (and_mask x 4) (masks xs)
-
--- every lane shifted right by four bits is divided by 16
-shifted : (lanes : List ℕ) → length lanes ≡ 16 → zip2 (λ (a b : ℕ). a / 2 ^ b) lanes (replicate 16 4) ≡ map (λ lane. lane / 16) lanes
-shifted lanes long = zip2_splat (λ (a b : ℕ). a / 2 ^ b) lanes 16 4 long
-
--- the low four bits of a lane are a place in the table
-low_places : (lanes : List ℕ) → Chooses (λ lane. lane % 16) lanes
-low_places = Each1-all (λ lane. lane % 16 < 16) (λ lane. mod-lt lane (lit< tt))
-
--- the high four bits of a byte are a place in the table
-high_places : (lanes : List ℕ) → Each1 (Fits w8) lanes → Chooses (λ lane. lane / 16) lanes
-high_places = Each1-weaker (Fits w8) (λ lane. lane / 16 < 16) (λ lane byte. omega (arith, byte.fits))
-
--- the code's look-ups
-abbrev low_squares_of : List ℕ → List ℕ
+-- the square of the low four bits of each byte
+abbrev pub low_squares_of : List ℕ → List ℕ
 low_squares_of = map (λ byte. carryless (byte % 16) (byte % 16))
 
--- the squares of the high four bits of each byte
-abbrev high_squares_of : List ℕ → List ℕ
+-- the square of the high four bits of each byte
+abbrev pub high_squares_of : List ℕ → List ℕ
 high_squares_of = map (λ byte. carryless (byte / 16) (byte / 16))
 
--- the code may look up the low four bits of each byte
-pub low_in_table : (bytes : List ℕ) → length bytes ≡ 16 → SwzOk w8 16 16 0 (zip2 bit_and bytes (replicate 16 15))
-low_in_table bytes long = subst (SwzOk w8 16 16 0) (sym (masked bytes long)) (may_look_up (λ byte. byte % 16) bytes long (low_places bytes))
+-- the entries of the table at them
+pub low_entries : (bytes : List ℕ) → map (λ byte. slice_index nibble_squares (byte % 16)) bytes ≡ low_squares_of bytes
+low_entries [] = refl
+low_entries (byte ∷ bytes) = ap₂ (λ (x : ℕ) (xs : List ℕ). x ∷ xs) (entry (byte % 16) (mod-lt byte (lit< tt))) (low_entries bytes)
 
--- the code's look-up of the low four bits gives their squares
-pub low_looked_up : (bytes : List ℕ) → length bytes ≡ 16
-    → swz_l w8 16 nibble_squares 0 (zip2 bit_and bytes (replicate 16 15)) ≡ low_squares_of bytes
-low_looked_up bytes long =
-    ap (swz_l w8 16 nibble_squares 0) (masked bytes long) ∙ looked_up (λ byte. byte % 16) bytes 0 (omega arith) (low_places bytes)
-
--- the code may look up the high four bits of each byte
-pub high_in_table : (bytes : List ℕ) → length bytes ≡ 16 → Each1 (Fits w8) bytes
-    → SwzOk w8 16 16 0 (zip2 (λ (a b : ℕ). a / 2 ^ b) bytes (replicate 16 4))
-high_in_table bytes long fits =
-    subst (SwzOk w8 16 16 0) (sym (shifted bytes long)) (may_look_up (λ byte. byte / 16) bytes long (high_places bytes fits))
-
--- the code's look-up of the high four bits gives their squares
-pub high_looked_up : (bytes : List ℕ) → length bytes ≡ 16 → Each1 (Fits w8) bytes
-    → swz_l w8 16 nibble_squares 0 (zip2 (λ (a b : ℕ). a / 2 ^ b) bytes (replicate 16 4))
-    ≡ high_squares_of bytes
-high_looked_up bytes long fits =
-    ap (swz_l w8 16 nibble_squares 0) (shifted bytes long)
-    ∙ looked_up (λ byte. byte / 16) bytes 0 (omega arith) (high_places bytes fits)
+pub high_entries : (bytes : List ℕ) → Each1 (Fits w8) bytes → map (λ byte. slice_index nibble_squares (byte / 16)) bytes ≡ high_squares_of bytes
+high_entries [] fits = refl
+high_entries (byte ∷ bytes) fits =
+    let byte_fits = fits.0.fits in
+    ap₂ (λ (x : ℕ) (xs : List ℕ). x ∷ xs) (entry (byte / 16) (omega arith)) (high_entries bytes fits.1)
 
 -- ---- numbers and their bytes
 

@@ -1,6 +1,6 @@
 -- Words with holes: a word of class i has bits at places that are i modulo 4 alone.
 -- Their integer product gives their carryless product, since no carry reaches a bit that the class keeps.
-use Rattle.std.specs.Prelude.{◌≡◌, ◌↔◌, ℕ, ◌+◌, ◌*◌, ◌%◌, ◌^◌, ◌<◌, List, bit_and}
+use Rattle.std.specs.Prelude.{◌≡◌, ◌↔◌, ℕ, ◌+◌, ◌*◌, ◌%◌, ◌^◌, ◌<◌, List, bit_and, bit_xor, map}
 use Rattle.std.specs.Int.{bit_at}
 use Rattle.std.specs.List.{All}
 use Rattle.std.specs.Simd.Lanes.{zip2}
@@ -33,3 +33,15 @@ CarryIsolation = (i j x y : ℕ) → i < 4 → j < 4 → IsInClass i x → IsInC
 abbrev pub CarryIsolationInLanes : Type 0
 CarryIsolationInLanes = (i j : ℕ) (xs ys : List ℕ) → i < 4 → j < 4 → All (IsInClass i) xs → All (IsInClass j) ys
     → zip2 (λ x y. bit_and (x * y % 2 ^ 64) (class_mask ((i + j) % 4))) xs ys ≡ zip2 (λ x y. carryless x y % 2 ^ 64) xs ys
+
+-- the bits of each word that are of class i
+abbrev pub in_class : ℕ → List ℕ → List ℕ
+in_class i = map (λ x. bit_and x (class_mask i))
+
+-- the integer products modulo 2^64 of two lists of words, place by place
+abbrev pub products_in_lanes : List ℕ → List ℕ → List ℕ
+products_in_lanes = zip2 (λ x y. x * y % 2 ^ 64)
+
+-- the sums of four lists of words, place by place
+abbrev pub sum_in_lanes : List ℕ → List ℕ → List ℕ → List ℕ → List ℕ
+sum_in_lanes a b c d = zip2 bit_xor (zip2 bit_xor (zip2 bit_xor a b) c) d

@@ -4,8 +4,8 @@
 #![tactic(auto)]
 
 mod fold;
-mod four_lanes;
 mod inverse;
+mod lanes;
 mod laws;
 mod masked;
 mod modular;
@@ -16,14 +16,15 @@ mod root;
 mod slices;
 mod split;
 mod square;
-mod two_lanes;
+mod word_vector;
 
 pub use crate::fold::{reduce_64, reduce_128};
-pub use crate::four_lanes::multiply_mod_128_four_times;
 pub use crate::inverse::{invert_mod_64, invert_mod_128};
+pub use crate::lanes::{multiply_128_twice, multiply_mod_128_four_times, multiply_mod_128_twice};
 pub use crate::laws::{carry_isolation, carry_isolation_in_lanes, class_is_places};
 pub use crate::masked::{masked_product, masked_products, multiply_low_64};
 pub use crate::modular::{multiply_mod_64, multiply_mod_128, square_mod_64, square_mod_128};
+pub use crate::nibbles::{bytes_of_128, number_of_bytes};
 pub use crate::power_maps::{
     square_3_times_mod_128, square_7_times_mod_128, square_14_times_mod_128,
     square_28_times_mod_128, square_63_times_mod_128,
@@ -35,4 +36,3 @@ pub use crate::root::{compact_64, compact_128, sqrt_mod_64, sqrt_mod_128};
 pub use crate::slices::{dot_product_mod_128, multiply_each_mod_128};
 pub use crate::split::{split_64, split_128};
 pub use crate::square::{carryless_square_64, carryless_square_128, spread_32};
-pub use crate::two_lanes::{multiply_128_twice, multiply_mod_128_twice};

@@ -1,10 +1,11 @@
-// The squares of sixteen bytes at once: the squares of the low and the high four bits of each byte are looked up in lanes. The table is
-// one vector, so that on x86-64-v2 a look-up is one instruction and no address depends on the operand.
+// The squares of sixteen bytes at once: the squares of the low and the high four bits of each byte are looked up in a register, so that
+// no address depends on the operand.
 ghost use Rattle.std.specs.Prelude.{◌≡◌, ◌/◌, ◌%◌, map};
 ghost use Rattle.std.specs.Simd.Lanes.{digits_l, number_l};
 ghost use Rattle.field_base.specs.Carryless.{carryless};
 
 use crate::split::split_128;
+use byte_maps::ByteVector;
 use std::simd::prelude::*;
 
 /// The carryless squares of the numbers below 16.
@@ -13,7 +14,8 @@ const NIBBLE_SQUARES: [u8; 16] = [
 ];
 
 /// The bytes of a double word, the lowest first.
-pub(crate) fn bytes_of(x: u128) -> u8x16
+#[inline(always)]
+pub fn bytes_of_128(x: u128) -> u8x16
     ensures { result ≡ digits_l 256 16 x }
 {
     let (low, high) = split_128(x);
@@ -21,7 +23,8 @@ pub(crate) fn bytes_of(x: u128) -> u8x16
 }
 
 /// The double word of sixteen bytes, the lowest first.
-pub(crate) fn number_of(bytes: u8x16) -> u128
+#[inline(always)]
+pub fn number_of_bytes(bytes: u8x16) -> u128
     ensures { result ≡ number_l 256 bytes }
 {
     let words = u64x2::from_le_bytes(bytes).to_array();
@@ -32,12 +35,12 @@ pub(crate) fn number_of(bytes: u8x16) -> u128
 pub(crate) fn low_squares(bytes: u8x16) -> u8x16
     ensures { result ≡ map (λ byte. carryless (byte % 16) (byte % 16)) bytes }
 {
-    u8x16::from_array(NIBBLE_SQUARES).swizzle_dyn(bytes & u8x16::splat(15))
+    bytes.low_entries(u8x16::from_array(NIBBLE_SQUARES))
 }
 
 /// The carryless square of the high four bits of each byte.
 pub(crate) fn high_squares(bytes: u8x16) -> u8x16
     ensures { result ≡ map (λ byte. carryless (byte / 16) (byte / 16)) bytes }
 {
-    u8x16::from_array(NIBBLE_SQUARES).swizzle_dyn(bytes >> u8x16::splat(4))
+    bytes.high_entries(u8x16::from_array(NIBBLE_SQUARES))
 }

@@ -8,7 +8,7 @@ ghost use Rattle.std.specs.Prelude.{◌≡◌, ◌%◌, ◌*◌, ◌+◌, ◌^�
 ghost use Rattle.field_base.specs.Carryless.{carryless};
 ghost use Rattle.word_carryless.specs.Karatsuba.{karatsuba_sum};
 
-use crate::masked::{CLASS_0, CLASS_1, CLASS_2, CLASS_3, multiply_low_64};
+use crate::masked::{multiply_low_64, multiply_low_words};
 use crate::split::{split_64, split_128};
 use std::simd::u64x2;
 
@@ -71,8 +71,8 @@ pub fn multiply_by_power_128(x: u128, k: u32) -> (u128, u128)
 
 /// Two carryless products of half words, `a` by `p` and `b` by `q`, one in each lane of a vector.
 ///
-/// A lane is multiplied as in `multiply_low_64`. Since the upper half of each lane is zero, one multiplication of half words
-/// in lanes serves both, so that the two take little more time than one.
+/// Since the upper half of each lane is zero, one multiplication of half words in lanes serves both, so that the two take little more
+/// time than one.
 #[inline(always)]
 fn multiply_32_twice(a: u32, b: u32, p: u32, q: u32) -> (u64, u64)
     ensures first { result.0 ≡ carryless a p }
@@ -80,17 +80,7 @@ fn multiply_32_twice(a: u32, b: u32, p: u32, q: u32) -> (u64, u64)
 {
     let x = u64x2::from_array([a as u64, b as u64]);
     let y = u64x2::from_array([p as u64, q as u64]);
-    let c0 = u64x2::splat(CLASS_0);
-    let c1 = u64x2::splat(CLASS_1);
-    let c2 = u64x2::splat(CLASS_2);
-    let c3 = u64x2::splat(CLASS_3);
-    let (x0, x1, x2, x3) = (x & c0, x & c1, x & c2, x & c3);
-    let (y0, y1, y2, y3) = (y & c0, y & c1, y & c2, y & c3);
-    let z0 = (x0 * y0) ^ (x1 * y3) ^ (x2 * y2) ^ (x3 * y1);
-    let z1 = (x0 * y1) ^ (x1 * y0) ^ (x2 * y3) ^ (x3 * y2);
-    let z2 = (x0 * y2) ^ (x1 * y1) ^ (x2 * y0) ^ (x3 * y3);
-    let z3 = (x0 * y3) ^ (x1 * y2) ^ (x2 * y1) ^ (x3 * y0);
-    let products = ((z0 & c0) ^ (z1 & c1) ^ (z2 & c2) ^ (z3 & c3)).to_array();
+    let products = multiply_low_words(x, y).to_array();
     (products[0], products[1])
 }
 

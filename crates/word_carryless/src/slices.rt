@@ -5,9 +5,9 @@ ghost use Rattle.field_base.specs.Powers.{dot_of};
 ghost use Rattle.field_base.specs.Remainder.{ghash_modulus, mul_mod};
 
 use crate::fold::reduce_128;
+use crate::lanes::{multiply_128_twice, multiply_mod_128_twice};
 use crate::modular::multiply_mod_128;
 use crate::product::multiply_128;
-use crate::two_lanes::{multiply_128_twice, multiply_mod_128_twice};
 
 /// Multiplies the elements of `left` by those of `right` modulo x^128 + x^7 + x^2 + x + 1, place by place. The slices are of one
 /// length.

@@ -4,7 +4,7 @@ ghost use Rattle.std.specs.Prelude.{◌≡◌, ◌%◌, ◌*◌, ◌+◌, ◌^�
 ghost use Rattle.field_base.specs.Carryless.{carryless};
 ghost use Rattle.word_carryless.specs.Spread.{spread_step};
 
-use crate::nibbles::{bytes_of, high_squares, low_squares, number_of};
+use crate::nibbles::{bytes_of_128, high_squares, low_squares, number_of_bytes};
 use crate::split::split_64;
 
 /// The carryless square of half a word: bit i moves to place 2i.
@@ -34,9 +34,9 @@ pub fn carryless_square_64(x: u64) -> u128
 pub fn carryless_square_128(x: u128) -> (u128, u128)
     ensures { carryless x x ≡ result.1 * 2 ^ 128 + result.0 }
 {
-    let bytes = bytes_of(x);
+    let bytes = bytes_of_128(x);
     let (first, second) = low_squares(bytes).interleave(high_squares(bytes));
-    (number_of(first), number_of(second))
+    (number_of_bytes(first), number_of_bytes(second))
 }
 
 /// Moves the two halves of each field of a word apart by `shift`; `mask` has the places where they end up.

@@ -10,7 +10,7 @@ loop-pair-preserved c =
     let test = c.loop-pair-test.true in
     let room : 32 * pair + 32 ≤ length c.args.bytes.now = omega arith in
     block_done (linear_image c.args.images.now) 32 (32 * pair) (32 * (pair + 1)) c.args.bytes.now c.loop-pair.bytes
-    c.images_of_32-mapped.result next room c.loop-pair.invariant c.images_of_32-mapped.ensures
+    c.images_in_lanes-mapped.result next room c.loop-pair.invariant c.images_in_lanes-mapped.ensures
 
 pub loop-block-preserved : goal.loop-block-preserved
 loop-block-preserved c =
@@ -19,7 +19,7 @@ loop-block-preserved c =
     let test = c.loop-block-test.true in
     let room : 16 * block + 16 ≤ length c.args.bytes.now = omega arith in
     block_done (linear_image c.args.images.now) 16 (16 * block) (16 * (block + 1)) c.args.bytes.now c.loop-block.bytes
-    c.images_of_16-mapped.result next room c.loop-block.invariant c.images_of_16-mapped.ensures
+    c.images_in_lanes-mapped-in-loop-block.result next room c.loop-block.invariant c.images_in_lanes-mapped-in-loop-block.ensures
 
 pub returns : goal.returns
 returns c =
@@ -29,4 +29,4 @@ returns c =
     let over = c.loop-block-test.false in
     let reach : last ≤ 16 * c.loop-block.block = omega arith in
     end_done (linear_image c.args.images.now) last 16 (16 * c.loop-block.block) c.args.bytes.now c.loop-block.bytes
-    c.images_of_16-end.result whole reach c.loop-block.invariant c.images_of_16-end.ensures
+    c.images_in_lanes-end.result whole reach c.loop-block.invariant c.images_in_lanes-end.ensures

@@ -14,8 +14,8 @@ loop-place-preserved g c =
     let place = c.loop-place.place in
     let few : place < 16 = let all = c.count_from-place-end.ensures.few in omega arith in
     subst (BytesSoFar values c.args.start (place + 1)) (sym c.put_lanes.ensures)
-    (bytes_step values c.args.start place c.loop-place.bytes c.bytes_of.result few
-    (c.bytes_of.ensures ∙ ap (digits_l 256 16) c.number_at.ensures) c.loop-place.invariant)
+    (bytes_step values c.args.start place c.loop-place.bytes c.bytes_of_128.result few
+    (c.bytes_of_128.ensures ∙ ap (digits_l 256 16) c.number_at.ensures) c.loop-place.invariant)
 
 pub returns : goal.returns
 returns g c =

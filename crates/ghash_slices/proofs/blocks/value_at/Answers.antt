@@ -5,5 +5,5 @@ use Rattle.ghash_slices.proofs.blocks.value_at.Goals as goal
 
 pub returns : goal.returns
 returns c values held =
-    c.number_of.ensures ∙ ap (number_l 256) c.lanes_at.ensures.lanes
+    c.number_of_bytes.ensures ∙ ap (number_l 256) c.lanes_at.ensures.lanes
     ∙ number_at c.args.bytes.now values c.args.place c.told-bytes c.requires held

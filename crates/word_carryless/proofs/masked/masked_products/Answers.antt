@@ -4,25 +4,25 @@ use Rattle.word_carryless.specs.Masked.{IsInClass}
 use Rattle.word_carryless.proofs.MaskedLanes.{block_keeps, block_mapped, place_keeps, place_mapped}
 use Rattle.word_carryless.proofs.masked.masked_products.Goals as goal
 
-pub masked_products_of_four-requires-clause-xs_in_class : goal.masked_products_of_four-requires-clause-xs_in_class
-masked_products_of_four-requires-clause-xs_in_class c =
+pub masked_lanes-requires-clause-xs_in_class : goal.masked_lanes-requires-clause-xs_in_class
+masked_lanes-requires-clause-xs_in_class c =
     block_keeps (IsInClass c.args.i) (λ x. carryless x c.args.y % 2 ^ 64) 4 (4 * c.fours.four) c.args.xs.now c.fours.xs
     c.requires.xs_in_class (omega arith) (omega arith) c.fours.invariant
 
 pub fours-preserved : goal.fours-preserved
 fours-preserved c =
     block_mapped (λ x. carryless x c.args.y % 2 ^ 64) 4 (4 * c.fours.four) (4 * (c.fours.four + 1)) c.args.xs.now c.fours.xs
-    c.masked_products_of_four.result (omega arith) (omega arith) c.fours.invariant c.masked_products_of_four.ensures
+    c.masked_lanes.result (omega arith) (omega arith) c.fours.invariant c.masked_lanes.ensures
 
-pub masked_products_of_two-requires-clause-xs_in_class : goal.masked_products_of_two-requires-clause-xs_in_class
-masked_products_of_two-requires-clause-xs_in_class c =
+pub masked_lanes-requires-in-twos-clause-xs_in_class : goal.masked_lanes-requires-in-twos-clause-xs_in_class
+masked_lanes-requires-in-twos-clause-xs_in_class c =
     block_keeps (IsInClass c.args.i) (λ x. carryless x c.args.y % 2 ^ 64) 2 (2 * c.twos.two) c.args.xs.now c.twos.xs
     c.requires.xs_in_class (omega arith) (omega arith) c.twos.invariant
 
 pub twos-preserved : goal.twos-preserved
 twos-preserved c =
     block_mapped (λ x. carryless x c.args.y % 2 ^ 64) 2 (2 * c.twos.two) (2 * (c.twos.two + 1)) c.args.xs.now c.twos.xs
-    c.masked_products_of_two.result (omega arith) (omega arith) c.twos.invariant c.masked_products_of_two.ensures
+    c.masked_lanes-in-twos.result (omega arith) (omega arith) c.twos.invariant c.masked_lanes-in-twos.ensures
 
 pub masked_product-requires-clause-x_in_class : goal.masked_product-requires-clause-x_in_class
 masked_product-requires-clause-x_in_class c =
