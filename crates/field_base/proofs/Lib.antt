@@ -15,6 +15,7 @@ pub mod DotLemmas
 pub mod EightCases
 pub mod FieldLemmas
 pub mod LinearMapLemmas
+pub mod LogTables
 pub mod Norms
 pub mod PowerLemmas
 pub mod QuadraticProducts

@@ -6,6 +6,7 @@ pub mod Carryless
 pub mod Chunks
 pub mod Field
 pub mod LinearMaps
+pub mod LogTables
 pub mod Norm
 pub mod Operators
 pub mod Orders

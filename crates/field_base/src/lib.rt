@@ -5,6 +5,7 @@
 pub mod byte_tables;
 mod gf2;
 mod kernel;
+pub mod log_tables;
 mod reading;
 pub mod traits;
 mod word;

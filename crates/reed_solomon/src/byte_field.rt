@@ -1,13 +1,13 @@
 // The bytes modulo x^8 + x^4 + x^3 + x^2 + 1 by tables: a product is 2, a generator of the field, to the power of the sum of the
 // logarithms of its operands. Bit i of a byte is the coefficient of x^i.
-ghost use Rattle.std.specs.Prelude.{◌≡◌, ◌≢◌, ◌<◌, slice_index};
+ghost use Rattle.std.specs.Prelude.{◌≡◌, ◌≢◌};
 ghost use Rattle.field_base.specs.Field.{IsField};
 ghost use Rattle.reed_solomon.specs.ErasureField.{erasure_product};
-ghost use Rattle.reed_solomon.specs.declared.byte_field.literals.TheConstants.{EXP, INVERSES, LOG};
 
 mod literals;
 
 use field_base::byte_tables::entry;
+use field_base::log_tables::power_of_sum;
 
 /// States that the bytes are a field under the product modulo x^8 + x^4 + x^3 + x^2 + 1.
 pub fn erasure_field()
@@ -20,7 +20,7 @@ pub fn erasure_field()
 pub(crate) fn multiply(a: u8, b: u8) -> u8
     ensures { result ≡ erasure_product a b }
 {
-    power_entry(logarithm_entry(a) as usize + logarithm_entry(b) as usize)
+    power_of_sum(&literals::EXP, &literals::LOG, a, b)
 }
 
 // The inverse of a byte other than 0.
@@ -30,21 +30,4 @@ pub(crate) fn invert(a: u8) -> u8
     ensures { erasure_product a result ≡ 1 }
 {
     entry(&literals::INVERSES, a)
-}
-
-// The entry of EXP at `exponent`.
-#[inline]
-fn power_entry(exponent: usize) -> u8
-    requires { exponent < 1023 }
-    ensures { result ≡ slice_index EXP exponent }
-{
-    literals::EXP[exponent]
-}
-
-// The entry of LOG at `a`.
-#[inline]
-fn logarithm_entry(a: u8) -> u16
-    ensures { result ≡ slice_index LOG a }
-{
-    literals::LOG[a as usize]
 }

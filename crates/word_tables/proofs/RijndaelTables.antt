@@ -1,16 +1,13 @@
 -- The tables of the bytes of AES, each checked whole by computation, and the rule that each follows.
-use Rattle.std.proofs.Common.{◌≡◌, ◌≢◌, ℕ, zero, suc, ◌+◌, ◌-◌, ◌<◌, ◌≤◌, Bool, true, ◌&&◌, eqb, ltb, take, drop, get_or, refl, sym, ◌∙◌, ap, ap₂, arith, lit<, lit≤}
-use Rattle.std.proofs.lemmas.Bool.{and_parts, eqb-true, ltb-true}
-use Rattle.std.proofs.lemmas.List.{get_or-take, get_or-drop}
+use Rattle.std.proofs.Common.{◌≡◌, ◌≢◌, ℕ, ◌<◌, true, take, drop, refl, lit<, lit≤}
 use Rattle.std.specs.Prelude.{slice_index}
 use Rattle.field_base.specs.Carryless.{carryless, carryless_in}
-use Rattle.field_base.specs.Powers.{power}
+use Rattle.field_base.specs.LogTables.{AreLogTables}
 use Rattle.field_base.specs.Remainder.{aes_modulus, mul_mod, rem, rem_in}
 use Rattle.field_base.specs.Ring.{IsRing}
-use Rattle.field_base.proofs.PowerLemmas.{power-add}
+use Rattle.field_base.proofs.LogTables.{inverse_at, is_inverse, is_logarithm, is_nothing, is_root, log_tables, root_at}
 use Rattle.field_base.proofs.RemainderRing.{mul_mod_ring}
-use Rattle.field_base.proofs.RingLemmas.{times-zero, zero-times}
-use Rattle.field_base.proofs.TableChecks.{passes, passes_at, tabulates, tabulates_at, repeats, repeats_at}
+use Rattle.field_base.proofs.TableChecks.{passes, repeats, tabulates, tabulates_at}
 use Rattle.word_tables.specs.declared.rijndael.literals.TheConstants.{EXP, INVERSES, LOG, ROOTS, SQUARES}
 
 -- the polynomials modulo x^8 + x^4 + x^3 + x + 1 are a ring
@@ -19,82 +16,24 @@ ring = mul_mod_ring 8 aes_modulus (lit< tt) refl
 
 -- ---- powers and logarithms
 
--- 0x88 to the power e
-abbrev power_of_generator : ℕ → ℕ
-power_of_generator e = power 1 (mul_mod 8 aes_modulus) 0x88 e
-
 -- each of the first 511 entries of EXP is the one before times 0x88, from 1 on (computed)
 powers_pass : repeats (λ x. mul_mod 8 aes_modulus x 0x88) 1 (take 511 EXP) ≡ true
 unfolding mul_mod rem rem_in carryless carryless_in repeats
 powers_pass = refl
 
--- entry e of EXP is 0x88^e for e below 511
-entries_are_powers : (e : ℕ) → e < 511 → slice_index EXP e ≡ power_of_generator e
-entries_are_powers e inside =
-    sym (get_or-take 511 EXP e 0 inside) ∙ repeats_at (mul_mod 8 aes_modulus) 0x88 (take 511 EXP) e powers_pass inside
-
--- whether y is 0
-is_nothing : ℕ → ℕ → Bool
-is_nothing x y = eqb y 0
-
 -- the entries of EXP from 511 on are 0 (computed)
-nothings_pass : passes is_nothing 0 (drop 511 EXP) ≡ true
+zeros_pass : passes is_nothing 0 (drop 511 EXP) ≡ true
 unfolding passes is_nothing
-nothings_pass = refl
-
--- past the powers stand zeros
-entries_are_zero : (e : ℕ) → 511 ≤ e → e < 1023 → slice_index EXP e ≡ 0
-unfolding is_nothing
-entries_are_zero e above inside =
-    let place : 511 + (e - 511) ≡ e = omega (arith, above) in
-    ap (λ (i : ℕ). get_or EXP i 0) (sym place) ∙ sym (get_or-drop 511 EXP (e - 511) 0)
-    ∙ eqb-true (get_or (drop 511 EXP) (e - 511) 0) 0
-    (passes_at is_nothing 0 (drop 511 EXP) (e - 511) nothings_pass (omega (arith, above, inside)))
-
--- whether y is below 255 and the table of powers has x there
-is_logarithm : ℕ → ℕ → Bool
-is_logarithm x y = ltb y 255 && eqb (get_or EXP y 0) x
+zeros_pass = refl
 
 -- every entry of LOG past the first passes its check (computed)
-logarithms_pass : passes is_logarithm 1 (drop 1 LOG) ≡ true
+logarithms_pass : passes (is_logarithm EXP) 1 (drop 1 LOG) ≡ true
 unfolding passes is_logarithm
 logarithms_pass = refl
 
--- for x other than 0 entry x of LOG is below 255, and 0x88 to its power is x
-entries_are_logarithms : (x : ℕ) → x ≢ 0 → x < 256 → (slice_index LOG x < 255) × (power_of_generator (slice_index LOG x) ≡ x)
-unfolding is_logarithm
-entries_are_logarithms zero nonzero inside = absurd (nonzero refl)
-entries_are_logarithms (suc x) nonzero inside =
-    let passed : is_logarithm (1 + x) (get_or LOG (suc x) 0) ≡ true = passes_at is_logarithm 1 (drop 1 LOG) x logarithms_pass (omega (arith, inside)) in
-    let parts = and_parts (ltb (get_or LOG (suc x) 0) 255) _ passed in
-    let low : get_or LOG (suc x) 0 < 255 = ltb-true (get_or LOG (suc x) 0) 255 parts.0 in
-    let next : 1 + x ≡ suc x = omega arith in
-    (low, sym (entries_are_powers (get_or LOG (suc x) 0) (omega (arith, low))) ∙ eqb-true (get_or EXP (get_or LOG (suc x) 0) 0) (1 + x) parts.1 ∙ next)
-
--- every entry of LOG is at most 511, so that a sum of two of them is a place in EXP
-pub logarithm_fits : (x : ℕ) → x < 256 → slice_index LOG x ≤ 511
-logarithm_fits zero inside = lit≤ tt
-logarithm_fits (suc x) inside =
-    let low = (entries_are_logarithms (suc x) (λ none. absurd (omega (arith, none))) inside).0 in
-    omega (arith, low)
-
--- the entry at the sum of two logarithms is the product
-pub product_of_logarithms : (a b : ℕ) → a < 256 → b < 256
-    → slice_index EXP (slice_index LOG a + slice_index LOG b) ≡ mul_mod 8 aes_modulus a b
-product_of_logarithms zero b a_fits b_fits =
-    let few = logarithm_fits b b_fits in
-    entries_are_zero (511 + slice_index LOG b) (omega arith) (omega (arith, few))
-    ∙ sym (zero-times 8 1 (mul_mod 8 aes_modulus) ring b)
-product_of_logarithms (suc a) zero a_fits b_fits =
-    let few = logarithm_fits (suc a) a_fits in
-    entries_are_zero (slice_index LOG (suc a) + 511) (omega arith) (omega (arith, few))
-    ∙ sym (times-zero 8 1 (mul_mod 8 aes_modulus) ring (suc a))
-product_of_logarithms (suc a) (suc b) a_fits b_fits =
-    let of_a = entries_are_logarithms (suc a) (λ none. absurd (omega (arith, none))) a_fits in
-    let of_b = entries_are_logarithms (suc b) (λ none. absurd (omega (arith, none))) b_fits in
-    entries_are_powers (slice_index LOG (suc a) + slice_index LOG (suc b)) (omega (arith, of_a.0, of_b.0))
-    ∙ power-add 8 1 (mul_mod 8 aes_modulus) ring (lit< tt) 0x88 (slice_index LOG (suc a)) (slice_index LOG (suc b))
-    ∙ ap₂ (mul_mod 8 aes_modulus) of_a.1 of_b.1
+-- EXP and LOG give the products
+pub products : AreLogTables (mul_mod 8 aes_modulus) EXP LOG
+products = log_tables (mul_mod 8 aes_modulus) ring 0x88 EXP LOG (lit≤ tt) refl powers_pass logarithms_pass refl refl zeros_pass
 
 -- ---- tables of functions of one byte
 
@@ -107,36 +46,20 @@ squares_pass = refl
 pub squares_at : (a : ℕ) → a < 256 → slice_index SQUARES a ≡ mul_mod 8 aes_modulus a a
 squares_at a inside = tabulates_at (λ x. mul_mod 8 aes_modulus x x) SQUARES a squares_pass inside
 
--- whether y is a square root of x
-is_root : ℕ → ℕ → Bool
-is_root x y = eqb (mul_mod 8 aes_modulus y y) x
-
 -- the square of every entry of ROOTS is its place (computed)
-roots_pass : passes is_root 0 ROOTS ≡ true
+roots_pass : passes (is_root (mul_mod 8 aes_modulus)) 0 ROOTS ≡ true
 unfolding mul_mod rem rem_in carryless carryless_in is_root passes
 roots_pass = refl
 
 -- the square of entry a of ROOTS is a
 pub roots_at : (a : ℕ) → a < 256 → mul_mod 8 aes_modulus (slice_index ROOTS a) (slice_index ROOTS a) ≡ a
-unfolding is_root
-roots_at a inside =
-    let place : 0 + a ≡ a = omega arith in
-    eqb-true (mul_mod 8 aes_modulus (slice_index ROOTS a) (slice_index ROOTS a)) (0 + a) (passes_at is_root 0 ROOTS a roots_pass inside) ∙ place
-
--- whether the product of the places x and y is 1
-is_inverse : ℕ → ℕ → Bool
-is_inverse x y = eqb (mul_mod 8 aes_modulus x y) 1
+roots_at = root_at (mul_mod 8 aes_modulus) ROOTS refl roots_pass
 
 -- the product of every entry of INVERSES past the first by its place is 1 (computed)
-inverses_pass : passes is_inverse 1 (drop 1 INVERSES) ≡ true
+inverses_pass : passes (is_inverse (mul_mod 8 aes_modulus)) 1 (drop 1 INVERSES) ≡ true
 unfolding mul_mod rem rem_in carryless carryless_in is_inverse passes
 inverses_pass = refl
 
 -- for a other than 0 the product of a by entry a of INVERSES is 1
 pub inverses_at : (a : ℕ) → a < 256 → a ≢ 0 → mul_mod 8 aes_modulus a (slice_index INVERSES a) ≡ 1
-unfolding is_inverse
-inverses_at zero inside nonzero = absurd (nonzero refl)
-inverses_at (suc a) inside nonzero =
-    let place : 1 + a ≡ suc a = omega arith in
-    ap (λ (x : ℕ). mul_mod 8 aes_modulus x (slice_index INVERSES (suc a))) (sym place)
-    ∙ eqb-true (mul_mod 8 aes_modulus (1 + a) (slice_index INVERSES (suc a))) 1 (passes_at is_inverse 1 (drop 1 INVERSES) a inverses_pass (omega arith))
+inverses_at = inverse_at (mul_mod 8 aes_modulus) INVERSES refl inverses_pass

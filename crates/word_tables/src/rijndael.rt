@@ -1,12 +1,12 @@
 // Polynomials modulo x^8 + x^4 + x^3 + x + 1 (FIPS 197, section 4.2) by tables: a product is 0x88, the field's generator, to the
 // power of the sum of the logarithms of its operands. Bit i of a byte is the coefficient of x^i.
-ghost use Rattle.std.specs.Prelude.{◌≡◌, ◌≢◌, ◌<◌, slice_index};
+ghost use Rattle.std.specs.Prelude.{◌≡◌, ◌≢◌};
 ghost use Rattle.field_base.specs.Remainder.{aes_modulus, mul_mod};
-ghost use Rattle.word_tables.specs.declared.rijndael.literals.TheConstants.{EXP, INVERSES, LOG, ROOTS, SQUARES};
 
 mod literals;
 
 use field_base::byte_tables::entry;
+use field_base::log_tables::power_of_sum;
 
 /// The product of two bytes: 0x88 to the power of the sum of their logarithms. That of 0 is so large that EXP has 0 at each sum
 /// with it, so that no operand is compared with 0.
@@ -14,7 +14,7 @@ use field_base::byte_tables::entry;
 pub fn multiply(a: u8, b: u8) -> u8
     ensures { result ≡ mul_mod 8 aes_modulus a b }
 {
-    power_entry(logarithm_entry(a) as usize + logarithm_entry(b) as usize)
+    power_of_sum(&literals::EXP, &literals::LOG, a, b)
 }
 
 /// The square of a byte.
@@ -40,21 +40,4 @@ pub fn sqrt(a: u8) -> u8
     ensures { mul_mod 8 aes_modulus result result ≡ a }
 {
     entry(&literals::ROOTS, a)
-}
-
-// The entry of EXP at `exponent`.
-#[inline]
-fn power_entry(exponent: usize) -> u8
-    requires { exponent < 1023 }
-    ensures { result ≡ slice_index EXP exponent }
-{
-    literals::EXP[exponent]
-}
-
-// The entry of LOG at `a`.
-#[inline]
-fn logarithm_entry(a: u8) -> u16
-    ensures { result ≡ slice_index LOG a }
-{
-    literals::LOG[a as usize]
 }

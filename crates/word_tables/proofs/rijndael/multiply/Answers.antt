@@ -1,17 +1,9 @@
-use Rattle.std.proofs.Common.{ℕ, ◌+◌, ◌≤◌, ◌∙◌, sym, ap₂, subst, arith}
-use Rattle.std.specs.Prelude.{slice_index}
-use Rattle.word_tables.specs.declared.rijndael.literals.TheConstants.{EXP}
-use Rattle.word_tables.proofs.RijndaelTables.{logarithm_fits, product_of_logarithms}
+use Rattle.std.proofs.Common.{◌∙◌, arith}
+use Rattle.word_tables.proofs.RijndaelTables.{products}
 use Rattle.word_tables.proofs.rijndael.multiply.Goals as goal
 
-pub power_entry-requires : goal.power_entry-requires
-power_entry-requires c =
-    let left : c.logarithm_entry.result ≤ 511 = subst (λ (n : ℕ). n ≤ 511) (sym c.logarithm_entry.ensures) (logarithm_fits c.args.a (omega arith)) in
-    let right : c.logarithm_entry-2.result ≤ 511 = subst (λ (n : ℕ). n ≤ 511) (sym c.logarithm_entry-2.ensures) (logarithm_fits c.args.b (omega arith)) in
-    omega (arith, left, right)
+pub power_of_sum-requires : goal.power_of_sum-requires
+power_of_sum-requires c = products.fits
 
 pub returns : goal.returns
-returns c =
-    c.power_entry.ensures
-    ∙ ap₂ (λ (x y : ℕ). slice_index EXP (x + y)) c.logarithm_entry.ensures c.logarithm_entry-2.ensures
-    ∙ product_of_logarithms c.args.a c.args.b (omega arith) (omega arith)
+returns c = c.power_of_sum.ensures ∙ products.product c.args.a c.args.b (omega arith) (omega arith)
