@@ -5,6 +5,7 @@ use field_element::{Ghash128, element_of_word};
 use ghash_slices::{butterfly_forward, butterfly_inverse, mul, mul_slice};
 use std::alloc::{AllocError, Global};
 use std::test::Fail;
+use test_support::next_number;
 use word_tables::{to_polynomial_128, to_polynomial_slice_128, to_tower_128, to_tower_slice_128};
 
 /// Lengths: of no value, of one, about each power of two up to 128, and about 256 and 400.
@@ -13,22 +14,12 @@ static LENGTHS: [usize; 26] = [
     400, 401,
 ];
 
-/// The next word of splitmix64 (Steele, Lea and Flood 2014).
-fn next_word(state: &mut u64) -> u64 {
-    *state = state.wrapping_add(0x9e37_79b9_7f4a_7c15);
-    let mut word = *state;
-    word = (word ^ (word >> 30)).wrapping_mul(0xbf58_476d_1ce4_e5b9);
-    word = (word ^ (word >> 27)).wrapping_mul(0x94d0_49bb_1331_11eb);
-    word ^ (word >> 31)
-}
-
-/// So many numbers of two words, the low one first.
+/// So many numbers.
 fn drawn(alloc: Global, seed: u64, len: usize) -> Result<Vec<u128>, AllocError> {
     let mut state = seed;
     let mut numbers = Vec::new(alloc);
     for _ in 0..len {
-        let low = u128::from(next_word(&mut state));
-        numbers.push(u128::from(next_word(&mut state)) << 64 | low)?;
+        numbers.push(next_number(&mut state))?;
     }
     Ok(numbers)
 }
