@@ -97,53 +97,29 @@ fn an_iterator_without_end_is_left(rt: HostRuntime) {
     assert!(rt; succeeds_in_both(rt.alloc(), Trial::WithoutEnd));
 }
 
-/// A trial of an extension.
-#[derive(Clone, Copy)]
-enum ExtensionTrial {
-    /// The text that names it.
-    Text,
-    /// Frobenius's map.
-    Frobenius,
-    /// The order of the generator.
-    Generator,
-}
-
-/// Whether a trial of an extension of 192 bits succeeds. Its text is given, and the images of elements.
+/// Whether an extension of 192 bits has this text and these images by Frobenius's map, and its generator is of full order.
 fn extension_succeeds<F: Field, E: AlgebraIdentity<F>>(
     alloc: Global,
-    trial: ExtensionTrial,
     text: &str,
     images: &[(E, E)],
 ) -> bool {
-    match trial {
-        ExtensionTrial::Text => has_text::<F, E>(alloc, text),
-        ExtensionTrial::Frobenius => frobenius_takes::<F, E>(images),
-        ExtensionTrial::Generator => generator_has_full_order(E::GENERATOR),
-    }
+    has_text::<F, E>(alloc, text)
+        && frobenius_takes::<F, E>(images)
+        && generator_has_full_order(E::GENERATOR)
 }
 
 // Worked rows of the cubic extension.
-fn cubic_succeeds(alloc: Global, trial: ExtensionTrial) -> bool {
+fn cubic_succeeds(alloc: Global) -> bool {
     let text = "p3-binary-cubic-v1:y^3+y+1:64:192";
     let images = [
         (cubic(0, 1, 0), cubic(0, 0, 1)),
         (cubic(0, 0, 1), cubic(0, 1, 1)),
         (cubic(1, 2, 3), cubic(1, 3, 1)),
     ];
-    extension_succeeds::<Poly64, Poly192>(alloc, trial, text, &images)
+    extension_succeeds::<Poly64, Poly192>(alloc, text, &images)
 }
 
 #[test]
-fn texts_of_algebras(rt: HostRuntime) {
-    assert!(rt; cubic_succeeds(rt.alloc(), ExtensionTrial::Text));
-}
-
-#[test]
-fn frobenius_of_the_root(rt: HostRuntime) {
-    assert!(rt; cubic_succeeds(rt.alloc(), ExtensionTrial::Frobenius));
-}
-
-#[test]
-fn the_generator_has_full_order(rt: HostRuntime) {
-    assert!(rt; cubic_succeeds(rt.alloc(), ExtensionTrial::Generator));
+fn the_cubic_extension(rt: HostRuntime) {
+    assert!(rt; cubic_succeeds(rt.alloc()));
 }
