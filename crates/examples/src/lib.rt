@@ -1,15 +1,20 @@
 //! Examples of programs over `binary_field`: contracts of their own over any ring and at a field by its name, secret sharing over
 //! any field, elements as keys of a hash map, one product in both bases, a linear map of a few elements, generic code over
 //! packings and over elements as data, elements as JSON, and the errors of a transcript in one of the program's own.
+//!
+//! All of it is for tests alone: a crate that names `binary_field` loads every crate below it, once for its functions and once more for
+//! its tests.
 #![tactic(auto)]
 
 #[cfg(test)]
 mod bases;
+#[cfg(test)]
 mod contracts;
 #[cfg(test)]
 mod data;
 #[cfg(test)]
 mod logarithms;
+#[cfg(test)]
 mod packings;
 #[cfg(test)]
 mod sharing;
@@ -18,5 +23,7 @@ mod texts;
 #[cfg(test)]
 mod transcripts;
 
+#[cfg(test)]
 pub use crate::contracts::{product_of_slice, sum_of_slice, value_on_line};
+#[cfg(test)]
 pub use crate::packings::{front_packing, packed_dot_product};

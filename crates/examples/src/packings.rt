@@ -29,5 +29,4 @@ pub fn front_packing<F: WiderField + Field<Packing = Packed<F, N>>, const N: usi
     Packed::from_slice(&elements[..N])
 }
 
-#[cfg(test)]
 mod tests;
