@@ -85,7 +85,7 @@ pub use transcript_elements::{
 };
 
 // Reed-Solomon codes over bytes, and over vectors of bytes
-pub use reed_solomon::{ReedSolomon, ReedSolomonError, shard_vectors};
+pub use reed_solomon::{PreparedEncoder, ReedSolomon, ReedSolomonError, shard_vectors};
 
 // lines of text and their answers
 pub use calculator as calc;

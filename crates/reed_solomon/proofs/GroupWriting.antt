@@ -12,7 +12,7 @@ use Rattle.reed_solomon.specs.Shards.{IsPresent, shard_byte}
 use Rattle.reed_solomon.specs.Tables.{AreApart, AreWritten, HasRow, IsEntry, nibble_sum, row_sum}
 use Rattle.reed_solomon.proofs.NibbleTables.{nibble_product}
 use Rattle.reed_solomon.proofs.Restoring.{RestoresBefore, symbol_at-same}
-use Rattle.reed_solomon.proofs.RowWriting.{written_by}
+use Rattle.reed_solomon.proofs.RowWriting.{written_at, written_by}
 use Rattle.reed_solomon.proofs.Samples.{below_next}
 use Rattle.reed_solomon.proofs.Writing.{apart_from, sum_below-same}
 
@@ -61,21 +61,37 @@ row_symbol count size place entries shards starts row column target counted begu
     ∙ nibble_product (λ i. lagrange 8 erasure_product place count i target) entries row count j (shard_byte size shards (place j) column)
     set below (bytes (place j * size + column)))
 
+-- so rows that the tables give are the symbols of their shards
+pub group_symbols : (count size : ℕ) (place target : ℕ → ℕ) (entries shards starts : List ℕ) (given spot : ℕ → ℕ) (rows n : ℕ) (old now : List ℕ)
+    → rows ≡ n → length starts ≡ count → ((j : ℕ) → j < count → get_or starts j 0 ≡ place j * size)
+    → ((row : ℕ) → row < n → given row ≡ spot row)
+    → ((row : ℕ) → row < n → HasRow (λ j. lagrange 8 erasure_product place count j (target row)) entries row count)
+    → ((i : ℕ) → get_or shards i 0 < 256) → AreWritten (row_sum entries shards starts) given rows size old now
+    → AreWritten (λ row column. symbol_at count size place shards column (target row)) spot n size old now
+group_symbols count size place target entries shards starts given spot rows n old now rows_are counted begun spots set bytes all =
+    written_at (λ row column. symbol_at count size place shards column (target row)) given spot n size old now
+    (written_by (row_sum entries shards starts) (λ row column. symbol_at count size place shards column (target row)) given n size old now
+    (subst (λ (r : ℕ). AreWritten (row_sum entries shards starts) given r size old now) rows_are all)
+    (λ row column within inside.
+    row_symbol count size place entries shards starts row column (target row) counted begun (set row within) bytes))
+    spots
+
+-- the bytes of a shard lie before those of the next
+pub place_inside : (size n j : ℕ) → j < n → j * size + size ≤ n * size
+place_inside size n j less =
+    let one_more : j + 1 ≤ n = omega (arith, less) in
+    omega (arith, mul-le-mul_right size one_more)
+
 -- shards at two places do not meet
 pub apart_places : (size a b : ℕ) → a ≢ b → AreApart size (a * size) (b * size)
 apart_places size a b different =
     elim (cases_lt a b) [
-      | inl less ↦ inl (after a b less)
-      | inr up ↦ inr (after b a (below up))
+      | inl less ↦ inl (place_inside size b a less)
+      | inr up ↦ inr (place_inside size a b (below up))
     ]
   where
     below : b ≤ a → b < a
     below up = omega (arith, up, different)
-
-    after : (x y : ℕ) → x < y → x * size + size ≤ y * size
-    after x y less =
-        let one_more : x + 1 ≤ y = omega (arith, less) in
-        omega (arith, mul-le-mul_right size one_more)
 
 -- a block of a row that matches, and one that does not
 pub block_matches : (entries shards starts lanes : List ℕ) (begin columns : ℕ) → ((n : ℕ) → n < columns → get_or shards (begin + n) 0 ≡ row_sum entries shards starts 0 n)

@@ -1,14 +1,14 @@
 mod ByteTables
 mod Factors
-mod Flags
 mod GroupWriting
-mod Matching
 mod NibbleTables
+mod ParityWords
+mod PreparedTables
 mod Restoring
 mod RoundTrip
 mod RowTables
 mod RowWriting
 mod Samples
-mod Separate
+mod Strips
 mod VectorRestoring
 mod Writing

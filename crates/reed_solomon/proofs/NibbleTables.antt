@@ -1,10 +1,10 @@
 -- Look-ups by the halves of bytes in lanes, and what they give: products by a factor.
 use Rattle.std.proofs.Common.{◌≡◌, ℕ, ◌+◌, ◌-◌, ◌*◌, ◌/◌, ◌%◌, ◌^◌, ◌<◌, List, length, get_or, map, sym, ◌∙◌, ap, ap₂, arith, lit<, w8, Fits}
 use Rattle.std.specs.Prelude.{bit_xor}
-use Rattle.std.specs.Simd.Lanes.{zip2, chunk, Each1}
-use Rattle.std.proofs.lemmas.List.{get_or-map, length-map}
+use Rattle.std.specs.Simd.Lanes.{chunk, Each1}
+use Rattle.std.proofs.lemmas.List.{get_or-map}
 use Rattle.std.proofs.lemmas.Nat.{xor_block, xor_comm}
-use Rattle.std.proofs.lemmas.Simd.{Each1-get_or, get_or-chunk, zip2-map}
+use Rattle.std.proofs.lemmas.Simd.{Each1-get_or, get_or-chunk}
 use native.Mathlib.Nat.{mod-lt}
 use lib.Bits.{xor_zero_r}
 use Rattle.byte_maps.specs.Nibbles.{entry_sum}

@@ -34,41 +34,36 @@ no_sample k present places =
 
 module _ (k : ℕ) (present : List Bool) (i : ℕ) (places : List ℕ) (count : ℕ) (sample : IsSample k present i places count)
     (within : i < length present) where
-  -- the shard is missing
-  pub sample-absent : get_or present i false ≡ false → IsSample k present (i + 1) places count
-  sample-absent absent =
-      let same = count_by_more_no (λ is_present. is_present) present i false within absent in
+  -- the shard is not one of the first k
+  sample_kept : (IsAmongFirst k present i → ⊥) → count ≤ present_count (take (i + 1) present)
+      → (count < k → count ≡ present_count (take (i + 1) present)) → IsSample k present (i + 1) places count
+  sample_kept other counted is_all =
       record {
         inside = λ j below. let was = sample.inside j below in omega (arith, was);
         is_present = sample.is_present;
         number = sample.number;
         covers = λ place below.
             below_next (λ p. IsAmongFirst k present p → (present_count (take p present) < count) × (get_or places (present_count (take p present)) 0 ≡ p))
-            i place below (sample.covers place) (λ first. absurd (is_missing absent first.0));
+            i place below (sample.covers place) (λ first. absurd (other first));
         at_most = sample.at_most;
-        counted = subst (λ (n : ℕ). count ≤ n) (sym same) sample.counted;
-        is_all = λ few. sample.is_all few ∙ sym same;
+        counted = counted;
+        is_all = is_all;
       }
-    where
-      is_missing : get_or present i false ≡ false → IsPresent present i → ⊥
-      is_missing is_absent here = absurd (true≢false (sym here ∙ is_absent))
+
+  -- the shard is missing
+  pub sample-absent : get_or present i false ≡ false → IsSample k present (i + 1) places count
+  sample-absent absent =
+      let same = count_by_more_no (λ is_present. is_present) present i false within absent in
+      sample_kept (λ first. absurd (true≢false (sym first.0 ∙ absent))) (subst (λ (n : ℕ). count ≤ n) (sym same) sample.counted)
+      (λ few. sample.is_all few ∙ sym same)
 
   -- the shard is at hand, but there are k of them already
   pub sample-full : get_or present i false ≡ true → k ≤ count → IsSample k present (i + 1) places count
   sample-full here full =
       let more = count_by_more_yes (λ is_present. is_present) present i false within here in
       let counted = sample.counted in
-      record {
-        inside = λ j below. let was = sample.inside j below in omega (arith, was);
-        is_present = sample.is_present;
-        number = sample.number;
-        covers = λ place below.
-            below_next (λ p. IsAmongFirst k present p → (present_count (take p present) < count) × (get_or places (present_count (take p present)) 0 ≡ p))
-            i place below (sample.covers place) (λ first. let few = first.1 in absurd (omega (arith, few, full, counted)));
-        at_most = sample.at_most;
-        counted = omega (arith, counted, more);
-        is_all = λ few. absurd (omega (arith, few, full));
-      }
+      sample_kept (λ first. let few = first.1 in absurd (omega (arith, few, full, counted))) (omega (arith, counted, more))
+      (λ few. absurd (omega (arith, few, full)))
 
   -- the shard is taken
   pub sample-taken : get_or present i false ≡ true → count < k → count < length places

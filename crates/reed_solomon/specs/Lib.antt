@@ -1,5 +1,6 @@
 pub mod ErasureField
 pub mod Missing
+pub mod Parity
 pub mod RoundTrip
 pub mod Samples
 pub mod ShardVectors

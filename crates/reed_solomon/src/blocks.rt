@@ -3,7 +3,6 @@ ghost use Rattle.std.specs.Prelude.{◌≡◌, ◌+◌, ◌*◌, ◌<◌, ◌≤
 ghost use Rattle.reed_solomon.specs.Tables.{AreApart, AreWritten, row_sum};
 
 use crate::lanes::nibble_sums;
-use crate::tables::RowTables;
 use std::simd::prelude::*;
 
 // What the tables of N rows give in the 32 columns from `column` on.
@@ -11,21 +10,22 @@ use std::simd::prelude::*;
 pub(crate) fn block_sums<const N: usize>(
     shards: &[u8],
     starts: &[usize],
-    tables: &RowTables,
+    entries: &[u8],
     column: usize,
 ) -> [u8x32; N]
     requires few { length starts.now ≤ 256 }
+    requires tables { 128 * length starts.now ≤ length entries.now }
     requires rows { N ≤ 4 }
     requires inside { (j : ℕ) → j < length starts.now → slice_index starts.now j + column + 32 ≤ length shards.now }
     ensures long { (row : ℕ) → row < N → length (slice_index_or result row []) ≡ 32 }
     ensures sums { (row lane : ℕ) → row < N → lane < 32 → slice_index (slice_index_or result row []) lane
-        ≡ row_sum tables.now.entries shards.now starts.now row (column + lane) }
+        ≡ row_sum entries.now shards.now starts.now row (column + lane) }
 {
     let mut sums = [u8x32::splat(0); N];
     for j in 0..starts.len() {
         let bytes = u8x32::from_slice(&shards[starts[j] + column..]);
         for row in 0..N {
-            sums[row] ^= nibble_sums(&tables.entries, 128 * j + 32 * row, bytes);
+            sums[row] ^= nibble_sums(entries, 128 * j + 32 * row, bytes);
         }
     }
     sums
@@ -35,20 +35,21 @@ pub(crate) fn block_sums<const N: usize>(
 pub(crate) fn column_sum(
     shards: &[u8],
     starts: &[usize],
-    tables: &RowTables,
+    entries: &[u8],
     row: usize,
     column: usize,
 ) -> u8
     requires few { length starts.now ≤ 256 }
+    requires tables { 128 * length starts.now ≤ length entries.now }
     requires rows { row < 4 }
     requires inside { (j : ℕ) → j < length starts.now → slice_index starts.now j + column < length shards.now }
-    ensures { result ≡ row_sum tables.now.entries shards.now starts.now row column }
+    ensures { result ≡ row_sum entries.now shards.now starts.now row column }
 {
     let mut sum = 0;
     for j in 0..starts.len() {
         let byte = shards[starts[j] + column] as usize;
         let start = 128 * j + 32 * row;
-        sum ^= tables.entries[start + byte % 16] ^ tables.entries[start + 16 + byte / 16];
+        sum ^= entries[start + byte % 16] ^ entries[start + 16 + byte / 16];
     }
     sum
 }
@@ -58,17 +59,18 @@ pub(crate) fn column_sum(
 fn column_sums<const N: usize>(
     shards: &[u8],
     starts: &[usize],
-    tables: &RowTables,
+    entries: &[u8],
     column: usize,
 ) -> [u8; N]
     requires few { length starts.now ≤ 256 }
+    requires tables { 128 * length starts.now ≤ length entries.now }
     requires rows { N ≤ 4 }
     requires inside { (j : ℕ) → j < length starts.now → slice_index starts.now j + column < length shards.now }
-    ensures { (row : ℕ) → row < N → slice_index result row ≡ row_sum tables.now.entries shards.now starts.now row column }
+    ensures { (row : ℕ) → row < N → slice_index result row ≡ row_sum entries.now shards.now starts.now row column }
 {
     let mut sums = [0; N];
     for row in 0..N {
-        sums[row] = column_sum(shards, starts, tables, row, column);
+        sums[row] = column_sum(shards, starts, entries, row, column);
     }
     sums
 }
@@ -101,61 +103,60 @@ fn store_column<const N: usize>(out: &mut [u8], rows: &[usize], column: usize, s
     }
 }
 
-// Writes N rows of `size` bytes from the shards that begin at `starts`, none of which is written.
-#[inline]
-pub(crate) fn write_rows<const N: usize>(
-    shards: &mut [u8],
-    size: usize,
-    starts: &[usize],
-    tables: &RowTables,
-    rows: &[usize],
-)
-    requires few { length starts.now ≤ 256 }
-    requires rows { N ≤ 4 }
-    requires named { length rows.now ≡ N }
-    requires inside { (j : ℕ) → j < length starts.now → slice_index starts.now j + size ≤ length shards.old }
-    requires room { (row : ℕ) → row < N → slice_index rows.now row + size ≤ length shards.old }
-    requires apart { (row other : ℕ) → other < row → row < N → AreApart size (slice_index rows.now row) (slice_index rows.now other) }
-    requires read { (j row : ℕ) → j < length starts.now → row < N → AreApart size (slice_index starts.now j) (slice_index rows.now row) }
-    ensures { AreWritten (row_sum tables.now.entries shards.old starts.now) (slice_index rows.now) N size shards.old shards.new }
-{
-    let whole = size / 32 * 32;
-    for block in 0..size / 32 {
-        let sums = block_sums::<N>(shards, starts, tables, 32 * block);
-        store_block::<N>(shards, rows, 32 * block, &sums);
-    }
-    for column in whole..size {
-        let sums = column_sums::<N>(shards, starts, tables, column);
-        store_column::<N>(shards, rows, column, &sums);
-    }
-}
-
 // Writes N rows of `size` bytes of another slice from the shards that begin at `starts`.
-#[inline]
-pub(crate) fn write_rows_apart<const N: usize>(
+#[inline(never)]
+fn write_rows<const N: usize>(
     shards: &[u8],
     size: usize,
     starts: &[usize],
-    tables: &RowTables,
+    entries: &[u8],
     out: &mut [u8],
     rows: &[usize],
 )
     requires few { length starts.now ≤ 256 }
+    requires tables { 128 * length starts.now ≤ length entries.now }
     requires rows { N ≤ 4 }
     requires named { length rows.now ≡ N }
     requires inside { (j : ℕ) → j < length starts.now → slice_index starts.now j + size ≤ length shards.now }
     requires room { (row : ℕ) → row < N → slice_index rows.now row + size ≤ length out.old }
     requires apart { (row other : ℕ) → other < row → row < N → AreApart size (slice_index rows.now row) (slice_index rows.now other) }
-    ensures { AreWritten (row_sum tables.now.entries shards.now starts.now) (slice_index rows.now) N size out.old out.new }
+    ensures { AreWritten (row_sum entries.now shards.now starts.now) (slice_index rows.now) N size out.old out.new }
 {
     let whole = size / 32 * 32;
     for block in 0..size / 32 {
-        let sums = block_sums::<N>(shards, starts, tables, 32 * block);
+        let sums = block_sums::<N>(shards, starts, entries, 32 * block);
         store_block::<N>(out, rows, 32 * block, &sums);
     }
     for column in whole..size {
-        let sums = column_sums::<N>(shards, starts, tables, column);
+        let sums = column_sums::<N>(shards, starts, entries, column);
         store_column::<N>(out, rows, column, &sums);
+    }
+}
+
+// Writes up to four rows of `size` bytes of another slice from the shards that begin at `starts`, all at once.
+pub(crate) fn write_group(
+    shards: &[u8],
+    size: usize,
+    starts: &[usize],
+    entries: &[u8],
+    out: &mut [u8],
+    rows: &[usize],
+)
+    requires few { length starts.now ≤ 256 }
+    requires tables { 128 * length starts.now ≤ length entries.now }
+    requires rows { length rows.now ≤ 4 }
+    requires inside { (j : ℕ) → j < length starts.now → slice_index starts.now j + size ≤ length shards.now }
+    requires room { (row : ℕ) → row < length rows.now → slice_index rows.now row + size ≤ length out.old }
+    requires apart { (row other : ℕ) → other < row → row < length rows.now
+        → AreApart size (slice_index rows.now row) (slice_index rows.now other) }
+    ensures { AreWritten (row_sum entries.now shards.now starts.now) (slice_index rows.now) (length rows.now) size out.old out.new }
+{
+    match rows.len() {
+        4 => write_rows::<4>(shards, size, starts, entries, out, rows),
+        3 => write_rows::<3>(shards, size, starts, entries, out, rows),
+        2 => write_rows::<2>(shards, size, starts, entries, out, rows),
+        1 => write_rows::<1>(shards, size, starts, entries, out, rows),
+        _ => {}
     }
 }
 
@@ -164,24 +165,25 @@ pub(crate) fn matches_row(
     shards: &[u8],
     size: usize,
     starts: &[usize],
-    tables: &RowTables,
+    entries: &[u8],
     begin: usize,
 ) -> bool
     requires few { length starts.now ≤ 256 }
+    requires tables { 128 * length starts.now ≤ length entries.now }
     requires inside { (j : ℕ) → j < length starts.now → slice_index starts.now j + size ≤ length shards.now }
     requires room { begin + size ≤ length shards.now }
     ensures { IsTrue result ↔ ((column : ℕ) → column < size
-        → slice_index shards.now (begin + column) ≡ row_sum tables.now.entries shards.now starts.now 0 column) }
+        → slice_index shards.now (begin + column) ≡ row_sum entries.now shards.now starts.now 0 column) }
 {
     let whole = size / 32 * 32;
     for block in 0..size / 32 {
-        let sums = block_sums::<1>(shards, starts, tables, 32 * block);
+        let sums = block_sums::<1>(shards, starts, entries, 32 * block);
         if !has_lanes(shards, begin + 32 * block, sums[0]) {
             return false;
         }
     }
     for column in whole..size {
-        if shards[begin + column] != column_sum(shards, starts, tables, 0, column) {
+        if shards[begin + column] != column_sum(shards, starts, entries, 0, column) {
             return false;
         }
     }

@@ -1,19 +1,20 @@
 // The code: how many shards of data and of parity there are, and what is done with them.
-ghost use Rattle.std.specs.Prelude.{◌≡◌, ◌≢◌, ◌+◌, ◌*◌, ◌/◌, ◌%◌, ◌<◌, ◌≤◌, ◌↔◌, ℕ, true, false, length, slice_index_or, IsTrue, IsOk, IfOk, IfErr, OnErr, ◌++◌};
+ghost use Rattle.std.specs.Prelude.{◌≡◌, ◌+◌, ◌*◌, ◌/◌, ◌%◌, ◌<◌, ◌≤◌, ◌↔◌, length, IsTrue, IsOk, IfOk, IfErr, OnErr, ◌++◌};
 ghost use Rattle.reed_solomon.specs.Shards.{AreCodewords, IsEncoded, IsReconstructed, present_count};
 ghost use Rattle.reed_solomon.specs.Sizes.{HasShardSize, ReconstructError, SeparateError, ShardSizeError};
 ghost use Rattle.reed_solomon.specs.declared.error.ReedSolomonError.TheVariants.{TooFewDataShards, TooFewParityShards, TooManyShards};
 
 use crate::error::ReedSolomonError;
-use crate::rows::{matches, restore, write_parity};
+use crate::parity::{matches_parity, write_parity};
+use crate::rows::restore;
 use crate::sample::Sample;
 
 /// A Reed-Solomon code over bytes: so many shards of data, and so many of parity, at most 256 in all. Shard i has the values at
 /// the point i of polynomials that the data determine. No call takes memory.
 #[derive(Clone, Copy)]
 pub struct ReedSolomon {
-    data_shards: usize,
-    parity_shards: usize,
+    pub(crate) data_shards: usize,
+    pub(crate) parity_shards: usize,
     ghost some_data: { 0 < data_shards },
     ghost some_parity: { 0 < parity_shards },
     ghost few: { data_shards + parity_shards ≤ 256 },
@@ -75,10 +76,14 @@ impl ReedSolomon {
     {
         let total = self.total_shard_count();
         let size = shard_size(total, shards.len())?;
-        let flags = first_flags(self.data_shards);
-        let present = &flags[..total];
-        let sample = Sample::of_present(present, self.data_shards);
-        restore(shards, size, &sample, present, total);
+        let (data_bytes, parity_bytes) = shards.split_at_mut(self.data_shards * size);
+        write_parity(
+            data_bytes,
+            size,
+            self.data_shards,
+            parity_bytes,
+            self.parity_shards,
+        );
         Ok(())
     }
 
@@ -102,13 +107,9 @@ impl ReedSolomon {
         if shard_size(self.parity_shards, parity_bytes.len())? != size {
             return Err(ReedSolomonError::IncorrectShardSize);
         }
-        let total = self.total_shard_count();
-        let flags = first_flags(self.data_shards);
-        let sample = Sample::of_present(&flags[..total], self.data_shards);
         write_parity(
             data_bytes,
             size,
-            &sample,
             self.data_shards,
             parity_bytes,
             self.parity_shards,
@@ -125,10 +126,7 @@ impl ReedSolomon {
     {
         let total = self.total_shard_count();
         let size = shard_size(total, shards.len())?;
-        let flags = first_flags(self.data_shards);
-        let present = &flags[..total];
-        let sample = Sample::of_present(present, self.data_shards);
-        Ok(matches(shards, size, &sample, present))
+        Ok(matches_parity(shards, size, self.data_shards, self.parity_shards))
     }
 
     /// Restores the missing shards, of data and of parity: shard i is missing where `present[i]` is false, and what its bytes
@@ -198,7 +196,7 @@ impl ReedSolomon {
 }
 
 // The size of each of so many shards, by the bytes of all.
-fn shard_size(count: usize, bytes: usize) -> Result<usize, ReedSolomonError>
+pub(crate) fn shard_size(count: usize, bytes: usize) -> Result<usize, ReedSolomonError>
     requires { 0 < count }
     ensures accepted { IsOk result ↔ HasShardSize count bytes }
     ensures size { IfOk result (λ size. (size ≡ bytes / count) × (bytes ≡ count * size)) }
@@ -211,18 +209,4 @@ fn shard_size(count: usize, bytes: usize) -> Result<usize, ReedSolomonError>
         return Err(ReedSolomonError::IncorrectShardSize);
     }
     Ok(bytes / count)
-}
-
-// Flags of which the first `count` are true.
-fn first_flags(count: usize) -> [bool; 256]
-    requires { count ≤ 256 }
-    ensures long { length result ≡ 256 }
-    ensures present { (i : ℕ) → i < count → slice_index_or result i false ≡ true }
-    ensures missing { (i : ℕ) → count ≤ i → slice_index_or result i false ≡ false }
-{
-    let mut flags = [false; 256];
-    for i in 0..count {
-        flags[i] = true;
-    }
-    flags
 }

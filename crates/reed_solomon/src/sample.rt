@@ -1,5 +1,5 @@
 // The shards that the missing ones are computed from, and the factors of their symbols.
-ghost use Rattle.std.specs.Prelude.{◌≡◌, ◌≢◌, ◌<◌, ◌≤◌, ◌^◌, ℕ, length, slice_index, bit_xor};
+ghost use Rattle.std.specs.Prelude.{◌≡◌, ◌≢◌, ◌+◌, ◌<◌, ◌≤◌, ◌^◌, ℕ, length, slice_index, bit_xor};
 ghost use Rattle.field_base.specs.Basis.{product_below};
 ghost use Rattle.field_laws.specs.Interpolation.{lagrange, other_factors};
 ghost use Rattle.field_laws.specs.PolynomialRoots.{AreDistinctBelow};
@@ -43,6 +43,20 @@ impl Sample {
         }
     }
 
+    // The first k shards.
+    pub(crate) fn of_first(k: usize) -> Sample
+        requires few { k ≤ 256 }
+        ensures count { result.count ≡ k }
+        ensures places { (j : ℕ) → j < k → slice_index result.places j ≡ j }
+    {
+        let places = places_from(0, k);
+        Sample {
+            places,
+            count: k,
+            weights: weights_of(&places, k),
+        }
+    }
+
     // The factors of all shards of the sample in the symbol of the shard at x, which is none of them: the factor of shard j is the
     // product of (x - p) / (place j - p) over the other places p. The weights are what does not depend on x.
     pub(crate) fn factors(&self, x: u8) -> [u8; 256]
@@ -70,6 +84,18 @@ impl Sample {
         }
         product
     }
+}
+
+// The places of `count` shards from shard `first` on.
+pub(crate) fn places_from(first: usize, count: usize) -> [u8; 256]
+    requires { first + count ≤ 256 }
+    ensures { (i : ℕ) → i < count → slice_index result i ≡ first + i }
+{
+    let mut places = [0; 256];
+    for i in 0..count {
+        places[i] = (first + i) as u8;
+    }
+    places
 }
 
 // The inverse of the product of the differences of each place to the others.

@@ -4,8 +4,8 @@ ghost use Rattle.reed_solomon.specs.Tables.{HasRow, IsEntry};
 
 use crate::byte_field::multiply;
 
-// Shard j of a sample has four rows of 32 entries, from 128 j on. The field without bytes puts them at a multiple of 16, so that
-// no look-up reads from two lines of the cache.
+// Tables for all the shards that a code can have: shard j has four rows of 32 entries, from 128 j on. The field without bytes puts
+// them at a multiple of 16, so that no look-up reads from two lines of the cache.
 #[derive(Drop)]
 pub(crate) struct RowTables {
     pub(crate) entries: [u8; 32768],
@@ -21,18 +21,20 @@ impl RowTables {
             aligned: [],
         }
     }
+}
 
-    // Sets the tables of one row by the factors of `count` shards.
-    pub(crate) fn set_row(&mut self, row: usize, factors: &[u8; 256], count: usize)
-        requires fit { count ≤ 256 }
-        requires within { row < 4 }
-        ensures set { HasRow (slice_index factors.now) self.new.entries row count }
-        ensures others { (i : ℕ) → i / 32 % 4 ≢ row → slice_index self.new.entries i ≡ slice_index self.old.entries i }
-    {
-        for i in 0..32 * count {
-            let n = i % 32;
-            self.entries[128 * (i / 32) + 32 * row + n] = entry(factors[i / 32], n);
-        }
+// Sets the tables of one row by the factors of `count` shards.
+pub(crate) fn set_row(entries: &mut [u8], row: usize, factors: &[u8; 256], count: usize)
+    requires fit { count ≤ 256 }
+    requires room { 128 * count ≤ length entries.old }
+    requires within { row < 4 }
+    ensures set { HasRow (slice_index factors.now) entries.new row count }
+    ensures others { (i : ℕ) → i / 32 % 4 ≢ row → slice_index entries.new i ≡ slice_index entries.old i }
+    ensures long { length entries.new ≡ length entries.old }
+{
+    for i in 0..32 * count {
+        let n = i % 32;
+        entries[128 * (i / 32) + 32 * row + n] = entry(factors[i / 32], n);
     }
 }
 

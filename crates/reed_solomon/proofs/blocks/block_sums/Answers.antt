@@ -17,5 +17,5 @@ loop-row-preserved g c =
     (λ lane below.
     let place : start + c.args.column + lane ≡ start + (c.args.column + lane) = omega arith in
     c.nibble_sums.ensures.sums lane below
-    ∙ ap (nibble_sum c.args.tables.now.entries (128 * j + 32 * row)) (get_or-chunk (start + c.args.column) 32 shards lane 0 below
+    ∙ ap (nibble_sum c.args.entries.now (128 * j + 32 * row)) (get_or-chunk (start + c.args.column) 32 shards lane 0 below
     ∙ ap (slice_index shards) place))

@@ -5,9 +5,9 @@ use Rattle.reed_solomon.proofs.blocks.column_sum.Goals as goal
 
 pub loop-j-init : goal.loop-j-init
 loop-j-init c =
-    sum_none (λ j. nibble_sum c.args.tables.now.entries (128 * j + 32 * c.args.row) (slice_index c.args.shards.now (slice_index c.args.starts.now j + c.args.column)))
+    sum_none (λ j. nibble_sum c.args.entries.now (128 * j + 32 * c.args.row) (slice_index c.args.shards.now (slice_index c.args.starts.now j + c.args.column)))
 
 pub loop-j-preserved : goal.loop-j-preserved
 loop-j-preserved c =
-    sum_more (λ j. nibble_sum c.args.tables.now.entries (128 * j + 32 * c.args.row) (slice_index c.args.shards.now (slice_index c.args.starts.now j + c.args.column)))
+    sum_more (λ j. nibble_sum c.args.entries.now (128 * j + 32 * c.args.row) (slice_index c.args.shards.now (slice_index c.args.starts.now j + c.args.column)))
     c.loop-j.j c.loop-j.sum _ c.loop-j.invariant refl

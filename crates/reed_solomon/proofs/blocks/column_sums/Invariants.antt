@@ -4,4 +4,4 @@ use Rattle.reed_solomon.proofs.blocks.column_sums.Given as goal
 
 abbrev pub invariant-loop-row : goal.invariant-loop-row
 invariant-loop-row g l =
-    (length l.sums ≡ g.row.N) × ((row : ℕ) → row < l.row → slice_index l.sums row ≡ row_sum l.tables.entries l.shards l.starts row l.column)
+    (length l.sums ≡ g.row.N) × ((row : ℕ) → row < l.row → slice_index l.sums row ≡ row_sum l.entries l.shards l.starts row l.column)

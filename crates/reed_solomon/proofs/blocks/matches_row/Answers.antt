@@ -8,7 +8,7 @@ use Rattle.reed_solomon.proofs.blocks.matches_row.Goals as goal
 pub loop-block-preserved : goal.loop-block-preserved
 loop-block-preserved c = λ n below.
     let columns = 32 * c.loop-block.block in
-    block_matches c.args.tables.now.entries c.args.shards.now c.args.starts.now (slice_index_or c.block_sums-sums.result 0 []) c.args.begin columns
+    block_matches c.args.entries.now c.args.shards.now c.args.starts.now (slice_index_or c.block_sums-sums.result 0 []) c.args.begin columns
     c.loop-block.invariant (λ lane inside. c.block_sums-sums.ensures.sums 0 lane (omega arith) inside)
     (c.has_lanes.ensures.0 c.if-not-has_lanes.false) n (omega (arith, below))
 
@@ -18,12 +18,12 @@ returns-then-not-has_lanes c =
     let fits : columns + 32 ≤ c.args.size = omega (arith, c.loop-block-test.true) in (
       (λ wrong. absurd (false≢true wrong)),
       λ all. absurd (false≢true (sym c.if-not-has_lanes.true
-          ∙ c.has_lanes.ensures.1 (block_of_row c.args.tables.now.entries c.args.shards.now c.args.starts.now
+          ∙ c.has_lanes.ensures.1 (block_of_row c.args.entries.now c.args.shards.now c.args.starts.now
           (slice_index_or c.block_sums-sums.result 0 []) c.args.begin columns c.args.size fits all
           (λ lane inside. c.block_sums-sums.ensures.sums 0 lane (omega arith) inside)))),
     )
 
 pub loop-column-preserved : goal.loop-column-preserved
 loop-column-preserved c = λ n below.
-    below_next (λ m. slice_index c.args.shards.now (c.args.begin + m) ≡ row_sum c.args.tables.now.entries c.args.shards.now c.args.starts.now 0 m)
+    below_next (λ m. slice_index c.args.shards.now (c.args.begin + m) ≡ row_sum c.args.entries.now c.args.shards.now c.args.starts.now 0 m)
     c.loop-column.column n below (c.loop-column.invariant n) (c.if-shards-begin.false ∙ c.column_sum.ensures)

@@ -4,8 +4,8 @@ use Rattle.reed_solomon.proofs.blocks.write_rows.Given as goal
 
 abbrev pub invariant-loop-block : goal.invariant-loop-block
 invariant-loop-block g l =
-    AreWritten (row_sum l.tables.entries l.fn.shards l.starts) (slice_index l.rows) g.row.N (32 * l.block) l.fn.shards l.shards
+    AreWritten (row_sum l.entries l.shards l.starts) (slice_index l.rows) g.row.N (32 * l.block) l.fn.out l.out
 
 abbrev pub invariant-loop-column : goal.invariant-loop-column
 invariant-loop-column g l =
-    AreWritten (row_sum l.tables.entries l.fn.shards l.starts) (slice_index l.rows) g.row.N l.column l.fn.shards l.shards
+    AreWritten (row_sum l.entries l.shards l.starts) (slice_index l.rows) g.row.N l.column l.fn.out l.out

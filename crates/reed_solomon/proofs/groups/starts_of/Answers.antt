@@ -1,8 +1,8 @@
-use Rattle.std.proofs.Common.{◌+◌, ◌*◌, refl, slice_index, arith}
+use Rattle.std.proofs.Common.{◌*◌, refl, slice_index, arith}
 use Rattle.reed_solomon.proofs.GroupWriting.{entry_next}
 use Rattle.reed_solomon.proofs.groups.starts_of.Goals as goal
 
 pub loop-i-preserved : goal.loop-i-preserved
 loop-i-preserved c =
-    entry_next (λ i. slice_index c.args.places.now (c.args.first + i) * c.args.size) 256 c.loop-i.i _ c.loop-i.starts c.loop-i.invariant.0
+    entry_next (λ i. slice_index c.args.places.now i * c.args.size) 256 c.loop-i.i _ c.loop-i.starts c.loop-i.invariant.0
     (omega (arith, c.requires.listed, c.loop-i-test.true)) c.loop-i.invariant.1 refl

@@ -1,6 +1,6 @@
-use Rattle.std.proofs.Common.{◌≡◌, ◌+◌, ◌*◌, ◌<◌, ℕ, length, slice_index}
+use Rattle.std.proofs.Common.{◌≡◌, ◌*◌, ◌<◌, ℕ, length, slice_index}
 use Rattle.reed_solomon.proofs.groups.starts_of.Given as goal
 
 abbrev pub invariant-loop-i : goal.invariant-loop-i
 invariant-loop-i l =
-    (length l.starts ≡ 256) × ((i : ℕ) → i < l.i → slice_index l.starts i ≡ slice_index l.places (l.first + i) * l.size)
+    (length l.starts ≡ 256) × ((i : ℕ) → i < l.i → slice_index l.starts i ≡ slice_index l.places i * l.size)

@@ -10,4 +10,4 @@ returns-clause-restored c =
     all_restored total c.args.size c.args.sample.now.count c.args.until c.args.present.now places c.args.shards.now _ c.requires.fit c.requires.chosen
     c.bytes_fit.ensures
     (missing_written total c.args.size c.args.sample.now.count c.args.until _ (slice_index places) c.args.present.now _ c.args.shards.now _
-    c.missing_places-count.ensures.missing c.write_shards.ensures)
+    c.missing_places-count.ensures.missing c.restore_shards.ensures)

@@ -1,11 +1,10 @@
-use Rattle.std.proofs.Common.{IsTrue, length}
-use Rattle.reed_solomon.proofs.Flags.{same_codewords}
+use Rattle.std.proofs.Common.{◌↔◌, ℕ, ◌+◌, ◌/◌, IsTrue, length, ◌∙◌, ap, subst}
+use Rattle.reed_solomon.specs.Shards.{AreCodewords}
 use Rattle.reed_solomon.proofs.codec.ReedSolomon.verify.Goals as goal
 
 pub returns-clause-answer : goal.returns-clause-answer
 returns-clause-answer c =
-    same_codewords c.args.self.now.data_shards c.args.self.now.parity_shards c.total_shard_count-total.result c.in_ok-size.size
-    (length c.args.shards.now) c.first_flags-flags.result c.of_present-sample.result.places c.of_present-sample.result.count
-    c.total_shard_count-total.ensures c.args.self.now.few c.first_flags-flags.ensures.long c.in_ok-size.ensures.size.0
-    c.first_flags-flags.ensures.present c.first_flags-flags.ensures.missing c.of_present-sample.ensures
-    (IsTrue c.matches.result) c.args.shards.now c.matches.ensures
+    let k = c.args.self.now.data_shards in
+    let m = c.args.self.now.parity_shards in
+    subst (λ (n : ℕ). IsTrue c.matches_parity.result ↔ AreCodewords k (k + m) n c.args.shards.now)
+    (c.in_ok-size.ensures.size.0 ∙ ap (λ (n : ℕ). length c.args.shards.now / n) c.total_shard_count-total.ensures) c.matches_parity.ensures

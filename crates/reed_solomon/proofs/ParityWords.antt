@@ -1,0 +1,172 @@
+-- Parity by the shards of data, whose places are 0, 1, .., k - 1.
+use Rattle.std.proofs.Common.{◌≡◌, ◌↔◌, inl, inr, ℕ, zero, suc, ◌+◌, ◌-◌, ◌*◌, ◌/◌, ◌^◌, ◌==◌, ◌<◌, ◌≤◌, ◌++◌, List, length, get_or, take, refl, sym, ◌∙◌, ap, ap₂, subst, arith, lit<}
+use Rattle.std.specs.Prelude.{if◌then◌else◌, bit_xor}
+use Rattle.std.proofs.lemmas.Bool.{cases_lt}
+use Rattle.std.proofs.lemmas.List.{get_or-append-add, get_or_append_left, get_or-take, length-take-le}
+use Rattle.std.proofs.lemmas.Nat.{mul-add-lt}
+use Rattle.std.proofs.Math.Nat.{mul_comm}
+use Rattle.field_base.specs.Basis.{product_below}
+use Rattle.field_base.specs.Powers.{power}
+use Rattle.field_laws.specs.Codewords.{IsCodeword}
+use Rattle.field_laws.specs.Interpolation.{lagrange, other_factors}
+use Rattle.field_laws.specs.PolynomialRoots.{AreDistinctBelow}
+use Rattle.field_laws.proofs.Codewords.{codeword_exists, codeword_is_unique}
+use Rattle.reed_solomon.specs.ErasureField.{erasure_product}
+use Rattle.reed_solomon.specs.Parity.{MatchesParity, parity_factor, parity_symbol}
+use Rattle.reed_solomon.specs.Samples.{symbol_at}
+use Rattle.reed_solomon.specs.Shards.{AreCodewords, IsEncoded, shard_byte}
+use Rattle.reed_solomon.specs.Tables.{HasRow, row_sum}
+use Rattle.reed_solomon.proofs.ByteTables.{erasure_field}
+use Rattle.reed_solomon.proofs.GroupWriting.{row_factors, row_symbol}
+
+-- ---- the places of the data
+
+-- they differ
+first_places : (k bound : ℕ) → k ≤ bound → AreDistinctBelow k bound (λ i. i)
+first_places k bound within =
+    record {
+      below = λ i inside. omega (arith, inside, within);
+      differ = λ i j i_below j_below same. same;
+    }
+
+-- and so do those of a list that has them
+pub listed_places : (k : ℕ) (places : List ℕ) → k ≤ 256 → ((j : ℕ) → j < k → get_or places j 0 ≡ j)
+    → AreDistinctBelow k (2 ^ 8) (λ i. get_or places i 0)
+listed_places k places fits are =
+    record {
+      below = λ i inside. subst (λ (p : ℕ). p < 2 ^ 8) (sym (are i inside)) (omega (arith, inside, fits));
+      differ = λ i j i_below j_below same. sym (are i i_below) ∙ same ∙ are j j_below;
+    }
+
+-- products of equal factors
+product_below-same : (n : ℕ) (f g : ℕ → ℕ) → ((i : ℕ) → i < n → f i ≡ g i) → product_below erasure_product f n ≡ product_below erasure_product g n
+unfolding product_below
+product_below-same zero f g same = refl
+product_below-same (suc n) f g same =
+    ap₂ erasure_product (product_below-same n f g (λ i below. same i (omega (arith, below)))) (same n (omega arith))
+
+-- Lagrange's factors read as many points as there are
+pub lagrange-same : (k own x : ℕ) (point other : ℕ → ℕ) → own < k → ((i : ℕ) → i < k → point i ≡ other i)
+    → lagrange 8 erasure_product point k own x ≡ lagrange 8 erasure_product other k own x
+lagrange-same k own x point other within same =
+    ap₂ (λ (a b : ℕ). erasure_product a (power 1 erasure_product b (2 ^ 8 - 2))) (factors x x refl) (factors (point own) (other own) (same own within))
+  where
+    factors : (a b : ℕ) → a ≡ b → other_factors erasure_product point own a k ≡ other_factors erasure_product other own b k
+    factors a b is =
+        product_below-same k (λ i. if i == own then 1 else bit_xor a (point i)) (λ i. if i == own then 1 else bit_xor b (other i))
+        (λ i below. ap (λ (z : ℕ). if i == own then 1 else z) (ap₂ bit_xor is (same i below)))
+
+-- tables of a sample of the data are those of its shards of parity
+pub parity_row : (k first count row : ℕ) (places points entries : List ℕ) → row < count → ((j : ℕ) → j < k → get_or places j 0 ≡ j)
+    → ((i : ℕ) → i < count → get_or points i 0 ≡ k + first + i)
+    → HasRow (λ j. lagrange 8 erasure_product (λ i. get_or places i 0) k j (get_or (take count points) row 0)) entries row k
+    → HasRow (parity_factor k (first + row)) entries row k
+parity_row k first count row places points entries within places_are points_are set =
+    row_factors (λ j. lagrange 8 erasure_product (λ i. get_or places i 0) k j (get_or (take count points) row 0)) (parity_factor k (first + row))
+    entries row k set
+    (λ j below.
+    lagrange-same k j (get_or (take count points) row 0) (λ i. get_or places i 0) (λ i. i) below places_are
+    ∙ ap (lagrange 8 erasure_product (λ i. i) k j) (get_or-take count points row 0 within ∙ points_are row within ∙ point))
+  where
+    point : k + first + row ≡ k + (first + row)
+    point = omega arith
+
+-- what row 0 of the tables gives is the symbol of its shard
+pub parity_sum : (k size count t : ℕ) (entries shards starts : List ℕ) → count ≡ k → k ≤ length starts
+    → ((j : ℕ) → j < k → get_or starts j 0 ≡ (0 + j) * size) → HasRow (parity_factor count (t + 0)) entries 0 count
+    → ((i : ℕ) → get_or shards i 0 < 256) → (column : ℕ)
+    → row_sum entries shards (take k starts) 0 column ≡ parity_symbol k size shards t column
+parity_sum k size count t entries shards starts counted long begun set bytes column =
+    row_symbol k size (λ i. i) entries shards (take k starts) 0 column (k + t) (length-take-le k starts long)
+    (λ j below. get_or-take k starts j 0 below ∙ begun j below ∙ ap (λ (n : ℕ). n * size) (same j))
+    (subst (λ (n : ℕ). HasRow (parity_factor n t) entries 0 n) counted
+    (subst (λ (n : ℕ). HasRow (parity_factor count n) entries 0 count) none set))
+    bytes
+  where
+    same : (j : ℕ) → 0 + j ≡ j
+    same j = omega arith
+
+    none : t + 0 ≡ t
+    none = omega arith
+
+-- ---- the codewords of the data
+
+module _ (k m size : ℕ) (source : List ℕ) (fits : k + m ≤ 256) (bytes : (i : ℕ) → get_or source i 0 < 256) where
+  -- the symbols that the data give are a codeword, and those of data are the data's
+  data_word : (column : ℕ) → IsCodeword erasure_product k (k + m) (symbol_at k size (λ i. i) source column)
+      × ((j : ℕ) → j < k → symbol_at k size (λ i. i) source column j ≡ shard_byte size source j column)
+  data_word column =
+      codeword_exists 8 erasure_product k (k + m) (λ i. i) (λ j. shard_byte size source j column) (lit< tt) erasure_field fits
+      (first_places k (k + m) (omega arith)) (λ j below. bytes (j * size + column))
+
+  -- shards that have those symbols are codewords
+  word_of : (shards : List ℕ) (column : ℕ) → ((j : ℕ) → j < k → shard_byte size shards j column ≡ shard_byte size source j column)
+      → ((t : ℕ) → t < m → shard_byte size shards (k + t) column ≡ parity_symbol k size source t column)
+      → IsCodeword erasure_product k (k + m) (λ i. shard_byte size shards i column)
+  word_of shards column front behind =
+      let given = data_word column in
+      record {
+        coefficients = given.0.coefficients;
+        count = given.0.count;
+        values = λ i below.
+            elim (cases_lt i k) [
+              | inl is_data ↦ front i is_data ∙ sym (given.1 i is_data)
+              | inr is_parity ↦ last i is_parity below
+            ]
+            ∙ given.0.values i below;
+      }
+    where
+      last : (i : ℕ) → k ≤ i → i < k + m → shard_byte size shards i column ≡ symbol_at k size (λ i. i) source column i
+      last i above below =
+          let is : k + (i - k) ≡ i = omega (arith, above) in
+          subst (λ (n : ℕ). shard_byte size shards n column ≡ symbol_at k size (λ i. i) source column n) is
+          (behind (i - k) (omega (arith, above, below)))
+
+  -- parity with those symbols behind the data is that of the data
+  pub parity_encoded : (before after : List ℕ) → length source ≡ k * size
+      → ((t column : ℕ) → t < m → column < size → get_or after (t * size + column) 0 ≡ parity_symbol k size source t column)
+      → IsEncoded k (k + m) size (source ++ before) (source ++ after)
+  parity_encoded before after long rows =
+      record {
+        keeps_data = λ i column below inside. front after i column below inside ∙ sym (front before i column below inside);
+        codewords = λ column inside.
+            word_of (source ++ after) column (λ j below. front after j column below inside)
+            (λ t below.
+            ap (λ (n : ℕ). get_or (source ++ after) n 0) (place t column)
+            ∙ get_or-append-add source after (t * size + column) 0 ∙ rows t column below inside);
+      }
+    where
+      front : (rest : List ℕ) (i column : ℕ) → i < k → column < size
+          → shard_byte size (source ++ rest) i column ≡ shard_byte size source i column
+      front rest i column below inside =
+          get_or_append_left source rest 0 (i * size + column)
+          (subst (λ (n : ℕ). i * size + column < n) (mul_comm size k ∙ sym long) (mul-add-lt i size column k below inside))
+
+      place : (r column : ℕ) → (k + r) * size + column ≡ length source + (r * size + column)
+      place r column = omega (arith, long)
+
+  -- all shards are codewords where those of parity have the symbols that the data give, and only there
+  pub matching_parity : MatchesParity k m size source ↔ AreCodewords k (k + m) size source
+  matching_parity = (
+    (λ matching column inside. word_of source column (λ j below. refl) (λ t below. matching t column below inside)),
+    λ words t column below inside.
+        let given = data_word column in
+        codeword_is_unique 8 erasure_product k (k + m) (λ i. i) (λ p. shard_byte size source p column) (symbol_at k size (λ i. i) source column)
+        (lit< tt) erasure_field fits (first_places k (k + m) (omega arith)) (words column inside) given.0
+        (λ j j_below. sym (given.1 j j_below)) (k + t) (omega (arith, below)),
+  )
+
+-- ---- all shards in one list
+
+-- the shards of parity behind those of data
+pub parity_room : (k m total size bytes back : ℕ) → total ≡ k + m → bytes ≡ total * size → back + k * size ≡ bytes → back ≡ m * size
+parity_room k m total size bytes back total_is whole split =
+    let all : bytes ≡ (k + m) * size = whole ∙ ap (λ (n : ℕ). n * size) total_is in
+    omega (arith, all, split)
+
+-- the data and their parity, of the size that the shards have
+pub all_encoded : (k m total size : ℕ) (old front back after : List ℕ) → total ≡ k + m → size ≡ length old / total → old ≡ front ++ back
+    → IsEncoded k (k + m) size (front ++ back) (front ++ after) → IsEncoded k (k + m) (length old / (k + m)) old (front ++ after)
+all_encoded k m total size old front back after total_is size_is split done =
+    subst (λ (n : ℕ). IsEncoded k (k + m) n old (front ++ after)) (size_is ∙ ap (λ (n : ℕ). length old / n) total_is)
+    (subst (λ (l : List ℕ). IsEncoded k (k + m) size l (front ++ after)) (sym split) done)

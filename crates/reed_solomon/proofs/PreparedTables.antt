@@ -1,0 +1,120 @@
+-- Tables of parity that are kept: four rows after four rows.
+use Rattle.std.proofs.Common.{◌≡◌, ◌≢◌, inl, inr, ℕ, ◌+◌, ◌-◌, ◌*◌, ◌/◌, ◌%◌, ◌<◌, ◌≤◌, ◌++◌, List, length, get_or, take, drop, min, sym, ◌∙◌, ap, subst, arith}
+use Rattle.std.proofs.Math.Nat.{mul-le-mul_left}
+use Rattle.std.proofs.lemmas.Bool.{cases_lt}
+use Rattle.std.proofs.lemmas.List.{get_or-append-add, get_or-drop, get_or-take, get_or_append_left, length-append, length-take-le}
+use Rattle.reed_solomon.specs.Parity.{HaveParityTables, parity_factor, parity_symbol}
+use Rattle.reed_solomon.specs.Tables.{AreWritten, HasRow, IsEntry}
+use Rattle.reed_solomon.proofs.GroupWriting.{rows_joined}
+
+-- how many of m rows come before group `group` of four
+abbrev pub rows_before : ℕ → ℕ → ℕ
+rows_before m group = min m (4 * group)
+
+-- the tables of the rows before a group
+pub record AreTablesBefore (k m group : ℕ) (tables : List ℕ) : Type 0 where
+  pub long : length tables ≡ 128 * k * group
+  pub rows : (t : ℕ) → t < rows_before m group → HasRow (parity_factor k t) (drop (128 * k * (t / 4)) tables) (t % 4) k
+
+-- a row reads the entries of its shards alone
+row-same : (factor : ℕ → ℕ) (entries other : List ℕ) (row k : ℕ) → row < 4
+    → ((i : ℕ) → i < 128 * k → get_or entries i 0 ≡ get_or other i 0) → HasRow factor entries row k → HasRow factor other row k
+row-same factor entries other row k few same set j n within inside =
+    subst (IsEntry (factor j) n) (same (128 * j + 32 * row + n) (omega (arith, few, within, inside))) (set j n within inside)
+
+-- the tables of a group are put behind those of the groups before it
+pub tables_more : (k m group count : ℕ) (tables entries part : List ℕ) → AreTablesBefore k m group tables → group < (m + 3) / 4
+    → part ≡ take (128 * k) entries → 128 * k ≤ length entries → count ≡ min (m - 4 * group) 4
+    → ((row : ℕ) → row < count → HasRow (parity_factor k (4 * group + row)) entries row k)
+    → AreTablesBefore k m (group + 1) (tables ++ part)
+tables_more k m group count tables entries part before within part_is room count_is set =
+    record {
+      long = longer;
+      rows = λ t below.
+          elim (cases_lt t (4 * group)) [
+            | inl early ↦ old t early
+            | inr late ↦ new t late below
+          ];
+    }
+  where
+    part_long : length part ≡ 128 * k
+    part_long = ap (λ (l : List ℕ). length l) part_is ∙ length-take-le (128 * k) entries room
+
+    longer : length (tables ++ part) ≡ 128 * k * (group + 1)
+    longer =
+        let both = length-append tables part in
+        let was = before.long in
+        omega (arith, both, was, part_long)
+
+    old : (t : ℕ) → t < 4 * group → HasRow (parity_factor k t) (drop (128 * k * (t / 4)) (tables ++ part)) (t % 4) k
+    old t early =
+        let inside : t / 4 + 1 ≤ group = omega (arith, early) in
+        let fits = mul-le-mul_left (128 * k) inside in
+        let was = before.long in
+        row-same (parity_factor k t) (drop (128 * k * (t / 4)) tables) (drop (128 * k * (t / 4)) (tables ++ part)) (t % 4) k (omega arith)
+        (λ i below.
+        get_or-drop (128 * k * (t / 4)) tables i 0
+        ∙ sym (get_or_append_left tables part 0 (128 * k * (t / 4) + i) (omega (arith, below, fits, was)))
+        ∙ sym (get_or-drop (128 * k * (t / 4)) (tables ++ part) i 0))
+        (before.rows t (omega (arith, early, within)))
+
+    new : (t : ℕ) → 4 * group ≤ t → t < rows_before m (group + 1) → HasRow (parity_factor k t) (drop (128 * k * (t / 4)) (tables ++ part)) (t % 4) k
+    new t late below =
+        let of_group : t / 4 ≡ group = omega (arith, late, below) in
+        let row_is : t - 4 * group ≡ t % 4 = omega (arith, late, below) in
+        let back : 4 * group + (t - 4 * group) ≡ t = omega (arith, late) in
+        let inside : t - 4 * group < count = omega (arith, late, below, count_is) in
+        row-same (parity_factor k t) entries (drop (128 * k * (t / 4)) (tables ++ part)) (t % 4) k (omega arith)
+        (λ i i_below.
+        sym (get_or-take (128 * k) entries i 0 i_below)
+        ∙ ap (λ (l : List ℕ). get_or l i 0) (sym part_is)
+        ∙ sym (get_or-append-add tables part i 0)
+        ∙ ap (λ (n : ℕ). get_or (tables ++ part) (n + i) 0) (before.long ∙ ap (λ (g : ℕ). 128 * k * g) (sym of_group))
+        ∙ sym (get_or-drop (128 * k * (t / 4)) (tables ++ part) i 0))
+        (subst (λ (n : ℕ). HasRow (parity_factor k n) entries (t % 4) k) back
+        (subst (λ (r : ℕ). HasRow (parity_factor k (4 * group + (t - 4 * group))) entries r k) row_is (set (t - 4 * group) inside)))
+
+-- after the last group there are all
+pub tables_whole : (k m group : ℕ) (tables : List ℕ) → AreTablesBefore k m group tables → group ≡ (m + 3) / 4 → HaveParityTables k m tables
+tables_whole k m group tables all end =
+    record {
+      long = all.long ∙ ap (λ (g : ℕ). 128 * k * g) end;
+      rows = λ t below. all.rows t (omega (arith, below, end));
+    }
+
+-- no group yet
+pub no_tables : (k m : ℕ) (tables : List ℕ) → length tables ≡ 0 → AreTablesBefore k m 0 tables
+no_tables k m tables none = record { long = omega (arith, none); rows = λ t below. absurd (omega (arith, below)) }
+
+-- ---- what the tables are used for
+
+module _ (k m group : ℕ) (tables : List ℕ) (all : HaveParityTables k m tables) (within : group < (m + 3) / 4) where
+  -- those of a group
+  pub tables_of : (row : ℕ) → row < 4 → 4 * group + row < m → HasRow (parity_factor k (4 * group + row)) (drop (128 * k * group) tables) row k
+  tables_of row few inside =
+      let of_group : (4 * group + row) / 4 ≡ group = omega (arith, few) in
+      let row_is : (4 * group + row) % 4 ≡ row = omega (arith, few) in
+      subst (λ (g : ℕ). HasRow (parity_factor k (4 * group + row)) (drop (128 * k * g) tables) row k) of_group
+      (subst (λ (r : ℕ). HasRow (parity_factor k (4 * group + row)) (drop (128 * k * ((4 * group + row) / 4)) tables) r k) row_is
+      (all.rows (4 * group + row) inside))
+
+  -- the tables of a group lie within all tables
+  pub tables_room : 128 * k * group + 128 * k ≤ length tables
+  tables_room =
+      let one_more : group + 1 ≤ (m + 3) / 4 = omega (arith, within) in
+      let fits = mul-le-mul_left (128 * k) one_more in
+      let long = all.long in
+      omega (arith, fits, long)
+
+-- a group of rows more
+pub groups_joined : (k m size group count : ℕ) (shards old mid now : List ℕ) → group < (m + 3) / 4
+    → count ≡ min (m - 4 * group) 4
+    → AreWritten (parity_symbol k size shards) (λ t. t * size) (rows_before m group) size old mid
+    → AreWritten (λ row column. parity_symbol k size shards (4 * group + row) column) (λ row. (4 * group + row) * size) count size mid now
+    → AreWritten (parity_symbol k size shards) (λ t. t * size) (rows_before m (group + 1)) size old now
+groups_joined k m size group count shards old mid now within count_is before more =
+    rows_joined (parity_symbol k size shards) (λ t. t) size m different (rows_before m group) (4 * group) count (rows_before m (group + 1)) old mid now
+    (omega (arith, within)) (omega (arith, within, count_is)) (omega (arith, within, count_is)) before more
+  where
+    different : (s t : ℕ) → s < t → t < m → t ≢ s
+    different s t less below e = absurd (omega (arith, less, e))

@@ -1,0 +1,124 @@
+-- Strips of columns: rows that are written apart from the shards, and then put where they belong.
+use Rattle.std.proofs.Common.{◌≡◌, ◌≢◌, ◌⊎◌, inl, inr, ℕ, ◌+◌, ◌-◌, ◌*◌, ◌<◌, ◌≤◌, ◌++◌, List, length, get_or, take, drop, refl, sym, ◌∙◌, ap, subst, arith}
+use Rattle.std.proofs.lemmas.List.{get_or-append-add, get_or_append_left, get_or-drop, get_or-take, length-append, length-drop, length-take-le}
+use Rattle.reed_solomon.specs.Tables.{AreApart, AreWritten, nibble_sum, row_sum}
+use Rattle.reed_solomon.proofs.GroupWriting.{apart_places}
+use Rattle.reed_solomon.proofs.RowWriting.{columns_written, row_written, still_read, written_by}
+use Rattle.reed_solomon.proofs.Writing.{sum_below-same}
+
+-- ---- a part of a list that is put in the place of as many entries
+
+-- xs with the entries ys in the place of `width` ones from `start` on
+abbrev pub put_part : ℕ → ℕ → List ℕ → List ℕ → List ℕ
+put_part start width xs ys = take start xs ++ (ys ++ drop width (drop start xs))
+
+-- a part of a list, and its entries
+pub part_length : (from gap n : ℕ) (xs : List ℕ) → gap ≡ n → from + n ≤ length xs → length (take gap (drop from xs)) ≡ n
+part_length from gap n xs same room =
+    let rest = length-drop from xs in
+    length-take-le gap (drop from xs) (omega (arith, same, room, rest)) ∙ same
+
+pub part_at : (from gap n i : ℕ) (xs : List ℕ) → gap ≡ n → i < n → get_or (take gap (drop from xs)) i 0 ≡ get_or xs (from + i) 0
+part_at from gap n i xs same below = get_or-take gap (drop from xs) i 0 (omega (arith, same, below)) ∙ get_or-drop from xs i 0
+
+module _ (start width : ℕ) (xs ys : List ℕ) (room : start + width ≤ length xs) (long : length ys ≡ width) where
+  taken : length (take start xs) ≡ start
+  taken = length-take-le start xs (omega (arith, room))
+
+  pub put_part-length : length (put_part start width xs ys) ≡ length xs
+  put_part-length =
+      let whole = length-append (take start xs) (ys ++ drop width (drop start xs)) in
+      let behind = length-append ys (drop width (drop start xs)) in
+      let rest = length-drop width (drop start xs) in
+      let from = length-drop start xs in
+      omega (arith, whole, behind, rest, from, taken, room, long)
+
+  pub put_part-at : (c : ℕ) → c < width → get_or (put_part start width xs ys) (start + c) 0 ≡ get_or ys c 0
+  put_part-at c inside =
+      ap (λ (n : ℕ). get_or (put_part start width xs ys) (n + c) 0) (sym taken)
+      ∙ get_or-append-add (take start xs) (ys ++ drop width (drop start xs)) c 0
+      ∙ get_or_append_left ys (drop width (drop start xs)) 0 c (omega (arith, inside, long))
+
+  pub put_part-others : (i : ℕ) → (i < start) ⊎ (start + width ≤ i) → get_or (put_part start width xs ys) i 0 ≡ get_or xs i 0
+  put_part-others i outside =
+      elim outside [
+        | inl low ↦ get_or_append_left (take start xs) (ys ++ drop width (drop start xs)) 0 i (omega (arith, low, taken)) ∙ get_or-take start xs i 0 low
+        | inr high ↦ above high
+      ]
+    where
+      above : start + width ≤ i → get_or (put_part start width xs ys) i 0 ≡ get_or xs i 0
+      above high =
+          let far : i ≡ length (take start xs) + (length ys + (i - start - width)) = omega (arith, high, taken, long) in
+          let back : start + (width + (i - start - width)) ≡ i = omega (arith, high) in
+          ap (λ (n : ℕ). get_or (put_part start width xs ys) n 0) far
+          ∙ get_or-append-add (take start xs) (ys ++ drop width (drop start xs)) (length ys + (i - start - width)) 0
+          ∙ get_or-append-add ys (drop width (drop start xs)) (i - start - width) 0
+          ∙ get_or-drop width (drop start xs) (i - start - width) 0
+          ∙ get_or-drop start xs (width + (i - start - width)) 0
+          ∙ ap (λ (n : ℕ). get_or xs n 0) back
+
+-- ---- rows of a strip
+
+-- one row of a strip is put into its shard
+pub strip_row : (size column width row : ℕ) (target : ℕ → ℕ) (strip part old now : List ℕ) (rows start gap from cut : ℕ) → row < rows
+    → column + width ≤ size
+    → AreWritten (λ r c. get_or strip (1024 * r + c) 0) (λ r. target r * size + column) row width old now
+    → start ≡ target row * size + column → start + width ≤ length now → gap ≡ width → part ≡ take cut (drop from strip)
+    → from ≡ 1024 * row → cut ≡ width → from + width ≤ length strip
+    → ((r other : ℕ) → other < r → r < rows → target r ≢ target other)
+    → AreWritten (λ r c. get_or strip (1024 * r + c) 0) (λ r. target r * size + column) (row + 1) width old (put_part start gap now part)
+strip_row size column width row target strip part old now rows start gap from cut within fits before is room gap_is part_is from_is cut_is inside_strip
+    distinct =
+    subst (λ (n : ℕ). AreWritten (λ r c. get_or strip (1024 * r + c) 0) (λ r. target r * size + column) (row + 1) width old (put_part start n now part))
+    (sym gap_is)
+    (row_written (λ r c. get_or strip (1024 * r + c) 0) (λ r. target r * size + column) row width old now (put_part start width now part) before
+    (put_part-length start width now part room long)
+    (λ c inside.
+    ap (λ (n : ℕ). get_or (put_part start width now part) (n + c) 0) (sym is) ∙ put_part-at start width now part room long c inside ∙ value c inside)
+    (λ i outside. put_part-others start width now part room long i (subst (λ (p : ℕ). (i < p) ⊎ (p + width ≤ i)) (sym is) outside))
+    (λ other less. inner (target row) (target other) (apart_places size (target row) (target other) (distinct row other less within))))
+  where
+    long : length part ≡ width
+    long = ap (λ (l : List ℕ). length l) part_is ∙ part_length from cut width strip cut_is inside_strip
+
+    value : (c : ℕ) → c < width → get_or part c 0 ≡ get_or strip (1024 * row + c) 0
+    value c inside =
+        ap (λ (l : List ℕ). get_or l c 0) part_is ∙ part_at from cut width c strip cut_is inside
+        ∙ ap (λ (n : ℕ). get_or strip (n + c) 0) from_is
+
+    inner : (a b : ℕ) → AreApart size (a * size) (b * size) → AreApart width (a * size + column) (b * size + column)
+    inner a b apart = elim apart [ inl low ↦ inl (omega (arith, low, fits)) | inr high ↦ inr (omega (arith, high, fits)) ]
+
+-- a sum of a row past the first columns
+row_sum-drop : (entries shards starts : List ℕ) (row columns c : ℕ)
+    → row_sum entries (drop columns shards) starts row c ≡ row_sum entries shards starts row (columns + c)
+row_sum-drop entries shards starts row columns c =
+    sum_below-same (length starts) (λ j. nibble_sum entries (128 * j + 32 * row) (get_or (drop columns shards) (get_or starts j 0 + c) 0))
+    (λ j. nibble_sum entries (128 * j + 32 * row) (get_or shards (get_or starts j 0 + (columns + c)) 0))
+    (λ j below.
+    ap (nibble_sum entries (128 * j + 32 * row))
+    (get_or-drop columns shards (get_or starts j 0 + c) 0 ∙ ap (λ (n : ℕ). get_or shards n 0) (place (get_or starts j 0))))
+  where
+    place : (start : ℕ) → columns + (start + c) ≡ start + (columns + c)
+    place start = omega arith
+
+-- a strip more: its rows are what the tables give in the shards, of which those that are read are as they were
+pub strip_written : (entries starts strip spots : List ℕ) (target : ℕ → ℕ) (rows columns width size : ℕ) (old mid now : List ℕ)
+    → AreWritten (row_sum entries old starts) (λ r. target r * size) rows columns old mid
+    → ((row c : ℕ) → row < rows → c < width → get_or strip (get_or spots row 0 + c) 0 ≡ row_sum entries (drop columns mid) starts row c)
+    → ((row : ℕ) → row < rows → get_or spots row 0 ≡ 1024 * row)
+    → AreWritten (λ r c. get_or strip (1024 * r + c) 0) (λ r. target r * size + columns) rows width mid now → columns + width ≤ size
+    → ((r other : ℕ) → other < r → r < rows → target r ≢ target other)
+    → ((j r : ℕ) → j < length starts → r < rows → AreApart size (get_or starts j 0) (target r * size))
+    → AreWritten (row_sum entries old starts) (λ r. target r * size) rows (columns + width) old now
+strip_written entries starts strip spots target rows columns width size old mid now before sums spots_are more fits distinct read =
+    columns_written (row_sum entries old starts) (λ r. target r * size) rows columns width (columns + width) size old mid now before
+    (written_by (λ r c. get_or strip (1024 * r + c) 0) (λ r c. row_sum entries old starts r (columns + c)) (λ r. target r * size + columns) rows width mid now
+    more
+    (λ row c within inside.
+    ap (λ (p : ℕ). get_or strip (p + c) 0) (sym (spots_are row within)) ∙ sums row c within inside
+    ∙ row_sum-drop entries mid starts row columns c
+    ∙ still_read (row_sum entries old starts) entries starts (λ r. target r * size) rows columns size old mid before (omega (arith, fits)) read row
+    (columns + c) (omega (arith, fits, inside))))
+    refl fits
+    (λ row other less within. apart_places size (target row) (target other) (distinct row other less within))

@@ -1,5 +1,0 @@
-use Rattle.std.proofs.Common.{◌≡◌, ◌+◌, ◌*◌, ◌<◌, ℕ, length, slice_index}
-use Rattle.reed_solomon.proofs.groups.rows_from.Given as goal
-
-abbrev pub invariant-loop-i : goal.invariant-loop-i
-invariant-loop-i l = (length l.starts ≡ 256) × ((i : ℕ) → i < l.i → slice_index l.starts i ≡ (l.first + i) * l.size)

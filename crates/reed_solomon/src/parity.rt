@@ -1,0 +1,97 @@
+// Parity that is computed from the shards of data, which are the sample of the first places.
+ghost use Rattle.std.specs.Prelude.{◌≡◌, ◌+◌, ◌*◌, ◌<◌, ◌≤◌, ◌↔◌, ◌++◌, ℕ, length, slice_index, IsTrue};
+ghost use Rattle.reed_solomon.specs.Parity.{parity_factor, parity_symbol};
+ghost use Rattle.reed_solomon.specs.Shards.{AreCodewords, IsEncoded};
+ghost use Rattle.reed_solomon.specs.Tables.{AreWritten, HasRow};
+
+use crate::blocks::{matches_row, write_group};
+use crate::groups::{bytes_fit, group_size, set_rows, starts_from};
+use crate::sample::{Sample, places_from};
+use crate::tables::RowTables;
+
+// Sets the tables of up to four rows: those of the shards of parity from shard `first` of them on.
+pub(crate) fn set_parity_rows(entries: &mut [u8], sample: &Sample, first: usize, count: usize)
+    requires rows { count ≤ 4 }
+    requires points { sample.now.count + first + count ≤ 256 }
+    requires room { 128 * sample.now.count ≤ length entries.old }
+    requires of_data { (j : ℕ) → j < sample.now.count → slice_index sample.now.places j ≡ j }
+    ensures set { (row : ℕ) → row < count → HasRow (parity_factor sample.now.count (first + row)) entries.new row sample.now.count }
+    ensures long { length entries.new ≡ length entries.old }
+{
+    let points = places_from(sample.count + first, count);
+    set_rows(entries, sample, &points[..count]);
+}
+
+// Writes up to four shards of parity by their tables, from shard `first` of them on.
+pub(crate) fn write_parity_group(
+    shards: &[u8],
+    size: usize,
+    starts: &[usize],
+    entries: &[u8],
+    parity: &mut [u8],
+    first: usize,
+    count: usize,
+)
+    requires few { length starts.now ≤ 256 }
+    requires rows { count ≤ 4 }
+    requires listed { first + count ≤ 256 }
+    requires room { (row : ℕ) → row < count → (first + row) * size + size ≤ length parity.old }
+    requires inside { (j : ℕ) → j < length starts.now → j * size + size ≤ length shards.now }
+    requires begun { (j : ℕ) → j < length starts.now → slice_index starts.now j ≡ j * size }
+    requires tables { 128 * length starts.now ≤ length entries.now }
+    requires set { (row : ℕ) → row < count → HasRow (parity_factor (length starts.now) (first + row)) entries.now row (length starts.now) }
+    ensures { AreWritten (λ row column. parity_symbol (length starts.now) size shards.now (first + row) column)
+        (λ row. (first + row) * size) count size parity.old parity.new }
+{
+    bytes_fit(shards);
+    let rows = starts_from(first, count, size);
+    write_group(shards, size, starts, entries, parity, &rows[..count]);
+}
+
+// Writes m shards of parity behind one another, from k shards of data.
+pub(crate) fn write_parity(shards: &[u8], size: usize, k: usize, parity: &mut [u8], m: usize)
+    requires points { k + m ≤ 256 }
+    requires whole { length shards.now ≡ k * size }
+    requires room { length parity.old ≡ m * size }
+    ensures long { length parity.new ≡ length parity.old }
+    ensures encoded { IsEncoded k (k + m) size (shards.now ++ parity.old) (shards.now ++ parity.new) }
+{
+    bytes_fit(shards);
+    let sample = Sample::of_first(k);
+    let starts = starts_from(0, k, size);
+    let mut tables = RowTables::empty();
+    let mut done = 0;
+    while done < m {
+        let count = group_size(m - done);
+        set_parity_rows(&mut tables.entries, &sample, done, count);
+        write_parity_group(
+            shards,
+            size,
+            &starts[..k],
+            &tables.entries,
+            parity,
+            done,
+            count,
+        );
+        done += count;
+    }
+}
+
+// Whether m shards of parity are those of the k shards of data before them.
+pub(crate) fn matches_parity(shards: &[u8], size: usize, k: usize, m: usize) -> bool
+    requires points { k + m ≤ 256 }
+    requires whole { length shards.now ≡ (k + m) * size }
+    ensures { IsTrue result ↔ AreCodewords k (k + m) size shards.now }
+{
+    bytes_fit(shards);
+    let sample = Sample::of_first(k);
+    let starts = starts_from(0, k, size);
+    let mut tables = RowTables::empty();
+    for t in 0..m {
+        set_parity_rows(&mut tables.entries, &sample, t, 1);
+        if !matches_row(shards, size, &starts[..k], &tables.entries, (k + t) * size) {
+            return false;
+        }
+    }
+    true
+}
