@@ -8,12 +8,13 @@ ghost use Rattle.calculator.specs.Text.{answer_bytes, text_of};
 
 use crate::calculation::answer_to_rest;
 use crate::names::Fault;
-use crate::operand::CubicField;
 use crate::text::Answer;
 use crate::words::next_word;
 use field_base::Unsigned;
 use word_cubic::Triple;
-use word_polynomial::{GhashModulus, Modulus, Poly64Modulus, Polynomials, RijndaelModulus};
+use word_polynomial::{
+    CubicKernel, GhashModulus, Modulus, Poly64Modulus, Polynomials, RijndaelModulus,
+};
 use word_tower::{Bits1, Bits2, Bits4, Bits8, Bits16, Bits32, Bits64, Bits128, Level, Tower};
 
 /// The answer to a line: the result of its operation as hexadecimal text, `none` for the inverse of 0, or `error` and
@@ -62,7 +63,7 @@ fn in_field_named(name: &[u8], rest: &[u8]) -> Result<Answer, Fault>
         b"r8" => modulo::<u8, Bits8, RijndaelModulus>(rest),
         b"p64" => modulo::<u64, Bits64, Poly64Modulus>(rest),
         b"g128" => modulo::<u128, Bits128, GhashModulus>(rest),
-        b"p192" => answer_to_rest::<Triple, CubicField>(rest),
+        b"p192" => answer_to_rest::<Triple, CubicKernel>(rest),
         _ => Err(Fault::Field),
     }
 }

@@ -6,12 +6,12 @@ ghost use Rattle.field_base.specs.Remainder.{mul_mod, poly64_modulus};
 ghost use Rattle.word_cubic.specs.Cubic.{cubic};
 ghost use Rattle.field_element.specs.Element.{repr_of};
 
-use crate::element::{Coefficients, CubicKernel, Element};
+use crate::element::{Coefficients, Element};
 use crate::names::{Poly64, Poly192};
 use field_base::traits::{Algebra, TowerLevel};
 use field_base::{Contains, FieldKernel};
 use std::ops::{Div, DivAssign};
-use word_polynomial::Poly64Kernel;
+use word_polynomial::{CubicKernel, Poly64Kernel};
 
 impl Poly192 {
     /// The element c0 + c1 y + c2 y² of the coefficients [c0, c1, c2].

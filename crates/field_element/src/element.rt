@@ -13,7 +13,6 @@ mod stored;
 mod texts;
 
 pub use crate::element::coefficients::Coefficients;
-pub use crate::element::cubic_word::CubicKernel;
 pub use crate::element::lanes::HasPacking;
 pub use crate::element::stored::{element_of_word, word_of};
 use field_base::{FieldKernel, Gf2, Stored};

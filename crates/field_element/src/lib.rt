@@ -14,9 +14,7 @@ mod polynomial_words;
 mod subfields;
 mod tower;
 
-pub use crate::element::{
-    Coefficients, CubicKernel, Element, HasPacking, element_of_word, word_of,
-};
+pub use crate::element::{Coefficients, Element, HasPacking, element_of_word, word_of};
 pub use crate::linear_map::LEAST_TABLED;
 pub use crate::names::{
     BinaryField2, BinaryField4, BinaryField8, BinaryField16, BinaryField32, BinaryField64,

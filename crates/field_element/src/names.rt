@@ -1,10 +1,10 @@
 // The fields by their names.
-use crate::element::{Coefficients, CubicKernel, Element, HasPacking};
+use crate::element::{Coefficients, Element, HasPacking};
 use crate::packings::multiply_bytes;
 use field_base::Unsigned;
 use packed_lanes::Packed;
 use word_carryless::multiply_mod_128_twice;
-use word_polynomial::{GhashKernel, Poly64Kernel, RijndaelKernel};
+use word_polynomial::{CubicKernel, GhashKernel, Poly64Kernel, RijndaelKernel};
 use word_tower::{Bits2, Bits4, Bits8, Bits16, Bits32, Bits64, Bits128, Level, Tower};
 
 /// An element of GF(2^2), level 1 of Wiedemann's tower. Its representation is `low + high * 2` for the element

@@ -10,9 +10,9 @@ ghost use Rattle.word_cubic.specs.Triple.{triple_number};
 ghost use Rattle.field_space.specs.OneCoefficientLemmas.{scales_one_coefficient};
 
 use field_base::{FieldKernel, Stored};
-use field_element::{Coefficients, CubicKernel};
+use field_element::Coefficients;
 use word_cubic::Triple;
-use word_polynomial::Poly64Kernel;
+use word_polynomial::{CubicKernel, Poly64Kernel};
 
 /// A field `Self`, stored in `R`, whose elements are vectors over the field `J`, stored in `S`: coefficient i of an element is
 /// chunk i of its number, of as many bits as an element of `J` has, the lowest first. Every field is a space of dimension 1 over

@@ -1,18 +1,14 @@
 -- The cubic extension of a ring of w-bit elements by a root y of y³ + y + 1 is a ring of elements of three times the width.
-use Rattle.std.proofs.Common.{◌≡◌, ℕ, zero, suc, ◌+◌, ◌*◌, ◌/◌, ◌%◌, ◌^◌, ◌<◌, refl, sym, ◌∙◌, ap, ap₂, subst, arith, [], ◌∷◌}
+use Rattle.std.proofs.Common.{◌≡◌, ℕ, zero, suc, ◌+◌, ◌*◌, ◌/◌, ◌%◌, ◌^◌, ◌<◌, refl, sym, ◌∙◌, ap, ap₂, subst, arith}
 use Rattle.std.specs.Prelude.{bit_xor}
-use Rattle.std.proofs.lemmas.Nat.{xor_comm, xor_lt, xor_shr, xor_mod, mod-pow-add, shr_high, shr-shr, pow-add, pow_pos, pow_below}
-use native.Mathlib.Nat.{mod-lt, mul-zero, mul-one, div-one}
-use lib.Arith.{digits_lt}
+use Rattle.std.proofs.lemmas.Nat.{xor_comm, xor_lt, xor_shr, xor_mod, pow_pos, pow_below}
 use lib.Bits.{xor_assoc, xor_self, xor_zero_r}
 use Rattle.field_base.specs.Basis.{sum_below}
 use Rattle.word_cubic.specs.Cubic.{CubicIsRing, cubic, triple}
-use Rattle.field_base.specs.Quadratic.{pair}
 use Rattle.field_base.specs.Ring.{IsRing}
-use Rattle.field_base.specs.Chunks.{chunk, chunks}
+use Rattle.field_base.specs.Chunks.{chunk}
+use Rattle.word_cubic.specs.TripleLemmas.{same₃, chunk_below, first-triple, second-triple, third-triple, triple-lt, triple-low, triple_sum, three_sums, triple-chunks}
 use Rattle.field_base.proofs.PowerLemmas.{one-times}
-use Rattle.field_base.proofs.QuadraticProducts.{pair-low}
-use Rattle.field_base.proofs.QuadraticRing.{high_half-pair, low_half-pair, pair-halves, pair-lt, pair_xor}
 use Rattle.field_base.proofs.RingLemmas.{sum_times, times-zero, xor_cancel, xor_left_comm, zero-times}
 
 -- terms of a sum in any order, of which two equal ones leave nothing
@@ -20,91 +16,10 @@ pub ruleset sums = (xor_assoc, xor_comm, xor_left_comm, xor_self, xor_cancel, xo
 
 -- ---- coefficients
 
--- a function of three numbers has one value at equal numbers
-pub same₃ : (f : ℕ → ℕ → ℕ → ℕ) → {x x' y y' z z' : ℕ} → x ≡ x' → y ≡ y' → z ≡ z' → f x y z ≡ f x' y' z'
-same₃ f ex ey ez = λ i. f (ex i) (ey i) (ez i)
-
--- chunk 0 is the low w bits
-chunk-first : (width a : ℕ) → chunk width 0 a ≡ a % 2 ^ width
-chunk-first width a =
-    ap (λ (k : ℕ). a / 2 ^ k % 2 ^ width) (mul-zero width) ∙ ap (λ (x : ℕ). x % 2 ^ width) (div-one a)
-
--- chunk 1 is the next w bits
-chunk-second : (width a : ℕ) → chunk width 1 a ≡ a / 2 ^ width % 2 ^ width
-chunk-second width a = ap (λ (k : ℕ). a / 2 ^ k % 2 ^ width) (mul-one width)
-
--- chunk 2 is the w bits after these
-chunk-third : (width a : ℕ) → chunk width 2 a ≡ a / 2 ^ width / 2 ^ width % 2 ^ width
-chunk-third width a =
-    let bits : width * 2 ≡ width + width = omega arith in
-    ap (λ (k : ℕ). a / 2 ^ k % 2 ^ width) bits ∙ ap (λ (x : ℕ). x % 2 ^ width) (sym (shr-shr a width width))
-
--- a chunk has w bits
-pub chunk_below : (width i a : ℕ) → chunk width i a < 2 ^ width
-chunk_below width i a = mod-lt (a / 2 ^ (width * i)) (pow_pos width)
-
 -- a chunk of a sum is the sum of the chunks
 pub chunk_xor : (width i a b : ℕ) → chunk width i (bit_xor a b) ≡ bit_xor (chunk width i a) (chunk width i b)
 chunk_xor width i a b =
     ap (λ (x : ℕ). x % 2 ^ width) (xor_shr a b (width * i)) ∙ xor_mod (a / 2 ^ (width * i)) (b / 2 ^ (width * i)) width
-
--- chunk 0 of x + y Y + z Y² is x
-pub first-triple : (width x y z : ℕ) → x < 2 ^ width → chunk width 0 (triple width x y z) ≡ x
-first-triple width x y z x_fits = chunk-first width (triple width x y z) ∙ low_half-pair width x (pair width y z) x_fits
-
--- chunk 1 is y
-pub second-triple : (width x y z : ℕ) → x < 2 ^ width → y < 2 ^ width → chunk width 1 (triple width x y z) ≡ y
-second-triple width x y z x_fits y_fits =
-    chunk-second width (triple width x y z)
-    ∙ ap (λ (r : ℕ). r % 2 ^ width) (shr_high (pair width y z) width x x_fits) ∙ low_half-pair width y z y_fits
-
--- chunk 2 is z
-pub third-triple : (width x y z : ℕ) → x < 2 ^ width → y < 2 ^ width → z < 2 ^ width → chunk width 2 (triple width x y z) ≡ z
-third-triple width x y z x_fits y_fits z_fits =
-    chunk-third width (triple width x y z)
-    ∙ ap (λ (r : ℕ). r / 2 ^ width % 2 ^ width) (shr_high (pair width y z) width x x_fits)
-    ∙ high_half-pair width y z y_fits z_fits
-
--- the list of its coefficients
-pub chunks-triple : (width x y z : ℕ) → x < 2 ^ width → y < 2 ^ width → z < 2 ^ width
-    → chunks width 3 (triple width x y z) ≡ x ∷ y ∷ z ∷ []
-unfolding chunks
-chunks-triple width x y z x_fits y_fits z_fits =
-    λ i. first-triple width x y z x_fits i ∷ second-triple width x y z x_fits y_fits i
-    ∷ third-triple width x y z x_fits y_fits z_fits i ∷ []
-
--- the coefficients of a number are those of its low bits
-pub triple-chunks : (width a : ℕ) → triple width (chunk width 0 a) (chunk width 1 a) (chunk width 2 a) ≡ a % 2 ^ (width + width + width)
-triple-chunks width a =
-    same₃ (triple width) (chunk-first width a) (chunk-second width a) (chunk-third width a)
-    ∙ ap (pair width (a % 2 ^ width)) (pair-halves width (a / 2 ^ width)) ∙ sym (mod-pow-add a (width + width) width)
-
--- three numbers of w bits are a number of 3 w bits
-pub triple-lt : (width x y z : ℕ) → x < 2 ^ width → y < 2 ^ width → z < 2 ^ width → triple width x y z < 2 ^ (width + width + width)
-triple-lt width x y z x_fits y_fits z_fits =
-    subst (λ (n : ℕ). triple width x y z < n) (sym (pow-add 2 (width + width) width))
-    (digits_lt (pair-lt width y z y_fits z_fits) x_fits)
-
--- an element of the ring below
-pub triple-low : (width x : ℕ) → triple width x 0 0 ≡ x
-triple-low width x = ap (pair width x) (pair-low width 0) ∙ pair-low width x
-
--- triples are added coefficient by coefficient
-pub triple_sum : (width x y z x' y' z' : ℕ) → x < 2 ^ width → x' < 2 ^ width → y < 2 ^ width → y' < 2 ^ width
-    → bit_xor (triple width x y z) (triple width x' y' z') ≡ triple width (bit_xor x x') (bit_xor y y') (bit_xor z z')
-triple_sum width x y z x' y' z' x_fits x'_fits y_fits y'_fits =
-    sym (ap (pair width (bit_xor x x')) (pair_xor width y z y' z' y_fits y'_fits)
-    ∙ pair_xor width x (pair width y z) x' (pair width y' z') x_fits x'_fits)
-
--- so are three triples
-three_sums : (width x y z x' y' z' x'' y'' z'' : ℕ) → x < 2 ^ width → x' < 2 ^ width → x'' < 2 ^ width
-    → y < 2 ^ width → y' < 2 ^ width → y'' < 2 ^ width
-    → bit_xor (bit_xor (bit_xor 0 (triple width x y z)) (triple width x' y' z')) (triple width x'' y'' z'')
-    ≡ triple width (bit_xor (bit_xor x x') x'') (bit_xor (bit_xor y y') y'') (bit_xor (bit_xor z z') z'')
-three_sums width x y z x' y' z' x'' y'' z'' x_fits x'_fits x''_fits y_fits y'_fits y''_fits =
-    ap (λ (s : ℕ). bit_xor s (triple width x'' y'' z'')) (triple_sum width x y z x' y' z' x_fits x'_fits y_fits y'_fits)
-    ∙ triple_sum width (bit_xor x x') (bit_xor y y') (bit_xor z z') x'' y'' z'' (xor_lt width x x' x_fits x'_fits) x''_fits
-    (xor_lt width y y' y_fits y'_fits) y''_fits
 
 module _ (width : ℕ) (times : ℕ → ℕ → ℕ) (ring : IsRing width 1 times) where
   -- ---- the coefficients of a product

@@ -1,23 +1,16 @@
--- The cubic extension of GF(2^64): it is a field, three words store each of its elements, and 5 + 3 y + y² is an element.
-use Rattle.std.specs.Prelude.{◌≢◌, ◌≤◌, ◌^◌, ◌<◌, refl}
+-- The cubic extension of GF(2^64): it is a field, and 5 + 3 y + y² is an element.
+use Rattle.std.specs.Prelude.{◌≢◌, ◌≤◌, ◌<◌, refl}
 use Rattle.std.proofs.Common.{arith, lit<}
 use Rattle.word_cubic.specs.Cubic.{cubic, triple}
 use Rattle.field_base.specs.Field.{IsField}
 use Rattle.field_base.specs.Orders.{HasFullOrder}
 use Rattle.field_base.specs.Remainder.{mul_mod, poly64_modulus}
 use Rattle.word_cubic.proofs.CubicField.{cubic_is_field}
-use Rattle.word_cubic.proofs.CubicRing.{triple-lt}
 use Rattle.word_tables.proofs.Isomorphisms.{field_64}
-use Rattle.word_cubic.specs.Triple.{triple_number}
-use Rattle.word_cubic.specs.declared.triple.Triple.{Triple}
 
 -- the cubic extension of GF(2^64) is a field, since 64 leaves 1 modulo 3
 pub field_192 : IsField 192 (cubic 64 (mul_mod 64 poly64_modulus))
 field_192 = cubic_is_field 64 (mul_mod 64 poly64_modulus) field_64 (lit< tt) refl
-
--- three words are an element of 192 bits
-pub fits_192 : (x : Triple) → triple_number x < 2 ^ 192
-fits_192 x = triple-lt 64 x.c0 x.c1 x.c2 x.in_range.first x.in_range.second x.in_range.third
 
 -- 5 + 3 y + y² is not 0
 pub generator_nonzero_192 : triple 64 5 3 1 ≢ 0

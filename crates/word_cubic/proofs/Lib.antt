@@ -2,4 +2,3 @@ pub mod CubicField
 pub mod CubicRing
 pub mod Field192
 pub mod Products
-pub mod TripleNumbers

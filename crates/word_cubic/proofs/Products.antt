@@ -6,7 +6,8 @@ use lib.Bits.{xor_assoc, xor_self, xor_zero_r}
 use Rattle.word_cubic.specs.Cubic.{cubic, triple}
 use Rattle.field_base.specs.Ring.{IsRing}
 use Rattle.word_cubic.proofs.CubicField.{adjugate_0, adjugate_1, adjugate_2, cubic-square}
-use Rattle.word_cubic.proofs.CubicRing.{cubic-triples, same₃}
+use Rattle.word_cubic.proofs.CubicRing.{cubic-triples}
+use Rattle.word_cubic.specs.TripleLemmas.{same₃}
 use Rattle.field_base.proofs.RingLemmas.{sum_times, times-zero, xor_cancel, xor_left_comm}
 
 module _ (width : ℕ) (times : ℕ → ℕ → ℕ) (ring : IsRing width 1 times) where

@@ -1,3 +1,4 @@
 pub mod Cubic
 pub mod Fits
 pub mod Triple
+pub mod TripleLemmas

@@ -8,7 +8,9 @@ mod laws;
 mod reading;
 mod texts;
 mod triple;
+mod words;
 
 pub use crate::cubic::{invert_192, multiply_192, reduce_squarings_192, sqrt_192, square_192};
 pub use crate::laws::cubic_is_field;
 pub use crate::triple::Triple;
+pub use crate::words::HoldsTriple;

@@ -3,12 +3,14 @@
 #![tactic(auto)]
 
 mod byte_lanes;
+mod cubic;
 mod moduli;
 mod modulus;
 mod polynomials;
 mod subfields;
 
 pub use crate::byte_lanes::{multiply_16_bytes, multiply_32_bytes};
+pub use crate::cubic::CubicKernel;
 pub use crate::moduli::{
     GhashKernel, GhashModulus, Poly64Kernel, Poly64Modulus, RijndaelKernel, RijndaelModulus,
 };

@@ -2,12 +2,12 @@
 // from 0 to 257: each growth is refused in turn, nothing is left behind, and the call succeeds where there is memory.
 use field_base::traits::PrimeCharacteristicRing;
 use field_base::{FieldKernel, Gf2, Stored};
-use field_element::{Coefficients, CubicKernel, Element};
+use field_element::{Coefficients, Element};
 use linked_list_allocator::LocalHeap;
 use std::alloc::{AllocError, Global};
 use std::marker::PhantomData;
 use test_support::{Ending, Growing, Rest, is_refused_in_turn};
-use word_polynomial::GhashKernel;
+use word_polynomial::{CubicKernel, GhashKernel};
 
 /// Whether all of the elements are 0.
 fn are_zeros<R: PrimeCharacteristicRing>(elements: &[R]) -> bool {

@@ -13,20 +13,20 @@ by_answer repr (Some y) want none some = some y refl
 
 pub returns-in-Inv : goal.returns-in-Inv
 returns-in-Inv g c =
-    let field = g.F.Written in
-    let laws = g.met.F.Written in
-    let answered = c.invert.ensures in
-    let x = field.number c.args.operand in
-    rw c.in-Inv.is (by_answer field.number c.invert.result _
-    (λ none. inverse-none field.width field.product laws.field_law laws.wide_law x ((rw none at answered.none).0 refl))
-    (λ y some. inverse-some field.width field.product laws.field_law laws.wide_law x (field.number y) (field.number y)
+    let field = g.K.FieldKernel in
+    let number = g.R.Stored.number in
+    let answered = c.inverse_of.ensures in
+    let x = number c.args.operand in
+    rw c.in-Inv.is (by_answer number c.inverse_of.result _
+    (λ none. inverse-none field.width field.product field.field_law field.wide_law x ((rw none at answered.none).0 refl))
+    (λ y some. inverse-some field.width field.product field.field_law field.wide_law x (number y) (number y)
     c.requires (λ nothing. true≢false ((rw some at answered.none).1 nothing)) (rw some at answered.fits)
     (rw some at answered.inverse) refl))
 
 pub returns-in-Sqrt : goal.returns-in-Sqrt
 returns-in-Sqrt g c =
-    let field = g.F.Written in
-    let laws = g.met.F.Written in
-    let x = field.number c.args.operand in
-    let root = field.number c.sqrt.result in
-    rw c.in-Sqrt.is (root-some field.width field.product laws.field_law laws.wide_law x root root c.sqrt.ensures.fits c.sqrt.ensures.root refl)
+    let field = g.K.FieldKernel in
+    let number = g.R.Stored.number in
+    let x = number c.args.operand in
+    let root = number c.sqrt.result in
+    rw c.in-Sqrt.is (root-some field.width field.product field.field_law field.wide_law x root root c.sqrt.ensures.fits c.sqrt.ensures.root refl)

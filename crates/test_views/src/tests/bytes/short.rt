@@ -2,8 +2,8 @@
 // words, give None below an element's bytes; an iterator that the caller keeps is left behind those bytes, or at its end.
 use field_base::{FieldKernel, Gf2};
 use field_bytes::{LittleEndian, RawDataSerializable, word_from_iter_by_ref};
-use field_element::{Coefficients, CubicKernel, Element};
-use word_polynomial::{GhashKernel, Poly64Kernel, RijndaelKernel};
+use field_element::{Coefficients, Element};
+use word_polynomial::{CubicKernel, GhashKernel, Poly64Kernel, RijndaelKernel};
 use word_tower::{Bits2, Bits4, Bits8, Bits16, Bits32, Bits64, Bits128, Tower};
 
 // Whether an element comes of an element's bytes, and none of fewer, and the bytes behind them are left. The bytes are 0, 1, 2, ..

@@ -6,10 +6,10 @@ use super::generator::generator_has_full_order;
 use super::memory::{is_flattened, powers_are_due};
 use field_base::traits::{Field, PrimeCharacteristicRing};
 use field_base::{FieldKernel, Stored};
-use field_element::{Coefficients, CubicKernel, Element, Poly64, Poly192, element_of_word};
+use field_element::{Coefficients, Element, Poly64, Poly192, element_of_word};
 use field_space::{AlgebraIdentity, BasedVectorSpace, SpaceOver};
 use std::alloc::Global;
-use word_polynomial::Poly64Kernel;
+use word_polynomial::{CubicKernel, Poly64Kernel};
 use word_tower::{Bits64, Bits128, Tower};
 
 /// A trial of a space.

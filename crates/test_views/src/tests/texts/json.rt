@@ -3,11 +3,11 @@
 // `Value is out of range`; each smaller byte is read.
 use field_aes::LinearizedPoly8b;
 use field_base::{FieldKernel, Gf2, ReadWord};
-use field_element::{Coefficients, CubicKernel, Element};
+use field_element::{Coefficients, Element};
 use serde::{Deserialize, DeserializeOwned, Serialize};
 use serde_json::{Error, Value};
 use std::alloc::Global;
-use word_polynomial::{GhashKernel, Poly64Kernel};
+use word_polynomial::{CubicKernel, GhashKernel, Poly64Kernel};
 use word_tower::{Bits2, Bits4, Tower};
 
 /// The numbers of a byte.

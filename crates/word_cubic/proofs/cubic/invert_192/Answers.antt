@@ -3,7 +3,7 @@ use Rattle.std.specs.Prelude.{bit_xor}
 use Rattle.field_base.specs.Remainder.{mul_mod, poly64_modulus}
 use Rattle.field_base.specs.Chunks.{chunk}
 use Rattle.word_cubic.proofs.CubicField.{cubic_norm, norm_of_nonzero, scaled_adjugate}
-use Rattle.word_cubic.proofs.CubicRing.{first-triple, second-triple, third-triple, triple-low}
+use Rattle.word_cubic.specs.TripleLemmas.{first-triple, second-triple, third-triple, triple-low}
 use Rattle.word_tables.proofs.Isomorphisms.{field_64}
 use Rattle.word_cubic.proofs.Products.{adjugate_of_zero}
 use Rattle.word_cubic.proofs.cubic.invert_192.Goals as goal

@@ -1,4 +1,4 @@
-use Rattle.word_cubic.proofs.CubicRing.{triple-low}
+use Rattle.word_cubic.specs.TripleLemmas.{triple-low}
 use Rattle.word_cubic.proofs.triple.Triple.of_low.Goals as goal
 
 pub returns : goal.returns

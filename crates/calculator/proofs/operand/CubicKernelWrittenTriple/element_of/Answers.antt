@@ -2,7 +2,7 @@
 use Rattle.std.proofs.Common.{ℕ, ◌^◌, ◌<◌, arith, subst, sym}
 use Rattle.calculator.specs.Number.{wide_value}
 use Rattle.calculator.proofs.CoefficientLemmas.{element-written, lowest_first-lt}
-use Rattle.calculator.proofs.operand.CubicFieldWrittenTriple.element_of.Goals as goal
+use Rattle.calculator.proofs.operand.CubicKernelWrittenTriple.element_of.Goals as goal
 
 pub returns-clause-value : goal.returns-clause-value
 returns-clause-value c = element-written c.args.written.high c.args.written.low (omega arith) (omega arith)
