@@ -39,7 +39,7 @@ class Field:
     about: str
     # The generator of the multiplicative group that the library names.
     generator: int
-    # The type of crates/c_arithmetic that computes in the field, and the field in contracts.
+    # The kernel that computes in the field, as crates/c_arithmetic names it, and the field in contracts.
     kernel: str
     contract: str
     # The level of the tower, or the modulus and the images of the tower's roots; the cubic extension has neither.
@@ -119,18 +119,18 @@ FIELDS = [
     tower_level(7, "u128", 0x1_0000_0000_0000_0005, contract="wide_level_field"),
     modulo(
         0x11B, ", the bytes of AES (FIPS 197)", name="r8", type_name="Rijndael8b", word="u8", generator=0x88,
-        kernel="Rijndael", contract="rijndael_field", basis="aes", root_images=(0xBC, 0x0C, 0x35),
+        kernel="RijndaelKernel", contract="rijndael_field", basis="aes", root_images=(0xBC, 0x0C, 0x35),
     ),
     modulo(
         1 << 64 | 0x1B, "", name="p64", type_name="Poly64", word="u64", generator=0xC313_D8D1_BFAE_2150,
-        kernel="Poly64", contract="poly64_field", basis="poly64", is_batched=True,
+        kernel="Poly64Kernel", contract="poly64_field", basis="poly64", is_batched=True,
         root_images=(
             0x19C9369F278ADC03, 0xFC39A481A127AA9D, 0xAE4AB74040E79118, 0xED58CAFEF8F22BC9, 0xEA6B20D915FDBB77, 0x3F2A7C501E898BCD,
         ),
     ),
     modulo(
         1 << 128 | 0x87, ", the field of GHASH (NIST SP 800-38D), bit i for x^i", name="g128", type_name="Ghash128", word="u128",
-        generator=0xE5A5_755A_D217_F07D_1DA7_0A74_7203_D630, kernel="Ghash", contract="ghash_field", basis="ghash", is_batched=True,
+        generator=0xE5A5_755A_D217_F07D_1DA7_0A74_7203_D630, kernel="GhashKernel", contract="ghash_field", basis="ghash", is_batched=True,
         root_images=(
             0x295AC0B1F4731AF9676AAC9FA4B20B08, 0x7959D70CE1EE694253B85B6402B1E849, 0x6CFE46E8277B2E9DF1677BC1710C5C54,
             0xD7483FDAE7763B6FF501C92B7A41CC34, 0x681C6A8C36792C0292D6DAD772F92DF5, 0x496CB27FA3EBE72895960776EF42F90B,
@@ -139,7 +139,7 @@ FIELDS = [
     ),
     Field(
         "p192", "Poly192", 192, "u192", "GF(2^64)[y] modulo y^3 + y + 1 over p64, the coefficient of 1 first", 5 | 3 << 64 | 1 << 128,
-        kernel="CubicField", contract="cubic_field",
+        kernel="CubicKernel", contract="cubic_field",
     ),
 ]
 

@@ -16,6 +16,9 @@ import files
 # The words `W` of slices by those of the table.
 WORDS = {"u128": "Wide", "u192": "Cubic"}
 
+# The stored words of kernels that are no integers of Rust, by those of the table.
+STORED = {"u192": "Triple"}
+
 # The function over any field that a call goes to, and the word of its contract.
 CALLS = {row.split()[0]: row.split()[1:] for row in """\
 add            slices::add          Adds
@@ -152,12 +155,16 @@ def function(name, parameters, text, called, clause, more=()):
     ])
 
 
+def called_over(field, call):
+    """The call of a function over any field: its stored word, the word of its slices, and its kernel."""
+    return f"{call}::<{STORED.get(field.word, field.word)}, {WORDS.get(field.word, field.word)}, {field.kernel}>"
+
+
 def field_function(field, name, parameters, text):
     """A function of a field."""
     call, contract = CALLS[name]
     own = OWN_CALLS.get(field.name, {}).get(name)
-    word = WORDS.get(field.word, field.word)
-    called = f"c_arithmetic::{own}" if own else f"{call}::<{word}, {field.kernel}>"
+    called = f"c_arithmetic::{own}" if own else called_over(field, call)
     more = [str(field.is_looked_up).lower()] if name in IN_TURNS else []
     typed = c_library.typed(parameters, field.word)
     clause = field_clause(contract, field.contract, [(kind, it, WORDS.get(of, of)) for kind, it, of in typed])
@@ -172,7 +179,7 @@ def change_of_basis(name, parameters, text):
     contract, call = ("TakesImages", "from_tower") if is_image else ("TakesPreimages", "to_tower")
     number = "wide_number" if field.word in WORDS else "itself"
     basis = f"(basis_image {field.bits} {field.basis}_modulus {field.basis}_images)"
-    called = f"slices::{call}::<{WORDS.get(field.word, field.word)}, {field.kernel}>"
+    called = called_over(field, f"slices::{call}")
     return function(name, parameters, text, called, f"{contract} {number} {basis} values.now images.old images.new result")
 
 
@@ -210,8 +217,9 @@ def brought_in(clauses):
 
 def used(bodies):
     """The line that brings in what bodies and signatures name without a path."""
-    names = set(re.findall(r"[&\[]&?(Wide|Cubic)\b|(?:<\w+, )(\w+)>|\b(slices)::|\b(batch_invert)\b", bodies))
-    named = {it for group in names for it in group if it} | {it for it in WORDS.values() if re.search(rf"\b{it}\b", bodies)}
+    names = set(re.findall(r"[&\[]&?(Wide|Cubic)\b|<\w+, \w+, (\w+)>|\b(slices)::|\b(batch_invert)\b", bodies))
+    words = [*WORDS.values(), *STORED.values()]
+    named = {it for group in names for it in group if it} | {it for it in words if re.search(rf"\b{it}\b", bodies)}
     return [f"use c_arithmetic::{{{', '.join(sorted(named))}}};" if len(named) > 1 else f"use c_arithmetic::{named.pop()};", ""] if named else []
 
 

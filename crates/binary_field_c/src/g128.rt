@@ -4,14 +4,14 @@ ghost use Rattle.c_arithmetic.specs.Calls.{Adds, AddsScaled, Evaluates, Inverts,
 ghost use Rattle.c_arithmetic.specs.Calls.{Squares, TakesDotProduct, TakesProduct, TakesRoots};
 ghost use Rattle.c_arithmetic.specs.Fields.{ghash_field};
 
-use c_arithmetic::{Ghash, Wide, batch_invert, slices};
+use c_arithmetic::{GhashKernel, Wide, batch_invert, slices};
 
 /// The sum of the elements at each place.
 #[unsafe(no_mangle)]
 pub extern "C" fn bf_g128_add(left: &[Wide], right: &[Wide], sums: &mut [Wide]) -> u32
     ensures { Adds ghash_field left.now right.now sums.old sums.new result }
 {
-    slices::add::<Wide, Ghash>(left, right, sums)
+    slices::add::<u128, Wide, GhashKernel>(left, right, sums)
 }
 
 /// The product of the elements at each place.
@@ -43,7 +43,7 @@ pub extern "C" fn bf_g128_add_scaled(sums: &mut [Wide], scalar: &Wide, values: &
 pub extern "C" fn bf_g128_square(values: &[Wide], squares: &mut [Wide]) -> u32
     ensures { Squares ghash_field values.now squares.old squares.new result }
 {
-    slices::square::<Wide, Ghash>(values, squares, false)
+    slices::square::<u128, Wide, GhashKernel>(values, squares, false)
 }
 
 /// The inverse of each element, and 0 for 0.
@@ -51,7 +51,7 @@ pub extern "C" fn bf_g128_square(values: &[Wide], squares: &mut [Wide]) -> u32
 pub extern "C" fn bf_g128_inverse(values: &[Wide], inverses: &mut [Wide]) -> u32
     ensures { Inverts ghash_field values.now inverses.old inverses.new result }
 {
-    slices::invert::<Wide, Ghash>(values, inverses)
+    slices::invert::<u128, Wide, GhashKernel>(values, inverses)
 }
 
 /// The same as inverse, by one inverse and three products an element.
@@ -59,7 +59,7 @@ pub extern "C" fn bf_g128_inverse(values: &[Wide], inverses: &mut [Wide]) -> u32
 pub extern "C" fn bf_g128_batch_inverse(values: &[Wide], inverses: &mut [Wide]) -> u32
     ensures { Inverts ghash_field values.now inverses.old inverses.new result }
 {
-    batch_invert::<Wide, Ghash>(values, inverses)
+    batch_invert::<u128, Wide, GhashKernel>(values, inverses)
 }
 
 /// The square root of each element.
@@ -67,7 +67,7 @@ pub extern "C" fn bf_g128_batch_inverse(values: &[Wide], inverses: &mut [Wide]) 
 pub extern "C" fn bf_g128_square_root(values: &[Wide], roots: &mut [Wide]) -> u32
     ensures { TakesRoots ghash_field values.now roots.old roots.new result }
 {
-    slices::square_root::<Wide, Ghash>(values, roots, false)
+    slices::square_root::<u128, Wide, GhashKernel>(values, roots, false)
 }
 
 /// Each element to the power of the exponent; to the power 0 it is 1.
@@ -75,7 +75,7 @@ pub extern "C" fn bf_g128_square_root(values: &[Wide], roots: &mut [Wide]) -> u3
 pub extern "C" fn bf_g128_power(values: &[Wide], exponent: u64, powers: &mut [Wide]) -> u32
     ensures { RaisesTo ghash_field exponent values.now powers.old powers.new result }
 {
-    slices::power::<Wide, Ghash>(values, exponent, powers)
+    slices::power::<u128, Wide, GhashKernel>(values, exponent, powers)
 }
 
 /// The product of all elements, 1 of none.
@@ -83,7 +83,7 @@ pub extern "C" fn bf_g128_power(values: &[Wide], exponent: u64, powers: &mut [Wi
 pub extern "C" fn bf_g128_product(values: &[Wide], product: &mut Wide) -> u32
     ensures { TakesProduct ghash_field values.now product.old product.new result }
 {
-    slices::product::<Wide, Ghash>(values, product)
+    slices::product::<u128, Wide, GhashKernel>(values, product)
 }
 
 /// The sum of the products at each place, 0 of none.
@@ -103,7 +103,7 @@ pub extern "C" fn bf_g128_evaluate(
 ) -> u32
     ensures { Evaluates ghash_field coefficients.now points.now values.old values.new result }
 {
-    slices::evaluate::<Wide, Ghash>(coefficients, points, values)
+    slices::evaluate::<u128, Wide, GhashKernel>(coefficients, points, values)
 }
 
 /// The generator of the field's multiplicative group that the library names.
@@ -111,5 +111,5 @@ pub extern "C" fn bf_g128_evaluate(
 pub extern "C" fn bf_g128_generator(generator: &mut Wide) -> u32
     ensures { NamesGenerator ghash_field generator.new result }
 {
-    slices::generator::<Wide, Ghash>(generator)
+    slices::generator::<u128, Wide, GhashKernel>(generator)
 }

@@ -4,14 +4,14 @@ ghost use Rattle.c_arithmetic.specs.Calls.{Adds, AddsScaled, Evaluates, Inverts,
 ghost use Rattle.c_arithmetic.specs.Calls.{Squares, TakesDotProduct, TakesProduct, TakesRoots};
 ghost use Rattle.c_arithmetic.specs.Fields.{cubic_field};
 
-use c_arithmetic::{Cubic, CubicField, batch_invert, slices};
+use c_arithmetic::{Cubic, CubicKernel, Triple, batch_invert, slices};
 
 /// The sum of the elements at each place.
 #[unsafe(no_mangle)]
 pub extern "C" fn bf_p192_add(left: &[Cubic], right: &[Cubic], sums: &mut [Cubic]) -> u32
     ensures { Adds cubic_field left.now right.now sums.old sums.new result }
 {
-    slices::add::<Cubic, CubicField>(left, right, sums)
+    slices::add::<Triple, Cubic, CubicKernel>(left, right, sums)
 }
 
 /// The product of the elements at each place.
@@ -19,7 +19,7 @@ pub extern "C" fn bf_p192_add(left: &[Cubic], right: &[Cubic], sums: &mut [Cubic
 pub extern "C" fn bf_p192_multiply(left: &[Cubic], right: &[Cubic], products: &mut [Cubic]) -> u32
     ensures { Multiplies cubic_field left.now right.now products.old products.new result }
 {
-    slices::multiply::<Cubic, CubicField>(left, right, products)
+    slices::multiply::<Triple, Cubic, CubicKernel>(left, right, products)
 }
 
 /// The product of each element and the scalar.
@@ -31,7 +31,7 @@ pub extern "C" fn bf_p192_multiply_by(
 ) -> u32
     ensures { MultipliesBy cubic_field scalar.now values.now products.old products.new result }
 {
-    slices::multiply_by::<Cubic, CubicField>(values, *scalar, products)
+    slices::multiply_by::<Triple, Cubic, CubicKernel>(values, *scalar, products)
 }
 
 /// Adds to each element of sums the scalar times the value at its place.
@@ -39,7 +39,7 @@ pub extern "C" fn bf_p192_multiply_by(
 pub extern "C" fn bf_p192_add_scaled(sums: &mut [Cubic], scalar: &Cubic, values: &[Cubic]) -> u32
     ensures { AddsScaled cubic_field scalar.now values.now sums.old sums.new result }
 {
-    slices::add_scaled::<Cubic, CubicField>(sums, *scalar, values)
+    slices::add_scaled::<Triple, Cubic, CubicKernel>(sums, *scalar, values)
 }
 
 /// The square of each element.
@@ -47,7 +47,7 @@ pub extern "C" fn bf_p192_add_scaled(sums: &mut [Cubic], scalar: &Cubic, values:
 pub extern "C" fn bf_p192_square(values: &[Cubic], squares: &mut [Cubic]) -> u32
     ensures { Squares cubic_field values.now squares.old squares.new result }
 {
-    slices::square::<Cubic, CubicField>(values, squares, false)
+    slices::square::<Triple, Cubic, CubicKernel>(values, squares, false)
 }
 
 /// The inverse of each element, and 0 for 0.
@@ -55,7 +55,7 @@ pub extern "C" fn bf_p192_square(values: &[Cubic], squares: &mut [Cubic]) -> u32
 pub extern "C" fn bf_p192_inverse(values: &[Cubic], inverses: &mut [Cubic]) -> u32
     ensures { Inverts cubic_field values.now inverses.old inverses.new result }
 {
-    slices::invert::<Cubic, CubicField>(values, inverses)
+    slices::invert::<Triple, Cubic, CubicKernel>(values, inverses)
 }
 
 /// The same as inverse, by one inverse and three products an element.
@@ -63,7 +63,7 @@ pub extern "C" fn bf_p192_inverse(values: &[Cubic], inverses: &mut [Cubic]) -> u
 pub extern "C" fn bf_p192_batch_inverse(values: &[Cubic], inverses: &mut [Cubic]) -> u32
     ensures { Inverts cubic_field values.now inverses.old inverses.new result }
 {
-    batch_invert::<Cubic, CubicField>(values, inverses)
+    batch_invert::<Triple, Cubic, CubicKernel>(values, inverses)
 }
 
 /// The square root of each element.
@@ -71,7 +71,7 @@ pub extern "C" fn bf_p192_batch_inverse(values: &[Cubic], inverses: &mut [Cubic]
 pub extern "C" fn bf_p192_square_root(values: &[Cubic], roots: &mut [Cubic]) -> u32
     ensures { TakesRoots cubic_field values.now roots.old roots.new result }
 {
-    slices::square_root::<Cubic, CubicField>(values, roots, false)
+    slices::square_root::<Triple, Cubic, CubicKernel>(values, roots, false)
 }
 
 /// Each element to the power of the exponent; to the power 0 it is 1.
@@ -79,7 +79,7 @@ pub extern "C" fn bf_p192_square_root(values: &[Cubic], roots: &mut [Cubic]) -> 
 pub extern "C" fn bf_p192_power(values: &[Cubic], exponent: u64, powers: &mut [Cubic]) -> u32
     ensures { RaisesTo cubic_field exponent values.now powers.old powers.new result }
 {
-    slices::power::<Cubic, CubicField>(values, exponent, powers)
+    slices::power::<Triple, Cubic, CubicKernel>(values, exponent, powers)
 }
 
 /// The product of all elements, 1 of none.
@@ -87,7 +87,7 @@ pub extern "C" fn bf_p192_power(values: &[Cubic], exponent: u64, powers: &mut [C
 pub extern "C" fn bf_p192_product(values: &[Cubic], product: &mut Cubic) -> u32
     ensures { TakesProduct cubic_field values.now product.old product.new result }
 {
-    slices::product::<Cubic, CubicField>(values, product)
+    slices::product::<Triple, Cubic, CubicKernel>(values, product)
 }
 
 /// The sum of the products at each place, 0 of none.
@@ -95,7 +95,7 @@ pub extern "C" fn bf_p192_product(values: &[Cubic], product: &mut Cubic) -> u32
 pub extern "C" fn bf_p192_dot_product(left: &[Cubic], right: &[Cubic], sum: &mut Cubic) -> u32
     ensures { TakesDotProduct cubic_field left.now right.now sum.old sum.new result }
 {
-    slices::dot_product::<Cubic, CubicField>(left, right, sum)
+    slices::dot_product::<Triple, Cubic, CubicKernel>(left, right, sum)
 }
 
 /// The value at each point of the polynomial with these coefficients, the constant one first; any number of coefficients.
@@ -107,7 +107,7 @@ pub extern "C" fn bf_p192_evaluate(
 ) -> u32
     ensures { Evaluates cubic_field coefficients.now points.now values.old values.new result }
 {
-    slices::evaluate::<Cubic, CubicField>(coefficients, points, values)
+    slices::evaluate::<Triple, Cubic, CubicKernel>(coefficients, points, values)
 }
 
 /// The generator of the field's multiplicative group that the library names.
@@ -115,5 +115,5 @@ pub extern "C" fn bf_p192_evaluate(
 pub extern "C" fn bf_p192_generator(generator: &mut Cubic) -> u32
     ensures { NamesGenerator cubic_field generator.new result }
 {
-    slices::generator::<Cubic, CubicField>(generator)
+    slices::generator::<Triple, Cubic, CubicKernel>(generator)
 }

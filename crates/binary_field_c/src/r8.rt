@@ -4,14 +4,14 @@ ghost use Rattle.c_arithmetic.specs.Calls.{Adds, AddsScaled, Evaluates, Inverts,
 ghost use Rattle.c_arithmetic.specs.Calls.{Squares, TakesDotProduct, TakesProduct, TakesRoots};
 ghost use Rattle.c_arithmetic.specs.Fields.{rijndael_field};
 
-use c_arithmetic::{Rijndael, batch_invert, slices};
+use c_arithmetic::{RijndaelKernel, batch_invert, slices};
 
 /// The sum of the elements at each place.
 #[unsafe(no_mangle)]
 pub extern "C" fn bf_r8_add(left: &[u8], right: &[u8], sums: &mut [u8]) -> u32
     ensures { Adds rijndael_field left.now right.now sums.old sums.new result }
 {
-    slices::add::<u8, Rijndael>(left, right, sums)
+    slices::add::<u8, u8, RijndaelKernel>(left, right, sums)
 }
 
 /// The product of the elements at each place.
@@ -27,7 +27,7 @@ pub extern "C" fn bf_r8_multiply(left: &[u8], right: &[u8], products: &mut [u8])
 pub extern "C" fn bf_r8_multiply_by(values: &[u8], scalar: u8, products: &mut [u8]) -> u32
     ensures { MultipliesBy rijndael_field scalar values.now products.old products.new result }
 {
-    slices::multiply_by::<u8, Rijndael>(values, scalar, products)
+    slices::multiply_by::<u8, u8, RijndaelKernel>(values, scalar, products)
 }
 
 /// Adds to each element of sums the scalar times the value at its place.
@@ -35,7 +35,7 @@ pub extern "C" fn bf_r8_multiply_by(values: &[u8], scalar: u8, products: &mut [u
 pub extern "C" fn bf_r8_add_scaled(sums: &mut [u8], scalar: u8, values: &[u8]) -> u32
     ensures { AddsScaled rijndael_field scalar values.now sums.old sums.new result }
 {
-    slices::add_scaled::<u8, Rijndael>(sums, scalar, values)
+    slices::add_scaled::<u8, u8, RijndaelKernel>(sums, scalar, values)
 }
 
 /// The square of each element.
@@ -43,7 +43,7 @@ pub extern "C" fn bf_r8_add_scaled(sums: &mut [u8], scalar: u8, values: &[u8]) -
 pub extern "C" fn bf_r8_square(values: &[u8], squares: &mut [u8]) -> u32
     ensures { Squares rijndael_field values.now squares.old squares.new result }
 {
-    slices::square::<u8, Rijndael>(values, squares, false)
+    slices::square::<u8, u8, RijndaelKernel>(values, squares, false)
 }
 
 /// The inverse of each element, and 0 for 0.
@@ -51,7 +51,7 @@ pub extern "C" fn bf_r8_square(values: &[u8], squares: &mut [u8]) -> u32
 pub extern "C" fn bf_r8_inverse(values: &[u8], inverses: &mut [u8]) -> u32
     ensures { Inverts rijndael_field values.now inverses.old inverses.new result }
 {
-    slices::invert::<u8, Rijndael>(values, inverses)
+    slices::invert::<u8, u8, RijndaelKernel>(values, inverses)
 }
 
 /// The same as inverse, by one inverse and three products an element.
@@ -59,7 +59,7 @@ pub extern "C" fn bf_r8_inverse(values: &[u8], inverses: &mut [u8]) -> u32
 pub extern "C" fn bf_r8_batch_inverse(values: &[u8], inverses: &mut [u8]) -> u32
     ensures { Inverts rijndael_field values.now inverses.old inverses.new result }
 {
-    batch_invert::<u8, Rijndael>(values, inverses)
+    batch_invert::<u8, u8, RijndaelKernel>(values, inverses)
 }
 
 /// The square root of each element.
@@ -67,7 +67,7 @@ pub extern "C" fn bf_r8_batch_inverse(values: &[u8], inverses: &mut [u8]) -> u32
 pub extern "C" fn bf_r8_square_root(values: &[u8], roots: &mut [u8]) -> u32
     ensures { TakesRoots rijndael_field values.now roots.old roots.new result }
 {
-    slices::square_root::<u8, Rijndael>(values, roots, false)
+    slices::square_root::<u8, u8, RijndaelKernel>(values, roots, false)
 }
 
 /// Each element to the power of the exponent; to the power 0 it is 1.
@@ -75,7 +75,7 @@ pub extern "C" fn bf_r8_square_root(values: &[u8], roots: &mut [u8]) -> u32
 pub extern "C" fn bf_r8_power(values: &[u8], exponent: u64, powers: &mut [u8]) -> u32
     ensures { RaisesTo rijndael_field exponent values.now powers.old powers.new result }
 {
-    slices::power::<u8, Rijndael>(values, exponent, powers)
+    slices::power::<u8, u8, RijndaelKernel>(values, exponent, powers)
 }
 
 /// The product of all elements, 1 of none.
@@ -83,7 +83,7 @@ pub extern "C" fn bf_r8_power(values: &[u8], exponent: u64, powers: &mut [u8]) -
 pub extern "C" fn bf_r8_product(values: &[u8], product: &mut u8) -> u32
     ensures { TakesProduct rijndael_field values.now product.old product.new result }
 {
-    slices::product::<u8, Rijndael>(values, product)
+    slices::product::<u8, u8, RijndaelKernel>(values, product)
 }
 
 /// The sum of the products at each place, 0 of none.
@@ -91,7 +91,7 @@ pub extern "C" fn bf_r8_product(values: &[u8], product: &mut u8) -> u32
 pub extern "C" fn bf_r8_dot_product(left: &[u8], right: &[u8], sum: &mut u8) -> u32
     ensures { TakesDotProduct rijndael_field left.now right.now sum.old sum.new result }
 {
-    slices::dot_product::<u8, Rijndael>(left, right, sum)
+    slices::dot_product::<u8, u8, RijndaelKernel>(left, right, sum)
 }
 
 /// The value at each point of the polynomial with these coefficients, the constant one first; any number of coefficients.
@@ -99,7 +99,7 @@ pub extern "C" fn bf_r8_dot_product(left: &[u8], right: &[u8], sum: &mut u8) -> 
 pub extern "C" fn bf_r8_evaluate(coefficients: &[u8], points: &[u8], values: &mut [u8]) -> u32
     ensures { Evaluates rijndael_field coefficients.now points.now values.old values.new result }
 {
-    slices::evaluate::<u8, Rijndael>(coefficients, points, values)
+    slices::evaluate::<u8, u8, RijndaelKernel>(coefficients, points, values)
 }
 
 /// The generator of the field's multiplicative group that the library names.
@@ -107,5 +107,5 @@ pub extern "C" fn bf_r8_evaluate(coefficients: &[u8], points: &[u8], values: &mu
 pub extern "C" fn bf_r8_generator(generator: &mut u8) -> u32
     ensures { NamesGenerator rijndael_field generator.new result }
 {
-    slices::generator::<u8, Rijndael>(generator)
+    slices::generator::<u8, u8, RijndaelKernel>(generator)
 }

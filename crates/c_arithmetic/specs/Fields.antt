@@ -16,6 +16,10 @@ pub record WordField (W : Type 0) : Type 0 where
   pub times : ℕ → ℕ → ℕ
   pub generator : ℕ
 
+-- the field of such a number, such bits, such a product and such a generator
+abbrev pub field_of : {W : Type 0} → (W → ℕ) → ℕ → (ℕ → ℕ → ℕ) → ℕ → WordField W
+field_of number width times generator = record { number = number; width = width; times = times; generator = generator }
+
 -- the number that a word of 8 to 64 bits is
 abbrev pub itself : ℕ → ℕ
 itself word = word

@@ -3,41 +3,46 @@ ghost use Rattle.std.specs.Prelude.{◌≡◌, ◌≢◌, ◌<◌, ◌^◌, leng
 ghost use Rattle.field_base.specs.Field.{IsInverseOrZero};
 ghost use Rattle.c_arithmetic.specs.Batch.{AreProductsBefore, product_of_nonzero, times_nonzero};
 ghost use Rattle.c_arithmetic.specs.Calls.{AreElements, Inverts, HoldInverses};
+ghost use Rattle.c_arithmetic.specs.Fields.{field_of};
 
-use crate::fields::Arithmetic;
 use crate::slices::are_elements;
-use crate::status;
+use crate::words::Holds;
+use crate::{fields, status};
+use field_base::{FieldKernel, Stored};
 
 /// Writes the inverse of the word at each place, and 0 for 0. It takes one inverse, and three products a word; it takes no memory.
 #[inline]
-pub fn batch_invert<W: Copy, A: Arithmetic<W>>(words: &[W], inverses: &mut [W]) -> u32
-    ensures { Inverts A.field words.now inverses.old inverses.new result }
+pub fn batch_invert<R: Stored, W: Holds<R>, K: FieldKernel<R>>(
+    words: &[W],
+    inverses: &mut [W],
+) -> u32
+    ensures { Inverts (field_of W.number K.width K.product K.generator) words.now inverses.old inverses.new result }
 {
     if words.len() != inverses.len() {
         return status::LENGTH;
     }
-    if !are_elements::<W, A>(words) {
+    if !are_elements::<R, W, K>(words) {
         return status::NOT_AN_ELEMENT;
     }
-    let product = products_before::<W, A>(words, inverses);
-    inverses_of::<W, A>(words, inverses, A::invert(product));
+    let product = products_before::<R, W, K>(words, inverses);
+    inverses_of::<R, W, K>(words, inverses, fields::invert::<R, W, K>(product));
     status::OK
 }
 
 // Writes at each place the product of the words before it that are not 0, and gives that of all.
 #[inline]
-fn products_before<W: Copy, A: Arithmetic<W>>(words: &[W], products: &mut [W]) -> W
+fn products_before<R: Stored, W: Holds<R>, K: FieldKernel<R>>(words: &[W], products: &mut [W]) -> W
     requires long { length words.now ≡ length products.old }
-    requires elements { AreElements A.field words.now }
-    ensures before { AreProductsBefore A.field words.now products.new }
-    ensures all { A.field.number result ≡ product_of_nonzero A.field words.now }
-    ensures fits { A.field.number result < 2 ^ A.field.width }
-    ensures nonzero { A.field.number result ≢ 0 }
+    requires elements { AreElements (field_of W.number K.width K.product K.generator) words.now }
+    ensures before { AreProductsBefore (field_of W.number K.width K.product K.generator) words.now products.new }
+    ensures all { W.number result ≡ product_of_nonzero (field_of W.number K.width K.product K.generator) words.now }
+    ensures fits { W.number result < 2 ^ K.width }
+    ensures nonzero { W.number result ≢ 0 }
 {
-    let mut product = A::one();
+    let mut product = fields::one::<R, W>();
     for place in 0..words.len() {
         products[place] = product;
-        product = with_nonzero::<W, A>(product, words[place]);
+        product = with_nonzero::<R, W, K>(product, words[place]);
     }
     product
 }
@@ -45,16 +50,20 @@ fn products_before<W: Copy, A: Arithmetic<W>>(words: &[W], products: &mut [W]) -
 // Replaces the product of the words before each place by the inverse of its word, from the last place down; `inverse` is that of the
 // product of the words before the place that comes next.
 #[inline]
-fn inverses_of<W: Copy, A: Arithmetic<W>>(words: &[W], products: &mut [W], inverse: W)
+fn inverses_of<R: Stored, W: Holds<R>, K: FieldKernel<R>>(
+    words: &[W],
+    products: &mut [W],
+    inverse: W,
+)
     requires long { length words.now ≡ length products.old }
-    requires elements { AreElements A.field words.now }
-    requires before { AreProductsBefore A.field words.now products.old }
-    requires inverse { A.field.times (A.field.number inverse) (product_of_nonzero A.field words.now) ≡ 1 }
-    ensures { HoldInverses A.field words.now products.new }
+    requires elements { AreElements (field_of W.number K.width K.product K.generator) words.now }
+    requires before { AreProductsBefore (field_of W.number K.width K.product K.generator) words.now products.old }
+    requires inverse { K.product (W.number inverse) (product_of_nonzero (field_of W.number K.width K.product K.generator) words.now) ≡ 1 }
+    ensures { HoldInverses (field_of W.number K.width K.product K.generator) words.now products.new }
 {
     let mut inverse = inverse;
     for place in (0..words.len()).rev() {
-        let (of_word, of_rest) = split_inverse::<W, A>(inverse, products[place], words[place]);
+        let (of_word, of_rest) = split_inverse::<R, W, K>(inverse, products[place], words[place]);
         products[place] = of_word;
         inverse = of_rest;
     }
@@ -62,29 +71,36 @@ fn inverses_of<W: Copy, A: Arithmetic<W>>(words: &[W], products: &mut [W], inver
 
 // The product and the word, or the product where the word is 0.
 #[inline]
-fn with_nonzero<W: Copy, A: Arithmetic<W>>(product: W, word: W) -> W
-    ensures { A.field.number result ≡ times_nonzero A.field.times (A.field.number product) (A.field.number word) }
+fn with_nonzero<R: Stored, W: Holds<R>, K: FieldKernel<R>>(product: W, word: W) -> W
+    ensures { W.number result ≡ times_nonzero K.product (W.number product) (W.number word) }
 {
-    if A::is_zero(word) {
+    if fields::is_zero::<R, W>(word) {
         product
     } else {
-        A::multiply(product, word)
+        fields::multiply::<R, W, K>(product, word)
     }
 }
 
 // The inverse of the word, or 0, and that of the product, by the inverse of both.
 #[inline]
-fn split_inverse<W: Copy, A: Arithmetic<W>>(inverse: W, product: W, word: W) -> (W, W)
-    requires word { A.field.number word < 2 ^ A.field.width }
-    requires inverse { let both = times_nonzero A.field.times (A.field.number product) (A.field.number word) in
-        A.field.times (A.field.number inverse) both ≡ 1 }
-    ensures fits { A.field.number result.0 < 2 ^ A.field.width }
-    ensures of_word { IsInverseOrZero A.field.times (A.field.number word) (A.field.number result.0) }
-    ensures of_rest { A.field.times (A.field.number result.1) (A.field.number product) ≡ 1 }
+fn split_inverse<R: Stored, W: Holds<R>, K: FieldKernel<R>>(
+    inverse: W,
+    product: W,
+    word: W,
+) -> (W, W)
+    requires word { W.number word < 2 ^ K.width }
+    requires inverse { let both = times_nonzero K.product (W.number product) (W.number word) in
+        K.product (W.number inverse) both ≡ 1 }
+    ensures fits { W.number result.0 < 2 ^ K.width }
+    ensures of_word { IsInverseOrZero K.product (W.number word) (W.number result.0) }
+    ensures of_rest { K.product (W.number result.1) (W.number product) ≡ 1 }
 {
-    if A::is_zero(word) {
+    if fields::is_zero::<R, W>(word) {
         (word, inverse)
     } else {
-        (A::multiply(inverse, product), A::multiply(inverse, word))
+        (
+            fields::multiply::<R, W, K>(inverse, product),
+            fields::multiply::<R, W, K>(inverse, word),
+        )
     }
 }

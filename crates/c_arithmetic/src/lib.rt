@@ -6,6 +6,7 @@
 mod batch;
 mod bytes;
 mod fields;
+mod kernels;
 mod lanes;
 mod linear;
 mod messages;
@@ -21,10 +22,7 @@ mod words;
 
 pub use crate::batch::batch_invert;
 pub use crate::bytes::multiply_bytes;
-pub use crate::fields::{
-    Arithmetic, Basis, CubicField, Gf2, Ghash, Level2, Level4, Level8, Level16, Level32, Level64,
-    Level128, Poly64, Rijndael, Words,
-};
+pub use crate::kernels::{Basis, Gf2, Level2, Level4, Level8, Level16, Level32, Level64, Level128};
 pub use crate::linear::{map_bytes, map_wide};
 pub use crate::messages::{gcm_ghash, ghash, polyval, tags_are_equal};
 pub use crate::products::{dot_product, dot_product_wide, multiply, multiply_wide};
@@ -37,3 +35,5 @@ pub use crate::transforms::{
 };
 pub use crate::wide::Wide;
 pub use crate::words::{Cubic, Holds};
+pub use word_cubic::Triple;
+pub use word_polynomial::{CubicKernel, GhashKernel, Poly64Kernel, RijndaelKernel};

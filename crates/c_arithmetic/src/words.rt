@@ -1,7 +1,6 @@
 // The words in which elements cross to other languages, and the words of a field's arithmetic that they hold.
-ghost use Rattle.std.specs.Prelude.{◌≡◌, ◌<◌, ◌^◌, ℕ};
-ghost use Rattle.word_cubic.specs.Triple.{triple_number};
-ghost use Rattle.c_arithmetic.specs.Fields.{cubic_number, itself, wide_number};
+ghost use Rattle.std.specs.Prelude.{◌≡◌, ◌<◌, ℕ};
+ghost use Rattle.c_arithmetic.specs.Fields.{cubic_number, wide_number};
 
 use crate::wide::Wide;
 use field_base::Stored;
@@ -13,66 +12,24 @@ pub trait Holds<R: Stored>: Copy {
 
     /// The word that it holds.
     fn stored(self) -> R
-        ensures number { R.number result ≡ number self }
-        ensures fits { number self < 2 ^ R.bits };
+        ensures { R.number result ≡ number self };
 
     /// The word that holds `x`.
     fn of_stored(x: R) -> Self
         ensures { number result ≡ R.number x };
 }
 
-impl Holds<u8> for u8 {
-    ghost number = { itself };
+// A stored word holds itself.
+impl<R: Stored> Holds<R> for R {
+    ghost number = { R.number };
 
     #[inline]
-    fn stored(self) -> u8 {
+    fn stored(self) -> R {
         self
     }
 
     #[inline]
-    fn of_stored(x: u8) -> u8 {
-        x
-    }
-}
-
-impl Holds<u16> for u16 {
-    ghost number = { itself };
-
-    #[inline]
-    fn stored(self) -> u16 {
-        self
-    }
-
-    #[inline]
-    fn of_stored(x: u16) -> u16 {
-        x
-    }
-}
-
-impl Holds<u32> for u32 {
-    ghost number = { itself };
-
-    #[inline]
-    fn stored(self) -> u32 {
-        self
-    }
-
-    #[inline]
-    fn of_stored(x: u32) -> u32 {
-        x
-    }
-}
-
-impl Holds<u64> for u64 {
-    ghost number = { itself };
-
-    #[inline]
-    fn stored(self) -> u64 {
-        self
-    }
-
-    #[inline]
-    fn of_stored(x: u64) -> u64 {
+    fn of_stored(x: R) -> R {
         x
     }
 }
@@ -100,28 +57,24 @@ pub struct Cubic {
     c2: u64,
 }
 
-impl Cubic {
-    /// The three words of an element.
-    #[inline]
-    pub fn new(words: Triple) -> Cubic
-        ensures { cubic_number result ≡ triple_number words }
-    {
-        Cubic {
-            c0: words.c0,
-            c1: words.c1,
-            c2: words.c2,
-        }
-    }
+impl Holds<Triple> for Cubic {
+    ghost number = { cubic_number };
 
-    /// The element whose words these are.
     #[inline]
-    pub fn words(self) -> Triple
-        ensures { triple_number result ≡ cubic_number self }
-    {
+    fn stored(self) -> Triple {
         Triple {
             c0: self.c0,
             c1: self.c1,
             c2: self.c2,
+        }
+    }
+
+    #[inline]
+    fn of_stored(x: Triple) -> Cubic {
+        Cubic {
+            c0: x.c0,
+            c1: x.c1,
+            c2: x.c2,
         }
     }
 }

@@ -1,13 +1,14 @@
 use Rattle.std.proofs.Common.{◌<◌, ◌^◌, length, take, subst, sym, ◌∙◌, ap, arith}
 use Rattle.std.proofs.lemmas.Nat.{pow_below}
 use Rattle.c_arithmetic.specs.Batch.{product_of_nonzero, times_nonzero}
+use Rattle.c_arithmetic.specs.Fields.{field_of}
 use Rattle.c_arithmetic.proofs.BatchProducts.{product_of_nonzero-more, times_nonzero-lt, times_nonzero-nonzero, written-more}
 use Rattle.c_arithmetic.proofs.batch.products_before.Goals as goal
 
 pub loop-place-init : goal.loop-place-init
 loop-place-init g c =
-    let field = g.A.Arithmetic.field in
-    let one_fits : 1 < 2 ^ field.width = pow_below 0 field.width g.A.Arithmetic.wide_law in (
+    let field = field_of g.W.Holds.number g.K.FieldKernel.width g.K.FieldKernel.product g.K.FieldKernel.generator in
+    let one_fits : 1 < 2 ^ field.width = pow_below 0 field.width g.K.FieldKernel.wide_law in (
       (λ k below d. absurd (omega (arith, below))),
       c.one-product.ensures,
       omega (arith, c.one-product.ensures, one_fits),
@@ -16,8 +17,8 @@ loop-place-init g c =
 
 pub loop-place-preserved : goal.loop-place-preserved
 loop-place-preserved g c =
-    let field = g.A.Arithmetic.field in
-    let law = g.A.Arithmetic.field_law in
+    let field = field_of g.W.Holds.number g.K.FieldKernel.width g.K.FieldKernel.product g.K.FieldKernel.generator in
+    let law = g.K.FieldKernel.field_law in
     let words = c.args.words.now in
     let place = c.loop-place.place in
     let before = c.loop-place.invariant in

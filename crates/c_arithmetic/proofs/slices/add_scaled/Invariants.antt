@@ -1,10 +1,11 @@
 use Rattle.std.proofs.Common.{◌≡◌, ℕ, ◌<◌, ◌≤◌, length, get_or}
 use Rattle.std.specs.Prelude.{bit_xor}
+use Rattle.c_arithmetic.specs.Fields.{field_of}
 use Rattle.c_arithmetic.proofs.slices.add_scaled.Given as goal
 
 abbrev pub invariant-loop-place : goal.invariant-loop-place
 invariant-loop-place g l =
-    let field = g.A.Arithmetic.field in
+    let field = field_of g.W.Holds.number g.K.FieldKernel.width g.K.FieldKernel.product g.K.FieldKernel.generator in
     (length l.sums ≡ length l.fn.sums)
     × ((k : ℕ) → k < l.place → (d : _)
     → field.number (get_or l.sums k d)

@@ -1,9 +1,10 @@
 use Rattle.std.proofs.Common.{◌≡◌, ℕ, ◌<◌, get_or}
 use Rattle.field_base.specs.Powers.{power}
+use Rattle.c_arithmetic.specs.Fields.{field_of}
 use Rattle.c_arithmetic.proofs.slices.power.Given as goal
 
 abbrev pub invariant-loop-place : goal.invariant-loop-place
 invariant-loop-place g l =
-    let field = g.A.Arithmetic.field in
+    let field = field_of g.W.Holds.number g.K.FieldKernel.width g.K.FieldKernel.product g.K.FieldKernel.generator in
     (k : ℕ) → k < l.place → (d : _)
     → field.number (get_or l.powers k d) ≡ power 1 field.times (field.number (get_or l.words k d)) l.exponent

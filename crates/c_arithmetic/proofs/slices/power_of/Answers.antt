@@ -1,23 +1,24 @@
 use Rattle.std.proofs.Common.{◌≡◌, ℕ, ◌<◌, ◌^◌, ◌%◌, sym, ◌∙◌, ap, subst, arith}
 use Rattle.std.proofs.lemmas.Nat.{pow_below}
 use Rattle.field_base.proofs.PowerLemmas.{power_start, power_step, power_skip, power_end}
+use Rattle.c_arithmetic.specs.Fields.{field_of}
 use Rattle.c_arithmetic.proofs.slices.power_of.Goals as goal
 use Rattle.c_arithmetic.proofs.slices.power_of.Goals.{then-rest-eq1, else-rest-eq1}
 
 pub loop-rest-init : goal.loop-rest-init
 loop-rest-init g c =
-    let field = g.A.Arithmetic.field in
-    let one_fits : 1 < 2 ^ field.width = pow_below 0 field.width g.A.Arithmetic.wide_law in (
-      power_start field.width 1 field.times g.A.Arithmetic.field_law.ring one_fits
+    let field = field_of g.W.Holds.number g.K.FieldKernel.width g.K.FieldKernel.product g.K.FieldKernel.generator in
+    let one_fits : 1 < 2 ^ field.width = pow_below 0 field.width g.K.FieldKernel.wide_law in (
+      power_start field.width 1 field.times g.K.FieldKernel.field_law.ring one_fits
           (field.number c.one-value.result) (field.number c.args.word) c.args.exponent c.one-value.ensures,
       omega (arith, one_fits, c.one-value.ensures),
     )
 
 pub loop-rest-preserved : goal.loop-rest-preserved
 loop-rest-preserved g c =
-    let field = g.A.Arithmetic.field in
-    let ring = g.A.Arithmetic.field_law.ring in
-    let one_fits : 1 < 2 ^ field.width = pow_below 0 field.width g.A.Arithmetic.wide_law in
+    let field = field_of g.W.Holds.number g.K.FieldKernel.width g.K.FieldKernel.product g.K.FieldKernel.generator in
+    let ring = g.K.FieldKernel.field_law.ring in
+    let one_fits : 1 < 2 ^ field.width = pow_below 0 field.width g.K.FieldKernel.wide_law in
     let fits : (n : ℕ) → n ≡ field.times (field.number c.loop-rest.value) (field.number c.loop-rest.base) → n < 2 ^ field.width =
     λ n is. subst (λ m. m < 2 ^ field.width) (sym is) (ring.below _ _) in
     elim c.if-rest-eq1.branch [
@@ -37,8 +38,8 @@ loop-rest-preserved g c =
 
 pub returns : goal.returns
 returns g c =
-    let field = g.A.Arithmetic.field in
-    let one_fits : 1 < 2 ^ field.width = pow_below 0 field.width g.A.Arithmetic.wide_law in
-    sym (power_end field.width 1 field.times g.A.Arithmetic.field_law.ring one_fits (field.number c.loop-rest.value)
+    let field = field_of g.W.Holds.number g.K.FieldKernel.width g.K.FieldKernel.product g.K.FieldKernel.generator in
+    let one_fits : 1 < 2 ^ field.width = pow_below 0 field.width g.K.FieldKernel.wide_law in
+    sym (power_end field.width 1 field.times g.K.FieldKernel.field_law.ring one_fits (field.number c.loop-rest.value)
     (field.number c.loop-rest.base) c.loop-rest.rest c.loop-rest.invariant.1 c.loop-rest-test.false)
     ∙ c.loop-rest.invariant.0

@@ -1,7 +1,7 @@
 use Rattle.std.proofs.Common.{◌≡◌, ◌*◌, drop}
 use Rattle.std.specs.Prelude.{bit_xor}
 use Rattle.field_base.specs.Powers.{dot_of}
-use Rattle.c_arithmetic.proofs.fields.WordsArithmetic.dot_product.Given as goal
+use Rattle.c_arithmetic.proofs.fields.dot_product.Given as goal
 
 -- the sum so far, and that of the pairs from this one on, are the whole
 abbrev pub invariant-pairs : goal.invariant-pairs

@@ -1,7 +1,7 @@
 use Rattle.std.proofs.Common.{ℕ, ◌+◌, ◌*◌, ◌<◌, length, ◌∙◌, ap₂, arith}
 use Rattle.std.specs.Prelude.{bit_xor}
 use Rattle.field_base.proofs.DotLemmas.{dot_of-drop, dot_step, dot_two_steps}
-use Rattle.c_arithmetic.proofs.fields.WordsArithmetic.dot_product.Goals as goal
+use Rattle.c_arithmetic.proofs.fields.dot_product.Goals as goal
 
 pub pairs-preserved : goal.pairs-preserved
 pairs-preserved g c =
@@ -12,8 +12,8 @@ pairs-preserved g c =
     c.index-right-at-in-pairs.is c.pairs.invariant
     (c.add_two_products.ensures
     ∙ ap₂ (λ (first second : ℕ). bit_xor (bit_xor (kernel.reduced c.pairs.low c.pairs.high) first) second)
-    (ap₂ kernel.product c.stored.ensures.number c.stored-in-pairs-2.ensures.number)
-    (ap₂ kernel.product c.stored-in-pairs.ensures.number c.stored-in-pairs-3.ensures.number))
+    (ap₂ kernel.product c.stored.ensures c.stored-in-pairs-2.ensures)
+    (ap₂ kernel.product c.stored-in-pairs.ensures c.stored-in-pairs-3.ensures))
 
 pub rest-preserved : goal.rest-preserved
 rest-preserved g c =
@@ -27,5 +27,5 @@ rest-preserved g c =
     (dot_of-drop kernel.product number c.args.left.now c.args.right.now c.rest.at x y within within_right
     c.index-left-at-in-rest.is c.index-right-at-in-rest.is)
     (c.add_product.ensures
-    ∙ ap₂ (λ (m n : ℕ). bit_xor (kernel.reduced c.rest.low c.rest.high) (kernel.product m n)) c.stored-in-rest.ensures.number
-    c.stored-in-rest-2.ensures.number)
+    ∙ ap₂ (λ (m n : ℕ). bit_xor (kernel.reduced c.rest.low c.rest.high) (kernel.product m n)) c.stored-in-rest.ensures
+    c.stored-in-rest-2.ensures)

@@ -1,7 +1,7 @@
 use Rattle.std.proofs.Common.{◌≤◌, ◌^◌, ◌∙◌, ap, arith}
 use Rattle.std.proofs.Math.Pow.{pow_mono}
 use native.Mathlib.Nat.{mod-eq_of_lt}
-use Rattle.c_arithmetic.proofs.fields.WordsArithmetic.generator.Goals as goal
+use Rattle.c_arithmetic.proofs.fields.generator.Goals as goal
 
 pub returns : goal.returns
 returns g c =

@@ -1,7 +1,7 @@
 use Rattle.std.proofs.Common.{◌≡◌, ◌<◌, ◌^◌, ◌%◌, sym, ◌∙◌, arith}
 use Rattle.std.proofs.lemmas.Nat.{pow_pos}
 use native.Mathlib.Nat.{mod-eq_of_lt, mod-lt}
-use Rattle.c_arithmetic.proofs.fields.WordsArithmetic.is_element.Goals as goal
+use Rattle.c_arithmetic.proofs.fields.is_element.Goals as goal
 
 -- a word is an element where it is the same without its bits above the field
 pub returns : goal.returns
@@ -13,8 +13,8 @@ returns g c =
       (λ equal.
           let same : number c.truncate.result ≡ number word = law.0 (sym c.eq.ensures ∙ equal) in
           let low : number word % 2 ^ width < 2 ^ width = mod-lt (number word) (pow_pos width) in
-          omega (arith, same, c.truncate.ensures, c.stored-word.ensures.number, low)),
+          omega (arith, same, c.truncate.ensures, c.stored-word.ensures, low)),
       (λ fits.
-          let fits_word : number word < 2 ^ width = omega (arith, fits, c.stored-word.ensures.number) in
+          let fits_word : number word < 2 ^ width = omega (arith, fits, c.stored-word.ensures) in
           c.eq.ensures ∙ law.1 (c.truncate.ensures ∙ mod-eq_of_lt fits_word)),
     )
