@@ -1,5 +1,12 @@
 // Hostile partners: doubles that refuse a byte call or a copy, or sample one byte always; what a challenger over them returns, what they
 // have seen of it, and what it returns to each call after that.
+//
+// - A byte call is refused, the third in `observe`, the fifth in `sample_bits(12)`, the seventh in `observe_slice`, after one element and half
+//   of the second: `Memory`; each call after it says `Failed`, also `check_witness(0, w)`, `grind(0)`, `observe_slice` of no elements and a
+//   sample of a copy, and the partner sees none.
+// - A copy is refused in `grind(8)`, or the first, second or tenth byte call of one: `Memory`; a sample is as if there had been no call.
+// - 255 is sampled always: `NoWitness` after all 65,536 candidates of 16 bits; a sample is as before. 0 is sampled always: the witness 0.
+// - All is refused: `grind(0)` gives 0 and `check_witness(0, w)` true, and the partner sees nothing.
 use super::asked::{Asked, EVERY_CALL, Row, Said, only_fails};
 use std::alloc::Global;
 use std::cell::Cell;
@@ -14,7 +21,8 @@ pub(crate) struct Partner {
     copies: Copies,
     call: Row,
     said: Said,
-    seen: Seen,
+    // The numbers of bytes that were observed and sampled, and the last eight that were observed.
+    seen: (u32, u32, u64),
     next: Said,
 }
 
@@ -30,11 +38,7 @@ pub(crate) static PARTNERS_OF_32: [Partner; 8] = [
         copies: GRANTED,
         call: [0, 0, 0x0403_0201, 0],
         said: Said::Memory,
-        seen: Seen {
-            observed: 2,
-            sampled: 0,
-            bytes: 0x0102,
-        },
+        seen: (2, 0, 0x0102),
         next: Said::Failed,
     },
     Partner {
@@ -43,11 +47,7 @@ pub(crate) static PARTNERS_OF_32: [Partner; 8] = [
         copies: GRANTED,
         call: [2, 12, 0, 0],
         said: Said::Memory,
-        seen: Seen {
-            observed: 0,
-            sampled: 4,
-            bytes: 0,
-        },
+        seen: (0, 4, 0),
         next: Said::Failed,
     },
     Partner {
@@ -56,11 +56,7 @@ pub(crate) static PARTNERS_OF_32: [Partner; 8] = [
         copies: GRANTED,
         call: [11, 4, 0x0403_0201, 0],
         said: Said::Memory,
-        seen: Seen {
-            observed: 6,
-            sampled: 0,
-            bytes: 0x0102_0304_0102,
-        },
+        seen: (6, 0, 0x0102_0304_0102),
         next: Said::Failed,
     },
     Partner {
@@ -69,11 +65,7 @@ pub(crate) static PARTNERS_OF_32: [Partner; 8] = [
         copies: GRANTED,
         call: [3, 0, 9, 0],
         said: Said::Number(1),
-        seen: Seen {
-            observed: 0,
-            sampled: 0,
-            bytes: 0,
-        },
+        seen: (0, 0, 0),
         next: Said::Number(0x0505_0505),
     },
     Partner {
@@ -82,11 +74,7 @@ pub(crate) static PARTNERS_OF_32: [Partner; 8] = [
         copies: GRANTED,
         call: [7, 0, 0, 0],
         said: Said::Number(0),
-        seen: Seen {
-            observed: 8,
-            sampled: 0,
-            bytes: 0x0201_0000_0000_0000,
-        },
+        seen: (8, 0, 0x0201_0000_0000_0000),
         next: Said::Number(0),
     },
     Partner {
@@ -95,11 +83,7 @@ pub(crate) static PARTNERS_OF_32: [Partner; 8] = [
         copies: GRANTED,
         call: [6, 0, 0, 0],
         said: Said::Number(0),
-        seen: Seen {
-            observed: 3,
-            sampled: 0,
-            bytes: 0x0405_06,
-        },
+        seen: (3, 0, 0x0405_06),
         next: Said::Number(0),
     },
     Partner {
@@ -108,11 +92,7 @@ pub(crate) static PARTNERS_OF_32: [Partner; 8] = [
         copies: GRANTED,
         call: [8, 0, 0, 0],
         said: Said::Number(0),
-        seen: Seen {
-            observed: 4,
-            sampled: 0,
-            bytes: 0x0102_0304,
-        },
+        seen: (4, 0, 0x0102_0304),
         next: Said::Number(0),
     },
     Partner {
@@ -121,11 +101,7 @@ pub(crate) static PARTNERS_OF_32: [Partner; 8] = [
         copies: GRANTED,
         call: [9, 0, 0, 0],
         said: Said::Number(0),
-        seen: Seen {
-            observed: 16,
-            sampled: 0,
-            bytes: 0x0800_0000_0000_0000,
-        },
+        seen: (16, 0, 0x0800_0000_0000_0000),
         next: Said::Number(0),
     },
 ];
@@ -140,11 +116,7 @@ pub(crate) static PARTNERS_OF_16: [Partner; 7] = [
         copies: Copies::Refused,
         call: [4, 8, 0, 0],
         said: Said::Memory,
-        seen: Seen {
-            observed: 0,
-            sampled: 0,
-            bytes: 0,
-        },
+        seen: (0, 0, 0),
         next: Said::Number(0x0707),
     },
     Partner {
@@ -153,11 +125,7 @@ pub(crate) static PARTNERS_OF_16: [Partner; 7] = [
         copies: Copies::RefusingAfter(0),
         call: [4, 8, 0, 0],
         said: Said::Memory,
-        seen: Seen {
-            observed: 0,
-            sampled: 0,
-            bytes: 0,
-        },
+        seen: (0, 0, 0),
         next: Said::Number(0x0707),
     },
     Partner {
@@ -166,11 +134,7 @@ pub(crate) static PARTNERS_OF_16: [Partner; 7] = [
         copies: Copies::RefusingAfter(1),
         call: [4, 8, 0, 0],
         said: Said::Memory,
-        seen: Seen {
-            observed: 1,
-            sampled: 0,
-            bytes: 0,
-        },
+        seen: (1, 0, 0),
         next: Said::Number(0x0707),
     },
     Partner {
@@ -179,11 +143,7 @@ pub(crate) static PARTNERS_OF_16: [Partner; 7] = [
         copies: Copies::RefusingAfter(9),
         call: [4, 8, 0, 0],
         said: Said::Memory,
-        seen: Seen {
-            observed: 2,
-            sampled: 7,
-            bytes: 0,
-        },
+        seen: (2, 7, 0),
         next: Said::Number(0x0707),
     },
     Partner {
@@ -192,11 +152,7 @@ pub(crate) static PARTNERS_OF_16: [Partner; 7] = [
         copies: GRANTED,
         call: [4, 8, 0, 0],
         said: Said::NoWitness,
-        seen: Seen {
-            observed: 131_072,
-            sampled: 524_288,
-            bytes: 0xfcff_fdff_feff_ffff,
-        },
+        seen: (131_072, 524_288, 0xfcff_fdff_feff_ffff),
         next: Said::Number(0xffff),
     },
     Partner {
@@ -205,11 +161,7 @@ pub(crate) static PARTNERS_OF_16: [Partner; 7] = [
         copies: GRANTED,
         call: [4, 8, 0, 0],
         said: Said::Number(0),
-        seen: Seen {
-            observed: 2,
-            sampled: 8,
-            bytes: 0,
-        },
+        seen: (2, 8, 0),
         next: Said::Number(0),
     },
     Partner {
@@ -218,11 +170,7 @@ pub(crate) static PARTNERS_OF_16: [Partner; 7] = [
         copies: Copies::Refused,
         call: [4, 0, 0, 0],
         said: Said::Number(0),
-        seen: Seen {
-            observed: 0,
-            sampled: 0,
-            bytes: 0,
-        },
+        seen: (0, 0, 0),
         next: Said::Number(0x0909),
     },
 ];
@@ -242,11 +190,13 @@ fn ends_as_wanted<C: Asked>(
     seen: &Cell<Seen>,
 ) -> bool {
     let said = challenger.answer(alloc, &partner.call);
-    if said != partner.said || seen.get() != partner.seen {
+    let (observed, sampled, bytes) = partner.seen;
+    let wanted = Seen::new(observed, sampled, bytes);
+    if said != partner.said || seen.get() != wanted {
         return false;
     }
     if partner.next != Said::Failed {
         return challenger.answer(alloc, &[1, 0, 0, 0]) == partner.next;
     }
-    only_fails(alloc, challenger, &EVERY_CALL) && seen.get() == partner.seen
+    only_fails(alloc, challenger, &EVERY_CALL) && seen.get() == wanted
 }
