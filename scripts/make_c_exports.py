@@ -42,6 +42,12 @@ OWN_CALLS = {
     "r8": {"multiply": "multiply_bytes"},
 }
 
+# The vectors that the calls work in, and the functions of c_arithmetic over a type of vectors.
+NARROW, WIDE = "u64x2", "u64x4"
+WITH_WIDTH = {
+    "multiply", "multiply_by", "add_scaled", "dot_product", "butterfly_forward", "butterfly_inverse", "low_stages", "transform", "inverse_transform",
+}
+
 # Calls whose loops may take two elements in a turn.
 IN_TURNS = {"square", "square_root"}
 
@@ -160,11 +166,16 @@ def called_over(field, call):
     return f"{call}::<{STORED.get(field.word, field.word)}, {WORDS.get(field.word, field.word)}, {field.kernel}>"
 
 
+def of_width(call, vector):
+    """The call of a function of c_arithmetic, over vectors of that type where it has a type of vectors."""
+    return f"c_arithmetic::{call}::<{vector}>" if call in WITH_WIDTH else f"c_arithmetic::{call}"
+
+
 def field_function(field, name, parameters, text):
     """A function of a field."""
     call, contract = CALLS[name]
     own = OWN_CALLS.get(field.name, {}).get(name)
-    called = f"c_arithmetic::{own}" if own else called_over(field, call)
+    called = of_width(own, NARROW) if own else called_over(field, call)
     more = [str(field.is_looked_up).lower()] if name in IN_TURNS else []
     typed = c_library.typed(parameters, field.word)
     clause = field_clause(contract, field.contract, [(kind, it, WORDS.get(of, of)) for kind, it, of in typed])
@@ -186,7 +197,7 @@ def change_of_basis(name, parameters, text):
 def other_function(name, parameters, text):
     """A function of no field, or of stages."""
     _, call, clause = OTHER_CALLS[name]
-    return function(name, parameters, text, f"c_arithmetic::{call}", clause)
+    return function(name, parameters, text, of_width(call, NARROW), clause)
 
 
 def wide_function(name, parameters):
@@ -198,7 +209,7 @@ def wide_function(name, parameters):
         field = fields.field_named(field_name)
         typed = [(kind, it, WORDS.get(word, word)) for kind, it, word in parameters]
         call, clause = OWN_CALLS[field_name][own], field_clause(CALLS[own][1], field.contract, typed)
-    return function(f"{name}_wide", parameters, f"the same as `bf_{name}`", f"c_arithmetic::{call}_wide", clause)
+    return function(f"{name}_wide", parameters, f"the same as `bf_{name}`", of_width(call, WIDE), clause)
 
 
 def brought_in(clauses):
@@ -220,7 +231,9 @@ def used(bodies):
     names = set(re.findall(r"[&\[]&?(Wide|Cubic)\b|<\w+, \w+, (\w+)>|\b(slices)::|\b(batch_invert)\b", bodies))
     words = [*WORDS.values(), *STORED.values()]
     named = {it for group in names for it in group if it} | {it for it in words if re.search(rf"\b{it}\b", bodies)}
-    return [f"use c_arithmetic::{{{', '.join(sorted(named))}}};" if len(named) > 1 else f"use c_arithmetic::{named.pop()};", ""] if named else []
+    lines = [f"use c_arithmetic::{{{', '.join(sorted(named))}}};" if len(named) > 1 else f"use c_arithmetic::{named.pop()};"] if named else []
+    lines += ["use std::simd::prelude::*;"] if re.search(rf"\b({NARROW}|{WIDE})\b", bodies) else []
+    return [*lines, ""] if lines else []
 
 
 def write(name, about, functions):

@@ -6,9 +6,10 @@ ghost use Rattle.ghash_slices.specs.Twiddles.{basis_of, shifts_of};
 ghost use native.Mathlib.Nat.{mod-lt};
 ghost use Rattle.std.proofs.lemmas.Nat.{pow_pos};
 
-use ghash_slices::{LowStageTwiddles, WideWord, add_each, add_multiples, run_low_stages};
+use ghash_slices::{LowStageTwiddles, WideWord, Width, add_each, add_multiples, run_low_stages};
 use std::alloc::Allocator;
 use std::marker::PhantomData;
+use std::simd::prelude::*;
 
 /// What computes on the values of a transform: nothing else does. Each element stands for a value, which is a number of 128
 /// bits in the field of GHASH. A kernel counts the pairs of places that it computes.
@@ -78,14 +79,14 @@ impl Kernel for PolyKernel {
 
     fn butterfly_forward(&mut self, lo: &mut [u128], hi: &mut [u128], s: u128) {
         self.products += lo.len() as u64;
-        add_multiples(lo, hi, s, false);
+        add_multiples::<u64x2, u128>(lo, hi, s);
         add_each(hi, lo);
     }
 
     fn butterfly_inverse(&mut self, lo: &mut [u128], hi: &mut [u128], s: u128) {
         self.products += lo.len() as u64;
         add_each(hi, lo);
-        add_multiples(lo, hi, s, false);
+        add_multiples::<u64x2, u128>(lo, hi, s);
     }
 
     fn low_forward<A: Allocator>(
@@ -96,34 +97,33 @@ impl Kernel for PolyKernel {
     ) {
         self.products += 2 * values.len() as u64;
         let (shifts, basis) = (twiddles.shifts(), twiddles.basis());
-        run_low_stages(shifts, basis, values, first_run as u128, false);
+        run_low_stages::<u64x2, u128>(shifts, basis, values, first_run as u128);
     }
 }
 
-/// The kernel over words that hold numbers, where they lie, in vectors of 128 bits or of 256.
+/// The kernel over words that hold numbers, where they lie, in vectors of a width.
 #[derive(Drop)]
-pub struct WordKernel<W> {
+pub struct WordKernel<V, W> {
     /// The pairs that were computed.
     pub products: u64,
-    wide_vectors: bool,
+    vectors: PhantomData<V>,
     words: PhantomData<W>,
 }
 
-impl<W: WideWord> WordKernel<W> {
-    /// The kernel, before it has counted a pair. Wide vectors are made for x86-64-v3.
-    pub fn new(wide_vectors: bool) -> WordKernel<W>
-        ensures count { result.products ≡ 0 }
-        ensures width { result.wide_vectors ≡ wide_vectors }
+impl<V: Width, W: WideWord> WordKernel<V, W> {
+    /// The kernel, before it has counted a pair.
+    pub fn new() -> WordKernel<V, W>
+        ensures { result.products ≡ 0 }
     {
         WordKernel {
             products: 0,
-            wide_vectors,
+            vectors: PhantomData,
             words: PhantomData,
         }
     }
 }
 
-impl<W: WideWord> Kernel for WordKernel<W> {
+impl<V: Width, W: WideWord> Kernel for WordKernel<V, W> {
     type Elem = W;
 
     ghost value = { W.value };
@@ -134,14 +134,14 @@ impl<W: WideWord> Kernel for WordKernel<W> {
 
     fn butterfly_forward(&mut self, lo: &mut [W], hi: &mut [W], s: u128) {
         self.products += lo.len() as u64;
-        add_multiples(lo, hi, s, self.wide_vectors);
+        add_multiples::<V, W>(lo, hi, s);
         add_each(hi, lo);
     }
 
     fn butterfly_inverse(&mut self, lo: &mut [W], hi: &mut [W], s: u128) {
         self.products += lo.len() as u64;
         add_each(hi, lo);
-        add_multiples(lo, hi, s, self.wide_vectors);
+        add_multiples::<V, W>(lo, hi, s);
     }
 
     fn low_forward<A: Allocator>(
@@ -152,6 +152,6 @@ impl<W: WideWord> Kernel for WordKernel<W> {
     ) {
         self.products += 2 * values.len() as u64;
         let (shifts, basis) = (twiddles.shifts(), twiddles.basis());
-        run_low_stages(shifts, basis, values, first_run as u128, self.wide_vectors);
+        run_low_stages::<V, W>(shifts, basis, values, first_run as u128);
     }
 }

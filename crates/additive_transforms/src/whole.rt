@@ -9,7 +9,9 @@ ghost use Rattle.additive_transforms.specs.Stages.{AreLeft};
 use crate::kernel::{Kernel, PolyKernel, WordKernel};
 use crate::stages::run_stage;
 use crate::twiddles::Twiddles;
-use ghash_slices::{LOW_STAGES, LowStageTwiddles, WideWord, numbers_are_values, run_low_stages};
+use ghash_slices::{
+    LOW_STAGES, LowStageTwiddles, WideWord, Width, numbers_are_values, run_low_stages,
+};
 use std::alloc::{AllocError, Allocator};
 
 /// Leaves at each place p the value, at point p, of the polynomial with the coefficients `values` in the basis of the products of
@@ -115,32 +117,32 @@ pub fn forward_with<K: Kernel, A: Allocator>(
 }
 
 /// The transform `forward` of words that hold numbers, where they lie, without a count. The length of `words` has to be 2^m for an m
-/// from 0 to 40. It takes no memory. Wide vectors are made for x86-64-v3.
-pub fn forward_words<W: WideWord>(words: &mut [W], z: u128, wide_vectors: bool)
+/// from 0 to 40. It takes no memory.
+pub fn forward_words<V: Width, W: WideWord>(words: &mut [W], z: u128)
     requires { (m : ℕ) × HasStages m (length words.old) }
     ensures length { length words.new ≡ length words.old }
     ensures values { HoldPolynomialValues z (map W.value words.old) (map W.value words.new) }
 {
     let stages = stages_of(words.len());
     let twiddles = Twiddles::new(z);
-    let mut kernel = WordKernel::new(wide_vectors);
+    let mut kernel = WordKernel::<V, W>::new();
     if stages < LOW_STAGES {
         every_stage(&mut kernel, words, stages, &twiddles, z);
         return;
     }
     stages_down_to(&mut kernel, words, stages, LOW_STAGES, &twiddles);
     let basis = &twiddles.basis[..stages - 1];
-    run_low_stages(&twiddles.low_shifts(), basis, words, 0, wide_vectors);
+    run_low_stages::<V, W>(&twiddles.low_shifts(), basis, words, 0);
 }
 
 /// The transform `inverse` of words that hold numbers, where they lie, without a count: it takes back what `forward_words` did with the
-/// same `z`. The length of `words` has to be 2^m for an m from 0 to 40. It takes no memory. Wide vectors are made for x86-64-v3.
-pub fn inverse_words<W: WideWord>(words: &mut [W], z: u128, wide_vectors: bool)
+/// same `z`. The length of `words` has to be 2^m for an m from 0 to 40. It takes no memory.
+pub fn inverse_words<V: Width, W: WideWord>(words: &mut [W], z: u128)
     requires { (m : ℕ) × HasStages m (length words.old) }
     ensures length { length words.new ≡ length words.old }
     ensures coefficients { AreOnlyCoefficients z (map W.value words.old) (map W.value words.new) }
 {
-    inverse_with(&mut WordKernel::new(wide_vectors), words, z);
+    inverse_with(&mut WordKernel::<V, W>::new(), words, z);
 }
 
 /// The transform `inverse` by any kernel: nothing but the kernel computes on its elements. It asks what `forward_with` asks, and

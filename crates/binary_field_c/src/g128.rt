@@ -5,6 +5,7 @@ ghost use Rattle.c_arithmetic.specs.Calls.{Squares, TakesDotProduct, TakesProduc
 ghost use Rattle.c_arithmetic.specs.Fields.{ghash_field};
 
 use c_arithmetic::{GhashKernel, Wide, batch_invert, slices};
+use std::simd::prelude::*;
 
 /// The sum of the elements at each place.
 #[unsafe(no_mangle)]
@@ -19,7 +20,7 @@ pub extern "C" fn bf_g128_add(left: &[Wide], right: &[Wide], sums: &mut [Wide]) 
 pub extern "C" fn bf_g128_multiply(left: &[Wide], right: &[Wide], products: &mut [Wide]) -> u32
     ensures { Multiplies ghash_field left.now right.now products.old products.new result }
 {
-    c_arithmetic::multiply(left, right, products)
+    c_arithmetic::multiply::<u64x2>(left, right, products)
 }
 
 /// The product of each element and the scalar.
@@ -27,7 +28,7 @@ pub extern "C" fn bf_g128_multiply(left: &[Wide], right: &[Wide], products: &mut
 pub extern "C" fn bf_g128_multiply_by(values: &[Wide], scalar: &Wide, products: &mut [Wide]) -> u32
     ensures { MultipliesBy ghash_field scalar.now values.now products.old products.new result }
 {
-    c_arithmetic::multiply_by(values, *scalar, products)
+    c_arithmetic::multiply_by::<u64x2>(values, *scalar, products)
 }
 
 /// Adds to each element of sums the scalar times the value at its place.
@@ -35,7 +36,7 @@ pub extern "C" fn bf_g128_multiply_by(values: &[Wide], scalar: &Wide, products: 
 pub extern "C" fn bf_g128_add_scaled(sums: &mut [Wide], scalar: &Wide, values: &[Wide]) -> u32
     ensures { AddsScaled ghash_field scalar.now values.now sums.old sums.new result }
 {
-    c_arithmetic::add_scaled(sums, *scalar, values)
+    c_arithmetic::add_scaled::<u64x2>(sums, *scalar, values)
 }
 
 /// The square of each element.
@@ -91,7 +92,7 @@ pub extern "C" fn bf_g128_product(values: &[Wide], product: &mut Wide) -> u32
 pub extern "C" fn bf_g128_dot_product(left: &[Wide], right: &[Wide], sum: &mut Wide) -> u32
     ensures { TakesDotProduct ghash_field left.now right.now sum.old sum.new result }
 {
-    c_arithmetic::dot_product(left, right, sum)
+    c_arithmetic::dot_product::<u64x2>(left, right, sum)
 }
 
 /// The value at each point of the polynomial with these coefficients, the constant one first; any number of coefficients.

@@ -4,6 +4,7 @@ ghost use Rattle.c_arithmetic.specs.Transforms.{ButterfliesForward, ButterfliesI
 ghost use Rattle.c_arithmetic.specs.Fields.{wide_number};
 
 use c_arithmetic::Wide;
+use std::simd::prelude::*;
 
 /// low += scalar * high, and then high += low, at each place.
 #[unsafe(no_mangle)]
@@ -14,7 +15,7 @@ pub extern "C" fn bf_g128_butterfly_forward(
 ) -> u32
     ensures { ButterfliesForward (wide_number scalar.now) low.old high.old low.new high.new result }
 {
-    c_arithmetic::butterfly_forward(low, high, *scalar)
+    c_arithmetic::butterfly_forward::<u64x2>(low, high, *scalar)
 }
 
 /// high += low, and then low += scalar * high, at each place.
@@ -26,7 +27,7 @@ pub extern "C" fn bf_g128_butterfly_inverse(
 ) -> u32
     ensures { ButterfliesInverse (wide_number scalar.now) low.old high.old low.new high.new result }
 {
-    c_arithmetic::butterfly_inverse(low, high, *scalar)
+    c_arithmetic::butterfly_inverse::<u64x2>(low, high, *scalar)
 }
 
 /// The four lowest stages of an additive transform over runs of sixteen values, the first of which is run first_run; four shifts, and a
@@ -40,7 +41,7 @@ pub extern "C" fn bf_g128_low_stages(
 ) -> u32
     ensures { RunsLowStages shifts.now basis.now first_run values.old values.new result }
 {
-    c_arithmetic::low_stages(values, shifts, basis, first_run)
+    c_arithmetic::low_stages::<u64x2>(values, shifts, basis, first_run)
 }
 
 /// The value at each of 2^m points, m from 0 to 40, of the polynomial with these coefficients in the basis of subspace polynomials.
@@ -48,7 +49,7 @@ pub extern "C" fn bf_g128_low_stages(
 pub extern "C" fn bf_g128_transform(values: &mut [Wide], shift: &Wide) -> u32
     ensures { Transforms (wide_number shift.now) values.old values.new result }
 {
-    c_arithmetic::transform(values, *shift)
+    c_arithmetic::transform::<u64x2>(values, *shift)
 }
 
 /// The coefficients that g128_transform takes to these values.
@@ -56,5 +57,5 @@ pub extern "C" fn bf_g128_transform(values: &mut [Wide], shift: &Wide) -> u32
 pub extern "C" fn bf_g128_inverse_transform(values: &mut [Wide], shift: &Wide) -> u32
     ensures { InvertsTransform (wide_number shift.now) values.old values.new result }
 {
-    c_arithmetic::inverse_transform(values, *shift)
+    c_arithmetic::inverse_transform::<u64x2>(values, *shift)
 }

@@ -5,13 +5,14 @@ ghost use Rattle.c_arithmetic.specs.Calls.{AddsScaled, Multiplies, MultipliesBy,
 ghost use Rattle.c_arithmetic.specs.Fields.{ghash_field, wide_number};
 
 use c_arithmetic::Wide;
+use std::simd::prelude::*;
 
 /// The same as `bf_g128_multiply`.
 #[unsafe(no_mangle)]
 pub extern "C" fn bf_g128_multiply_wide(left: &[Wide], right: &[Wide], products: &mut [Wide]) -> u32
     ensures { Multiplies ghash_field left.now right.now products.old products.new result }
 {
-    c_arithmetic::multiply_wide(left, right, products)
+    c_arithmetic::multiply::<u64x4>(left, right, products)
 }
 
 /// The same as `bf_g128_multiply_by`.
@@ -23,7 +24,7 @@ pub extern "C" fn bf_g128_multiply_by_wide(
 ) -> u32
     ensures { MultipliesBy ghash_field scalar.now values.now products.old products.new result }
 {
-    c_arithmetic::multiply_by_wide(values, *scalar, products)
+    c_arithmetic::multiply_by::<u64x4>(values, *scalar, products)
 }
 
 /// The same as `bf_g128_add_scaled`.
@@ -31,7 +32,7 @@ pub extern "C" fn bf_g128_multiply_by_wide(
 pub extern "C" fn bf_g128_add_scaled_wide(sums: &mut [Wide], scalar: &Wide, values: &[Wide]) -> u32
     ensures { AddsScaled ghash_field scalar.now values.now sums.old sums.new result }
 {
-    c_arithmetic::add_scaled_wide(sums, *scalar, values)
+    c_arithmetic::add_scaled::<u64x4>(sums, *scalar, values)
 }
 
 /// The same as `bf_g128_dot_product`.
@@ -39,7 +40,7 @@ pub extern "C" fn bf_g128_add_scaled_wide(sums: &mut [Wide], scalar: &Wide, valu
 pub extern "C" fn bf_g128_dot_product_wide(left: &[Wide], right: &[Wide], sum: &mut Wide) -> u32
     ensures { TakesDotProduct ghash_field left.now right.now sum.old sum.new result }
 {
-    c_arithmetic::dot_product_wide(left, right, sum)
+    c_arithmetic::dot_product::<u64x4>(left, right, sum)
 }
 
 /// The same as `bf_g128_butterfly_forward`.
@@ -51,7 +52,7 @@ pub extern "C" fn bf_g128_butterfly_forward_wide(
 ) -> u32
     ensures { ButterfliesForward (wide_number scalar.now) low.old high.old low.new high.new result }
 {
-    c_arithmetic::butterfly_forward_wide(low, high, *scalar)
+    c_arithmetic::butterfly_forward::<u64x4>(low, high, *scalar)
 }
 
 /// The same as `bf_g128_butterfly_inverse`.
@@ -63,7 +64,7 @@ pub extern "C" fn bf_g128_butterfly_inverse_wide(
 ) -> u32
     ensures { ButterfliesInverse (wide_number scalar.now) low.old high.old low.new high.new result }
 {
-    c_arithmetic::butterfly_inverse_wide(low, high, *scalar)
+    c_arithmetic::butterfly_inverse::<u64x4>(low, high, *scalar)
 }
 
 /// The same as `bf_g128_low_stages`.
@@ -76,7 +77,7 @@ pub extern "C" fn bf_g128_low_stages_wide(
 ) -> u32
     ensures { RunsLowStages shifts.now basis.now first_run values.old values.new result }
 {
-    c_arithmetic::low_stages_wide(values, shifts, basis, first_run)
+    c_arithmetic::low_stages::<u64x4>(values, shifts, basis, first_run)
 }
 
 /// The same as `bf_g128_transform`.
@@ -84,7 +85,7 @@ pub extern "C" fn bf_g128_low_stages_wide(
 pub extern "C" fn bf_g128_transform_wide(values: &mut [Wide], shift: &Wide) -> u32
     ensures { Transforms (wide_number shift.now) values.old values.new result }
 {
-    c_arithmetic::transform_wide(values, *shift)
+    c_arithmetic::transform::<u64x4>(values, *shift)
 }
 
 /// The same as `bf_g128_inverse_transform`.
@@ -92,5 +93,5 @@ pub extern "C" fn bf_g128_transform_wide(values: &mut [Wide], shift: &Wide) -> u
 pub extern "C" fn bf_g128_inverse_transform_wide(values: &mut [Wide], shift: &Wide) -> u32
     ensures { InvertsTransform (wide_number shift.now) values.old values.new result }
 {
-    c_arithmetic::inverse_transform_wide(values, *shift)
+    c_arithmetic::inverse_transform::<u64x4>(values, *shift)
 }

@@ -8,22 +8,27 @@ ghost use Rattle.ghash_slices.specs.LowStages.{ghash_product};
 ghost use Rattle.c_arithmetic.specs.Lanes.{product_at};
 
 use crate::Wide;
-use ghash_slices::{number_at, put_number};
+use ghash_slices::{Width, number_at, put_number};
 use word_carryless::{
     multiply_128, multiply_128_twice, multiply_mod_128, multiply_mod_128_four_times,
     multiply_mod_128_twice, reduce_128,
 };
 
-/// Multiplies each word by the other word at its place, two at once or four. The slices are of one length.
-pub(crate) fn multiply_words(words: &mut [Wide], others: &[Wide], by_fours: bool)
+/// Multiplies each word by the other word at its place, four at a time, and what is left two at once. The slices are of one length.
+pub(crate) fn multiply_each<V: Width>(words: &mut [Wide], others: &[Wide])
     requires { length words.old ≡ length others.now }
     ensures { map wide_number words.new ≡ zip2 ghash_product (map wide_number words.old) (map wide_number others.now) }
 {
-    if by_fours {
-        multiply_by_fours(words, others);
-    } else {
-        multiply_by_pairs(words, others, 0);
+    let four_count = words.len() / 4;
+    'fours: for four in 0..four_count {
+        let at = 4 * four;
+        let products = V::multiply_four(four_at(words, at), four_at(others, at));
+        put_number(words, at, products[0]);
+        put_number(words, at + 1, products[1]);
+        put_number(words, at + 2, products[2]);
+        put_number(words, at + 3, products[3]);
     }
+    multiply_by_pairs(words, others, 4 * four_count);
 }
 
 // From a place on, two at once.
@@ -51,25 +56,20 @@ fn multiply_by_pairs(words: &mut [Wide], others: &[Wide], start: usize)
     }
 }
 
-// Four at once, which is made for x86-64-v3.
-fn multiply_by_fours(words: &mut [Wide], others: &[Wide])
-    requires { length words.old ≡ length others.now }
-    ensures { map wide_number words.new ≡ zip2 ghash_product (map wide_number words.old) (map wide_number others.now) }
+/// The sum of the products at each place, which is 0 of none: two at once or four. The slices are of one length.
+pub(crate) fn dot_of_words<V: Width>(left: &[Wide], right: &[Wide]) -> u128
+    requires { length left.now ≡ length right.now }
+    ensures { result ≡ dot_of ghash_product wide_number left.now right.now }
 {
-    let four_count = words.len() / 4;
-    'fours: for four in 0..four_count {
-        let at = 4 * four;
-        let products = multiply_mod_128_four_times(four_at(words, at), four_at(others, at));
-        put_number(words, at, products[0]);
-        put_number(words, at + 1, products[1]);
-        put_number(words, at + 2, products[2]);
-        put_number(words, at + 3, products[3]);
+    if V::IS_WIDE {
+        dot_by_fours(left, right)
+    } else {
+        dot_by_pairs(left, right)
     }
-    multiply_by_pairs(words, others, 4 * four_count);
 }
 
-/// The sum of the products at each place, which is 0 of none: two at once, and reduced once. The slices are of one length.
-pub(crate) fn dot_by_pairs(left: &[Wide], right: &[Wide]) -> u128
+// Two at once, and reduced once.
+fn dot_by_pairs(left: &[Wide], right: &[Wide]) -> u128
     requires { length left.now ≡ length right.now }
     ensures { result ≡ dot_of ghash_product wide_number left.now right.now }
 {
@@ -95,8 +95,8 @@ pub(crate) fn dot_by_pairs(left: &[Wide], right: &[Wide]) -> u128
     reduce_128(low, high)
 }
 
-/// The same with four at once, made for x86-64-v3.
-pub(crate) fn dot_by_fours(left: &[Wide], right: &[Wide]) -> u128
+// Four at once, which is made for x86-64-v3.
+fn dot_by_fours(left: &[Wide], right: &[Wide]) -> u128
     requires { length left.now ≡ length right.now }
     ensures { result ≡ dot_of ghash_product wide_number left.now right.now }
 {

@@ -25,13 +25,11 @@ pub use crate::bytes::multiply_bytes;
 pub use crate::kernels::{Basis, Gf2, Level2, Level4, Level8, Level16, Level32, Level64, Level128};
 pub use crate::linear::{map_bytes, map_wide};
 pub use crate::messages::{gcm_ghash, ghash, polyval, tags_are_equal};
-pub use crate::products::{dot_product, dot_product_wide, multiply, multiply_wide};
-pub use crate::scalars::{add_scaled, add_scaled_wide, multiply_by, multiply_by_wide};
+pub use crate::products::{dot_product, multiply};
+pub use crate::scalars::{add_scaled, multiply_by};
 pub use crate::shards::{encode, reconstruct, reconstruct_data, verify};
 pub use crate::transforms::{
-    butterfly_forward, butterfly_forward_wide, butterfly_inverse, butterfly_inverse_wide,
-    inverse_transform, inverse_transform_wide, low_stages, low_stages_wide, transform,
-    transform_wide,
+    butterfly_forward, butterfly_inverse, inverse_transform, low_stages, transform,
 };
 pub use crate::wide::Wide;
 pub use crate::words::{Cubic, Holds};

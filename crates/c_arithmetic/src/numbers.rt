@@ -8,7 +8,8 @@ use crate::Wide;
 pub(crate) fn numbers_of<const N: usize>(words: &[Wide]) -> [u128; N]
     requires size { N ≤ 128 }
     requires few { length words.now ≤ N }
-    ensures { take (length words.now) result ≡ map wide_number words.now }
+    ensures first { take (length words.now) result ≡ map wide_number words.now }
+    ensures whole { length words.now ≡ N → result ≡ map wide_number words.now }
 {
     let mut numbers = [0; N];
     for place in 0..words.len() {
@@ -22,11 +23,7 @@ pub(crate) fn four_numbers(words: &[Wide]) -> [u128; 4]
     requires { length words.now ≡ 4 }
     ensures { result ≡ map wide_number words.now }
 {
-    let mut numbers = [0; 4];
-    for place in 0..4 {
-        numbers[place] = words[place].number();
-    }
-    numbers
+    numbers_of::<4>(words)
 }
 
 /// Makes every word 0.

@@ -9,6 +9,7 @@ mod laws;
 mod low_stages;
 mod multiples;
 mod slices;
+mod width;
 mod words;
 
 ghost use Rattle.std.specs.Prelude.{◌≡◌};
@@ -20,9 +21,10 @@ pub use crate::laws::{
 pub use crate::low_stages::{LOW_STAGES, LowStageTwiddles, run_low_stages};
 pub use crate::multiples::Multiples;
 pub use crate::slices::{
-    LEAST_IN_LANES, LEAST_TABLED, add_each, add_in_lanes, add_in_wide_lanes, add_multiples,
-    butterflies_restore, butterfly_forward, butterfly_inverse, mul_slice,
+    LEAST_IN_LANES, LEAST_TABLED, add_each, add_in_lanes, add_multiples, butterflies_restore,
+    butterfly_forward, butterfly_inverse, mul_slice,
 };
+pub use crate::width::Width;
 pub use crate::words::{WideWord, number_at, numbers_are_values, put_number};
 use word_carryless::{multiply_mod_128, square_mod_128};
 pub use word_carryless::{masked_product, masked_products};

@@ -5,9 +5,10 @@ ghost use Rattle.ghash_slices.specs.LowStages.{ghash_product, HoldSums, HoldValu
 ghost use Rattle.ghash_slices.specs.Stages.{stage};
 ghost use Rattle.ghash_slices.specs.Runs.{AreLowSums, AreWithImages, HoldsRunStage, HoldsRunSums, run_factor, with_pair};
 
+use crate::width::Width;
 use crate::words::{WideWord, number_at, numbers_are_values, put_number};
 use std::alloc::{AllocError, Allocator};
-use word_carryless::{multiply_mod_128_four_times, multiply_mod_128_twice};
+use std::simd::prelude::*;
 use word_tables::sum_of_images;
 
 /// The stages that `LowStageTwiddles::forward` runs.
@@ -79,13 +80,11 @@ impl<A: Allocator> LowStageTwiddles<A> {
         ensures sums { HoldSums (shifts_of self.now) (basis_of self.now) first_run values.old values.new }
         ensures values { HoldValuesAtCantorPoints (shifts_of self.now) (basis_of self.now) first_run values.old values.new }
     {
-        numbers_are_values(values);
-        run_low_stages(&self.shifts, &self.basis, values, first_run as u128, false);
-        numbers_are_values(values);
+        self.forward_in::<u64x2>(values, first_run);
     }
 
-    /// As `forward`, with four products at once. It is made for x86-64-v3, whose vectors have 256 bits; on x86-64-v2 `forward` is faster.
-    pub fn forward_by_fours(&self, values: &mut [u128], first_run: usize)
+    /// As `forward`, in vectors of a width: `u64x4` is made for x86-64-v3, whose vectors have 256 bits; on x86-64-v2 `forward` is faster.
+    pub fn forward_in<V: Width>(&self, values: &mut [u128], first_run: usize)
         requires whole { length values.old % 16 ≡ 0 }
         requires numbered { values.old ≢ [] → first_run + length values.old / 16 ≤ 2 ^ (length (basis_of self.now) - 3) }
         ensures length { length values.new ≡ length values.old }
@@ -93,19 +92,18 @@ impl<A: Allocator> LowStageTwiddles<A> {
         ensures values { HoldValuesAtCantorPoints (shifts_of self.now) (basis_of self.now) first_run values.old values.new }
     {
         numbers_are_values(values);
-        run_low_stages(&self.shifts, &self.basis, values, first_run as u128, true);
+        run_low_stages::<V, u128>(&self.shifts, &self.basis, values, first_run as u128);
         numbers_are_values(values);
     }
 }
 
 /// What `LowStageTwiddles::forward` does, by four shifts and a basis of at least three elements, over words that hold numbers. The numbers
-/// of the runs have at most 127 bits. With wide vectors it takes four products at once, which is made for x86-64-v3, and else two.
-pub fn run_low_stages<W: WideWord>(
+/// of the runs have at most 127 bits. In vectors of 128 bits two products share the lanes, and in vectors of 256 bits four.
+pub fn run_low_stages<V: Width, W: WideWord>(
     shifts: &[u128; 4],
     basis: &[u128],
     values: &mut [W],
     first_run: u128,
-    wide_vectors: bool,
 )
     requires basis { 3 ≤ length basis.now }
     requires whole { length values.old % 16 ≡ 0 }
@@ -124,7 +122,7 @@ pub fn run_low_stages<W: WideWord>(
             twiddles = with_images(&twiddles, basis, number ^ next);
             number = next;
         }
-        transform_run(values, 16 * run, &twiddles, &low, wide_vectors);
+        transform_run::<V, W>(values, 16 * run, &twiddles, &low);
     }
 }
 
@@ -154,12 +152,11 @@ fn with_images(twiddles: &[u128; 4], basis: &[u128], bits: u128) -> [u128; 4]
 }
 
 // The four stages of the run of sixteen values from `start` on, by its twiddles and the sums of three elements of the basis.
-fn transform_run<W: WideWord>(
+fn transform_run<V: Width, W: WideWord>(
     values: &mut [W],
     start: usize,
     twiddles: &[u128; 4],
     low: &[u128; 8],
-    wide_vectors: bool,
 )
     requires { start + 16 ≤ length values.old }
     ensures length { length values.new ≡ length values.old }
@@ -167,72 +164,15 @@ fn transform_run<W: WideWord>(
     ensures before { (p : ℕ) → p < start → slice_index (map W.value values.new) p ≡ slice_index (map W.value values.old) p }
     ensures behind { (p : ℕ) → start + 16 ≤ p → slice_index (map W.value values.new) p ≡ slice_index (map W.value values.old) p }
 {
-    run_stage(values, start, 3, twiddles, low, wide_vectors);
-    run_stage(values, start, 2, twiddles, low, wide_vectors);
-    run_stage(values, start, 1, twiddles, low, wide_vectors);
-    run_stage(values, start, 0, twiddles, low, wide_vectors);
+    run_stage::<V, W>(values, start, 3, twiddles, low);
+    run_stage::<V, W>(values, start, 2, twiddles, low);
+    run_stage::<V, W>(values, start, 1, twiddles, low);
+    run_stage::<V, W>(values, start, 0, twiddles, low);
 }
 
 // One stage of that run, pair by pair: two places whose numbers differ in the bit of the stage alone are a pair.
 #[inline]
-fn run_stage<W: WideWord>(
-    values: &mut [W],
-    start: usize,
-    bit: usize,
-    twiddles: &[u128; 4],
-    low: &[u128; 8],
-    wide_vectors: bool,
-)
-    requires bit { bit < 4 }
-    requires whole { start + 16 ≤ length values.old }
-    ensures length { length values.new ≡ length values.old }
-    ensures run { HoldsRunStage (run_factor twiddles.now low.now) bit start (map W.value values.old) (map W.value values.new) }
-    ensures before { (p : ℕ) → p < start → slice_index (map W.value values.new) p ≡ slice_index (map W.value values.old) p }
-    ensures behind { (p : ℕ) → start + 16 ≤ p → slice_index (map W.value values.new) p ≡ slice_index (map W.value values.old) p }
-{
-    if wide_vectors {
-        stage_by_fours(values, start, bit, twiddles, low);
-    } else {
-        stage_by_pairs(values, start, bit, twiddles, low);
-    }
-}
-
-// The stage with two products at once, which share the lanes of vectors.
-#[inline]
-fn stage_by_pairs<W: WideWord>(
-    values: &mut [W],
-    start: usize,
-    bit: usize,
-    twiddles: &[u128; 4],
-    low: &[u128; 8],
-)
-    requires bit { bit < 4 }
-    requires whole { start + 16 ≤ length values.old }
-    ensures length { length values.new ≡ length values.old }
-    ensures run { HoldsRunStage (run_factor twiddles.now low.now) bit start (map W.value values.old) (map W.value values.new) }
-    ensures before { (p : ℕ) → p < start → slice_index (map W.value values.new) p ≡ slice_index (map W.value values.old) p }
-    ensures behind { (p : ℕ) → start + 16 ≤ p → slice_index (map W.value values.new) p ≡ slice_index (map W.value values.old) p }
-{
-    let half = half_of(bit);
-    for turn in 0..4 {
-        let first = start + lower_of(2 * turn, half);
-        let first_upper = first + half;
-        let second = start + lower_of(2 * turn + 1, half);
-        let second_upper = second + half;
-        let (first_product, second_product) = multiply_mod_128_twice(
-            twiddles[bit] ^ low[2 * turn / half],
-            twiddles[bit] ^ low[(2 * turn + 1) / half],
-            number_at(values, first_upper),
-            number_at(values, second_upper),
-        );
-        add_to_pair(values, first, first_upper, first_product);
-        add_to_pair(values, second, second_upper, second_product);
-    }
-}
-
-// The stage with four products at once.
-#[inline]
-fn stage_by_fours<W: WideWord>(
+fn run_stage<V: Width, W: WideWord>(
     values: &mut [W],
     start: usize,
     bit: usize,
@@ -268,7 +208,7 @@ fn stage_by_fours<W: WideWord>(
             number_at(values, third_upper),
             number_at(values, fourth_upper),
         ];
-        let products = multiply_mod_128_four_times(scalars, uppers);
+        let products = V::multiply_four(scalars, uppers);
         add_to_pair(values, first, first_upper, products[0]);
         add_to_pair(values, second, second_upper, products[1]);
         add_to_pair(values, third, third_upper, products[2]);

@@ -14,7 +14,9 @@ ghost use Rattle.ghash_slices.specs.Stages.{add_multiple};
 
 use crate::blocks::{bytes_from, count_from, value_at};
 use crate::multiples::{Multiples, times_x};
+use crate::width::Width;
 use crate::words::{WideWord, number_at, numbers_are_values, put_number};
+use std::simd::prelude::*;
 use word_carryless::{multiply_mod_128, multiply_mod_128_twice};
 use word_tables::LinearMap;
 
@@ -31,7 +33,7 @@ pub fn mul_slice(values: &mut [u128], scalar: u128)
     ensures { values.new ≡ map (λ x. mul_mod 128 ghash_modulus scalar x) values.old }
 {
     numbers_are_values(values);
-    multiply_words(values, scalar);
+    multiply_all(values, scalar);
     numbers_are_values(values);
 }
 
@@ -44,7 +46,7 @@ pub fn butterfly_forward(lo: &mut [u128], hi: &mut [u128], scalar: u128)
 {
     numbers_are_values(lo);
     numbers_are_values(hi);
-    add_multiples(lo, hi, scalar, false);
+    add_multiples::<u64x2, u128>(lo, hi, scalar);
     add_each(hi, lo);
     numbers_are_values(lo);
     numbers_are_values(hi);
@@ -61,7 +63,7 @@ pub fn butterfly_inverse(lo: &mut [u128], hi: &mut [u128], scalar: u128)
     numbers_are_values(lo);
     numbers_are_values(hi);
     add_each(hi, lo);
-    add_multiples(lo, hi, scalar, false);
+    add_multiples::<u64x2, u128>(lo, hi, scalar);
     numbers_are_values(lo);
     numbers_are_values(hi);
 }
@@ -72,7 +74,7 @@ pub fn butterflies_restore()
 {}
 
 // Multiplies each value by the scalar, as `mul_slice` does.
-fn multiply_words<W: WideWord>(values: &mut [W], scalar: u128)
+fn multiply_all<W: WideWord>(values: &mut [W], scalar: u128)
     ensures { map W.value values.new ≡ map (λ x. mul_mod 128 ghash_modulus scalar x) (map W.value values.old) }
 {
     if values.len() < LEAST_IN_LANES {
@@ -85,17 +87,15 @@ fn multiply_words<W: WideWord>(values: &mut [W], scalar: u128)
 }
 
 /// Adds to each value the product of `scalar` and the other value at its place. The slices are of one length. From 10 values on it works in
-/// lanes, and from 400 on by tables in memory; with wide vectors, made for x86-64-v3, in lanes at every length from 10 on.
-pub fn add_multiples<W: WideWord>(values: &mut [W], others: &[W], scalar: u128, wide_vectors: bool)
+/// lanes, and from 400 on by tables in memory; in vectors of 256 bits, in lanes at every length from 10 on.
+pub fn add_multiples<V: Width, W: WideWord>(values: &mut [W], others: &[W], scalar: u128)
     requires { length values.old ≡ length others.now }
     ensures { map W.value values.new ≡ zip2 (add_multiple ghash_product scalar) (map W.value values.old) (map W.value others.now) }
 {
     if values.len() < LEAST_IN_LANES {
         add_products(values, others, 0, scalar);
-    } else if wide_vectors {
-        add_in_wide_lanes(values, others, &Multiples::new(scalar));
-    } else if values.len() < LEAST_TABLED {
-        add_in_lanes(values, others, &Multiples::new(scalar));
+    } else if V::IS_WIDE || values.len() < LEAST_TABLED {
+        add_in_lanes::<V, W>(values, others, &Multiples::new(scalar));
     } else {
         add_by_tables(values, others, scalar);
     }
@@ -198,22 +198,13 @@ fn add_products<W: WideWord>(values: &mut [W], others: &[W], start: usize, scala
 }
 
 /// Adds to each value the product of the scalar and the other value at its place, in blocks of sixteen, and then what is left behind them.
-/// No address depends on a value. The slices are of one length.
-pub fn add_in_lanes<W: WideWord>(values: &mut [W], others: &[W], multiples: &Multiples)
+/// In vectors of 256 bits two blocks go at once while there are two. No address depends on a value. The slices are of one length.
+pub fn add_in_lanes<V: Width, W: WideWord>(values: &mut [W], others: &[W], multiples: &Multiples)
     requires { length values.old ≡ length others.now }
     ensures { map W.value values.new
         ≡ zip2 (add_multiple ghash_product (scalar_of multiples.now)) (map W.value values.old) (map W.value others.now) }
 {
-    add_blocks(values, others, 0, multiples);
-}
-
-/// The same with two blocks at once while there are two, made for x86-64-v3, whose vectors have 256 bits.
-pub fn add_in_wide_lanes<W: WideWord>(values: &mut [W], others: &[W], multiples: &Multiples)
-    requires { length values.old ≡ length others.now }
-    ensures { map W.value values.new
-        ≡ zip2 (add_multiple ghash_product (scalar_of multiples.now)) (map W.value values.old) (map W.value others.now) }
-{
-    let pairs = values.len() / 32;
+    let pairs = pairs_of_blocks::<V>(values.len());
     for pair in 0..pairs {
         let start = 32 * pair;
         let first = bytes_from(others, start);
@@ -223,6 +214,14 @@ pub fn add_in_wide_lanes<W: WideWord>(values: &mut [W], others: &[W], multiples:
         add_bytes(values, start + 16, &second_products);
     }
     add_blocks(values, others, 2 * pairs, multiples);
+}
+
+// How many pairs of blocks go at once.
+#[inline]
+fn pairs_of_blocks<V: Width>(length: usize) -> usize
+    ensures { 32 * result ≤ length }
+{
+    if V::IS_WIDE { length / 32 } else { 0 }
 }
 
 // Adds the products of the other values in the blocks from number `first` on, and behind them.

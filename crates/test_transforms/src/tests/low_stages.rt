@@ -2,6 +2,7 @@
 use field_base::traits::TowerLevel;
 use field_element::Ghash128;
 use ghash_slices::{LOW_STAGES, LowStageTwiddles};
+use std::simd::prelude::*;
 use std::test::Fail;
 
 // Cantor vectors 1 to 3.
@@ -63,9 +64,9 @@ fn runs_of_given_twiddles(rt: HostRuntime) -> Result<(), Fail> {
     let mut at_three = ones_at(3);
     twiddles.forward(&mut at_three, 0);
     assert!(rt; counts_from(&at_one, 0) && counts_pairs(&at_two));
-    let mut by_fours = ones_at(3);
-    twiddles.forward_by_fours(&mut by_fours, 0);
-    assert!(rt; at_three[3] == 3 && at_three[63] == 0x2b5 && by_fours == at_three);
+    let mut wide = ones_at(3);
+    twiddles.forward_in::<u64x4>(&mut wide, 0);
+    assert!(rt; at_three[3] == 3 && at_three[63] == 0x2b5 && wide == at_three);
     let mut none: [u128; 0] = [];
     twiddles.forward(&mut none, usize::MAX);
     Ok(())

@@ -1,5 +1,6 @@
 // Worked rows of products and butterflies of slices.
 use ghash_slices::{add_multiples, butterfly_forward, butterfly_inverse, mul, mul_slice, square};
+use std::simd::prelude::*;
 use test_support::{fill, next_number};
 
 #[test]
@@ -49,7 +50,7 @@ fn kernels_agree(places: usize, scalar: u128) -> bool {
     let (mut back, mut back_high) = (lo, hi);
     butterfly_inverse(&mut back[..count], &mut back_high[..count], scalar);
     let mut wide = values;
-    add_multiples(&mut wide[..count], &others[..count], scalar, true);
+    add_multiples::<u64x4, u128>(&mut wide[..count], &others[..count], scalar);
     let mut agree = back == values && back_high == others && wide == lo;
     for place in 0..401 {
         let (value, other) = (values[place], others[place]);

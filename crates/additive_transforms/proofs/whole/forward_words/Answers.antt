@@ -7,7 +7,7 @@ use Rattle.additive_transforms.proofs.whole.forward_words.Goals as goal
 
 pub stages_down_to-requires-clause-room : goal.stages_down_to-requires-clause-room
 stages_down_to-requires-clause-room g c =
-    let fits = pairs_fit c.stages_of-stages.result c.stages_of-stages.ensures.stages.0 in omega (arith, fits, c.new-kernel.ensures.count)
+    let fits = pairs_fit c.stages_of-stages.result c.stages_of-stages.ensures.stages.0 in omega (arith, fits, c.new-kernel.ensures)
 
 pub run_low_stages-requires-clause-whole : goal.run_low_stages-requires-clause-whole
 run_low_stages-requires-clause-whole g c =

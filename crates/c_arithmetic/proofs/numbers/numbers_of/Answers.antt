@@ -15,10 +15,18 @@ loop-place-preserved g c =
           ∙ sym (map_more wide_number words place c.index-words-place.result within),
     )
 
-pub returns : goal.returns
-returns g c =
+pub returns-clause-first : goal.returns-clause-first
+returns-clause-first g c =
     let place = c.loop-place.place in
     let words = c.args.words.now in
     let all : place ≡ length words = omega arith in
     let all_read : length words ≤ place = omega arith in
     ap (λ (n : ℕ). take n c.loop-place.numbers) (sym all) ∙ c.loop-place.invariant.1 ∙ ap (map wide_number) (take_all place words all_read)
+
+pub returns-clause-whole : goal.returns-clause-whole
+returns-clause-whole g c whole =
+    let place = c.loop-place.place in
+    let words = c.args.words.now in
+    let all_written : length c.loop-place.numbers ≤ place = omega (arith, whole, c.loop-place.invariant.0) in
+    let all_read : length words ≤ place = omega arith in
+    sym (take_all place c.loop-place.numbers all_written) ∙ c.loop-place.invariant.1 ∙ ap (map wide_number) (take_all place words all_read)

@@ -4,5 +4,5 @@ use Rattle.ghash_slices.proofs.slices.mul_slice.Goals as goal
 
 pub returns : goal.returns
 returns c =
-    sym c.numbers_are_values-2.ensures ∙ c.multiply_words.ensures
+    sym c.numbers_are_values-2.ensures ∙ c.multiply_all.ensures
     ∙ ap (map (λ x. mul_mod 128 ghash_modulus c.args.scalar x)) c.numbers_are_values.ensures

@@ -8,21 +8,21 @@ use Rattle.ghash_slices.specs.Blocks.{HoldsPlaces}
 use Rattle.ghash_slices.specs.LowStages.{ghash_product}
 use Rattle.ghash_slices.proofs.SliceBlocks.{held_zip2, none_held, pair_written, then_held}
 use Rattle.c_arithmetic.specs.Lanes.{product_at}
-use Rattle.c_arithmetic.proofs.lanes.multiply_by_fours.Goals as goal
+use Rattle.c_arithmetic.proofs.lanes.multiply_each.Goals as goal
 
 pub fours-init : goal.fours-init
-fours-init c =
+fours-init g c =
     let old = map wide_number c.args.words.now in none_held (product_at old (map wide_number c.args.others.now)) 0 old
 
 pub fours-preserved : goal.fours-preserved
-fours-preserved c =
+fours-preserved g c =
     let old = map wide_number c.args.words.now in
     let others = map wide_number c.args.others.now in
     let at : ℕ = 4 * c.fours.four in
     let long = length-map c.fours.words wide_number in
     let long' = length-map c.put_number-in-fours.new.words wide_number in
     let next : at + 2 + 2 ≡ 4 * (c.fours.four + 1) = omega arith in
-    let products = c.multiply_mod_128_four_times-products in
+    let products = c.multiply_four-products in
     let behind = c.fours.invariant.behind in
     let are = products.ensures ∙ ap₂ (zip2 ghash_product) c.four_at.ensures c.four_at-in-fours.ensures in
     let first : at ≤ at = omega arith in
@@ -49,7 +49,7 @@ fours-preserved c =
     c.fours.invariant))
 
 pub returns : goal.returns
-returns c =
+returns g c =
     let old = map wide_number c.args.words.now in
     let now = map wide_number c.fours.words in
     let others = map wide_number c.args.others.now in

@@ -6,7 +6,7 @@ use Rattle.ghash_slices.specs.Runs.{with_pair}
 use Rattle.ghash_slices.proofs.RunPlaces.{upper_inside}
 use Rattle.ghash_slices.proofs.RunStages.{pair_done, StageSoFar, stage_ends, stage_starts, upper_read}
 use Rattle.ghash_slices.proofs.WordValues.{values_fit}
-use Rattle.ghash_slices.proofs.low_stages.stage_by_fours.Goals as goal
+use Rattle.ghash_slices.proofs.low_stages.run_stage.Goals as goal
 
 pub overflow_add-first_upper : goal.overflow_add-first_upper
 overflow_add-first_upper g c =
@@ -92,7 +92,7 @@ loop-turn-preserved g c =
     let fits = values_fit 128 value g.W.WideWord.range_law c.args.values.now in
     let few : 4 * turn + 3 < 8 = omega arith in
     let half = c.half_of-half.ensures in
-    let products = c.multiply_mod_128_four_times-products in
+    let products = c.multiply_four-products in
     let so_far = c.loop-turn.invariant.1 in
     let first : ℕ = start + c.lower_of.result in
     let first_is : first ≡ start + (2 * (4 * turn) - 4 * turn % 2 ^ bit) =

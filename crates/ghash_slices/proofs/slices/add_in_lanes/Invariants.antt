@@ -1,7 +1,7 @@
 use Rattle.std.proofs.Common.{◌*◌, map}
 use Rattle.ghash_slices.specs.Blocks.{HoldsPlaces, added_at}
 use Rattle.ghash_slices.specs.Multiples.{scalar_of}
-use Rattle.ghash_slices.proofs.slices.add_in_wide_lanes.Given as goal
+use Rattle.ghash_slices.proofs.slices.add_in_lanes.Given as goal
 
 -- the pairs of blocks before are done
 abbrev pub invariant-loop-pair : goal.invariant-loop-pair

@@ -5,10 +5,10 @@ use Rattle.ghash_slices.specs.LowStages.{ghash_product}
 use Rattle.ghash_slices.specs.Stages.{add_multiple}
 use Rattle.c_arithmetic.specs.WideLemmas.{wide_number-lt}
 use Rattle.c_arithmetic.proofs.WordNumbers.{products_at}
-use Rattle.c_arithmetic.proofs.scalars.write_multiples.Goals as goal
+use Rattle.c_arithmetic.proofs.scalars.multiply_by.Goals as goal
 
 pub returns : goal.returns
-returns c =
+returns g c =
     let words = c.args.words.now in
     let zeros = c.clear.new.words in
     let same = sym c.if-words-products.false in

@@ -5,10 +5,10 @@ use Rattle.ghash_slices.specs.LowStages.{ghash_product}
 use Rattle.ghash_slices.specs.Stages.{add_multiple}
 use Rattle.c_arithmetic.specs.WideLemmas.{wide_number-lt}
 use Rattle.c_arithmetic.proofs.WordNumbers.{changed_at}
-use Rattle.c_arithmetic.proofs.scalars.add_scaled_words.Goals as goal
+use Rattle.c_arithmetic.proofs.scalars.add_scaled.Goals as goal
 
 pub returns : goal.returns
-returns c =
+returns g c =
     let words = c.args.words.now in
     let sums = c.args.sums.now in
     record {

@@ -1,6 +1,6 @@
 use Rattle.std.proofs.Common.{◌≡◌, ◌*◌, length, map}
 use Rattle.ghash_slices.proofs.RunStages.{StageSoFar}
-use Rattle.ghash_slices.proofs.low_stages.stage_by_fours.Given as goal
+use Rattle.ghash_slices.proofs.low_stages.run_stage.Given as goal
 
 -- the pairs before are done
 abbrev pub invariant-loop-turn : goal.invariant-loop-turn
