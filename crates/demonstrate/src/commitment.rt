@@ -1,6 +1,6 @@
 // Commits to standard input, words of eight bytes, by a Merkle tree over SHA-256; grinds a proof of work in a transcript that has
-// observed the root; opens the commitment at the place that the transcript samples; and verifies that. With the same witness and
-// path another word is not accepted.
+// observed the root; opens the commitment at the place that the transcript samples; and verifies that. Then it tries one other word
+// at the next place, with the witness and the path of the true one.
 ghost use Rattle.std.specs.Prelude.{◌≡◌, ◌≤◌, ◌^◌, length};
 ghost use Rattle.transcript_elements.specs.Grinding.{MayGrind};
 

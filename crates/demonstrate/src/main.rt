@@ -1,5 +1,7 @@
-//! Runs protocols of the library on examples, one after the other, as its arguments name them: `sumcheck`, `commitment` and `codeword`.
-//! `commitment` and `codeword` work on the bytes of standard input.
+//! Runs protocols of the library, one after the other, as its arguments name them: `sumcheck`, `commitment` and `codeword`.
+//!
+//! `sumcheck` has values of its own; `commitment` and `codeword` work on the bytes of standard input. `--help` prints what the arguments
+//! may be. The exit status is 0, or 1 after an error, which standard error then names.
 #![tactic(auto)]
 
 mod codeword;
@@ -13,6 +15,7 @@ use std::io::Read;
 
 const USAGE: &str = "usage: demonstrate sumcheck | commitment | codeword ..";
 
+/// Runs the protocol of that name.
 fn run(rt: &HostRuntime, name: &str, input: &[u8]) -> Result<()> {
     match name {
         "sumcheck" => sumcheck::run(rt),
@@ -23,9 +26,18 @@ fn run(rt: &HostRuntime, name: &str, input: &[u8]) -> Result<()> {
 }
 
 fn main(rt: HostRuntime) -> Result<()> {
-    let words: Vec<String> = env::args(&rt)?.skip(1).collect(rt.alloc())?;
-    if words.is_empty() {
+    let mut args = env::args(&rt).context("reading the command line")?;
+    let _program = args.next();
+    let mut words = Vec::new(rt.alloc());
+    for word in args {
+        words.push(word)?;
+    }
+    let Some(first) = words.first() else {
         bail!("{USAGE}")
+    };
+    if first.as_str() == "--help" {
+        println!(rt; "{USAGE}")?;
+        return Ok(());
     }
     let mut bytes = Vec::new(rt.alloc());
     rt.stdin()

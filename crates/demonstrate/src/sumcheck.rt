@@ -1,5 +1,5 @@
 // Proves the sum of the products of two multilinear polynomials over the cube by the sum-check protocol, in a transcript over
-// SHA-256, and verifies the proof; then tries the messages of an honest prover with another sum.
+// SHA-256, and verifies the proof. Then it tries the messages of an honest prover with one other sum, the true one plus 1.
 ghost use Rattle.std.specs.Prelude.{◌≡◌, length, IfOk};
 
 use anyhow::Result;
@@ -26,7 +26,7 @@ fn values_from<F: Field>(alloc: Global, first: F) -> Result<Vec<F>, AllocError>
     Ok(values)
 }
 
-/// Whether the messages of an honest prover prove another sum of the products of eight values.
+/// Whether the messages of an honest prover are accepted for the sum of the products of eight values and 1.
 fn is_deceived<F: Field, C: FieldChallenger<F>>(
     alloc: Global,
     prover: &mut C,
@@ -42,7 +42,7 @@ fn is_deceived<F: Field, C: FieldChallenger<F>>(
     verify(alloc, verifier, claim, messages.as_slice(), left, right)
 }
 
-/// Whether an honest proof is accepted, and whether its messages prove another sum, in challengers that begin in the same state.
+/// Whether an honest proof is accepted, and whether its messages are for one other sum, in challengers that begin in the same state.
 fn outcomes<F: Field, C: FieldChallenger<F>>(
     alloc: Global,
     prover: &mut C,

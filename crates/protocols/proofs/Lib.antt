@@ -1,12 +1,12 @@
 mod Binding
 mod Filling
 mod OpeningTurns
+mod PathChecks
 mod Paths
 mod Points
 mod Polynomials
 mod Roots
-mod Verified
 mod Words
-pub mod Steps
-pub mod Turns
-pub mod Wholes
+pub mod SumcheckRounds
+pub mod SumcheckTurns
+pub mod SumcheckWhole

@@ -1,4 +1,4 @@
--- Two runs of the protocol that begin in one state, with one root and one witness, say the same of the witness and sample the same
+-- Two runs of an opening that begin in one state, with one root and one witness, say the same of the witness and sample the same
 -- number, so that what the prover opens is what the verifier looks at.
 use Rattle.std.proofs.Common.{◌≡◌, ◌↔◌, ℕ, ◌%◌, ◌^◌, Bool, true, List, sym, ◌∙◌, ap₂, subst}
 use Rattle.std.specs.Prelude.{IsTrue}

@@ -1,4 +1,4 @@
--- Runs of the protocol in a transcript, whose relations say where observing, checking a witness and sampling may lead.
+-- Runs of an opening in a transcript, whose relations say where observing, checking a witness and sampling may lead.
 use Rattle.std.specs.Prelude.{◌≡◌, ℕ, Bool}
 
 -- the root is observed, a witness for so many bits is checked, which says whether it works, and a number of `depth` bits is sampled

@@ -1,4 +1,4 @@
-// The prover and the verifier, over any hash function and any challenger.
+// The prover and the verifier of a commitment by a Merkle tree, over any hash function and any challenger.
 ghost use Rattle.std.specs.Prelude.{◌≡◌, ◌↔◌, ◌%◌, ◌^◌, ◌<◌, ◌≤◌, ℕ, Bool, List, true, length, IfOk, IsTrue};
 ghost use Rattle.transcript_elements.specs.declared.digest.Hash.{Hash};
 ghost use Rattle.transcript_elements.specs.Digests.{words_of};
@@ -10,6 +10,7 @@ ghost use Rattle.protocols.specs.Runs.{IsRun};
 use crate::error::ProtocolError;
 use crate::merkle_paths::{Commitment, verify};
 use crate::merkle_tree::MerkleTree;
+use crate::verdicts::both;
 use std::alloc::Allocator;
 use transcript_bytes::{ByteHasher32, ChallengerError};
 use transcript_elements::{CanObserve, GrindingChallenger, Hash};
@@ -162,11 +163,4 @@ fn check<G, W: Drop, C: GrindingChallenger<Witness = W> + CanObserve<Hash<G, u8,
     let works = challenger.check_witness(bits, witness)?;
     let number = challenger.sample_bits(depth)?;
     Ok((works, number))
-}
-
-// Whether both are true.
-fn both(one: bool, other: bool) -> bool
-    ensures { IsTrue result ↔ (IsTrue one × IsTrue other) }
-{
-    one && other
 }

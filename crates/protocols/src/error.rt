@@ -1,10 +1,10 @@
-// Why the protocol stopped.
+// Why a protocol stopped.
 use std::alloc::{AllocError, AllocFailed};
 use thiserror::Error;
 use transcript_bytes::ChallengerError;
 use transcript_elements::GrindError;
 
-/// Why the protocol stopped.
+/// Why a protocol stopped.
 #[derive(Clone, Copy, Debug, Error)]
 pub enum ProtocolError {
     /// Memory was refused.

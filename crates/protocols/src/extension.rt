@@ -1,4 +1,4 @@
-// The code: 2^k symbols of a message, and as many of parity.
+// The low-degree extension of a message, which is a Reed-Solomon code word: 2^k symbols of the message, and as many of parity.
 ghost use Rattle.std.specs.Prelude.{◌≡◌, ◌≤◌, ◌^◌, List, ℕ, length, take, IfOk, OnOk};
 ghost use Rattle.ghash_slices.specs.Cantor.{point};
 ghost use Rattle.ghash_slices.specs.LowStages.{ghash_cantor_vector};

@@ -12,5 +12,6 @@ pub mod extension;
 pub mod merkle_paths;
 pub mod merkle_tree;
 pub mod sumcheck;
+mod verdicts;
 
 pub use crate::error::ProtocolError;

@@ -1,4 +1,4 @@
-// The prover and the verifier, over any field and any challenger of it.
+// The prover and the verifier of the sum-check protocol, over any field and any challenger of it.
 ghost use Rattle.std.specs.Prelude.{◌≡◌, ◌↔◌, ◌^◌, ◌++◌, ℕ, List, length, map, IfOk, IsTrue, OnOk};
 ghost use Rattle.polynomials.specs.Multilinear.{multilinear_value};
 ghost use Rattle.polynomials.specs.Rounds.{quadratic_of};
@@ -7,6 +7,7 @@ ghost use Rattle.polynomials.specs.declared.rounds.RoundPolynomial.{RoundPolynom
 ghost use Rattle.protocols.specs.Sumcheck.{AreTurns, IsTurn};
 
 use crate::error::ProtocolError;
+use crate::verdicts::both;
 use field_base::traits::Field;
 use polynomials::{RoundPolynomial, evaluate_multilinear, fold};
 use std::alloc::{AllocError, Global};
@@ -153,13 +154,6 @@ fn verify_rounds<F: Field, C: CanObserve<F> + CanSample<F>>(
         point,
     )?;
     Ok((both(consistent, message.sums_to(claim)), last))
-}
-
-// Whether both are true.
-fn both(one: bool, other: bool) -> bool
-    ensures { IsTrue result ↔ (IsTrue one × IsTrue other) }
-{
-    one && other
 }
 
 // Observes a message, and samples its challenge.

@@ -1,6 +1,6 @@
 use Rattle.std.proofs.Common.{ℕ, List, [], ◌∙◌, ap, rules}
 use Rattle.protocols.specs.MerkleTrees.{ending}
-use Rattle.protocols.proofs.Verified.{leads_exactly, not_whole, not_within}
+use Rattle.protocols.proofs.PathChecks.{leads_exactly, not_whole, not_within}
 use Rattle.protocols.proofs.merkle_paths.verify.Goals as goal
 
 pub returns-then-path-commitment : goal.returns-then-path-commitment

@@ -1,5 +1,5 @@
 use Rattle.std.proofs.Common.{◌≡◌, ℕ, ◌/◌, ◌<◌, length, map, take, sym, ◌∙◌, ap, arith, rules}
-use Rattle.protocols.proofs.Steps.{half-count, power-even, proved-none, proved-more}
+use Rattle.protocols.proofs.SumcheckRounds.{half-count, power-even, proved-none, proved-more}
 use Rattle.protocols.proofs.sumcheck.+prove_rounds.Goals as goal
 
 pub returns-then-rounds-eq0 : goal.returns-then-rounds-eq0

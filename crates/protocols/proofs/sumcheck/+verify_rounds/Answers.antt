@@ -1,6 +1,6 @@
 use Rattle.std.proofs.Common.{refl}
 use Rattle.polynomials.proofs.CubeTables.{none-if_empty, some-unless_empty}
-use Rattle.protocols.proofs.Steps.{verified-none, verified-more}
+use Rattle.protocols.proofs.SumcheckRounds.{verified-none, verified-more}
 use Rattle.protocols.proofs.sumcheck.+verify_rounds.Goals as goal
 
 pub returns-then-is_empty : goal.returns-then-is_empty

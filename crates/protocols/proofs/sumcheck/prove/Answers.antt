@@ -1,5 +1,5 @@
 use Rattle.std.proofs.Common.{map, ◌∙◌, ap}
-use Rattle.protocols.proofs.Wholes.{proved-whole}
+use Rattle.protocols.proofs.SumcheckWhole.{proved-whole}
 use Rattle.protocols.proofs.sumcheck.prove.Goals as goal
 
 pub returns : goal.returns

@@ -1,4 +1,4 @@
-use Rattle.protocols.proofs.Wholes.{accepted-received}
+use Rattle.protocols.proofs.SumcheckWhole.{accepted-received}
 use Rattle.protocols.proofs.sumcheck.prove_and_verify.Goals as goal
 
 pub returns : goal.returns

@@ -1,7 +1,7 @@
 use Rattle.std.proofs.Common.{◌^◌, ℕ, List, length, map, sym, ◌∙◌, ap, ap₂, subst}
 use Rattle.std.specs.Prelude.{IsTrue}
 use Rattle.polynomials.specs.Multilinear.{multilinear_value}
-use Rattle.protocols.proofs.Wholes.{point-length, verified-whole}
+use Rattle.protocols.proofs.SumcheckWhole.{point-length, verified-whole}
 use Rattle.protocols.proofs.sumcheck.verify.Goals as goal
 
 pub evaluate_multilinear-requires : goal.evaluate_multilinear-requires

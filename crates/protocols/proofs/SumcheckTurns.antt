@@ -1,4 +1,4 @@
--- Two runs of the same messages that begin in one state sample the same challenges.
+-- Two runs of sum-check with the same messages that begin in one state sample the same challenges.
 use Rattle.std.proofs.Common.{◌≡◌, List, [], ◌∷◌, length, suc, ℕ, refl, sym, ◌∙◌, ap, ap₂}
 use Rattle.transcript_elements.specs.States.{GivesByState, LeadsByState}
 use Rattle.polynomials.specs.declared.rounds.RoundPolynomial.{RoundPolynomial}

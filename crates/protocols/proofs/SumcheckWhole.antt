@@ -1,4 +1,4 @@
--- The whole of a proof and of its verification.
+-- The whole of a proof by sum-check and of its verification.
 use Rattle.std.proofs.Common.{◌≡◌, ◌↔◌, ℕ, ◌^◌, ◌<◌, Bool, List, [], ◌∷◌, ◌++◌, length, map, refl, sym, ◌∙◌, ap, ap₂, subst}
 use Rattle.std.specs.Prelude.{IsTrue}
 use Rattle.std.proofs.lemmas.List.{length-map}
@@ -13,8 +13,8 @@ use Rattle.polynomials.proofs.Completeness.{honest-accepted}
 use Rattle.polynomials.proofs.RoundSums.{dot-numbers}
 use Rattle.transcript_elements.specs.States.{GivesByState, LeadsByState}
 use Rattle.protocols.specs.Sumcheck.{AreTurns}
-use Rattle.protocols.proofs.Steps.{Proved, Verified}
-use Rattle.protocols.proofs.Turns.{turns-length, turns-same}
+use Rattle.protocols.proofs.SumcheckRounds.{Proved, Verified}
+use Rattle.protocols.proofs.SumcheckTurns.{turns-length, turns-same}
 
 module _ {C F : Type 0} (observes : C → F → C → Type 0) (gives : C → F → C → Type 0) (times : ℕ → ℕ → ℕ) (repr : F → ℕ) where
   -- the product of both values at a point
@@ -65,35 +65,7 @@ module _ {C F : Type 0} (observes : C → F → C → Type 0) (gives : C → F �
   module _ {S : Type 0} (state : C → S) (observes_law : (value : F) → LeadsByState state (λ old new. observes old value new))
       (gives_law : GivesByState state gives) (width : ℕ) (ring : IsRing width 1 times) (wide : 0 < width)
       (range : (x : F) → repr x < 2 ^ width) where
-    -- an honest prover is accepted by a verifier whose transcript begins in the same state
-    pub accepted-honest : (old new other_old other_new : C) (left right : List F) (messages : List (RoundPolynomial F))
-        (challenges others : List F) (claim rounds : ℕ) (accepted : Bool) → state old ≡ state other_old
-        → length left ≡ 2 ^ rounds → length right ≡ 2 ^ rounds → length messages ≡ rounds → claim ≡ dot_of times repr left right
-        → AreTurns observes gives old messages challenges new → AreTurns observes gives other_old messages others other_new
-        → AreHonest times (map repr left) (map repr right) (map (quadratic_of repr) messages) (map repr challenges)
-        → IsTrue accepted ↔ Accepts times claim (map (quadratic_of repr) messages) (map repr others)
-        (product_at (map repr left) (map repr right) others)
-        → IsTrue accepted
-    accepted-honest old new other_old other_new left right messages challenges others claim rounds accepted same left_count right_count count
-        is_claim turns other_turns honest decides =
-        decides.1
-        (subst (λ (rs : List F). Accepts times claim (map (quadratic_of repr) messages) (map repr rs) (product_at (map repr left) (map repr right) rs))
-        (turns-same observes gives state observes_law gives_law messages challenges others old new other_old other_new same turns other_turns)
-        (subst (λ (c : ℕ). Accepts times c (map (quadratic_of repr) messages) (map repr challenges)
-        (product_at (map repr left) (map repr right) challenges))
-        (sym (is_claim ∙ dot-numbers width times ring repr left right))
-        (honest-accepted width times ring wide (map repr challenges) (map (quadratic_of repr) messages) (map repr left) (map repr right)
-        (corners left left_count) (corners right right_count) honest)))
-      where
-        corners : (values : List F) → length values ≡ 2 ^ rounds → AreCornerValues width (length (map repr challenges)) (map repr values)
-        corners values values_count =
-            record {
-              count = length-map values repr ∙ values_count
-                  ∙ ap (λ (n : ℕ). 2 ^ n) (sym (length-map challenges repr ∙ turns-length observes gives messages challenges old new turns ∙ count));
-              each_fits = numbers-lt repr width range values;
-            }
-
-    -- the same where the verifier reads the messages in another slice
+    -- an honest prover is accepted by a verifier whose transcript begins in the same state, and that reads the messages in another slice
     pub accepted-received : (old new other_old other_new : C) (left right : List F) (messages received : List (RoundPolynomial F))
         (challenges others : List F) (claim rounds : ℕ) (accepted : Bool) → received ≡ messages → state old ≡ state other_old
         → length left ≡ 2 ^ rounds → length right ≡ 2 ^ rounds → length messages ≡ rounds → claim ≡ dot_of times repr left right
@@ -104,7 +76,22 @@ module _ {C F : Type 0} (observes : C → F → C → Type 0) (gives : C → F �
         → IsTrue accepted
     accepted-received old new other_old other_new left right messages received challenges others claim rounds accepted read same left_count
         right_count count is_claim turns other_turns honest decides =
-        accepted-honest old new other_old other_new left right messages challenges others claim rounds accepted same left_count right_count count
-        is_claim turns (subst (λ (gs : List (RoundPolynomial F)). AreTurns observes gives other_old gs others other_new) read other_turns) honest
-        (subst (λ (gs : List (RoundPolynomial F)). IsTrue accepted ↔ Accepts times claim (map (quadratic_of repr) gs) (map repr others)
-        (product_at (map repr left) (map repr right) others)) read decides)
+        decides.1
+        (subst (λ (gs : List (RoundPolynomial F)). Says gs claim others) (sym read)
+        (subst (λ (rs : List F). Says messages claim rs)
+        (turns-same observes gives state observes_law gives_law messages challenges others old new other_old other_new same turns
+        (subst (λ (gs : List (RoundPolynomial F)). AreTurns observes gives other_old gs others other_new) read other_turns))
+        (subst (λ (c : ℕ). Says messages c challenges) (sym (is_claim ∙ dot-numbers width times ring repr left right))
+        (honest-accepted width times ring wide (map repr challenges) (map (quadratic_of repr) messages) (map repr left) (map repr right)
+        (corners left left_count) (corners right right_count) honest))))
+      where
+        Says : List (RoundPolynomial F) → ℕ → List F → Type 0
+        Says gs c rs = Accepts times c (map (quadratic_of repr) gs) (map repr rs) (product_at (map repr left) (map repr right) rs)
+
+        corners : (values : List F) → length values ≡ 2 ^ rounds → AreCornerValues width (length (map repr challenges)) (map repr values)
+        corners values values_count =
+            record {
+              count = length-map values repr ∙ values_count
+                  ∙ ap (λ (n : ℕ). 2 ^ n) (sym (length-map challenges repr ∙ turns-length observes gives messages challenges old new turns ∙ count));
+              each_fits = numbers-lt repr width range values;
+            }

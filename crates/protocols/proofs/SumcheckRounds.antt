@@ -1,4 +1,4 @@
--- One round of the prover and of the verifier.
+-- One round of the prover and of the verifier of sum-check.
 use Rattle.std.proofs.Common.{◌≡◌, ◌↔◌, ℕ, zero, suc, ◌+◌, ◌-◌, ◌*◌, ◌/◌, ◌%◌, ◌^◌, ◌<◌, ◌≤◌, Bool, true, List, [], ◌∷◌, ◌++◌, length, map, take, drop, get_or, refl, sym, ◌∙◌, ap, ap₂, subst, append_assoc, arith}
 use Rattle.std.specs.Prelude.{bit_xor, IsTrue}
 use Rattle.std.proofs.Math.Nat.{two-pow-succ}
