@@ -14,7 +14,7 @@ pub enum ProtocolError {
     #[error("the challenger has failed")]
     Challenger,
     /// No element is a witness of the work.
-    #[error("no element is a witness")]
+    #[error("no witness found")]
     NoWitness,
 }
 

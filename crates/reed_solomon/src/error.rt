@@ -14,15 +14,15 @@ pub enum ReedSolomonError {
     #[error("a code has at most 256 shards")]
     TooManyShards,
     /// There is not one flag for each shard.
-    #[error("there is not one flag for each shard")]
+    #[error("one flag per shard is required")]
     InvalidShardFlags,
     /// The shards have no bytes.
-    #[error("the shards have no bytes")]
+    #[error("the shards are empty")]
     EmptyShard,
     /// The bytes are not those of shards of one size.
-    #[error("the bytes are not those of shards of one size")]
+    #[error("the shards must have the same size")]
     IncorrectShardSize,
     /// Fewer shards are present than the data have.
-    #[error("fewer shards are present than the data have")]
+    #[error("too few shards are present")]
     TooFewShardsPresent,
 }
