@@ -17,7 +17,7 @@ use Rattle.field_laws.specs.PolynomialRoots.{AreDistinctBelow}
 use Rattle.field_laws.proofs.Codewords.{many_roots_mean_zero}
 use Rattle.field_laws.proofs.Coefficients.{value_of-cons}
 use Rattle.field_laws.proofs.Polynomials.{nil_xor}
-use Rattle.tags.specs.Collisions.{IsMessage, LastBlockDiffers, PolynomialHashCollides, SameLengthIsSame}
+use Rattle.tags.specs.Collisions.{AtMostCollide, IsMessage, LastBlockDiffers, PolynomialHashCollides, SameLengthIsSame}
 use Rattle.tags.specs.Hash.{polynomial_hash}
 
 -- ---- two lists of coefficients, added
@@ -142,6 +142,7 @@ reversed-fits width n message is i =
     ]
 
 pub polynomial_hash_collides : PolynomialHashCollides
+unfolding AtMostCollide
 polynomial_hash_collides width times wide field n count difference left right key of_left of_right differ distinct collide =
     elim (cases_lt n count) [
       | inr few ↦ few

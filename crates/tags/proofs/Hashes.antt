@@ -1,14 +1,14 @@
 -- The hashes of both standards by the product of the field of GHASH, with the bits of blocks reversed.
 use Rattle.std.proofs.Common.{◌≡◌, ℕ, ◌^◌, ◌<◌, List, [], ◌∷◌, refl, sym, ap, ◌∙◌}
 use Rattle.std.specs.Prelude.{bit_xor, fold, map}
-use Rattle.std.specs.Int.{from_be_bytes, from_le_bytes, reverse_bits, to_be_bytes, to_le_bytes, w128}
+use Rattle.std.specs.Int.{from_be_bytes, from_le_bytes, to_be_bytes, to_le_bytes, w128}
 use Rattle.std.proofs.lemmas.Nat.{pow_pos}
 use Rattle.field_base.proofs.RemainderRing.{ghash_ring}
 use Rattle.field_base.proofs.RingLemmas.{times_left_comm}
 use Rattle.tags.specs.Gcm.{gcm_product, ghash}
 use Rattle.tags.specs.Hash.{polynomial_hash}
 use Rattle.tags.specs.Polyval.{dot, polyval}
-use Rattle.tags.specs.Reversed.{ghash_element, ghash_times, polyval_element, polyval_multiplier}
+use Rattle.tags.specs.Reversed.{ghash_element, ghash_times, polyval_multiplier}
 use Rattle.tags.proofs.ReversedBits.{reversed, reversed_xor, reversed_twice}
 use Rattle.tags.proofs.GcmProduct.{gcm_product_image, gcm_product-lt, reversed-zero}
 use Rattle.tags.proofs.PolyvalProduct.{dot_image, dot-lt}
@@ -47,26 +47,25 @@ module _ (product : ℕ → ℕ → ℕ) (key multiplier : ℕ)
       → write (reversed 128 h) ≡ write (polynomial_hash product key (map read blocks))
   hash_written read write blocks h is = ap write (ap (reversed 128) is ∙ hash_reversed read blocks)
 
+-- the hash of a standard, as it is written, is that of the field by a multiplier made of the key, with the bits reversed
+abbrev IsHashOfField : (List ℕ → ℕ) → (ℕ → List ℕ) → (List ℕ → ℕ) → (List ℕ → List (List ℕ) → List ℕ) → Type 0
+IsHashOfField read write multiplier hash = (key : List ℕ) (blocks : List (List ℕ)) (h : ℕ)
+    → h ≡ polynomial_hash ghash_times (multiplier key) (map (λ b. reversed 128 (read b)) blocks) → write (reversed 128 h) ≡ hash key blocks
+
 -- GHASH by the field
-pub ghash_result : (key : List ℕ) (blocks : List (List ℕ)) (h : ℕ)
-    → h ≡ polynomial_hash ghash_times (ghash_element key) (map ghash_element blocks)
-    → to_be_bytes w128 (reverse_bits w128 h) ≡ ghash key blocks
+pub ghash_result : IsHashOfField (from_be_bytes w128) (to_be_bytes w128) ghash_element ghash
 unfolding ghash
-ghash_result key blocks =
-    let k = from_be_bytes w128 key in
-    hash_written gcm_product k (ghash_element key) (λ a. gcm_product-lt a k) (λ a. gcm_product_image a k) (from_be_bytes w128)
-    (to_be_bytes w128) blocks
+ghash_result key =
+    hash_written gcm_product (from_be_bytes w128 key) (ghash_element key) (λ a. gcm_product-lt a _) (λ a. gcm_product_image a _)
+    (from_be_bytes w128) (to_be_bytes w128)
 
 -- the product of POLYVAL is one by the multiplier
 pub dot_multiplier : (a k : ℕ) → reversed 128 (dot a k) ≡ ghash_times (reversed 128 a) (ghash_times 2 (reversed 128 k))
 dot_multiplier a k = dot_image a k ∙ times_left_comm 128 1 ghash_times ghash_ring 2 (reversed 128 a) (reversed 128 k)
 
 -- POLYVAL by the field
-pub polyval_result : (key : List ℕ) (blocks : List (List ℕ)) (h : ℕ)
-    → h ≡ polynomial_hash ghash_times (polyval_multiplier key) (map polyval_element blocks)
-    → to_le_bytes w128 (reverse_bits w128 h) ≡ polyval key blocks
+pub polyval_result : IsHashOfField (from_le_bytes w128) (to_le_bytes w128) polyval_multiplier polyval
 unfolding polyval
-polyval_result key blocks =
-    let k = from_le_bytes w128 key in
-    hash_written dot k (polyval_multiplier key) (λ a. dot-lt a k) (λ a. dot_multiplier a k) (from_le_bytes w128)
-    (to_le_bytes w128) blocks
+polyval_result key =
+    hash_written dot (from_le_bytes w128 key) (polyval_multiplier key) (λ a. dot-lt a _) (λ a. dot_multiplier a _)
+    (from_le_bytes w128) (to_le_bytes w128)

@@ -4,7 +4,7 @@ use Rattle.std.specs.Prelude.{bit_xor, fold, map, reverse}
 use Rattle.std.specs.List.{All}
 use Rattle.std.proofs.lemmas.List.{length-map, map-append, reverse-append}
 use Rattle.word_tables.proofs.Isomorphisms.{field_128}
-use Rattle.tags.specs.Collisions.{GhashCollides, HaveSameBlocks, IsMessage, PolyvalCollides}
+use Rattle.tags.specs.Collisions.{AtMostCollide, GhashCollides, HaveSameBlocks, IsMessage, PolyvalCollides}
 use Rattle.tags.specs.Gcm.{gcm_hash, gcm_product, shifted}
 use Rattle.tags.specs.Hash.{polynomial_hash}
 use Rattle.tags.specs.Reversed.{ghash_times}
@@ -68,6 +68,7 @@ message_reversed n xs is = (omega (arith, length-map xs (reversed 128), is.0), a
     all (x ∷ xs) (suc k) d within = all xs k d (omega (arith, within))
 
 pub ghash_collides : GhashCollides
+unfolding AtMostCollide
 ghash_collides n count difference left right key of_left of_right differ distinct collide =
     polynomial_hash_collides 128 ghash_times (lit< tt) field_128 n count (reversed 128 difference)
     (map (reversed 128) left) (map (reversed 128) right) (λ i. reversed 128 (key i))
@@ -84,6 +85,7 @@ ghash_collides n count difference left right key of_left of_right differ distinc
     ∙ ap (reversed 128) (collide i within))
 
 pub polyval_collides : PolyvalCollides
+unfolding AtMostCollide
 polyval_collides n count difference left right key of_left of_right differ distinct collide =
     ghash_collides n count difference left right (λ i. shifted (key i)) of_left of_right differ
     record {

@@ -28,7 +28,7 @@ LastBlockDiffers = (left right : List ℕ) (x y : ℕ) → x ≢ y → HaveSameB
 
 -- of any different keys key 0, .., key (count - 1) that all give two different messages of at most n blocks hashes with this
 -- difference, there are at most n
-abbrev pub AtMostCollide : ℕ → (ℕ → List ℕ → ℕ) → Type 0
+unfoldable pub AtMostCollide : ℕ → (ℕ → List ℕ → ℕ) → Type 0
 AtMostCollide width hash = (n count difference : ℕ) (left right : List ℕ) (key : ℕ → ℕ)
     → IsMessage width n left → IsMessage width n right → (HaveSameBlocks left right → ⊥)
     → AreDistinctBelow count (2 ^ width) key

@@ -5,6 +5,7 @@ ghost use Rattle.tags.specs.Reversed.{DotIsReversed, GcmProductIsReversed};
 
 /// States that the products of both standards are those of the library's field of GHASH with the bits of a block reversed, for
 /// POLYVAL times x, and that POLYVAL is GHASH of the blocks with their bytes reversed (RFC 8452, appendix A).
+#[tactic(auto, using(crate::proofs::GcmProduct::gcm_product_is_reversed, crate::proofs::PolyvalProduct::dot_is_reversed, crate::proofs::PolyvalRelation::polyval_is_ghash))]
 pub fn products_are_reversed()
     ensures gcm { GcmProductIsReversed }
     ensures polyval { DotIsReversed }
@@ -16,6 +17,7 @@ pub fn products_are_reversed()
 ///
 /// Messages that differ by blocks of zeros in front have one hash. So messages of one length have to differ, and others for example
 /// in their last block, which in GCM holds the lengths.
+#[tactic(auto, using(crate::proofs::Collisions::polynomial_hash_collides, crate::proofs::Collisions::same_length_is_same, crate::proofs::Collisions::last_block_differs, crate::proofs::KeyedCollisions::ghash_collides, crate::proofs::KeyedCollisions::polyval_collides))]
 pub fn few_keys_collide()
     ensures polynomial { PolynomialHashCollides }
     ensures ghash { GhashCollides }
