@@ -149,15 +149,9 @@ ghost use Rattle.field_base.specs.ByteTables.{sum_of_entries};
 
 # ---- words of rows (bits_rows)
 
-ROW_WORD = Template("""\
-impl Sealed for u$bits {}
-
-impl Word for u$bits {
-    ghost number = { λ n. n };
-
-    ghost log_bits = { $log_bits };
-
-    const BITS: u32 = $bits;
+# The constants that a word has, and a row of one word, with the type of the count of bits.
+BITS_ZERO_AND_ONES = Template("""\
+    const BITS: $count = $bits;
 
     ghost BITS = { $bits };
 
@@ -168,7 +162,17 @@ impl Word for u$bits {
     const ONES: u$bits = u$bits::MAX;
 
     ghost ONES = { 2 ^ $bits - 1 };
+""")
 
+ROW_WORD = Template("""\
+impl Sealed for u$bits {}
+
+impl Word for u$bits {
+    ghost number = { λ n. n };
+
+    ghost log_bits = { $log_bits };
+
+$bits_zero_and_ones_of_word
     fn to_u64(self) -> u64 {
         $to_u64
     }
@@ -211,18 +215,7 @@ impl Underlier for u$bits {
 
     ghost WORD_COUNT = { 1 };
 
-    const BITS: usize = $bits;
-
-    ghost BITS = { $bits };
-
-    const ZERO: u$bits = 0;
-
-    ghost ZERO = { 0 };
-
-    const ONES: u$bits = u$bits::MAX;
-
-    ghost ONES = { 2 ^ $bits - 1 };
-
+$bits_zero_and_ones_of_row
     fn words(&self) -> &[u$bits] {
         only_word(self)
     }
@@ -283,7 +276,14 @@ use crate::word::Word;
 use crate::words::only_word;
 """
     for log_bits, bits in enumerate(UNSIGNED[:4], start=3):
-        yield ROW_WORD.substitute(bits=bits, log_bits=log_bits, to_u64=widened(bits, 64), from_u64=low_bits(bits, 64))
+        yield ROW_WORD.substitute(
+            bits=bits,
+            log_bits=log_bits,
+            to_u64=widened(bits, 64),
+            from_u64=low_bits(bits, 64),
+            bits_zero_and_ones_of_word=BITS_ZERO_AND_ONES.substitute(bits=bits, count="u32"),
+            bits_zero_and_ones_of_row=BITS_ZERO_AND_ONES.substitute(bits=bits, count="usize"),
+        )
 
 
 DIVISIBLE = Template("""\
