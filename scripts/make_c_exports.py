@@ -228,7 +228,7 @@ def brought_in(clauses):
 
 def used(bodies):
     """The line that brings in what bodies and signatures name without a path."""
-    names = set(re.findall(r"[&\[]&?(Wide|Cubic)\b|<\w+, \w+, (\w+)>|\b(slices)::|\b(batch_invert)\b", bodies))
+    names = set(re.findall(r"[&\[]&?(Wide|Cubic)\b|<\w+, \w+, (\w+)(?:<(\w+)>)?>|\b(slices)::|\b(batch_invert)\b", bodies))
     words = [*WORDS.values(), *STORED.values()]
     named = {it for group in names for it in group if it} | {it for it in words if re.search(rf"\b{it}\b", bodies)}
     lines = [f"use c_arithmetic::{{{', '.join(sorted(named))}}};" if len(named) > 1 else f"use c_arithmetic::{named.pop()};"] if named else []

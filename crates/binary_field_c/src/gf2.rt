@@ -4,14 +4,14 @@ ghost use Rattle.c_arithmetic.specs.Calls.{Adds, AddsScaled, Evaluates, Inverts,
 ghost use Rattle.c_arithmetic.specs.Calls.{Squares, TakesDotProduct, TakesProduct, TakesRoots};
 ghost use Rattle.c_arithmetic.specs.Fields.{level_field};
 
-use c_arithmetic::{Gf2, batch_invert, slices};
+use c_arithmetic::{Bits1, Tower, batch_invert, slices};
 
 /// The sum of the elements at each place.
 #[unsafe(no_mangle)]
 pub extern "C" fn bf_gf2_add(left: &[u8], right: &[u8], sums: &mut [u8]) -> u32
     ensures { Adds (level_field 0) left.now right.now sums.old sums.new result }
 {
-    slices::add::<u8, u8, Gf2>(left, right, sums)
+    slices::add::<u8, u8, Tower<Bits1>>(left, right, sums)
 }
 
 /// The product of the elements at each place.
@@ -19,7 +19,7 @@ pub extern "C" fn bf_gf2_add(left: &[u8], right: &[u8], sums: &mut [u8]) -> u32
 pub extern "C" fn bf_gf2_multiply(left: &[u8], right: &[u8], products: &mut [u8]) -> u32
     ensures { Multiplies (level_field 0) left.now right.now products.old products.new result }
 {
-    slices::multiply::<u8, u8, Gf2>(left, right, products)
+    slices::multiply::<u8, u8, Tower<Bits1>>(left, right, products)
 }
 
 /// The product of each element and the scalar.
@@ -27,7 +27,7 @@ pub extern "C" fn bf_gf2_multiply(left: &[u8], right: &[u8], products: &mut [u8]
 pub extern "C" fn bf_gf2_multiply_by(values: &[u8], scalar: u8, products: &mut [u8]) -> u32
     ensures { MultipliesBy (level_field 0) scalar values.now products.old products.new result }
 {
-    slices::multiply_by::<u8, u8, Gf2>(values, scalar, products)
+    slices::multiply_by::<u8, u8, Tower<Bits1>>(values, scalar, products)
 }
 
 /// Adds to each element of sums the scalar times the value at its place.
@@ -35,7 +35,7 @@ pub extern "C" fn bf_gf2_multiply_by(values: &[u8], scalar: u8, products: &mut [
 pub extern "C" fn bf_gf2_add_scaled(sums: &mut [u8], scalar: u8, values: &[u8]) -> u32
     ensures { AddsScaled (level_field 0) scalar values.now sums.old sums.new result }
 {
-    slices::add_scaled::<u8, u8, Gf2>(sums, scalar, values)
+    slices::add_scaled::<u8, u8, Tower<Bits1>>(sums, scalar, values)
 }
 
 /// The square of each element.
@@ -43,7 +43,7 @@ pub extern "C" fn bf_gf2_add_scaled(sums: &mut [u8], scalar: u8, values: &[u8]) 
 pub extern "C" fn bf_gf2_square(values: &[u8], squares: &mut [u8]) -> u32
     ensures { Squares (level_field 0) values.now squares.old squares.new result }
 {
-    slices::square::<u8, u8, Gf2>(values, squares, false)
+    slices::square::<u8, u8, Tower<Bits1>>(values, squares, false)
 }
 
 /// The inverse of each element, and 0 for 0.
@@ -51,7 +51,7 @@ pub extern "C" fn bf_gf2_square(values: &[u8], squares: &mut [u8]) -> u32
 pub extern "C" fn bf_gf2_inverse(values: &[u8], inverses: &mut [u8]) -> u32
     ensures { Inverts (level_field 0) values.now inverses.old inverses.new result }
 {
-    slices::invert::<u8, u8, Gf2>(values, inverses)
+    slices::invert::<u8, u8, Tower<Bits1>>(values, inverses)
 }
 
 /// The same as inverse, by one inverse and three products an element.
@@ -59,7 +59,7 @@ pub extern "C" fn bf_gf2_inverse(values: &[u8], inverses: &mut [u8]) -> u32
 pub extern "C" fn bf_gf2_batch_inverse(values: &[u8], inverses: &mut [u8]) -> u32
     ensures { Inverts (level_field 0) values.now inverses.old inverses.new result }
 {
-    batch_invert::<u8, u8, Gf2>(values, inverses)
+    batch_invert::<u8, u8, Tower<Bits1>>(values, inverses)
 }
 
 /// The square root of each element.
@@ -67,7 +67,7 @@ pub extern "C" fn bf_gf2_batch_inverse(values: &[u8], inverses: &mut [u8]) -> u3
 pub extern "C" fn bf_gf2_square_root(values: &[u8], roots: &mut [u8]) -> u32
     ensures { TakesRoots (level_field 0) values.now roots.old roots.new result }
 {
-    slices::square_root::<u8, u8, Gf2>(values, roots, false)
+    slices::square_root::<u8, u8, Tower<Bits1>>(values, roots, false)
 }
 
 /// Each element to the power of the exponent; to the power 0 it is 1.
@@ -75,7 +75,7 @@ pub extern "C" fn bf_gf2_square_root(values: &[u8], roots: &mut [u8]) -> u32
 pub extern "C" fn bf_gf2_power(values: &[u8], exponent: u64, powers: &mut [u8]) -> u32
     ensures { RaisesTo (level_field 0) exponent values.now powers.old powers.new result }
 {
-    slices::power::<u8, u8, Gf2>(values, exponent, powers)
+    slices::power::<u8, u8, Tower<Bits1>>(values, exponent, powers)
 }
 
 /// The product of all elements, 1 of none.
@@ -83,7 +83,7 @@ pub extern "C" fn bf_gf2_power(values: &[u8], exponent: u64, powers: &mut [u8]) 
 pub extern "C" fn bf_gf2_product(values: &[u8], product: &mut u8) -> u32
     ensures { TakesProduct (level_field 0) values.now product.old product.new result }
 {
-    slices::product::<u8, u8, Gf2>(values, product)
+    slices::product::<u8, u8, Tower<Bits1>>(values, product)
 }
 
 /// The sum of the products at each place, 0 of none.
@@ -91,7 +91,7 @@ pub extern "C" fn bf_gf2_product(values: &[u8], product: &mut u8) -> u32
 pub extern "C" fn bf_gf2_dot_product(left: &[u8], right: &[u8], sum: &mut u8) -> u32
     ensures { TakesDotProduct (level_field 0) left.now right.now sum.old sum.new result }
 {
-    slices::dot_product::<u8, u8, Gf2>(left, right, sum)
+    slices::dot_product::<u8, u8, Tower<Bits1>>(left, right, sum)
 }
 
 /// The value at each point of the polynomial with these coefficients, the constant one first; any number of coefficients.
@@ -99,7 +99,7 @@ pub extern "C" fn bf_gf2_dot_product(left: &[u8], right: &[u8], sum: &mut u8) ->
 pub extern "C" fn bf_gf2_evaluate(coefficients: &[u8], points: &[u8], values: &mut [u8]) -> u32
     ensures { Evaluates (level_field 0) coefficients.now points.now values.old values.new result }
 {
-    slices::evaluate::<u8, u8, Gf2>(coefficients, points, values)
+    slices::evaluate::<u8, u8, Tower<Bits1>>(coefficients, points, values)
 }
 
 /// The generator of the field's multiplicative group that the library names.
@@ -107,5 +107,5 @@ pub extern "C" fn bf_gf2_evaluate(coefficients: &[u8], points: &[u8], values: &m
 pub extern "C" fn bf_gf2_generator(generator: &mut u8) -> u32
     ensures { NamesGenerator (level_field 0) generator.new result }
 {
-    slices::generator::<u8, u8, Gf2>(generator)
+    slices::generator::<u8, u8, Tower<Bits1>>(generator)
 }

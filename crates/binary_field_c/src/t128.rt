@@ -4,14 +4,14 @@ ghost use Rattle.c_arithmetic.specs.Calls.{Adds, AddsScaled, Evaluates, Inverts,
 ghost use Rattle.c_arithmetic.specs.Calls.{Squares, TakesDotProduct, TakesProduct, TakesRoots};
 ghost use Rattle.c_arithmetic.specs.Fields.{wide_level_field};
 
-use c_arithmetic::{Level128, Wide, batch_invert, slices};
+use c_arithmetic::{Bits128, Tower, Wide, batch_invert, slices};
 
 /// The sum of the elements at each place.
 #[unsafe(no_mangle)]
 pub extern "C" fn bf_t128_add(left: &[Wide], right: &[Wide], sums: &mut [Wide]) -> u32
     ensures { Adds wide_level_field left.now right.now sums.old sums.new result }
 {
-    slices::add::<u128, Wide, Level128>(left, right, sums)
+    slices::add::<u128, Wide, Tower<Bits128>>(left, right, sums)
 }
 
 /// The product of the elements at each place.
@@ -19,7 +19,7 @@ pub extern "C" fn bf_t128_add(left: &[Wide], right: &[Wide], sums: &mut [Wide]) 
 pub extern "C" fn bf_t128_multiply(left: &[Wide], right: &[Wide], products: &mut [Wide]) -> u32
     ensures { Multiplies wide_level_field left.now right.now products.old products.new result }
 {
-    slices::multiply::<u128, Wide, Level128>(left, right, products)
+    slices::multiply::<u128, Wide, Tower<Bits128>>(left, right, products)
 }
 
 /// The product of each element and the scalar.
@@ -27,7 +27,7 @@ pub extern "C" fn bf_t128_multiply(left: &[Wide], right: &[Wide], products: &mut
 pub extern "C" fn bf_t128_multiply_by(values: &[Wide], scalar: &Wide, products: &mut [Wide]) -> u32
     ensures { MultipliesBy wide_level_field scalar.now values.now products.old products.new result }
 {
-    slices::multiply_by::<u128, Wide, Level128>(values, *scalar, products)
+    slices::multiply_by::<u128, Wide, Tower<Bits128>>(values, *scalar, products)
 }
 
 /// Adds to each element of sums the scalar times the value at its place.
@@ -35,7 +35,7 @@ pub extern "C" fn bf_t128_multiply_by(values: &[Wide], scalar: &Wide, products: 
 pub extern "C" fn bf_t128_add_scaled(sums: &mut [Wide], scalar: &Wide, values: &[Wide]) -> u32
     ensures { AddsScaled wide_level_field scalar.now values.now sums.old sums.new result }
 {
-    slices::add_scaled::<u128, Wide, Level128>(sums, *scalar, values)
+    slices::add_scaled::<u128, Wide, Tower<Bits128>>(sums, *scalar, values)
 }
 
 /// The square of each element.
@@ -43,7 +43,7 @@ pub extern "C" fn bf_t128_add_scaled(sums: &mut [Wide], scalar: &Wide, values: &
 pub extern "C" fn bf_t128_square(values: &[Wide], squares: &mut [Wide]) -> u32
     ensures { Squares wide_level_field values.now squares.old squares.new result }
 {
-    slices::square::<u128, Wide, Level128>(values, squares, false)
+    slices::square::<u128, Wide, Tower<Bits128>>(values, squares, false)
 }
 
 /// The inverse of each element, and 0 for 0.
@@ -51,7 +51,7 @@ pub extern "C" fn bf_t128_square(values: &[Wide], squares: &mut [Wide]) -> u32
 pub extern "C" fn bf_t128_inverse(values: &[Wide], inverses: &mut [Wide]) -> u32
     ensures { Inverts wide_level_field values.now inverses.old inverses.new result }
 {
-    slices::invert::<u128, Wide, Level128>(values, inverses)
+    slices::invert::<u128, Wide, Tower<Bits128>>(values, inverses)
 }
 
 /// The same as inverse, by one inverse and three products an element.
@@ -59,7 +59,7 @@ pub extern "C" fn bf_t128_inverse(values: &[Wide], inverses: &mut [Wide]) -> u32
 pub extern "C" fn bf_t128_batch_inverse(values: &[Wide], inverses: &mut [Wide]) -> u32
     ensures { Inverts wide_level_field values.now inverses.old inverses.new result }
 {
-    batch_invert::<u128, Wide, Level128>(values, inverses)
+    batch_invert::<u128, Wide, Tower<Bits128>>(values, inverses)
 }
 
 /// The square root of each element.
@@ -67,7 +67,7 @@ pub extern "C" fn bf_t128_batch_inverse(values: &[Wide], inverses: &mut [Wide]) 
 pub extern "C" fn bf_t128_square_root(values: &[Wide], roots: &mut [Wide]) -> u32
     ensures { TakesRoots wide_level_field values.now roots.old roots.new result }
 {
-    slices::square_root::<u128, Wide, Level128>(values, roots, false)
+    slices::square_root::<u128, Wide, Tower<Bits128>>(values, roots, false)
 }
 
 /// Each element to the power of the exponent; to the power 0 it is 1.
@@ -75,7 +75,7 @@ pub extern "C" fn bf_t128_square_root(values: &[Wide], roots: &mut [Wide]) -> u3
 pub extern "C" fn bf_t128_power(values: &[Wide], exponent: u64, powers: &mut [Wide]) -> u32
     ensures { RaisesTo wide_level_field exponent values.now powers.old powers.new result }
 {
-    slices::power::<u128, Wide, Level128>(values, exponent, powers)
+    slices::power::<u128, Wide, Tower<Bits128>>(values, exponent, powers)
 }
 
 /// The product of all elements, 1 of none.
@@ -83,7 +83,7 @@ pub extern "C" fn bf_t128_power(values: &[Wide], exponent: u64, powers: &mut [Wi
 pub extern "C" fn bf_t128_product(values: &[Wide], product: &mut Wide) -> u32
     ensures { TakesProduct wide_level_field values.now product.old product.new result }
 {
-    slices::product::<u128, Wide, Level128>(values, product)
+    slices::product::<u128, Wide, Tower<Bits128>>(values, product)
 }
 
 /// The sum of the products at each place, 0 of none.
@@ -91,7 +91,7 @@ pub extern "C" fn bf_t128_product(values: &[Wide], product: &mut Wide) -> u32
 pub extern "C" fn bf_t128_dot_product(left: &[Wide], right: &[Wide], sum: &mut Wide) -> u32
     ensures { TakesDotProduct wide_level_field left.now right.now sum.old sum.new result }
 {
-    slices::dot_product::<u128, Wide, Level128>(left, right, sum)
+    slices::dot_product::<u128, Wide, Tower<Bits128>>(left, right, sum)
 }
 
 /// The value at each point of the polynomial with these coefficients, the constant one first; any number of coefficients.
@@ -103,7 +103,7 @@ pub extern "C" fn bf_t128_evaluate(
 ) -> u32
     ensures { Evaluates wide_level_field coefficients.now points.now values.old values.new result }
 {
-    slices::evaluate::<u128, Wide, Level128>(coefficients, points, values)
+    slices::evaluate::<u128, Wide, Tower<Bits128>>(coefficients, points, values)
 }
 
 /// The generator of the field's multiplicative group that the library names.
@@ -111,5 +111,5 @@ pub extern "C" fn bf_t128_evaluate(
 pub extern "C" fn bf_t128_generator(generator: &mut Wide) -> u32
     ensures { NamesGenerator wide_level_field generator.new result }
 {
-    slices::generator::<u128, Wide, Level128>(generator)
+    slices::generator::<u128, Wide, Tower<Bits128>>(generator)
 }

@@ -4,14 +4,14 @@ ghost use Rattle.c_arithmetic.specs.Calls.{Adds, AddsScaled, Evaluates, Inverts,
 ghost use Rattle.c_arithmetic.specs.Calls.{Squares, TakesDotProduct, TakesProduct, TakesRoots};
 ghost use Rattle.c_arithmetic.specs.Fields.{level_field};
 
-use c_arithmetic::{Level16, batch_invert, slices};
+use c_arithmetic::{Bits16, Tower, batch_invert, slices};
 
 /// The sum of the elements at each place.
 #[unsafe(no_mangle)]
 pub extern "C" fn bf_t16_add(left: &[u16], right: &[u16], sums: &mut [u16]) -> u32
     ensures { Adds (level_field 4) left.now right.now sums.old sums.new result }
 {
-    slices::add::<u16, u16, Level16>(left, right, sums)
+    slices::add::<u16, u16, Tower<Bits16>>(left, right, sums)
 }
 
 /// The product of the elements at each place.
@@ -19,7 +19,7 @@ pub extern "C" fn bf_t16_add(left: &[u16], right: &[u16], sums: &mut [u16]) -> u
 pub extern "C" fn bf_t16_multiply(left: &[u16], right: &[u16], products: &mut [u16]) -> u32
     ensures { Multiplies (level_field 4) left.now right.now products.old products.new result }
 {
-    slices::multiply::<u16, u16, Level16>(left, right, products)
+    slices::multiply::<u16, u16, Tower<Bits16>>(left, right, products)
 }
 
 /// The product of each element and the scalar.
@@ -27,7 +27,7 @@ pub extern "C" fn bf_t16_multiply(left: &[u16], right: &[u16], products: &mut [u
 pub extern "C" fn bf_t16_multiply_by(values: &[u16], scalar: u16, products: &mut [u16]) -> u32
     ensures { MultipliesBy (level_field 4) scalar values.now products.old products.new result }
 {
-    slices::multiply_by::<u16, u16, Level16>(values, scalar, products)
+    slices::multiply_by::<u16, u16, Tower<Bits16>>(values, scalar, products)
 }
 
 /// Adds to each element of sums the scalar times the value at its place.
@@ -35,7 +35,7 @@ pub extern "C" fn bf_t16_multiply_by(values: &[u16], scalar: u16, products: &mut
 pub extern "C" fn bf_t16_add_scaled(sums: &mut [u16], scalar: u16, values: &[u16]) -> u32
     ensures { AddsScaled (level_field 4) scalar values.now sums.old sums.new result }
 {
-    slices::add_scaled::<u16, u16, Level16>(sums, scalar, values)
+    slices::add_scaled::<u16, u16, Tower<Bits16>>(sums, scalar, values)
 }
 
 /// The square of each element.
@@ -43,7 +43,7 @@ pub extern "C" fn bf_t16_add_scaled(sums: &mut [u16], scalar: u16, values: &[u16
 pub extern "C" fn bf_t16_square(values: &[u16], squares: &mut [u16]) -> u32
     ensures { Squares (level_field 4) values.now squares.old squares.new result }
 {
-    slices::square::<u16, u16, Level16>(values, squares, true)
+    slices::square::<u16, u16, Tower<Bits16>>(values, squares, true)
 }
 
 /// The inverse of each element, and 0 for 0.
@@ -51,7 +51,7 @@ pub extern "C" fn bf_t16_square(values: &[u16], squares: &mut [u16]) -> u32
 pub extern "C" fn bf_t16_inverse(values: &[u16], inverses: &mut [u16]) -> u32
     ensures { Inverts (level_field 4) values.now inverses.old inverses.new result }
 {
-    slices::invert::<u16, u16, Level16>(values, inverses)
+    slices::invert::<u16, u16, Tower<Bits16>>(values, inverses)
 }
 
 /// The same as inverse, by one inverse and three products an element.
@@ -59,7 +59,7 @@ pub extern "C" fn bf_t16_inverse(values: &[u16], inverses: &mut [u16]) -> u32
 pub extern "C" fn bf_t16_batch_inverse(values: &[u16], inverses: &mut [u16]) -> u32
     ensures { Inverts (level_field 4) values.now inverses.old inverses.new result }
 {
-    batch_invert::<u16, u16, Level16>(values, inverses)
+    batch_invert::<u16, u16, Tower<Bits16>>(values, inverses)
 }
 
 /// The square root of each element.
@@ -67,7 +67,7 @@ pub extern "C" fn bf_t16_batch_inverse(values: &[u16], inverses: &mut [u16]) -> 
 pub extern "C" fn bf_t16_square_root(values: &[u16], roots: &mut [u16]) -> u32
     ensures { TakesRoots (level_field 4) values.now roots.old roots.new result }
 {
-    slices::square_root::<u16, u16, Level16>(values, roots, true)
+    slices::square_root::<u16, u16, Tower<Bits16>>(values, roots, true)
 }
 
 /// Each element to the power of the exponent; to the power 0 it is 1.
@@ -75,7 +75,7 @@ pub extern "C" fn bf_t16_square_root(values: &[u16], roots: &mut [u16]) -> u32
 pub extern "C" fn bf_t16_power(values: &[u16], exponent: u64, powers: &mut [u16]) -> u32
     ensures { RaisesTo (level_field 4) exponent values.now powers.old powers.new result }
 {
-    slices::power::<u16, u16, Level16>(values, exponent, powers)
+    slices::power::<u16, u16, Tower<Bits16>>(values, exponent, powers)
 }
 
 /// The product of all elements, 1 of none.
@@ -83,7 +83,7 @@ pub extern "C" fn bf_t16_power(values: &[u16], exponent: u64, powers: &mut [u16]
 pub extern "C" fn bf_t16_product(values: &[u16], product: &mut u16) -> u32
     ensures { TakesProduct (level_field 4) values.now product.old product.new result }
 {
-    slices::product::<u16, u16, Level16>(values, product)
+    slices::product::<u16, u16, Tower<Bits16>>(values, product)
 }
 
 /// The sum of the products at each place, 0 of none.
@@ -91,7 +91,7 @@ pub extern "C" fn bf_t16_product(values: &[u16], product: &mut u16) -> u32
 pub extern "C" fn bf_t16_dot_product(left: &[u16], right: &[u16], sum: &mut u16) -> u32
     ensures { TakesDotProduct (level_field 4) left.now right.now sum.old sum.new result }
 {
-    slices::dot_product::<u16, u16, Level16>(left, right, sum)
+    slices::dot_product::<u16, u16, Tower<Bits16>>(left, right, sum)
 }
 
 /// The value at each point of the polynomial with these coefficients, the constant one first; any number of coefficients.
@@ -99,7 +99,7 @@ pub extern "C" fn bf_t16_dot_product(left: &[u16], right: &[u16], sum: &mut u16)
 pub extern "C" fn bf_t16_evaluate(coefficients: &[u16], points: &[u16], values: &mut [u16]) -> u32
     ensures { Evaluates (level_field 4) coefficients.now points.now values.old values.new result }
 {
-    slices::evaluate::<u16, u16, Level16>(coefficients, points, values)
+    slices::evaluate::<u16, u16, Tower<Bits16>>(coefficients, points, values)
 }
 
 /// The generator of the field's multiplicative group that the library names.
@@ -107,5 +107,5 @@ pub extern "C" fn bf_t16_evaluate(coefficients: &[u16], points: &[u16], values: 
 pub extern "C" fn bf_t16_generator(generator: &mut u16) -> u32
     ensures { NamesGenerator (level_field 4) generator.new result }
 {
-    slices::generator::<u16, u16, Level16>(generator)
+    slices::generator::<u16, u16, Tower<Bits16>>(generator)
 }

@@ -4,14 +4,14 @@ ghost use Rattle.c_arithmetic.specs.Calls.{Adds, AddsScaled, Evaluates, Inverts,
 ghost use Rattle.c_arithmetic.specs.Calls.{Squares, TakesDotProduct, TakesProduct, TakesRoots};
 ghost use Rattle.c_arithmetic.specs.Fields.{level_field};
 
-use c_arithmetic::{Level32, batch_invert, slices};
+use c_arithmetic::{Bits32, Tower, batch_invert, slices};
 
 /// The sum of the elements at each place.
 #[unsafe(no_mangle)]
 pub extern "C" fn bf_t32_add(left: &[u32], right: &[u32], sums: &mut [u32]) -> u32
     ensures { Adds (level_field 5) left.now right.now sums.old sums.new result }
 {
-    slices::add::<u32, u32, Level32>(left, right, sums)
+    slices::add::<u32, u32, Tower<Bits32>>(left, right, sums)
 }
 
 /// The product of the elements at each place.
@@ -19,7 +19,7 @@ pub extern "C" fn bf_t32_add(left: &[u32], right: &[u32], sums: &mut [u32]) -> u
 pub extern "C" fn bf_t32_multiply(left: &[u32], right: &[u32], products: &mut [u32]) -> u32
     ensures { Multiplies (level_field 5) left.now right.now products.old products.new result }
 {
-    slices::multiply::<u32, u32, Level32>(left, right, products)
+    slices::multiply::<u32, u32, Tower<Bits32>>(left, right, products)
 }
 
 /// The product of each element and the scalar.
@@ -27,7 +27,7 @@ pub extern "C" fn bf_t32_multiply(left: &[u32], right: &[u32], products: &mut [u
 pub extern "C" fn bf_t32_multiply_by(values: &[u32], scalar: u32, products: &mut [u32]) -> u32
     ensures { MultipliesBy (level_field 5) scalar values.now products.old products.new result }
 {
-    slices::multiply_by::<u32, u32, Level32>(values, scalar, products)
+    slices::multiply_by::<u32, u32, Tower<Bits32>>(values, scalar, products)
 }
 
 /// Adds to each element of sums the scalar times the value at its place.
@@ -35,7 +35,7 @@ pub extern "C" fn bf_t32_multiply_by(values: &[u32], scalar: u32, products: &mut
 pub extern "C" fn bf_t32_add_scaled(sums: &mut [u32], scalar: u32, values: &[u32]) -> u32
     ensures { AddsScaled (level_field 5) scalar values.now sums.old sums.new result }
 {
-    slices::add_scaled::<u32, u32, Level32>(sums, scalar, values)
+    slices::add_scaled::<u32, u32, Tower<Bits32>>(sums, scalar, values)
 }
 
 /// The square of each element.
@@ -43,7 +43,7 @@ pub extern "C" fn bf_t32_add_scaled(sums: &mut [u32], scalar: u32, values: &[u32
 pub extern "C" fn bf_t32_square(values: &[u32], squares: &mut [u32]) -> u32
     ensures { Squares (level_field 5) values.now squares.old squares.new result }
 {
-    slices::square::<u32, u32, Level32>(values, squares, true)
+    slices::square::<u32, u32, Tower<Bits32>>(values, squares, true)
 }
 
 /// The inverse of each element, and 0 for 0.
@@ -51,7 +51,7 @@ pub extern "C" fn bf_t32_square(values: &[u32], squares: &mut [u32]) -> u32
 pub extern "C" fn bf_t32_inverse(values: &[u32], inverses: &mut [u32]) -> u32
     ensures { Inverts (level_field 5) values.now inverses.old inverses.new result }
 {
-    slices::invert::<u32, u32, Level32>(values, inverses)
+    slices::invert::<u32, u32, Tower<Bits32>>(values, inverses)
 }
 
 /// The same as inverse, by one inverse and three products an element.
@@ -59,7 +59,7 @@ pub extern "C" fn bf_t32_inverse(values: &[u32], inverses: &mut [u32]) -> u32
 pub extern "C" fn bf_t32_batch_inverse(values: &[u32], inverses: &mut [u32]) -> u32
     ensures { Inverts (level_field 5) values.now inverses.old inverses.new result }
 {
-    batch_invert::<u32, u32, Level32>(values, inverses)
+    batch_invert::<u32, u32, Tower<Bits32>>(values, inverses)
 }
 
 /// The square root of each element.
@@ -67,7 +67,7 @@ pub extern "C" fn bf_t32_batch_inverse(values: &[u32], inverses: &mut [u32]) -> 
 pub extern "C" fn bf_t32_square_root(values: &[u32], roots: &mut [u32]) -> u32
     ensures { TakesRoots (level_field 5) values.now roots.old roots.new result }
 {
-    slices::square_root::<u32, u32, Level32>(values, roots, true)
+    slices::square_root::<u32, u32, Tower<Bits32>>(values, roots, true)
 }
 
 /// Each element to the power of the exponent; to the power 0 it is 1.
@@ -75,7 +75,7 @@ pub extern "C" fn bf_t32_square_root(values: &[u32], roots: &mut [u32]) -> u32
 pub extern "C" fn bf_t32_power(values: &[u32], exponent: u64, powers: &mut [u32]) -> u32
     ensures { RaisesTo (level_field 5) exponent values.now powers.old powers.new result }
 {
-    slices::power::<u32, u32, Level32>(values, exponent, powers)
+    slices::power::<u32, u32, Tower<Bits32>>(values, exponent, powers)
 }
 
 /// The product of all elements, 1 of none.
@@ -83,7 +83,7 @@ pub extern "C" fn bf_t32_power(values: &[u32], exponent: u64, powers: &mut [u32]
 pub extern "C" fn bf_t32_product(values: &[u32], product: &mut u32) -> u32
     ensures { TakesProduct (level_field 5) values.now product.old product.new result }
 {
-    slices::product::<u32, u32, Level32>(values, product)
+    slices::product::<u32, u32, Tower<Bits32>>(values, product)
 }
 
 /// The sum of the products at each place, 0 of none.
@@ -91,7 +91,7 @@ pub extern "C" fn bf_t32_product(values: &[u32], product: &mut u32) -> u32
 pub extern "C" fn bf_t32_dot_product(left: &[u32], right: &[u32], sum: &mut u32) -> u32
     ensures { TakesDotProduct (level_field 5) left.now right.now sum.old sum.new result }
 {
-    slices::dot_product::<u32, u32, Level32>(left, right, sum)
+    slices::dot_product::<u32, u32, Tower<Bits32>>(left, right, sum)
 }
 
 /// The value at each point of the polynomial with these coefficients, the constant one first; any number of coefficients.
@@ -99,7 +99,7 @@ pub extern "C" fn bf_t32_dot_product(left: &[u32], right: &[u32], sum: &mut u32)
 pub extern "C" fn bf_t32_evaluate(coefficients: &[u32], points: &[u32], values: &mut [u32]) -> u32
     ensures { Evaluates (level_field 5) coefficients.now points.now values.old values.new result }
 {
-    slices::evaluate::<u32, u32, Level32>(coefficients, points, values)
+    slices::evaluate::<u32, u32, Tower<Bits32>>(coefficients, points, values)
 }
 
 /// The generator of the field's multiplicative group that the library names.
@@ -107,5 +107,5 @@ pub extern "C" fn bf_t32_evaluate(coefficients: &[u32], points: &[u32], values: 
 pub extern "C" fn bf_t32_generator(generator: &mut u32) -> u32
     ensures { NamesGenerator (level_field 5) generator.new result }
 {
-    slices::generator::<u32, u32, Level32>(generator)
+    slices::generator::<u32, u32, Tower<Bits32>>(generator)
 }

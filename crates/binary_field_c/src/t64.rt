@@ -4,14 +4,14 @@ ghost use Rattle.c_arithmetic.specs.Calls.{Adds, AddsScaled, Evaluates, Inverts,
 ghost use Rattle.c_arithmetic.specs.Calls.{Squares, TakesDotProduct, TakesProduct, TakesRoots};
 ghost use Rattle.c_arithmetic.specs.Fields.{level_field};
 
-use c_arithmetic::{Level64, batch_invert, slices};
+use c_arithmetic::{Bits64, Tower, batch_invert, slices};
 
 /// The sum of the elements at each place.
 #[unsafe(no_mangle)]
 pub extern "C" fn bf_t64_add(left: &[u64], right: &[u64], sums: &mut [u64]) -> u32
     ensures { Adds (level_field 6) left.now right.now sums.old sums.new result }
 {
-    slices::add::<u64, u64, Level64>(left, right, sums)
+    slices::add::<u64, u64, Tower<Bits64>>(left, right, sums)
 }
 
 /// The product of the elements at each place.
@@ -19,7 +19,7 @@ pub extern "C" fn bf_t64_add(left: &[u64], right: &[u64], sums: &mut [u64]) -> u
 pub extern "C" fn bf_t64_multiply(left: &[u64], right: &[u64], products: &mut [u64]) -> u32
     ensures { Multiplies (level_field 6) left.now right.now products.old products.new result }
 {
-    slices::multiply::<u64, u64, Level64>(left, right, products)
+    slices::multiply::<u64, u64, Tower<Bits64>>(left, right, products)
 }
 
 /// The product of each element and the scalar.
@@ -27,7 +27,7 @@ pub extern "C" fn bf_t64_multiply(left: &[u64], right: &[u64], products: &mut [u
 pub extern "C" fn bf_t64_multiply_by(values: &[u64], scalar: u64, products: &mut [u64]) -> u32
     ensures { MultipliesBy (level_field 6) scalar values.now products.old products.new result }
 {
-    slices::multiply_by::<u64, u64, Level64>(values, scalar, products)
+    slices::multiply_by::<u64, u64, Tower<Bits64>>(values, scalar, products)
 }
 
 /// Adds to each element of sums the scalar times the value at its place.
@@ -35,7 +35,7 @@ pub extern "C" fn bf_t64_multiply_by(values: &[u64], scalar: u64, products: &mut
 pub extern "C" fn bf_t64_add_scaled(sums: &mut [u64], scalar: u64, values: &[u64]) -> u32
     ensures { AddsScaled (level_field 6) scalar values.now sums.old sums.new result }
 {
-    slices::add_scaled::<u64, u64, Level64>(sums, scalar, values)
+    slices::add_scaled::<u64, u64, Tower<Bits64>>(sums, scalar, values)
 }
 
 /// The square of each element.
@@ -43,7 +43,7 @@ pub extern "C" fn bf_t64_add_scaled(sums: &mut [u64], scalar: u64, values: &[u64
 pub extern "C" fn bf_t64_square(values: &[u64], squares: &mut [u64]) -> u32
     ensures { Squares (level_field 6) values.now squares.old squares.new result }
 {
-    slices::square::<u64, u64, Level64>(values, squares, false)
+    slices::square::<u64, u64, Tower<Bits64>>(values, squares, false)
 }
 
 /// The inverse of each element, and 0 for 0.
@@ -51,7 +51,7 @@ pub extern "C" fn bf_t64_square(values: &[u64], squares: &mut [u64]) -> u32
 pub extern "C" fn bf_t64_inverse(values: &[u64], inverses: &mut [u64]) -> u32
     ensures { Inverts (level_field 6) values.now inverses.old inverses.new result }
 {
-    slices::invert::<u64, u64, Level64>(values, inverses)
+    slices::invert::<u64, u64, Tower<Bits64>>(values, inverses)
 }
 
 /// The same as inverse, by one inverse and three products an element.
@@ -59,7 +59,7 @@ pub extern "C" fn bf_t64_inverse(values: &[u64], inverses: &mut [u64]) -> u32
 pub extern "C" fn bf_t64_batch_inverse(values: &[u64], inverses: &mut [u64]) -> u32
     ensures { Inverts (level_field 6) values.now inverses.old inverses.new result }
 {
-    batch_invert::<u64, u64, Level64>(values, inverses)
+    batch_invert::<u64, u64, Tower<Bits64>>(values, inverses)
 }
 
 /// The square root of each element.
@@ -67,7 +67,7 @@ pub extern "C" fn bf_t64_batch_inverse(values: &[u64], inverses: &mut [u64]) -> 
 pub extern "C" fn bf_t64_square_root(values: &[u64], roots: &mut [u64]) -> u32
     ensures { TakesRoots (level_field 6) values.now roots.old roots.new result }
 {
-    slices::square_root::<u64, u64, Level64>(values, roots, false)
+    slices::square_root::<u64, u64, Tower<Bits64>>(values, roots, false)
 }
 
 /// Each element to the power of the exponent; to the power 0 it is 1.
@@ -75,7 +75,7 @@ pub extern "C" fn bf_t64_square_root(values: &[u64], roots: &mut [u64]) -> u32
 pub extern "C" fn bf_t64_power(values: &[u64], exponent: u64, powers: &mut [u64]) -> u32
     ensures { RaisesTo (level_field 6) exponent values.now powers.old powers.new result }
 {
-    slices::power::<u64, u64, Level64>(values, exponent, powers)
+    slices::power::<u64, u64, Tower<Bits64>>(values, exponent, powers)
 }
 
 /// The product of all elements, 1 of none.
@@ -83,7 +83,7 @@ pub extern "C" fn bf_t64_power(values: &[u64], exponent: u64, powers: &mut [u64]
 pub extern "C" fn bf_t64_product(values: &[u64], product: &mut u64) -> u32
     ensures { TakesProduct (level_field 6) values.now product.old product.new result }
 {
-    slices::product::<u64, u64, Level64>(values, product)
+    slices::product::<u64, u64, Tower<Bits64>>(values, product)
 }
 
 /// The sum of the products at each place, 0 of none.
@@ -91,7 +91,7 @@ pub extern "C" fn bf_t64_product(values: &[u64], product: &mut u64) -> u32
 pub extern "C" fn bf_t64_dot_product(left: &[u64], right: &[u64], sum: &mut u64) -> u32
     ensures { TakesDotProduct (level_field 6) left.now right.now sum.old sum.new result }
 {
-    slices::dot_product::<u64, u64, Level64>(left, right, sum)
+    slices::dot_product::<u64, u64, Tower<Bits64>>(left, right, sum)
 }
 
 /// The value at each point of the polynomial with these coefficients, the constant one first; any number of coefficients.
@@ -99,7 +99,7 @@ pub extern "C" fn bf_t64_dot_product(left: &[u64], right: &[u64], sum: &mut u64)
 pub extern "C" fn bf_t64_evaluate(coefficients: &[u64], points: &[u64], values: &mut [u64]) -> u32
     ensures { Evaluates (level_field 6) coefficients.now points.now values.old values.new result }
 {
-    slices::evaluate::<u64, u64, Level64>(coefficients, points, values)
+    slices::evaluate::<u64, u64, Tower<Bits64>>(coefficients, points, values)
 }
 
 /// The generator of the field's multiplicative group that the library names.
@@ -107,5 +107,5 @@ pub extern "C" fn bf_t64_evaluate(coefficients: &[u64], points: &[u64], values: 
 pub extern "C" fn bf_t64_generator(generator: &mut u64) -> u32
     ensures { NamesGenerator (level_field 6) generator.new result }
 {
-    slices::generator::<u64, u64, Level64>(generator)
+    slices::generator::<u64, u64, Tower<Bits64>>(generator)
 }

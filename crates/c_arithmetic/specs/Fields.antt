@@ -1,5 +1,5 @@
 -- Fields whose elements are words of other languages, by what a word stands for and how it is multiplied.
-use Rattle.std.specs.Prelude.{ℕ, ◌+◌, ◌*◌, ◌^◌}
+use Rattle.std.specs.Prelude.{ℕ, ◌+◌, ◌*◌, ◌^◌, List}
 use Rattle.field_base.specs.Basis.{aes_images, basis_image, ghash_images, poly64_images}
 use Rattle.field_base.specs.Remainder.{aes_modulus, ghash_modulus, mul_mod, poly64_modulus}
 use Rattle.field_base.specs.Tower.{tower_mul}
@@ -34,39 +34,29 @@ cubic_number word = triple 64 word.c0 word.c1 word.c2
 
 -- level k of the tower, with words of up to 64 bits
 abbrev pub level_field : ℕ → WordField ℕ
-level_field k = record { number = itself; width = 2 ^ k; times = tower_mul k; generator = tower_generator k }
+level_field k = field_of itself (2 ^ k) (tower_mul k) (tower_generator k)
 
 -- level 7, with words of 128 bits
 abbrev pub wide_level_field : WordField Wide
-wide_level_field = record { number = wide_number; width = 128; times = tower_mul 7; generator = tower_generator 7 }
+wide_level_field = field_of wide_number 128 (tower_mul 7) (tower_generator 7)
+
+-- the polynomials modulo one of this width, whose generator is the image of that of a level of the tower
+abbrev pub polynomial_field : {W : Type 0} → (W → ℕ) → ℕ → ℕ → List ℕ → ℕ → WordField W
+polynomial_field number width modulus images level =
+    field_of number width (mul_mod width modulus) (basis_image width modulus images (tower_generator level))
 
 -- the bytes of AES
 abbrev pub rijndael_field : WordField ℕ
-rijndael_field = record {
-  number = itself;
-  width = 8;
-  times = mul_mod 8 aes_modulus;
-  generator = basis_image 8 aes_modulus aes_images (tower_generator 3);
-}
+rijndael_field = polynomial_field itself 8 aes_modulus aes_images 3
 
 -- the polynomials modulo x^64 + x^4 + x^3 + x + 1
 abbrev pub poly64_field : WordField ℕ
-poly64_field = record {
-  number = itself;
-  width = 64;
-  times = mul_mod 64 poly64_modulus;
-  generator = basis_image 64 poly64_modulus poly64_images (tower_generator 6);
-}
+poly64_field = polynomial_field itself 64 poly64_modulus poly64_images 6
 
 -- the field of GHASH
 abbrev pub ghash_field : WordField Wide
-ghash_field = record {
-  number = wide_number;
-  width = 128;
-  times = mul_mod 128 ghash_modulus;
-  generator = basis_image 128 ghash_modulus ghash_images (tower_generator 7);
-}
+ghash_field = polynomial_field wide_number 128 ghash_modulus ghash_images 7
 
 -- the cubic extension of GF(2^64)
 abbrev pub cubic_field : WordField Cubic
-cubic_field = record { number = cubic_number; width = 192; times = cubic_mul; generator = triple 64 5 3 1 }
+cubic_field = field_of cubic_number 192 cubic_mul (triple 64 5 3 1)

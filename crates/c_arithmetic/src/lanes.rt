@@ -41,12 +41,9 @@ fn multiply_by_pairs(words: &mut [Wide], others: &[Wide], start: usize)
     let pair_count = (words.len() - start) / 2;
     'pairs: for pair in 0..pair_count {
         let at = start + 2 * pair;
-        let (first, second) = multiply_mod_128_twice(
-            number_at(words, at),
-            number_at(words, at + 1),
-            number_at(others, at),
-            number_at(others, at + 1),
-        );
+        let (word, next_word) = two_at(words, at);
+        let (other, next_other) = two_at(others, at);
+        let (first, second) = multiply_mod_128_twice(word, next_word, other, next_other);
         put_number(words, at, first);
         put_number(words, at + 1, second);
     }
@@ -77,12 +74,10 @@ fn dot_by_pairs(left: &[Wide], right: &[Wide]) -> u128
     let mut high = 0;
     let pair_count = left.len() / 2;
     'pairs: for pair in 0..pair_count {
-        let at = 2 * pair;
+        let (word, next_word) = two_at(left, 2 * pair);
+        let (other, next_other) = two_at(right, 2 * pair);
         let ((a_low, a_high), (b_low, b_high)) = multiply_128_twice(
-            number_at(left, at),
-            number_at(left, at + 1),
-            number_at(right, at),
-            number_at(right, at + 1),
+            word, next_word, other, next_other,
         );
         low = low ^ a_low ^ b_low;
         high = high ^ a_high ^ b_high;
@@ -111,6 +106,16 @@ fn dot_by_fours(left: &[Wide], right: &[Wide]) -> u128
         sum ^= multiply_mod_128(number_at(left, at), number_at(right, at));
     }
     sum
+}
+
+// The numbers of two words from a place on.
+#[inline(always)]
+fn two_at(words: &[Wide], at: usize) -> (u128, u128)
+    requires { at + 2 ≤ length words.now }
+    ensures first { result.0 ≡ slice_index (map wide_number words.now) at }
+    ensures second { result.1 ≡ slice_index (map wide_number words.now) (at + 1) }
+{
+    (number_at(words, at), number_at(words, at + 1))
 }
 
 // The numbers of four words from a place on.

@@ -22,7 +22,7 @@ mod words;
 
 pub use crate::batch::batch_invert;
 pub use crate::bytes::multiply_bytes;
-pub use crate::kernels::{Basis, Gf2, Level2, Level4, Level8, Level16, Level32, Level64, Level128};
+pub use crate::kernels::Basis;
 pub use crate::linear::{map_bytes, map_wide};
 pub use crate::messages::{gcm_ghash, ghash, polyval, tags_are_equal};
 pub use crate::products::{dot_product, multiply};
@@ -35,3 +35,4 @@ pub use crate::wide::Wide;
 pub use crate::words::{Cubic, Holds};
 pub use word_cubic::Triple;
 pub use word_polynomial::{CubicKernel, GhashKernel, Poly64Kernel, RijndaelKernel};
+pub use word_tower::{Bits1, Bits2, Bits4, Bits8, Bits16, Bits32, Bits64, Bits128, Tower};

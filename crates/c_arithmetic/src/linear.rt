@@ -5,6 +5,7 @@ ghost use Rattle.c_arithmetic.specs.Fields.{itself, wide_number};
 use crate::numbers::numbers_of;
 use crate::{Wide, status};
 use byte_maps::ByteMatrix;
+use ghash_slices::WideWord;
 use word_tables::ByteMap;
 
 /// Writes for each byte the sum of the images at its set bits: eight images, that of bit 0 first.
@@ -30,7 +31,7 @@ pub fn map_wide(values: &[Wide], images: &[Wide], mapped: &mut [Wide]) -> u32
     }
     let map = ByteMap::new(&numbers_of::<128>(images));
     for place in 0..mapped.len() {
-        mapped[place] = Wide::new(map.apply(values[place].number()));
+        mapped[place] = Wide::of_number(map.apply(values[place].number()));
     }
     status::OK
 }

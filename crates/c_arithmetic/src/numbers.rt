@@ -3,6 +3,7 @@ ghost use Rattle.std.specs.Prelude.{◌≡◌, ℕ, ◌<◌, ◌≤◌, length, 
 ghost use Rattle.c_arithmetic.specs.Fields.{wide_number};
 
 use crate::Wide;
+use ghash_slices::WideWord;
 
 /// The numbers of up to N words, and zeros.
 pub(crate) fn numbers_of<const N: usize>(words: &[Wide]) -> [u128; N]
@@ -32,6 +33,6 @@ pub(crate) fn clear(words: &mut [Wide])
     ensures zeros { (k : ℕ) → k < length words.new → (d : _) → wide_number (get_or words.new k d) ≡ 0 }
 {
     for place in 0..words.len() {
-        words[place] = Wide::new(0);
+        words[place] = Wide::of_number(0);
     }
 }

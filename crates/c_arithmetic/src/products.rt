@@ -5,7 +5,7 @@ ghost use Rattle.c_arithmetic.specs.Fields.{ghash_field};
 
 use crate::lanes::{dot_of_words, multiply_each};
 use crate::{Wide, status};
-use ghash_slices::Width;
+use ghash_slices::{WideWord, Width};
 
 /// Writes the product of the words at each place, two at once or four.
 pub fn multiply<V: Width>(left: &[Wide], right: &[Wide], products: &mut [Wide]) -> u32
@@ -29,6 +29,6 @@ pub fn dot_product<V: Width>(left: &[Wide], right: &[Wide], sum: &mut Wide) -> u
     if left.len() != right.len() {
         return status::LENGTH;
     }
-    *sum = Wide::new(dot_of_words::<V>(left, right));
+    *sum = Wide::of_number(dot_of_words::<V>(left, right));
     status::OK
 }

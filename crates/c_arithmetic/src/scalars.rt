@@ -5,7 +5,7 @@ ghost use Rattle.c_arithmetic.specs.Fields.{ghash_field};
 
 use crate::numbers::clear;
 use crate::{Wide, status};
-use ghash_slices::{Width, add_multiples};
+use ghash_slices::{WideWord, Width, add_multiples};
 
 /// Writes the product of each word and the scalar.
 pub fn multiply_by<V: Width>(words: &[Wide], scalar: Wide, products: &mut [Wide]) -> u32

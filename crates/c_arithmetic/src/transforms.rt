@@ -7,7 +7,7 @@ ghost use Rattle.c_arithmetic.specs.Transforms.{ButterfliesForward, ButterfliesI
 use crate::numbers::{four_numbers, numbers_of};
 use crate::{Wide, status};
 use additive_transforms::{forward_words, inverse_words};
-use ghash_slices::{Width, add_each, add_multiples, run_low_stages};
+use ghash_slices::{WideWord, Width, add_each, add_multiples, run_low_stages};
 
 /// At each place `low += scalar * high`, and then `high += low`.
 pub fn butterfly_forward<V: Width>(low: &mut [Wide], high: &mut [Wide], scalar: Wide) -> u32
@@ -60,21 +60,29 @@ pub fn low_stages<V: Width>(
 pub fn transform<V: Width>(values: &mut [Wide], shift: Wide) -> u32
     ensures { Transforms (wide_number shift) values.old values.new result }
 {
-    if !has_stages(values.len()) {
-        return status::LENGTH;
-    }
-    forward_words::<V, Wide>(values, shift.number());
-    status::OK
+    transform_whole::<V>(values, shift, false)
 }
 
 /// Replaces the values at those points by the coefficients.
 pub fn inverse_transform<V: Width>(values: &mut [Wide], shift: Wide) -> u32
     ensures { InvertsTransform (wide_number shift) values.old values.new result }
 {
+    transform_whole::<V>(values, shift, true)
+}
+
+// The transform, or the inverse one.
+fn transform_whole<V: Width>(values: &mut [Wide], shift: Wide, is_inverse: bool) -> u32
+    ensures forward { ¬ IsTrue is_inverse → Transforms (wide_number shift) values.old values.new result }
+    ensures inverse { IsTrue is_inverse → InvertsTransform (wide_number shift) values.old values.new result }
+{
     if !has_stages(values.len()) {
         return status::LENGTH;
     }
-    inverse_words::<V, Wide>(values, shift.number());
+    if is_inverse {
+        inverse_words::<V, Wide>(values, shift.number());
+    } else {
+        forward_words::<V, Wide>(values, shift.number());
+    }
     status::OK
 }
 

@@ -1,5 +1,4 @@
 // Two words of 64 bits that are a number of 128.
-ghost use Rattle.std.specs.Prelude.{◌≡◌};
 ghost use Rattle.c_arithmetic.specs.Fits.{FitsTwo};
 
 use ghash_slices::WideWord;
@@ -13,29 +12,6 @@ pub struct Wide {
     ghost in_range: { FitsTwo low high },
 }
 
-impl Wide {
-    ghost use Rattle.c_arithmetic.specs.Fields.{wide_number};
-
-    /// The two halves of a number.
-    #[inline]
-    pub fn new(repr: u128) -> Wide
-        ensures { wide_number result ≡ repr }
-    {
-        Wide {
-            low: (repr % 0x10000000000000000) as u64,
-            high: (repr / 0x10000000000000000) as u64,
-        }
-    }
-
-    /// The number of which these are the halves.
-    #[inline]
-    pub fn number(self) -> u128
-        ensures { result ≡ wide_number self }
-    {
-        u128::from(self.high) * 0x10000000000000000 + u128::from(self.low)
-    }
-}
-
 impl WideWord for Wide {
     ghost use Rattle.c_arithmetic.specs.Fields.{wide_number};
     ghost use Rattle.c_arithmetic.specs.WideLemmas.{wide_number-lt};
@@ -46,11 +22,14 @@ impl WideWord for Wide {
 
     #[inline]
     fn number(self) -> u128 {
-        self.number()
+        u128::from(self.high) * 0x10000000000000000 + u128::from(self.low)
     }
 
     #[inline]
     fn of_number(number: u128) -> Wide {
-        Wide::new(number)
+        Wide {
+            low: (number % 0x10000000000000000) as u64,
+            high: (number / 0x10000000000000000) as u64,
+        }
     }
 }

@@ -4,6 +4,7 @@ ghost use Rattle.c_arithmetic.specs.Fields.{cubic_number, wide_number};
 
 use crate::wide::Wide;
 use field_base::Stored;
+use ghash_slices::WideWord;
 use word_cubic::Triple;
 
 /// A word of a slice, which holds the word `R` of a field's arithmetic.
@@ -44,7 +45,7 @@ impl Holds<u128> for Wide {
 
     #[inline]
     fn of_stored(x: u128) -> Wide {
-        Wide::new(x)
+        Wide::of_number(x)
     }
 }
 

@@ -24,8 +24,8 @@ pairs-preserved c =
     (omega (arith, length-map c.args.left.now wide_number)) (omega (arith, length-map c.args.right.now wide_number, c.requires))
     (values_fit 128 wide_number wide_number-lt c.args.left.now) (values_fit 128 wide_number wide_number-lt c.args.right.now)
     (omega arith) (omega arith) (omega arith)
-    (sym (ap₂ carryless c.number_at.ensures c.number_at-in-pairs-2.ensures) ∙ products.ensures.first)
-    (sym (ap₂ carryless c.number_at-in-pairs.ensures c.number_at-in-pairs-3.ensures) ∙ products.ensures.second)
+    (sym (ap₂ carryless c.two_at-word.ensures.first c.two_at-other.ensures.first) ∙ products.ensures.first)
+    (sym (ap₂ carryless c.two_at-word.ensures.second c.two_at-other.ensures.second) ∙ products.ensures.second)
     c.pairs.invariant
 
 pub rest-preserved : goal.rest-preserved
@@ -36,7 +36,7 @@ rest-preserved c =
     (omega (arith, length-map c.args.left.now wide_number)) (omega (arith, length-map c.args.right.now wide_number, c.requires))
     (values_fit 128 wide_number wide_number-lt c.args.left.now) (values_fit 128 wide_number wide_number-lt c.args.right.now)
     (omega arith) (omega arith)
-    (sym (ap₂ carryless c.number_at-in-rest.ensures c.number_at-in-rest-2.ensures) ∙ c.multiply_128-product_low.ensures) c.rest.invariant
+    (sym (ap₂ carryless c.number_at.ensures c.number_at-in-rest.ensures) ∙ c.multiply_128-product_low.ensures) c.rest.invariant
 
 pub returns : goal.returns
 returns c =

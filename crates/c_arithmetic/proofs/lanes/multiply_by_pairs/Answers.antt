@@ -28,10 +28,10 @@ pairs-preserved c =
     subst (λ (n : ℕ). HoldsPlaces (product_at old others) start n old (map wide_number c.put_number-in-pairs.new.words)) next
     (pair_written (product_at old others) start at old (map wide_number c.pairs.words) (map wide_number c.put_number.new.words)
     (map wide_number c.put_number-in-pairs.new.words) products.result.0 products.result.1 (omega arith) (omega (arith, long)) c.put_number.ensures
-    (products.ensures.first ∙ ap₂ ghash_product (c.number_at.ensures ∙ c.pairs.invariant.behind at here) c.number_at-in-pairs-2.ensures)
+    (products.ensures.first ∙ ap₂ ghash_product (c.two_at-word.ensures.first ∙ c.pairs.invariant.behind at here) c.two_at-other.ensures.first)
     c.put_number-in-pairs.ensures
     (products.ensures.second
-    ∙ ap₂ ghash_product (c.number_at-in-pairs.ensures ∙ c.pairs.invariant.behind (at + 1) later) c.number_at-in-pairs-3.ensures)
+    ∙ ap₂ ghash_product (c.two_at-word.ensures.second ∙ c.pairs.invariant.behind (at + 1) later) c.two_at-other.ensures.second)
     c.pairs.invariant)
 
 pub rest-preserved : goal.rest-preserved
@@ -44,7 +44,7 @@ rest-preserved c =
     place_written (product_at old others) c.args.start at old (map wide_number c.rest.words) (map wide_number c.put_number-in-rest.new.words)
     c.multiply_mod_128-product.result (omega arith) (omega (arith, long)) c.put_number-in-rest.ensures
     (c.multiply_mod_128-product.ensures
-    ∙ ap₂ ghash_product (c.number_at-in-rest.ensures ∙ c.rest.invariant.behind at here) c.number_at-in-rest-2.ensures)
+    ∙ ap₂ ghash_product (c.number_at.ensures ∙ c.rest.invariant.behind at here) c.number_at-in-rest.ensures)
     c.rest.invariant
 
 pub returns : goal.returns
