@@ -1,5 +1,5 @@
 -- The tables of the bytes of erasure codes, each checked whole by computation, and the rule that each follows.
-use Rattle.std.proofs.Common.{◌≡◌, ◌≢◌, ℕ, ◌+◌, ◌%◌, ◌^◌, ◌<◌, Bool, true, eqb, take, drop, refl, sym, ◌∙◌, subst, arith, lit<, lit≤}
+use Rattle.std.proofs.Common.{◌≡◌, ◌≢◌, ℕ, ◌+◌, ◌%◌, ◌^◌, ◌<◌, Bool, true, eqb, drop, refl, sym, ◌∙◌, subst, arith, lit<, lit≤}
 use native.Mathlib.Nat.{mod-lt}
 use Rattle.std.proofs.lemmas.Bool.{eqb-true}
 use Rattle.std.specs.Prelude.{slice_index}
@@ -23,24 +23,11 @@ ring = mul_mod_ring 8 erasure_modulus (lit< tt) refl
 
 -- ---- powers and logarithms
 
--- each of the first 511 entries of EXP is the one before times 2, from 1 on (computed)
-powers_pass : repeats (λ x. mul_mod 8 erasure_modulus x 2) 1 (take 511 EXP) ≡ true
-unfolding mul_mod rem rem_in carryless carryless_in repeats
-powers_pass = refl
-
--- the entries of EXP from 511 on are 0 (computed)
-zeros_pass : passes is_nothing 0 (drop 511 EXP) ≡ true
-unfolding passes is_nothing
-zeros_pass = refl
-
--- every entry of LOG past the first passes its check (computed)
-logarithms_pass : passes (is_logarithm EXP) 1 (drop 1 LOG) ≡ true
-unfolding passes is_logarithm
-logarithms_pass = refl
-
--- EXP and LOG give the products
+-- EXP and LOG give the products: each of the first 511 entries of EXP is the one before times 2, from 1 on, the others are 0, and every
+-- entry of LOG past the first passes its check (all computed)
 pub products : AreLogTables (mul_mod 8 erasure_modulus) EXP LOG
-products = log_tables (mul_mod 8 erasure_modulus) ring 2 EXP LOG (lit≤ tt) refl powers_pass logarithms_pass refl refl zeros_pass
+unfolding mul_mod rem rem_in carryless carryless_in repeats passes is_nothing is_logarithm
+products = log_tables (mul_mod 8 erasure_modulus) ring 2 EXP LOG (lit≤ tt) refl refl refl refl refl refl
 
 -- ---- inverses
 
