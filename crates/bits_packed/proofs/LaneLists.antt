@@ -1,16 +1,20 @@
 -- The lanes of a number as a list, and packed bits taken apart one after the other.
 use Rattle.std.proofs.Common.{◌≡◌, ℕ, zero, suc, ◌+◌, ◌*◌, ◌/◌, ◌%◌, ◌^◌, ◌<◌, ◌≤◌, List, [], ◌∷◌, ◌++◌, refl, sym, ap, ap₂, ◌∙◌, arith}
 use Rattle.std.specs.Prelude.{drop}
+use Rattle.std.specs.Array.{index_steps}
 use Rattle.std.specs.Int.{bit_at}
+use Rattle.std.specs.Iterator.{CallableAtEachTurn}
 use Rattle.std.proofs.Math.Nat.{div-one}
 use Rattle.std.proofs.lemmas.List.{map-id}
 use native.Mathlib.Numerals.{add-one}
 use Rattle.field_base.specs.Chunks.{chunk, chunks}
-use Rattle.bits_rows.specs.ChunkLemmas.{chunks-front}
-use Rattle.bits_rows.specs.Parts.{IsWithPart}
-use Rattle.bits_rows.proofs.LaneLemmas.{bit_at_shr}
+use Rattle.field_base.proofs.Calls.{may_go_on}
 use Rattle.field_base.proofs.ChunkLists.{chunk_pushed}
-use Rattle.bits_packed.specs.Lanes.{IsWithLane, lanes_from}
+use Rattle.bits_rows.specs.ChunkLemmas.{chunks-front}
+use Rattle.bits_rows.specs.Parts.{IsFilled, IsWithPart}
+use Rattle.bits_rows.proofs.LaneLemmas.{bit_at_shr}
+use Rattle.bits_rows.proofs.WordLists.{Filled, more_filled}
+use Rattle.bits_packed.specs.Lanes.{IsWithLane, bits_of, lanes_from}
 
 -- lane j is digit j in base 2
 pub lane-as_part : (n j : ℕ) → bit_at n j ≡ chunk 1 j n
@@ -57,3 +61,20 @@ pub byte_pushed : (width i n byte : ℕ) (items new begun : List ℕ) → new �
     → byte ≡ chunk width i n → new ≡ begun ++ chunks width (i + 1) n
 byte_pushed width i n byte items new begun is so_far value =
     sym (map-id new) ∙ chunk_pushed (λ (x : ℕ). x) width i n items new byte begun is (map-id items ∙ so_far) value
+
+-- one lane more of those that calls give, and leave for the calls that are left
+pub lane_filled : {S A : Type 0} {number : A → ℕ} {step : S → ℕ → A → S → Type 0} {Q : S → ℕ → Type 0} {start now next : S} {n r : ℕ} {lane_value : A}
+    → (width lane : ℕ) → lane < width
+    → CallableAtEachTurn (index_steps width) (λ p i q. (x : A) × step p i x q) Q lane now × Filled 1 number step start lane n now
+    → step now lane lane_value next → IsWithLane width n lane (number lane_value) r
+    → CallableAtEachTurn (index_steps width) (λ p i q. (x : A) × step p i x q) Q (lane + 1) next × Filled 1 number step start (lane + 1) r next
+lane_filled {number = number} {step = step} {start = start} {now = now} {next = next} {n = n} {r = r} {lane_value = lane_value} width lane inside so_far
+    called written = (
+      may_go_on width lane inside so_far.0 next (lane_value, called),
+      more_filled 1 number step start width lane n r now next lane_value so_far.1 inside called (lane_is_part width n lane (number lane_value) r written),
+    )
+
+-- all lanes are those that the calls gave, once each was asked for
+pub all_filled : {S A : Type 0} {number : A → ℕ} {step : S → ℕ → A → S → Type 0} {start now : S} {lane n : ℕ}
+    → (width : ℕ) → lane ≡ width → Filled 1 number step start lane n now → (last : S) × IsFilled step number 1 width n start last
+all_filled {now = now} {n = n} width all done = (now, (done.taken, done.fills, done.are ∙ ap (λ (x : ℕ). bits_of x n) all))

@@ -1,5 +1,5 @@
 -- The rounds of a transposition, over the numbers of the rows.
-use Rattle.std.proofs.Common.{◌≡◌, ◌≢◌, ℕ, ◌+◌, ◌*◌, ◌/◌, ◌%◌, ◌<◌, ◌≤◌, ◌-◌, suc, zero, List, length, get_or, replicate, set, refl, sym, ap, ap₂, ◌∙◌, lit<, arith, subst, inl, inr, ◌⊎◌, get_or-set_same, get_or-set_other}
+use Rattle.std.proofs.Common.{◌≡◌, ◌≢◌, ℕ, ◌+◌, ◌*◌, ◌/◌, ◌%◌, ◌^◌, ◌<◌, ◌≤◌, ◌-◌, suc, zero, List, length, get_or, replicate, set, refl, sym, ap, ap₂, ◌∙◌, lit<, arith, subst, inl, inr, ◌⊎◌, get_or-set_same, get_or-set_other}
 use Rattle.std.specs.Int.{bit_at}
 use Rattle.std.proofs.lemmas.Bool.{cases_eq, cases_lt}
 use Rattle.std.proofs.lemmas.List.{get_or-replicate, length-replicate, length-set}
@@ -7,9 +7,10 @@ use Rattle.std.proofs.lemmas.Nat.{div-add-mod', div-mul-add, div_below, mod-mul-
 use Rattle.std.proofs.Math.Nat.{add-mul, div-one, div-eq_of_lt, mul_assoc}
 use native.Mathlib.Nat.{mod-lt, mod-eq_of_lt, zero-mul}
 use Rattle.bits_rows.specs.Parts.{IsBlockSize}
+use Rattle.bits_rows.proofs.BlockLemmas.{block_divides, block_some}
 use Rattle.bits_rows.proofs.BlockPlaces.{mixed}
 use Rattle.bits_packed.specs.Lanes.{AreTransposed}
-use Rattle.bits_packed.specs.Rounds.{AreMixed, IsMixed, IsPairInterleaved, IsPassTo, first_row}
+use Rattle.bits_packed.specs.Rounds.{AreMixed, AreRounds, IsMixed, IsPairInterleaved, IsPassTo, IsRowCount, PassGoesOn, first_row}
 use Rattle.bits_packed.proofs.RoundPairs.{lower_mixed, upper_mixed}
 
 -- ---- rows that are s apart, and how far each of them is
@@ -281,6 +282,24 @@ eightfold_fits width q s is =
     let eight : 2 * (4 * s) ≡ 8 * s = omega arith in
     is ∙ ap (λ (x : ℕ). q * x) eight
 
+-- two rows are some, and so are eight
+pub count_some : (n : ℕ) → IsRowCount n → 0 < n
+count_some n count = grind (arith, count)
+
+-- a count that is not two is eight
+pub count_eight : (n : ℕ) → IsRowCount n → n ≢ 2 → n ≡ 8
+count_eight n (inl two) other = absurd (other two)
+count_eight n (inr eight) other = eight
+
+-- a row is a whole number of as many blocks as are combined, where it is no shorter
+pub blocks_divide : (width log s n rows : ℕ) → width ≡ 2 ^ log → AreRounds width n s rows → (q : ℕ) × (width ≡ q * (n * s))
+blocks_divide width log s n rows power (size, inl two, fits, square) =
+    let halves = block_divides width log s power size in (halves.0, halves.1 ∙ ap (λ (x : ℕ). halves.0 * (x * s)) (sym two))
+blocks_divide width log s n rows power (size, inr eight, fits, square) =
+    let four = fourfold_inside width s size (subst (λ (x : ℕ). x * s ≤ width) eight fits) in
+    let halves = block_divides width log (4 * s) power four in
+    (halves.0, eightfold_fits width halves.0 s halves.1 ∙ ap (λ (x : ℕ). halves.0 * (x * s)) (sym eight))
+
 -- an interleaved pair of rows, with its place rewritten
 pub place_is : (width d m : ℕ) {n : ℕ} {before after : List ℕ} → n ≡ m → IsPairInterleaved width d n before after → IsPairInterleaved width d m before after
 place_is width d m {n} {before} {after} is pair = subst (λ (x : ℕ). IsPairInterleaved width d x before after) is pair
@@ -298,6 +317,21 @@ pair_done width q s i old before now some is first inside pair so_far =
     (subst (λ (n : ℕ). IsPairInterleaved width s n before now) none pair)
     (rows_begin s (2 * s) 2 some refl width i old before first (1, refl, omega arith) so_far))
     so_far
+
+-- a pass that combines m rows combines n, which is the same count
+pub pass_by : (width s i n m : ℕ) (before after : List ℕ) → n ≡ m → PassGoesOn width s (m * s) i (i + 1) before after
+    → PassGoesOn width s (n * s) i (i + 1) before after
+pass_by width s i n m before after is goes = subst (λ (x : ℕ). PassGoesOn width s (x * s) i (i + 1) before after) (sym is) goes
+
+-- one interleaved pair takes a pass that combines two rows from i to i + 1
+pub two_done : (width log s i n : ℕ) (before now : List ℕ) → width ≡ 2 ^ log → IsBlockSize width s → n ≡ 2 → first_row s (n * s) i ≡ i
+    → i + n * s < width + s → IsPairInterleaved width s i before now → PassGoesOn width s (n * s) i (i + 1) before now
+two_done width log s i n before now power size two first inside pair =
+    let halves = block_divides width log s power size in
+    let first_of_two : first_row s (2 * s) i ≡ i = subst (λ (x : ℕ). first_row s (x * s) i ≡ i) two first in
+    let within : i + 2 * s < width + s = subst (λ (x : ℕ). i + x * s < width + s) two inside in
+    pass_by width s i n 2 before now two (λ old so_far.
+    pair_done width halves.0 s i old before now (block_some width s size) halves.1 first_of_two (omega (arith, within)) pair so_far)
 
 -- ---- groups of rows
 
@@ -358,9 +392,15 @@ pub same_length : (width s t : ℕ) (old now : List ℕ) → s ≡ t → AreMixe
 same_length width s t old now is = subst (λ (z : ℕ). AreMixed width z old now) is
 
 -- twice a proper block is at most the width
-pub double_fits : (width q s : ℕ) → width ≡ q * (2 * s) → s < width → s * 2 ≤ width
+double_fits : (width q s : ℕ) → width ≡ q * (2 * s) → s < width → s * 2 ≤ width
 double_fits width zero s is less = absurd (omega arith)
 double_fits width (suc q) s is less = let more = mul-le 1 (2 * s) (suc q) (2 * s) (omega arith) (omega arith) in omega (arith, more, is)
+
+-- twice a block size is at most a width that is a power of two
+pub double_inside : (width log s : ℕ) → width ≡ 2 ^ log → IsBlockSize width s → 2 * s ≤ width
+double_inside width log s power size =
+    let halves = block_divides width log s power size in
+    let fits = double_fits width halves.0 s halves.1 size.2 in omega (arith, fits)
 
 -- 8 s is at most the width where s is at most an eighth of it
 pub eightfold_inside : (width s : ℕ) → s ≤ width / 8 → 8 * s ≤ width

@@ -1,7 +1,7 @@
 -- How far a transposition has come.
-use Rattle.std.specs.Prelude.{◌≡◌, ◌≢◌, ◌<◌, ◌≤◌, ℕ, ◌+◌, ◌*◌, ◌/◌, ◌%◌, List, slice_index}
+use Rattle.std.specs.Prelude.{◌≡◌, ◌≢◌, ◌<◌, ◌≤◌, ℕ, ◌+◌, ◌*◌, ◌/◌, ◌%◌, List, ◌⊎◌, slice_index}
 use Rattle.std.specs.Int.{bit_at}
-use Rattle.bits_rows.specs.Parts.{HasFirstBlocks, HasSecondBlocks}
+use Rattle.bits_rows.specs.Parts.{HasFirstBlocks, HasSecondBlocks, IsBlockSize}
 
 -- `row` is row r after the rounds by blocks of 1, 2, 4, .. below s lanes, begun at the rows `old`: the parts below s of the index
 -- of a row and of a lane have changed places.
@@ -12,6 +12,15 @@ IsMixed width s old r row =
 -- each of the rows `now` is
 abbrev pub AreMixed : ℕ → ℕ → List ℕ → List ℕ → Type 0
 AreMixed width s old now = (r : ℕ) → r < width → IsMixed width s old r (slice_index now r)
+
+-- one round combines two rows, and three rounds combine eight
+abbrev pub IsRowCount : ℕ → Type 0
+IsRowCount count = (count ≡ 2) ⊎ (count ≡ 8)
+
+-- Rounds that combine `count` rows fit a square of `rows` rows: the first goes by blocks of s lanes, and the last by half of
+-- `count * s`.
+abbrev pub AreRounds : ℕ → ℕ → ℕ → ℕ → Type 0
+AreRounds width count s rows = IsBlockSize width s × IsRowCount count × (count * s ≤ width) × (rows ≡ width)
 
 -- Rows that are s apart belong together where they lie in the same t rows: the first of those that row r belongs to.
 abbrev pub first_row : ℕ → ℕ → ℕ → ℕ

@@ -2,7 +2,7 @@
 ghost use Rattle.std.specs.Prelude.{◌≡◌, ◌≤◌, ◌<◌, ◌+◌, ◌*◌, ◌/◌, ◌^◌, ℕ, length, map};
 ghost use Rattle.bits_rows.specs.Parts.{HasFirstBlocks, HasSecondBlocks, IsBlockSize};
 ghost use Rattle.bits_packed.specs.Lanes.{AreInterleavedLanes, AreTransposed};
-ghost use Rattle.bits_packed.specs.Rounds.{IsPairInterleaved, PassGoesByGroup, PassGoesOn, RoundsGoOn, first_row};
+ghost use Rattle.bits_packed.specs.Rounds.{AreRounds, IsPairInterleaved, PassGoesByGroup, PassGoesOn, RoundsGoOn, first_row};
 
 use crate::packed::{PackedGf2, value};
 use bits_rows::{Underlier, Word, interleave_words};
@@ -93,89 +93,67 @@ fn interleave_eight<U: Underlier>(rows: &mut [PackedGf2<U>], block: usize, i: us
     interleave_pair(rows, 4 * block, three);
 }
 
-// Three rounds on the rows of group number `group`, of `8 * block` rows each.
+// The rounds on row `i` and the rows that they combine it with, `count` in all: one round by blocks of `block` lanes combines two
+// rows, and three rounds combine eight.
 #[inline(always)]
-fn interleave_eight_blocks<U: Underlier>(rows: &mut [PackedGf2<U>], block: usize, group: usize)
-    requires block { IsBlockSize U.BITS block }
-    requires square { length rows.old ≡ U.BITS }
-    requires inside { group < U.BITS / (8 * block) }
-    ensures { PassGoesByGroup U.BITS block (8 * block) group (map (λ x. U.number x.bits) rows.old) (map (λ x. U.number x.bits) rows.new) }
+fn interleave_rows<U: Underlier>(rows: &mut [PackedGf2<U>], block: usize, count: usize, i: usize)
+    requires rounds { AreRounds U.BITS count block (length rows.old) }
+    requires first { first_row block (count * block) i ≡ i }
+    requires inside { i + count * block < U.BITS + block }
+    ensures { PassGoesOn U.BITS block (count * block) i (i + 1) (map (λ x. U.number x.bits) rows.old) (map (λ x. U.number x.bits) rows.new) }
 {
-    let start = group * (8 * block);
+    if count == 2 {
+        interleave_pair(rows, block, i)
+    } else {
+        interleave_eight(rows, block, i)
+    }
+}
+
+// The rounds on the rows of group number `group`, of `count * block` rows each.
+#[inline(always)]
+fn interleave_group<U: Underlier>(
+    rows: &mut [PackedGf2<U>],
+    block: usize,
+    count: usize,
+    group: usize,
+)
+    requires rounds { AreRounds U.BITS count block (length rows.old) }
+    requires inside { group < U.BITS / (count * block) }
+    ensures { PassGoesByGroup U.BITS block (count * block) group (map (λ x. U.number x.bits) rows.old) (map (λ x. U.number x.bits) rows.new) }
+{
+    let start = group * (count * block);
     for i in start..start + block {
-        interleave_eight(rows, block, i);
+        interleave_rows(rows, block, count, i);
     }
 }
 
-// One round on the rows of group number `group`, of `2 * block` rows each: each row of the upper half is interleaved with that
-// at its place in the lower half.
+// The rounds of a transposition that combine `count` rows: one round by blocks of `block` lanes, in which the odd blocks of row r
+// change places with the even blocks of row `r + block`, for each row r of an even block of rows; or three, by blocks of `block`,
+// `2 * block` and `4 * block` lanes.
 #[inline(always)]
-fn interleave_two_blocks<U: Underlier>(rows: &mut [PackedGf2<U>], block: usize, group: usize)
-    requires block { IsBlockSize U.BITS block }
-    requires square { length rows.old ≡ U.BITS }
-    requires inside { group < U.BITS / (2 * block) }
-    ensures { PassGoesByGroup U.BITS block (2 * block) group (map (λ x. U.number x.bits) rows.old) (map (λ x. U.number x.bits) rows.new) }
+fn rounds<U: Underlier>(rows: &mut [PackedGf2<U>], block: usize, count: usize)
+    requires { AreRounds U.BITS count block (length rows.old) }
+    ensures { RoundsGoOn U.BITS block (count * block) (map (λ x. U.number x.bits) rows.old) (map (λ x. U.number x.bits) rows.new) }
 {
-    let start = group * (2 * block);
-    for i in start..start + block {
-        interleave_pair(rows, block, i);
+    for group in 0..U::BITS / (count * block) {
+        interleave_group(rows, block, count, group);
     }
 }
 
-// Three rounds of a transposition, by blocks of `block`, `2 * block` and `4 * block` lanes.
+// `rounds`, with each block size that a transposition gives it as a literal: so shifts and masks are constants in the machine
+// code.
 #[inline(always)]
-fn three_rounds<U: Underlier>(rows: &mut [PackedGf2<U>], block: usize)
-    requires block { IsBlockSize U.BITS block }
-    requires square { length rows.old ≡ U.BITS }
-    requires fits { 8 * block ≤ U.BITS }
-    ensures { RoundsGoOn U.BITS block (8 * block) (map (λ x. U.number x.bits) rows.old) (map (λ x. U.number x.bits) rows.new) }
-{
-    for group in 0..U::BITS / (8 * block) {
-        interleave_eight_blocks(rows, block, group);
-    }
-}
-
-// One round of a transposition: the odd blocks of row r change places with the even blocks of row `r + block`, for each row r of
-// an even block of rows.
-#[inline(always)]
-fn one_round<U: Underlier>(rows: &mut [PackedGf2<U>], block: usize)
-    requires block { IsBlockSize U.BITS block }
-    requires square { length rows.old ≡ U.BITS }
-    ensures { RoundsGoOn U.BITS block (2 * block) (map (λ x. U.number x.bits) rows.old) (map (λ x. U.number x.bits) rows.new) }
-{
-    for group in 0..U::BITS / (2 * block) {
-        interleave_two_blocks(rows, block, group);
-    }
-}
-
-// `three_rounds`, with each block size that a transposition gives it as a literal: so shifts and masks are constants in the
-// machine code.
-fn three_rounds_of_constant<U: Underlier>(rows: &mut [PackedGf2<U>], block: usize)
-    requires block { IsBlockSize U.BITS block }
-    requires square { length rows.old ≡ U.BITS }
-    requires fits { 8 * block ≤ U.BITS }
-    ensures { RoundsGoOn U.BITS block (8 * block) (map (λ x. U.number x.bits) rows.old) (map (λ x. U.number x.bits) rows.new) }
+fn rounds_of_constant<U: Underlier>(rows: &mut [PackedGf2<U>], block: usize, count: usize)
+    requires { AreRounds U.BITS count block (length rows.old) }
+    ensures { RoundsGoOn U.BITS block (count * block) (map (λ x. U.number x.bits) rows.old) (map (λ x. U.number x.bits) rows.new) }
 {
     match block {
-        1 => three_rounds(rows, 1),
-        8 => three_rounds(rows, 8),
-        64 => three_rounds(rows, 64),
-        _ => three_rounds(rows, block),
-    }
-}
-
-// `one_round`, with each block size that is left after rounds by threes as a literal.
-fn one_round_of_constant<U: Underlier>(rows: &mut [PackedGf2<U>], block: usize)
-    requires block { IsBlockSize U.BITS block }
-    requires square { length rows.old ≡ U.BITS }
-    ensures { RoundsGoOn U.BITS block (2 * block) (map (λ x. U.number x.bits) rows.old) (map (λ x. U.number x.bits) rows.new) }
-{
-    match block {
-        8 => one_round(rows, 8),
-        16 => one_round(rows, 16),
-        64 => one_round(rows, 64),
-        128 => one_round(rows, 128),
-        _ => one_round(rows, block),
+        1 => rounds(rows, 1, count),
+        8 => rounds(rows, 8, count),
+        16 => rounds(rows, 16, count),
+        64 => rounds(rows, 64, count),
+        128 => rounds(rows, 128, count),
+        _ => rounds(rows, block, count),
     }
 }
 
@@ -206,11 +184,11 @@ impl<U: Underlier> PackedGf2<U> {
     {
         let mut block = 1;
         while block <= U::BITS / 8 {
-            three_rounds_of_constant(rows, block);
+            rounds_of_constant(rows, block, 8);
             block *= 8;
         }
         while block < U::BITS {
-            one_round_of_constant(rows, block);
+            rounds_of_constant(rows, block, 2);
             block *= 2;
         }
     }

@@ -1,8 +1,0 @@
-use Rattle.std.proofs.Common.{◌*◌, ℕ, List, map}
-use Rattle.bits_packed.specs.Rounds.{AreMixed, IsPassTo}
-use Rattle.bits_packed.proofs.packed.transpose.one_round.Given as goal
-
-abbrev pub invariant-loop-group : goal.invariant-loop-group
-invariant-loop-group g l =
-    (old : List ℕ) → AreMixed g.U.Underlier.BITS l.block old (map (λ x. g.U.Underlier.number x.bits) l.fn.rows)
-    → IsPassTo g.U.Underlier.BITS l.block (2 * l.block) (l.group * (2 * l.block)) old (map (λ x. g.U.Underlier.number x.bits) l.rows)
