@@ -19,17 +19,13 @@ pub struct Seen {
 }
 
 impl Seen {
-    /// What a double has seen where `observed` bytes were observed, the last eight of them in `bytes`, and `sampled` were sampled.
-    pub fn new(observed: u32, sampled: u32, bytes: u64) -> Seen
-        ensures observed { result.observed ≡ observed }
-        ensures sampled { result.sampled ≡ sampled }
-        ensures bytes { result.bytes ≡ bytes }
+    /// Whether `observed` bytes were observed, the last eight of them in `bytes`, and `sampled` were sampled.
+    pub fn is(&self, observed: u32, sampled: u32, bytes: u64) -> bool
+        ensures observed { IsTrue result → self.now.observed ≡ observed }
+        ensures sampled { IsTrue result → self.now.sampled ≡ sampled }
+        ensures bytes { IsTrue result → self.now.bytes ≡ bytes }
     {
-        Seen {
-            observed,
-            sampled,
-            bytes,
-        }
+        self.observed == observed && self.sampled == sampled && self.bytes == bytes
     }
 }
 

@@ -5,15 +5,13 @@ use field_element::{Element, Poly64, Poly192, element_of_word};
 use std::alloc::Global;
 use std::fmt;
 use std::fmt::{Debug, Display, HasDigits, LowerHex, UpperHex};
+use test_support::is_text;
 use word_polynomial::{GhashKernel, Poly64Kernel, RijndaelKernel};
 use word_tower::{Bits2, Bits4, Bits8, Bits16, Bits32, Bits64, Bits128, Tower};
 
 /// Whether `{:?}` prints `text` of `value`.
 fn prints<T: Debug>(alloc: Global, value: &T, text: &str) -> bool {
-    match format!(in alloc; "{value:?}") {
-        Ok(printed) => printed.as_str() == text,
-        Err(_) => false,
-    }
+    is_text(format!(in alloc; "{value:?}"), text)
 }
 
 /// Whether `{:?}` prints `text` of the element of a word.
@@ -50,10 +48,10 @@ fn elements_print_their_type_and_their_number(rt: HostRuntime) {
 
 /// Whether `{:x} {:#x} {:X} {:#X}` prints `text` of `value`.
 fn has_digits<T: HasDigits + Copy>(alloc: Global, value: T, text: &str) -> bool {
-    match format!(in alloc; "{value:x} {value:#x} {value:X} {value:#X}") {
-        Ok(printed) => printed.as_str() == text,
-        Err(_) => false,
-    }
+    is_text(
+        format!(in alloc; "{value:x} {value:#x} {value:X} {value:#X}"),
+        text,
+    )
 }
 
 /// Whether `{:x} {:#x} {:X} {:#X}` prints `text` of the element of a word.
@@ -77,10 +75,7 @@ impl<T: LowerHex + UpperHex> Display for Hexadecimal<T> {
 /// Whether `{} {:#}` of `Hexadecimal` prints `text` of `value`.
 fn prints_hexadecimal<T: LowerHex + UpperHex + Drop>(alloc: Global, value: T, text: &str) -> bool {
     let shown = Hexadecimal(value);
-    match format!(in alloc; "{shown} {shown:#}") {
-        Ok(printed) => printed.as_str() == text,
-        Err(_) => false,
-    }
+    is_text(format!(in alloc; "{shown} {shown:#}"), text)
 }
 
 #[test]

@@ -1,6 +1,7 @@
 // Searches for witnesses over SHA-256, outside vectors, and the texts of the errors.
 use std::alloc::Global;
 use std::fmt::Display;
+use test_support::is_text;
 use transcript_bytes::ChallengerError;
 use transcript_elements::{GrindError, TranscriptError};
 
@@ -27,10 +28,7 @@ pub(crate) static LEAST_WITNESSES: [(u64, u16, u16); 16] = [
 
 // Printed text: whether `{}` prints `text` of the error.
 fn reads<E: Display>(alloc: Global, error: &E, text: &str) -> bool {
-    match format!(in alloc; "{error}") {
-        Ok(printed) => printed.as_str() == text,
-        Err(_) => false,
-    }
+    is_text(format!(in alloc; "{error}"), text)
 }
 
 #[test]

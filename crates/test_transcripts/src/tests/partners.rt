@@ -13,174 +13,95 @@ use std::cell::Cell;
 use test_support::{Copies, Double, Seen};
 use transcript_elements::{BinaryChallenger, ByteLevel};
 
-/// A double, a call of a challenger over it, what that returns and what the double has seen by then, and what a sample then returns.
-pub(crate) struct Partner {
-    byte: u8,
-    // The byte calls before the one that is refused.
-    granted: u32,
-    copies: Copies,
-    call: Row,
-    said: Said,
-    // The numbers of bytes that were observed and sampled, and the last eight that were observed.
-    seen: (u32, u32, u64),
-    next: Said,
-}
+/// What a double has seen: the numbers of bytes that were observed and sampled, and the last eight that were observed.
+type Sight = (u32, u32, u64);
+
+/// A double (the byte that it samples, the byte calls before the one that is refused, and its copies), a call of a challenger over it,
+/// what that returns and what the double has seen by then, and what a sample then returns.
+pub(crate) type Partner = ((u8, u32, Copies), Row, Said, Sight, Said);
 
 /// Copies are granted, and refuse nothing.
 const GRANTED: Copies = Copies::RefusingAfter(u32::MAX);
 
-/// Partners of a challenger of a field of 32 bits. The third and the fifth byte call are refused in worked rows, and the seventh, in the
-/// second element of a slice. The digest of a word is one too, and other digests and caps are observed in the order of their parts.
-pub(crate) static PARTNERS_OF_32: [Partner; 8] = [
-    Partner {
-        byte: 5,
-        granted: 2,
-        copies: GRANTED,
-        call: [0, 0, 0x0403_0201, 0],
-        said: Said::Memory,
-        seen: (2, 0, 0x0102),
-        next: Said::Failed,
-    },
-    Partner {
-        byte: 5,
-        granted: 4,
-        copies: GRANTED,
-        call: [2, 12, 0, 0],
-        said: Said::Memory,
-        seen: (0, 4, 0),
-        next: Said::Failed,
-    },
-    Partner {
-        byte: 5,
-        granted: 6,
-        copies: GRANTED,
-        call: [11, 4, 0x0403_0201, 0],
-        said: Said::Memory,
-        seen: (6, 0, 0x0102_0304_0102),
-        next: Said::Failed,
-    },
-    Partner {
-        byte: 5,
-        granted: 5,
-        copies: GRANTED,
-        call: [3, 0, 9, 0],
-        said: Said::Number(1),
-        seen: (0, 0, 0),
-        next: Said::Number(0x0505_0505),
-    },
-    Partner {
-        byte: 0,
-        granted: 12,
-        copies: GRANTED,
-        call: [7, 0, 0, 0],
-        said: Said::Number(0),
-        seen: (8, 0, 0x0201_0000_0000_0000),
-        next: Said::Number(0),
-    },
-    Partner {
-        byte: 0,
-        granted: 7,
-        copies: GRANTED,
-        call: [6, 0, 0, 0],
-        said: Said::Number(0),
-        seen: (3, 0, 0x0405_06),
-        next: Said::Number(0),
-    },
-    Partner {
-        byte: 0,
-        granted: 8,
-        copies: GRANTED,
-        call: [8, 0, 0, 0],
-        said: Said::Number(0),
-        seen: (4, 0, 0x0102_0304),
-        next: Said::Number(0),
-    },
-    Partner {
-        byte: 0,
-        granted: 20,
-        copies: GRANTED,
-        call: [9, 0, 0, 0],
-        said: Said::Number(0),
-        seen: (16, 0, 0x0800_0000_0000_0000),
-        next: Said::Number(0),
-    },
+/// Partners of a field of 32 bits that sample 5 and refuse the byte call after so many, in a call that then fails for want of memory. The third
+/// and the fifth byte call are refused in worked rows, and the seventh, in the second element of a slice.
+pub(crate) static REFUSED_CALLS: [(u32, Row, Sight); 3] = [
+    (2, [0, 0, 0x0403_0201, 0], (2, 0, 0x0102)),
+    (4, [2, 12, 0, 0], (0, 4, 0)),
+    (6, [11, 4, 0x0403_0201, 0], (6, 0, 0x0102_0304_0102)),
 ];
 
-/// Partners of a search at a field of 16 bits. None of the byte calls of a copy reaches the challenger, whose own two are granted
-/// later. All 65,536 elements are tried, each by two bytes and eight samples, the last four 0xfffc to 0xffff. Over a double that
-/// samples 0 the first candidate passes, and no other is tried. For no bits nothing is asked, not a copy either.
-pub(crate) static PARTNERS_OF_16: [Partner; 7] = [
-    Partner {
-        byte: 7,
-        granted: 2,
-        copies: Copies::Refused,
-        call: [4, 8, 0, 0],
-        said: Said::Memory,
-        seen: (0, 0, 0),
-        next: Said::Number(0x0707),
-    },
-    Partner {
-        byte: 7,
-        granted: 2,
-        copies: Copies::RefusingAfter(0),
-        call: [4, 8, 0, 0],
-        said: Said::Memory,
-        seen: (0, 0, 0),
-        next: Said::Number(0x0707),
-    },
-    Partner {
-        byte: 7,
-        granted: 2,
-        copies: Copies::RefusingAfter(1),
-        call: [4, 8, 0, 0],
-        said: Said::Memory,
-        seen: (1, 0, 0),
-        next: Said::Number(0x0707),
-    },
-    Partner {
-        byte: 7,
-        granted: 2,
-        copies: Copies::RefusingAfter(9),
-        call: [4, 8, 0, 0],
-        said: Said::Memory,
-        seen: (2, 7, 0),
-        next: Said::Number(0x0707),
-    },
-    Partner {
-        byte: 255,
-        granted: 2,
-        copies: GRANTED,
-        call: [4, 8, 0, 0],
-        said: Said::NoWitness,
-        seen: (131_072, 524_288, 0xfcff_fdff_feff_ffff),
-        next: Said::Number(0xffff),
-    },
-    Partner {
-        byte: 0,
-        granted: 2,
-        copies: GRANTED,
-        call: [4, 8, 0, 0],
-        said: Said::Number(0),
-        seen: (2, 8, 0),
-        next: Said::Number(0),
-    },
-    Partner {
-        byte: 9,
-        granted: 2,
-        copies: Copies::Refused,
-        call: [4, 0, 0, 0],
-        said: Said::Number(0),
-        seen: (0, 0, 0),
-        next: Said::Number(0x0909),
-    },
+pub(crate) fn refused_call(row: &(u32, Row, Sight)) -> Partner {
+    let (granted, call, sight) = *row;
+    (
+        (5, granted, GRANTED),
+        call,
+        Said::Memory,
+        sight,
+        Said::Failed,
+    )
+}
+
+/// Partners of a field of 32 bits: the byte that they sample, as many byte calls as they grant, a call that needs no more, and what it
+/// returns. The digest of a word is a worked row, and other digests and caps are observed in the order of their parts.
+pub(crate) static GRANTED_CALLS: [(u8, u32, Row, Sight); 5] = [
+    (5, 5, [3, 0, 9, 1], (0, 0, 0)),
+    (0, 12, [7, 0, 0, 0], (8, 0, 0x0201_0000_0000_0000)),
+    (0, 7, [6, 0, 0, 0], (3, 0, 0x0405_06)),
+    (0, 8, [8, 0, 0, 0], (4, 0, 0x0102_0304)),
+    (0, 20, [9, 0, 0, 0], (16, 0, 0x0800_0000_0000_0000)),
 ];
+
+pub(crate) fn granted_call(row: &(u8, u32, Row, Sight)) -> Partner {
+    let (byte, granted, call, sight) = *row;
+    let next = Said::Number(u128::from(byte).wrapping_mul(0x0101_0101));
+    (
+        (byte, granted, GRANTED),
+        call,
+        Said::Number(call[3]),
+        sight,
+        next,
+    )
+}
+
+/// Partners of a search for so many bits at a field of 16 bits, with the byte that they sample and their copies. None of the byte calls of
+/// a copy reaches the challenger, whose own two are granted later. All 65,536 elements are tried, each by two bytes and eight samples, the
+/// last four 0xfffc to 0xffff. Over a double that samples 0 the first candidate passes, and no other is tried. For no bits nothing is
+/// asked, not a copy either.
+pub(crate) static SEARCHES: [(u8, Copies, u128, Said, Sight); 7] = [
+    (7, Copies::Refused, 8, Said::Memory, (0, 0, 0)),
+    (7, Copies::RefusingAfter(0), 8, Said::Memory, (0, 0, 0)),
+    (7, Copies::RefusingAfter(1), 8, Said::Memory, (1, 0, 0)),
+    (7, Copies::RefusingAfter(9), 8, Said::Memory, (2, 7, 0)),
+    (
+        255,
+        GRANTED,
+        8,
+        Said::NoWitness,
+        (131_072, 524_288, 0xfcff_fdff_feff_ffff),
+    ),
+    (0, GRANTED, 8, Said::Number(0), (2, 8, 0)),
+    (9, Copies::Refused, 0, Said::Number(0), (0, 0, 0)),
+];
+
+pub(crate) fn search(row: &(u8, Copies, u128, Said, Sight)) -> Partner {
+    let (byte, copies, bits, said, sight) = *row;
+    let next = Said::Number(u128::from(byte).wrapping_mul(0x0101));
+    ((byte, 2, copies), [4, bits, 0, 0], said, sight, next)
+}
 
 /// Whether the challenger over the partner returns what is wanted. Where it has failed, all calls say so and none reaches the partner.
 pub(crate) fn is_answered<F: ByteLevel>(alloc: Global, partner: &Partner) -> bool {
+    let (byte, granted, copies) = partner.0;
     let seen = Cell::new(Seen::default());
-    let double = Double::new(&seen, partner.byte, partner.granted, partner.copies);
+    let double = Double::new(&seen, byte, granted, copies);
     let mut challenger: BinaryChallenger<F, Double<'_>> = BinaryChallenger::new(double);
     ends_as_wanted(alloc, &mut challenger, partner, &seen)
+}
+
+fn has_seen(seen: &Cell<Seen>, wanted: Sight) -> bool {
+    let (observed, sampled, bytes) = wanted;
+    seen.get().is(observed, sampled, bytes)
 }
 
 fn ends_as_wanted<C: Asked>(
@@ -189,14 +110,12 @@ fn ends_as_wanted<C: Asked>(
     partner: &Partner,
     seen: &Cell<Seen>,
 ) -> bool {
-    let said = challenger.answer(alloc, &partner.call);
-    let (observed, sampled, bytes) = partner.seen;
-    let wanted = Seen::new(observed, sampled, bytes);
-    if said != partner.said || seen.get() != wanted {
+    let (_double, call, said, sight, next) = *partner;
+    if challenger.answer(alloc, &call) != said || !has_seen(seen, sight) {
         return false;
     }
-    if partner.next != Said::Failed {
-        return challenger.answer(alloc, &[1, 0, 0, 0]) == partner.next;
+    if next != Said::Failed {
+        return challenger.answer(alloc, &[1, 0, 0, 0]) == next;
     }
-    only_fails(alloc, challenger, &EVERY_CALL) && seen.get() == wanted
+    only_fails(alloc, challenger, &EVERY_CALL) && has_seen(seen, sight)
 }

@@ -4,8 +4,11 @@ use super::asked::{EVERY_CALL, Row, follows, hashed};
 use super::grinding::LEAST_WITNESSES;
 use super::heaps::{call_is_refused, text_is_refused};
 use super::lists::{list_is_refused, stops_after};
-use super::partners::{PARTNERS_OF_16, PARTNERS_OF_32, Partner, is_answered};
-use super::scripts;
+use super::partners::{
+    GRANTED_CALLS, Partner, REFUSED_CALLS, SEARCHES, granted_call, is_answered, refused_call,
+    search,
+};
+use super::scripts::SCRIPTS;
 use super::seeds::{bytes_are, seed_is, too_few_bytes_are_refused};
 use super::vectors::vectors_are_taken;
 use field_element::{Element, Poly64, Poly192};
@@ -109,15 +112,15 @@ fn all_succeed(alloc: Global, field: Field, trials: &[Trial<'_>]) -> bool {
     true
 }
 
-// Whether the scripts are followed from an empty initial state.
-fn all_are_followed(alloc: Global, field: Field, scripts: &[&[Row]]) -> bool {
-    for place in 0..scripts.len() {
-        if !succeeds_in(alloc, field, Trial::Script(&[], scripts[place])) {
-            return false;
-        }
-    }
-    true
-}
+// The fields of the scripts, which are followed from an empty initial state.
+static SCRIPTED: [Field; 6] = [
+    Field::Tower8,
+    Field::Tower8,
+    Field::Tower8,
+    Field::Tower8,
+    Field::Tower16,
+    Field::Tower128,
+];
 
 // Whether a search from the state finds the least witness, and leaves the challenger as after it.
 fn is_found(alloc: Global, row: &(u64, u16, u16)) -> bool {
@@ -133,11 +136,13 @@ fn is_found(alloc: Global, row: &(u64, u16, u16)) -> bool {
 #[test]
 fn scripts_are_followed_and_searches_end(rt: HostRuntime) {
     let alloc = rt.alloc();
-    assert!(rt;
-        all_are_followed(alloc, Field::Tower8, &scripts::OF_8)
-            && all_are_followed(alloc, Field::Tower16, &scripts::OF_16)
-            && all_are_followed(alloc, Field::Tower128, &scripts::OF_128)
-    );
+    for place in 0..6usize {
+        let script = Trial::Script(&[], SCRIPTS[place]);
+        assert!(rt;
+            succeeds_in(alloc, SCRIPTED[place], script),
+            "script {place}"
+        );
+    }
     for row in &LEAST_WITNESSES {
         assert!(rt; is_found(alloc, row));
     }
@@ -201,13 +206,20 @@ fn texts_are_granted_or_refused(rt: HostRuntime) {
     }
 }
 
+fn answers(alloc: Global, field: Field, partner: Partner) -> bool {
+    succeeds_in(alloc, field, Trial::Partner(&partner))
+}
+
 #[test]
 fn hostile_partners_are_answered(rt: HostRuntime) {
-    for partner in &PARTNERS_OF_16 {
-        assert!(rt; succeeds_in(rt.alloc(), Field::Tower16, Trial::Partner(partner)));
+    for row in &SEARCHES {
+        assert!(rt; answers(rt.alloc(), Field::Tower16, search(row)));
     }
-    for partner in &PARTNERS_OF_32 {
-        assert!(rt; succeeds_in(rt.alloc(), Field::Tower32, Trial::Partner(partner)));
+    for row in &REFUSED_CALLS {
+        assert!(rt; answers(rt.alloc(), Field::Tower32, refused_call(row)));
+    }
+    for row in &GRANTED_CALLS {
+        assert!(rt; answers(rt.alloc(), Field::Tower32, granted_call(row)));
     }
 }
 

@@ -35,7 +35,7 @@ fn third_call_refused() -> bool {
     let double = Double::new(&seen, 5, 2, Copies::RefusingAfter(9));
     let mut guarded = Guarded::new(double);
     let answer = guarded.observe_bytes(&[1, 2, 3, 4]);
-    is_refused(answer) && only_fails(&mut guarded) && seen.get() == Seen::new(2, 0, 0x0102)
+    is_refused(answer) && only_fails(&mut guarded) && seen.get().is(2, 0, 0x0102)
 }
 
 fn fifth_call_refused() -> bool {
@@ -43,7 +43,7 @@ fn fifth_call_refused() -> bool {
     let double = Double::new(&seen, 5, 4, Copies::RefusingAfter(9));
     let mut guarded = Guarded::new(double);
     let answer = guarded.sample_u64();
-    is_refused(answer) && only_fails(&mut guarded) && seen.get() == Seen::new(0, 4, 0)
+    is_refused(answer) && only_fails(&mut guarded) && seen.get().is(0, 4, 0)
 }
 
 // A copy of a challenger that has failed has failed, and one that is made to fail has.
@@ -69,7 +69,7 @@ fn copies_fail_alike() -> bool {
         && after
         && bytes[0] == 5
         && bytes[1] == 5
-        && seen.get() == Seen::new(0, 2, 0)
+        && seen.get().is(0, 2, 0)
 }
 
 // Where a copy is refused, the challenger goes on.
@@ -79,7 +79,7 @@ fn refused_copies_change_nothing() -> bool {
     guarded.try_clone().is_err()
         && matches!(guarded.sample_u64(), Ok(u64::MAX))
         && is_refused(guarded.sample_u64())
-        && seen.get() == Seen::new(0, 8, 0)
+        && seen.get().is(0, 8, 0)
 }
 
 #[test]
@@ -108,12 +108,7 @@ fn helpers_stop() -> bool {
     let sampled = samples_word(&mut double, 0);
     let before = double.refused();
     let refused = observe_bytes(&mut double, &[8, 9]).is_err();
-    observed
-        && sampled
-        && !before
-        && refused
-        && double.refused()
-        && seen.get() == Seen::new(2, 8, 0x0809)
+    observed && sampled && !before && refused && double.refused() && seen.get().is(2, 8, 0x0809)
 }
 
 #[test]
