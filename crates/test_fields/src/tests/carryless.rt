@@ -19,12 +19,20 @@ fn products_of_words(rt: HostRuntime) {
 /// The word with all bits of class 0.
 const CLASS: u64 = 0x1111_1111_1111_1111;
 
+/// Its product with itself, masked by the same class.
+const PRODUCT: u64 = 0x0101_0101_0101_0101;
+
 #[test]
 fn sixteen_bits_of_one_class_meet_at_the_top(rt: HostRuntime) {
-    assert!(rt; masked_product(CLASS, CLASS, 0, 0) == 0x0101_0101_0101_0101);
+    assert!(rt; masked_product(CLASS, CLASS, 0, 0) == PRODUCT);
     let mut words = [CLASS, 1];
     masked_products(&mut words, CLASS, 0, 0);
-    assert!(rt; words == [0x0101_0101_0101_0101, CLASS]);
+    assert!(rt; words == [PRODUCT, CLASS]);
+}
+
+/// Whether the words are the first of those that are wanted.
+fn begin(words: &[u64], wanted: &[u64; 257]) -> bool {
+    wanted.starts_with(words)
 }
 
 /// Whether so many words, which are all one, get its product, and the words behind them stay.
@@ -34,25 +42,14 @@ fn first_words_are_multiplied(count: usize) -> bool {
         return false;
     }
     masked_products(&mut words[..count], CLASS, 0, 0);
-    let mut are_right = true;
-    for place in 0..257usize {
-        let want = if place < count {
-            0x0101_0101_0101_0101
-        } else {
-            CLASS
-        };
-        are_right = are_right && words[place] == want;
-    }
-    are_right
+    begin(&words[..count], &[PRODUCT; 257]) && begin(&words[count..], &[CLASS; 257])
 }
 
 #[test]
 fn masked_products_of_every_length(rt: HostRuntime) {
-    let mut are_right = first_words_are_multiplied(257);
-    for count in 0..41usize {
-        are_right = are_right && first_words_are_multiplied(count);
+    for count in 0..258usize {
+        assert!(rt; first_words_are_multiplied(count));
     }
-    assert!(rt; are_right);
 }
 
 #[test]

@@ -64,24 +64,22 @@ impl<R: Unsigned, L: Level<R>, M: Modulus<R, L>> Growing for Images<R, L, M> {
     }
 }
 
-fn are_refused<R: Unsigned, L: Level<R>, M: Modulus<R, L>>(alloc: Global) -> bool {
-    for len in 0..258usize {
-        let images: Images<R, L, M> = Images {
-            alloc,
-            len,
-            kernel: PhantomData,
-        };
-        if !is_refused_in_turn(alloc, &images, len > 0) {
-            return false;
-        }
-    }
-    true
+fn are_refused<R: Unsigned, L: Level<R>, M: Modulus<R, L>>(alloc: Global, len: usize) -> bool {
+    let images: Images<R, L, M> = Images {
+        alloc,
+        len,
+        kernel: PhantomData,
+    };
+    is_refused_in_turn(alloc, &images, len > 0)
 }
 
 #[test]
 fn vectors_of_images_are_granted_or_refused(rt: HostRuntime) {
-    assert!(rt;
-        are_refused::<u64, Bits64, Poly64Modulus>(rt.alloc())
-            && are_refused::<u128, Bits128, GhashModulus>(rt.alloc())
-    );
+    for len in 0..258usize {
+        assert!(rt;
+            are_refused::<u64, Bits64, Poly64Modulus>(rt.alloc(), len)
+                && are_refused::<u128, Bits128, GhashModulus>(rt.alloc(), len),
+            "{len} images"
+        );
+    }
 }

@@ -174,10 +174,7 @@ fn are_transforms_refused(alloc: Global, way: Way) -> bool {
 
 #[test]
 fn the_transform_is_granted_or_refused(rt: HostRuntime) {
-    assert!(rt;
-        are_transforms_refused(rt.alloc(), Way::ByKernel)
-            && are_transforms_refused(rt.alloc(), Way::Counted)
-            && are_transforms_refused(rt.alloc(), Way::Uncounted)
-            && are_transforms_refused(rt.alloc(), Way::Kept)
-    );
+    for way in [Way::ByKernel, Way::Counted, Way::Uncounted, Way::Kept] {
+        assert!(rt; are_transforms_refused(rt.alloc(), way));
+    }
 }

@@ -71,30 +71,23 @@ fn succeeds_in_both(alloc: Global, trial: Trial) -> bool {
     ) && succeeds_at::<u128, Tower<Bits128>, u64, Tower<Bits64>>(alloc, trial, whole, &halves)
 }
 
-#[test]
-fn coefficients_of_one_element(rt: HostRuntime) {
-    assert!(rt; succeeds_in_both(rt.alloc(), Trial::Row));
-}
-
-#[test]
-fn vectors_are_granted_or_refused(rt: HostRuntime) {
-    assert!(rt; succeeds_in_both(rt.alloc(), Trial::Vectors));
-}
-
-#[test]
-fn a_closure_is_called_for_each_coefficient_in_order(rt: HostRuntime) {
-    assert!(rt; succeeds_in_both(rt.alloc(), Trial::Closure));
-}
-
 // That two items give nothing where there are three coefficients is a worked row.
-#[test]
-fn an_iterator_gives_as_many_coefficients_as_there_are(rt: HostRuntime) {
-    assert!(rt; succeeds_in_both(rt.alloc(), Trial::Iterators));
-}
+static TRIALS: [Trial; 5] = [
+    Trial::Row,
+    Trial::Vectors,
+    Trial::Closure,
+    Trial::Iterators,
+    Trial::WithoutEnd,
+];
 
 #[test]
-fn an_iterator_without_end_is_left(rt: HostRuntime) {
-    assert!(rt; succeeds_in_both(rt.alloc(), Trial::WithoutEnd));
+fn spaces_of_two_and_of_three_coefficients(rt: HostRuntime) {
+    for place in 0..TRIALS.len() {
+        assert!(rt;
+            succeeds_in_both(rt.alloc(), TRIALS[place]),
+            "trial {place}"
+        );
+    }
 }
 
 /// Whether an extension of 192 bits has this text and these images by Frobenius's map, and its generator is of full order.
