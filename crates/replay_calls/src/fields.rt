@@ -1,6 +1,6 @@
 // What two fields have of their own, by their arithmetic on words: what is generic in the width is the same code at every other.
 use crate::fault::Fault;
-use crate::reading::{count, named, number};
+use crate::reading::{count, number};
 use field_base::{LevelKernel, Unsigned};
 use word_polynomial::GhashKernel;
 use word_tower::{Bits16, Tower};
@@ -12,22 +12,6 @@ pub(crate) enum Asked {
     G128,
 }
 
-/// A call of a field.
-#[derive(Clone, Copy)]
-enum FieldCall {
-    Bits,
-    Generator,
-    CantorBasis,
-    MulAlpha,
-}
-
-static CALLS: [(&str, FieldCall); 4] = [
-    ("bits", FieldCall::Bits),
-    ("generator", FieldCall::Generator),
-    ("cantor_basis", FieldCall::CantorBasis),
-    ("mul_alpha", FieldCall::MulAlpha),
-];
-
 /// The answer to a call of a field.
 pub(crate) fn answer(field: Asked, call: &[&str]) -> Result<u128, Fault> {
     match field {
@@ -38,16 +22,11 @@ pub(crate) fn answer(field: Asked, call: &[&str]) -> Result<u128, Fault> {
 
 /// The answer to a call of the field of a kernel.
 fn kernel_call<R: Unsigned, K: LevelKernel<R>>(call: &[&str]) -> Result<u128, Fault> {
-    let Some((name, operands)) = call.split_first() else {
-        return Err(Fault::Line);
-    };
-    match (named(&CALLS, name)?, operands) {
-        (FieldCall::Bits, []) => Ok(K::bits() as u128),
-        (FieldCall::Generator, []) => Ok(K::GENERATOR.to_u128()),
-        (FieldCall::CantorBasis, [place]) => cantor_vector::<R, K>(count(*place)?),
-        (FieldCall::MulAlpha, [x]) => {
-            Ok(K::multiply_by_alpha(stored::<R>(number(*x)?)?).to_u128())
-        }
+    match call {
+        ["bits"] => Ok(K::bits() as u128),
+        ["generator"] => Ok(K::GENERATOR.to_u128()),
+        ["cantor_basis", place] => cantor_vector::<R, K>(count(*place)?),
+        ["mul_alpha", x] => { Ok(K::multiply_by_alpha(stored::<R>(number(*x)?)?).to_u128()) }
         _ => Err(Fault::Line),
     }
 }

@@ -1,41 +1,17 @@
 // Packings of sixteen bytes of AES: what is done lane by lane is the same in every packing.
 use crate::fault::Fault;
-use crate::reading::{bytes, named, word};
+use crate::reading::{bytes, word};
 use field_aes::{ByteLanes, ByteMatrix, RijndaelMaps};
 use field_element::{PackedRijndael8b, Rijndael8b};
 use packed_lanes::PackedValue;
 use std::alloc::Global;
 
-/// An operation on packings.
-#[derive(Clone, Copy)]
-enum Operation {
-    Mul,
-    InvertOrZero,
-    Apply,
-}
-
-static OPERATIONS: [(&str, Operation); 3] = [
-    ("mul", Operation::Mul),
-    ("invert_or_zero", Operation::InvertOrZero),
-    ("apply", Operation::Apply),
-];
-
 /// What an operation on packings gives: its lanes.
 pub(crate) fn computed(alloc: Global, call: &[&str]) -> Result<Vec<u128>, Fault> {
-    let Some((operation, operands)) = call.split_first() else {
-        return Err(Fault::Line);
-    };
-    of_sixteen(alloc, named(&OPERATIONS, operation)?, operands)
-}
-
-/// What an operation on sixteen bytes of AES gives.
-fn of_sixteen(alloc: Global, operation: Operation, operands: &[&str]) -> Result<Vec<u128>, Fault> {
-    let lanes = match (operation, operands) {
-        (Operation::Mul, [x, y]) => sixteen(alloc, *x)? * sixteen(alloc, *y)?,
-        (Operation::Apply, [x, y]) => sixteen(alloc, *x)?.apply(ByteMatrix::from_quadword(word(
-            *y,
-        )?)),
-        (Operation::InvertOrZero, [x]) => sixteen(alloc, *x)?.invert_or_zero(),
+    let lanes = match call {
+        ["mul", x, y] => sixteen(alloc, *x)? * sixteen(alloc, *y)?,
+        ["apply", x, y] => sixteen(alloc, *x)?.apply(ByteMatrix::from_quadword(word(*y)?)),
+        ["invert_or_zero", x] => sixteen(alloc, *x)?.invert_or_zero(),
         _ => return Err(Fault::Line),
     };
     shown_sixteen(alloc, lanes)

@@ -59,10 +59,8 @@ pub(crate) fn numbers(alloc: Global, list: &str) -> Result<Vec<u128>, Fault> {
 /// The bytes that a list writes.
 pub(crate) fn bytes(alloc: Global, list: &str) -> Result<Vec<u8>, Fault> {
     let mut bytes = Vec::new(alloc);
-    if list != "-" {
-        for word in list.split(',') {
-            bytes.push(byte(word)?)?;
-        }
+    for number in numbers(alloc, list)? {
+        bytes.push(u8::try_from(number).ok().ok_or(Fault::Line)?)?;
     }
     Ok(bytes)
 }

@@ -1,7 +1,7 @@
 // Elements as bytes, as streams of bytes and words, and as text.
 use crate::fault::Fault;
 use crate::fields::{Asked, stored};
-use crate::reading::{named, numbers, word};
+use crate::reading::{numbers, word};
 use field_base::{FieldKernel, Unsigned};
 use field_bytes::{
     LittleEndian, RawDataSerializable, into_byte_stream, into_u32_stream, into_u64_stream,
@@ -11,22 +11,6 @@ use std::alloc::Global;
 use std::fmt::Display;
 use word_polynomial::GhashKernel;
 use word_tower::{Bits16, Tower};
-
-/// What is made of elements.
-#[derive(Clone, Copy)]
-enum Streamed {
-    Bytes,
-    Words32,
-    Words64,
-    Text,
-}
-
-static STREAMS: [(&str, Streamed); 4] = [
-    ("bytes", Streamed::Bytes),
-    ("u32", Streamed::Words32),
-    ("u64", Streamed::Words64),
-    ("text", Streamed::Text),
-];
 
 /// A stream of elements of a field whose elements are words, or their text.
 pub(crate) fn field_call(alloc: Global, field: Asked, call: &[&str]) -> Result<Vec<u128>, Fault> {
@@ -84,11 +68,12 @@ fn stream<E: RawDataSerializable + Display>(
     kind: &str,
     elements: &[E],
 ) -> Result<Vec<u128>, Fault> {
-    match named(&STREAMS, kind)? {
-        Streamed::Bytes => bytes(alloc, elements),
-        Streamed::Words32 => words_32(alloc, elements),
-        Streamed::Words64 => words_64(alloc, elements),
-        Streamed::Text => text(alloc, elements),
+    match kind {
+        "bytes" => bytes(alloc, elements),
+        "u32" => words_32(alloc, elements),
+        "u64" => words_64(alloc, elements),
+        "text" => text(alloc, elements),
+        _ => Err(Fault::Line),
     }
 }
 
