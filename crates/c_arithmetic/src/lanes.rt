@@ -14,15 +14,27 @@ use word_carryless::{
     multiply_mod_128_twice, reduce_128,
 };
 
-/// Multiplies each word by the other word at its place, four at a time, and what is left two at once. The slices are of one length.
+/// Multiplies each word by the other word at its place, two at once, or four in wide vectors. The slices are of one length.
 pub(crate) fn multiply_each<V: Width>(words: &mut [Wide], others: &[Wide])
+    requires { length words.old ≡ length others.now }
+    ensures { map wide_number words.new ≡ zip2 ghash_product (map wide_number words.old) (map wide_number others.now) }
+{
+    if V::IS_WIDE {
+        multiply_by_fours(words, others);
+    } else {
+        multiply_by_pairs(words, others, 0);
+    }
+}
+
+// Four at once, which is made for x86-64-v3.
+fn multiply_by_fours(words: &mut [Wide], others: &[Wide])
     requires { length words.old ≡ length others.now }
     ensures { map wide_number words.new ≡ zip2 ghash_product (map wide_number words.old) (map wide_number others.now) }
 {
     let four_count = words.len() / 4;
     'fours: for four in 0..four_count {
         let at = 4 * four;
-        let products = V::multiply_four(four_at(words, at), four_at(others, at));
+        let products = multiply_mod_128_four_times(four_at(words, at), four_at(others, at));
         put_number(words, at, products[0]);
         put_number(words, at + 1, products[1]);
         put_number(words, at + 2, products[2]);
