@@ -79,7 +79,7 @@ pub restored-made : {Z : Type 0} (k total until size : ℕ) (present : List Bool
     → AreRestored k total until before after
 restored-made {Z = Z} k total until size present before made after within size_is present_is long after_long have are_made put =
     record {
-      keeps = λ i here. kept i (flag_of i here);
+      keeps = λ i why. kept_where i why;
       whole = λ i below. whole i below;
       sizes = subst (λ (n : ℕ). HaveSize n after) size_is sizes;
       restored = subst (λ (n : ℕ). IsReconstructed k total n until (shard_flags before) (joined_shards n before) (joined_shards n after)) size_is
@@ -108,6 +108,13 @@ restored-made {Z = Z} k total until size present before made after within size_i
     kept i here =
         elim (cases_lt i until) [
           | inl below ↦ kept_below i below here
+          | inr past ↦ kept_past i past
+        ]
+
+    kept_where : (i : ℕ) → (IsPresent (shard_flags before) i) ⊎ (until ≤ i) → get_or after i None ≡ get_or before i None
+    kept_where i why =
+        elim why [
+          | inl here ↦ kept i (flag_of i here)
           | inr past ↦ kept_past i past
         ]
 

@@ -1,5 +1,5 @@
 -- Shards as vectors of bytes, of which some are missing, and the one list of bytes that they stand for.
-use Rattle.std.specs.Prelude.{◌≡◌, ◌≢◌, ℕ, ◌<◌, ◌≤◌, Bool, false, not, List, [], ◌∷◌, length, map, replicate, is_some, slice_index, slice_index_or, flat_map, Option, Some, None, IsSome}
+use Rattle.std.specs.Prelude.{◌≡◌, ◌≢◌, ◌⊎◌, ℕ, ◌<◌, ◌≤◌, Bool, false, not, List, [], ◌∷◌, length, map, replicate, is_some, slice_index, slice_index_or, flat_map, Option, Some, None, IsSome}
 use Rattle.std.specs.declared.vec.Vec.{Vec}
 use Rattle.reed_solomon.specs.Shards.{IsPresent, IsReconstructed, present_count, shard_byte}
 use Rattle.reed_solomon.specs.declared.shard_vectors.error.ShardVectorError.{ShardVectorError}
@@ -28,10 +28,10 @@ first_size (Some shard ∷ rest) = length shard.items
 abbrev pub HaveSize : {Z : Type 0} → ℕ → List (Option (Vec ℕ Z)) → Type 0
 HaveSize size shards = (i : ℕ) → length (shard_content size (slice_index_or shards i None)) ≡ size
 
--- the missing shards before shard `until` are there, the others are as they were, and all have one size: joined, they are
--- what `reconstruct` makes of the bytes of all, with zeros for those that were missing
+-- the missing shards before shard `until` are there, those that were at hand and those from shard `until` on are as they were, and
+-- all have one size: joined, they are what `reconstruct` makes of the bytes of all, with zeros for those that were missing
 pub record AreRestored {Z : Type 0} (k total until : ℕ) (before after : List (Option (Vec ℕ Z))) : Type 0 where
-  pub keeps : (i : ℕ) → IsPresent (shard_flags before) i → slice_index_or after i None ≡ slice_index_or before i None
+  pub keeps : (i : ℕ) → (IsPresent (shard_flags before) i) ⊎ (until ≤ i) → slice_index_or after i None ≡ slice_index_or before i None
   pub whole : (i : ℕ) → i < until → IsSome (slice_index_or after i None)
   pub sizes : HaveSize (first_size before) after
   pub restored : IsReconstructed k total (first_size before) until (shard_flags before)

@@ -1,7 +1,7 @@
 // Codes whose tables are made once.
-ghost use Rattle.std.specs.Prelude.{◌≡◌, ◌+◌, ◌-◌, ◌*◌, ◌/◌, ◌≤◌, ◌↔◌, ◌++◌, length, IsOk, IfOk, IfErr, OnErr};
+ghost use Rattle.std.specs.Prelude.{◌≡◌, ◌+◌, ◌-◌, ◌*◌, ◌/◌, ◌≤◌, ◌↔◌, ◌++◌, length, IsOk, IsTrue, IfOk, IfErr, OnErr};
 ghost use Rattle.reed_solomon.specs.Parity.{HaveParityTables};
-ghost use Rattle.reed_solomon.specs.Shards.{IsEncoded};
+ghost use Rattle.reed_solomon.specs.Shards.{AreCodewords, IsEncoded};
 ghost use Rattle.reed_solomon.specs.Sizes.{HasShardSize, ShardSizeError};
 
 use crate::ReedSolomon;
@@ -56,6 +56,17 @@ impl<A: Allocator> PreparedEncoder<A> {
             self.code.parity_shards,
         );
         Ok(())
+    }
+
+    /// Whether the shards of parity are those of the data, as `ReedSolomon::verify` does: it makes the tables of each row anew, since
+    /// it reads one row at a time.
+    pub fn verify(&self, shards: &[u8]) -> Result<bool, ReedSolomonError>
+        ensures accepted { IsOk result ↔ HasShardSize (self.now.code.data_shards + self.now.code.parity_shards) (length shards.now) }
+        ensures answer { let total = self.now.code.data_shards + self.now.code.parity_shards in
+            IfOk result (λ is_whole. IsTrue is_whole ↔ AreCodewords self.now.code.data_shards total (length shards.now / total) shards.now) }
+        ensures refused { IfErr result (λ error. ShardSizeError (length shards.now) error) }
+    {
+        self.code.verify(shards)
     }
 }
 

@@ -1,10 +1,9 @@
 // A published example, every pattern of missing shards of small codes, drawn patterns of larger ones, sizes, parity apart, shards in
-// vectors, and errors. Numbers are drawn from the seed 20261126.
-use reed_solomon::{PreparedEncoder, ReedSolomon, ReedSolomonError};
-use std::alloc::{AllocError, Allocator};
-use std::test::Fail;
+// vectors, errors, and tables whose memory is refused. Numbers are drawn from the seed 20261126.
+use reed_solomon::{ReedSolomon, ReedSolomonError};
 use test_support::{fill_bytes, next_word};
 
+mod prepared;
 mod vectors;
 
 // The shards of TestOneEncode of klauspost/reedsolomon (reedsolomon_test.go): five of data, then five of parity.
@@ -150,42 +149,6 @@ fn more_than_one_strip(rt: HostRuntime) {
         Some(code) => assert!(rt; comes_back(&code, 1300, &[false, true, true])),
         None => assert!(rt; false, "no code of 2 and 1"),
     }
-}
-
-// Whether a code whose tables are made once writes the parity that the code writes.
-fn prepared_is_same<A: Allocator>(
-    alloc: A,
-    data_shards: usize,
-    parity_shards: usize,
-    size: usize,
-) -> Result<bool, AllocError> {
-    let mut whole = [0; 4096];
-    if data_shards > 16 || parity_shards > 16 || size > 128 {
-        return Ok(false);
-    }
-    let end = (data_shards + parity_shards) * size;
-    fill_bytes(&mut whole, 20261126);
-    let mut shards = whole;
-    match code_of(data_shards, parity_shards) {
-        Some(code) => {
-            let encoder = PreparedEncoder::new(&code, alloc)?;
-            Ok(
-                code.encode(&mut whole[..end]).is_ok()
-                    && encoder.encode(&mut shards[..end]).is_ok()
-                    && shards == whole
-                    && encoder.encode(&mut shards[..0]) == Err(ReedSolomonError::EmptyShard),
-            )
-        }
-        None => Ok(false),
-    }
-}
-
-#[test]
-fn tables_made_once(rt: HostRuntime) -> Result<(), Fail> {
-    assert!(rt; prepared_is_same(rt.alloc(), 10, 4, 75)?);
-    assert!(rt; prepared_is_same(rt.alloc(), 5, 3, 64)?);
-    assert!(rt; prepared_is_same(rt.alloc(), 16, 9, 7)?);
-    Ok(())
 }
 
 // Whether parity that stands apart is that of `encode`.
