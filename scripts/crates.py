@@ -1,4 +1,4 @@
-"""The crates, as crates.txt lists them."""
+"""The crates, as crates.txt lists them, and what their proofs cost, as docs/GATE.md has it."""
 
 import re
 
@@ -20,3 +20,20 @@ def layers():
 def dependencies():
     """What each crate depends on, lowest first."""
     return {name: below for _, crates in layers() for name, below in crates}
+
+
+def chain(names):
+    """These crates and those of the repository that they depend on, lowest first."""
+    known, wanted, ahead = dependencies(), set(), list(names)
+    while ahead:
+        name = ahead.pop()
+        if name in known and name not in wanted:
+            wanted.add(name)
+            ahead += known[name]
+    return [name for name in known if name in wanted]
+
+
+def costs():
+    """The processor seconds of each crate's proofs from nothing, by the table of docs/GATE.md."""
+    page = (files.TOP / "docs/GATE.md").read_text(encoding="utf-8")
+    return {name: int(seconds.replace(",", "")) for name, seconds in re.findall(r"^\| `(\w+)` \| ([\d,]+) \|", page, re.MULTILINE)}

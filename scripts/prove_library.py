@@ -1,0 +1,85 @@
+"""Proves and compiles the crate of the C library, and says how far it is.
+
+prove_library.py CPU LOG: runs `rt lib` (RT names another command) in crates/binary_field_c. What `rt` says goes into the file LOG. Each crate
+is told when it is proved, with those that are left; a crate that takes longer is told with the functions that are checked. The exit status is
+that of `rt`.
+"""
+
+import os
+import re
+import resource
+import subprocess
+import sys
+import textwrap
+import time
+
+import crates
+import files
+
+CRATE = "binary_field_c"
+# How long nothing is said of a crate in work, in seconds.
+SILENCE = 30
+
+
+def say(text):
+    """Says a text, in lines of a terminal's width."""
+    for line in textwrap.wrap(text, 112):
+        print(f"build-library: {line}", flush=True)
+
+
+def minutes(seconds):
+    """So many seconds, as people say it."""
+    return f"{round(seconds / 60)} minutes" if seconds >= 90 else f"{round(seconds)} seconds"
+
+
+class Progress:
+    """What is proved, by the lines that `rt` writes: each of a crate's functions has one when the crate is done."""
+
+    def __init__(self, names, costs):
+        self.left = {name: costs.get(name, 60) for name in names}
+        self.count = len(names)
+        self.at = time.monotonic()
+
+    def read(self, line):
+        """Takes one line."""
+        proved = re.match(r"(?:fn|struct|enum|impl|trait|const|static) (\w+)::.*: proved$", line)
+        checked = re.match(r"so far: (\d+ of \d+) functions checked", line)
+        if proved and proved[1] in self.left:
+            self.done(proved[1])
+        elif checked and time.monotonic() - self.at > SILENCE:
+            self.at = time.monotonic()
+            say(f"{checked[1]} functions checked of one of {', '.join(self.left)}")
+
+    def done(self, name):
+        """A crate is proved; those below it were so before, if they were taken as they were."""
+        below = [it for it in crates.chain([name]) if it in self.left]
+        for it in below:
+            del self.left[it]
+        self.at = time.monotonic()
+        rest = f"left: {', '.join(self.left)}, some {minutes(sum(self.left.values()))} of one processor" if self.left else "all of them"
+        say(f"{self.count - len(self.left)} of {self.count} crates are proved, {name} now; {rest}")
+
+
+def main():
+    cpu, log = sys.argv[1:]
+    names, costs = crates.chain([CRATE]), crates.costs()
+    say(f"{len(names)} crates are proved and compiled: {', '.join(names)}. From nothing that takes some "
+        f"{minutes(sum(costs.get(it, 60) for it in names))} of one processor, and longer on a busy machine; what was proved before is taken as it is. The "
+        f"files of the proofs take some 3 GB of crates/*/out. All that is said goes to {log}")
+    began, progress = time.monotonic(), Progress(names, costs)
+    with open(log, "w", encoding="utf-8") as kept:
+        ran = subprocess.Popen([os.environ.get("RT", "rt"), "lib", "--cpu", cpu], cwd=files.CRATES / CRATE, stdout=subprocess.PIPE,
+                               stderr=subprocess.STDOUT, stdin=subprocess.DEVNULL, text=True, errors="replace")
+        for line in ran.stdout:
+            kept.write(line)
+            kept.flush()
+            progress.read(line)
+        status = ran.wait()
+    spent = resource.getrusage(resource.RUSAGE_CHILDREN)
+    if status == 0:
+        say(f"proved and built in {minutes(time.monotonic() - began)}, {round(spent.ru_utime + spent.ru_stime)} s of processors")
+    return status if status >= 0 else 1
+
+
+if __name__ == "__main__":
+    sys.exit(main())
