@@ -7,13 +7,14 @@
     rust/src/error.rs                    the statuses as errors
     rust/src/fields.rs                   a type for each field, by the macros of rust/src/field_macros.rs
     python/pyproject.toml                the version alone
-    rust/Cargo.toml                      the version alone
+    rust/Cargo.toml                      the version alone; so in rust/features/Cargo.toml
 """
 
 import re
 import textwrap
 
 import c_library
+import cantor
 import fields
 import files
 from c_library import sentence
@@ -23,6 +24,10 @@ WRITTEN = files.generated("make_bindings.py")
 # The words of the library as Rust passes them, and as an element holds them.
 PASSED = {"u8": "u8", "u16": "u16", "u32": "u32", "u64": "u64", "u128": "[u64; 2]", "u192": "[u64; 3]"}
 HELD = PASSED | {"u128": "u128"}
+# What a field of the Rust crate calls of the functions that every field has.
+RUST_FUNCTIONS = (
+    "add", "multiply", "multiply_by", "add_scaled", "square", "inverse", "batch_inverse", "square_root", "power", "product", "dot_product", "evaluate",
+)
 
 
 # ---- Python
@@ -106,7 +111,7 @@ def rust_functions():
     out += [f"/// {sentence(text)}\npub const {name}: u32 = {value};\n" for name, value, text in c_library.STATUSES]
     out.append('\nunsafe extern "C" {\n')
     for _, rows in sections():
-        out += [rust_function(name, parameters, bits, text) for name, parameters, text, bits in rows if not name.endswith("_wide")]
+        out += [rust_function(name, parameters, bits, text) for name, parameters, text, bits in rows if not name.endswith(("_wide", "_generator"))]
     return "".join([*out, "}\n"])
 
 
@@ -155,30 +160,92 @@ impl core::error::Error for Error {{}}
 """
 
 
+def rust_word(field, number):
+    """A representation as Rust writes it."""
+    return f"[{', '.join(map(hex, words_of(number)))}]" if field.word == "u192" else hex(number)
+
+
+def words_of(number):
+    """A number of 192 bits as three words, the lowest first."""
+    return [number >> 64 * place & (1 << 64) - 1 for place in range(3)]
+
+
 def rust_field(field):
     """A field by its macro, each function by the name that it has for every field."""
-    one = f"[{', '.join(map(str, field.one))}]" if field.word == "u192" else "1"
-    zero = "[0; 3]" if field.word == "u192" else "0"
-    functions = "".join(f"    {name}: bf_{field.name}_{name},\n" for name, _, _ in c_library.FIELD_FUNCTIONS)
-    return f"field! {{\n    /// {field.about}.\n    {field.type_name}({HELD[field.word]}), {field.bits}, {zero}, {one},\n{functions}}}\n"
+    numbers = ", ".join(rust_word(field, it) for it in (0, 1, field.generator))
+    functions = "".join(f"    {name}: bf_{field.name}_{name},\n" for name, _, _ in c_library.FIELD_FUNCTIONS if name in RUST_FUNCTIONS)
+    if field.is_batched:
+        functions += f"    one_inverse_in: {field.partner.type_name},\n"
+    about = field.about.replace("[", "\\[").replace("]", "\\]")
+    return f"field! {{\n    /// {about}.\n    {field.type_name}({HELD[field.word]}), {field.bits}, {numbers},\n{functions}}}\n"
+
+
+def rust_levels():
+    """The levels of the tower and the fields isomorphic to one: the root that each adjoins, and the Cantor vectors."""
+    vectors = cantor.vectors()
+    for field in fields.FIELDS:
+        if field.word == "u192":
+            continue
+        own, root = vectors[: field.bits], 1 if field.bits == 1 else 1 << field.bits // 2
+        if field.modulus:
+            own, root = [image_of(field, it) for it in own], field.root_images[-1]
+        listed = textwrap.wrap(", ".join(map(hex, own)), 120)
+        rows = "".join(f"        {it}\n" for it in listed)
+        yield f"    {field.type_name}({HELD[field.word]}, {field.bits.bit_length() - 1}), {hex(root)}, [\n{rows}    ];\n"
+
+
+def image_of(field, number):
+    """The image of an element of the tower in a polynomial basis."""
+    image = 0
+    for place, column in enumerate(field.columns):
+        image ^= column * (number >> place & 1)
+    return image
+
+
+def rust_embeddings():
+    """Each field with each subfield: the two, and the image of an element."""
+    levels = [it for it in fields.FIELDS if it.level is not None]
+    for field in fields.FIELDS[1:]:
+        yield levels[0], field, f"{field.type_name}::from_bool(!it.is_zero())"
+    for field in fields.FIELDS:
+        for below in levels[1:]:
+            if below.bits < field.bits and field.level is not None:
+                yield below, field, f"{field.type_name}({HELD[field.word]}::from(it.0))" if below.word != field.word else f"{field.type_name}(it.0)"
+            elif below.bits < field.bits and field.modulus:
+                yield below, field, f"{field.type_name}::from({field.partner.type_name}::from(it))"
+    yield fields.field_named("p64"), fields.field_named("p192"), "Poly192([it.0, 0, 0])"
 
 
 def rust_fields():
-    """The types of the fields, what makes their elements, and the changes of basis."""
-    whole = "".join(f"    {it.type_name}({HELD[it.word]}),\n" for it in fields.FIELDS if it.bits >= 8)
-    some = ", ".join(it.type_name for it in fields.FIELDS if it.bits < 8)
-    bases = ""
+    """The types of the fields, what makes their elements, the changes of basis, and the subfields."""
+    words = "".join(f"    {it.type_name}({HELD[it.word]}, {it.bits // 8}),\n" for it in fields.FIELDS if it.bits >= 8 and it.word != "u192")
+    parts = ", ".join(it.type_name for it in fields.FIELDS if it.bits < 8)
+    bases, embeddings, subfields, extensions = "", "", "", ""
     for field in filter(lambda it: it.modulus, fields.FIELDS):
         for a, b in ((field.partner, field), (field, field.partner)):
             bases += f"    {a.type_name} {b.type_name} bf_{a.name}_to_{b.name};\n"
+        subfields += f"    {field.partner.type_name} => {field.type_name};\n"
+    for below, field, image in rust_embeddings():
+        embeddings += f"    {below.type_name} => {field.type_name} by |it| {image};\n"
+        subfields += f"    {below.type_name} => {field.type_name};\n"
+        if below.bits >= 8 and (field.level is not None or field.word == "u192"):
+            extensions += f"    {below.type_name} => {field.type_name}, {field.bits // below.bits};\n"
     return "\n".join([
         f"//! The fields. {WRITTEN}\n",
-        "use crate::error::succeed;\nuse crate::field_macros::Word;\nuse crate::functions::*;\nuse crate::{Error, Field};\nuse core::fmt;\n"
-        "use core::iter::{Product, Sum};\nuse core::ops::{Add, AddAssign, Div, DivAssign, Mul, MulAssign, Neg, Sub, SubAssign};\n",
+        "use crate::error::succeed;\nuse crate::functions::*;\nuse crate::space::sealed::Sealed;\nuse crate::words::Word;\n"
+        "use crate::{\n    Algebra, BasedVectorSpace, Error, ExtensionField, Field, ParseError, PrimeCharacteristicRing, RawDataSerializable, TowerLevel,\n};\nuse core::fmt;\n"
+        "use core::iter::{Product, Sum};\nuse core::ops::{Add, AddAssign, Div, DivAssign, Mul, MulAssign, Neg, Sub, SubAssign};\n"
+        "use core::str::FromStr;\n",
         *map(rust_field, fields.FIELDS),
-        f"all_words! {{\n{whole}}}\n",
-        f"some_bytes!({some});\n",
+        f"whole_words! {{\n{words}}}\n",
+        f"parts_of_bytes!({parts});\n",
+        "cubic!(Poly192 over Poly64);\n",
+        f"as_bytes!({', '.join(f'{it.type_name} {-(-it.bits // 8)}' for it in fields.FIELDS)});\n",
+        f"levels! {{\n{''.join(rust_levels())}}}\n",
         f"bases! {{\n{bases}}}\n",
+        f"embeddings! {{\n{embeddings}}}\n",
+        f"subfields! {{\n{subfields}}}\n",
+        f"extensions! {{\n{extensions}}}\n",
     ])
 
 
@@ -194,7 +261,7 @@ def main():
     files.keep("rust/src/functions.rs", rust_functions())
     files.keep("rust/src/error.rs", rust_errors())
     files.keep("rust/src/fields.rs", rust_fields())
-    for path in ("python/pyproject.toml", "rust/Cargo.toml"):
+    for path in ("python/pyproject.toml", "rust/Cargo.toml", "rust/features/Cargo.toml"):
         files.keep(path, with_version(path))
 
 

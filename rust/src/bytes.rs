@@ -1,8 +1,22 @@
-//! Hashes of authentication tags, and Reed-Solomon codes, over bytes.
+//! Elements as bytes, hashes of authentication tags, and Reed-Solomon codes over bytes.
 
-use crate::Error;
 use crate::error::succeed;
 use crate::functions::*;
+use crate::{Error, Field};
+
+/// Elements as bytes, the lowest first; of `Poly192` those of each coefficient, that of 1 first.
+pub trait RawDataSerializable: Field {
+    /// How many bytes an element has.
+    const NUM_BYTES: usize;
+
+    /// Its bytes.
+    fn into_bytes(self) -> impl IntoIterator<Item = u8>;
+
+    /// The bytes of elements, one element behind the other.
+    fn into_byte_stream(elements: impl IntoIterator<Item = Self>) -> impl IntoIterator<Item = u8> {
+        elements.into_iter().flat_map(Self::into_bytes)
+    }
+}
 
 // A hash of a message under a key.
 type Hash = unsafe extern "C" fn(*const u8, usize, *const u8, usize, *mut u8, usize) -> u32;

@@ -1,52 +1,72 @@
 //! What every field has.
 
-use crate::Error;
-use core::fmt::{Debug, Display};
+use crate::{Error, PrimeCharacteristicRing};
+use core::fmt::{Display, LowerHex};
 use core::hash::Hash;
-use core::iter::{Product, Sum};
-use core::ops::{Add, AddAssign, Div, DivAssign, Mul, MulAssign, Neg, Sub, SubAssign};
+use core::ops::{Div, DivAssign};
+use core::str::FromStr;
 
 /// A field of characteristic two. The functions over slices take slices of one length, and return `Error::Length` otherwise.
 pub trait Field:
-    Copy
-    + Debug
-    + Default
+    PrimeCharacteristicRing
     + Display
+    + LowerHex
+    + FromStr
     + Eq
+    + Ord
     + Hash
-    + 'static
-    + Add<Output = Self>
-    + AddAssign
-    + Sub<Output = Self>
-    + SubAssign
-    + Mul<Output = Self>
-    + MulAssign
+    + Send
+    + Sync
     + Div<Output = Self>
     + DivAssign
-    + Neg<Output = Self>
-    + Sum
-    + Product
 {
     /// How many bits a representation has: the field has 2^DEGREE elements.
     const DEGREE: u32;
 
-    const ZERO: Self;
-
-    const ONE: Self;
-
     /// The generator of the multiplicative group that the library names.
-    fn generator() -> Self;
+    const GENERATOR: Self;
 
-    fn square(self) -> Self;
+    /// Whether it is ZERO.
+    fn is_zero(&self) -> bool {
+        *self == Self::ZERO
+    }
 
-    /// The one element whose square this is.
-    fn square_root(self) -> Self;
+    /// Whether it is ONE.
+    fn is_one(&self) -> bool {
+        *self == Self::ONE
+    }
 
-    /// The inverse, and None of 0.
-    fn inverse(self) -> Option<Self>;
+    /// The inverse, and None of ZERO.
+    fn try_inverse(&self) -> Option<Self>;
 
-    /// The element to the power of the exponent; to the power 0 it is 1.
-    fn power(self, exponent: u64) -> Self;
+    /// The inverse of an element other than ZERO.
+    ///
+    /// # Panics
+    ///
+    /// Where the element is ZERO.
+    fn inverse(&self) -> Self {
+        self.try_inverse().expect("ZERO has no inverse")
+    }
+
+    /// The inverse, and ZERO of ZERO.
+    fn invert_or_zero(self) -> Self {
+        self.try_inverse().unwrap_or(Self::ZERO)
+    }
+
+    /// The one element whose square this is: every element has one.
+    fn try_sqrt(&self) -> Option<Self>;
+
+    /// How many bits a representation has.
+    fn bits() -> usize {
+        Self::DEGREE as usize
+    }
+
+    /// The element whose representation is the number `index`.
+    ///
+    /// # Panics
+    ///
+    /// Where the field has no such element.
+    fn interpolation_node(index: usize) -> Self;
 
     /// Writes the sums.
     fn add_slices(left: &[Self], right: &[Self], sums: &mut [Self]) -> Result<(), Error>;
@@ -80,7 +100,7 @@ pub trait Field:
     fn product_of_slice(values: &[Self]) -> Self;
 
     /// The sum of the products, 0 of none.
-    fn dot_product(left: &[Self], right: &[Self]) -> Result<Self, Error>;
+    fn dot_product_of_slices(left: &[Self], right: &[Self]) -> Result<Self, Error>;
 
     /// Writes the value at each point of the polynomial with these coefficients, the constant one first. There may be any number of
     /// coefficients.

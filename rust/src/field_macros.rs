@@ -1,82 +1,6 @@
 //! What makes a field of its word and of its functions in the library. An element is stored as the word that the library takes, so
 //! that a slice of elements is one of words.
 
-use core::fmt;
-
-/// A representation: how the library takes one, and how it is printed.
-pub trait Word: Copy {
-    type Scalar;
-
-    /// The word without the bits above the lowest `degree`, of which a word of coefficients has none.
-    #[cfg(any(feature = "serde", feature = "rand"))]
-    fn truncated(self, degree: u32) -> Self;
-
-    fn scalar(&self) -> Self::Scalar;
-
-    fn write(&self, formatter: &mut fmt::Formatter<'_>) -> fmt::Result;
-}
-
-macro_rules! narrow {
-    ($($word:ty),*) => {$(
-        impl Word for $word {
-            type Scalar = $word;
-
-            #[cfg(any(feature = "serde", feature = "rand"))]
-            fn truncated(self, degree: u32) -> $word {
-                self & <$word>::MAX >> (<$word>::BITS - degree)
-            }
-
-            fn scalar(&self) -> $word {
-                *self
-            }
-
-            fn write(&self, formatter: &mut fmt::Formatter<'_>) -> fmt::Result {
-                write!(formatter, "{self:#x}")
-            }
-        }
-    )*};
-}
-
-narrow!(u8, u16, u32, u64);
-
-impl Word for u128 {
-    type Scalar = *const [u64; 2];
-
-    #[cfg(any(feature = "serde", feature = "rand"))]
-    fn truncated(self, degree: u32) -> u128 {
-        self & u128::MAX >> (u128::BITS - degree)
-    }
-
-    fn scalar(&self) -> *const [u64; 2] {
-        core::ptr::from_ref(self).cast()
-    }
-
-    fn write(&self, formatter: &mut fmt::Formatter<'_>) -> fmt::Result {
-        write!(formatter, "{self:#x}")
-    }
-}
-
-impl Word for [u64; 3] {
-    type Scalar = *const [u64; 3];
-
-    #[cfg(any(feature = "serde", feature = "rand"))]
-    fn truncated(self, _degree: u32) -> [u64; 3] {
-        self
-    }
-
-    fn scalar(&self) -> *const [u64; 3] {
-        self
-    }
-
-    fn write(&self, formatter: &mut fmt::Formatter<'_>) -> fmt::Result {
-        write!(
-            formatter,
-            "[{:#x}, {:#x}, {:#x}]",
-            self[0], self[1], self[2]
-        )
-    }
-}
-
 /// A call over slices: each as its pointer and its length, and what is no slice as it is.
 macro_rules! over {
     ($function:ident: $($slices:ident),* $(; $($middle:expr),* ; $last:ident)?) => {
@@ -86,35 +10,96 @@ macro_rules! over {
     };
 }
 
-/// Operators that are a call over slices of one element.
-macro_rules! operator {
-    ($field:ident: $($name:ident $method:ident = $function:ident),*) => {$(
-        impl $name for $field {
+/// An operator of two types that is the one of the first where the second becomes it by `From`; and its form that assigns.
+macro_rules! mixed {
+    ($to:ident $from:ident: $($name:ident $method:ident $assigning:ident $assign:ident),*) => {$(
+        impl $name<$from> for $to {
+            type Output = $to;
+
+            #[inline]
+            fn $method(self, other: $from) -> $to {
+                $name::$method(self, $to::from(other))
+            }
+        }
+
+        impl $name<$to> for $from {
+            type Output = $to;
+
+            #[inline]
+            fn $method(self, other: $to) -> $to {
+                $name::$method($to::from(self), other)
+            }
+        }
+
+        impl $assigning<$from> for $to {
+            #[inline]
+            fn $assign(&mut self, other: $from) {
+                *self = $name::$method(*self, other);
+            }
+        }
+    )*};
+}
+
+/// The forms of an operator over references, and that which assigns.
+macro_rules! by_reference {
+    ($field:ident: $($name:ident $method:ident $assigning:ident $assign:ident),*) => {$(
+        impl $name<&$field> for $field {
             type Output = $field;
 
+            #[inline]
+            fn $method(self, other: &$field) -> $field {
+                $name::$method(self, *other)
+            }
+        }
+
+        impl $name<$field> for &$field {
+            type Output = $field;
+
+            #[inline]
             fn $method(self, other: $field) -> $field {
-                let (left, right, mut results) = ([self], [other], [$field::ZERO]);
-                succeed(over!($function: left, right; ; results));
-                results[0]
+                $name::$method(*self, other)
+            }
+        }
+
+        impl $name<&$field> for &$field {
+            type Output = $field;
+
+            #[inline]
+            fn $method(self, other: &$field) -> $field {
+                $name::$method(*self, *other)
+            }
+        }
+
+        impl $assigning for $field {
+            #[inline]
+            fn $assign(&mut self, other: $field) {
+                *self = $name::$method(*self, other);
+            }
+        }
+
+        impl $assigning<&$field> for $field {
+            #[inline]
+            fn $assign(&mut self, other: &$field) {
+                *self = $name::$method(*self, *other);
             }
         }
     )*};
 }
 
-macro_rules! assigning {
-    ($field:ident: $($name:ident $method:ident $operator:tt),*) => {$(
-        impl $name for $field {
-            fn $method(&mut self, other: $field) {
-                *self = *self $operator other;
-            }
-        }
-    )*};
+/// A call over slices of one element, whose result is one.
+macro_rules! on_one {
+    ($function:ident: $($value:expr),* $(; $middle:expr)? => $field:ident) => {{
+        let mut results = [$field::ZERO];
+        // SAFETY: each pointer is that of one element, and what is written overlaps no other.
+        succeed(unsafe { $function($((&raw const $value).cast(), 1,)* $($middle,)? results.as_mut_ptr().cast(), 1) });
+        results[0]
+    }};
 }
 
-/// A field, by its word, its degree, its zero and its one, and the function of the library for each name.
+/// A field, by its word, its degree, its zero, its one and its generator, and the function of the library for each name.
 macro_rules! field {
     (
-        $(#[$about:meta])* $field:ident($word:ty), $degree:literal, $zero:expr, $one:expr,
+        $(#[$about:meta])* $field:ident($word:ty), $degree:literal, $zero:expr, $one:expr, $generator:expr,
         add: $add:ident,
         multiply: $multiply:ident,
         multiply_by: $multiply_by:ident,
@@ -127,7 +112,7 @@ macro_rules! field {
         product: $product:ident,
         dot_product: $dot_product:ident,
         evaluate: $evaluate:ident,
-        generator: $generator:ident,
+        $(one_inverse_in: $tower:ident,)?
     ) => {
         $(#[$about])*
         #[repr(transparent)]
@@ -141,42 +126,48 @@ macro_rules! field {
             }
         }
 
-        impl Field for $field {
-            const DEGREE: u32 = $degree;
+        impl PrimeCharacteristicRing for $field {
+            type PrimeSubfield = Gf2;
 
             const ZERO: $field = $field($zero);
 
             const ONE: $field = $field($one);
 
-            fn generator() -> $field {
-                let mut result = $field::ZERO;
-                // SAFETY: the pointer is that of an element.
-                succeed(unsafe { $generator((&raw mut result).cast()) });
-                result
+            fn square(&self) -> $field {
+                on_one!($square: *self => $field)
             }
 
-            fn square(self) -> $field {
-                let (values, mut squares) = ([self], [$field::ZERO]);
-                succeed(over!($square: values; ; squares));
-                squares[0]
+            fn exp_u64(&self, exponent: u64) -> $field {
+                on_one!($power: *self; exponent => $field)
             }
 
-            fn square_root(self) -> $field {
-                let (values, mut roots) = ([self], [$field::ZERO]);
-                succeed(over!($square_root: values; ; roots));
-                roots[0]
+            fn dot_product<const N: usize>(left: &[$field; N], right: &[$field; N]) -> $field {
+                Self::dot_product_of_slices(left, right).expect("two arrays of one length")
+            }
+        }
+
+        impl Field for $field {
+            const DEGREE: u32 = $degree;
+
+            const GENERATOR: $field = $field($generator);
+
+            fn try_inverse(&self) -> Option<$field> {
+                if self.is_zero() {
+                    return None;
+                }
+                // One inverse in the isomorphic field of the tower takes less than one here.
+                $(return Some($field::from($tower::from(*self).inverse()));)?
+                #[allow(unreachable_code)]
+                Some(on_one!($inverse: *self => $field))
             }
 
-            fn inverse(self) -> Option<$field> {
-                let (values, mut inverses) = ([self], [$field::ZERO]);
-                succeed(over!($inverse: values; ; inverses));
-                (self != $field::ZERO).then_some(inverses[0])
+            fn try_sqrt(&self) -> Option<$field> {
+                Some(on_one!($square_root: *self => $field))
             }
 
-            fn power(self, exponent: u64) -> $field {
-                let (values, mut powers) = ([self], [$field::ZERO]);
-                succeed(over!($power: values; exponent; powers));
-                powers[0]
+            fn interpolation_node(index: usize) -> $field {
+                assert!(usize::BITS <= $degree || index >> ($degree % usize::BITS) == 0, "the field has no element {index}");
+                $field(<$word>::of_number(index))
             }
 
             fn add_slices(left: &[$field], right: &[$field], sums: &mut [$field]) -> Result<(), Error> {
@@ -225,7 +216,7 @@ macro_rules! field {
                 result
             }
 
-            fn dot_product(left: &[$field], right: &[$field]) -> Result<$field, Error> {
+            fn dot_product_of_slices(left: &[$field], right: &[$field]) -> Result<$field, Error> {
                 let mut result = $field::ZERO;
                 // SAFETY: as in `over`; the result is an element.
                 Error::of(unsafe {
@@ -239,23 +230,31 @@ macro_rules! field {
             }
         }
 
-        operator!($field: Add add = $add, Mul mul = $multiply);
+        impl Add for $field {
+            type Output = $field;
+
+            #[inline]
+            fn add(self, other: $field) -> $field {
+                $field(self.0.plus(other.0))
+            }
+        }
 
         // In characteristic two a difference is a sum.
         impl Sub for $field {
             type Output = $field;
 
+            #[inline]
             #[allow(clippy::suspicious_arithmetic_impl)]
             fn sub(self, other: $field) -> $field {
                 self + other
             }
         }
 
-        impl Neg for $field {
+        impl Mul for $field {
             type Output = $field;
 
-            fn neg(self) -> $field {
-                self
+            fn mul(self, other: $field) -> $field {
+                on_one!($multiply: self, other => $field)
             }
         }
 
@@ -265,11 +264,20 @@ macro_rules! field {
 
             #[allow(clippy::suspicious_arithmetic_impl)]
             fn div(self, other: $field) -> $field {
-                self * other.inverse().expect("a division by 0")
+                self * other.try_inverse().expect("a division by 0")
             }
         }
 
-        assigning!($field: AddAssign add_assign +, SubAssign sub_assign -, MulAssign mul_assign *, DivAssign div_assign /);
+        impl Neg for $field {
+            type Output = $field;
+
+            #[inline]
+            fn neg(self) -> $field {
+                self
+            }
+        }
+
+        by_reference!($field: Add add AddAssign add_assign, Sub sub SubAssign sub_assign, Mul mul MulAssign mul_assign, Div div DivAssign div_assign);
 
         impl Sum for $field {
             fn sum<I: Iterator<Item = $field>>(values: I) -> $field {
@@ -277,9 +285,21 @@ macro_rules! field {
             }
         }
 
+        impl<'a> Sum<&'a $field> for $field {
+            fn sum<I: Iterator<Item = &'a $field>>(values: I) -> $field {
+                values.copied().sum()
+            }
+        }
+
         impl Product for $field {
             fn product<I: Iterator<Item = $field>>(values: I) -> $field {
                 values.fold($field::ONE, |product, it| product * it)
+            }
+        }
+
+        impl<'a> Product<&'a $field> for $field {
+            fn product<I: Iterator<Item = &'a $field>>(values: I) -> $field {
+                values.copied().product()
             }
         }
 
@@ -311,39 +331,183 @@ macro_rules! field {
             }
         }
 
-        impl fmt::Debug for $field {
-            fn fmt(&self, formatter: &mut fmt::Formatter<'_>) -> fmt::Result {
-                write!(formatter, "{}({self})", stringify!($field))
+        #[cfg(feature = "num-traits")]
+        impl num_traits::Zero for $field {
+            fn zero() -> $field {
+                $field::ZERO
+            }
+
+            fn is_zero(&self) -> bool {
+                Field::is_zero(self)
             }
         }
 
+        #[cfg(feature = "num-traits")]
+        impl num_traits::One for $field {
+            fn one() -> $field {
+                $field::ONE
+            }
+        }
+
+        /// It panics where the element is ZERO.
+        #[cfg(feature = "num-traits")]
+        impl num_traits::Inv for $field {
+            type Output = $field;
+
+            fn inv(self) -> $field {
+                self.inverse()
+            }
+        }
+
+        #[cfg(feature = "num-traits")]
+        impl num_traits::Pow<u64> for $field {
+            type Output = $field;
+
+            fn pow(self, exponent: u64) -> $field {
+                self.exp_u64(exponent)
+            }
+        }
+
+        /// The number of the representation, as `Display` has it.
+        impl fmt::Debug for $field {
+            fn fmt(&self, formatter: &mut fmt::Formatter<'_>) -> fmt::Result {
+                self.0.debug(formatter)
+            }
+        }
+
+        /// The number of the representation; of `Poly192` the coefficients of 1, y and y^2.
         impl fmt::Display for $field {
             fn fmt(&self, formatter: &mut fmt::Formatter<'_>) -> fmt::Result {
-                self.0.write(formatter)
+                self.0.show(formatter)
+            }
+        }
+
+        impl fmt::LowerHex for $field {
+            fn fmt(&self, formatter: &mut fmt::Formatter<'_>) -> fmt::Result {
+                self.0.hexadecimal(formatter)
+            }
+        }
+
+        /// What `Display` writes, or hexadecimal digits behind `0x`.
+        impl FromStr for $field {
+            type Err = ParseError;
+
+            fn from_str(text: &str) -> Result<$field, ParseError> {
+                match <$word>::read(text) {
+                    Some(word) if word.truncated($degree) == word => Ok($field(word)),
+                    _ => Err(ParseError),
+                }
             }
         }
     };
 }
 
-/// Constructors of fields whose elements are all words.
-macro_rules! all_words {
-    ($($field:ident($word:ty),)*) => {$(
+/// What fields of so many bytes of one word have: constructors, bytes, numbers.
+macro_rules! whole_words {
+    ($($field:ident($word:ty, $bytes:literal),)*) => {$(
         impl $field {
             /// The element with this representation.
+            #[inline]
             pub const fn new(bits: $word) -> $field {
                 $field(bits)
+            }
+
+            /// The element whose representation has these bytes, the lowest first.
+            #[inline]
+            pub const fn from_le_bytes(bytes: [u8; $bytes]) -> $field {
+                $field(<$word>::from_le_bytes(bytes))
+            }
+
+            /// The bytes of the representation, the lowest first.
+            #[inline]
+            pub const fn into_bytes(self) -> [u8; $bytes] {
+                self.0.to_le_bytes()
+            }
+        }
+
+        impl From<$word> for $field {
+            fn from(bits: $word) -> $field {
+                $field(bits)
+            }
+        }
+
+        impl From<$field> for $word {
+            fn from(element: $field) -> $word {
+                element.0
             }
         }
     )*};
 }
 
-/// Constructors of fields whose elements are some bytes alone.
-macro_rules! some_bytes {
+/// What fields of less than a byte have: constructors, bytes, numbers.
+macro_rules! parts_of_bytes {
     ($($field:ident),*) => {$(
         impl $field {
             /// The element with this representation, where it is one.
             pub const fn new(bits: u8) -> Option<$field> {
                 if bits >> $field::DEGREE == 0 { Some($field(bits)) } else { None }
+            }
+
+            /// The element of the lowest bits of a byte.
+            #[inline]
+            pub const fn from_le_bytes(bytes: [u8; 1]) -> $field {
+                $field(bytes[0] & u8::MAX >> (8 - $field::DEGREE))
+            }
+
+            /// The byte of the representation.
+            #[inline]
+            pub const fn into_bytes(self) -> [u8; 1] {
+                [self.0]
+            }
+        }
+
+        impl TryFrom<u8> for $field {
+            type Error = ParseError;
+
+            fn try_from(bits: u8) -> Result<$field, ParseError> {
+                $field::new(bits).ok_or(ParseError)
+            }
+        }
+
+        impl From<$field> for u8 {
+            fn from(element: $field) -> u8 {
+                element.0
+            }
+        }
+    )*};
+}
+
+/// Levels of the tower, and fields in a polynomial basis beside them: the root that the level adjoins, and the Cantor vectors.
+macro_rules! levels {
+    ($($field:ident($word:ty, $log_bits:literal), $alpha:expr, $cantor:expr;)*) => {$(
+        impl Sealed for $field {}
+
+        impl TowerLevel for $field {
+            type Repr = $word;
+
+            const LOG_BITS: usize = $log_bits;
+
+            #[inline]
+            fn from_repr(bits: $word) -> $field {
+                $field(bits.truncated($field::DEGREE))
+            }
+
+            #[inline]
+            fn to_repr(self) -> $word {
+                self.0
+            }
+
+            fn mul_alpha(self) -> $field {
+                self * $field($alpha)
+            }
+
+            fn from_le_byte_iter(mut bytes: impl Iterator<Item = u8>) -> $field {
+                $field::from_le_bytes(core::array::from_fn(|_| bytes.next().expect("the bytes of a whole element")))
+            }
+
+            fn cantor_basis(index: usize) -> $field {
+                const VECTORS: [$word; 1 << $log_bits] = $cantor;
+                $field(VECTORS[index])
             }
         }
     )*};
@@ -354,9 +518,7 @@ macro_rules! bases {
     ($($from:ident $to:ident $function:ident;)*) => {$(
         impl From<$from> for $to {
             fn from(value: $from) -> $to {
-                let (values, mut images) = ([value], [$to::ZERO]);
-                succeed(over!($function: values; ; images));
-                images[0]
+                on_one!($function: value => $to)
             }
         }
 
@@ -364,6 +526,99 @@ macro_rules! bases {
             /// Writes the images of elements in the isomorphic field. The slices have one length.
             pub fn from_slice(values: &[$from], images: &mut [$to]) -> Result<(), Error> {
                 Error::of(over!($function: values; ; images))
+            }
+        }
+    )*};
+}
+
+/// Subfields: their elements by `From`, and in operators beside those of the field.
+macro_rules! embeddings {
+    ($($from:ident => $to:ident by |$it:ident| $image:expr;)*) => {$(
+        impl From<$from> for $to {
+            #[inline]
+            fn from($it: $from) -> $to {
+                $image
+            }
+        }
+    )*};
+}
+
+/// Operators between a field and a subfield.
+macro_rules! subfields {
+    ($($from:ident => $to:ident;)*) => {$(
+        mixed!($to $from: Add add AddAssign add_assign, Sub sub SubAssign sub_assign, Mul mul MulAssign mul_assign);
+
+        impl Algebra<$from> for $to {}
+    )*};
+}
+
+/// Extensions whose elements are arrays of those of the field below.
+macro_rules! extensions {
+    ($($from:ident => $to:ident, $dimension:literal;)*) => {$(
+        impl BasedVectorSpace<$from> for $to {
+            const DIMENSION: usize = $dimension;
+
+            fn as_basis_coefficients_slice(&self) -> &[$from] {
+                const { assert!(cfg!(target_endian = "little")) };
+                let first = core::ptr::from_ref(self).cast::<$from>();
+                // SAFETY: both types are transparent over words, of which the larger has the smaller ones, the lowest first. All
+                // words are elements.
+                unsafe { core::slice::from_raw_parts(first, $dimension) }
+            }
+
+            fn from_basis_coefficients_fn<F: FnMut(usize) -> $from>(mut coefficient: F) -> $to {
+                let coefficients: [$from; $dimension] = core::array::from_fn(&mut coefficient);
+                // SAFETY: as above.
+                unsafe { core::ptr::from_ref(&coefficients).cast::<$to>().read_unaligned() }
+            }
+        }
+
+        impl ExtensionField<$from> for $to {
+            fn as_base(&self) -> Option<$from> {
+                let coefficients: &[$from] = self.as_basis_coefficients_slice();
+                coefficients[1..].iter().all(Field::is_zero).then(|| coefficients[0])
+            }
+        }
+    )*};
+}
+
+/// The cubic extension: its elements by their coefficients over the field below.
+macro_rules! cubic {
+    ($field:ident over $below:ident) => {
+        impl $field {
+            /// The element with these coefficients of 1, y and y^2.
+            pub const fn new(coefficients: [$below; 3]) -> $field {
+                $field([coefficients[0].0, coefficients[1].0, coefficients[2].0])
+            }
+
+            /// The coefficients of 1, y and y^2.
+            pub const fn coefficients(self) -> [$below; 3] {
+                [$below(self.0[0]), $below(self.0[1]), $below(self.0[2])]
+            }
+
+            /// The bytes of the coefficients, that of 1 first, the lowest byte of each first.
+            pub fn into_bytes(self) -> [u8; 24] {
+                core::array::from_fn(|place| self.0[place / 8].to_le_bytes()[place % 8])
+            }
+        }
+
+        impl From<[u64; 3]> for $field {
+            fn from(coefficients: [u64; 3]) -> $field {
+                $field(coefficients)
+            }
+        }
+    };
+}
+
+/// Elements as bytes, by their own methods.
+macro_rules! as_bytes {
+    ($($field:ident $bytes:literal),*) => {$(
+        impl RawDataSerializable for $field {
+            const NUM_BYTES: usize = $bytes;
+
+            #[allow(refining_impl_trait)]
+            fn into_bytes(self) -> [u8; $bytes] {
+                $field::into_bytes(self)
             }
         }
     )*};

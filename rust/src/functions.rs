@@ -123,10 +123,6 @@ unsafe extern "C" {
         values: *mut u8,
         values_length: usize,
     ) -> u32;
-    /// generator: the generator of the field's multiplicative group that the library names.
-    pub fn bf_gf2_generator(
-        generator: *mut u8,
-    ) -> u32;
     /// sums: the sum of the elements at each place. BF_LENGTH unless left, right and sums have one length.
     /// BF_NOT_AN_ELEMENT unless each word that is read is below 4.
     pub fn bf_t2_add(
@@ -231,10 +227,6 @@ unsafe extern "C" {
         points_length: usize,
         values: *mut u8,
         values_length: usize,
-    ) -> u32;
-    /// generator: the generator of the field's multiplicative group that the library names.
-    pub fn bf_t2_generator(
-        generator: *mut u8,
     ) -> u32;
     /// sums: the sum of the elements at each place. BF_LENGTH unless left, right and sums have one length.
     /// BF_NOT_AN_ELEMENT unless each word that is read is below 16.
@@ -341,10 +333,6 @@ unsafe extern "C" {
         values: *mut u8,
         values_length: usize,
     ) -> u32;
-    /// generator: the generator of the field's multiplicative group that the library names.
-    pub fn bf_t4_generator(
-        generator: *mut u8,
-    ) -> u32;
     /// sums: the sum of the elements at each place. BF_LENGTH unless left, right and sums have one length.
     pub fn bf_t8_add(
         left: *const u8,
@@ -442,10 +430,6 @@ unsafe extern "C" {
         points_length: usize,
         values: *mut u8,
         values_length: usize,
-    ) -> u32;
-    /// generator: the generator of the field's multiplicative group that the library names.
-    pub fn bf_t8_generator(
-        generator: *mut u8,
     ) -> u32;
     /// sums: the sum of the elements at each place. BF_LENGTH unless left, right and sums have one length.
     pub fn bf_t16_add(
@@ -545,10 +529,6 @@ unsafe extern "C" {
         values: *mut u16,
         values_length: usize,
     ) -> u32;
-    /// generator: the generator of the field's multiplicative group that the library names.
-    pub fn bf_t16_generator(
-        generator: *mut u16,
-    ) -> u32;
     /// sums: the sum of the elements at each place. BF_LENGTH unless left, right and sums have one length.
     pub fn bf_t32_add(
         left: *const u32,
@@ -646,10 +626,6 @@ unsafe extern "C" {
         points_length: usize,
         values: *mut u32,
         values_length: usize,
-    ) -> u32;
-    /// generator: the generator of the field's multiplicative group that the library names.
-    pub fn bf_t32_generator(
-        generator: *mut u32,
     ) -> u32;
     /// sums: the sum of the elements at each place. BF_LENGTH unless left, right and sums have one length.
     pub fn bf_t64_add(
@@ -749,10 +725,6 @@ unsafe extern "C" {
         values: *mut u64,
         values_length: usize,
     ) -> u32;
-    /// generator: the generator of the field's multiplicative group that the library names.
-    pub fn bf_t64_generator(
-        generator: *mut u64,
-    ) -> u32;
     /// sums: the sum of the elements at each place. BF_LENGTH unless left, right and sums have one length.
     pub fn bf_t128_add(
         left: *const [u64; 2],
@@ -850,10 +822,6 @@ unsafe extern "C" {
         points_length: usize,
         values: *mut [u64; 2],
         values_length: usize,
-    ) -> u32;
-    /// generator: the generator of the field's multiplicative group that the library names.
-    pub fn bf_t128_generator(
-        generator: *mut [u64; 2],
     ) -> u32;
     /// sums: the sum of the elements at each place. BF_LENGTH unless left, right and sums have one length.
     pub fn bf_r8_add(
@@ -953,10 +921,6 @@ unsafe extern "C" {
         values: *mut u8,
         values_length: usize,
     ) -> u32;
-    /// generator: the generator of the field's multiplicative group that the library names.
-    pub fn bf_r8_generator(
-        generator: *mut u8,
-    ) -> u32;
     /// sums: the sum of the elements at each place. BF_LENGTH unless left, right and sums have one length.
     pub fn bf_p64_add(
         left: *const u64,
@@ -1054,10 +1018,6 @@ unsafe extern "C" {
         points_length: usize,
         values: *mut u64,
         values_length: usize,
-    ) -> u32;
-    /// generator: the generator of the field's multiplicative group that the library names.
-    pub fn bf_p64_generator(
-        generator: *mut u64,
     ) -> u32;
     /// sums: the sum of the elements at each place. BF_LENGTH unless left, right and sums have one length.
     pub fn bf_g128_add(
@@ -1161,10 +1121,6 @@ unsafe extern "C" {
         values: *mut [u64; 2],
         values_length: usize,
     ) -> u32;
-    /// generator: the generator of the field's multiplicative group that the library names.
-    pub fn bf_g128_generator(
-        generator: *mut [u64; 2],
-    ) -> u32;
     /// sums: the sum of the elements at each place. BF_LENGTH unless left, right and sums have one length.
     pub fn bf_p192_add(
         left: *const [u64; 3],
@@ -1262,10 +1218,6 @@ unsafe extern "C" {
         points_length: usize,
         values: *mut [u64; 3],
         values_length: usize,
-    ) -> u32;
-    /// generator: the generator of the field's multiplicative group that the library names.
-    pub fn bf_p192_generator(
-        generator: *mut [u64; 3],
     ) -> u32;
     /// images: the image in r8 of each element of t8, by the isomorphism of the two fields. BF_LENGTH unless values
     /// and images have one length.

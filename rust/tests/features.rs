@@ -1,5 +1,5 @@
-//! Number forms and draws, which stand behind the features `serde` and `rand`.
-#![cfg(all(feature = "serde", feature = "rand"))]
+//! Number forms, draws and traits of numbers, which stand behind the features `serde`, `rand` and `num-traits`.
+#![cfg(all(feature = "serde", feature = "rand", feature = "num-traits"))]
 
 use binary_field::*;
 use rand::distributions::{Distribution, Standard};
@@ -70,7 +70,7 @@ fn numbers_are_those_of_representations() {
     );
     assert_eq!(text(&|| serde_json::to_string(&Ghash128::new(0x87))), "135");
     assert_eq!(
-        text(&|| serde_json::to_string(&Poly192::new([1, 2, 3]))),
+        text(&|| serde_json::to_string(&Poly192::from([1, 2, 3]))),
         "[1,2,3]"
     );
     assert_eq!(
@@ -101,4 +101,23 @@ fn numbers_above_a_field_are_refused() {
         serde_json::from_str::<BinaryField4>("15").ok(),
         BinaryField4::new(15)
     );
+}
+
+#[test]
+fn elements_are_numbers_of_num_traits() {
+    fn power<
+        T: num_traits::Zero
+            + num_traits::One
+            + num_traits::Pow<u64, Output = T>
+            + num_traits::Inv<Output = T>
+            + Copy,
+    >(
+        x: T,
+    ) -> (T, bool) {
+        let other = num_traits::Pow::pow(x, 3) * x.inv() + T::zero();
+        (other * T::one(), T::zero().is_zero() && !x.is_zero())
+    }
+    let x = Ghash128::new(0x1234 << 100);
+    assert_eq!(power(x), (x.square(), true));
+    assert_eq!(power(Gf2::ONE), (Gf2::ONE, true));
 }

@@ -23,17 +23,17 @@ fn laws<F: Field>(make: impl Fn(&mut Draw) -> F) {
         assert_eq!(a + a, F::ZERO);
         assert_eq!(-a, a);
         assert_eq!(a.square(), a * a);
-        assert_eq!(a.square_root().square(), a);
-        assert_eq!(a.power(5), a * a * a * a * a);
+        assert_eq!(a.try_sqrt().unwrap().square(), a);
+        assert_eq!(a.exp_u64(5), a * a * a * a * a);
         assert_eq!(
-            a.inverse().map(|it| it * a),
+            a.try_inverse().map(|it| it * a),
             (a != F::ZERO).then_some(F::ONE)
         );
         if b != F::ZERO {
             assert_eq!(a / b * b, a);
         }
     }
-    assert_eq!(F::generator().power(0), F::ONE);
+    assert_eq!(F::GENERATOR.exp_u64(0), F::ONE);
     for length in [0, 1, 2, 17, 257] {
         slices(&x[..length], &y[..length]);
     }
@@ -42,7 +42,10 @@ fn laws<F: Field>(make: impl Fn(&mut Draw) -> F) {
         F::multiply_slices(&x[..2], &y[..3], &mut out),
         Err(Error::Length)
     );
-    assert_eq!(F::dot_product(&x[..2], &y[..3]), Err(Error::Length));
+    assert_eq!(
+        F::dot_product_of_slices(&x[..2], &y[..3]),
+        Err(Error::Length)
+    );
     assert_eq!(out, [F::ZERO; 2]);
 }
 
@@ -65,18 +68,18 @@ fn slices<F: Field>(x: &[F], y: &[F]) {
     F::square_slice(x, &mut out).unwrap();
     assert_eq!(out, each(&|a, _| a.square()));
     F::square_root_slice(x, &mut out).unwrap();
-    assert_eq!(out, each(&|a, _| a.square_root()));
-    let inverses = each(&|a, _| a.inverse().unwrap_or(F::ZERO));
+    assert_eq!(out, each(&|a, _| a.try_sqrt().unwrap()));
+    let inverses = each(&|a, _| a.invert_or_zero());
     F::inverse_slice(x, &mut out).unwrap();
     assert_eq!(out, inverses);
     out.fill(F::ZERO);
     F::batch_inverse_slice(x, &mut out).unwrap();
     assert_eq!(out, inverses);
     F::power_slice(x, 11, &mut out).unwrap();
-    assert_eq!(out, each(&|a, _| a.power(11)));
+    assert_eq!(out, each(&|a, _| a.exp_u64(11)));
     assert_eq!(F::product_of_slice(x), x.iter().copied().product());
     assert_eq!(
-        F::dot_product(x, y).unwrap(),
+        F::dot_product_of_slices(x, y).unwrap(),
         each(&|a, b| a * b).into_iter().sum()
     );
     F::evaluate(&[F::ONE, scalar], x, &mut out).unwrap();
@@ -96,7 +99,7 @@ fn every_field_has_its_operators_and_its_slices() {
     laws(|draw| Rijndael8b::new(draw.next() as u8));
     laws(|draw| Poly64::new(draw.next()));
     laws(|draw| Ghash128::new(u128::from(draw.next()) << 64 | u128::from(draw.next())));
-    laws(|draw| Poly192::new([draw.next(), draw.next(), draw.next()]));
+    laws(|draw| Poly192::from([draw.next(), draw.next(), draw.next()]));
 }
 
 #[test]
@@ -123,22 +126,139 @@ fn a_product_is_the_sum_of_the_shifted_operands() {
         Rijndael8b::new(0xc1)
     );
     assert_eq!(
-        Poly192::new([0, 1, 0]) * Poly192::new([0, 0, 1]),
-        Poly192::new([1, 1, 0])
+        Poly192::from([0, 1, 0]) * Poly192::from([0, 0, 1]),
+        Poly192::from([1, 1, 0])
     );
 }
 
 #[test]
-fn words_outside_a_field_are_refused_and_texts_are_hexadecimal() {
+fn words_outside_a_field_are_refused() {
     assert_eq!(
         (Gf2::new(2), BinaryField2::new(4), BinaryField4::new(16)),
         (None, None, None)
     );
-    assert_eq!(
-        format!("{:?} {}", Ghash128::new(0x87), Poly192::new([1, 2, 3])),
-        "Ghash128(0x87) [0x1, 0x2, 0x3]"
-    );
+    assert_eq!(BinaryField4::try_from(16), Err(ParseError));
+    assert_eq!(BinaryField4::try_from(15).map(u8::from), Ok(15));
     assert_eq!(Error::Memory.to_string(), "out of memory");
+    assert_eq!(Ghash128::from(0x87_u128), Ghash128::new(0x87));
+    assert_eq!(u128::from(BinaryField128::from(1_u128 << 127)), 1 << 127);
+}
+
+#[test]
+fn texts_are_read_back() {
+    let cubic = Poly192::from([1, 2, 3]);
+    assert_eq!(
+        format!("{:?} {}", Ghash128::new(0x87), Ghash128::new(0x87)),
+        "135 135"
+    );
+    assert_eq!(format!("{cubic} {cubic:?}"), "1 + 2*y + 3*y^2 [1, 2, 3]");
+    assert_eq!(
+        format!(
+            "{:x} {:#x} {:08x}",
+            BinaryField8::new(0xa5),
+            Poly64::new(16),
+            BinaryField16::new(10)
+        ),
+        "a5 0x10 0000000a"
+    );
+    let wide = Poly192::from([16, 0xab, 3]);
+    assert_eq!(format!("{wide:x}"), "10 + ab*y + 3*y^2");
+    assert_eq!(format!("{wide:#x}"), "0x10 + 0xab*y + 0x3*y^2");
+    assert_eq!("135".parse(), Ok(Ghash128::new(0x87)));
+    assert_eq!("0x87".parse(), Ok(Ghash128::new(0x87)));
+    assert_eq!("1 + 2*y + 3*y^2".parse(), Ok(cubic));
+    assert_eq!(format!("{wide:#x}").parse(), Ok(wide));
+    for wrong in ["", "0x", "-1", "+1", "0x+1", "16", "one", "1 ", "0x10"] {
+        assert_eq!(wrong.parse::<BinaryField4>(), Err(ParseError), "{wrong}");
+    }
+    for wrong in [
+        "",
+        "1",
+        "1 + 2*y",
+        "1 + 2*y + 3*y^2 + 4",
+        "0x1",
+        "1 + 2 + 3",
+    ] {
+        assert_eq!(wrong.parse::<Poly192>(), Err(ParseError), "{wrong}");
+    }
+    assert_eq!(ParseError.to_string(), "not an element of the field");
+}
+
+#[test]
+fn operators_take_references() {
+    let (mut a, b) = (Ghash128::new(1 << 127), Ghash128::new(3));
+    assert_eq!((&a * &b, &a * b, a * &b), (a * b, a * b, a * b));
+    assert_eq!((&a + &b, &a - b, a / &b), (a + b, a + b, a / b));
+    let (sum, product): (Ghash128, Ghash128) = ([a, b].iter().sum(), [a, b].iter().product());
+    assert_eq!((sum, product), (a + b, a * b));
+    a += &b;
+    a *= &b;
+    a /= &b;
+    a -= &b;
+    assert_eq!(a, Ghash128::new(1 << 127));
+}
+
+#[test]
+fn packings_are_elements_at_each_place() {
+    let mut draw = Draw(51);
+    let elements: [Rijndael8b; 37] = core::array::from_fn(|_| Rijndael8b::new(draw.next() as u8));
+    let (packed, rest) = PackedRijndael8b::<16>::pack_slice_with_suffix(&elements);
+    assert_eq!((packed.len(), rest), (2, &elements[32..]));
+    assert_eq!(PackedRijndael8b::unpack_slice(packed), &elements[..32]);
+    let (x, y, scalar) = (packed[0], packed[1], elements[36]);
+    let each = |operation: &dyn Fn(Rijndael8b, Rijndael8b) -> Rijndael8b| {
+        PackedRijndael8b::<16>::from_fn(|place| operation(x.as_slice()[place], y.as_slice()[place]))
+    };
+    assert_eq!((x + y, x * y), (each(&|a, b| a + b), each(&|a, b| a * b)));
+    assert_eq!(
+        (x * scalar, x + scalar),
+        (each(&|a, _| a * scalar), each(&|a, _| a + scalar))
+    );
+    assert_eq!(
+        (x.square(), x.exp_u64(5)),
+        (each(&|a, _| a.square()), each(&|a, _| a.exp_u64(5)))
+    );
+    assert_eq!(x.invert_or_zero(), each(&|a, _| a.invert_or_zero()));
+    assert_eq!(PackedRijndael8b::<16>::from_slice(&elements[..16]), &x);
+    assert_eq!(PackedGhash128::<4>::WIDTH, 4);
+    let mut changed = y;
+    PackedRijndael8b::<16>::from_slice_mut(changed.as_slice_mut()).0[0] = scalar;
+    assert_eq!(changed.0[0], scalar);
+    assert_eq!([x, y].into_iter().sum::<PackedRijndael8b<16>>(), x + y);
+    assert_eq!([x, y].into_iter().product::<PackedRijndael8b<16>>(), x * y);
+    assert_eq!(
+        PackedRijndael8b::<16>::ONE * x - x,
+        PackedRijndael8b::<16>::ZERO
+    );
+}
+
+#[test]
+fn what_cannot_be_panics() {
+    let panics = |call: fn()| assert!(std::panic::catch_unwind(call).is_err());
+    panics(|| {
+        Ghash128::ZERO.inverse();
+    });
+    panics(|| {
+        let _ = Rijndael8b::ONE / Rijndael8b::ZERO;
+    });
+    panics(|| {
+        let _ = PackedRijndael8b::<2>::ONE / Packed([Rijndael8b::ONE, Rijndael8b::ZERO]);
+    });
+    panics(|| {
+        BinaryField4::interpolation_node(16);
+    });
+    panics(|| {
+        BinaryField8::cantor_basis(8);
+    });
+    panics(|| poly_basis::butterfly_forward(&mut [1], &mut [1, 2], 3));
+    panics(|| {
+        poly_basis::LowStageTwiddles::new(&[1; 4], &[1; 2]);
+    });
+    panics(|| poly_basis::LowStageTwiddles::new(&[1; 4], &[1; 3]).forward(&mut [0; 15], 0));
+    panics(|| poly_basis::LowStageTwiddles::new(&[1; 4], &[1; 3]).forward(&mut [0; 16], 1));
+    panics(|| {
+        BinaryField16::from_le_byte_iter([1].into_iter());
+    });
 }
 
 #[test]
