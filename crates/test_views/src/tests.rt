@@ -2,3 +2,4 @@ mod bytes;
 mod cut;
 mod spaces;
 mod texts;
+mod types;

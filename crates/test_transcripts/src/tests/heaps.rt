@@ -1,19 +1,19 @@
-// Each growth refused in turn, and success where there is memory. What is appended where there is memory the contracts say. After a refusal of
+// Each growth refused in turn, and success where there is memory. Initial states and seeds are drawn from the seed 61 plus their length, encoded
+// elements from 67 plus that of the bytes before them, so that all bytes come as their lowest one, and what is appended is compared: a call that
+// refuses some lengths, some bytes or some elements fails here. After a refusal of
 //
 // - `observe_seed` of 0 to 257 bytes into a `Recorder`, at all six fields: it holds a beginning of the seed's elements, and has failed for good;
 // - `encode` behind 0 to 257 bytes, at all six fields: the bytes are as before;
 // - a call of a challenger over `HashChallenger` from initial states of 0 to 257 bytes (`observe` of an element, of digests of bytes and of
 //   words, of caps lent and given away, `observe_slice`, `sample_element`, `sample_bits`, uniform bits, `check_witness`), at two fields: the
 //   challenger has failed, and every call says so;
-// - `grind(8)` over it from 16 initial states: it samples what a model does that was not called;
-// - `try_clone` of it, and a sample of the copy: the challenger is as before.
-use super::asked::{
-    Asked, EVERY_CALL, Hashed, Row, Said, element, hashed, number_of, only_fails, repeated,
-};
+// - `grind` of 1 to 8 bits over it from 16 initial states: its next three samples are those of a model that was not called;
+// - `try_clone` of it, and a sample of the copy: the challenger is as before, by three samples.
+use super::asked::{Asked, EVERY_CALL, Hashed, Row, Said, element, hashed, number_of, only_fails};
 use linked_list_allocator::LocalHeap;
 use std::alloc::{AllocError, Allocator, Global};
 use std::marker::PhantomData;
-use test_support::{Ending, Growing, Rest, is_refused_in_turn};
+use test_support::{Ending, Growing, Rest, fill_bytes, is_refused_in_turn, next_number};
 use transcript_bytes::{ChallengerError, HashChallenger, Sha256Hasher};
 use transcript_elements::{BinaryChallenger, ByteLevel, Recorder, TranscriptField};
 
@@ -23,13 +23,21 @@ pub(crate) type InHeap<'a, F> = BinaryChallenger<F, HashChallenger<Sha256Hasher,
 // A sample, as a row.
 static SAMPLE: Row = [1, 0, 0, 0];
 
-/// A call, what it returns where there is memory, and what is sampled after it, and in its place.
+/// A call, what it returns where there is memory, and what three samples return after it, and in its place.
 #[derive(Clone, Copy)]
 pub(crate) struct KnownCall {
     pub(crate) row: Row,
     pub(crate) said: Said,
-    pub(crate) after: Said,
-    pub(crate) before: Said,
+    pub(crate) after: [Said; 3],
+    pub(crate) before: [Said; 3],
+}
+
+// What three samples return.
+fn three_samples<C: Asked>(alloc: Global, challenger: &mut C) -> [Said; 3] {
+    let first = challenger.answer(alloc, &SAMPLE);
+    let second = challenger.answer(alloc, &SAMPLE);
+    let third = challenger.answer(alloc, &SAMPLE);
+    [first, second, third]
 }
 
 // The call of a row, by two challengers in the state in which it is made.
@@ -37,8 +45,8 @@ fn known_call<C: Asked>(alloc: Global, row: Row, first: &mut C, second: &mut C) 
     KnownCall {
         row,
         said: first.answer(alloc, &row),
-        after: first.answer(alloc, &SAMPLE),
-        before: second.answer(alloc, &SAMPLE),
+        after: three_samples(alloc, first),
+        before: three_samples(alloc, second),
     }
 }
 
@@ -54,23 +62,35 @@ pub(crate) fn ending_of<C: Asked>(
     let said = challenger.answer(alloc, &known.row);
     drop(rest);
     if said != Said::Memory {
-        let is_right = said == known.said && challenger.answer(alloc, &SAMPLE) == known.after;
+        let is_right = said == known.said && three_samples(alloc, challenger) == known.after;
         return Ending::of(true, is_right);
     }
     let is_left_right = if known.row[0] == 4 || known.row[0] == 10 {
-        challenger.answer(alloc, &SAMPLE) == known.before
+        three_samples(alloc, challenger) == known.before
     } else {
         only_fails(alloc, challenger, calls)
     };
     Ending::of(false, is_left_right)
 }
 
-/// The bytes of initial states and of seeds.
-static BYTES: [u8; 257] = [7; 257];
+// The bytes of initial states and of seeds of `len` bytes, drawn from the seed 61 + `len`.
+fn drawn_bytes(len: usize) -> [u8; 257] {
+    let mut bytes = [0; 257];
+    fill_bytes(&mut bytes, (len as u64).wrapping_add(61));
+    bytes
+}
 
-// So many bytes, at most 257, without room for more.
+// The first `len` of them, at most 257, without room for more.
 fn some_bytes<A: Allocator>(alloc: A, len: usize) -> Result<Vec<u8, A>, AllocError> {
-    Vec::from_slice(alloc, &BYTES[..len.min(257)])
+    Vec::from_slice(alloc, &drawn_bytes(len)[..len.min(257)])
+}
+
+// A challenger of that initial state, where there is memory.
+fn hashed_after<F>(alloc: Global, len: usize) -> Option<Hashed<F>> {
+    match some_bytes(alloc, len) {
+        Ok(state) => Some(hashed(state)),
+        Err(_) => None,
+    }
 }
 
 // A call of a challenger whose initial state has `len` bytes.
@@ -102,15 +122,18 @@ fn takes_memory(row: &Row, len: usize) -> bool {
 
 /// Whether the call of a row is refused in turn, from an initial state of so many bytes.
 pub(crate) fn call_is_refused<F: ByteLevel>(alloc: Global, row: Row, len: usize) -> bool {
-    let mut first: Hashed<F> = hashed(repeated(alloc, 7, len));
-    let mut second: Hashed<F> = hashed(repeated(alloc, 7, len));
-    let call: SingleCall<F> = SingleCall {
-        alloc,
-        known: known_call(alloc, row, &mut first, &mut second),
-        len,
-        field: PhantomData,
-    };
-    is_refused_in_turn(alloc, &call, takes_memory(&row, len))
+    match (hashed_after::<F>(alloc, len), hashed_after::<F>(alloc, len)) {
+        (Some(mut first), Some(mut second)) => {
+            let call: SingleCall<F> = SingleCall {
+                alloc,
+                known: known_call(alloc, row, &mut first, &mut second),
+                len,
+                field: PhantomData,
+            };
+            is_refused_in_turn(alloc, &call, takes_memory(&row, len))
+        }
+        _ => false,
+    }
 }
 
 // A seed of `len` bytes.
@@ -156,7 +179,8 @@ fn are_of_seed<F: TranscriptField>(elements: &[F], seed: &[u8], is_whole: bool) 
 // A recorder keeps all of the seed, or a beginning of it, and then fails for good.
 impl<F: TranscriptField> Growing for Seed<F> {
     fn run<'a>(&self, heap: &'a LocalHeap, rest: Rest<'a>) -> Result<Ending, AllocError> {
-        let seed = &BYTES[..self.len.min(257)];
+        let bytes = drawn_bytes(self.len);
+        let seed = &bytes[..self.len.min(257)];
         let mut recorder: Recorder<F, &LocalHeap> = Recorder::new(heap);
         let answer = F::observe_seed(&mut recorder, seed);
         drop(rest);
@@ -172,20 +196,44 @@ impl<F: TranscriptField> Growing for Seed<F> {
     }
 }
 
-// An element that is encoded behind `len` bytes.
+// The element of a number, which is encoded behind `len` bytes.
 #[derive(Drop)]
 struct Encoding<F> {
     len: usize,
+    number: u128,
     field: PhantomData<F>,
+}
+
+// Whether the bytes are the first `len` drawn ones, and behind them those of the number where it is `encoded`, the highest of them first.
+fn are_encoded(out: &[u8], len: usize, size: usize, number: u128, encoded: bool) -> bool {
+    let before = drawn_bytes(len);
+    let len = len.min(257);
+    if out.len() < len || &out[..len] != &before[..len] {
+        return false;
+    }
+    let behind = &out[len..];
+    for place in 0..behind.len() {
+        let high_first = number.to_be_bytes();
+        if !encoded
+            || size > 16
+            || place >= size
+            || behind[place] != high_first[16 - size + place]
+        {
+            return false;
+        }
+    }
+    behind.len() == if encoded { size } else { 0 }
 }
 
 impl<F: TranscriptField> Growing for Encoding<F> {
     fn run<'a>(&self, heap: &'a LocalHeap, rest: Rest<'a>) -> Result<Ending, AllocError> {
         let mut out = some_bytes(heap, self.len)?;
-        let is_granted = element::<F>(5).encode(&mut out).is_ok();
+        let element: F = element(self.number);
+        let is_granted = element.encode(&mut out).is_ok();
         drop(rest);
-        let is_as_before = out.as_slice() == &BYTES[..self.len.min(257)];
-        Ok(Ending::of(is_granted, is_as_before != is_granted))
+        let number = number_of(element);
+        let is_right = are_encoded(out.as_slice(), self.len, F::NUM_BYTES, number, is_granted);
+        Ok(Ending::of(is_granted, is_right))
     }
 }
 
@@ -195,8 +243,10 @@ pub(crate) fn text_is_refused<F: TranscriptField>(alloc: Global, len: usize) -> 
         len,
         field: PhantomData,
     };
+    let mut state = (len as u64).wrapping_add(67);
     let encoding: Encoding<F> = Encoding {
         len,
+        number: next_number(&mut state) << 8 | (len as u128 % 256),
         field: PhantomData,
     };
     is_refused_in_turn(alloc, &seed, true) && is_refused_in_turn(alloc, &encoding, true)

@@ -1,6 +1,6 @@
 // Lists of calls: success where there is memory at each length from 0 to 257 against outside vectors. And refusals: the reserve of `run_calls`
 // and each growth of a call in turn, and each byte call of 40 calls in turn. The replies to the calls before are given, and from then on each
-// call gets `Failed`. What a list that is refused has done the contracts say.
+// call gets `Failed`, and a second list too, which leaves the replies. What a list that is refused has done the contracts say.
 ghost use Rattle.std.specs.Prelude.{All, IfOk};
 ghost use Rattle.transcript_elements.specs.Calls.{MayCall};
 
@@ -8,11 +8,11 @@ use super::asked::{EVERY_CALL, Row, element, number_of, only_fails};
 use super::heaps::InHeap;
 use super::many_calls::CALLS;
 use linked_list_allocator::LocalHeap;
-use std::alloc::{AllocError, Global};
+use std::alloc::{AllocError, Allocator, Global};
 use std::cell::Cell;
 use std::marker::PhantomData;
 use test_support::{Copies, Double, Ending, Growing, Rest, Seen, is_refused_in_turn};
-use transcript_bytes::{ChallengerError, Sha256Hasher};
+use transcript_bytes::{ByteChallenger, ChallengerError, Sha256Hasher};
 use transcript_elements::{BinaryChallenger, ByteLevel, Call, Reply, run_calls};
 
 // The call of a row.
@@ -77,6 +77,21 @@ struct List<F> {
     field: PhantomData<F>,
 }
 
+// Whether a list of calls of a challenger that has failed says so, and leaves the replies, which are the first so many.
+fn fails_again<F: ByteLevel, Inner: ByteChallenger, A: Allocator>(
+    challenger: &mut BinaryChallenger<F, Inner>,
+    calls: &[Call<F>],
+    replies: &mut Vec<Reply<F>, A>,
+    over_zeros: bool,
+) -> bool
+    requires { All MayCall calls.now }
+{
+    let made = replies.len();
+    run_calls(challenger, calls, replies) == Err(ChallengerError::Failed)
+        && replies.len() == made
+        && begin(replies.as_slice(), &CALLS, over_zeros)
+}
+
 // Whether the list of calls is granted in a heap, with the replies of `CALLS`, or fails for good behind some of them.
 fn ending_of_list<F: ByteLevel>(
     alloc: Global,
@@ -95,7 +110,8 @@ fn ending_of_list<F: ByteLevel>(
         Ok(()) => Ending::of(true, are_right && replies.len() == calls.len()),
         Err(error) => {
             let is_memory = error == ChallengerError::Memory;
-            let fails = only_fails(alloc, &mut challenger, &EVERY_CALL);
+            let fails = only_fails(alloc, &mut challenger, &EVERY_CALL)
+                && fails_again(&mut challenger, calls, &mut replies, false);
             Ending::of(false, are_right && is_memory && fails)
         }
     }
@@ -145,7 +161,9 @@ fn stops_there<F: ByteLevel>(alloc: Global, calls: &[Call<F>], made: usize, gran
     is_granted == (made == calls.len())
         && replies.len() == made
         && begin(replies.as_slice(), &CALLS, true)
-        && (is_granted || only_fails(alloc, &mut challenger, &EVERY_CALL))
+        && (is_granted
+            || only_fails(alloc, &mut challenger, &EVERY_CALL)
+                && fails_again(&mut challenger, calls, &mut replies, true))
 }
 
 /// Whether the first 40 calls stop where the byte call after so many is refused.

@@ -4,7 +4,8 @@
 // - A byte call is refused, the third in `observe`, the fifth in `sample_bits(12)`, the seventh in `observe_slice`, after one element and half
 //   of the second: `Memory`; each call after it says `Failed`, also `check_witness(0, w)`, `grind(0)`, `observe_slice` of no elements and a
 //   sample of a copy, and the partner sees none.
-// - A copy is refused in `grind(8)`, or the first, second or tenth byte call of one: `Memory`; a sample is as if there had been no call.
+// - A copy is refused in `grind(8)` or by itself, or the first, second or tenth byte call of one: `Memory`; three samples are as if there had
+//   been no call, and a fourth is refused, for which no byte call is left.
 // - 255 is sampled always: `NoWitness` after all 65,536 candidates of 16 bits; a sample is as before. 0 is sampled always: the witness 0.
 // - All is refused: `grind(0)` gives 0 and `check_witness(0, w)` true, and the partner sees nothing.
 use super::asked::{Asked, EVERY_CALL, Row, Said, only_fails};
@@ -65,7 +66,7 @@ pub(crate) fn granted_call(row: &(u8, u32, Row, Sight)) -> Partner {
 }
 
 /// Partners of a search for so many bits at a field of 16 bits, with the byte that they sample and their copies. None of the byte calls of
-/// a copy reaches the challenger, whose own two are granted later. All 65,536 elements are tried, each by two bytes and eight samples, the
+/// a copy reaches the challenger, whose own six are granted later. All 65,536 elements are tried, each by two bytes and eight samples, the
 /// last four 0xfffc to 0xffff. Over a double that samples 0 the first candidate passes, and no other is tried. For no bits nothing is
 /// asked, not a copy either.
 pub(crate) static SEARCHES: [(u8, Copies, u128, Said, Sight); 7] = [
@@ -84,10 +85,30 @@ pub(crate) static SEARCHES: [(u8, Copies, u128, Said, Sight); 7] = [
     (9, Copies::Refused, 0, Said::Number(0), (0, 0, 0)),
 ];
 
+// The byte calls of three samples at 16 bits.
+const OWN_CALLS: u32 = 6;
+
 pub(crate) fn search(row: &(u8, Copies, u128, Said, Sight)) -> Partner {
     let (byte, copies, bits, said, sight) = *row;
     let next = Said::Number(u128::from(byte).wrapping_mul(0x0101));
-    ((byte, 2, copies), [4, bits, 0, 0], said, sight, next)
+    (
+        (byte, OWN_CALLS, copies),
+        [4, bits, 0, 0],
+        said,
+        sight,
+        next,
+    )
+}
+
+/// A partner that refuses a copy.
+pub(crate) fn refused_copy() -> Partner {
+    (
+        (7, OWN_CALLS, Copies::Refused),
+        [10, 0, 0, 0],
+        Said::Memory,
+        (0, 0, 0),
+        Said::Number(0x0707),
+    )
 }
 
 /// Whether the challenger over the partner returns what is wanted. Where it has failed, all calls say so and none reaches the partner.
@@ -104,6 +125,15 @@ fn has_seen(seen: &Cell<Seen>, wanted: Sight) -> bool {
     seen.get().is(observed, sampled, bytes)
 }
 
+fn samples_are<C: Asked>(alloc: Global, challenger: &mut C, wanted: [Said; 4]) -> bool {
+    for said in wanted {
+        if challenger.answer(alloc, &[1, 0, 0, 0]) != said {
+            return false;
+        }
+    }
+    true
+}
+
 fn ends_as_wanted<C: Asked>(
     alloc: Global,
     challenger: &mut C,
@@ -113,6 +143,12 @@ fn ends_as_wanted<C: Asked>(
     let (_double, call, said, sight, next) = *partner;
     if challenger.answer(alloc, &call) != said || !has_seen(seen, sight) {
         return false;
+    }
+    if call[0] == 4 || call[0] == 10 {
+        // A search that ends well leaves the copy, which refuses nothing.
+        let is_the_copy = said == Said::Number(0) && call[1] > 0;
+        let fourth = if is_the_copy { next } else { Said::Memory };
+        return samples_are(alloc, challenger, [next, next, next, fourth]);
     }
     if next != Said::Failed {
         return challenger.answer(alloc, &[1, 0, 0, 0]) == next;

@@ -6,7 +6,7 @@ use super::heaps::{call_is_refused, text_is_refused};
 use super::lists::{list_is_refused, stops_after};
 use super::partners::{
     GRANTED_CALLS, Partner, REFUSED_CALLS, SEARCHES, granted_call, is_answered, refused_call,
-    search,
+    refused_copy, search,
 };
 use super::scripts::SCRIPTS;
 use super::seeds::{bytes_are, seed_is, too_few_bytes_are_refused};
@@ -215,6 +215,7 @@ fn hostile_partners_are_answered(rt: HostRuntime) {
     for row in &SEARCHES {
         assert!(rt; answers(rt.alloc(), Field::Tower16, search(row)));
     }
+    assert!(rt; answers(rt.alloc(), Field::Tower16, refused_copy()));
     for row in &REFUSED_CALLS {
         assert!(rt; answers(rt.alloc(), Field::Tower32, refused_call(row)));
     }
@@ -223,12 +224,19 @@ fn hostile_partners_are_answered(rt: HostRuntime) {
     }
 }
 
-// Every call of a challenger from each initial state. A search takes many calls, and is made from 16 states.
+// Every call of a challenger from each initial state. A search takes many calls, and is made from 16 states, for 1 to 8 bits.
 fn calls_are_refused(alloc: Global, field: Field) -> bool {
     for len in 0..258usize {
         for row in &EVERY_CALL {
             let is_search = row[0] == 4 && row[1] > 0;
-            if (len < 16 || !is_search) && !succeeds_in(alloc, field, Trial::Call(row, len)) {
+            if !is_search && !succeeds_in(alloc, field, Trial::Call(row, len)) {
+                return false;
+            }
+        }
+    }
+    for len in 0..16usize {
+        for bits in 1..9u128 {
+            if !succeeds_in(alloc, field, Trial::Call(&[4, bits, 0, 0], len)) {
                 return false;
             }
         }

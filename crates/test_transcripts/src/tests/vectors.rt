@@ -1,6 +1,6 @@
-// Elements of extensions in challengers, coefficient by coefficient, and values that are sampled into a vector. Each growth is refused in turn:
-// after one of `observe_algebra_element`, `sample_algebra_element` or `sample` of an extension the challenger has failed, and the three say
-// so. Of `sample_vec(4)`, whose vector and challenger are in one heap: where the vector is refused the challenger samples as before; where a
+// Elements of extensions in challengers, coefficient by coefficient, and values that are sampled into a vector. Each growth is refused in turn,
+// and over a double each byte call: after one of `observe_algebra_element`, `sample_algebra_element` or `sample` of an extension the
+// challenger has failed, every call says so, and the double sees none of them. Of `sample_vec(4)`, whose vector and challenger are in one heap: where the vector is refused the challenger samples as before; where a
 // sample is, it has failed for good.
 use super::asked::{
     Asked, EVERY_CALL, Row, Said, are, error_said, number_of, observed_said, only_fails,
@@ -9,8 +9,9 @@ use super::heaps::{InHeap, KnownCall, ending_of};
 use field_space::BasedVectorSpace;
 use linked_list_allocator::LocalHeap;
 use std::alloc::{AllocError, Global};
+use std::cell::Cell;
 use std::marker::PhantomData;
-use test_support::{Ending, Growing, Rest, is_refused_in_turn};
+use test_support::{Copies, Double, Ending, Growing, Rest, Seen, is_refused_in_turn};
 use transcript_bytes::{ByteChallenger, ChallengerError, Sha256Hasher};
 use transcript_elements::{BinaryChallenger, ByteLevel, CanSample, FieldChallenger};
 
@@ -34,22 +35,46 @@ static OF_NO_BYTE: [u128; 4] = [
     0xe3b0_c442_98fc_1c14,
 ];
 
-// Calls of an extension of three coefficients, with what they return, and what is sampled after each. An element is sampled from the
-// digest of no byte. Where that element is observed, its three words are hashed behind that digest, by Python's hashlib.
-static KNOWN_ROWS: [(Row, u128); 4] = [
-    ([20, 0, 0, 0xa495_991b_7852_b855], 0xe3b0_c442_98fc_1c14),
-    ([20, 1, 0, 0x27ae_41e4_649b_934c], 0xe3b0_c442_98fc_1c14),
-    ([21, 2, 0, 0x9afb_f4c8_996f_b924], 0xe3b0_c442_98fc_1c14),
-    ([22, 0, 0, 0], 0x7be7_d15a_d360_3483),
+// The last words of the digest of that digest, the last one first.
+static AFTER_NO_BYTE: [u128; 2] = [0x3e41_983f_5d4c_9456, 0x0381_5345_45f5_5cf4];
+
+// The words of the digest of that digest and of the three words of the element behind it, by Python's hashlib, the last one first.
+static OF_THE_ELEMENT: [u128; 3] = [
+    0x7be7_d15a_d360_3483,
+    0x0591_ae60_e0ad_098c,
+    0x4ba8_27b6_6072_bf79,
 ];
 
-fn known_call(known: &(Row, u128)) -> KnownCall {
-    let (row, after) = *known;
+// Calls of an extension of three coefficients, with what they return, and whether an element is observed. An element is sampled from the
+// digest of no byte. Where that element is observed, its three words are hashed behind that digest.
+static KNOWN_ROWS: [(Row, bool); 4] = [
+    ([20, 0, 0, 0xa495_991b_7852_b855], false),
+    ([20, 1, 0, 0x27ae_41e4_649b_934c], false),
+    ([21, 2, 0, 0x9afb_f4c8_996f_b924], false),
+    ([22, 0, 0, 0], true),
+];
+
+fn three_numbers(numbers: [u128; 3]) -> [Said; 3] {
+    [
+        Said::Number(numbers[0]),
+        Said::Number(numbers[1]),
+        Said::Number(numbers[2]),
+    ]
+}
+
+fn known_call(known: &(Row, bool)) -> KnownCall {
+    let (row, is_observed) = *known;
+    let [first, second, third, fourth] = OF_NO_BYTE;
+    let after = if is_observed {
+        OF_THE_ELEMENT
+    } else {
+        [fourth, AFTER_NO_BYTE[0], AFTER_NO_BYTE[1]]
+    };
     KnownCall {
         row,
         said: Said::Number(row[3]),
-        after: Said::Number(after),
-        before: Said::Number(OF_NO_BYTE[0]),
+        after: three_numbers(after),
+        before: three_numbers([first, second, third]),
     }
 }
 
@@ -161,7 +186,55 @@ fn samples_are_refused<F: ByteLevel + BasedVectorSpace<F>>(alloc: Global) -> boo
     is_refused_in_turn(alloc, &samples, true)
 }
 
-/// Whether each call of an extension of three coefficients over a field of 64 bits is refused in turn, and four samples are.
+// Whether a call of an extension, over a double that samples 5 and refuses the byte call after so many, is refused where it needs more, and
+// then every call says so and the double sees none of them.
+fn stops_after<F, E>(alloc: Global, row: &Row, needed: u32, granted: u32) -> bool
+where
+    F: ByteLevel + BasedVectorSpace<F>,
+    E: BasedVectorSpace<F>,
+{
+    let seen = Cell::new(Seen::default());
+    let double = Double::new(&seen, 5, granted, Copies::RefusingAfter(u32::MAX));
+    let challenger: BinaryChallenger<F, Double<'_>> = BinaryChallenger::new(double);
+    let mut asked = asked_for::<F, E, _>(challenger);
+    let said = asked.answer(alloc, row);
+    let first = seen.get();
+    let calls = first.observed.saturating_add(first.sampled);
+    if granted >= needed {
+        return said == Said::Number(row[3]) && calls == needed;
+    }
+    said == Said::Memory
+        && calls == granted
+        && only_fails(alloc, &mut asked, &VECTOR_CALLS)
+        && only_fails(alloc, &mut asked, &EVERY_CALL)
+        && seen.get() == first
+}
+
+// Calls of an extension over that double, with what they return, and the byte calls that they need.
+static DOUBLE_CALLS: [(Row, u32); 3] = [
+    ([20, 0, 0, 0x0505_0505_0505_0505], 24),
+    ([21, 2, 0, 0x0505_0505_0505_0505], 24),
+    ([22, 0, 0, 0], 48),
+];
+
+// Whether each byte call of each of them is refused in turn.
+fn doubles_are_refused<F, E>(alloc: Global) -> bool
+where
+    F: ByteLevel + BasedVectorSpace<F>,
+    E: BasedVectorSpace<F>,
+{
+    for (row, needed) in &DOUBLE_CALLS {
+        for granted in 0..49u32 {
+            if !stops_after::<F, E>(alloc, row, *needed, granted) {
+                return false;
+            }
+        }
+    }
+    true
+}
+
+/// Whether each call of an extension of three coefficients over a field of 64 bits is refused in turn, in heaps and over doubles, and four
+/// samples are.
 pub(crate) fn vectors_are_taken<F, E>(alloc: Global) -> bool
 where
     F: ByteLevel + BasedVectorSpace<F>,
@@ -178,5 +251,5 @@ where
             return false;
         }
     }
-    samples_are_refused::<F>(alloc)
+    samples_are_refused::<F>(alloc) && doubles_are_refused::<F, E>(alloc)
 }

@@ -1,7 +1,12 @@
-// The whole transform and its inverse: worked rows.
-use additive_transforms::{forward, inverse};
+// The whole transform and its inverse: worked rows, and the values of 2^4 to 2^10 numbers, drawn from the seed 53, against `evaluate_cantor` at
+// the point of each place. And that no instruction multiplies.
+use additive_transforms::over::evaluate_cantor;
+use additive_transforms::{forward, inverse, point};
+use field_element::Ghash128;
+use ghash_slices::HAS_HARDWARE_CLMUL;
 use std::alloc::{AllocError, Allocator, Global};
 use std::test::Fail;
+use test_support::{fill, next_number};
 
 // Runs the transform of 2^m values for an m up to 10, or returns false.
 pub(crate) fn forward_of<A: Allocator>(
@@ -108,5 +113,43 @@ fn rows_of_the_transform(rt: HostRuntime) -> Result<(), Fail> {
     let mut undone = 0;
     let runs = inverse_of(&mut ones, 5, 0, &mut undone);
     assert!(rt; runs && ones[0] == 1 && are_same(&ones[1..], &[0; 31]) && undone == 80);
+    Ok(())
+}
+
+// Whether the transform of so many drawn numbers, which are 2^m, leaves at each place the value of their polynomial at the place's point.
+fn values_are_at_points(
+    alloc: Global,
+    m: usize,
+    count: usize,
+    z: u128,
+) -> Result<bool, AllocError> {
+    let mut numbers = [0; 1024];
+    fill(&mut numbers, 53);
+    if count > 1024 {
+        return Ok(false);
+    }
+    let values = &mut numbers[..count];
+    let mut coefficients = Vec::new(alloc);
+    for value in values.iter() {
+        coefficients.push(Ghash128::new(*value))?;
+    }
+    let mut products = 0;
+    let runs = forward_of(alloc, values, m, z, &mut products)?;
+    for (place, value) in values.iter().enumerate() {
+        let at = Ghash128::new(point(z, place as u128));
+        if evaluate_cantor(coefficients.as_slice(), at).to_bits() != *value {
+            return Ok(false);
+        }
+    }
+    Ok(runs)
+}
+
+#[test]
+fn values_are_those_at_the_points(rt: HostRuntime) -> Result<(), Fail> {
+    let mut state = 59;
+    for m in 4..11usize {
+        assert!(rt; values_are_at_points(rt.alloc(), m, 1 << m, next_number(&mut state))?);
+    }
+    assert!(rt; !HAS_HARDWARE_CLMUL);
     Ok(())
 }

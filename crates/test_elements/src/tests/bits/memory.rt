@@ -1,12 +1,13 @@
 // Rows and packed bits that are taken apart into vectors: a worked row, and `split_copied`, `narrow_copied` and `bytes_copied` of 0 to 257
-// rows of 16 and of 128 bits. Each growth is refused in turn, nothing is left behind, and the call succeeds where there is memory.
+// rows of 16 and of 128 bits, drawn from the seed 29 plus their number. Each growth is refused in turn, nothing is left behind, and where there is memory the
+// call succeeds and its parts are those of the rows. A call that refuses some lengths, some rows or some contents fails here.
 use bits_packed::{PackedGf2, PackedGf2x8, PackedGf2x16};
 use bits_rows::{Divisible, M128, Underlier};
 use linked_list_allocator::LocalHeap;
 use std::alloc::{AllocError, Global};
 use std::marker::PhantomData;
 use std::test::Fail;
-use test_support::{Ending, Growing, Rest, is_refused_in_turn};
+use test_support::{Ending, Growing, Rest, is_refused_in_turn, next_number};
 
 // The parts of a row of 16 bits by the three calls, as the bytes of a number.
 fn parts_of(alloc: Global, row: u16) -> Result<[u8; 6], AllocError> {
@@ -42,92 +43,139 @@ enum Cut {
     Bytes,
 }
 
-// `len` times one item.
-fn repeated<T: Copy>(alloc: Global, item: T, len: usize) -> Result<Vec<T>, AllocError> {
-    let mut items = Vec::new(alloc);
+/// A row that is drawn.
+trait Drawn: Sized {
+    /// The next one.
+    fn drawn(state: &mut u64) -> Self;
+}
+
+impl Drawn for u16 {
+    fn drawn(state: &mut u64) -> u16 {
+        (next_number(state) % (1 << 16)) as u16
+    }
+}
+
+impl Drawn for M128 {
+    fn drawn(state: &mut u64) -> M128 {
+        let number = next_number(state);
+        M128::from_words([(number % (1 << 64)) as u64, (number >> 64) as u64])
+    }
+}
+
+// `len` rows of the seed 29 + `len`.
+fn drawn_rows<U: Drawn + Copy + Drop>(alloc: Global, len: usize) -> Result<Vec<U>, AllocError> {
+    let mut state = (len as u64).wrapping_add(29);
+    let mut rows = Vec::new(alloc);
     for _ in 0..len {
-        items.push(item)?;
+        rows.push(U::drawn(&mut state))?;
     }
-    Ok(items)
+    Ok(rows)
 }
 
-// How many parts there are of rows.
-fn parts_of_rows<U: Divisible<V>, V: Underlier>(heap: &LocalHeap, rows: &[U]) -> Option<usize> {
-    match <U as Divisible<V>>::split_copied(heap, rows) {
-        Ok(parts) => Some(parts.len()),
-        Err(_) => None,
+// The same rows as packed bits.
+fn drawn_packed<U: Underlier + Drawn>(
+    alloc: Global,
+    len: usize,
+) -> Result<Vec<PackedGf2<U>>, AllocError> {
+    let mut state = (len as u64).wrapping_add(29);
+    let mut packed = Vec::new(alloc);
+    for _ in 0..len {
+        packed.push(PackedGf2::new(U::drawn(&mut state)))?;
     }
+    Ok(packed)
 }
 
-// How many parts, or bytes, there are of packed bits.
-fn parts_of_packed<U: Divisible<V>, V: Underlier>(
+// Whether the parts of the rows are granted, and are those of one row after the other.
+fn split<U: Divisible<V>, V: Underlier>(heap: &LocalHeap, rows: &[U]) -> Result<bool, AllocError> {
+    let parts = <U as Divisible<V>>::split_copied(heap, rows)?;
+    let mut place = 0usize;
+    for row in rows {
+        for i in 0..U::RATIO {
+            if parts.as_slice().get(place) != Some(&row.part(i)) {
+                return Ok(false);
+            }
+            place = place.wrapping_add(1);
+        }
+    }
+    Ok(parts.len() == place)
+}
+
+// The same of packed bits.
+fn narrowed<U: Divisible<V>, V: Underlier>(
     heap: &LocalHeap,
     packed: &[PackedGf2<U>],
-    are_bytes: bool,
-) -> Result<usize, AllocError> {
-    if are_bytes {
-        return Ok(PackedGf2::bytes_copied(heap, packed)?.len());
-    }
+) -> Result<bool, AllocError> {
     let parts: Vec<PackedGf2<V>, &LocalHeap> = PackedGf2::narrow_copied(heap, packed)?;
-    Ok(parts.len())
+    let mut place = 0usize;
+    for row in packed {
+        for i in 0..U::RATIO {
+            if parts.as_slice().get(place) != Some(&row.narrow(i)) {
+                return Ok(false);
+            }
+            place = place.wrapping_add(1);
+        }
+    }
+    Ok(parts.len() == place)
 }
 
-/// `len` times one row, taken apart.
+// The same of their bytes.
+fn in_bytes<U: Underlier>(heap: &LocalHeap, packed: &[PackedGf2<U>]) -> Result<bool, AllocError> {
+    let bytes = PackedGf2::bytes_copied(heap, packed)?;
+    let mut place = 0usize;
+    for row in packed {
+        for i in 0..U::BITS / 8 {
+            if bytes.as_slice().get(place) != Some(&row.byte(i)) {
+                return Ok(false);
+            }
+            place = place.wrapping_add(1);
+        }
+    }
+    Ok(bytes.len() == place)
+}
+
+/// Rows, as such and as packed bits, that are taken apart.
 #[derive(Drop)]
-struct Rows<U: Copy, V> {
-    alloc: Global,
+struct Rows<U: Underlier, V> {
     cut: Cut,
-    row: U,
-    len: usize,
+    rows: Vec<U>,
+    packed: Vec<PackedGf2<U>>,
     part: PhantomData<V>,
 }
 
 impl<U: Divisible<V>, V: Underlier> Growing for Rows<U, V> {
     fn run<'a>(&self, heap: &'a LocalHeap, rest: Rest<'a>) -> Result<Ending, AllocError> {
-        let count = match self.cut {
-            Cut::Split => {
-                let rows = repeated(self.alloc, self.row, self.len)?;
-                parts_of_rows::<U, V>(heap, rows.as_slice())
-            }
-            cut => {
-                let packed = repeated(self.alloc, PackedGf2::new(self.row), self.len)?;
-                parts_of_packed::<U, V>(heap, packed.as_slice(), cut == Cut::Bytes).ok()
-            }
+        let answer = match self.cut {
+            Cut::Split => split::<U, V>(heap, self.rows.as_slice()),
+            Cut::Narrow => narrowed::<U, V>(heap, self.packed.as_slice()),
+            Cut::Bytes => in_bytes(heap, self.packed.as_slice()),
         };
         drop(rest);
-        let wanted = match self.cut {
-            Cut::Bytes => (U::BITS / 8).wrapping_mul(self.len),
-            _ => U::RATIO.wrapping_mul(self.len),
-        };
-        Ok(match count {
-            Some(count) => Ending::of(true, count == wanted),
-            None => Ending::Refused,
+        Ok(match answer {
+            Ok(is_right) => Ending::of(true, is_right),
+            Err(_) => Ending::Refused,
         })
     }
 }
 
-fn are_refused<U: Divisible<V>, V: Underlier>(alloc: Global, row: U) -> bool {
+fn are_refused<U: Divisible<V> + Drawn, V: Underlier>(alloc: Global) -> Result<bool, AllocError> {
     for len in 0..258usize {
         for cut in [Cut::Split, Cut::Narrow, Cut::Bytes] {
             let rows: Rows<U, V> = Rows {
-                alloc,
                 cut,
-                row,
-                len,
+                rows: drawn_rows(alloc, len)?,
+                packed: drawn_packed(alloc, len)?,
                 part: PhantomData,
             };
             if !is_refused_in_turn(alloc, &rows, len > 0) {
-                return false;
+                return Ok(false);
             }
         }
     }
-    true
+    Ok(true)
 }
 
 #[test]
-fn parts_are_granted_or_refused(rt: HostRuntime) {
-    assert!(rt;
-        are_refused::<u16, u8>(rt.alloc(), 0x0201)
-            && are_refused::<M128, u32>(rt.alloc(), M128::from_words([1, 2]))
-    );
+fn parts_are_granted_or_refused(rt: HostRuntime) -> Result<(), Fail> {
+    assert!(rt; are_refused::<u16, u8>(rt.alloc())? && are_refused::<M128, u32>(rt.alloc())?);
+    Ok(())
 }

@@ -1,6 +1,7 @@
-// `flatten_to_base` and `reconstitute_from_base` of 0 to 257 elements, where there is memory, and refused where there is not, in heaps of
-// 16, 32, 64, .. bytes: a vector grows to twice its length at least, so that each growth is the first to be refused in one of them. Nothing is
-// left behind. What is in the vectors the contracts say.
+// `flatten_to_base` and `reconstitute_from_base` of the last 0 to 257 of elements that are drawn from the seed 23, where there is memory, and
+// refused where there is not, in heaps of 16, 32, 64, .. bytes: a vector grows to twice its length at least, so that each growth is the first
+// to be refused in one of them. Nothing is left behind. A call that refuses some lengths, some elements or some contents fails here, as does
+// one that gives other elements.
 use field_base::traits::PrimeCharacteristicRing;
 use field_space::BasedVectorSpace;
 use linked_list_allocator::LocalHeap;
@@ -21,23 +22,55 @@ static ROOMS: [usize; 13] = [
     16, 32, 64, 128, 256, 512, 1024, 2048, 4096, 8192, 16384, 32768, 65536,
 ];
 
-/// Whether a call may end so in a heap of so many bytes.
-fn is_due(is_granted: bool, room: usize, takes_memory: bool) -> bool {
-    if is_granted {
-        room > 16 || !takes_memory
-    } else {
-        room < 65536 && takes_memory
+/// Whether a call may end so in a heap of so many bytes: granted, and right or wrong, or refused.
+fn is_due(granted: Option<bool>, room: usize, takes_memory: bool) -> bool {
+    match granted {
+        Some(is_right) => is_right && (room > 16 || !takes_memory),
+        None => room < 65536 && takes_memory,
     }
 }
 
-/// Whether the coefficients are those of whole elements, and elements of them are granted.
-fn are_made<F: PrimeCharacteristicRing, E: BasedVectorSpace<F>>(
+/// Whether the coefficients are those of the elements, one element after the other.
+fn are_coefficients<F: PrimeCharacteristicRing, E: BasedVectorSpace<F>>(
+    coefficients: &[F],
+    elements: &[E],
+) -> bool {
+    let mut place = 0usize;
+    for element in elements {
+        for i in 0..E::DIMENSION {
+            if coefficients.get(place) != Some(&element.basis_coefficient(i)) {
+                return false;
+            }
+            place = place.wrapping_add(1);
+        }
+    }
+    coefficients.len() == place
+}
+
+/// Whether the coefficients of the elements are right, where they are granted.
+fn flattened<F: PrimeCharacteristicRing, E: BasedVectorSpace<F>>(
+    heap: &LocalHeap,
+    elements: &[E],
+) -> Option<bool> {
+    match E::flatten_to_base(heap, elements) {
+        Ok(flat) => Some(are_coefficients::<F, E>(flat.as_slice(), elements)),
+        Err(_) => None,
+    }
+}
+
+/// Whether the coefficients are those of whole elements, and give these elements, where they are granted.
+fn reconstituted<F: PrimeCharacteristicRing, E: BasedVectorSpace<F>>(
     heap: &LocalHeap,
     coefficients: &[F],
-) -> bool {
-    E::DIMENSION != 0
-        && coefficients.len() % E::DIMENSION == 0
-        && E::reconstitute_from_base(heap, coefficients).is_ok()
+    elements: &[E],
+) -> Option<bool> {
+    if E::DIMENSION == 0 || coefficients.len() % E::DIMENSION != 0 {
+        return Some(false);
+    }
+    match E::reconstitute_from_base(heap, coefficients) {
+        Ok(made) => Some(made.as_slice() == elements),
+        Err(_) => None,
+    }
 }
 
 /// Whether both ways end as they may in a heap of so many bytes, which gets all of them back.
@@ -49,10 +82,10 @@ fn both_are_due<F: PrimeCharacteristicRing, E: BasedVectorSpace<F>>(
 ) -> bool {
     match LocalHeap::new(alloc, room) {
         Ok(heap) => {
-            let is_flattened = E::flatten_to_base(&heap, elements).is_ok();
-            let are_made = are_made::<F, E>(&heap, coefficients);
-            is_due(is_flattened, room, elements.len() > 0)
-                && is_due(are_made, room, elements.len() > 0)
+            let there = flattened::<F, E>(&heap, elements);
+            let back = reconstituted::<F, E>(&heap, coefficients, elements);
+            is_due(there, room, elements.len() > 0)
+                && is_due(back, room, elements.len() > 0)
                 && heap.used() == 0
         }
         Err(_) => false,
@@ -77,14 +110,13 @@ fn each_is_due<F: PrimeCharacteristicRing, E: BasedVectorSpace<F>>(
     }
 }
 
-/// Whether that holds of 0 to 257 times an element.
-pub(crate) fn powers_are_due<F: PrimeCharacteristicRing, E: BasedVectorSpace<F>>(
+/// Whether that holds of the last 0 to 257 of these elements, so that each length begins with another.
+pub(crate) fn vectors_are_due<F: PrimeCharacteristicRing, E: BasedVectorSpace<F>>(
     alloc: Global,
-    element: E,
+    elements: &[E],
 ) -> bool {
-    let mut elements = Vec::new(alloc);
-    for _ in 0..258 {
-        if !each_is_due::<F, E>(alloc, elements.as_slice()) || elements.push(element).is_err() {
+    for len in 0..258usize {
+        if len > elements.len() || !each_is_due::<F, E>(alloc, &elements[elements.len() - len..]) {
             return false;
         }
     }

@@ -3,11 +3,14 @@
 use super::coefficients::{all_powers_are_left, first_are_taken, is_called_in_order};
 use super::extension::{frobenius_takes, has_text};
 use super::generator::generator_has_full_order;
-use super::memory::{is_flattened, powers_are_due};
+use super::memory::{is_flattened, vectors_are_due};
 use field_base::traits::{Field, PrimeCharacteristicRing};
 use field_base::{FieldKernel, Stored};
 use field_element::{Coefficients, Element, Poly64, Poly192, element_of_word};
 use field_space::{AlgebraIdentity, BasedVectorSpace, SpaceOver};
+use rand::distr::SampleStandard;
+use rand::rngs::SmallRng;
+use rand::{RngExt, SeedableRng};
 use std::alloc::Global;
 use word_polynomial::{CubicKernel, Poly64Kernel};
 use word_tower::{Bits64, Bits128, Tower};
@@ -27,30 +30,50 @@ enum Trial {
     WithoutEnd,
 }
 
-/// Whether a trial of a space succeeds. An element is given, and its coefficients.
+/// Whether a trial of a space succeeds. An element is given, its coefficients, and elements for vectors.
 fn succeeds<F: PrimeCharacteristicRing, E: BasedVectorSpace<F>>(
     alloc: Global,
     trial: Trial,
     element: E,
     coefficients: &[F],
+    elements: &[E],
 ) -> bool {
     match trial {
         Trial::Row => is_flattened(alloc, element, coefficients),
-        Trial::Vectors => powers_are_due::<F, E>(alloc, element),
+        Trial::Vectors => vectors_are_due::<F, E>(alloc, elements),
         Trial::Closure => is_called_in_order::<F, E>(element, coefficients),
         Trial::Iterators => first_are_taken::<F, E>(alloc, coefficients),
         Trial::WithoutEnd => all_powers_are_left::<F, E>(coefficients),
     }
 }
 
-/// The same of the field of a kernel.
-fn succeeds_at<R: Stored, K: SpaceOver<R, S, J>, S: Stored, J: FieldKernel<S>>(
+/// Elements that are drawn from the seed 23, or fewer than 257 where memory is refused.
+fn drawn<R: Stored + SampleStandard, K: FieldKernel<R>>(alloc: Global) -> Vec<Element<R, K>> {
+    let mut rng = SmallRng::seed_from_u64(23);
+    let mut elements = Vec::new(alloc);
+    for _ in 0..257 {
+        if elements.push(rng.random()).is_err() {
+            break;
+        }
+    }
+    elements
+}
+
+/// The same of the field of a kernel, with elements that are drawn.
+fn succeeds_at<R: Stored + SampleStandard, K: SpaceOver<R, S, J>, S: Stored, J: FieldKernel<S>>(
     alloc: Global,
     trial: Trial,
     element: Element<R, K>,
     coefficients: &[Element<S, J>],
 ) -> bool {
-    succeeds::<Element<S, J>, Element<R, K>>(alloc, trial, element, coefficients)
+    let elements = drawn::<R, K>(alloc);
+    succeeds::<Element<S, J>, Element<R, K>>(
+        alloc,
+        trial,
+        element,
+        coefficients,
+        elements.as_slice(),
+    )
 }
 
 /// The element of these coefficients, the lowest first.
