@@ -240,6 +240,12 @@ class Bytes(unittest.TestCase):
         wrong[2, 3] ^= 1
         self.assertFalse(code.verify(wrong))
         self.assertTrue((code.reconstruct(wrong, [True, True, False, True, True, True]) == shards).all())
+        # A shard is missing where it is None, whatever the flags say, and where its flag is False.
+        self.assertTrue((code.reconstruct(damaged, [True] * 6) == shards).all())
+        self.assertTrue((code.reconstruct(damaged[:5] + [b"wrong byt"], [True] * 5 + [False]) == shards).all())
+        self.assertTrue((code.reconstruct_data(damaged, np.ones(6, bool)) == data).all())
+        self.assertRaises(ValueError, code.reconstruct, [None] * 3 + list(shards[3:]), [True] * 6)
+        self.assertRaises(ValueError, code.reconstruct, damaged, [True] * 5)
         for given in ([None] * 6, [None] * 3 + damaged[1:4], damaged[:5], [b"ab", b"a", b"a", b"a", None, None]):
             self.assertRaises(ValueError, code.reconstruct, given)
         self.assertRaises(ValueError, code.encode, np.zeros((3, 9), np.uint8))

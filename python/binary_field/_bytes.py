@@ -74,7 +74,7 @@ class ReedSolomon:
         return bool(result[0])
 
     def reconstruct(self, shards: Sequence[Any] | np.ndarray, present: Sequence[bool] | None = None) -> np.ndarray:
-        """All shards, the missing ones restored. A shard is missing where it is None, or where `present` has False."""
+        """All shards, the missing ones restored. A shard is missing where it is None, and where `present` has False."""
         return self._restored("rs_reconstruct", shards, present)
 
     def reconstruct_data(self, shards: Sequence[Any] | np.ndarray, present: Sequence[bool] | None = None) -> np.ndarray:
@@ -82,14 +82,17 @@ class ReedSolomon:
         return self._restored("rs_reconstruct_data", shards, present)[: self.data]
 
     def _restored(self, name: str, shards: Any, present: Any) -> np.ndarray:
-        if present is None:
-            present = [it is not None for it in shards]
+        given = [it is not None for it in shards]
+        if present is not None:
+            if len(present) != len(given):
+                raise ValueError("expected as many flags as shards")
+            given = [is_given and bool(flag) for is_given, flag in zip(given, present)]
         sizes = [len(it) for it in shards if it is not None]
         if not sizes:
             raise ValueError("too few shards are present")
         rows = [np.zeros(sizes[0], np.uint8) if it is None else it for it in shards]
         all_shards = self._rows(rows, self.data + self.parity).copy()
-        call(name, self.data, self.parity, all_shards, np.array(present, dtype=bool).astype(np.uint8))
+        call(name, self.data, self.parity, all_shards, np.array(given, dtype=np.uint8))
         return all_shards
 
     @staticmethod
