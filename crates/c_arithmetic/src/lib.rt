@@ -6,6 +6,7 @@
 mod batch;
 mod bytes;
 mod fields;
+pub mod in_place;
 mod kernels;
 mod lanes;
 mod linear;
@@ -25,7 +26,7 @@ pub use crate::bytes::multiply_bytes;
 pub use crate::kernels::Basis;
 pub use crate::linear::{map_bytes, map_wide};
 pub use crate::messages::{gcm_ghash, ghash, polyval, tags_are_equal};
-pub use crate::products::{dot_product, multiply};
+pub use crate::products::{dot_product, multiply, multiply_in_place};
 pub use crate::scalars::{add_scaled, multiply_by};
 pub use crate::shards::{encode, reconstruct, reconstruct_data, verify};
 pub use crate::transforms::{

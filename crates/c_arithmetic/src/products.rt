@@ -22,6 +22,17 @@ pub fn multiply<V: Width>(left: &[Wide], right: &[Wide], products: &mut [Wide]) 
     status::OK
 }
 
+/// Multiplies each product by the word at its place, two at once or four.
+pub fn multiply_in_place<V: Width>(products: &mut [Wide], words: &[Wide]) -> u32
+    ensures { Multiplies ghash_field products.old words.now products.old products.new result }
+{
+    if words.len() != products.len() {
+        return status::LENGTH;
+    }
+    multiply_each::<V>(products, words);
+    status::OK
+}
+
 /// Writes the sum of the products at each place, which is 0 of none: by two products at once or four.
 pub fn dot_product<V: Width>(left: &[Wide], right: &[Wide], sum: &mut Wide) -> u32
     ensures { TakesDotProduct ghash_field left.now right.now sum.old sum.new result }

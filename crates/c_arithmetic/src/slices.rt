@@ -297,7 +297,7 @@ pub fn to_tower<R: Stored, W: Holds<R>, K: Basis<R>>(words: &[W], elements: &mut
 
 // A word to the power of the exponent, by squaring and multiplying from the exponent's lowest bit.
 #[inline]
-fn power_of<R: Stored, W: Holds<R>, K: FieldKernel<R>>(word: W, exponent: u64) -> W
+pub(crate) fn power_of<R: Stored, W: Holds<R>, K: FieldKernel<R>>(word: W, exponent: u64) -> W
     ensures { W.number result ≡ power 1 K.product (W.number word) exponent }
 {
     let mut base = word;
