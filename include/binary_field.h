@@ -9,14 +9,42 @@
  *
  * Arrays. An array is a pointer and a length, which counts elements and not bytes. The pointer may be NULL where the length is
  * 0; a scalar or a result is never NULL. Each pointer is aligned as C aligns its type. An array or a result that a function
- * writes may overlap no other array, result or scalar of the same call; what is only read may overlap each other.
+ * writes may overlap no other array, result or scalar of the same call; what is only read may overlap each other. For x = x * y
+ * there are the functions whose names end in _in_place.
  * A comment begins with the name of what the function writes. Where it says nothing of lengths, every length will do.
  *
  * Statuses. Every function but bf_version returns a status. On a status that is not BF_OK everything that the function could
  * write is as before the call. The first status applies, in the order in which a function's comment names them.
  *
+ * Fields. For each field F, by its name in the sections below:
+ *
+ *   bf_F_add(left, right, sums)  sums: the sum of the elements at each place
+ *   bf_F_multiply(left, right, products)  products: the product of the elements at each place
+ *   bf_F_multiply_by(values, scalar, products)  products: the product of each element and the scalar
+ *   bf_F_add_scaled(sums, scalar, values)  adds to each element of sums the scalar times the value at its place
+ *   bf_F_square(values, squares)  squares: the square of each element
+ *   bf_F_inverse(values, inverses)  inverses: the inverse of each element, and 0 for 0
+ *   bf_F_batch_inverse(values, inverses)  inverses: the same as inverse, by one inverse and three products an element
+ *   bf_F_square_root(values, roots)  roots: the square root of each element
+ *   bf_F_power(values, exponent, powers)  powers: each element to the power of the exponent; to the power 0 it is 1
+ *   bf_F_product(values, product)  product: the product of all elements, 1 of none
+ *   bf_F_dot_product(left, right, sum)  sum: the sum of the products at each place, 0 of none
+ *   bf_F_evaluate(coefficients, points, values)  values: the value at each point of the polynomial with these
+ *       coefficients, the constant one first; any number of coefficients
+ *   bf_F_add_in_place(sums, values)  adds to each element of sums the value at its place
+ *   bf_F_multiply_in_place(products, values)  multiplies each element of products by the value at its place
+ *   bf_F_multiply_by_in_place(values, scalar)  multiplies each element by the scalar
+ *   bf_F_square_in_place(values)  squares each element
+ *   bf_F_inverse_in_place(values)  leaves the inverse of each element, and 0 of 0
+ *   bf_F_square_root_in_place(values)  leaves the square root of each element
+ *   bf_F_power_in_place(values, exponent)  raises each element to the power of the exponent; to the power 0 it is 1
+ *   bf_F_generator(generator)  generator: the generator of the field's multiplicative group that the library names
+ *
+ * Arrays have one length, but for evaluate, of whose arrays points and values have one, and coefficients any: else the status is
+ * BF_LENGTH. In gf2, t2 and t4 each word that is read is an element: else it is BF_NOT_AN_ELEMENT.
+ *
  * Threads. A call reads and writes its arguments alone and keeps nothing, so that threads may call at the same time, as long as
- * none writes what another reads or writes. Nothing is claimed on timing.
+ * none writes what another reads or writes. Nothing is claimed on timing; of bf_tags_are_equal it is said what was looked at.
  */
 #ifndef BINARY_FIELD_H
 #define BINARY_FIELD_H
@@ -30,6 +58,15 @@ extern "C" {
 
 /* The version that this header belongs to, 0.1.0; bf_version returns that of the library. */
 #define BF_VERSION 256u
+
+/* What gcc and clang are told: a status has to be looked at, and which pointers are never NULL. */
+#if defined(__GNUC__) || defined(__clang__)
+#define BF_CHECKED __attribute__((warn_unused_result))
+#define BF_NONNULL(place) __attribute__((nonnull(place)))
+#else
+#define BF_CHECKED
+#define BF_NONNULL(place)
+#endif
 
 /* A number of 128 bits, the low half first. */
 typedef struct bf_u128 {
@@ -74,765 +111,291 @@ uint32_t bf_version(void);
 /* --------------------------------------------------------------------------------------------------------------------- */
 /* gf2: GF(2). An element is a uint8_t, below 2. */
 
-/* sums: the sum of the elements at each place. BF_LENGTH unless left, right and sums have one length. BF_NOT_AN_ELEMENT
- * unless each word that is read is below 2. */
-uint32_t bf_gf2_add(
-    const uint8_t *left, size_t left_length, const uint8_t *right, size_t right_length, uint8_t *sums,
-    size_t sums_length);
-
-/* products: the product of the elements at each place. BF_LENGTH unless left, right and products have one length.
- * BF_NOT_AN_ELEMENT unless each word that is read is below 2. */
-uint32_t bf_gf2_multiply(
-    const uint8_t *left, size_t left_length, const uint8_t *right, size_t right_length, uint8_t *products,
-    size_t products_length);
-
-/* products: the product of each element and the scalar. BF_LENGTH unless values and products have one length.
- * BF_NOT_AN_ELEMENT unless each word that is read is below 2. */
-uint32_t bf_gf2_multiply_by(
-    const uint8_t *values, size_t values_length, uint8_t scalar, uint8_t *products, size_t products_length);
-
-/* Adds to each element of sums the scalar times the value at its place. BF_LENGTH unless sums and values have one length.
- * BF_NOT_AN_ELEMENT unless each word that is read is below 2. */
-uint32_t bf_gf2_add_scaled(
-    uint8_t *sums, size_t sums_length, uint8_t scalar, const uint8_t *values, size_t values_length);
-
-/* squares: the square of each element. BF_LENGTH unless values and squares have one length. BF_NOT_AN_ELEMENT unless each
- * word that is read is below 2. */
-uint32_t bf_gf2_square(
-    const uint8_t *values, size_t values_length, uint8_t *squares, size_t squares_length);
-
-/* inverses: the inverse of each element, and 0 for 0. BF_LENGTH unless values and inverses have one length.
- * BF_NOT_AN_ELEMENT unless each word that is read is below 2. */
-uint32_t bf_gf2_inverse(
-    const uint8_t *values, size_t values_length, uint8_t *inverses, size_t inverses_length);
-
-/* inverses: the same as inverse, by one inverse and three products an element. BF_LENGTH unless values and inverses have one
- * length. BF_NOT_AN_ELEMENT unless each word that is read is below 2. */
-uint32_t bf_gf2_batch_inverse(
-    const uint8_t *values, size_t values_length, uint8_t *inverses, size_t inverses_length);
-
-/* roots: the square root of each element. BF_LENGTH unless values and roots have one length. BF_NOT_AN_ELEMENT unless each
- * word that is read is below 2. */
-uint32_t bf_gf2_square_root(
-    const uint8_t *values, size_t values_length, uint8_t *roots, size_t roots_length);
-
-/* powers: each element to the power of the exponent; to the power 0 it is 1. BF_LENGTH unless values and powers have one
- * length. BF_NOT_AN_ELEMENT unless each word that is read is below 2. */
-uint32_t bf_gf2_power(
-    const uint8_t *values, size_t values_length, uint64_t exponent, uint8_t *powers, size_t powers_length);
-
-/* product: the product of all elements, 1 of none. BF_NOT_AN_ELEMENT unless each word that is read is below 2. */
-uint32_t bf_gf2_product(
-    const uint8_t *values, size_t values_length, uint8_t *product);
-
-/* sum: the sum of the products at each place, 0 of none. BF_LENGTH unless left and right have one length. BF_NOT_AN_ELEMENT
- * unless each word that is read is below 2. */
-uint32_t bf_gf2_dot_product(
-    const uint8_t *left, size_t left_length, const uint8_t *right, size_t right_length, uint8_t *sum);
-
-/* values: the value at each point of the polynomial with these coefficients, the constant one first; any number of
- * coefficients. BF_LENGTH unless points and values have one length. BF_NOT_AN_ELEMENT unless each word that is read is below
- * 2. */
-uint32_t bf_gf2_evaluate(
-    const uint8_t *coefficients, size_t coefficients_length, const uint8_t *points, size_t points_length,
-    uint8_t *values, size_t values_length);
-
-/* generator: the generator of the field's multiplicative group that the library names. */
-uint32_t bf_gf2_generator(
-    uint8_t *generator);
+uint32_t bf_gf2_add(const uint8_t *left, size_t left_length, const uint8_t *right, size_t right_length, uint8_t *sums, size_t sums_length) BF_CHECKED;
+uint32_t bf_gf2_multiply(const uint8_t *left, size_t left_length, const uint8_t *right, size_t right_length, uint8_t *products, size_t products_length) BF_CHECKED;
+uint32_t bf_gf2_multiply_by(const uint8_t *values, size_t values_length, uint8_t scalar, uint8_t *products, size_t products_length) BF_CHECKED;
+uint32_t bf_gf2_add_scaled(uint8_t *sums, size_t sums_length, uint8_t scalar, const uint8_t *values, size_t values_length) BF_CHECKED;
+uint32_t bf_gf2_square(const uint8_t *values, size_t values_length, uint8_t *squares, size_t squares_length) BF_CHECKED;
+uint32_t bf_gf2_inverse(const uint8_t *values, size_t values_length, uint8_t *inverses, size_t inverses_length) BF_CHECKED;
+uint32_t bf_gf2_batch_inverse(const uint8_t *values, size_t values_length, uint8_t *inverses, size_t inverses_length) BF_CHECKED;
+uint32_t bf_gf2_square_root(const uint8_t *values, size_t values_length, uint8_t *roots, size_t roots_length) BF_CHECKED;
+uint32_t bf_gf2_power(const uint8_t *values, size_t values_length, uint64_t exponent, uint8_t *powers, size_t powers_length) BF_CHECKED;
+uint32_t bf_gf2_product(const uint8_t *values, size_t values_length, uint8_t *product) BF_CHECKED BF_NONNULL(3);
+uint32_t bf_gf2_dot_product(const uint8_t *left, size_t left_length, const uint8_t *right, size_t right_length, uint8_t *sum) BF_CHECKED BF_NONNULL(5);
+uint32_t bf_gf2_evaluate(const uint8_t *coefficients, size_t coefficients_length, const uint8_t *points, size_t points_length, uint8_t *values, size_t values_length) BF_CHECKED;
+uint32_t bf_gf2_add_in_place(uint8_t *sums, size_t sums_length, const uint8_t *values, size_t values_length) BF_CHECKED;
+uint32_t bf_gf2_multiply_in_place(uint8_t *products, size_t products_length, const uint8_t *values, size_t values_length) BF_CHECKED;
+uint32_t bf_gf2_multiply_by_in_place(uint8_t *values, size_t values_length, uint8_t scalar) BF_CHECKED;
+uint32_t bf_gf2_square_in_place(uint8_t *values, size_t values_length) BF_CHECKED;
+uint32_t bf_gf2_inverse_in_place(uint8_t *values, size_t values_length) BF_CHECKED;
+uint32_t bf_gf2_square_root_in_place(uint8_t *values, size_t values_length) BF_CHECKED;
+uint32_t bf_gf2_power_in_place(uint8_t *values, size_t values_length, uint64_t exponent) BF_CHECKED;
+uint32_t bf_gf2_generator(uint8_t *generator) BF_CHECKED BF_NONNULL(1);
 
 /* --------------------------------------------------------------------------------------------------------------------- */
 /* t2: GF(2^2), a level of the tower. An element is a uint8_t, below 4. */
 
-/* sums: the sum of the elements at each place. BF_LENGTH unless left, right and sums have one length. BF_NOT_AN_ELEMENT
- * unless each word that is read is below 4. */
-uint32_t bf_t2_add(
-    const uint8_t *left, size_t left_length, const uint8_t *right, size_t right_length, uint8_t *sums,
-    size_t sums_length);
-
-/* products: the product of the elements at each place. BF_LENGTH unless left, right and products have one length.
- * BF_NOT_AN_ELEMENT unless each word that is read is below 4. */
-uint32_t bf_t2_multiply(
-    const uint8_t *left, size_t left_length, const uint8_t *right, size_t right_length, uint8_t *products,
-    size_t products_length);
-
-/* products: the product of each element and the scalar. BF_LENGTH unless values and products have one length.
- * BF_NOT_AN_ELEMENT unless each word that is read is below 4. */
-uint32_t bf_t2_multiply_by(
-    const uint8_t *values, size_t values_length, uint8_t scalar, uint8_t *products, size_t products_length);
-
-/* Adds to each element of sums the scalar times the value at its place. BF_LENGTH unless sums and values have one length.
- * BF_NOT_AN_ELEMENT unless each word that is read is below 4. */
-uint32_t bf_t2_add_scaled(
-    uint8_t *sums, size_t sums_length, uint8_t scalar, const uint8_t *values, size_t values_length);
-
-/* squares: the square of each element. BF_LENGTH unless values and squares have one length. BF_NOT_AN_ELEMENT unless each
- * word that is read is below 4. */
-uint32_t bf_t2_square(
-    const uint8_t *values, size_t values_length, uint8_t *squares, size_t squares_length);
-
-/* inverses: the inverse of each element, and 0 for 0. BF_LENGTH unless values and inverses have one length.
- * BF_NOT_AN_ELEMENT unless each word that is read is below 4. */
-uint32_t bf_t2_inverse(
-    const uint8_t *values, size_t values_length, uint8_t *inverses, size_t inverses_length);
-
-/* inverses: the same as inverse, by one inverse and three products an element. BF_LENGTH unless values and inverses have one
- * length. BF_NOT_AN_ELEMENT unless each word that is read is below 4. */
-uint32_t bf_t2_batch_inverse(
-    const uint8_t *values, size_t values_length, uint8_t *inverses, size_t inverses_length);
-
-/* roots: the square root of each element. BF_LENGTH unless values and roots have one length. BF_NOT_AN_ELEMENT unless each
- * word that is read is below 4. */
-uint32_t bf_t2_square_root(
-    const uint8_t *values, size_t values_length, uint8_t *roots, size_t roots_length);
-
-/* powers: each element to the power of the exponent; to the power 0 it is 1. BF_LENGTH unless values and powers have one
- * length. BF_NOT_AN_ELEMENT unless each word that is read is below 4. */
-uint32_t bf_t2_power(
-    const uint8_t *values, size_t values_length, uint64_t exponent, uint8_t *powers, size_t powers_length);
-
-/* product: the product of all elements, 1 of none. BF_NOT_AN_ELEMENT unless each word that is read is below 4. */
-uint32_t bf_t2_product(
-    const uint8_t *values, size_t values_length, uint8_t *product);
-
-/* sum: the sum of the products at each place, 0 of none. BF_LENGTH unless left and right have one length. BF_NOT_AN_ELEMENT
- * unless each word that is read is below 4. */
-uint32_t bf_t2_dot_product(
-    const uint8_t *left, size_t left_length, const uint8_t *right, size_t right_length, uint8_t *sum);
-
-/* values: the value at each point of the polynomial with these coefficients, the constant one first; any number of
- * coefficients. BF_LENGTH unless points and values have one length. BF_NOT_AN_ELEMENT unless each word that is read is below
- * 4. */
-uint32_t bf_t2_evaluate(
-    const uint8_t *coefficients, size_t coefficients_length, const uint8_t *points, size_t points_length,
-    uint8_t *values, size_t values_length);
-
-/* generator: the generator of the field's multiplicative group that the library names. */
-uint32_t bf_t2_generator(
-    uint8_t *generator);
+uint32_t bf_t2_add(const uint8_t *left, size_t left_length, const uint8_t *right, size_t right_length, uint8_t *sums, size_t sums_length) BF_CHECKED;
+uint32_t bf_t2_multiply(const uint8_t *left, size_t left_length, const uint8_t *right, size_t right_length, uint8_t *products, size_t products_length) BF_CHECKED;
+uint32_t bf_t2_multiply_by(const uint8_t *values, size_t values_length, uint8_t scalar, uint8_t *products, size_t products_length) BF_CHECKED;
+uint32_t bf_t2_add_scaled(uint8_t *sums, size_t sums_length, uint8_t scalar, const uint8_t *values, size_t values_length) BF_CHECKED;
+uint32_t bf_t2_square(const uint8_t *values, size_t values_length, uint8_t *squares, size_t squares_length) BF_CHECKED;
+uint32_t bf_t2_inverse(const uint8_t *values, size_t values_length, uint8_t *inverses, size_t inverses_length) BF_CHECKED;
+uint32_t bf_t2_batch_inverse(const uint8_t *values, size_t values_length, uint8_t *inverses, size_t inverses_length) BF_CHECKED;
+uint32_t bf_t2_square_root(const uint8_t *values, size_t values_length, uint8_t *roots, size_t roots_length) BF_CHECKED;
+uint32_t bf_t2_power(const uint8_t *values, size_t values_length, uint64_t exponent, uint8_t *powers, size_t powers_length) BF_CHECKED;
+uint32_t bf_t2_product(const uint8_t *values, size_t values_length, uint8_t *product) BF_CHECKED BF_NONNULL(3);
+uint32_t bf_t2_dot_product(const uint8_t *left, size_t left_length, const uint8_t *right, size_t right_length, uint8_t *sum) BF_CHECKED BF_NONNULL(5);
+uint32_t bf_t2_evaluate(const uint8_t *coefficients, size_t coefficients_length, const uint8_t *points, size_t points_length, uint8_t *values, size_t values_length) BF_CHECKED;
+uint32_t bf_t2_add_in_place(uint8_t *sums, size_t sums_length, const uint8_t *values, size_t values_length) BF_CHECKED;
+uint32_t bf_t2_multiply_in_place(uint8_t *products, size_t products_length, const uint8_t *values, size_t values_length) BF_CHECKED;
+uint32_t bf_t2_multiply_by_in_place(uint8_t *values, size_t values_length, uint8_t scalar) BF_CHECKED;
+uint32_t bf_t2_square_in_place(uint8_t *values, size_t values_length) BF_CHECKED;
+uint32_t bf_t2_inverse_in_place(uint8_t *values, size_t values_length) BF_CHECKED;
+uint32_t bf_t2_square_root_in_place(uint8_t *values, size_t values_length) BF_CHECKED;
+uint32_t bf_t2_power_in_place(uint8_t *values, size_t values_length, uint64_t exponent) BF_CHECKED;
+uint32_t bf_t2_generator(uint8_t *generator) BF_CHECKED BF_NONNULL(1);
 
 /* --------------------------------------------------------------------------------------------------------------------- */
 /* t4: GF(2^4), a level of the tower. An element is a uint8_t, below 16. */
 
-/* sums: the sum of the elements at each place. BF_LENGTH unless left, right and sums have one length. BF_NOT_AN_ELEMENT
- * unless each word that is read is below 16. */
-uint32_t bf_t4_add(
-    const uint8_t *left, size_t left_length, const uint8_t *right, size_t right_length, uint8_t *sums,
-    size_t sums_length);
-
-/* products: the product of the elements at each place. BF_LENGTH unless left, right and products have one length.
- * BF_NOT_AN_ELEMENT unless each word that is read is below 16. */
-uint32_t bf_t4_multiply(
-    const uint8_t *left, size_t left_length, const uint8_t *right, size_t right_length, uint8_t *products,
-    size_t products_length);
-
-/* products: the product of each element and the scalar. BF_LENGTH unless values and products have one length.
- * BF_NOT_AN_ELEMENT unless each word that is read is below 16. */
-uint32_t bf_t4_multiply_by(
-    const uint8_t *values, size_t values_length, uint8_t scalar, uint8_t *products, size_t products_length);
-
-/* Adds to each element of sums the scalar times the value at its place. BF_LENGTH unless sums and values have one length.
- * BF_NOT_AN_ELEMENT unless each word that is read is below 16. */
-uint32_t bf_t4_add_scaled(
-    uint8_t *sums, size_t sums_length, uint8_t scalar, const uint8_t *values, size_t values_length);
-
-/* squares: the square of each element. BF_LENGTH unless values and squares have one length. BF_NOT_AN_ELEMENT unless each
- * word that is read is below 16. */
-uint32_t bf_t4_square(
-    const uint8_t *values, size_t values_length, uint8_t *squares, size_t squares_length);
-
-/* inverses: the inverse of each element, and 0 for 0. BF_LENGTH unless values and inverses have one length.
- * BF_NOT_AN_ELEMENT unless each word that is read is below 16. */
-uint32_t bf_t4_inverse(
-    const uint8_t *values, size_t values_length, uint8_t *inverses, size_t inverses_length);
-
-/* inverses: the same as inverse, by one inverse and three products an element. BF_LENGTH unless values and inverses have one
- * length. BF_NOT_AN_ELEMENT unless each word that is read is below 16. */
-uint32_t bf_t4_batch_inverse(
-    const uint8_t *values, size_t values_length, uint8_t *inverses, size_t inverses_length);
-
-/* roots: the square root of each element. BF_LENGTH unless values and roots have one length. BF_NOT_AN_ELEMENT unless each
- * word that is read is below 16. */
-uint32_t bf_t4_square_root(
-    const uint8_t *values, size_t values_length, uint8_t *roots, size_t roots_length);
-
-/* powers: each element to the power of the exponent; to the power 0 it is 1. BF_LENGTH unless values and powers have one
- * length. BF_NOT_AN_ELEMENT unless each word that is read is below 16. */
-uint32_t bf_t4_power(
-    const uint8_t *values, size_t values_length, uint64_t exponent, uint8_t *powers, size_t powers_length);
-
-/* product: the product of all elements, 1 of none. BF_NOT_AN_ELEMENT unless each word that is read is below 16. */
-uint32_t bf_t4_product(
-    const uint8_t *values, size_t values_length, uint8_t *product);
-
-/* sum: the sum of the products at each place, 0 of none. BF_LENGTH unless left and right have one length. BF_NOT_AN_ELEMENT
- * unless each word that is read is below 16. */
-uint32_t bf_t4_dot_product(
-    const uint8_t *left, size_t left_length, const uint8_t *right, size_t right_length, uint8_t *sum);
-
-/* values: the value at each point of the polynomial with these coefficients, the constant one first; any number of
- * coefficients. BF_LENGTH unless points and values have one length. BF_NOT_AN_ELEMENT unless each word that is read is below
- * 16. */
-uint32_t bf_t4_evaluate(
-    const uint8_t *coefficients, size_t coefficients_length, const uint8_t *points, size_t points_length,
-    uint8_t *values, size_t values_length);
-
-/* generator: the generator of the field's multiplicative group that the library names. */
-uint32_t bf_t4_generator(
-    uint8_t *generator);
+uint32_t bf_t4_add(const uint8_t *left, size_t left_length, const uint8_t *right, size_t right_length, uint8_t *sums, size_t sums_length) BF_CHECKED;
+uint32_t bf_t4_multiply(const uint8_t *left, size_t left_length, const uint8_t *right, size_t right_length, uint8_t *products, size_t products_length) BF_CHECKED;
+uint32_t bf_t4_multiply_by(const uint8_t *values, size_t values_length, uint8_t scalar, uint8_t *products, size_t products_length) BF_CHECKED;
+uint32_t bf_t4_add_scaled(uint8_t *sums, size_t sums_length, uint8_t scalar, const uint8_t *values, size_t values_length) BF_CHECKED;
+uint32_t bf_t4_square(const uint8_t *values, size_t values_length, uint8_t *squares, size_t squares_length) BF_CHECKED;
+uint32_t bf_t4_inverse(const uint8_t *values, size_t values_length, uint8_t *inverses, size_t inverses_length) BF_CHECKED;
+uint32_t bf_t4_batch_inverse(const uint8_t *values, size_t values_length, uint8_t *inverses, size_t inverses_length) BF_CHECKED;
+uint32_t bf_t4_square_root(const uint8_t *values, size_t values_length, uint8_t *roots, size_t roots_length) BF_CHECKED;
+uint32_t bf_t4_power(const uint8_t *values, size_t values_length, uint64_t exponent, uint8_t *powers, size_t powers_length) BF_CHECKED;
+uint32_t bf_t4_product(const uint8_t *values, size_t values_length, uint8_t *product) BF_CHECKED BF_NONNULL(3);
+uint32_t bf_t4_dot_product(const uint8_t *left, size_t left_length, const uint8_t *right, size_t right_length, uint8_t *sum) BF_CHECKED BF_NONNULL(5);
+uint32_t bf_t4_evaluate(const uint8_t *coefficients, size_t coefficients_length, const uint8_t *points, size_t points_length, uint8_t *values, size_t values_length) BF_CHECKED;
+uint32_t bf_t4_add_in_place(uint8_t *sums, size_t sums_length, const uint8_t *values, size_t values_length) BF_CHECKED;
+uint32_t bf_t4_multiply_in_place(uint8_t *products, size_t products_length, const uint8_t *values, size_t values_length) BF_CHECKED;
+uint32_t bf_t4_multiply_by_in_place(uint8_t *values, size_t values_length, uint8_t scalar) BF_CHECKED;
+uint32_t bf_t4_square_in_place(uint8_t *values, size_t values_length) BF_CHECKED;
+uint32_t bf_t4_inverse_in_place(uint8_t *values, size_t values_length) BF_CHECKED;
+uint32_t bf_t4_square_root_in_place(uint8_t *values, size_t values_length) BF_CHECKED;
+uint32_t bf_t4_power_in_place(uint8_t *values, size_t values_length, uint64_t exponent) BF_CHECKED;
+uint32_t bf_t4_generator(uint8_t *generator) BF_CHECKED BF_NONNULL(1);
 
 /* --------------------------------------------------------------------------------------------------------------------- */
 /* t8: GF(2^8), a level of the tower. An element is a uint8_t. */
 
-/* sums: the sum of the elements at each place. BF_LENGTH unless left, right and sums have one length. */
-uint32_t bf_t8_add(
-    const uint8_t *left, size_t left_length, const uint8_t *right, size_t right_length, uint8_t *sums,
-    size_t sums_length);
-
-/* products: the product of the elements at each place. BF_LENGTH unless left, right and products have one length. */
-uint32_t bf_t8_multiply(
-    const uint8_t *left, size_t left_length, const uint8_t *right, size_t right_length, uint8_t *products,
-    size_t products_length);
-
-/* products: the product of each element and the scalar. BF_LENGTH unless values and products have one length. */
-uint32_t bf_t8_multiply_by(
-    const uint8_t *values, size_t values_length, uint8_t scalar, uint8_t *products, size_t products_length);
-
-/* Adds to each element of sums the scalar times the value at its place. BF_LENGTH unless sums and values have one length. */
-uint32_t bf_t8_add_scaled(
-    uint8_t *sums, size_t sums_length, uint8_t scalar, const uint8_t *values, size_t values_length);
-
-/* squares: the square of each element. BF_LENGTH unless values and squares have one length. */
-uint32_t bf_t8_square(
-    const uint8_t *values, size_t values_length, uint8_t *squares, size_t squares_length);
-
-/* inverses: the inverse of each element, and 0 for 0. BF_LENGTH unless values and inverses have one length. */
-uint32_t bf_t8_inverse(
-    const uint8_t *values, size_t values_length, uint8_t *inverses, size_t inverses_length);
-
-/* inverses: the same as inverse, by one inverse and three products an element. BF_LENGTH unless values and inverses have one
- * length. */
-uint32_t bf_t8_batch_inverse(
-    const uint8_t *values, size_t values_length, uint8_t *inverses, size_t inverses_length);
-
-/* roots: the square root of each element. BF_LENGTH unless values and roots have one length. */
-uint32_t bf_t8_square_root(
-    const uint8_t *values, size_t values_length, uint8_t *roots, size_t roots_length);
-
-/* powers: each element to the power of the exponent; to the power 0 it is 1. BF_LENGTH unless values and powers have one
- * length. */
-uint32_t bf_t8_power(
-    const uint8_t *values, size_t values_length, uint64_t exponent, uint8_t *powers, size_t powers_length);
-
-/* product: the product of all elements, 1 of none. */
-uint32_t bf_t8_product(
-    const uint8_t *values, size_t values_length, uint8_t *product);
-
-/* sum: the sum of the products at each place, 0 of none. BF_LENGTH unless left and right have one length. */
-uint32_t bf_t8_dot_product(
-    const uint8_t *left, size_t left_length, const uint8_t *right, size_t right_length, uint8_t *sum);
-
-/* values: the value at each point of the polynomial with these coefficients, the constant one first; any number of
- * coefficients. BF_LENGTH unless points and values have one length. */
-uint32_t bf_t8_evaluate(
-    const uint8_t *coefficients, size_t coefficients_length, const uint8_t *points, size_t points_length,
-    uint8_t *values, size_t values_length);
-
-/* generator: the generator of the field's multiplicative group that the library names. */
-uint32_t bf_t8_generator(
-    uint8_t *generator);
+uint32_t bf_t8_add(const uint8_t *left, size_t left_length, const uint8_t *right, size_t right_length, uint8_t *sums, size_t sums_length) BF_CHECKED;
+uint32_t bf_t8_multiply(const uint8_t *left, size_t left_length, const uint8_t *right, size_t right_length, uint8_t *products, size_t products_length) BF_CHECKED;
+uint32_t bf_t8_multiply_by(const uint8_t *values, size_t values_length, uint8_t scalar, uint8_t *products, size_t products_length) BF_CHECKED;
+uint32_t bf_t8_add_scaled(uint8_t *sums, size_t sums_length, uint8_t scalar, const uint8_t *values, size_t values_length) BF_CHECKED;
+uint32_t bf_t8_square(const uint8_t *values, size_t values_length, uint8_t *squares, size_t squares_length) BF_CHECKED;
+uint32_t bf_t8_inverse(const uint8_t *values, size_t values_length, uint8_t *inverses, size_t inverses_length) BF_CHECKED;
+uint32_t bf_t8_batch_inverse(const uint8_t *values, size_t values_length, uint8_t *inverses, size_t inverses_length) BF_CHECKED;
+uint32_t bf_t8_square_root(const uint8_t *values, size_t values_length, uint8_t *roots, size_t roots_length) BF_CHECKED;
+uint32_t bf_t8_power(const uint8_t *values, size_t values_length, uint64_t exponent, uint8_t *powers, size_t powers_length) BF_CHECKED;
+uint32_t bf_t8_product(const uint8_t *values, size_t values_length, uint8_t *product) BF_CHECKED BF_NONNULL(3);
+uint32_t bf_t8_dot_product(const uint8_t *left, size_t left_length, const uint8_t *right, size_t right_length, uint8_t *sum) BF_CHECKED BF_NONNULL(5);
+uint32_t bf_t8_evaluate(const uint8_t *coefficients, size_t coefficients_length, const uint8_t *points, size_t points_length, uint8_t *values, size_t values_length) BF_CHECKED;
+uint32_t bf_t8_add_in_place(uint8_t *sums, size_t sums_length, const uint8_t *values, size_t values_length) BF_CHECKED;
+uint32_t bf_t8_multiply_in_place(uint8_t *products, size_t products_length, const uint8_t *values, size_t values_length) BF_CHECKED;
+uint32_t bf_t8_multiply_by_in_place(uint8_t *values, size_t values_length, uint8_t scalar) BF_CHECKED;
+uint32_t bf_t8_square_in_place(uint8_t *values, size_t values_length) BF_CHECKED;
+uint32_t bf_t8_inverse_in_place(uint8_t *values, size_t values_length) BF_CHECKED;
+uint32_t bf_t8_square_root_in_place(uint8_t *values, size_t values_length) BF_CHECKED;
+uint32_t bf_t8_power_in_place(uint8_t *values, size_t values_length, uint64_t exponent) BF_CHECKED;
+uint32_t bf_t8_generator(uint8_t *generator) BF_CHECKED BF_NONNULL(1);
 
 /* --------------------------------------------------------------------------------------------------------------------- */
 /* t16: GF(2^16), a level of the tower. An element is a uint16_t. */
 
-/* sums: the sum of the elements at each place. BF_LENGTH unless left, right and sums have one length. */
-uint32_t bf_t16_add(
-    const uint16_t *left, size_t left_length, const uint16_t *right, size_t right_length, uint16_t *sums,
-    size_t sums_length);
-
-/* products: the product of the elements at each place. BF_LENGTH unless left, right and products have one length. */
-uint32_t bf_t16_multiply(
-    const uint16_t *left, size_t left_length, const uint16_t *right, size_t right_length, uint16_t *products,
-    size_t products_length);
-
-/* products: the product of each element and the scalar. BF_LENGTH unless values and products have one length. */
-uint32_t bf_t16_multiply_by(
-    const uint16_t *values, size_t values_length, uint16_t scalar, uint16_t *products, size_t products_length);
-
-/* Adds to each element of sums the scalar times the value at its place. BF_LENGTH unless sums and values have one length. */
-uint32_t bf_t16_add_scaled(
-    uint16_t *sums, size_t sums_length, uint16_t scalar, const uint16_t *values, size_t values_length);
-
-/* squares: the square of each element. BF_LENGTH unless values and squares have one length. */
-uint32_t bf_t16_square(
-    const uint16_t *values, size_t values_length, uint16_t *squares, size_t squares_length);
-
-/* inverses: the inverse of each element, and 0 for 0. BF_LENGTH unless values and inverses have one length. */
-uint32_t bf_t16_inverse(
-    const uint16_t *values, size_t values_length, uint16_t *inverses, size_t inverses_length);
-
-/* inverses: the same as inverse, by one inverse and three products an element. BF_LENGTH unless values and inverses have one
- * length. */
-uint32_t bf_t16_batch_inverse(
-    const uint16_t *values, size_t values_length, uint16_t *inverses, size_t inverses_length);
-
-/* roots: the square root of each element. BF_LENGTH unless values and roots have one length. */
-uint32_t bf_t16_square_root(
-    const uint16_t *values, size_t values_length, uint16_t *roots, size_t roots_length);
-
-/* powers: each element to the power of the exponent; to the power 0 it is 1. BF_LENGTH unless values and powers have one
- * length. */
-uint32_t bf_t16_power(
-    const uint16_t *values, size_t values_length, uint64_t exponent, uint16_t *powers, size_t powers_length);
-
-/* product: the product of all elements, 1 of none. */
-uint32_t bf_t16_product(
-    const uint16_t *values, size_t values_length, uint16_t *product);
-
-/* sum: the sum of the products at each place, 0 of none. BF_LENGTH unless left and right have one length. */
-uint32_t bf_t16_dot_product(
-    const uint16_t *left, size_t left_length, const uint16_t *right, size_t right_length, uint16_t *sum);
-
-/* values: the value at each point of the polynomial with these coefficients, the constant one first; any number of
- * coefficients. BF_LENGTH unless points and values have one length. */
-uint32_t bf_t16_evaluate(
-    const uint16_t *coefficients, size_t coefficients_length, const uint16_t *points, size_t points_length,
-    uint16_t *values, size_t values_length);
-
-/* generator: the generator of the field's multiplicative group that the library names. */
-uint32_t bf_t16_generator(
-    uint16_t *generator);
+uint32_t bf_t16_add(const uint16_t *left, size_t left_length, const uint16_t *right, size_t right_length, uint16_t *sums, size_t sums_length) BF_CHECKED;
+uint32_t bf_t16_multiply(const uint16_t *left, size_t left_length, const uint16_t *right, size_t right_length, uint16_t *products, size_t products_length) BF_CHECKED;
+uint32_t bf_t16_multiply_by(const uint16_t *values, size_t values_length, uint16_t scalar, uint16_t *products, size_t products_length) BF_CHECKED;
+uint32_t bf_t16_add_scaled(uint16_t *sums, size_t sums_length, uint16_t scalar, const uint16_t *values, size_t values_length) BF_CHECKED;
+uint32_t bf_t16_square(const uint16_t *values, size_t values_length, uint16_t *squares, size_t squares_length) BF_CHECKED;
+uint32_t bf_t16_inverse(const uint16_t *values, size_t values_length, uint16_t *inverses, size_t inverses_length) BF_CHECKED;
+uint32_t bf_t16_batch_inverse(const uint16_t *values, size_t values_length, uint16_t *inverses, size_t inverses_length) BF_CHECKED;
+uint32_t bf_t16_square_root(const uint16_t *values, size_t values_length, uint16_t *roots, size_t roots_length) BF_CHECKED;
+uint32_t bf_t16_power(const uint16_t *values, size_t values_length, uint64_t exponent, uint16_t *powers, size_t powers_length) BF_CHECKED;
+uint32_t bf_t16_product(const uint16_t *values, size_t values_length, uint16_t *product) BF_CHECKED BF_NONNULL(3);
+uint32_t bf_t16_dot_product(const uint16_t *left, size_t left_length, const uint16_t *right, size_t right_length, uint16_t *sum) BF_CHECKED BF_NONNULL(5);
+uint32_t bf_t16_evaluate(const uint16_t *coefficients, size_t coefficients_length, const uint16_t *points, size_t points_length, uint16_t *values, size_t values_length) BF_CHECKED;
+uint32_t bf_t16_add_in_place(uint16_t *sums, size_t sums_length, const uint16_t *values, size_t values_length) BF_CHECKED;
+uint32_t bf_t16_multiply_in_place(uint16_t *products, size_t products_length, const uint16_t *values, size_t values_length) BF_CHECKED;
+uint32_t bf_t16_multiply_by_in_place(uint16_t *values, size_t values_length, uint16_t scalar) BF_CHECKED;
+uint32_t bf_t16_square_in_place(uint16_t *values, size_t values_length) BF_CHECKED;
+uint32_t bf_t16_inverse_in_place(uint16_t *values, size_t values_length) BF_CHECKED;
+uint32_t bf_t16_square_root_in_place(uint16_t *values, size_t values_length) BF_CHECKED;
+uint32_t bf_t16_power_in_place(uint16_t *values, size_t values_length, uint64_t exponent) BF_CHECKED;
+uint32_t bf_t16_generator(uint16_t *generator) BF_CHECKED BF_NONNULL(1);
 
 /* --------------------------------------------------------------------------------------------------------------------- */
 /* t32: GF(2^32), a level of the tower. An element is a uint32_t. */
 
-/* sums: the sum of the elements at each place. BF_LENGTH unless left, right and sums have one length. */
-uint32_t bf_t32_add(
-    const uint32_t *left, size_t left_length, const uint32_t *right, size_t right_length, uint32_t *sums,
-    size_t sums_length);
-
-/* products: the product of the elements at each place. BF_LENGTH unless left, right and products have one length. */
-uint32_t bf_t32_multiply(
-    const uint32_t *left, size_t left_length, const uint32_t *right, size_t right_length, uint32_t *products,
-    size_t products_length);
-
-/* products: the product of each element and the scalar. BF_LENGTH unless values and products have one length. */
-uint32_t bf_t32_multiply_by(
-    const uint32_t *values, size_t values_length, uint32_t scalar, uint32_t *products, size_t products_length);
-
-/* Adds to each element of sums the scalar times the value at its place. BF_LENGTH unless sums and values have one length. */
-uint32_t bf_t32_add_scaled(
-    uint32_t *sums, size_t sums_length, uint32_t scalar, const uint32_t *values, size_t values_length);
-
-/* squares: the square of each element. BF_LENGTH unless values and squares have one length. */
-uint32_t bf_t32_square(
-    const uint32_t *values, size_t values_length, uint32_t *squares, size_t squares_length);
-
-/* inverses: the inverse of each element, and 0 for 0. BF_LENGTH unless values and inverses have one length. */
-uint32_t bf_t32_inverse(
-    const uint32_t *values, size_t values_length, uint32_t *inverses, size_t inverses_length);
-
-/* inverses: the same as inverse, by one inverse and three products an element. BF_LENGTH unless values and inverses have one
- * length. */
-uint32_t bf_t32_batch_inverse(
-    const uint32_t *values, size_t values_length, uint32_t *inverses, size_t inverses_length);
-
-/* roots: the square root of each element. BF_LENGTH unless values and roots have one length. */
-uint32_t bf_t32_square_root(
-    const uint32_t *values, size_t values_length, uint32_t *roots, size_t roots_length);
-
-/* powers: each element to the power of the exponent; to the power 0 it is 1. BF_LENGTH unless values and powers have one
- * length. */
-uint32_t bf_t32_power(
-    const uint32_t *values, size_t values_length, uint64_t exponent, uint32_t *powers, size_t powers_length);
-
-/* product: the product of all elements, 1 of none. */
-uint32_t bf_t32_product(
-    const uint32_t *values, size_t values_length, uint32_t *product);
-
-/* sum: the sum of the products at each place, 0 of none. BF_LENGTH unless left and right have one length. */
-uint32_t bf_t32_dot_product(
-    const uint32_t *left, size_t left_length, const uint32_t *right, size_t right_length, uint32_t *sum);
-
-/* values: the value at each point of the polynomial with these coefficients, the constant one first; any number of
- * coefficients. BF_LENGTH unless points and values have one length. */
-uint32_t bf_t32_evaluate(
-    const uint32_t *coefficients, size_t coefficients_length, const uint32_t *points, size_t points_length,
-    uint32_t *values, size_t values_length);
-
-/* generator: the generator of the field's multiplicative group that the library names. */
-uint32_t bf_t32_generator(
-    uint32_t *generator);
+uint32_t bf_t32_add(const uint32_t *left, size_t left_length, const uint32_t *right, size_t right_length, uint32_t *sums, size_t sums_length) BF_CHECKED;
+uint32_t bf_t32_multiply(const uint32_t *left, size_t left_length, const uint32_t *right, size_t right_length, uint32_t *products, size_t products_length) BF_CHECKED;
+uint32_t bf_t32_multiply_by(const uint32_t *values, size_t values_length, uint32_t scalar, uint32_t *products, size_t products_length) BF_CHECKED;
+uint32_t bf_t32_add_scaled(uint32_t *sums, size_t sums_length, uint32_t scalar, const uint32_t *values, size_t values_length) BF_CHECKED;
+uint32_t bf_t32_square(const uint32_t *values, size_t values_length, uint32_t *squares, size_t squares_length) BF_CHECKED;
+uint32_t bf_t32_inverse(const uint32_t *values, size_t values_length, uint32_t *inverses, size_t inverses_length) BF_CHECKED;
+uint32_t bf_t32_batch_inverse(const uint32_t *values, size_t values_length, uint32_t *inverses, size_t inverses_length) BF_CHECKED;
+uint32_t bf_t32_square_root(const uint32_t *values, size_t values_length, uint32_t *roots, size_t roots_length) BF_CHECKED;
+uint32_t bf_t32_power(const uint32_t *values, size_t values_length, uint64_t exponent, uint32_t *powers, size_t powers_length) BF_CHECKED;
+uint32_t bf_t32_product(const uint32_t *values, size_t values_length, uint32_t *product) BF_CHECKED BF_NONNULL(3);
+uint32_t bf_t32_dot_product(const uint32_t *left, size_t left_length, const uint32_t *right, size_t right_length, uint32_t *sum) BF_CHECKED BF_NONNULL(5);
+uint32_t bf_t32_evaluate(const uint32_t *coefficients, size_t coefficients_length, const uint32_t *points, size_t points_length, uint32_t *values, size_t values_length) BF_CHECKED;
+uint32_t bf_t32_add_in_place(uint32_t *sums, size_t sums_length, const uint32_t *values, size_t values_length) BF_CHECKED;
+uint32_t bf_t32_multiply_in_place(uint32_t *products, size_t products_length, const uint32_t *values, size_t values_length) BF_CHECKED;
+uint32_t bf_t32_multiply_by_in_place(uint32_t *values, size_t values_length, uint32_t scalar) BF_CHECKED;
+uint32_t bf_t32_square_in_place(uint32_t *values, size_t values_length) BF_CHECKED;
+uint32_t bf_t32_inverse_in_place(uint32_t *values, size_t values_length) BF_CHECKED;
+uint32_t bf_t32_square_root_in_place(uint32_t *values, size_t values_length) BF_CHECKED;
+uint32_t bf_t32_power_in_place(uint32_t *values, size_t values_length, uint64_t exponent) BF_CHECKED;
+uint32_t bf_t32_generator(uint32_t *generator) BF_CHECKED BF_NONNULL(1);
 
 /* --------------------------------------------------------------------------------------------------------------------- */
 /* t64: GF(2^64), a level of the tower. An element is a uint64_t. */
 
-/* sums: the sum of the elements at each place. BF_LENGTH unless left, right and sums have one length. */
-uint32_t bf_t64_add(
-    const uint64_t *left, size_t left_length, const uint64_t *right, size_t right_length, uint64_t *sums,
-    size_t sums_length);
-
-/* products: the product of the elements at each place. BF_LENGTH unless left, right and products have one length. */
-uint32_t bf_t64_multiply(
-    const uint64_t *left, size_t left_length, const uint64_t *right, size_t right_length, uint64_t *products,
-    size_t products_length);
-
-/* products: the product of each element and the scalar. BF_LENGTH unless values and products have one length. */
-uint32_t bf_t64_multiply_by(
-    const uint64_t *values, size_t values_length, uint64_t scalar, uint64_t *products, size_t products_length);
-
-/* Adds to each element of sums the scalar times the value at its place. BF_LENGTH unless sums and values have one length. */
-uint32_t bf_t64_add_scaled(
-    uint64_t *sums, size_t sums_length, uint64_t scalar, const uint64_t *values, size_t values_length);
-
-/* squares: the square of each element. BF_LENGTH unless values and squares have one length. */
-uint32_t bf_t64_square(
-    const uint64_t *values, size_t values_length, uint64_t *squares, size_t squares_length);
-
-/* inverses: the inverse of each element, and 0 for 0. BF_LENGTH unless values and inverses have one length. */
-uint32_t bf_t64_inverse(
-    const uint64_t *values, size_t values_length, uint64_t *inverses, size_t inverses_length);
-
-/* inverses: the same as inverse, by one inverse and three products an element. BF_LENGTH unless values and inverses have one
- * length. */
-uint32_t bf_t64_batch_inverse(
-    const uint64_t *values, size_t values_length, uint64_t *inverses, size_t inverses_length);
-
-/* roots: the square root of each element. BF_LENGTH unless values and roots have one length. */
-uint32_t bf_t64_square_root(
-    const uint64_t *values, size_t values_length, uint64_t *roots, size_t roots_length);
-
-/* powers: each element to the power of the exponent; to the power 0 it is 1. BF_LENGTH unless values and powers have one
- * length. */
-uint32_t bf_t64_power(
-    const uint64_t *values, size_t values_length, uint64_t exponent, uint64_t *powers, size_t powers_length);
-
-/* product: the product of all elements, 1 of none. */
-uint32_t bf_t64_product(
-    const uint64_t *values, size_t values_length, uint64_t *product);
-
-/* sum: the sum of the products at each place, 0 of none. BF_LENGTH unless left and right have one length. */
-uint32_t bf_t64_dot_product(
-    const uint64_t *left, size_t left_length, const uint64_t *right, size_t right_length, uint64_t *sum);
-
-/* values: the value at each point of the polynomial with these coefficients, the constant one first; any number of
- * coefficients. BF_LENGTH unless points and values have one length. */
-uint32_t bf_t64_evaluate(
-    const uint64_t *coefficients, size_t coefficients_length, const uint64_t *points, size_t points_length,
-    uint64_t *values, size_t values_length);
-
-/* generator: the generator of the field's multiplicative group that the library names. */
-uint32_t bf_t64_generator(
-    uint64_t *generator);
+uint32_t bf_t64_add(const uint64_t *left, size_t left_length, const uint64_t *right, size_t right_length, uint64_t *sums, size_t sums_length) BF_CHECKED;
+uint32_t bf_t64_multiply(const uint64_t *left, size_t left_length, const uint64_t *right, size_t right_length, uint64_t *products, size_t products_length) BF_CHECKED;
+uint32_t bf_t64_multiply_by(const uint64_t *values, size_t values_length, uint64_t scalar, uint64_t *products, size_t products_length) BF_CHECKED;
+uint32_t bf_t64_add_scaled(uint64_t *sums, size_t sums_length, uint64_t scalar, const uint64_t *values, size_t values_length) BF_CHECKED;
+uint32_t bf_t64_square(const uint64_t *values, size_t values_length, uint64_t *squares, size_t squares_length) BF_CHECKED;
+uint32_t bf_t64_inverse(const uint64_t *values, size_t values_length, uint64_t *inverses, size_t inverses_length) BF_CHECKED;
+uint32_t bf_t64_batch_inverse(const uint64_t *values, size_t values_length, uint64_t *inverses, size_t inverses_length) BF_CHECKED;
+uint32_t bf_t64_square_root(const uint64_t *values, size_t values_length, uint64_t *roots, size_t roots_length) BF_CHECKED;
+uint32_t bf_t64_power(const uint64_t *values, size_t values_length, uint64_t exponent, uint64_t *powers, size_t powers_length) BF_CHECKED;
+uint32_t bf_t64_product(const uint64_t *values, size_t values_length, uint64_t *product) BF_CHECKED BF_NONNULL(3);
+uint32_t bf_t64_dot_product(const uint64_t *left, size_t left_length, const uint64_t *right, size_t right_length, uint64_t *sum) BF_CHECKED BF_NONNULL(5);
+uint32_t bf_t64_evaluate(const uint64_t *coefficients, size_t coefficients_length, const uint64_t *points, size_t points_length, uint64_t *values, size_t values_length) BF_CHECKED;
+uint32_t bf_t64_add_in_place(uint64_t *sums, size_t sums_length, const uint64_t *values, size_t values_length) BF_CHECKED;
+uint32_t bf_t64_multiply_in_place(uint64_t *products, size_t products_length, const uint64_t *values, size_t values_length) BF_CHECKED;
+uint32_t bf_t64_multiply_by_in_place(uint64_t *values, size_t values_length, uint64_t scalar) BF_CHECKED;
+uint32_t bf_t64_square_in_place(uint64_t *values, size_t values_length) BF_CHECKED;
+uint32_t bf_t64_inverse_in_place(uint64_t *values, size_t values_length) BF_CHECKED;
+uint32_t bf_t64_square_root_in_place(uint64_t *values, size_t values_length) BF_CHECKED;
+uint32_t bf_t64_power_in_place(uint64_t *values, size_t values_length, uint64_t exponent) BF_CHECKED;
+uint32_t bf_t64_generator(uint64_t *generator) BF_CHECKED BF_NONNULL(1);
 
 /* --------------------------------------------------------------------------------------------------------------------- */
 /* t128: GF(2^128), a level of the tower. An element is a bf_u128. */
 
-/* sums: the sum of the elements at each place. BF_LENGTH unless left, right and sums have one length. */
-uint32_t bf_t128_add(
-    const bf_u128 *left, size_t left_length, const bf_u128 *right, size_t right_length, bf_u128 *sums,
-    size_t sums_length);
-
-/* products: the product of the elements at each place. BF_LENGTH unless left, right and products have one length. */
-uint32_t bf_t128_multiply(
-    const bf_u128 *left, size_t left_length, const bf_u128 *right, size_t right_length, bf_u128 *products,
-    size_t products_length);
-
-/* products: the product of each element and the scalar. BF_LENGTH unless values and products have one length. */
-uint32_t bf_t128_multiply_by(
-    const bf_u128 *values, size_t values_length, const bf_u128 *scalar, bf_u128 *products,
-    size_t products_length);
-
-/* Adds to each element of sums the scalar times the value at its place. BF_LENGTH unless sums and values have one length. */
-uint32_t bf_t128_add_scaled(
-    bf_u128 *sums, size_t sums_length, const bf_u128 *scalar, const bf_u128 *values, size_t values_length);
-
-/* squares: the square of each element. BF_LENGTH unless values and squares have one length. */
-uint32_t bf_t128_square(
-    const bf_u128 *values, size_t values_length, bf_u128 *squares, size_t squares_length);
-
-/* inverses: the inverse of each element, and 0 for 0. BF_LENGTH unless values and inverses have one length. */
-uint32_t bf_t128_inverse(
-    const bf_u128 *values, size_t values_length, bf_u128 *inverses, size_t inverses_length);
-
-/* inverses: the same as inverse, by one inverse and three products an element. BF_LENGTH unless values and inverses have one
- * length. */
-uint32_t bf_t128_batch_inverse(
-    const bf_u128 *values, size_t values_length, bf_u128 *inverses, size_t inverses_length);
-
-/* roots: the square root of each element. BF_LENGTH unless values and roots have one length. */
-uint32_t bf_t128_square_root(
-    const bf_u128 *values, size_t values_length, bf_u128 *roots, size_t roots_length);
-
-/* powers: each element to the power of the exponent; to the power 0 it is 1. BF_LENGTH unless values and powers have one
- * length. */
-uint32_t bf_t128_power(
-    const bf_u128 *values, size_t values_length, uint64_t exponent, bf_u128 *powers, size_t powers_length);
-
-/* product: the product of all elements, 1 of none. */
-uint32_t bf_t128_product(
-    const bf_u128 *values, size_t values_length, bf_u128 *product);
-
-/* sum: the sum of the products at each place, 0 of none. BF_LENGTH unless left and right have one length. */
-uint32_t bf_t128_dot_product(
-    const bf_u128 *left, size_t left_length, const bf_u128 *right, size_t right_length, bf_u128 *sum);
-
-/* values: the value at each point of the polynomial with these coefficients, the constant one first; any number of
- * coefficients. BF_LENGTH unless points and values have one length. */
-uint32_t bf_t128_evaluate(
-    const bf_u128 *coefficients, size_t coefficients_length, const bf_u128 *points, size_t points_length,
-    bf_u128 *values, size_t values_length);
-
-/* generator: the generator of the field's multiplicative group that the library names. */
-uint32_t bf_t128_generator(
-    bf_u128 *generator);
+uint32_t bf_t128_add(const bf_u128 *left, size_t left_length, const bf_u128 *right, size_t right_length, bf_u128 *sums, size_t sums_length) BF_CHECKED;
+uint32_t bf_t128_multiply(const bf_u128 *left, size_t left_length, const bf_u128 *right, size_t right_length, bf_u128 *products, size_t products_length) BF_CHECKED;
+uint32_t bf_t128_multiply_by(const bf_u128 *values, size_t values_length, const bf_u128 *scalar, bf_u128 *products, size_t products_length) BF_CHECKED BF_NONNULL(3);
+uint32_t bf_t128_add_scaled(bf_u128 *sums, size_t sums_length, const bf_u128 *scalar, const bf_u128 *values, size_t values_length) BF_CHECKED BF_NONNULL(3);
+uint32_t bf_t128_square(const bf_u128 *values, size_t values_length, bf_u128 *squares, size_t squares_length) BF_CHECKED;
+uint32_t bf_t128_inverse(const bf_u128 *values, size_t values_length, bf_u128 *inverses, size_t inverses_length) BF_CHECKED;
+uint32_t bf_t128_batch_inverse(const bf_u128 *values, size_t values_length, bf_u128 *inverses, size_t inverses_length) BF_CHECKED;
+uint32_t bf_t128_square_root(const bf_u128 *values, size_t values_length, bf_u128 *roots, size_t roots_length) BF_CHECKED;
+uint32_t bf_t128_power(const bf_u128 *values, size_t values_length, uint64_t exponent, bf_u128 *powers, size_t powers_length) BF_CHECKED;
+uint32_t bf_t128_product(const bf_u128 *values, size_t values_length, bf_u128 *product) BF_CHECKED BF_NONNULL(3);
+uint32_t bf_t128_dot_product(const bf_u128 *left, size_t left_length, const bf_u128 *right, size_t right_length, bf_u128 *sum) BF_CHECKED BF_NONNULL(5);
+uint32_t bf_t128_evaluate(const bf_u128 *coefficients, size_t coefficients_length, const bf_u128 *points, size_t points_length, bf_u128 *values, size_t values_length) BF_CHECKED;
+uint32_t bf_t128_add_in_place(bf_u128 *sums, size_t sums_length, const bf_u128 *values, size_t values_length) BF_CHECKED;
+uint32_t bf_t128_multiply_in_place(bf_u128 *products, size_t products_length, const bf_u128 *values, size_t values_length) BF_CHECKED;
+uint32_t bf_t128_multiply_by_in_place(bf_u128 *values, size_t values_length, const bf_u128 *scalar) BF_CHECKED BF_NONNULL(3);
+uint32_t bf_t128_square_in_place(bf_u128 *values, size_t values_length) BF_CHECKED;
+uint32_t bf_t128_inverse_in_place(bf_u128 *values, size_t values_length) BF_CHECKED;
+uint32_t bf_t128_square_root_in_place(bf_u128 *values, size_t values_length) BF_CHECKED;
+uint32_t bf_t128_power_in_place(bf_u128 *values, size_t values_length, uint64_t exponent) BF_CHECKED;
+uint32_t bf_t128_generator(bf_u128 *generator) BF_CHECKED BF_NONNULL(1);
 
 /* --------------------------------------------------------------------------------------------------------------------- */
 /* r8: GF(2)[x] modulo x^8 + x^4 + x^3 + x + 1, the bytes of AES (FIPS 197). An element is a uint8_t. */
 
-/* sums: the sum of the elements at each place. BF_LENGTH unless left, right and sums have one length. */
-uint32_t bf_r8_add(
-    const uint8_t *left, size_t left_length, const uint8_t *right, size_t right_length, uint8_t *sums,
-    size_t sums_length);
-
-/* products: the product of the elements at each place. BF_LENGTH unless left, right and products have one length. */
-uint32_t bf_r8_multiply(
-    const uint8_t *left, size_t left_length, const uint8_t *right, size_t right_length, uint8_t *products,
-    size_t products_length);
-
-/* products: the product of each element and the scalar. BF_LENGTH unless values and products have one length. */
-uint32_t bf_r8_multiply_by(
-    const uint8_t *values, size_t values_length, uint8_t scalar, uint8_t *products, size_t products_length);
-
-/* Adds to each element of sums the scalar times the value at its place. BF_LENGTH unless sums and values have one length. */
-uint32_t bf_r8_add_scaled(
-    uint8_t *sums, size_t sums_length, uint8_t scalar, const uint8_t *values, size_t values_length);
-
-/* squares: the square of each element. BF_LENGTH unless values and squares have one length. */
-uint32_t bf_r8_square(
-    const uint8_t *values, size_t values_length, uint8_t *squares, size_t squares_length);
-
-/* inverses: the inverse of each element, and 0 for 0. BF_LENGTH unless values and inverses have one length. */
-uint32_t bf_r8_inverse(
-    const uint8_t *values, size_t values_length, uint8_t *inverses, size_t inverses_length);
-
-/* inverses: the same as inverse, by one inverse and three products an element. BF_LENGTH unless values and inverses have one
- * length. */
-uint32_t bf_r8_batch_inverse(
-    const uint8_t *values, size_t values_length, uint8_t *inverses, size_t inverses_length);
-
-/* roots: the square root of each element. BF_LENGTH unless values and roots have one length. */
-uint32_t bf_r8_square_root(
-    const uint8_t *values, size_t values_length, uint8_t *roots, size_t roots_length);
-
-/* powers: each element to the power of the exponent; to the power 0 it is 1. BF_LENGTH unless values and powers have one
- * length. */
-uint32_t bf_r8_power(
-    const uint8_t *values, size_t values_length, uint64_t exponent, uint8_t *powers, size_t powers_length);
-
-/* product: the product of all elements, 1 of none. */
-uint32_t bf_r8_product(
-    const uint8_t *values, size_t values_length, uint8_t *product);
-
-/* sum: the sum of the products at each place, 0 of none. BF_LENGTH unless left and right have one length. */
-uint32_t bf_r8_dot_product(
-    const uint8_t *left, size_t left_length, const uint8_t *right, size_t right_length, uint8_t *sum);
-
-/* values: the value at each point of the polynomial with these coefficients, the constant one first; any number of
- * coefficients. BF_LENGTH unless points and values have one length. */
-uint32_t bf_r8_evaluate(
-    const uint8_t *coefficients, size_t coefficients_length, const uint8_t *points, size_t points_length,
-    uint8_t *values, size_t values_length);
-
-/* generator: the generator of the field's multiplicative group that the library names. */
-uint32_t bf_r8_generator(
-    uint8_t *generator);
+uint32_t bf_r8_add(const uint8_t *left, size_t left_length, const uint8_t *right, size_t right_length, uint8_t *sums, size_t sums_length) BF_CHECKED;
+uint32_t bf_r8_multiply(const uint8_t *left, size_t left_length, const uint8_t *right, size_t right_length, uint8_t *products, size_t products_length) BF_CHECKED;
+uint32_t bf_r8_multiply_by(const uint8_t *values, size_t values_length, uint8_t scalar, uint8_t *products, size_t products_length) BF_CHECKED;
+uint32_t bf_r8_add_scaled(uint8_t *sums, size_t sums_length, uint8_t scalar, const uint8_t *values, size_t values_length) BF_CHECKED;
+uint32_t bf_r8_square(const uint8_t *values, size_t values_length, uint8_t *squares, size_t squares_length) BF_CHECKED;
+uint32_t bf_r8_inverse(const uint8_t *values, size_t values_length, uint8_t *inverses, size_t inverses_length) BF_CHECKED;
+uint32_t bf_r8_batch_inverse(const uint8_t *values, size_t values_length, uint8_t *inverses, size_t inverses_length) BF_CHECKED;
+uint32_t bf_r8_square_root(const uint8_t *values, size_t values_length, uint8_t *roots, size_t roots_length) BF_CHECKED;
+uint32_t bf_r8_power(const uint8_t *values, size_t values_length, uint64_t exponent, uint8_t *powers, size_t powers_length) BF_CHECKED;
+uint32_t bf_r8_product(const uint8_t *values, size_t values_length, uint8_t *product) BF_CHECKED BF_NONNULL(3);
+uint32_t bf_r8_dot_product(const uint8_t *left, size_t left_length, const uint8_t *right, size_t right_length, uint8_t *sum) BF_CHECKED BF_NONNULL(5);
+uint32_t bf_r8_evaluate(const uint8_t *coefficients, size_t coefficients_length, const uint8_t *points, size_t points_length, uint8_t *values, size_t values_length) BF_CHECKED;
+uint32_t bf_r8_add_in_place(uint8_t *sums, size_t sums_length, const uint8_t *values, size_t values_length) BF_CHECKED;
+uint32_t bf_r8_multiply_in_place(uint8_t *products, size_t products_length, const uint8_t *values, size_t values_length) BF_CHECKED;
+uint32_t bf_r8_multiply_by_in_place(uint8_t *values, size_t values_length, uint8_t scalar) BF_CHECKED;
+uint32_t bf_r8_square_in_place(uint8_t *values, size_t values_length) BF_CHECKED;
+uint32_t bf_r8_inverse_in_place(uint8_t *values, size_t values_length) BF_CHECKED;
+uint32_t bf_r8_square_root_in_place(uint8_t *values, size_t values_length) BF_CHECKED;
+uint32_t bf_r8_power_in_place(uint8_t *values, size_t values_length, uint64_t exponent) BF_CHECKED;
+uint32_t bf_r8_generator(uint8_t *generator) BF_CHECKED BF_NONNULL(1);
 
 /* --------------------------------------------------------------------------------------------------------------------- */
 /* p64: GF(2)[x] modulo x^64 + x^4 + x^3 + x + 1. An element is a uint64_t. */
 
-/* sums: the sum of the elements at each place. BF_LENGTH unless left, right and sums have one length. */
-uint32_t bf_p64_add(
-    const uint64_t *left, size_t left_length, const uint64_t *right, size_t right_length, uint64_t *sums,
-    size_t sums_length);
-
-/* products: the product of the elements at each place. BF_LENGTH unless left, right and products have one length. */
-uint32_t bf_p64_multiply(
-    const uint64_t *left, size_t left_length, const uint64_t *right, size_t right_length, uint64_t *products,
-    size_t products_length);
-
-/* products: the product of each element and the scalar. BF_LENGTH unless values and products have one length. */
-uint32_t bf_p64_multiply_by(
-    const uint64_t *values, size_t values_length, uint64_t scalar, uint64_t *products, size_t products_length);
-
-/* Adds to each element of sums the scalar times the value at its place. BF_LENGTH unless sums and values have one length. */
-uint32_t bf_p64_add_scaled(
-    uint64_t *sums, size_t sums_length, uint64_t scalar, const uint64_t *values, size_t values_length);
-
-/* squares: the square of each element. BF_LENGTH unless values and squares have one length. */
-uint32_t bf_p64_square(
-    const uint64_t *values, size_t values_length, uint64_t *squares, size_t squares_length);
-
-/* inverses: the inverse of each element, and 0 for 0. BF_LENGTH unless values and inverses have one length. */
-uint32_t bf_p64_inverse(
-    const uint64_t *values, size_t values_length, uint64_t *inverses, size_t inverses_length);
-
-/* inverses: the same as inverse, by one inverse and three products an element. BF_LENGTH unless values and inverses have one
- * length. */
-uint32_t bf_p64_batch_inverse(
-    const uint64_t *values, size_t values_length, uint64_t *inverses, size_t inverses_length);
-
-/* roots: the square root of each element. BF_LENGTH unless values and roots have one length. */
-uint32_t bf_p64_square_root(
-    const uint64_t *values, size_t values_length, uint64_t *roots, size_t roots_length);
-
-/* powers: each element to the power of the exponent; to the power 0 it is 1. BF_LENGTH unless values and powers have one
- * length. */
-uint32_t bf_p64_power(
-    const uint64_t *values, size_t values_length, uint64_t exponent, uint64_t *powers, size_t powers_length);
-
-/* product: the product of all elements, 1 of none. */
-uint32_t bf_p64_product(
-    const uint64_t *values, size_t values_length, uint64_t *product);
-
-/* sum: the sum of the products at each place, 0 of none. BF_LENGTH unless left and right have one length. */
-uint32_t bf_p64_dot_product(
-    const uint64_t *left, size_t left_length, const uint64_t *right, size_t right_length, uint64_t *sum);
-
-/* values: the value at each point of the polynomial with these coefficients, the constant one first; any number of
- * coefficients. BF_LENGTH unless points and values have one length. */
-uint32_t bf_p64_evaluate(
-    const uint64_t *coefficients, size_t coefficients_length, const uint64_t *points, size_t points_length,
-    uint64_t *values, size_t values_length);
-
-/* generator: the generator of the field's multiplicative group that the library names. */
-uint32_t bf_p64_generator(
-    uint64_t *generator);
+uint32_t bf_p64_add(const uint64_t *left, size_t left_length, const uint64_t *right, size_t right_length, uint64_t *sums, size_t sums_length) BF_CHECKED;
+uint32_t bf_p64_multiply(const uint64_t *left, size_t left_length, const uint64_t *right, size_t right_length, uint64_t *products, size_t products_length) BF_CHECKED;
+uint32_t bf_p64_multiply_by(const uint64_t *values, size_t values_length, uint64_t scalar, uint64_t *products, size_t products_length) BF_CHECKED;
+uint32_t bf_p64_add_scaled(uint64_t *sums, size_t sums_length, uint64_t scalar, const uint64_t *values, size_t values_length) BF_CHECKED;
+uint32_t bf_p64_square(const uint64_t *values, size_t values_length, uint64_t *squares, size_t squares_length) BF_CHECKED;
+uint32_t bf_p64_inverse(const uint64_t *values, size_t values_length, uint64_t *inverses, size_t inverses_length) BF_CHECKED;
+uint32_t bf_p64_batch_inverse(const uint64_t *values, size_t values_length, uint64_t *inverses, size_t inverses_length) BF_CHECKED;
+uint32_t bf_p64_square_root(const uint64_t *values, size_t values_length, uint64_t *roots, size_t roots_length) BF_CHECKED;
+uint32_t bf_p64_power(const uint64_t *values, size_t values_length, uint64_t exponent, uint64_t *powers, size_t powers_length) BF_CHECKED;
+uint32_t bf_p64_product(const uint64_t *values, size_t values_length, uint64_t *product) BF_CHECKED BF_NONNULL(3);
+uint32_t bf_p64_dot_product(const uint64_t *left, size_t left_length, const uint64_t *right, size_t right_length, uint64_t *sum) BF_CHECKED BF_NONNULL(5);
+uint32_t bf_p64_evaluate(const uint64_t *coefficients, size_t coefficients_length, const uint64_t *points, size_t points_length, uint64_t *values, size_t values_length) BF_CHECKED;
+uint32_t bf_p64_add_in_place(uint64_t *sums, size_t sums_length, const uint64_t *values, size_t values_length) BF_CHECKED;
+uint32_t bf_p64_multiply_in_place(uint64_t *products, size_t products_length, const uint64_t *values, size_t values_length) BF_CHECKED;
+uint32_t bf_p64_multiply_by_in_place(uint64_t *values, size_t values_length, uint64_t scalar) BF_CHECKED;
+uint32_t bf_p64_square_in_place(uint64_t *values, size_t values_length) BF_CHECKED;
+uint32_t bf_p64_inverse_in_place(uint64_t *values, size_t values_length) BF_CHECKED;
+uint32_t bf_p64_square_root_in_place(uint64_t *values, size_t values_length) BF_CHECKED;
+uint32_t bf_p64_power_in_place(uint64_t *values, size_t values_length, uint64_t exponent) BF_CHECKED;
+uint32_t bf_p64_generator(uint64_t *generator) BF_CHECKED BF_NONNULL(1);
 
 /* --------------------------------------------------------------------------------------------------------------------- */
 /* g128: GF(2)[x] modulo x^128 + x^7 + x^2 + x + 1, the field of GHASH (NIST SP 800-38D), bit i for x^i. An element is a
  * bf_u128. */
 
-/* sums: the sum of the elements at each place. BF_LENGTH unless left, right and sums have one length. */
-uint32_t bf_g128_add(
-    const bf_u128 *left, size_t left_length, const bf_u128 *right, size_t right_length, bf_u128 *sums,
-    size_t sums_length);
-
-/* products: the product of the elements at each place. BF_LENGTH unless left, right and products have one length. */
-uint32_t bf_g128_multiply(
-    const bf_u128 *left, size_t left_length, const bf_u128 *right, size_t right_length, bf_u128 *products,
-    size_t products_length);
-
-/* products: the product of each element and the scalar. BF_LENGTH unless values and products have one length. */
-uint32_t bf_g128_multiply_by(
-    const bf_u128 *values, size_t values_length, const bf_u128 *scalar, bf_u128 *products,
-    size_t products_length);
-
-/* Adds to each element of sums the scalar times the value at its place. BF_LENGTH unless sums and values have one length. */
-uint32_t bf_g128_add_scaled(
-    bf_u128 *sums, size_t sums_length, const bf_u128 *scalar, const bf_u128 *values, size_t values_length);
-
-/* squares: the square of each element. BF_LENGTH unless values and squares have one length. */
-uint32_t bf_g128_square(
-    const bf_u128 *values, size_t values_length, bf_u128 *squares, size_t squares_length);
-
-/* inverses: the inverse of each element, and 0 for 0. BF_LENGTH unless values and inverses have one length. */
-uint32_t bf_g128_inverse(
-    const bf_u128 *values, size_t values_length, bf_u128 *inverses, size_t inverses_length);
-
-/* inverses: the same as inverse, by one inverse and three products an element. BF_LENGTH unless values and inverses have one
- * length. */
-uint32_t bf_g128_batch_inverse(
-    const bf_u128 *values, size_t values_length, bf_u128 *inverses, size_t inverses_length);
-
-/* roots: the square root of each element. BF_LENGTH unless values and roots have one length. */
-uint32_t bf_g128_square_root(
-    const bf_u128 *values, size_t values_length, bf_u128 *roots, size_t roots_length);
-
-/* powers: each element to the power of the exponent; to the power 0 it is 1. BF_LENGTH unless values and powers have one
- * length. */
-uint32_t bf_g128_power(
-    const bf_u128 *values, size_t values_length, uint64_t exponent, bf_u128 *powers, size_t powers_length);
-
-/* product: the product of all elements, 1 of none. */
-uint32_t bf_g128_product(
-    const bf_u128 *values, size_t values_length, bf_u128 *product);
-
-/* sum: the sum of the products at each place, 0 of none. BF_LENGTH unless left and right have one length. */
-uint32_t bf_g128_dot_product(
-    const bf_u128 *left, size_t left_length, const bf_u128 *right, size_t right_length, bf_u128 *sum);
-
-/* values: the value at each point of the polynomial with these coefficients, the constant one first; any number of
- * coefficients. BF_LENGTH unless points and values have one length. */
-uint32_t bf_g128_evaluate(
-    const bf_u128 *coefficients, size_t coefficients_length, const bf_u128 *points, size_t points_length,
-    bf_u128 *values, size_t values_length);
-
-/* generator: the generator of the field's multiplicative group that the library names. */
-uint32_t bf_g128_generator(
-    bf_u128 *generator);
+uint32_t bf_g128_add(const bf_u128 *left, size_t left_length, const bf_u128 *right, size_t right_length, bf_u128 *sums, size_t sums_length) BF_CHECKED;
+uint32_t bf_g128_multiply(const bf_u128 *left, size_t left_length, const bf_u128 *right, size_t right_length, bf_u128 *products, size_t products_length) BF_CHECKED;
+uint32_t bf_g128_multiply_by(const bf_u128 *values, size_t values_length, const bf_u128 *scalar, bf_u128 *products, size_t products_length) BF_CHECKED BF_NONNULL(3);
+uint32_t bf_g128_add_scaled(bf_u128 *sums, size_t sums_length, const bf_u128 *scalar, const bf_u128 *values, size_t values_length) BF_CHECKED BF_NONNULL(3);
+uint32_t bf_g128_square(const bf_u128 *values, size_t values_length, bf_u128 *squares, size_t squares_length) BF_CHECKED;
+uint32_t bf_g128_inverse(const bf_u128 *values, size_t values_length, bf_u128 *inverses, size_t inverses_length) BF_CHECKED;
+uint32_t bf_g128_batch_inverse(const bf_u128 *values, size_t values_length, bf_u128 *inverses, size_t inverses_length) BF_CHECKED;
+uint32_t bf_g128_square_root(const bf_u128 *values, size_t values_length, bf_u128 *roots, size_t roots_length) BF_CHECKED;
+uint32_t bf_g128_power(const bf_u128 *values, size_t values_length, uint64_t exponent, bf_u128 *powers, size_t powers_length) BF_CHECKED;
+uint32_t bf_g128_product(const bf_u128 *values, size_t values_length, bf_u128 *product) BF_CHECKED BF_NONNULL(3);
+uint32_t bf_g128_dot_product(const bf_u128 *left, size_t left_length, const bf_u128 *right, size_t right_length, bf_u128 *sum) BF_CHECKED BF_NONNULL(5);
+uint32_t bf_g128_evaluate(const bf_u128 *coefficients, size_t coefficients_length, const bf_u128 *points, size_t points_length, bf_u128 *values, size_t values_length) BF_CHECKED;
+uint32_t bf_g128_add_in_place(bf_u128 *sums, size_t sums_length, const bf_u128 *values, size_t values_length) BF_CHECKED;
+uint32_t bf_g128_multiply_in_place(bf_u128 *products, size_t products_length, const bf_u128 *values, size_t values_length) BF_CHECKED;
+uint32_t bf_g128_multiply_by_in_place(bf_u128 *values, size_t values_length, const bf_u128 *scalar) BF_CHECKED BF_NONNULL(3);
+uint32_t bf_g128_square_in_place(bf_u128 *values, size_t values_length) BF_CHECKED;
+uint32_t bf_g128_inverse_in_place(bf_u128 *values, size_t values_length) BF_CHECKED;
+uint32_t bf_g128_square_root_in_place(bf_u128 *values, size_t values_length) BF_CHECKED;
+uint32_t bf_g128_power_in_place(bf_u128 *values, size_t values_length, uint64_t exponent) BF_CHECKED;
+uint32_t bf_g128_generator(bf_u128 *generator) BF_CHECKED BF_NONNULL(1);
 
 /* --------------------------------------------------------------------------------------------------------------------- */
 /* p192: GF(2^64)[y] modulo y^3 + y + 1 over p64, the coefficient of 1 first. An element is a bf_u192. */
 
-/* sums: the sum of the elements at each place. BF_LENGTH unless left, right and sums have one length. */
-uint32_t bf_p192_add(
-    const bf_u192 *left, size_t left_length, const bf_u192 *right, size_t right_length, bf_u192 *sums,
-    size_t sums_length);
-
-/* products: the product of the elements at each place. BF_LENGTH unless left, right and products have one length. */
-uint32_t bf_p192_multiply(
-    const bf_u192 *left, size_t left_length, const bf_u192 *right, size_t right_length, bf_u192 *products,
-    size_t products_length);
-
-/* products: the product of each element and the scalar. BF_LENGTH unless values and products have one length. */
-uint32_t bf_p192_multiply_by(
-    const bf_u192 *values, size_t values_length, const bf_u192 *scalar, bf_u192 *products,
-    size_t products_length);
-
-/* Adds to each element of sums the scalar times the value at its place. BF_LENGTH unless sums and values have one length. */
-uint32_t bf_p192_add_scaled(
-    bf_u192 *sums, size_t sums_length, const bf_u192 *scalar, const bf_u192 *values, size_t values_length);
-
-/* squares: the square of each element. BF_LENGTH unless values and squares have one length. */
-uint32_t bf_p192_square(
-    const bf_u192 *values, size_t values_length, bf_u192 *squares, size_t squares_length);
-
-/* inverses: the inverse of each element, and 0 for 0. BF_LENGTH unless values and inverses have one length. */
-uint32_t bf_p192_inverse(
-    const bf_u192 *values, size_t values_length, bf_u192 *inverses, size_t inverses_length);
-
-/* inverses: the same as inverse, by one inverse and three products an element. BF_LENGTH unless values and inverses have one
- * length. */
-uint32_t bf_p192_batch_inverse(
-    const bf_u192 *values, size_t values_length, bf_u192 *inverses, size_t inverses_length);
-
-/* roots: the square root of each element. BF_LENGTH unless values and roots have one length. */
-uint32_t bf_p192_square_root(
-    const bf_u192 *values, size_t values_length, bf_u192 *roots, size_t roots_length);
-
-/* powers: each element to the power of the exponent; to the power 0 it is 1. BF_LENGTH unless values and powers have one
- * length. */
-uint32_t bf_p192_power(
-    const bf_u192 *values, size_t values_length, uint64_t exponent, bf_u192 *powers, size_t powers_length);
-
-/* product: the product of all elements, 1 of none. */
-uint32_t bf_p192_product(
-    const bf_u192 *values, size_t values_length, bf_u192 *product);
-
-/* sum: the sum of the products at each place, 0 of none. BF_LENGTH unless left and right have one length. */
-uint32_t bf_p192_dot_product(
-    const bf_u192 *left, size_t left_length, const bf_u192 *right, size_t right_length, bf_u192 *sum);
-
-/* values: the value at each point of the polynomial with these coefficients, the constant one first; any number of
- * coefficients. BF_LENGTH unless points and values have one length. */
-uint32_t bf_p192_evaluate(
-    const bf_u192 *coefficients, size_t coefficients_length, const bf_u192 *points, size_t points_length,
-    bf_u192 *values, size_t values_length);
-
-/* generator: the generator of the field's multiplicative group that the library names. */
-uint32_t bf_p192_generator(
-    bf_u192 *generator);
+uint32_t bf_p192_add(const bf_u192 *left, size_t left_length, const bf_u192 *right, size_t right_length, bf_u192 *sums, size_t sums_length) BF_CHECKED;
+uint32_t bf_p192_multiply(const bf_u192 *left, size_t left_length, const bf_u192 *right, size_t right_length, bf_u192 *products, size_t products_length) BF_CHECKED;
+uint32_t bf_p192_multiply_by(const bf_u192 *values, size_t values_length, const bf_u192 *scalar, bf_u192 *products, size_t products_length) BF_CHECKED BF_NONNULL(3);
+uint32_t bf_p192_add_scaled(bf_u192 *sums, size_t sums_length, const bf_u192 *scalar, const bf_u192 *values, size_t values_length) BF_CHECKED BF_NONNULL(3);
+uint32_t bf_p192_square(const bf_u192 *values, size_t values_length, bf_u192 *squares, size_t squares_length) BF_CHECKED;
+uint32_t bf_p192_inverse(const bf_u192 *values, size_t values_length, bf_u192 *inverses, size_t inverses_length) BF_CHECKED;
+uint32_t bf_p192_batch_inverse(const bf_u192 *values, size_t values_length, bf_u192 *inverses, size_t inverses_length) BF_CHECKED;
+uint32_t bf_p192_square_root(const bf_u192 *values, size_t values_length, bf_u192 *roots, size_t roots_length) BF_CHECKED;
+uint32_t bf_p192_power(const bf_u192 *values, size_t values_length, uint64_t exponent, bf_u192 *powers, size_t powers_length) BF_CHECKED;
+uint32_t bf_p192_product(const bf_u192 *values, size_t values_length, bf_u192 *product) BF_CHECKED BF_NONNULL(3);
+uint32_t bf_p192_dot_product(const bf_u192 *left, size_t left_length, const bf_u192 *right, size_t right_length, bf_u192 *sum) BF_CHECKED BF_NONNULL(5);
+uint32_t bf_p192_evaluate(const bf_u192 *coefficients, size_t coefficients_length, const bf_u192 *points, size_t points_length, bf_u192 *values, size_t values_length) BF_CHECKED;
+uint32_t bf_p192_add_in_place(bf_u192 *sums, size_t sums_length, const bf_u192 *values, size_t values_length) BF_CHECKED;
+uint32_t bf_p192_multiply_in_place(bf_u192 *products, size_t products_length, const bf_u192 *values, size_t values_length) BF_CHECKED;
+uint32_t bf_p192_multiply_by_in_place(bf_u192 *values, size_t values_length, const bf_u192 *scalar) BF_CHECKED BF_NONNULL(3);
+uint32_t bf_p192_square_in_place(bf_u192 *values, size_t values_length) BF_CHECKED;
+uint32_t bf_p192_inverse_in_place(bf_u192 *values, size_t values_length) BF_CHECKED;
+uint32_t bf_p192_square_root_in_place(bf_u192 *values, size_t values_length) BF_CHECKED;
+uint32_t bf_p192_power_in_place(bf_u192 *values, size_t values_length, uint64_t exponent) BF_CHECKED;
+uint32_t bf_p192_generator(bf_u192 *generator) BF_CHECKED BF_NONNULL(1);
 
 /* --------------------------------------------------------------------------------------------------------------------- */
 /* Changes of basis, and linear maps over GF(2). */
@@ -840,44 +403,44 @@ uint32_t bf_p192_generator(
 /* images: the image in r8 of each element of t8, by the isomorphism of the two fields. BF_LENGTH unless values and images
  * have one length. */
 uint32_t bf_t8_to_r8(
-    const uint8_t *values, size_t values_length, uint8_t *images, size_t images_length);
+    const uint8_t *values, size_t values_length, uint8_t *images, size_t images_length) BF_CHECKED;
 
 /* images: the image in t8 of each element of r8, by the isomorphism of the two fields. BF_LENGTH unless values and images
  * have one length. */
 uint32_t bf_r8_to_t8(
-    const uint8_t *values, size_t values_length, uint8_t *images, size_t images_length);
+    const uint8_t *values, size_t values_length, uint8_t *images, size_t images_length) BF_CHECKED;
 
 /* images: the image in p64 of each element of t64, by the isomorphism of the two fields. BF_LENGTH unless values and images
  * have one length. */
 uint32_t bf_t64_to_p64(
-    const uint64_t *values, size_t values_length, uint64_t *images, size_t images_length);
+    const uint64_t *values, size_t values_length, uint64_t *images, size_t images_length) BF_CHECKED;
 
 /* images: the image in t64 of each element of p64, by the isomorphism of the two fields. BF_LENGTH unless values and images
  * have one length. */
 uint32_t bf_p64_to_t64(
-    const uint64_t *values, size_t values_length, uint64_t *images, size_t images_length);
+    const uint64_t *values, size_t values_length, uint64_t *images, size_t images_length) BF_CHECKED;
 
 /* images: the image in g128 of each element of t128, by the isomorphism of the two fields. BF_LENGTH unless values and
  * images have one length. */
 uint32_t bf_t128_to_g128(
-    const bf_u128 *values, size_t values_length, bf_u128 *images, size_t images_length);
+    const bf_u128 *values, size_t values_length, bf_u128 *images, size_t images_length) BF_CHECKED;
 
 /* images: the image in t128 of each element of g128, by the isomorphism of the two fields. BF_LENGTH unless values and
  * images have one length. */
 uint32_t bf_g128_to_t128(
-    const bf_u128 *values, size_t values_length, bf_u128 *images, size_t images_length);
+    const bf_u128 *values, size_t values_length, bf_u128 *images, size_t images_length) BF_CHECKED;
 
 /* mapped: for each byte the sum of the images at its set bits; eight images, that of bit 0 first. BF_LENGTH unless values
  * and mapped have one length, and there are 8 images. */
 uint32_t bf_r8_linear_map(
     const uint8_t *values, size_t values_length, const uint8_t *images, size_t images_length, uint8_t *mapped,
-    size_t mapped_length);
+    size_t mapped_length) BF_CHECKED;
 
 /* mapped: for each word the sum of the images at its set bits; 128 images, that of bit 0 first. BF_LENGTH unless values and
  * mapped have one length, and there are 128 images. */
 uint32_t bf_g128_linear_map(
     const bf_u128 *values, size_t values_length, const bf_u128 *images, size_t images_length, bf_u128 *mapped,
-    size_t mapped_length);
+    size_t mapped_length) BF_CHECKED;
 
 /* --------------------------------------------------------------------------------------------------------------------- */
 /* Stages of additive transforms over g128, and the whole transform. s_0(x) = x, and s_(j+1)(x) = s_j(x)^2 + s_j(x). The
@@ -888,11 +451,11 @@ uint32_t bf_g128_linear_map(
 
 /* low += scalar * high, and then high += low, at each place. BF_LENGTH unless low and high have one length. */
 uint32_t bf_g128_butterfly_forward(
-    bf_u128 *low, size_t low_length, bf_u128 *high, size_t high_length, const bf_u128 *scalar);
+    bf_u128 *low, size_t low_length, bf_u128 *high, size_t high_length, const bf_u128 *scalar) BF_CHECKED BF_NONNULL(5);
 
 /* high += low, and then low += scalar * high, at each place. BF_LENGTH unless low and high have one length. */
 uint32_t bf_g128_butterfly_inverse(
-    bf_u128 *low, size_t low_length, bf_u128 *high, size_t high_length, const bf_u128 *scalar);
+    bf_u128 *low, size_t low_length, bf_u128 *high, size_t high_length, const bf_u128 *scalar) BF_CHECKED BF_NONNULL(5);
 
 /* The four lowest stages of an additive transform over runs of sixteen values, the first of which is run first_run; four
  * shifts, and a basis of 3 to 128 elements, 2 to the power of three less than which is at least the number behind the last
@@ -900,17 +463,17 @@ uint32_t bf_g128_butterfly_inverse(
  * number of runs are together at most 2 to the power of 3 less than the length of basis. */
 uint32_t bf_g128_low_stages(
     bf_u128 *values, size_t values_length, const bf_u128 *shifts, size_t shifts_length, const bf_u128 *basis,
-    size_t basis_length, uint64_t first_run);
+    size_t basis_length, size_t first_run) BF_CHECKED;
 
 /* The value at each of 2^m points, m from 0 to 40, of the polynomial with these coefficients in the basis of subspace
  * polynomials. BF_LENGTH unless values has 2^m elements, for an m from 0 to 40. */
 uint32_t bf_g128_transform(
-    bf_u128 *values, size_t values_length, const bf_u128 *shift);
+    bf_u128 *values, size_t values_length, const bf_u128 *shift) BF_CHECKED BF_NONNULL(3);
 
 /* The coefficients that g128_transform takes to these values. BF_LENGTH unless values has 2^m elements, for an m from 0 to
  * 40. */
 uint32_t bf_g128_inverse_transform(
-    bf_u128 *values, size_t values_length, const bf_u128 *shift);
+    bf_u128 *values, size_t values_length, const bf_u128 *shift) BF_CHECKED BF_NONNULL(3);
 
 /* --------------------------------------------------------------------------------------------------------------------- */
 /* Hashes of authentication tags. Nothing is claimed on timing. */
@@ -919,23 +482,24 @@ uint32_t bf_g128_inverse_transform(
  * key and hash have 16 bytes. */
 uint32_t bf_tag_ghash(
     const uint8_t *key, size_t key_length, const uint8_t *message, size_t message_length, uint8_t *hash,
-    size_t hash_length);
+    size_t hash_length) BF_CHECKED;
 
 /* hash: POLYVAL of the message (RFC 8452), zeros added to whole blocks; key and hash have 16 bytes. BF_LENGTH unless key and
  * hash have 16 bytes. */
 uint32_t bf_tag_polyval(
     const uint8_t *key, size_t key_length, const uint8_t *message, size_t message_length, uint8_t *hash,
-    size_t hash_length);
+    size_t hash_length) BF_CHECKED;
 
 /* hash: the hash of GCM over associated data and ciphertext, each below 2^61 bytes, with the block of their lengths; key and
  * hash have 16 bytes. BF_LENGTH unless key and hash have 16 bytes, and associated and ciphertext below 2^61 each. */
 uint32_t bf_tag_gcm_ghash(
     const uint8_t *key, size_t key_length, const uint8_t *associated, size_t associated_length,
-    const uint8_t *ciphertext, size_t ciphertext_length, uint8_t *hash, size_t hash_length);
+    const uint8_t *ciphertext, size_t ciphertext_length, uint8_t *hash, size_t hash_length) BF_CHECKED;
 
-/* equal: 1 where the two have the same bytes, else 0. */
+/* equal: 1 where the two have the same bytes, else 0. What a compiler made of it was looked at: all bytes are read whatever
+ * they are, and one test comes at the end; unlike lengths return at once. No other function was looked at for its timing. */
 uint32_t bf_tags_are_equal(
-    const uint8_t *left, size_t left_length, const uint8_t *right, size_t right_length, uint8_t *equal);
+    const uint8_t *left, size_t left_length, const uint8_t *right, size_t right_length, uint8_t *equal) BF_CHECKED BF_NONNULL(5);
 
 /* --------------------------------------------------------------------------------------------------------------------- */
 /* Reed-Solomon codes over bytes modulo x^8 + x^4 + x^3 + x^2 + 1: shard i has the values at the byte i of the polynomials
@@ -945,72 +509,42 @@ uint32_t bf_tags_are_equal(
  * BF_CODE if data and parity are not both at least 1 and together at most 256. BF_LENGTH unless shards has a multiple, but
  * not 0, of data + parity bytes. */
 uint32_t bf_rs_encode(
-    uint64_t data, uint64_t parity, uint8_t *shards, size_t shards_length);
+    size_t data, size_t parity, uint8_t *shards, size_t shards_length) BF_CHECKED;
 
 /* whole: 1 where the shards of parity are those of the data, else 0. BF_CODE if data and parity are not both at least 1 and
  * together at most 256. BF_LENGTH unless shards has a multiple, but not 0, of data + parity bytes. */
 uint32_t bf_rs_verify(
-    uint64_t data, uint64_t parity, const uint8_t *shards, size_t shards_length, uint8_t *whole);
+    size_t data, size_t parity, const uint8_t *shards, size_t shards_length, uint8_t *whole) BF_CHECKED BF_NONNULL(5);
 
 /* Writes the missing shards: shard i is missing where present[i] is 0. BF_CODE if data and parity are not both at least 1
  * and together at most 256. BF_LENGTH unless shards has a multiple, but not 0, of data + parity bytes, and present has data
  * + parity. BF_TOO_FEW_SHARDS unless at least as many entries of present as data are not 0. */
 uint32_t bf_rs_reconstruct(
-    uint64_t data, uint64_t parity, uint8_t *shards, size_t shards_length, const uint8_t *present,
-    size_t present_length);
+    size_t data, size_t parity, uint8_t *shards, size_t shards_length, const uint8_t *present,
+    size_t present_length) BF_CHECKED;
 
 /* Writes the missing shards of data alone. BF_CODE if data and parity are not both at least 1 and together at most 256.
  * BF_LENGTH unless shards has a multiple, but not 0, of data + parity bytes, and present has data + parity.
  * BF_TOO_FEW_SHARDS unless at least as many entries of present as data are not 0. */
 uint32_t bf_rs_reconstruct_data(
-    uint64_t data, uint64_t parity, uint8_t *shards, size_t shards_length, const uint8_t *present,
-    size_t present_length);
+    size_t data, size_t parity, uint8_t *shards, size_t shards_length, const uint8_t *present,
+    size_t present_length) BF_CHECKED;
 
 /* --------------------------------------------------------------------------------------------------------------------- */
 /* Second forms, made for x86-64-v3, whose vectors have 256 bits. Each gives the same as the function without _wide, in every
  * library; in one built for x86-64-v2 it is the slower of the two. The file libbinary_field.cpu beside the library says
  * which it is. */
 
-/* products: the same as g128_multiply, made for x86-64-v3. BF_LENGTH unless left, right and products have one length. */
-uint32_t bf_g128_multiply_wide(
-    const bf_u128 *left, size_t left_length, const bf_u128 *right, size_t right_length, bf_u128 *products,
-    size_t products_length);
-
-/* products: the same as g128_multiply_by, made for x86-64-v3. BF_LENGTH unless values and products have one length. */
-uint32_t bf_g128_multiply_by_wide(
-    const bf_u128 *values, size_t values_length, const bf_u128 *scalar, bf_u128 *products,
-    size_t products_length);
-
-/* The same as g128_add_scaled, made for x86-64-v3. BF_LENGTH unless sums and values have one length. */
-uint32_t bf_g128_add_scaled_wide(
-    bf_u128 *sums, size_t sums_length, const bf_u128 *scalar, const bf_u128 *values, size_t values_length);
-
-/* sum: the same as g128_dot_product, made for x86-64-v3. BF_LENGTH unless left and right have one length. */
-uint32_t bf_g128_dot_product_wide(
-    const bf_u128 *left, size_t left_length, const bf_u128 *right, size_t right_length, bf_u128 *sum);
-
-/* The same as g128_butterfly_forward, made for x86-64-v3. BF_LENGTH unless low and high have one length. */
-uint32_t bf_g128_butterfly_forward_wide(
-    bf_u128 *low, size_t low_length, bf_u128 *high, size_t high_length, const bf_u128 *scalar);
-
-/* The same as g128_butterfly_inverse, made for x86-64-v3. BF_LENGTH unless low and high have one length. */
-uint32_t bf_g128_butterfly_inverse_wide(
-    bf_u128 *low, size_t low_length, bf_u128 *high, size_t high_length, const bf_u128 *scalar);
-
-/* The same as g128_low_stages, made for x86-64-v3. BF_LENGTH unless values has a multiple of 16, shifts 4 and basis 3 to
- * 128; where there are values, first_run and the number of runs are together at most 2 to the power of 3 less than the
- * length of basis. */
-uint32_t bf_g128_low_stages_wide(
-    bf_u128 *values, size_t values_length, const bf_u128 *shifts, size_t shifts_length, const bf_u128 *basis,
-    size_t basis_length, uint64_t first_run);
-
-/* The same as g128_transform, made for x86-64-v3. BF_LENGTH unless values has 2^m elements, for an m from 0 to 40. */
-uint32_t bf_g128_transform_wide(
-    bf_u128 *values, size_t values_length, const bf_u128 *shift);
-
-/* The same as g128_inverse_transform, made for x86-64-v3. BF_LENGTH unless values has 2^m elements, for an m from 0 to 40. */
-uint32_t bf_g128_inverse_transform_wide(
-    bf_u128 *values, size_t values_length, const bf_u128 *shift);
+uint32_t bf_g128_multiply_wide(const bf_u128 *left, size_t left_length, const bf_u128 *right, size_t right_length, bf_u128 *products, size_t products_length) BF_CHECKED;
+uint32_t bf_g128_multiply_in_place_wide(bf_u128 *products, size_t products_length, const bf_u128 *values, size_t values_length) BF_CHECKED;
+uint32_t bf_g128_multiply_by_wide(const bf_u128 *values, size_t values_length, const bf_u128 *scalar, bf_u128 *products, size_t products_length) BF_CHECKED BF_NONNULL(3);
+uint32_t bf_g128_add_scaled_wide(bf_u128 *sums, size_t sums_length, const bf_u128 *scalar, const bf_u128 *values, size_t values_length) BF_CHECKED BF_NONNULL(3);
+uint32_t bf_g128_dot_product_wide(const bf_u128 *left, size_t left_length, const bf_u128 *right, size_t right_length, bf_u128 *sum) BF_CHECKED BF_NONNULL(5);
+uint32_t bf_g128_butterfly_forward_wide(bf_u128 *low, size_t low_length, bf_u128 *high, size_t high_length, const bf_u128 *scalar) BF_CHECKED BF_NONNULL(5);
+uint32_t bf_g128_butterfly_inverse_wide(bf_u128 *low, size_t low_length, bf_u128 *high, size_t high_length, const bf_u128 *scalar) BF_CHECKED BF_NONNULL(5);
+uint32_t bf_g128_low_stages_wide(bf_u128 *values, size_t values_length, const bf_u128 *shifts, size_t shifts_length, const bf_u128 *basis, size_t basis_length, size_t first_run) BF_CHECKED;
+uint32_t bf_g128_transform_wide(bf_u128 *values, size_t values_length, const bf_u128 *shift) BF_CHECKED BF_NONNULL(3);
+uint32_t bf_g128_inverse_transform_wide(bf_u128 *values, size_t values_length, const bf_u128 *shift) BF_CHECKED BF_NONNULL(3);
 
 #ifdef __cplusplus
 }

@@ -7,6 +7,7 @@ The fields are those of fields.py. A parameter is (kind, name) or (kind, name, w
   scalar  one element that is read: by value up to 64 bits, else by a pointer that is not null
   result  one element or number that is written: a pointer that is not null
   number  a number of 64 bits, by value
+  count   a number of things, by value: a size_t, which has 64 bits
 Every function returns a status but where the table says otherwise. Lengths count words, not bytes.
 """
 
@@ -39,6 +40,13 @@ FIELD_FUNCTIONS = [
     ("dot_product", [("in", "left"), ("in", "right"), ("result", "sum")], "the sum of the products at each place, 0 of none"),
     ("evaluate", [("in", "coefficients"), ("in", "points"), ("out", "values")],
      "the value at each point of the polynomial with these coefficients, the constant one first; any number of coefficients"),
+    ("add_in_place", [("inout", "sums"), ("in", "values")], "adds to each element of sums the value at its place"),
+    ("multiply_in_place", [("inout", "products"), ("in", "values")], "multiplies each element of products by the value at its place"),
+    ("multiply_by_in_place", [("inout", "values"), ("scalar", "scalar")], "multiplies each element by the scalar"),
+    ("square_in_place", [("inout", "values")], "squares each element"),
+    ("inverse_in_place", [("inout", "values")], "leaves the inverse of each element, and 0 of 0"),
+    ("square_root_in_place", [("inout", "values")], "leaves the square root of each element"),
+    ("power_in_place", [("inout", "values"), ("number", "exponent")], "raises each element to the power of the exponent; to the power 0 it is 1"),
     ("generator", [("result", "generator")], "the generator of the field's multiplicative group that the library names"),
 ]
 
@@ -55,7 +63,7 @@ OTHER_FUNCTIONS = [
      "low += scalar * high, and then high += low, at each place"),
     ("g128_butterfly_inverse", [("inout", "low", "u128"), ("inout", "high", "u128"), ("scalar", "scalar", "u128")],
      "high += low, and then low += scalar * high, at each place"),
-    ("g128_low_stages", [("inout", "values", "u128"), ("in", "shifts", "u128"), ("in", "basis", "u128"), ("number", "first_run")],
+    ("g128_low_stages", [("inout", "values", "u128"), ("in", "shifts", "u128"), ("in", "basis", "u128"), ("count", "first_run")],
      "the four lowest stages of an additive transform over runs of sixteen values, the first of which is run first_run; four shifts, and a "
      "basis of 3 to 128 elements, 2 to the power of three less than which is at least the number behind the last run"),
     ("g128_transform", [("inout", "values", "u128"), ("scalar", "shift", "u128")],
@@ -69,21 +77,22 @@ OTHER_FUNCTIONS = [
     ("tag_gcm_ghash", [("in", "key", "u8"), ("in", "associated", "u8"), ("in", "ciphertext", "u8"), ("out", "hash", "u8")],
      "the hash of GCM over associated data and ciphertext, each below 2^61 bytes, with the block of their lengths; key and hash have 16 bytes"),
     ("tags_are_equal", [("in", "left", "u8"), ("in", "right", "u8"), ("result", "equal", "u8")],
-     "1 where the two have the same bytes, else 0"),
-    ("rs_encode", [("number", "data"), ("number", "parity"), ("inout", "shards", "u8")],
+     "1 where the two have the same bytes, else 0. What a compiler made of it was looked at: all bytes are read whatever they are, and one test "
+     "comes at the end; unlike lengths return at once. No other function was looked at for its timing"),
+    ("rs_encode", [("count", "data"), ("count", "parity"), ("inout", "shards", "u8")],
      "writes the shards of parity, which stand behind those of data; all shards stand one after the other and have one size"),
-    ("rs_verify", [("number", "data"), ("number", "parity"), ("in", "shards", "u8"), ("result", "whole", "u8")],
+    ("rs_verify", [("count", "data"), ("count", "parity"), ("in", "shards", "u8"), ("result", "whole", "u8")],
      "1 where the shards of parity are those of the data, else 0"),
-    ("rs_reconstruct", [("number", "data"), ("number", "parity"), ("inout", "shards", "u8"), ("in", "present", "u8")],
+    ("rs_reconstruct", [("count", "data"), ("count", "parity"), ("inout", "shards", "u8"), ("in", "present", "u8")],
      "writes the missing shards: shard i is missing where present[i] is 0"),
-    ("rs_reconstruct_data", [("number", "data"), ("number", "parity"), ("inout", "shards", "u8"), ("in", "present", "u8")],
+    ("rs_reconstruct_data", [("count", "data"), ("count", "parity"), ("inout", "shards", "u8"), ("in", "present", "u8")],
      "writes the missing shards of data alone"),
 ]
 
 # Of these there is a second form, bf_NAME_wide. It gives the same, and is made for x86-64-v3, whose vectors have 256 bits: in a library
 # built for x86-64-v2 it is the slower one.
 WIDE = [
-    "g128_multiply", "g128_multiply_by", "g128_add_scaled", "g128_dot_product", "g128_butterfly_forward", "g128_butterfly_inverse",
+    "g128_multiply", "g128_multiply_in_place", "g128_multiply_by", "g128_add_scaled", "g128_dot_product", "g128_butterfly_forward", "g128_butterfly_inverse",
     "g128_low_stages", "g128_transform", "g128_inverse_transform",
 ]
 
@@ -107,7 +116,7 @@ def sentence(text, parameters=()):
 
 def typed(parameters, word):
     """The parameters of a function of a field, with the field's word."""
-    return [(*it, word)[:3] if it[0] != "number" else (*it, "u64") for it in parameters]
+    return [(*it, word)[:3] if it[0] not in ("number", "count") else (*it, "u64") for it in parameters]
 
 
 def first_functions():

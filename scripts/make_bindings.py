@@ -27,6 +27,7 @@ HELD = PASSED | {"u128": "u128"}
 # What a field of the Rust crate calls of the functions that every field has.
 RUST_FUNCTIONS = (
     "add", "multiply", "multiply_by", "add_scaled", "square", "inverse", "batch_inverse", "square_root", "power", "product", "dot_product", "evaluate",
+    "add_in_place", "multiply_in_place", "multiply_by_in_place", "square_in_place", "inverse_in_place", "square_root_in_place", "power_in_place",
 )
 
 
@@ -38,7 +39,8 @@ def python_functions():
     statuses = "".join(f'    {value}: ("{name}", "{text}"),\n' for name, value, text in c_library.STATUSES)
     functions = ""
     for name, parameters, _ in c_library.functions():
-        row = ", ".join(f'("{kind}", "{it}", "{word}")' for kind, it, word in parameters)
+        # A count is a number, since ctypes passes both alike.
+        row = ", ".join(f'("{"number" if kind == "count" else kind}", "{it}", "{word}")' for kind, it, word in parameters)
         functions += f'    "{name}": [{row}],\n'
     return f'''\
 """The functions of libbinary_field. {WRITTEN}"""
@@ -84,6 +86,8 @@ def rust_declared(parameters):
             yield f"{name}: *mut {it}"
         elif kind == "scalar" and it.startswith("["):
             yield f"{name}: *const {it}"
+        elif kind == "count":
+            yield f"{name}: usize"
         else:
             yield f"{name}: {it}"
 

@@ -33,19 +33,26 @@ power          slices::power        RaisesTo
 product        slices::product      TakesProduct
 dot_product    slices::dot_product  TakesDotProduct
 evaluate       slices::evaluate     Evaluates
+add_in_place          in_place::add          Adds
+multiply_in_place     in_place::multiply     Multiplies
+multiply_by_in_place  in_place::multiply_by  MultipliesBy
+square_in_place       in_place::square       Squares
+inverse_in_place      in_place::invert       Inverts
+square_root_in_place  in_place::square_root  TakesRoots
+power_in_place        in_place::power        RaisesTo
 generator      slices::generator    NamesGenerator
 """.splitlines()}
 
 # What a field does by functions of its own.
 OWN_CALLS = {
-    "g128": {"multiply": "multiply", "multiply_by": "multiply_by", "add_scaled": "add_scaled", "dot_product": "dot_product"},
+    "g128": {"multiply": "multiply", "multiply_in_place": "multiply_in_place", "multiply_by": "multiply_by", "add_scaled": "add_scaled", "dot_product": "dot_product"},
     "r8": {"multiply": "multiply_bytes"},
 }
 
 # The vectors that the calls work in, and the functions of c_arithmetic over a type of vectors.
 NARROW, WIDE = "u64x2", "u64x4"
 WITH_WIDTH = {
-    "multiply", "multiply_by", "add_scaled", "dot_product", "butterfly_forward", "butterfly_inverse", "low_stages", "transform", "inverse_transform",
+    "multiply", "multiply_in_place", "multiply_by", "add_scaled", "dot_product", "butterfly_forward", "butterfly_inverse", "low_stages", "transform", "inverse_transform",
 }
 
 # Calls whose loops may take two elements in a turn.
@@ -111,6 +118,7 @@ def parameter(kind, name, word):
         "scalar": f"&{word}" if word in WORDS.values() else word,
         "result": f"&mut {word}",
         "number": "u64",
+        "count": "u64",
     }
     return f"{name}: {types[kind]}"
 
@@ -124,12 +132,13 @@ def clause_words(kind, name, word):
     return [name], []
 
 
-def field_clause(contract, field, parameters):
+def field_clause(contract, field, parameters, is_in_place=False):
     """The contract over a field: the field, a scalar or an exponent, what is read, what is written, and the status."""
     reads, writes = [], []
     for it in sorted(parameters, key=lambda it: it[0] not in ("scalar", "number")):
         read, written = clause_words(*it)
-        reads += read
+        # In place, what is written was the first operand.
+        reads += [*written[:1], *read] if is_in_place else read
         writes += written
     if contract == "NamesGenerator":
         writes = writes[1:]
@@ -178,7 +187,8 @@ def field_function(field, name, parameters, text):
     called = of_width(own, NARROW) if own else called_over(field, call)
     more = [str(field.is_looked_up).lower()] if name in IN_TURNS else []
     typed = c_library.typed(parameters, field.word)
-    clause = field_clause(contract, field.contract, [(kind, it, WORDS.get(of, of)) for kind, it, of in typed])
+    words = [(kind, it, WORDS.get(of, of)) for kind, it, of in typed]
+    clause = field_clause(contract, field.contract, words, name.endswith("_in_place"))
     return function(f"{field.name}_{name}", typed, text, called, clause, more)
 
 
@@ -208,7 +218,7 @@ def wide_function(name, parameters):
     else:
         field = fields.field_named(field_name)
         typed = [(kind, it, WORDS.get(word, word)) for kind, it, word in parameters]
-        call, clause = OWN_CALLS[field_name][own], field_clause(CALLS[own][1], field.contract, typed)
+        call, clause = OWN_CALLS[field_name][own], field_clause(CALLS[own][1], field.contract, typed, own.endswith("_in_place"))
     return function(f"{name}_wide", parameters, f"the same as `bf_{name}`", of_width(call, WIDE), clause)
 
 
@@ -228,7 +238,7 @@ def brought_in(clauses):
 
 def used(bodies):
     """The line that brings in what bodies and signatures name without a path."""
-    names = set(re.findall(r"[&\[]&?(Wide|Cubic)\b|<\w+, \w+, (\w+)(?:<(\w+)>)?>|\b(slices)::|\b(batch_invert)\b", bodies))
+    names = set(re.findall(r"[&\[]&?(Wide|Cubic)\b|<\w+, \w+, (\w+)(?:<(\w+)>)?>|\b(slices)::|\b(in_place)::|\b(batch_invert)\b", bodies))
     words = [*WORDS.values(), *STORED.values()]
     named = {it for group in names for it in group if it} | {it for it in words if re.search(rf"\b{it}\b", bodies)}
     lines = [f"use c_arithmetic::{{{', '.join(sorted(named))}}};" if len(named) > 1 else f"use c_arithmetic::{named.pop()};"] if named else []

@@ -80,8 +80,42 @@ def declared(parameters):
             yield f"{it} *{name}"
         elif kind == "scalar" and word in ("u128", "u192"):
             yield f"const {it} *{name}"
+        elif kind == "count":
+            yield f"size_t {name}"
         else:
             yield f"{it} {name}"
+
+
+def attributes(parameters):
+    """What compilers are told of a function: that its status has to be looked at, and which pointers are never NULL."""
+    place = 1
+    yield "BF_CHECKED"
+    for kind, _, word in parameters:
+        if kind == "result" or kind == "scalar" and word in ("u128", "u192"):
+            yield f"BF_NONNULL({place})"
+        place += 2 if kind in ARRAYS else 1
+
+
+def declaration(name, parameters, is_one_line):
+    """The declaration of a function, which in the sections of fields and of second forms is one line."""
+    shown, more = list(declared(parameters)), " ".join(attributes(parameters))
+    if is_one_line:
+        return f"uint32_t bf_{name}({', '.join(shown)}) {more};\n"
+    # Lines are cut between parameters alone.
+    wrapped = textwrap.wrap(", ".join(it.replace(" ", "\0") for it in shown), 108)
+    inside = "\n    ".join(wrapped).replace("\0", " ")
+    return f"uint32_t bf_{name}(\n    {inside}) {more};\n\n"
+
+
+def table():
+    """What the functions of every field do, a line or two each, as a part of the head's comment."""
+    lines = []
+    for name, parameters, text in c_library.FIELD_FUNCTIONS:
+        shown = f"bf_F_{name}({', '.join(it[1] for it in parameters)})"
+        written = [it[1] for it in parameters if it[0] in ("out", "result")]
+        words = f"{shown}  {written[0] + ': ' if written else ''}{text}"
+        lines += textwrap.wrap(words, 120, initial_indent="  ", subsequent_indent="      ", break_long_words=False)
+    return "".join(f" * {it}\n" for it in lines)
 
 
 def sections():
@@ -121,7 +155,8 @@ def sections():
 
 def header():
     """The header."""
-    out = [HEAD.format(version=fields.VERSION_NUMBER, number=fields.VERSION_TEXT, written=files.generated("make_c_header.py"))]
+    of_fields = {f"{field.name}_{name}" for field in fields.FIELDS for name, _, _ in c_library.FIELD_FUNCTIONS}
+    out = [HEAD.format(version=fields.VERSION_NUMBER, number=fields.VERSION_TEXT, written=files.generated("make_c_header.py"), table=table())]
     for name, value, text in c_library.STATUSES:
         out.append(comment(sentence(text)))
         out.append(f"#define {name} {value}u\n")
@@ -134,11 +169,9 @@ def header():
     for heading, rows in sections():
         out.append(f"/* {'-' * 117} */\n{comment(heading)}\n")
         for name, parameters, text, bits in rows:
-            out.append(comment(told(name, parameters, bits, text)))
-            # Lines are cut between parameters alone.
-            wrapped = textwrap.wrap(", ".join(it.replace(" ", "\0") for it in declared(parameters)), 108)
-            inside = "\n    ".join(wrapped).replace("\0", " ")
-            out.append(f"uint32_t bf_{name}(\n    {inside});\n\n")
+            is_one_line = name in of_fields or name.endswith("_wide")
+            out += ([] if is_one_line else [comment(told(name, parameters, bits, text))]) + [declaration(name, parameters, is_one_line)]
+        out += ["\n"] * is_one_line
     out.append(TAIL)
     return "".join(out)
 
@@ -155,14 +188,21 @@ HEAD = """\
  *
  * Arrays. An array is a pointer and a length, which counts elements and not bytes. The pointer may be NULL where the length is
  * 0; a scalar or a result is never NULL. Each pointer is aligned as C aligns its type. An array or a result that a function
- * writes may overlap no other array, result or scalar of the same call; what is only read may overlap each other.
+ * writes may overlap no other array, result or scalar of the same call; what is only read may overlap each other. For x = x * y
+ * there are the functions whose names end in _in_place.
  * A comment begins with the name of what the function writes. Where it says nothing of lengths, every length will do.
  *
  * Statuses. Every function but bf_version returns a status. On a status that is not BF_OK everything that the function could
  * write is as before the call. The first status applies, in the order in which a function's comment names them.
  *
+ * Fields. For each field F, by its name in the sections below:
+ *
+{table} *
+ * Arrays have one length, but for evaluate, of whose arrays points and values have one, and coefficients any: else the status is
+ * BF_LENGTH. In gf2, t2 and t4 each word that is read is an element: else it is BF_NOT_AN_ELEMENT.
+ *
  * Threads. A call reads and writes its arguments alone and keeps nothing, so that threads may call at the same time, as long as
- * none writes what another reads or writes. Nothing is claimed on timing.
+ * none writes what another reads or writes. Nothing is claimed on timing; of bf_tags_are_equal it is said what was looked at.
  */
 #ifndef BINARY_FIELD_H
 #define BINARY_FIELD_H
@@ -176,6 +216,15 @@ extern "C" {{
 
 /* The version that this header belongs to, {number}; bf_version returns that of the library. */
 #define BF_VERSION {version}u
+
+/* What gcc and clang are told: a status has to be looked at, and which pointers are never NULL. */
+#if defined(__GNUC__) || defined(__clang__)
+#define BF_CHECKED __attribute__((warn_unused_result))
+#define BF_NONNULL(place) __attribute__((nonnull(place)))
+#else
+#define BF_CHECKED
+#define BF_NONNULL(place)
+#endif
 
 /* A number of 128 bits, the low half first. */
 typedef struct bf_u128 {{

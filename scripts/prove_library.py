@@ -48,7 +48,7 @@ class Progress:
             self.done(proved[1])
         elif checked and time.monotonic() - self.at > SILENCE:
             self.at = time.monotonic()
-            say(f"{checked[1]} functions checked of one of {', '.join(self.left)}")
+            say(f"{checked[1]} functions are checked of the crate at work; left: {', '.join(self.left)}")
 
     def done(self, name):
         """A crate is proved; those below it were so before, if they were taken as they were."""

@@ -77,20 +77,29 @@ def field_cases(field, draw):
     products = [field.multiply(a, b) for a, b in zip(left, right)]
     yield case(name("add"), left, right, [a ^ b for a, b in zip(left, right)], each=LONGEST)
     yield case(name("multiply"), left, right, products, each=LONGEST)
+    yield case(name("add_in_place"), (left, [a ^ b for a, b in zip(left, right)]), right, each=LONGEST)
+    yield case(name("multiply_in_place"), (left, products), right, each=LONGEST)
     for scalar in {0, 1, draw.getrandbits(field.bits), (1 << field.bits) - 1}:
         scaled = [field.multiply(scalar, it) for it in few]
         yield case(name("multiply_by"), few, scalar, scaled, each=LONGEST)
+        yield case(name("multiply_by_in_place"), (few, scaled), scalar, each=LONGEST)
         yield case(name("add_scaled"), (left, [a ^ b for a, b in zip(left, scaled)]), scalar, few, each=LONGEST)
-    yield case(name("square"), few, [field.square(it) for it in few], each=LONGEST)
+    squares, roots = ([operation(it) for it in few] for operation in (field.square, field.square_root))
+    yield case(name("square"), few, squares, each=LONGEST)
+    yield case(name("square_in_place"), (few, squares), each=LONGEST)
     nonzero = [it or 1 for it in few]
     for values in (few, nonzero, [0] * LONGEST):
         inverses = [field.inverse(it) for it in values]
         yield case(name("inverse"), values, inverses, each=LONGEST)
         yield case(name("batch_inverse"), values, inverses, each=LONGEST)
-    yield case(name("square_root"), few, [field.square_root(it) for it in few], each=LONGEST)
+        yield case(name("inverse_in_place"), (values, inverses), each=LONGEST)
+    yield case(name("square_root"), few, roots, each=LONGEST)
+    yield case(name("square_root_in_place"), (few, roots), each=LONGEST)
     for exponent in (0, 1, 2, 5, (1 << 64) - 1, draw.getrandbits(64)):
         values = few if exponent < 6 else few[:9]
-        yield case(name("power"), values, exponent, [field.power(it, exponent) for it in values], each=len(values))
+        powers = [field.power(it, exponent) for it in values]
+        yield case(name("power"), values, exponent, powers, each=len(values))
+        yield case(name("power_in_place"), (values, powers), exponent, each=len(values))
     # The products of the first n elements, of which none is 0 before the end.
     values = nonzero[: LONGEST - 1] + [0]
     yield case(name("product"), values, definitions.running(values, field.multiply, 1), each=LONGEST)

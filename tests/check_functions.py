@@ -38,7 +38,7 @@ def call(library, it):
     """Runs one call; returns what went wrong, or nothing."""
     arguments, buffers = [], []
     for a in it.arguments:
-        if a.kind == "number" or (a.kind == "scalar" and a.word in NARROW):
+        if a.kind in ("number", "count") or (a.kind == "scalar" and a.word in NARROW):
             arguments.append(NARROW[a.word](a.before[0]))
             continue
         after = a.bytes_of(a.after)

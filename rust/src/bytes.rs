@@ -83,14 +83,14 @@ pub fn tags_are_equal(left: &[u8], right: &[u8]) -> bool {
 }
 
 // A function that writes missing shards.
-type Restoring = unsafe extern "C" fn(u64, u64, *mut u8, usize, *const u8, usize) -> u32;
+type Restoring = unsafe extern "C" fn(usize, usize, *mut u8, usize, *const u8, usize) -> u32;
 
 /// The code with so many shards of data and of parity, over bytes modulo x^8 + x^4 + x^3 + x^2 + 1. Shards of one size, which is not
 /// 0, stand one after the other, those of data first.
 #[derive(Clone, Copy, Debug, PartialEq, Eq)]
 pub struct ReedSolomon {
-    data: u64,
-    parity: u64,
+    data: usize,
+    parity: usize,
 }
 
 impl ReedSolomon {
@@ -99,10 +99,7 @@ impl ReedSolomon {
         if data == 0 || parity == 0 || data > 255 || parity > 256 - data {
             return Err(Error::Code);
         }
-        Ok(ReedSolomon {
-            data: data as u64,
-            parity: parity as u64,
-        })
+        Ok(ReedSolomon { data, parity })
     }
 
     /// Writes the shards of parity.

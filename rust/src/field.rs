@@ -81,6 +81,27 @@ pub trait Field:
     /// Adds to each element of `sums` the scalar times the value at its place.
     fn add_scaled_slice(sums: &mut [Self], scalar: Self, values: &[Self]) -> Result<(), Error>;
 
+    /// Adds to each element of `sums` the value at its place.
+    fn add_assign_slice(sums: &mut [Self], values: &[Self]) -> Result<(), Error>;
+
+    /// Multiplies each element of `products` by the value at its place.
+    fn multiply_assign_slice(products: &mut [Self], values: &[Self]) -> Result<(), Error>;
+
+    /// Multiplies each element by the scalar.
+    fn scale_slice(values: &mut [Self], scalar: Self);
+
+    /// Squares each element.
+    fn square_assign_slice(values: &mut [Self]);
+
+    /// Leaves the inverse of each element, and 0 of 0.
+    fn invert_assign_slice(values: &mut [Self]);
+
+    /// Leaves the square root of each element.
+    fn square_root_assign_slice(values: &mut [Self]);
+
+    /// Raises each element to the power of the exponent.
+    fn power_assign_slice(values: &mut [Self], exponent: u64);
+
     /// Writes the squares.
     fn square_slice(values: &[Self], squares: &mut [Self]) -> Result<(), Error>;
 

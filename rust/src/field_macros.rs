@@ -112,6 +112,13 @@ macro_rules! field {
         product: $product:ident,
         dot_product: $dot_product:ident,
         evaluate: $evaluate:ident,
+        add_in_place: $add_in_place:ident,
+        multiply_in_place: $multiply_in_place:ident,
+        multiply_by_in_place: $multiply_by_in_place:ident,
+        square_in_place: $square_in_place:ident,
+        inverse_in_place: $inverse_in_place:ident,
+        square_root_in_place: $square_root_in_place:ident,
+        power_in_place: $power_in_place:ident,
         $(one_inverse_in: $tower:ident,)?
     ) => {
         $(#[$about])*
@@ -187,6 +194,41 @@ macro_rules! field {
                 Error::of(unsafe {
                     $add_scaled(sums.as_mut_ptr().cast(), sums.len(), scalar.0.scalar(), values.as_ptr().cast(), values.len())
                 })
+            }
+
+            fn add_assign_slice(sums: &mut [$field], values: &[$field]) -> Result<(), Error> {
+                // SAFETY: as in `over`. So it is below.
+                Error::of(unsafe { $add_in_place(sums.as_mut_ptr().cast(), sums.len(), values.as_ptr().cast(), values.len()) })
+            }
+
+            fn multiply_assign_slice(products: &mut [$field], values: &[$field]) -> Result<(), Error> {
+                // SAFETY: as above.
+                Error::of(unsafe { $multiply_in_place(products.as_mut_ptr().cast(), products.len(), values.as_ptr().cast(), values.len()) })
+            }
+
+            fn scale_slice(values: &mut [$field], scalar: $field) {
+                // SAFETY: as above.
+                succeed(unsafe { $multiply_by_in_place(values.as_mut_ptr().cast(), values.len(), scalar.0.scalar()) });
+            }
+
+            fn square_assign_slice(values: &mut [$field]) {
+                // SAFETY: as above.
+                succeed(unsafe { $square_in_place(values.as_mut_ptr().cast(), values.len()) });
+            }
+
+            fn invert_assign_slice(values: &mut [$field]) {
+                // SAFETY: as above.
+                succeed(unsafe { $inverse_in_place(values.as_mut_ptr().cast(), values.len()) });
+            }
+
+            fn square_root_assign_slice(values: &mut [$field]) {
+                // SAFETY: as above.
+                succeed(unsafe { $square_root_in_place(values.as_mut_ptr().cast(), values.len()) });
+            }
+
+            fn power_assign_slice(values: &mut [$field], exponent: u64) {
+                // SAFETY: as above.
+                succeed(unsafe { $power_in_place(values.as_mut_ptr().cast(), values.len(), exponent) });
             }
 
             fn square_slice(values: &[$field], squares: &mut [$field]) -> Result<(), Error> {

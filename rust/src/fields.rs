@@ -27,6 +27,13 @@ field! {
     product: bf_gf2_product,
     dot_product: bf_gf2_dot_product,
     evaluate: bf_gf2_evaluate,
+    add_in_place: bf_gf2_add_in_place,
+    multiply_in_place: bf_gf2_multiply_in_place,
+    multiply_by_in_place: bf_gf2_multiply_by_in_place,
+    square_in_place: bf_gf2_square_in_place,
+    inverse_in_place: bf_gf2_inverse_in_place,
+    square_root_in_place: bf_gf2_square_root_in_place,
+    power_in_place: bf_gf2_power_in_place,
 }
 
 field! {
@@ -44,6 +51,13 @@ field! {
     product: bf_t2_product,
     dot_product: bf_t2_dot_product,
     evaluate: bf_t2_evaluate,
+    add_in_place: bf_t2_add_in_place,
+    multiply_in_place: bf_t2_multiply_in_place,
+    multiply_by_in_place: bf_t2_multiply_by_in_place,
+    square_in_place: bf_t2_square_in_place,
+    inverse_in_place: bf_t2_inverse_in_place,
+    square_root_in_place: bf_t2_square_root_in_place,
+    power_in_place: bf_t2_power_in_place,
 }
 
 field! {
@@ -61,6 +75,13 @@ field! {
     product: bf_t4_product,
     dot_product: bf_t4_dot_product,
     evaluate: bf_t4_evaluate,
+    add_in_place: bf_t4_add_in_place,
+    multiply_in_place: bf_t4_multiply_in_place,
+    multiply_by_in_place: bf_t4_multiply_by_in_place,
+    square_in_place: bf_t4_square_in_place,
+    inverse_in_place: bf_t4_inverse_in_place,
+    square_root_in_place: bf_t4_square_root_in_place,
+    power_in_place: bf_t4_power_in_place,
 }
 
 field! {
@@ -78,6 +99,13 @@ field! {
     product: bf_t8_product,
     dot_product: bf_t8_dot_product,
     evaluate: bf_t8_evaluate,
+    add_in_place: bf_t8_add_in_place,
+    multiply_in_place: bf_t8_multiply_in_place,
+    multiply_by_in_place: bf_t8_multiply_by_in_place,
+    square_in_place: bf_t8_square_in_place,
+    inverse_in_place: bf_t8_inverse_in_place,
+    square_root_in_place: bf_t8_square_root_in_place,
+    power_in_place: bf_t8_power_in_place,
 }
 
 field! {
@@ -95,6 +123,13 @@ field! {
     product: bf_t16_product,
     dot_product: bf_t16_dot_product,
     evaluate: bf_t16_evaluate,
+    add_in_place: bf_t16_add_in_place,
+    multiply_in_place: bf_t16_multiply_in_place,
+    multiply_by_in_place: bf_t16_multiply_by_in_place,
+    square_in_place: bf_t16_square_in_place,
+    inverse_in_place: bf_t16_inverse_in_place,
+    square_root_in_place: bf_t16_square_root_in_place,
+    power_in_place: bf_t16_power_in_place,
 }
 
 field! {
@@ -112,6 +147,13 @@ field! {
     product: bf_t32_product,
     dot_product: bf_t32_dot_product,
     evaluate: bf_t32_evaluate,
+    add_in_place: bf_t32_add_in_place,
+    multiply_in_place: bf_t32_multiply_in_place,
+    multiply_by_in_place: bf_t32_multiply_by_in_place,
+    square_in_place: bf_t32_square_in_place,
+    inverse_in_place: bf_t32_inverse_in_place,
+    square_root_in_place: bf_t32_square_root_in_place,
+    power_in_place: bf_t32_power_in_place,
 }
 
 field! {
@@ -129,6 +171,13 @@ field! {
     product: bf_t64_product,
     dot_product: bf_t64_dot_product,
     evaluate: bf_t64_evaluate,
+    add_in_place: bf_t64_add_in_place,
+    multiply_in_place: bf_t64_multiply_in_place,
+    multiply_by_in_place: bf_t64_multiply_by_in_place,
+    square_in_place: bf_t64_square_in_place,
+    inverse_in_place: bf_t64_inverse_in_place,
+    square_root_in_place: bf_t64_square_root_in_place,
+    power_in_place: bf_t64_power_in_place,
 }
 
 field! {
@@ -146,6 +195,13 @@ field! {
     product: bf_t128_product,
     dot_product: bf_t128_dot_product,
     evaluate: bf_t128_evaluate,
+    add_in_place: bf_t128_add_in_place,
+    multiply_in_place: bf_t128_multiply_in_place,
+    multiply_by_in_place: bf_t128_multiply_by_in_place,
+    square_in_place: bf_t128_square_in_place,
+    inverse_in_place: bf_t128_inverse_in_place,
+    square_root_in_place: bf_t128_square_root_in_place,
+    power_in_place: bf_t128_power_in_place,
 }
 
 field! {
@@ -163,6 +219,13 @@ field! {
     product: bf_r8_product,
     dot_product: bf_r8_dot_product,
     evaluate: bf_r8_evaluate,
+    add_in_place: bf_r8_add_in_place,
+    multiply_in_place: bf_r8_multiply_in_place,
+    multiply_by_in_place: bf_r8_multiply_by_in_place,
+    square_in_place: bf_r8_square_in_place,
+    inverse_in_place: bf_r8_inverse_in_place,
+    square_root_in_place: bf_r8_square_root_in_place,
+    power_in_place: bf_r8_power_in_place,
 }
 
 field! {
@@ -180,6 +243,13 @@ field! {
     product: bf_p64_product,
     dot_product: bf_p64_dot_product,
     evaluate: bf_p64_evaluate,
+    add_in_place: bf_p64_add_in_place,
+    multiply_in_place: bf_p64_multiply_in_place,
+    multiply_by_in_place: bf_p64_multiply_by_in_place,
+    square_in_place: bf_p64_square_in_place,
+    inverse_in_place: bf_p64_inverse_in_place,
+    square_root_in_place: bf_p64_square_root_in_place,
+    power_in_place: bf_p64_power_in_place,
     one_inverse_in: BinaryField64,
 }
 
@@ -198,6 +268,13 @@ field! {
     product: bf_g128_product,
     dot_product: bf_g128_dot_product,
     evaluate: bf_g128_evaluate,
+    add_in_place: bf_g128_add_in_place,
+    multiply_in_place: bf_g128_multiply_in_place,
+    multiply_by_in_place: bf_g128_multiply_by_in_place,
+    square_in_place: bf_g128_square_in_place,
+    inverse_in_place: bf_g128_inverse_in_place,
+    square_root_in_place: bf_g128_square_root_in_place,
+    power_in_place: bf_g128_power_in_place,
     one_inverse_in: BinaryField128,
 }
 
@@ -216,6 +293,13 @@ field! {
     product: bf_p192_product,
     dot_product: bf_p192_dot_product,
     evaluate: bf_p192_evaluate,
+    add_in_place: bf_p192_add_in_place,
+    multiply_in_place: bf_p192_multiply_in_place,
+    multiply_by_in_place: bf_p192_multiply_by_in_place,
+    square_in_place: bf_p192_square_in_place,
+    inverse_in_place: bf_p192_inverse_in_place,
+    square_root_in_place: bf_p192_square_root_in_place,
+    power_in_place: bf_p192_power_in_place,
 }
 
 whole_words! {

@@ -123,6 +123,50 @@ unsafe extern "C" {
         values: *mut u8,
         values_length: usize,
     ) -> u32;
+    /// Adds to each element of sums the value at its place. BF_LENGTH unless sums and values have one length.
+    /// BF_NOT_AN_ELEMENT unless each word that is read is below 2.
+    pub fn bf_gf2_add_in_place(
+        sums: *mut u8,
+        sums_length: usize,
+        values: *const u8,
+        values_length: usize,
+    ) -> u32;
+    /// Multiplies each element of products by the value at its place. BF_LENGTH unless products and values have one
+    /// length. BF_NOT_AN_ELEMENT unless each word that is read is below 2.
+    pub fn bf_gf2_multiply_in_place(
+        products: *mut u8,
+        products_length: usize,
+        values: *const u8,
+        values_length: usize,
+    ) -> u32;
+    /// Multiplies each element by the scalar. BF_NOT_AN_ELEMENT unless each word that is read is below 2.
+    pub fn bf_gf2_multiply_by_in_place(
+        values: *mut u8,
+        values_length: usize,
+        scalar: u8,
+    ) -> u32;
+    /// Squares each element. BF_NOT_AN_ELEMENT unless each word that is read is below 2.
+    pub fn bf_gf2_square_in_place(
+        values: *mut u8,
+        values_length: usize,
+    ) -> u32;
+    /// Leaves the inverse of each element, and 0 of 0. BF_NOT_AN_ELEMENT unless each word that is read is below 2.
+    pub fn bf_gf2_inverse_in_place(
+        values: *mut u8,
+        values_length: usize,
+    ) -> u32;
+    /// Leaves the square root of each element. BF_NOT_AN_ELEMENT unless each word that is read is below 2.
+    pub fn bf_gf2_square_root_in_place(
+        values: *mut u8,
+        values_length: usize,
+    ) -> u32;
+    /// Raises each element to the power of the exponent; to the power 0 it is 1. BF_NOT_AN_ELEMENT unless each word
+    /// that is read is below 2.
+    pub fn bf_gf2_power_in_place(
+        values: *mut u8,
+        values_length: usize,
+        exponent: u64,
+    ) -> u32;
     /// sums: the sum of the elements at each place. BF_LENGTH unless left, right and sums have one length.
     /// BF_NOT_AN_ELEMENT unless each word that is read is below 4.
     pub fn bf_t2_add(
@@ -227,6 +271,50 @@ unsafe extern "C" {
         points_length: usize,
         values: *mut u8,
         values_length: usize,
+    ) -> u32;
+    /// Adds to each element of sums the value at its place. BF_LENGTH unless sums and values have one length.
+    /// BF_NOT_AN_ELEMENT unless each word that is read is below 4.
+    pub fn bf_t2_add_in_place(
+        sums: *mut u8,
+        sums_length: usize,
+        values: *const u8,
+        values_length: usize,
+    ) -> u32;
+    /// Multiplies each element of products by the value at its place. BF_LENGTH unless products and values have one
+    /// length. BF_NOT_AN_ELEMENT unless each word that is read is below 4.
+    pub fn bf_t2_multiply_in_place(
+        products: *mut u8,
+        products_length: usize,
+        values: *const u8,
+        values_length: usize,
+    ) -> u32;
+    /// Multiplies each element by the scalar. BF_NOT_AN_ELEMENT unless each word that is read is below 4.
+    pub fn bf_t2_multiply_by_in_place(
+        values: *mut u8,
+        values_length: usize,
+        scalar: u8,
+    ) -> u32;
+    /// Squares each element. BF_NOT_AN_ELEMENT unless each word that is read is below 4.
+    pub fn bf_t2_square_in_place(
+        values: *mut u8,
+        values_length: usize,
+    ) -> u32;
+    /// Leaves the inverse of each element, and 0 of 0. BF_NOT_AN_ELEMENT unless each word that is read is below 4.
+    pub fn bf_t2_inverse_in_place(
+        values: *mut u8,
+        values_length: usize,
+    ) -> u32;
+    /// Leaves the square root of each element. BF_NOT_AN_ELEMENT unless each word that is read is below 4.
+    pub fn bf_t2_square_root_in_place(
+        values: *mut u8,
+        values_length: usize,
+    ) -> u32;
+    /// Raises each element to the power of the exponent; to the power 0 it is 1. BF_NOT_AN_ELEMENT unless each word
+    /// that is read is below 4.
+    pub fn bf_t2_power_in_place(
+        values: *mut u8,
+        values_length: usize,
+        exponent: u64,
     ) -> u32;
     /// sums: the sum of the elements at each place. BF_LENGTH unless left, right and sums have one length.
     /// BF_NOT_AN_ELEMENT unless each word that is read is below 16.
@@ -333,6 +421,50 @@ unsafe extern "C" {
         values: *mut u8,
         values_length: usize,
     ) -> u32;
+    /// Adds to each element of sums the value at its place. BF_LENGTH unless sums and values have one length.
+    /// BF_NOT_AN_ELEMENT unless each word that is read is below 16.
+    pub fn bf_t4_add_in_place(
+        sums: *mut u8,
+        sums_length: usize,
+        values: *const u8,
+        values_length: usize,
+    ) -> u32;
+    /// Multiplies each element of products by the value at its place. BF_LENGTH unless products and values have one
+    /// length. BF_NOT_AN_ELEMENT unless each word that is read is below 16.
+    pub fn bf_t4_multiply_in_place(
+        products: *mut u8,
+        products_length: usize,
+        values: *const u8,
+        values_length: usize,
+    ) -> u32;
+    /// Multiplies each element by the scalar. BF_NOT_AN_ELEMENT unless each word that is read is below 16.
+    pub fn bf_t4_multiply_by_in_place(
+        values: *mut u8,
+        values_length: usize,
+        scalar: u8,
+    ) -> u32;
+    /// Squares each element. BF_NOT_AN_ELEMENT unless each word that is read is below 16.
+    pub fn bf_t4_square_in_place(
+        values: *mut u8,
+        values_length: usize,
+    ) -> u32;
+    /// Leaves the inverse of each element, and 0 of 0. BF_NOT_AN_ELEMENT unless each word that is read is below 16.
+    pub fn bf_t4_inverse_in_place(
+        values: *mut u8,
+        values_length: usize,
+    ) -> u32;
+    /// Leaves the square root of each element. BF_NOT_AN_ELEMENT unless each word that is read is below 16.
+    pub fn bf_t4_square_root_in_place(
+        values: *mut u8,
+        values_length: usize,
+    ) -> u32;
+    /// Raises each element to the power of the exponent; to the power 0 it is 1. BF_NOT_AN_ELEMENT unless each word
+    /// that is read is below 16.
+    pub fn bf_t4_power_in_place(
+        values: *mut u8,
+        values_length: usize,
+        exponent: u64,
+    ) -> u32;
     /// sums: the sum of the elements at each place. BF_LENGTH unless left, right and sums have one length.
     pub fn bf_t8_add(
         left: *const u8,
@@ -430,6 +562,48 @@ unsafe extern "C" {
         points_length: usize,
         values: *mut u8,
         values_length: usize,
+    ) -> u32;
+    /// Adds to each element of sums the value at its place. BF_LENGTH unless sums and values have one length.
+    pub fn bf_t8_add_in_place(
+        sums: *mut u8,
+        sums_length: usize,
+        values: *const u8,
+        values_length: usize,
+    ) -> u32;
+    /// Multiplies each element of products by the value at its place. BF_LENGTH unless products and values have one
+    /// length.
+    pub fn bf_t8_multiply_in_place(
+        products: *mut u8,
+        products_length: usize,
+        values: *const u8,
+        values_length: usize,
+    ) -> u32;
+    /// Multiplies each element by the scalar.
+    pub fn bf_t8_multiply_by_in_place(
+        values: *mut u8,
+        values_length: usize,
+        scalar: u8,
+    ) -> u32;
+    /// Squares each element.
+    pub fn bf_t8_square_in_place(
+        values: *mut u8,
+        values_length: usize,
+    ) -> u32;
+    /// Leaves the inverse of each element, and 0 of 0.
+    pub fn bf_t8_inverse_in_place(
+        values: *mut u8,
+        values_length: usize,
+    ) -> u32;
+    /// Leaves the square root of each element.
+    pub fn bf_t8_square_root_in_place(
+        values: *mut u8,
+        values_length: usize,
+    ) -> u32;
+    /// Raises each element to the power of the exponent; to the power 0 it is 1.
+    pub fn bf_t8_power_in_place(
+        values: *mut u8,
+        values_length: usize,
+        exponent: u64,
     ) -> u32;
     /// sums: the sum of the elements at each place. BF_LENGTH unless left, right and sums have one length.
     pub fn bf_t16_add(
@@ -529,6 +703,48 @@ unsafe extern "C" {
         values: *mut u16,
         values_length: usize,
     ) -> u32;
+    /// Adds to each element of sums the value at its place. BF_LENGTH unless sums and values have one length.
+    pub fn bf_t16_add_in_place(
+        sums: *mut u16,
+        sums_length: usize,
+        values: *const u16,
+        values_length: usize,
+    ) -> u32;
+    /// Multiplies each element of products by the value at its place. BF_LENGTH unless products and values have one
+    /// length.
+    pub fn bf_t16_multiply_in_place(
+        products: *mut u16,
+        products_length: usize,
+        values: *const u16,
+        values_length: usize,
+    ) -> u32;
+    /// Multiplies each element by the scalar.
+    pub fn bf_t16_multiply_by_in_place(
+        values: *mut u16,
+        values_length: usize,
+        scalar: u16,
+    ) -> u32;
+    /// Squares each element.
+    pub fn bf_t16_square_in_place(
+        values: *mut u16,
+        values_length: usize,
+    ) -> u32;
+    /// Leaves the inverse of each element, and 0 of 0.
+    pub fn bf_t16_inverse_in_place(
+        values: *mut u16,
+        values_length: usize,
+    ) -> u32;
+    /// Leaves the square root of each element.
+    pub fn bf_t16_square_root_in_place(
+        values: *mut u16,
+        values_length: usize,
+    ) -> u32;
+    /// Raises each element to the power of the exponent; to the power 0 it is 1.
+    pub fn bf_t16_power_in_place(
+        values: *mut u16,
+        values_length: usize,
+        exponent: u64,
+    ) -> u32;
     /// sums: the sum of the elements at each place. BF_LENGTH unless left, right and sums have one length.
     pub fn bf_t32_add(
         left: *const u32,
@@ -626,6 +842,48 @@ unsafe extern "C" {
         points_length: usize,
         values: *mut u32,
         values_length: usize,
+    ) -> u32;
+    /// Adds to each element of sums the value at its place. BF_LENGTH unless sums and values have one length.
+    pub fn bf_t32_add_in_place(
+        sums: *mut u32,
+        sums_length: usize,
+        values: *const u32,
+        values_length: usize,
+    ) -> u32;
+    /// Multiplies each element of products by the value at its place. BF_LENGTH unless products and values have one
+    /// length.
+    pub fn bf_t32_multiply_in_place(
+        products: *mut u32,
+        products_length: usize,
+        values: *const u32,
+        values_length: usize,
+    ) -> u32;
+    /// Multiplies each element by the scalar.
+    pub fn bf_t32_multiply_by_in_place(
+        values: *mut u32,
+        values_length: usize,
+        scalar: u32,
+    ) -> u32;
+    /// Squares each element.
+    pub fn bf_t32_square_in_place(
+        values: *mut u32,
+        values_length: usize,
+    ) -> u32;
+    /// Leaves the inverse of each element, and 0 of 0.
+    pub fn bf_t32_inverse_in_place(
+        values: *mut u32,
+        values_length: usize,
+    ) -> u32;
+    /// Leaves the square root of each element.
+    pub fn bf_t32_square_root_in_place(
+        values: *mut u32,
+        values_length: usize,
+    ) -> u32;
+    /// Raises each element to the power of the exponent; to the power 0 it is 1.
+    pub fn bf_t32_power_in_place(
+        values: *mut u32,
+        values_length: usize,
+        exponent: u64,
     ) -> u32;
     /// sums: the sum of the elements at each place. BF_LENGTH unless left, right and sums have one length.
     pub fn bf_t64_add(
@@ -725,6 +983,48 @@ unsafe extern "C" {
         values: *mut u64,
         values_length: usize,
     ) -> u32;
+    /// Adds to each element of sums the value at its place. BF_LENGTH unless sums and values have one length.
+    pub fn bf_t64_add_in_place(
+        sums: *mut u64,
+        sums_length: usize,
+        values: *const u64,
+        values_length: usize,
+    ) -> u32;
+    /// Multiplies each element of products by the value at its place. BF_LENGTH unless products and values have one
+    /// length.
+    pub fn bf_t64_multiply_in_place(
+        products: *mut u64,
+        products_length: usize,
+        values: *const u64,
+        values_length: usize,
+    ) -> u32;
+    /// Multiplies each element by the scalar.
+    pub fn bf_t64_multiply_by_in_place(
+        values: *mut u64,
+        values_length: usize,
+        scalar: u64,
+    ) -> u32;
+    /// Squares each element.
+    pub fn bf_t64_square_in_place(
+        values: *mut u64,
+        values_length: usize,
+    ) -> u32;
+    /// Leaves the inverse of each element, and 0 of 0.
+    pub fn bf_t64_inverse_in_place(
+        values: *mut u64,
+        values_length: usize,
+    ) -> u32;
+    /// Leaves the square root of each element.
+    pub fn bf_t64_square_root_in_place(
+        values: *mut u64,
+        values_length: usize,
+    ) -> u32;
+    /// Raises each element to the power of the exponent; to the power 0 it is 1.
+    pub fn bf_t64_power_in_place(
+        values: *mut u64,
+        values_length: usize,
+        exponent: u64,
+    ) -> u32;
     /// sums: the sum of the elements at each place. BF_LENGTH unless left, right and sums have one length.
     pub fn bf_t128_add(
         left: *const [u64; 2],
@@ -822,6 +1122,48 @@ unsafe extern "C" {
         points_length: usize,
         values: *mut [u64; 2],
         values_length: usize,
+    ) -> u32;
+    /// Adds to each element of sums the value at its place. BF_LENGTH unless sums and values have one length.
+    pub fn bf_t128_add_in_place(
+        sums: *mut [u64; 2],
+        sums_length: usize,
+        values: *const [u64; 2],
+        values_length: usize,
+    ) -> u32;
+    /// Multiplies each element of products by the value at its place. BF_LENGTH unless products and values have one
+    /// length.
+    pub fn bf_t128_multiply_in_place(
+        products: *mut [u64; 2],
+        products_length: usize,
+        values: *const [u64; 2],
+        values_length: usize,
+    ) -> u32;
+    /// Multiplies each element by the scalar.
+    pub fn bf_t128_multiply_by_in_place(
+        values: *mut [u64; 2],
+        values_length: usize,
+        scalar: *const [u64; 2],
+    ) -> u32;
+    /// Squares each element.
+    pub fn bf_t128_square_in_place(
+        values: *mut [u64; 2],
+        values_length: usize,
+    ) -> u32;
+    /// Leaves the inverse of each element, and 0 of 0.
+    pub fn bf_t128_inverse_in_place(
+        values: *mut [u64; 2],
+        values_length: usize,
+    ) -> u32;
+    /// Leaves the square root of each element.
+    pub fn bf_t128_square_root_in_place(
+        values: *mut [u64; 2],
+        values_length: usize,
+    ) -> u32;
+    /// Raises each element to the power of the exponent; to the power 0 it is 1.
+    pub fn bf_t128_power_in_place(
+        values: *mut [u64; 2],
+        values_length: usize,
+        exponent: u64,
     ) -> u32;
     /// sums: the sum of the elements at each place. BF_LENGTH unless left, right and sums have one length.
     pub fn bf_r8_add(
@@ -921,6 +1263,48 @@ unsafe extern "C" {
         values: *mut u8,
         values_length: usize,
     ) -> u32;
+    /// Adds to each element of sums the value at its place. BF_LENGTH unless sums and values have one length.
+    pub fn bf_r8_add_in_place(
+        sums: *mut u8,
+        sums_length: usize,
+        values: *const u8,
+        values_length: usize,
+    ) -> u32;
+    /// Multiplies each element of products by the value at its place. BF_LENGTH unless products and values have one
+    /// length.
+    pub fn bf_r8_multiply_in_place(
+        products: *mut u8,
+        products_length: usize,
+        values: *const u8,
+        values_length: usize,
+    ) -> u32;
+    /// Multiplies each element by the scalar.
+    pub fn bf_r8_multiply_by_in_place(
+        values: *mut u8,
+        values_length: usize,
+        scalar: u8,
+    ) -> u32;
+    /// Squares each element.
+    pub fn bf_r8_square_in_place(
+        values: *mut u8,
+        values_length: usize,
+    ) -> u32;
+    /// Leaves the inverse of each element, and 0 of 0.
+    pub fn bf_r8_inverse_in_place(
+        values: *mut u8,
+        values_length: usize,
+    ) -> u32;
+    /// Leaves the square root of each element.
+    pub fn bf_r8_square_root_in_place(
+        values: *mut u8,
+        values_length: usize,
+    ) -> u32;
+    /// Raises each element to the power of the exponent; to the power 0 it is 1.
+    pub fn bf_r8_power_in_place(
+        values: *mut u8,
+        values_length: usize,
+        exponent: u64,
+    ) -> u32;
     /// sums: the sum of the elements at each place. BF_LENGTH unless left, right and sums have one length.
     pub fn bf_p64_add(
         left: *const u64,
@@ -1018,6 +1402,48 @@ unsafe extern "C" {
         points_length: usize,
         values: *mut u64,
         values_length: usize,
+    ) -> u32;
+    /// Adds to each element of sums the value at its place. BF_LENGTH unless sums and values have one length.
+    pub fn bf_p64_add_in_place(
+        sums: *mut u64,
+        sums_length: usize,
+        values: *const u64,
+        values_length: usize,
+    ) -> u32;
+    /// Multiplies each element of products by the value at its place. BF_LENGTH unless products and values have one
+    /// length.
+    pub fn bf_p64_multiply_in_place(
+        products: *mut u64,
+        products_length: usize,
+        values: *const u64,
+        values_length: usize,
+    ) -> u32;
+    /// Multiplies each element by the scalar.
+    pub fn bf_p64_multiply_by_in_place(
+        values: *mut u64,
+        values_length: usize,
+        scalar: u64,
+    ) -> u32;
+    /// Squares each element.
+    pub fn bf_p64_square_in_place(
+        values: *mut u64,
+        values_length: usize,
+    ) -> u32;
+    /// Leaves the inverse of each element, and 0 of 0.
+    pub fn bf_p64_inverse_in_place(
+        values: *mut u64,
+        values_length: usize,
+    ) -> u32;
+    /// Leaves the square root of each element.
+    pub fn bf_p64_square_root_in_place(
+        values: *mut u64,
+        values_length: usize,
+    ) -> u32;
+    /// Raises each element to the power of the exponent; to the power 0 it is 1.
+    pub fn bf_p64_power_in_place(
+        values: *mut u64,
+        values_length: usize,
+        exponent: u64,
     ) -> u32;
     /// sums: the sum of the elements at each place. BF_LENGTH unless left, right and sums have one length.
     pub fn bf_g128_add(
@@ -1121,6 +1547,49 @@ unsafe extern "C" {
         values: *mut [u64; 2],
         values_length: usize,
     ) -> u32;
+    /// Adds to each element of sums the value at its place. BF_LENGTH unless sums and values have one length.
+    pub fn bf_g128_add_in_place(
+        sums: *mut [u64; 2],
+        sums_length: usize,
+        values: *const [u64; 2],
+        values_length: usize,
+    ) -> u32;
+    /// Multiplies each element of products by the value at its place. BF_LENGTH unless products and values have one
+    /// length.
+    #[cfg_attr(binary_field_wide, link_name = "bf_g128_multiply_in_place_wide")]
+    pub fn bf_g128_multiply_in_place(
+        products: *mut [u64; 2],
+        products_length: usize,
+        values: *const [u64; 2],
+        values_length: usize,
+    ) -> u32;
+    /// Multiplies each element by the scalar.
+    pub fn bf_g128_multiply_by_in_place(
+        values: *mut [u64; 2],
+        values_length: usize,
+        scalar: *const [u64; 2],
+    ) -> u32;
+    /// Squares each element.
+    pub fn bf_g128_square_in_place(
+        values: *mut [u64; 2],
+        values_length: usize,
+    ) -> u32;
+    /// Leaves the inverse of each element, and 0 of 0.
+    pub fn bf_g128_inverse_in_place(
+        values: *mut [u64; 2],
+        values_length: usize,
+    ) -> u32;
+    /// Leaves the square root of each element.
+    pub fn bf_g128_square_root_in_place(
+        values: *mut [u64; 2],
+        values_length: usize,
+    ) -> u32;
+    /// Raises each element to the power of the exponent; to the power 0 it is 1.
+    pub fn bf_g128_power_in_place(
+        values: *mut [u64; 2],
+        values_length: usize,
+        exponent: u64,
+    ) -> u32;
     /// sums: the sum of the elements at each place. BF_LENGTH unless left, right and sums have one length.
     pub fn bf_p192_add(
         left: *const [u64; 3],
@@ -1218,6 +1687,48 @@ unsafe extern "C" {
         points_length: usize,
         values: *mut [u64; 3],
         values_length: usize,
+    ) -> u32;
+    /// Adds to each element of sums the value at its place. BF_LENGTH unless sums and values have one length.
+    pub fn bf_p192_add_in_place(
+        sums: *mut [u64; 3],
+        sums_length: usize,
+        values: *const [u64; 3],
+        values_length: usize,
+    ) -> u32;
+    /// Multiplies each element of products by the value at its place. BF_LENGTH unless products and values have one
+    /// length.
+    pub fn bf_p192_multiply_in_place(
+        products: *mut [u64; 3],
+        products_length: usize,
+        values: *const [u64; 3],
+        values_length: usize,
+    ) -> u32;
+    /// Multiplies each element by the scalar.
+    pub fn bf_p192_multiply_by_in_place(
+        values: *mut [u64; 3],
+        values_length: usize,
+        scalar: *const [u64; 3],
+    ) -> u32;
+    /// Squares each element.
+    pub fn bf_p192_square_in_place(
+        values: *mut [u64; 3],
+        values_length: usize,
+    ) -> u32;
+    /// Leaves the inverse of each element, and 0 of 0.
+    pub fn bf_p192_inverse_in_place(
+        values: *mut [u64; 3],
+        values_length: usize,
+    ) -> u32;
+    /// Leaves the square root of each element.
+    pub fn bf_p192_square_root_in_place(
+        values: *mut [u64; 3],
+        values_length: usize,
+    ) -> u32;
+    /// Raises each element to the power of the exponent; to the power 0 it is 1.
+    pub fn bf_p192_power_in_place(
+        values: *mut [u64; 3],
+        values_length: usize,
+        exponent: u64,
     ) -> u32;
     /// images: the image in r8 of each element of t8, by the isomorphism of the two fields. BF_LENGTH unless values
     /// and images have one length.
@@ -1318,7 +1829,7 @@ unsafe extern "C" {
         shifts_length: usize,
         basis: *const [u64; 2],
         basis_length: usize,
-        first_run: u64,
+        first_run: usize,
     ) -> u32;
     /// The value at each of 2^m points, m from 0 to 40, of the polynomial with these coefficients in the basis of
     /// subspace polynomials. BF_LENGTH unless values has 2^m elements, for an m from 0 to 40.
@@ -1369,7 +1880,9 @@ unsafe extern "C" {
         hash: *mut u8,
         hash_length: usize,
     ) -> u32;
-    /// equal: 1 where the two have the same bytes, else 0.
+    /// equal: 1 where the two have the same bytes, else 0. What a compiler made of it was looked at: all bytes are
+    /// read whatever they are, and one test comes at the end; unlike lengths return at once. No other function was
+    /// looked at for its timing.
     pub fn bf_tags_are_equal(
         left: *const u8,
         left_length: usize,
@@ -1381,16 +1894,16 @@ unsafe extern "C" {
     /// one size. BF_CODE if data and parity are not both at least 1 and together at most 256. BF_LENGTH unless shards
     /// has a multiple, but not 0, of data + parity bytes.
     pub fn bf_rs_encode(
-        data: u64,
-        parity: u64,
+        data: usize,
+        parity: usize,
         shards: *mut u8,
         shards_length: usize,
     ) -> u32;
     /// whole: 1 where the shards of parity are those of the data, else 0. BF_CODE if data and parity are not both at
     /// least 1 and together at most 256. BF_LENGTH unless shards has a multiple, but not 0, of data + parity bytes.
     pub fn bf_rs_verify(
-        data: u64,
-        parity: u64,
+        data: usize,
+        parity: usize,
         shards: *const u8,
         shards_length: usize,
         whole: *mut u8,
@@ -1400,8 +1913,8 @@ unsafe extern "C" {
     /// bytes, and present has data + parity. BF_TOO_FEW_SHARDS unless at least as many entries of present as data are
     /// not 0.
     pub fn bf_rs_reconstruct(
-        data: u64,
-        parity: u64,
+        data: usize,
+        parity: usize,
         shards: *mut u8,
         shards_length: usize,
         present: *const u8,
@@ -1411,8 +1924,8 @@ unsafe extern "C" {
     /// most 256. BF_LENGTH unless shards has a multiple, but not 0, of data + parity bytes, and present has data +
     /// parity. BF_TOO_FEW_SHARDS unless at least as many entries of present as data are not 0.
     pub fn bf_rs_reconstruct_data(
-        data: u64,
-        parity: u64,
+        data: usize,
+        parity: usize,
         shards: *mut u8,
         shards_length: usize,
         present: *const u8,

@@ -43,7 +43,7 @@ pub fn low_stages(
     values: &mut [Ghash128],
     shifts: &[Ghash128],
     basis: &[Ghash128],
-    first_run: u64,
+    first_run: usize,
 ) -> Result<(), Error> {
     // SAFETY: as above.
     Error::of(unsafe {

@@ -120,7 +120,7 @@ impl LowStageTwiddles {
     /// Where the values are no whole runs, or where a run is beyond the basis.
     pub fn forward(&self, values: &mut [u128], first_run: usize) {
         let basis = &self.basis[..self.length];
-        maps::low_stages(elements(values), &self.shifts, basis, first_run as u64)
+        maps::low_stages(elements(values), &self.shifts, basis, first_run)
             .expect("whole runs that the basis reaches");
     }
 }

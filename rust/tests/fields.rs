@@ -82,8 +82,32 @@ fn slices<F: Field>(x: &[F], y: &[F]) {
         F::dot_product_of_slices(x, y).unwrap(),
         each(&|a, b| a * b).into_iter().sum()
     );
+    in_place(x, y, scalar);
     F::evaluate(&[F::ONE, scalar], x, &mut out).unwrap();
     assert_eq!(out, each(&|a, _| F::ONE + scalar * a));
+}
+
+// Each function in place leaves what the operator gives.
+fn in_place<F: Field>(x: &[F], y: &[F], scalar: F) {
+    let leaves = |change: &dyn Fn(&mut [F]), operation: &dyn Fn(F, F) -> F| {
+        let mut values = x.to_vec();
+        change(&mut values);
+        for (place, &value) in values.iter().enumerate() {
+            assert_eq!(value, operation(x[place], y[place]));
+        }
+    };
+    leaves(&|it| F::add_assign_slice(it, y).unwrap(), &|a, b| a + b);
+    leaves(&|it| F::multiply_assign_slice(it, y).unwrap(), &|a, b| {
+        a * b
+    });
+    leaves(&|it| F::scale_slice(it, scalar), &|a, _| a * scalar);
+    leaves(&F::square_assign_slice, &|a, _| a.square());
+    leaves(&F::invert_assign_slice, &|a, _| a.invert_or_zero());
+    leaves(&F::square_root_assign_slice, &|a, _| a.try_sqrt().unwrap());
+    leaves(&|it| F::power_assign_slice(it, 7), &|a, _| a.exp_u64(7));
+    let mut more = [F::ONE; 300];
+    assert_eq!(F::multiply_assign_slice(&mut more, y), Err(Error::Length));
+    assert_eq!(more, [F::ONE; 300]);
 }
 
 #[test]

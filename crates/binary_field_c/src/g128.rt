@@ -4,7 +4,7 @@ ghost use Rattle.c_arithmetic.specs.Calls.{Adds, AddsScaled, Evaluates, Inverts,
 ghost use Rattle.c_arithmetic.specs.Calls.{Squares, TakesDotProduct, TakesProduct, TakesRoots};
 ghost use Rattle.c_arithmetic.specs.Fields.{ghash_field};
 
-use c_arithmetic::{GhashKernel, Wide, batch_invert, slices};
+use c_arithmetic::{GhashKernel, Wide, batch_invert, in_place, slices};
 use std::simd::prelude::*;
 
 /// The sum of the elements at each place.
@@ -105,6 +105,62 @@ pub extern "C" fn bf_g128_evaluate(
     ensures { Evaluates ghash_field coefficients.now points.now values.old values.new result }
 {
     slices::evaluate::<u128, Wide, GhashKernel>(coefficients, points, values)
+}
+
+/// Adds to each element of sums the value at its place.
+#[unsafe(no_mangle)]
+pub extern "C" fn bf_g128_add_in_place(sums: &mut [Wide], values: &[Wide]) -> u32
+    ensures { Adds ghash_field sums.old values.now sums.old sums.new result }
+{
+    in_place::add::<u128, Wide, GhashKernel>(sums, values)
+}
+
+/// Multiplies each element of products by the value at its place.
+#[unsafe(no_mangle)]
+pub extern "C" fn bf_g128_multiply_in_place(products: &mut [Wide], values: &[Wide]) -> u32
+    ensures { Multiplies ghash_field products.old values.now products.old products.new result }
+{
+    c_arithmetic::multiply_in_place::<u64x2>(products, values)
+}
+
+/// Multiplies each element by the scalar.
+#[unsafe(no_mangle)]
+pub extern "C" fn bf_g128_multiply_by_in_place(values: &mut [Wide], scalar: &Wide) -> u32
+    ensures { MultipliesBy ghash_field scalar.now values.old values.old values.new result }
+{
+    in_place::multiply_by::<u128, Wide, GhashKernel>(values, *scalar)
+}
+
+/// Squares each element.
+#[unsafe(no_mangle)]
+pub extern "C" fn bf_g128_square_in_place(values: &mut [Wide]) -> u32
+    ensures { Squares ghash_field values.old values.old values.new result }
+{
+    in_place::square::<u128, Wide, GhashKernel>(values)
+}
+
+/// Leaves the inverse of each element, and 0 of 0.
+#[unsafe(no_mangle)]
+pub extern "C" fn bf_g128_inverse_in_place(values: &mut [Wide]) -> u32
+    ensures { Inverts ghash_field values.old values.old values.new result }
+{
+    in_place::invert::<u128, Wide, GhashKernel>(values)
+}
+
+/// Leaves the square root of each element.
+#[unsafe(no_mangle)]
+pub extern "C" fn bf_g128_square_root_in_place(values: &mut [Wide]) -> u32
+    ensures { TakesRoots ghash_field values.old values.old values.new result }
+{
+    in_place::square_root::<u128, Wide, GhashKernel>(values)
+}
+
+/// Raises each element to the power of the exponent; to the power 0 it is 1.
+#[unsafe(no_mangle)]
+pub extern "C" fn bf_g128_power_in_place(values: &mut [Wide], exponent: u64) -> u32
+    ensures { RaisesTo ghash_field exponent values.old values.old values.new result }
+{
+    in_place::power::<u128, Wide, GhashKernel>(values, exponent)
 }
 
 /// The generator of the field's multiplicative group that the library names.

@@ -4,7 +4,7 @@ ghost use Rattle.c_arithmetic.specs.Calls.{Adds, AddsScaled, Evaluates, Inverts,
 ghost use Rattle.c_arithmetic.specs.Calls.{Squares, TakesDotProduct, TakesProduct, TakesRoots};
 ghost use Rattle.c_arithmetic.specs.Fields.{cubic_field};
 
-use c_arithmetic::{Cubic, CubicKernel, Triple, batch_invert, slices};
+use c_arithmetic::{Cubic, CubicKernel, Triple, batch_invert, in_place, slices};
 
 /// The sum of the elements at each place.
 #[unsafe(no_mangle)]
@@ -108,6 +108,62 @@ pub extern "C" fn bf_p192_evaluate(
     ensures { Evaluates cubic_field coefficients.now points.now values.old values.new result }
 {
     slices::evaluate::<Triple, Cubic, CubicKernel>(coefficients, points, values)
+}
+
+/// Adds to each element of sums the value at its place.
+#[unsafe(no_mangle)]
+pub extern "C" fn bf_p192_add_in_place(sums: &mut [Cubic], values: &[Cubic]) -> u32
+    ensures { Adds cubic_field sums.old values.now sums.old sums.new result }
+{
+    in_place::add::<Triple, Cubic, CubicKernel>(sums, values)
+}
+
+/// Multiplies each element of products by the value at its place.
+#[unsafe(no_mangle)]
+pub extern "C" fn bf_p192_multiply_in_place(products: &mut [Cubic], values: &[Cubic]) -> u32
+    ensures { Multiplies cubic_field products.old values.now products.old products.new result }
+{
+    in_place::multiply::<Triple, Cubic, CubicKernel>(products, values)
+}
+
+/// Multiplies each element by the scalar.
+#[unsafe(no_mangle)]
+pub extern "C" fn bf_p192_multiply_by_in_place(values: &mut [Cubic], scalar: &Cubic) -> u32
+    ensures { MultipliesBy cubic_field scalar.now values.old values.old values.new result }
+{
+    in_place::multiply_by::<Triple, Cubic, CubicKernel>(values, *scalar)
+}
+
+/// Squares each element.
+#[unsafe(no_mangle)]
+pub extern "C" fn bf_p192_square_in_place(values: &mut [Cubic]) -> u32
+    ensures { Squares cubic_field values.old values.old values.new result }
+{
+    in_place::square::<Triple, Cubic, CubicKernel>(values)
+}
+
+/// Leaves the inverse of each element, and 0 of 0.
+#[unsafe(no_mangle)]
+pub extern "C" fn bf_p192_inverse_in_place(values: &mut [Cubic]) -> u32
+    ensures { Inverts cubic_field values.old values.old values.new result }
+{
+    in_place::invert::<Triple, Cubic, CubicKernel>(values)
+}
+
+/// Leaves the square root of each element.
+#[unsafe(no_mangle)]
+pub extern "C" fn bf_p192_square_root_in_place(values: &mut [Cubic]) -> u32
+    ensures { TakesRoots cubic_field values.old values.old values.new result }
+{
+    in_place::square_root::<Triple, Cubic, CubicKernel>(values)
+}
+
+/// Raises each element to the power of the exponent; to the power 0 it is 1.
+#[unsafe(no_mangle)]
+pub extern "C" fn bf_p192_power_in_place(values: &mut [Cubic], exponent: u64) -> u32
+    ensures { RaisesTo cubic_field exponent values.old values.old values.new result }
+{
+    in_place::power::<Triple, Cubic, CubicKernel>(values, exponent)
 }
 
 /// The generator of the field's multiplicative group that the library names.

@@ -4,7 +4,7 @@ ghost use Rattle.c_arithmetic.specs.Calls.{Adds, AddsScaled, Evaluates, Inverts,
 ghost use Rattle.c_arithmetic.specs.Calls.{Squares, TakesDotProduct, TakesProduct, TakesRoots};
 ghost use Rattle.c_arithmetic.specs.Fields.{poly64_field};
 
-use c_arithmetic::{Poly64Kernel, batch_invert, slices};
+use c_arithmetic::{Poly64Kernel, batch_invert, in_place, slices};
 
 /// The sum of the elements at each place.
 #[unsafe(no_mangle)]
@@ -100,6 +100,62 @@ pub extern "C" fn bf_p64_evaluate(coefficients: &[u64], points: &[u64], values: 
     ensures { Evaluates poly64_field coefficients.now points.now values.old values.new result }
 {
     slices::evaluate::<u64, u64, Poly64Kernel>(coefficients, points, values)
+}
+
+/// Adds to each element of sums the value at its place.
+#[unsafe(no_mangle)]
+pub extern "C" fn bf_p64_add_in_place(sums: &mut [u64], values: &[u64]) -> u32
+    ensures { Adds poly64_field sums.old values.now sums.old sums.new result }
+{
+    in_place::add::<u64, u64, Poly64Kernel>(sums, values)
+}
+
+/// Multiplies each element of products by the value at its place.
+#[unsafe(no_mangle)]
+pub extern "C" fn bf_p64_multiply_in_place(products: &mut [u64], values: &[u64]) -> u32
+    ensures { Multiplies poly64_field products.old values.now products.old products.new result }
+{
+    in_place::multiply::<u64, u64, Poly64Kernel>(products, values)
+}
+
+/// Multiplies each element by the scalar.
+#[unsafe(no_mangle)]
+pub extern "C" fn bf_p64_multiply_by_in_place(values: &mut [u64], scalar: u64) -> u32
+    ensures { MultipliesBy poly64_field scalar values.old values.old values.new result }
+{
+    in_place::multiply_by::<u64, u64, Poly64Kernel>(values, scalar)
+}
+
+/// Squares each element.
+#[unsafe(no_mangle)]
+pub extern "C" fn bf_p64_square_in_place(values: &mut [u64]) -> u32
+    ensures { Squares poly64_field values.old values.old values.new result }
+{
+    in_place::square::<u64, u64, Poly64Kernel>(values)
+}
+
+/// Leaves the inverse of each element, and 0 of 0.
+#[unsafe(no_mangle)]
+pub extern "C" fn bf_p64_inverse_in_place(values: &mut [u64]) -> u32
+    ensures { Inverts poly64_field values.old values.old values.new result }
+{
+    in_place::invert::<u64, u64, Poly64Kernel>(values)
+}
+
+/// Leaves the square root of each element.
+#[unsafe(no_mangle)]
+pub extern "C" fn bf_p64_square_root_in_place(values: &mut [u64]) -> u32
+    ensures { TakesRoots poly64_field values.old values.old values.new result }
+{
+    in_place::square_root::<u64, u64, Poly64Kernel>(values)
+}
+
+/// Raises each element to the power of the exponent; to the power 0 it is 1.
+#[unsafe(no_mangle)]
+pub extern "C" fn bf_p64_power_in_place(values: &mut [u64], exponent: u64) -> u32
+    ensures { RaisesTo poly64_field exponent values.old values.old values.new result }
+{
+    in_place::power::<u64, u64, Poly64Kernel>(values, exponent)
 }
 
 /// The generator of the field's multiplicative group that the library names.

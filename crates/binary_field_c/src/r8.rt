@@ -4,7 +4,7 @@ ghost use Rattle.c_arithmetic.specs.Calls.{Adds, AddsScaled, Evaluates, Inverts,
 ghost use Rattle.c_arithmetic.specs.Calls.{Squares, TakesDotProduct, TakesProduct, TakesRoots};
 ghost use Rattle.c_arithmetic.specs.Fields.{rijndael_field};
 
-use c_arithmetic::{RijndaelKernel, batch_invert, slices};
+use c_arithmetic::{RijndaelKernel, batch_invert, in_place, slices};
 
 /// The sum of the elements at each place.
 #[unsafe(no_mangle)]
@@ -100,6 +100,62 @@ pub extern "C" fn bf_r8_evaluate(coefficients: &[u8], points: &[u8], values: &mu
     ensures { Evaluates rijndael_field coefficients.now points.now values.old values.new result }
 {
     slices::evaluate::<u8, u8, RijndaelKernel>(coefficients, points, values)
+}
+
+/// Adds to each element of sums the value at its place.
+#[unsafe(no_mangle)]
+pub extern "C" fn bf_r8_add_in_place(sums: &mut [u8], values: &[u8]) -> u32
+    ensures { Adds rijndael_field sums.old values.now sums.old sums.new result }
+{
+    in_place::add::<u8, u8, RijndaelKernel>(sums, values)
+}
+
+/// Multiplies each element of products by the value at its place.
+#[unsafe(no_mangle)]
+pub extern "C" fn bf_r8_multiply_in_place(products: &mut [u8], values: &[u8]) -> u32
+    ensures { Multiplies rijndael_field products.old values.now products.old products.new result }
+{
+    in_place::multiply::<u8, u8, RijndaelKernel>(products, values)
+}
+
+/// Multiplies each element by the scalar.
+#[unsafe(no_mangle)]
+pub extern "C" fn bf_r8_multiply_by_in_place(values: &mut [u8], scalar: u8) -> u32
+    ensures { MultipliesBy rijndael_field scalar values.old values.old values.new result }
+{
+    in_place::multiply_by::<u8, u8, RijndaelKernel>(values, scalar)
+}
+
+/// Squares each element.
+#[unsafe(no_mangle)]
+pub extern "C" fn bf_r8_square_in_place(values: &mut [u8]) -> u32
+    ensures { Squares rijndael_field values.old values.old values.new result }
+{
+    in_place::square::<u8, u8, RijndaelKernel>(values)
+}
+
+/// Leaves the inverse of each element, and 0 of 0.
+#[unsafe(no_mangle)]
+pub extern "C" fn bf_r8_inverse_in_place(values: &mut [u8]) -> u32
+    ensures { Inverts rijndael_field values.old values.old values.new result }
+{
+    in_place::invert::<u8, u8, RijndaelKernel>(values)
+}
+
+/// Leaves the square root of each element.
+#[unsafe(no_mangle)]
+pub extern "C" fn bf_r8_square_root_in_place(values: &mut [u8]) -> u32
+    ensures { TakesRoots rijndael_field values.old values.old values.new result }
+{
+    in_place::square_root::<u8, u8, RijndaelKernel>(values)
+}
+
+/// Raises each element to the power of the exponent; to the power 0 it is 1.
+#[unsafe(no_mangle)]
+pub extern "C" fn bf_r8_power_in_place(values: &mut [u8], exponent: u64) -> u32
+    ensures { RaisesTo rijndael_field exponent values.old values.old values.new result }
+{
+    in_place::power::<u8, u8, RijndaelKernel>(values, exponent)
 }
 
 /// The generator of the field's multiplicative group that the library names.

@@ -4,7 +4,7 @@ ghost use Rattle.c_arithmetic.specs.Calls.{Adds, AddsScaled, Evaluates, Inverts,
 ghost use Rattle.c_arithmetic.specs.Calls.{Squares, TakesDotProduct, TakesProduct, TakesRoots};
 ghost use Rattle.c_arithmetic.specs.Fields.{wide_level_field};
 
-use c_arithmetic::{Bits128, Tower, Wide, batch_invert, slices};
+use c_arithmetic::{Bits128, Tower, Wide, batch_invert, in_place, slices};
 
 /// The sum of the elements at each place.
 #[unsafe(no_mangle)]
@@ -104,6 +104,62 @@ pub extern "C" fn bf_t128_evaluate(
     ensures { Evaluates wide_level_field coefficients.now points.now values.old values.new result }
 {
     slices::evaluate::<u128, Wide, Tower<Bits128>>(coefficients, points, values)
+}
+
+/// Adds to each element of sums the value at its place.
+#[unsafe(no_mangle)]
+pub extern "C" fn bf_t128_add_in_place(sums: &mut [Wide], values: &[Wide]) -> u32
+    ensures { Adds wide_level_field sums.old values.now sums.old sums.new result }
+{
+    in_place::add::<u128, Wide, Tower<Bits128>>(sums, values)
+}
+
+/// Multiplies each element of products by the value at its place.
+#[unsafe(no_mangle)]
+pub extern "C" fn bf_t128_multiply_in_place(products: &mut [Wide], values: &[Wide]) -> u32
+    ensures { Multiplies wide_level_field products.old values.now products.old products.new result }
+{
+    in_place::multiply::<u128, Wide, Tower<Bits128>>(products, values)
+}
+
+/// Multiplies each element by the scalar.
+#[unsafe(no_mangle)]
+pub extern "C" fn bf_t128_multiply_by_in_place(values: &mut [Wide], scalar: &Wide) -> u32
+    ensures { MultipliesBy wide_level_field scalar.now values.old values.old values.new result }
+{
+    in_place::multiply_by::<u128, Wide, Tower<Bits128>>(values, *scalar)
+}
+
+/// Squares each element.
+#[unsafe(no_mangle)]
+pub extern "C" fn bf_t128_square_in_place(values: &mut [Wide]) -> u32
+    ensures { Squares wide_level_field values.old values.old values.new result }
+{
+    in_place::square::<u128, Wide, Tower<Bits128>>(values)
+}
+
+/// Leaves the inverse of each element, and 0 of 0.
+#[unsafe(no_mangle)]
+pub extern "C" fn bf_t128_inverse_in_place(values: &mut [Wide]) -> u32
+    ensures { Inverts wide_level_field values.old values.old values.new result }
+{
+    in_place::invert::<u128, Wide, Tower<Bits128>>(values)
+}
+
+/// Leaves the square root of each element.
+#[unsafe(no_mangle)]
+pub extern "C" fn bf_t128_square_root_in_place(values: &mut [Wide]) -> u32
+    ensures { TakesRoots wide_level_field values.old values.old values.new result }
+{
+    in_place::square_root::<u128, Wide, Tower<Bits128>>(values)
+}
+
+/// Raises each element to the power of the exponent; to the power 0 it is 1.
+#[unsafe(no_mangle)]
+pub extern "C" fn bf_t128_power_in_place(values: &mut [Wide], exponent: u64) -> u32
+    ensures { RaisesTo wide_level_field exponent values.old values.old values.new result }
+{
+    in_place::power::<u128, Wide, Tower<Bits128>>(values, exponent)
 }
 
 /// The generator of the field's multiplicative group that the library names.

@@ -4,7 +4,7 @@ ghost use Rattle.c_arithmetic.specs.Calls.{Adds, AddsScaled, Evaluates, Inverts,
 ghost use Rattle.c_arithmetic.specs.Calls.{Squares, TakesDotProduct, TakesProduct, TakesRoots};
 ghost use Rattle.c_arithmetic.specs.Fields.{level_field};
 
-use c_arithmetic::{Bits32, Tower, batch_invert, slices};
+use c_arithmetic::{Bits32, Tower, batch_invert, in_place, slices};
 
 /// The sum of the elements at each place.
 #[unsafe(no_mangle)]
@@ -100,6 +100,62 @@ pub extern "C" fn bf_t32_evaluate(coefficients: &[u32], points: &[u32], values: 
     ensures { Evaluates (level_field 5) coefficients.now points.now values.old values.new result }
 {
     slices::evaluate::<u32, u32, Tower<Bits32>>(coefficients, points, values)
+}
+
+/// Adds to each element of sums the value at its place.
+#[unsafe(no_mangle)]
+pub extern "C" fn bf_t32_add_in_place(sums: &mut [u32], values: &[u32]) -> u32
+    ensures { Adds (level_field 5) sums.old values.now sums.old sums.new result }
+{
+    in_place::add::<u32, u32, Tower<Bits32>>(sums, values)
+}
+
+/// Multiplies each element of products by the value at its place.
+#[unsafe(no_mangle)]
+pub extern "C" fn bf_t32_multiply_in_place(products: &mut [u32], values: &[u32]) -> u32
+    ensures { Multiplies (level_field 5) products.old values.now products.old products.new result }
+{
+    in_place::multiply::<u32, u32, Tower<Bits32>>(products, values)
+}
+
+/// Multiplies each element by the scalar.
+#[unsafe(no_mangle)]
+pub extern "C" fn bf_t32_multiply_by_in_place(values: &mut [u32], scalar: u32) -> u32
+    ensures { MultipliesBy (level_field 5) scalar values.old values.old values.new result }
+{
+    in_place::multiply_by::<u32, u32, Tower<Bits32>>(values, scalar)
+}
+
+/// Squares each element.
+#[unsafe(no_mangle)]
+pub extern "C" fn bf_t32_square_in_place(values: &mut [u32]) -> u32
+    ensures { Squares (level_field 5) values.old values.old values.new result }
+{
+    in_place::square::<u32, u32, Tower<Bits32>>(values)
+}
+
+/// Leaves the inverse of each element, and 0 of 0.
+#[unsafe(no_mangle)]
+pub extern "C" fn bf_t32_inverse_in_place(values: &mut [u32]) -> u32
+    ensures { Inverts (level_field 5) values.old values.old values.new result }
+{
+    in_place::invert::<u32, u32, Tower<Bits32>>(values)
+}
+
+/// Leaves the square root of each element.
+#[unsafe(no_mangle)]
+pub extern "C" fn bf_t32_square_root_in_place(values: &mut [u32]) -> u32
+    ensures { TakesRoots (level_field 5) values.old values.old values.new result }
+{
+    in_place::square_root::<u32, u32, Tower<Bits32>>(values)
+}
+
+/// Raises each element to the power of the exponent; to the power 0 it is 1.
+#[unsafe(no_mangle)]
+pub extern "C" fn bf_t32_power_in_place(values: &mut [u32], exponent: u64) -> u32
+    ensures { RaisesTo (level_field 5) exponent values.old values.old values.new result }
+{
+    in_place::power::<u32, u32, Tower<Bits32>>(values, exponent)
 }
 
 /// The generator of the field's multiplicative group that the library names.

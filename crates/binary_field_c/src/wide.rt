@@ -15,6 +15,14 @@ pub extern "C" fn bf_g128_multiply_wide(left: &[Wide], right: &[Wide], products:
     c_arithmetic::multiply::<u64x4>(left, right, products)
 }
 
+/// The same as `bf_g128_multiply_in_place`.
+#[unsafe(no_mangle)]
+pub extern "C" fn bf_g128_multiply_in_place_wide(products: &mut [Wide], values: &[Wide]) -> u32
+    ensures { Multiplies ghash_field products.old values.now products.old products.new result }
+{
+    c_arithmetic::multiply_in_place::<u64x4>(products, values)
+}
+
 /// The same as `bf_g128_multiply_by`.
 #[unsafe(no_mangle)]
 pub extern "C" fn bf_g128_multiply_by_wide(
