@@ -1,0 +1,88 @@
+#!/usr/bin/env python3
+"""Writes the manual pages docs/man/PROGRAM.1 from the texts that the programs print for --help: the constant USAGE of a crate's
+src/main.rt, or scripts/help/PROGRAM.txt. With --check it compares instead, and tells a program that says another version than VERSION.
+
+A text begins with `usage:` and the forms of the command, then has paragraphs, and may end with a line `Example: ..`.
+"""
+
+import re
+import sys
+import textwrap
+
+import crates
+import fields
+import files
+
+USAGE = re.compile(r'^const USAGE: &str = "((?:[^"\\]|\\.)*)";', re.MULTILINE | re.DOTALL)
+ESCAPES = {"n": "\n", "t": "\t", '"': '"', "\\": "\\"}
+
+
+def unescaped(text):
+    """The text of a literal of Rust."""
+    text = re.sub(r"\\\n\s*", "", text)
+    return re.sub(r"\\(.)", lambda found: ESCAPES[found[1]], text)
+
+
+def texts():
+    """Each program with its text and what crates.txt says of it."""
+    known = (files.TOP / "crates.txt").read_text(encoding="utf-8")
+    for name in crates.dependencies():
+        source, beside = files.CRATES / name / "src/main.rt", files.TOP / f"scripts/help/{name}.txt"
+        if not source.is_file():
+            continue
+        code = source.read_text(encoding="utf-8")
+        if said := re.search(rf'"{name} (\d+\.\d+\.\d+)', code):
+            if said[1] != fields.VERSION_TEXT:
+                sys.exit(f"{source} says version {said[1]}, and the file VERSION {fields.VERSION_TEXT}")
+        found = USAGE.search(code)
+        about = re.search(rf"^# (.*)\n{name}:", known, re.MULTILINE)[1].removeprefix("The program: ").removeprefix("The program that ")
+        if found or beside.is_file():
+            yield name, unescaped(found[1]) if found else beside.read_text(encoding="utf-8"), about
+
+
+def roff(text):
+    """A text as roff reads it."""
+    text = text.replace("\\", "\\e").replace("-", "\\-")
+    return re.sub(r"^([.'])", r"\\&\1", text, flags=re.MULTILINE)
+
+
+def page(name, text, about):
+    """The manual page of a program."""
+    head, _, rest = text.strip().partition("\n\n")
+    rest, _, example = rest.partition("Example: ")
+    # Forms stand behind the word, or below it with what each does.
+    forms = head.removeprefix("usage:")
+    forms = textwrap.dedent(forms.strip("\n")) if forms.startswith("\n") else "\n".join(it.strip() for it in forms.splitlines())
+    written = files.generated("make_man.py")
+    parts = [
+        f'.\\" {written}',
+        f'.TH {name.upper()} 1 "" "Tiforwg {fields.VERSION_TEXT}"',
+        ".SH NAME",
+        roff(f"{name} - {about.rstrip('.')}"),
+        ".SH SYNOPSIS",
+        ".nf",
+        roff(forms),
+        ".fi",
+    ]
+    if rest.strip():
+        parts += [".SH DESCRIPTION", *(roff(it.strip()) + "\n.PP" for it in rest.strip().split("\n\n"))]
+        parts[-1] = parts[-1].removesuffix("\n.PP")
+    if example:
+        parts += [".SH EXAMPLE", ".nf", roff(example.strip()), ".fi"]
+    return "\n".join(parts) + "\n"
+
+
+def main():
+    made = {f"{name}.1" for name, _, _ in texts()}
+    for name, text, about in texts():
+        files.keep(f"docs/man/{name}.1", page(name, text, about))
+    # A page of a program that is no more.
+    for it in sorted((files.TOP / "docs/man").glob("*.1")):
+        if it.name not in made:
+            if files.is_check():
+                sys.exit(f"{it} is the page of no program")
+            it.unlink()
+
+
+if __name__ == "__main__":
+    main()
