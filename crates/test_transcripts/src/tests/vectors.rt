@@ -64,17 +64,16 @@ fn three_numbers(numbers: [u128; 3]) -> [Said; 3] {
 
 fn known_call(known: &(Row, bool)) -> KnownCall {
     let (row, is_observed) = *known;
-    let [first, second, third, fourth] = OF_NO_BYTE;
     let after = if is_observed {
         OF_THE_ELEMENT
     } else {
-        [fourth, AFTER_NO_BYTE[0], AFTER_NO_BYTE[1]]
+        [OF_NO_BYTE[3], AFTER_NO_BYTE[0], AFTER_NO_BYTE[1]]
     };
     KnownCall {
         row,
         said: Said::Number(row[3]),
         after: three_numbers(after),
-        before: three_numbers([first, second, third]),
+        before: three_numbers([OF_NO_BYTE[0], OF_NO_BYTE[1], OF_NO_BYTE[2]]),
     }
 }
 
