@@ -12,7 +12,7 @@ use protocols::commitment::{accepts, prove, prove_and_verify};
 use protocols::merkle_tree::MerkleTree;
 use std::alloc::Global;
 use transcript_bytes::Sha256Hasher;
-use transcript_elements::{BinaryChallenger, Hash, ShortWord};
+use transcript_elements::{BinaryChallenger, ShortWord};
 use word_tower::{Bits64, Tower};
 
 /// The bits of the work.
@@ -59,18 +59,10 @@ fn outcome_of<R: ShortWord, K: LevelKernel<R> + HasPacking<R>>(
     )?;
     let commitment = tree.commitment();
     let root = commitment.root;
-    let observed: Hash<Sha256Hasher, u8, 32> = Hash::from(root);
-    let mut opening = prove(alloc, &mut prover, observed, &tree, words, BITS)?;
+    let mut opening = prove(alloc, &mut prover, &tree, words, BITS)?;
     let index = opening.index;
     opening.word ^= 1;
-    let is_deceived = accepts(
-        &Sha256Hasher,
-        &mut verifier,
-        observed,
-        commitment,
-        opening,
-        BITS,
-    )?;
+    let is_deceived = accepts(&Sha256Hasher, &mut verifier, commitment, opening, BITS)?;
     Ok(Outcome {
         root,
         is_accepted,

@@ -15,12 +15,12 @@ abbrev tail : List ℕ → List ℕ
 tail bytes = drop 1 bytes
 
 -- lists of one length in front of others
-front_same : (a b s t : List ℕ) → length a ≡ length b → a ++ s ≡ b ++ t → a ≡ b
+pub front_same : (a b s t : List ℕ) → length a ≡ length b → a ++ s ≡ b ++ t → a ≡ b
 front_same a b s t size same =
     sym (take-append_seam a s) ∙ ap (λ (n : ℕ). take n (a ++ s)) size ∙ ap (take (length b)) same ∙ take-append_seam b t
 
 -- and behind
-back_same : (a b s t : List ℕ) → length s ≡ length t → s ++ a ≡ t ++ b → a ≡ b
+pub back_same : (a b s t : List ℕ) → length s ≡ length t → s ++ a ≡ t ++ b → a ≡ b
 back_same a b s t size same =
     sym (drop-append_seam s a) ∙ ap (λ (n : ℕ). drop n (s ++ a)) size ∙ ap (drop (length t)) same ∙ drop-append_seam t b
 

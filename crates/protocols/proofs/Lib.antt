@@ -6,6 +6,7 @@ mod Paths
 mod Points
 mod Polynomials
 mod Roots
+mod Statements
 mod Words
 pub mod SumcheckRounds
 pub mod SumcheckTurns

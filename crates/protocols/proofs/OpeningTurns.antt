@@ -29,7 +29,8 @@ module _ {C S R : Type 0} (state : C → S) (observes : C → R → C → Type 0
       → IsRun observes passing checks gives_bits old root bits witness true depth number new
       → IsRun observes passing checks gives_bits other_old root bits witness works other_depth other_number other_new
       → Leads hash depth digest index word path
-      → (IsTrue accepted ↔ IsTrue works × Leads hash other_depth other_digest (other_number % 2 ^ other_depth) word path)
+      → (IsTrue accepted
+      ↔ IsTrue works × (index ≡ other_number % 2 ^ other_depth) × Leads hash other_depth other_digest index word path)
       → IsTrue accepted
   accepted-run hash old new other_old other_new root bits witness depth other_depth number other_number index word digest other_digest path
       works accepted same one_depth one_digest index_is run other_run leads says =
@@ -39,7 +40,7 @@ module _ {C S R : Type 0} (state : C → S) (observes : C → R → C → Type 0
       let place : index ≡ other_number % 2 ^ other_depth = index_is ∙ ap₂ (λ (n d : ℕ). n % 2 ^ d) both.1 (sym one_depth) in
       says.1 (
         sym both.0,
-        subst (λ (d : ℕ). Leads hash d other_digest (other_number % 2 ^ other_depth) word path) (sym one_depth)
-            (subst (λ (r : List ℕ). Leads hash depth r (other_number % 2 ^ other_depth) word path) (sym one_digest)
-            (subst (λ (i : ℕ). Leads hash depth digest i word path) place leads)),
+        place,
+        subst (λ (d : ℕ). Leads hash d other_digest index word path) (sym one_depth)
+            (subst (λ (r : List ℕ). Leads hash depth r index word path) (sym one_digest) leads),
       )

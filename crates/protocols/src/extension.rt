@@ -1,11 +1,14 @@
-// The low-degree extension of a message, which is a Reed-Solomon code word: 2^k symbols of the message, and as many of parity.
+// The low-degree extension of a message, which is a Reed-Solomon code word: the message, and its polynomial's values at more points.
 ghost use Rattle.std.specs.Prelude.{◌≡◌, ◌≤◌, ◌^◌, List, ℕ, length, take, IfOk, OnOk};
 ghost use Rattle.ghash_slices.specs.Cantor.{point};
 ghost use Rattle.ghash_slices.specs.LowStages.{ghash_cantor_vector};
 ghost use Rattle.additive_transforms.specs.Transform.{AreOnlyCoefficients, HoldPolynomialValues};
-ghost use Rattle.protocols.specs.CodeWords.{HalvesDetermine, IsCodeWord};
+ghost use Rattle.protocols.specs.CodeWords.{IsCodeWord, PartsDetermine};
 
-use additive_transforms::{forward, inverse, point};
+use additive_transforms::{
+    element_point, forward, forward_elements, inverse, inverse_elements, point,
+};
+use field_base::traits::TowerLevel;
 use std::alloc::{AllocError, Allocator};
 
 /// The code word of a message of 2^levels symbols, levels from 0 to 39: the message, and 2^levels symbols of parity. Symbol p is
@@ -43,8 +46,8 @@ fn move_on<A: Allocator>(alloc: A, values: &mut [u128], levels: usize) -> Result
     Ok(())
 }
 
-/// States that any half of the symbols of a code word determines the others, so that two different code words differ in more than
-/// half of their places.
-pub fn halves_determine()
-    ensures { HalvesDetermine }
+/// States that as many symbols of a code word as the message has determine the others, in every field and at every rate: two different
+/// code words of 2^k-symbol messages agree at fewer than 2^k places.
+pub fn parts_determine()
+    ensures { PartsDetermine }
 {}

@@ -1,8 +1,9 @@
 use Rattle.std.proofs.Common.{◌≡◌, List, ℕ, ◌++◌, length, drop, sym, ◌∙◌, ap, ap₂, subst, rules}
 use Rattle.std.proofs.lemmas.List.{take_at}
+use Rattle.ghash_slices.specs.LowStages.{ghash_cantor_vector, ghash_product}
 use Rattle.additive_transforms.specs.Transform.{HoldPolynomialValues}
 use Rattle.protocols.specs.CodeWords.{IsCodeWord}
-use Rattle.protocols.proofs.Words.{code_word}
+use Rattle.protocols.proofs.Words.{two_blocks}
 use Rattle.protocols.proofs.extension.encode.Goals as goal
 
 pub returns-clause-code_word : goal.returns-clause-code_word
@@ -18,5 +19,5 @@ returns-clause-code_word g c =
     let whole : c.args.message.now ++ after ≡ c.extend_from_slice.new.self.items =
     sym (c.in_ok-extend_from_slice.ensures.items ∙ ap₂ (λ (a b : List ℕ). a ++ b) c.in_ok-word.ensures.items written) in
     subst (IsCodeWord c.args.levels) whole
-    (code_word c.args.levels c.args.message.now after moved.0 c.requires.count count moved.2
+    (two_blocks 128 ghash_product ghash_cantor_vector c.args.levels moved.0 moved.2 c.args.message.now after c.requires.count count
     (subst (HoldPolynomialValues 0 moved.0) old moved.1.have) moved.3)

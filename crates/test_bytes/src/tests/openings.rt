@@ -1,0 +1,109 @@
+// Openings of Merkle trees that a cheating prover changed. Words are drawn from the seed 20261126.
+ghost use Rattle.transcript_elements.specs.Grinding.{MayGrind};
+
+use field_base::LevelKernel;
+use field_element::{Element, HasPacking};
+use protocols::ProtocolError;
+use protocols::commitment::{accepts, prove};
+use protocols::merkle_tree::MerkleTree;
+use std::alloc::Global;
+use std::test::Fail;
+use test_support::next_word;
+use transcript_bytes::Sha256Hasher;
+use transcript_elements::{BinaryChallenger, ShortWord};
+use word_tower::{Bits64, Tower};
+
+// What is changed between the prover and the verifier.
+#[derive(Clone, Copy, PartialEq)]
+enum Change {
+    Nothing,
+    Index,
+    Word,
+    LongerPath,
+    ShorterPath,
+    OtherNode,
+    Depth,
+    DepthAndPath,
+    Work,
+    Root,
+}
+
+static CHANGES: [Change; 10] = [
+    Change::Nothing,
+    Change::Index,
+    Change::Word,
+    Change::LongerPath,
+    Change::ShorterPath,
+    Change::OtherNode,
+    Change::Depth,
+    Change::DepthAndPath,
+    Change::Work,
+    Change::Root,
+];
+
+// Eight words.
+fn words() -> [u64; 8] {
+    let mut state = 20261126;
+    let mut words = [0; 8];
+    for place in 0..8 {
+        words[place] = next_word(&mut state);
+    }
+    words
+}
+
+// Whether an opening of a tree of depth 3, with eight bits of work, is accepted after this change.
+fn is_accepted<R: ShortWord, K: LevelKernel<R> + HasPacking<R>>(
+    alloc: Global,
+    change: Change,
+) -> Result<bool, ProtocolError>
+    requires work { MayGrind K.width 8 }
+{
+    let words = words();
+    let tree = MerkleTree::new(alloc, &Sha256Hasher, &words, 3)?;
+    let mut prover: BinaryChallenger<Element<R, K>, _> = BinaryChallenger::from_hasher(
+        Vec::new(alloc),
+        Sha256Hasher,
+    );
+    let mut verifier: BinaryChallenger<Element<R, K>, _> = BinaryChallenger::from_hasher(
+        Vec::new(alloc),
+        Sha256Hasher,
+    );
+    let mut opening = prove(alloc, &mut prover, &tree, &words, 8)?;
+    let mut commitment = tree.commitment();
+    let mut bits = 8;
+    match change {
+        Change::Nothing => (),
+        Change::Index => opening.index ^= 1,
+        Change::Word => opening.word ^= 1,
+        Change::LongerPath => opening.path.push([7; 32])?,
+        Change::ShorterPath => {
+            opening.path.pop();
+        }
+        Change::OtherNode => {
+            if let Some(node) = opening.path.as_mut_slice().first_mut() {
+                node[31] ^= 1;
+            }
+        }
+        Change::Depth => commitment.depth = 4,
+        Change::DepthAndPath => {
+            commitment.depth = 2;
+            opening.path.pop();
+        }
+        Change::Work => bits = 9,
+        Change::Root => commitment.root[0] ^= 1,
+    }
+    accepts(&Sha256Hasher, &mut verifier, commitment, opening, bits)
+}
+
+#[test]
+fn only_an_unchanged_opening_is_accepted(rt: HostRuntime) -> Result<(), Fail> {
+    for change in CHANGES {
+        let accepted = is_accepted::<u64, Tower<Bits64>>(rt.alloc(), change);
+        let wanted = change == Change::Nothing;
+        assert!(rt;
+            accepted.is_ok_and(|is| is == wanted),
+            "an opening that was changed, or one that was not"
+        );
+    }
+    Ok(())
+}
