@@ -61,9 +61,9 @@ def shards_of(content):
     return [bytes(dot(row, column) for column in zip(*rows)) for row in matrix]
 
 
-def file_of(index, shard, length):
+def file_of(index, shard, content):
     """The file of one shard."""
-    begin = b"shards 1" + bytes([K, M, index, 0, 0, 0, 0, 0]) + length.to_bytes(8, "little")
+    begin = b"shards 2" + bytes([1, K, M, index, 0, 0, 0, 0]) + len(content).to_bytes(8, "little") + hashlib.sha256(content).digest()
     return begin + hashlib.sha256(begin + shard).digest() + shard
 
 
@@ -72,9 +72,9 @@ def main():
     names = set()
     for index, shard in enumerate(shards_of(content)):
         if index != MISSING:
-            file = bytearray(file_of(index, shard, len(content)))
+            file = bytearray(file_of(index, shard, content))
             if index == DAMAGED:
-                file[100] ^= 1
+                file[150] ^= 1
             names.add(f"letter.{index}")
             files.keep(DATA / f"letter.{index}", bytes(file))
     if {it.name for it in DATA.iterdir()} != names:

@@ -1,235 +1,149 @@
-// What the program does. Files are written beside their names, and renamed when they are whole.
-use crate::header::{HEAD, Header};
+// What the program does.
+use crate::beside::NewFiles;
+use crate::finding::{find_shards, mode_of};
+use crate::group::Group;
+use crate::head::Head;
 use crate::progress::Progress;
-use crate::split::{join, split_into};
-use anyhow::{Result, bail};
-use reed_solomon::ReedSolomon;
+use crate::reading::write_content;
+use crate::words::Words;
+use crate::writing::{ShardFiles, put_shards, split_content, write_file};
+use anyhow::{Context, Result, bail};
 use std::fs;
-use std::rt::Files;
+use std::fs::Files;
+use std::path::Path;
 
-/// Writes the shards of a file beside it: FILE.0, FILE.1, ..
+/// The new files of the shards of a file.
+#[derive(Drop)]
+struct NewShards<'a, R> {
+    rt: &'a R,
+    files: NewFiles<'a, R>,
+    /// The names of the shards without their numbers.
+    base: String,
+    count: usize,
+    progress: Progress,
+}
+
+impl<R: Files + AllocGlobal + Eprint> ShardFiles for NewShards<'_, R> {
+    fn put(&mut self, head: &Head, shard: &[u8]) -> Result<()> {
+        let base = self.base.as_str();
+        let target = format!(in self.rt.alloc(); "{base}.{}", self.count)?;
+        let name = format!(in self.rt.alloc(); "{target}")?;
+        let mut file = self.files.begin(target)?;
+        write_file(&mut file, head, shard).context(format_args!("cannot write {name}.part"))?;
+        self.files.finish(&file, name.as_str())?;
+        self.count = self.count.saturating_add(1);
+        self.progress
+            .add(self.rt, base, "wrote", shard.len().saturating_add(88));
+        Ok(())
+    }
+}
+
+/// Writes the shards of a file: FILE.0, FILE.1, .., beside it or in a folder.
 pub(crate) fn split_file<R: Files + AllocGlobal + Print + Eprint>(
     rt: &R,
+    words: &Words<'_>,
     file: &str,
-    data_shards: &str,
-    parity_shards: &str,
 ) -> Result<()> {
-    let data_shards: u8 = data_shards.parse()?;
-    let parity_shards: u8 = parity_shards.parse()?;
-    let code = ReedSolomon::new(data_shards as usize, parity_shards as usize)?;
-    let total = code.total_shard_count();
-    let content = fs::read(rt, file)?;
-    let length = content.len() as u64;
-    let size = shard_size(content.len(), data_shards);
-    let mut shards = zeros(rt, total, size)?;
-    split_into(
-        data_shards as usize,
-        parity_shards as usize,
+    let content = fs::read(rt, file).context(format_args!("cannot read {file}"))?;
+    let mode = mode_of(rt, file)?;
+    let shards = split_content(
+        rt.alloc(),
+        words.data_shards,
+        words.parity_shards,
         content.as_slice(),
-        shards.as_mut_slice(),
-    )?;
-    let mut progress = Progress::new();
-    for index in 0..total {
-        let header = Header {
-            data_shards,
-            parity_shards,
-            index: index as u8,
-            length,
-        };
-        write_shard(rt, file, &header, part_of(shards.as_slice(), size, index))?;
-        progress.add(rt, "wrote", size)?;
+    )
+    .context(format_args!("cannot split {file}"))?;
+    let mut new = NewShards {
+        rt,
+        files: NewFiles::new(rt, mode, words.is_forced),
+        base: base_of(rt, file, words.folder)?,
+        count: 0,
+        progress: Progress::new(words.is_quiet),
+    };
+    for index in 0..shards.origin.total() {
+        let target = format!(in rt.alloc(); "{}.{index}", new.base)?;
+        new.files.require_free(target.as_str())?;
     }
-    println!(rt;
-        "{total} shards of {size} bytes, of which any {data_shards} restore {length} bytes"
-    )?;
+    let work = put_shards(&shards, &mut new);
+    new.files.end(work)?;
+    let (total, size, length) = (shards.origin.total(), shards.size, content.len());
+    let _ = println!(rt;
+        "{total} shards of {size} bytes, of which any {} restore {length} bytes",
+        words.data_shards
+    );
     Ok(())
 }
 
 /// Writes a file from its shards, as far as they are whole.
-pub(crate) fn join_file<R: Files + AllocGlobal + Print + Eprint>(rt: &R, file: &str) -> Result<()> {
-    let mut found = find_shards(rt, file)?;
-    let size = found.size;
-    let header = found.header;
-    let total = header.data_shards as usize + header.parity_shards as usize;
-    let flags = found.present;
-    let count = found.count();
-    if total > 256 {
-        bail!("no shards of {file}")
+pub(crate) fn join_file<R: Files + AllocGlobal + Print + Eprint>(
+    rt: &R,
+    words: &Words<'_>,
+    file: &str,
+) -> Result<()> {
+    let mut new = NewFiles::new(rt, 0o600, words.is_forced);
+    new.require_free(file)?;
+    let found = find_shards(rt, words, file)?;
+    let (mut group, mode) = found.gathered(rt)?;
+    let count = group.count();
+    if count < group.origin.data_shards as usize {
+        bail!("{file}: {}", enough_of(rt, &group)?)
     }
-    join(
-        header.data_shards as usize,
-        header.parity_shards as usize,
-        found.shards.as_mut_slice(),
-        &flags[..total],
-    )?;
-    let length = header.length as usize;
-    if length > found.shards.len() {
-        bail!("the shards of {file} are too short")
-    }
-    let part = format!(in rt.alloc(); "{file}.part")?;
-    fs::write(rt, part.as_str(), &found.shards.as_slice()[..length])?;
-    fs::rename(rt, part.as_str(), file)?;
-    println!(rt; "{length} bytes from {count} of {total} shards of {size} bytes")?;
+    new.set_mode(mode);
+    let work = write_joined(rt, &mut new, &mut group, file);
+    new.end(work)?;
+    let (total, length, size) = (group.origin.total(), group.origin.length, group.size);
+    let _ = println!(rt; "{length} bytes from {count} of {total} shards of {size} bytes");
     Ok(())
 }
 
-/// Says of each shard whether it is whole, and fails where one is not, or where the parity is not that of the data.
-pub(crate) fn verify_file<R: Files + AllocGlobal + Print + Eprint>(
+fn write_joined<R: Files + AllocGlobal>(
     rt: &R,
+    new: &mut NewFiles<'_, R>,
+    group: &mut Group,
     file: &str,
 ) -> Result<()> {
-    let found = find_shards(rt, file)?;
-    let header = found.header;
-    let code = ReedSolomon::new(header.data_shards as usize, header.parity_shards as usize)?;
-    let total = code.total_shard_count();
+    let mut out = new.begin(format!(in rt.alloc(); "{file}")?)?;
+    write_content(group, &mut out).context(format_args!("cannot restore {file}"))?;
+    new.finish(&out, file)
+}
+
+/// Says of each shard whether it is whole, and fails where one is not, or where the shards are not those of the file.
+pub(crate) fn verify_file<R: Files + AllocGlobal + Print + Eprint>(
+    rt: &R,
+    words: &Words<'_>,
+    file: &str,
+) -> Result<()> {
+    let found = find_shards(rt, words, file)?;
+    let (group, _) = found.gathered(rt)?;
+    let total = group.origin.total();
     for index in 0..total {
-        if !found.present[index] {
+        if index < 256 && !group.present[index] {
             println!(rt; "shard {index} is missing or damaged")?;
         }
     }
-    let count = found.count();
+    let count = group.count();
     if count < total {
-        bail!(
-            "{count} of {total} shards are whole, and {} are enough",
-            header.data_shards
-        )
+        bail!("{file}: {}", enough_of(rt, &group)?)
     }
-    if !code.verify(found.shards.as_slice())? {
-        bail!("the parity is not that of the data")
+    if !group.is_whole() {
+        bail!("{file}: the parity is not that of the data, or the data are not those of the file")
     }
     println!(rt; "all {total} shards are whole")?;
     Ok(())
 }
 
-// The shards of a file that are whole.
-#[derive(Drop)]
-struct Found {
-    header: Header,
-    size: usize,
-    shards: Vec<u8>,
-    present: [bool; 256],
+// How many shards are whole, and how many are enough.
+fn enough_of<R: AllocGlobal>(rt: &R, group: &Group) -> Result<String> {
+    let (count, total) = (group.count(), group.origin.total());
+    let enough = group.origin.data_shards;
+    Ok(format!(in rt.alloc(); "{count} of {total} shards are whole, and {enough} are enough")?)
 }
 
-// Reads the shards of a file. The first that is whole says how many there are and how long they and the file are, and others
-// that say otherwise are not taken.
-fn find_shards<R: Files + AllocGlobal + Eprint>(rt: &R, file: &str) -> Result<Found> {
-    let mut first: Option<Found> = None;
-    let mut progress = Progress::new();
-    for index in 0..256 {
-        let path = format!(in rt.alloc(); "{file}.{index}")?;
-        let bytes = match fs::read(rt, path.as_str()) {
-            Ok(bytes) => bytes,
-            Err(_) => continue,
-        };
-        progress.add(rt, "read", bytes.len())?;
-        let header = match Header::of_file(bytes.as_slice()) {
-            Some(header) => header,
-            None => continue,
-        };
-        if header.index as usize != index {
-            continue;
-        }
-        match &mut first {
-            Some(found) => found.take(&header, &bytes.as_slice()[HEAD..]),
-            None => first = Some(found_first(rt, header, &bytes.as_slice()[HEAD..])?),
-        }
-    }
-    match first {
-        Some(found) => Ok(found),
-        None => bail!("no shards of {file}"),
-    }
-}
-
-// The shards of which one is the first that is found.
-fn found_first<R: AllocGlobal>(rt: &R, header: Header, shard: &[u8]) -> Result<Found> {
-    let code = ReedSolomon::new(header.data_shards as usize, header.parity_shards as usize)?;
-    let size = shard.len();
-    let shards = zeros(rt, code.total_shard_count(), size)?;
-    let mut found = Found {
-        header,
-        size,
-        shards,
-        present: [false; 256],
-    };
-    found.take(&header, shard);
-    Ok(found)
-}
-
-impl Found {
-    // How many shards are whole.
-    fn count(&self) -> usize {
-        self.present.iter().filter(|is_whole| **is_whole).count()
-    }
-
-    // Takes a shard, if it is one of these.
-    fn take(&mut self, header: &Header, shard: &[u8]) {
-        let index = header.index as usize;
-        let is_same = header.data_shards == self.header.data_shards
-            && header.parity_shards == self.header.parity_shards
-            && header.length == self.header.length;
-        if !is_same || shard.len() != self.size || self.present[index] {
-            return;
-        }
-        if place(self.shards.as_mut_slice(), index, shard) {
-            self.present[index] = true;
-        }
-    }
-}
-
-// Writes a shard to its place among others of its size, or returns false where there is no such place.
-fn place(shards: &mut [u8], index: usize, shard: &[u8]) -> bool {
-    let begin = match index.checked_mul(shard.len()) {
-        Some(begin) if begin <= shards.len() => begin,
-        _ => return false,
-    };
-    if shards.len() - begin < shard.len() {
-        return false;
-    }
-    for i in 0..shard.len() {
-        shards[begin + i] = shard[i];
-    }
-    true
-}
-
-// The size of each shard of a file of so many bytes: one at least, so that an empty file has shards too.
-fn shard_size(length: usize, data_shards: u8) -> usize {
-    let count = data_shards as usize;
-    if length == 0 || count == 0 {
-        return 1;
-    }
-    (length - 1) / count + 1
-}
-
-// So many zeros as the shards have bytes.
-fn zeros<R: AllocGlobal>(rt: &R, total: usize, size: usize) -> Result<Vec<u8>> {
-    match total.checked_mul(size) {
-        Some(length) => Ok(vec![in rt.alloc(); 0u8; length]?),
-        None => bail!("the file is too long"),
-    }
-}
-
-// One of the shards.
-fn part_of(shards: &[u8], size: usize, index: usize) -> &[u8] {
-    match index.checked_mul(size) {
-        Some(begin) if begin <= shards.len() && shards.len() - begin >= size => &shards[begin..begin
-            + size],
-        _ => &[],
-    }
-}
-
-// Writes the file of one shard.
-fn write_shard<R: Files + AllocGlobal>(
-    rt: &R,
-    file: &str,
-    header: &Header,
-    shard: &[u8],
-) -> Result<()> {
-    let mut bytes = Vec::new(rt.alloc());
-    bytes.extend_from_slice(&header.head(shard))?;
-    bytes.extend_from_slice(shard)?;
-    let path = format!(in rt.alloc(); "{file}.{}", header.index)?;
-    let part = format!(in rt.alloc(); "{path}.part")?;
-    fs::write(rt, part.as_str(), bytes.as_slice())?;
-    fs::rename(rt, part.as_str(), path.as_str())?;
-    Ok(())
+// The names of the shards of a file without their numbers: beside it, or in a folder.
+fn base_of<R: AllocGlobal>(rt: &R, file: &str, folder: Option<&str>) -> Result<String> {
+    let name = Path::new(file).file_name().unwrap_or(file);
+    Ok(match folder {
+        Some(folder) => format!(in rt.alloc(); "{folder}/{name}")?,
+        None => format!(in rt.alloc(); "{file}")?,
+    })
 }

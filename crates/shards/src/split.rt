@@ -1,6 +1,8 @@
 // The bytes of a file in shards, and back.
 ghost use Rattle.std.specs.Prelude.{◌≡◌, ◌+◌, ◌*◌, ◌/◌, ◌<◌, ◌≤◌, ℕ, List, length, slice_index, take, IsOk, IsTrue};
 ghost use Rattle.reed_solomon.specs.RoundTrip.{AgreeWherePresent};
+ghost use Rattle.reed_solomon.specs.Shards.{present_count};
+ghost use Rattle.reed_solomon.specs.Sizes.{HasShardSize};
 ghost use Rattle.shards.specs.Splits.{IsSplit};
 
 use reed_solomon::{ReedSolomon, ReedSolomonError, lost_shards_return};
@@ -12,7 +14,8 @@ pub(crate) fn split_into(
     content: &[u8],
     shards: &mut [u8],
 ) -> Result<(), ReedSolomonError>
-    ensures { IsOk result → IsSplit data_shards (data_shards + parity_shards) content.now shards.new }
+    ensures split { IsOk result → IsSplit data_shards (data_shards + parity_shards) content.now shards.new }
+    ensures long { length shards.new ≡ length shards.old }
 {
     let code = ReedSolomon::new(data_shards, parity_shards)?;
     let size = shards.len() / code.total_shard_count();
@@ -58,9 +61,12 @@ pub(crate) fn join(
     shards: &mut [u8],
     present: &[bool],
 ) -> Result<(), ReedSolomonError>
-    ensures { let total = data_shards + parity_shards in (content whole : List ℕ) → IsOk result → IsSplit data_shards total content whole
+    ensures restored { let total = data_shards + parity_shards in (content whole : List ℕ) → IsOk result → IsSplit data_shards total content whole
         → length whole ≡ length shards.old → AgreeWherePresent total (length shards.old / total) present.now shards.old whole
         → take (length content) shards.new ≡ content }
+    ensures accepted { 0 < data_shards → 0 < parity_shards → data_shards + parity_shards ≤ 256 → length present.now ≡ data_shards + parity_shards
+        → HasShardSize (data_shards + parity_shards) (length shards.old) → data_shards ≤ present_count present.now → IsOk result }
+    ensures long { length shards.new ≡ length shards.old }
 {
     lost_shards_return();
     ReedSolomon::new(data_shards, parity_shards)?.reconstruct(shards, present)

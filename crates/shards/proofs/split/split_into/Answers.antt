@@ -1,8 +1,8 @@
 use Rattle.shards.proofs.Splits.{split_by}
 use Rattle.shards.proofs.split.split_into.Goals as goal
 
-pub returns : goal.returns
-returns c =
+pub returns-clause-split : goal.returns-clause-split
+returns-clause-split c =
     λ ok.
     let code = c.in_ok-code.code in
     split_by c.args.data_shards c.args.parity_shards code.data_shards code.parity_shards c.in_ok-code.ensures.made.0

@@ -1,0 +1,126 @@
+// Files that are written beside their places, and put there when all of them are whole: under a name that ends in `.part`, synced, with
+// the mode that is asked for, and then renamed.
+use anyhow::{Context, Result, bail};
+use std::fs;
+use std::fs::{File, Files, OpenFile, OpenOptions, Permissions};
+use std::os::unix::fs::{OpenOptionsExt, PermissionsExt};
+use std::path::Path;
+
+/// New files. What is there already is not overwritten, unless that is asked for.
+#[derive(Drop)]
+pub(crate) struct NewFiles<'a, R> {
+    rt: &'a R,
+    mode: u32,
+    is_forced: bool,
+    targets: Vec<String>,
+    placed: usize,
+}
+
+impl<'a, R: Files + AllocGlobal> NewFiles<'a, R> {
+    /// No file yet. Each is to have this mode.
+    pub(crate) fn new(rt: &'a R, mode: u32, is_forced: bool) -> NewFiles<'a, R> {
+        NewFiles {
+            rt,
+            mode: mode & 0o777,
+            is_forced,
+            targets: Vec::new(rt.alloc()),
+            placed: 0,
+        }
+    }
+
+    /// From now on each file is to have this mode.
+    pub(crate) fn set_mode(&mut self, mode: u32) {
+        self.mode = mode & 0o777;
+    }
+
+    /// Fails where a file is at that place, and is not to be overwritten.
+    pub(crate) fn require_free(&self, target: &str) -> Result<()> {
+        if !self.is_forced && fs::symlink_metadata(self.rt, target).is_ok() {
+            bail!("{target} is there already; --force overwrites it")
+        }
+        Ok(())
+    }
+
+    /// Opens a new file beside its place. Only its owner may read it as yet.
+    pub(crate) fn begin(&mut self, target: String) -> Result<R::File> {
+        self.require_free(target.as_str())?;
+        let part = part_of(self.rt, target.as_str())?;
+        self.require_free(part.as_str())?;
+        if self.is_forced {
+            let _ = fs::remove_file(self.rt, part.as_str());
+        }
+        let mut options = OpenOptions::new();
+        options.write(true).create_new(true).mode(0o600);
+        let file = options
+            .open(self.rt, part.as_str())
+            .context(format_args!("cannot write {part}"))?;
+        self.targets.push(target)?;
+        Ok(file)
+    }
+
+    /// Gives a file its mode, and waits until it is on the disk.
+    pub(crate) fn finish(&self, file: &R::File, target: &str) -> Result<()> {
+        file.set_permissions(Permissions::from_mode(self.mode))
+            .context(format_args!("cannot set the mode of {target}.part"))?;
+        file.sync_all()
+            .context(format_args!("cannot write {target}.part"))
+    }
+
+    /// Puts all files at their places.
+    pub(crate) fn place(&mut self) -> Result<()> {
+        for i in 0..self.targets.len() {
+            let target = self.targets[i].as_str();
+            let part = part_of(self.rt, target)?;
+            fs::rename(self.rt, part.as_str(), target).context(format_args!(
+                "cannot write {target}"
+            ))?;
+            self.placed = i + 1;
+        }
+        if let Some(target) = self.targets.first() {
+            sync_folder(self.rt, target.as_str());
+        }
+        Ok(())
+    }
+
+    /// Removes what was begun: the files beside their places, and those at their places that were not there before.
+    pub(crate) fn remove(&mut self) {
+        for i in 0..self.targets.len() {
+            let target = self.targets[i].as_str();
+            if i >= self.placed {
+                if let Ok(part) = part_of(self.rt, target) {
+                    let _ = fs::remove_file(self.rt, part.as_str());
+                }
+            } else if !self.is_forced {
+                let _ = fs::remove_file(self.rt, target);
+            }
+        }
+    }
+
+    /// Puts the files at their places, or removes what was begun where the work failed or they cannot be put there.
+    pub(crate) fn end(&mut self, work: Result<()>) -> Result<()> {
+        let ended = match work {
+            Ok(()) => self.place(),
+            Err(error) => Err(error),
+        };
+        if ended.is_err() {
+            self.remove();
+        }
+        ended
+    }
+}
+
+// The name under which a file is written at first.
+fn part_of<R: AllocGlobal>(rt: &R, target: &str) -> Result<String> {
+    Ok(format!(in rt.alloc(); "{target}.part")?)
+}
+
+// Waits until the names in the folder of a file are on the disk, where the system does that for folders.
+fn sync_folder<R: Files>(rt: &R, file: &str) {
+    let folder = match Path::new(file).parent() {
+        Some(folder) if !folder.as_str().is_empty() => folder.as_str(),
+        _ => ".",
+    };
+    if let Ok(folder) = File::open(rt, folder) {
+        let _ = folder.sync_all();
+    }
+}

@@ -1,0 +1,187 @@
+// The shards of one file: gathered from files by what their heads say, restored, and looked at.
+ghost use Rattle.std.specs.Prelude.{◌≡◌, ◌+◌, ◌*◌, ◌≤◌, ◌↔◌, take, length, IsOk, IsTrue, IfOk};
+ghost use Rattle.reed_solomon.specs.Shards.{present_count};
+ghost use Rattle.shards.specs.Groups.{IsNamed, shard_total};
+
+use crate::head::{HEAD, Head, Origin};
+use crate::split::join;
+use reed_solomon::ReedSolomon;
+use sha2::{Digest, Sha256};
+use std::alloc::{AllocError, Global};
+use thiserror::Error;
+
+/// Why a file is not restored.
+#[derive(Clone, Copy, Debug, PartialEq, Eq, Error)]
+pub(crate) enum JoinError {
+    /// No code has so many shards.
+    #[error("no code has so many shards")]
+    Counts,
+    /// Fewer shards are at hand than the data have.
+    #[error("too few shards are whole")]
+    TooFew,
+    /// What the shards give is not the file whose identity their heads name.
+    #[error("the shards give other bytes than those of the file that their heads name")]
+    OtherBytes,
+    /// Memory was refused.
+    #[error("out of memory")]
+    Memory,
+    /// The bytes could not be written.
+    #[error("its bytes cannot be written")]
+    CannotWrite,
+}
+
+/// The shards of one file, as far as they are at hand.
+#[derive(Drop)]
+pub(crate) struct Group {
+    pub(crate) origin: Origin,
+    pub(crate) size: usize,
+    pub(crate) shards: Vec<u8>,
+    pub(crate) present: [bool; 256],
+    ghost few: { origin.data_shards + origin.parity_shards ≤ 256 },
+    ghost flags: { length present ≡ 256 },
+}
+
+impl Group {
+    /// No shard of a file is at hand yet. Each is to have `size` bytes.
+    pub(crate) fn new(alloc: Global, origin: Origin, size: usize) -> Result<Group, JoinError>
+        ensures { IfOk result (λ group. (group.origin ≡ origin) × (group.size ≡ size)) }
+    {
+        let total = origin.total();
+        if origin.data_shards == 0 || origin.parity_shards == 0 || total > 256 {
+            return Err(JoinError::Counts);
+        }
+        let shards = match zeros(alloc, total, size) {
+            Ok(shards) => shards,
+            Err(_) => return Err(JoinError::Memory),
+        };
+        Ok(Group {
+            origin,
+            size,
+            shards,
+            present: [false; 256],
+        })
+    }
+
+    /// Takes the shard of a file, if it is one of these and none of its number is at hand.
+    pub(crate) fn take(&mut self, file: &[u8]) {
+        let head = match Head::of_file(file) {
+            Some(head) => head,
+            None => return,
+        };
+        let index = head.index as usize;
+        let shard = &file[HEAD..];
+        let is_same = head.origin == self.origin && index < self.origin.total();
+        if !is_same || shard.len() != self.size || self.present[index] {
+            return;
+        }
+        if put_shard(self.shards.as_mut_slice(), index, shard) {
+            self.present[index] = true;
+        }
+    }
+
+    /// How many shards are at hand.
+    pub(crate) fn count(&self) -> usize
+        ensures { result ≡ present_count (take (shard_total self.now.origin) self.now.present) }
+    {
+        count_of(&self.present[..self.origin.total()])
+    }
+
+    /// Restores the missing shards, and looks whether the file has its identity.
+    pub(crate) fn restore(&mut self) -> Result<(), JoinError>
+        ensures kept { (self.new.origin ≡ self.old.origin) × (self.new.size ≡ self.old.size) }
+        ensures named { IsOk result → IsNamed self.old.origin self.new.shards.items }
+    {
+        let total = self.origin.total();
+        if self.count() < self.origin.data_shards as usize {
+            return Err(JoinError::TooFew);
+        }
+        let present = self.present;
+        let joined = join(
+            self.origin.data_shards as usize,
+            self.origin.parity_shards as usize,
+            self.shards.as_mut_slice(),
+            &present[..total],
+        );
+        if joined.is_err() {
+            return Err(JoinError::Counts);
+        }
+        if self.is_file() {
+            Ok(())
+        } else {
+            Err(JoinError::OtherBytes)
+        }
+    }
+
+    /// The bytes of the file, once the shards are restored: as many as it has, or as the shards have.
+    pub(crate) fn content(&self) -> &[u8]
+        ensures { result.now ≡ take self.now.origin.length self.now.shards.items }
+    {
+        let length = self.origin.length as usize;
+        let bytes = self.shards.as_slice();
+        if length <= bytes.len() {
+            &bytes[..length]
+        } else {
+            bytes
+        }
+    }
+
+    // Whether the bytes of the file have its length and its identity.
+    fn is_file(&self) -> bool
+        ensures { IsTrue result ↔ IsNamed self.now.origin self.now.shards.items }
+    {
+        let content = self.content();
+        content.len() as u64 == self.origin.length
+            && Sha256::digest(content) == self.origin.identity
+    }
+
+    /// Whether all shards are at hand, the parity is that of the data, and the data are the file's.
+    pub(crate) fn is_whole(&self) -> bool
+        ensures { IsTrue result → (present_count (take (shard_total self.now.origin) self.now.present) ≡ shard_total self.now.origin)
+            × IsNamed self.now.origin self.now.shards.items }
+    {
+        self.count() == self.origin.total() && self.has_parity() && self.is_file()
+    }
+
+    // Whether the parity is that of the data.
+    fn has_parity(&self) -> bool {
+        match ReedSolomon::new(
+            self.origin.data_shards as usize,
+            self.origin.parity_shards as usize,
+        ) {
+            Ok(code) => matches!(code.verify(self.shards.as_slice()), Ok(true)),
+            Err(_) => false,
+        }
+    }
+}
+
+// How many flags are true.
+fn count_of(present: &[bool]) -> usize
+    ensures { result ≡ present_count present.now }
+{
+    present.iter().filter(|is_present| **is_present).count()
+}
+
+// So many zeros as so many shards have bytes.
+pub(crate) fn zeros(alloc: Global, total: usize, size: usize) -> Result<Vec<u8>, AllocError>
+    ensures { IfOk result (λ bytes. length bytes.items ≡ total * size) }
+{
+    match total.checked_mul(size) {
+        Some(length) => vec![in alloc; 0u8; length],
+        None => Err(AllocError),
+    }
+}
+
+// Writes a shard to its place among others of its size, or returns false where there is no such place.
+fn put_shard(shards: &mut [u8], index: usize, shard: &[u8]) -> bool {
+    let begin = match index.checked_mul(shard.len()) {
+        Some(begin) if begin <= shards.len() => begin,
+        _ => return false,
+    };
+    if shards.len() - begin < shard.len() {
+        return false;
+    }
+    for i in 0..shard.len() {
+        shards[begin + i] = shard[i];
+    }
+    true
+}

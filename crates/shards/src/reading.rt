@@ -1,0 +1,52 @@
+// The shards of a file from the files that have them, and the file from its shards.
+ghost use Rattle.std.specs.Prelude.{◌≡◌, ℕ, List, length, IfOk, OnOk};
+ghost use Rattle.std.specs.Io.KnownBytes.{Appends};
+ghost use Rattle.sha2.specs.Sha256.{sha256};
+
+use crate::group::{Group, JoinError};
+use crate::head::Origin;
+use std::alloc::Global;
+use std::io::Write;
+
+/// Files in which shards may stand.
+pub(crate) trait ShardSource {
+    /// How many there are.
+    fn count(&self) -> usize;
+
+    /// The bytes of one of them, or nothing where it cannot be read.
+    fn read(&mut self, place: usize) -> Option<Vec<u8>>;
+}
+
+/// The group of all files that are shards of one origin and size, and of no other file.
+pub(crate) fn gather<S: ShardSource>(
+    alloc: Global,
+    source: &mut S,
+    origin: Origin,
+    size: usize,
+) -> Result<Group, JoinError> {
+    let mut group = Group::new(alloc, origin, size)?;
+    for place in 0..source.count() {
+        take_next(source, place, &mut group);
+    }
+    Ok(group)
+}
+
+// Takes one of the files, if it is a shard of the group.
+fn take_next<S: ShardSource>(source: &mut S, place: usize, group: &mut Group) {
+    match source.read(place) {
+        Some(file) => group.take(file.as_slice()),
+        None => {}
+    }
+}
+
+/// Restores a file from a group of its shards, and writes it.
+pub(crate) fn write_content<W: Write>(group: &mut Group, writer: &mut W) -> Result<(), JoinError>
+    ensures { OnOk result ((content : List ℕ) × Appends (W.contents writer.old) (W.contents writer.new) content
+        × (sha256 content ≡ group.old.origin.identity) × (length content ≡ group.old.origin.length)) }
+{
+    group.restore()?;
+    match writer.write_all(group.content()) {
+        Ok(()) => Ok(()),
+        Err(_) => Err(JoinError::CannotWrite),
+    }
+}

@@ -1,0 +1,135 @@
+// The words of the command line.
+use std::alloc::{AllocError, Global};
+
+/// What is to be done.
+#[derive(Clone, Copy, PartialEq, Eq)]
+pub(crate) enum Task {
+    Help,
+    Version,
+    Split,
+    Join,
+    Verify,
+}
+
+/// What the words say.
+#[derive(Drop)]
+pub(crate) struct Words<'a> {
+    pub(crate) task: Task,
+    /// The file, and the names behind it.
+    pub(crate) names: Vec<&'a str>,
+    pub(crate) data_shards: u8,
+    pub(crate) parity_shards: u8,
+    pub(crate) folder: Option<&'a str>,
+    pub(crate) identity: Option<&'a str>,
+    pub(crate) is_forced: bool,
+    pub(crate) is_quiet: bool,
+}
+
+impl<'a> Words<'a> {
+    /// What the words behind the program's name say, or nothing where they are wrong.
+    pub(crate) fn of(alloc: Global, words: &'a [String]) -> Result<Option<Words<'a>>, AllocError> {
+        let mut said = Words {
+            task: Task::Help,
+            names: Vec::new(alloc),
+            data_shards: 0,
+            parity_shards: 0,
+            folder: None,
+            identity: None,
+            is_forced: false,
+            is_quiet: false,
+        };
+        let Some(task) = words.first().and_then(|word| task_named(word.as_str())) else {
+            return Ok(None);
+        };
+        said.task = task;
+        let mut is_taken = true;
+        for place in 0..words.len() {
+            if is_taken {
+                is_taken = false;
+            } else {
+                let value = words.get(place.saturating_add(1)).map(|word| word.as_str());
+                match said.add(words[place].as_str(), value)? {
+                    Some(takes_value) => is_taken = takes_value,
+                    None => return Ok(None),
+                }
+            }
+        }
+        Ok(if said.take_counts() && said.are_right() {
+            Some(said)
+        } else {
+            None
+        })
+    }
+
+    // Takes a word, and says whether it took the next too: nothing where the word is wrong.
+    fn add(&mut self, word: &'a str, value: Option<&'a str>) -> Result<Option<bool>, AllocError> {
+        match (word, value) {
+            ("--force", _) => self.is_forced = true,
+            ("--quiet", _) => self.is_quiet = true,
+            ("--data", Some(count)) => return Ok(set_count(&mut self.data_shards, count)),
+            ("--parity", Some(count)) => return Ok(set_count(&mut self.parity_shards, count)),
+            ("--out", Some(folder)) => {
+                self.folder = Some(folder);
+                return Ok(Some(true));
+            }
+            ("--identity", Some(identity)) => {
+                self.identity = Some(identity);
+                return Ok(Some(true));
+            }
+            _ if word.starts_with("--") => return Ok(None),
+            _ => self.names.push(word)?,
+        }
+        Ok(Some(false))
+    }
+
+    // Takes the two counts behind a file that is split, where no options say them.
+    fn take_counts(&mut self) -> bool {
+        if self.task == Task::Split && self.names.len() == 3 {
+            let is_data = set_count(&mut self.data_shards, self.names[1]).is_some();
+            let is_parity = set_count(&mut self.parity_shards, self.names[2]).is_some();
+            self.names.truncate(1);
+            return is_data && is_parity;
+        }
+        true
+    }
+
+    // Whether the words go together.
+    fn are_right(&self) -> bool {
+        match self.task {
+            Task::Help | Task::Version => self.names.is_empty(),
+            Task::Split => self.names.len() == 1
+                && self.data_shards > 0
+                && self.parity_shards > 0
+                && self.identity.is_none(),
+            Task::Join => !self.names.is_empty() && self.has_no_counts() && self.folder.is_none(),
+            Task::Verify => !self.names.is_empty()
+                && self.has_no_counts()
+                && self.folder.is_none()
+                && !self.is_forced,
+        }
+    }
+
+    fn has_no_counts(&self) -> bool {
+        self.data_shards == 0 && self.parity_shards == 0
+    }
+}
+
+fn task_named(word: &str) -> Option<Task> {
+    match word {
+        "--help" | "-h" => Some(Task::Help),
+        "--version" => Some(Task::Version),
+        "split" => Some(Task::Split),
+        "join" => Some(Task::Join),
+        "verify" => Some(Task::Verify),
+        _ => None,
+    }
+}
+
+// Sets a count that was not set before, and says that its word was taken.
+fn set_count(count: &mut u8, word: &str) -> Option<bool> {
+    if *count != 0 {
+        return None;
+    }
+    *count = word.parse().ok()?;
+    if *count == 0 { None } else { Some(true) }
+}

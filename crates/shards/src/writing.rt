@@ -1,0 +1,103 @@
+// The files of the shards of a file: what they hold, and their writing.
+ghost use Rattle.std.specs.Prelude.{◌≡◌, ◌+◌, ◌*◌, ◌<◌, ◌≤◌, length, IfOk};
+ghost use Rattle.sha2.specs.Sha256.{sha256};
+ghost use Rattle.shards.specs.Splits.{IsSplit};
+
+use crate::group::{JoinError, zeros};
+use crate::head::{Head, Origin};
+use crate::split::split_into;
+use sha2::{Digest, Sha256};
+use std::alloc::Global;
+use std::io;
+use std::io::Write;
+
+/// The shards of a file, and what their heads say.
+#[derive(Drop)]
+pub(crate) struct Shards {
+    pub(crate) origin: Origin,
+    pub(crate) size: usize,
+    pub(crate) bytes: Vec<u8>,
+    ghost few: { origin.data_shards + origin.parity_shards ≤ 256 },
+    ghost whole: { length bytes.items ≡ (origin.data_shards + origin.parity_shards) * size },
+}
+
+/// Splits the bytes of a file into so many shards of data and of parity.
+pub(crate) fn split_content(
+    alloc: Global,
+    data_shards: u8,
+    parity_shards: u8,
+    content: &[u8],
+) -> Result<Shards, JoinError>
+    ensures counts { IfOk result (λ shards. (shards.origin.data_shards ≡ data_shards) × (shards.origin.parity_shards ≡ parity_shards)) }
+    ensures named { IfOk result (λ shards. (shards.origin.length ≡ length content.now) × (shards.origin.identity ≡ sha256 content.now)) }
+    ensures split { IfOk result (λ shards. IsSplit data_shards (data_shards + parity_shards) content.now shards.bytes.items) }
+{
+    let total = data_shards as usize + parity_shards as usize;
+    if data_shards == 0 || parity_shards == 0 || total > 256 {
+        return Err(JoinError::Counts);
+    }
+    let size = shard_size(content.len(), data_shards as usize);
+    let mut bytes = match zeros(alloc, total, size) {
+        Ok(bytes) => bytes,
+        Err(_) => return Err(JoinError::Memory),
+    };
+    let split = split_into(
+        data_shards as usize,
+        parity_shards as usize,
+        content,
+        bytes.as_mut_slice(),
+    );
+    if split.is_err() {
+        return Err(JoinError::Counts);
+    }
+    Ok(Shards {
+        origin: Origin {
+            data_shards,
+            parity_shards,
+            length: content.len() as u64,
+            identity: Sha256::digest(content),
+        },
+        size,
+        bytes,
+    })
+}
+
+// The size of each shard of so many bytes: one at least, so that an empty file has shards too.
+fn shard_size(length: usize, data_shards: usize) -> usize
+    requires { 0 < data_shards }
+{
+    if length == 0 {
+        1
+    } else {
+        (length - 1) / data_shards + 1
+    }
+}
+
+/// Where the files of shards are put, one after the other.
+pub(crate) trait ShardFiles {
+    /// Puts the next file, of a head and a shard.
+    fn put(&mut self, head: &Head, shard: &[u8]) -> anyhow::Result<()>;
+}
+
+/// Puts the file of each shard.
+pub(crate) fn put_shards<F: ShardFiles>(shards: &Shards, files: &mut F) -> anyhow::Result<()> {
+    for index in 0..shards.origin.total() {
+        let head = Head {
+            origin: shards.origin,
+            index: index as u8,
+        };
+        let begin = index * shards.size;
+        let shard = &shards.bytes.as_slice()[begin..begin + shards.size];
+        files.put(&head, shard)?;
+    }
+    Ok(())
+}
+
+/// Writes the file of a head and a shard.
+pub(crate) fn write_file<W: Write>(writer: &mut W, head: &Head, shard: &[u8]) -> io::Result<()> {
+    writer.write_all(&head.fields())?;
+    writer.write_all(&head.origin.length.to_le_bytes())?;
+    writer.write_all(&head.origin.identity)?;
+    writer.write_all(&head.digest(shard))?;
+    writer.write_all(shard)
+}
