@@ -11,3 +11,6 @@ mod Words
 pub mod SumcheckRounds
 pub mod SumcheckTurns
 pub mod SumcheckWhole
+mod Rows
+mod Soundness
+mod ZeroChecks

@@ -17,7 +17,7 @@ module _ (width : ℕ) (times : ℕ → ℕ → ℕ) (wide : 0 < width) (ring : 
   -- ---- closure under products
 
   -- a polynomial of k coefficients is one of d + k
-  polynomial-widen : (d k : ℕ) (f : ℕ → ℕ) → IsPolynomial times k f → IsPolynomial times (d + k) f
+  pub polynomial-widen : (d k : ℕ) (f : ℕ → ℕ) → IsPolynomial times k f → IsPolynomial times (d + k) f
   polynomial-widen zero k f p = let same : k ≡ 0 + k = omega arith in subst (λ (n : ℕ). IsPolynomial times n f) same p
   polynomial-widen (suc d) k f p =
       let same : suc (d + k) ≡ suc d + k = omega arith in
@@ -30,7 +30,7 @@ module _ (width : ℕ) (times : ℕ → ℕ → ℕ) (wide : 0 < width) (ring : 
       ∙ ap₂ bit_xor (ap (λ (a : ℕ). times a h) (ring.one c) ∙ mod-times width 1 times ring c h) (ring.assoc x g h)
 
   -- a product of j + 1 and k coefficients has j + k
-  polynomial-product : (j k : ℕ) (f g : ℕ → ℕ) → IsPolynomial times (suc j) f → IsPolynomial times k g
+  pub polynomial-product : (j k : ℕ) (f g : ℕ → ℕ) → IsPolynomial times (suc j) f → IsPolynomial times k g
       → IsPolynomial times (j + k) (λ x. times (f x) (g x))
   unfolding IsPolynomial
   polynomial-product zero k f g p q =

@@ -9,6 +9,7 @@ pub mod commitment;
 mod digests;
 mod error;
 pub mod extension;
+pub mod laws;
 pub mod merkle_paths;
 pub mod merkle_tree;
 pub mod sumcheck;
