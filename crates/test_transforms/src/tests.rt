@@ -3,5 +3,6 @@ mod kernel;
 mod levels;
 mod low_stages;
 mod memory;
+mod rows;
 mod slices;
 mod transform;

@@ -1,0 +1,6 @@
+mod LaneFacts
+mod RowHalves
+mod RowSteps
+mod ScalarHalves
+mod Scalars
+mod Tables
