@@ -131,3 +131,16 @@ module _ {A : Type 0} (value : A → ℕ) (times : ℕ → ℕ → ℕ) (t n : �
       (subst (λ (l : List ℕ). IsButterfly times t n (slice_index l) (slice_index (map value lo ++ map value hi)))
       (sym (map-append value lo' hi'))
       (inverse_numbers times t n (map value lo) (map value hi) (map value lo') (map value hi') low_count high_count high_is low_is))
+
+-- the butterflies of the pairs of two slices, whichever way, are that of the block that was split
+module _ {A : Type 0} (value : A → ℕ) (times : ℕ → ℕ → ℕ) (t n : ℕ) (block lo hi lo' hi' : List A) (parts : block ≡ lo ++ hi) (low : length lo ≡ n) where
+  pub taken_values : (inverse : Bool) → TakesBlock inverse times t (length lo) (slice_index (map value lo ++ map value hi))
+      (slice_index (map value lo' ++ map value hi'))
+      → TakesBlock inverse times t n (slice_index (map value block)) (slice_index (map value (lo' ++ hi')))
+  taken_values inverse is =
+      subst (λ (l : List ℕ). TakesBlock inverse times t n (slice_index l) (slice_index (map value (lo' ++ hi'))))
+      (sym (ap (map value) parts ∙ map-append value lo hi))
+      (subst (λ (l : List ℕ). TakesBlock inverse times t n (slice_index (map value lo ++ map value hi)) (slice_index l))
+      (sym (map-append value lo' hi'))
+      (subst (λ (k : ℕ). TakesBlock inverse times t k (slice_index (map value lo ++ map value hi)) (slice_index (map value lo' ++ map value hi')))
+      low is))

@@ -7,8 +7,10 @@ pub mod ElementPoints
 pub mod ElementStages
 pub mod ImageValues
 pub mod LowStageRuns
+pub mod NumberValues
 pub mod OneOrigin
 pub mod PairLoops
 pub mod PointSums
+pub mod TwiddleWidths
 pub mod WholeStages
 pub mod Written

@@ -1,13 +1,14 @@
 -- Pairs of places of two slices, one after another.
-use Rattle.std.proofs.Common.{◌≡◌, ◌≢◌, ◌⊎◌, inl, inr, ℕ, ◌+◌, ◌<◌, ◌≤◌, List, length, map, get_or, refl, sym, ◌∙◌, ap, subst, arith, get_or-set_other, get_or-set_same}
-use Rattle.std.specs.Prelude.{bit_xor, slice_index}
+use Rattle.std.proofs.Common.{◌≡◌, ◌≢◌, ◌⊎◌, inl, inr, ℕ, zero, suc, ◌+◌, ◌<◌, ◌≤◌, Bool, true, false, List, [], ◌∷◌, ◌++◌, length, map, get_or, refl, sym, ◌∙◌, ap, ap₂, subst, arith, lit<, get_or-set_other, get_or-set_same}
+use Rattle.std.specs.Prelude.{bit_xor, slice_index, IsTrue}
 use Rattle.std.specs.Simd.Lanes.{zip2}
 use Rattle.std.proofs.Math.ListN.{set}
 use Rattle.std.proofs.lemmas.Bool.{cases_lt}
 use Rattle.std.proofs.lemmas.List.{ext_get_or, get_or-map, length-map, length-set, map-set}
 use Rattle.std.proofs.lemmas.Simd.{length-zip2}
 use Rattle.ghash_slices.specs.Stages.{add_multiple}
-use Rattle.additive_transforms.proofs.Butterflies.{read_both}
+use Rattle.additive_transforms.specs.Stages.{IsButterfly, TakesBlock}
+use Rattle.additive_transforms.proofs.Butterflies.{read_both, read_lower, read_upper, taken_back, taken_on, twice}
 
 -- the forward butterfly takes a pair to a pair
 abbrev pub forward_of : (ℕ → ℕ → ℕ) → ℕ → ℕ → ℕ → ℕ → ℕ → Type 0
@@ -16,6 +17,10 @@ forward_of times s x y x' y' = (x' ≡ add_multiple times s x y) × (y' ≡ bit_
 -- and the inverse one
 abbrev pub inverse_of : (ℕ → ℕ → ℕ) → ℕ → ℕ → ℕ → ℕ → ℕ → Type 0
 inverse_of times s x y x' y' = (y' ≡ bit_xor y x) × (x' ≡ add_multiple times s x y')
+
+-- one of them does: a pair is a block of two places
+abbrev pub taken_pair : Bool → (ℕ → ℕ → ℕ) → ℕ → ℕ → ℕ → ℕ → ℕ → Type 0
+taken_pair inverse times s x y x' y' = TakesBlock inverse times s 1 (slice_index (x ∷ y ∷ [])) (slice_index (x' ∷ y' ∷ []))
 
 -- the pairs before place n are done, and those from it on are as they were
 pub record PairsSoFar (pair : ℕ → ℕ → ℕ → ℕ → Type 0) (n : ℕ) (lo hi lo' hi' : List ℕ) : Type 0 where
@@ -141,3 +146,71 @@ module _ {A : Type 0} (value : A → ℕ) (times : ℕ → ℕ → ℕ) (s n : �
   pub inverse_ends : PairsSoFar (inverse_of times s) n (map value lo) (map value hi) (map value lo') (map value hi')
       → (map value hi' ≡ zip2 bit_xor (map value hi) (map value lo)) × (map value lo' ≡ zip2 (add_multiple times s) (map value lo) (map value hi'))
   inverse_ends = inverse_numbers times s n (map value lo) (map value hi) (map value lo') (map value hi') same_count all_counted
+
+-- ---- whichever way
+
+-- what holds at the only place of a list of one
+at_only : (P : ℕ → Type 0) → P 0 → (r : ℕ) → r < 1 → P r
+at_only P first zero below = first
+at_only P first (suc r) below = absurd (omega arith)
+
+module _ (times : ℕ → ℕ → ℕ) (s x y x' y' : ℕ) where
+  -- a pair that the forward butterfly takes is a block of two places
+  of_pair : forward_of times s x y x' y' → IsButterfly times s 1 (slice_index (x ∷ y ∷ [])) (slice_index (x' ∷ y' ∷ []))
+  of_pair is =
+      record {
+        lower =
+            at_only (λ r. slice_index (x' ∷ y' ∷ []) r ≡ add_multiple times s (slice_index (x ∷ y ∷ []) r) (slice_index (x ∷ y ∷ []) (1 + r))) is.0;
+        upper =
+            at_only (λ r. slice_index (x' ∷ y' ∷ []) (1 + r) ≡ bit_xor (slice_index (x ∷ y ∷ []) (1 + r)) (slice_index (x' ∷ y' ∷ []) r)) is.1;
+      }
+
+  -- and back
+  to_pair : IsButterfly times s 1 (slice_index (x ∷ y ∷ [])) (slice_index (x' ∷ y' ∷ [])) → forward_of times s x y x' y'
+  to_pair is = (is.lower 0 (lit< tt), is.upper 0 (lit< tt))
+
+module _ (times : ℕ → ℕ → ℕ) (s x y x' y' : ℕ) where
+  -- the forward one takes the pair
+  pub pair_on : (inverse : Bool) → inverse ≡ false → x' ≡ add_multiple times s x y → y' ≡ bit_xor y x' → taken_pair inverse times s x y x' y'
+  pair_on inverse chosen low high =
+      taken_on times s 1 (slice_index (x ∷ y ∷ [])) (slice_index (x' ∷ y' ∷ [])) inverse chosen (of_pair times s x y x' y' (low, high))
+
+  -- or the inverse one does
+  pub pair_back : (inverse : Bool) → IsTrue inverse → y' ≡ bit_xor y x → x' ≡ add_multiple times s x y' → taken_pair inverse times s x y x' y'
+  pair_back inverse chosen high low =
+      taken_back times s 1 (slice_index (x ∷ y ∷ [])) (slice_index (x' ∷ y' ∷ [])) inverse chosen
+      (of_pair times s x' y' x y
+      (sym (ap (λ (z : ℕ). bit_xor z (times s y')) low ∙ twice x (times s y')), sym (ap (λ (z : ℕ). bit_xor z x) high ∙ twice y x)))
+
+-- where the forward butterfly takes each pair of places of two lists, it takes the block that they make
+of_places : (times : ℕ → ℕ → ℕ) (s n : ℕ) (lo hi lo' hi' : List ℕ) → length lo ≡ n → length lo' ≡ n
+    → ((p : ℕ) → p < n → forward_of times s (slice_index lo p) (slice_index hi p) (slice_index lo' p) (slice_index hi' p))
+    → IsButterfly times s n (slice_index (lo ++ hi)) (slice_index (lo' ++ hi'))
+of_places times s n lo hi lo' hi' low low' pairs =
+    record {
+      lower =
+          λ r below.
+          read_lower n lo' hi' low' r below ∙ (pairs r below).0
+          ∙ ap₂ (λ (x y : ℕ). bit_xor x (times s y)) (sym (read_lower n lo hi low r below)) (sym (read_upper n lo hi low r));
+      upper =
+          λ r below.
+          read_upper n lo' hi' low' r ∙ (pairs r below).1
+          ∙ ap₂ bit_xor (sym (read_upper n lo hi low r)) (sym (read_lower n lo' hi' low' r below));
+    }
+
+-- so whichever way each pair is taken, the block is
+block_taken : (inverse : Bool) (times : ℕ → ℕ → ℕ) (s n : ℕ) (lo hi lo' hi' : List ℕ) → length lo ≡ n → length lo' ≡ n
+    → ((p : ℕ) → p < n → taken_pair inverse times s (slice_index lo p) (slice_index hi p) (slice_index lo' p) (slice_index hi' p))
+    → TakesBlock inverse times s n (slice_index (lo ++ hi)) (slice_index (lo' ++ hi'))
+block_taken false times s n lo hi lo' hi' low low' pairs =
+    of_places times s n lo hi lo' hi' low low' (λ p below. to_pair times s _ _ _ _ (pairs p below))
+block_taken true times s n lo hi lo' hi' low low' pairs =
+    of_places times s n lo' hi' lo hi low' low (λ p below. to_pair times s _ _ _ _ (pairs p below))
+
+-- after the last pair the block is taken
+pub taken_ends : {A : Type 0} (value : A → ℕ) (times : ℕ → ℕ → ℕ) (s n : ℕ) (lo hi lo' hi' : List A) → length lo ≡ length hi → length lo ≤ n
+    → (inverse : Bool) → PairsSoFar (taken_pair inverse times s) n (map value lo) (map value hi) (map value lo') (map value hi')
+    → TakesBlock inverse times s (length lo) (slice_index (map value lo ++ map value hi)) (slice_index (map value lo' ++ map value hi'))
+taken_ends value times s n lo hi lo' hi' equal all inverse so_far =
+    block_taken inverse times s (length lo) (map value lo) (map value hi) (map value lo') (map value hi') (length-map lo value)
+    (so_far.low_length ∙ length-map lo value) (λ p below. so_far.done p (omega (arith, below, all)))

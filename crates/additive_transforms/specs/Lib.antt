@@ -1,4 +1,5 @@
 pub mod Elements
 pub mod Stages
+pub mod Subfields
 pub mod Transform
 pub mod Values

@@ -23,7 +23,7 @@ mod whole;
 pub use crate::elements::points::element_point;
 pub use crate::elements::whole::{forward_elements, inverse_elements};
 pub use crate::kernel::{Kernel, PolyKernel, WordKernel};
-pub use crate::laws::values_commute_with_images;
+pub use crate::laws::{twiddles_lie_in_subfield, values_commute_with_images};
 pub use crate::pairs::{PairByPair, PairKernel, low_stages};
 pub use crate::points::point;
 pub use crate::prepared::Transform;

@@ -29,7 +29,7 @@ pub use field_aes::{columns_are_transposed, zero_and_identity};
 pub use bits_packed::transposing_twice_returns;
 
 // transforms
-pub use additive_transforms::values_commute_with_images;
+pub use additive_transforms::{twiddles_lie_in_subfield, values_commute_with_images};
 pub use ghash_slices::{
     butterflies_restore, cantor_vectors_step_down, points_are_distinct, stages_give_sums,
     sums_are_values,

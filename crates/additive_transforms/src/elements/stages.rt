@@ -3,7 +3,7 @@ ghost use Rattle.std.specs.Prelude.{◌≡◌, ◌+◌, ◌-◌, ◌*◌, ◌/�
 ghost use Rattle.additive_transforms.specs.Elements.{twiddle_basis};
 ghost use Rattle.additive_transforms.specs.Stages.{TakesBlock, TakesStage};
 
-use crate::elements::pairs::{forward_pairs, inverse_pairs};
+use crate::elements::pairs::run_pairs;
 use crate::elements::twiddles::block_twiddle;
 use crate::{half_of, start_of};
 use field_base::traits::{Represented, TowerLevel};
@@ -34,9 +34,5 @@ fn run_block<E: Represented>(block: &mut [E], half: usize, twiddle: E, inverse: 
     ensures values { TakesBlock inverse E.product (E.repr twiddle) half (slice_index (map E.repr block.old)) (slice_index (map E.repr block.new)) }
 {
     let (lower, upper) = block.split_at_mut(half);
-    if inverse {
-        inverse_pairs(lower, upper, twiddle);
-        return;
-    }
-    forward_pairs(lower, upper, twiddle);
+    run_pairs(lower, upper, twiddle, inverse);
 }

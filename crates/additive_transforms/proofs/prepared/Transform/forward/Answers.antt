@@ -1,7 +1,7 @@
-use Rattle.std.proofs.Common.{ℕ, List, map, subst, arith}
+use Rattle.std.proofs.Common.{arith}
 use Rattle.additive_transforms.specs.Transform.{HoldPolynomialValues}
 use Rattle.additive_transforms.proofs.Counts.{pairs_fit}
-use Rattle.ghash_slices.proofs.WordValues.{low_of, own_low}
+use Rattle.additive_transforms.proofs.NumberValues.{of_numbers}
 use Rattle.additive_transforms.proofs.prepared.Transform.forward.Goals as goal
 
 pub forward_with-requires-clause-room : goal.forward_with-requires-clause-room
@@ -10,6 +10,5 @@ forward_with-requires-clause-room g c =
 
 pub returns-clause-values : goal.returns-clause-values
 returns-clause-values g c =
-    subst (λ (l : List ℕ). HoldPolynomialValues c.args.self.now.z l c.forward_with.new.values) c.numbers_are_values.ensures
-    (subst (λ (l : List ℕ). HoldPolynomialValues c.args.self.now.z (map low_of c.args.values.now) l)
-    (own_low c.forward_with.new.values (λ p. (c.type_inv.values p).fits)) c.forward_with.ensures.values)
+    of_numbers (HoldPolynomialValues c.args.self.now.z) c.args.values.now c.forward_with.new.values c.numbers_are_values.ensures
+    (λ p. (c.type_inv.values p).fits) c.forward_with.ensures.values

@@ -1,7 +1,7 @@
-use Rattle.std.proofs.Common.{ℕ, List, map, subst, arith}
+use Rattle.std.proofs.Common.{arith}
 use Rattle.additive_transforms.specs.Transform.{AreOnlyCoefficients}
 use Rattle.additive_transforms.proofs.Counts.{pairs_fit}
-use Rattle.ghash_slices.proofs.WordValues.{low_of, own_low}
+use Rattle.additive_transforms.proofs.NumberValues.{of_numbers}
 use Rattle.additive_transforms.proofs.prepared.Transform.inverse.Goals as goal
 
 pub inverse_with-requires-clause-room : goal.inverse_with-requires-clause-room
@@ -10,6 +10,5 @@ inverse_with-requires-clause-room g c =
 
 pub returns-clause-coefficients : goal.returns-clause-coefficients
 returns-clause-coefficients g c =
-    subst (λ (l : List ℕ). AreOnlyCoefficients c.args.self.now.z l c.inverse_with.new.values) c.numbers_are_values.ensures
-    (subst (λ (l : List ℕ). AreOnlyCoefficients c.args.self.now.z (map low_of c.args.values.now) l)
-    (own_low c.inverse_with.new.values (λ p. (c.type_inv.values p).fits)) c.inverse_with.ensures.coefficients)
+    of_numbers (AreOnlyCoefficients c.args.self.now.z) c.args.values.now c.inverse_with.new.values c.numbers_are_values.ensures
+    (λ p. (c.type_inv.values p).fits) c.inverse_with.ensures.coefficients
