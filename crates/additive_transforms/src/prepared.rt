@@ -53,7 +53,8 @@ impl<A: Allocator> Transform<A> {
         ensures values { HoldPolynomialValues self.now.z values.old values.new }
     {
         numbers_are_values(values);
-        self.forward_with(&mut PolyKernel { products: 0 }, values);
+        let mut kernel = self.kernel();
+        self.forward_with(&mut kernel, values);
     }
 
     /// Replaces the values at the points by the coefficients of their polynomial, as `inverse` does. There have to be 2 to the power of the
@@ -64,7 +65,15 @@ impl<A: Allocator> Transform<A> {
         ensures coefficients { AreOnlyCoefficients self.now.z values.old values.new }
     {
         numbers_are_values(values);
-        self.inverse_with(&mut PolyKernel { products: 0 }, values);
+        let mut kernel = self.kernel();
+        self.inverse_with(&mut kernel, values);
+    }
+
+    // The kernel over plain numbers, before it has counted a pair: all pairs have room in its count.
+    fn kernel(&self) -> PolyKernel
+        ensures { result.products + self.now.stages * 2 ^ (self.now.stages - 1) < 2 ^ 64 }
+    {
+        PolyKernel { products: 0 }
     }
 
     /// The transform `forward` by any kernel: nothing but the kernel computes on its elements. There have to be 2 to the power of the

@@ -1,12 +1,6 @@
-use Rattle.std.proofs.Common.{arith}
 use Rattle.additive_transforms.specs.Transform.{AreOnlyCoefficients}
-use Rattle.additive_transforms.proofs.Counts.{pairs_fit}
 use Rattle.additive_transforms.proofs.NumberValues.{of_numbers}
 use Rattle.additive_transforms.proofs.prepared.Transform.inverse.Goals as goal
-
-pub inverse_with-requires-clause-room : goal.inverse_with-requires-clause-room
-inverse_with-requires-clause-room g c =
-    let room = pairs_fit c.args.self.now.stages c.args.self.now.few in omega (arith, room)
 
 pub returns-clause-coefficients : goal.returns-clause-coefficients
 returns-clause-coefficients g c =
