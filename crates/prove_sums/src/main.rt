@@ -1,0 +1,26 @@
+//! Proves, and verifies, that the sum of the products of two tables of words is a number, in the field of GHASH:
+//! `prove_sums prove LEFT RIGHT PROOF` and `prove_sums verify LEFT RIGHT PROOF`. `--help` says what the files are.
+//!
+//! The exit status is 0 where a proof was written or is accepted, 1 where a proof is refused, and 2 after an error, which standard error
+//! then names. Without arguments a worked example is printed.
+#![tactic(auto)]
+
+mod commands;
+mod example;
+mod proof_file;
+mod refusal;
+mod sums;
+mod tables;
+
+use std::process::ExitCode;
+
+fn main(rt: HostRuntime) -> ExitCode {
+    match commands::run(&rt) {
+        Ok(true) => ExitCode::SUCCESS,
+        Ok(false) => ExitCode::FAILURE,
+        Err(error) => {
+            let _ = eprintln!(rt; "prove_sums: {error:#}");
+            ExitCode::from(2)
+        }
+    }
+}
