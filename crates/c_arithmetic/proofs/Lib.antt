@@ -1,4 +1,5 @@
 mod ByteProducts
 pub mod BatchProducts
+mod PlacesPut
 pub mod WordDots
 pub mod WordNumbers
