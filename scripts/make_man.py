@@ -1,6 +1,6 @@
 #!/usr/bin/env python3
 """Writes the manual pages docs/man/PROGRAM.1 from the texts that the programs print for --help: the constant USAGE of a crate's
-src/main.rt, or scripts/help/PROGRAM.txt. With --check it compares instead, and tells a program that says another version than VERSION.
+src/, or scripts/help/PROGRAM.txt. With --check it compares instead, and tells a program that says another version than VERSION.
 
 A text begins with `usage:` and the forms of the command, then has paragraphs, and may end with a line `Example: ..`.
 """
@@ -30,10 +30,10 @@ def texts():
         source, beside = files.CRATES / name / "src/main.rt", files.TOP / f"scripts/help/{name}.txt"
         if not source.is_file():
             continue
-        code = source.read_text(encoding="utf-8")
+        code = "\n".join(it.read_text(encoding="utf-8") for it in sorted(source.parent.glob("*.rt")))
         if said := re.search(rf'"{name} (\d+\.\d+\.\d+)', code):
             if said[1] != fields.VERSION_TEXT:
-                sys.exit(f"{source} says version {said[1]}, and the file VERSION {fields.VERSION_TEXT}")
+                sys.exit(f"{name} says version {said[1]}, and the file VERSION {fields.VERSION_TEXT}")
         found = USAGE.search(code)
         about = re.search(rf"^# (.*)\n{name}:", known, re.MULTILINE)[1].removeprefix("The program: ").removeprefix("The program that ")
         if found or beside.is_file():
