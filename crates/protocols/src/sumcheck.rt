@@ -1,5 +1,6 @@
 // The prover and the verifier of the sum-check protocol, over any field and any challenger of it.
 ghost use Rattle.std.specs.Prelude.{◌≡◌, ◌↔◌, ◌^◌, ◌++◌, ℕ, List, length, map, IfOk, IsTrue, OnOk};
+ghost use Rattle.field_base.specs.Powers.{dot_of};
 ghost use Rattle.polynomials.specs.Multilinear.{multilinear_value};
 ghost use Rattle.polynomials.specs.Rounds.{quadratic_of};
 ghost use Rattle.polynomials.specs.Sumcheck.{Accepts, AreHonest};
@@ -35,7 +36,8 @@ pub fn prove_and_verify<F: Field, C: FieldChallenger<F>>(
     Ok(accepted)
 }
 
-/// The messages of an honest prover, one for each coordinate of the cube at whose corners the polynomials have these values.
+/// The messages of an honest prover, one for each coordinate of the cube at whose corners the polynomials have these values. The sum of
+/// the products is observed before the first message.
 pub fn prove<F: Field, C: FieldChallenger<F>>(
     alloc: Global,
     challenger: &mut C,
@@ -45,10 +47,13 @@ pub fn prove<F: Field, C: FieldChallenger<F>>(
 ) -> Result<Vec<RoundPolynomial<F>>, ProtocolError>
     requires left_count { length left.now ≡ 2 ^ rounds }
     requires right_count { length right.now ≡ 2 ^ rounds }
-    ensures { IfOk result (λ messages. (challenges : List F) × (length messages.items ≡ rounds)
-        × AreTurns C.observes C.gives challenger.old messages.items challenges challenger.new
+    ensures { IfOk result (λ messages. (claim : F) × (begun : C) × (challenges : List F) × (length messages.items ≡ rounds)
+        × (F.repr claim ≡ dot_of F.product F.repr left.now right.now) × C.observes challenger.old claim begun
+        × AreTurns C.observes C.gives begun messages.items challenges challenger.new
         × AreHonest F.product (map F.repr left.now) (map F.repr right.now) (map (quadratic_of F.repr) messages.items) (map F.repr challenges)) }
 {
+    let claim = F::dot_product_of_slices(left, right);
+    challenger.observe(claim)?;
     let mut left_rest = copied(alloc, left)?;
     let mut right_rest = copied(alloc, right)?;
     let mut messages = Vec::new(alloc);
@@ -105,7 +110,8 @@ fn prove_rounds<F: Field, C: CanObserve<F> + CanSample<F>>(
     Ok(())
 }
 
-/// Whether the messages prove that the sum is `claim`, where the verifier has the values of both polynomials.
+/// Whether the messages prove that the sum is `claim`, where the verifier has the values of both polynomials. The claim is observed before
+/// the first message, and the polynomials are not: they have to be fixed before the challenges, by a commitment that was observed.
 pub fn verify<F: Field, C: FieldChallenger<F>>(
     alloc: Global,
     challenger: &mut C,
@@ -116,12 +122,13 @@ pub fn verify<F: Field, C: FieldChallenger<F>>(
 ) -> Result<bool, ProtocolError>
     requires left_count { length left.now ≡ 2 ^ length messages.now }
     requires right_count { length right.now ≡ 2 ^ length messages.now }
-    ensures { IfOk result (λ accepted. (challenges : List F)
-        × AreTurns C.observes C.gives challenger.old messages.now challenges challenger.new
+    ensures { IfOk result (λ accepted. (begun : C) × (challenges : List F) × C.observes challenger.old claim begun
+        × AreTurns C.observes C.gives begun messages.now challenges challenger.new
         × (IsTrue accepted ↔ Accepts F.product (F.repr claim) (map (quadratic_of F.repr) messages.now) (map F.repr challenges)
         (F.product (multilinear_value F.product (map F.repr left.now) (map F.repr challenges))
         (multilinear_value F.product (map F.repr right.now) (map F.repr challenges))))) }
 {
+    challenger.observe(claim)?;
     let mut point = Vec::new(alloc);
     let (consistent, last) = verify_rounds(challenger, claim, messages, &mut point)?;
     let value = evaluate_multilinear(left, point.as_slice())

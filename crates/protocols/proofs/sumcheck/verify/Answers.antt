@@ -8,7 +8,7 @@ pub evaluate_multilinear-requires : goal.evaluate_multilinear-requires
 evaluate_multilinear-requires g c =
     c.requires.left_count
     ∙ ap (λ (n : ℕ). 2 ^ n) (sym (ap length c.as_slice.ensures.value
-    ∙ point-length g.C.CanObserve.observes g.C.CanSample.gives g.F.Represented.product g.F.Represented.repr c.args.challenger.now
+    ∙ point-length g.C.CanObserve.observes g.C.CanSample.gives g.F.Represented.product g.F.Represented.repr c.observe.new.self
     c.verify_rounds.new.challenger (g.F.Represented.repr c.args.claim) (g.F.Represented.repr c.in_ok-consistent.last) c.args.messages.now
     c.new-point.result.items c.verify_rounds.new.point.items c.in_ok-consistent.consistent c.new-point.ensures.items
     c.in_ok-consistent.ensures))
@@ -17,7 +17,7 @@ pub evaluate_multilinear-requires-2 : goal.evaluate_multilinear-requires-2
 evaluate_multilinear-requires-2 g c =
     c.requires.right_count
     ∙ ap (λ (n : ℕ). 2 ^ n) (sym (ap length c.as_slice-2.ensures.value
-    ∙ point-length g.C.CanObserve.observes g.C.CanSample.gives g.F.Represented.product g.F.Represented.repr c.args.challenger.now
+    ∙ point-length g.C.CanObserve.observes g.C.CanSample.gives g.F.Represented.product g.F.Represented.repr c.observe.new.self
     c.verify_rounds.new.challenger (g.F.Represented.repr c.args.claim) (g.F.Represented.repr c.in_ok-consistent.last) c.args.messages.now
     c.new-point.result.items c.verify_rounds.new.point.items c.in_ok-consistent.consistent c.new-point.ensures.items
     c.in_ok-consistent.ensures))
@@ -26,7 +26,8 @@ pub returns : goal.returns
 returns g c =
     let field = g.F.Represented in
     let law = g.met.F.PrimeCharacteristicRing.eq_law c.in_ok-consistent.last c.mul-value.result in
-    verified-whole g.C.CanObserve.observes g.C.CanSample.gives field.product field.repr c.args.challenger.now c.verify_rounds.new.challenger
+    let whole =
+    verified-whole g.C.CanObserve.observes g.C.CanSample.gives field.product field.repr c.observe.new.self c.verify_rounds.new.challenger
     (field.repr c.args.claim) (field.repr c.in_ok-consistent.last) (field.repr c.mul-value.result) c.args.messages.now
     c.new-point.result.items c.verify_rounds.new.point.items c.in_ok-consistent.consistent c.eq.result c.both.result
     (map field.repr c.args.left.now) (map field.repr c.args.right.now) c.new-point.ensures.items
@@ -38,4 +39,5 @@ returns g c =
     ∙ ap (λ (xs : List _). multilinear_value field.product (map field.repr c.args.left.now) (map field.repr xs)) c.as_slice.ensures.value)
     (c.evaluate_multilinear-2.ensures
     ∙ ap (λ (xs : List _). multilinear_value field.product (map field.repr c.args.right.now) (map field.repr xs)) c.as_slice-2.ensures.value))
-    c.in_ok-consistent.ensures
+    c.in_ok-consistent.ensures in
+    (c.observe.new.self, whole.0, c.in_ok-observe.ensures.ok, whole.1, whole.2)
