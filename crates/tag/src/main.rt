@@ -1,17 +1,33 @@
-//! Prints a universal hash of standard input, under a key of the command line: `tag ghash KEY` or `tag polyval KEY`.
+//! Prints a universal hash of standard input: `tag ghash KEY` or `tag polyval KEY`.
 //!
-//! The key is 32 hexadecimal digits. Standard input is hashed as blocks of 16 bytes, the last one filled up with zeros, and the
-//! hash is printed as 32 hexadecimal digits. The exit status is 0, or 1 after an error, which standard error then names.
+//! The key is 32 hexadecimal digits: a word of the command line, the content of a file or of a variable. Standard input is hashed as
+//! blocks of 16 bytes, the last one filled up with zeros, and the hash is printed as 32 hexadecimal digits. The exit status is 0, 1 after
+//! an error, which standard error then names, or 2 where the words are wrong.
 #![tactic(auto)]
 
 ghost use Rattle.std.specs.Prelude.{◌≡◌};
 ghost use Rattle.tag.specs.Choice.{hash_named};
 
-use anyhow::{Context, Result, bail};
-use hex::FromHex;
+mod key;
+
+use crate::key::{Source, read_key};
+use anyhow::{Context, Result};
 use std::env;
 use std::io::Read;
+use std::process::ExitCode;
 use tags::{Ghash, Polyval};
+
+const USAGE: &str = "usage: tag ghash|polyval KEY < MESSAGE
+       tag ghash|polyval --key-file FILE < MESSAGE
+       tag ghash|polyval --key-variable NAME < MESSAGE
+       tag --help | --version
+
+Prints GHASH (NIST SP 800-38D) or POLYVAL (RFC 8452) of standard input, zeros added to whole blocks of 16 bytes, as 32 hexadecimal
+digits. The key is 32 hexadecimal digits: KEY, which other users of the machine can see, the content of FILE, but for spaces and line
+feeds behind it, or the value of the variable NAME. A hash is no tag: GCM and GCM-SIV encrypt it.
+The exit status is 0, 1 after an error, which standard error names, or 2 where the words are wrong.
+
+Example: echo 66e94bd4ef8a2c3b884cfa59ca342b2e > key; tag ghash --key-file key < message";
 
 /// Which hash to print.
 #[derive(Clone, Copy, Drop)]
@@ -40,7 +56,56 @@ pub fn hash(choice: Choice, key: &[u8; 16], message: &[u8]) -> [u8; 16]
     }
 }
 
-/// The hash of that name.
+fn main(rt: HostRuntime) -> ExitCode {
+    match run(&rt) {
+        Ok(status) => status,
+        Err(error) => {
+            let _ = eprintln!(rt; "tag: {error:#}");
+            ExitCode::FAILURE
+        }
+    }
+}
+
+// Does what the words of the command line say.
+fn run(rt: &HostRuntime) -> Result<ExitCode> {
+    let mut args = env::args(rt).context("reading the command line")?;
+    let _program = args.next();
+    let (first, second, third, more) = (args.next(), args.next(), args.next(), args.next());
+    if more.is_some() {
+        return misused(rt, "too many words");
+    }
+    let Some(name) = first else {
+        return misused(rt, "no hash is named");
+    };
+    if second.is_none() && name.as_str() == "--help" {
+        println!(rt; "{USAGE}").context("writing the help")?;
+        return Ok(ExitCode::SUCCESS);
+    }
+    if second.is_none() && name.as_str() == "--version" {
+        println!(rt; "tag 0.1.0").context("writing the version")?;
+        return Ok(ExitCode::SUCCESS);
+    }
+    let Some(choice) = choice_named(name.as_str()) else {
+        return misused(rt, "the first word is ghash or polyval");
+    };
+    let (Some(word), behind) = (second, third) else {
+        return misused(rt, "no key is given");
+    };
+    let Some(source) = source_of(word.as_str(), behind.as_ref().map(|it| it.as_str())) else {
+        return misused(rt, "the key is KEY, --key-file FILE or --key-variable NAME");
+    };
+    let key = read_key(rt, source)?;
+    let mut message = Vec::new(rt.alloc());
+    rt.stdin()
+        .read_to_end(&mut message)
+        .context("reading standard input")?;
+    let tag = hash(choice, &key, message.as_slice());
+    let text = hex::encode(rt.alloc(), tag.as_slice()).context("writing the hash")?;
+    println!(rt; "{text}").context("writing the hash")?;
+    Ok(ExitCode::SUCCESS)
+}
+
+// The hash of that name.
 fn choice_named(name: &str) -> Option<Choice> {
     match name {
         "ghash" => Some(Choice::Ghash),
@@ -49,24 +114,20 @@ fn choice_named(name: &str) -> Option<Choice> {
     }
 }
 
-fn main(rt: HostRuntime) -> Result<()> {
-    let mut args = env::args(&rt).context("reading the command line")?;
-    let _program = args.next();
-    let (Some(name), Some(digits), None) = (args.next(), args.next(), args.next()) else {
-        bail!("usage: tag ghash KEY < MESSAGE, or tag polyval KEY < MESSAGE");
-    };
-    let Some(choice) = choice_named(name.as_str()) else {
-        bail!("no such hash: it is ghash or polyval");
-    };
-    let Ok(key) = <[u8; 16] as FromHex>::from_hex(digits.as_str()) else {
-        bail!("the key has to be 32 hexadecimal digits");
-    };
-    let mut message = Vec::new(rt.alloc());
-    rt.stdin()
-        .read_to_end(&mut message)
-        .context("reading standard input")?;
-    let tag = hash(choice, &key, message.as_slice());
-    let text = hex::encode(rt.alloc(), tag.as_slice()).context("writing the tag")?;
-    println!(rt; "{text}").context("writing the tag")?;
-    Ok(())
+// Where one word or two say that the key is.
+fn source_of<'a>(word: &'a str, behind: Option<&'a str>) -> Option<Source<'a>> {
+    match (word, behind) {
+        ("--key-file", Some(file)) => Some(Source::File(file)),
+        ("--key-variable", Some(name)) => Some(Source::Variable(name)),
+        ("--key-file", None) => None,
+        ("--key-variable", None) => None,
+        (digits, None) => Some(Source::Word(digits)),
+        _ => None,
+    }
+}
+
+// Says what is wrong with the words.
+fn misused(rt: &HostRuntime, why: &str) -> Result<ExitCode> {
+    let _ = eprintln!(rt; "tag: {why}; tag --help says more");
+    Ok(ExitCode::from(2))
 }
