@@ -26,14 +26,16 @@ pub trait ByteBlock: ByteVector {
     fn read_rest(bytes: &[u8], start: usize) -> Self
         requires inside { start ≤ length bytes.now }
         requires few { length bytes.now < start + Self.ByteVector.lanes }
-        ensures { (l : ℕ) → start + l < length bytes.now → slice_index (Self.ByteVector.bytes result) l ≡ slice_index bytes.now (start + l) };
+        ensures { (l : ℕ) → start + l < length bytes.now
+            → slice_index (Self.ByteVector.bytes result) l ≡ slice_index bytes.now (start + l) };
 
     /// Writes as many of its bytes as the slice has from `start` on, which are fewer than a vector has.
     fn write_rest(self, bytes: &mut [u8], start: usize)
         requires inside { start ≤ length bytes.old }
         requires few { length bytes.old < start + Self.ByteVector.lanes }
         ensures length { length bytes.new ≡ length bytes.old }
-        ensures written { (l : ℕ) → start + l < length bytes.old → slice_index bytes.new (start + l) ≡ slice_index (Self.ByteVector.bytes self) l }
+        ensures written { (l : ℕ) → start + l < length bytes.old
+            → slice_index bytes.new (start + l) ≡ slice_index (Self.ByteVector.bytes self) l }
         ensures kept { (i : ℕ) → i < start → slice_index bytes.new i ≡ slice_index bytes.old i };
 }
 

@@ -37,7 +37,8 @@ pub(crate) trait Planes<M>: Copy {
     fn read(row: &[u8], start: usize) -> Self
         requires whole { CanBeHalved depth (length row.now) }
         requires inside { start + lanes ≤ count_of depth (length row.now) }
-        ensures { (l : ℕ) → l < lanes → start + l < count_of depth (length row.now) → lane result l ≡ element_of depth row.now (start + l) };
+        ensures { (l : ℕ) → l < lanes → start + l < count_of depth (length row.now)
+            → lane result l ≡ element_of depth row.now (start + l) };
 
     /// Writes the elements to a row from `start` on.
     fn write(&self, row: &mut [u8], start: usize)
@@ -54,7 +55,8 @@ pub(crate) trait Planes<M>: Copy {
         requires whole { CanBeHalved depth (length row.now) }
         requires inside { start ≤ count_of depth (length row.now) }
         requires few { count_of depth (length row.now) < start + lanes }
-        ensures { (l : ℕ) → l < lanes → start + l < count_of depth (length row.now) → lane result l ≡ element_of depth row.now (start + l) };
+        ensures { (l : ℕ) → l < lanes → start + l < count_of depth (length row.now)
+            → lane result l ≡ element_of depth row.now (start + l) };
 
     /// Writes as many of the elements as the row has from `start` on, which are fewer than these.
     fn write_rest(&self, row: &mut [u8], start: usize)
