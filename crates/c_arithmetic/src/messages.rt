@@ -6,7 +6,7 @@ ghost use Rattle.tags.specs.Polyval.{polyval};
 ghost use Rattle.c_arithmetic.specs.Bytes.{Compares, Hashes};
 
 use crate::status;
-use tags::{Ghash, Polyval};
+use tags::{Ghash, Polyval, UniversalHash};
 
 // The bytes of a key, and of a hash.
 const BYTES: usize = 16;

@@ -15,7 +15,7 @@ use anyhow::{Context, Result};
 use std::env;
 use std::io::Read;
 use std::process::ExitCode;
-use tags::{Ghash, Polyval};
+use tags::{Ghash, Polyval, UniversalHash};
 
 const USAGE: &str = "usage: tag ghash|polyval KEY < MESSAGE
        tag ghash|polyval --key-file FILE < MESSAGE

@@ -55,7 +55,7 @@ from_be-to_be n fits =
     omega (arith, top, at 0, at 1, at 2, at 3, at 4, at 5, at 6, at 7, at 8, at 9, at 10, at 11, at 12, at 13, at 14, at 15)
 
 -- k + 1 bytes are a number below 256 to the power of k + 1
-sum-lt : (f : ℕ → ℕ) (k : ℕ) → ((i : ℕ) → i < suc k → f i < 256) → sum_through (λ i. byte_worth i (f i)) k < 256 ^ suc k
+pub sum-lt : (f : ℕ → ℕ) (k : ℕ) → ((i : ℕ) → i < suc k → f i < 256) → sum_through (λ i. byte_worth i (f i)) k < 256 ^ suc k
 sum-lt f zero below = below 0 (lit< tt)
 sum-lt f (suc k) below =
     let rest : sum_through (λ i. byte_worth i (f i)) k < 256 ^ suc k = sum-lt f k (λ i within. below i (omega (arith, within))) in

@@ -13,6 +13,12 @@ use Rattle.tags.proofs.ReversedBits.{reversed, reversed_xor, reversed_twice}
 use Rattle.tags.proofs.GcmProduct.{gcm_product_image, gcm_product-lt, reversed-zero}
 use Rattle.tags.proofs.PolyvalProduct.{dot_image, dot-lt}
 
+-- a hash stays a block
+pub fold-lt : (product : ℕ → ℕ → ℕ) (key : ℕ) → ((a : ℕ) → product a key < 2 ^ 128) → (sum : ℕ) (xs : List ℕ) → sum < 2 ^ 128
+    → fold (λ y x. product (bit_xor y x) key) sum xs < 2 ^ 128
+fold-lt product key below sum [] fits = fits
+fold-lt product key below sum (x ∷ xs) fits = fold-lt product key below (product (bit_xor sum x) key) xs (below (bit_xor sum x))
+
 -- a product by a key that is one by a multiplier, once the bits are reversed
 module _ (product : ℕ → ℕ → ℕ) (key multiplier : ℕ)
     (below : (a : ℕ) → product a key < 2 ^ 128)
@@ -27,11 +33,6 @@ module _ (product : ℕ → ℕ → ℕ) (key multiplier : ℕ)
       ∙ ap (λ (z : ℕ). fold (λ y x. ghash_times (bit_xor y x) multiplier) z (map (λ b. reversed 128 (read b)) bs))
       (image (bit_xor sum (read b)) ∙ ap (λ (z : ℕ). ghash_times z multiplier) (reversed_xor 128 sum (read b)))
 
-  -- and stays a block
-  fold-lt : (sum : ℕ) (xs : List ℕ) → sum < 2 ^ 128 → fold (λ y x. product (bit_xor y x) key) sum xs < 2 ^ 128
-  fold-lt sum [] fits = fits
-  fold-lt sum (x ∷ xs) fits = fold-lt (product (bit_xor sum x) key) xs (below (bit_xor sum x))
-
   pub hash_reversed : (read : List ℕ → ℕ) (blocks : List (List ℕ))
       → reversed 128 (polynomial_hash ghash_times multiplier (map (λ b. reversed 128 (read b)) blocks))
       ≡ polynomial_hash product key (map read blocks)
@@ -39,7 +40,7 @@ module _ (product : ℕ → ℕ → ℕ) (key multiplier : ℕ)
       sym (ap (reversed 128)
       (fold_image read 0 blocks
       ∙ ap (λ (z : ℕ). fold (λ y x. ghash_times (bit_xor y x) multiplier) z (map (λ b. reversed 128 (read b)) blocks)) reversed-zero))
-      ∙ reversed_twice 128 (polynomial_hash product key (map read blocks)) (fold-lt 0 (map read blocks) (pow_pos 128))
+      ∙ reversed_twice 128 (polynomial_hash product key (map read blocks)) (fold-lt product key below 0 (map read blocks) (pow_pos 128))
 
   -- the hash as bytes, however a number is written
   pub hash_written : (read : List ℕ → ℕ) (write : ℕ → List ℕ) (blocks : List (List ℕ)) (h : ℕ)

@@ -13,3 +13,5 @@ pub mod BlockBytes
 pub mod PolyvalRelation
 pub mod Collisions
 pub mod KeyedCollisions
+pub mod BlocksDiffer
+pub mod EncodedParts

@@ -1,10 +1,9 @@
 -- Messages filled up with zeros, and one after the other, as blocks.
 use Rattle.std.proofs.Common.{◌≡◌, ℕ, zero, suc, ◌+◌, ◌-◌, ◌*◌, ◌/◌, ◌%◌, ◌≤◌, List, [], ◌∷◌, ◌++◌, length, take, drop, replicate, refl, sym, ap, ap₂, ◌∙◌, arith, length-append, add-zero}
 use Rattle.std.specs.Prelude.{map}
-use Rattle.std.specs.Int.{to_be_bytes, w64}
 use Rattle.std.proofs.lemmas.List.{take-append-le, drop-append-le, drop-drop, drop_at, take_all, append_assoc, append-nil, length-replicate, replicate-append-replicate}
 use Rattle.tags.specs.Absorbed.{Holds}
-use Rattle.tags.specs.Blocks.{block, blocks_of, first_blocks, gcm_blocks, lengths_block, zero_padded}
+use Rattle.tags.specs.Blocks.{block, blocks_of, first_blocks, zero_padded}
 use Rattle.tags.specs.Hash.{polynomial_hash}
 use Rattle.tags.specs.Reversed.{ghash_times}
 use Rattle.tags.specs.declared.absorber.Absorber.{Absorber}
@@ -113,9 +112,8 @@ gcm_message a c l whole =
     (blocks_of_block l whole)
 
 -- the same, with the block of lengths in two pieces
-pub gcm_pieces : (a c x y : List ℕ) → x ≡ to_be_bytes w64 (length a * 8) → y ≡ to_be_bytes w64 (length c * 8)
-    → blocks_of ((zero_padded (zero_padded a ++ c) ++ x) ++ y) ≡ gcm_blocks a c
-gcm_pieces a c x y of_x of_y =
+pub pieces : (a c x y : List ℕ) → length x ≡ 8 → length y ≡ 8
+    → blocks_of ((zero_padded (zero_padded a ++ c) ++ x) ++ y) ≡ blocks_of a ++ blocks_of c ++ (x ++ y) ∷ []
+pieces a c x y of_x of_y =
     ap (λ (z : List ℕ). blocks_of z) (append_assoc (zero_padded (zero_padded a ++ c)) x y)
-    ∙ ap₂ (λ (u v : List ℕ). blocks_of (zero_padded (zero_padded a ++ c) ++ (u ++ v))) of_x of_y
-    ∙ gcm_message a c (lengths_block a c) refl
+    ∙ gcm_message a c (x ++ y) (omega (arith, length-append x y, of_x, of_y))

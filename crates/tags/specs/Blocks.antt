@@ -1,7 +1,7 @@
 -- A message as blocks of 16 bytes (NIST SP 800-38D, section 6.4; RFC 8452, section 4). A byte is a number below 256; a block is
 -- a list of 16 bytes.
 use Rattle.std.specs.Prelude.{◌≡◌, ℕ, zero, suc, ◌+◌, ◌-◌, ◌*◌, ◌/◌, ◌%◌, ◌<◌, List, [], ◌∷◌, ◌++◌, length, take, drop, replicate, All}
-use Rattle.std.specs.Int.{to_be_bytes, w64}
+use Rattle.std.specs.Int.{to_be_bytes, to_le_bytes, w64}
 
 -- each element is a byte
 abbrev pub AreBytes : List ℕ → Type 0
@@ -36,3 +36,8 @@ lengths_block associated text = to_be_bytes w64 (length associated * 8) ++ to_be
 -- section 7.1)
 abbrev pub gcm_blocks : List ℕ → List ℕ → List (List ℕ)
 gcm_blocks associated text = blocks_of associated ++ blocks_of text ++ lengths_block associated text ∷ []
+
+-- the same of GCM-SIV, over the plain text, each length with its lowest byte first (RFC 8452, section 4)
+abbrev pub gcm_siv_blocks : List ℕ → List ℕ → List (List ℕ)
+gcm_siv_blocks associated text =
+    blocks_of associated ++ blocks_of text ++ (to_le_bytes w64 (length associated * 8) ++ to_le_bytes w64 (length text * 8)) ∷ []

@@ -7,3 +7,4 @@ pub mod Powers
 pub mod Absorbed
 pub mod Reversed
 pub mod Collisions
+pub mod EncodedParts

@@ -1,39 +1,82 @@
-// How a block of 16 bytes is an element of the field, where bit i of a number is the coefficient of x^i.
-ghost use Rattle.std.specs.Prelude.{◌≡◌, ℕ, List};
-ghost use Rattle.tags.specs.Reversed.{ghash_element, polyval_element};
+// How a standard writes blocks: a block of 16 bytes as an element of the field, where bit i of a number is the coefficient of x^i, a key as what
+// the field multiplies by, and a hash as a block.
+ghost use Rattle.std.specs.Prelude.{◌≡◌, ℕ, List, map};
+ghost use Rattle.tags.specs.Gcm.{ghash};
+ghost use Rattle.tags.specs.Hash.{polynomial_hash};
+ghost use Rattle.tags.specs.Polyval.{polyval};
+ghost use Rattle.tags.specs.Reversed.{ghash_element, ghash_times, polyval_element, polyval_multiplier};
 
 use crate::reversal::reversed_bits;
+use word_carryless::multiply_mod_128;
 
-/// An encoding of blocks.
-pub(crate) trait Encoding {
-    // The element of a block.
+/// How a standard writes blocks, keys and hashes.
+pub trait Encoding {
+    // The element of a block, what the field multiplies by for a key, and the standard's hash of blocks under a key.
     ghost element: { List ℕ → ℕ };
+
+    ghost multiplier: { List ℕ → ℕ };
+
+    ghost hash: { List ℕ → List (List ℕ) → List ℕ };
 
     /// The element of a block.
     fn read(block: [u8; 16]) -> u128
         ensures { result ≡ element block };
+
+    /// What the field multiplies by, for a key.
+    fn multiplier_of(key: [u8; 16]) -> u128
+        ensures { result ≡ multiplier key };
+
+    /// The block of a sum: where the sum is the hash of the elements of blocks, the standard's hash of the blocks.
+    fn write(sum: u128) -> [u8; 16]
+        ensures { (key : List ℕ) (blocks : List (List ℕ)) → sum ≡ polynomial_hash ghash_times (multiplier key) (map element blocks)
+            → result ≡ hash key blocks };
 }
 
-/// The blocks of GHASH: the highest bit of the first byte is the coefficient of x^0.
-pub(crate) struct HighestFirst;
+/// The blocks of GHASH (NIST SP 800-38D): the highest bit of the first byte is the coefficient of x^0.
+pub struct HighestFirst;
 
 impl Encoding for HighestFirst {
     ghost element = { ghash_element };
+
+    ghost multiplier = { ghash_element };
+
+    ghost hash = { ghash };
 
     #[inline]
     fn read(block: [u8; 16]) -> u128 {
         reversed_bits(u128::from_be_bytes(block))
     }
+
+    fn multiplier_of(key: [u8; 16]) -> u128 {
+        Self::read(key)
+    }
+
+    fn write(sum: u128) -> [u8; 16] {
+        sum.reverse_bits().to_be_bytes()
+    }
 }
 
-/// The blocks of POLYVAL, in the field of GHASH: the highest bit of the last byte is the coefficient of x^0.
-pub(crate) struct LowestFirst;
+/// The blocks of POLYVAL (RFC 8452), in the field of GHASH: the highest bit of the last byte is the coefficient of x^0. Its product is that of
+/// the field times x, which is taken into the key.
+pub struct LowestFirst;
 
 impl Encoding for LowestFirst {
     ghost element = { polyval_element };
 
+    ghost multiplier = { polyval_multiplier };
+
+    ghost hash = { polyval };
+
     #[inline]
     fn read(block: [u8; 16]) -> u128 {
         reversed_bits(u128::from_le_bytes(block))
+    }
+
+    fn multiplier_of(key: [u8; 16]) -> u128 {
+        multiply_mod_128(2, Self::read(key))
+    }
+
+    fn write(sum: u128) -> [u8; 16] {
+        sum.reverse_bits().to_le_bytes()
     }
 }

@@ -1,52 +1,30 @@
-// POLYVAL of a message that comes in pieces.
-ghost use Rattle.std.specs.Prelude.{◌≡◌, List, ℕ, [], ◌++◌};
-ghost use Rattle.tags.specs.Absorbed.{HoldsPolyval};
-ghost use Rattle.tags.specs.Blocks.{blocks_of, zero_padded};
+// POLYVAL, and as GCM-SIV uses it.
+ghost use Rattle.std.specs.Prelude.{◌≡◌, ◌<◌, ◌^◌, length};
+ghost use Rattle.tags.specs.Blocks.{gcm_siv_blocks};
 ghost use Rattle.tags.specs.Polyval.{polyval};
 
-use crate::absorber::Absorber;
-use crate::encoding::{Encoding, LowestFirst};
-use word_carryless::multiply_mod_128;
+use crate::encoding::LowestFirst;
+use crate::universal::{KeyedHash, hash_of_parts};
 
 /// POLYVAL (RFC 8452, section 3) of the message so far, under a key.
 ///
 /// In a block the lowest bit of byte 0 is the coefficient of x^0. What a hash holds is its key and its message.
-#[derive(Drop)]
-pub struct Polyval {
-    absorber: Absorber,
-}
+pub type Polyval = KeyedHash<LowestFirst>;
 
-impl Polyval {
-    /// The hash of the empty message under the key `key`, a block.
-    pub fn new(key: &[u8; 16]) -> Polyval
-        ensures { HoldsPolyval result key.now [] }
-    {
-        let absorber = Absorber::new(multiply_mod_128(2, LowestFirst::read(*key)));
-        Polyval { absorber }
-    }
-
-    /// Adds `bytes` to the message. They may be of any number, and no zeros come between them and the next ones.
-    pub fn update(&mut self, bytes: &[u8])
-        ensures { (key m : List ℕ) → HoldsPolyval self.old key m → HoldsPolyval self.new key (m ++ bytes.now) }
-    {
-        self.absorber.update::<LowestFirst>(bytes);
-    }
-
-    /// Adds `bytes` to the message, and then as many zero bytes as make the message whole blocks, which may be none.
-    pub fn update_padded(&mut self, bytes: &[u8])
-        ensures { (key m : List ℕ) → HoldsPolyval self.old key m → HoldsPolyval self.new key (zero_padded (m ++ bytes.now)) }
-    {
-        self.absorber.update::<LowestFirst>(bytes);
-        self.absorber.pad::<LowestFirst>();
-    }
-
-    /// The hash of the blocks of the message, the last one filled up with zeros; of an empty message 16 zeros.
-    pub fn finalize(self) -> [u8; 16]
-        ensures { (key m : List ℕ) → HoldsPolyval self key m → result ≡ polyval key (blocks_of m) }
-    {
-        self.absorber
-            .hash::<LowestFirst>()
-            .reverse_bits()
-            .to_le_bytes()
-    }
+/// The hash from which GCM-SIV makes its tag (RFC 8452, section 4): POLYVAL, under the message-authentication key `key`, of the associated
+/// data and of the text, each filled up with zeros to whole blocks, and of a block with both lengths in bits, 8 bytes each, the lowest first.
+///
+/// The text is the plain one. Each length in bits has to fit 64 bits; the standard allows 2^39 bits.
+pub fn gcm_siv_polyval(key: &[u8; 16], associated: &[u8], text: &[u8]) -> [u8; 16]
+    requires associated_fits { length associated.now < 2 ^ 61 }
+    requires text_fits { length text.now < 2 ^ 61 }
+    ensures { result ≡ polyval key.now (gcm_siv_blocks associated.now text.now) }
+{
+    hash_of_parts::<Polyval>(
+        key,
+        associated,
+        text,
+        &(associated.len() as u64 * 8).to_le_bytes(),
+        &(text.len() as u64 * 8).to_le_bytes(),
+    )
 }

@@ -1,5 +1,6 @@
 // Laws of the definitions, as contracts of functions that compute nothing.
 ghost use Rattle.tags.specs.Collisions.{GhashCollides, LastBlockDiffers, PolynomialHashCollides, PolyvalCollides, SameLengthIsSame};
+ghost use Rattle.tags.specs.EncodedParts.{GcmCollides, GcmEncodesParts, GcmSivCollides, GcmSivEncodesParts};
 ghost use Rattle.tags.specs.Polyval.{PolyvalIsGhash};
 ghost use Rattle.tags.specs.Reversed.{DotIsReversed, GcmProductIsReversed};
 
@@ -24,4 +25,14 @@ pub fn few_keys_collide()
     ensures polyval { PolyvalCollides }
     ensures same_length { SameLengthIsSame }
     ensures last_block { LastBlockDiffers }
+{}
+
+/// States that the blocks that GCM and GCM-SIV hash of associated data and text determine both, so that at most n keys let two different
+/// pairs of them, of at most n blocks with the one of lengths, have hashes with a given difference: those of `gcm_ghash`, over bytes, and of
+/// `gcm_siv_polyval`.
+pub fn parts_are_encoded()
+    ensures gcm { GcmEncodesParts }
+    ensures gcm_siv { GcmSivEncodesParts }
+    ensures gcm_collides { GcmCollides }
+    ensures gcm_siv_collides { GcmSivCollides }
 {}

@@ -12,8 +12,11 @@ mod gcm;
 mod gcm_siv;
 mod laws;
 mod reversal;
+mod universal;
 
 pub use crate::compare::tags_are_equal;
+pub use crate::encoding::{Encoding, HighestFirst, LowestFirst};
 pub use crate::gcm::{Ghash, gcm_ghash};
-pub use crate::gcm_siv::Polyval;
-pub use crate::laws::{few_keys_collide, products_are_reversed};
+pub use crate::gcm_siv::{Polyval, gcm_siv_polyval};
+pub use crate::laws::{few_keys_collide, parts_are_encoded, products_are_reversed};
+pub use crate::universal::{KeyedHash, UniversalHash};

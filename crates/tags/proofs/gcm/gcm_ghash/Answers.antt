@@ -1,13 +1,10 @@
-use Rattle.std.proofs.Common.{[], ◌∙◌, ap}
+use Rattle.std.proofs.Common.{[], ◌∷◌, ◌++◌, List, ℕ, ◌∙◌, ap₂}
+use Rattle.tags.specs.Blocks.{blocks_of}
 use Rattle.tags.specs.Gcm.{ghash}
-use Rattle.tags.proofs.Padding.{gcm_pieces}
 use Rattle.tags.proofs.gcm.gcm_ghash.Goals as goal
 
 pub returns : goal.returns
 returns c =
-    let key = c.args.key.now in
-    let filled = c.update_padded-2.ensures key _ (c.update_padded.ensures key [] c.new-hash.ensures) in
-    c.finalize.ensures key _ (c.update-2.ensures key _ (c.update.ensures key _ filled))
-    ∙ ap (ghash key)
-    (gcm_pieces c.args.associated.now c.args.text.now c.to_be_bytes.result c.to_be_bytes-2.result c.to_be_bytes.ensures
-    c.to_be_bytes-2.ensures)
+    c.hash_of_parts.ensures
+    ∙ ap₂ (λ (x y : List ℕ). ghash c.args.key.now (blocks_of c.args.associated.now ++ blocks_of c.args.text.now ++ (x ++ y) ∷ []))
+    c.to_be_bytes.ensures c.to_be_bytes-2.ensures

@@ -1,7 +1,6 @@
 // A message in pieces, and messages of all lengths from 0 to 257. Byte i of the message is 7 i + 3 modulo 256. The wanted values
 // were computed with Python's integers by the definitions of both standards.
-use super::KeyedHash;
-use tags::{Ghash, Polyval, tags_are_equal};
+use tags::{Ghash, Polyval, UniversalHash, tags_are_equal};
 
 // A key, the hash of the first 100 bytes, and the hash of the hashes of the first 0, 1, .., 257 bytes.
 struct Wanted {
@@ -31,7 +30,12 @@ fn message() -> [u8; 257] {
 }
 
 // The first 100 bytes, cut at two places.
-fn cut_is<H: KeyedHash>(wanted: &Wanted, bytes: &[u8; 257], first: usize, second: usize) -> bool {
+fn cut_is<H: UniversalHash>(
+    wanted: &Wanted,
+    bytes: &[u8; 257],
+    first: usize,
+    second: usize,
+) -> bool {
     if second > 100 || first > second {
         return false;
     }
@@ -43,7 +47,7 @@ fn cut_is<H: KeyedHash>(wanted: &Wanted, bytes: &[u8; 257], first: usize, second
     tags_are_equal(&tag, &wanted.of_100.to_be_bytes())
 }
 
-fn hash_of_first<H: KeyedHash>(wanted: &Wanted, bytes: &[u8; 257], length: usize) -> [u8; 16] {
+fn hash_of_first<H: UniversalHash>(wanted: &Wanted, bytes: &[u8; 257], length: usize) -> [u8; 16] {
     let mut hash = H::new(&wanted.key.to_be_bytes());
     if length <= 257 {
         hash.update(&bytes[..length]);
@@ -51,7 +55,7 @@ fn hash_of_first<H: KeyedHash>(wanted: &Wanted, bytes: &[u8; 257], length: usize
     hash.finalize()
 }
 
-fn lengths_are<H: KeyedHash>(wanted: &Wanted, bytes: &[u8; 257]) -> bool {
+fn lengths_are<H: UniversalHash>(wanted: &Wanted, bytes: &[u8; 257]) -> bool {
     let mut hash = H::new(&wanted.key.to_be_bytes());
     for length in 0..258 {
         hash.update(&hash_of_first::<H>(wanted, bytes, length));
@@ -79,6 +83,40 @@ fn messages_of_all_lengths(rt: HostRuntime) {
     let bytes = message();
     assert!(rt;
         lengths_are::<Ghash>(&OF_GHASH, &bytes) && lengths_are::<Polyval>(&OF_POLYVAL, &bytes)
+    );
+}
+
+// Whether the tag is verified as the hash of the first 100 bytes.
+fn verifies<H: UniversalHash>(wanted: &Wanted, bytes: &[u8; 257], tag: &[u8]) -> bool {
+    let mut hash = H::new(&wanted.key.to_be_bytes());
+    hash.update(&bytes[..100]);
+    hash.verify(tag)
+}
+
+// Whether a hash starts anew after the first 100 bytes, under the same key, and verifies its tag alone.
+fn starts_anew<H: UniversalHash>(wanted: &Wanted, bytes: &[u8; 257]) -> bool {
+    let want = wanted.of_100.to_be_bytes();
+    let mut other = wanted.of_100.to_be_bytes();
+    other[15] ^= 1;
+    let mut hash = H::new(&wanted.key.to_be_bytes());
+    hash.update(&bytes[..100]);
+    let first = hash.finalize_reset();
+    hash.update(&bytes[..100]);
+    let second = hash.finalize_reset();
+    let of_nothing = hash.finalize();
+    tags_are_equal(&first, &want)
+        && tags_are_equal(&second, &want)
+        && tags_are_equal(&of_nothing, &[0; 16])
+        && verifies::<H>(wanted, bytes, &want)
+        && !verifies::<H>(wanted, bytes, &other)
+        && !verifies::<H>(wanted, bytes, &want[..15])
+}
+
+#[test]
+fn a_hash_starts_anew_and_verifies(rt: HostRuntime) {
+    let bytes = message();
+    assert!(rt;
+        starts_anew::<Ghash>(&OF_GHASH, &bytes) && starts_anew::<Polyval>(&OF_POLYVAL, &bytes)
     );
 }
 

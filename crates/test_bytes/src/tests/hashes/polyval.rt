@@ -1,7 +1,7 @@
 // The example of RFC 8452, appendix A: POLYVAL of two blocks, and GHASH of the same blocks with their bytes reversed, under the
 // key times x. And examples of its appendix C.1.
-use super::{KeyedHash, bytes_of};
-use tags::{Ghash, Polyval, tags_are_equal};
+use super::bytes_of;
+use tags::{Ghash, Polyval, UniversalHash, gcm_siv_polyval, tags_are_equal};
 
 // A key, the blocks of a message, and their hash.
 struct Example {
@@ -29,7 +29,7 @@ static OF_GHASH: Example = Example {
     want: 0x7eb7_e5f5_6c86_b7e5_fa19_6184_7bb4_a3f7,
 };
 
-fn holds<H: KeyedHash>(example: &Example) -> bool {
+fn holds<H: UniversalHash>(example: &Example) -> bool {
     let length = example.blocks.len();
     if length > 5 {
         return false;
@@ -88,9 +88,35 @@ static EXAMPLES: [Example; 4] = [
     },
 ];
 
+// The bytes of their plaintexts.
+static LENGTHS: [usize; 4] = [8, 12, 32, 64];
+
+// The hash of so many bytes of the example's blocks, without associated data.
+fn text_is(example: &Example, length: usize) -> bool {
+    if length > 64 {
+        return false;
+    }
+    let text = bytes_of(example.blocks);
+    let hash = gcm_siv_polyval(&example.key.to_be_bytes(), &[], &text[..length]);
+    tags_are_equal(&hash, &example.want.to_be_bytes())
+}
+
+// The associated data 01 and the plaintext 0200000000000000, whose hash was computed with Python's integers by the definition.
+fn associated_data_are_hashed() -> bool {
+    let key = RECORD_KEY.to_be_bytes();
+    let hash = gcm_siv_polyval(&key, &[1], &[2, 0, 0, 0, 0, 0, 0, 0]);
+    hash == WANT_OF_BOTH.to_be_bytes()
+}
+
+const WANT_OF_BOTH: u128 = 0xb267_81e7_e2c1_376f_96be_c195_f370_9b2a;
+
 #[test]
 fn the_examples_of_the_standard(rt: HostRuntime) {
-    for i in 0..4 {
-        assert!(rt; holds::<Polyval>(&EXAMPLES[i]), "example {i}");
+    for i in 0..4usize {
+        assert!(rt;
+            holds::<Polyval>(&EXAMPLES[i]) && text_is(&EXAMPLES[i], LENGTHS[i]),
+            "example {i}"
+        );
     }
+    assert!(rt; associated_data_are_hashed());
 }

@@ -1,0 +1,10 @@
+use Rattle.std.proofs.Common.{[], ◌∷◌, ◌++◌, List, ℕ, ◌∙◌, ap₂}
+use Rattle.tags.specs.Blocks.{blocks_of}
+use Rattle.tags.specs.Polyval.{polyval}
+use Rattle.tags.proofs.gcm_siv.gcm_siv_polyval.Goals as goal
+
+pub returns : goal.returns
+returns c =
+    c.hash_of_parts.ensures
+    ∙ ap₂ (λ (x y : List ℕ). polyval c.args.key.now (blocks_of c.args.associated.now ++ blocks_of c.args.text.now ++ (x ++ y) ∷ []))
+    c.to_le_bytes.ensures c.to_le_bytes-2.ensures
