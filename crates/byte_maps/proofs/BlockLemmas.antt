@@ -1,6 +1,10 @@
--- A slice whose bytes are written over in blocks: those before a place are done, and those from it on are as they were.
-use Rattle.std.proofs.Common.{◌≡◌, ℕ, zero, suc, ◌+◌, ◌≤◌, List, [], ◌∷◌, ◌++◌, length, map, take, drop, refl, sym, ◌∙◌, ap, ap₂, arith}
+-- A slice that is written over in blocks or place by place: what lies before a place is done, and what lies from it on is as it was.
+use Rattle.std.proofs.Common.{◌≡◌, ℕ, zero, suc, ◌+◌, ◌*◌, ◌<◌, ◌≤◌, List, [], ◌∷◌, ◌++◌, length, map, take, drop, refl, sym, ◌∙◌, ap, ap₂, arith}
+use Rattle.std.proofs.Math.Nat.{mul-suc}
+use Rattle.std.proofs.Math.Numerals.{add-one}
+use Rattle.std.specs.Prelude.{slice_index, slice_index_or, slice_set}
 use Rattle.std.proofs.lemmas.List.{length-drop, length-map, take_all}
+use Rattle.std.proofs.lemmas.List.Edits.{map_over_more}
 use Rattle.std.proofs.lemmas.Simd.{put_chunk_whole}
 use lib.Lanes.{chunk, put_chunk}
 
@@ -11,6 +15,8 @@ done_before f n xs = map f (take n xs) ++ drop n xs
 -- before the first place nothing is done
 pub none_done : (f : ℕ → ℕ) (n : ℕ) (xs : List ℕ) → n ≡ 0 → xs ≡ done_before f n xs
 none_done f n xs is = ap (λ (k : ℕ). done_before f k xs) (sym is)
+
+-- ---- by blocks
 
 -- nothing is written where nothing is to be written
 nothing_put : (xs : List ℕ) → put_chunk 0 xs [] ≡ xs
@@ -32,12 +38,12 @@ put_next f n (suc i) (x ∷ old) room =
     let e : suc i + n ≡ suc (i + n) = omega arith in
     rw e (ap (λ (xs : List ℕ). f x ∷ xs) (put_next f n i old (omega arith)))
 
--- a block more is done
-pub block_done : (f : ℕ → ℕ) (n i m : ℕ) (old bytes out : List ℕ) → m ≡ i + n → i + n ≤ length old
-    → bytes ≡ done_before f i old → out ≡ map f (chunk i n bytes) → put_chunk i bytes out ≡ done_before f m old
-block_done f n i m old bytes out next room before made =
-    ap₂ (put_chunk i) before (made ∙ ap (λ (xs : List ℕ). map f (chunk i n xs)) before)
-    ∙ put_next f n i old room ∙ ap (λ (k : ℕ). done_before f k old) (sym next)
+-- block k of n elements is done, and those before it are
+pub block_done : (f : ℕ → ℕ) (n k : ℕ) (old now out : List ℕ) → n * k + n ≤ length old
+    → now ≡ done_before f (n * k) old → out ≡ map f (chunk (n * k) n now) → put_chunk (n * k) now out ≡ done_before f (n * (k + 1)) old
+block_done f n k old now out room before made =
+    ap₂ (put_chunk (n * k)) before (made ∙ ap (λ (xs : List ℕ). map f (chunk (n * k) n xs)) before)
+    ∙ put_next f n (n * k) old room ∙ ap (λ (i : ℕ). done_before f i old) (sym (ap (λ (i : ℕ). n * i) (add-one k) ∙ mul-suc n k))
 
 -- to do the first elements changes no length
 same_length : (f : ℕ → ℕ) (n : ℕ) (xs : List ℕ) → length (done_before f n xs) ≡ length (map f xs)
@@ -59,3 +65,19 @@ pub end_done : (f : ℕ → ℕ) (i n m : ℕ) (old bytes out : List ℕ) → i 
 end_done f i n m old bytes out whole reach before made =
     ap₂ (put_chunk i) before (made ∙ ap (map f) (take_all n (drop i old) (omega (arith, length-drop i old))))
     ∙ end_put f i m old reach (omega arith)
+
+-- ---- by one place
+
+-- an entry of a list does not depend on what stands for those past its end
+same_entry : (xs : List ℕ) (i d e : ℕ) → i < length xs → slice_index_or xs i d ≡ slice_index_or xs i e
+same_entry [] i d e within = absurd (omega (arith, within))
+same_entry (x ∷ xs) zero d e within = refl
+same_entry (x ∷ xs) (suc i) d e within = same_entry xs i d e (omega (arith, within))
+
+-- one place more is done
+pub place_done : (f : ℕ → ℕ) (xs ys : List ℕ) (i v : ℕ) → i < length xs → i < length ys
+    → ys ≡ done_before f i xs → v ≡ f (slice_index ys i)
+    → slice_set ys i v ≡ done_before f (i + 1) xs
+place_done f xs ys i v within also so_far is =
+    ap (slice_set ys i) is
+    ∙ map_over_more f xs ys i (slice_index ys i) within so_far (same_entry ys i 0 (slice_index ys i) also)

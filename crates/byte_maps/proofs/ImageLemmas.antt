@@ -1,8 +1,7 @@
 -- Images one after the other, and of one map after another.
-use Rattle.std.proofs.Common.{◌≡◌, ℕ, zero, suc, ◌+◌, ◌^◌, ◌<◌, List, [], ◌∷◌, ◌++◌, drop, length, map, take, refl, sym, ◌∙◌, ap, subst, arith}
-use Rattle.std.specs.Prelude.{bit_xor, slice_index, slice_index_or, slice_set}
+use Rattle.std.proofs.Common.{◌≡◌, ℕ, zero, suc, ◌+◌, ◌^◌, ◌<◌, List, [], ◌∷◌, length, map, refl, sym, ◌∙◌, ap, subst, arith}
+use Rattle.std.specs.Prelude.{bit_xor, slice_index}
 use Rattle.std.proofs.lemmas.List.{length-map}
-use Rattle.std.proofs.lemmas.List.Edits.{map_over_more}
 use Rattle.field_base.specs.LinearMaps.{linear_image}
 use Rattle.field_base.proofs.EightCases.{eight_cases}
 use Rattle.field_base.proofs.LinearMapLemmas.{the_linear_map}
@@ -12,20 +11,6 @@ pub entry_of_map : (f : ℕ → ℕ) (xs : List ℕ) (i : ℕ) → i < length xs
 entry_of_map f [] i within = absurd (omega (arith, within))
 entry_of_map f (x ∷ xs) zero within = refl
 entry_of_map f (x ∷ xs) (suc i) within = entry_of_map f xs i (omega (arith, within))
-
--- an entry of a list does not depend on what stands for those past its end
-same_entry : (xs : List ℕ) (i d e : ℕ) → i < length xs → slice_index_or xs i d ≡ slice_index_or xs i e
-same_entry [] i d e within = absurd (omega (arith, within))
-same_entry (x ∷ xs) zero d e within = refl
-same_entry (x ∷ xs) (suc i) d e within = same_entry xs i d e (omega (arith, within))
-
--- one place more is written over
-pub place_written : (f : ℕ → ℕ) (xs ys : List ℕ) (i v : ℕ) → i < length xs → i < length ys
-    → ys ≡ map f (take i xs) ++ drop i xs → v ≡ f (slice_index ys i)
-    → slice_set ys i v ≡ map f (take (i + 1) xs) ++ drop (i + 1) xs
-place_written f xs ys i v within also so_far is =
-    ap (slice_set ys i) is
-    ∙ map_over_more f xs ys i (slice_index ys i) within so_far (same_entry ys i 0 (slice_index ys i) also)
 
 -- the map whose images are the images of images is the one map after the other
 pub one_after_other : (outer first both : List ℕ) → both ≡ map (linear_image outer) first → (x : ℕ) → x < 2 ^ length first

@@ -1,4 +1,4 @@
-mod BlockLemmas
+pub mod BlockLemmas
 mod ColumnLemmas
 mod HalfImages
 mod ImageLemmas

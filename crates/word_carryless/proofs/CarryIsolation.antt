@@ -205,10 +205,12 @@ carry_isolation i j x y i_small j_small x_class y_class =
     places_isolated i j x y i_small j_small (class-fits i x i_small x_class) (class-fits j y j_small y_class)
     (class-places i x i_small x_class) (class-places j y j_small y_class)
 
--- as the code computes it, with the mask shifted in a word
+-- the bits of a class, as the code takes them: with the mask shifted in a word
+pub kept_bits : (i x : ℕ) → i < 4 → bit_and x (0x1111_1111_1111_1111 * 2 ^ i % 2 ^ 64) ≡ bit_and x (class_mask i)
+kept_bits i x i_small = ap (bit_and x) (mod-eq_of_lt (mask_lt i (ones 16) i_small (le_refl (ones 16))))
+
+-- the product, as the code computes it
 pub masked_carryless : (i j x y : ℕ) → i < 4 → j < 4 → IsInClass i x → IsInClass j y
     → bit_and (x * y % 2 ^ 64) (0x1111_1111_1111_1111 * 2 ^ ((i + j) % 4) % 2 ^ 64) ≡ carryless x y % 2 ^ 64
 masked_carryless i j x y i_small j_small x_class y_class =
-    ap (bit_and (x * y % 2 ^ 64))
-    (mod-eq_of_lt (mask_lt ((i + j) % 4) (ones 16) (omega arith) (le_refl (ones 16))))
-    ∙ carry_isolation i j x y i_small j_small x_class y_class
+    kept_bits ((i + j) % 4) (x * y % 2 ^ 64) (omega arith) ∙ carry_isolation i j x y i_small j_small x_class y_class

@@ -4,7 +4,7 @@ use Rattle.std.proofs.lemmas.Nat.{pow_pos}
 use native.Mathlib.Nat.{pow-suc}
 use Rattle.field_base.specs.Powers.{power, repeated_square}
 use Rattle.field_base.specs.Ring.{IsRing}
-use Rattle.field_base.proofs.PowerLemmas.{one-times, times-one, square_times, power-add}
+use Rattle.field_base.proofs.PowerLemmas.{one-times, times-one, square_times, power-add, repeated_square-none, repeated_square_more}
 use Rattle.field_base.proofs.RingLemmas.{times-zero}
 
 -- a ^ (2 ^ n - 1): each run is the square of the one before, times a
@@ -51,6 +51,14 @@ module _ (width : ℕ) (times : ℕ → ℕ → ℕ) (ring : IsRing width 1 time
   unfolding repeated_square
   squared_once a square fits of_square =
       of_square ∙ sym (ap (λ (x : ℕ). times x x) (one-times width 1 times ring a fits))
+
+  -- squared no times
+  pub squared_none : (a : ℕ) → a < 2 ^ width → a ≡ repeated_square 1 times 0 a
+  squared_none a fits = sym (repeated_square-none width 1 times ring a fits)
+
+  -- squared once more
+  pub squared_more : (n a now next : ℕ) → next ≡ times now now → now ≡ repeated_square 1 times n a → next ≡ repeated_square 1 times (n + 1) a
+  squared_more n a now next is so_far = is ∙ ap (λ (x : ℕ). times x x) so_far ∙ sym (repeated_square_more width 1 times ring n a)
 
   -- the run of n ones is the power a^(2^n - 1)
   run-power : (n a : ℕ) → run times n a ≡ power 1 times a (2 ^ n - 1)

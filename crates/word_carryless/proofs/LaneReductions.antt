@@ -41,13 +41,13 @@ low_fits : (x : ℕ) → x % 2 ^ 64 < 2 ^ 64
 low_fits x = mod-lt x (lit< tt)
 
 -- a sum whose second part has no high word, and one whose second part has no low word
-xor_low : (high low other : ℕ) → low < 2 ^ 64 → other < 2 ^ 64 → bit_xor (high * 2 ^ 64 + low) other ≡ high * 2 ^ 64 + bit_xor low other
+pub xor_low : (high low other : ℕ) → low < 2 ^ 64 → other < 2 ^ 64 → bit_xor (high * 2 ^ 64 + low) other ≡ high * 2 ^ 64 + bit_xor low other
 xor_low high low other low_small other_small =
     let plain : other ≡ 0 * 2 ^ 64 + other = omega arith in
     ap (bit_xor (high * 2 ^ 64 + low)) plain ∙ xor_block 64 high 0 low other low_small other_small
     ∙ ap (λ (h : ℕ). h * 2 ^ 64 + bit_xor low other) (xor_zero_r high)
 
-xor_high : (high low other : ℕ) → low < 2 ^ 64 → bit_xor (high * 2 ^ 64 + low) (other * 2 ^ 64) ≡ bit_xor high other * 2 ^ 64 + low
+pub xor_high : (high low other : ℕ) → low < 2 ^ 64 → bit_xor (high * 2 ^ 64 + low) (other * 2 ^ 64) ≡ bit_xor high other * 2 ^ 64 + low
 xor_high high low other low_small =
     let plain : other * 2 ^ 64 ≡ other * 2 ^ 64 + 0 = omega arith in
     ap (bit_xor (high * 2 ^ 64 + low)) plain ∙ xor_block 64 high other low 0 low_small (lit< tt)
@@ -126,10 +126,10 @@ double_products (a ∷ x0) (b ∷ x1) (c ∷ y0) (d ∷ y1) f0 f1 f2 f3 =
 
 -- ---- remainders
 
-abbrev tailed : ℕ → ℕ
+abbrev pub tailed : ℕ → ℕ
 tailed h = carryless h ghash_tail % 2 ^ 64
 
-abbrev spilt : ℕ → ℕ
+abbrev pub spilt : ℕ → ℕ
 spilt h = carryless h ghash_tail / 2 ^ 64
 
 -- the products by the tail, below x^64 and past it, as the code computes them
@@ -169,7 +169,7 @@ tailed_past low high fits =
     ∙ xor_zero_r (spilt high)
 
 -- one lane, as the code computes it: what the highest word spills goes to the next, and that one is folded last
-folded : (w0 w1 w2 w3 : ℕ) → w0 < 2 ^ 64 → w1 < 2 ^ 64 → w2 < 2 ^ 64 → w3 < 2 ^ 64
+pub folded : (w0 w1 w2 w3 : ℕ) → w0 < 2 ^ 64 → w1 < 2 ^ 64 → w2 < 2 ^ 64 → w3 < 2 ^ 64
     → bit_xor (bit_xor w1 (tailed w3)) (spilt (bit_xor w2 (spilt w3))) * 2 ^ 64 + bit_xor w0 (tailed (bit_xor w2 (spilt w3)))
     ≡ rem 128 ghash_modulus ((w3 * 2 ^ 64 + w2) * 2 ^ 128 + (w1 * 2 ^ 64 + w0))
 folded w0 w1 w2 w3 w0_fits w1_fits w2_fits w3_fits =

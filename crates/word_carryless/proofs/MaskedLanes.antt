@@ -2,14 +2,14 @@
 use Rattle.std.proofs.Common.{◌≡◌, ℕ, zero, suc, ◌+◌, ◌*◌, ◌%◌, ◌^◌, ◌<◌, ◌≤◌, List, [], ◌∷◌, ◌++◌, length, map, take, drop, get_or, replicate, refl, sym, ◌∙◌, ap, ap₂, subst, arith}
 use Rattle.std.specs.Prelude.{bit_and, slice_index_or}
 use Rattle.std.specs.List.{All}
-use Rattle.std.specs.Simd.Lanes.{zip2, chunk, put_chunk}
-use Rattle.std.proofs.Math.ListN.{set}
-use Rattle.std.proofs.lemmas.List.{get_or_default}
-use Rattle.std.proofs.lemmas.List.Edits.{map_over_more}
+use Rattle.std.specs.Simd.Lanes.{zip2, chunk}
 use Rattle.std.proofs.lemmas.Simd.{length-chunk, get_or-chunk}
+use Rattle.byte_maps.proofs.BlockLemmas.{done_before}
 use Rattle.field_base.specs.Carryless.{carryless}
-use Rattle.word_carryless.specs.Masked.{CarryIsolationInLanes, IsInClass, products_in_lanes}
+use Rattle.word_carryless.specs.Masked.{CarryIsolationInLanes, IsInClass, in_class}
 use Rattle.word_carryless.proofs.CarryIsolation.{carry_isolation, masked_carryless}
+use Rattle.word_carryless.proofs.ClassMasks.{class-mask}
+use Rattle.word_carryless.proofs.LaneProducts.{products_in_lanes}
 
 -- ---- lanes
 
@@ -37,14 +37,16 @@ masked_lanes (suc n) i j y (x ∷ xs) long i_small j_small x_class y_class =
     (masked_carryless i j x y i_small j_small (x_class 0 0 (omega arith)) y_class)
     (masked_lanes n i j y xs (omega arith) i_small j_small (all_rest (IsInClass i) x xs x_class) y_class)
 
+-- words of which the bits of a class are kept are of the class
+pub kept_class : (i : ℕ) (xs : List ℕ) → All (IsInClass i) (in_class i xs)
+kept_class i [] k d below = absurd (omega (arith, below))
+kept_class i (x ∷ xs) zero d below = class-mask i x
+kept_class i (x ∷ xs) (suc k) d below = kept_class i xs k d (omega (arith, below))
+
 -- ---- blocks of a slice
 
--- the first i places hold what f gives, the others are as they were
-abbrev pub Mapped : (ℕ → ℕ) → List ℕ → ℕ → List ℕ
-Mapped f old i = map f (take i old) ++ drop i old
-
 -- a place that is not written yet
-not_mapped : (f : ℕ → ℕ) (old : List ℕ) (i k d : ℕ) → i ≤ k → get_or (Mapped f old i) k d ≡ get_or old k d
+not_mapped : (f : ℕ → ℕ) (old : List ℕ) (i k d : ℕ) → i ≤ k → get_or (done_before f i old) k d ≡ get_or old k d
 not_mapped f old zero k d above = refl
 not_mapped f [] (suc i) k d above = refl
 not_mapped f (x ∷ old) (suc i) zero d above = absurd (omega arith)
@@ -52,7 +54,7 @@ not_mapped f (x ∷ old) (suc i) (suc k) d above = not_mapped f old i k d (omega
 
 -- the next block is as it was
 pub block_keeps : (P : ℕ → Type 0) (f : ℕ → ℕ) (n i : ℕ) (old now : List ℕ) → All P old → i + n ≤ length old → i + n ≤ length now
-    → now ≡ Mapped f old i → All P (chunk i n now)
+    → now ≡ done_before f i old → All P (chunk i n now)
 block_keeps P f n i old now all room also so_far k d below =
     let inside : k < n = omega (arith, below, length-chunk i n now also) in
     let within : i + k < length old = omega (arith, room, inside) in
@@ -61,39 +63,7 @@ block_keeps P f n i old now all room also so_far k d below =
     (all (i + k) d within)
 
 -- and the next place
-pub place_keeps : (P : ℕ → Type 0) (f : ℕ → ℕ) (i : ℕ) (old now : List ℕ) → All P old → i < length old → now ≡ Mapped f old i
+pub place_keeps : (P : ℕ → Type 0) (f : ℕ → ℕ) (i : ℕ) (old now : List ℕ) → All P old → i < length old → now ≡ done_before f i old
     → P (slice_index_or now i 0)
 place_keeps P f i old now all within so_far =
     subst P (sym (ap (λ (xs : List ℕ). get_or xs i 0) so_far ∙ not_mapped f old i i 0 (omega arith))) (all i 0 within)
-
-start : (xs : List ℕ) → put_chunk 0 xs [] ≡ xs
-start [] = refl
-start (x ∷ xs) = refl
-
-over : (f : ℕ → ℕ) (n : ℕ) (old : List ℕ) → n ≤ length old → put_chunk 0 old (map f (take n old)) ≡ Mapped f old n
-over f zero old room = start old
-over f (suc n) [] room = absurd (omega arith)
-over f (suc n) (x ∷ old) room = ap (λ (xs : List ℕ). f x ∷ xs) (over f n old (omega arith))
-
--- the elements before place i are written, and the block at i is written next
-next_block : (f : ℕ → ℕ) (n i : ℕ) (old : List ℕ) → i + n ≤ length old
-    → put_chunk i (Mapped f old i) (map f (chunk i n (Mapped f old i))) ≡ Mapped f old (i + n)
-next_block f n zero old room = let e : 0 + n ≡ n = omega arith in rw e (over f n old (omega arith))
-next_block f n (suc i) [] room = absurd (omega arith)
-next_block f n (suc i) (x ∷ old) room =
-    let e : suc i + n ≡ suc (i + n) = omega arith in
-    rw e (ap (λ (xs : List ℕ). f x ∷ xs) (next_block f n i old (omega arith)))
-
--- as the loop writes it
-pub block_mapped : (f : ℕ → ℕ) (n i m : ℕ) (old now out : List ℕ) → m ≡ i + n → i + n ≤ length old
-    → now ≡ Mapped f old i → out ≡ map f (chunk i n now) → put_chunk i now out ≡ Mapped f old m
-block_mapped f n i m old now out next room so_far made =
-    ap₂ (put_chunk i) so_far (made ∙ ap (λ (xs : List ℕ). map f (chunk i n xs)) so_far)
-    ∙ next_block f n i old room ∙ ap (Mapped f old) (sym next)
-
--- one place more
-pub place_mapped : (f : ℕ → ℕ) (i : ℕ) (old now : List ℕ) (r : ℕ) → i < length old → i < length now → now ≡ Mapped f old i
-    → r ≡ f (get_or now i 0) → set now i r ≡ Mapped f old (i + 1)
-place_mapped f i old now r within also so_far made =
-    ap (set now i) made
-    ∙ map_over_more f old now i (get_or now i 0) within so_far (get_or_default now i 0 (get_or now i 0) also)

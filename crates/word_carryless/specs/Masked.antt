@@ -38,10 +38,9 @@ CarryIsolationInLanes = (i j : ℕ) (xs ys : List ℕ) → i < 4 → j < 4 → A
 abbrev pub in_class : ℕ → List ℕ → List ℕ
 in_class i = map (λ x. bit_and x (class_mask i))
 
--- the integer products modulo 2^64 of two lists of words, place by place
-abbrev pub products_in_lanes : List ℕ → List ℕ → List ℕ
-products_in_lanes = zip2 (λ x y. x * y % 2 ^ 64)
-
--- the sums of four lists of words, place by place
-abbrev pub sum_in_lanes : List ℕ → List ℕ → List ℕ → List ℕ → List ℕ
-sum_in_lanes a b c d = zip2 bit_xor (zip2 bit_xor (zip2 bit_xor a b) c) d
+-- the four lists have the bits of each word that are of class 0, 1, 2 and 3
+pub record AreClasses (words x0 x1 x2 x3 : List ℕ) : Type 0 where
+  pub of_0 : x0 ≡ in_class 0 words
+  pub of_1 : x1 ≡ in_class 1 words
+  pub of_2 : x2 ≡ in_class 2 words
+  pub of_3 : x3 ≡ in_class 3 words

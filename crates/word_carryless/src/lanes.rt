@@ -3,14 +3,16 @@
 //
 // Each lane is multiplied and reduced as by `multiply_mod_128`, so that two products take little more time than one. Four are for
 // processors with vectors of 256 bits: on others these do not fit the registers, and two pairs are faster.
-ghost use Rattle.std.specs.Prelude.{◌≡◌, ◌*◌, ◌+◌, ◌/◌, ◌%◌, ◌^◌, [], ◌∷◌, map};
-ghost use Rattle.std.specs.Simd.Lanes.{zip2};
+ghost use Rattle.std.specs.Prelude.{◌≡◌, ◌*◌, ◌+◌, ◌/◌, ◌%◌, ◌^◌, ℕ, List, [], ◌∷◌, map};
+ghost use Rattle.std.specs.Simd.Lanes.{Each1, zip2};
+ghost use Rattle.std.proofs.Common.{Fits, w64};
 ghost use Rattle.field_base.specs.Carryless.{carryless};
 ghost use Rattle.field_base.specs.Remainder.{ghash_modulus, mul_mod, rem};
-ghost use Rattle.word_carryless.specs.DoubleWords.{double_words, quadruple_words};
+ghost use Rattle.word_carryless.specs.DoubleWords.{AreHalfProducts, AreWordProducts, double_words, high_halves, low_halves, quadruple_words, sums_of_halves};
+ghost use Rattle.word_carryless.specs.Masked.{AreClasses};
 ghost use Rattle.word_carryless.specs.Tail.{ghash_tail};
 
-use crate::masked::multiply_low_words;
+use crate::masked::{Classes, classes_of, multiply_low_words, products_of_classes};
 use crate::split::{join_128, split_128};
 use crate::word_vector::WordVector;
 use std::simd::prelude::*;
@@ -158,18 +160,18 @@ fn reduce<V: WordVector>(w0: V, w1: V, w2: V, w3: V) -> (V, V)
     )
 }
 
-// The terms below x^64 of the products by x^7 + x^2 + x + 1.
+/// The terms below x^64 of the products by x^7 + x^2 + x + 1.
 #[inline(always)]
-fn times_tail<V: WordVector>(words: V) -> V
+pub fn times_tail<V: WordVector>(words: V) -> V
     ensures { V.words result ≡ map (λ h. carryless h ghash_tail % 2 ^ 64) (V.words words) }
 {
     words.holds_words();
     words.up(7).sum(words.up(2)).sum(words.up(1)).sum(words)
 }
 
-// The terms from x^64 on of the products by x^7 + x^2 + x + 1, divided by x^64.
+/// The terms from x^64 on of the products by x^7 + x^2 + x + 1, divided by x^64.
 #[inline(always)]
-fn spill<V: WordVector>(words: V) -> V
+pub fn spill<V: WordVector>(words: V) -> V
     ensures { V.words result ≡ map (λ h. carryless h ghash_tail / 2 ^ 64) (V.words words) }
 {
     words.holds_words();
@@ -179,8 +181,7 @@ fn spill<V: WordVector>(words: V) -> V
 // The carryless products of the lanes: the low words, and the high words.
 #[inline(always)]
 fn multiply_words<V: WordVector>(left: V, right: V) -> (V, V)
-    ensures low { V.words result.0 ≡ zip2 (λ a b. carryless a b % 2 ^ 64) (V.words left) (V.words right) }
-    ensures high { V.words result.1 ≡ zip2 (λ a b. carryless a b / 2 ^ 64) (V.words left) (V.words right) }
+    ensures { AreWordProducts (V.words left) (V.words right) (V.words result.0) (V.words result.1) }
 {
     left.holds_words();
     right.holds_words();
@@ -189,15 +190,65 @@ fn multiply_words<V: WordVector>(left: V, right: V) -> (V, V)
     let low = multiply_low_halves(left, right);
     let high = multiply_low_halves(left_high, right_high);
     let both = multiply_low_halves(left.sum(left_high), right.sum(right_high));
+    join_halves(low, high, both)
+}
+
+// The carryless products of the low half words of the lanes. The mask of the low half comes first, so that one multiplication of half
+// words in lanes serves each pair of classes. Each operand is split into classes just before its product: all at once they do not fit
+// the registers.
+#[inline(always)]
+fn multiply_low_halves<V: WordVector>(left: V, right: V) -> V
+    ensures { V.words result ≡ zip2 (λ a b. carryless a b % 2 ^ 64) (low_halves (V.words left)) (low_halves (V.words right)) }
+{
+    multiply_low_words(left.masked(0xffff_ffff), right.masked(0xffff_ffff))
+}
+
+// The words of products, from the products of the low halves, of the high halves and of their sums.
+#[inline(always)]
+fn join_halves<V: WordVector>(low: V, high: V, both: V) -> (V, V)
+    ensures { (left right : List ℕ) → Each1 (Fits w64) left → Each1 (Fits w64) right
+        → AreHalfProducts left right (V.words low) (V.words high) (V.words both)
+        → AreWordProducts left right (V.words result.0) (V.words result.1) }
+{
     let middle = both.sum(low).sum(high);
     (low.sum(middle.up(32)), high.sum(middle.down(32)))
 }
 
-// The carryless products of the low half words of the lanes. The mask of the low half comes first, so that one multiplication of half
-// words in lanes serves each pair of classes.
+/// The low half of each word, the high half and the sum of both, each split into classes.
 #[inline(always)]
-fn multiply_low_halves<V: WordVector>(left: V, right: V) -> V
-    ensures { V.words result ≡ zip2 (λ a b. carryless (a % 2 ^ 32) (b % 2 ^ 32)) (V.words left) (V.words right) }
+pub fn halves_of<V: WordVector>(words: V) -> (Classes<V>, Classes<V>, Classes<V>)
+    ensures low { AreClasses (low_halves (V.words words)) (V.words result.0.0) (V.words result.0.1) (V.words result.0.2) (V.words result.0.3) }
+    ensures high { AreClasses (low_halves (high_halves (V.words words)))
+        (V.words result.1.0) (V.words result.1.1) (V.words result.1.2) (V.words result.1.3) }
+    ensures both { AreClasses (low_halves (sums_of_halves (V.words words)))
+        (V.words result.2.0) (V.words result.2.1) (V.words result.2.2) (V.words result.2.3) }
 {
-    multiply_low_words(left.masked(0xffff_ffff), right.masked(0xffff_ffff))
+    let high = words.down(32);
+    (
+        classes_of(words.masked(0xffff_ffff)),
+        classes_of(high.masked(0xffff_ffff)),
+        classes_of(words.sum(high).masked(0xffff_ffff)),
+    )
+}
+
+/// The carryless products of the lanes, from the classes of their halves: the low words, and the high words. Halves have 32 bits, so that
+/// one multiplication of half words in lanes serves each pair of classes.
+#[inline(always)]
+pub fn multiply_halves<V: WordVector>(
+    x: (Classes<V>, Classes<V>, Classes<V>),
+    y: (Classes<V>, Classes<V>, Classes<V>),
+) -> (V, V)
+    ensures { (left right : List ℕ) → Each1 (Fits w64) left → Each1 (Fits w64) right
+        → AreClasses (low_halves left) (V.words x.0.0) (V.words x.0.1) (V.words x.0.2) (V.words x.0.3)
+        → AreClasses (low_halves (high_halves left)) (V.words x.1.0) (V.words x.1.1) (V.words x.1.2) (V.words x.1.3)
+        → AreClasses (low_halves (sums_of_halves left)) (V.words x.2.0) (V.words x.2.1) (V.words x.2.2) (V.words x.2.3)
+        → AreClasses (low_halves right) (V.words y.0.0) (V.words y.0.1) (V.words y.0.2) (V.words y.0.3)
+        → AreClasses (low_halves (high_halves right)) (V.words y.1.0) (V.words y.1.1) (V.words y.1.2) (V.words y.1.3)
+        → AreClasses (low_halves (sums_of_halves right)) (V.words y.2.0) (V.words y.2.1) (V.words y.2.2) (V.words y.2.3)
+        → AreWordProducts left right (V.words result.0) (V.words result.1) }
+{
+    let low = products_of_classes(x.0, y.0);
+    let high = products_of_classes(x.1, y.1);
+    let both = products_of_classes(x.2, y.2);
+    join_halves(low, high, both)
 }

@@ -4,11 +4,12 @@
 // have bits are four places apart, so that a column may count to 15 before it reaches the next; the lowest bit of a
 // column is the coefficient of the carryless product. Only the highest column can reach 16, and its carry leaves
 // the word.
-ghost use Rattle.std.specs.Prelude.{◌≡◌, ◌%◌, ◌+◌, ◌^◌, ◌<◌, map};
+ghost use Rattle.std.specs.Prelude.{◌≡◌, ◌%◌, ◌+◌, ◌^◌, ◌<◌, ℕ, List, bit_and, map};
 ghost use Rattle.std.specs.List.{All};
-ghost use Rattle.std.specs.Simd.Lanes.{zip2};
+ghost use Rattle.std.specs.Simd.Lanes.{Each1, zip2};
+ghost use Rattle.std.proofs.Common.{Fits, w64};
 ghost use Rattle.field_base.specs.Carryless.{carryless};
-ghost use Rattle.word_carryless.specs.Masked.{IsInClass, in_class, products_in_lanes, sum_in_lanes};
+ghost use Rattle.word_carryless.specs.Masked.{AreClasses, IsInClass, class_mask, in_class};
 
 use crate::word_vector::WordVector;
 use std::simd::prelude::*;
@@ -24,6 +25,36 @@ pub(crate) const CLASS_2: u64 = 0x4444_4444_4444_4444;
 
 /// The bits of a word that are 3 modulo 4.
 pub(crate) const CLASS_3: u64 = 0x8888_8888_8888_8888;
+
+/// The words of a vector, split into those of class 0, 1, 2 and 3.
+pub type Classes<V> = (V, V, V, V);
+
+/// The bits of a word that are of class `i`, which are those modulo 4.
+pub fn word_of_class(word: u64, i: u32) -> u64
+    requires { i < 4 }
+    ensures bits { result ≡ bit_and word (class_mask i) }
+    ensures class { IsInClass i result }
+{
+    word & (CLASS_0 << i)
+}
+
+/// Keeps the bits of each word that are of class `i`.
+pub fn keep_class(words: &mut [u64], i: u32)
+    requires { i < 4 }
+    ensures bits { words.new ≡ in_class i words.old }
+    ensures class { All (IsInClass i) words.new }
+{
+    keep_bits(words, i);
+}
+
+fn keep_bits(words: &mut [u64], i: u32)
+    requires { i < 4 }
+    ensures { words.new ≡ in_class i words.old }
+{
+    for place in 0..words.len() {
+        words[place] = word_of_class(words[place], i);
+    }
+}
 
 /// The low 64 bits of the carryless product of a word of class `i` and a word of class `j`.
 ///
@@ -80,44 +111,35 @@ fn masked_lanes<V: WordVector>(xs: V, y: u64, i: u32, j: u32) -> V
 pub fn multiply_low_64(x: u64, y: u64) -> u64
     ensures { result ≡ carryless x y % 2 ^ 64 }
 {
-    multiply_low_words(x, y)
+    let product = multiply_low_words(u64x1::from_array([x]), u64x1::from_array([y]));
+    product.to_array()[0]
 }
 
 /// The low 64 bits of the carryless products of the words in each lane.
-///
-/// Each pair of classes gives an integer product of the class of their sum:
-///
-/// ```text
-/// class 0 <- (0,0) (1,3) (2,2) (3,1)        class 2 <- (0,2) (1,1) (2,0) (3,3)
-/// class 1 <- (0,1) (1,0) (2,3) (3,2)        class 3 <- (0,3) (1,2) (2,1) (3,0)
-/// ```
 #[inline(always)]
 pub(crate) fn multiply_low_words<V: WordVector>(left: V, right: V) -> V
     ensures { V.words result ≡ zip2 (λ a b. carryless a b % 2 ^ 64) (V.words left) (V.words right) }
 {
     left.holds_words();
     right.holds_words();
-    let x = classes_of(left);
-    let (y0, y1, y2, y3) = classes_of(right);
-    let z0 = sum_of_products(x, (y0, y3, y2, y1));
-    let z1 = sum_of_products(x, (y1, y0, y3, y2));
-    let z2 = sum_of_products(x, (y2, y1, y0, y3));
-    let z3 = sum_of_products(x, (y3, y2, y1, y0));
-    sum_of_four(
-        z0.masked(CLASS_0),
-        z1.masked(CLASS_1),
-        z2.masked(CLASS_2),
-        z3.masked(CLASS_3),
-    )
+    products_of_classes(classes_of(left), classes_of(right))
 }
 
-// The bits of each word that are of class 0, 1, 2 and 3.
+/// The low 64 bits of the carryless products of words, of which the bits of each class are given.
 #[inline(always)]
-fn classes_of<V: WordVector>(words: V) -> (V, V, V, V)
-    ensures zero { V.words result.0 ≡ in_class 0 (V.words words) }
-    ensures one { V.words result.1 ≡ in_class 1 (V.words words) }
-    ensures two { V.words result.2 ≡ in_class 2 (V.words words) }
-    ensures three { V.words result.3 ≡ in_class 3 (V.words words) }
+pub(crate) fn products_of_classes<V: WordVector>(x: Classes<V>, y: Classes<V>) -> V
+    ensures { (left right : List ℕ) → Each1 (Fits w64) left → Each1 (Fits w64) right
+        → AreClasses left (V.words x.0) (V.words x.1) (V.words x.2) (V.words x.3)
+        → AreClasses right (V.words y.0) (V.words y.1) (V.words y.2) (V.words y.3)
+        → V.words result ≡ zip2 (λ a b. carryless a b % 2 ^ 64) left right }
+{
+    V::multiply_classes(x.0, x.1, x.2, x.3, y.0, y.1, y.2, y.3)
+}
+
+/// The bits of each word that are of class 0, 1, 2 and 3.
+#[inline(always)]
+pub(crate) fn classes_of<V: WordVector>(words: V) -> Classes<V>
+    ensures { AreClasses (V.words words) (V.words result.0) (V.words result.1) (V.words result.2) (V.words result.3) }
 {
     (
         words.masked(CLASS_0),
@@ -125,26 +147,4 @@ fn classes_of<V: WordVector>(words: V) -> (V, V, V, V)
         words.masked(CLASS_2),
         words.masked(CLASS_3),
     )
-}
-
-// The sums of four integer products in each lane.
-#[inline(always)]
-fn sum_of_products<V: WordVector>(x: (V, V, V, V), y: (V, V, V, V)) -> V
-    ensures { V.words result ≡ sum_in_lanes (products_in_lanes (V.words x.0) (V.words y.0))
-        (products_in_lanes (V.words x.1) (V.words y.1)) (products_in_lanes (V.words x.2) (V.words y.2))
-        (products_in_lanes (V.words x.3) (V.words y.3)) }
-{
-    sum_of_four(
-        x.0.product(y.0),
-        x.1.product(y.1),
-        x.2.product(y.2),
-        x.3.product(y.3),
-    )
-}
-
-#[inline(always)]
-fn sum_of_four<V: WordVector>(a: V, b: V, c: V, d: V) -> V
-    ensures { V.words result ≡ sum_in_lanes (V.words a) (V.words b) (V.words c) (V.words d) }
-{
-    a.sum(b).sum(c).sum(d)
 }

@@ -22,7 +22,7 @@ pub fn split_128(x: u128) -> (u64, u64)
 /// The double word of a low and a high half.
 #[inline]
 #[tactic(auto, using(crate::proofs::Halves::joined_halves_128))]
-pub(crate) fn join_128(low: u64, high: u64) -> u128
+pub fn join_128(low: u64, high: u64) -> u128
     ensures { result ≡ high * 2 ^ 64 + low }
 {
     ((high as u128) << 64) ^ (low as u128)

@@ -1,6 +1,7 @@
 // Worked rows: carryless and masked products of words, and roots modulo both polynomials.
 use word_carryless::{
-    carryless_square_64, masked_product, masked_products, multiply_64, sqrt_mod_64, sqrt_mod_128,
+    carryless_square_64, keep_class, masked_product, masked_products, multiply_64, split_128,
+    sqrt_mod_64, sqrt_mod_128, word_of_class,
 };
 
 /// The square of the 64 coefficients 1.
@@ -49,6 +50,55 @@ fn first_words_are_multiplied(count: usize) -> bool {
 fn masked_products_of_every_length(rt: HostRuntime) {
     for count in 0..258usize {
         assert!(rt; first_words_are_multiplied(count));
+    }
+}
+
+/// Multiples of the golden ratio modulo 2^64.
+fn drawn(k: u64) -> u64 {
+    k.wrapping_add(1).wrapping_mul(0x9e37_79b9_7f4a_7c15)
+}
+
+/// Multiplies the bits of each word that are of class `pair % 4` by those of a factor that are of class `pair / 4`, which it returns.
+fn multiply_classes(words: &mut [u64], factor: u64, pair: u32) -> u64 {
+    let i = pair % 4;
+    let j = pair / 4 % 4;
+    let kept = word_of_class(factor, j);
+    keep_class(words, i);
+    masked_products(words, kept, i, j);
+    kept
+}
+
+/// Whether so many drawn words become the low words of their carryless products, and the words behind them stay.
+fn drawn_words_are_multiplied(count: usize, pair: u32) -> bool {
+    let mut words = [0; 12];
+    for place in 0..12u64 {
+        words[place as usize] = drawn(16 * place + pair as u64);
+    }
+    let drawn_words = words;
+    if count > 12 {
+        return false;
+    }
+    let factor = multiply_classes(&mut words[..count], drawn(1000 + pair as u64), pair);
+    let mut same = true;
+    for place in 0..12usize {
+        let word = drawn_words[place];
+        let wanted = if place < count {
+            split_128(multiply_64(word_of_class(word, pair % 4), factor)).0
+        } else {
+            word
+        };
+        same = same && words[place] == wanted;
+    }
+    same
+}
+
+// By four words, by two and by one: up to nine words there is each rest behind each body.
+#[test]
+fn masked_products_of_all_pairs_of_classes(rt: HostRuntime) {
+    for count in 0..10usize {
+        for pair in 0..16u32 {
+            assert!(rt; drawn_words_are_multiplied(count, pair));
+        }
     }
 }
 

@@ -5,21 +5,15 @@ use Rattle.byte_maps.proofs.images.map_blocks.Goals as goal
 
 pub loop-pair-preserved : goal.loop-pair-preserved
 loop-pair-preserved c =
-    let pair = c.loop-pair.pair in
-    let next : 32 * (pair + 1) ≡ 32 * pair + 32 = omega arith in
     let test = c.loop-pair-test.true in
-    let room : 32 * pair + 32 ≤ length c.args.bytes.now = omega arith in
-    block_done (linear_image c.args.images.now) 32 (32 * pair) (32 * (pair + 1)) c.args.bytes.now c.loop-pair.bytes
-    c.images_in_lanes-mapped.result next room c.loop-pair.invariant c.images_in_lanes-mapped.ensures
+    block_done (linear_image c.args.images.now) 32 c.loop-pair.pair c.args.bytes.now c.loop-pair.bytes c.images_in_lanes-mapped.result
+    (omega arith) c.loop-pair.invariant c.images_in_lanes-mapped.ensures
 
 pub loop-block-preserved : goal.loop-block-preserved
 loop-block-preserved c =
-    let block = c.loop-block.block in
-    let next : 16 * (block + 1) ≡ 16 * block + 16 = omega arith in
     let test = c.loop-block-test.true in
-    let room : 16 * block + 16 ≤ length c.args.bytes.now = omega arith in
-    block_done (linear_image c.args.images.now) 16 (16 * block) (16 * (block + 1)) c.args.bytes.now c.loop-block.bytes
-    c.images_in_lanes-mapped-in-loop-block.result next room c.loop-block.invariant c.images_in_lanes-mapped-in-loop-block.ensures
+    block_done (linear_image c.args.images.now) 16 c.loop-block.block c.args.bytes.now c.loop-block.bytes
+    c.images_in_lanes-mapped-in-loop-block.result (omega arith) c.loop-block.invariant c.images_in_lanes-mapped-in-loop-block.ensures
 
 pub returns : goal.returns
 returns c =

@@ -1,7 +1,7 @@
 use Rattle.std.proofs.Common.{◌≡◌, ℕ, ◌+◌, ◌^◌, ◌<◌, refl, arith, lit<}
 use Rattle.field_base.specs.Powers.{repeated_square}
 use Rattle.field_base.specs.Remainder.{ghash_modulus, mul_mod}
-use Rattle.field_base.proofs.RemainderRing.{mul_mod_ring}
+use Rattle.field_base.proofs.RemainderRing.{ghash_ring}
 use Rattle.word_carryless.proofs.Chains.{run, run-one, joined, squared_once, chain_end}
 use Rattle.word_carryless.proofs.inverse.invert_mod_128.Goals as goal
 
@@ -9,20 +9,20 @@ use Rattle.word_carryless.proofs.inverse.invert_mod_128.Goals as goal
 join : (m n a first second moved product : ℕ) → first ≡ run (mul_mod 128 ghash_modulus) m a → second ≡ run (mul_mod 128 ghash_modulus) n a
     → moved ≡ repeated_square 1 (mul_mod 128 ghash_modulus) n first → product ≡ mul_mod 128 ghash_modulus moved second
     → product ≡ run (mul_mod 128 ghash_modulus) (m + n) a
-join = joined 128 (mul_mod 128 ghash_modulus) (mul_mod_ring 128 ghash_modulus (lit< tt) refl) (lit< tt)
+join = joined 128 (mul_mod 128 ghash_modulus) ghash_ring (lit< tt)
 
 -- by one square
 join_one : (m a first moved product : ℕ) → a < 2 ^ 128 → first < 2 ^ 128 → first ≡ run (mul_mod 128 ghash_modulus) m a
     → moved ≡ mul_mod 128 ghash_modulus first first → product ≡ mul_mod 128 ghash_modulus moved a
     → product ≡ run (mul_mod 128 ghash_modulus) (m + 1) a
 join_one m a first moved product a_fits first_fits of_first of_moved of_product =
-    join m 1 a first a moved product of_first (run-one 128 (mul_mod 128 ghash_modulus) (mul_mod_ring 128 ghash_modulus (lit< tt) refl) (lit< tt) a a_fits)
-    (squared_once 128 (mul_mod 128 ghash_modulus) (mul_mod_ring 128 ghash_modulus (lit< tt) refl) (lit< tt) first moved first_fits of_moved) of_product
+    join m 1 a first a moved product of_first (run-one 128 (mul_mod 128 ghash_modulus) ghash_ring (lit< tt) a a_fits)
+    (squared_once 128 (mul_mod 128 ghash_modulus) ghash_ring (lit< tt) first moved first_fits of_moved) of_product
 
 pub returns : goal.returns
 returns c =
     let x = c.args.x in
-    let run_1 = run-one 128 (mul_mod 128 ghash_modulus) (mul_mod_ring 128 ghash_modulus (lit< tt) refl) (lit< tt) x (omega arith) in
+    let run_1 = run-one 128 (mul_mod 128 ghash_modulus) ghash_ring (lit< tt) x (omega arith) in
     let run_2 = join_one 1 x x c.square_mod_128.result c.multiply_mod_128-run_2.result (omega arith) (omega arith) run_1 c.square_mod_128.ensures c.multiply_mod_128-run_2.ensures in
     let run_3 = join_one 2 x c.multiply_mod_128-run_2.result c.square_mod_128-2.result c.multiply_mod_128-run_3.result (omega arith) (omega arith) run_2 c.square_mod_128-2.ensures c.multiply_mod_128-run_3.ensures in
     let run_6 = join 3 3 x c.multiply_mod_128-run_3.result c.multiply_mod_128-run_3.result c.square_3_times_mod_128.result c.multiply_mod_128-run_6.result run_3 run_3 c.square_3_times_mod_128.ensures c.multiply_mod_128-run_6.ensures in
@@ -33,4 +33,4 @@ returns c =
     let run_63 = join 56 7 x c.multiply_mod_128-run_56.result c.multiply_mod_128-run_7.result c.square_7_times_mod_128-2.result c.multiply_mod_128-run_63.result run_56 run_7 c.square_7_times_mod_128-2.ensures c.multiply_mod_128-run_63.ensures in
     let run_126 = join 63 63 x c.multiply_mod_128-run_63.result c.multiply_mod_128-run_63.result c.square_63_times_mod_128.result c.multiply_mod_128-run_126.result run_63 run_63 c.square_63_times_mod_128.ensures c.multiply_mod_128-run_126.ensures in
     let run_127 = join_one 126 x c.multiply_mod_128-run_126.result c.square_mod_128-4.result c.multiply_mod_128-run_127.result (omega arith) (omega arith) run_126 c.square_mod_128-4.ensures c.multiply_mod_128-run_127.ensures in
-    chain_end 128 (mul_mod 128 ghash_modulus) (mul_mod_ring 128 ghash_modulus (lit< tt) refl) (lit< tt) 127 x c.multiply_mod_128-run_127.result c.square_mod_128-5.result run_127 c.square_mod_128-5.ensures
+    chain_end 128 (mul_mod 128 ghash_modulus) ghash_ring (lit< tt) 127 x c.multiply_mod_128-run_127.result c.square_mod_128-5.result run_127 c.square_mod_128-5.ensures

@@ -1,21 +1,17 @@
-use Rattle.std.proofs.Common.{◌≡◌, ℕ, refl, sym, ◌∙◌, ap, arith, lit<}
+use Rattle.std.proofs.Common.{◌≡◌, ℕ, ◌∙◌, ap, arith, lit<}
 use Rattle.field_base.specs.Powers.{repeated_square}
 use Rattle.field_base.specs.Remainder.{mul_mod, poly64_modulus}
-use Rattle.field_base.specs.Ring.{IsRing}
-use Rattle.field_base.proofs.PowerLemmas.{repeated_square-none, repeated_square_more}
-use Rattle.field_base.proofs.RemainderRing.{mul_mod_ring}
+use Rattle.field_base.proofs.RemainderRing.{poly64_ring}
+use Rattle.word_carryless.proofs.Chains.{squared_more, squared_none}
 use Rattle.word_carryless.proofs.inverse.join_runs_64.Goals as goal
 
-ring : IsRing 64 1 (mul_mod 64 poly64_modulus)
-ring = mul_mod_ring 64 poly64_modulus (lit< tt) refl
-
 pub loop-init : goal.loop-init
-loop-init c = sym (repeated_square-none 64 1 (mul_mod 64 poly64_modulus) ring c.args.ones (omega arith))
+loop-init c = squared_none 64 (mul_mod 64 poly64_modulus) poly64_ring (lit< tt) c.args.ones (omega arith)
 
 pub loop-preserved : goal.loop-preserved
 loop-preserved c =
-    c.square_mod_64-moved.ensures ∙ ap (λ (x : ℕ). mul_mod 64 poly64_modulus x x) c.loop.invariant
-    ∙ sym (repeated_square_more 64 1 (mul_mod 64 poly64_modulus) ring c.loop.counter c.args.ones)
+    squared_more 64 (mul_mod 64 poly64_modulus) poly64_ring (lit< tt) c.loop.counter c.args.ones c.loop.moved c.square_mod_64-moved.result
+    c.square_mod_64-moved.ensures c.loop.invariant
 
 pub returns : goal.returns
 returns c =

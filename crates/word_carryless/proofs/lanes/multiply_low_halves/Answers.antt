@@ -1,7 +1,7 @@
-use Rattle.word_carryless.proofs.LaneProducts.{half_products}
+use Rattle.std.proofs.Common.{◌%◌, ◌^◌, ◌∙◌, ap₂, List, ℕ}
+use Rattle.std.specs.Simd.Lanes.{zip2}
+use Rattle.field_base.specs.Carryless.{carryless}
 use Rattle.word_carryless.proofs.lanes.multiply_low_halves.Goals as goal
 
 pub returns : goal.returns
-returns g c =
-    let V = g.V.WordVector.words in
-    rw (c.multiply_low_words.ensures, c.masked.ensures, c.masked-2.ensures) (half_products (V c.args.left) (V c.args.right))
+returns g c = c.multiply_low_words.ensures ∙ ap₂ (zip2 (λ a b. carryless a b % 2 ^ 64)) c.masked.ensures c.masked-2.ensures

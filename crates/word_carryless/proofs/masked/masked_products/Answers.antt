@@ -1,7 +1,8 @@
 use Rattle.std.proofs.Common.{◌*◌, ◌+◌, ◌%◌, ◌^◌, arith}
 use Rattle.field_base.specs.Carryless.{carryless}
 use Rattle.word_carryless.specs.Masked.{IsInClass}
-use Rattle.word_carryless.proofs.MaskedLanes.{block_keeps, block_mapped, place_keeps, place_mapped}
+use Rattle.byte_maps.proofs.BlockLemmas.{block_done, place_done}
+use Rattle.word_carryless.proofs.MaskedLanes.{block_keeps, place_keeps}
 use Rattle.word_carryless.proofs.masked.masked_products.Goals as goal
 
 pub masked_lanes-requires-clause-xs_in_class : goal.masked_lanes-requires-clause-xs_in_class
@@ -11,8 +12,8 @@ masked_lanes-requires-clause-xs_in_class c =
 
 pub fours-preserved : goal.fours-preserved
 fours-preserved c =
-    block_mapped (λ x. carryless x c.args.y % 2 ^ 64) 4 (4 * c.fours.four) (4 * (c.fours.four + 1)) c.args.xs.now c.fours.xs
-    c.masked_lanes.result (omega arith) (omega arith) c.fours.invariant c.masked_lanes.ensures
+    block_done (λ x. carryless x c.args.y % 2 ^ 64) 4 c.fours.four c.args.xs.now c.fours.xs c.masked_lanes.result (omega arith)
+    c.fours.invariant c.masked_lanes.ensures
 
 pub masked_lanes-requires-in-twos-clause-xs_in_class : goal.masked_lanes-requires-in-twos-clause-xs_in_class
 masked_lanes-requires-in-twos-clause-xs_in_class c =
@@ -21,8 +22,8 @@ masked_lanes-requires-in-twos-clause-xs_in_class c =
 
 pub twos-preserved : goal.twos-preserved
 twos-preserved c =
-    block_mapped (λ x. carryless x c.args.y % 2 ^ 64) 2 (2 * c.twos.two) (2 * (c.twos.two + 1)) c.args.xs.now c.twos.xs
-    c.masked_lanes-in-twos.result (omega arith) (omega arith) c.twos.invariant c.masked_lanes-in-twos.ensures
+    block_done (λ x. carryless x c.args.y % 2 ^ 64) 2 c.twos.two c.args.xs.now c.twos.xs c.masked_lanes-in-twos.result (omega arith)
+    c.twos.invariant c.masked_lanes-in-twos.ensures
 
 pub masked_product-requires-clause-x_in_class : goal.masked_product-requires-clause-x_in_class
 masked_product-requires-clause-x_in_class c =
@@ -31,5 +32,5 @@ masked_product-requires-clause-x_in_class c =
 
 pub rest-preserved : goal.rest-preserved
 rest-preserved c =
-    place_mapped (λ x. carryless x c.args.y % 2 ^ 64) c.rest.place c.args.xs.now c.rest.xs c.masked_product.result
+    place_done (λ x. carryless x c.args.y % 2 ^ 64) c.args.xs.now c.rest.xs c.rest.place c.masked_product.result
     (omega arith) (omega arith) c.rest.invariant c.masked_product.ensures

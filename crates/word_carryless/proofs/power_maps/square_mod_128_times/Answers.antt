@@ -1,21 +1,17 @@
-use Rattle.std.proofs.Common.{◌≡◌, ℕ, refl, sym, ◌∙◌, ap, arith, lit<}
+use Rattle.std.proofs.Common.{◌≡◌, ℕ, ◌∙◌, ap, arith, lit<}
 use Rattle.field_base.specs.Powers.{repeated_square}
 use Rattle.field_base.specs.Remainder.{mul_mod, ghash_modulus}
-use Rattle.field_base.specs.Ring.{IsRing}
-use Rattle.field_base.proofs.PowerLemmas.{repeated_square-none, repeated_square_more}
-use Rattle.field_base.proofs.RemainderRing.{mul_mod_ring}
+use Rattle.field_base.proofs.RemainderRing.{ghash_ring}
+use Rattle.word_carryless.proofs.Chains.{squared_more, squared_none}
 use Rattle.word_carryless.proofs.power_maps.square_mod_128_times.Goals as goal
 
-ring : IsRing 128 1 (mul_mod 128 ghash_modulus)
-ring = mul_mod_ring 128 ghash_modulus (lit< tt) refl
-
 pub loop-init : goal.loop-init
-loop-init c = sym (repeated_square-none 128 1 (mul_mod 128 ghash_modulus) ring c.args.x (omega arith))
+loop-init c = squared_none 128 (mul_mod 128 ghash_modulus) ghash_ring (lit< tt) c.args.x (omega arith)
 
 pub loop-preserved : goal.loop-preserved
 loop-preserved c =
-    c.square_mod_128-square.ensures ∙ ap (λ (x : ℕ). mul_mod 128 ghash_modulus x x) c.loop.invariant
-    ∙ sym (repeated_square_more 128 1 (mul_mod 128 ghash_modulus) ring c.loop.counter c.args.x)
+    squared_more 128 (mul_mod 128 ghash_modulus) ghash_ring (lit< tt) c.loop.counter c.args.x c.loop.square c.square_mod_128-square.result
+    c.square_mod_128-square.ensures c.loop.invariant
 
 pub returns : goal.returns
 returns c =
