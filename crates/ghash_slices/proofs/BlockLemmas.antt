@@ -158,24 +158,27 @@ four_rotations a b c d e first second third last p below =
 
 -- ---- rows and values
 
+-- what stands in row i at place j stands in row j at place i of the transposed
+turned_each : (xs ys : List ℕ) (f : ℕ → ℕ → ℕ) → AreTransposed xs ys
+    → ((i j : ℕ) → i < 16 → j < 16 → slice_index xs (16 * i + j) ≡ f i j)
+    → (j i : ℕ) → j < 16 → i < 16 → slice_index ys (16 * j + i) ≡ f i j
+turned_each xs ys f turned each j i j_in i_in =
+    let inside : 16 * j + i < 256 = omega arith in
+    let at : (16 * j + i) / 16 + 16 * ((16 * j + i) % 16) ≡ 16 * i + j = omega arith in
+    turned (16 * j + i) inside ∙ ap (slice_index xs) at ∙ each i j i_in j_in
+
 -- the rows of values
 pub rows_of : (bytes rows : List ℕ) (values : ℕ → ℕ) → AreTransposed bytes rows → HoldBytes bytes values → HoldRows rows values
 rows_of bytes rows values turned held = record {
   fits = held.fits;
-  each = λ k e k_in e_in.
-      let inside : 16 * k + e < 256 = omega arith in
-      let at : (16 * k + e) / 16 + 16 * ((16 * k + e) % 16) ≡ 16 * e + k = omega arith in
-      turned (16 * k + e) inside ∙ ap (slice_index bytes) at ∙ held.each e k e_in k_in;
+  each = turned_each bytes rows (λ e k. values e / 2 ^ (8 * k) % 256) turned held.each;
 }
 
 -- the values of rows
 pub values_of : (rows bytes : List ℕ) (values : ℕ → ℕ) → AreTransposed rows bytes → HoldRows rows values → HoldBytes bytes values
 values_of rows bytes values turned held = record {
   fits = held.fits;
-  each = λ e k e_in k_in.
-      let inside : 16 * e + k < 256 = omega arith in
-      let at : (16 * e + k) / 16 + 16 * ((16 * e + k) % 16) ≡ 16 * k + e = omega arith in
-      turned (16 * e + k) inside ∙ ap (slice_index rows) at ∙ held.each k e k_in e_in;
+  each = turned_each rows bytes (λ k e. values e / 2 ^ (8 * k) % 256) turned held.each;
 }
 
 -- ---- a value by its bytes

@@ -18,8 +18,7 @@ use Rattle.byte_maps.specs.Nibbles.{entry_sum}
 use Rattle.ghash_slices.specs.Blocks.{HoldLanes, HoldRows}
 use Rattle.ghash_slices.specs.LowStages.{ghash_product}
 use Rattle.ghash_slices.specs.Multiples.{byte_of_multiple, horner_step}
-use Rattle.ghash_slices.specs.Tails.{byte_of_tail}
-use Rattle.ghash_slices.proofs.ShiftedBytes.{byte, byte_sum, first_byte, only_shifted, other_byte, second_byte, two_halves}
+use Rattle.ghash_slices.proofs.ShiftedBytes.{byte, byte_of_tail, byte_sum, first_byte, only_shifted, other_byte, second_byte, two_halves}
 
 -- ---- rows
 

@@ -1,9 +1,12 @@
+mod AddedBlocks
 mod BlockLemmas
 mod DigitMultiples
 mod HornerProducts
 mod RunStages
 mod ShiftedBytes
 mod SliceLemmas
+mod SplitProducts
+mod TabledProducts
 mod TwoBlocks
 pub mod CantorValues
 pub mod GhashVectors

@@ -1,5 +1,5 @@
 -- One stage of a run, pair by pair, and the four stages.
-use Rattle.std.proofs.Common.{◌≡◌, ◌≢◌, ◌⊎◌, inl, inr, ℕ, ◌+◌, ◌/◌, ◌^◌, ◌<◌, ◌≤◌, List, length, get_or-set_other, get_or-set_same, refl, sym, ◌∙◌, ap, ap₂, subst, arith, rules}
+use Rattle.std.proofs.Common.{◌≡◌, ◌≢◌, ◌⊎◌, inl, inr, ℕ, ◌+◌, ◌-◌, ◌*◌, ◌/◌, ◌%◌, ◌^◌, ◌<◌, ◌≤◌, List, length, get_or-set_other, get_or-set_same, refl, sym, ◌∙◌, ap, ap₂, subst, arith, rules}
 use Rattle.std.specs.Prelude.{bit_xor, slice_index}
 use Rattle.std.proofs.Math.ListN.{set}
 use Rattle.std.proofs.lemmas.Bool.{cases_order}
@@ -211,3 +211,20 @@ pub stage_ends : (twiddles low : List ℕ) (j start n : ℕ) (old now : List ℕ
 stage_ends twiddles low j start n old now few all so_far q within =
     let last = (run_places j q few within).pair_fits in
     so_far.done q within (omega (arith, last))
+
+-- as the code computes it, from half the places of a block
+pub pair_added : (twiddles low : List ℕ) (j start n m half lower product : ℕ) (old first now new : List ℕ) → j < 4 → n ≤ m → m < 8
+    → start + 16 ≤ length old → ((p : ℕ) → slice_index old p < 2 ^ 128) → half ≡ 2 ^ j → lower ≡ start + (2 * m - m % half)
+    → StageSoFar twiddles low j start n old first → StageSoFar twiddles low j start m old now
+    → product ≡ ghash_product (bit_xor (slice_index twiddles j) (slice_index low (m / half))) (slice_index first (lower + half))
+    → new ≡ with_pair now lower (lower + half) product → StageSoFar twiddles low j start (m + 1) old new
+pair_added twiddles low j start n m half lower product old first now new few later small whole fits is_half is_lower at_first so_far is_product is_new =
+    pair_done twiddles low j start m old now new few small whole fits so_far lower product place
+    (is_product
+    ∙ ap (λ (h : ℕ). ghash_product (bit_xor (slice_index twiddles j) (slice_index low (m / h))) (slice_index first (lower + h))) is_half
+    ∙ ap (ghash_product (bit_xor (slice_index twiddles j) (slice_index low (m / 2 ^ j))))
+    (upper_read twiddles low j start n m old first few later small at_first lower place))
+    (is_new ∙ ap (λ (h : ℕ). with_pair now lower (lower + h) product) is_half)
+  where
+    place : lower ≡ start + lower_of j m
+    place = is_lower ∙ ap (λ (h : ℕ). start + (2 * m - m % h)) is_half

@@ -16,11 +16,14 @@ use Rattle.field_base.proofs.ValueLemmas.{carryless_power}
 use Rattle.word_carryless.specs.Tail.{ghash_tail}
 use Rattle.word_carryless.proofs.TailFolds.{fold_128}
 use Rattle.ghash_slices.specs.LowStages.{ghash_product}
-use Rattle.ghash_slices.specs.Tails.{byte_of_tail}
 
 -- byte k of a number
 abbrev pub byte : ℕ → ℕ → ℕ
 byte k x = x / 2 ^ (8 * k) % 256
+
+-- byte `row` of the product of a byte and the tail of the polynomial, without carries
+abbrev pub byte_of_tail : ℕ → ℕ → ℕ
+byte_of_tail row b = carryless b ghash_tail / 2 ^ (8 * row) % 256
 
 -- a byte of a sum is the sum of the bytes
 pub byte_sum : (k a b : ℕ) → byte k (bit_xor a b) ≡ bit_xor (byte k a) (byte k b)

@@ -6,4 +6,4 @@ pub mod Slices
 pub mod Twiddles
 pub mod Cantor
 pub mod Stages
-pub mod Tails
+pub mod SplitWords

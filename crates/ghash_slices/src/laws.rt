@@ -1,7 +1,8 @@
 // The laws of the stages of an additive transform, and of the values of polynomials at the points that the Cantor vectors span, over
-// any field, as contracts of functions that compute nothing.
+// any field, and of products by one scalar, as contracts of functions that compute nothing.
 ghost use Rattle.ghash_slices.specs.Cantor.{ArePointsDistinct, CantorVectorsStepDown, FactorsAreSubspaceValues, PointsAreDistinct, SumsAreValues};
 ghost use Rattle.ghash_slices.specs.LowStages.{ghash_cantor_vector};
+ghost use Rattle.ghash_slices.specs.SplitWords.{CompanionLaw};
 ghost use Rattle.ghash_slices.specs.Stages.{StagesGiveSums};
 
 /// States what any number of stages leaves at each place: the sum of the values of its block, each times the product of the
@@ -29,4 +30,10 @@ pub fn points_are_distinct()
 pub fn sums_are_values()
     ensures factors { FactorsAreSubspaceValues }
     ensures sums { SumsAreValues }
+{}
+
+/// States the law of a scalar's companion, the scalar times x^64: the product of a scalar and the double word of l and h is the product
+/// of the scalar and l, and that of the companion and h.
+pub fn companion_law()
+    ensures { CompanionLaw }
 {}

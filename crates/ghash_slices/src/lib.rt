@@ -8,7 +8,9 @@ mod blocks;
 mod laws;
 mod low_stages;
 mod multiples;
+mod scalar_products;
 mod slices;
+mod split_scalar;
 mod width;
 mod words;
 
@@ -16,7 +18,7 @@ ghost use Rattle.std.specs.Prelude.{◌≡◌};
 ghost use Rattle.field_base.specs.Remainder.{mul_mod, ghash_modulus};
 
 pub use crate::laws::{
-    cantor_vectors_step_down, points_are_distinct, stages_give_sums, sums_are_values,
+    cantor_vectors_step_down, companion_law, points_are_distinct, stages_give_sums, sums_are_values,
 };
 pub use crate::low_stages::{LOW_STAGES, LowStageTwiddles, run_low_stages};
 pub use crate::multiples::Multiples;

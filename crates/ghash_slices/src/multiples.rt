@@ -4,19 +4,18 @@
 // The product is linear in the value, so it is taken byte by byte, from the highest down (Horner's rule): the sum so far times x^8, and
 // the products of the scalar by the two digits of the next byte to base 16. These and the remainders of a shift by a byte are looked up in
 // registers.
-ghost use Rattle.std.specs.Prelude.{◌≡◌, ℕ, ◌+◌, ◌*◌, ◌/◌, ◌%◌, ◌<◌, List, [], bit_xor, length, map, slice_index, slice_index_or};
+ghost use Rattle.std.specs.Prelude.{◌≡◌, ℕ, ◌+◌, ◌*◌, ◌/◌, ◌%◌, ◌^◌, ◌<◌, List, [], bit_xor, length, map, slice_index, slice_index_or};
 ghost use Rattle.std.specs.Simd.Lanes.{Each1, zip2};
 ghost use Rattle.std.proofs.Common.{Fits, w8};
 ghost use Rattle.field_base.specs.Remainder.{ghash_modulus, mul_mod};
 ghost use Rattle.ghash_slices.specs.Blocks.{HoldBytes, HoldLanes, HoldRows};
 ghost use Rattle.ghash_slices.specs.LowStages.{ghash_product};
-ghost use Rattle.ghash_slices.specs.Tails.{byte_of_tail};
 
 use crate::blocks::{bytes_from, lanes_at, put_lanes, transposed};
 use crate::words::numbers_are_values;
 use byte_maps::{ByteVector, entry_sums, halves, joined};
 use std::simd::prelude::*;
-use word_carryless::reduce_128;
+use word_carryless::{multiply_by_power_128, reduce_128};
 
 /// The low and the high bytes of the products of the numbers below 16 and x^7 + x^2 + x + 1, and of 16 times those numbers.
 const LOW_TAILS_LOW: [u8; 16] = [
@@ -52,7 +51,7 @@ impl Multiples {
         ensures { scalar_of result ≡ scalar }
     {
         let low = rows_of(&multiples_of(scalar));
-        let high = rows_of(&multiples_of(times_16(scalar)));
+        let high = rows_of(&multiples_of(times_power(scalar, 4)));
         Multiples { scalar, low, high }
     }
 
@@ -114,14 +113,25 @@ impl Multiples {
             → HoldLanes V.lanes (map V.bytes sums.new) (horner_step (scalar_of self.now) values (V.bytes bytes)) }
     {
         let top = row_at(sums, 15);
+        top.holds_bytes();
         for turn in 0..14 {
             let row = 15 - turn;
             let below = row_at(sums, row - 1);
             sums[row] = below.sum(self.entries(row, bytes));
         }
         let lowest = row_at(sums, 0);
-        sums[1] = lowest.sum(second_tails(top)).sum(self.entries(1, bytes));
-        sums[0] = first_tails(top).sum(self.entries(0, bytes));
+        let second_tails = entry_sums(
+            u8x16::from_array(LOW_TAILS_HIGH),
+            u8x16::from_array(HIGH_TAILS_HIGH),
+            top,
+        );
+        sums[1] = lowest.sum(second_tails).sum(self.entries(1, bytes));
+        let first_tails = entry_sums(
+            u8x16::from_array(LOW_TAILS_LOW),
+            u8x16::from_array(HIGH_TAILS_LOW),
+            top,
+        );
+        sums[0] = first_tails.sum(self.entries(0, bytes));
     }
 
     // Byte `row` of the products of the scalar and each byte.
@@ -175,32 +185,6 @@ fn bytes_of_both(rows: &[u8x32; 16]) -> ([u8; 256], [u8; 256])
     (first, second)
 }
 
-// The low bytes of the products of bytes and the tail of the polynomial, x^7 + x^2 + x + 1.
-#[inline(always)]
-fn first_tails<V: ByteVector>(bytes: V) -> V
-    ensures { V.bytes result ≡ map (byte_of_tail 0) (V.bytes bytes) }
-{
-    bytes.holds_bytes();
-    entry_sums(
-        u8x16::from_array(LOW_TAILS_LOW),
-        u8x16::from_array(HIGH_TAILS_LOW),
-        bytes,
-    )
-}
-
-// The high bytes of these products.
-#[inline(always)]
-fn second_tails<V: ByteVector>(bytes: V) -> V
-    ensures { V.bytes result ≡ map (byte_of_tail 1) (V.bytes bytes) }
-{
-    bytes.holds_bytes();
-    entry_sums(
-        u8x16::from_array(LOW_TAILS_HIGH),
-        u8x16::from_array(HIGH_TAILS_HIGH),
-        bytes,
-    )
-}
-
 // The rows of sixteen numbers.
 fn rows_of(numbers: &[u128; 16]) -> [u8; 256]
     ensures { HoldRows result (slice_index numbers.now) }
@@ -209,32 +193,26 @@ fn rows_of(numbers: &[u128; 16]) -> [u8; 256]
     transposed(&bytes_from(numbers, 0))
 }
 
-// The products of the scalar by the numbers below 16.
-fn multiples_of(scalar: u128) -> [u128; 16]
+/// The products of the scalar by the numbers below 16.
+pub(crate) fn multiples_of(scalar: u128) -> [u128; 16]
     ensures { (n : ℕ) → n < 16 → slice_index result n ≡ ghash_product scalar n }
 {
     let mut products = [0; 16];
     products[1] = scalar;
     for half in 1..8 {
-        let even = times_x(products[half]);
+        let even = times_power(products[half], 1);
         products[2 * half] = even;
         products[2 * half + 1] = even ^ scalar;
     }
     products
 }
 
-/// The product by x.
+/// The product by x^k.
 #[inline]
-pub(crate) fn times_x(value: u128) -> u128
-    ensures { result ≡ mul_mod 128 ghash_modulus value 2 }
+pub(crate) fn times_power(value: u128, k: u32) -> u128
+    requires { k < 128 }
+    ensures { result ≡ mul_mod 128 ghash_modulus value (2 ^ k) }
 {
-    reduce_128(value << 1, value >> 127)
-}
-
-// The product by x^4.
-#[inline]
-fn times_16(value: u128) -> u128
-    ensures { result ≡ mul_mod 128 ghash_modulus value 16 }
-{
-    reduce_128(value << 4, value >> 124)
+    let (low, high) = multiply_by_power_128(value, k);
+    reduce_128(low, high)
 }

@@ -1,11 +1,10 @@
 // Products of slices by one scalar, and butterflies.
 //
-// Few values are multiplied two at once, and more in lanes, sixteen at a time. A product by one scalar is a linear map, and from some
-// length on it pays to make tables of it in memory, by the digits of a value to base 16.
+// Few values are multiplied one after another by the split scalar, and more in lanes, sixteen at a time. A product by one scalar is a
+// linear map, and from some length on it pays to make tables of it in memory, by the digits of a value to base 16.
 ghost use Rattle.std.specs.Prelude.{◌≡◌, ℕ, ◌+◌, ◌-◌, ◌*◌, ◌<◌, ◌≤◌, length, map, bit_xor, slice_index, slice_set};
 ghost use Rattle.std.specs.Simd.Lanes.{zip2};
 ghost use Rattle.field_base.specs.Remainder.{ghash_modulus, mul_mod};
-ghost use Rattle.word_tables.specs.LinearMap.{map_of};
 ghost use Rattle.ghash_slices.specs.Blocks.{HoldBytes, HoldsPlaces, added_at, multiplied_at};
 ghost use Rattle.ghash_slices.specs.LowStages.{ghash_product};
 ghost use Rattle.ghash_slices.specs.Multiples.{scalar_of};
@@ -13,15 +12,15 @@ ghost use Rattle.ghash_slices.specs.Slices.{ButterfliesRestore};
 ghost use Rattle.ghash_slices.specs.Stages.{add_multiple};
 
 use crate::blocks::{bytes_from, count_from, value_at};
-use crate::multiples::{Multiples, times_x};
+use crate::multiples::Multiples;
+use crate::scalar_products::{ScalarProducts, TabledScalar};
+use crate::split_scalar::SplitScalar;
 use crate::width::Width;
 use crate::words::{WideWord, number_at, numbers_are_values, put_number};
 use std::simd::prelude::*;
-use word_carryless::{multiply_mod_128, multiply_mod_128_twice};
-use word_tables::LinearMap;
 
 /// The least number of values for which a slice, or what is left of it behind whole blocks of sixteen, is multiplied in lanes by tables in
-/// registers, and not two values at once.
+/// registers, and not one after another.
 pub const LEAST_IN_LANES: usize = 10;
 
 /// The least number of values for which a slice is multiplied by the tables of a scalar in memory.
@@ -78,7 +77,7 @@ fn multiply_all<W: WideWord>(values: &mut [W], scalar: u128)
     ensures { map W.value values.new ≡ map (λ x. mul_mod 128 ghash_modulus scalar x) (map W.value values.old) }
 {
     if values.len() < LEAST_IN_LANES {
-        multiply_each(values, 0, scalar);
+        multiply_few(values, 0, scalar);
     } else if values.len() < LEAST_TABLED {
         multiply_in_lanes(values, &Multiples::new(scalar));
     } else {
@@ -93,7 +92,7 @@ pub fn add_multiples<V: Width, W: WideWord>(values: &mut [W], others: &[W], scal
     ensures { map W.value values.new ≡ zip2 (add_multiple ghash_product scalar) (map W.value values.old) (map W.value others.now) }
 {
     if values.len() < LEAST_IN_LANES {
-        add_products(values, others, 0, scalar);
+        add_few(values, others, 0, scalar);
     } else if V::IS_WIDE || values.len() < LEAST_TABLED {
         add_in_lanes::<V, W>(values, others, &Multiples::new(scalar));
     } else {
@@ -101,26 +100,26 @@ pub fn add_multiples<V: Width, W: WideWord>(values: &mut [W], others: &[W], scal
     }
 }
 
-// Multiplies the values from `start` on, two at once.
-fn multiply_each<W: WideWord>(values: &mut [W], start: usize, scalar: u128)
+// Multiplies the values from `start` on, of which there are few. Of none the scalar is not split.
+fn multiply_few<W: WideWord>(values: &mut [W], start: usize, scalar: u128)
     requires { start ≤ length values.old }
     ensures { HoldsPlaces (multiplied_at scalar (map W.value values.old)) start (length values.old) (map W.value values.old)
         (map W.value values.new) }
 {
-    let pairs = (values.len() - start) / 2;
-    'pairs: for pair in 0..pairs {
-        let place = start + 2 * pair;
-        let (first, second) = multiply_mod_128_twice(
-            scalar,
-            scalar,
-            number_at(values, place),
-            number_at(values, place + 1),
-        );
-        put_number(values, place, first);
-        put_number(values, place + 1, second);
+    if start < values.len() {
+        multiply_each(values, start, &SplitScalar::new(scalar));
     }
-    'rest: for place in start + 2 * pairs..values.len() {
-        let product = multiply_mod_128(scalar, number_at(values, place));
+}
+
+// Multiplies the values from `start` on, one after another.
+#[inline]
+fn multiply_each<W: WideWord, S: ScalarProducts>(values: &mut [W], start: usize, products: &S)
+    requires { start ≤ length values.old }
+    ensures { HoldsPlaces (multiplied_at (S.scalar products.now) (map W.value values.old)) start (length values.old)
+        (map W.value values.old) (map W.value values.new) }
+{
+    for place in start..values.len() {
+        let product = products.product(number_at(values, place));
         put_number(values, place, product);
     }
 }
@@ -135,7 +134,7 @@ fn multiply_in_lanes<W: WideWord>(values: &mut [W], multiples: &Multiples)
     }
     let start = 16 * whole;
     if values.len() - start < LEAST_IN_LANES {
-        multiply_each(values, start, multiples.scalar());
+        multiply_few(values, start, multiples.scalar());
     } else {
         multiply_block(values, start, multiples);
     }
@@ -159,41 +158,36 @@ fn multiply_block<W: WideWord>(values: &mut [W], start: usize, multiples: &Multi
 fn multiply_by_tables<W: WideWord>(values: &mut [W], scalar: u128)
     ensures { map W.value values.new ≡ map (λ x. mul_mod 128 ghash_modulus scalar x) (map W.value values.old) }
 {
-    map_each(values, &linear_multiples(scalar));
+    multiply_each(values, 0, &TabledScalar::new(scalar));
 }
 
-// Maps value by value.
-fn map_each<W: WideWord>(values: &mut [W], linear: &LinearMap)
-    ensures { map W.value values.new ≡ map (map_of linear.now) (map W.value values.old) }
-{
-    for place in 0..values.len() {
-        let image = linear.apply(number_at(values, place));
-        put_number(values, place, image);
-    }
-}
-
-// Adds the products of the other values from `start` on, two at once.
-fn add_products<W: WideWord>(values: &mut [W], others: &[W], start: usize, scalar: u128)
+// Adds the products of the other values from `start` on, of which there are few.
+fn add_few<W: WideWord>(values: &mut [W], others: &[W], start: usize, scalar: u128)
     requires same { length values.old ≡ length others.now }
     requires inside { start ≤ length values.old }
     ensures { HoldsPlaces (added_at scalar (map W.value values.old) (map W.value others.now)) start (length values.old)
         (map W.value values.old) (map W.value values.new) }
 {
-    let pairs = (values.len() - start) / 2;
-    'pairs: for pair in 0..pairs {
-        let place = start + 2 * pair;
-        let (first, second) = multiply_mod_128_twice(
-            scalar,
-            scalar,
-            number_at(others, place),
-            number_at(others, place + 1),
-        );
-        add_number(values, place, first);
-        add_number(values, place + 1, second);
+    if start < values.len() {
+        add_products(values, others, start, &SplitScalar::new(scalar));
     }
-    'rest: for place in start + 2 * pairs..values.len() {
-        let product = multiply_mod_128(scalar, number_at(others, place));
-        add_number(values, place, product);
+}
+
+// Adds the products of the other values from `start` on, one after another.
+#[inline]
+fn add_products<W: WideWord, S: ScalarProducts>(
+    values: &mut [W],
+    others: &[W],
+    start: usize,
+    products: &S,
+)
+    requires same { length values.old ≡ length others.now }
+    requires inside { start ≤ length values.old }
+    ensures { HoldsPlaces (added_at (S.scalar products.now) (map W.value values.old) (map W.value others.now)) start (length values.old)
+        (map W.value values.old) (map W.value values.new) }
+{
+    for place in start..values.len() {
+        add_number(values, place, products.product(number_at(others, place)));
     }
 }
 
@@ -237,7 +231,7 @@ fn add_blocks<W: WideWord>(values: &mut [W], others: &[W], first: usize, multipl
     }
     let start = 16 * whole;
     if values.len() - start < LEAST_IN_LANES {
-        add_products(values, others, start, multiples.scalar());
+        add_few(values, others, start, multiples.scalar());
     } else {
         add_block(values, others, start, multiples);
     }
@@ -275,19 +269,7 @@ fn add_by_tables<W: WideWord>(values: &mut [W], others: &[W], scalar: u128)
     requires { length values.old ≡ length others.now }
     ensures { map W.value values.new ≡ zip2 (add_multiple ghash_product scalar) (map W.value values.old) (map W.value others.now) }
 {
-    add_images(values, others, &linear_multiples(scalar));
-}
-
-// Adds to each value the image of the other value at its place. The slices are of one length.
-fn add_images<W: WideWord>(values: &mut [W], others: &[W], linear: &LinearMap)
-    requires { length values.old ≡ length others.now }
-    ensures { map W.value values.new
-        ≡ zip2 (λ x y. bit_xor x (map_of linear.now y)) (map W.value values.old) (map W.value others.now) }
-{
-    for place in 0..values.len() {
-        let image = linear.apply(number_at(others, place));
-        add_number(values, place, image);
-    }
+    add_products(values, others, 0, &TabledScalar::new(scalar));
 }
 
 /// Adds to each value the other value at its place. The slices are of one length.
@@ -309,17 +291,4 @@ fn add_number<W: WideWord>(values: &mut [W], place: usize, number: u128)
 {
     let sum = number_at(values, place) ^ number;
     put_number(values, place, sum);
-}
-
-// The product by a scalar as a linear map, which takes bit j to the product of the scalar and x^j. Its tables stand in memory.
-fn linear_multiples(scalar: u128) -> LinearMap
-    ensures { (x : ℕ) → map_of result x ≡ mul_mod 128 ghash_modulus scalar x }
-{
-    let mut images = [0; 128];
-    let mut image = scalar;
-    for power in 0..128 {
-        images[power] = image;
-        image = times_x(image);
-    }
-    LinearMap::new(&images)
 }

@@ -8,10 +8,10 @@ use std::test::Fail;
 use test_support::next_number;
 use word_tables::{to_polynomial_128, to_polynomial_slice_128, to_tower_128, to_tower_slice_128};
 
-/// Lengths: of no value, of one, about each power of two up to 128, and about 256 and 400.
-static LENGTHS: [usize; 26] = [
-    0, 1, 2, 3, 4, 5, 7, 8, 9, 15, 16, 17, 31, 32, 33, 63, 64, 65, 127, 128, 129, 256, 257, 399,
-    400, 401,
+/// Lengths: of no value, of one, about each power of two up to 128, with five and with nine values behind a block, and about 256 and 400.
+static LENGTHS: [usize; 28] = [
+    0, 1, 2, 3, 4, 5, 7, 8, 9, 15, 16, 17, 21, 25, 31, 32, 33, 63, 64, 65, 127, 128, 129, 256, 257,
+    399, 400, 401,
 ];
 
 /// So many numbers.

@@ -2,9 +2,8 @@ use Rattle.std.proofs.Common.{◌≡◌, ℕ, ◌+◌, ◌-◌, ◌*◌, ◌/◌
 use Rattle.std.specs.Prelude.{bit_xor, slice_index}
 use Rattle.std.proofs.lemmas.List.{length-map}
 use Rattle.ghash_slices.specs.LowStages.{ghash_product}
-use Rattle.ghash_slices.specs.Runs.{with_pair}
 use Rattle.ghash_slices.proofs.RunPlaces.{upper_inside}
-use Rattle.ghash_slices.proofs.RunStages.{pair_done, StageSoFar, stage_ends, stage_starts, upper_read}
+use Rattle.ghash_slices.proofs.RunStages.{pair_added, StageSoFar, stage_ends, stage_starts}
 use Rattle.ghash_slices.proofs.WordValues.{values_fit}
 use Rattle.ghash_slices.proofs.low_stages.run_stage.Goals as goal
 
@@ -91,67 +90,34 @@ loop-turn-preserved g c =
     let whole : start + 16 ≤ length old = omega (arith, c.requires.whole, length-map c.args.values.now value) in
     let fits = values_fit 128 value g.W.WideWord.range_law c.args.values.now in
     let few : 4 * turn + 3 < 8 = omega arith in
-    let half = c.half_of-half.ensures in
+    let half = c.half_of-half in
     let products = c.multiply_four-products in
     let so_far = c.loop-turn.invariant.1 in
-    let first : ℕ = start + c.lower_of.result in
-    let first_is : first ≡ start + (2 * (4 * turn) - 4 * turn % 2 ^ bit) =
-    ap (λ (n : ℕ). start + n) (c.lower_of.ensures ∙ ap (λ (h : ℕ). 2 * (4 * turn) - 4 * turn % h) half) in
-    let first_done =
-    pair_done twiddles low bit start (4 * turn) old values (map value c.add_to_pair.new.values) c.requires.bit (omega arith) whole
-    fits so_far first (slice_index products.result 0) first_is
-    (ap (λ (l : List ℕ). slice_index l 0) products.ensures
-    ∙ ap (ghash_product (bit_xor (slice_index twiddles bit) (slice_index low (4 * turn / c.half_of-half.result)))) c.number_at.ensures
-    ∙ ap (λ (h : ℕ). ghash_product (bit_xor (slice_index twiddles bit) (slice_index low (4 * turn / h))) (slice_index values (first + h))) half
-    ∙ ap (ghash_product (bit_xor (slice_index twiddles bit) (slice_index low (4 * turn / 2 ^ bit))))
-    (upper_read twiddles low bit start (4 * turn) (4 * turn) old values c.requires.bit (omega arith) (omega arith) so_far first first_is))
-    (c.add_to_pair.ensures ∙ ap (λ (h : ℕ). with_pair values first (first + h) (slice_index products.result 0)) half) in
-    let second : ℕ = start + c.lower_of-in-loop-turn.result in
-    let second_is : second ≡ start + (2 * (4 * turn + 1) - (4 * turn + 1) % 2 ^ bit) =
-    ap (λ (n : ℕ). start + n) (c.lower_of-in-loop-turn.ensures ∙ ap (λ (h : ℕ). 2 * (4 * turn + 1) - (4 * turn + 1) % h) half) in
-    let second_done =
-    pair_done twiddles low bit start (4 * turn + 1) old (map value c.add_to_pair.new.values) (map value c.add_to_pair-in-loop-turn.new.values) c.requires.bit (omega arith) whole
-    fits first_done second (slice_index products.result 1) second_is
-    (ap (λ (l : List ℕ). slice_index l 1) products.ensures
-    ∙ ap (ghash_product (bit_xor (slice_index twiddles bit) (slice_index low ((4 * turn + 1) / c.half_of-half.result)))) c.number_at-in-loop-turn.ensures
-    ∙ ap (λ (h : ℕ). ghash_product (bit_xor (slice_index twiddles bit) (slice_index low ((4 * turn + 1) / h))) (slice_index values (second + h))) half
-    ∙ ap (ghash_product (bit_xor (slice_index twiddles bit) (slice_index low ((4 * turn + 1) / 2 ^ bit))))
-    (upper_read twiddles low bit start (4 * turn) (4 * turn + 1) old values c.requires.bit (omega arith) (omega arith) so_far second second_is))
-    (c.add_to_pair-in-loop-turn.ensures ∙ ap (λ (h : ℕ). with_pair (map value c.add_to_pair.new.values) second (second + h) (slice_index products.result 1)) half) in
-    let second_next : 4 * turn + 1 + 1 ≡ 4 * turn + 2 = omega arith in
-    let second_ready =
-    subst (λ (n : ℕ). StageSoFar twiddles low bit start n old (map value c.add_to_pair-in-loop-turn.new.values)) second_next second_done in
-    let third : ℕ = start + c.lower_of-in-loop-turn-2.result in
-    let third_is : third ≡ start + (2 * (4 * turn + 2) - (4 * turn + 2) % 2 ^ bit) =
-    ap (λ (n : ℕ). start + n) (c.lower_of-in-loop-turn-2.ensures ∙ ap (λ (h : ℕ). 2 * (4 * turn + 2) - (4 * turn + 2) % h) half) in
-    let third_done =
-    pair_done twiddles low bit start (4 * turn + 2) old (map value c.add_to_pair-in-loop-turn.new.values) (map value c.add_to_pair-in-loop-turn-2.new.values) c.requires.bit (omega arith) whole
-    fits second_ready third (slice_index products.result 2) third_is
-    (ap (λ (l : List ℕ). slice_index l 2) products.ensures
-    ∙ ap (ghash_product (bit_xor (slice_index twiddles bit) (slice_index low ((4 * turn + 2) / c.half_of-half.result)))) c.number_at-in-loop-turn-2.ensures
-    ∙ ap (λ (h : ℕ). ghash_product (bit_xor (slice_index twiddles bit) (slice_index low ((4 * turn + 2) / h))) (slice_index values (third + h))) half
-    ∙ ap (ghash_product (bit_xor (slice_index twiddles bit) (slice_index low ((4 * turn + 2) / 2 ^ bit))))
-    (upper_read twiddles low bit start (4 * turn) (4 * turn + 2) old values c.requires.bit (omega arith) (omega arith) so_far third third_is))
-    (c.add_to_pair-in-loop-turn-2.ensures ∙ ap (λ (h : ℕ). with_pair (map value c.add_to_pair-in-loop-turn.new.values) third (third + h) (slice_index products.result 2)) half) in
-    let third_next : 4 * turn + 2 + 1 ≡ 4 * turn + 3 = omega arith in
-    let third_ready =
-    subst (λ (n : ℕ). StageSoFar twiddles low bit start n old (map value c.add_to_pair-in-loop-turn-2.new.values)) third_next third_done in
-    let fourth : ℕ = start + c.lower_of-in-loop-turn-3.result in
-    let fourth_is : fourth ≡ start + (2 * (4 * turn + 3) - (4 * turn + 3) % 2 ^ bit) =
-    ap (λ (n : ℕ). start + n) (c.lower_of-in-loop-turn-3.ensures ∙ ap (λ (h : ℕ). 2 * (4 * turn + 3) - (4 * turn + 3) % h) half) in
-    let fourth_done =
-    pair_done twiddles low bit start (4 * turn + 3) old (map value c.add_to_pair-in-loop-turn-2.new.values) (map value c.add_to_pair-in-loop-turn-3.new.values) c.requires.bit (omega arith) whole
-    fits third_ready fourth (slice_index products.result 3) fourth_is
-    (ap (λ (l : List ℕ). slice_index l 3) products.ensures
-    ∙ ap (ghash_product (bit_xor (slice_index twiddles bit) (slice_index low ((4 * turn + 3) / c.half_of-half.result)))) c.number_at-in-loop-turn-3.ensures
-    ∙ ap (λ (h : ℕ). ghash_product (bit_xor (slice_index twiddles bit) (slice_index low ((4 * turn + 3) / h))) (slice_index values (fourth + h))) half
-    ∙ ap (ghash_product (bit_xor (slice_index twiddles bit) (slice_index low ((4 * turn + 3) / 2 ^ bit))))
-    (upper_read twiddles low bit start (4 * turn) (4 * turn + 3) old values c.requires.bit (omega arith) (omega arith) so_far fourth fourth_is))
-    (c.add_to_pair-in-loop-turn-3.ensures ∙ ap (λ (h : ℕ). with_pair (map value c.add_to_pair-in-loop-turn-2.new.values) fourth (fourth + h) (slice_index products.result 3)) half) in
+    let scaled = λ (m : ℕ). ghash_product (bit_xor (slice_index twiddles bit) (slice_index low (m / half.result))) in
+    let first =
+    pair_added twiddles low bit start (4 * turn) (4 * turn) half.result (start + c.lower_of.result) (slice_index products.result 0) old values values
+    (map value c.add_to_pair.new.values) c.requires.bit (omega arith) (omega arith) whole fits half.ensures (ap (λ (n : ℕ). start + n) c.lower_of.ensures)
+    so_far so_far (ap (λ (l : List ℕ). slice_index l 0) products.ensures ∙ ap (scaled (4 * turn)) c.number_at.ensures) c.add_to_pair.ensures in
+    let second =
+    pair_added twiddles low bit start (4 * turn) (4 * turn + 1) half.result (start + c.lower_of-in-loop-turn.result) (slice_index products.result 1) old values (map value c.add_to_pair.new.values)
+    (map value c.add_to_pair-in-loop-turn.new.values) c.requires.bit (omega arith) (omega arith) whole fits half.ensures (ap (λ (n : ℕ). start + n) c.lower_of-in-loop-turn.ensures)
+    so_far first (ap (λ (l : List ℕ). slice_index l 1) products.ensures ∙ ap (scaled (4 * turn + 1)) c.number_at-in-loop-turn.ensures) c.add_to_pair-in-loop-turn.ensures in
+    let third_next : 4 * turn + 1 + 1 ≡ 4 * turn + 2 = omega arith in
+    let third_so_far = subst (λ (n : ℕ). StageSoFar twiddles low bit start n old (map value c.add_to_pair-in-loop-turn.new.values)) third_next second in
+    let third =
+    pair_added twiddles low bit start (4 * turn) (4 * turn + 2) half.result (start + c.lower_of-in-loop-turn-2.result) (slice_index products.result 2) old values (map value c.add_to_pair-in-loop-turn.new.values)
+    (map value c.add_to_pair-in-loop-turn-2.new.values) c.requires.bit (omega arith) (omega arith) whole fits half.ensures (ap (λ (n : ℕ). start + n) c.lower_of-in-loop-turn-2.ensures)
+    so_far third_so_far (ap (λ (l : List ℕ). slice_index l 2) products.ensures ∙ ap (scaled (4 * turn + 2)) c.number_at-in-loop-turn-2.ensures) c.add_to_pair-in-loop-turn-2.ensures in
+    let fourth_next : 4 * turn + 2 + 1 ≡ 4 * turn + 3 = omega arith in
+    let fourth_so_far = subst (λ (n : ℕ). StageSoFar twiddles low bit start n old (map value c.add_to_pair-in-loop-turn-2.new.values)) fourth_next third in
+    let fourth =
+    pair_added twiddles low bit start (4 * turn) (4 * turn + 3) half.result (start + c.lower_of-in-loop-turn-3.result) (slice_index products.result 3) old values (map value c.add_to_pair-in-loop-turn-2.new.values)
+    (map value c.add_to_pair-in-loop-turn-3.new.values) c.requires.bit (omega arith) (omega arith) whole fits half.ensures (ap (λ (n : ℕ). start + n) c.lower_of-in-loop-turn-3.ensures)
+    so_far fourth_so_far (ap (λ (l : List ℕ). slice_index l 3) products.ensures ∙ ap (scaled (4 * turn + 3)) c.number_at-in-loop-turn-3.ensures) c.add_to_pair-in-loop-turn-3.ensures in
     let next : 4 * turn + 3 + 1 ≡ 4 * (turn + 1) = omega arith in (
       c.add_to_pair-in-loop-turn-3.auto.values ∙ c.add_to_pair-in-loop-turn-2.auto.values ∙ c.add_to_pair-in-loop-turn.auto.values ∙ c.add_to_pair.auto.values
           ∙ c.loop-turn.invariant.0,
-      subst (λ (n : ℕ). StageSoFar twiddles low bit start n old (map value c.add_to_pair-in-loop-turn-3.new.values)) next fourth_done,
+      subst (λ (n : ℕ). StageSoFar twiddles low bit start n old (map value c.add_to_pair-in-loop-turn-3.new.values)) next fourth,
     )
 
 pub returns-clause-run : goal.returns-clause-run

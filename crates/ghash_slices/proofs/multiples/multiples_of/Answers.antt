@@ -10,5 +10,5 @@ loop-half-preserved c =
     let half = c.loop-half.half in
     let few : half < 8 = omega arith in
     let some : 1 ≤ half = c.loop-half.auto.half in
-    next_multiples c.args.scalar half c.loop-half.products c.times_x-even.result c.ranges.scalar.fits some few c.loop-half.invariant.0
-    c.loop-half.invariant.1 c.times_x-even.ensures
+    next_multiples c.args.scalar half c.loop-half.products c.times_power-even.result c.ranges.scalar.fits some few c.loop-half.invariant.0
+    c.loop-half.invariant.1 c.times_power-even.ensures

@@ -10,5 +10,5 @@ returns-then-values-lt-LEAST_IN_LANES g c =
     let value = g.W.WideWord.value in
     let long = length-map c.args.values.now value in
     held_zip2 (add_multiple ghash_product c.args.scalar) (length c.args.values.now) (map value c.args.values.now)
-    (map value c.args.others.now) (map value c.add_products.new.values) (long ∙ c.requires ∙ sym (length-map c.args.others.now value))
-    (omega (arith, long)) c.add_products.ensures
+    (map value c.args.others.now) (map value c.add_few.new.values) (long ∙ c.requires ∙ sym (length-map c.args.others.now value))
+    (omega (arith, long)) c.add_few.ensures

@@ -1,15 +1,10 @@
-use Rattle.std.proofs.Common.{◌+◌, ◌*◌, map}
+use Rattle.std.proofs.Common.{map}
 use Rattle.ghash_slices.specs.Blocks.{HoldsPlaces, added_at}
 use Rattle.ghash_slices.proofs.slices.add_products.Given as goal
 
--- the places of the pairs before are written
-abbrev pub invariant-pairs : goal.invariant-pairs
-invariant-pairs g l =
-    let value = g.W.WideWord.value in
-    HoldsPlaces (added_at l.scalar (map value l.fn.values) (map value l.others)) l.start (l.start + 2 * l.pair) (map value l.fn.values) (map value l.values)
-
 -- the places before are written
-abbrev pub invariant-rest : goal.invariant-rest
-invariant-rest g l =
+abbrev pub invariant-loop-place : goal.invariant-loop-place
+invariant-loop-place g l =
     let value = g.W.WideWord.value in
-    HoldsPlaces (added_at l.scalar (map value l.fn.values) (map value l.others)) l.start l.place (map value l.fn.values) (map value l.values)
+    HoldsPlaces (added_at (g.S.ScalarProducts.scalar l.products) (map value l.fn.values) (map value l.others)) l.start l.place
+    (map value l.fn.values) (map value l.values)

@@ -12,6 +12,6 @@ invariant_of-result c = record {
       c.multiples_of.ensures c.rows_of-low.ensures;
   high_is =
       rows_same c.rows_of-high.result (slice_index c.multiples_of-2.result) (λ digit. ghash_product c.args.scalar (digit * 16))
-      (λ e small. c.multiples_of-2.ensures e small ∙ high_multiple c.args.scalar c.times_16.result e small c.times_16.ensures)
+      (λ e small. c.multiples_of-2.ensures e small ∙ high_multiple c.args.scalar c.times_power.result e small c.times_power.ensures)
       c.rows_of-high.ensures;
 }

@@ -4,8 +4,8 @@ use Rattle.std.specs.Simd.Lanes.{zip2}
 use Rattle.std.proofs.Math.ListN.{set}
 use Rattle.std.proofs.lemmas.List.{length-map, map-set}
 use Rattle.ghash_slices.specs.Multiples.{byte_of_multiple}
-use Rattle.ghash_slices.specs.Tails.{byte_of_tail}
-use Rattle.ghash_slices.proofs.HornerProducts.{RowsFrom, first_row, row_of, row_step, rows_end, rows_start, second_row, upper_row}
+use Rattle.ghash_slices.proofs.HornerProducts.{RowsFrom, first_row, looked_up, row_of, row_step, rows_end, rows_start, second_row, upper_row}
+use Rattle.ghash_slices.proofs.ShiftedBytes.{byte_of_tail, high_tails_high, high_tails_low, low_tails_high, low_tails_low, tail_high, tail_low}
 use Rattle.ghash_slices.proofs.multiples.Multiples.step.Goals as goal
 
 pub loop-turn-init : goal.loop-turn-init
@@ -55,9 +55,11 @@ returns g c values held =
     let first : List ℕ = zip2 bit_xor (map (byte_of_tail 0) (row_of old 15)) (map (byte_of_multiple scalar 0) bytes) in
     let second_is : V c.sum-3.result ≡ second =
     c.sum-3.ensures
-    ∙ ap₂ (zip2 bit_xor) (c.sum-2.ensures ∙ ap₂ (zip2 bit_xor) c.row_at-lowest.ensures.bytes (c.second_tails.ensures ∙ tails 1)) c.entries-2.ensures.bytes in
+    ∙ ap₂ (zip2 bit_xor) (c.sum-2.ensures ∙ ap₂ (zip2 bit_xor) c.row_at-lowest.ensures.bytes (c.entry_sums-second_tails.ensures
+    ∙ looked_up (byte_of_tail 1) low_tails_high high_tails_high tail_high (V c.row_at-top.result) c.holds_bytes.ensures.fit ∙ tails 1)) c.entries-2.ensures.bytes in
     let first_is : V c.sum-4.result ≡ first =
-    c.sum-4.ensures ∙ ap₂ (zip2 bit_xor) (c.first_tails.ensures ∙ tails 0) c.entries-3.ensures.bytes in
+    c.sum-4.ensures ∙ ap₂ (zip2 bit_xor) (c.entry_sums-first_tails.ensures
+    ∙ looked_up (byte_of_tail 0) low_tails_low high_tails_low tail_low (V c.row_at-top.result) c.holds_bytes.ensures.fit ∙ tails 0) c.entries-3.ensures.bytes in
     let one : RowsFrom lanes scalar bytes old 1 (set now 1 second) =
     row_step lanes scalar bytes old 1 now (zip2 bit_xor (row_of now 0) (map (byte_of_tail 1) (row_of old 15))) (lit< tt) c.entries-2.ensures.count
     (second_row lanes scalar bytes old now top_long low_long two) two in

@@ -1,9 +1,0 @@
-use Rattle.std.proofs.Common.{◌∙◌}
-use Rattle.ghash_slices.specs.Tails.{byte_of_tail}
-use Rattle.ghash_slices.proofs.HornerProducts.{looked_up}
-use Rattle.ghash_slices.proofs.ShiftedBytes.{high_tails_low, low_tails_low, tail_low}
-use Rattle.ghash_slices.proofs.multiples.first_tails.Goals as goal
-
-pub returns : goal.returns
-returns g c =
-    c.entry_sums.ensures ∙ looked_up (byte_of_tail 0) low_tails_low high_tails_low tail_low (g.V.ByteVector.bytes c.args.bytes) c.holds_bytes.ensures.fit
