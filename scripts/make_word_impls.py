@@ -147,6 +147,96 @@ ghost use Rattle.field_base.specs.ByteTables.{sum_of_entries};
         )
 
 
+# ---- linear maps by their tables at bytes (word_tables)
+
+SQUARES = Template("""\
+/// The square of an element of GF(2^$bits), level $level of the tower.
+#[inline]
+pub fn square_$bits(x: u$bits) -> u$bits
+    ensures { result ≡ tower_mul $level x x }
+{
+    sum_of_entries_$bits(&SQUARES_$bits, x)
+}
+
+/// The square root of an element of GF(2^$bits). Every element has one.
+#[inline]
+pub fn sqrt_$bits(x: u$bits) -> u$bits
+    ensures { tower_mul $level result result ≡ x }
+{
+    sum_of_entries_$bits(&ROOTS_$bits, x)
+}
+""")
+
+
+def tabled_squares():
+    yield """\
+// Squares and square roots of elements of 16 to 64 bits, as sums of table entries of their bytes.
+ghost use Rattle.std.specs.Prelude.{◌≡◌};
+ghost use Rattle.field_base.specs.Tower.{tower_mul};
+
+use crate::tables::linear::{ROOTS_16, ROOTS_32, ROOTS_64, SQUARES_16, SQUARES_32, SQUARES_64};
+use field_base::byte_tables::{sum_of_entries_16, sum_of_entries_32, sum_of_entries_64};
+"""
+    for level, bits in enumerate((16, 32, 64), start=4):
+        yield SQUARES.substitute(level=level, bits=bits)
+
+
+BASIS = Template("""\
+/// The polynomial modulo $modulus that is the image of an element of $bits bits.
+#[inline]
+pub fn to_polynomial_$bits(x: u$bits) -> u$bits
+    ensures { result ≡ basis_image $bits ${name}_modulus ${name}_images x }
+{
+    sum_of_entries_$bits(&TO_POLYNOMIAL_$bits, x)
+}
+
+/// The one element of $bits bits whose image is the polynomial `x`.
+#[inline]
+pub fn to_tower_$bits(x: u$bits) -> u$bits
+    ensures image { basis_image $bits ${name}_modulus ${name}_images result ≡ x }
+    ensures only { (a : ℕ) → a < 2 ^ $bits → basis_image $bits ${name}_modulus ${name}_images a ≡ x → a ≡ result }
+{
+    sum_of_entries_$bits(&TO_TOWER_$bits, x)
+}
+
+/// Replaces each element of $bits bits by its image, a polynomial modulo $modulus.
+#[tactic(auto, using(crate::proofs::SliceSteps::value_written))]
+pub fn to_polynomial_slice_$bits(xs: &mut [u$bits])
+    ensures { xs.new ≡ map (basis_image $bits ${name}_modulus ${name}_images) xs.old }
+{
+    for x in xs.iter_mut() {
+        *x = to_polynomial_$bits(*x);
+    }
+}
+
+/// Replaces each polynomial modulo $modulus by the element of $bits bits whose image it is.
+pub fn to_tower_slice_$bits(xs: &mut [u$bits])
+    ensures { map (basis_image $bits ${name}_modulus ${name}_images) xs.new ≡ xs.old }
+{
+    for x in xs.iter_mut() {
+        *x = to_tower_$bits(*x);
+    }
+}
+""")
+
+
+def tabled_basis():
+    yield """\
+// The changes of basis of words of 64 and of 128 bits and of slices of them: the value at a word is the sum of an entry for each byte.
+//
+//     x = b0 + b1 256 + b2 256^2 + ..   ->   table[b0] + table[256 + b1] + table[512 + b2] + ..
+ghost use Rattle.std.specs.Prelude.{◌≡◌, ℕ, ◌^◌, ◌<◌, map};
+ghost use Rattle.field_base.specs.Basis.{basis_image, ghash_images, poly64_images};
+ghost use Rattle.field_base.specs.Remainder.{ghash_modulus, poly64_modulus};
+
+use crate::literals::to_polynomial::{TO_POLYNOMIAL_64, TO_POLYNOMIAL_128};
+use crate::literals::to_tower::{TO_TOWER_64, TO_TOWER_128};
+use field_base::byte_tables::{sum_of_entries_64, sum_of_entries_128};
+"""
+    yield BASIS.substitute(bits=64, name="poly64", modulus="x^64 + x^4 + x^3 + x + 1")
+    yield BASIS.substitute(bits=128, name="ghash", modulus="x^128 + x^7 + x^2 + x + 1")
+
+
 # ---- words of rows (bits_rows)
 
 # The constants that a word has, and a row of one word, with the type of the count of bits.
@@ -421,6 +511,8 @@ if __name__ == "__main__":
             "field_base/src/word/impls.rt": stored,
             "field_base/src/reading/impls.rt": read,
             "field_base/src/byte_tables/sums.rt": byte_tables,
+            "word_tables/src/tables/by_bytes.rt": tabled_squares,
+            "word_tables/src/basis/by_bytes.rt": tabled_basis,
             "bits_rows/src/words/impls.rt": row_words,
             "bits_rows/src/pairs.rt": row_pairs,
             "field_bytes/src/little_endian/impls.rt": little_endian,

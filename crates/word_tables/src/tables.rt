@@ -6,10 +6,12 @@ ghost use Rattle.field_base.specs.Tower.{root, tower_mul};
 ghost use Rattle.word_tables.specs.Tables.{EntriesArePowers, EntriesAreLogarithms, ZeroHasLogarithmZero};
 ghost use Rattle.word_tables.specs.declared.tables.literals.TheConstants.{EXP, INVERSES, LOG, ROOTS, ROOT_PRODUCTS, SQUARES};
 
+mod by_bytes;
 mod linear;
 mod literals;
 
-use field_base::byte_tables::{entry, sum_of_entries_16, sum_of_entries_32, sum_of_entries_64};
+pub use crate::tables::by_bytes::{sqrt_16, sqrt_32, sqrt_64, square_16, square_32, square_64};
+use field_base::byte_tables::entry;
 
 /// The product of two elements of GF(2^8): 0x13 to the power of the sum of their logarithms, and 0 where an operand is 0,
 /// which has no logarithm.
@@ -67,54 +69,6 @@ pub fn multiply_by_root_8(a: u8) -> u8
     ensures { result ≡ tower_mul 3 (root 3) a }
 {
     entry(&literals::ROOT_PRODUCTS, a)
-}
-
-/// The square of an element of GF(2^16), level 4 of the tower.
-#[inline]
-pub fn square_16(x: u16) -> u16
-    ensures { result ≡ tower_mul 4 x x }
-{
-    sum_of_entries_16(&linear::SQUARES_16, x)
-}
-
-/// The square of an element of GF(2^32), level 5 of the tower.
-#[inline]
-pub fn square_32(x: u32) -> u32
-    ensures { result ≡ tower_mul 5 x x }
-{
-    sum_of_entries_32(&linear::SQUARES_32, x)
-}
-
-/// The square of an element of GF(2^64), level 6 of the tower.
-#[inline]
-pub fn square_64(x: u64) -> u64
-    ensures { result ≡ tower_mul 6 x x }
-{
-    sum_of_entries_64(&linear::SQUARES_64, x)
-}
-
-/// The square root of an element of GF(2^16). Every element has one.
-#[inline]
-pub fn sqrt_16(x: u16) -> u16
-    ensures { tower_mul 4 result result ≡ x }
-{
-    sum_of_entries_16(&linear::ROOTS_16, x)
-}
-
-/// The square root of an element of GF(2^32). Every element has one.
-#[inline]
-pub fn sqrt_32(x: u32) -> u32
-    ensures { tower_mul 5 result result ≡ x }
-{
-    sum_of_entries_32(&linear::ROOTS_32, x)
-}
-
-/// The square root of an element of GF(2^64). Every element has one.
-#[inline]
-pub fn sqrt_64(x: u64) -> u64
-    ensures { tower_mul 6 result result ≡ x }
-{
-    sum_of_entries_64(&linear::ROOTS_64, x)
 }
 
 /// States that entry e of EXP is 0x13 to the power e, and that for every nonzero x entry x of LOG is below 255 and 0x13 to its

@@ -1,6 +1,6 @@
 use Rattle.std.proofs.Common.{arith}
 use Rattle.word_tables.proofs.Isomorphisms.{change_64}
-use Rattle.word_tables.proofs.basis.to_tower_64.Goals as goal
+use Rattle.word_tables.proofs.basis.by_bytes.to_tower_64.Goals as goal
 
 pub returns-clause-image : goal.returns-clause-image
 returns-clause-image c = change_64.element c.args.x _ (omega arith) c.sum_of_entries_64.ensures

@@ -1,7 +1,7 @@
 use Rattle.std.proofs.Common.{◌≡◌, ◌++◌, map, take, drop}
 use Rattle.field_base.specs.Basis.{basis_image, ghash_images}
 use Rattle.field_base.specs.Remainder.{ghash_modulus}
-use Rattle.word_tables.proofs.basis.to_polynomial_slice_128.Given as goal
+use Rattle.word_tables.proofs.basis.by_bytes.to_polynomial_slice_128.Given as goal
 
 -- the elements before the index are images, the others are as they were
 abbrev pub invariant-loop-x : goal.invariant-loop-x

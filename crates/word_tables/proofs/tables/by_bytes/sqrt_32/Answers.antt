@@ -1,7 +1,7 @@
 use Rattle.std.proofs.Common.{ℕ, ◌∙◌, ap, arith}
 use Rattle.field_base.specs.Tower.{tower_mul}
 use Rattle.word_tables.proofs.SquareTables.{roots_32}
-use Rattle.word_tables.proofs.tables.sqrt_32.Goals as goal
+use Rattle.word_tables.proofs.tables.by_bytes.sqrt_32.Goals as goal
 
 pub returns : goal.returns
 returns c = ap (λ (y : ℕ). tower_mul 5 y y) c.sum_of_entries_32.ensures ∙ roots_32 c.args.x (omega arith)
