@@ -9,14 +9,14 @@ use std::simd::prelude::*;
 // The modulus without x^8.
 const TAIL: u8 = 0x1b;
 
-/// Sixteen products, lane by lane.
+/// The products of the bytes, lane by lane, in any number of lanes.
 #[inline(always)]
-pub fn multiply_16_bytes(left: u8x16, right: u8x16) -> u8x16
-    ensures { result ≡ zip2 (mul_mod 8 aes_modulus) left right }
+pub fn multiply_byte_lanes<const N: usize>(left: Simd<u8, N>, right: Simd<u8, N>) -> Simd<u8, N>
+    ensures { result ≡ zip2 (mul_mod 8 aes_modulus) left.entry right.entry }
 {
-    let zero = u8x16::splat(0);
-    let highest = u8x16::splat(128);
-    let tail = u8x16::splat(TAIL);
+    let zero: Simd<u8, N> = Simd::splat(0);
+    let highest: Simd<u8, N> = Simd::splat(128);
+    let tail: Simd<u8, N> = Simd::splat(TAIL);
     let mut product = zero;
     let mut rest = right;
     for bit in 0..8usize {
@@ -28,21 +28,18 @@ pub fn multiply_16_bytes(left: u8x16, right: u8x16) -> u8x16
     product
 }
 
+/// Sixteen products, lane by lane.
+#[inline(always)]
+pub fn multiply_16_bytes(left: u8x16, right: u8x16) -> u8x16
+    ensures { result ≡ zip2 (mul_mod 8 aes_modulus) left right }
+{
+    multiply_byte_lanes(left, right)
+}
+
 /// Thirty-two products, lane by lane.
 #[inline(always)]
 pub fn multiply_32_bytes(left: u8x32, right: u8x32) -> u8x32
     ensures { result ≡ zip2 (mul_mod 8 aes_modulus) left right }
 {
-    let zero = u8x32::splat(0);
-    let highest = u8x32::splat(128);
-    let tail = u8x32::splat(TAIL);
-    let mut product = zero;
-    let mut rest = right;
-    for bit in 0..8usize {
-        let carried = product.simd_ge(highest).select(tail, zero);
-        let added = rest.simd_ge(highest).select(left, zero);
-        product = (product + product) ^ carried ^ added;
-        rest = rest + rest;
-    }
-    product
+    multiply_byte_lanes(left, right)
 }

@@ -9,7 +9,7 @@ mod modulus;
 mod polynomials;
 mod subfields;
 
-pub use crate::byte_lanes::{multiply_16_bytes, multiply_32_bytes};
+pub use crate::byte_lanes::{multiply_16_bytes, multiply_32_bytes, multiply_byte_lanes};
 pub use crate::cubic::CubicKernel;
 pub use crate::moduli::{
     GhashKernel, GhashModulus, Poly64Kernel, Poly64Modulus, RijndaelKernel, RijndaelModulus,

@@ -1,19 +1,19 @@
 use Rattle.std.proofs.Common.{◌≡◌, ◌∙◌, ap, arith}
 use Rattle.word_polynomial.proofs.ShiftAndAdd.{all_bits, all_left, fewer_left, no_bits, products, step}
-use Rattle.word_polynomial.proofs.byte_lanes.multiply_32_bytes.Goals as goal
+use Rattle.word_polynomial.proofs.byte_lanes.multiply_byte_lanes.Goals as goal
 
 pub loop-bit-init : goal.loop-bit-init
-loop-bit-init c = (no_bits 32 c.args.left c.args.right c.fits-left.0 c.fits-right.0 c.fits-right.1, all_left c.args.right c.fits-right.1)
+loop-bit-init g c = (no_bits g.row.N c.args.left c.args.right c.fits-left.0 c.fits-right.0 c.fits-right.1, all_left c.args.right c.fits-right.1)
 
 pub loop-bit-preserved : goal.loop-bit-preserved
-loop-bit-preserved c = (
-  step 32 c.loop-bit.bit c.args.left c.args.right c.loop-bit.product c.loop-bit.rest c.loop-bit-test.true
+loop-bit-preserved g c = (
+  step g.row.N c.loop-bit.bit c.args.left c.args.right c.loop-bit.product c.loop-bit.rest c.loop-bit-test.true
       c.fits-left.0 c.fits-right.0 c.fits-left.1 c.fits-right.1 c.loop-bit.invariant.0 c.loop-bit.invariant.1,
   fewer_left c.loop-bit.bit c.args.right c.loop-bit.rest c.loop-bit.invariant.1,
 )
 
 pub returns : goal.returns
-returns c =
+returns g c =
     let all : c.loop-bit.bit ≡ 8 = omega (arith, c.loop-bit-test.false, c.loop-bit.auto.bit-end) in
     all_bits c.args.left c.args.right c.loop-bit.product
     (c.loop-bit.invariant.0 ∙ ap (λ k. products k c.args.left c.args.right) all)

@@ -1,7 +1,0 @@
-use Rattle.std.proofs.Common.{◌≡◌}
-use Rattle.word_polynomial.proofs.ShiftAndAdd.{products, rests}
-use Rattle.word_polynomial.proofs.byte_lanes.multiply_16_bytes.Given as goal
-
--- the bits of the right factors that have entered, and those that are left
-abbrev pub invariant-loop-bit : goal.invariant-loop-bit
-invariant-loop-bit l = (l.product ≡ products l.bit l.left l.fn.right) × (l.rest ≡ rests l.bit l.fn.right)
