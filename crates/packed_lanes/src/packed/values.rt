@@ -1,181 +1,34 @@
-// Packings beside one value, which stands in every lane: the operators with an element of their field on the right, and with an
-// element of GF(2) on either side, sums and products of many elements, and the packings as algebras over both.
-ghost use Rattle.std.specs.Prelude.{◌≡◌, ◌*◌, bit_xor, map, refl, replicate};
+// Packings beside one value, which stands in every lane: the operators with an element of their field or of GF(2), sums and products of
+// many elements, and the packings as algebras over both.
+ghost use Rattle.std.specs.Prelude.{◌≡◌, ◌*◌, map, refl, replicate};
 ghost use Rattle.std.proofs.Common.{◌∙◌, ap};
 ghost use native.Mathlib.Nat.{one-mul};
 ghost use Rattle.field_base.specs.Bit.{bit_number as bit_of};
 ghost use Rattle.field_base.specs.Operators.{algebra_gives};
 ghost use Rattle.field_base.specs.Powers.{product_of, sum_of};
 ghost use Rattle.field_base.specs.Chunks.{joined};
-ghost use Rattle.packed_lanes.specs.Lanes.{lane_by_lane, lane_product};
 ghost use Rattle.packed_lanes.specs.BitImageLemmas.{bit_same, bit_sum};
 ghost use Rattle.packed_lanes.specs.LaneListLemmas.{every_bit, every_product, every_same, every_sum, number_of_every};
 ghost use Rattle.packed_lanes.specs.Packed.{EachLaneIs};
 ghost use Rattle.packed_lanes.specs.PackedLemmas.{packed_bit_product, packed_product_bit, packed_product_one};
 ghost use Rattle.packed_lanes.specs.PackedLemmas.{packed_sum_bit, packed_sum_one};
 
+mod operators;
+
 use crate::packed::{Laned, Packed, WiderField};
 use field_base::Gf2;
 use field_base::traits::{Algebra, Field, product_of_items, sum_of_items};
 use std::iter::{Product, Sum};
-use std::ops::{Add, AddAssign, Mul, MulAssign, Sub, SubAssign};
 
-impl<F: Laned, const N: usize> Add<F> for Packed<F, N> {
-    type Output = Packed<F, N>;
-
-    ghost add_gives = { λ x y r. map F.repr r.lanes ≡ lane_by_lane bit_xor (map F.repr x.lanes) (map F.repr (replicate N y)) };
-
-    #[inline]
-    fn add(self, other: F) -> Packed<F, N> {
-        self + Packed::broadcast(other)
-    }
-}
-
-impl<F: Laned, const N: usize> AddAssign<F> for Packed<F, N> {
-    ghost add_assign_gives = { λ x y r. map F.repr r.lanes ≡ lane_by_lane bit_xor (map F.repr x.lanes) (map F.repr (replicate N y)) };
-
-    #[inline]
-    fn add_assign(&mut self, other: F) {
-        *self = Packed { lanes: self.lanes } + other;
-    }
-}
-
-impl<F: Laned, const N: usize> Sub<F> for Packed<F, N> {
-    type Output = Packed<F, N>;
-
-    ghost sub_gives = { λ x y r. map F.repr r.lanes ≡ lane_by_lane bit_xor (map F.repr x.lanes) (map F.repr (replicate N y)) };
-
-    #[inline]
-    fn sub(self, other: F) -> Packed<F, N> {
-        self + other
-    }
-}
-
-impl<F: Laned, const N: usize> SubAssign<F> for Packed<F, N> {
-    ghost sub_assign_gives = { λ x y r. map F.repr r.lanes ≡ lane_by_lane bit_xor (map F.repr x.lanes) (map F.repr (replicate N y)) };
-
-    #[inline]
-    fn sub_assign(&mut self, other: F) {
-        *self = Packed { lanes: self.lanes } + other;
-    }
-}
-
-impl<F: Laned, const N: usize> Mul<F> for Packed<F, N> {
-    type Output = Packed<F, N>;
-
-    ghost mul_gives = { λ x y r. map F.repr r.lanes ≡ lane_by_lane F.product (map F.repr x.lanes) (map F.repr (replicate N y)) };
-
-    #[inline]
-    fn mul(self, other: F) -> Packed<F, N> {
-        self * Packed::broadcast(other)
-    }
-}
-
-impl<F: Laned, const N: usize> MulAssign<F> for Packed<F, N> {
-    ghost mul_assign_gives = { λ x y r. map F.repr r.lanes ≡ lane_by_lane F.product (map F.repr x.lanes) (map F.repr (replicate N y)) };
-
-    #[inline]
-    fn mul_assign(&mut self, other: F) {
-        *self = Packed { lanes: self.lanes } * other;
-    }
-}
-
-impl<F: Laned, const N: usize> Add<Gf2> for Packed<F, N> {
-    type Output = Packed<F, N>;
-
-    ghost add_gives = { λ x y r. EachLaneIs F.repr r bit_xor x (bit_of y * F.unit) };
-
-    #[inline]
-    fn add(self, bit: Gf2) -> Packed<F, N> {
-        let every: Packed<F, N> = Packed::from(bit);
-        self + every
-    }
-}
-
-impl<F: Laned, const N: usize> AddAssign<Gf2> for Packed<F, N> {
-    ghost add_assign_gives = { λ x y r. EachLaneIs F.repr r bit_xor x (bit_of y * F.unit) };
-
-    #[inline]
-    fn add_assign(&mut self, bit: Gf2) {
-        *self = Packed { lanes: self.lanes } + bit;
-    }
-}
-
-impl<F: Laned, const N: usize> Sub<Gf2> for Packed<F, N> {
-    type Output = Packed<F, N>;
-
-    ghost sub_gives = { λ x y r. EachLaneIs F.repr r bit_xor x (bit_of y * F.unit) };
-
-    #[inline]
-    fn sub(self, bit: Gf2) -> Packed<F, N> {
-        self + bit
-    }
-}
-
-impl<F: Laned, const N: usize> SubAssign<Gf2> for Packed<F, N> {
-    ghost sub_assign_gives = { λ x y r. EachLaneIs F.repr r bit_xor x (bit_of y * F.unit) };
-
-    #[inline]
-    fn sub_assign(&mut self, bit: Gf2) {
-        *self = Packed { lanes: self.lanes } + bit;
-    }
-}
-
-impl<F: Laned, const N: usize> Mul<Gf2> for Packed<F, N> {
-    type Output = Packed<F, N>;
-
-    ghost mul_gives = { λ x y r. EachLaneIs F.repr r F.product x (bit_of y * F.unit) };
-
-    // The lanes stay, or each is 0.
-    #[inline]
-    fn mul(self, bit: Gf2) -> Packed<F, N> {
-        if bit.is_one() {
-            self
-        } else {
-            Packed::broadcast(F::ZERO_LANE)
-        }
-    }
-}
-
-impl<F: Laned, const N: usize> MulAssign<Gf2> for Packed<F, N> {
-    ghost mul_assign_gives = { λ x y r. EachLaneIs F.repr r F.product x (bit_of y * F.unit) };
-
-    #[inline]
-    fn mul_assign(&mut self, bit: Gf2) {
-        *self = Packed { lanes: self.lanes } * bit;
-    }
-}
-
-impl<F: Laned, const N: usize> Add<Packed<F, N>> for Gf2 {
-    type Output = Packed<F, N>;
-
-    ghost add_gives = { λ x y r. EachLaneIs F.repr r bit_xor y (bit_of x * F.unit) };
-
-    #[inline]
-    fn add(self, packed: Packed<F, N>) -> Packed<F, N> {
-        packed + self
-    }
-}
-
-impl<F: Laned, const N: usize> Sub<Packed<F, N>> for Gf2 {
-    type Output = Packed<F, N>;
-
-    ghost sub_gives = { λ x y r. EachLaneIs F.repr r bit_xor y (bit_of x * F.unit) };
-
-    #[inline]
-    fn sub(self, packed: Packed<F, N>) -> Packed<F, N> {
-        packed + self
-    }
-}
-
-impl<F: Laned, const N: usize> Mul<Packed<F, N>> for Gf2 {
-    type Output = Packed<F, N>;
-
-    ghost mul_gives = { λ x y r. EachLaneIs F.repr r F.product y (bit_of x * F.unit) };
-
-    #[inline]
-    fn mul(self, packed: Packed<F, N>) -> Packed<F, N> {
-        packed * self
+// The packing times a bit: its lanes stay, or each is 0.
+#[inline]
+fn times_bit<F: Laned, const N: usize>(packed: Packed<F, N>, bit: Gf2) -> Packed<F, N>
+    ensures { EachLaneIs F.repr result F.product packed (bit_of bit * F.unit) }
+{
+    if bit.is_one() {
+        packed
+    } else {
+        Packed::broadcast(F::ZERO_LANE)
     }
 }
 
