@@ -114,10 +114,118 @@ use std::ops::{Add, AddAssign, Mul, MulAssign, Sub, SubAssign};
     yield from values(generics, "Gf2", packing, "packed", meanings, bodies, packing)
 
 
+# ---- elements (field_element)
+
+
+def joined():
+    yield """\
+// The operators of two elements of fields of which one contains the other.
+ghost use Rattle.std.specs.Prelude.{◌≡◌, bit_xor};
+
+use crate::element::Element;
+use field_base::{Contains, FieldKernel, Joins, Stored};
+use std::marker::PhantomData;
+use std::ops::{Add, AddAssign, Mul, MulAssign, Sub, SubAssign};
+"""
+    target, right = "Element<R, K>", "Element<S, J>"
+
+    meanings = each(
+        """
+        let left = K.Field.Contains-1.image (R.number x.repr) in
+        let right = K.Field.Contains-2.image (S.number y.repr) in
+        K.Upper.number r.repr ≡ {} left right""",
+        "K.Field.product",
+    )
+    images = """\
+let left = <K::Field as Contains<K::Upper, R, K>>::embed(self.repr);
+        let right = <K::Field as Contains<K::Upper, S, J>>::embed(other.repr);
+        Element {{
+            repr: {},
+            field: PhantomData,
+        }}"""
+    bodies = {"add": images.format("left.xor(right)"), "sub": "self + other", "mul": images.format("K::Field::multiply(left, right)")}
+    generics = "<R: Stored, K: Joins<R, S, J>, S: Stored, J: FieldKernel<S>>"
+    yield from values(generics, target, right, "other", meanings, bodies, "Element<K::Upper, K::Field>")
+
+    meanings = each("R.number r.repr ≡ {} (R.number x.repr) (K.image (S.number y.repr))", "K.product")
+    written = """\
+*self = Element {{
+            repr: {},
+            field: PhantomData,
+        }};"""
+    bodies = {
+        "add": written.format("self.repr.xor(K::embed(other.repr))"),
+        "sub": "*self += other;",
+        "mul": written.format("K::multiply(self.repr, K::embed(other.repr))"),
+    }
+    generics = "<R: Stored, K: Contains<R, S, J>, S: Stored, J: FieldKernel<S>>"
+    yield from in_place(generics, target, right, "other", meanings, bodies)
+
+
+def bits():
+    yield """\
+// The operators of elements with an element of GF(2) on the right.
+ghost use Rattle.std.specs.Prelude.{◌≡◌, bit_xor};
+ghost use Rattle.field_base.specs.Bit.{bit_number as bit_of};
+ghost use Rattle.field_element.specs.Element.{repr_of};
+
+use crate::element::bits::times_bit;
+use crate::element::{Element, value};
+use field_base::{FieldKernel, Gf2, Stored};
+use std::ops::{Add, AddAssign, Mul, MulAssign, Sub, SubAssign};
+"""
+    generics, element = "<R: Stored, K: FieldKernel<R>>", "Element<R, K>"
+    meanings = each("repr_of r ≡ {} (repr_of x) (bit_of y)", "K.product")
+    bodies = {"add": "self + Element::from(bit)", "sub": "self + bit", "mul": "times_bit(self, bit)"}
+    yield from values(generics, element, "Gf2", "bit", meanings, bodies)
+    bodies = {"add": "*self += Element::from(bit);", "sub": "*self += bit;", "mul": "*self = times_bit(value(self), bit);"}
+    yield from in_place(generics, element, "Gf2", "bit", meanings, bodies)
+
+
+def packings():
+    yield """\
+// The operators of packings with an element on the left, one of the packing's field, and of packings of `Ghash128` with an element of
+// `BinaryField128` on either side. It, or its image, stands in every lane.
+ghost use Rattle.std.specs.Prelude.{◌≡◌, bit_xor, map, replicate};
+ghost use Rattle.field_base.specs.Remainder.{ghash_modulus, mul_mod};
+ghost use Rattle.field_element.specs.Element.{repr_of};
+ghost use Rattle.field_element.specs.GhashLanes.{ghash_image};
+ghost use Rattle.packed_lanes.specs.Lanes.{lane_by_lane};
+ghost use Rattle.packed_lanes.specs.Packed.{EachLaneIs, lanes_of};
+
+use crate::element::{Element, HasPacking};
+use crate::names::{BinaryField128, Ghash128, PackedGhash128};
+use field_base::Stored;
+use packed_lanes::Packed;
+use std::ops::{Add, AddAssign, Mul, MulAssign, Sub, SubAssign};
+"""
+    mirrored = {"add": "other + self", "sub": "other - self", "mul": "other * self"}
+
+    generics, packing = "<R: Stored, K: HasPacking<R>, const N: usize>", "Packed<Element<R, K>, N>"
+    meanings = each(
+        "\n        map repr_of (lanes_of r) ≡ lane_by_lane {} (map repr_of (lanes_of y)) (map repr_of (replicate N x))", "K.product"
+    )
+    yield from values(generics, "Element<R, K>", packing, "other", meanings, mirrored, packing)
+
+    field, packing = "BinaryField128", "PackedGhash128"
+    meanings = each("EachLaneIs repr_of r {} y (ghash_image (repr_of x))", "(mul_mod 128 ghash_modulus)")
+    yield from values("", field, packing, "other", meanings, mirrored, packing)
+
+    image = "Ghash128::from(other)"
+    meanings = each("EachLaneIs repr_of r {} x (ghash_image (repr_of y))", "(mul_mod 128 ghash_modulus)")
+    bodies = {"add": f"self + {image}", "sub": f"self - {image}", "mul": f"self * {image}"}
+    yield from values("", packing, field, "other", meanings, bodies)
+    bodies = {"add": f"*self += {image};", "sub": f"*self -= {image};", "mul": f"*self *= {image};"}
+    yield from in_place("", packing, field, "other", meanings, bodies)
+
+
 if __name__ == "__main__":
     keep_all(
         "make_operator_impls.py",
         {
             "packed_lanes/src/packed/values/operators.rt": packed,
+            "field_element/src/element/operators/joined.rt": joined,
+            "field_element/src/element/bits/operators.rt": bits,
+            "field_element/src/packings/operators.rt": packings,
         },
     )

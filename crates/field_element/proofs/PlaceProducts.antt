@@ -5,7 +5,7 @@ use Rattle.std.specs.Prelude.{slice_set}
 use Rattle.std.specs.Simd.Lanes.{zip2}
 use Rattle.std.proofs.lemmas.List.{append-nil, drop-map, drop_all, get_or-map, length-map, map-append, map-set, take_all}
 use Rattle.std.specs.List.{take-map}
-use borrow.Rule.Slice.PartMut.{mid_of, put_mid}
+use borrow.Rule.Slice.PartMut.{mid_of, put_mid, same_len_mid}
 use Rattle.packed_lanes.specs.Lanes.{lane_by_lane}
 
 -- the first i elements of xs joined by f to those of ys at their places, and the others of xs as they were
@@ -104,19 +104,23 @@ module _ {A : Type 0} (repr : A → ℕ) (f : ℕ → ℕ → ℕ) where
       ∙ place_joined f i (map repr old) ys (omega (arith, length-map old repr, within)) (long ∙ sym (length-map old repr))
       ∙ ap (λ (k : ℕ). joined_before f k (map repr old) ys) next
 
-  -- a block more is replaced
+  -- a block more is replaced, and the list is as long as before
   pub block_replaced : (i k n m : ℕ) (old now right part : List A) → k ≡ n → m ≡ i + n → i + n ≤ length old
-      → length right ≡ length old → map repr part ≡ lane_by_lane f (map repr (mid_of i k now)) (map repr (mid_of i k right))
-      → map repr now ≡ joined_before f i (map repr old) (map repr right)
-      → map repr (put_mid i k now part) ≡ joined_before f m (map repr old) (map repr right)
-  block_replaced i k n m old now right part same next room long of_part so_far =
-      let ys = map repr right in
-      ap (λ (j : ℕ). map repr (put_mid i j now part)) same
-      ∙ numbers_put i n now part
-      ∙ ap (put_mid i n (map repr now)) (of_part ∙ ap₂ (lane_by_lane f) (mid now) (mid right))
-      ∙ ap (λ (us : List ℕ). put_mid i n us (lane_by_lane f (mid_of i n us) (mid_of i n ys))) so_far
-      ∙ block_joined f n i (map repr old) ys (omega (arith, length-map old repr, room)) (length-map right repr ∙ long ∙ sym (length-map old repr))
-      ∙ ap (λ (j : ℕ). joined_before f j (map repr old) ys) (sym next)
+      → length right ≡ length old → length part ≡ length (mid_of i k now)
+      → map repr part ≡ lane_by_lane f (map repr (mid_of i k now)) (map repr (mid_of i k right))
+      → (length now ≡ length old) × (map repr now ≡ joined_before f i (map repr old) (map repr right))
+      → (length (put_mid i k now part) ≡ length old)
+      × (map repr (put_mid i k now part) ≡ joined_before f m (map repr old) (map repr right))
+  block_replaced i k n m old now right part same next room long lent of_part so_far =
+      let ys = map repr right in (
+        same_len_mid i k now part lent ∙ so_far.0,
+        ap (λ (j : ℕ). map repr (put_mid i j now part)) same
+            ∙ numbers_put i n now part
+            ∙ ap (put_mid i n (map repr now)) (of_part ∙ ap₂ (lane_by_lane f) (mid now) (mid right))
+            ∙ ap (λ (us : List ℕ). put_mid i n us (lane_by_lane f (mid_of i n us) (mid_of i n ys))) so_far.1
+            ∙ block_joined f n i (map repr old) ys (omega (arith, length-map old repr, room)) (length-map right repr ∙ long ∙ sym (length-map old repr))
+            ∙ ap (λ (j : ℕ). joined_before f j (map repr old) ys) (sym next),
+      )
     where
       mid : (xs : List A) → map repr (mid_of i k xs) ≡ mid_of i n (map repr xs)
       mid xs = ap (λ (j : ℕ). map repr (mid_of i j xs)) same ∙ numbers_of_mid i n xs

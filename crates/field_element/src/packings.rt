@@ -1,17 +1,16 @@
-// Packings of elements, and the operators of packings of `Ghash128` with an element of `BinaryField128` on the right, whose image
-// stands in every lane.
-ghost use Rattle.std.specs.Prelude.{◌≡◌, bit_xor, map, replicate};
+// Packings of elements, and packings of `Ghash128` as an algebra over `BinaryField128`, whose image stands in every lane.
+ghost use Rattle.std.specs.Prelude.{◌≡◌, map, replicate};
 ghost use Rattle.field_base.specs.Operators.{algebra_gives};
 ghost use Rattle.field_base.specs.Remainder.{ghash_modulus, mul_mod};
 ghost use Rattle.field_element.specs.Element.{repr_of};
 ghost use Rattle.field_element.specs.GhashLaneLemmas.{ghash_image-below, ghash_lanes-one};
 ghost use Rattle.field_element.specs.GhashLaneLemmas.{ghash_lanes-product, ghash_lanes-same, ghash_lanes-sum};
 ghost use Rattle.field_element.specs.GhashLanes.{ghash_image, ghash_image_lanes};
-ghost use Rattle.packed_lanes.specs.Packed.{EachLaneIs, lanes_of};
+ghost use Rattle.packed_lanes.specs.Packed.{lanes_of};
 ghost use Rattle.field_base.specs.Chunks.{joined};
 
 mod bytes;
-mod left;
+mod operators;
 
 use crate::element::{Element, HasPacking};
 use crate::names::{BinaryField128, Ghash128, PackedGhash128};
@@ -20,7 +19,6 @@ pub use crate::packings::bytes::{read_bytes, write_bytes};
 use field_base::Stored;
 use field_base::traits::Algebra;
 use packed_lanes::WiderField;
-use std::ops::{Add, AddAssign, Mul, MulAssign, Sub, SubAssign};
 
 impl<R: Stored, K: HasPacking<R>> WiderField for Element<R, K> {}
 
@@ -30,66 +28,6 @@ impl From<BinaryField128> for PackedGhash128 {
     #[inline]
     fn from(element: BinaryField128) -> PackedGhash128 {
         PackedGhash128::from(Ghash128::from(element))
-    }
-}
-
-impl Add<BinaryField128> for PackedGhash128 {
-    type Output = PackedGhash128;
-
-    ghost add_gives = { λ x y r. EachLaneIs repr_of r bit_xor x (ghash_image (repr_of y)) };
-
-    #[inline]
-    fn add(self, other: BinaryField128) -> PackedGhash128 {
-        self + Ghash128::from(other)
-    }
-}
-
-impl AddAssign<BinaryField128> for PackedGhash128 {
-    ghost add_assign_gives = { λ x y r. EachLaneIs repr_of r bit_xor x (ghash_image (repr_of y)) };
-
-    #[inline]
-    fn add_assign(&mut self, other: BinaryField128) {
-        *self += Ghash128::from(other);
-    }
-}
-
-impl Sub<BinaryField128> for PackedGhash128 {
-    type Output = PackedGhash128;
-
-    ghost sub_gives = { λ x y r. EachLaneIs repr_of r bit_xor x (ghash_image (repr_of y)) };
-
-    #[inline]
-    fn sub(self, other: BinaryField128) -> PackedGhash128 {
-        self - Ghash128::from(other)
-    }
-}
-
-impl SubAssign<BinaryField128> for PackedGhash128 {
-    ghost sub_assign_gives = { λ x y r. EachLaneIs repr_of r bit_xor x (ghash_image (repr_of y)) };
-
-    #[inline]
-    fn sub_assign(&mut self, other: BinaryField128) {
-        *self -= Ghash128::from(other);
-    }
-}
-
-impl Mul<BinaryField128> for PackedGhash128 {
-    type Output = PackedGhash128;
-
-    ghost mul_gives = { λ x y r. EachLaneIs repr_of r (mul_mod 128 ghash_modulus) x (ghash_image (repr_of y)) };
-
-    #[inline]
-    fn mul(self, other: BinaryField128) -> PackedGhash128 {
-        self * Ghash128::from(other)
-    }
-}
-
-impl MulAssign<BinaryField128> for PackedGhash128 {
-    ghost mul_assign_gives = { λ x y r. EachLaneIs repr_of r (mul_mod 128 ghash_modulus) x (ghash_image (repr_of y)) };
-
-    #[inline]
-    fn mul_assign(&mut self, other: BinaryField128) {
-        *self *= Ghash128::from(other);
     }
 }
 

@@ -1,15 +1,17 @@
 // Elements of GF(2) in a field: the operators with a bit on the right, the product with one on the left, and the field as an
 // algebra over GF(2).
-ghost use Rattle.std.specs.Prelude.{◌≡◌, ◌<◌, ◌^◌, ℕ, bit_xor, refl};
+ghost use Rattle.std.specs.Prelude.{◌≡◌, ◌<◌, ◌^◌, ℕ, refl};
 ghost use Rattle.field_base.specs.Bit.{bit_number as bit_of};
 ghost use Rattle.field_base.specs.Operators.{given};
 ghost use Rattle.field_element.specs.BitProductLemmas.{bit_product};
 ghost use Rattle.field_element.specs.Element.{repr_of};
 
-use crate::element::{Element, value};
+mod operators;
+
+use crate::element::Element;
 use field_base::traits::{Algebra, TowerLevel};
 use field_base::{FieldKernel, Gf2, Stored};
-use std::ops::{Add, AddAssign, Mul, MulAssign, Sub, SubAssign};
+use std::ops::Mul;
 
 // The product of a word and a bit, which is the word or 0.
 #[inline]
@@ -20,66 +22,6 @@ fn times_bit<R: Stored, K: FieldKernel<R>>(x: Element<R, K>, bit: Gf2) -> Elemen
         Element::of_word(R::ZERO)
     } else {
         x
-    }
-}
-
-impl<R: Stored, K: FieldKernel<R>> Add<Gf2> for Element<R, K> {
-    type Output = Element<R, K>;
-
-    ghost add_gives = { λ x y r. repr_of r ≡ bit_xor (repr_of x) (bit_of y) };
-
-    #[inline]
-    fn add(self, bit: Gf2) -> Element<R, K> {
-        self + Element::from(bit)
-    }
-}
-
-impl<R: Stored, K: FieldKernel<R>> AddAssign<Gf2> for Element<R, K> {
-    ghost add_assign_gives = { λ x y r. repr_of r ≡ bit_xor (repr_of x) (bit_of y) };
-
-    #[inline]
-    fn add_assign(&mut self, bit: Gf2) {
-        *self += Element::from(bit);
-    }
-}
-
-impl<R: Stored, K: FieldKernel<R>> Sub<Gf2> for Element<R, K> {
-    type Output = Element<R, K>;
-
-    ghost sub_gives = { λ x y r. repr_of r ≡ bit_xor (repr_of x) (bit_of y) };
-
-    #[inline]
-    fn sub(self, bit: Gf2) -> Element<R, K> {
-        self + bit
-    }
-}
-
-impl<R: Stored, K: FieldKernel<R>> SubAssign<Gf2> for Element<R, K> {
-    ghost sub_assign_gives = { λ x y r. repr_of r ≡ bit_xor (repr_of x) (bit_of y) };
-
-    #[inline]
-    fn sub_assign(&mut self, bit: Gf2) {
-        *self += bit;
-    }
-}
-
-impl<R: Stored, K: FieldKernel<R>> Mul<Gf2> for Element<R, K> {
-    type Output = Element<R, K>;
-
-    ghost mul_gives = { λ x y r. repr_of r ≡ K.product (repr_of x) (bit_of y) };
-
-    #[inline]
-    fn mul(self, bit: Gf2) -> Element<R, K> {
-        times_bit(self, bit)
-    }
-}
-
-impl<R: Stored, K: FieldKernel<R>> MulAssign<Gf2> for Element<R, K> {
-    ghost mul_assign_gives = { λ x y r. repr_of r ≡ K.product (repr_of x) (bit_of y) };
-
-    #[inline]
-    fn mul_assign(&mut self, bit: Gf2) {
-        *self = times_bit(value(self), bit);
     }
 }
 

@@ -7,10 +7,22 @@ ghost use Rattle.field_element.specs.Coefficients.{coefficients_of_number, coeff
 ghost use Rattle.field_element.specs.Coefficients.{same_coefficients, stored_number, stored_words};
 
 use crate::element::{Coefficients, Element};
+use crate::names::Poly64;
 use field_base::{Joins, Stored};
 use std::marker::PhantomData;
 use word_cubic::{HoldsTriple, Triple};
 use word_polynomial::{CubicKernel, Poly64Kernel};
+
+// The elements 0 and 1 of `Poly64`: the value of a constant can name none that a trait provides.
+const ZERO_COEFFICIENT: Poly64 = Element {
+    repr: 0,
+    field: PhantomData,
+};
+
+const ONE_COEFFICIENT: Poly64 = Element {
+    repr: 1,
+    field: PhantomData,
+};
 
 impl Stored for Coefficients {
     ghost number = { stored_number };
@@ -22,39 +34,13 @@ impl Stored for Coefficients {
     ghost number_of = { λ n. triple-chunks 64 n };
 
     const ZERO: Coefficients = Coefficients {
-        coefficients: [
-            Element {
-                repr: 0,
-                field: PhantomData,
-            },
-            Element {
-                repr: 0,
-                field: PhantomData,
-            },
-            Element {
-                repr: 0,
-                field: PhantomData,
-            },
-        ],
+        coefficients: [ZERO_COEFFICIENT; 3],
     };
 
     ghost ZERO = { coefficients_of_words 0 0 0 (lit< tt) (lit< tt) (lit< tt) };
 
     const ONE: Coefficients = Coefficients {
-        coefficients: [
-            Element {
-                repr: 1,
-                field: PhantomData,
-            },
-            Element {
-                repr: 0,
-                field: PhantomData,
-            },
-            Element {
-                repr: 0,
-                field: PhantomData,
-            },
-        ],
+        coefficients: [ONE_COEFFICIENT, ZERO_COEFFICIENT, ZERO_COEFFICIENT],
     };
 
     ghost ONE = { coefficients_of_words 1 0 0 (lit< tt) (lit< tt) (lit< tt) };
@@ -88,10 +74,7 @@ impl HoldsTriple for Coefficients {
                 repr: 3,
                 field: PhantomData,
             },
-            Element {
-                repr: 1,
-                field: PhantomData,
-            },
+            ONE_COEFFICIENT,
         ],
     };
 

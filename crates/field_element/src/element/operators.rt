@@ -1,71 +1,15 @@
 // The operators of elements, of one field or of two of which one contains the other, and sums and products of many.
-ghost use Rattle.std.specs.Prelude.{◌≡◌, ◌≢◌, ◌<◌, ◌^◌, ℕ, bit_xor};
+ghost use Rattle.std.specs.Prelude.{◌≡◌, ◌≢◌, ◌<◌, ◌^◌, ℕ};
 ghost use Rattle.field_base.specs.Powers.{product_of, sum_of};
+
+mod joined;
 
 use crate::element::{Element, value};
 use field_base::traits::{product_of_items, sum_of_items};
-use field_base::{Contains, FieldKernel, Joins, Stored};
+use field_base::{FieldKernel, Stored};
 use std::iter::{Product, Sum};
 use std::marker::PhantomData;
-use std::ops::{Add, AddAssign, Div, DivAssign, Mul, MulAssign, Neg, Sub, SubAssign};
-
-impl<R: Stored, K: Joins<R, S, J>, S: Stored, J: FieldKernel<S>> Add<Element<S, J>>
-    for Element<R, K> {
-    type Output = Element<K::Upper, K::Field>;
-
-    ghost add_gives = { λ x y r.
-        let left = K.Field.Contains-1.image (R.number x.repr) in
-        let right = K.Field.Contains-2.image (S.number y.repr) in
-        K.Upper.number r.repr ≡ bit_xor left right };
-
-    #[inline]
-    fn add(self, other: Element<S, J>) -> Element<K::Upper, K::Field> {
-        let left = <K::Field as Contains<K::Upper, R, K>>::embed(self.repr);
-        let right = <K::Field as Contains<K::Upper, S, J>>::embed(other.repr);
-        Element {
-            repr: left.xor(right),
-            field: PhantomData,
-        }
-    }
-}
-
-impl<R: Stored, K: Contains<R, S, J>, S: Stored, J: FieldKernel<S>> AddAssign<Element<S, J>>
-    for Element<R, K> {
-    ghost add_assign_gives = { λ x y r. R.number r.repr ≡ bit_xor (R.number x.repr) (K.image (S.number y.repr)) };
-
-    #[inline]
-    fn add_assign(&mut self, other: Element<S, J>) {
-        *self = Element {
-            repr: self.repr.xor(K::embed(other.repr)),
-            field: PhantomData,
-        };
-    }
-}
-
-impl<R: Stored, K: Joins<R, S, J>, S: Stored, J: FieldKernel<S>> Sub<Element<S, J>>
-    for Element<R, K> {
-    type Output = Element<K::Upper, K::Field>;
-
-    ghost sub_gives = { λ x y r.
-        let left = K.Field.Contains-1.image (R.number x.repr) in
-        let right = K.Field.Contains-2.image (S.number y.repr) in
-        K.Upper.number r.repr ≡ bit_xor left right };
-
-    #[inline]
-    fn sub(self, other: Element<S, J>) -> Element<K::Upper, K::Field> {
-        self + other
-    }
-}
-
-impl<R: Stored, K: Contains<R, S, J>, S: Stored, J: FieldKernel<S>> SubAssign<Element<S, J>>
-    for Element<R, K> {
-    ghost sub_assign_gives = { λ x y r. R.number r.repr ≡ bit_xor (R.number x.repr) (K.image (S.number y.repr)) };
-
-    #[inline]
-    fn sub_assign(&mut self, other: Element<S, J>) {
-        *self += other;
-    }
-}
+use std::ops::{Div, DivAssign, Neg};
 
 impl<R: Stored, K: FieldKernel<R>> Neg for Element<R, K> {
     type Output = Element<R, K>;
@@ -75,39 +19,6 @@ impl<R: Stored, K: FieldKernel<R>> Neg for Element<R, K> {
     #[inline]
     fn neg(self) -> Element<R, K> {
         self
-    }
-}
-
-impl<R: Stored, K: Joins<R, S, J>, S: Stored, J: FieldKernel<S>> Mul<Element<S, J>>
-    for Element<R, K> {
-    type Output = Element<K::Upper, K::Field>;
-
-    ghost mul_gives = { λ x y r.
-        let left = K.Field.Contains-1.image (R.number x.repr) in
-        let right = K.Field.Contains-2.image (S.number y.repr) in
-        K.Upper.number r.repr ≡ K.Field.product left right };
-
-    #[inline]
-    fn mul(self, other: Element<S, J>) -> Element<K::Upper, K::Field> {
-        let left = <K::Field as Contains<K::Upper, R, K>>::embed(self.repr);
-        let right = <K::Field as Contains<K::Upper, S, J>>::embed(other.repr);
-        Element {
-            repr: K::Field::multiply(left, right),
-            field: PhantomData,
-        }
-    }
-}
-
-impl<R: Stored, K: Contains<R, S, J>, S: Stored, J: FieldKernel<S>> MulAssign<Element<S, J>>
-    for Element<R, K> {
-    ghost mul_assign_gives = { λ x y r. R.number r.repr ≡ K.product (R.number x.repr) (K.image (S.number y.repr)) };
-
-    #[inline]
-    fn mul_assign(&mut self, other: Element<S, J>) {
-        *self = Element {
-            repr: K::multiply(self.repr, K::embed(other.repr)),
-            field: PhantomData,
-        };
     }
 }
 

@@ -6,7 +6,7 @@ ghost use Rattle.packed_lanes.specs.Lanes.{lane_by_lane};
 
 use crate::names::Rijndael8b;
 use std::simd::prelude::*;
-use word_polynomial::{multiply_16_bytes, multiply_32_bytes};
+use word_polynomial::multiply_byte_lanes;
 
 /// Multiplies the elements of `left` by those of `right`, place by place.
 pub(crate) fn multiply_bytes(left: &mut [Rijndael8b], right: &[Rijndael8b])
@@ -16,44 +16,29 @@ pub(crate) fn multiply_bytes(left: &mut [Rijndael8b], right: &[Rijndael8b])
     let pairs = right.len() / 32;
     for pair in 0..pairs {
         let start = 32 * pair;
-        multiply_32(&mut left[start..start + 32], &right[start..start + 32]);
+        multiply_block::<32>(&mut left[start..start + 32], &right[start..start + 32]);
     }
     for block in 2 * pairs..right.len() / 16 {
         let start = 16 * block;
-        multiply_16(&mut left[start..start + 16], &right[start..start + 16]);
+        multiply_block::<16>(&mut left[start..start + 16], &right[start..start + 16]);
     }
     for place in right.len() / 16 * 16..right.len() {
         left[place] = left[place] * right[place];
     }
 }
 
-// Multiplies thirty-two elements.
+// Multiplies `N` elements.
 #[inline(always)]
-fn multiply_32(left: &mut [Rijndael8b], right: &[Rijndael8b])
-    requires left { length left.old ≡ 32 }
-    requires right { length right.now ≡ 32 }
+fn multiply_block<const N: usize>(left: &mut [Rijndael8b], right: &[Rijndael8b])
+    requires left { length left.old ≡ N }
+    requires right { length right.now ≡ N }
     ensures { map repr_of left.new ≡ lane_by_lane (mul_mod 8 aes_modulus) (map repr_of left.old) (map repr_of right.now) }
 {
-    let mut factors = [0; 32];
+    let mut factors = [0; N];
     read_bytes(left, factors.as_mut_slice());
-    let mut others = [0; 32];
+    let mut others = [0; N];
     read_bytes(right, others.as_mut_slice());
-    let products = multiply_32_bytes(u8x32::from_array(factors), u8x32::from_array(others));
-    write_bytes(left, products.to_array().as_slice());
-}
-
-// Multiplies sixteen elements.
-#[inline(always)]
-fn multiply_16(left: &mut [Rijndael8b], right: &[Rijndael8b])
-    requires left { length left.old ≡ 16 }
-    requires right { length right.now ≡ 16 }
-    ensures { map repr_of left.new ≡ lane_by_lane (mul_mod 8 aes_modulus) (map repr_of left.old) (map repr_of right.now) }
-{
-    let mut factors = [0; 16];
-    read_bytes(left, factors.as_mut_slice());
-    let mut others = [0; 16];
-    read_bytes(right, others.as_mut_slice());
-    let products = multiply_16_bytes(u8x16::from_array(factors), u8x16::from_array(others));
+    let products = multiply_byte_lanes(Simd::from_array(factors), Simd::from_array(others));
     write_bytes(left, products.to_array().as_slice());
 }
 

@@ -1,6 +1,5 @@
-use Rattle.std.proofs.Common.{◌≡◌, ◌∙◌, ◌+◌, ◌-◌, ◌*◌, ◌<◌, ◌≤◌, length, map, sym, ap, arith}
+use Rattle.std.proofs.Common.{◌≡◌, ◌∙◌, ◌+◌, ◌*◌, ◌<◌, ◌≤◌, length, map, sym, ap, arith}
 use Rattle.std.proofs.lemmas.List.{get_or-map, length-map, length-set}
-use borrow.Rule.Slice.PartMut.{same_len_mid}
 use Rattle.field_base.specs.Remainder.{aes_modulus, mul_mod}
 use Rattle.field_element.specs.Element.{repr_of}
 use Rattle.field_element.proofs.PlaceProducts.{all_replaced, block_replaced, place_replaced}
@@ -8,29 +7,15 @@ use Rattle.field_element.proofs.packings.bytes.multiply_bytes.Goals as goal
 
 pub loop-pair-preserved : goal.loop-pair-preserved
 loop-pair-preserved c =
-    let pair = c.loop-pair.pair in
-    let left = c.args.left.now in
-    let test = c.loop-pair-test.true in
-    let same : 32 * pair + 32 - 32 * pair ≡ 32 = omega arith in
-    let next : 32 * (pair + 1) ≡ 32 * pair + 32 = omega arith in
-    let room : 32 * pair + 32 ≤ length left = omega (arith, c.requires, test) in (
-      same_len_mid _ _ c.loop-pair.left c.multiply_32.new.left c.multiply_32.auto.left ∙ c.loop-pair.invariant.0,
-      block_replaced repr_of (mul_mod 8 aes_modulus) (32 * pair) _ 32 (32 * (pair + 1)) left c.loop-pair.left c.args.right.now
-          c.multiply_32.new.left same next room (sym c.requires) c.multiply_32.ensures c.loop-pair.invariant.1,
-    )
+    block_replaced repr_of (mul_mod 8 aes_modulus) (32 * c.loop-pair.pair) _ 32 (32 * (c.loop-pair.pair + 1)) c.args.left.now c.loop-pair.left
+    c.args.right.now c.multiply_block.new.left (omega arith) (omega arith) (omega (arith, c.requires, c.loop-pair-test.true)) (sym c.requires)
+    c.multiply_block.auto.left c.multiply_block.ensures c.loop-pair.invariant
 
 pub loop-block-preserved : goal.loop-block-preserved
 loop-block-preserved c =
-    let block = c.loop-block.block in
-    let left = c.args.left.now in
-    let test = c.loop-block-test.true in
-    let same : 16 * block + 16 - 16 * block ≡ 16 = omega arith in
-    let next : 16 * (block + 1) ≡ 16 * block + 16 = omega arith in
-    let room : 16 * block + 16 ≤ length left = omega (arith, c.requires, test) in (
-      same_len_mid _ _ c.loop-block.left c.multiply_16.new.left c.multiply_16.auto.left ∙ c.loop-block.invariant.0,
-      block_replaced repr_of (mul_mod 8 aes_modulus) (16 * block) _ 16 (16 * (block + 1)) left c.loop-block.left c.args.right.now
-          c.multiply_16.new.left same next room (sym c.requires) c.multiply_16.ensures c.loop-block.invariant.1,
-    )
+    block_replaced repr_of (mul_mod 8 aes_modulus) (16 * c.loop-block.block) _ 16 (16 * (c.loop-block.block + 1)) c.args.left.now c.loop-block.left
+    c.args.right.now c.multiply_block-in-loop-block.new.left (omega arith) (omega arith) (omega (arith, c.requires, c.loop-block-test.true)) (sym c.requires)
+    c.multiply_block-in-loop-block.auto.left c.multiply_block-in-loop-block.ensures c.loop-block.invariant
 
 pub loop-place-preserved : goal.loop-place-preserved
 loop-place-preserved c =

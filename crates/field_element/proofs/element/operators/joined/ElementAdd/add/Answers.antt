@@ -1,5 +1,5 @@
 use Rattle.std.proofs.lemmas.Nat.{xor_lt}
-use Rattle.field_element.proofs.element.operators.ElementAdd.add.Goals as goal
+use Rattle.field_element.proofs.element.operators.joined.ElementAdd.add.Goals as goal
 
 pub invariant_of-result : goal.invariant_of-result
 invariant_of-result g c = record {

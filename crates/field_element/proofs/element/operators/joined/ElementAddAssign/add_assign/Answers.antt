@@ -1,5 +1,5 @@
 use Rattle.std.proofs.lemmas.Nat.{xor_lt}
-use Rattle.field_element.proofs.element.operators.ElementAddAssign.add_assign.Goals as goal
+use Rattle.field_element.proofs.element.operators.joined.ElementAddAssign.add_assign.Goals as goal
 
 pub invariant_of-self : goal.invariant_of-self
 invariant_of-self g c = record {
