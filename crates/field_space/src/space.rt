@@ -81,7 +81,7 @@ pub trait BasedVectorSpace<F: PrimeCharacteristicRing>: PrimeCharacteristicRing 
 
     /// The element whose coefficient i is `f(i)`. `f` is called for 0, 1, .., below the dimension, in order, each once, and needs to
     /// take these indexes alone.
-    #[tactic(auto, using(crate::proofs::Spaces::element_below))]
+    #[tactic(auto, using(crate::proofs::Spaces::element_below, field_base::proofs::Calls::may_call))]
     final fn from_basis_coefficients_fn<G: FnMut(usize) -> F>(mut f: G) -> Self
         requires { CallableAtEachTurn (index_steps DIMENSION) (λ p i q. (x : F) × G.step p i x q) G.pre 0 f }
         ensures { ReturnsCoefficients F.width DIMENSION F.repr G.step f (Self.repr result) }

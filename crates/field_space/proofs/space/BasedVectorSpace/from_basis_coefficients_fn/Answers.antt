@@ -1,16 +1,12 @@
 use Rattle.std.proofs.Common.{◌≡◌, ◌<◌, ◌∙◌, ap, arith, rules}
 use Rattle.field_base.specs.Chunks.{chunks}
-use Rattle.field_base.proofs.Calls.{may_call, may_go_on}
+use Rattle.field_base.proofs.Calls.{may_go_on}
 use Rattle.field_space.proofs.Spaces.{more_coefficients, no_coefficients}
 use Rattle.field_space.proofs.space.BasedVectorSpace.from_basis_coefficients_fn.Goals as goal
 
 pub loop-i-init : goal.loop-i-init
 loop-i-init g c =
     (c.requires, no_coefficients _ _ _ _ g.Self.Represented.repr _ _ c.ZERO-element.ensures g.met.Self.PrimeCharacteristicRing.zero_law)
-
-pub f-requires : goal.f-requires
-f-requires g c =
-    let inside : c.loop-i.i < g.Self.BasedVectorSpace.DIMENSION = search rules in may_call _ _ inside c.loop-i.invariant.0
 
 pub loop-i-preserved : goal.loop-i-preserved
 loop-i-preserved g c =
