@@ -474,6 +474,55 @@ use field_base::Unsigned;
         )
 
 
+STREAMS = Template("""\
+/// The words of $bits bits of the bytes of elements.
+pub type U${bits}Stream<I, E> = WordStream<u$bits, ByteStream<I, E>>;
+
+/// The words of $bits bits of the bytes of the elements of an iterator, as of [`into_word_stream`].
+pub fn into_u${bits}_stream<I: Iterator<Item = E>, E: RawDataSerializable>(
+    elements: I,
+) -> U${bits}Stream<I, E>
+    ensures { StreamsWords I.can_next I.next_gives I.remaining E.NUM_BYTES E.repr $size (λ w. w) elements result }
+{
+    into_word_stream(elements)
+}
+
+/// The words of $bits bits of the bytes of `N` streams of elements.
+pub type ParallelU${bits}Streams<I, E, const N: usize> = ParallelWordStreams<
+    u$bits,
+    ParallelByteStreams<I, E, N>,
+    N,
+>;
+
+/// The words of $bits bits of the bytes of `N` streams of elements side by side, as of [`into_parallel_word_streams`].
+pub fn into_parallel_u${bits}_streams<
+    I: Iterator<Item = [E; N]>,
+    E: RawDataSerializable,
+    const N: usize,
+>(elements: I) -> ParallelU${bits}Streams<I, E, N>
+    ensures { StreamsWordRows I.can_next I.next_gives I.remaining N E.NUM_BYTES E.repr $size (λ w. w) elements result }
+{
+    into_parallel_word_streams(elements)
+}
+""")
+
+
+def streams():
+    yield """\
+// Streams of words of 32 and of 64 bits, of one iterator of elements and of several side by side.
+ghost use Rattle.std.specs.Prelude.{◌≡◌};
+ghost use Rattle.field_bytes.specs.Words.{StreamsWordRows, StreamsWords};
+
+use crate::parallel::ParallelByteStreams;
+use crate::parallel_words::{ParallelWordStreams, into_parallel_word_streams};
+use crate::serializable::RawDataSerializable;
+use crate::streams::ByteStream;
+use crate::words::{WordStream, into_word_stream};
+"""
+    for bits in (32, 64):
+        yield STREAMS.substitute(bits=bits, size=bits // 8)
+
+
 # ---- all integers of Rust as numbers (field_integers)
 
 INTEGER = Template("""\
@@ -516,6 +565,7 @@ if __name__ == "__main__":
             "bits_rows/src/words/impls.rt": row_words,
             "bits_rows/src/pairs.rt": row_pairs,
             "field_bytes/src/little_endian/impls.rt": little_endian,
+            "field_bytes/src/sized_words.rt": streams,
             "field_integers/src/integer/impls.rt": integers,
         },
     )

@@ -19,20 +19,6 @@ pub struct ParallelWordStreams<W, B, const N: usize> {
     words: PhantomData<W>,
 }
 
-/// The words of 32 bits of the bytes of `N` streams of elements.
-pub type ParallelU32Streams<I, E, const N: usize> = ParallelWordStreams<
-    u32,
-    ParallelByteStreams<I, E, N>,
-    N,
->;
-
-/// The words of 64 bits of the bytes of `N` streams of elements.
-pub type ParallelU64Streams<I, E, const N: usize> = ParallelWordStreams<
-    u64,
-    ParallelByteStreams<I, E, N>,
-    N,
->;
-
 // The words of the next rows of bytes, the lowest first, as many rows as a word has bytes, and how many there were. Where the
 // iterator ends before, the missing bytes are 0.
 fn take_words<W: LittleEndian, B: Iterator<Item = [u8; N]>, const N: usize>(
@@ -125,26 +111,4 @@ pub fn into_parallel_word_streams<
         ended: false,
         words: PhantomData,
     }
-}
-
-/// The words of 32 bits of the bytes of `N` streams of elements side by side, as of [`into_parallel_word_streams`].
-pub fn into_parallel_u32_streams<
-    I: Iterator<Item = [E; N]>,
-    E: RawDataSerializable,
-    const N: usize,
->(elements: I) -> ParallelU32Streams<I, E, N>
-    ensures { StreamsWordRows I.can_next I.next_gives I.remaining N E.NUM_BYTES E.repr 4 (λ w. w) elements result }
-{
-    into_parallel_word_streams(elements)
-}
-
-/// The words of 64 bits of the bytes of `N` streams of elements side by side, as of [`into_parallel_word_streams`].
-pub fn into_parallel_u64_streams<
-    I: Iterator<Item = [E; N]>,
-    E: RawDataSerializable,
-    const N: usize,
->(elements: I) -> ParallelU64Streams<I, E, N>
-    ensures { StreamsWordRows I.can_next I.next_gives I.remaining N E.NUM_BYTES E.repr 8 (λ w. w) elements result }
-{
-    into_parallel_word_streams(elements)
 }

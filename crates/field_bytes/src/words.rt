@@ -17,12 +17,6 @@ pub struct WordStream<W, B> {
     words: PhantomData<W>,
 }
 
-/// The words of 32 bits of the bytes of elements.
-pub type U32Stream<I, E> = WordStream<u32, ByteStream<I, E>>;
-
-/// The words of 64 bits of the bytes of elements.
-pub type U64Stream<I, E> = WordStream<u64, ByteStream<I, E>>;
-
 impl<W: LittleEndian, B: ByteSource> Iterator for WordStream<W, B> {
     type Item = W;
 
@@ -60,22 +54,4 @@ pub fn into_word_stream<W: LittleEndian, I: Iterator<Item = E>, E: RawDataSerial
         ended: false,
         words: PhantomData,
     }
-}
-
-/// The words of 32 bits of the bytes of the elements of an iterator, as of [`into_word_stream`].
-pub fn into_u32_stream<I: Iterator<Item = E>, E: RawDataSerializable>(
-    elements: I,
-) -> U32Stream<I, E>
-    ensures { StreamsWords I.can_next I.next_gives I.remaining E.NUM_BYTES E.repr 4 (λ w. w) elements result }
-{
-    into_word_stream(elements)
-}
-
-/// The words of 64 bits of the bytes of the elements of an iterator, as of [`into_word_stream`].
-pub fn into_u64_stream<I: Iterator<Item = E>, E: RawDataSerializable>(
-    elements: I,
-) -> U64Stream<I, E>
-    ensures { StreamsWords I.can_next I.next_gives I.remaining E.NUM_BYTES E.repr 8 (λ w. w) elements result }
-{
-    into_word_stream(elements)
 }
