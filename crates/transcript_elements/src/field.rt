@@ -1,5 +1,5 @@
 // Fields whose elements go into transcripts.
-ghost use Rattle.std.specs.Prelude.{◌≡◌, ◌*◌, ◌++◌, ◌<◌, ◌↔◌, Bool, false, true, IfErr, IfOk, IsErr};
+ghost use Rattle.std.specs.Prelude.{◌≡◌, ◌*◌, ◌++◌, ◌^◌, ◌<◌, ◌↔◌, Bool, false, true, IfErr, IfOk, IsErr};
 ghost use Rattle.std.specs.Prelude.{List, length, OnErr, OnOk, refl, ℕ, take, Ok};
 ghost use Rattle.std.proofs.Common.{◌∙◌};
 ghost use Rattle.transcript_bytes.specs.GuardedAnswers.{GuardedAnswer};
@@ -17,7 +17,7 @@ use field_element::{Element, HasPacking};
 use std::alloc::{AllocError, Allocator};
 use transcript_bytes::ChallengerError;
 use word_polynomial::Poly64Kernel;
-use word_tower::{Bits8, Bits16, Bits32, Bits64, Bits128, Tower};
+use word_tower::{Bits8, Bits16, Bits32, Bits64, Bits128, Level, Tower};
 
 /// A field whose elements are whole bytes. It encodes seeds as elements, and elements as bytes, the highest first, and has a tag for
 /// each algebra over it.
@@ -111,44 +111,37 @@ impl<R: ShortWord, K: TranscriptKernel<R>> TranscriptField for Element<R, K> {
     }
 }
 
-impl TranscriptKernel<u8> for Tower<Bits8> {
-    const IN_POLYNOMIAL_BASIS: bool = false;
+/// A level of the tower whose elements have as many bits as their words.
+pub trait WholeLevel<R: ShortWord>: Level<R> {
+    ghost whole_law: { 2 ^ Self.LEVEL ≡ R.bits };
+}
 
-    ghost IN_POLYNOMIAL_BASIS = { false };
-
+impl WholeLevel<u8> for Bits8 {
     ghost whole_law = { refl };
 }
 
-impl TranscriptKernel<u16> for Tower<Bits16> {
-    const IN_POLYNOMIAL_BASIS: bool = false;
-
-    ghost IN_POLYNOMIAL_BASIS = { false };
-
+impl WholeLevel<u16> for Bits16 {
     ghost whole_law = { refl };
 }
 
-impl TranscriptKernel<u32> for Tower<Bits32> {
-    const IN_POLYNOMIAL_BASIS: bool = false;
-
-    ghost IN_POLYNOMIAL_BASIS = { false };
-
+impl WholeLevel<u32> for Bits32 {
     ghost whole_law = { refl };
 }
 
-impl TranscriptKernel<u64> for Tower<Bits64> {
-    const IN_POLYNOMIAL_BASIS: bool = false;
-
-    ghost IN_POLYNOMIAL_BASIS = { false };
-
+impl WholeLevel<u64> for Bits64 {
     ghost whole_law = { refl };
 }
 
-impl TranscriptKernel<u128> for Tower<Bits128> {
+impl WholeLevel<u128> for Bits128 {
+    ghost whole_law = { refl };
+}
+
+impl<R: ShortWord, L: WholeLevel<R>> TranscriptKernel<R> for Tower<L> {
     const IN_POLYNOMIAL_BASIS: bool = false;
 
     ghost IN_POLYNOMIAL_BASIS = { false };
 
-    ghost whole_law = { refl };
+    ghost whole_law = { L.whole_law };
 }
 
 impl TranscriptKernel<u64> for Poly64Kernel {

@@ -26,7 +26,7 @@ pub use crate::challenger::BinaryChallenger;
 pub use crate::digest::{Digest, DigestWord, Hash, MerkleCap};
 pub use crate::elements::{CanSampleBits, CanSampleUniformBits};
 pub use crate::error::{GrindError, TranscriptError};
-pub use crate::field::{TranscriptField, TranscriptKernel};
+pub use crate::field::{TranscriptField, TranscriptKernel, WholeLevel};
 pub use crate::joined::elements_join;
 pub use crate::observe::{CanObserve, Transcript};
 pub use crate::recorder::Recorder;
