@@ -89,6 +89,7 @@ pub trait Underlier: Sealed + Copy + Debug + Default + PartialEq + Eq + Hash {
 
     /// The row whose word i is `f(i)`: `f` is called once for each i below `WORD_COUNT`, from 0 up. It needs to take these indexes
     /// alone, in this order.
+    #[tactic(auto, using(field_base::proofs::Calls::may_call))]
     final fn from_words_fn<F: FnMut(usize) -> Self::Word>(mut f: F) -> Self
         requires { CallableAtEachTurn (index_steps WORD_COUNT) (λ p i q. (x : Self.Word) × F.step p i x q) F.pre 0 f }
         ensures filled { (last : F) × IsFilled F.step Self.Word.number Self.Word.BITS WORD_COUNT (number result) f last }

@@ -1,6 +1,6 @@
 use Rattle.std.proofs.Common.{◌≡◌, ◌<◌, ℕ, true, ◌∙◌, ap, sym, subst, arith, rules}
 use Rattle.field_base.specs.Chunks.{chunks}
-use Rattle.field_base.proofs.Calls.{may_call, may_go_on}
+use Rattle.field_base.proofs.Calls.{may_go_on}
 use Rattle.bits_rows.proofs.WordLists.{more_filled, nothing_filled}
 use Rattle.bits_rows.proofs.underlier.Underlier.from_words_fn.Goals as goal
 
@@ -10,10 +10,6 @@ loop-i-init g c = (
   nothing_filled g.Self.Word.Word.BITS g.Self.Word.Word.number _ _ _,
   subst (λ x. g.Self.Underlier.is_whole x ≡ true) (sym c.ZERO-row.ensures) g.Self.Underlier.zero_whole,
 )
-
-pub f-requires : goal.f-requires
-f-requires g c =
-    let inside : c.loop-i.i < g.Self.Underlier.WORD_COUNT = search rules in may_call _ _ inside c.loop-i.invariant.0
 
 pub loop-i-preserved : goal.loop-i-preserved
 loop-i-preserved g c =
