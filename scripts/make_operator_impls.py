@@ -114,6 +114,28 @@ use std::ops::{Add, AddAssign, Mul, MulAssign, Sub, SubAssign};
     yield from values(generics, "Gf2", packing, "packed", meanings, bodies, packing)
 
 
+def packed_bits():
+    yield """\
+// The operators of packed bits with an element of GF(2) on the right, which stands in every lane.
+ghost use Rattle.std.specs.Prelude.{◌≡◌, ◌-◌, ◌*◌, ◌^◌, bit_xor};
+ghost use Rattle.field_base.specs.Bit.{bit_number};
+
+use crate::packed::operators::times_bit;
+use crate::packed::{PackedGf2, value};
+use bits_rows::Underlier;
+use field_base::Gf2;
+use std::ops::{Add, AddAssign, Mul, MulAssign, Sub, SubAssign};
+"""
+    generics, bits = "<U: Underlier>", "PackedGf2<U>"
+    meanings = {
+        "sum": "U.number r.bits ≡ bit_xor (U.number x.bits) (bit_number y * (2 ^ U.BITS - 1))",
+        "product": "U.number r.bits ≡ bit_number y * U.number x.bits",
+    }
+    bodies = {"add": "self + PackedGf2::broadcast(other)", "sub": "self + other", "mul": "times_bit(self, other)"}
+    yield from values(generics, bits, "Gf2", "other", meanings, bodies)
+    yield from in_place(generics, bits, "Gf2", "other", meanings, assigned("value(self)", "other"))
+
+
 # ---- elements (field_element)
 
 
@@ -224,6 +246,7 @@ if __name__ == "__main__":
         "make_operator_impls.py",
         {
             "packed_lanes/src/packed/values/operators.rt": packed,
+            "bits_packed/src/packed/operators/bits.rt": packed_bits,
             "field_element/src/element/operators/joined.rt": joined,
             "field_element/src/element/bits/operators.rt": bits,
             "field_element/src/packings/operators.rt": packings,

@@ -3,6 +3,8 @@ ghost use Rattle.std.specs.Prelude.{◌≡◌, ◌≢◌, ◌<◌, ◌-◌, ◌*
 ghost use Rattle.field_base.specs.Bit.{bit_number};
 ghost use Rattle.bits_packed.specs.Lanes.{bitwise_product};
 
+mod bits;
+
 use crate::packed::{PackedGf2, value};
 use bits_rows::{Underlier, bits_and, bits_xor};
 use field_base::Gf2;
@@ -84,67 +86,15 @@ impl<U: Underlier> MulAssign<PackedGf2<U>> for PackedGf2<U> {
     }
 }
 
-impl<U: Underlier> Add<Gf2> for PackedGf2<U> {
-    type Output = PackedGf2<U>;
-
-    ghost add_gives = { λ x y r. U.number r.bits ≡ bit_xor (U.number x.bits) (bit_number y * (2 ^ U.BITS - 1)) };
-
-    #[inline]
-    fn add(self, other: Gf2) -> PackedGf2<U> {
-        self + PackedGf2::broadcast(other)
-    }
-}
-
-impl<U: Underlier> AddAssign<Gf2> for PackedGf2<U> {
-    ghost add_assign_gives = { λ x y r. U.number r.bits ≡ bit_xor (U.number x.bits) (bit_number y * (2 ^ U.BITS - 1)) };
-
-    #[inline]
-    fn add_assign(&mut self, other: Gf2) {
-        *self = value(self) + other;
-    }
-}
-
-impl<U: Underlier> Sub<Gf2> for PackedGf2<U> {
-    type Output = PackedGf2<U>;
-
-    ghost sub_gives = { λ x y r. U.number r.bits ≡ bit_xor (U.number x.bits) (bit_number y * (2 ^ U.BITS - 1)) };
-
-    #[inline]
-    fn sub(self, other: Gf2) -> PackedGf2<U> {
-        self + other
-    }
-}
-
-impl<U: Underlier> SubAssign<Gf2> for PackedGf2<U> {
-    ghost sub_assign_gives = { λ x y r. U.number r.bits ≡ bit_xor (U.number x.bits) (bit_number y * (2 ^ U.BITS - 1)) };
-
-    #[inline]
-    fn sub_assign(&mut self, other: Gf2) {
-        *self = value(self) + other;
-    }
-}
-
-impl<U: Underlier> Mul<Gf2> for PackedGf2<U> {
-    type Output = PackedGf2<U>;
-
-    ghost mul_gives = { λ x y r. U.number r.bits ≡ bit_number y * U.number x.bits };
-
-    #[inline]
-    fn mul(self, other: Gf2) -> PackedGf2<U> {
-        if other.to_repr() == 1 {
-            self
-        } else {
-            PackedGf2::new(U::ZERO)
-        }
-    }
-}
-
-impl<U: Underlier> MulAssign<Gf2> for PackedGf2<U> {
-    ghost mul_assign_gives = { λ x y r. U.number r.bits ≡ bit_number y * U.number x.bits };
-
-    #[inline]
-    fn mul_assign(&mut self, other: Gf2) {
-        *self = value(self) * other;
+// The packed bits times a bit.
+#[inline]
+fn times_bit<U: Underlier>(packed: PackedGf2<U>, bit: Gf2) -> PackedGf2<U>
+    ensures { U.number result.bits ≡ bit_number bit * U.number packed.bits }
+{
+    if bit.to_repr() == 1 {
+        packed
+    } else {
+        PackedGf2::new(U::ZERO)
     }
 }
 
