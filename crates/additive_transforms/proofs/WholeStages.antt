@@ -19,7 +19,7 @@ use Rattle.ghash_slices.specs.Cantor.{AreCantorTwiddles, point, polynomial_value
 use Rattle.ghash_slices.specs.Stages.{factor, lower_place, stage, stages, upper_place}
 use Rattle.ghash_slices.proofs.CantorValues.{factors_are_subspace_values, sums_are_values}
 use Rattle.ghash_slices.proofs.GhashVectors.{ghash_vectors}
-use Rattle.ghash_slices.proofs.Places.{next_quotient}
+use Rattle.ghash_slices.proofs.Places.{by_block, next_quotient}
 use Rattle.ghash_slices.proofs.StageSums.{stages_sum, sum_of_factors-same, sum_of_factors-values}
 use Rattle.ghash_slices.specs.LowStages.{ghash_cantor_vector, ghash_product, HoldSums, values_from}
 use Rattle.additive_transforms.specs.Stages.{AreLeft, IsButterfly, IsStage}
@@ -148,10 +148,7 @@ module _ (times : ℕ → ℕ → ℕ) (shifts basis : List ℕ) where
   -- the factor of stage j at p depends on p / 2 ^ j alone
   by_quotient : (j p q : ℕ) → p / 2 ^ j ≡ q / 2 ^ j → factor shifts basis j p ≡ factor shifts basis j q
   unfolding factor
-  by_quotient j p q same =
-      ap₂ (λ (block bit : ℕ). bit_xor (bit_xor (slice_index shifts j) (linear_image basis block)) bit)
-      (next_quotient p j ∙ ap (λ (n : ℕ). n / 2) same ∙ sym (next_quotient q j))
-      (ap (λ (n : ℕ). n % 2) same)
+  by_quotient j = by_block (λ (block bit : ℕ). bit_xor (bit_xor (slice_index shifts j) (linear_image basis block)) bit) j
 
   -- stage n of 2 ^ m values depends on those values alone
   stage-here : (m n : ℕ) → n < m → (a b : ℕ → ℕ) → ((k : ℕ) → k < 2 ^ m → a k ≡ b k) → (p : ℕ) → p < 2 ^ m

@@ -15,7 +15,7 @@ use Rattle.ghash_slices.specs.Cantor.{AreCantorTwiddles}
 use Rattle.ghash_slices.specs.Stages.{factor, stage, stages, sum_of_factors}
 use Rattle.ghash_slices.proofs.CantorValues.{sums_are_values}
 use Rattle.ghash_slices.proofs.GhashVectors.{ghash_vectors}
-use Rattle.ghash_slices.proofs.Places.{next_quotient}
+use Rattle.ghash_slices.proofs.Places.{by_block}
 use Rattle.ghash_slices.proofs.StageSums.{stages_sum, sum_of_factors-same, sum_of_factors-values}
 use Rattle.ghash_slices.specs.LowStages.{ghash_cantor_vector, ghash_product, HoldSums, HoldValues, values_from}
 use Rattle.ghash_slices.specs.Runs.{AreLowSums, run_factor}
@@ -35,10 +35,7 @@ module _ (twiddles low : List ℕ) where
   -- the factor of stage j at p depends on p / 2 ^ j alone
   by_quotient : (j p q : ℕ) → p / 2 ^ j ≡ q / 2 ^ j → run_factor twiddles low j p ≡ run_factor twiddles low j q
   unfolding run_factor
-  by_quotient j p q same =
-      ap₂ (λ (block bit : ℕ). bit_xor (bit_xor (slice_index twiddles j) (slice_index low block)) bit)
-      (next_quotient p j ∙ ap (λ (n : ℕ). n / 2) same ∙ sym (next_quotient q j))
-      (ap (λ (n : ℕ). n % 2) same)
+  by_quotient j = by_block (λ (block bit : ℕ). bit_xor (bit_xor (slice_index twiddles j) (slice_index low block)) bit) j
 
   -- stages 3, 2, 1 and 0 of a run leave the sums of its values times factors
   pub four_stages : (start : ℕ) (v0 v1 v2 v3 v4 : List ℕ) → ((p : ℕ) → slice_index v4 p < 2 ^ 128)

@@ -1,5 +1,5 @@
 -- Places of blocks of 2 ^ n places: the places with the same quotient by 2 ^ n.
-use Rattle.std.proofs.Common.{◌≡◌, ℕ, suc, ◌+◌, ◌*◌, ◌/◌, ◌^◌, ◌<◌, sym, ◌∙◌, ap, ap₂, arith}
+use Rattle.std.proofs.Common.{◌≡◌, ℕ, suc, ◌+◌, ◌*◌, ◌/◌, ◌%◌, ◌^◌, ◌<◌, sym, ◌∙◌, ap, ap₂, arith}
 use Rattle.std.proofs.lemmas.Nat.{div-mul-add, mod-mul-add, shr-shr}
 use Rattle.ghash_slices.specs.Stages.{lower_place, upper_place}
 
@@ -8,6 +8,11 @@ pub next_quotient : (p n : ℕ) → p / 2 ^ suc n ≡ p / 2 ^ n / 2
 next_quotient p n =
     let one_more : n + 1 ≡ suc n = omega arith in
     ap (λ (m : ℕ). p / 2 ^ m) (sym one_more) ∙ sym (shr-shr p n 1)
+
+-- what is made of the quotient by 2 ^ (n + 1) and of bit n depends on the quotient by 2 ^ n alone
+pub by_block : (f : ℕ → ℕ → ℕ) (n p q : ℕ) → p / 2 ^ n ≡ q / 2 ^ n → f (p / 2 ^ suc n) (p / 2 ^ n % 2) ≡ f (q / 2 ^ suc n) (q / 2 ^ n % 2)
+by_block f n p q same =
+    ap₂ f (next_quotient p n ∙ ap (λ (m : ℕ). m / 2) same ∙ sym (next_quotient q n)) (ap (λ (m : ℕ). m % 2) same)
 
 -- place k of the block of p
 module _ (n p k : ℕ) (below : k < 2 ^ n) where
