@@ -1,18 +1,10 @@
 //! Each operator and each function over slices, against products of bits and against each other; statuses; and the functions that
 //! belong to no field.
 
+mod drawn;
+
 use binary_field::*;
-
-// Elements of a field, from a fixed seed.
-struct Draw(u64);
-
-impl Draw {
-    fn next(&mut self) -> u64 {
-        self.0 = self.0.wrapping_add(0x9e37_79b9_7f4a_7c15);
-        let mixed = (self.0 ^ (self.0 >> 30)).wrapping_mul(0xbf58_476d_1ce4_e5b9);
-        mixed ^ (mixed >> 31)
-    }
-}
+use drawn::Draw;
 
 fn laws<F: Field>(make: impl Fn(&mut Draw) -> F) {
     let mut draw = Draw(47);

@@ -1,6 +1,8 @@
 //! The names of p3-binary-field 0.8.0 and of the traits of p3-field: the code below is one for both but for the lines of `use`, and the
 //! numbers that it is compared with are the answers of p3-binary-field.
 
+mod drawn;
+
 use binary_field::poly_basis::{self, LOW_STAGES, LowStageTwiddles};
 use binary_field::{Algebra, BasedVectorSpace, ExtensionField, Field, HasFrobenius, HasSubfield};
 use binary_field::{
@@ -8,20 +10,11 @@ use binary_field::{
 };
 use binary_field::{BinaryField128, Gf2, Ghash128, Poly64, Poly192, Rijndael8b, TowerLevel};
 use binary_field::{PrimeCharacteristicRing, RawDataSerializable};
+use drawn::Draw;
 
-// Numbers from a fixed seed.
-struct Draw(u64);
-
-impl Draw {
-    fn next(&mut self) -> u64 {
-        self.0 = self.0.wrapping_add(0x9e37_79b9_7f4a_7c15);
-        let mixed = (self.0 ^ (self.0 >> 30)).wrapping_mul(0xbf58_476d_1ce4_e5b9);
-        mixed ^ (mixed >> 31)
-    }
-
-    fn wide(&mut self) -> u128 {
-        u128::from(self.next()) << 64 | u128::from(self.next())
-    }
+// A number of two words.
+fn wide(draw: &mut Draw) -> u128 {
+    u128::from(draw.next()) << 64 | u128::from(draw.next())
 }
 
 // A digest of bytes: the 64 bits of FNV-1a.
@@ -85,7 +78,7 @@ fn of_field<F: Field + RawDataSerializable>(elements: &[F]) -> u64 {
 // What a level of the tower gives.
 fn of_level<F: TowerLevel + RawDataSerializable>(make: impl Fn(u128) -> F) -> u64 {
     let mut draw = Draw(F::LOG_BITS as u64);
-    let elements: Vec<F> = (0..16).map(|_| make(draw.wide())).collect();
+    let elements: Vec<F> = (0..16).map(|_| make(wide(&mut draw))).collect();
     let mut hash = of_field(&elements);
     for &x in &elements {
         assert!(F::from_repr(x.to_repr()) == x);
@@ -127,7 +120,7 @@ where
 
 fn answers() -> Vec<u64> {
     let mut draw = Draw(7);
-    let (x, w) = (BinaryField128::from_repr(draw.wide()), draw.next());
+    let (x, w) = (BinaryField128::from_repr(wide(&mut draw)), draw.next());
     let cubic: Vec<Poly192> = (0..16)
         .map(|_| {
             Poly192::new([
@@ -187,8 +180,8 @@ fn answers() -> Vec<u64> {
 
 // What `poly_basis` gives.
 fn of_numbers(draw: &mut Draw) -> u64 {
-    let (a, b, mut hash) = (draw.wide(), draw.wide(), EMPTY);
-    let mut values: Vec<u128> = (0..160).map(|_| draw.wide()).collect();
+    let (a, b, mut hash) = (wide(draw), wide(draw), EMPTY);
+    let mut values: Vec<u128> = (0..160).map(|_| wide(draw)).collect();
     let mut take = |numbers: &[u128]| {
         for number in numbers {
             hash = digest(hash, number.to_le_bytes());
@@ -208,8 +201,8 @@ fn of_numbers(draw: &mut Draw) -> u64 {
     take(low);
     poly_basis::butterfly_inverse(high, low, b);
     take(high);
-    let shifts: Vec<u128> = (0..LOW_STAGES).map(|_| draw.wide()).collect();
-    let basis: Vec<u128> = (0..9).map(|_| draw.wide()).collect();
+    let shifts: Vec<u128> = (0..LOW_STAGES).map(|_| wide(draw)).collect();
+    let basis: Vec<u128> = (0..9).map(|_| wide(draw)).collect();
     LowStageTwiddles::new(&shifts, &basis).forward(&mut values, 3);
     take(&values);
     poly_basis::to_tower_slice(&mut values);
