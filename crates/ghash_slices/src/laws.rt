@@ -1,6 +1,7 @@
 // The laws of the stages of an additive transform, and of the values of polynomials at the points that the Cantor vectors span, over
 // any field, and of products by one scalar, as contracts of functions that compute nothing.
-ghost use Rattle.ghash_slices.specs.Cantor.{ArePointsDistinct, CantorVectorsStepDown, FactorsAreSubspaceValues, PointsAreDistinct, SumsAreValues};
+ghost use Rattle.ghash_slices.specs.Cantor.{ArePointsDistinct, CantorVectorsStepDown, FactorsAreSubspaceValues, PointsAreDistinct};
+ghost use Rattle.ghash_slices.specs.Cantor.{SumsAreValues};
 ghost use Rattle.ghash_slices.specs.LowStages.{ghash_cantor_vector};
 ghost use Rattle.ghash_slices.specs.SplitWords.{CompanionLaw};
 ghost use Rattle.ghash_slices.specs.Stages.{StagesGiveSums};

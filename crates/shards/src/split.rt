@@ -61,10 +61,12 @@ pub(crate) fn join(
     shards: &mut [u8],
     present: &[bool],
 ) -> Result<(), ReedSolomonError>
-    ensures restored { let total = data_shards + parity_shards in (content whole : List ℕ) → IsOk result → IsSplit data_shards total content whole
+    ensures restored { let total = data_shards + parity_shards in
+        (content whole : List ℕ) → IsOk result → IsSplit data_shards total content whole
         → length whole ≡ length shards.old → AgreeWherePresent total (length shards.old / total) present.now shards.old whole
         → take (length content) shards.new ≡ content }
-    ensures accepted { 0 < data_shards → 0 < parity_shards → data_shards + parity_shards ≤ 256 → length present.now ≡ data_shards + parity_shards
+    ensures accepted { 0 < data_shards → 0 < parity_shards → data_shards + parity_shards ≤ 256
+        → length present.now ≡ data_shards + parity_shards
         → HasShardSize (data_shards + parity_shards) (length shards.old) → data_shards ≤ present_count present.now → IsOk result }
     ensures long { length shards.new ≡ length shards.old }
 {

@@ -8,7 +8,8 @@ ghost use Rattle.std.specs.Simd.Lanes.{Each1, zip2};
 ghost use Rattle.std.proofs.Common.{Fits, w64};
 ghost use Rattle.field_base.specs.Carryless.{carryless};
 ghost use Rattle.field_base.specs.Remainder.{ghash_modulus, mul_mod, rem};
-ghost use Rattle.word_carryless.specs.DoubleWords.{AreHalfProducts, AreWordProducts, double_words, high_halves, low_halves, quadruple_words, sums_of_halves};
+ghost use Rattle.word_carryless.specs.DoubleWords.{AreHalfProducts, AreWordProducts, double_words, high_halves, low_halves};
+ghost use Rattle.word_carryless.specs.DoubleWords.{quadruple_words, sums_of_halves};
 ghost use Rattle.word_carryless.specs.Masked.{AreClasses};
 ghost use Rattle.word_carryless.specs.Tail.{ghash_tail};
 
@@ -217,7 +218,8 @@ fn join_halves<V: WordVector>(low: V, high: V, both: V) -> (V, V)
 /// The low half of each word, the high half and the sum of both, each split into classes.
 #[inline(always)]
 pub fn halves_of<V: WordVector>(words: V) -> (Classes<V>, Classes<V>, Classes<V>)
-    ensures low { AreClasses (low_halves (V.words words)) (V.words result.0.0) (V.words result.0.1) (V.words result.0.2) (V.words result.0.3) }
+    ensures low { AreClasses (low_halves (V.words words))
+        (V.words result.0.0) (V.words result.0.1) (V.words result.0.2) (V.words result.0.3) }
     ensures high { AreClasses (low_halves (high_halves (V.words words)))
         (V.words result.1.0) (V.words result.1.1) (V.words result.1.2) (V.words result.1.3) }
     ensures both { AreClasses (low_halves (sums_of_halves (V.words words)))
