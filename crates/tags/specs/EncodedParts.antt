@@ -16,9 +16,11 @@ abbrev pub EncodesParts : (List ℕ → ℕ) → (List ℕ → List ℕ → List
 EncodesParts number encoded = (a t b u : List ℕ) → IsPart a → IsPart t → IsPart b → IsPart u
     → HaveSameBlocks (map number (encoded a t)) (map number (encoded b u)) → (a ≡ b) × (t ≡ u)
 
+-- so it is for GCM, whose blocks are numbers of which the first byte is the highest
 abbrev pub GcmEncodesParts : Type 0
 GcmEncodesParts = EncodesParts (from_be_bytes w128) gcm_blocks
 
+-- and for GCM-SIV, of whose blocks the first byte is the lowest
 abbrev pub GcmSivEncodesParts : Type 0
 GcmSivEncodesParts = EncodesParts (from_le_bytes w128) gcm_siv_blocks
 
@@ -32,8 +34,10 @@ FewKeysCollide number hash encoded = (n count difference : ℕ) (a t b u : List 
     → ((i : ℕ) → i < count → bit_xor (number (hash (key i) (encoded a t))) (number (hash (key i) (encoded b u))) ≡ difference)
     → count ≤ n
 
+-- so it is for GCM
 abbrev pub GcmCollides : Type 0
 GcmCollides = FewKeysCollide (from_be_bytes w128) ghash gcm_blocks
 
+-- and for GCM-SIV
 abbrev pub GcmSivCollides : Type 0
 GcmSivCollides = FewKeysCollide (from_le_bytes w128) polyval gcm_siv_blocks
