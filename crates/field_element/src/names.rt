@@ -43,7 +43,7 @@ pub type Rijndael8b = Element<u8, RijndaelKernel>;
 /// binary irreducible polynomials, 1998). Bit i of its representation is the coefficient of x^i.
 ///
 /// An inverse is a chain of products and squares, which looks up nothing. `Poly64::from(BinaryField64::from(x).inverse())` goes
-/// through the tower, by look-ups that depend on `x`, and takes less time: 96 ns and 734 for the chain (docs/BENCHMARKS.md).
+/// through the tower, by look-ups that depend on `x`.
 pub type Poly64 = Element<u64, Poly64Kernel>;
 
 /// An element of GF(2^128) in the polynomial basis, modulo x^128 + x^7 + x^2 + x + 1, the modulus of NIST SP 800-38D.
@@ -51,8 +51,7 @@ pub type Poly64 = Element<u64, Poly64Kernel>;
 /// coefficient of x^0, has its bits the other way round.
 ///
 /// An inverse is a chain of products, squares and linear maps, which reads the same columns of those maps for every operand.
-/// `Ghash128::from(BinaryField128::from(x).inverse())` goes through the tower, by look-ups that depend on `x`, and takes less
-/// time: 207 ns and 1,292 for the chain (docs/BENCHMARKS.md).
+/// `Ghash128::from(BinaryField128::from(x).inverse())` goes through the tower, by look-ups that depend on `x`.
 pub type Ghash128 = Element<u128, GhashKernel>;
 
 /// An element of the cubic extension of [`Poly64`] by a root y of y³ + y + 1, which is primitive over GF(2) (R. Lidl and
