@@ -6,7 +6,7 @@ use Rattle.std.proofs.lemmas.Bool.{false≢true}
 use Rattle.std.proofs.lemmas.Nat.{from_le_bytes-to_le_bytes_8}
 use Rattle.std.proofs.lemmas.Slice.Eq.{bytes_eq-Decides}
 use Rattle.std.proofs.Math.Seq.{drop-append_seam, take-append_seam}
-use Rattle.protocols.specs.MerkleTrees.{ending, HaveDigestSize, inputs, IsCollision, leaf_input, node_input, pair_input, PathsBind}
+use Rattle.protocols.specs.MerkleTrees.{CapsBind, ending, HaveDigestSize, inputs, IsCollision, leaf_input, node_input, pair_input, PathsBind}
 
 -- ---- inputs tell what they are made of
 
@@ -75,5 +75,11 @@ module _ (hash : List ℕ → List ℕ) (size : ℕ) (whole : (bytes : List ℕ)
 -- paths from different words to one root have a collision
 pub paths_bind : PathsBind
 paths_bind hash size whole depth root index word other path other_path word_fits other_fits differ sizes other_sizes leads other_leads =
+    climb hash size whole path other_path index (leaf_input word) (leaf_input other) (leads.whole ∙ sym other_leads.whole) sizes other_sizes
+    (λ same. differ (leaf_same word other word_fits other_fits same)) (leads.ends ∙ sym other_leads.ends)
+
+-- and so have paths to one cap
+pub caps_bind : CapsBind
+caps_bind hash size whole levels cap index word other path other_path word_fits other_fits differ sizes other_sizes leads other_leads =
     climb hash size whole path other_path index (leaf_input word) (leaf_input other) (leads.whole ∙ sym other_leads.whole) sizes other_sizes
     (λ same. differ (leaf_same word other word_fits other_fits same)) (leads.ends ∙ sym other_leads.ends)

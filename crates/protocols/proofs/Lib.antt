@@ -1,4 +1,5 @@
 mod Binding
+mod CapPaths
 mod Filling
 mod OpeningTurns
 mod PathChecks

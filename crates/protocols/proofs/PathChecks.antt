@@ -16,11 +16,11 @@ below_power n k none =
     let product : n / 2 ^ k * 2 ^ k ≡ 0 = ap (λ (q : ℕ). q * 2 ^ k) none ∙ zero-mul (2 ^ k) in
     omega (arith, parts, rest, product)
 
-module _ (hash : List ℕ → List ℕ) (depth index word place : ℕ) (root digest : List ℕ) (path : List (List ℕ)) where
-  -- what is false is not so
-  pub not_so : {P : Type 0} → (P → ⊥) → IsTrue false ↔ P
-  not_so not = ((λ yes. absurd (false≢true yes)), (λ is. absurd (not is)))
+-- what is false is not so
+pub not_so : {P : Type 0} → (P → ⊥) → IsTrue false ↔ P
+not_so not = ((λ yes. absurd (false≢true yes)), (λ is. absurd (not is)))
 
+module _ (hash : List ℕ → List ℕ) (depth index word place : ℕ) (root digest : List ℕ) (path : List (List ℕ)) where
   -- a path of another length does not lead anywhere
   pub not_whole : length path ≢ depth → IsTrue false ↔ Leads hash depth root index word path
   not_whole differ = not_so (λ leads. differ leads.whole)

@@ -1,5 +1,5 @@
 -- What the tree of a commitment holds.
-use Rattle.std.specs.Prelude.{◌≡◌, ℕ, ◌+◌, ◌*◌, ◌^◌, ◌<◌, ◌≤◌, List, [], length, get_or, slice_index}
+use Rattle.std.specs.Prelude.{◌≡◌, ℕ, ◌+◌, ◌*◌, ◌^◌, ◌<◌, ◌≤◌, List, [], length, get_or, slice_index, take, drop}
 use Rattle.protocols.specs.declared.merkle_tree.MerkleTree.{MerkleTree}
 use Rattle.protocols.specs.MerkleTrees.{leaf_input, node_input}
 
@@ -11,6 +11,10 @@ digest_at tree node = get_or tree.nodes.items node []
 -- the root
 abbrev pub root_of : {A : Type 0} → MerkleTree A → List ℕ
 root_of tree = digest_at tree 1
+
+-- the cap of 2 ^ height roots: those of the trees that are left when the levels above them are cut off
+abbrev pub cap_of : {A : Type 0} → MerkleTree A → ℕ → List (List ℕ)
+cap_of tree height = take (2 ^ height) (drop (2 ^ height) tree.nodes.items)
 
 -- the tree over these words
 pub record IsTreeOf {A : Type 0} (hash : List ℕ → List ℕ) (words : List ℕ) (tree : MerkleTree A) : Type 0 where

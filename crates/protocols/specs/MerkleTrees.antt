@@ -39,6 +39,12 @@ pub record Leads (hash : List ℕ → List ℕ) (depth : ℕ) (root : List ℕ) 
   pub whole : length path ≡ depth
   pub ends : ending hash index (hash (leaf_input word)) path ≡ root
 
+-- a path leads, over so many levels, from the leaf at `index` to the root in the cap below which it stands
+pub record LeadsToCap (hash : List ℕ → List ℕ) (levels : ℕ) (cap : List (List ℕ)) (index word : ℕ) (path : List (List ℕ)) : Type 0 where
+  pub within : index / 2 ^ levels < length cap
+  pub whole : length path ≡ levels
+  pub ends : ending hash index (hash (leaf_input word)) path ≡ get_or cap (index / 2 ^ levels) []
+
 -- ---- binding
 
 -- two inputs with one digest
@@ -57,5 +63,15 @@ PathsBind =
     → (depth : ℕ) (root : List ℕ) (index word other : ℕ) (path other_path : List (List ℕ))
     → word < 2 ^ 64 → other < 2 ^ 64 → word ≢ other → HaveDigestSize size path → HaveDigestSize size other_path
     → Leads hash depth root index word path → Leads hash depth root index other other_path
+    → (height : ℕ) × IsCollision hash (get_or (inputs hash index (leaf_input word) path) height [])
+    (get_or (inputs hash index (leaf_input other) other_path) height [])
+
+-- and so have two paths that lead from different words at one index to one cap
+abbrev pub CapsBind : Type 0
+CapsBind =
+    (hash : List ℕ → List ℕ) (size : ℕ) → ((bytes : List ℕ) → length (hash bytes) ≡ size)
+    → (levels : ℕ) (cap : List (List ℕ)) (index word other : ℕ) (path other_path : List (List ℕ))
+    → word < 2 ^ 64 → other < 2 ^ 64 → word ≢ other → HaveDigestSize size path → HaveDigestSize size other_path
+    → LeadsToCap hash levels cap index word path → LeadsToCap hash levels cap index other other_path
     → (height : ℕ) × IsCollision hash (get_or (inputs hash index (leaf_input word) path) height [])
     (get_or (inputs hash index (leaf_input other) other_path) height [])

@@ -5,6 +5,7 @@
 //! How to prove yourself, 1986).
 #![tactic(auto)]
 
+pub mod caps;
 pub mod commitment;
 mod digests;
 mod error;

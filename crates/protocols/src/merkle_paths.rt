@@ -62,18 +62,13 @@ impl<A: Allocator> MerkleTree<A> {
         ensures { IfOk result (λ path. (hash : List ℕ → List ℕ) (words : List ℕ) → IsTreeOf hash words self.now
             → Leads hash self.now.depth (root_of self.now) index (slice_index words index) path.items) }
     {
-        let mut path = Vec::new(alloc);
-        let mut node = (1 << self.depth) + index;
-        'levels: for level in 0..self.depth {
-            path.push(self.nodes[sibling_of(node)])?;
-            node /= 2;
-        }
+        let path = self.open_to_cap(alloc, index, self.depth)?;
         Ok(path)
     }
 }
 
 // The other child of the same node.
-fn sibling_of(node: usize) -> usize
+pub(crate) fn sibling_of(node: usize) -> usize
     requires { node + 1 < 2 ^ 64 }
     ensures even { node % 2 ≡ 0 → result ≡ node + 1 }
     ensures odd { node % 2 ≡ 1 → result + 1 ≡ node }
@@ -103,7 +98,7 @@ pub fn verify<H: ByteHasher32>(
 }
 
 // The place and the digest at the end of a path from the child at `place` up.
-fn end_of<H: ByteHasher32>(
+pub(crate) fn end_of<H: ByteHasher32>(
     hasher: &H,
     place: usize,
     digest: [u8; 32],

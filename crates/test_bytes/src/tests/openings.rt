@@ -1,16 +1,17 @@
-// Openings of Merkle trees that a cheating prover changed. Words are drawn from the seed 20261126.
+// Openings of Merkle trees that a cheating prover changed, and paths to caps. Words are drawn from the seed 20261126.
 ghost use Rattle.transcript_elements.specs.Grinding.{MayGrind};
 
 use field_base::LevelKernel;
 use field_element::{Element, HasPacking};
 use protocols::ProtocolError;
+use protocols::caps::verify_to_cap;
 use protocols::commitment::{accepts, prove};
 use protocols::merkle_tree::MerkleTree;
-use std::alloc::Global;
+use std::alloc::{AllocError, Global};
 use std::test::Fail;
 use test_support::next_word;
 use transcript_bytes::Sha256Hasher;
-use transcript_elements::{BinaryChallenger, ShortWord};
+use transcript_elements::{BinaryChallenger, MerkleCap, ShortWord};
 use word_tower::{Bits64, Tower};
 
 // What is changed between the prover and the verifier.
@@ -106,4 +107,40 @@ fn only_an_unchanged_opening_is_accepted(rt: HostRuntime) -> Result<(), Fail> {
         );
     }
     Ok(())
+}
+
+// Whether each path to each cap of a tree of depth 3 is accepted, and is refused beside it: at another index, for another word, over
+// another count of levels, and without its last node.
+fn opens_to_every_cap(alloc: Global) -> Result<bool, AllocError> {
+    let words = words();
+    let tree = MerkleTree::new(alloc, &Sha256Hasher, &words, 3)?;
+    for levels in 0..4 {
+        let cap: MerkleCap<Sha256Hasher, [u8; 32]> = tree.cap(alloc, 3 - levels)?;
+        let roots = cap.roots();
+        for index in 0..8 {
+            let mut path = tree.open_to_cap(alloc, index, levels)?;
+            let word = words[index];
+            let hasher = Sha256Hasher;
+            if roots.len() != 8 >> levels
+                || !verify_to_cap(&hasher, roots, levels, index, word, path.as_slice())
+                || verify_to_cap(&hasher, roots, levels, index ^ 1, word, path.as_slice())
+                || verify_to_cap(&hasher, roots, levels, index + 8, word, path.as_slice())
+                || verify_to_cap(&hasher, roots, levels, index, word ^ 1, path.as_slice())
+                || verify_to_cap(&hasher, roots, levels + 1, index, word, path.as_slice())
+            {
+                return Ok(false);
+            }
+            if path.pop().is_some()
+                && verify_to_cap(&hasher, roots, levels, index, word, path.as_slice())
+            {
+                return Ok(false);
+            }
+        }
+    }
+    Ok(true)
+}
+
+#[test]
+fn paths_to_caps_of_every_height(rt: HostRuntime) {
+    assert!(rt; opens_to_every_cap(rt.alloc()) == Ok(true));
 }
