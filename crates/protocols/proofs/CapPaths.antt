@@ -2,12 +2,12 @@
 use Rattle.std.proofs.Common.{◌≡◌, ◌≢◌, ◌↔◌, ℕ, ◌+◌, ◌-◌, ◌*◌, ◌/◌, ◌%◌, ◌^◌, ◌<◌, ◌≤◌, Bool, false, List, [], length, get_or, take, drop, sym, ◌∙◌, ap, ap₂, subst, arith, lit<}
 use Rattle.std.specs.Prelude.{IsTrue}
 use Rattle.std.proofs.Math.Nat.{div-eq_of_lt, mod-eq_of_lt, pow-le-pow_right}
+use Rattle.std.proofs.lemmas.Bool.{false≢true}
 use Rattle.std.proofs.lemmas.List.{get_or-drop, get_or-take, length-drop, length-take-le}
 use native.Mathlib.Nat.{one-mul}
 use Rattle.protocols.specs.declared.merkle_tree.MerkleTree.{MerkleTree}
 use Rattle.protocols.specs.Commitments.{cap_of, root_of}
 use Rattle.protocols.specs.MerkleTrees.{ending, leaf_input, Leads, LeadsToCap}
-use Rattle.protocols.proofs.PathChecks.{not_so}
 
 -- the first root of a cap, in 64 bits, is node 2 ^ height
 pub cap-room : (height depth : ℕ) → height ≤ depth → depth ≤ 40
@@ -41,6 +41,10 @@ leads_to_root hash tree index word path below leads =
           leads.ends ∙ ap₂ (λ (h p : ℕ). get_or (cap_of tree h) p []) none first
           ∙ cap-root tree.nodes.items 1 0 (lit< tt);
     }
+
+-- what is false is not so
+not_so : {P : Type 0} → (P → ⊥) → IsTrue false ↔ P
+not_so not = ((λ yes. absurd (false≢true yes)), (λ is. absurd (not is)))
 
 -- what `verify_to_cap` looks at is whether a path leads to the cap
 module _ (hash : List ℕ → List ℕ) (levels index word place : ℕ) (cap : List (List ℕ)) (digest : List ℕ) (path : List (List ℕ)) where

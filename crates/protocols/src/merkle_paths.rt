@@ -3,6 +3,7 @@ ghost use Rattle.std.specs.Prelude.{◌≡◌, ◌↔◌, ◌+◌, ◌*◌, ◌/
 ghost use Rattle.protocols.specs.Commitments.{IsTreeOf, root_of};
 ghost use Rattle.protocols.specs.MerkleTrees.{ending, Leads, PathsBind, merkle_root};
 
+use crate::caps::verify_to_cap;
 use crate::digests::{leaf_digest, node_digest, pair_digest};
 use crate::merkle_tree::MerkleTree;
 use std::alloc::{AllocError, Allocator};
@@ -86,15 +87,8 @@ pub fn verify<H: ByteHasher32>(
 ) -> bool
     ensures { IsTrue result ↔ Leads (H.digest hasher.now) commitment.depth commitment.root index word path.now }
 {
-    if path.len() != commitment.depth {
-        return false;
-    }
-    let leaf = leaf_digest(hasher, word);
-    let (place, digest) = end_of(hasher, index, leaf, path);
-    if place != 0 {
-        return false;
-    }
-    digest == commitment.root
+    let root = commitment.root;
+    verify_to_cap(hasher, &[root], commitment.depth, index, word, path)
 }
 
 // The place and the digest at the end of a path from the child at `place` up.
