@@ -1,7 +1,8 @@
 -- The values of a polynomial, block by block, are a code word, and as many symbols as the message has determine it.
-use Rattle.std.proofs.Common.{◌≡◌, ◌⊎◌, inl, inr, ℕ, zero, suc, ◌+◌, ◌-◌, ◌*◌, ◌^◌, ◌<◌, ◌≤◌, List, ◌++◌, length, sym, ◌∙◌, ap, subst, le_trans, arith, lit<}
+use Rattle.std.proofs.Common.{◌≡◌, ◌⊎◌, inl, inr, ℕ, zero, suc, ◌+◌, ◌-◌, ◌*◌, ◌%◌, ◌^◌, ◌<◌, ◌≤◌, List, ◌++◌, length, map, sym, ◌∙◌, ap, subst, le_trans, arith, lit<}
 use Rattle.std.specs.Prelude.{slice_index}
 use Rattle.std.proofs.Math.Nat.{add-mul, mul-le-mul_left, pow-le-pow_right}
+use Rattle.std.proofs.Math.Pow.{shl_exact}
 use Rattle.std.proofs.lemmas.Bool.{cases_lt}
 use Rattle.std.proofs.lemmas.Grind.{same_number_lists}
 use Rattle.std.proofs.lemmas.List.{get_or_append_left, get_or-append_right, length-append}
@@ -11,9 +12,6 @@ use Rattle.std.specs.Int.{bit_at}
 use native.Mathlib.Nat.{one-mul, zero-mul}
 use Rattle.field_base.specs.Basis.{sum_below}
 use Rattle.field_base.specs.BitRingLemmas.{two_cases}
-use Rattle.field_base.specs.Field.{IsField}
-use Rattle.field_base.specs.Orders.{AreCantorVectors}
-use Rattle.field_laws.specs.PolynomialRoots.{AreDistinctBelow}
 use Rattle.field_laws.proofs.Polynomials.{polynomial-unique}
 use Rattle.ghash_slices.specs.Cantor.{point, polynomial_value}
 use Rattle.ghash_slices.proofs.CantorValues.{points_are_distinct}
@@ -24,8 +22,16 @@ use Rattle.protocols.proofs.Polynomials.{value-polynomial}
 
 -- ---- blocks
 
-module _ (width : ℕ) (times : ℕ → ℕ → ℕ) (vector : ℕ → ℕ) (k : ℕ) (coefficients : List ℕ) (count : length coefficients ≡ 2 ^ k) where
-  -- the value at point p
+-- values of elements under other names: the same shift, the same coefficients, the same places
+pub same_values : {X : Type 0} (repr : X → ℕ) (width : ℕ) (times : ℕ → ℕ → ℕ) (vector : ℕ → ℕ) (z y : ℕ) (from before to behind : List X)
+    → z ≡ y → from ≡ before → to ≡ behind → HoldValuesAtPoints width times vector z (map repr from) (map repr to)
+    → HoldValuesAtPoints width times vector y (map repr before) (map repr behind)
+same_values repr width times vector z y from before to behind shift coefficients places holds =
+    subst (λ (n : ℕ). HoldValuesAtPoints width times vector n (map repr before) (map repr behind)) shift
+    (subst (λ l. HoldValuesAtPoints width times vector z (map repr l) (map repr behind)) coefficients
+    (subst (λ l. HoldValuesAtPoints width times vector z (map repr from) (map repr l)) places holds))
+
+module _ (width : ℕ) (times : ℕ → ℕ → ℕ) (vector : ℕ → ℕ) (k : ℕ) (coefficients : List ℕ) where
   abbrev value : ℕ → ℕ
   value p = polynomial_value times k (slice_index coefficients) (point width vector 0 p)
 
@@ -33,16 +39,17 @@ module _ (width : ℕ) (times : ℕ → ℕ → ℕ) (vector : ℕ → ℕ) (k :
   abbrev pub AreBlocks : ℕ → List ℕ → Type 0
   AreBlocks blocks word = (length word ≡ blocks * 2 ^ k) × ((p : ℕ) → p < blocks * 2 ^ k → slice_index word p ≡ value p)
 
+module _ (width : ℕ) (times : ℕ → ℕ → ℕ) (vector : ℕ → ℕ) (k : ℕ) (coefficients : List ℕ) (count : length coefficients ≡ 2 ^ k) where
   -- the first block
-  pub first_block : (word : List ℕ) → length word ≡ 2 ^ k → HoldValuesAtPoints width times vector 0 coefficients word → AreBlocks 1 word
+  pub first_block : (word : List ℕ) → length word ≡ 2 ^ k → HoldValuesAtPoints width times vector 0 coefficients word → AreBlocks width times vector k coefficients 1 word
   first_block word size holds =
       let one : 1 * 2 ^ k ≡ 2 ^ k = one-mul (2 ^ k) in
       (size ∙ sym one, λ p below. holds k count p (omega (arith, below, one)))
 
   -- and one more
-  pub next_block : (blocks : ℕ) (word block : List ℕ) → length block ≡ 2 ^ k → AreBlocks blocks word
+  pub next_block : (blocks : ℕ) (word block : List ℕ) → length block ≡ 2 ^ k → AreBlocks width times vector k coefficients blocks word
       → HoldValuesAtPoints width times vector (point width vector 0 (blocks * 2 ^ k)) coefficients block
-      → AreBlocks (blocks + 1) (word ++ block)
+      → AreBlocks width times vector k coefficients (blocks + 1) (word ++ block)
   next_block blocks word block size so_far holds = (
     let longer = length-append word block in let before = so_far.0 in omega (arith, more, longer, before, size),
     λ p below. pick p below (cases_lt p (blocks * 2 ^ k)),
@@ -51,7 +58,7 @@ module _ (width : ℕ) (times : ℕ → ℕ → ℕ) (vector : ℕ → ℕ) (k :
       more : (blocks + 1) * 2 ^ k ≡ blocks * 2 ^ k + 2 ^ k
       more = add-mul blocks 1 (2 ^ k) ∙ ap (λ (n : ℕ). blocks * 2 ^ k + n) (one-mul (2 ^ k))
 
-      pick : (p : ℕ) → p < (blocks + 1) * 2 ^ k → (p < blocks * 2 ^ k) ⊎ (blocks * 2 ^ k ≤ p) → slice_index (word ++ block) p ≡ value p
+      pick : (p : ℕ) → p < (blocks + 1) * 2 ^ k → (p < blocks * 2 ^ k) ⊎ (blocks * 2 ^ k ≤ p) → slice_index (word ++ block) p ≡ value width times vector k coefficients p
       pick p below (inl lower) =
           let before = so_far.0 in
           get_or_append_left word block 0 p (omega (arith, before, lower)) ∙ so_far.1 p lower
@@ -63,7 +70,7 @@ module _ (width : ℕ) (times : ℕ → ℕ → ℕ) (vector : ℕ → ℕ) (k :
           (point-joined vector k blocks (p - blocks * 2 ^ k) rest width 0 ∙ ap (point width vector 0) joined)
 
   -- 2 ^ r blocks are a code word
-  pub whole_word : (r : ℕ) (word : List ℕ) → AreBlocks (2 ^ r) word → IsCodeWordOf width times vector k r word
+  pub whole_word : (r : ℕ) (word : List ℕ) → AreBlocks width times vector k coefficients (2 ^ r) word → IsCodeWordOf width times vector k r word
   whole_word r word blocks =
       record {
         size = blocks.0;
@@ -81,6 +88,10 @@ module _ (width : ℕ) (times : ℕ → ℕ → ℕ) (vector : ℕ → ℕ) (k :
       whole_word 1 (message ++ parity)
       (next_block 1 message parity parity_size (first_block message message_size first)
       (subst (λ (n : ℕ). HoldValuesAtPoints width times vector (point width vector 0 n) coefficients parity) (sym (one-mul (2 ^ k))) second))
+
+-- a power of two below the width of a word, by a shift
+pub shifted : (e : ℕ) → e ≤ 40 → (1 * 2 ^ e) % 2 ^ 64 ≡ 2 ^ e
+shifted e few = shl_exact {a = 1} 1 e 64 (lit< tt) (omega (arith, few)) ∙ one-mul (2 ^ e)
 
 -- the pairs of a transform of 2 ^ k values are counted in 64 bits
 pub few_pairs : (k : ℕ) → k ≤ 39 → 0 + k * 2 ^ (k - 1) < 2 ^ 64

@@ -1,5 +1,6 @@
 mod answers;
 mod challengers;
+mod code_words;
 mod codes;
 mod hashes;
 mod openings;
