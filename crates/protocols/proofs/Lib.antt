@@ -9,9 +9,10 @@ mod Polynomials
 mod Roots
 mod Statements
 mod Words
-pub mod SumcheckRounds
-pub mod SumcheckTurns
-pub mod SumcheckWhole
 mod Rows
 mod Soundness
+mod SumcheckStatements
+mod SumcheckSteps
+mod SumcheckWhole
+mod TermSteps
 mod ZeroChecks

@@ -1,97 +1,155 @@
 -- The whole of a proof by sum-check and of its verification.
-use Rattle.std.proofs.Common.{◌≡◌, ◌↔◌, ℕ, ◌^◌, ◌<◌, Bool, List, [], ◌∷◌, ◌++◌, length, map, refl, sym, ◌∙◌, ap, ap₂, subst}
-use Rattle.std.specs.Prelude.{IsTrue}
-use Rattle.std.proofs.lemmas.List.{length-map}
-use Rattle.field_base.specs.Powers.{dot_of}
-use Rattle.field_base.specs.Ring.{IsRing}
+use Rattle.std.proofs.Common.{◌≡◌, ℕ, zero, suc, ◌+◌, ◌*◌, ◌^◌, ◌<◌, ◌≤◌, List, [], ◌∷◌, ◌++◌, length, map, refl, sym, ◌∙◌, ap, ap₂, subst, arith, lit<}
+use Rattle.std.specs.Prelude.{max, min, slice_index}
+use Rattle.std.proofs.Math.Nat.{max-le, min-le_left, min-le_right, pow-le-pow_right}
+use Rattle.std.proofs.lemmas.List.{length-map, length-take}
+use Rattle.field_base.specs.Field.{IsField}
 use Rattle.field_slices.proofs.Places.{numbers-lt}
-use Rattle.polynomials.specs.Multilinear.{AreCornerValues, multilinear_value}
-use Rattle.polynomials.specs.declared.rounds.RoundPolynomial.{RoundPolynomial}
-use Rattle.polynomials.specs.Rounds.{quadratic_of}
-use Rattle.polynomials.specs.Sumcheck.{Accepts, AreHonest, sum_of_products}
-use Rattle.polynomials.proofs.Completeness.{honest-accepted}
-use Rattle.polynomials.proofs.RoundSums.{dot-numbers}
+use Rattle.polynomials.specs.Multilinear.{folded, folded_all}
+use Rattle.transcript_elements.specs.Lists.{InTurn}
 use Rattle.transcript_elements.specs.States.{GivesByState, LeadsByState}
-use Rattle.protocols.specs.Sumcheck.{AreTurns}
-use Rattle.protocols.proofs.SumcheckRounds.{Proved, Verified}
-use Rattle.protocols.proofs.SumcheckTurns.{turns-length, turns-same}
+use Rattle.protocols.proofs.Rows.{even-length, folded-values, rows-twice, terms_value-same}
+use Rattle.protocols.proofs.Soundness.{honest_reduces}
+use Rattle.protocols.proofs.SumcheckSteps.{Proved, Verified, elements-same, messages-length, observed-same, turns-length, turns-same}
+use Rattle.protocols.proofs.TermSteps.{degree-most, degree-some}
+use Rattle.protocols.specs.Products.{term_product}
+use Rattle.protocols.specs.Sumcheck.{AreTurns, IsRunOf, Statement, messages_of, statement_numbers}
+use Rattle.protocols.specs.SumcheckClaims.{AreHonestMessages, IsClaimShape, reduced_claim}
+use Rattle.protocols.specs.declared.terms.Term.{Term}
+use Rattle.protocols.specs.Terms.{AreWithin, Product, cube_sum, degree_of, table_value, terms_value}
 
-module _ {C F : Type 0} (observes : C → F → C → Type 0) (gives : C → F → C → Type 0) (times : ℕ → ℕ → ℕ) (repr : F → ℕ) where
-  -- the product of both values at a point
-  abbrev pub product_at : List ℕ → List ℕ → List F → ℕ
-  product_at left right point = times (multilinear_value times left (map repr point)) (multilinear_value times right (map repr point))
+-- no term over elements has more than four factors
+pub degree-few : {F : Type 0} (repr : F → ℕ) (terms : List (Term F)) → degree_of (map (term_product repr) terms) ≤ 4
+unfolding degree_of
+degree-few repr [] = omega arith
+degree-few repr (term ∷ terms) =
+    max-le
+    (let some = length-take (min term.count 4) term.factors in
+    let fewer = min-le_left (min term.count 4) (length term.factors) in
+    let four = min-le_right term.count 4 in
+    omega (arith, some, fewer, four))
+    (degree-few repr terms)
 
-  pub proved-whole : (old new : C) (left right next_left next_right : List ℕ) (rounds : ℕ) (items final : List (RoundPolynomial F))
-      → items ≡ [] → next_left ≡ left → next_right ≡ right → Proved observes gives times repr old next_left next_right rounds items final new
-      → (challenges : List F) × (length final ≡ rounds) × AreTurns observes gives old final challenges new
-      × AreHonest times left right (map (quadratic_of repr) final) (map repr challenges)
-  proved-whole old new left right next_left next_right rounds items final none is_left is_right proved =
-      let all : final ≡ proved.0 = proved.2 ∙ ap (λ (gs : List (RoundPolynomial F)). gs ++ proved.0) none in (
-        proved.1,
-        ap length all ∙ proved.3,
-        subst (λ (gs : List (RoundPolynomial F)). AreTurns observes gives old gs proved.1 new) (sym all) proved.4,
-        subst (λ (gs : List (RoundPolynomial F)). AreHonest times left right (map (quadratic_of repr) gs) (map repr proved.1)) (sym all)
-            (subst (λ (ls : List ℕ). AreHonest times ls right (map (quadratic_of repr) proved.0) (map repr proved.1)) is_left
-            (subst (λ (us : List ℕ). AreHonest times next_left us (map (quadratic_of repr) proved.0) (map repr proved.1)) is_right proved.5)),
-      )
+-- folding by every coordinate leaves a value of each polynomial
+pub folded_all-length : (times : ℕ → ℕ → ℕ) (count : ℕ) (point values : List ℕ) → length values ≡ 2 ^ length point * count
+    → length (folded_all times point values) ≡ count
+unfolding folded_all
+folded_all-length times count [] values size = let one : 2 ^ 0 * count ≡ count = omega arith in size ∙ one
+folded_all-length times count (r ∷ rs) values size =
+    folded_all-length times count rs (folded times r values)
+    (even-length (2 ^ length rs * count) values (rows-twice count (length rs) values size) times r)
 
-  -- the point that the verifier reads has a coordinate for each message
-  pub point-length : (old new : C) (claim last : ℕ) (messages : List (RoundPolynomial F)) (items final : List F) (consistent : Bool)
-      → items ≡ [] → Verified observes gives times repr old claim messages items final new consistent last → length final ≡ length messages
-  point-length old new claim last messages items final consistent none verified =
-      ap length (verified.1 ∙ ap (λ (rs : List F). rs ++ verified.0) none)
-      ∙ turns-length observes gives messages verified.0 old new verified.2
+-- what folding has left is a value of each polynomial, that at the point
+module _ {F : Type 0} (repr : F → ℕ) (times : ℕ → ℕ → ℕ) (count rounds : ℕ) (values left : List F) (point : List ℕ)
+    (size : length values ≡ 2 ^ rounds * count) (long : length point ≡ rounds) (is : map repr left ≡ folded_all times point (map repr values)) where
+  numbers : length (map repr values) ≡ 2 ^ length point * count
+  numbers = length-map values repr ∙ size ∙ ap (λ (n : ℕ). 2 ^ n * count) (sym long)
 
-  pub verified-whole : (old new : C) (claim last value : ℕ) (messages : List (RoundPolynomial F)) (items final : List F)
-      (consistent same accepted : Bool) (left right : List ℕ) → items ≡ [] → IsTrue same ↔ (last ≡ value)
-      → IsTrue accepted ↔ (IsTrue consistent × IsTrue same) → value ≡ product_at left right final
-      → Verified observes gives times repr old claim messages items final new consistent last
-      → (challenges : List F) × AreTurns observes gives old messages challenges new
-      × (IsTrue accepted ↔ Accepts times claim (map (quadratic_of repr) messages) (map repr challenges) (product_at left right challenges))
-  verified-whole old new claim last value messages items final consistent same accepted left right none equal both is verified =
-      let all : final ≡ verified.0 = verified.1 ∙ ap (λ (rs : List F). rs ++ verified.0) none in
-      let reached : value ≡ product_at left right verified.0 = is ∙ ap (product_at left right) all in (
-        verified.0,
-        verified.2,
+  pub left-count : length left ≡ count
+  left-count = sym (length-map left repr) ∙ ap length is ∙ folded_all-length times count point (map repr values) numbers
+
+  pub left-values : (width : ℕ) → IsField width times → 0 < width → ((x : F) → repr x < 2 ^ width) → (j : ℕ) → j < count
+      → slice_index (map repr left) j ≡ table_value times count (map repr values) point j
+  left-values width field wide range j inside =
+      ap (λ (ns : List ℕ). slice_index ns j) is
+      ∙ folded-values width times field.ring wide count point (map repr values) numbers (numbers-lt repr width range values) j inside
+
+module _ {C F : Type 0} (observes : C → F → C → Type 0) (gives : C → F → C → Type 0) (width : ℕ) (times : ℕ → ℕ → ℕ) (repr : F → ℕ) where
+  -- what a verifier has read after the last round
+  pub verified-run : (old begun new : C) (statement : Statement) (elements : List F) (claim rounds e d : ℕ) (values items final : List F)
+      (last : ℕ) → items ≡ [] → map repr elements ≡ statement_numbers statement → InTurn observes elements old begun → e ≡ d
+      → Verified observes gives width times repr e begun claim rounds values items final new last
+      → IsRunOf observes gives repr old statement (messages_of d rounds values) final new
+      × (last ≡ reduced_claim width times claim (map (map repr) (messages_of d rounds values)) (map repr final))
+  verified-run old begun new statement elements claim rounds e d values items final last none numbers observed same verified =
+      let all : Verified observes gives width times repr d begun claim rounds values items final new last =
+      subst (λ (n : ℕ). Verified observes gives width times repr n begun claim rounds values items final new last) same verified in
+      let point : final ≡ all.0 = all.1 ∙ ap (λ (xs : List F). xs ++ all.0) none in (
         (
-          (λ yes.
-              (verified.3 (product_at left right verified.0)).0 ((both.0 yes).0, equal.0 (both.0 yes).1 ∙ reached)),
-          (λ accepts.
-              let facts = (verified.3 (product_at left right verified.0)).1 accepts in
-              both.1 (facts.0, equal.1 (facts.1 ∙ sym reached))),
+          elements,
+          begun,
+          numbers,
+          observed,
+          subst (λ (rs : List F). AreTurns observes gives begun (messages_of d rounds values) rs new) (sym point) all.2,
         ),
+        all.3 ∙ ap (λ (rs : List F). reduced_claim width times claim (map (map repr) (messages_of d rounds values)) (map repr rs)) (sym point),
       )
+
+  module _ (terms : List Product) (count d : ℕ) where
+    -- what a prover has sent after the last round
+    pub proved-run : (old begun new : C) (statement : Statement) (elements : List F) (rounds : ℕ) (values : List ℕ)
+        (messages messages' point point' left : List F) → messages ≡ [] → point ≡ [] → map repr elements ≡ statement_numbers statement
+        → InTurn observes elements old begun → Proved observes gives width times repr d terms count begun rounds values messages messages' point point' left new
+        → IsRunOf observes gives repr old statement (messages_of d rounds messages') point' new
+        × AreHonestMessages times terms count d values (map (map repr) (messages_of d rounds messages')) (map repr point')
+        × (map repr left ≡ folded_all times (map repr point') values) × (length (map repr point') ≡ rounds)
+    proved-run old begun new statement elements rounds values messages messages' point point' left no_messages no_point numbers observed proved =
+        let sent : messages' ≡ proved.0 = proved.3 ∙ ap (λ (xs : List F). xs ++ proved.0) no_messages in
+        let given : point' ≡ proved.1 = proved.4 ∙ ap (λ (xs : List F). xs ++ proved.1) no_point in
+        let turns : AreTurns observes gives begun (messages_of d rounds messages') point' new =
+        subst (λ (xs : List F). AreTurns observes gives begun (messages_of d rounds xs) point' new) (sym sent)
+        (subst (λ (rs : List F). AreTurns observes gives begun (messages_of d rounds proved.0) rs new) (sym given) proved.7) in (
+          (elements, begun, numbers, observed, turns),
+          subst (λ (xs : List F). AreHonestMessages times terms count d values (map (map repr) (messages_of d rounds xs)) (map repr point')) (sym sent)
+              (subst (λ (rs : List F). AreHonestMessages times terms count d values (map (map repr) (messages_of d rounds proved.0)) (map repr rs)) (sym given) proved.8),
+          ap (map repr) proved.5 ∙ proved.9 ∙ ap (λ (rs : List F). folded_all times (map repr rs) values) (sym given),
+          length-map point' repr ∙ turns-length observes gives (messages_of d rounds messages') point' begun new turns ∙ messages-length d rounds messages',
+        )
+
+  -- ---- both
 
   module _ {S : Type 0} (state : C → S) (observes_law : (value : F) → LeadsByState state (λ old new. observes old value new))
-      (gives_law : GivesByState state gives) (width : ℕ) (ring : IsRing width 1 times) (wide : 0 < width)
-      (range : (x : F) → repr x < 2 ^ width) where
-    -- an honest prover is accepted by a verifier whose transcript begins in the same state, and that reads the messages in another slice
-    pub accepted-received : (old new other_old other_new : C) (left right : List F) (messages received : List (RoundPolynomial F))
-        (challenges others : List F) (claim rounds : ℕ) (accepted : Bool) → received ≡ messages → state old ≡ state other_old
-        → length left ≡ 2 ^ rounds → length right ≡ 2 ^ rounds → length messages ≡ rounds → claim ≡ dot_of times repr left right
-        → AreTurns observes gives old messages challenges new → AreTurns observes gives other_old received others other_new
-        → AreHonest times (map repr left) (map repr right) (map (quadratic_of repr) messages) (map repr challenges)
-        → IsTrue accepted ↔ Accepts times claim (map (quadratic_of repr) received) (map repr others)
-        (product_at (map repr left) (map repr right) others)
-        → IsTrue accepted
-    accepted-received old new other_old other_new left right messages received challenges others claim rounds accepted read same left_count
-        right_count count is_claim turns other_turns honest decides =
-        decides.1
-        (subst (λ (gs : List (RoundPolynomial F)). Says gs claim others) (sym read)
-        (subst (λ (rs : List F). Says messages claim rs)
-        (turns-same observes gives state observes_law gives_law messages challenges others old new other_old other_new same turns
-        (subst (λ (gs : List (RoundPolynomial F)). AreTurns observes gives other_old gs others other_new) read other_turns))
-        (subst (λ (c : ℕ). Says messages c challenges) (sym (is_claim ∙ dot-numbers width times ring repr left right))
-        (honest-accepted width times ring wide (map repr challenges) (map (quadratic_of repr) messages) (map repr left) (map repr right)
-        (corners left left_count) (corners right right_count) honest))))
+      (gives_law : GivesByState state gives) (field : IsField width times) (wide : 0 < width) (range : (x : F) → repr x < 2 ^ width)
+      (same_law : (x y : F) → repr x ≡ repr y → x ≡ y) where
+    -- an honest prover of a true claim is accepted by a verifier whose transcript begins in the same state, and that reads the messages in
+    -- another slice
+    pub accepted-whole : (old new other_old other_new : C) (statement : Statement) (terms : List Product) (count rounds claim last value : ℕ)
+        (values : List F) (messages read point other_point left left_read : List F)
+        → state old ≡ state other_old → 3 ≤ width → degree_of terms ≤ 4 → AreWithin count terms
+        → length values ≡ 2 ^ rounds * count → claim ≡ cube_sum times terms count rounds (map repr values)
+        → IsRunOf observes gives repr old statement (messages_of (degree_of terms) rounds messages) point new
+        → AreHonestMessages times terms count (degree_of terms) (map repr values) (map (map repr) (messages_of (degree_of terms) rounds messages)) (map repr point)
+        → ((j : ℕ) → j < count → slice_index (map repr left) j ≡ table_value times count (map repr values) (map repr point) j)
+        → read ≡ messages → left_read ≡ left
+        → IsRunOf observes gives repr other_old statement (messages_of (degree_of terms) rounds read) other_point other_new
+        → last ≡ reduced_claim width times claim (map (map repr) (messages_of (degree_of terms) rounds read)) (map repr other_point)
+        → value ≡ terms_value times terms (slice_index (map repr left_read)) → last ≡ value
+    accepted-whole old new other_old other_new statement terms count rounds claim last value values messages read point other_point left left_read
+        same enough few within size true_claim run honest over is_read is_left other_run is_last is_value =
+        is_last
+        ∙ ap (λ (xs : List F). reduced_claim width times claim (map (map repr) (messages_of (degree_of terms) rounds xs)) (map repr other_point)) is_read
+        ∙ ap (λ (rs : List F). reduced_claim width times claim (map (map repr) (messages_of (degree_of terms) rounds messages)) (map repr rs)) (sym points)
+        ∙ honest_reduces width times terms count (degree_of terms) claim (map repr values) (map repr point)
+        (map (map repr) (messages_of (degree_of terms) rounds messages)) shape
+        (true_claim ∙ ap (λ (n : ℕ). cube_sum times terms count n (map repr values)) (sym long)) honest
+        ∙ sym (is_value ∙ ap (λ (xs : List F). terms_value times terms (slice_index (map repr xs))) is_left
+        ∙ terms_value-same times count terms (slice_index (map repr left)) (table_value times count (map repr values) (map repr point)) within over)
       where
-        Says : List (RoundPolynomial F) → ℕ → List F → Type 0
-        Says gs c rs = Accepts times c (map (quadratic_of repr) gs) (map repr rs) (product_at (map repr left) (map repr right) rs)
+        begun_same : state run.1 ≡ state other_run.1
+        begun_same =
+            observed-same observes gives state observes_law gives_law run.0 old run.1 other_old other_run.1 same run.3
+            (subst (λ (xs : List F). InTurn observes xs other_old other_run.1)
+            (elements-same repr same_law other_run.0 run.0 (other_run.2 ∙ sym run.2)) other_run.3)
 
-        corners : (values : List F) → length values ≡ 2 ^ rounds → AreCornerValues width (length (map repr challenges)) (map repr values)
-        corners values values_count =
-            record {
-              count = length-map values repr ∙ values_count
-                  ∙ ap (λ (n : ℕ). 2 ^ n) (sym (length-map challenges repr ∙ turns-length observes gives messages challenges old new turns ∙ count));
-              each_fits = numbers-lt repr width range values;
-            }
+        points : point ≡ other_point
+        points =
+            turns-same observes gives state observes_law gives_law (messages_of (degree_of terms) rounds messages) point other_point run.1 new
+            other_run.1 other_new begun_same run.4
+            (subst (λ (xs : List F). AreTurns observes gives other_run.1 (messages_of (degree_of terms) rounds xs) other_point other_new) is_read other_run.4)
+
+        long : length (map repr point) ≡ rounds
+        long =
+            length-map point repr ∙ turns-length observes gives (messages_of (degree_of terms) rounds messages) point run.1 new run.4
+            ∙ messages-length (degree_of terms) rounds messages
+
+        shape : IsClaimShape width times terms count (degree_of terms) (length (map repr point)) (map repr values)
+        shape = record {
+          field = field;
+          wide = wide;
+          nodes = let power : 2 ^ 3 ≤ 2 ^ width = pow-le-pow_right (lit< tt) enough in omega (arith, power, few);
+          some = degree-some terms;
+          few = degree-most terms;
+          within = within;
+          size = length-map values repr ∙ size ∙ ap (λ (n : ℕ). 2 ^ n * count) (sym long);
+          fits = numbers-lt repr width range values;
+        }

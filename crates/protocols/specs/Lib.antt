@@ -1,6 +1,7 @@
 pub mod CodeWords
 pub mod Commitments
 pub mod MerkleTrees
+pub mod Products
 pub mod Runs
 pub mod Sumcheck
 pub mod SumcheckClaims

@@ -2,7 +2,7 @@
 -- methods for interactive proof systems, 1992; J. Thaler, Proofs, Arguments, and Zero-Knowledge, section 4.1). So many polynomials are
 -- given by a list of rows: row i has their values at corner i, so that value `i * count + j` is that of polynomial j at corner i. A
 -- sum is `bit_xor`, and `times` the product of a ring.
-use Rattle.std.specs.Prelude.{◌≡◌, ℕ, ◌+◌, ◌*◌, ◌^◌, ◌<◌, ◌≤◌, List, [], ◌∷◌, length, slice_index, bit_xor}
+use Rattle.std.specs.Prelude.{◌≡◌, ℕ, ◌+◌, ◌*◌, ◌^◌, ◌<◌, ◌≤◌, List, [], ◌∷◌, length, max, slice_index, bit_xor}
 use Rattle.field_base.specs.Basis.{product_below, sum_below}
 use Rattle.polynomials.specs.Multilinear.{eq_corner, folded}
 
@@ -19,6 +19,11 @@ product_value times row term = times term.coefficient (product_below times (λ k
 unfoldable pub terms_value : (ℕ → ℕ → ℕ) → List Product → (ℕ → ℕ) → ℕ
 terms_value times [] row = 0
 terms_value times (term ∷ terms) row = bit_xor (product_value times row term) (terms_value times terms row)
+
+-- the most factors of a term, and 1 where there are none
+unfoldable pub degree_of : List Product → ℕ
+degree_of [] = 1
+degree_of (term ∷ terms) = max (length term.factors) (degree_of terms)
 
 -- no term has more than so many factors
 unfoldable pub HaveFactors : ℕ → List Product → Type 0

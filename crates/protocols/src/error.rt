@@ -13,6 +13,12 @@ pub enum ProtocolError {
     /// A call of the challenger failed.
     #[error("the challenger has failed")]
     Challenger,
+    /// A count, a factor or the field is out of range.
+    #[error("a count, a factor or the field is out of range")]
+    Shape,
+    /// The proof has another number of messages, or of values.
+    #[error("the proof has another length")]
+    Length,
     /// No element is a witness of the work.
     #[error("no witness found")]
     NoWitness,

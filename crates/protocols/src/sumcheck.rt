@@ -1,177 +1,320 @@
 // The prover and the verifier of the sum-check protocol, over any field and any challenger of it.
-ghost use Rattle.std.specs.Prelude.{◌≡◌, ◌↔◌, ◌^◌, ◌++◌, ℕ, List, length, map, IfOk, IsTrue, OnOk};
-ghost use Rattle.field_base.specs.Powers.{dot_of};
-ghost use Rattle.polynomials.specs.Multilinear.{multilinear_value};
-ghost use Rattle.polynomials.specs.Rounds.{quadratic_of};
-ghost use Rattle.polynomials.specs.Sumcheck.{Accepts, AreHonest};
-ghost use Rattle.polynomials.specs.declared.rounds.RoundPolynomial.{RoundPolynomial};
-ghost use Rattle.protocols.specs.Sumcheck.{AreTurns, IsTurn};
+ghost use Rattle.std.specs.Prelude.{◌≡◌, ◌↔◌, ◌+◌, ◌*◌, ◌-◌, ◌/◌, ◌^◌, ◌<◌, ◌≤◌, ◌++◌, ℕ, List, length, map, slice_index, take, Err, IfOk};
+ghost use Rattle.std.specs.Prelude.{OnOk, IsTrue};
+ghost use Rattle.protocols.specs.Products.{term_product};
+ghost use Rattle.protocols.specs.Sumcheck.{AreTurns, IsRunOf, IsTurn, messages_of, statement_of};
+ghost use Rattle.protocols.specs.SumcheckClaims.{AreHonestMessages, honest_message, message_at, node_values, reduced_claim};
+ghost use Rattle.protocols.specs.Terms.{AreWithin, cube_sum, degree_of, honest_at, table_value, terms_value};
+ghost use Rattle.polynomials.specs.Multilinear.{folded, folded_all};
 
 use crate::error::ProtocolError;
-use crate::verdicts::both;
+use crate::statement::statement;
+use crate::terms::{Term, cube_sum, degree, terms_at};
 use field_base::traits::Field;
-use polynomials::{RoundPolynomial, evaluate_multilinear, fold};
-use std::alloc::{AllocError, Global};
-use transcript_bytes::ChallengerError;
-use transcript_elements::{CanObserve, CanSample, FieldChallenger};
+use polynomials::{fold, interpolate_at_nodes};
+use std::alloc::{AllocError, Allocator};
+use transcript_elements::FieldChallenger;
 
-/// Proves the sum of the products of the values of both polynomials, and verifies the proof in a challenger that begins in the same
-/// state. The verifier accepts, whatever the challenger is.
-pub fn prove_and_verify<F: Field, C: FieldChallenger<F>>(
-    alloc: Global,
-    prover: &mut C,
-    verifier: &mut C,
-    left: &[F],
-    right: &[F],
-    rounds: usize,
-) -> Result<bool, ProtocolError>
-    requires state { C.state prover.old ≡ C.state verifier.old }
-    requires left_count { length left.now ≡ 2 ^ rounds }
-    requires right_count { length right.now ≡ 2 ^ rounds }
-    ensures { IfOk result (λ accepted. IsTrue accepted) }
-{
-    let claim = F::dot_product_of_slices(left, right);
-    let messages = prove(alloc, prover, left, right, rounds)?;
-    let accepted = verify(alloc, verifier, claim, messages.as_slice(), left, right)?;
-    Ok(accepted)
+/// What a prover has after its last round.
+#[derive(Drop)]
+pub struct Proven<F: Field, A: Allocator> {
+    /// The messages, one after the other, which are the proof.
+    pub messages: Vec<F, A>,
+    /// The challenges, which are the point at which the values are left to be checked.
+    pub point: Vec<F, A>,
+    /// The values of the polynomials at the point.
+    pub values: Vec<F, A>,
 }
 
-/// The messages of an honest prover, one for each coordinate of the cube at whose corners the polynomials have these values. The sum of
-/// the products is observed before the first message.
-pub fn prove<F: Field, C: FieldChallenger<F>>(
-    alloc: Global,
+/// What a verifier is left with: the terms have to have this value at the point.
+#[derive(Drop)]
+pub struct Reduced<F: Field, A: Allocator> {
+    /// The challenges.
+    pub point: Vec<F, A>,
+    /// The value of the terms at the point, if what was claimed is true.
+    pub claim: F,
+}
+
+/// Proves that the sum of the terms over the cube of `rounds` coordinates is the claim: row i of the values has those of `count`
+/// polynomials at corner i. The values are folded in place. The statement is observed, then each round's message, after which its
+/// challenge is sampled. It fails with `Shape` if the numbers do not fit the values or the field, and with `Memory` or `Challenger`.
+pub fn prove<F: Field, C: FieldChallenger<F>, A: Allocator + Copy>(
+    alloc: A,
     challenger: &mut C,
-    left: &[F],
-    right: &[F],
+    values: &mut [F],
     rounds: usize,
-) -> Result<Vec<RoundPolynomial<F>>, ProtocolError>
-    requires left_count { length left.now ≡ 2 ^ rounds }
-    requires right_count { length right.now ≡ 2 ^ rounds }
-    ensures { IfOk result (λ messages. (claim : F) × (begun : C) × (challenges : List F) × (length messages.items ≡ rounds)
-        × (F.repr claim ≡ dot_of F.product F.repr left.now right.now) × C.observes challenger.old claim begun
-        × AreTurns C.observes C.gives begun messages.items challenges challenger.new
-        × AreHonest F.product (map F.repr left.now) (map F.repr right.now) (map (quadratic_of F.repr) messages.items) (map F.repr challenges)) }
+    count: usize,
+    terms: &[Term<F>],
+    claim: F,
+) -> Result<Proven<F, A>, ProtocolError>
+    ensures run { IfOk result (λ proven. IsRunOf C.observes C.gives F.repr challenger.old
+        (statement_of F.width F.product rounds count (map (term_product F.repr) terms.now) (F.repr claim))
+        (messages_of (degree_of (map (term_product F.repr) terms.now)) rounds proven.messages.items) proven.point.items challenger.new) }
+    ensures honest { IfOk result (λ proven. AreHonestMessages F.product (map (term_product F.repr) terms.now) count
+        (degree_of (map (term_product F.repr) terms.now)) (map F.repr values.old)
+        (map (map F.repr) (messages_of (degree_of (map (term_product F.repr) terms.now)) rounds proven.messages.items))
+        (map F.repr proven.point.items)) }
+    ensures field { IfOk result (λ proven. 3 ≤ F.width) }
+    ensures count { IfOk result (λ proven. length proven.values.items ≡ count) }
+    ensures values { IfOk result (λ proven. (j : ℕ) → j < count → slice_index (map F.repr proven.values.items) j
+        ≡ table_value F.product count (map F.repr values.old) (map F.repr proven.point.items) j) }
 {
-    let claim = F::dot_product_of_slices(left, right);
-    challenger.observe(claim)?;
-    let mut left_rest = copied(alloc, left)?;
-    let mut right_rest = copied(alloc, right)?;
-    let mut messages = Vec::new(alloc);
+    if rounds >= 64 {
+        return Err(ProtocolError::Shape);
+    }
+    if !has_length(values.len(), count, 1 << rounds) {
+        return Err(ProtocolError::Shape);
+    }
+    let elements = statement(alloc, rounds, count, terms, claim)?;
+    challenger.observe_slice(elements.as_slice())?;
+    let mut scratch = F::zero_vec(alloc, values.len())?;
+    let mut proven = Proven {
+        messages: Vec::new(alloc),
+        point: Vec::new(alloc),
+        values: Vec::new(alloc),
+    };
     prove_rounds(
+        alloc,
         challenger,
-        left_rest.as_mut_slice(),
-        right_rest.as_mut_slice(),
+        terms,
+        values,
+        scratch.as_mut_slice(),
         rounds,
-        &mut messages,
+        count,
+        &mut proven,
     )?;
-    Ok(messages)
+    Ok(proven)
 }
 
-// A copy of values.
-fn copied<F: Field>(alloc: Global, values: &[F]) -> Result<Vec<F>, AllocError>
-    ensures { IfOk result (λ copy. copy.items ≡ values.now) }
-{
-    let mut copy = F::zero_vec(alloc, values.len())?;
-    copy.copy_from_slice(values);
-    Ok(copy)
-}
-
-// Appends the messages of the rounds that are left, and folds the values by the challenges.
-fn prove_rounds<F: Field, C: CanObserve<F> + CanSample<F>>(
+// Appends the messages and the challenges of the rounds that are left, and folds the values by the challenges.
+fn prove_rounds<F: Field, C: FieldChallenger<F>, A: Allocator + Copy>(
+    alloc: A,
     challenger: &mut C,
-    left: &mut [F],
-    right: &mut [F],
+    terms: &[Term<F>],
+    values: &mut [F],
+    scratch: &mut [F],
     rounds: usize,
-    messages: &mut Vec<RoundPolynomial<F>>,
+    count: usize,
+    proven: &mut Proven<F, A>,
 ) -> Result<(), ProtocolError>
-    requires left_count { length left.old ≡ 2 ^ rounds }
-    requires right_count { length right.old ≡ 2 ^ rounds }
-    ensures { OnOk result ((appended : List (RoundPolynomial F)) × (challenges : List F)
-        × (messages.new.items ≡ messages.old.items ++ appended) × (length appended ≡ rounds)
-        × AreTurns C.observes C.gives challenger.old appended challenges challenger.new
-        × AreHonest F.product (map F.repr left.old) (map F.repr right.old) (map (quadratic_of F.repr) appended) (map F.repr challenges)) }
+    requires few { rounds < 64 }
+    requires field { 3 ≤ F.width }
+    requires within { AreWithin count (map (term_product F.repr) terms.now) }
+    requires size { length values.old ≡ 2 ^ rounds * count }
+    requires room { length scratch.old ≡ length values.old }
+    ensures { OnOk result ((messages : List F) × (challenges : List F) × (left : List F)
+        × (proven.new.messages.items ≡ proven.old.messages.items ++ messages) × (proven.new.point.items ≡ proven.old.point.items ++ challenges)
+        × (proven.new.values.items ≡ left)
+        × (length messages ≡ rounds * degree_of (map (term_product F.repr) terms.now))
+        × AreTurns C.observes C.gives challenger.old (messages_of (degree_of (map (term_product F.repr) terms.now)) rounds messages) challenges
+        challenger.new
+        × AreHonestMessages F.product (map (term_product F.repr) terms.now) count (degree_of (map (term_product F.repr) terms.now))
+        (map F.repr values.old) (map (map F.repr) (messages_of (degree_of (map (term_product F.repr) terms.now)) rounds messages))
+        (map F.repr challenges)
+        × (map F.repr left ≡ folded_all F.product (map F.repr challenges) (map F.repr values.old))) }
 {
     if rounds == 0 {
+        let left = Vec::from_slice(alloc, values)?;
+        proven.values = left;
         return Ok(());
     }
-    let message = RoundPolynomial::of(left, right);
-    messages.push(message)?;
-    let challenge = turn(challenger, message)?;
-    let half = left.len() / 2;
-    fold(left, challenge);
-    fold(right, challenge);
+    let message = message(alloc, terms, values, scratch, rounds - 1, count)?;
+    let sent = message.as_slice();
+    challenger.observe_slice(sent)?;
+    proven.messages.extend_from_slice(sent)?;
+    let challenge = challenger.sample()?;
+    proven.point.push(challenge)?;
+    fold(values, challenge);
+    let half = values.len() / 2;
     prove_rounds(
+        alloc,
         challenger,
-        &mut left[..half],
-        &mut right[..half],
+        terms,
+        &mut values[..half],
+        &mut scratch[..half],
         rounds - 1,
-        messages,
+        count,
+        proven,
     )?;
     Ok(())
 }
 
-/// Whether the messages prove that the sum is `claim`, where the verifier has the values of both polynomials. The claim is observed before
-/// the first message, and the polynomials are not: they have to be fixed before the challenges, by a commitment that was observed.
-pub fn verify<F: Field, C: FieldChallenger<F>>(
-    alloc: Global,
-    challenger: &mut C,
-    claim: F,
-    messages: &[RoundPolynomial<F>],
-    left: &[F],
-    right: &[F],
-) -> Result<bool, ProtocolError>
-    requires left_count { length left.now ≡ 2 ^ length messages.now }
-    requires right_count { length right.now ≡ 2 ^ length messages.now }
-    ensures { IfOk result (λ accepted. (begun : C) × (challenges : List F) × C.observes challenger.old claim begun
-        × AreTurns C.observes C.gives begun messages.now challenges challenger.new
-        × (IsTrue accepted ↔ Accepts F.product (F.repr claim) (map (quadratic_of F.repr) messages.now) (map F.repr challenges)
-        (F.product (multilinear_value F.product (map F.repr left.now) (map F.repr challenges))
-        (multilinear_value F.product (map F.repr right.now) (map F.repr challenges))))) }
+// The message of an honest prover, where `rounds` coordinates are left besides the first: the values of the round's polynomial at the
+// elements 0, 2, 3, .., up to the degree. `scratch` is as long as the values.
+fn message<F: Field, A: Allocator>(
+    alloc: A,
+    terms: &[Term<F>],
+    values: &[F],
+    scratch: &mut [F],
+    rounds: usize,
+    count: usize,
+) -> Result<Vec<F, A>, AllocError>
+    requires few { rounds < 63 }
+    requires field { 3 ≤ F.width }
+    requires within { AreWithin count (map (term_product F.repr) terms.now) }
+    requires size { length values.now ≡ 2 ^ (rounds + 1) * count }
+    requires room { length scratch.old ≡ length values.now }
+    ensures room { length scratch.new ≡ length scratch.old }
+    ensures honest { IfOk result (λ message. map F.repr message.items
+        ≡ honest_message F.product (map (term_product F.repr) terms.now) count rounds
+        (map F.repr values.now) (degree_of (map (term_product F.repr) terms.now))) }
 {
-    challenger.observe(claim)?;
-    let mut point = Vec::new(alloc);
-    let (consistent, last) = verify_rounds(challenger, claim, messages, &mut point)?;
-    let value = evaluate_multilinear(left, point.as_slice())
-        * evaluate_multilinear(right, point.as_slice());
-    Ok(both(consistent, last == value))
-}
-
-// Appends the challenges, and returns whether each message has the claim of its round as its sum, with the last claim.
-fn verify_rounds<F: Field, C: CanObserve<F> + CanSample<F>>(
-    challenger: &mut C,
-    claim: F,
-    messages: &[RoundPolynomial<F>],
-    point: &mut Vec<F>,
-) -> Result<(bool, F), ProtocolError>
-    ensures { IfOk result (λ last. (challenges : List F) × (point.new.items ≡ point.old.items ++ challenges)
-        × AreTurns C.observes C.gives challenger.old messages.now challenges challenger.new
-        × ((value : ℕ) → (IsTrue last.0 × (F.repr last.1 ≡ value))
-        ↔ Accepts F.product (F.repr claim) (map (quadratic_of F.repr) messages.now) (map F.repr challenges) value)) }
-{
-    if messages.is_empty() {
-        return Ok((true, claim));
+    let mut message = Vec::new(alloc);
+    let first = value_at(terms, values, scratch, rounds, count, F::ZERO);
+    message.push(first)?;
+    let degree = degree(terms);
+    for node in 2..degree + 1 {
+        let x = F::interpolation_node(node);
+        let value = value_at(terms, values, scratch, rounds, count, x);
+        message.push(value)?;
     }
-    let message = messages[0];
-    let challenge = turn(challenger, message)?;
-    point.push(challenge)?;
-    let (consistent, last) = verify_rounds(
-        challenger,
-        message.value_at(challenge),
-        &messages[1..],
-        point,
-    )?;
-    Ok((both(consistent, message.sums_to(claim)), last))
+    Ok(message)
 }
 
-// Observes a message, and samples its challenge.
-fn turn<F: Field, C: CanObserve<F> + CanSample<F>>(
-    challenger: &mut C,
-    message: RoundPolynomial<F>,
-) -> Result<F, ChallengerError>
-    ensures { IfOk result (λ challenge. IsTurn C.observes C.gives challenger.old message challenge challenger.new) }
+// The value at x of the round's polynomial, where `rounds` coordinates are left besides the first. `scratch` is as long as the values.
+fn value_at<F: Field>(
+    terms: &[Term<F>],
+    values: &[F],
+    scratch: &mut [F],
+    rounds: usize,
+    count: usize,
+    x: F,
+) -> F
+    requires few { rounds < 63 }
+    requires within { AreWithin count (map (term_product F.repr) terms.now) }
+    requires size { length values.now ≡ 2 ^ (rounds + 1) * count }
+    requires room { length scratch.old ≡ length values.now }
+    ensures room { length scratch.new ≡ length scratch.old }
+    ensures value { F.repr result
+        ≡ honest_at F.product (map (term_product F.repr) terms.now) count rounds (map F.repr values.now) (F.repr x) }
 {
-    challenger.observe(message.constant)?;
-    challenger.observe(message.linear)?;
-    challenger.observe(message.quadratic)?;
-    challenger.sample()
+    scratch.copy_from_slice(values);
+    fold(scratch, x);
+    cube_sum(terms, &scratch[..values.len() / 2], count, rounds)
+}
+
+/// Reduces the claim that the sum of the terms of `count` polynomials over the cube of `rounds` coordinates is `claim` to one claim at one
+/// point: that the terms have the value `claim` of the result at its point. The caller has to check that one, with values that were
+/// committed to before the challenges were sampled. It fails with `Length` if there are not as many messages as rounds, each of as many
+/// values as a term has factors at most, with `Shape` if a number does not fit the field, and with `Memory` or `Challenger`.
+pub fn verify<F: Field, C: FieldChallenger<F>, A: Allocator + Copy>(
+    alloc: A,
+    challenger: &mut C,
+    rounds: usize,
+    count: usize,
+    terms: &[Term<F>],
+    claim: F,
+    messages: &[F],
+) -> Result<Reduced<F, A>, ProtocolError>
+    ensures length { IfOk result (λ reduced. length messages.now ≡ rounds * degree_of (map (term_product F.repr) terms.now)) }
+    ensures run { IfOk result (λ reduced. IsRunOf C.observes C.gives F.repr challenger.old
+        (statement_of F.width F.product rounds count (map (term_product F.repr) terms.now) (F.repr claim))
+        (messages_of (degree_of (map (term_product F.repr) terms.now)) rounds messages.now) reduced.point.items challenger.new) }
+    ensures claim { IfOk result (λ reduced. F.repr reduced.claim ≡ reduced_claim F.width F.product (F.repr claim)
+        (map (map F.repr) (messages_of (degree_of (map (term_product F.repr) terms.now)) rounds messages.now)) (map F.repr reduced.point.items)) }
+{
+    let degree = degree(terms);
+    if !has_length(messages.len(), rounds, degree) {
+        return Err(ProtocolError::Length);
+    }
+    let elements = statement(alloc, rounds, count, terms, claim)?;
+    challenger.observe_slice(elements.as_slice())?;
+    let mut point = Vec::new(alloc);
+    let claim = verify_rounds(
+        alloc, challenger, claim, messages, rounds, degree, &mut point,
+    )?;
+    Ok(Reduced { point, claim })
+}
+
+// Whether so many values are `count` parts of this size, which is not 0.
+fn has_length(length: usize, count: usize, size: usize) -> bool
+    requires { 0 < size }
+    ensures { IsTrue result ↔ (length ≡ count * size) }
+{
+    if length % size != 0 {
+        return false;
+    }
+    length / size == count
+}
+
+// Appends the challenges of the rounds that are left, and returns the claim after them.
+fn verify_rounds<F: Field, C: FieldChallenger<F>, A: Allocator + Copy>(
+    alloc: A,
+    challenger: &mut C,
+    claim: F,
+    messages: &[F],
+    rounds: usize,
+    degree: usize,
+    point: &mut Vec<F, A>,
+) -> Result<F, ProtocolError>
+    requires field { 3 ≤ F.width }
+    requires some { 0 < degree }
+    requires few { degree ≤ 4 }
+    requires count { length messages.now ≡ rounds * degree }
+    ensures { IfOk result (λ last. (challenges : List F) × (point.new.items ≡ point.old.items ++ challenges)
+        × AreTurns C.observes C.gives challenger.old (messages_of degree rounds messages.now) challenges challenger.new
+        × (F.repr last ≡ reduced_claim F.width F.product (F.repr claim) (map (map F.repr) (messages_of degree rounds messages.now))
+        (map F.repr challenges))) }
+{
+    if rounds == 0 {
+        return Ok(claim);
+    }
+    let (message, rest) = messages.split_at(degree);
+    challenger.observe_slice(message)?;
+    let challenge = challenger.sample()?;
+    point.push(challenge)?;
+    let nodes = node_values(alloc, claim, message)?;
+    let next = interpolate_at_nodes(nodes.as_slice(), challenge);
+    let last = verify_rounds(alloc, challenger, next, rest, rounds - 1, degree, point)?;
+    Ok(last)
+}
+
+// The values of a round's polynomial at the first elements, by its claim and its message.
+fn node_values<F: Field, A: Allocator>(
+    alloc: A,
+    claim: F,
+    message: &[F],
+) -> Result<Vec<F, A>, AllocError>
+    requires { 0 < length message.now }
+    ensures { IfOk result (λ nodes. map F.repr nodes.items ≡ node_values (F.repr claim) (map F.repr message.now)) }
+{
+    let mut nodes = Vec::new(alloc);
+    let first = message[0];
+    nodes.push(first)?;
+    let second = claim + first;
+    nodes.push(second)?;
+    nodes.extend_from_slice(&message[1..])?;
+    Ok(nodes)
+}
+
+/// Proves that the sum is what it is, and verifies the proof in a challenger that begins in the same state. The verifier accepts,
+/// whatever the challenger is.
+pub fn prove_and_verify<F: Field, C: FieldChallenger<F>, A: Allocator + Copy>(
+    alloc: A,
+    prover: &mut C,
+    verifier: &mut C,
+    values: &mut [F],
+    rounds: usize,
+    count: usize,
+    terms: &[Term<F>],
+) -> Result<bool, ProtocolError>
+    requires state { C.state prover.old ≡ C.state verifier.old }
+    requires few { rounds < 64 }
+    requires within { AreWithin count (map (term_product F.repr) terms.now) }
+    requires size { length values.old ≡ 2 ^ rounds * count }
+    ensures { IfOk result (λ accepted. IsTrue accepted) }
+{
+    let claim = cube_sum(terms, values, count, rounds);
+    let proven = prove(alloc, prover, values, rounds, count, terms, claim)?;
+    let reduced = verify(
+        alloc,
+        verifier,
+        rounds,
+        count,
+        terms,
+        claim,
+        proven.messages.as_slice(),
+    )?;
+    let value = terms_at(terms, proven.values.as_slice());
+    Ok(reduced.claim == value)
 }

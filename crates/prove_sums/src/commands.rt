@@ -16,9 +16,10 @@ field of GHASH, from its lowest byte. `prove` adds the products of the words at 
 that this is their sum, and writes the proof to PROOF. `verify` says whether PROOF proves that, and for which sum.
 
 A proof is 8 bytes that name it and its field, the two tables' commitments, which are the roots of their Merkle trees over SHA-256
-with leaves of 8 bytes, the sum, and 3 n numbers of 16 bytes. The transcript begins with all but the last, so that no proof serves for
-other tables or another sum. The verifier needs no sum of products, but it reads both tables once: it hashes them, to compare the roots, and takes
-the value of either at the point to which the proof reduces the claim. No opening stands for that value.
+with leaves of 8 bytes, the sum, and 2 n numbers of 16 bytes. The transcript begins with the first two and with sum-check's statement,
+in which the sum is, so that no proof serves for other tables or another sum. The verifier needs no sum of products, but it reads both
+tables once: it hashes them, to compare the roots, and takes the value of either at the point to which the proof reduces the claim. No
+opening stands for that value.
 
 The exit status is 0 if a proof was written or is accepted, 1 if it is refused, and 2 after an error. Without arguments the program
 prints a worked example. --version prints the version.";
@@ -92,12 +93,8 @@ pub(crate) fn prove_tables(alloc: Global, left: &[u8], right: &[u8]) -> Result<V
     }
     let left_root = root_of(alloc, left)?;
     let right_root = root_of(alloc, right)?;
-    let sum = sums::sum(left_words, right_words);
-    let front = encode(alloc, &left_root, &right_root, &[sum])?;
-    let messages = sums::prove(alloc, front, left_words, right_words, rounds)?;
-    let mut numbers = Vec::new(alloc);
-    numbers.push(sum)?;
-    numbers.extend_from_slice(messages.as_slice())?;
+    let front = encode(alloc, &left_root, &right_root, &[])?;
+    let numbers = sums::prove(alloc, front, left_words, right_words, rounds)?;
     Ok(encode(alloc, &left_root, &right_root, numbers.as_slice())?)
 }
 
@@ -125,14 +122,11 @@ pub(crate) fn verify_tables(
     if read.right != right_root {
         return Ok(Some(Refusal::OtherRight));
     }
-    let Some((sum, messages)) = read.numbers.split_first() else {
-        return Ok(Some(Refusal::Length));
-    };
-    if messages.len() != 3 * rounds {
+    if read.numbers.len() != 2 * rounds + 1 {
         return Ok(Some(Refusal::Length));
     }
-    let front = encode(alloc, &left_root, &right_root, &[*sum])?;
-    if sums::verify(alloc, front, left_words, right_words, sum, messages)? {
+    let front = encode(alloc, &left_root, &right_root, &[])?;
+    if sums::verify(alloc, front, left_words, right_words, rounds, read.numbers)? {
         Ok(None)
     } else {
         Ok(Some(Refusal::NotProved))

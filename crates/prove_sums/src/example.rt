@@ -46,7 +46,7 @@ pub(crate) fn print(rt: &HostRuntime) -> Result<()> {
     say_changed(rt, "for another right table", left, &right, proof, 40)?;
     say_changed(rt, "with another sum", left, &right, proof, 72)?;
     say_changed(rt, "with another first message", left, &right, proof, 88)?;
-    say_changed(rt, "with another last message", left, &right, proof, 231)?;
+    say_changed(rt, "with another last message", left, &right, proof, 183)?;
     let short = proof.len().saturating_sub(1);
     say(rt, "without its last byte", left, &right, &proof[..short])?;
     let shorter = proof.len().saturating_sub(16);

@@ -1,10 +1,11 @@
 // Sums of products of two tables, over any field, in any transcript of it. The field of the program is chosen at the end.
-ghost use Rattle.std.specs.Prelude.{◌≡◌, ◌^◌, length, IfOk};
+ghost use Rattle.std.specs.Prelude.{◌≡◌, ◌≤◌, ◌^◌, length, IfOk};
 
-use field_base::traits::{PrimeCharacteristicRing, TowerLevel};
+use field_base::traits::{Field, PrimeCharacteristicRing, TowerLevel};
 use field_base::{LevelKernel, Unsigned};
 use field_element::{Element, HasPacking};
-use polynomials::RoundPolynomial;
+use polynomials::evaluate_multilinear;
+use protocols::terms::Term;
 use protocols::{ProtocolError, sumcheck};
 use std::alloc::{AllocError, Global};
 use transcript_bytes::{HashChallenger, Sha256Hasher};
@@ -32,18 +33,26 @@ fn elements<F: ByteLevel>(alloc: Global, words: &[[u8; 16]]) -> Result<Vec<F>, A
     Ok(elements)
 }
 
-// The sum of the products of the words at the same places, of which there are as many in either table.
-fn sum_over<F: ByteLevel>(left: &[[u8; 16]], right: &[[u8; 16]]) -> F
-    requires { length right.now ≡ length left.now }
-{
-    let mut sum = F::ZERO;
-    for place in 0..left.len() {
-        sum = sum + element::<F>(&left[place]) * element::<F>(&right[place]);
+// The words of elements.
+fn words<F: ByteLevel>(alloc: Global, elements: &[F]) -> Result<Vec<[u8; 16]>, AllocError> {
+    let mut words = Vec::new(alloc);
+    for place in 0..elements.len() {
+        words.push(word_of(elements[place]))?;
     }
-    sum
+    Ok(words)
 }
 
-// The messages that prove the sum of the products of two tables of 2^rounds words, three numbers a round.
+// What is summed: the product of the polynomials 0 and 1.
+fn product<F: Field>(alloc: Global) -> Result<Vec<Term<F>>, ProtocolError> {
+    let mut terms = Vec::new(alloc);
+    match Term::new(F::ONE, &[0, 1]) {
+        Some(term) => terms.push(term)?,
+        None => return Err(ProtocolError::Shape),
+    }
+    Ok(terms)
+}
+
+// The sum of the products of two tables of 2^rounds words, and the messages that prove it.
 fn prove_over<F: ByteLevel, C: FieldChallenger<F>>(
     alloc: Global,
     challenger: &mut C,
@@ -53,63 +62,76 @@ fn prove_over<F: ByteLevel, C: FieldChallenger<F>>(
 ) -> Result<Vec<[u8; 16]>, ProtocolError>
     requires left { length left.now ≡ 2 ^ rounds }
     requires right { length right.now ≡ 2 ^ rounds }
+    requires few { rounds ≤ 39 }
 {
-    let left = elements::<F>(alloc, left)?;
-    let right = elements::<F>(alloc, right)?;
-    let messages = sumcheck::prove(alloc, challenger, left.as_slice(), right.as_slice(), rounds)?;
-    let mut numbers = Vec::new(alloc);
-    for round in 0..messages.len() {
-        let message = messages[round];
-        numbers.push(word_of(message.constant))?;
-        numbers.push(word_of(message.linear))?;
-        numbers.push(word_of(message.quadratic))?;
+    let mut rows = Vec::new(alloc);
+    let mut sum = F::ZERO;
+    for place in 0..left.len() {
+        let (one, other) = (element::<F>(&left[place]), element::<F>(&right[place]));
+        rows.push(one)?;
+        rows.push(other)?;
+        sum = sum + one * other;
     }
+    let terms = product(alloc)?;
+    let proven = sumcheck::prove(
+        alloc,
+        challenger,
+        rows.as_mut_slice(),
+        rounds,
+        2,
+        terms.as_slice(),
+        sum,
+    )?;
+    let mut numbers = Vec::new(alloc);
+    numbers.push(word_of(sum))?;
+    numbers.extend_from_slice(words(alloc, proven.messages.as_slice())?.as_slice())?;
     Ok(numbers)
 }
 
-// Whether the messages, three numbers a round, prove that the sum of the products of two tables is this. The claim to which the messages
-// reduce it is compared with the tables themselves, whose polynomials are evaluated at the point.
+// Whether the numbers, a sum and messages, prove that it is the sum of the products of two tables of 2^rounds words. The claim to which
+// the messages reduce it is compared with the tables themselves, whose polynomials are evaluated at the point.
 fn verify_over<F: ByteLevel, C: FieldChallenger<F>>(
     alloc: Global,
     challenger: &mut C,
     left: &[[u8; 16]],
     right: &[[u8; 16]],
-    sum: &[u8; 16],
+    rounds: usize,
     numbers: &[[u8; 16]],
-) -> Result<bool, ProtocolError> {
-    let (rounds, rest) = numbers.as_chunks::<3>();
-    let messages: Vec<RoundPolynomial<F>> = messages_of(alloc, rounds)?;
-    let left = elements::<F>(alloc, left)?;
-    let right = elements::<F>(alloc, right)?;
-    let count = messages.len();
-    if !rest.is_empty() || count > 39 || left.len() != 1 << count || right.len() != 1 << count {
+) -> Result<bool, ProtocolError>
+    requires left { length left.now ≡ 2 ^ rounds }
+    requires right { length right.now ≡ 2 ^ rounds }
+    requires few { rounds ≤ 39 }
+{
+    if numbers.is_empty() {
         return Ok(false);
     }
-    sumcheck::verify(
+    let terms = product(alloc)?;
+    let messages = elements::<F>(alloc, &numbers[1..])?;
+    let reduced = match sumcheck::verify(
         alloc,
         challenger,
-        element(sum),
+        rounds,
+        2,
+        terms.as_slice(),
+        element(&numbers[0]),
         messages.as_slice(),
-        left.as_slice(),
-        right.as_slice(),
-    )
+    ) {
+        Ok(reduced) => reduced,
+        Err(ProtocolError::Length) => return Ok(false),
+        Err(error) => return Err(error),
+    };
+    let one = value_at(alloc, left, reduced.point.as_slice())?;
+    let other = value_at(alloc, right, reduced.point.as_slice())?;
+    Ok(one * other == reduced.claim)
 }
 
-// The messages of these numbers.
-fn messages_of<F: ByteLevel>(
-    alloc: Global,
-    rounds: &[[[u8; 16]; 3]],
-) -> Result<Vec<RoundPolynomial<F>>, AllocError> {
-    let mut messages = Vec::new(alloc);
-    for round in 0..rounds.len() {
-        let [constant, linear, quadratic] = rounds[round];
-        messages.push(RoundPolynomial {
-            constant: element(&constant),
-            linear: element(&linear),
-            quadratic: element(&quadratic),
-        })?;
+// The value of the polynomial of a table at a point of as many coordinates as the table has rounds, and 0 elsewhere.
+fn value_at<F: ByteLevel>(alloc: Global, table: &[[u8; 16]], point: &[F]) -> Result<F, AllocError> {
+    let values = elements::<F>(alloc, table)?;
+    if point.len() > 39 || values.len() != 1 << point.len() {
+        return Ok(F::ZERO);
     }
-    Ok(messages)
+    Ok(evaluate_multilinear(values.as_slice(), point))
 }
 
 // A transcript that begins with these bytes.
@@ -117,16 +139,6 @@ fn transcript<R: ShortWord, K: LevelKernel<R> + HasPacking<R>>(
     front: Vec<u8>,
 ) -> BinaryChallenger<Element<R, K>, HashChallenger<Sha256Hasher>> {
     BinaryChallenger::from_hasher(front, Sha256Hasher)
-}
-
-// The sum over the field of a kernel.
-fn sum_in<R: ShortWord, K: LevelKernel<R> + HasPacking<R>>(
-    left: &[[u8; 16]],
-    right: &[[u8; 16]],
-) -> [u8; 16]
-    requires { length right.now ≡ length left.now }
-{
-    word_of(sum_over::<Element<R, K>>(left, right))
 }
 
 // Proves over the field of a kernel.
@@ -139,6 +151,7 @@ fn prove_in<R: ShortWord, K: LevelKernel<R> + HasPacking<R>>(
 ) -> Result<Vec<[u8; 16]>, ProtocolError>
     requires left { length left.now ≡ 2 ^ rounds }
     requires right { length right.now ≡ 2 ^ rounds }
+    requires few { rounds ≤ 39 }
 {
     prove_over::<Element<R, K>, _>(alloc, &mut transcript::<R, K>(front), left, right, rounds)
 }
@@ -149,28 +162,25 @@ fn verify_in<R: ShortWord, K: LevelKernel<R> + HasPacking<R>>(
     front: Vec<u8>,
     left: &[[u8; 16]],
     right: &[[u8; 16]],
-    sum: &[u8; 16],
+    rounds: usize,
     numbers: &[[u8; 16]],
-) -> Result<bool, ProtocolError> {
+) -> Result<bool, ProtocolError>
+    requires left { length left.now ≡ 2 ^ rounds }
+    requires right { length right.now ≡ 2 ^ rounds }
+    requires few { rounds ≤ 39 }
+{
     verify_over::<Element<R, K>, _>(
         alloc,
         &mut transcript::<R, K>(front),
         left,
         right,
-        sum,
+        rounds,
         numbers,
     )
 }
 
-/// The sum of the products of the words at the same places, in the field of GHASH.
-pub fn sum(left: &[[u8; 16]], right: &[[u8; 16]]) -> [u8; 16]
-    requires { length right.now ≡ length left.now }
-{
-    sum_in::<u128, GhashKernel>(left, right)
-}
-
-/// The messages that prove the sum of the products of two tables of 2^rounds words, three numbers a round, in a transcript that begins
-/// with the bytes `front`.
+/// The sum of the products of two tables of 2^rounds words in the field of GHASH, and the messages that prove it, in a transcript that
+/// begins with the bytes `front`.
 pub fn prove(
     alloc: Global,
     front: Vec<u8>,
@@ -180,18 +190,23 @@ pub fn prove(
 ) -> Result<Vec<[u8; 16]>, ProtocolError>
     requires left { length left.now ≡ 2 ^ rounds }
     requires right { length right.now ≡ 2 ^ rounds }
+    requires few { rounds ≤ 39 }
 {
     prove_in::<u128, GhashKernel>(alloc, front, left, right, rounds)
 }
 
-/// Whether the messages prove that the sum of the products of two tables is this.
+/// Whether the numbers, a sum and messages, prove that it is the sum of the products of two tables of 2^rounds words.
 pub fn verify(
     alloc: Global,
     front: Vec<u8>,
     left: &[[u8; 16]],
     right: &[[u8; 16]],
-    sum: &[u8; 16],
+    rounds: usize,
     numbers: &[[u8; 16]],
-) -> Result<bool, ProtocolError> {
-    verify_in::<u128, GhashKernel>(alloc, front, left, right, sum, numbers)
+) -> Result<bool, ProtocolError>
+    requires left { length left.now ≡ 2 ^ rounds }
+    requires right { length right.now ≡ 2 ^ rounds }
+    requires few { rounds ≤ 39 }
+{
+    verify_in::<u128, GhashKernel>(alloc, front, left, right, rounds, numbers)
 }

@@ -7,5 +7,6 @@ mod numbers;
 mod partners;
 mod scripts;
 mod seeds;
+mod sumcheck;
 mod trials;
 mod vectors;

@@ -1,40 +1,76 @@
-use Rattle.std.proofs.Common.{◌≡◌, ℕ, ◌/◌, ◌<◌, length, map, take, sym, ◌∙◌, ap, arith, rules}
-use Rattle.protocols.proofs.SumcheckRounds.{half-count, power-even, proved-none, proved-more}
+use Rattle.std.proofs.Common.{◌≡◌, ℕ, ◌/◌, ◌-◌, ◌<◌, length, map, take, sym, ◌∙◌, ap, arith, rules}
+use Rattle.protocols.specs.Products.{term_product}
+use Rattle.protocols.specs.Terms.{degree_of}
+use Rattle.protocols.proofs.SumcheckSteps.{cube-even, cube-more, half-size, honest-long, proved-more, proved-none, refused}
+use Rattle.protocols.proofs.TermSteps.{degree-some}
 use Rattle.protocols.proofs.sumcheck.+prove_rounds.Goals as goal
 
 pub returns-then-rounds-eq0 : goal.returns-then-rounds-eq0
 returns-then-rounds-eq0 g t c =
-    proved-none g.C.CanObserve.observes g.C.CanSample.gives g.F.Represented.product g.F.Represented.repr c.args.challenger.now
-    (map g.F.Represented.repr c.args.left.now) (map g.F.Represented.repr c.args.right.now) c.args.rounds c.args.messages.now.items
-    c.if-rounds-eq0.true
+    let repr = g.F.Represented.repr in
+    let terms = map (term_product repr) c.args.terms.now in
+    proved-none g.C.CanObserve.observes g.C.CanSample.gives g.F.Represented.width g.F.Represented.product repr (degree_of terms) terms c.args.count
+    c.args.challenger.now c.args.rounds c.args.values.now c.args.proven.now.messages.items c.args.proven.now.point.items
+    c.in_ok-left.left.items c.if-rounds-eq0.true c.in_ok-left.ensures.items
 
-pub of-message-requires-clause-even : goal.of-message-requires-clause-even
-of-message-requires-clause-even g t c = power-even (length c.args.left.now) c.args.rounds (omega arith) c.requires.left_count
+pub message-requires-clause-size : goal.message-requires-clause-size
+message-requires-clause-size g t c =
+    let some : 0 < c.args.rounds = omega arith in
+    cube-more (length c.args.values.now) c.args.rounds c.args.count some c.requires.size
 
 pub fold-requires : goal.fold-requires
-fold-requires g t c = power-even (length c.args.left.now) c.args.rounds (omega arith) c.requires.left_count
-
-pub fold-requires-2 : goal.fold-requires-2
-fold-requires-2 g t c = power-even (length c.args.right.now) c.args.rounds (omega arith) c.requires.right_count
-
-pub prove_rounds-requires : goal.prove_rounds-requires
-prove_rounds-requires g t c =
+fold-requires g t c =
     let some : 0 < c.args.rounds = omega arith in
-    let left_same : length c.fold.new.values ≡ length c.args.left.now = omega arith in
-    let right_same : length c.fold-2.new.values ≡ length c.args.right.now = omega arith in
-    let long : length c.args.right.now ≡ length c.args.left.now = omega arith in
-    let left_half = half-count c.args.left.now c.fold.new.values c.args.rounds some c.requires.left_count left_same in
-    let right_half =
-    half-count c.args.left.now c.fold-2.new.values c.args.rounds some c.requires.left_count (right_same ∙ long) in
-    search rules
+    cube-even (length c.args.values.now) (c.args.rounds - 1) c.args.count
+    (cube-more (length c.args.values.now) c.args.rounds c.args.count some c.requires.size)
 
 pub returns : goal.returns
 returns g t c =
     let repr = g.F.Represented.repr in
+    let times = g.F.Represented.product in
+    let terms = map (term_product repr) c.args.terms.now in
+    let sent = c.as_slice-sent.result.now in
     let some : 0 < c.args.rounds = omega arith in
-    let long : length c.args.right.now ≡ length c.args.left.now = omega arith in
-    proved-more g.C.CanObserve.observes g.C.CanSample.gives g.F.Represented.product repr c.args.challenger.now c.turn.new.challenger
-    c.prove_rounds.new.challenger (map repr c.args.left.now) (map repr c.args.right.now) _ _ c.args.rounds c.args.messages.now.items
-    c.push.new.self.items c.prove_rounds.new.messages.items c.of-message.result c.in_ok-challenge.challenge some c.of-message.ensures
-    c.in_ok-push.ensures.items c.in_ok-challenge.ensures c.fold.ensures.folded
-    (ap (λ (n : ℕ). map repr (take (n / 2) c.fold-2.new.values)) (sym long) ∙ c.fold-2.ensures.folded) c.in_ok-prove_rounds.ensures
+    let same : length c.fold.new.values ≡ length c.args.values.now = omega arith in
+    let honest = ap (map repr) c.as_slice-sent.ensures.value ∙ c.in_ok-message.ensures.honest in
+    proved-more g.C.CanObserve.observes g.C.CanSample.gives g.F.Represented.width times repr (degree_of terms) terms c.args.count
+    c.args.challenger.now c.observe_slice.new.self c.sample.new.self c.prove_rounds.new.challenger c.args.rounds (map repr c.args.values.now) _
+    sent c.args.proven.now.messages.items c.extend_from_slice.new.self.items c.prove_rounds.new.proven.messages.items
+    c.args.proven.now.point.items c.push.new.self.items c.prove_rounds.new.proven.point.items c.prove_rounds.new.proven.values.items
+    c.in_ok-challenge.challenge some
+    (honest-long repr times terms c.args.count _ (degree_of terms) (map repr c.args.values.now) sent (degree-some terms) honest)
+    honest c.in_ok-observe_slice.ensures.ok c.in_ok-challenge.ensures.ok c.in_ok-extend_from_slice.ensures.items c.in_ok-push.ensures.items
+    (ap (λ (n : ℕ). map repr (take (n / 2) c.fold.new.values)) same ∙ c.fold.ensures.folded) c.in_ok-prove_rounds.ensures
+
+pub prove_rounds-requires : goal.prove_rounds-requires
+prove_rounds-requires g t c =
+    let some : 0 < c.args.rounds = omega arith in
+    let same : length c.fold.new.values ≡ length c.args.values.now = omega arith in
+    let half =
+    half-size c.fold.new.values (length c.fold.new.values) (length c.args.values.now) c.args.rounds c.args.count some c.requires.size same same in
+    let room =
+    half-size c.message.new.scratch (length c.fold.new.values) (length c.args.values.now) c.args.rounds c.args.count some c.requires.size same
+    (c.message.ensures.room ∙ c.requires.room) in
+    let both = room ∙ sym half in
+    search rules
+
+pub returns-in_err-left : goal.returns-in_err-left
+returns-in_err-left g t c = refused _ _ c.from_residual.result c.from_residual.ensures.1
+
+pub returns-in_err-message : goal.returns-in_err-message
+returns-in_err-message g t c = refused _ _ c.from_residual-in_err-message.result c.from_residual-in_err-message.ensures.1
+
+pub returns-in_err-observe_slice : goal.returns-in_err-observe_slice
+returns-in_err-observe_slice g t c = refused _ _ c.from_residual-in_err-observe_slice.result c.from_residual-in_err-observe_slice.ensures.1
+
+pub returns-in_err-extend_from_slice : goal.returns-in_err-extend_from_slice
+returns-in_err-extend_from_slice g t c = refused _ _ c.from_residual-in_err-extend_from_slice.result c.from_residual-in_err-extend_from_slice.ensures.1
+
+pub returns-in_err-challenge : goal.returns-in_err-challenge
+returns-in_err-challenge g t c = refused _ _ c.from_residual-in_err-challenge.result c.from_residual-in_err-challenge.ensures.1
+
+pub returns-in_err-push : goal.returns-in_err-push
+returns-in_err-push g t c = refused _ _ c.from_residual-in_err-push.result c.from_residual-in_err-push.ensures.1
+
+pub returns-in_err-prove_rounds : goal.returns-in_err-prove_rounds
+returns-in_err-prove_rounds g t c = refused _ _ c.from_residual-in_err-prove_rounds.result c.from_residual-in_err-prove_rounds.ensures.1

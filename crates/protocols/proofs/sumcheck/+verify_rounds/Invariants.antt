@@ -1,5 +1,4 @@
-use Rattle.std.proofs.Common.{length}
 use Rattle.protocols.proofs.sumcheck.+verify_rounds.Given as goal
 
 abbrev pub decreases-verify_rounds : goal.decreases-verify_rounds
-decreases-verify_rounds g l = length l.messages.now
+decreases-verify_rounds g l = l.rounds

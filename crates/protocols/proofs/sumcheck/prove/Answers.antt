@@ -1,22 +1,61 @@
-use Rattle.std.proofs.Common.{map, ◌∙◌, ap}
-use Rattle.protocols.proofs.SumcheckWhole.{proved-whole}
+use Rattle.std.proofs.Common.{◌≡◌, ◌*◌, ◌^◌, ◌<◌, ℕ, length, map, ◌∙◌, ap, arith}
+use Rattle.protocols.specs.Products.{term_product}
+use Rattle.protocols.specs.Sumcheck.{statement_of}
+use Rattle.protocols.specs.Terms.{degree_of}
+use Rattle.protocols.proofs.SumcheckSteps.{rows-size}
+use Rattle.protocols.proofs.SumcheckWhole.{left-count, left-values, proved-run}
 use Rattle.protocols.proofs.sumcheck.prove.Goals as goal
 
-pub returns : goal.returns
-returns g c =
-    let repr = g.F.Represented.repr in
-    let whole =
-    proved-whole g.C.CanObserve.observes g.C.CanSample.gives g.F.Represented.product repr c.observe.new.self
-    c.prove_rounds.new.challenger (map repr c.args.left.now) (map repr c.args.right.now) (map repr c.as_mut_slice.result.now)
-    (map repr c.as_mut_slice-2.result.now) c.args.rounds c.new-messages.result.items c.prove_rounds.new.messages.items
-    c.new-messages.ensures.items (ap (map repr) (c.as_mut_slice.ensures.value ∙ c.in_ok-left_rest.ensures))
-    (ap (map repr) (c.as_mut_slice-2.ensures.value ∙ c.in_ok-right_rest.ensures)) c.in_ok-prove_rounds.ensures in (
-      c.dot_product_of_slices-claim.result,
-      c.observe.new.self,
-      whole.0,
-      whole.1,
-      c.dot_product_of_slices-claim.ensures,
-      c.in_ok-observe.ensures.ok,
-      whole.2,
-      whole.3,
-    )
+pub prove_rounds-requires-clause-size : goal.prove_rounds-requires-clause-size
+prove_rounds-requires-clause-size g c =
+    let few : c.args.rounds < 64 = omega arith in
+    rows-size (length c.args.values.now) c.args.rounds c.args.count few (c.has_length.ensures.0 c.if-not-has_length.false)
+
+pub returns-clause-run : goal.returns-clause-run
+returns-clause-run g c =
+    let field = g.F.Represented in
+    let terms = map (term_product field.repr) c.args.terms.now in
+    (proved-run g.C.CanObserve.observes g.C.CanSample.gives field.width field.product field.repr terms c.args.count (degree_of terms)
+    c.args.challenger.now c.observe_slice.new.self c.prove_rounds.new.challenger
+    (statement_of field.width field.product c.args.rounds c.args.count terms (field.repr c.args.claim)) c.as_slice.result.now c.args.rounds
+    (map field.repr c.args.values.now) _ c.prove_rounds.new.proven.messages.items _ c.prove_rounds.new.proven.point.items
+    c.prove_rounds.new.proven.values.items c.new.ensures.items c.new-2.ensures.items
+    (ap (map field.repr) c.as_slice.ensures.value ∙ c.in_ok-elements.ensures.numbers) c.in_ok-observe_slice.ensures.ok
+    c.in_ok-prove_rounds.ensures).0
+
+pub returns-clause-count : goal.returns-clause-count
+returns-clause-count g c =
+    let field = g.F.Represented in
+    let terms = map (term_product field.repr) c.args.terms.now in
+    let few : c.args.rounds < 64 = omega arith in
+    let size =
+    rows-size (length c.args.values.now) c.args.rounds c.args.count few (c.has_length.ensures.0 c.if-not-has_length.false) in
+    let run =
+    proved-run g.C.CanObserve.observes g.C.CanSample.gives field.width field.product field.repr terms c.args.count (degree_of terms)
+    c.args.challenger.now c.observe_slice.new.self c.prove_rounds.new.challenger
+    (statement_of field.width field.product c.args.rounds c.args.count terms (field.repr c.args.claim)) c.as_slice.result.now c.args.rounds
+    (map field.repr c.args.values.now) _ c.prove_rounds.new.proven.messages.items _ c.prove_rounds.new.proven.point.items
+    c.prove_rounds.new.proven.values.items c.new.ensures.items c.new-2.ensures.items
+    (ap (map field.repr) c.as_slice.ensures.value ∙ c.in_ok-elements.ensures.numbers) c.in_ok-observe_slice.ensures.ok
+    c.in_ok-prove_rounds.ensures in
+    left-count field.repr field.product c.args.count c.args.rounds c.args.values.now c.prove_rounds.new.proven.values.items
+    (map field.repr c.prove_rounds.new.proven.point.items) size run.3 run.2
+
+pub returns-clause-values : goal.returns-clause-values
+returns-clause-values g c =
+    let field = g.F.Represented in
+    let law = g.met.F.Field in
+    let terms = map (term_product field.repr) c.args.terms.now in
+    let few : c.args.rounds < 64 = omega arith in
+    let size =
+    rows-size (length c.args.values.now) c.args.rounds c.args.count few (c.has_length.ensures.0 c.if-not-has_length.false) in
+    let run =
+    proved-run g.C.CanObserve.observes g.C.CanSample.gives field.width field.product field.repr terms c.args.count (degree_of terms)
+    c.args.challenger.now c.observe_slice.new.self c.prove_rounds.new.challenger
+    (statement_of field.width field.product c.args.rounds c.args.count terms (field.repr c.args.claim)) c.as_slice.result.now c.args.rounds
+    (map field.repr c.args.values.now) _ c.prove_rounds.new.proven.messages.items _ c.prove_rounds.new.proven.point.items
+    c.prove_rounds.new.proven.values.items c.new.ensures.items c.new-2.ensures.items
+    (ap (map field.repr) c.as_slice.ensures.value ∙ c.in_ok-elements.ensures.numbers) c.in_ok-observe_slice.ensures.ok
+    c.in_ok-prove_rounds.ensures in
+    left-values field.repr field.product c.args.count c.args.rounds c.args.values.now c.prove_rounds.new.proven.values.items
+    (map field.repr c.prove_rounds.new.proven.point.items) size run.3 run.2 field.width law.field_law law.wide_law field.range_law

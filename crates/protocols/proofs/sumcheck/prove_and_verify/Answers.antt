@@ -1,22 +1,31 @@
-use Rattle.std.proofs.Common.{◌≡◌, sym, subst, ◌∙◌}
-use Rattle.protocols.proofs.SumcheckWhole.{accepted-received}
+use Rattle.std.proofs.Common.{◌≡◌, ℕ, length, map, subst, sym, ◌∙◌, ap}
+use Rattle.std.specs.Prelude.{IsTrue}
+use Rattle.protocols.specs.Products.{term_product}
+use Rattle.protocols.specs.Sumcheck.{statement_of}
+use Rattle.protocols.specs.Terms.{AreWithin}
+use Rattle.protocols.proofs.SumcheckWhole.{accepted-whole, degree-few}
 use Rattle.protocols.proofs.sumcheck.prove_and_verify.Goals as goal
+
+pub terms_at-value-requires : goal.terms_at-value-requires
+terms_at-value-requires g c =
+    subst (λ (n : ℕ). AreWithin n (map (term_product g.F.Represented.repr) c.args.terms.now))
+    (sym (ap length c.as_slice-2.ensures.value ∙ c.in_ok-proven.ensures.count)) c.requires.within
 
 pub returns : goal.returns
 returns g c =
     let field = g.F.Represented in
     let law = g.met.F.Field in
-    let observes = g.C.CanObserve.observes in
-    let state = g.C.Transcript.state in
-    let claim = c.dot_product_of_slices-claim.result in
-    let proof = c.in_ok-messages.ensures in
-    let verified = c.in_ok-accepted.ensures in
-    let claimed : proof.0 ≡ claim = field.same_law proof.0 claim (proof.4 ∙ sym c.dot_product_of_slices-claim.ensures) in
-    let begun : state proof.1 ≡ state verified.0 =
-    g.met.C.CanObserve.observes_law claim c.args.prover.now proof.1 c.args.verifier.now verified.0 c.requires.state
-    (subst (λ (v : _). observes c.args.prover.now v proof.1) claimed proof.5) verified.2 in
-    accepted-received observes g.C.CanSample.gives field.product field.repr state
-    g.met.C.CanObserve.observes_law g.met.C.CanSample.gives_law field.width law.field_law.ring law.wide_law field.range_law
-    proof.1 _ verified.0 _ c.args.left.now c.args.right.now c.in_ok-messages.messages.items c.as_slice.result.now _ _
-    (field.repr claim) c.args.rounds c.in_ok-accepted.accepted c.as_slice.ensures.value begun
-    c.requires.left_count c.requires.right_count proof.3 c.dot_product_of_slices-claim.ensures proof.6 verified.3 proof.7 verified.4
+    let terms = map (term_product field.repr) c.args.terms.now in
+    let proof = c.in_ok-proven.ensures in
+    let verified = c.in_ok-reduced.ensures in
+    subst IsTrue (sym c.eq.ensures)
+    ((g.met.F.PrimeCharacteristicRing.eq_law c.in_ok-reduced.reduced.claim c.terms_at-value.result).1
+    (accepted-whole g.C.CanObserve.observes g.C.CanSample.gives field.width field.product field.repr g.C.Transcript.state
+    g.met.C.CanObserve.observes_law g.met.C.CanSample.gives_law law.field_law law.wide_law field.range_law field.same_law
+    c.args.prover.now _ c.args.verifier.now _
+    (statement_of field.width field.product c.args.rounds c.args.count terms (field.repr c.cube_sum-claim.result)) terms c.args.count c.args.rounds
+    (field.repr c.cube_sum-claim.result) (field.repr c.in_ok-reduced.reduced.claim) (field.repr c.terms_at-value.result) c.args.values.now
+    c.in_ok-proven.proven.messages.items c.as_slice.result.now c.in_ok-proven.proven.point.items c.in_ok-reduced.reduced.point.items
+    c.in_ok-proven.proven.values.items c.as_slice-2.result.now c.requires.state proof.field (degree-few field.repr c.args.terms.now) c.requires.within c.requires.size
+    c.cube_sum-claim.ensures proof.run proof.honest proof.values c.as_slice.ensures.value c.as_slice-2.ensures.value verified.run verified.claim
+    c.terms_at-value.ensures))

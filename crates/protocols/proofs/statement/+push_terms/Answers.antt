@@ -1,0 +1,22 @@
+use Rattle.std.proofs.Common.{◌≡◌, ◌++◌, ◌∷◌, ℕ, List, map, refl, ap, ◌∙◌, sym}
+use Rattle.std.specs.List.{flat_map}
+use Rattle.polynomials.proofs.CubeTables.{none-if_empty, some-unless_empty}
+use Rattle.protocols.specs.Products.{term_product}
+use Rattle.protocols.specs.Sumcheck.{term_numbers}
+use Rattle.protocols.proofs.SumcheckSteps.{appended-two, terms-none}
+use Rattle.protocols.proofs.TermSteps.{first-rest}
+use Rattle.protocols.proofs.statement.+push_terms.Goals as goal
+
+pub returns-then-is_empty : goal.returns-then-is_empty
+returns-then-is_empty g t c =
+    terms-none g.F.Represented.repr c.args.elements.now.items c.args.terms.now (term_product g.F.Represented.repr)
+    (none-if_empty _ _ c.is_empty.ensures c.if-is_empty.true)
+
+pub returns : goal.returns
+returns g t c =
+    let repr = g.F.Represented.repr in
+    let whole =
+    first-rest c.args.terms.now c.index-terms-0.result _ (some-unless_empty _ _ c.is_empty.ensures c.if-is_empty.false) c.index-terms-0.is refl in
+    appended-two (map repr c.args.elements.now.items) (map repr c.push_term.new.elements.items) (map repr c.push_terms.new.elements.items)
+    (term_numbers (term_product repr c.index-terms-0.result)) _ c.in_ok-push_term.ensures c.in_ok-push_terms.ensures
+    ∙ ap (λ (ts : List _). map repr c.args.elements.now.items ++ flat_map term_numbers (map (term_product repr) ts)) (sym whole)

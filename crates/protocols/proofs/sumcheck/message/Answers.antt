@@ -1,0 +1,32 @@
+use Rattle.std.proofs.Common.{◌≡◌, ◌-◌, ◌∷◌, ◌≤◌, ◌<◌, ◌^◌, ℕ, length, map, refl, ap, ◌∙◌, sym, subst, arith, lit<}
+use Rattle.std.proofs.Math.Nat.{pow-le-pow_right}
+use Rattle.std.specs.List.{range_with_len}
+use Rattle.protocols.specs.Products.{term_product}
+use Rattle.protocols.specs.Terms.{degree_of, honest_at}
+use Rattle.protocols.proofs.SumcheckSteps.{values-first, values-more}
+use Rattle.protocols.proofs.sumcheck.message.Goals as goal
+
+pub loop-node-init : goal.loop-node-init
+loop-node-init g c =
+    let field = g.F.Represented in (
+      values-first field.repr (honest_at field.product (map (term_product field.repr) c.args.terms.now) c.args.count c.args.rounds
+          (map field.repr c.args.values.now)) c.new-message.result.items c.push.new.self.items c.value_at-first.result (field.repr c.ZERO.result)
+          c.new-message.ensures.items c.in_ok-push.ensures.items c.value_at-first.ensures.value
+          (ap field.repr c.ZERO.ensures ∙ g.met.F.PrimeCharacteristicRing.zero_law),
+      c.value_at-first.ensures.room ∙ c.requires.room,
+    )
+
+pub interpolation_node-x-requires : goal.interpolation_node-x-requires
+interpolation_node-x-requires g c =
+    let power : 2 ^ 3 ≤ 2 ^ g.F.Represented.width = pow-le-pow_right (lit< tt) c.requires.field in
+    let few = c.degree-degree.ensures.few in
+    omega (arith, power, few)
+
+pub loop-node-preserved : goal.loop-node-preserved
+loop-node-preserved g c =
+    let field = g.F.Represented in
+    let h = honest_at field.product (map (term_product field.repr) c.args.terms.now) c.args.count c.args.rounds (map field.repr c.args.values.now) in (
+      values-more field.repr h c.loop-node.message.items _ c.value_at-value.result c.loop-node.node (omega arith) c.in_ok-push-2.ensures.items
+          (c.value_at-value.ensures.value ∙ ap h c.interpolation_node-x.ensures) c.loop-node.invariant.0,
+      c.value_at-value.ensures.room ∙ c.loop-node.invariant.1,
+    )

@@ -1,0 +1,20 @@
+use Rattle.std.proofs.Common.{◌≡◌, ◌*◌, ◌/◌, ◌%◌, ◌^◌, ◌≤◌, ℕ, List, length, map, take, ap, ◌∙◌, sym, arith}
+use Rattle.std.proofs.lemmas.List.{length-take-le}
+use Rattle.polynomials.specs.Multilinear.{folded}
+use Rattle.protocols.specs.Products.{term_product}
+use Rattle.protocols.specs.Terms.{cube_sum}
+use Rattle.protocols.proofs.SumcheckSteps.{cube-even, cube-half}
+use Rattle.protocols.proofs.sumcheck.value_at.Goals as goal
+
+pub fold-requires : goal.fold-requires
+fold-requires g c =
+    let even = cube-even (length c.args.values.now) c.args.rounds c.args.count c.requires.size in
+    omega (arith, even)
+
+pub cube_sum-requires-clause-size : goal.cube_sum-requires-clause-size
+cube_sum-requires-clause-size g c =
+    let half = cube-half (length c.args.values.now) c.args.rounds c.args.count c.requires.size in
+    let long : length c.fold.new.values ≡ length c.args.values.now = omega arith in
+    let all : length c.args.values.now / 2 ≡ 2 ^ c.args.rounds * c.args.count = omega (arith, half) in
+    let fits : length c.args.values.now / 2 ≤ length c.fold.new.values = omega (arith, long) in
+    length-take-le (length c.args.values.now / 2) c.fold.new.values fits ∙ all
