@@ -6,6 +6,7 @@ use field_element::{Element, element_of_word, word_of};
 use linked_list_allocator::LocalHeap;
 use std::alloc::{AllocError, Global};
 use std::marker::PhantomData;
+use std::test::Fail;
 use test_support::{Ending, Growing, Rest, is_refused_in_turn, next_number};
 use word_polynomial::{GhashModulus, Modulus, Poly64Modulus, Polynomials};
 use word_tower::{Bits64, Bits128, Level, Tower};
@@ -90,21 +91,21 @@ fn row_is<R: Unsigned, L: Level<R>, M: Modulus<R, L>>(
     alloc: Global,
     number: u128,
     image: u128,
-) -> bool {
-    let elements: [Element<R, Tower<L>>; 1] = [element_of_word(R::of_u128(number))];
-    match Element::<R, Polynomials<M, L>>::from_tower_vec(alloc, &elements) {
-        Ok(images) => images.len() == 1 && word_of(&images[0]).to_u128() == image,
-        Err(_) => false,
-    }
+) -> Result<bool, AllocError> {
+    let mut elements: Vec<Element<R, Tower<L>>> = Vec::new(alloc);
+    elements.push(element_of_word(R::of_u128(number)))?;
+    let images = Element::<R, Polynomials<M, L>>::from_tower_vec(alloc, elements.as_slice())?;
+    Ok(images.len() == 1 && word_of(&images[0]).to_u128() == image)
 }
 
 // The elements of the representations 2^32 and 2.
 #[test]
-fn rows_of_images(rt: HostRuntime) {
+fn rows_of_images(rt: HostRuntime) -> Result<(), Fail> {
     let of_root = 0x3f2a_7c50_1e89_8bcd;
     let of_two = 0x295a_c0b1_f473_1af9_676a_ac9f_a4b2_0b08;
     assert!(rt;
-        row_is::<u64, Bits64, Poly64Modulus>(rt.alloc(), 1 << 32, of_root)
-            && row_is::<u128, Bits128, GhashModulus>(rt.alloc(), 2, of_two)
+        row_is::<u64, Bits64, Poly64Modulus>(rt.alloc(), 1 << 32, of_root)?
+            && row_is::<u128, Bits128, GhashModulus>(rt.alloc(), 2, of_two)?
     );
+    Ok(())
 }
