@@ -51,8 +51,9 @@ fn is_extended<F: TowerLevel>(
         return Ok(false);
     }
     let mut coefficients = Vec::new(alloc);
-    for place in 0..1 << levels {
-        coefficients.push(element_point(F::ONE, 37 * place as u128 + 5))?;
+    for place in 0..1usize << levels {
+        let number = (place as u128).wrapping_mul(37).wrapping_add(5);
+        coefficients.push(element_point(F::ONE, number))?;
     }
     let message = values_of(alloc, coefficients.as_slice(), 1 << levels)?;
     let word = word_of(alloc, message.as_slice(), levels, expansion)?;

@@ -114,8 +114,12 @@ fn only_an_unchanged_opening_is_accepted(rt: HostRuntime) -> Result<(), Fail> {
 fn opens_to_every_cap(alloc: Global) -> Result<bool, AllocError> {
     let words = words();
     let tree = MerkleTree::new(alloc, &Sha256Hasher, &words, 3)?;
-    for levels in 0..4 {
-        let cap: MerkleCap<Sha256Hasher, [u8; 32]> = tree.cap(alloc, 3 - levels)?;
+    let depth = tree.commitment().depth;
+    if depth != 3 {
+        return Ok(false);
+    }
+    for levels in 0..4usize {
+        let cap: MerkleCap<Sha256Hasher, [u8; 32]> = tree.cap(alloc, depth - levels)?;
         let roots = cap.roots();
         for index in 0..8 {
             let mut path = tree.open_to_cap(alloc, index, levels)?;
