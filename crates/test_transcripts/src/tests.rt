@@ -7,6 +7,5 @@ mod numbers;
 mod partners;
 mod scripts;
 mod seeds;
-mod sumcheck;
 mod trials;
 mod vectors;
