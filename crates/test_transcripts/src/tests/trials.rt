@@ -224,6 +224,18 @@ fn hostile_partners_are_answered(rt: HostRuntime) {
     }
 }
 
+// Searches for 1 to 8 bits.
+static SEARCHES_FOR_BITS: [Row; 8] = [
+    [4, 1, 0, 0],
+    [4, 2, 0, 0],
+    [4, 3, 0, 0],
+    [4, 4, 0, 0],
+    [4, 5, 0, 0],
+    [4, 6, 0, 0],
+    [4, 7, 0, 0],
+    [4, 8, 0, 0],
+];
+
 // Every call of a challenger from each initial state. A search takes many calls, and is made from 16 states, for 1 to 8 bits.
 fn calls_are_refused(alloc: Global, field: Field) -> bool {
     for len in 0..258usize {
@@ -235,8 +247,8 @@ fn calls_are_refused(alloc: Global, field: Field) -> bool {
         }
     }
     for len in 0..16usize {
-        for bits in 1..9u128 {
-            if !succeeds_in(alloc, field, Trial::Call(&[4, bits, 0, 0], len)) {
+        for row in &SEARCHES_FOR_BITS {
+            if !succeeds_in(alloc, field, Trial::Call(row, len)) {
                 return false;
             }
         }
