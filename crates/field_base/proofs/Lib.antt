@@ -11,6 +11,7 @@ pub mod CarrylessFacts
 pub mod CarrylessPairs
 pub mod CarrylessProduct
 pub mod ChunkLists
+pub mod Coefficients
 pub mod DotLemmas
 pub mod EightCases
 pub mod FieldLemmas

@@ -7,7 +7,7 @@ ghost use Rattle.field_base.specs.Remainder.{mul_mod, poly64_modulus};
 ghost use Rattle.field_base.proofs.RemainderRing.{poly64_ring};
 ghost use Rattle.word_cubic.proofs.CubicRing.{chunk-cubic};
 ghost use Rattle.word_cubic.specs.Triple.{triple_number};
-ghost use Rattle.field_space.specs.OneCoefficientLemmas.{scales_one_coefficient};
+ghost use Rattle.field_base.proofs.Coefficients.{scales_one_coefficient};
 
 use field_base::{FieldKernel, Stored};
 use field_element::Coefficients;

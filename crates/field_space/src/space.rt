@@ -5,7 +5,7 @@ ghost use Rattle.std.proofs.Common.{lit<};
 ghost use Rattle.std.specs.Array.{index_steps};
 ghost use Rattle.std.specs.Iterator.{CallableAtEachTurn};
 ghost use Rattle.std.specs.Mem.{FitsInMemory};
-ghost use Rattle.field_space.specs.OneCoefficientLemmas.{scales_one_coefficient};
+ghost use Rattle.field_base.proofs.Coefficients.{scales_one_coefficient};
 ghost use Rattle.field_base.specs.BitRingLemmas.{bits_ring};
 ghost use Rattle.field_base.specs.Chunks.{chunk, chunks};
 ghost use Rattle.field_base.specs.Tower.{tower_mul};

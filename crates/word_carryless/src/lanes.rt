@@ -19,6 +19,7 @@ use crate::word_vector::WordVector;
 use std::simd::prelude::*;
 
 /// Two products modulo x^128 + x^7 + x^2 + x + 1, `a` by `p` and `b` by `q`.
+#[inline(always)]
 pub fn multiply_mod_128_twice(a: u128, b: u128, p: u128, q: u128) -> (u128, u128)
     ensures first { result.0 ≡ mul_mod 128 ghash_modulus a p }
     ensures second { result.1 ≡ mul_mod 128 ghash_modulus b q }

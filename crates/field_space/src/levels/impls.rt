@@ -3,7 +3,8 @@
 ghost use Rattle.std.specs.Prelude.{◌≡◌, ◌<◌, ◌≤◌, ◌*◌, ◌+◌, ◌-◌, ◌^◌, codes, map, refl};
 ghost use Rattle.field_base.specs.Chunks.{chunk, chunks};
 ghost use Rattle.field_element.specs.Element.{repr_of};
-ghost use Rattle.field_space.specs.LevelSpaceLemmas.{dimension_positive, dimension_bits, scales_coefficients};
+ghost use Rattle.field_base.proofs.Coefficients.{scales_coefficients};
+ghost use Rattle.field_space.specs.LevelSpaceLemmas.{dimension_positive, dimension_bits};
 
 use crate::extension::{AlgebraIdentity, ExtensionField};
 use crate::kernel::SpaceOver;
