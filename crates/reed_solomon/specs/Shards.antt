@@ -1,7 +1,7 @@
 -- Shards: the rows of an erasure code (J. S. Plank, A tutorial on Reed-Solomon coding for fault-tolerance in RAID-like systems,
 -- 1997). Shards of one size stand one after the other in a list of bytes; the first k are the data, the rest the parity. Column
 -- `column` has byte `column` of each shard, and is a codeword of its own.
-use Rattle.std.specs.Prelude.{◌≡◌, ◌⊎◌, ℕ, ◌+◌, ◌*◌, ◌<◌, ◌≤◌, Bool, true, false, List, slice_index, slice_index_or, take}
+use Rattle.std.specs.Prelude.{◌≡◌, ◌⊎◌, ℕ, ◌+◌, ◌*◌, ◌/◌, ◌<◌, ◌≤◌, Bool, true, false, List, length, slice_index, slice_index_or, take}
 use Rattle.std.specs.List.{count_by}
 use Rattle.field_laws.specs.Codewords.{IsCodeword}
 use Rattle.reed_solomon.specs.ErasureField.{erasure_product}
@@ -45,3 +45,7 @@ pub record IsReconstructed (k total size until : ℕ) (present : List Bool) (bef
   pub keeps : (i column : ℕ) → i < total → column < size → (IsPresent present i) ⊎ (until ≤ i)
       → shard_byte size after i column ≡ shard_byte size before i column
   pub restores : (column : ℕ) → column < size → RestoresColumn k total size until present before after column
+
+-- the missing shards before shard `until` are restored, of k shards of data and m of parity
+abbrev pub AreReconstructed : ℕ → ℕ → ℕ → List Bool → List ℕ → List ℕ → Type 0
+AreReconstructed k m until present before after = IsReconstructed k (k + m) (length before / (k + m)) until present before after

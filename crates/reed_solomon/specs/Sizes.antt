@@ -1,5 +1,6 @@
 -- When shards have a size, and the error where they have none or cannot be reconstructed: the first that applies.
-use Rattle.std.specs.Prelude.{◌≡◌, ◌≢◌, ℕ, ◌%◌}
+use Rattle.std.specs.Prelude.{◌≡◌, ◌≢◌, ℕ, ◌+◌, ◌%◌, ◌≤◌, Bool, List, length}
+use Rattle.reed_solomon.specs.Shards.{present_count}
 use Rattle.reed_solomon.specs.declared.error.ReedSolomonError.{ReedSolomonError}
 use Rattle.reed_solomon.specs.declared.error.ReedSolomonError.TheVariants.{EmptyShard, IncorrectShardSize, InvalidShardFlags, TooFewShardsPresent}
 
@@ -11,12 +12,17 @@ HasShardSize count bytes = (bytes ≢ 0) × (bytes % count ≡ 0)
 abbrev pub ShardSizeError : ℕ → ReedSolomonError → Type 0
 ShardSizeError bytes error = (bytes ≡ 0 → error ≡ EmptyShard) × (bytes ≢ 0 → error ≡ IncorrectShardSize)
 
--- why `count` shards with so many flags and so many bytes cannot be reconstructed
-abbrev pub ReconstructError : ℕ → ℕ → ℕ → ReedSolomonError → Type 0
-ReconstructError count flags bytes error =
-    (flags ≢ count → error ≡ InvalidShardFlags)
-    × (flags ≡ count → (HasShardSize count bytes → ⊥) → ShardSizeError bytes error)
-    × (flags ≡ count → HasShardSize count bytes → error ≡ TooFewShardsPresent)
+-- k shards of data and m of parity can be reconstructed: each has a flag, all have one size, and k of them are at hand
+abbrev pub CanReconstruct : ℕ → ℕ → List Bool → List ℕ → Type 0
+CanReconstruct k m present shards =
+    (length present ≡ k + m) × HasShardSize (k + m) (length shards) × (k ≤ present_count present)
+
+-- why they cannot
+abbrev pub ReconstructError : ℕ → ℕ → List Bool → List ℕ → ReedSolomonError → Type 0
+ReconstructError k m present shards error =
+    (length present ≢ k + m → error ≡ InvalidShardFlags)
+    × (length present ≡ k + m → (HasShardSize (k + m) (length shards) → ⊥) → ShardSizeError (length shards) error)
+    × (length present ≡ k + m → HasShardSize (k + m) (length shards) → error ≡ TooFewShardsPresent)
 
 -- why so many bytes of data and of parity are not those of shards of one size, where the data have k
 abbrev pub SeparateError : ℕ → ℕ → ℕ → ReedSolomonError → Type 0

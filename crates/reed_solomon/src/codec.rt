@@ -1,7 +1,7 @@
 // The code: how many shards of data and of parity there are, and what is done with them.
 ghost use Rattle.std.specs.Prelude.{◌≡◌, ◌+◌, ◌*◌, ◌/◌, ◌%◌, ◌<◌, ◌≤◌, ◌↔◌, length, IsTrue, IsOk, IfOk, IfErr, OnErr, ◌++◌};
-ghost use Rattle.reed_solomon.specs.Shards.{AreCodewords, IsEncoded, IsReconstructed, present_count};
-ghost use Rattle.reed_solomon.specs.Sizes.{HasShardSize, ReconstructError, SeparateError, ShardSizeError};
+ghost use Rattle.reed_solomon.specs.Shards.{AreCodewords, AreReconstructed, IsEncoded};
+ghost use Rattle.reed_solomon.specs.Sizes.{CanReconstruct, HasShardSize, ReconstructError, SeparateError, ShardSizeError};
 ghost use Rattle.reed_solomon.specs.declared.error.ReedSolomonError.TheVariants.{TooFewDataShards, TooFewParityShards, TooManyShards};
 
 use crate::error::ReedSolomonError;
@@ -76,14 +76,8 @@ impl ReedSolomon {
     {
         let total = self.total_shard_count();
         let size = shard_size(total, shards.len())?;
-        let (data_bytes, parity_bytes) = shards.split_at_mut(self.data_shards * size);
-        write_parity(
-            data_bytes,
-            size,
-            self.data_shards,
-            parity_bytes,
-            self.parity_shards,
-        );
+        let (front, parity) = shards.split_at_mut(self.data_shards * size);
+        write_parity(front, size, self.data_shards, parity, self.parity_shards);
         Ok(())
     }
 
@@ -100,7 +94,7 @@ impl ReedSolomon {
         ensures encoded { IsOk result → IsEncoded self.now.data_shards (self.now.data_shards + self.now.parity_shards)
             (length data_bytes.now / self.now.data_shards) (data_bytes.now ++ parity_bytes.old) (data_bytes.now ++ parity_bytes.new) }
         ensures long { length parity_bytes.new ≡ length parity_bytes.old }
-        ensures refused { IfErr result (λ error. SeparateError self.now.data_shards (length data_bytes.now) (length parity_bytes.old) error) }
+        ensures refused { IfErr result (SeparateError self.now.data_shards (length data_bytes.now) (length parity_bytes.old)) }
         ensures same { OnErr result (parity_bytes.new ≡ parity_bytes.old) }
     {
         let size = shard_size(self.data_shards, data_bytes.len())?;
@@ -133,13 +127,11 @@ impl ReedSolomon {
     /// are is then not read. The first shards that are present, as many as there are of data, determine the others; a further
     /// one is not compared. The error is the first that applies.
     pub fn reconstruct(&self, shards: &mut [u8], present: &[bool]) -> Result<(), ReedSolomonError>
-        ensures accepted { let total = self.now.data_shards + self.now.parity_shards in
-            IsOk result ↔ ((length present.now ≡ total) × HasShardSize total (length shards.old) × (self.now.data_shards ≤ present_count present.now)) }
-        ensures restored { let total = self.now.data_shards + self.now.parity_shards in
-            IsOk result → IsReconstructed self.now.data_shards total (length shards.old / total) total present.now shards.old shards.new }
+        ensures accepted { IsOk result ↔ CanReconstruct self.now.data_shards self.now.parity_shards present.now shards.old }
+        ensures restored { let until = self.now.data_shards + self.now.parity_shards in
+            IsOk result → AreReconstructed self.now.data_shards self.now.parity_shards until present.now shards.old shards.new }
         ensures long { length shards.new ≡ length shards.old }
-        ensures refused { let total = self.now.data_shards + self.now.parity_shards in
-            IfErr result (λ error. ReconstructError total (length present.now) (length shards.old) error) }
+        ensures refused { IfErr result (ReconstructError self.now.data_shards self.now.parity_shards present.now shards.old) }
         ensures same { OnErr result (shards.new ≡ shards.old) }
     {
         self.reconstruct_until(shards, present, self.total_shard_count())
@@ -152,13 +144,11 @@ impl ReedSolomon {
         shards: &mut [u8],
         present: &[bool],
     ) -> Result<(), ReedSolomonError>
-        ensures accepted { let total = self.now.data_shards + self.now.parity_shards in
-            IsOk result ↔ ((length present.now ≡ total) × HasShardSize total (length shards.old) × (self.now.data_shards ≤ present_count present.now)) }
-        ensures restored { let total = self.now.data_shards + self.now.parity_shards in
-            IsOk result → IsReconstructed self.now.data_shards total (length shards.old / total) self.now.data_shards present.now shards.old shards.new }
+        ensures accepted { IsOk result ↔ CanReconstruct self.now.data_shards self.now.parity_shards present.now shards.old }
+        ensures restored { let until = self.now.data_shards in
+            IsOk result → AreReconstructed self.now.data_shards self.now.parity_shards until present.now shards.old shards.new }
         ensures long { length shards.new ≡ length shards.old }
-        ensures refused { let total = self.now.data_shards + self.now.parity_shards in
-            IfErr result (λ error. ReconstructError total (length present.now) (length shards.old) error) }
+        ensures refused { IfErr result (ReconstructError self.now.data_shards self.now.parity_shards present.now shards.old) }
         ensures same { OnErr result (shards.new ≡ shards.old) }
     {
         self.reconstruct_until(shards, present, self.data_shards)
@@ -172,13 +162,11 @@ impl ReedSolomon {
         until: usize,
     ) -> Result<(), ReedSolomonError>
         requires { until ≤ self.now.data_shards + self.now.parity_shards }
-        ensures accepted { let total = self.now.data_shards + self.now.parity_shards in
-            IsOk result ↔ ((length present.now ≡ total) × HasShardSize total (length shards.old) × (self.now.data_shards ≤ present_count present.now)) }
-        ensures restored { let total = self.now.data_shards + self.now.parity_shards in
-            IsOk result → IsReconstructed self.now.data_shards total (length shards.old / total) until present.now shards.old shards.new }
+        ensures accepted { IsOk result ↔ CanReconstruct self.now.data_shards self.now.parity_shards present.now shards.old }
+        ensures restored { IsOk result
+            → AreReconstructed self.now.data_shards self.now.parity_shards until present.now shards.old shards.new }
         ensures long { length shards.new ≡ length shards.old }
-        ensures refused { let total = self.now.data_shards + self.now.parity_shards in
-            IfErr result (λ error. ReconstructError total (length present.now) (length shards.old) error) }
+        ensures refused { IfErr result (ReconstructError self.now.data_shards self.now.parity_shards present.now shards.old) }
         ensures same { OnErr result (shards.new ≡ shards.old) }
     {
         let total = self.total_shard_count();

@@ -19,11 +19,10 @@ pub fn reconstruct<A: Allocator + Copy>(
     alloc: A,
     shards: &mut [Option<Vec<u8, A>>],
 ) -> Result<(), ShardVectorError>
+    ensures restored { let until = code.now.data_shards + code.now.parity_shards in
+        IsOk result → AreRestored code.now.data_shards (code.now.data_shards + code.now.parity_shards) until shards.old shards.new }
     ensures accepted { IsOk result → CanRestore code.now.data_shards (code.now.data_shards + code.now.parity_shards) shards.old }
-    ensures restored { let total = code.now.data_shards + code.now.parity_shards in
-        IsOk result → AreRestored code.now.data_shards total total shards.old shards.new }
-    ensures refused { let total = code.now.data_shards + code.now.parity_shards in
-        IfErr result (λ error. RestoreError code.now.data_shards total shards.old error) }
+    ensures refused { IfErr result (RestoreError code.now.data_shards (code.now.data_shards + code.now.parity_shards) shards.old) }
     ensures same { OnErr result (shards.new ≡ shards.old) }
 {
     reconstruct_until(code, alloc, shards, code.total_shard_count())
@@ -36,11 +35,10 @@ pub fn reconstruct_data<A: Allocator + Copy>(
     alloc: A,
     shards: &mut [Option<Vec<u8, A>>],
 ) -> Result<(), ShardVectorError>
+    ensures restored { let until = code.now.data_shards in
+        IsOk result → AreRestored code.now.data_shards (code.now.data_shards + code.now.parity_shards) until shards.old shards.new }
     ensures accepted { IsOk result → CanRestore code.now.data_shards (code.now.data_shards + code.now.parity_shards) shards.old }
-    ensures restored { let total = code.now.data_shards + code.now.parity_shards in
-        IsOk result → AreRestored code.now.data_shards total code.now.data_shards shards.old shards.new }
-    ensures refused { let total = code.now.data_shards + code.now.parity_shards in
-        IfErr result (λ error. RestoreError code.now.data_shards total shards.old error) }
+    ensures refused { IfErr result (RestoreError code.now.data_shards (code.now.data_shards + code.now.parity_shards) shards.old) }
     ensures same { OnErr result (shards.new ≡ shards.old) }
 {
     reconstruct_until(code, alloc, shards, code.data_shard_count())
@@ -54,11 +52,10 @@ fn reconstruct_until<A: Allocator + Copy>(
     until: usize,
 ) -> Result<(), ShardVectorError>
     requires { (until ≡ code.now.data_shards) ⊎ (until ≡ code.now.data_shards + code.now.parity_shards) }
-    ensures accepted { IsOk result → CanRestore code.now.data_shards (code.now.data_shards + code.now.parity_shards) shards.old }
     ensures restored { let total = code.now.data_shards + code.now.parity_shards in
         IsOk result → AreRestored code.now.data_shards total until shards.old shards.new }
-    ensures refused { let total = code.now.data_shards + code.now.parity_shards in
-        IfErr result (λ error. RestoreError code.now.data_shards total shards.old error) }
+    ensures accepted { IsOk result → CanRestore code.now.data_shards (code.now.data_shards + code.now.parity_shards) shards.old }
+    ensures refused { IfErr result (RestoreError code.now.data_shards (code.now.data_shards + code.now.parity_shards) shards.old) }
     ensures same { OnErr result (shards.new ≡ shards.old) }
 {
     let total = code.total_shard_count();
