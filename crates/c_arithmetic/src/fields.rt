@@ -64,7 +64,7 @@ pub fn multiply<R: Stored, W: Holds<R>, K: FieldKernel<R>>(x: W, y: W) -> W
 }
 
 /// The square.
-#[inline]
+#[inline(always)]
 pub fn square<R: Stored, W: Holds<R>, K: FieldKernel<R>>(x: W) -> W
     ensures { W.number result ≡ K.product (W.number x) (W.number x) }
 {
@@ -82,7 +82,7 @@ pub fn invert<R: Stored, W: Holds<R>, K: FieldKernel<R>>(x: W) -> W
 }
 
 /// The square root of an element, whose square is the element.
-#[inline]
+#[inline(always)]
 pub fn sqrt<R: Stored, W: Holds<R>, K: FieldKernel<R>>(x: W) -> W
     requires { W.number x < 2 ^ K.width }
     ensures fits { W.number result < 2 ^ K.width }
