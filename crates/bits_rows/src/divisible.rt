@@ -62,7 +62,7 @@ pub trait Divisible<V: Underlier>: Underlier {
     {
         let mut parts = Vec::new(alloc);
         for place in 0..rows.len() {
-            let row = rows[place];
+            let row = &rows[place];
             for i in 0..Self::RATIO {
                 parts.push(row.part(i))?;
             }

@@ -27,7 +27,7 @@ loop-place-preserved g c =
 pub returns : goal.returns
 returns g c =
     let value = g.W.WideWord.value in
-    let old = map value c.args.values.now in
     let long = length-map c.args.values.now value in
+    let old = map value c.args.values.now in
     held_until (multiplied_at (g.S.ScalarProducts.scalar c.args.products.now) old) c.args.start c.loop-place.place (length c.args.values.now)
     old (map value c.loop-place.values) (omega (arith, long)) (omega (arith, long)) c.loop-place.invariant
