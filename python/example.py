@@ -3,12 +3,15 @@
 PYTHONPATH=python BINARY_FIELD_LIBRARY=FOLDER/lib python3 python/example.py
 """
 
+from typing import Any, Callable
+
 import numpy as np
 
 import binary_field as bf
 
 
-def show(title, *values):
+def show(title: str, *values: Any) -> None:
+    """Prints a line."""
     print(f"{title}:", *values)
 
 
@@ -23,9 +26,15 @@ show("a * 2", a * F(2))
 show("(a * b) / b == a", (a * b) / b == a)
 show("a ** (2**128 - 1)", a ** (F.order - 1))
 
-# %% numpy's functions are those of the field.
+# %% numpy's functions are those of the field, and its views are views.
 show("np.sqrt(a)", np.sqrt(a))
 show("np.dot(a, b) == sum", bool(np.dot(a, b) == np.sum(a * b)))
+m = a.reshape(2, 2)
+show("sums of columns", m.sum(axis=0))
+show("a transpose", m.T)
+m[1][0] = 5
+m[1] += F(1)
+show("a after that", a)
 
 # %% The tower, and the isomorphism with a polynomial basis.
 x = bf.BinaryField128([0x10, 1 << 64])
@@ -43,7 +52,7 @@ places = bf.BinaryField64([1, 2, 3, 4, 5])
 shares = bf.BinaryField64.evaluate(polynomial, places)
 
 
-def interpolated_at_0(places, shares):
+def interpolated_at_0(places: bf.BinaryField64, shares: bf.BinaryField64) -> bf.BinaryField64:
     """The value at 0 of the polynomial through these points, by Lagrange's formula."""
     total = bf.BinaryField64(0)
     for i in range(len(places)):
@@ -60,6 +69,8 @@ coefficients = F.random(1 << 12, seed=3)
 values = bf.transform(coefficients)
 show("first points", bf.transform_points(4))
 show("back", bool((bf.inverse_transform(values) == coefficients).all()))
+powers = F([5, 1, 0, 2])
+show("of powers of x", bool((bf.transform(bf.from_powers(powers)) == F.evaluate(powers, bf.transform_points(4))).all()))
 
 # %% Hashes of authentication tags: test case 2 of the specification of GCM.
 show("GHASH", bf.gcm_ghash(bytes.fromhex("66e94bd4ef8a2c3b884cfa59ca342b2e"), b"", bytes.fromhex("0388dace60b6a392f328c2b971b2fe78")).hex())
@@ -71,7 +82,10 @@ lost = [None, shards[1], None, shards[3], shards[4], shards[5]]
 show("restored", code.reconstruct_data(lost).tobytes().decode())
 
 # %% What does not fit is an exception with its reason.
-for attempt in (lambda: a / 0, lambda: a * 3, lambda: F(1 << 128), lambda: a * F([1, 2]), lambda: bf.transform(a[:3]), lambda: a + x):
+attempts: list[Callable[[], Any]] = [lambda: a / 0, lambda: a * 3, lambda: F(1 << 128), lambda: a * F([1, 2]), lambda: bf.transform(a[:3])]
+# mypy finds this one before it runs.
+attempts.append(lambda: a + x)  # type: ignore[operator]
+for attempt in attempts:
     try:
         attempt()
     except (ArithmeticError, TypeError, ValueError) as error:

@@ -76,12 +76,16 @@ class Elements(unittest.TestCase):
             a = field.random(1000, seed=1)
             self.assertTrue((a == field.random(1000, seed=1)).all())
             self.assertGreater(len(set(a.tolist())), min(field.order, 200) - 1)
-            self.assertEqual(field.random((2, 3)).shape, (2, 3))
+            self.assertEqual((field.random((2, 3)).shape, field.random().shape, field.random(0).shape), ((2, 3), (), (0,)))
 
     def test_texts(self):
         self.assertEqual(repr(bf.BinaryField8([1, 255])), "BinaryField8([0x1, 0xff])")
         self.assertEqual(str(bf.Ghash128([[1 << 127], [2]])), "[[0x80000000000000000000000000000000], [0x2]]")
         self.assertEqual(repr(bf.Poly192(1 << 64)), "Poly192(0x10000000000000000)")
+        self.assertEqual((f"{bf.Ghash128(255):x}", f"{bf.Gf2([1, 0]):03d}", f"{bf.Ghash128(255)}"), ("ff", "[001, 000]", "0xff"))
+        self.assertEqual((f"{bf.Ghash128([0, 1, 2, 0x87]):p}", f"{bf.Poly64(1 << 63):p}"), ("[0, 1, x, x^7 + x^2 + x + 1]", "x^63"))
+        for element, spec in ((bf.Ghash128(255), "s"), (bf.BinaryField8(3), "p"), (bf.Gf2(1), "p"), (bf.Poly192(3), "p")):
+            self.assertRaises(ValueError, format, element, spec)
         self.assertEqual(str(bf.Gf2.zeros(5000)), "[0x0, 0x0, 0x0, .., 0x0, 0x0, 0x0], 5000 elements of shape (5000,)")
 
 
@@ -141,6 +145,9 @@ class Arithmetic(unittest.TestCase):
                 wanted.append(value)
             self.assertEqual(field.evaluate(field(x), field(y)).tolist(), wanted)
             self.assertEqual(field.evaluate([], [0, 1]).tolist(), [0, 0])
+            self.assertEqual(field.evaluate(field(x)[::-1], field([y, y])[:, ::-1]).tolist(), [field.evaluate(x[::-1], y[::-1]).tolist()] * 2)
+            for coefficients in (field([x]), field(1), [[1, 2]] if field.degree > 1 else [[1, 1]]):
+                self.assertRaises(ValueError, field.evaluate, coefficients, y)
 
     def test_what_is_refused(self):
         for field, _, (x, y) in every_field():
@@ -166,16 +173,34 @@ class Maps(unittest.TestCase):
             self.assertEqual(polynomials(a).reshape(-1).tolist(), [definitions.linear_map(columns, it) for it in a.reshape(-1).tolist()])
             self.assertTrue((a.to(polynomials).to(tower) == a).all())
             self.assertTrue(((a * a).to(polynomials) == a.to(polynomials) * a.to(polynomials)).all())
+            self.assertTrue((polynomials(a.T) == a.to(polynomials).T).all())
         self.assertRaises(TypeError, bf.BinaryField8, bf.Poly64(1))
-        self.assertRaises(TypeError, bf.Ghash128(1).to, bf.Rijndael8b)
+        for wrong in (bf.Rijndael8b, "x", None, bf.FieldArray, int):
+            self.assertRaises(TypeError, bf.Ghash128(1).to, wrong)
+
+    def test_larger_fields(self):
+        towers = [it for it in FIELDS.values() if it.__name__.startswith("BinaryField") or it is bf.Gf2]
+        for field in FIELDS.values():
+            for larger in FIELDS.values():
+                a, b = field.random(9, seed=20), field.random(9, seed=21)
+                if larger.degree % field.degree or (larger is not field and larger.degree == field.degree and {field, larger}.isdisjoint(towers)):
+                    self.assertRaises(TypeError, larger, a)
+                    continue
+                x, y = larger(a), larger(b)
+                self.assertEqual((larger(a + b).tolist(), larger(a * b).tolist()), ((x + y).tolist(), (x * y).tolist()))
+                self.assertTrue((x ** field.order == x).all())
+                self.assertEqual((larger(field.zeros(1)).tolist(), larger(field.ones(1)).tolist()), ([0], [1]))
+                if field in towers and larger in towers:
+                    self.assertEqual(x.tolist(), a.tolist())
 
     def test_linear_maps(self):
         for field in (bf.Rijndael8b, bf.Ghash128):
             images, values = field.random(field.degree, seed=6), field.random((2, 9), seed=7)
             wanted = [definitions.linear_map(images.tolist(), it) for it in values.reshape(-1).tolist()]
-            self.assertEqual(bf.linear_map(images, values).reshape(-1).tolist(), wanted)
-            self.assertRaises(ValueError, bf.linear_map, images[:7], values)
-        self.assertRaises(TypeError, bf.linear_map, bf.Poly64.random(64), bf.Poly64.random(1))
+            self.assertEqual(bf.linear_map(values, images).reshape(-1).tolist(), wanted)
+            self.assertRaises(ValueError, bf.linear_map, values, images[:7])
+        for values, images in ((bf.Poly64.random(1), bf.Poly64.random(64)), ([5], [5]), (bf.Ghash128(1), bf.Rijndael8b.random(8))):
+            self.assertRaises(TypeError, bf.linear_map, values, images)
 
     def test_transforms(self):
         for m in (0, 1, 4, 6):
@@ -192,9 +217,29 @@ class Maps(unittest.TestCase):
             self.assertEqual(int(values[place]), definitions.transform_value(a.tolist(), 0, place))
         a = bf.Ghash128.random(1 << 16, seed=10)
         self.assertTrue((bf.inverse_transform(bf.transform(a, 3), 3) == a).all())
+        for count in (0, 3, -4, 2.0, "4", None):
+            self.assertRaises(ValueError, bf.transform_points, count)
         for wrong in (bf.Ghash128.random(0), bf.Ghash128.random(3), bf.Ghash128.random((2, 2)), bf.Ghash128(1)):
             self.assertRaises(ValueError, bf.transform, wrong)
             self.assertRaises(ValueError, bf.inverse_transform, wrong)
+
+    def test_powers(self):
+        for m in range(8):
+            c, shift = bf.Ghash128.random(1 << m, seed=m), bf.Ghash128.random(seed=17)
+            self.assertTrue((bf.transform(bf.from_powers(c), shift) == bf.Ghash128.evaluate(c, bf.transform_points(1 << m, shift))).all())
+            self.assertTrue((bf.to_powers(bf.from_powers(c)) == c).all() and (bf.from_powers(bf.to_powers(c)) == c).all())
+        # Over every field: coefficient k is that of the product of the s_j over the set bits j of k.
+        for field in FIELDS.values():
+            c, x = field.random(64, seed=18), field.random(5, seed=19)
+            value, factors = field.zeros(5), [x]
+            for _ in range(5):
+                factors.append(factors[-1].square() + factors[-1])
+            for k in range(64):
+                value += c[k] * field(np.stack([factors[j] for j in range(6) if k >> j & 1] + [field.ones(5)])).prod(0)
+            self.assertTrue((field.evaluate(bf.to_powers(c), x) == value).all())
+        for wrong in (bf.Ghash128.zeros(0), bf.Ghash128.zeros(3), bf.Ghash128.zeros((2, 2)), bf.Ghash128(1), [1, 2]):
+            self.assertRaises(ValueError, bf.from_powers, wrong)
+            self.assertRaises(ValueError, bf.to_powers, wrong)
 
     def test_stages(self):
         low, high, scalar = bf.Ghash128.random(9, seed=11), bf.Ghash128.random(9, seed=12), bf.Ghash128.random(seed=13)
@@ -203,7 +248,15 @@ class Maps(unittest.TestCase):
         self.assertTrue((a == low + scalar * high).all() and (b == high + a).all())
         bf.butterfly_inverse(a, b, scalar)
         self.assertTrue((a == low).all() and (b == high).all())
-        self.assertRaises(TypeError, bf.butterfly_forward, a, a, scalar)
+        self.assertRaises(ValueError, bf.butterfly_forward, a, a, scalar)
+        self.assertRaises(TypeError, bf.butterfly_forward, a, [1] * 9, scalar)
+        # In the halves of one array, one after the other or by turns; halves that share an element are refused.
+        for halves in ((slice(0, 9), slice(9, 18)), (slice(0, 18, 2), slice(1, 18, 2))):
+            both = bf.Ghash128.zeros(18)
+            both[halves[0]], both[halves[1]] = low, high
+            bf.butterfly_forward(both[halves[0]], both[halves[1]], scalar)
+            self.assertTrue((both[halves[0]] == low + scalar * high).all() and (both[halves[1]] == both[halves[0]] + high).all())
+        self.assertRaises(ValueError, bf.butterfly_inverse, both[:9], both[8:17], scalar)
         values, shifts, basis = bf.Ghash128.random(32, seed=14), bf.Ghash128.random(4, seed=15), bf.Ghash128.random(6, seed=16)
         wanted = definitions.low_stages(values.tolist(), shifts.tolist(), basis.tolist(), 3)
         self.assertEqual(bf.low_stages(values, shifts, basis, 3).tolist(), wanted)

@@ -9,6 +9,8 @@
 Trusted and not proved are this package, numpy, ctypes, and the C compiler and linker that made the shared library.
 """
 
+# What numpy's functions are over elements comes into its tables where this module is read.
+from . import _numpy as _numpy
 from ._arrays import FieldArray
 from ._bytes import ReedSolomon, gcm_ghash, ghash, polyval, tags_are_equal
 from ._fields import (
@@ -26,10 +28,20 @@ from ._fields import (
     Rijndael8b,
 )
 from ._functions import VERSION_TEXT as __version__
-from ._transforms import butterfly_forward, butterfly_inverse, inverse_transform, linear_map, low_stages, transform, transform_points
+from ._transforms import (
+    butterfly_forward,
+    butterfly_inverse,
+    from_powers,
+    inverse_transform,
+    linear_map,
+    low_stages,
+    to_powers,
+    transform,
+    transform_points,
+)
 
 __all__ = [
     "BinaryField128", "BinaryField16", "BinaryField2", "BinaryField32", "BinaryField4", "BinaryField64", "BinaryField8", "FieldArray",
-    "Gf2", "Ghash128", "Poly192", "Poly64", "ReedSolomon", "Rijndael8b", "butterfly_forward", "butterfly_inverse", "gcm_ghash", "ghash",
-    "inverse_transform", "linear_map", "low_stages", "polyval", "tags_are_equal", "transform", "transform_points",
+    "Gf2", "Ghash128", "Poly192", "Poly64", "ReedSolomon", "Rijndael8b", "butterfly_forward", "butterfly_inverse", "from_powers",
+    "gcm_ghash", "ghash", "inverse_transform", "linear_map", "low_stages", "polyval", "tags_are_equal", "to_powers", "transform", "transform_points",
 ]

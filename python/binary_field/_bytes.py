@@ -24,22 +24,38 @@ def _hash(name: str, *given: Any) -> bytes:
 
 
 def ghash(key: Any, message: Any) -> bytes:
-    """GHASH of the message (NIST SP 800-38D), with zeros added to whole blocks. The key has 16 bytes."""
+    """GHASH of the message (NIST SP 800-38D), with zeros added to whole blocks. The key has 16 bytes.
+
+    >>> bf.ghash(b"sixteen byte key", b"a message").hex()
+    '66c5daff8936bb1e9c4c9904324d3958'
+    """
     return _hash("tag_ghash", key, message)
 
 
 def polyval(key: Any, message: Any) -> bytes:
-    """POLYVAL of the message (RFC 8452), with zeros added to whole blocks. The key has 16 bytes."""
+    """POLYVAL of the message (RFC 8452), with zeros added to whole blocks. The key has 16 bytes.
+
+    >>> bf.polyval(b"sixteen byte key", b"a message").hex()
+    'e20c8edbbf9f56216764e11642057883'
+    """
     return _hash("tag_polyval", key, message)
 
 
 def gcm_ghash(key: Any, associated: Any, ciphertext: Any) -> bytes:
-    """The hash of GCM over associated data and ciphertext, with the block of their lengths. The key has 16 bytes."""
+    """The hash of GCM over associated data and ciphertext, with the block of their lengths. The key has 16 bytes.
+
+    >>> bf.gcm_ghash(b"sixteen byte key", b"from, to", b"ciphertext").hex()
+    'b55e742c18cfcd002d8abd9405d99c5e'
+    """
     return _hash("tag_gcm_ghash", key, associated, ciphertext)
 
 
 def tags_are_equal(left: Any, right: Any) -> bool:
-    """Whether the two have the same bytes. Nothing is claimed on the time that it takes."""
+    """Whether the two have the same bytes. Nothing is claimed on the time that it takes.
+
+    >>> bf.tags_are_equal(b"tag", bytearray(b"tag"))
+    True
+    """
     result = np.zeros(1, np.uint8)
     call("tags_are_equal", _bytes(left), _bytes(right), result)
     return bool(result[0])

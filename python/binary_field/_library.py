@@ -8,6 +8,7 @@ function that has a form made for that processor is that form, which gives the s
 import ctypes
 import os
 import pathlib
+from typing import Any
 
 import numpy as np
 
@@ -15,13 +16,16 @@ from ._functions import FUNCTIONS, STATUSES, VERSION
 
 ARRAYS = ("in", "inout", "out")
 NARROW = {"u8": ctypes.c_uint8, "u16": ctypes.c_uint16, "u32": ctypes.c_uint32, "u64": ctypes.c_uint64}
-# The type of numpy that holds a word, and how many of them do.
-WORDS = {"u8": (np.uint8, 1), "u16": (np.uint16, 1), "u32": (np.uint32, 1), "u64": (np.uint64, 1), "u128": (np.uint64, 2), "u192": (np.uint64, 3)}
+# What holds an element in an array of numpy: an unsigned integer or, of 128 and 192 bits, a structure of words of 64, the lowest first. It
+# has the alignment of its words, so that numpy says of an array whether it has that.
+Words = np.ndarray[Any, Any]
+WORDS: dict[str, np.dtype[Any]] = {it: np.dtype(f"<u{int(it[1:]) // 8}") for it in NARROW}
+WORDS |= {it: np.dtype([("words", "<u8", (int(it[1:]) // 64,))], align=True) for it in ("u128", "u192")}
 # What an empty array is passed as: the address of something.
 EMPTY = ctypes.create_string_buffer(32)
 
 
-def _load() -> dict:
+def _load() -> dict[str, Any]:
     """The functions by their names, each with its types."""
     named = os.environ.get("BINARY_FIELD_LIBRARY")
     beside = pathlib.Path(__file__).with_name("libbinary_field.so")
@@ -47,20 +51,19 @@ def _cpu(path: str) -> str:
     return beside.read_text(encoding="ascii").strip() if "/" in path and beside.is_file() else ""
 
 
-def _types(kind: str, word: str) -> list:
+def _types(kind: str, word: str) -> list[Any]:
     if kind in ARRAYS:
         return [ctypes.c_void_p, ctypes.c_size_t]
     return [NARROW[word]] if kind == "number" or (kind == "scalar" and word in NARROW) else [ctypes.c_void_p]
 
 
-# Of each function itself, and of each parameter its name, whether it is a plain number, an array, and written, the type of numpy
-# that holds a word, and how many of them do.
+# Of each function itself, and of each parameter its name, whether it is a plain number, an array, and written, and the type of numpy that
+# holds an element.
 _CALLED = {
     name: (
         function,
         [
-            (parameter, kind == "number" or (kind == "scalar" and word in NARROW), kind in ARRAYS, kind in ("inout", "out", "result"),
-             np.dtype(WORDS[word][0]), WORDS[word][1])
+            (parameter, kind == "number" or (kind == "scalar" and word in NARROW), kind in ARRAYS, kind in ("inout", "out", "result"), WORDS[word])
             for kind, parameter, word in FUNCTIONS[name]
         ],
     )
@@ -68,27 +71,46 @@ _CALLED = {
 }
 
 
-def call(name: str, *arguments) -> None:
-    """Calls a function. An array is a contiguous array of numpy of the function's words, where a word of 128 or 192 bits is the
-    last axis; a scalar up to 64 bits and a number are integers, and every other scalar and result is an array of one element.
+def is_packed(words: Words) -> bool:
+    """Whether the elements lie one after the other, each where the processor wants it."""
+    return words.flags.c_contiguous and words.flags.aligned
 
-    What the library reads and writes is exactly what numpy holds: this is the one place that hands out an address."""
+
+def packed(words: Words) -> Words:
+    """The array, or a copy of it that is packed."""
+    return words if is_packed(words) else np.array(words, order="C")
+
+
+def call(name: str, *arguments: Any) -> None:
+    """Calls a function. An array is a packed array of numpy of the function's words; a scalar up to 64 bits and a number are integers,
+    and every other scalar and result is an array of one element.
+
+    What the library reads and writes is exactly what numpy holds, and what it writes nothing else shares: this is the one place that
+    hands out an address."""
     function, parameters = _CALLED[name]
-    given: list = []
-    for (parameter, is_plain, is_array, is_written, dtype, count), value in zip(parameters, arguments, strict=True):
+    given: list[int] = []
+    ranges: list[tuple[int, int, bool]] = []
+    for (parameter, is_plain, is_array, is_written, dtype), value in zip(parameters, arguments, strict=True):
         if is_plain:
             given.append(value)
             continue
         flags, size = value.flags, value.size
-        if value.dtype != dtype or not flags.c_contiguous or not flags.aligned or size % count:
+        if value.dtype != dtype or not flags.c_contiguous or not flags.aligned:
             raise TypeError(f"{name}: {parameter} must be a contiguous array of {dtype}")
         if is_written and not flags.writeable:
             raise ValueError(f"{name}: {parameter} is read-only")
-        given.append(value.__array_interface__["data"][0] if size else ctypes.addressof(EMPTY))
+        start = value.__array_interface__["data"][0] if size else ctypes.addressof(EMPTY)
+        given.append(start)
+        ranges.append((start, start + value.nbytes, is_written))
         if is_array:
-            given.append(size // count)
-        elif size != count:
+            given.append(size)
+        elif size != 1:
             raise TypeError(f"{name}: {parameter} must be one element")
+    read_to = written_to = 0
+    for start, end, is_written in sorted(ranges):
+        if start < (read_to if is_written else written_to):
+            raise ValueError(f"{name}: an array that is written shares memory with another")
+        read_to, written_to = max(read_to, end), max(written_to, end if is_written else 0)
     status = function(*given)
     if status:
         short, text = STATUSES[status]

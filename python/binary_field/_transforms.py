@@ -1,15 +1,17 @@
 """Linear maps, and the additive transform over Ghash128.
 
-s_0(x) = x, and s_(j+1)(x) = s_j(x)**2 + s_j(x). A polynomial of 2**m coefficients has the products of the s_j as its basis:
-coefficient k is that of the product of the s_j over the set bits j of k. Point p is the shift, and Cantor vector b for each set
-bit b of p.
+The transform's polynomials are s_0(x) = x and s_(j+1)(x) = s_j(x)**2 + s_j(x), which has the degree 2**(j + 1). The products of the
+s_j over the set bits j of k, for k from 0 on, are the basis that its coefficients are those of: `from_powers` makes them of the
+coefficients of the powers of x, and `to_powers` goes back. Point p is the shift, and Cantor vector b for each set bit b of p.
 """
 
 from typing import Any
 
-from ._arrays import A
+import numpy as np
+
+from ._arrays import A, FieldArray
 from ._fields import Ghash128
-from ._library import call
+from ._library import call, packed
 
 
 def _vector(values: Any) -> Ghash128:
@@ -21,21 +23,40 @@ def _vector(values: Any) -> Ghash128:
 
 
 def transform(coefficients: Any, shift: Any = 0) -> Ghash128:
-    """The value at each of 2**m points of the polynomial with these 2**m coefficients, for an m from 0 to 40."""
+    """The value at each of 2**m points of the polynomial with these 2**m coefficients, for an m from 0 to 40. Coefficient k is that of the
+    product of the s_j over the set bits j of k, where s_0(x) = x and s_(j+1)(x) = s_j(x)**2 + s_j(x); `from_powers` makes such
+    coefficients of those of the powers of x. `transform_points` has the points.
+
+    >>> F = bf.Ghash128
+    >>> c = F([1, 2, 3, 4])
+    >>> bool((bf.transform(bf.from_powers(c)) == F.evaluate(c, bf.transform_points(4))).all())
+    True
+    """
     values = _vector(coefficients)
     call("g128_transform", values._words, Ghash128._operand(shift)._words)
     return values
 
 
 def inverse_transform(values: Any, shift: Any = 0) -> Ghash128:
-    """The coefficients of the polynomial that has these values at the 2**m points."""
+    """The coefficients, as `transform` takes them, of the polynomial that has these values at the 2**m points. `to_powers` makes the
+    coefficients of the powers of x of them.
+
+    >>> bf.inverse_transform(bf.transform([1, 2, 3, 4]))
+    Ghash128([0x1, 0x2, 0x3, 0x4])
+    """
     coefficients = _vector(values)
     call("g128_inverse_transform", coefficients._words, Ghash128._operand(shift)._words)
     return coefficients
 
 
 def transform_points(count: int, shift: Any = 0) -> Ghash128:
-    """The points of a transform of `count` values, a power of two: the values of the polynomial s_0."""
+    """The points of a transform of `count` values, a power of two: the values of the polynomial s_0.
+
+    >>> bf.transform_points(2, shift=4)
+    Ghash128([0x4, 0x5])
+    """
+    if not isinstance(count, (int, np.integer)) or count < 1 or count & count - 1:
+        raise ValueError("the number of points must be a power of two")
     if count == 1:
         return Ghash128._operand(shift).reshape(1)
     coefficients = Ghash128.zeros(count)
@@ -43,38 +64,98 @@ def transform_points(count: int, shift: Any = 0) -> Ghash128:
     return transform(coefficients, shift)
 
 
+def from_powers(coefficients: A) -> A:
+    """The coefficients that `transform` takes of the polynomial whose coefficients of 1, x, x**2 and so on are these, 2**m of any field.
+
+    >>> bf.from_powers(bf.Ghash128([0, 0, 1, 0]))
+    Ghash128([0x0, 0x1, 0x1, 0x0])
+    """
+    return _changed(coefficients, 1)
+
+
+def to_powers(coefficients: A) -> A:
+    """The coefficients of 1, x, x**2 and so on of the polynomial that `transform` takes with these coefficients.
+
+    >>> bf.to_powers(bf.Ghash128([0, 1, 1, 0]))
+    Ghash128([0x0, 0x0, 0x1, 0x0])
+    """
+    return _changed(coefficients, -1)
+
+
+def _changed(coefficients: A, way: int) -> A:
+    """Of each block of 2**(j + 1) coefficients, longest blocks first, the quotient by s_j goes to the upper half and the rest to the lower
+    one. A step subtracts the multiples of s_j, which is the sum of x**(2**i) over the i whose bits are among those of j, by half of the
+    quotient, the upper half first. The same steps from the last to the first multiply."""
+    if not isinstance(coefficients, FieldArray) or coefficients.ndim != 1 or not coefficients.size or coefficients.size & coefficients.size - 1:
+        raise ValueError("expected elements in one dimension, as many as a power of two")
+    result = coefficients.copy()
+    levels = range(coefficients.size.bit_length() - 2, 0, -1)
+    for j, start in [(j, start) for j in levels for start in (3 << j - 1, 1 << j)][::way]:
+        blocks, half = result.reshape(-1, 2 << j), 1 << j - 1
+        for i in range(j):
+            if i & j == i:
+                low = start - (1 << j) + (1 << i)
+                blocks[:, low : low + half] += blocks[:, start : start + half]
+    return result
+
+
 def butterfly_forward(low: Ghash128, high: Ghash128, scalar: Any) -> None:
-    """low += scalar * high, and then high += low, in both arrays."""
+    """low += scalar * high, and then high += low, in both arrays.
+
+    >>> a = bf.Ghash128([1, 2])
+    >>> bf.butterfly_forward(a[:1], a[1:], 2)
+    >>> a
+    Ghash128([0x5, 0x7])
+    """
     _butterfly("forward", low, high, scalar)
 
 
 def butterfly_inverse(low: Ghash128, high: Ghash128, scalar: Any) -> None:
-    """high += low, and then low += scalar * high, in both arrays: it takes back `butterfly_forward`."""
+    """high += low, and then low += scalar * high, in both arrays: it takes back `butterfly_forward`.
+
+    >>> a = bf.Ghash128([5, 7])
+    >>> bf.butterfly_inverse(a[:1], a[1:], 2)
+    >>> a
+    Ghash128([0x1, 0x2])
+    """
     _butterfly("inverse", low, high, scalar)
 
 
 def _butterfly(way: str, low: Ghash128, high: Ghash128, scalar: Any) -> None:
-    if not isinstance(low, Ghash128) or not isinstance(high, Ghash128) or low is high:
+    if not isinstance(low, Ghash128) or not isinstance(high, Ghash128):
         raise TypeError("low and high must be arrays of Ghash128")
-    call(f"g128_butterfly_{way}", low._words, high._words, Ghash128._operand(scalar)._words)
+    if np.shares_memory(low._words, high._words):
+        raise ValueError("low and high must not share elements")
+    words = packed(low._words), packed(high._words)
+    call(f"g128_butterfly_{way}", *words, packed(Ghash128._operand(scalar)._words))
+    for it, made in zip((low, high), words):
+        if made is not it._words:
+            it._words[...] = made
 
 
 def low_stages(values: Any, shifts: Any, basis: Any, first_run: int = 0) -> Ghash128:
     """What the four lowest stages make of runs of sixteen values, the first of which is run `first_run`. The factor of stage j at
-    place p is shifts[j], and basis[t] for each set bit t of p >> (j + 1)."""
+    place p is shifts[j], and basis[t] for each set bit t of p >> (j + 1).
+
+    >>> bf.low_stages([0] * 8 + [1] + [0] * 7, [2, 3, 4, 5], [6, 7, 8])[[0, 8]]
+    Ghash128([0x5, 0x4])
+    """
     result = _vector(values)
     if not 0 <= first_run < 1 << 64:
         raise ValueError("first_run must be from 0 to 2**64 - 1")
-    call("g128_low_stages", result._words, Ghash128._operand(shifts)._words, Ghash128._operand(basis)._words, first_run)
+    call("g128_low_stages", result._words, *(packed(Ghash128._operand(it)._words) for it in (shifts, basis)), first_run)
     return result
 
 
-def linear_map(images: A, values: A) -> A:
-    """For each value the sum of the images at its set bits: 8 images of Rijndael8b, or 128 of Ghash128."""
-    field = type(images)
-    values = field._operand(values)
-    result = field._empty(values.shape)
-    if field._name not in ("r8", "g128"):
-        raise TypeError("linear maps are defined over Rijndael8b and Ghash128")
-    call(f"{field._name}_linear_map", values._words, images._words, result._words)
+def linear_map(values: Any, images: A) -> A:
+    """For each value the sum of the images at its set bits: 8 images of Rijndael8b, or 128 of Ghash128.
+
+    >>> bf.linear_map([5], bf.Rijndael8b([1, 2, 3, 4, 5, 6, 7, 8]))
+    Rijndael8b([0x2])
+    """
+    if not isinstance(images, FieldArray) or images._name not in ("r8", "g128"):
+        raise TypeError("images must be an array of Rijndael8b or Ghash128")
+    values = images._operand(values)
+    result = images.zeros(values.shape)
+    call(f"{images._name}_linear_map", packed(values._words), packed(images._words), result._words)
     return result

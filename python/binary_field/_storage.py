@@ -1,0 +1,426 @@
+"""Elements in the memory of numpy: making them, changing their basis, indexes, shapes and texts."""
+
+from __future__ import annotations
+
+import functools
+import operator
+from typing import Any, Callable, Iterator, Sequence, TypeVar, Union
+
+import numpy as np
+
+from ._library import WORDS, Words, call, packed
+
+S = TypeVar("S", bound="Stored")
+Shape = Union[int, Sequence[int]]
+
+# An array of more elements is printed by its first and last three.
+_PRINTED = 1000
+# The fields by their names in the library.
+_FIELDS: dict[str, type[Stored]] = {}
+
+
+class _Constants(type):
+    """What every field has, as attributes of its class."""
+
+    degree: int
+
+    @property
+    def order(cls) -> int:
+        """The number of elements."""
+        return 1 << cls.degree
+
+    @property
+    def characteristic(cls) -> int:
+        """2: a sum of an element and itself is 0."""
+        return 2
+
+    @property
+    def primitive_element(cls) -> Any:
+        """The generator of the multiplicative group that the library names."""
+        result = cls.zeros(())  # type: ignore[attr-defined]
+        call(f"{result._name}_generator", result._words)
+        return result
+
+
+class Stored(metaclass=_Constants):
+    """What arrays of elements are but for arithmetic, which Stored adds."""
+
+    degree: int
+    _name: str
+    _word: str
+    # The isomorphic field: a level of the tower, or the polynomial basis of its degree.
+    _partner: str | None = None
+    # Whether inverses one by one cost more than three products an element.
+    _is_batched = False
+    _words: Words
+
+    def __init_subclass__(cls) -> None:
+        if "_name" in vars(cls):
+            _FIELDS[cls._name] = cls
+
+    # ---- making
+
+    def __init__(self, values: Any) -> None:
+        """Makes an array, whose memory is its own, of the representations of elements, of which each is from 0 to 2**degree - 1: an
+        integer, a text of hexadecimal digits, lists of them, or an array of numpy. Elements of a field that this one contains, or is
+        isomorphic to, become their images.
+
+        >>> bf.Ghash128([3, "ff"])
+        Ghash128([0x3, 0xff])
+        >>> bf.Ghash128(bf.BinaryField128([1, 2]))
+        Ghash128([0x1, 0x295ac0b1f4731af9676aac9fa4b20b08])
+        """
+        if not hasattr(type(self), "_name"):
+            raise TypeError(f"{type(self).__name__} is the class of all fields: take one, as BinaryField8")
+        if isinstance(values, Stored):
+            self._words = values.to(type(self))._words.copy()
+        elif isinstance(values, np.ndarray) and values.dtype.kind in "bui":
+            self._words = self._of_numbers(values)
+        elif isinstance(values, (list, tuple)) and values and all(isinstance(it, Stored) for it in values):
+            self._words = np.stack([self._operand(it)._words for it in values])
+        else:
+            items = np.array(values, dtype=object)
+            data = b"".join(self._integer(it).to_bytes(self._dtype().itemsize, "little") for it in items.ravel())
+            self._words = np.frombuffer(bytearray(data), self._dtype()).reshape(items.shape)
+
+    @classmethod
+    def _of_numbers(cls, values: Words) -> Words:
+        """The words of integers, of which each has to be an element."""
+        if values.size and (int(values.min()) < 0 or int(values.max()) >= cls.order):
+            raise ValueError(f"elements of {cls.__name__} must be integers from 0 to 2**{cls.degree} - 1")
+        result = cls.zeros(values.shape)
+        result._parts()[0][...] = values
+        return result._words
+
+    @classmethod
+    def _integer(cls, value: Any) -> int:
+        if isinstance(value, Stored):
+            if type(value) is not cls:
+                raise TypeError(f"cannot make an array of {cls.__name__} from a list of elements of {type(value).__name__}")
+            return int(value)
+        number = int(value, 16) if isinstance(value, str) else operator.index(value)
+        if not 0 <= number < cls.order:
+            raise ValueError(f"{number:#x} is not an element of {cls.__name__}: it must be from 0 to 2**{cls.degree} - 1")
+        return number
+
+    @classmethod
+    def _dtype(cls) -> np.dtype[Any]:
+        return WORDS[cls._word]
+
+    @classmethod
+    def _of(cls: type[S], words: Any) -> S:
+        """The array that holds these words, which have to be elements."""
+        result = object.__new__(cls)
+        result._words = words if isinstance(words, np.ndarray) else np.array(words, cls._dtype())
+        return result
+
+    @classmethod
+    def zeros(cls: type[S], shape: Shape) -> S:
+        """Zeros.
+
+        >>> bf.Gf2.zeros((1, 2))
+        Gf2([[0x0, 0x0]])
+        """
+        return cls._of(np.zeros(shape, cls._dtype()))
+
+    @classmethod
+    def ones(cls: type[S], shape: Shape) -> S:
+        """Ones.
+
+        >>> bf.Poly192.ones(2)
+        Poly192([0x1, 0x1])
+        """
+        result = cls.zeros(shape)
+        result._parts()[0][...] = 1
+        return result
+
+    @classmethod
+    def random(cls: type[S], shape: Shape = (), seed: int | np.random.Generator | None = None) -> S:
+        """Elements drawn by numpy's generator, which is none for secrets.
+
+        >>> bf.BinaryField8.random(3, seed=1)
+        BinaryField8([0xff, 0xe4, 0x22])
+        """
+        result = cls.zeros(shape)
+        words = result._words["words"] if cls._dtype().names else result._words
+        high = min(cls.order, 1 << 8 * words.dtype.itemsize) - 1
+        words[...] = np.random.default_rng(seed).integers(0, high, words.shape, words.dtype, endpoint=True)
+        return result
+
+    @classmethod
+    def from_words(cls: type[S], words: Words, copy: bool = True) -> S:
+        """The elements that these words hold, copied, or in the same memory: of 128 and 192 bits the last axis has 2 or 3 words of 64,
+        the lowest first.
+
+        >>> words = np.array([[1, 0], [0, 1]], np.uint64)
+        >>> a = bf.Ghash128.from_words(words, copy=False)
+        >>> words[0, 0] = 5
+        >>> a
+        Ghash128([0x5, 0x10000000000000000])
+        """
+        words, dtype = np.asarray(words), cls._dtype()
+        inner = dtype["words"].shape if dtype.names else ()
+        plain = np.dtype(np.uint64) if inner else dtype
+        if words.dtype != plain or inner and words.shape[-1:] != inner:
+            axis = f" with a last axis of {inner[0]}" if inner else ""
+            raise TypeError(f"words of {cls.__name__} must be of type {plain}{axis}")
+        if cls.degree < 8:
+            cls._of_numbers(words)
+        words = np.array(words, order="C") if copy else words
+        return cls._of(words.view(dtype)[..., 0] if inner else words)
+
+    # ---- what it holds
+
+    def _parts(self) -> list[Words]:
+        """The words of the elements, lowest first, each in an array of this shape."""
+        if not self._words.dtype.names:
+            return [self._words]
+        return [self._words["words"][..., at] for at in range(self._words.dtype["words"].shape[0])]
+
+    def _wordwise(self: S, function: Callable[[Words], Any]) -> S:
+        """The array that has in each of its words what a function of numpy makes of that word."""
+        made = [np.asarray(function(it)) for it in self._parts()]
+        result = self.zeros(made[0].shape)
+        for part, it in zip(result._parts(), made):
+            part[...] = it
+        return result
+
+    def to_words(self, copy: bool = True) -> Words:
+        """The words, as `from_words` takes them: copied, or in the same memory.
+
+        >>> bf.Ghash128([1, 1 << 64]).to_words()
+        array([[1, 0],
+               [0, 1]], dtype=uint64)
+        """
+        words: Words = self._words["words"] if self._words.dtype.names else self._words
+        return words.copy() if copy else words
+
+    def to(self, field: type[S]) -> S:
+        """The images in a field: this one, the isomorphic one in the other basis, or one that contains either.
+
+        >>> bf.Rijndael8b([2]).to(bf.BinaryField16)
+        BinaryField16([0x59])
+        """
+        if not (isinstance(field, _Constants) and hasattr(field, "_name")):
+            raise TypeError("elements are converted to a field, a class as BinaryField8")
+        if field is type(self):
+            return self
+        if self._partner == field._name:
+            result = field.zeros(self.shape)
+            call(f"{self._name}_to_{field._name}", packed(self._words), result._words)
+            return result
+        if field.degree <= self.degree or field.degree % self.degree:
+            raise TypeError(f"cannot convert {type(self).__name__} to {field.__name__}, which does not contain it")
+        # In the tower, and from p64 to p192, an element is its own image.
+        if self._is_in_tower() and field._is_in_tower() or (self._name, field._name) == ("p64", "p192"):
+            result = field.zeros(self.shape)
+            for part, it in zip(result._parts(), self._parts()):
+                part[...] = it
+            return result
+        between = _FIELDS[self._partner or ""] if not self._is_in_tower() else _FIELDS[field._partner or "p64"]
+        return self.to(between).to(field)
+
+    @classmethod
+    def _is_in_tower(cls) -> bool:
+        return cls._name == "gf2" or cls._name.startswith("t")
+
+    @property
+    def dtype(self) -> np.dtype[Any]:
+        """numpy's type of what holds an element.
+
+        >>> bf.BinaryField32(7).dtype
+        dtype('uint32')
+        """
+        return np.dtype(self._words.dtype)
+
+    @property
+    def shape(self) -> tuple[int, ...]:
+        return self._words.shape
+
+    @property
+    def ndim(self) -> int:
+        return self._words.ndim
+
+    @property
+    def size(self) -> int:
+        return self._words.size
+
+    @property
+    def nbytes(self) -> int:
+        return self._words.nbytes
+
+    def __len__(self) -> int:
+        if not self.ndim:
+            raise TypeError("an element has no length")
+        return len(self._words)
+
+    def __iter__(self: S) -> Iterator[S]:
+        return (self[at] for at in range(len(self)))
+
+    @staticmethod
+    def _place(key: Any) -> Any:
+        """An index that is none of a structure's names."""
+        if isinstance(key, str) or isinstance(key, list) and any(isinstance(it, str) for it in key):
+            raise IndexError("an index must be an integer, a slice, an array of integers or booleans, `...` or None")
+        return key
+
+    def __getitem__(self: S, key: Any) -> S:
+        """The elements at an index of numpy: a view where numpy's is one, and a copy of a single element.
+
+        >>> a = bf.BinaryField8([1, 2, 3])
+        >>> a[1:][0] = 9
+        >>> a
+        BinaryField8([0x1, 0x9, 0x3])
+        """
+        return self._of(self._words[self._place(key)])
+
+    def __setitem__(self, key: Any, value: Any) -> None:
+        self._words[self._place(key)] = self._operand(value)._words
+
+    def __int__(self) -> int:
+        if self.size != 1:
+            raise TypeError("only a single element can be converted to an integer")
+        return int.from_bytes(self._words.tobytes(), "little")
+
+    def __bool__(self) -> bool:
+        if self.size != 1:
+            raise ValueError("the truth value of an array of several elements is ambiguous: take any() or all()")
+        return int(self) != 0
+
+    def _numbers(self) -> Words:
+        """The representations, as an array of Python's integers."""
+        numbers = (it.astype(object) << 64 * at for at, it in enumerate(self._parts()))
+        return np.array(functools.reduce(operator.or_, numbers), dtype=object)
+
+    def tolist(self) -> Any:
+        """The representations, as nested lists of integers.
+
+        >>> bf.Ghash128([[1, 1 << 127]]).tolist()
+        [[1, 170141183460469231731687303715884105728]]
+        """
+        return self._numbers().tolist()
+
+    def __array__(self, dtype: Any = None, copy: bool | None = None) -> Words:
+        """Elements as objects, so that what numpy computes of them is computed in the field. Where a type of numbers is named,
+        the representations. A copy in both cases; `to_words` makes none."""
+        if copy is False:
+            raise ValueError("cannot make an array of numpy without a copy; to_words(copy=False) makes none")
+        if dtype is not None and np.dtype(dtype) != object:
+            return np.array(self._numbers() if self._dtype().names else self._words, dtype=dtype)
+        flat = np.empty(self.size, dtype=object)
+        for at, it in enumerate(self.ravel()):
+            flat[at] = it
+        return flat.reshape(self.shape)
+
+    def __repr__(self) -> str:
+        return f"{type(self).__name__}({self})"
+
+    def __str__(self) -> str:
+        return f"{self:#x}"
+
+    def __format__(self, spec: str) -> str:
+        """The representations, each by a format of integers, as `#x` where none is given; or `p`, polynomials, of a field that is of
+        polynomials over GF(2).
+
+        >>> f"{bf.BinaryField8([1, 255]):08b}"
+        '[00000001, 11111111]'
+        >>> f"{bf.Rijndael8b(0x53):p}"
+        'x^6 + x^4 + x + 1'
+        """
+        spec = spec or "#x"
+        if spec == "p" and (self._is_in_tower() or self.degree == 192):
+            raise ValueError(f"elements of {type(self).__name__} are no polynomials over GF(2)")
+        if self.size <= _PRINTED:
+            return _shown(self.tolist(), spec)
+        first, last = (_shown(self._of(self._words.flat[at]).tolist(), spec)[1:-1] for at in (slice(3), slice(-3, None)))
+        return f"[{first}, .., {last}], {self.size} elements of shape {self.shape}"
+
+    # ---- shapes: views where numpy's are
+
+    def copy(self: S) -> S:
+        """A copy, whose memory is its own.
+
+        >>> a = bf.Gf2([1, 1])
+        >>> b = a.copy()
+        >>> b[0] = 0
+        >>> a
+        Gf2([0x1, 0x1])
+        """
+        return self._of(self._words.copy())
+
+    __copy__ = copy
+
+    def reshape(self: S, *shape: Any) -> S:
+        """The same elements in another shape.
+
+        >>> bf.Gf2([1, 0, 1, 1]).reshape(2, -1)
+        Gf2([[0x1, 0x0], [0x1, 0x1]])
+        """
+        return self._of(self._words.reshape(*shape))
+
+    def ravel(self: S) -> S:
+        """The elements in one dimension.
+
+        >>> bf.Gf2([[1, 0], [1, 1]]).ravel()
+        Gf2([0x1, 0x0, 0x1, 0x1])
+        """
+        return self._of(self._words.ravel())
+
+    def flatten(self: S) -> S:
+        """A copy of the elements in one dimension.
+
+        >>> bf.Gf2([[1, 0], [1, 1]]).flatten()
+        Gf2([0x1, 0x0, 0x1, 0x1])
+        """
+        return self._of(self._words.flatten())
+
+    def transpose(self: S, *axes: Any) -> S:
+        """The same elements with the axes in another order, by default the opposite one.
+
+        >>> bf.BinaryField8([[1, 2], [3, 4]]).transpose()
+        BinaryField8([[0x1, 0x3], [0x2, 0x4]])
+        """
+        return self._of(self._words.transpose(*axes))
+
+    @property
+    def T(self: S) -> S:
+        """The transpose.
+
+        >>> bf.BinaryField8([[1, 2]]).T
+        BinaryField8([[0x1], [0x2]])
+        """
+        return self.transpose()
+
+    def swapaxes(self: S, first: int, second: int) -> S:
+        """The same elements with two axes in each other's place.
+
+        >>> bf.BinaryField8([[1, 2]]).swapaxes(0, 1).shape
+        (2, 1)
+        """
+        return self._of(self._words.swapaxes(first, second))
+
+    def diagonal(self: S, offset: int = 0, axis1: int = 0, axis2: int = 1) -> S:
+        """The elements at equal places of two axes.
+
+        >>> bf.BinaryField8([[1, 2], [3, 4]]).diagonal()
+        BinaryField8([0x1, 0x4])
+        """
+        return self._of(self._words.diagonal(offset, axis1, axis2))
+
+    @classmethod
+    def _operand(cls: type[S], value: Any) -> S:
+        """An array of this field, of representations where it is not one already."""
+        if isinstance(value, Stored):
+            if type(value) is not cls:
+                raise TypeError(f"{cls.__name__} and {type(value).__name__} cannot be mixed; convert with .to()")
+            return value
+        return cls(value)
+
+
+def _shown(values: Any, spec: str) -> str:
+    if isinstance(values, list):
+        return f"[{', '.join(_shown(it, spec) for it in values)}]"
+    if spec != "p":
+        return format(values, spec)
+    powers = [f"x^{i}" if i > 1 else "x" if i else "1" for i in reversed(range(values.bit_length())) if values >> i & 1]
+    return " + ".join(powers) or "0"

@@ -1,0 +1,384 @@
+"""Tests of the Python package as an array library: check_arrays.py, with the package as check_package.py has it.
+
+numpy itself is the reference. What a call gives for arrays of elements is compared with what it gives for numpy's arrays of objects, of
+which each computes in the field by the definitions: the numbers, the shape, or the exception.
+"""
+
+import copy
+import doctest
+import io
+import operator
+import tempfile
+import unittest
+import warnings
+
+import definitions
+import numpy as np
+
+import binary_field as bf
+
+FIELDS = {it.name: getattr(bf, it.type_name) for it in definitions.fields.FIELDS}
+# The widths of one, a few and many bytes, and of words in structures.
+SOME = [bf.Gf2, bf.BinaryField4, bf.BinaryField16, bf.Poly64, bf.Ghash128, bf.Poly192]
+
+
+class Plain:
+    """An element as a number that computes by the definitions; 0 and 1 are also taken beside it."""
+
+    def __init__(self, field, number):
+        self.field, self.number = field, number
+
+    def _of(self, other, operation, swapped=False):
+        if isinstance(other, (int, np.bool_)) and other in (0, 1):
+            other = Plain(self.field, int(other))
+        if not isinstance(other, Plain):
+            return NotImplemented
+        both = (other.number, self.number) if swapped else (self.number, other.number)
+        return Plain(self.field, operation(*both))
+
+    def _quotient(self, x, y):
+        if y == 0:
+            raise ZeroDivisionError
+        return self.field.multiply(x, self.field.inverse(y))
+
+    def __add__(self, other):
+        return self._of(other, operator.xor)
+
+    __radd__ = __sub__ = __rsub__ = __add__
+
+    def __mul__(self, other):
+        return self._of(other, self.field.multiply)
+
+    __rmul__ = __mul__
+
+    def __truediv__(self, other):
+        return self._of(other, self._quotient)
+
+    def __rtruediv__(self, other):
+        return self._of(other, self._quotient, True)
+
+    def __pow__(self, exponent):
+        return Plain(self.field, self.field.power(self.number, exponent))
+
+    def __neg__(self):
+        return self
+
+    __pos__ = __neg__
+
+    def sqrt(self):
+        return Plain(self.field, self.field.square_root(self.number))
+
+    def __bool__(self):
+        return self.number != 0
+
+    def __eq__(self, other):
+        return self.number == (other.number if isinstance(other, Plain) else other)
+
+    def __int__(self):
+        return self.number
+
+
+class World:
+    """Arrays in one of the two ways: of a field, or of objects of its definition."""
+
+    def __init__(self, field, is_plain):
+        self.field, self.defined = field, definitions.FIELDS[field._name]
+        draw = np.random.default_rng(50)
+        numbers = [int.from_bytes(draw.bytes(24), "little") % field.order for _ in range(40)]
+        numbers[3] = numbers[17] = 0
+        self.make = self.objects if is_plain else field
+        # A cube, a matrix, vectors of which one has no 0, and a mask.
+        self.m, self.n = self.make(numbers[:24]).reshape(2, 3, 4), self.make(numbers[24:36]).reshape(4, 3)
+        self.v, self.w = self.make(numbers[:5]), self.make([it or 1 for it in numbers[5:8]])
+        self.mask = np.arange(24).reshape(2, 3, 4) % 3 == 0
+
+    def objects(self, numbers):
+        flat = np.empty(np.size(np.array(numbers, dtype=object)), dtype=object)
+        for at, it in enumerate(np.array(numbers, dtype=object).ravel()):
+            flat[at] = Plain(self.defined, int(it))
+        return flat.reshape(np.shape(np.array(numbers, dtype=object)))
+
+
+def read(value):
+    """The numbers and the shape of what a call gave."""
+    if isinstance(value, (list, tuple)):
+        return [read(it) for it in value]
+    if isinstance(value, bf.FieldArray):
+        return value.shape, value.ravel().tolist()
+    if isinstance(value, np.ndarray) and value.dtype != object:
+        return value.shape, value.ravel().tolist()
+    return np.shape(value), [int(it) for it in np.ravel(np.array(value, dtype=object))]
+
+
+SHAPES = [
+    lambda o: o.m.T, lambda o: o.m.transpose(1, 0, 2), lambda o: o.m.transpose((2, 0, 1)), lambda o: o.m.transpose(0, 0, 1), lambda o: o.v.T,
+    lambda o: o.m.swapaxes(0, -1), lambda o: o.m.swapaxes(0, 3), lambda o: o.m.ravel(), lambda o: o.m.T.ravel(), lambda o: o.m.T.flatten(),
+    lambda o: o.m.reshape(4, 6), lambda o: o.m.reshape((-1, 3)), lambda o: o.m.reshape(5, 5), lambda o: o.m.T.reshape(-1), lambda o: o.m.diagonal(),
+    lambda o: o.m.diagonal(1, 1, 2), lambda o: list(o.m), lambda o: [it for row in o.n for it in row], lambda o: list(o.v[0, ...]), lambda o: o.m[5],
+    lambda o: o.m[None, ..., 0], lambda o: o.m[o.mask], lambda o: o.m[[0, 1], [1, 2]], lambda o: o.m[:, ::-1, 1], lambda o: o.m[0, 0, 0, 0],
+    lambda o: o.m["words"], lambda o: o.m[0.5], lambda o: o.v[-1], lambda o: len(o.m), lambda o: len(o.v[0, ...]), lambda o: np.nonzero(o.m),
+    lambda o: np.transpose(o.m), lambda o: np.moveaxis(o.m, 0, -1), lambda o: np.swapaxes(o.m, 0, 1), lambda o: np.ravel(o.m),
+    lambda o: np.squeeze(o.m[:1]), lambda o: np.squeeze(o.m, 0), lambda o: np.expand_dims(o.m, 1), lambda o: np.reshape(o.m, (6, 4)),
+    lambda o: np.broadcast_to(o.v, (2, 5)), lambda o: np.broadcast_to(o.v, (2, 4)), lambda o: np.broadcast_arrays(o.v, o.v[:1]),
+    lambda o: np.concatenate([o.m, o.m[:1]]), lambda o: np.concatenate([o.m, o.n], 1), lambda o: np.concatenate([o.m, o.m], axis=None),
+    lambda o: np.stack([o.v, o.v], axis=1), lambda o: np.stack([o.v, o.w]), lambda o: np.vstack((o.v, o.v)), lambda o: np.hstack([o.v, o.w]),
+    lambda o: np.dstack([o.v, o.v]), lambda o: np.column_stack([o.v, o.v]), lambda o: np.split(o.m, 2), lambda o: np.split(o.v, 2),
+    lambda o: np.array_split(o.v, 2), lambda o: np.tile(o.v, (2, 2)), lambda o: np.repeat(o.v, 2), lambda o: np.repeat(o.m, [1, 2], axis=0),
+    lambda o: np.roll(o.m, 3), lambda o: np.roll(o.m, 1, axis=2), lambda o: np.roll(o.m, 1, axis=4), lambda o: np.flip(o.m),
+    lambda o: np.flip(o.m, 1), lambda o: np.fliplr(o.n), lambda o: np.rot90(o.n), lambda o: np.take(o.m, [1, 0], axis=2), lambda o: np.take(o.v, 9),
+    lambda o: np.take(o.v, 2), lambda o: np.delete(o.v, 1), lambda o: np.compress([True, False, True], o.v), lambda o: np.diag(o.v),
+    lambda o: np.diag(o.n), lambda o: np.diag(o.n, -1), lambda o: np.diag(o.m), lambda o: np.diagflat(o.n), lambda o: np.tril(o.n),
+    lambda o: np.triu(o.n, 1), lambda o: np.atleast_3d(o.v), lambda o: np.copy(o.m), lambda o: np.where(o.mask, o.m, o.m[::-1]),
+    lambda o: np.where(o.mask, o.m, 0), lambda o: np.where(o.mask, 1, o.m[0]), lambda o: np.where(o.mask, o.v, o.m), lambda o: np.where(o.v),
+    lambda o: bool(np.any(o.v)), lambda o: np.asarray(np.all(o.m, axis=1), bool), lambda o: np.count_nonzero(o.m), lambda o: np.argwhere(o.m),
+    lambda o: np.flatnonzero(o.v), lambda o: np.shape(o.m), lambda o: np.ndim(o.m), lambda o: np.size(o.m), lambda o: np.size(o.m, 1),
+    lambda o: copy.copy(o.v), lambda o: copy.deepcopy(o.v), lambda o: bool(o.v[0]), lambda o: bool(o.v),
+]
+
+AXES = [
+    lambda o: o.m.sum(), lambda o: o.m.sum(1), lambda o: o.m.sum((0, 2)), lambda o: o.m.sum(axis=-1, keepdims=True), lambda o: o.m.sum(3),
+    lambda o: np.sum(o.m, (1, 1)), lambda o: np.sum(o.m), lambda o: np.sum(o.m, axis=0), lambda o: np.sum(o.m, keepdims=True),
+    lambda o: np.sum(o.m, axis=1, initial=o.v[0]), lambda o: np.sum(o.m, axis=1, initial=o.v[0], where=o.mask),
+    lambda o: np.sum(o.m, where=o.mask, initial=0), lambda o: o.m.prod(), lambda o: o.m.prod(1), lambda o: o.m.prod((0, 2)),
+    lambda o: np.prod(o.m, axis=2, keepdims=True), lambda o: np.prod(o.m, axis=(-1, 0), keepdims=True), lambda o: np.prod(o.m, axis=3),
+    lambda o: np.prod(o.m, axis=1, initial=o.v[0], where=~o.mask), lambda o: np.prod(o.v[0, ...]), lambda o: np.cumsum(o.m),
+    lambda o: np.cumsum(o.m, 1), lambda o: np.cumsum(o.m, axis=3), lambda o: o.m.cumsum(axis=-1), lambda o: np.cumprod(o.m),
+    lambda o: np.cumprod(o.m, axis=1), lambda o: o.n.cumprod(0), lambda o: np.add.reduce(o.m), lambda o: np.add.reduce(o.m, axis=None),
+    lambda o: np.add.reduce(o.m, 1, keepdims=True), lambda o: np.add.reduce(o.n, axis=2), lambda o: np.multiply.reduce(o.m),
+    lambda o: np.multiply.reduce(o.m, axis=(0, 1)), lambda o: np.add.accumulate(o.m), lambda o: np.multiply.accumulate(o.m, axis=2),
+    lambda o: np.add.outer(o.v, o.w), lambda o: np.multiply.outer(o.n, o.w), lambda o: np.divide.outer(o.v, o.w), lambda o: np.equal.outer(o.v, o.v),
+    lambda o: np.outer(o.v, o.w), lambda o: np.outer(o.n, o.w), lambda o: np.trace(o.n), lambda o: np.trace(o.m, 1, 1, 2), lambda o: np.trace(o.v),
+    lambda o: o.m.trace(), lambda o: np.convolve(o.v, o.w), lambda o: np.convolve(o.w, o.v, "same"), lambda o: np.convolve(o.v, o.w, "valid"),
+    lambda o: np.convolve(o.v, o.w[:0]), lambda o: np.convolve(o.v[0, ...], o.w), lambda o: np.convolve(o.n, o.w), lambda o: np.dot(o.v, o.v),
+    lambda o: np.dot(o.m, o.n), lambda o: np.dot(o.n, o.m), lambda o: np.dot(o.m, o.m.T), lambda o: np.dot(o.m, o.w), lambda o: np.dot(o.n, o.w),
+    lambda o: np.dot(o.w, o.w[0]), lambda o: o.m @ o.n, lambda o: o.n @ o.m[0], lambda o: o.n @ o.m, lambda o: o.m @ o.m, lambda o: o.w @ o.m,
+    lambda o: o.n @ o.w, lambda o: o.v @ o.v, lambda o: o.v @ o.w, lambda o: o.m @ o.v[0], lambda o: np.matmul(o.n, o.w),
+    lambda o: o.m[:, None] @ o.n, lambda o: o.n @ [0, 1, 1], lambda o: [0, 1, 1] @ o.n.T, lambda o: np.array([0, 1, 1]) @ o.w,
+    lambda o: o.v[:0] + o.v[:0],
+]
+
+PLACES = [
+    lambda o: o.v + o.v, lambda o: o.m - o.m[::-1], lambda o: o.m * o.m[0], lambda o: o.n * o.w, lambda o: o.w / o.w[0], lambda o: o.n / o.w,
+    lambda o: o.v / o.v, lambda o: o.v + o.w, lambda o: 1 / o.w, lambda o: 0 + o.v, lambda o: o.v * np.array([0, 1, 1, 0, 1]),
+    lambda o: o.v * np.array([True, False, True, False, True]), lambda o: o.w + [1, 0, 1], lambda o: (0, 1, 1) * o.w, lambda o: o.m.T * o.m.T,
+    lambda o: o.m[:, ::2] + o.m[:, ::-2], lambda o: o.v**3, lambda o: np.power(o.v, 2), lambda o: np.sqrt(o.m.T), lambda o: np.square(o.n[::2]),
+    lambda o: np.reciprocal(o.w) if isinstance(o.w, bf.FieldArray) else 1 / o.w, lambda o: -o.n[1:], lambda o: o.v == o.v[::-1],
+    lambda o: o.m == o.m[0], lambda o: o.m != o.m.T, lambda o: o.v == None, lambda o: o.v == 300, lambda o: o.v != 1, lambda o: o.v == "1",
+    lambda o: o.v == [1, 0, 1, 0, 1], lambda o: o.v == o.w, lambda o: o.v[0] == None, lambda o: np.add(o.v, o.v, where=[True] * 5),
+    lambda o: np.equal(o.v, o.v), lambda o: np.not_equal(o.v, 0),
+]
+
+
+def changed(function):
+    """A case that changes a matrix, and what it leaves of it."""
+
+    def case(o):
+        n = o.n.copy()
+        given = function(o, n)
+        return [n] + ([] if given is None else [given])
+
+    return case
+
+
+CHANGES = [changed(it) for it in [
+    lambda o, n: operator.iadd(n, o.w), lambda o, n: operator.iadd(n, n), lambda o, n: operator.imul(n, n.copy()),
+    lambda o, n: operator.imul(n, o.w[0]), lambda o, n: operator.iadd(n.T, o.w[:, None]), lambda o, n: operator.iadd(n[::2], 1),
+    lambda o, n: operator.iadd(n[1:], n[:-1]), lambda o, n: operator.imul(n[:, 1], o.n[:, 0]), lambda o, n: operator.itruediv(n, o.w),
+    lambda o, n: operator.ipow(n[0], 3), lambda o, n: operator.isub(n[0], n), lambda o, n: operator.itruediv(n, o.w * 0),
+    lambda o, n: np.add(n, o.w, out=n), lambda o, n: np.add(o.n, o.w, out=n.T.copy().T), lambda o, n: np.multiply(o.w, o.w[::-1], out=n[1]),
+    lambda o, n: np.multiply(o.w, o.w, out=n), lambda o, n: np.multiply(o.n, o.n, out=n[:2]), lambda o, n: np.multiply(o.w[0], o.w[1], out=n),
+    lambda o, n: np.add(n, 1, out=n, where=o.mask[0].T), lambda o, n: np.divide(o.n, n, out=n, where=n != 0),
+    lambda o, n: np.divide(o.n, n, out=n, where=[True]), lambda o, n: np.square(o.w, out=n[0]), lambda o, n: np.negative(o.w, out=n[0]),
+    lambda o, n: np.power(o.w, 3, out=n[0]), lambda o, n: np.sum(o.n, axis=0, out=n[0]), lambda o, n: np.sum(o.n, axis=1, out=n[0]),
+    lambda o, n: np.prod(o.n, 0, out=n[1]), lambda o, n: np.add.reduce(n, axis=0, out=n[0]), lambda o, n: np.cumsum(o.n, axis=1, out=n),
+    lambda o, n: np.multiply.accumulate(o.n, 1, out=n), lambda o, n: np.matmul(o.n, o.m[0, :, :3], out=n),
+    lambda o, n: np.dot(o.n, o.m[0, :, :3].copy(), out=n), lambda o, n: np.multiply.outer(o.m[0, 0], o.w, out=n),
+    lambda o, n: np.add.at(n, [0, 0, 1], o.w), lambda o, n: np.multiply.at(n, ([0, 0, 2, 0], [1, 1, 0, 1]), o.m[0, 0]),
+    lambda o, n: np.divide.at(n, [3, 3], o.w),
+    lambda o, n: np.square.at(n, [1, 1, 2]) if isinstance(n, bf.FieldArray) else n.__setitem__([1, 2], [n[1]**4, n[2]**2]),
+    lambda o, n: np.add.at(n, [5], 1), lambda o, n: n.__setitem__(0, o.w), lambda o, n: n.__setitem__((slice(None), 1), o.m[0, 0]),
+    lambda o, n: n[0].__setitem__(0, o.w[1]), lambda o, n: n.__setitem__(0, o.v), lambda o, n: n.__setitem__(n == n[0], 1),
+    lambda o, n: n.__setitem__(9, 1), lambda o, n: n.reshape(-1).__setitem__(2, o.w[0]), lambda o, n: n.flatten().__setitem__(2, o.w[0]),
+    lambda o, n: n.ravel().__setitem__(2, o.w[0]), lambda o, n: n.T.ravel().__setitem__(2, o.w[0]), lambda o, n: n[[0, 1]].__setitem__(0, o.w),
+    lambda o, n: n[n != 0].__setitem__(0, o.w[0]), lambda o, n: n.swapaxes(0, 1)[0].__setitem__(0, o.w[0]),
+    lambda o, n: n.diagonal().__setitem__(0, o.w[0]), lambda o, n: np.broadcast_to(n, (2, 4, 3)).__setitem__(0, n),
+]]
+
+
+class AsNumpy(unittest.TestCase):
+    """Each case over elements and over objects: the same numbers and shape, or an exception of the same class."""
+
+    def compare(self, cases):
+        for field in SOME:
+            ours, plain = World(field, False), World(field, True)
+            for at, case in enumerate(cases):
+                with self.subTest(field=field.__name__, case=at), warnings.catch_warnings():
+                    warnings.simplefilter("ignore", DeprecationWarning)
+                    try:
+                        wanted = read(case(plain))
+                    except Exception as error:  # pylint: disable=broad-except
+                        self.assertRaises(type(error), case, ours)
+                        continue
+                    self.assertEqual(read(case(ours)), wanted)
+
+    def test_shapes(self):
+        self.compare(SHAPES)
+
+    def test_axes(self):
+        self.compare(AXES)
+
+    def test_places(self):
+        self.compare(PLACES)
+
+    def test_changes(self):
+        self.compare(CHANGES)
+
+
+
+class Elements(unittest.TestCase):
+    """What objects of numpy cannot be compared with."""
+
+    def test_lists_of_elements(self):
+        for field in FIELDS.values():
+            x, y = field.random(2, seed=51)
+            for wanted, found in [
+                (x + y, np.sum([x, y])), (x * y, np.prod([x, y])), (x * y, np.dot([x], [y])), (x * y, np.multiply([x], y)), (x + y, np.add(x, [y])),
+                (x.sqrt(), np.sqrt(np.array(x))), (x + y, np.array([x, y]).sum()), (x + y, np.cumsum([x, y])[1]), (x * x + y * y, [x, y] @ field(np.stack([x, y]))),
+            ]:
+                self.assertIs(type(found if found is not None and isinstance(found, field) else found[()] if found.ndim == 0 else found[0]), field)
+                self.assertTrue(np.all(found == wanted))
+            for refused in (np.mean, np.max, np.sort, np.exp, np.linalg.det, np.fft.fft, np.std):
+                self.assertRaises(TypeError, refused, [x, y] if refused is not np.linalg.det else [[x]])
+            self.assertTrue((field([x, y]) == field(np.array([x, y]))).all() and (field([[x], [y]]) == field([x.reshape(1), y.reshape(1)])).all())
+            self.assertEqual((np.asarray(x, dtype=object)[()], field([x, y]).tolist()), (x, [int(x), int(y)]))
+
+    def test_numbers_of_numpy(self):
+        for field in FIELDS.values():
+            a = field.random((2, 3), seed=52)
+            if field.degree <= 64:
+                self.assertEqual(np.asarray(a, dtype=np.uint64).tolist(), a.tolist())
+            self.assertEqual([int(it) for it in np.asarray(a).ravel()], a.ravel().tolist())
+            for kind in (np.uint8, np.int64, np.uint64, bool):
+                self.assertEqual(field(np.array([[0], [1]], kind)).tolist(), [[0], [1]])
+            self.assertEqual(field(np.zeros((2, 0), np.int8)).shape, (2, 0))
+        self.assertEqual(bf.Ghash128(np.array([5, (1 << 64) - 1], np.uint64)).tolist(), [5, (1 << 64) - 1])
+        self.assertRaises(ValueError, bf.Ghash128, np.array([-1]))
+        self.assertRaises(TypeError, bf.Ghash128, np.array([1.0]))
+        self.assertRaises(OverflowError, np.asarray, bf.Ghash128(1 << 64), np.uint64)
+
+    def test_memory(self):
+        for field in FIELDS.values():
+            a = field.random((4, 5), seed=53)
+            words = a.to_words()
+            self.assertEqual((a.dtype.itemsize * a.size, a.dtype), (a.nbytes, a[0].T.dtype))
+            for it in (a[1:], a[:, 2], a.T, a.reshape(-1), a.ravel(), a[0][1:], a.diagonal(), a[1, 2, ...], a.to(field), np.roll(a, 0)[:0], *a):
+                self.assertEqual(np.shares_memory(it, a), it.size > 0)
+            for it in (a[1, 2], a[[1]], a[a == a], a.copy(), a.flatten(), +a, field(a), copy.copy(a), next(iter(a[0])), np.roll(a, 1)):
+                self.assertFalse(np.shares_memory(it, a))
+            # Words in the same memory: those of an array, and of an array those that it was made of.
+            a.to_words(copy=False)[0, 0] = a.to_words()[3, 3]
+            self.assertEqual(int(a[0, 0]), int(a[3, 3]))
+            b = field.from_words(words, copy=False)
+            b[0, 0] = b[1, 1]
+            self.assertTrue((words[0, 0] == words[1, 1]).all() and (b.to_words() == words).all())
+            self.assertFalse(np.shares_memory(field.from_words(words), words))
+            # Elements that are not where the processor wants them, and not one after the other.
+            data = np.zeros(words.nbytes + 1, np.uint8)
+            odd = np.frombuffer(data.data, words.dtype, words.size, 1).reshape(words.shape)
+            odd[...] = words
+            c = field.from_words(odd, copy=False)
+            self.assertTrue((c * c == b * b).all() and (c[::2, ::-3] * c[::2, ::3] == b[::2, ::-3] * b[::2, ::3]).all())
+            c += b
+            self.assertEqual(odd.tobytes(), bytes(words.nbytes))
+            words.flags.writeable = False
+            self.assertRaises(ValueError, operator.iadd, field.from_words(words, copy=False), 1)
+            self.assertRaises(ValueError, field.from_words(words, copy=False).add_scaled, 1, b)
+
+    def test_add_scaled(self):
+        for field in FIELDS.values():
+            a, b = field.random((4, 5), seed=54), field.random(4, seed=55)
+            wanted = a.copy()
+            wanted[:, 1] += b * a[0, 0]
+            a[:, 1].add_scaled(a[0, 0], b)
+            self.assertTrue((a == wanted).all())
+            wanted = a[0] + a[0][::-1]
+            a[0].add_scaled(1, a[0][::-1])
+            self.assertTrue((a[0] == wanted).all())
+
+    def test_files(self):
+        for field in FIELDS.values():
+            a, file = field.random((2, 3), seed=56), io.BytesIO()
+            np.save(file, a)
+            file.seek(0)
+            self.assertTrue((field.from_words(np.load(file)) == a).all())
+            file = io.BytesIO()
+            np.savez(file, a.T, b=a)
+            file.seek(0)
+            loaded = np.load(file)
+            self.assertTrue((field.from_words(loaded["arr_0"]) == a.T).all() and (field.from_words(loaded["b"]) == a).all())
+            with tempfile.TemporaryDirectory() as folder:
+                np.save(f"{folder}/a.npy", a)
+                mapped = field.from_words(np.load(f"{folder}/a.npy", mmap_mode="r+"), copy=False)
+                mapped *= a
+                self.assertTrue((field.from_words(np.load(f"{folder}/a.npy")) == a * a).all())
+
+    def test_kinds(self):
+        for field in FIELDS.values():
+            a = field([1, 0, 1])
+            for it in (np.zeros_like(a), np.ones_like(a, shape=(2, 2)), np.where([True, False, True], a, 0), np.concatenate([a, [0, 1]]), np.add.outer(a, a)):
+                self.assertIs(type(it), field)
+            self.assertEqual((np.ones_like(a, shape=2).tolist(), np.concatenate([a, [0, 1]]).tolist()), ([1, 1], [1, 0, 1, 0, 1]))
+            other = bf.Poly64 if field is not bf.Poly64 else bf.BinaryField64
+            b = other([1, 0, 1])
+            for mixed in (
+                lambda: a + b, lambda: a @ b, lambda: np.add(a, b), lambda: np.concatenate([a, b]), lambda: np.where([True], a, b), lambda: np.dot(a, b),
+                lambda: np.add(a, a, out=b), lambda: np.add(a, a, out=np.zeros(3)), lambda: a.__setitem__(0, b[0]), lambda: np.convolve(a, b), lambda: np.add.at(a, [0], b[:1]),
+                lambda: field([a[0], b[0]]), lambda: field.evaluate(a, b), lambda: a.add_scaled(1, b), lambda: np.concatenate([a, [2]]), lambda: np.where([True], a, 2),
+                lambda: a + [0, 1, 2], lambda: [2, 0, 0] @ a, lambda: np.array([2, 0, 0]) @ a, lambda: a.dot([2, 0, 0]), lambda: a + None, lambda: a + "1", lambda: a + 1.0,
+                lambda: a * np.ones(3), lambda: a**a, lambda: 2**a, lambda: np.float64(1) * a, lambda: np.sum(a, dtype=int), lambda: np.add(a, a, dtype=int), lambda: np.insert(a, 0, 1),
+                lambda: np.mean(a), lambda: np.sort(a), lambda: np.linalg.inv(a), lambda: np.maximum(a, a), lambda: np.subtract.reduce(a), lambda: np.add.reduceat(a, [0]),
+                lambda: np.einsum("i,i", a, a), lambda: np.bitwise_xor(a, a), lambda: np.tile(np.array([1]), a), lambda: np.add.at(np.zeros(3), [0], a), lambda: iter(a[0]),
+            ):
+                self.assertRaises(TypeError, mixed)
+            self.assertTrue(np.array_equal(a, [1, 0, 1]) and not np.array_equal(a, b) and not np.array_equal(a, a[:2]))
+            self.assertFalse(a[0] == other(1))
+            self.assertTrue(a[0] != other(1))
+        self.assertRaises(TypeError, bf.FieldArray, [1])
+
+    def test_empty_arrays(self):
+        for field in FIELDS.values():
+            a = field.zeros((2, 0, 3))
+            for wanted, found in [
+                (((2, 3), [0] * 6), a.sum(1)), (((2, 3), [1] * 6), a.prod(1)), (((2, 0), []), a.prod(2)), (((2, 0, 3), []), a * a), (((2, 0, 3), []), np.cumprod(a, 1)),
+                (((2, 0, 0), []), a @ field.zeros((3, 0))), (((2, 3, 3), [0] * 18), a.swapaxes(1, 2) @ a), (((0,), []), a.ravel()), (((), [1]), a.prod()), (((), [0]), a.sum()),
+                (((0, 2, 3), []), field.zeros((0, 0)).dot(a)), (((2, 3), [0] * 6), field.zeros(0).dot(a)), (((2, 0, 3), []), field.from_words(a.to_words())),
+            ]:
+                self.assertEqual(read(found), wanted)
+            self.assertEqual((a.tolist(), str(field([]))), ([[], []], "[]"))
+
+
+class Examples(unittest.TestCase):
+    """The examples in the package's texts."""
+
+    def test_examples(self):
+        tried = 0
+        for name in ("_storage", "_arrays", "_transforms", "_bytes"):
+            module = getattr(bf, name)
+            found = doctest.testmod(module, extraglobs={"bf": bf, "np": np})
+            self.assertEqual(found.failed, 0)
+            tried += found.attempted
+        self.assertGreater(tried, 70)
+
+    def test_every_public_name_has_one(self):
+        finder, lacking = doctest.DocTestFinder(exclude_empty=False), []
+        for name in bf.__all__:
+            it = getattr(bf, name)
+            for found in finder.find(it, name, globs={}):
+                own = found.name.rsplit(".", 1)[-1]
+                if not own.startswith("_") and not found.examples and not isinstance(it, type):
+                    lacking.append(found.name)
+        self.assertEqual(lacking, [])
+
+
+if __name__ == "__main__":
+    unittest.main()
