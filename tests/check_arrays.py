@@ -305,6 +305,22 @@ class Elements(unittest.TestCase):
             a[0].add_scaled(1, a[0][::-1])
             self.assertTrue((a[0] == wanted).all())
 
+    def test_what_is_written(self):
+        # The library is given no array that it writes and that shares memory with another, is read-only, or has gaps.
+        words = np.arange(24, dtype=np.uint8)
+        fixed = words[:8].copy()
+        fixed.flags.writeable = False
+        for error, arrays in [
+            (ValueError, (words[:8], words[8:16], words[7:15])), (ValueError, (words[:8], words[8:16], words[9:17])), (ValueError, (words, words, words)),
+            (ValueError, (words[:8], words[8:16], fixed)), (TypeError, (words[:8], words[8:16], words[8:24:2])),
+            (TypeError, (words[:8], words[8:16], words.view(np.uint16)[8:])), (TypeError, (words[:8], words.astype(np.int64)[:8], words[16:])),
+        ]:
+            self.assertRaises(error, bf._library.call, "t8_add", *arrays)
+        self.assertEqual(words.tolist(), list(range(24)))
+        bf._library.call("t8_add", words[:8], words[:8], words[8:16])
+        bf._library.call("t8_add", words[:16:2], words[15:7:-1], words[16:])
+        self.assertEqual(words.tolist(), [*range(8), *[0] * 8, 0, 2, 4, 6, 0, 0, 0, 0])
+
     def test_files(self):
         for field in FIELDS.values():
             a, file = field.random((2, 3), seed=56), io.BytesIO()

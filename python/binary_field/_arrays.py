@@ -91,11 +91,10 @@ class FieldArray(Stored):
 
     def _called(self: A, function: str, *operands: Any, out: A | None = None) -> A:
         """Calls a function of the library that writes an array of the first operand's shape, into `out` where one is given."""
-        given = [packed(it) if isinstance(it, np.ndarray) else it for it in operands]
         result = None if out is None or not is_packed(out._words) else out._words
-        if result is None or any(isinstance(it, np.ndarray) and np.may_share_memory(it, result) for it in given):
-            result = np.empty(given[0].shape, self._dtype())
-        call(f"{self._name}_{function}", *given, result)
+        if result is None or any(isinstance(it, np.ndarray) and np.may_share_memory(it, result) for it in operands):
+            result = np.empty(operands[0].shape, self._dtype())
+        call(f"{self._name}_{function}", *operands, result)
         if out is None:
             return self._of(result)
         if result is not out._words:
@@ -104,6 +103,8 @@ class FieldArray(Stored):
 
     def _elementwise(self: A, function: str, other: A, out: A | None = None) -> A:
         """A function of two arrays, after broadcasting."""
+        if out is None and self.shape == other.shape:
+            return self._called(function, self._words, other._words)
         shape = self._shape_of(self, other, out=out)
         if function == "multiply" and self.shape != other.shape and 0 in (self.ndim, other.ndim):
             scalar, values = (self, other) if self.ndim == 0 else (other, self)
@@ -112,7 +113,8 @@ class FieldArray(Stored):
 
     def _each(self: A, function: str, *more: int, out: A | None = None) -> A:
         """A function of each element."""
-        return self._called(function, self._broadcast(self._shape_of(self, out=out))._words, *more, out=out)
+        values = self if out is None else self._broadcast(self._shape_of(self, out=out))
+        return self._called(function, values._words, *more, out=out)
 
     def _scalar(self) -> Any:
         """This element as the library takes a scalar."""
@@ -140,7 +142,7 @@ class FieldArray(Stored):
         if values.shape != self.shape:
             raise ValueError(f"the shapes {self.shape} and {values.shape} differ")
         sums = packed(self._words)
-        added = values._words.copy() if np.may_share_memory(sums, values._words) else packed(values._words)
+        added = values._words.copy() if np.may_share_memory(sums, values._words) else values._words
         call(f"{self._name}_add_scaled", sums, self._operand(scalar)._scalar(), added)
         if sums is not self._words:
             self._words[...] = sums
@@ -266,7 +268,7 @@ class FieldArray(Stored):
         >>> bf.Rijndael8b([2]).reciprocal()
         Rijndael8b([0x8d])
         """
-        if not self.all():
+        if not self._is_nonzero().all():
             raise ZeroDivisionError(f"0 of {type(self).__name__} has no inverse")
         return self.inverse_or_zero(out)
 
@@ -284,7 +286,7 @@ class FieldArray(Stored):
         if coefficients.ndim != 1:
             raise ValueError("coefficients must have one dimension")
         result = cls.zeros(points.shape)
-        call(f"{cls._name}_evaluate", packed(coefficients._words), packed(points._words), result._words)
+        call(f"{cls._name}_evaluate", coefficients._words, points._words, result._words)
         return result
 
     # ---- over axes
@@ -338,7 +340,7 @@ class FieldArray(Stored):
         """The product over the first axis: of one axis by the library, else by products of halves."""
         if factors.ndim == 1:
             result = cls.zeros(())
-            call(f"{cls._name}_product", packed(factors._words), result._words)
+            call(f"{cls._name}_product", factors._words, result._words)
             return result
         while len(factors) > 1:
             half = len(factors) // 2
@@ -373,13 +375,16 @@ class FieldArray(Stored):
             reach *= 2
         return self._left_in(out, result)
 
+    def _is_nonzero(self) -> Any:
+        return self._words["words"].any(-1) if self._dtype().names else self._words != 0
+
     def any(self, axis: Any = None) -> Any:
         """Whether an element is not 0.
 
         >>> bool(bf.Gf2([0, 1]).any())
         True
         """
-        return np.any(self != 0, axis)
+        return np.any(self._is_nonzero(), axis)
 
     def all(self, axis: Any = None) -> Any:
         """Whether no element is 0.
@@ -387,7 +392,7 @@ class FieldArray(Stored):
         >>> bool(bf.Gf2([0, 1]).all())
         False
         """
-        return np.all(self != 0, axis)
+        return np.all(self._is_nonzero(), axis)
 
     def trace(self: A, offset: int = 0, axis1: int = 0, axis2: int = 1) -> A:
         """The sum of a diagonal.

@@ -82,35 +82,36 @@ def packed(words: Words) -> Words:
 
 
 def call(name: str, *arguments: Any) -> None:
-    """Calls a function. An array is a packed array of numpy of the function's words; a scalar up to 64 bits and a number are integers,
-    and every other scalar and result is an array of one element.
+    """Calls a function. An array is one of numpy of the function's words, packed where it is written; a scalar up to 64 bits and a number
+    are integers, and every other scalar and result is an array of one element.
 
     What the library reads and writes is exactly what numpy holds, and what it writes nothing else shares: this is the one place that
     hands out an address."""
     function, parameters = _CALLED[name]
     given: list[int] = []
-    ranges: list[tuple[int, int, bool]] = []
+    held: list[tuple[Words, int, int, bool]] = []
     for (parameter, is_plain, is_array, is_written, dtype), value in zip(parameters, arguments, strict=True):
         if is_plain:
             given.append(value)
             continue
         flags, size = value.flags, value.size
-        if value.dtype != dtype or not flags.c_contiguous or not flags.aligned:
+        if not (flags.c_contiguous and flags.aligned):
+            value = None if is_written else packed(value)
+        if value is None or value.dtype != dtype:
             raise TypeError(f"{name}: {parameter} must be a contiguous array of {dtype}")
         if is_written and not flags.writeable:
             raise ValueError(f"{name}: {parameter} is read-only")
-        start = value.__array_interface__["data"][0] if size else ctypes.addressof(EMPTY)
+        start = value.ctypes.data if size else ctypes.addressof(EMPTY)
         given.append(start)
-        ranges.append((start, start + value.nbytes, is_written))
+        held.append((value, start, start + value.nbytes, is_written))
         if is_array:
             given.append(size)
         elif size != 1:
             raise TypeError(f"{name}: {parameter} must be one element")
-    read_to = written_to = 0
-    for start, end, is_written in sorted(ranges):
-        if start < (read_to if is_written else written_to):
-            raise ValueError(f"{name}: an array that is written shares memory with another")
-        read_to, written_to = max(read_to, end), max(written_to, end if is_written else 0)
+    for at, (_, start, end, is_written) in enumerate(held):
+        for _, other, stop, is_other in held[:at]:
+            if start < stop and other < end and (is_written or is_other):
+                raise ValueError(f"{name}: an array that is written shares memory with another")
     status = function(*given)
     if status:
         short, text = STATUSES[status]

@@ -8,7 +8,7 @@ from typing import Any, Callable, Iterator, Sequence, TypeVar, Union
 
 import numpy as np
 
-from ._library import WORDS, Words, call, packed
+from ._library import WORDS, Words, call
 
 S = TypeVar("S", bound="Stored")
 Shape = Union[int, Sequence[int]]
@@ -207,7 +207,7 @@ class Stored(metaclass=_Constants):
             return self
         if self._partner == field._name:
             result = field.zeros(self.shape)
-            call(f"{self._name}_to_{field._name}", packed(self._words), result._words)
+            call(f"{self._name}_to_{field._name}", self._words, result._words)
             return result
         if field.degree <= self.degree or field.degree % self.degree:
             raise TypeError(f"cannot convert {type(self).__name__} to {field.__name__}, which does not contain it")

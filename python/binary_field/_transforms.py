@@ -127,7 +127,7 @@ def _butterfly(way: str, low: Ghash128, high: Ghash128, scalar: Any) -> None:
     if np.shares_memory(low._words, high._words):
         raise ValueError("low and high must not share elements")
     words = packed(low._words), packed(high._words)
-    call(f"g128_butterfly_{way}", *words, packed(Ghash128._operand(scalar)._words))
+    call(f"g128_butterfly_{way}", *words, Ghash128._operand(scalar)._words)
     for it, made in zip((low, high), words):
         if made is not it._words:
             it._words[...] = made
@@ -143,7 +143,7 @@ def low_stages(values: Any, shifts: Any, basis: Any, first_run: int = 0) -> Ghas
     result = _vector(values)
     if not 0 <= first_run < 1 << 64:
         raise ValueError("first_run must be from 0 to 2**64 - 1")
-    call("g128_low_stages", result._words, *(packed(Ghash128._operand(it)._words) for it in (shifts, basis)), first_run)
+    call("g128_low_stages", result._words, Ghash128._operand(shifts)._words, Ghash128._operand(basis)._words, first_run)
     return result
 
 
@@ -157,5 +157,5 @@ def linear_map(values: Any, images: A) -> A:
         raise TypeError("images must be an array of Rijndael8b or Ghash128")
     values = images._operand(values)
     result = images.zeros(values.shape)
-    call(f"{images._name}_linear_map", packed(values._words), packed(images._words), result._words)
+    call(f"{images._name}_linear_map", values._words, images._words, result._words)
     return result
