@@ -1,6 +1,6 @@
 -- Blocks of 16 bytes by their numbers and at their places: numbers tell blocks apart, and the blocks of a message its bytes.
-use Rattle.std.proofs.Common.{◌≡◌, ℕ, zero, suc, ◌+◌, ◌-◌, ◌*◌, ◌/◌, ◌%◌, ◌^◌, ◌<◌, ◌≤◌, inl, inr, List, [], ◌∷◌, ◌++◌, length, take, drop, replicate, get_or, refl, sym, ap, ap₂, ◌∙◌, arith, subst, lit<, length-append, length-drop}
-use Rattle.std.specs.Prelude.{map, reverse}
+use Rattle.std.proofs.Common.{◌≡◌, ℕ, zero, suc, ◌+◌, ◌-◌, ◌*◌, ◌/◌, ◌%◌, ◌^◌, ◌<◌, ◌≤◌, inl, inr, List, [], ◌∷◌, ◌++◌, length, drop, replicate, get_or, refl, sym, ap, ◌∙◌, arith, subst, lit<, length-append, length-drop}
+use Rattle.std.specs.Prelude.{reverse}
 use Rattle.std.specs.List.{All}
 use Rattle.std.specs.Int.{byte_worth, from_be_bytes, from_le_bytes, sum_through, to_be_bytes, to_le_bytes, w128}
 use Rattle.std.proofs.lemmas.Bool.{cases_lt}

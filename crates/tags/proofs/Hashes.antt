@@ -6,7 +6,7 @@ use Rattle.std.proofs.lemmas.Nat.{pow_pos}
 use Rattle.field_base.proofs.RemainderRing.{ghash_ring}
 use Rattle.field_base.proofs.RingLemmas.{times_left_comm}
 use Rattle.tags.specs.Gcm.{gcm_product, ghash}
-use Rattle.tags.specs.Hash.{polynomial_hash}
+use Rattle.tags.specs.Hash.{polynomial_hash, polynomial_hash_from}
 use Rattle.tags.specs.Polyval.{dot, polyval}
 use Rattle.tags.specs.Reversed.{ghash_element, ghash_times, polyval_multiplier}
 use Rattle.tags.proofs.ReversedBits.{reversed, reversed_xor, reversed_twice}
@@ -48,17 +48,32 @@ module _ (product : ℕ → ℕ → ℕ) (key multiplier : ℕ)
       → write (reversed 128 h) ≡ write (polynomial_hash product key (map read blocks))
   hash_written read write blocks h is = ap write (ap (reversed 128) is ∙ hash_reversed read blocks)
 
+  -- the same of a hash that goes on
+  pub hash_from_written : (read : List ℕ → ℕ) (write : ℕ → List ℕ) (start : ℕ) (blocks : List (List ℕ)) (h : ℕ) → start < 2 ^ 128
+      → h ≡ polynomial_hash_from ghash_times multiplier (reversed 128 start) (map (λ b. reversed 128 (read b)) blocks)
+      → write (reversed 128 h) ≡ write (polynomial_hash_from product key start (map read blocks))
+  hash_from_written read write start blocks h fits is =
+      ap write (ap (reversed 128) (is ∙ sym (fold_image read start blocks))
+      ∙ reversed_twice 128 (polynomial_hash_from product key start (map read blocks)) (fold-lt product key below start (map read blocks) fits))
+
 -- the hash of a standard, as it is written, is that of the field by a multiplier made of the key, with the bits reversed
 abbrev IsHashOfField : (List ℕ → ℕ) → (ℕ → List ℕ) → (List ℕ → ℕ) → (List ℕ → List (List ℕ) → List ℕ) → Type 0
-IsHashOfField read write multiplier hash = (key : List ℕ) (blocks : List (List ℕ)) (h : ℕ)
-    → h ≡ polynomial_hash ghash_times (multiplier key) (map (λ b. reversed 128 (read b)) blocks) → write (reversed 128 h) ≡ hash key blocks
+IsHashOfField read write multiplier hash = (key : List ℕ) (blocks : List (List ℕ)) (h r : ℕ) (bytes : List ℕ)
+    → bytes ≡ write r → r ≡ reversed 128 h → h ≡ polynomial_hash ghash_times (multiplier key) (map (λ b. reversed 128 (read b)) blocks)
+    → bytes ≡ hash key blocks
+
+-- so it is for each product whose bits reversed are those of one by the multiplier
+by_field : (product : ℕ → ℕ → ℕ) (read : List ℕ → ℕ) (write : ℕ → List ℕ) (multiplier : List ℕ → ℕ) → ((a k : ℕ) → product a k < 2 ^ 128)
+    → ((a : ℕ) (key : List ℕ) → reversed 128 (product a (read key)) ≡ ghash_times (reversed 128 a) (multiplier key))
+    → IsHashOfField read write multiplier (λ key blocks. write (polynomial_hash product (read key) (map read blocks)))
+by_field product read write multiplier below image key blocks h r bytes written turned is =
+    written ∙ ap write turned
+    ∙ hash_written product (read key) (multiplier key) (λ a. below a (read key)) (λ a. image a key) read write blocks h is
 
 -- GHASH by the field
 pub ghash_result : IsHashOfField (from_be_bytes w128) (to_be_bytes w128) ghash_element ghash
 unfolding ghash
-ghash_result key =
-    hash_written gcm_product (from_be_bytes w128 key) (ghash_element key) (λ a. gcm_product-lt a _) (λ a. gcm_product_image a _)
-    (from_be_bytes w128) (to_be_bytes w128)
+ghash_result = by_field gcm_product (from_be_bytes w128) (to_be_bytes w128) ghash_element gcm_product-lt (λ a key. gcm_product_image a _)
 
 -- the product of POLYVAL is one by the multiplier
 pub dot_multiplier : (a k : ℕ) → reversed 128 (dot a k) ≡ ghash_times (reversed 128 a) (ghash_times 2 (reversed 128 k))
@@ -67,6 +82,4 @@ dot_multiplier a k = dot_image a k ∙ times_left_comm 128 1 ghash_times ghash_r
 -- POLYVAL by the field
 pub polyval_result : IsHashOfField (from_le_bytes w128) (to_le_bytes w128) polyval_multiplier polyval
 unfolding polyval
-polyval_result key =
-    hash_written dot (from_le_bytes w128 key) (polyval_multiplier key) (λ a. dot-lt a _) (λ a. dot_multiplier a _)
-    (from_le_bytes w128) (to_le_bytes w128)
+polyval_result = by_field dot (from_le_bytes w128) (to_le_bytes w128) polyval_multiplier dot-lt (λ a key. dot_multiplier a _)

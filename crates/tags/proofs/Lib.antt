@@ -15,3 +15,4 @@ pub mod Collisions
 pub mod KeyedCollisions
 pub mod BlocksDiffer
 pub mod EncodedParts
+pub mod Pieces

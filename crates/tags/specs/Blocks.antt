@@ -28,9 +28,13 @@ blocks_of message = first_blocks ((length message + 15) / 16) message
 abbrev pub zero_padded : List ℕ → List ℕ
 zero_padded message = message ++ replicate ((16 - length message % 16) % 16) 0
 
--- the last block that GCM hashes: how many bits the associated data and the text have, each as 8 bytes, the highest first
+-- the block of two lengths in bytes, each in bits, as 8 bytes, the highest first
+abbrev pub block_of_lengths : ℕ → ℕ → List ℕ
+block_of_lengths associated_length text_length = to_be_bytes w64 (associated_length * 8) ++ to_be_bytes w64 (text_length * 8)
+
+-- the last block that GCM hashes: how many bits the associated data and the text have
 abbrev pub lengths_block : List ℕ → List ℕ → List ℕ
-lengths_block associated text = to_be_bytes w64 (length associated * 8) ++ to_be_bytes w64 (length text * 8)
+lengths_block associated text = block_of_lengths (length associated) (length text)
 
 -- what GCM hashes: the blocks of the associated data, those of the text, and the block of lengths (NIST SP 800-38D,
 -- section 7.1)

@@ -8,3 +8,4 @@ pub mod Absorbed
 pub mod Reversed
 pub mod Collisions
 pub mod EncodedParts
+pub mod Pieces

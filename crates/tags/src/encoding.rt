@@ -1,8 +1,10 @@
 // How a standard writes blocks: a block of 16 bytes as an element of the field, where bit i of a number is the coefficient of x^i, a key as what
 // the field multiplies by, and a hash as a block.
 ghost use Rattle.std.specs.Prelude.{◌≡◌, ℕ, List, map};
+ghost use Rattle.tags.specs.Blocks.{IsBlock};
 ghost use Rattle.tags.specs.Gcm.{ghash};
-ghost use Rattle.tags.specs.Hash.{polynomial_hash};
+ghost use Rattle.tags.specs.Hash.{polynomial_hash, polynomial_hash_from};
+ghost use Rattle.tags.specs.Pieces.{ghash_from, polyval_from};
 ghost use Rattle.tags.specs.Polyval.{polyval};
 ghost use Rattle.tags.specs.Reversed.{ghash_element, ghash_times, polyval_element, polyval_multiplier};
 
@@ -11,12 +13,15 @@ use word_carryless::multiply_mod_128;
 
 /// How a standard writes blocks, keys and hashes.
 pub trait Encoding {
-    // The element of a block, what the field multiplies by for a key, and the standard's hash of blocks under a key.
+    // The element of a block, what the field multiplies by for a key, the standard's hash of blocks under a key, and the one that goes on
+    // from a hash.
     ghost element: { List ℕ → ℕ };
 
     ghost multiplier: { List ℕ → ℕ };
 
     ghost hash: { List ℕ → List (List ℕ) → List ℕ };
+
+    ghost hash_from: { List ℕ → List ℕ → List (List ℕ) → List ℕ };
 
     /// The element of a block.
     fn read(block: [u8; 16]) -> u128
@@ -26,10 +31,14 @@ pub trait Encoding {
     fn multiplier_of(key: [u8; 16]) -> u128
         ensures { result ≡ multiplier key };
 
-    /// The block of a sum: where the sum is the hash of the elements of blocks, the standard's hash of the blocks.
+    /// The block of a sum: where the sum is the hash of the elements of blocks, the standard's hash of the blocks, also where it went on from
+    /// the element of a hash.
     fn write(sum: u128) -> [u8; 16]
-        ensures { (key : List ℕ) (blocks : List (List ℕ)) → sum ≡ polynomial_hash ghash_times (multiplier key) (map element blocks)
-            → result ≡ hash key blocks };
+        ensures whole { (key : List ℕ) (blocks : List (List ℕ)) → sum ≡ polynomial_hash ghash_times (multiplier key) (map element blocks)
+            → result ≡ hash key blocks }
+        ensures continued { (key start : List ℕ) (blocks : List (List ℕ)) → IsBlock start
+            → sum ≡ polynomial_hash_from ghash_times (multiplier key) (element start) (map element blocks)
+            → result ≡ hash_from key start blocks };
 }
 
 /// The blocks of GHASH (NIST SP 800-38D): the highest bit of the first byte is the coefficient of x^0.
@@ -41,6 +50,8 @@ impl Encoding for HighestFirst {
     ghost multiplier = { ghash_element };
 
     ghost hash = { ghash };
+
+    ghost hash_from = { ghash_from };
 
     #[inline]
     fn read(block: [u8; 16]) -> u128 {
@@ -66,6 +77,8 @@ impl Encoding for LowestFirst {
     ghost multiplier = { polyval_multiplier };
 
     ghost hash = { polyval };
+
+    ghost hash_from = { polyval_from };
 
     #[inline]
     fn read(block: [u8; 16]) -> u128 {

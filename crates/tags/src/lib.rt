@@ -7,6 +7,7 @@
 mod absorber;
 mod blocks;
 mod compare;
+mod continued;
 mod encoding;
 mod gcm;
 mod gcm_siv;
@@ -15,8 +16,9 @@ mod reversal;
 mod universal;
 
 pub use crate::compare::tags_are_equal;
+pub use crate::continued::{gcm_ghash_final, hash_from};
 pub use crate::encoding::{Encoding, HighestFirst, LowestFirst};
 pub use crate::gcm::{Ghash, gcm_ghash};
 pub use crate::gcm_siv::{Polyval, gcm_siv_polyval};
-pub use crate::laws::{few_keys_collide, parts_are_encoded, products_are_reversed};
+pub use crate::laws::{few_keys_collide, hashes_go_on, parts_are_encoded, products_are_reversed};
 pub use crate::universal::{KeyedHash, UniversalHash};

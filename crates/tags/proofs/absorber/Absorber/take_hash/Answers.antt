@@ -1,6 +1,6 @@
 use Rattle.std.proofs.Common.{refl}
 use Rattle.tags.specs.Absorbed.{Holds}
-use Rattle.tags.specs.Blocks.{first_blocks, zero_padded}
+use Rattle.tags.specs.Blocks.{first_blocks}
 use Rattle.tags.proofs.Padding.{hash-zero_padded}
 use Rattle.tags.proofs.absorber.Absorber.take_hash.Goals as goal
 

@@ -1,7 +1,9 @@
-use Rattle.std.proofs.Common.{◌∙◌, ap}
-use Rattle.std.specs.Int.{to_be_bytes, w128}
 use Rattle.tags.proofs.Hashes.{ghash_result}
+use Rattle.tags.proofs.Pieces.{ghash_from_result}
 use Rattle.tags.proofs.encoding.HighestFirstEncoding.write.Goals as goal
 
-pub returns : goal.returns
-returns c = λ key blocks is. c.to_be_bytes.ensures ∙ ap (to_be_bytes w128) c.reverse_bits.ensures ∙ ghash_result key blocks c.args.sum is
+pub returns-clause-whole : goal.returns-clause-whole
+returns-clause-whole c = λ key blocks. ghash_result key blocks c.args.sum _ _ c.to_be_bytes.ensures c.reverse_bits.ensures
+
+pub returns-clause-continued : goal.returns-clause-continued
+returns-clause-continued c = λ key start blocks. ghash_from_result key start blocks c.args.sum _ _ c.to_be_bytes.ensures c.reverse_bits.ensures
