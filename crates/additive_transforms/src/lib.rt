@@ -20,8 +20,9 @@ mod stages;
 mod twiddles;
 mod whole;
 
+pub use crate::elements::arithmetic::StageArithmetic;
 pub use crate::elements::points::element_point;
-pub use crate::elements::whole::{forward_elements, inverse_elements};
+pub use crate::elements::whole::{forward_by, forward_elements, inverse_by, inverse_elements};
 pub use crate::kernel::{Kernel, PolyKernel, WordKernel};
 pub use crate::laws::{twiddles_lie_in_subfield, values_commute_with_images};
 pub use crate::pairs::{PairByPair, PairKernel, low_stages};

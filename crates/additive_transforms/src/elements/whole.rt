@@ -3,8 +3,8 @@ ghost use Rattle.std.specs.Prelude.{◌≡◌, length, map};
 ghost use Rattle.additive_transforms.specs.Elements.{FitsField};
 ghost use Rattle.additive_transforms.specs.Transform.{AreTheCoefficients, HoldValuesAtPoints};
 
+use crate::elements::arithmetic::{OfElements, StageArithmetic};
 use crate::elements::stages::run_stage;
-use crate::over::subspace_value;
 use crate::stages_of;
 use field_base::traits::TowerLevel;
 
@@ -19,10 +19,7 @@ pub fn forward_elements<F: TowerLevel>(values: &mut [F], z: F)
     ensures values { HoldValuesAtPoints F.width F.product (λ i. F.basis (F.cantor i)) (F.repr z)
         (map F.repr values.old) (map F.repr values.new) }
 {
-    let stages = stages_of(values.len());
-    for stage in (0..stages).rev() {
-        run_stage(values, stage, subspace_value(z, stage), false);
-    }
+    forward_by::<OfElements<F>>(values, z);
 }
 
 /// Replaces the values at the points by the coefficients of their polynomial, of which there is one list: with the same `z` it
@@ -33,8 +30,31 @@ pub fn inverse_elements<F: TowerLevel>(values: &mut [F], z: F)
     ensures coefficients { AreTheCoefficients F.width F.product (λ i. F.basis (F.cantor i)) (F.repr z)
         (map F.repr values.old) (map F.repr values.new) }
 {
+    inverse_by::<OfElements<F>>(values, z);
+}
+
+/// The transform `forward_elements` by an arithmetic: nothing but it computes on the values. The length of `values` has to be 2^m, where
+/// m is at most 40 and at most the bits of the arithmetic's field. It takes no memory.
+pub fn forward_by<K: StageArithmetic>(values: &mut [K::Value], z: K::Twiddle)
+    requires { FitsField K.width (length values.old) }
+    ensures length { length values.new ≡ length values.old }
+    ensures values { HoldValuesAtPoints K.width K.product K.vector (K.number z) (map K.value values.old) (map K.value values.new) }
+{
+    let stages = stages_of(values.len());
+    for stage in (0..stages).rev() {
+        run_stage::<K>(values, stage, K::shift(z, stage), false);
+    }
+}
+
+/// The transform `inverse_elements` by an arithmetic: with the same `z` it takes back what `forward_by` did. It requires what
+/// `forward_by` requires, and takes no memory.
+pub fn inverse_by<K: StageArithmetic>(values: &mut [K::Value], z: K::Twiddle)
+    requires { FitsField K.width (length values.old) }
+    ensures length { length values.new ≡ length values.old }
+    ensures coefficients { AreTheCoefficients K.width K.product K.vector (K.number z) (map K.value values.old) (map K.value values.new) }
+{
     let stages = stages_of(values.len());
     for stage in 0..stages {
-        run_stage(values, stage, subspace_value(z, stage), true);
+        run_stage::<K>(values, stage, K::shift(z, stage), true);
     }
 }

@@ -10,21 +10,20 @@ loop-block-init g c = (refl, blocks_start _ _ _, λ above. absurd (omega (arith,
 
 pub block_twiddle-twiddle-requires-clause-few : goal.block_twiddle-twiddle-requires-clause-few
 block_twiddle-twiddle-requires-clause-few g c =
-    let field = g.F.Represented in
-    let all = stage_blocks c.args.inverse field.product (λ (q : ℕ). q) c.args.stage _ c.half_of-half.ensures.half (length c.args.values.now) in
+    let by = g.K.StageArithmetic in
+    let all = stage_blocks c.args.inverse by.product (λ (q : ℕ). q) c.args.stage _ c.half_of-half.ensures.half (length c.args.values.now) in
     let few = c.requires.few in
     let inside = c.loop-block-test.true in
     omega (arith, all, few, inside)
 
 pub loop-block-preserved : goal.loop-block-preserved
 loop-block-preserved g c =
-    let field = g.F.Represented in
-    let level = g.F.TowerLevel in
+    let by = g.K.StageArithmetic in
     let twiddle : ℕ → ℕ =
-    λ q. bit_xor (field.repr c.args.shift) (linear_image (twiddle_basis field.width (λ i. level.basis (level.cantor i))) q) in
+    λ q. bit_xor (by.number c.args.shift) (linear_image (twiddle_basis by.width by.vector) q) in
     let last : c.loop-block.block ≡ c.loop-block.block + 1 - 1 = omega arith in
     let both =
-    stage_step c.args.inverse field.product twiddle c.args.stage _ c.half_of-half.ensures.half field.repr _ _ _
+    stage_step c.args.inverse by.product twiddle c.args.stage _ c.half_of-half.ensures.half by.value _ _ _
     c.args.values.now c.loop-block.values c.run_block.new.block c.start_of-start.ensures.start c.start_of-start.ensures.inside
     c.run_block.ensures.length c.block_twiddle-twiddle.ensures c.run_block.ensures.values c.loop-block.invariant.0
     c.loop-block.invariant.1 in

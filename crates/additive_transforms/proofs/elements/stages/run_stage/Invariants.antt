@@ -8,10 +8,9 @@ use Rattle.additive_transforms.proofs.elements.stages.run_stage.Given as goal
 -- the blocks before have their butterflies, and the twiddle is that of the last of them
 abbrev pub invariant-loop-block : goal.invariant-loop-block
 invariant-loop-block g l =
-    let field = g.F.Represented in
-    let level = g.F.TowerLevel in
-    let basis = twiddle_basis field.width (λ i. level.basis (level.cantor i)) in
+    let by = g.K.StageArithmetic in
+    let basis = twiddle_basis by.width by.vector in
     (length l.values ≡ length l.fn.values)
-    × StageSoFar l.inverse field.product (λ (q : ℕ). bit_xor (field.repr l.shift) (linear_image basis q)) l.stage l.block
-    (map field.repr l.fn.values) (map field.repr l.values)
-    × (0 < l.block → field.repr l.twiddle ≡ bit_xor (field.repr l.shift) (linear_image basis (l.block - 1)))
+    × StageSoFar l.inverse by.product (λ (q : ℕ). bit_xor (by.number l.shift) (linear_image basis q)) l.stage l.block
+    (map by.value l.fn.values) (map by.value l.values)
+    × (0 < l.block → by.number l.twiddle ≡ bit_xor (by.number l.shift) (linear_image basis (l.block - 1)))

@@ -6,13 +6,12 @@ use Rattle.additive_transforms.proofs.Carries.{no_image}
 use Rattle.additive_transforms.proofs.elements.twiddles.block_twiddle.Goals as goal
 
 pub returns-then-block-eq0 : goal.returns-then-block-eq0
-returns-then-block-eq0 g c = no_image _ c.args.block (g.F.Represented.repr c.args.shift) c.if-block-eq0.true
+returns-then-block-eq0 g c = no_image _ c.args.block (g.K.StageArithmetic.number c.args.shift) c.if-block-eq0.true
 
 pub returns : goal.returns
 returns g c =
-    let level = g.F.TowerLevel in
-    let shift = g.F.Represented.repr c.args.shift in
+    let shift = g.K.StageArithmetic.number c.args.shift in
     let above : 0 < c.args.block = omega (arith, c.if-block-eq0.false) in
     let same : c.args.block - 1 + 1 ≡ c.args.block = omega (arith, above) in
     c.next_twiddle.ensures shift (c.requires.before above)
-    ∙ ap (λ (n : ℕ). bit_xor shift (linear_image (twiddle_basis g.F.Represented.width (λ i. level.basis (level.cantor i))) n)) same
+    ∙ ap (λ (n : ℕ). bit_xor shift (linear_image (twiddle_basis g.K.StageArithmetic.width g.K.StageArithmetic.vector) n)) same

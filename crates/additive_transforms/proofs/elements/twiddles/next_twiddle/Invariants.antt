@@ -7,12 +7,11 @@ use Rattle.additive_transforms.proofs.elements.twiddles.next_twiddle.Given as go
 -- the ones below bit `element` were taken out, and a carry is to come there
 abbrev pub invariant-loop-rest : goal.invariant-loop-rest
 invariant-loop-rest g l =
-    let field = g.F.Represented in
-    let level = g.F.TowerLevel in
-    let basis = twiddle_basis field.width (λ i. level.basis (level.cantor i)) in
+    let by = g.K.StageArithmetic in
+    let basis = twiddle_basis by.width by.vector in
     ((l.rest + 1) * 2 ^ l.element ≡ l.fn.block + 1)
-    × ((shift : ℕ) → field.repr l.fn.twiddle ≡ bit_xor shift (linear_image basis l.fn.block)
-    → field.repr l.sum ≡ bit_xor shift (linear_image basis (l.rest * 2 ^ l.element)))
+    × ((shift : ℕ) → by.number l.fn.twiddle ≡ bit_xor shift (linear_image basis l.fn.block)
+    → by.number l.sum ≡ bit_xor shift (linear_image basis (l.rest * 2 ^ l.element)))
 
 abbrev pub decreases-loop-rest : goal.decreases-loop-rest
 decreases-loop-rest g l = l.rest

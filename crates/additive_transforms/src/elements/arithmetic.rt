@@ -1,0 +1,111 @@
+// What the stages of a transform compute with.
+ghost use Rattle.std.specs.Prelude.{◌≡◌, ◌++◌, ◌^◌, ◌<◌, Bool, ℕ, bit_xor, length, map, slice_index};
+ghost use Rattle.field_base.specs.Orders.{AreCantorVectors};
+ghost use Rattle.field_base.specs.Ring.{IsRing};
+ghost use Rattle.ghash_slices.specs.Cantor.{subspace_value};
+ghost use Rattle.additive_transforms.specs.Stages.{TakesBlock};
+
+use crate::elements::pairs::run_pairs;
+use crate::over::subspace_value;
+use field_base::traits::TowerLevel;
+use std::marker::PhantomData;
+
+/// What the stages of a transform compute with: what the places hold, the twiddles, and the butterflies. All of these stand for
+/// elements of one field that has Cantor vectors.
+pub trait StageArithmetic {
+    /// What a place holds.
+    type Value;
+
+    /// A twiddle.
+    type Twiddle: Copy;
+
+    // The bits of the field, its product and its Cantor vectors.
+    ghost width: { ℕ };
+
+    ghost product: { ℕ → ℕ → ℕ };
+
+    ghost vector: { ℕ → ℕ };
+
+    // The element that a place holds, and that a twiddle is.
+    ghost value: { Self.Value → ℕ };
+
+    ghost number: { Self.Twiddle → ℕ };
+
+    /// The sum.
+    fn sum(x: Self::Twiddle, y: Self::Twiddle) -> Self::Twiddle
+        ensures { number result ≡ bit_xor (number x) (number y) };
+
+    /// Cantor vector i, for i below the bits of the field.
+    fn cantor_vector(i: usize) -> Self::Twiddle
+        requires { i < width }
+        ensures { number result ≡ vector i };
+
+    /// The shift of a stage of the transform whose points begin at `z`: s_j(z).
+    fn shift(z: Self::Twiddle, stage: usize) -> Self::Twiddle
+        ensures { number result ≡ subspace_value product stage (number z) };
+
+    /// The forward butterfly of each pair of places, `lo += twiddle * hi` and then `hi += lo`, or, where `inverse` is true, the inverse one,
+    /// `hi += lo` and then `lo += twiddle * hi`. Both slices, the halves of a block, have to be of one length.
+    fn butterflies(
+        lo: &mut [Self::Value],
+        hi: &mut [Self::Value],
+        twiddle: Self::Twiddle,
+        inverse: bool,
+    )
+        requires { length lo.old ≡ length hi.old }
+        ensures lower { length lo.new ≡ length lo.old }
+        ensures upper { length hi.new ≡ length hi.old }
+        ensures values { TakesBlock inverse product (number twiddle) (length lo.old) (slice_index (map value lo.old ++ map value hi.old))
+            (slice_index (map value lo.new ++ map value hi.new)) };
+
+    ghost wide_law: { 0 < width };
+
+    ghost ring_law: { IsRing width 1 product };
+
+    ghost vector_law: { AreCantorVectors width product vector };
+
+    ghost range_law: { (x : Self.Value) → value x < 2 ^ width };
+}
+
+/// The arithmetic of the elements of a field: what a place holds is one, and so is a twiddle.
+pub(crate) struct OfElements<F>(PhantomData<F>);
+
+impl<F: TowerLevel> StageArithmetic for OfElements<F> {
+    type Value = F;
+
+    type Twiddle = F;
+
+    ghost width = { F.width };
+
+    ghost product = { F.product };
+
+    ghost vector = { λ i. F.basis (F.cantor i) };
+
+    ghost value = { F.repr };
+
+    ghost number = { F.repr };
+
+    fn sum(x: F, y: F) -> F {
+        x + y
+    }
+
+    fn cantor_vector(i: usize) -> F {
+        F::cantor_basis(i)
+    }
+
+    fn shift(z: F, stage: usize) -> F {
+        subspace_value(z, stage)
+    }
+
+    fn butterflies(lo: &mut [F], hi: &mut [F], twiddle: F, inverse: bool) {
+        run_pairs(lo, hi, twiddle, inverse);
+    }
+
+    ghost wide_law = { F.wide_law };
+
+    ghost ring_law = { F.field_law.ring };
+
+    ghost vector_law = { F.cantor_image_law };
+
+    ghost range_law = { F.range_law };
+}
