@@ -56,7 +56,7 @@ pub fn run<A: Allocator, R: Read, W: Write>(
     'reads: loop {
         match reader.read(&mut chunk) {
             Ok(0) => return finish(line.as_slice(), &mut outbox, writer),
-            Ok(count) => answer_chunk(&chunk[..count], &mut outbox, writer, &mut line)?,
+            Ok(count) => answer_chunk(&chunk[..count], &mut line, &mut outbox, writer)?,
             Err(_) => return Err(RunError::Read),
         }
     }
@@ -74,9 +74,9 @@ pub fn lines_law()
 // Does what `answer_lines` does, and writes all that waits before it returns `Memory`.
 fn answer_chunk<A: Allocator, W: Write>(
     chunk: &[u8],
+    line: &mut Vec<u8, A>,
     outbox: &mut Outbox,
     writer: &mut Watched<W>,
-    line: &mut Vec<u8, A>,
 ) -> Result<(), RunError>
     requires line { IsLine line.old.items }
     requires writer { has_failed writer.old ≡ false }
@@ -92,7 +92,7 @@ fn answer_chunk<A: Allocator, W: Write>(
         (W.contents (watched_inner writer.old)) (W.contents (watched_inner writer.new))
         (waiting outbox.old) [] (line.old.items ++ chunk.now) (length chunk.now)) }
 {
-    match answer_lines(line, chunk, outbox, writer) {
+    match answer_lines(chunk, line, outbox, writer) {
         Err(RunError::Memory) => {
             write_out(outbox, writer)?;
             Err(RunError::Memory)
@@ -103,20 +103,20 @@ fn answer_chunk<A: Allocator, W: Write>(
 
 // Answers the lines that end in `chunk`. `line` has the bytes of the line that has not ended.
 fn answer_lines<A: Allocator, W: Write>(
-    line: &mut Vec<u8, A>,
     chunk: &[u8],
+    line: &mut Vec<u8, A>,
     outbox: &mut Outbox,
     writer: &mut Watched<W>,
 ) -> Result<(), RunError>
     requires line { IsLine line.old.items }
     requires writer { has_failed writer.old ≡ false }
-    ensures err { OnErr result ((left rest : List ℕ) × AnswersLines
-        (W.contents (watched_inner writer.old)) (W.contents (watched_inner writer.new))
-        (waiting outbox.old) left (line.old.items ++ chunk.now) rest) }
     ensures ok { OnOk result (AnswersLines (W.contents (watched_inner writer.old))
         (W.contents (watched_inner writer.new)) (waiting outbox.old) (waiting outbox.new)
         (line.old.items ++ chunk.now) line.new.items) }
     ensures line { OnOk result (IsLine line.new.items) }
+    ensures err { OnErr result ((left rest : List ℕ) × AnswersLines
+        (W.contents (watched_inner writer.old)) (W.contents (watched_inner writer.new))
+        (waiting outbox.old) left (line.old.items ++ chunk.now) rest) }
     ensures failed { FailedEnds result false (has_failed writer.new) }
     ensures memory { IfErr result (λ fault. fault ≡ Memory → LeavesLines
         (W.contents (watched_inner writer.old)) (W.contents (watched_inner writer.new))
@@ -209,8 +209,8 @@ fn finish<W: Write>(
     outbox: &mut Outbox,
     writer: &mut Watched<W>,
 ) -> Result<(), RunError>
-    requires writer { has_failed writer.old ≡ false }
     requires line { IsLine line.now }
+    requires writer { has_failed writer.old ≡ false }
     ensures ok { OnOk result (Appends (W.contents (watched_inner writer.old))
         (W.contents (watched_inner writer.new)) (waiting outbox.old ++ answers line.now)) }
     ensures err { OnErr result (GainsFront (W.contents (watched_inner writer.old))

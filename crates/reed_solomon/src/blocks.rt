@@ -62,9 +62,9 @@ fn column_sums<const N: usize>(
     entries: &[u8],
     column: usize,
 ) -> [u8; N]
-    requires rows { N ≤ 4 }
     requires few { length starts.now ≤ 256 }
     requires tables { 128 * length starts.now ≤ length entries.now }
+    requires rows { N ≤ 4 }
     requires inside { (j : ℕ) → j < length starts.now → slice_index starts.now j + column < length shards.now }
     ensures { (row : ℕ) → row < N → slice_index result row ≡ row_sum entries.now shards.now starts.now row column }
 {
@@ -106,12 +106,12 @@ fn store_column<const N: usize>(out: &mut [u8], rows: &[usize], column: usize, s
 // Writes N rows of `size` bytes of another slice from the shards that begin at `starts`.
 #[inline(never)]
 fn write_rows<const N: usize>(
-    out: &mut [u8],
-    rows: &[usize],
     shards: &[u8],
     size: usize,
     starts: &[usize],
     entries: &[u8],
+    out: &mut [u8],
+    rows: &[usize],
 )
     requires few { length starts.now ≤ 256 }
     requires tables { 128 * length starts.now ≤ length entries.now }
@@ -152,10 +152,10 @@ pub(crate) fn write_group(
     ensures { AreWritten (row_sum entries.now shards.now starts.now) (slice_index rows.now) (length rows.now) size out.old out.new }
 {
     match rows.len() {
-        4 => write_rows::<4>(out, rows, shards, size, starts, entries),
-        3 => write_rows::<3>(out, rows, shards, size, starts, entries),
-        2 => write_rows::<2>(out, rows, shards, size, starts, entries),
-        1 => write_rows::<1>(out, rows, shards, size, starts, entries),
+        4 => write_rows::<4>(shards, size, starts, entries, out, rows),
+        3 => write_rows::<3>(shards, size, starts, entries, out, rows),
+        2 => write_rows::<2>(shards, size, starts, entries, out, rows),
+        1 => write_rows::<1>(shards, size, starts, entries, out, rows),
         _ => {}
     }
 }

@@ -17,8 +17,8 @@ use std::alloc::{AllocError, Allocator};
 /// for each pair of a shard of data and one of parity, where the shards of parity are counted up to a multiple of four.
 #[derive(Drop)]
 pub struct PreparedEncoder<A: Allocator> {
-    tables: Vec<u8, A>,
     code: ReedSolomon,
+    tables: Vec<u8, A>,
     ghost set: { HaveParityTables code.data_shards code.parity_shards tables.items },
 }
 
@@ -30,8 +30,8 @@ impl<A: Allocator> PreparedEncoder<A> {
     {
         let tables = parity_tables(alloc, code.data_shards, code.parity_shards)?;
         Ok(PreparedEncoder {
-            tables,
             code: *code,
+            tables,
         })
     }
 

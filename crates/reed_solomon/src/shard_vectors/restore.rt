@@ -19,9 +19,9 @@ pub fn reconstruct<A: Allocator + Copy>(
     alloc: A,
     shards: &mut [Option<Vec<u8, A>>],
 ) -> Result<(), ShardVectorError>
-    ensures restored { let until = code.now.data_shards + code.now.parity_shards in
-        IsOk result → AreRestored code.now.data_shards (code.now.data_shards + code.now.parity_shards) until shards.old shards.new }
     ensures accepted { IsOk result → CanRestore code.now.data_shards (code.now.data_shards + code.now.parity_shards) shards.old }
+    ensures restored { let total = code.now.data_shards + code.now.parity_shards in
+        IsOk result → AreRestored code.now.data_shards total total shards.old shards.new }
     ensures refused { IfErr result (RestoreError code.now.data_shards (code.now.data_shards + code.now.parity_shards) shards.old) }
     ensures same { OnErr result (shards.new ≡ shards.old) }
 {
@@ -35,9 +35,9 @@ pub fn reconstruct_data<A: Allocator + Copy>(
     alloc: A,
     shards: &mut [Option<Vec<u8, A>>],
 ) -> Result<(), ShardVectorError>
-    ensures restored { let until = code.now.data_shards in
-        IsOk result → AreRestored code.now.data_shards (code.now.data_shards + code.now.parity_shards) until shards.old shards.new }
     ensures accepted { IsOk result → CanRestore code.now.data_shards (code.now.data_shards + code.now.parity_shards) shards.old }
+    ensures restored { let total = code.now.data_shards + code.now.parity_shards in
+        IsOk result → AreRestored code.now.data_shards total code.now.data_shards shards.old shards.new }
     ensures refused { IfErr result (RestoreError code.now.data_shards (code.now.data_shards + code.now.parity_shards) shards.old) }
     ensures same { OnErr result (shards.new ≡ shards.old) }
 {
@@ -52,9 +52,9 @@ fn reconstruct_until<A: Allocator + Copy>(
     until: usize,
 ) -> Result<(), ShardVectorError>
     requires { (until ≡ code.now.data_shards) ⊎ (until ≡ code.now.data_shards + code.now.parity_shards) }
+    ensures accepted { IsOk result → CanRestore code.now.data_shards (code.now.data_shards + code.now.parity_shards) shards.old }
     ensures restored { let total = code.now.data_shards + code.now.parity_shards in
         IsOk result → AreRestored code.now.data_shards total until shards.old shards.new }
-    ensures accepted { IsOk result → CanRestore code.now.data_shards (code.now.data_shards + code.now.parity_shards) shards.old }
     ensures refused { IfErr result (RestoreError code.now.data_shards (code.now.data_shards + code.now.parity_shards) shards.old) }
     ensures same { OnErr result (shards.new ≡ shards.old) }
 {
