@@ -148,7 +148,8 @@ AXES = [
     lambda o: np.multiply.reduce(o.m, axis=(0, 1)), lambda o: np.add.accumulate(o.m), lambda o: np.multiply.accumulate(o.m, axis=2),
     lambda o: np.add.outer(o.v, o.w), lambda o: np.multiply.outer(o.n, o.w), lambda o: np.divide.outer(o.v, o.w), lambda o: np.equal.outer(o.v, o.v),
     lambda o: np.outer(o.v, o.w), lambda o: np.outer(o.n, o.w), lambda o: np.trace(o.n), lambda o: np.trace(o.m, 1, 1, 2), lambda o: np.trace(o.v),
-    lambda o: o.m.trace(), lambda o: np.convolve(o.v, o.w), lambda o: np.convolve(o.w, o.v, "same"), lambda o: np.convolve(o.v, o.w, "valid"),
+    lambda o: o.m.trace(), lambda o: np.convolve(o.v, o.w), lambda o: np.convolve(o.w, o.v, "same"), lambda o: np.convolve(o.v, o.w[:2], "same"),
+    lambda o: np.convolve(o.v, o.w, "valid"),
     lambda o: np.convolve(o.v, o.w[:0]), lambda o: np.convolve(o.v[0, ...], o.w), lambda o: np.convolve(o.n, o.w), lambda o: np.dot(o.v, o.v),
     lambda o: np.dot(o.m, o.n), lambda o: np.dot(o.n, o.m), lambda o: np.dot(o.m, o.m.T), lambda o: np.dot(o.m, o.w), lambda o: np.dot(o.n, o.w),
     lambda o: np.dot(o.w, o.w[0]), lambda o: o.m @ o.n, lambda o: o.n @ o.m[0], lambda o: o.n @ o.m, lambda o: o.m @ o.m, lambda o: o.w @ o.m,
@@ -243,9 +244,10 @@ class Elements(unittest.TestCase):
             x, y = field.random(2, seed=51)
             for wanted, found in [
                 (x + y, np.sum([x, y])), (x * y, np.prod([x, y])), (x * y, np.dot([x], [y])), (x * y, np.multiply([x], y)), (x + y, np.add(x, [y])),
-                (x.sqrt(), np.sqrt(np.array(x))), (x + y, np.array([x, y]).sum()), (x + y, np.cumsum([x, y])[1]), (x * x + y * y, [x, y] @ field(np.stack([x, y]))),
+                (x.sqrt(), np.sqrt(np.array(x))), (x + y, np.array([x, y]).sum()), (x + y, np.cumsum([x, y])[1]),
+                (x * x + y * y, [x, y] @ field(np.stack([x, y]))),
             ]:
-                self.assertIs(type(found if found is not None and isinstance(found, field) else found[()] if found.ndim == 0 else found[0]), field)
+                self.assertIsInstance(found if isinstance(found, field) else found.ravel()[0], field)
                 self.assertTrue(np.all(found == wanted))
             for refused in (np.mean, np.max, np.sort, np.exp, np.linalg.det, np.fft.fft, np.std):
                 self.assertRaises(TypeError, refused, [x, y] if refused is not np.linalg.det else [[x]])
@@ -311,12 +313,14 @@ class Elements(unittest.TestCase):
         fixed = words[:8].copy()
         fixed.flags.writeable = False
         for error, arrays in [
-            (ValueError, (words[:8], words[8:16], words[7:15])), (ValueError, (words[:8], words[8:16], words[9:17])), (ValueError, (words, words, words)),
-            (ValueError, (words[:8], words[8:16], fixed)), (TypeError, (words[:8], words[8:16], words[8:24:2])),
+            (ValueError, (words[:8], words[8:16], words[7:15])), (ValueError, (words[:8], words[8:16], words[9:17])),
+            (ValueError, (words, words, words)), (ValueError, (words[:8], words[8:16], fixed)), (TypeError, (words[:8], words[8:16], words[8:24:2])),
             (TypeError, (words[:8], words[8:16], words.view(np.uint16)[8:])), (TypeError, (words[:8], words.astype(np.int64)[:8], words[16:])),
         ]:
             self.assertRaises(error, bf._library.call, "t8_add", *arrays)
         self.assertEqual(words.tolist(), list(range(24)))
+        eight, odd = np.zeros(2, np.uint64), np.frombuffer(bytearray(17), np.uint64, 2, 1)
+        self.assertRaises(TypeError, bf._library.call, "t64_add", eight, eight.copy(), odd)
         bf._library.call("t8_add", words[:8], words[:8], words[8:16])
         bf._library.call("t8_add", words[:16:2], words[15:7:-1], words[16:])
         self.assertEqual(words.tolist(), [*range(8), *[0] * 8, 0, 2, 4, 6, 0, 0, 0, 0])
@@ -341,19 +345,22 @@ class Elements(unittest.TestCase):
     def test_kinds(self):
         for field in FIELDS.values():
             a = field([1, 0, 1])
-            for it in (np.zeros_like(a), np.ones_like(a, shape=(2, 2)), np.where([True, False, True], a, 0), np.concatenate([a, [0, 1]]), np.add.outer(a, a)):
+            for it in (np.zeros_like(a), np.ones_like(a, shape=(2, 2)), np.where([True], a, 0), np.concatenate([a, [0]]), np.add.outer(a, a)):
                 self.assertIs(type(it), field)
             self.assertEqual((np.ones_like(a, shape=2).tolist(), np.concatenate([a, [0, 1]]).tolist()), ([1, 1], [1, 0, 1, 0, 1]))
             other = bf.Poly64 if field is not bf.Poly64 else bf.BinaryField64
             b = other([1, 0, 1])
             for mixed in (
-                lambda: a + b, lambda: a @ b, lambda: np.add(a, b), lambda: np.concatenate([a, b]), lambda: np.where([True], a, b), lambda: np.dot(a, b),
-                lambda: np.add(a, a, out=b), lambda: np.add(a, a, out=np.zeros(3)), lambda: a.__setitem__(0, b[0]), lambda: np.convolve(a, b), lambda: np.add.at(a, [0], b[:1]),
-                lambda: field([a[0], b[0]]), lambda: field.evaluate(a, b), lambda: a.add_scaled(1, b), lambda: np.concatenate([a, [2]]), lambda: np.where([True], a, 2),
-                lambda: a + [0, 1, 2], lambda: [2, 0, 0] @ a, lambda: np.array([2, 0, 0]) @ a, lambda: a.dot([2, 0, 0]), lambda: a + None, lambda: a + "1", lambda: a + 1.0,
-                lambda: a * np.ones(3), lambda: a**a, lambda: 2**a, lambda: np.float64(1) * a, lambda: np.sum(a, dtype=int), lambda: np.add(a, a, dtype=int), lambda: np.insert(a, 0, 1),
-                lambda: np.mean(a), lambda: np.sort(a), lambda: np.linalg.inv(a), lambda: np.maximum(a, a), lambda: np.subtract.reduce(a), lambda: np.add.reduceat(a, [0]),
-                lambda: np.einsum("i,i", a, a), lambda: np.bitwise_xor(a, a), lambda: np.tile(np.array([1]), a), lambda: np.add.at(np.zeros(3), [0], a), lambda: iter(a[0]),
+                lambda: a + b, lambda: a @ b, lambda: np.add(a, b), lambda: np.concatenate([a, b]), lambda: np.broadcast_arrays(a, b),
+                lambda: np.take(a, [0], out=b[:1]), lambda: np.where([True], a, b), lambda: np.dot(a, b), lambda: np.add(a, a, out=b),
+                lambda: np.add(a, a, out=np.zeros(3)), lambda: a.__setitem__(0, b[0]), lambda: np.convolve(a, b), lambda: np.add.at(a, [0], b[:1]),
+                lambda: field([a[0], b[0]]), lambda: field.evaluate(a, b), lambda: a.add_scaled(1, b), lambda: np.concatenate([a, [2]]),
+                lambda: np.where([True], a, 2), lambda: a + [0, 1, 2], lambda: [2, 0, 0] @ a, lambda: np.array([2, 0, 0]) @ a,
+                lambda: a.dot([2, 0, 0]), lambda: a + None, lambda: a + "1", lambda: a + 1.0, lambda: a * np.ones(3), lambda: a**a, lambda: 2**a,
+                lambda: np.float64(1) * a, lambda: np.sum(a, dtype=int), lambda: np.add(a, a, dtype=int), lambda: np.insert(a, 0, 1),
+                lambda: np.mean(a), lambda: np.sort(a), lambda: np.linalg.inv(a), lambda: np.maximum(a, a), lambda: np.subtract.reduce(a),
+                lambda: np.add.reduceat(a, [0]), lambda: np.einsum("i,i", a, a), lambda: np.bitwise_xor(a, a), lambda: np.tile(np.array([1]), a),
+                lambda: np.add.at(np.zeros(3), [0], a), lambda: iter(a[0]),
             ):
                 self.assertRaises(TypeError, mixed)
             self.assertTrue(np.array_equal(a, [1, 0, 1]) and not np.array_equal(a, b) and not np.array_equal(a, a[:2]))
@@ -361,13 +368,23 @@ class Elements(unittest.TestCase):
             self.assertTrue(a[0] != other(1))
         self.assertRaises(TypeError, bf.FieldArray, [1])
 
+    def test_every_bit_counts(self):
+        for field in FIELDS.values():
+            bits = field([1 << i for i in range(field.degree)])
+            self.assertTrue(bits.all() and np.array_equal(1 / (1 / bits), bits) and all(bool(it) for it in bits))
+            self.assertEqual(np.equal.outer(bits, bits).tolist(), np.eye(field.degree, dtype=bool).tolist())
+            self.assertEqual(([bool(it != 0) for it in bits], bool((bits == 0).any())), ([True] * field.degree, False))
+
     def test_empty_arrays(self):
         for field in FIELDS.values():
             a = field.zeros((2, 0, 3))
             for wanted, found in [
-                (((2, 3), [0] * 6), a.sum(1)), (((2, 3), [1] * 6), a.prod(1)), (((2, 0), []), a.prod(2)), (((2, 0, 3), []), a * a), (((2, 0, 3), []), np.cumprod(a, 1)),
-                (((2, 0, 0), []), a @ field.zeros((3, 0))), (((2, 3, 3), [0] * 18), a.swapaxes(1, 2) @ a), (((0,), []), a.ravel()), (((), [1]), a.prod()), (((), [0]), a.sum()),
-                (((0, 2, 3), []), field.zeros((0, 0)).dot(a)), (((2, 3), [0] * 6), field.zeros(0).dot(a)), (((2, 0, 3), []), field.from_words(a.to_words())),
+                (((2, 3), [0] * 6), a.sum(1)), (((2, 3), [1] * 6), a.prod(1)), (((2, 0), []), a.prod(2)), (((2, 0, 3), []), a * a),
+                (((2, 0, 3), []), np.cumprod(a, 1)),
+                (((2, 0, 0), []), a @ field.zeros((3, 0))), (((2, 3, 3), [0] * 18), a.swapaxes(1, 2) @ a), (((0,), []), a.ravel()),
+                (((), [1]), a.prod()), (((), [0]), a.sum()),
+                (((0, 2, 3), []), field.zeros((0, 0)).dot(a)), (((2, 3), [0] * 6), field.zeros(0).dot(a)),
+                (((2, 0, 3), []), field.from_words(a.to_words())),
             ]:
                 self.assertEqual(read(found), wanted)
             self.assertEqual((a.tolist(), str(field([]))), ([[], []], "[]"))
@@ -385,15 +402,12 @@ class Examples(unittest.TestCase):
             tried += found.attempted
         self.assertGreater(tried, 70)
 
-    def test_every_public_name_has_one(self):
-        finder, lacking = doctest.DocTestFinder(exclude_empty=False), []
-        for name in bf.__all__:
-            it = getattr(bf, name)
-            for found in finder.find(it, name, globs={}):
-                own = found.name.rsplit(".", 1)[-1]
-                if not own.startswith("_") and not found.examples and not isinstance(it, type):
-                    lacking.append(found.name)
-        self.assertEqual(lacking, [])
+    def test_every_function_has_one(self):
+        functions = {name: getattr(bf, name) for name in bf.__all__ if not isinstance(getattr(bf, name), type)}
+        for kind in (bf._storage.Stored, bf.FieldArray):
+            functions |= {name: it for name, it in vars(kind).items() if not name.startswith("_") and not isinstance(it, property)}
+        lacking = [name for name, it in functions.items() if callable(it) or isinstance(it, classmethod) if ">>> " not in (it.__doc__ or "")]
+        self.assertEqual((lacking, len(functions) > 40), ([], True))
 
 
 if __name__ == "__main__":

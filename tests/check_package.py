@@ -305,6 +305,13 @@ class Bytes(unittest.TestCase):
         self.assertRaises(ValueError, code.encode, np.zeros((4, 0), np.uint8))
         for data, parity in ((0, 1), (1, 0), (200, 57), (-1, 3)):
             self.assertRaises(ValueError, bf.ReedSolomon, data, parity)
+        for data, parity in ((2.0, 3), (2, "3"), (None, 1)):
+            self.assertRaises(TypeError, bf.ReedSolomon, data, parity)
+        # Elements of fields of bytes are bytes.
+        rows = bf.Rijndael8b.from_words(shards)
+        self.assertTrue((code.encode(rows[:4]) == shards).all() and code.verify(rows.T.copy().T))
+        self.assertTrue((code.reconstruct([None, *rows[1:]]) == shards).all())
+        self.assertRaises(TypeError, code.encode, bf.BinaryField16.zeros((4, 9)))
 
 
 if __name__ == "__main__":

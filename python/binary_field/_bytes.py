@@ -2,14 +2,16 @@
 
 from __future__ import annotations
 
+import operator
 from typing import Any, Sequence
 
 import numpy as np
 
-from ._library import call
+from ._library import Words, call
+from ._storage import Stored
 
 
-def _bytes(value: Any) -> np.ndarray:
+def _bytes(value: Any) -> Words:
     """The bytes of an object that lends them; an array of numpy has to be one of bytes."""
     if isinstance(value, np.ndarray) and value.dtype != np.uint8:
         raise TypeError(f"expected an array of uint8, not of {value.dtype}")
@@ -64,10 +66,17 @@ def tags_are_equal(left: Any, right: Any) -> bool:
 class ReedSolomon:
     """The code with so many shards of data and of parity, at most 256 in all, over bytes modulo x^8 + x^4 + x^3 + x^2 + 1.
 
-    Shards are the rows of an array of bytes, those of data first.
+    Shards are the rows of an array of bytes, or of elements that are bytes, those of data first. Only losses are restored, of shards that
+    are known to be missing; a wrong byte is found by `verify` and not corrected.
+
+    >>> code = bf.ReedSolomon(2, 1)
+    >>> shards = code.encode([b"two ", b"rows"])
+    >>> code.reconstruct_data([None, shards[1], shards[2]]).tobytes()
+    b'two rows'
     """
 
     def __init__(self, data: int, parity: int) -> None:
+        data, parity = operator.index(data), operator.index(parity)
         if not (data >= 1 and parity >= 1 and data + parity <= 256):
             raise ValueError("invalid shard counts: at least one of data and one of parity, and at most 256 in all")
         self.data, self.parity = data, parity
@@ -75,7 +84,7 @@ class ReedSolomon:
     def __repr__(self) -> str:
         return f"ReedSolomon({self.data}, {self.parity})"
 
-    def encode(self, data: Any) -> np.ndarray:
+    def encode(self, data: Any) -> Words:
         """All shards: those of data, and behind them those of parity."""
         data = self._rows(data, self.data)
         shards = np.zeros((self.data + self.parity, data.shape[1]), np.uint8)
@@ -89,15 +98,15 @@ class ReedSolomon:
         call("rs_verify", self.data, self.parity, np.ascontiguousarray(self._rows(shards, self.data + self.parity)), result)
         return bool(result[0])
 
-    def reconstruct(self, shards: Sequence[Any] | np.ndarray, present: Sequence[bool] | None = None) -> np.ndarray:
+    def reconstruct(self, shards: Sequence[Any] | Words, present: Sequence[bool] | None = None) -> Words:
         """All shards, the missing ones restored. A shard is missing where it is None, and where `present` has False."""
         return self._restored("rs_reconstruct", shards, present)
 
-    def reconstruct_data(self, shards: Sequence[Any] | np.ndarray, present: Sequence[bool] | None = None) -> np.ndarray:
+    def reconstruct_data(self, shards: Sequence[Any] | Words, present: Sequence[bool] | None = None) -> Words:
         """The shards of data, the missing ones restored."""
         return self._restored("rs_reconstruct_data", shards, present)[: self.data]
 
-    def _restored(self, name: str, shards: Any, present: Any) -> np.ndarray:
+    def _restored(self, name: str, shards: Any, present: Any) -> Words:
         given = [it is not None for it in shards]
         if present is not None:
             if len(present) != len(given):
@@ -112,9 +121,9 @@ class ReedSolomon:
         return all_shards
 
     @staticmethod
-    def _rows(shards: Any, count: int) -> np.ndarray:
+    def _rows(shards: Any, count: int) -> Words:
         if not isinstance(shards, np.ndarray):
-            shards = [_bytes(it) for it in shards]
+            shards = [_bytes(it.to_words() if isinstance(it, Stored) else it) for it in shards]
             if len({len(it) for it in shards}) > 1:
                 raise ValueError("all shards must have one size")
             shards = np.array(shards, np.uint8)
