@@ -59,11 +59,20 @@ FUNCTIONS: dict[str, list[tuple[str, str, str]]] = {{
 '''
 
 
+def made_of(field):
+    """What a class makes arrays of, as FieldArray says it."""
+    text = (
+        f"`{field.type_name}(x)` makes one of integers from 0 to 2**{field.bits} - 1, which are representations, of texts of hexadecimal digits, of "
+        "nested lists of them, of integers of numpy, and of elements of a field that this one contains or is isomorphic to."
+    )
+    return textwrap.indent(textwrap.fill(text, 130), "    ") + "\n"
+
+
 def python_fields():
     """The classes of the fields."""
     out = [f'"""The fields, each a class of arrays. {WRITTEN}"""\n\nfrom ._arrays import FieldArray\n']
     for field in fields.FIELDS:
-        out.append(f'\n\nclass {field.type_name}(FieldArray):\n    """Arrays over {field.about}."""\n\n')
+        out.append(f'\n\nclass {field.type_name}(FieldArray):\n    """Arrays over {field.about}.\n\n{made_of(field)}    """\n\n')
         out.append(f'    degree = {field.bits}\n    _name = "{field.name}"\n    _word = "{field.word}"\n')
         if field.partner:
             out.append(f'    _partner = "{field.partner.name}"\n')

@@ -4,7 +4,11 @@ from ._arrays import FieldArray
 
 
 class Gf2(FieldArray):
-    """Arrays over GF(2)."""
+    """Arrays over GF(2).
+
+    `Gf2(x)` makes one of integers from 0 to 2**1 - 1, which are representations, of texts of hexadecimal digits, of nested lists of
+    them, of integers of numpy, and of elements of a field that this one contains or is isomorphic to.
+    """
 
     degree = 1
     _name = "gf2"
@@ -12,7 +16,11 @@ class Gf2(FieldArray):
 
 
 class BinaryField2(FieldArray):
-    """Arrays over GF(2^2), a level of the tower."""
+    """Arrays over GF(2^2), a level of the tower.
+
+    `BinaryField2(x)` makes one of integers from 0 to 2**2 - 1, which are representations, of texts of hexadecimal digits, of nested
+    lists of them, of integers of numpy, and of elements of a field that this one contains or is isomorphic to.
+    """
 
     degree = 2
     _name = "t2"
@@ -20,7 +28,11 @@ class BinaryField2(FieldArray):
 
 
 class BinaryField4(FieldArray):
-    """Arrays over GF(2^4), a level of the tower."""
+    """Arrays over GF(2^4), a level of the tower.
+
+    `BinaryField4(x)` makes one of integers from 0 to 2**4 - 1, which are representations, of texts of hexadecimal digits, of nested
+    lists of them, of integers of numpy, and of elements of a field that this one contains or is isomorphic to.
+    """
 
     degree = 4
     _name = "t4"
@@ -28,7 +40,11 @@ class BinaryField4(FieldArray):
 
 
 class BinaryField8(FieldArray):
-    """Arrays over GF(2^8), a level of the tower."""
+    """Arrays over GF(2^8), a level of the tower.
+
+    `BinaryField8(x)` makes one of integers from 0 to 2**8 - 1, which are representations, of texts of hexadecimal digits, of nested
+    lists of them, of integers of numpy, and of elements of a field that this one contains or is isomorphic to.
+    """
 
     degree = 8
     _name = "t8"
@@ -37,7 +53,11 @@ class BinaryField8(FieldArray):
 
 
 class BinaryField16(FieldArray):
-    """Arrays over GF(2^16), a level of the tower."""
+    """Arrays over GF(2^16), a level of the tower.
+
+    `BinaryField16(x)` makes one of integers from 0 to 2**16 - 1, which are representations, of texts of hexadecimal digits, of nested
+    lists of them, of integers of numpy, and of elements of a field that this one contains or is isomorphic to.
+    """
 
     degree = 16
     _name = "t16"
@@ -45,7 +65,11 @@ class BinaryField16(FieldArray):
 
 
 class BinaryField32(FieldArray):
-    """Arrays over GF(2^32), a level of the tower."""
+    """Arrays over GF(2^32), a level of the tower.
+
+    `BinaryField32(x)` makes one of integers from 0 to 2**32 - 1, which are representations, of texts of hexadecimal digits, of nested
+    lists of them, of integers of numpy, and of elements of a field that this one contains or is isomorphic to.
+    """
 
     degree = 32
     _name = "t32"
@@ -53,7 +77,11 @@ class BinaryField32(FieldArray):
 
 
 class BinaryField64(FieldArray):
-    """Arrays over GF(2^64), a level of the tower."""
+    """Arrays over GF(2^64), a level of the tower.
+
+    `BinaryField64(x)` makes one of integers from 0 to 2**64 - 1, which are representations, of texts of hexadecimal digits, of nested
+    lists of them, of integers of numpy, and of elements of a field that this one contains or is isomorphic to.
+    """
 
     degree = 64
     _name = "t64"
@@ -62,7 +90,11 @@ class BinaryField64(FieldArray):
 
 
 class BinaryField128(FieldArray):
-    """Arrays over GF(2^128), a level of the tower."""
+    """Arrays over GF(2^128), a level of the tower.
+
+    `BinaryField128(x)` makes one of integers from 0 to 2**128 - 1, which are representations, of texts of hexadecimal digits, of
+    nested lists of them, of integers of numpy, and of elements of a field that this one contains or is isomorphic to.
+    """
 
     degree = 128
     _name = "t128"
@@ -71,7 +103,11 @@ class BinaryField128(FieldArray):
 
 
 class Rijndael8b(FieldArray):
-    """Arrays over GF(2)[x] modulo x^8 + x^4 + x^3 + x + 1, the bytes of AES (FIPS 197)."""
+    """Arrays over GF(2)[x] modulo x^8 + x^4 + x^3 + x + 1, the bytes of AES (FIPS 197).
+
+    `Rijndael8b(x)` makes one of integers from 0 to 2**8 - 1, which are representations, of texts of hexadecimal digits, of nested
+    lists of them, of integers of numpy, and of elements of a field that this one contains or is isomorphic to.
+    """
 
     degree = 8
     _name = "r8"
@@ -80,7 +116,11 @@ class Rijndael8b(FieldArray):
 
 
 class Poly64(FieldArray):
-    """Arrays over GF(2)[x] modulo x^64 + x^4 + x^3 + x + 1."""
+    """Arrays over GF(2)[x] modulo x^64 + x^4 + x^3 + x + 1.
+
+    `Poly64(x)` makes one of integers from 0 to 2**64 - 1, which are representations, of texts of hexadecimal digits, of nested lists
+    of them, of integers of numpy, and of elements of a field that this one contains or is isomorphic to.
+    """
 
     degree = 64
     _name = "p64"
@@ -90,7 +130,11 @@ class Poly64(FieldArray):
 
 
 class Ghash128(FieldArray):
-    """Arrays over GF(2)[x] modulo x^128 + x^7 + x^2 + x + 1, the field of GHASH (NIST SP 800-38D), bit i for x^i."""
+    """Arrays over GF(2)[x] modulo x^128 + x^7 + x^2 + x + 1, the field of GHASH (NIST SP 800-38D), bit i for x^i.
+
+    `Ghash128(x)` makes one of integers from 0 to 2**128 - 1, which are representations, of texts of hexadecimal digits, of nested
+    lists of them, of integers of numpy, and of elements of a field that this one contains or is isomorphic to.
+    """
 
     degree = 128
     _name = "g128"
@@ -100,7 +144,11 @@ class Ghash128(FieldArray):
 
 
 class Poly192(FieldArray):
-    """Arrays over GF(2^64)[y] modulo y^3 + y + 1 over p64, the coefficient of 1 first."""
+    """Arrays over GF(2^64)[y] modulo y^3 + y + 1 over p64, the coefficient of 1 first.
+
+    `Poly192(x)` makes one of integers from 0 to 2**192 - 1, which are representations, of texts of hexadecimal digits, of nested
+    lists of them, of integers of numpy, and of elements of a field that this one contains or is isomorphic to.
+    """
 
     degree = 192
     _name = "p192"
