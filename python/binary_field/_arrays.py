@@ -17,6 +17,8 @@ A = TypeVar("A", bound="FieldArray")
 _Integers = Union[int, "np.integer[Any]", "list[Any]", "tuple[Any, ...]", Words]
 
 _MASK_64 = (1 << 64) - 1
+# The functions whose form in place takes no longer than the other one.
+_IN_PLACE = ("add", "inverse", "multiply", "power", "square", "square_root")
 # What numpy's ufuncs and functions are over elements, which _numpy.py fills.
 UFUNCS: dict[np.ufunc, Callable[..., Any]] = {}
 FUNCTIONS: dict[Callable[..., Any], Callable[..., Any]] = {}
@@ -90,11 +92,13 @@ class FieldArray(Stored):
         return self if self.shape == shape else self._of(np.broadcast_to(self._words, shape))
 
     def _called(self: A, function: str, *operands: Any, out: A | None = None) -> A:
-        """Calls a function of the library that writes an array of the first operand's shape, into `out` where one is given."""
+        """Calls a function of the library that writes an array of the first operand's shape, into `out` where one is given. Where that is the
+        first operand, the function's form in place is called."""
         result = None if out is None or not is_packed(out._words) else out._words
-        if result is None or any(isinstance(it, np.ndarray) and np.may_share_memory(it, result) for it in operands):
-            result = np.empty(operands[0].shape, self._dtype())
-        call(f"{self._name}_{function}", *operands, result)
+        in_place = operands[0] is result and function in _IN_PLACE
+        if result is None or any(isinstance(it, np.ndarray) and np.may_share_memory(it, result) for it in operands[in_place:]):
+            result, in_place = np.empty(operands[0].shape, self._dtype()), False
+        call(f"{self._name}_{function}{'_in_place' if in_place else ''}", *operands, *([] if in_place else [result]))
         if out is None:
             return self._of(result)
         if result is not out._words:
