@@ -272,7 +272,7 @@ class FieldArray(Stored):
         >>> bf.Rijndael8b([2]).reciprocal()
         Rijndael8b([0x8d])
         """
-        if not self._is_nonzero().all():
+        if not self._truths().all():
             raise ZeroDivisionError(f"0 of {type(self).__name__} has no inverse")
         return self.inverse_or_zero(out)
 
@@ -379,8 +379,9 @@ class FieldArray(Stored):
             reach *= 2
         return self._left_in(out, result)
 
-    def _is_nonzero(self) -> Any:
-        return self._words["words"].any(-1) if self._dtype().names else self._words != 0
+    def _truths(self) -> Any:
+        """What is true to numpy where an element is not 0."""
+        return self._words["words"].any(-1) if self._dtype().names else self._words
 
     def any(self, axis: Any = None) -> Any:
         """Whether an element is not 0.
@@ -388,7 +389,7 @@ class FieldArray(Stored):
         >>> bool(bf.Gf2([0, 1]).any())
         True
         """
-        return np.any(self._is_nonzero(), axis)
+        return np.any(self._truths(), axis)
 
     def all(self, axis: Any = None) -> Any:
         """Whether no element is 0.
@@ -396,7 +397,7 @@ class FieldArray(Stored):
         >>> bool(bf.Gf2([0, 1]).all())
         False
         """
-        return np.all(self._is_nonzero(), axis)
+        return np.all(self._truths(), axis)
 
     def trace(self: A, offset: int = 0, axis1: int = 0, axis2: int = 1) -> A:
         """The sum of a diagonal.

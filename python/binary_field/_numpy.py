@@ -200,11 +200,11 @@ def _on_words(function: Function) -> Function:
 
 
 def _on_nonzero(function: Function) -> Function:
-    return lambda a, *more, **options: function(a._is_nonzero(), *more, **options)
+    return lambda a, *more, **options: function(a._truths(), *more, **options)
 
 
 def _where(condition: Any, *both: Any) -> Any:
-    condition = condition._is_nonzero() if isinstance(condition, FieldArray) else condition
+    condition = condition._truths() if isinstance(condition, FieldArray) else condition
     if not both:
         return np.where(condition)
     field = _field_of(*both)
