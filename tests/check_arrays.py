@@ -353,13 +353,14 @@ class Elements(unittest.TestCase):
             for mixed in (
                 lambda: a + b, lambda: a @ b, lambda: np.add(a, b), lambda: np.concatenate([a, b]), lambda: np.broadcast_arrays(a, b),
                 lambda: np.take(a, [0], out=b[:1]), lambda: np.where([True], a, b), lambda: np.dot(a, b), lambda: np.add(a, a, out=b),
-                lambda: np.add(a, a, out=np.zeros(3)), lambda: a.__setitem__(0, b[0]), lambda: np.convolve(a, b), lambda: np.add.at(a, [0], b[:1]),
-                lambda: field([a[0], b[0]]), lambda: field.evaluate(a, b), lambda: a.add_scaled(1, b), lambda: np.concatenate([a, [2]]),
-                lambda: np.where([True], a, 2), lambda: a + [0, 1, 2], lambda: [2, 0, 0] @ a, lambda: np.array([2, 0, 0]) @ a,
-                lambda: a.dot([2, 0, 0]), lambda: a + None, lambda: a + "1", lambda: a + 1.0, lambda: a * np.ones(3), lambda: a**a, lambda: 2**a,
-                lambda: np.float64(1) * a, lambda: np.sum(a, dtype=int), lambda: np.add(a, a, dtype=int), lambda: np.insert(a, 0, 1),
-                lambda: np.mean(a), lambda: np.sort(a), lambda: np.linalg.inv(a), lambda: np.maximum(a, a), lambda: np.subtract.reduce(a),
-                lambda: np.add.reduceat(a, [0]), lambda: np.einsum("i,i", a, a), lambda: np.bitwise_xor(a, a), lambda: np.tile(np.array([1]), a),
+                lambda: np.add(a, a, out=np.zeros(3)), lambda: np.cumsum(a, out=np.zeros(3)), lambda: np.dot(a, a, out=b[0, ...]),
+                lambda: a.__setitem__(0, b[0]), lambda: np.convolve(a, b), lambda: np.add.at(a, [0], b[:1]), lambda: field([a[0], b[0]]),
+                lambda: field.evaluate(a, b), lambda: a.add_scaled(1, b), lambda: np.concatenate([a, [2]]), lambda: np.where([True], a, 2),
+                lambda: a + [0, 1, 2], lambda: [2, 0, 0] @ a, lambda: np.array([2, 0, 0]) @ a, lambda: a.dot([2, 0, 0]), lambda: a + None,
+                lambda: a + "1", lambda: a + 1.0, lambda: a * np.ones(3), lambda: a**a, lambda: 2**a, lambda: np.float64(1) * a,
+                lambda: np.sum(a, dtype=int), lambda: np.add(a, a, dtype=int), lambda: np.insert(a, 0, 1), lambda: np.mean(a), lambda: np.sort(a),
+                lambda: np.linalg.inv(a), lambda: np.maximum(a, a), lambda: np.subtract.reduce(a), lambda: np.add.reduceat(a, [0]),
+                lambda: np.einsum("i,i", a, a), lambda: np.bitwise_xor(a, a), lambda: np.tile(np.array([1]), a),
                 lambda: np.add.at(np.zeros(3), [0], a), lambda: iter(a[0]),
             ):
                 self.assertRaises(TypeError, mixed)

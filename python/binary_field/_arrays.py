@@ -300,6 +300,8 @@ class FieldArray(Stored):
         """The result, or the array of its shape that it is left in."""
         if out is None:
             return result
+        if type(out) is not type(result):
+            raise TypeError(f"a result of {type(result).__name__} has no place in {type(out).__name__}")
         if out.shape != result.shape:
             raise ValueError(f"an array of shape {out.shape} cannot take a result of shape {result.shape}")
         out[...] = result

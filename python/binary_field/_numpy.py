@@ -29,8 +29,8 @@ def _field_of(*values: Any) -> type[FieldArray]:
 def _computed(function: Function, operands: Sequence[FieldArray], out: FieldArray | None = None, where: Any = True) -> FieldArray:
     """A function of the operands at the places where `where` is true; others stay in `out`, and are 0 without one."""
     field = type(operands[0])
-    if out is not None and type(out) is not field:
-        raise TypeError(f"a result of {field.__name__} has no place in {type(out).__name__}")
+    if out is not None:
+        field._operand(out)
     if where is True:
         return function(*operands, out=out)  # type: ignore[no-any-return]
     shape = field._shape_of(*operands, field.zeros(np.shape(where)), out=out)

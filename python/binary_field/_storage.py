@@ -43,7 +43,7 @@ class _Constants(type):
 
 
 class Stored(metaclass=_Constants):
-    """What arrays of elements are but for arithmetic, which Stored adds."""
+    """What arrays of elements are but for arithmetic, which FieldArray adds."""
 
     degree: int
     _name: str
