@@ -165,7 +165,9 @@ PLACES = [
     lambda o: o.m[:, ::2] + o.m[:, ::-2], lambda o: o.v**3, lambda o: np.power(o.v, 2), lambda o: np.sqrt(o.m.T), lambda o: np.square(o.n[::2]),
     lambda o: np.reciprocal(o.w) if isinstance(o.w, bf.FieldArray) else 1 / o.w, lambda o: -o.n[1:], lambda o: o.v == o.v[::-1],
     lambda o: o.m == o.m[0], lambda o: o.m != o.m.T, lambda o: o.v == None, lambda o: o.v == 300, lambda o: o.v != 1, lambda o: o.v == "1",
-    lambda o: o.v == [1, 0, 1, 0, 1], lambda o: o.v == o.w, lambda o: o.v[0] == None, lambda o: np.add(o.v, o.v, where=[True] * 5),
+    lambda o: o.v == [1, 0, 1, 0, 1], lambda o: o.v == o.w,
+    lambda o: o.v[0] in o.v, lambda o: o.m[1, 2, 3] in o.m, lambda o: 300 in o.m, lambda o: o.m[0] in o.m, lambda o: None in o.v,
+    lambda o: o.v[0] == None, lambda o: np.add(o.v, o.v, where=[True] * 5),
     lambda o: np.equal(o.v, o.v), lambda o: np.not_equal(o.v, 0),
 ]
 
@@ -367,7 +369,8 @@ class Elements(unittest.TestCase):
             self.assertTrue(np.array_equal(a, [1, 0, 1]) and not np.array_equal(a, b) and not np.array_equal(a, a[:2]))
             self.assertFalse(a[0] == other(1))
             self.assertTrue(a[0] != other(1))
-        self.assertRaises(TypeError, bf.FieldArray, [1])
+        for call in (lambda: bf.FieldArray([1]), lambda: bf.FieldArray.zeros(3), lambda: bf.FieldArray.random(), lambda: bf.FieldArray(1)):
+            self.assertRaises(TypeError, call)
 
     def test_every_bit_counts(self):
         for field in FIELDS.values():

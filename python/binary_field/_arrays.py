@@ -67,7 +67,8 @@ class FieldArray(Stored):
         else:
             is_meant = array.dtype == object and all(map(cls._is_meant, array.ravel()))
         if not is_meant:
-            raise TypeError(f"the other operand must be of {cls.__name__}, or 0 or 1; make elements of integers with {cls.__name__}(..)")
+            name = cls.__name__
+            raise TypeError(f"the other operand must be of {name}, or 0 or 1: 2 could be {name}(2), or 1 + 1, which is 0")
         return cls(array)
 
     @classmethod
@@ -425,6 +426,9 @@ class FieldArray(Stored):
     def __ne__(self, other: Any) -> Any:
         same = self.__eq__(other)
         return same if same is NotImplemented else np.logical_not(same)
+
+    def __contains__(self, item: Any) -> bool:
+        return bool(np.any(self == item))
 
     # ---- numpy
 

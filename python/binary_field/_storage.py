@@ -70,8 +70,7 @@ class Stored(metaclass=_Constants):
         >>> bf.Ghash128(bf.BinaryField128([1, 2]))
         Ghash128([0x1, 0x295ac0b1f4731af9676aac9fa4b20b08])
         """
-        if not hasattr(type(self), "_name"):
-            raise TypeError(f"{type(self).__name__} is the class of all fields: take one, as BinaryField8")
+        dtype = self._dtype()
         if isinstance(values, Stored):
             self._words = values.to(type(self))._words.copy()
         elif isinstance(values, np.ndarray) and values.dtype.kind in "bui":
@@ -80,8 +79,8 @@ class Stored(metaclass=_Constants):
             self._words = np.stack([self._operand(it)._words for it in values])
         else:
             items = np.array(values, dtype=object)
-            data = b"".join(self._integer(it).to_bytes(self._dtype().itemsize, "little") for it in items.ravel())
-            self._words = np.frombuffer(bytearray(data), self._dtype()).reshape(items.shape)
+            data = b"".join(self._integer(it).to_bytes(dtype.itemsize, "little") for it in items.ravel())
+            self._words = np.frombuffer(bytearray(data), dtype).reshape(items.shape)
 
     @classmethod
     def _of_numbers(cls, values: Words) -> Words:
@@ -105,7 +104,10 @@ class Stored(metaclass=_Constants):
 
     @classmethod
     def _dtype(cls) -> np.dtype[Any]:
-        return WORDS[cls._word]
+        try:
+            return WORDS[cls._word]
+        except AttributeError:
+            raise TypeError(f"{cls.__name__} is the class of all fields: take one, as BinaryField8") from None
 
     @classmethod
     def _of(cls: type[S], words: Any) -> S:
