@@ -9,6 +9,7 @@ import doctest
 import io
 import operator
 import tempfile
+import tracemalloc
 import unittest
 import warnings
 
@@ -297,6 +298,20 @@ class Elements(unittest.TestCase):
             words.flags.writeable = False
             self.assertRaises(ValueError, operator.iadd, field.from_words(words, copy=False), 1)
             self.assertRaises(ValueError, field.from_words(words, copy=False).add_scaled, 1, b)
+
+    def test_no_memory_beside(self):
+        for field in FIELDS.values():
+            a, b = field.random(1 << 16, seed=57), field.random(1 << 16, seed=58)
+            c, wanted = a.copy(), ((a + b) * b).square()
+            tracemalloc.start()
+            a += b
+            a *= b
+            np.square(a, out=c)
+            row = c[1:].reshape(5, -1).T[2:]
+            taken = tracemalloc.get_traced_memory()[1]
+            tracemalloc.stop()
+            self.assertLess(taken, 1 << 15)
+            self.assertTrue((c == wanted).all() and (row[0] == wanted[3::13107]).all())
 
     def test_add_scaled(self):
         for field in FIELDS.values():
