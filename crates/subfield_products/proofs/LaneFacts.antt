@@ -61,7 +61,7 @@ byte-halves byte =
     xor_comm (byte % 16) (byte / 16 * 16) ∙ xor_shifted (byte / 16) 4 (byte % 16) (mod-lt byte (lit< tt)) ∙ whole
 
 -- two multiples of a scalar make its product by a byte
-multiples_sum : (multiples : ByteMultiples) (s byte : ℕ) → AreMultiples multiples s → byte < 256
+pub multiples_sum : (multiples : ByteMultiples) (s byte : ℕ) → AreMultiples multiples s → byte < 256
     → entry_sum multiples.low multiples.high byte ≡ tower_mul 3 s byte
 multiples_sum multiples s byte are fits =
     ap₂ bit_xor (are.of_low (byte % 16) (mod-lt byte (lit< tt))) (are.of_high (byte / 16) (omega (arith, fits)))

@@ -1,3 +1,5 @@
+mod ChunkProducts
+mod Exchanges
 mod LaneFacts
 mod RowHalves
 mod RowSteps

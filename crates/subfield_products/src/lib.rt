@@ -7,6 +7,7 @@
 
 mod blocks;
 mod butterflies;
+mod chunks;
 mod laws;
 mod multiples;
 mod pair;
@@ -14,4 +15,6 @@ mod planes;
 
 pub use crate::blocks::ByteBlock;
 pub use crate::butterflies::{butterflies_8, butterflies_16, butterflies_32};
+pub use crate::chunks::{Paired, Scales, times_number};
 pub use crate::laws::three_products_multiply;
+pub use crate::multiples::{ByteMultiples, HalfMultiples, multiples_8, multiples_16, multiples_32};

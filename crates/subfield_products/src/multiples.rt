@@ -12,14 +12,14 @@ use std::simd::prelude::*;
 
 /// The products of a byte by 0 to 15, and by 0, 16, .., 240. They are vectors, so that a loop holds them in registers.
 #[derive(Clone, Copy)]
-pub(crate) struct ByteMultiples {
+pub struct ByteMultiples {
     pub(crate) low: u8x16,
     pub(crate) high: u8x16,
 }
 
 /// The multiples by which the halves of an element are multiplied: both, their sum, the low half, and the high half.
 #[derive(Clone, Copy)]
-pub(crate) struct HalfMultiples<M> {
+pub struct HalfMultiples<M> {
     pub(crate) both: M,
     pub(crate) low: M,
     pub(crate) high: M,
@@ -27,7 +27,7 @@ pub(crate) struct HalfMultiples<M> {
 
 /// The multiples of a byte.
 #[inline]
-pub(crate) fn multiples_8(scalar: u8) -> ByteMultiples
+pub fn multiples_8(scalar: u8) -> ByteMultiples
     ensures { AreMultiples result scalar }
 {
     let start = 32 * scalar as usize;
@@ -39,7 +39,7 @@ pub(crate) fn multiples_8(scalar: u8) -> ByteMultiples
 
 /// The multiples of a scalar of 16 bits.
 #[inline]
-pub(crate) fn multiples_16(scalar: u16) -> HalfMultiples<ByteMultiples>
+pub fn multiples_16(scalar: u16) -> HalfMultiples<ByteMultiples>
     ensures { AreMultiplesOfHalves 3 AreMultiples result scalar }
 {
     let (low, high) = halves_16(scalar);
@@ -52,7 +52,7 @@ pub(crate) fn multiples_16(scalar: u16) -> HalfMultiples<ByteMultiples>
 
 /// The multiples of a scalar of 32 bits.
 #[inline]
-pub(crate) fn multiples_32(scalar: u32) -> HalfMultiples<HalfMultiples<ByteMultiples>>
+pub fn multiples_32(scalar: u32) -> HalfMultiples<HalfMultiples<ByteMultiples>>
     ensures { AreMultiplesOfHalves 4 (AreMultiplesOfHalves 3 AreMultiples) result scalar }
 {
     let (low, high) = halves_32(scalar);

@@ -1,0 +1,12 @@
+-- How often elements of 8, 16 and 32 bits have halves.
+use Rattle.std.specs.Prelude.{◌≤◌}
+use Rattle.std.proofs.Common.{arith}
+
+pub no_halves : 0 ≤ 4
+no_halves = omega arith
+
+pub one_half : 1 ≤ 4
+one_half = omega arith
+
+pub two_halves : 2 ≤ 4
+two_halves = omega arith

@@ -1,0 +1,80 @@
+-- Products by scalars of lower levels, in the bits of a level.
+use Rattle.std.proofs.Common.{◌≡◌, ℕ, suc, ◌+◌, ◌-◌, ◌/◌, ◌%◌, ◌^◌, ◌<◌, ◌≤◌, Bool, [], ◌∷◌, refl, sym, ◌∙◌, ap, subst, arith}
+use Rattle.std.specs.Prelude.{bit_xor, slice_index}
+use Rattle.std.proofs.Math.Pow.{mod-mod-pow}
+use Rattle.std.proofs.lemmas.Nat.{pow_pos, xor_mod}
+use native.Mathlib.Nat.{div-one, mod-eq_of_lt, mul-zero}
+use Rattle.additive_transforms.specs.Stages.{TakesBlock}
+use Rattle.field_base.specs.Chunks.{chunk}
+use Rattle.field_base.specs.Tower.{tower_mul}
+use Rattle.field_base.proofs.Coefficients.{scales_coefficients}
+use Rattle.field_base.proofs.RingLemmas.{times-mod}
+use Rattle.field_base.proofs.TowerProducts.{level-lt}
+use Rattle.field_base.proofs.TowerRing.{tower_ring}
+use Rattle.ghash_slices.specs.Cantor.{subspace_value}
+use Rattle.ghash_slices.specs.Stages.{add_multiple}
+
+-- an element of a level fits each level above it
+fits_above : (j k s : ℕ) → j ≤ k → s < 2 ^ 2 ^ j → s < 2 ^ 2 ^ k
+fits_above j k s within fits =
+    let levels : k - j + j ≡ k = omega (arith, within) in
+    subst (λ (n : ℕ). s < 2 ^ 2 ^ n) levels (level-lt (k - j) j s fits)
+
+-- the lowest bits are the first chunk
+first_chunk : (width x : ℕ) → chunk width 0 x ≡ x % 2 ^ width
+first_chunk width x = ap (λ (k : ℕ). x / 2 ^ k % 2 ^ width) (mul-zero width) ∙ ap (λ (y : ℕ). y % 2 ^ width) (div-one x)
+
+-- a product at level 7 by an element of a level is, in the bits of a level between, the product at that level
+pub product_in_level : (j k bits s x : ℕ) → j ≤ k → k ≤ 7 → 2 ^ k ≤ bits → s < 2 ^ 2 ^ j
+    → tower_mul 7 s x % 2 ^ bits % 2 ^ 2 ^ k ≡ tower_mul k s x
+product_in_level j k bits s x within few room fits =
+    (let parts : bits ≡ bits - 2 ^ k + 2 ^ k = omega (arith, room) in
+    ap (λ (n : ℕ). tower_mul 7 s x % 2 ^ n % 2 ^ 2 ^ k) parts ∙ mod-mod-pow (tower_mul 7 s x) (bits - 2 ^ k) (2 ^ k))
+    ∙ sym (first_chunk (2 ^ k) (tower_mul 7 s x))
+    ∙ scales_coefficients 7 k (2 ^ (7 - k)) refl few 0 s x (pow_pos (7 - k)) (fits_above j k s within fits)
+    ∙ ap (tower_mul k s) (first_chunk (2 ^ k) x)
+    ∙ times-mod (2 ^ k) 1 (tower_mul k) (tower_ring k) s x
+
+-- a product at the level has no more bits
+pub whole_product : (k s t x product : ℕ) → product ≡ tower_mul k t x → t ≡ s → product % 2 ^ 2 ^ k ≡ tower_mul k s x
+whole_product k s t x product is same =
+    ap (λ (y : ℕ). y % 2 ^ 2 ^ k) is ∙ mod-eq_of_lt ((tower_ring k).below t x) ∙ ap (λ (y : ℕ). tower_mul k y x) same
+
+-- a sum with a product, in the bits of the level
+pub multiple_in_level : (k s x y product sum : ℕ) → sum ≡ bit_xor x product → product % 2 ^ 2 ^ k ≡ tower_mul k s y
+    → sum % 2 ^ 2 ^ k ≡ add_multiple (tower_mul k) s (x % 2 ^ 2 ^ k) (y % 2 ^ 2 ^ k)
+multiple_in_level k s x y product sum is product_is =
+    ap (λ (z : ℕ). z % 2 ^ 2 ^ k) is ∙ xor_mod x product (2 ^ k)
+    ∙ ap (bit_xor (x % 2 ^ 2 ^ k)) (product_is ∙ sym (times-mod (2 ^ k) 1 (tower_mul k) (tower_ring k) s y))
+
+-- a sum of numbers, in the bits of the level
+pub sum_in_level : (k x y sum : ℕ) → sum ≡ bit_xor x y → sum % 2 ^ 2 ^ k ≡ bit_xor (x % 2 ^ 2 ^ k) (y % 2 ^ 2 ^ k)
+sum_in_level k x y sum is = ap (λ (z : ℕ). z % 2 ^ 2 ^ k) is ∙ xor_mod x y (2 ^ k)
+
+-- s_0 is its argument
+pub no_shift : (k z : ℕ) → z ≡ subspace_value (tower_mul k) 0 z
+unfolding subspace_value
+no_shift k z = refl
+
+one_more : (k z j : ℕ) → bit_xor (tower_mul k (subspace_value (tower_mul k) j z) (subspace_value (tower_mul k) j z)) (subspace_value (tower_mul k) j z)
+    ≡ subspace_value (tower_mul k) (suc j) z
+unfolding subspace_value
+one_more k z j = refl
+
+-- and each further one is the sum of the one before it and its square
+pub next_shift : (k z j before square after : ℕ) → before ≡ subspace_value (tower_mul k) j z → square ≡ tower_mul k before before
+    → after ≡ bit_xor square before → after ≡ subspace_value (tower_mul k) (j + 1) z
+next_shift k z j before square after is square_is after_is =
+    let next : suc j ≡ j + 1 = omega arith in
+    after_is ∙ ap (λ (x : ℕ). bit_xor x before) square_is ∙ ap (λ (x : ℕ). bit_xor (tower_mul k x x) x) is ∙ one_more k z j
+    ∙ ap (λ (n : ℕ). subspace_value (tower_mul k) n z) next
+
+-- the butterfly of a pair by its numbers
+pub same_pair : (inverse : Bool) (times : ℕ → ℕ → ℕ) (s a b c d a' b' c' d' : ℕ) → a ≡ a' → b ≡ b' → c ≡ c' → d ≡ d'
+    → TakesBlock inverse times s 1 (slice_index (a ∷ b ∷ [])) (slice_index (c ∷ d ∷ []))
+    → TakesBlock inverse times s 1 (slice_index (a' ∷ b' ∷ [])) (slice_index (c' ∷ d' ∷ []))
+same_pair inverse times s a b c d a' b' c' d' first second third fourth holds =
+    subst (λ (v : ℕ). TakesBlock inverse times s 1 (slice_index (a' ∷ b' ∷ [])) (slice_index (c' ∷ v ∷ []))) fourth
+    (subst (λ (v : ℕ). TakesBlock inverse times s 1 (slice_index (a' ∷ b' ∷ [])) (slice_index (v ∷ d ∷ []))) third
+    (subst (λ (v : ℕ). TakesBlock inverse times s 1 (slice_index (a' ∷ v ∷ [])) (slice_index (c ∷ d ∷ []))) second
+    (subst (λ (v : ℕ). TakesBlock inverse times s 1 (slice_index (v ∷ b ∷ [])) (slice_index (c ∷ d ∷ []))) first holds)))

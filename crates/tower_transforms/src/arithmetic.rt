@@ -1,0 +1,111 @@
+// The arithmetic of the stages of a transform of words: each block by as narrow a scalar as its twiddle is.
+ghost use Rattle.std.specs.Prelude.{◌≡◌, ◌++◌, ◌+◌, ◌^◌, ◌<◌, ◌≤◌, ℕ, length, map, slice_index};
+ghost use Rattle.std.proofs.lemmas.Nat.{pow_pos};
+ghost use native.Mathlib.Nat.{mod-lt};
+ghost use Rattle.additive_transforms.specs.Stages.{TakesBlock};
+ghost use Rattle.field_base.proofs.TowerRing.{tower_ring};
+ghost use Rattle.field_base.specs.Tower.{tower_mul};
+ghost use Rattle.ghash_slices.specs.Cantor.{subspace_value};
+ghost use Rattle.tower_transforms.specs.LevelVectors.{level_vectors};
+ghost use Rattle.tower_transforms.specs.Words.{level_element};
+ghost use Rattle.word_tables.specs.Cantor.{cantor_vector};
+
+use crate::pairs::run_pairs;
+use crate::products::{ChunkScalar, WholeScalar};
+use crate::words::Holds;
+use additive_transforms::StageArithmetic;
+use field_base::{LevelKernel, Unsigned};
+use std::marker::PhantomData;
+use subfield_products::{multiples_8, multiples_16, multiples_32};
+use word_tower::{Level, Tower};
+
+/// The arithmetic of the level `L` of the tower, with words `W` that hold its words `R`.
+pub(crate) struct OfWords<R, L, W> {
+    stored: PhantomData<R>,
+    level: PhantomData<L>,
+    words: PhantomData<W>,
+}
+
+impl<R: Unsigned, L: Level<R>, W: Holds<R>> StageArithmetic for OfWords<R, L, W> {
+    type Value = W;
+
+    type Twiddle = R;
+
+    ghost width = { 2 ^ L.LEVEL };
+
+    ghost product = { tower_mul L.LEVEL };
+
+    ghost vector = { cantor_vector };
+
+    ghost value = { level_element W.number L.LEVEL };
+
+    ghost number = { R.number };
+
+    #[inline]
+    fn sum(x: R, y: R) -> R {
+        x.xor(y)
+    }
+
+    #[inline]
+    fn cantor_vector(i: usize) -> R {
+        <Tower<L> as LevelKernel<R>>::cantor_vector(i)
+    }
+
+    fn shift(z: R, stage: usize) -> R {
+        shift_of::<R, L>(z, stage)
+    }
+
+    fn butterflies(lo: &mut [W], hi: &mut [W], twiddle: R, inverse: bool) {
+        run_block::<R, L, W>(lo, hi, twiddle, inverse);
+    }
+
+    ghost wide_law = { pow_pos L.LEVEL };
+
+    ghost ring_law = { tower_ring L.LEVEL };
+
+    ghost vector_law = { level_vectors L.LEVEL L.few };
+
+    ghost range_law = { λ x. mod-lt (W.number x) (pow_pos (2 ^ L.LEVEL)) };
+}
+
+// s_j(z), where s_0(z) = z and s_(j + 1)(z) = s_j(z)^2 + s_j(z).
+fn shift_of<R: Unsigned, L: Level<R>>(z: R, stage: usize) -> R
+    ensures { R.number result ≡ subspace_value (tower_mul L.LEVEL) stage (R.number z) }
+{
+    let mut shift = z;
+    for _ in 0..stage {
+        shift = L::square(shift).xor(shift);
+    }
+    shift
+}
+
+// The butterflies of the halves of a block: products by 8, 16 or 32 bits where the twiddle has no more, and whole ones otherwise.
+fn run_block<R: Unsigned, L: Level<R>, W: Holds<R>>(
+    lo: &mut [W],
+    hi: &mut [W],
+    twiddle: R,
+    inverse: bool,
+)
+    requires { length lo.old ≡ length hi.old }
+    ensures lower { length lo.new ≡ length lo.old }
+    ensures upper { length hi.new ≡ length hi.old }
+    ensures values { let element = level_element W.number L.LEVEL in
+        TakesBlock inverse (tower_mul L.LEVEL) (R.number twiddle) (length lo.old) (slice_index (map element lo.old ++ map element hi.old))
+        (slice_index (map element lo.new ++ map element hi.new)) }
+{
+    let level = PhantomData::<L>;
+    let scalar = twiddle.to_u128();
+    if 3 <= L::LEVEL && scalar < 1 << 8 {
+        let multiples = multiples_8(scalar as u8);
+        run_pairs(lo, hi, &ChunkScalar { multiples, level }, inverse);
+    } else if 4 <= L::LEVEL && scalar < 1 << 16 {
+        let multiples = multiples_16(scalar as u16);
+        run_pairs(lo, hi, &ChunkScalar { multiples, level }, inverse);
+    } else if 5 <= L::LEVEL && scalar < 1 << 32 {
+        let multiples = multiples_32(scalar as u32);
+        run_pairs(lo, hi, &ChunkScalar { multiples, level }, inverse);
+    } else {
+        let scalar = twiddle;
+        run_pairs(lo, hi, &WholeScalar { scalar, level }, inverse);
+    }
+}
