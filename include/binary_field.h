@@ -443,11 +443,11 @@ uint32_t bf_g128_linear_map(
     size_t mapped_length) BF_CHECKED;
 
 /* --------------------------------------------------------------------------------------------------------------------- */
-/* Stages of additive transforms over g128, and the whole transform. s_0(x) = x, and s_(j+1)(x) = s_j(x)^2 + s_j(x). The
- * basis of subspace polynomials is the products of the s_j: coefficient k is that of the product of the s_j over the set
- * bits j of k. Point p is the shift, and Cantor vector b for each set bit b of p; vector 0 is 1, and of v^2 + v each other
- * vector v makes the one before. In the low stages the factor of stage j at place p is shifts[j], and basis[t] for each set
- * bit t of p >> (j + 1). */
+/* Stages of additive transforms over g128, and the whole transform over g128 and levels of the tower. s_0(x) = x, and
+ * s_(j+1)(x) = s_j(x)^2 + s_j(x). The basis of subspace polynomials is the products of the s_j: coefficient k is that of the
+ * product of the s_j over the set bits j of k. Point p is the shift, and Cantor vector b for each set bit b of p; vector 0
+ * is 1, and of v^2 + v each other vector v makes the one before. In the low stages the factor of stage j at place p is
+ * shifts[j], and basis[t] for each set bit t of p >> (j + 1). */
 
 /* low += scalar * high, and then high += low, at each place. BF_LENGTH unless low and high have one length. */
 uint32_t bf_g128_butterfly_forward(
@@ -473,6 +473,46 @@ uint32_t bf_g128_transform(
 /* The coefficients that g128_transform takes to these values. BF_LENGTH unless values has 2^m elements, for an m from 0 to
  * 40. */
 uint32_t bf_g128_inverse_transform(
+    bf_u128 *values, size_t values_length, const bf_u128 *shift) BF_CHECKED BF_NONNULL(3);
+
+/* The same as g128_transform, over t16; it is fastest where the shift is 0 or below 65536. BF_LENGTH unless values has 2^m
+ * elements, for an m from 0 to 16. */
+uint32_t bf_t16_transform(
+    uint16_t *values, size_t values_length, uint16_t shift) BF_CHECKED;
+
+/* The coefficients that t16_transform takes to these values. BF_LENGTH unless values has 2^m elements, for an m from 0 to
+ * 16. */
+uint32_t bf_t16_inverse_transform(
+    uint16_t *values, size_t values_length, uint16_t shift) BF_CHECKED;
+
+/* The same as g128_transform, over t32; it is fastest where the shift is 0 or below 65536. BF_LENGTH unless values has 2^m
+ * elements, for an m from 0 to 32. */
+uint32_t bf_t32_transform(
+    uint32_t *values, size_t values_length, uint32_t shift) BF_CHECKED;
+
+/* The coefficients that t32_transform takes to these values. BF_LENGTH unless values has 2^m elements, for an m from 0 to
+ * 32. */
+uint32_t bf_t32_inverse_transform(
+    uint32_t *values, size_t values_length, uint32_t shift) BF_CHECKED;
+
+/* The same as g128_transform, over t64; it is fastest where the shift is 0 or below 65536. BF_LENGTH unless values has 2^m
+ * elements, for an m from 0 to 40. */
+uint32_t bf_t64_transform(
+    uint64_t *values, size_t values_length, uint64_t shift) BF_CHECKED;
+
+/* The coefficients that t64_transform takes to these values. BF_LENGTH unless values has 2^m elements, for an m from 0 to
+ * 40. */
+uint32_t bf_t64_inverse_transform(
+    uint64_t *values, size_t values_length, uint64_t shift) BF_CHECKED;
+
+/* The same as g128_transform, over t128; it is fastest where the shift is 0 or below 65536. BF_LENGTH unless values has 2^m
+ * elements, for an m from 0 to 40. */
+uint32_t bf_t128_transform(
+    bf_u128 *values, size_t values_length, const bf_u128 *shift) BF_CHECKED BF_NONNULL(3);
+
+/* The coefficients that t128_transform takes to these values. BF_LENGTH unless values has 2^m elements, for an m from 0 to
+ * 40. */
+uint32_t bf_t128_inverse_transform(
     bf_u128 *values, size_t values_length, const bf_u128 *shift) BF_CHECKED BF_NONNULL(3);
 
 /* --------------------------------------------------------------------------------------------------------------------- */

@@ -70,6 +70,11 @@ OTHER_FUNCTIONS = [
      "the value at each of 2^m points, m from 0 to 40, of the polynomial with these coefficients in the basis of subspace polynomials"),
     ("g128_inverse_transform", [("inout", "values", "u128"), ("scalar", "shift", "u128")],
      "the coefficients that g128_transform takes to these values"),
+    *[it for field in FIELDS if field.is_transformed for it in [
+        (f"{field.name}_transform", [("inout", "values", field.word), ("scalar", "shift", field.word)],
+         f"the same as g128_transform, over {field.name}; it is fastest where the shift is 0 or below 65536"),
+        (f"{field.name}_inverse_transform", [("inout", "values", field.word), ("scalar", "shift", field.word)],
+         f"the coefficients that {field.name}_transform takes to these values")]],
     ("tag_ghash", [("in", "key", "u8"), ("in", "message", "u8"), ("out", "hash", "u8")],
      "GHASH of the message (NIST SP 800-38D), zeros added to whole blocks; key and hash have 16 bytes"),
     ("tag_polyval", [("in", "key", "u8"), ("in", "message", "u8"), ("out", "hash", "u8")],

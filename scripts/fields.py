@@ -59,6 +59,11 @@ class Field:
         return [1] + [0] * (self.bits // 64 - 1)
 
     @property
+    def is_transformed(self):
+        """Whether the library has the additive transform over the field as a level of the tower."""
+        return self.level is not None and self.bits >= 16
+
+    @property
     def partner(self):
         """The isomorphic field in the other basis, if the library changes between the two."""
         if self.modulus:

@@ -78,11 +78,21 @@ rs_reconstruct          shards      reconstruct        Reconstructs «data» par
 rs_reconstruct_data     shards      reconstruct_data   Reconstructs «data» parity «data» present.now shards.old shards.new result
 """.splitlines()}
 
+# The transforms over levels of the tower, which are written once over the level.
+for _field in fields.FIELDS:
+    if _field.is_transformed:
+        _number, _shift = ("wide_number", "(wide_number shift.now)") if _field.word in WORDS else ("itself", "shift")
+        for _name, _contract in (("transform", "TransformsLevel"), ("inverse_transform", "InvertsLevelTransform")):
+            OTHER_CALLS[f"{_field.name}_{_name}"] = [
+                "transforms", f"{_name}_level::<{_field.word}, {WORDS.get(_field.word, _field.word)}, Bits{_field.bits}>",
+                f"{_contract} {_number} {_field.bits.bit_length() - 1} {_shift} values.old values.new result",
+            ]
+
 # What each file of such functions has.
 ABOUT = {
     "changes": "Calls over slices of elements of a level of the tower, and of their images in a field of polynomials.",
     "linear": "Calls that map words linearly.",
-    "transforms": "Calls that transform values in the field of GHASH.",
+    "transforms": "Calls that transform values in the field of GHASH, and in levels of the tower.",
     "messages": "Calls over messages.",
     "shards": "Calls over shards, which stand one after the other and have one size: those of data, and then those of parity.",
     "wide": "Second forms of calls in the field of GHASH, made for x86-64-v3, whose vectors have 256 bits.",
@@ -98,7 +108,9 @@ HOMES = {
     "tags.specs.Polyval": ["polyval"],
     "c_arithmetic.specs.Bytes": ["Compares", "Encodes", "Hashes", "Reconstructs", "Verifies"],
     "c_arithmetic.specs.Linear": ["MapsLinearly"],
-    "c_arithmetic.specs.Transforms": ["ButterfliesForward", "ButterfliesInverse", "InvertsTransform", "RunsLowStages", "Transforms"],
+    "c_arithmetic.specs.Transforms": [
+        "ButterfliesForward", "ButterfliesInverse", "InvertsLevelTransform", "InvertsTransform", "RunsLowStages", "Transforms", "TransformsLevel",
+    ],
     "c_arithmetic.specs.Calls": sorted({word for _, word in CALLS.values()} | {"TakesImages", "TakesPreimages"}),
     "c_arithmetic.specs.Fields": [
         "cubic_field", "ghash_field", "itself", "level_field", "poly64_field", "rijndael_field", "wide_level_field", "wide_number",
@@ -236,12 +248,17 @@ def brought_in(clauses):
             yield f"ghost use Rattle.{home}.{{{', '.join(line)}}};"
 
 
+def in_order(name):
+    """The key by which `rt fmt` sorts names: numbers in them by their size."""
+    return [int(it) if it.isdigit() else it for it in re.split(r"(\d+)", name)]
+
+
 def used(bodies):
     """The line that brings in what bodies and signatures name without a path."""
     names = set(re.findall(r"[&\[]&?(Wide|Cubic)\b|<\w+, \w+, (\w+)(?:<(\w+)>)?>|\b(slices)::|\b(in_place)::|\b(batch_invert)\b", bodies))
     words = [*WORDS.values(), *STORED.values()]
     named = {it for group in names for it in group if it} | {it for it in words if re.search(rf"\b{it}\b", bodies)}
-    lines = [f"use c_arithmetic::{{{', '.join(sorted(named))}}};" if len(named) > 1 else f"use c_arithmetic::{named.pop()};"] if named else []
+    lines = [f"use c_arithmetic::{{{', '.join(sorted(named, key=in_order))}}};" if len(named) > 1 else f"use c_arithmetic::{named.pop()};"] if named else []
     lines += ["use std::simd::prelude::*;"] if re.search(rf"\b({NARROW}|{WIDE})\b", bodies) else []
     return [*lines, ""] if lines else []
 

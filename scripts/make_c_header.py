@@ -20,6 +20,7 @@ LENGTHS = {
     "low_stages": "values has a multiple of 16, shifts 4 and basis 3 to 128; where there are values, first_run and the number of runs "
     "are together at most 2 to the power of 3 less than the length of basis",
     "transform": "values has 2^m elements, for an m from 0 to 40",
+    **{f"{it}_{name}": f"values has 2^m elements, for an m from 0 to {it[1:]}" for it in ("t16", "t32") for name in ("transform", "inverse_transform")},
     "tag_ghash": "key and hash have 16 bytes",
     "tag_polyval": "key and hash have 16 bytes",
     "tag_gcm_ghash": "key and hash have 16 bytes, and associated and ciphertext below 2^61 each",
@@ -131,7 +132,7 @@ def sections():
     rest = everything[of_fields:]
     headings = {
         "t8_to": "Changes of basis, and linear maps over GF(2).",
-        "g128_butterfly": "Stages of additive transforms over g128, and the whole transform. s_0(x) = x, and s_(j+1)(x) = s_j(x)^2 + s_j(x). "
+        "g128_butterfly": "Stages of additive transforms over g128, and the whole transform over g128 and levels of the tower. s_0(x) = x, and s_(j+1)(x) = s_j(x)^2 + s_j(x). "
         "The basis of subspace polynomials is the products of the s_j: coefficient k is that of the product of the s_j over the "
         "set bits j of k. Point p is the shift, and Cantor vector b for each set bit b of p; vector 0 is 1, and of v^2 + v each "
         "other vector v makes the one before. In the low stages the factor of stage j at place p is shifts[j], and basis[t] for "

@@ -156,11 +156,15 @@ def stage_cases(draw):
         values, shifts, basis = (drawn(field, draw, it) for it in (16 * runs, 4, count))
         after = definitions.low_stages(values, shifts, basis, first) if runs else []
         yield case("g128_low_stages", (values, after), shifts, basis, first)
-    for m in range(8):
-        shift, coefficients = 0 if m % 2 else draw.getrandbits(128), drawn(field, draw, 1 << m)
-        values = definitions.transform(coefficients, shift)
-        yield case("g128_transform", (coefficients, values), shift)
-        yield case("g128_inverse_transform", (values, coefficients), shift)
+    for name in ("g128", *(it.name for it in FIELDS.values() if it.row.is_transformed)):
+        field = FIELDS[name]
+        for m in range(8):
+            # Shifts of no bits, and of 8, 16, 32, .. bits.
+            shift = 0 if m % 2 else draw.getrandbits(min(field.bits, 8 << m // 2)) if field.row.is_transformed else draw.getrandbits(128)
+            coefficients = drawn(field, draw, 1 << m)
+            values = definitions.transform(coefficients, shift, field)
+            yield case(f"{name}_transform", (coefficients, values), shift)
+            yield case(f"{name}_inverse_transform", (values, coefficients), shift)
 
 
 def long_cases(draw):

@@ -210,6 +210,16 @@ class Maps(unittest.TestCase):
             self.assertTrue((bf.inverse_transform(values, shift) == a).all())
             points = bf.transform_points(1 << m, shift)
             self.assertEqual(points.tolist(), [int(shift) ^ definitions.linear_map(definitions.cantor_vectors(), p) for p in range(1 << m)])
+        # The levels of the tower, which the array names.
+        for field in (bf.BinaryField16, bf.BinaryField32, bf.BinaryField64, bf.BinaryField128):
+            a, shift = field.random(1 << 5, seed=3), field.random(seed=4)
+            values = bf.transform(a, shift)
+            self.assertIs(type(values), field)
+            self.assertEqual(values.tolist(), definitions.transform(a.tolist(), int(shift), definitions.FIELDS[field._name]))
+            self.assertTrue((bf.inverse_transform(values, shift) == a).all())
+            points = bf.transform_points(1 << 5, shift)
+            self.assertEqual(points.tolist(), [int(shift) ^ definitions.linear_map(definitions.cantor.vectors(), p) for p in range(1 << 5)])
+        self.assertRaises(ValueError, bf.transform, bf.BinaryField16.random(1 << 17, seed=1))
         # A long one, at three places.
         a = bf.Ghash128.random(1 << 10, seed=9)
         values = bf.transform(a)

@@ -118,7 +118,7 @@ def linear_map(images, value):
     return polynomials.image(images, value)
 
 
-# ---- additive transforms over g128
+# ---- additive transforms over g128 and levels of the tower
 
 
 @functools.cache
@@ -127,31 +127,32 @@ def cantor_vectors():
     return [linear_map(columns(128, False), it) for it in cantor.vectors()]
 
 
-def subspace_values(x, count):
+def subspace_values(x, count, field):
     """s_0(x) to s_(count - 1)(x)."""
     values = [x]
     while len(values) < count:
-        values.append(GHASH.square(values[-1]) ^ values[-1])
+        values.append(field.square(values[-1]) ^ values[-1])
     return values
 
 
-def sum_of_factors(coefficients, factors):
+def sum_of_factors(coefficients, factors, field):
     """The sum of each coefficient k times the product of the factors at the set bits of k."""
     products = [1]
     for it in factors:
-        products += [GHASH.multiply(product, it) for product in products]
-    return total(GHASH.multiply(coefficient, product) for coefficient, product in zip(coefficients, products))
+        products += [field.multiply(product, it) for product in products]
+    return total(field.multiply(coefficient, product) for coefficient, product in zip(coefficients, products))
 
 
-def transform_value(coefficients, shift, place):
+def transform_value(coefficients, shift, place, field=GHASH):
     """The value at one point of the polynomial with 2^m coefficients."""
     m = len(coefficients).bit_length() - 1
-    point = shift ^ linear_map(cantor_vectors(), place)
-    return sum_of_factors(coefficients, subspace_values(point, m) if m else [])
+    vectors = cantor_vectors() if field is GHASH else cantor.vectors()
+    point = shift ^ linear_map(vectors, place)
+    return sum_of_factors(coefficients, subspace_values(point, m, field) if m else [], field)
 
 
-def transform(coefficients, shift):
-    return [transform_value(coefficients, shift, place) for place in range(len(coefficients))]
+def transform(coefficients, shift, field=GHASH):
+    return [transform_value(coefficients, shift, place, field) for place in range(len(coefficients))]
 
 
 def low_stages(values, shifts, basis, first_run):
@@ -161,7 +162,7 @@ def low_stages(values, shifts, basis, first_run):
         for i in range(16):
             place = 16 * first_run + start + i
             factors = [shifts[j] ^ linear_map(basis, place >> (j + 1)) ^ (place >> j & 1) for j in range(4)]
-            result.append(sum_of_factors(values[start : start + 16], factors))
+            result.append(sum_of_factors(values[start : start + 16], factors, GHASH))
     return result
 
 

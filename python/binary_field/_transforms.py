@@ -1,4 +1,4 @@
-"""Linear maps, and the additive transform over Ghash128.
+"""Linear maps, and the additive transform over Ghash128 and over the levels of the tower of 16 to 128 bits.
 
 The transform's polynomials are s_0(x) = x and s_(j+1)(x) = s_j(x)**2 + s_j(x), which has the degree 2**(j + 1). The products of the
 s_j over the set bits j of k, for k from 0 on, are the basis that its coefficients are those of: `from_powers` makes them of the
@@ -10,56 +10,66 @@ from typing import Any
 import numpy as np
 
 from ._arrays import A, FieldArray
-from ._fields import Ghash128
+from ._fields import BinaryField16, BinaryField32, BinaryField64, BinaryField128, Ghash128
 from ._library import call, packed
 
+# The levels of the tower over which there is a transform.
+_LEVELS = (BinaryField16, BinaryField32, BinaryField64, BinaryField128)
 
-def _vector(values: Any) -> Ghash128:
+
+def _vector(values: Any, field: type[A]) -> A:
     """A copy of an array of one dimension."""
-    result = Ghash128._operand(values).copy()
+    result = field._operand(values).copy()
     if result.ndim != 1:
         raise ValueError("expected an array of one dimension")
     return result
 
 
-def transform(coefficients: Any, shift: Any = 0) -> Ghash128:
-    """The value at each of 2**m points of the polynomial with these 2**m coefficients, for an m from 0 to 40. Coefficient k is that of the
-    product of the s_j over the set bits j of k, where s_0(x) = x and s_(j+1)(x) = s_j(x)**2 + s_j(x); `from_powers` makes such
-    coefficients of those of the powers of x. `transform_points` has the points.
+def _transformed(function: str, values: Any, shift: Any) -> Any:
+    """What a transform makes of an array, over its field where that is a level, and else over Ghash128."""
+    field: Any = type(values) if isinstance(values, _LEVELS) else Ghash128
+    result = _vector(values, field)
+    call(f"{field._name}_{function}", result._words, field._operand(shift)._scalar())
+    return result
+
+
+def transform(coefficients: Any, shift: Any = 0) -> Any:
+    """The value at each of 2**m points of the polynomial with these 2**m coefficients, for an m from 0 to 40 that is at most the bits of
+    the field: that of an array of BinaryField16 to BinaryField128, and else Ghash128. Coefficient k is that of the product of the s_j
+    over the set bits j of k, where s_0(x) = x and s_(j+1)(x) = s_j(x)**2 + s_j(x); `from_powers` makes such coefficients of those of the
+    powers of x. `transform_points` has the points.
 
     >>> F = bf.Ghash128
     >>> c = F([1, 2, 3, 4])
     >>> bool((bf.transform(bf.from_powers(c)) == F.evaluate(c, bf.transform_points(4))).all())
     True
     """
-    values = _vector(coefficients)
-    call("g128_transform", values._words, Ghash128._operand(shift)._words)
-    return values
+    return _transformed("transform", coefficients, shift)
 
 
-def inverse_transform(values: Any, shift: Any = 0) -> Ghash128:
+def inverse_transform(values: Any, shift: Any = 0) -> Any:
     """The coefficients, as `transform` takes them, of the polynomial that has these values at the 2**m points. `to_powers` makes the
     coefficients of the powers of x of them.
 
     >>> bf.inverse_transform(bf.transform([1, 2, 3, 4]))
     Ghash128([0x1, 0x2, 0x3, 0x4])
     """
-    coefficients = _vector(values)
-    call("g128_inverse_transform", coefficients._words, Ghash128._operand(shift)._words)
-    return coefficients
+    return _transformed("inverse_transform", values, shift)
 
 
-def transform_points(count: int, shift: Any = 0) -> Ghash128:
-    """The points of a transform of `count` values, a power of two: the values of the polynomial s_0.
+def transform_points(count: int, shift: Any = 0) -> Any:
+    """The points of a transform of `count` values, a power of two: the values of the polynomial s_0. They are of the field of
+    the shift where that is a level.
 
     >>> bf.transform_points(2, shift=4)
     Ghash128([0x4, 0x5])
     """
     if not isinstance(count, (int, np.integer)) or count < 1 or count & count - 1:
         raise ValueError("the number of points must be a power of two")
+    field: Any = type(shift) if isinstance(shift, _LEVELS) else Ghash128
     if count == 1:
-        return Ghash128._operand(shift).reshape(1)
-    coefficients = Ghash128.zeros(count)
+        return field._operand(shift).reshape(1)
+    coefficients = field.zeros(count)
     coefficients[1] = 1
     return transform(coefficients, shift)
 
@@ -140,7 +150,7 @@ def low_stages(values: Any, shifts: Any, basis: Any, first_run: int = 0) -> Ghas
     >>> bf.low_stages([0] * 8 + [1] + [0] * 7, [2, 3, 4, 5], [6, 7, 8])[[0, 8]]
     Ghash128([0x5, 0x4])
     """
-    result = _vector(values)
+    result = _vector(values, Ghash128)
     if not 0 <= first_run < 1 << 64:
         raise ValueError("first_run must be from 0 to 2**64 - 1")
     call("g128_low_stages", result._words, Ghash128._operand(shifts)._words, Ghash128._operand(basis)._words, first_run)

@@ -1847,6 +1847,62 @@ unsafe extern "C" {
         values_length: usize,
         shift: *const [u64; 2],
     ) -> u32;
+    /// The same as g128_transform, over t16; it is fastest where the shift is 0 or below 65536. BF_LENGTH unless
+    /// values has 2^m elements, for an m from 0 to 16.
+    pub fn bf_t16_transform(
+        values: *mut u16,
+        values_length: usize,
+        shift: u16,
+    ) -> u32;
+    /// The coefficients that t16_transform takes to these values. BF_LENGTH unless values has 2^m elements, for an m
+    /// from 0 to 16.
+    pub fn bf_t16_inverse_transform(
+        values: *mut u16,
+        values_length: usize,
+        shift: u16,
+    ) -> u32;
+    /// The same as g128_transform, over t32; it is fastest where the shift is 0 or below 65536. BF_LENGTH unless
+    /// values has 2^m elements, for an m from 0 to 32.
+    pub fn bf_t32_transform(
+        values: *mut u32,
+        values_length: usize,
+        shift: u32,
+    ) -> u32;
+    /// The coefficients that t32_transform takes to these values. BF_LENGTH unless values has 2^m elements, for an m
+    /// from 0 to 32.
+    pub fn bf_t32_inverse_transform(
+        values: *mut u32,
+        values_length: usize,
+        shift: u32,
+    ) -> u32;
+    /// The same as g128_transform, over t64; it is fastest where the shift is 0 or below 65536. BF_LENGTH unless
+    /// values has 2^m elements, for an m from 0 to 40.
+    pub fn bf_t64_transform(
+        values: *mut u64,
+        values_length: usize,
+        shift: u64,
+    ) -> u32;
+    /// The coefficients that t64_transform takes to these values. BF_LENGTH unless values has 2^m elements, for an m
+    /// from 0 to 40.
+    pub fn bf_t64_inverse_transform(
+        values: *mut u64,
+        values_length: usize,
+        shift: u64,
+    ) -> u32;
+    /// The same as g128_transform, over t128; it is fastest where the shift is 0 or below 65536. BF_LENGTH unless
+    /// values has 2^m elements, for an m from 0 to 40.
+    pub fn bf_t128_transform(
+        values: *mut [u64; 2],
+        values_length: usize,
+        shift: *const [u64; 2],
+    ) -> u32;
+    /// The coefficients that t128_transform takes to these values. BF_LENGTH unless values has 2^m elements, for an m
+    /// from 0 to 40.
+    pub fn bf_t128_inverse_transform(
+        values: *mut [u64; 2],
+        values_length: usize,
+        shift: *const [u64; 2],
+    ) -> u32;
     /// hash: GHASH of the message (NIST SP 800-38D), zeros added to whole blocks; key and hash have 16 bytes.
     /// BF_LENGTH unless key and hash have 16 bytes.
     pub fn bf_tag_ghash(

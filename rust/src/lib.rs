@@ -54,8 +54,8 @@ pub use fields::{
     BinaryField128, Gf2, Ghash128, Poly64, Poly192, Rijndael8b,
 };
 pub use maps::{
-    butterfly_forward, butterfly_inverse, inverse_transform, linear_map, linear_map_of_bytes,
-    low_stages, transform,
+    Transformed, butterfly_forward, butterfly_inverse, inverse_transform, linear_map,
+    linear_map_of_bytes, low_stages, transform,
 };
 pub use packed::{Packed, PackedGhash128, PackedRijndael8b, PackedValue};
 pub use ring::{Powers, PrimeCharacteristicRing};

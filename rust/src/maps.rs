@@ -1,7 +1,10 @@
-//! Linear maps, and the additive transform over `Ghash128`.
+//! Linear maps, and the additive transform over `Ghash128` and over the levels of the tower of 16 to 128 bits.
 
 use crate::functions::*;
-use crate::{Error, Ghash128};
+use crate::words::Word;
+use crate::{
+    BinaryField16, BinaryField32, BinaryField64, BinaryField128, Error, Ghash128, TowerLevel,
+};
 
 /// Writes for each value the sum of the images at its set bits, of 128 images.
 pub fn linear_map(
@@ -59,23 +62,47 @@ pub fn low_stages(
     })
 }
 
-// A transform at a shift.
-type Transform = unsafe extern "C" fn(*mut [u64; 2], usize, *const [u64; 2]) -> u32;
+/// A field over which there is the additive transform: `Ghash128`, and the levels of the tower of 16 to 128 bits.
+pub trait Transformed: TowerLevel {
+    #[doc(hidden)]
+    fn forward(values: &mut [Self], shift: Self) -> Result<(), Error>;
 
-fn transformed(function: Transform, values: &mut [Ghash128], shift: Ghash128) -> Result<(), Error> {
-    let shift = (&raw const shift).cast();
-    // SAFETY: as above.
-    Error::of(unsafe { function(values.as_mut_ptr().cast(), values.len(), shift) })
+    #[doc(hidden)]
+    fn inverse_of(values: &mut [Self], shift: Self) -> Result<(), Error>;
 }
 
-/// Leaves the value at each of 2^m points of the polynomial with these coefficients, for an m from 0 to 40: coefficient k is that
-/// of the product of the s_j over the set bits j of k, where s_0(x) = x and s_(j + 1)(x) = s_j(x)^2 + s_j(x). Point p is the shift,
-/// and Cantor vector b for each set bit b of p.
-pub fn transform(values: &mut [Ghash128], shift: Ghash128) -> Result<(), Error> {
-    transformed(bf_g128_transform, values, shift)
+macro_rules! transforms {
+    ($($field:ident: $forward:ident, $inverse:ident;)*) => {$(
+        impl Transformed for $field {
+            fn forward(values: &mut [Self], shift: Self) -> Result<(), Error> {
+                // SAFETY: as above.
+                Error::of(unsafe { $forward(values.as_mut_ptr().cast(), values.len(), shift.to_repr().scalar()) })
+            }
+
+            fn inverse_of(values: &mut [Self], shift: Self) -> Result<(), Error> {
+                // SAFETY: as above.
+                Error::of(unsafe { $inverse(values.as_mut_ptr().cast(), values.len(), shift.to_repr().scalar()) })
+            }
+        }
+    )*};
+}
+
+transforms! {
+    Ghash128: bf_g128_transform, bf_g128_inverse_transform;
+    BinaryField16: bf_t16_transform, bf_t16_inverse_transform;
+    BinaryField32: bf_t32_transform, bf_t32_inverse_transform;
+    BinaryField64: bf_t64_transform, bf_t64_inverse_transform;
+    BinaryField128: bf_t128_transform, bf_t128_inverse_transform;
+}
+
+/// Leaves the value at each of 2^m points of the polynomial with these coefficients, for an m from 0 to 40 that is at most the bits of
+/// the field: coefficient k is that of the product of the s_j over the set bits j of k, where s_0(x) = x and
+/// s_(j + 1)(x) = s_j(x)^2 + s_j(x). Point p is the shift, and Cantor vector b for each set bit b of p.
+pub fn transform<F: Transformed>(values: &mut [F], shift: F) -> Result<(), Error> {
+    F::forward(values, shift)
 }
 
 /// Leaves the coefficients that `transform` takes to the values.
-pub fn inverse_transform(values: &mut [Ghash128], shift: Ghash128) -> Result<(), Error> {
-    transformed(bf_g128_inverse_transform, values, shift)
+pub fn inverse_transform<F: Transformed>(values: &mut [F], shift: F) -> Result<(), Error> {
+    F::inverse_of(values, shift)
 }

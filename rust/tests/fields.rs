@@ -307,6 +307,38 @@ fn changes_of_basis_keep_products() {
     }
 }
 
+// A transform over a level of the tower, and back.
+fn is_transformed<F: Transformed + std::fmt::Debug>(coefficients: [F; 16], shift: F) {
+    let mut values = coefficients;
+    transform(&mut values, shift).unwrap();
+    assert_ne!(values, coefficients);
+    inverse_transform(&mut values, shift).unwrap();
+    assert_eq!(values, coefficients);
+    assert_eq!(transform(&mut values[..3], shift), Err(Error::Length));
+}
+
+#[test]
+fn transforms_over_levels() {
+    let mut draw = Draw(51);
+    is_transformed(
+        [0; 16].map(|_| BinaryField16::new(draw.next() as u16)),
+        BinaryField16::new(draw.next() as u16),
+    );
+    is_transformed(
+        [0; 16].map(|_| BinaryField32::new(draw.next() as u32)),
+        BinaryField32::new(draw.next() as u32),
+    );
+    is_transformed(
+        [0; 16].map(|_| BinaryField64::new(draw.next())),
+        BinaryField64::new(draw.next()),
+    );
+    is_transformed(
+        [0; 16]
+            .map(|_| BinaryField128::new(u128::from(draw.next()) << 64 | u128::from(draw.next()))),
+        BinaryField128::new(u128::from(draw.next())),
+    );
+}
+
 #[test]
 fn transforms_and_linear_maps() {
     let mut draw = Draw(50);

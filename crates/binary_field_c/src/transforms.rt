@@ -1,9 +1,10 @@
-// Calls that transform values in the field of GHASH.
+// Calls that transform values in the field of GHASH, and in levels of the tower.
 // Written by scripts/make_c_exports.py; do not edit.
-ghost use Rattle.c_arithmetic.specs.Transforms.{ButterfliesForward, ButterfliesInverse, InvertsTransform, RunsLowStages, Transforms};
-ghost use Rattle.c_arithmetic.specs.Fields.{wide_number};
+ghost use Rattle.c_arithmetic.specs.Transforms.{ButterfliesForward, ButterfliesInverse, InvertsLevelTransform, InvertsTransform};
+ghost use Rattle.c_arithmetic.specs.Transforms.{RunsLowStages, Transforms, TransformsLevel};
+ghost use Rattle.c_arithmetic.specs.Fields.{itself, wide_number};
 
-use c_arithmetic::Wide;
+use c_arithmetic::{Bits16, Bits32, Bits64, Bits128, Wide};
 use std::simd::prelude::*;
 
 /// low += scalar * high, and then high += low, at each place.
@@ -58,4 +59,68 @@ pub extern "C" fn bf_g128_inverse_transform(values: &mut [Wide], shift: &Wide) -
     ensures { InvertsTransform (wide_number shift.now) values.old values.new result }
 {
     c_arithmetic::inverse_transform::<u64x2>(values, *shift)
+}
+
+/// The same as g128_transform, over t16; it is fastest where the shift is 0 or below 65536.
+#[unsafe(no_mangle)]
+pub extern "C" fn bf_t16_transform(values: &mut [u16], shift: u16) -> u32
+    ensures { TransformsLevel itself 4 shift values.old values.new result }
+{
+    c_arithmetic::transform_level::<u16, u16, Bits16>(values, shift)
+}
+
+/// The coefficients that t16_transform takes to these values.
+#[unsafe(no_mangle)]
+pub extern "C" fn bf_t16_inverse_transform(values: &mut [u16], shift: u16) -> u32
+    ensures { InvertsLevelTransform itself 4 shift values.old values.new result }
+{
+    c_arithmetic::inverse_transform_level::<u16, u16, Bits16>(values, shift)
+}
+
+/// The same as g128_transform, over t32; it is fastest where the shift is 0 or below 65536.
+#[unsafe(no_mangle)]
+pub extern "C" fn bf_t32_transform(values: &mut [u32], shift: u32) -> u32
+    ensures { TransformsLevel itself 5 shift values.old values.new result }
+{
+    c_arithmetic::transform_level::<u32, u32, Bits32>(values, shift)
+}
+
+/// The coefficients that t32_transform takes to these values.
+#[unsafe(no_mangle)]
+pub extern "C" fn bf_t32_inverse_transform(values: &mut [u32], shift: u32) -> u32
+    ensures { InvertsLevelTransform itself 5 shift values.old values.new result }
+{
+    c_arithmetic::inverse_transform_level::<u32, u32, Bits32>(values, shift)
+}
+
+/// The same as g128_transform, over t64; it is fastest where the shift is 0 or below 65536.
+#[unsafe(no_mangle)]
+pub extern "C" fn bf_t64_transform(values: &mut [u64], shift: u64) -> u32
+    ensures { TransformsLevel itself 6 shift values.old values.new result }
+{
+    c_arithmetic::transform_level::<u64, u64, Bits64>(values, shift)
+}
+
+/// The coefficients that t64_transform takes to these values.
+#[unsafe(no_mangle)]
+pub extern "C" fn bf_t64_inverse_transform(values: &mut [u64], shift: u64) -> u32
+    ensures { InvertsLevelTransform itself 6 shift values.old values.new result }
+{
+    c_arithmetic::inverse_transform_level::<u64, u64, Bits64>(values, shift)
+}
+
+/// The same as g128_transform, over t128; it is fastest where the shift is 0 or below 65536.
+#[unsafe(no_mangle)]
+pub extern "C" fn bf_t128_transform(values: &mut [Wide], shift: &Wide) -> u32
+    ensures { TransformsLevel wide_number 7 (wide_number shift.now) values.old values.new result }
+{
+    c_arithmetic::transform_level::<u128, Wide, Bits128>(values, *shift)
+}
+
+/// The coefficients that t128_transform takes to these values.
+#[unsafe(no_mangle)]
+pub extern "C" fn bf_t128_inverse_transform(values: &mut [Wide], shift: &Wide) -> u32
+    ensures { InvertsLevelTransform wide_number 7 (wide_number shift.now) values.old values.new result }
+{
+    c_arithmetic::inverse_transform_level::<u128, Wide, Bits128>(values, *shift)
 }

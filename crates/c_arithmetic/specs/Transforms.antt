@@ -1,8 +1,12 @@
--- Calls that transform values in the field of GHASH, words of 128 bits.
+-- Calls that transform values in the field of GHASH, words of 128 bits, and in a level of the tower.
 use Rattle.std.specs.Prelude.{◌≡◌, ℕ, ◌+◌, ◌-◌, ◌/◌, ◌%◌, ◌^◌, ◌<◌, ◌≤◌, List, length, map}
 use Rattle.ghash_slices.specs.LowStages.{HoldSums}
 use Rattle.ghash_slices.specs.Slices.{IsForward, IsInverse}
-use Rattle.additive_transforms.specs.Transform.{AreOnlyCoefficients, HasStages, HoldPolynomialValues}
+use Rattle.additive_transforms.specs.Elements.{FitsField}
+use Rattle.additive_transforms.specs.Transform.{AreOnlyCoefficients, AreTheCoefficients, HasStages, HoldPolynomialValues, HoldValuesAtPoints}
+use Rattle.field_base.specs.Tower.{tower_mul}
+use Rattle.tower_transforms.specs.Words.{level_element}
+use Rattle.word_tables.specs.Cantor.{cantor_vector}
 use Rattle.c_arithmetic.specs.Calls.{CallOf}
 use Rattle.c_arithmetic.specs.Fields.{wide_number}
 use Rattle.c_arithmetic.specs.declared.wide.Wide.{Wide}
@@ -46,3 +50,15 @@ Transforms z old new status =
 abbrev pub InvertsTransform : ℕ → List Wide → List Wide → ℕ → Type 0
 InvertsTransform z old new status =
     CallOf ((m : ℕ) × HasStages m (length old)) (Unit {0}) (AreOnlyCoefficients z (wide_numbers old) (wide_numbers new)) old new status
+
+-- a transform in level k of 2^m words of such numbers, m at most 40 and at most the bits of the level
+abbrev pub TransformsLevel : {W : Type 0} → (W → ℕ) → ℕ → ℕ → List W → List W → ℕ → Type 0
+TransformsLevel number k z old new status =
+    CallOf (FitsField (2 ^ k) (length old)) (Unit {0})
+    (HoldValuesAtPoints (2 ^ k) (tower_mul k) cantor_vector z (map (level_element number k) old) (map (level_element number k) new)) old new status
+
+-- the inverse transform
+abbrev pub InvertsLevelTransform : {W : Type 0} → (W → ℕ) → ℕ → ℕ → List W → List W → ℕ → Type 0
+InvertsLevelTransform number k z old new status =
+    CallOf (FitsField (2 ^ k) (length old)) (Unit {0})
+    (AreTheCoefficients (2 ^ k) (tower_mul k) cantor_vector z (map (level_element number k) old) (map (level_element number k) new)) old new status

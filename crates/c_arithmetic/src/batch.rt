@@ -6,9 +6,9 @@ ghost use Rattle.c_arithmetic.specs.Calls.{AreElements, Inverts, HoldInverses};
 ghost use Rattle.c_arithmetic.specs.Fields.{field_of};
 
 use crate::slices::are_elements;
-use crate::words::Holds;
 use crate::{fields, status};
 use field_base::{FieldKernel, Stored};
+use tower_transforms::Holds;
 
 /// Writes the inverse of the word at each place, and 0 for 0. It takes one inverse, and three products a word; it takes no memory.
 #[inline]

@@ -5,9 +5,9 @@ ghost use Rattle.c_arithmetic.specs.Calls.{Adds, Inverts, Multiplies, Multiplies
 ghost use Rattle.c_arithmetic.specs.Fields.{field_of};
 
 use crate::slices::{are_elements, power_of};
-use crate::words::Holds;
 use crate::{fields, status};
 use field_base::{FieldKernel, Stored};
+use tower_transforms::Holds;
 
 /// Adds to each sum the word at its place.
 #[inline]

@@ -30,10 +30,12 @@ pub use crate::products::{dot_product, multiply, multiply_in_place};
 pub use crate::scalars::{add_scaled, multiply_by};
 pub use crate::shards::{encode, reconstruct, reconstruct_data, verify};
 pub use crate::transforms::{
-    butterfly_forward, butterfly_inverse, inverse_transform, low_stages, transform,
+    butterfly_forward, butterfly_inverse, inverse_transform, inverse_transform_level, low_stages,
+    transform, transform_level,
 };
 pub use crate::wide::Wide;
-pub use crate::words::{Cubic, Holds};
+pub use crate::words::Cubic;
+pub use tower_transforms::Holds;
 pub use word_cubic::Triple;
 pub use word_polynomial::{CubicKernel, GhashKernel, Poly64Kernel, RijndaelKernel};
 pub use word_tower::{Bits1, Bits2, Bits4, Bits8, Bits16, Bits32, Bits64, Bits128, Tower};

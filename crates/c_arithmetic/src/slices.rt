@@ -7,9 +7,9 @@ ghost use Rattle.c_arithmetic.specs.Calls.{RaisesTo, Squares, TakesDotProduct, T
 ghost use Rattle.c_arithmetic.specs.Fields.{field_of};
 
 use crate::kernels::Basis;
-use crate::words::Holds;
 use crate::{fields, status};
 use field_base::{FieldKernel, Stored};
+use tower_transforms::Holds;
 
 /// Writes the sum of the words at each place.
 #[inline]

@@ -1,13 +1,18 @@
-// Butterflies, low stages and whole transforms of words of 128 bits, in vectors of a width.
+// Butterflies, low stages and whole transforms of words of 128 bits, in vectors of a width, and whole transforms over a level of the tower.
 ghost use Rattle.std.specs.Prelude.{◌≡◌, ◌↔◌, ◌+◌, ◌-◌, ◌^◌, ◌≤◌, ℕ, IsTrue};
+ghost use Rattle.additive_transforms.specs.Elements.{FitsField};
 ghost use Rattle.additive_transforms.specs.Transform.{HasStages};
 ghost use Rattle.c_arithmetic.specs.Fields.{wide_number};
-ghost use Rattle.c_arithmetic.specs.Transforms.{ButterfliesForward, ButterfliesInverse, InvertsTransform, RunsLowStages, Transforms};
+ghost use Rattle.c_arithmetic.specs.Transforms.{ButterfliesForward, ButterfliesInverse, InvertsLevelTransform, InvertsTransform};
+ghost use Rattle.c_arithmetic.specs.Transforms.{RunsLowStages, Transforms, TransformsLevel};
 
 use crate::numbers::{four_numbers, numbers_of};
 use crate::{Wide, status};
-use additive_transforms::{forward_words, inverse_words};
+use additive_transforms::{forward_words, inverse_words, stages_of};
+use field_base::{FieldKernel, Unsigned};
 use ghash_slices::{WideWord, Width, add_each, add_multiples, run_low_stages};
+use tower_transforms::{Holds, forward_level, inverse_level};
+use word_tower::{Level, Tower};
 
 /// At each place `low += scalar * high`, and then `high += low`.
 pub fn butterfly_forward<V: Width>(low: &mut [Wide], high: &mut [Wide], scalar: Wide) -> u32
@@ -84,6 +89,41 @@ fn transform_whole<V: Width>(values: &mut [Wide], shift: Wide, is_inverse: bool)
         forward_words::<V, Wide>(values, shift.number());
     }
     status::OK
+}
+
+/// Replaces the coefficients by the values at the points from `shift` on, in the level `L` of the tower.
+pub fn transform_level<R: Unsigned, W: Holds<R>, L: Level<R>>(values: &mut [W], shift: W) -> u32
+    ensures { TransformsLevel W.number L.LEVEL (W.number shift) values.old values.new result }
+{
+    if !fits_level::<R, L>(values.len()) {
+        return status::LENGTH;
+    }
+    forward_level::<R, L, W>(values, shift.stored());
+    status::OK
+}
+
+/// Replaces the values at those points by the coefficients.
+pub fn inverse_transform_level<R: Unsigned, W: Holds<R>, L: Level<R>>(
+    values: &mut [W],
+    shift: W,
+) -> u32
+    ensures { InvertsLevelTransform W.number L.LEVEL (W.number shift) values.old values.new result }
+{
+    if !fits_level::<R, L>(values.len()) {
+        return status::LENGTH;
+    }
+    inverse_level::<R, L, W>(values, shift.stored());
+    status::OK
+}
+
+// Whether so many values are 2^m, where m is at most 40 and at most the bits of the level.
+fn fits_level<R: Unsigned, L: Level<R>>(count: usize) -> bool
+    ensures { IsTrue result ↔ FitsField (2 ^ L.LEVEL) count }
+{
+    if !has_stages(count) {
+        return false;
+    }
+    stages_of(count) <= <Tower<L> as FieldKernel<R>>::bits()
 }
 
 // Whether so many values are 2^m, m from 0 to 40.
