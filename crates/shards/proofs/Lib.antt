@@ -1,1 +1,4 @@
+mod Groups
+mod Heads
 mod Splits
+mod Writes

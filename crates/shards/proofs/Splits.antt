@@ -1,11 +1,12 @@
 -- What is split begins with its bytes, and what is joined too.
-use Rattle.std.proofs.Common.{◌≡◌, ◌≢◌, ℕ, zero, suc, ◌+◌, ◌*◌, ◌/◌, ◌%◌, ◌<◌, ◌≤◌, Bool, List, length, get_or, take, sym, ◌∙◌, ap, ap₂, subst, arith}
-use Rattle.std.proofs.Math.Nat.{div-add-mod, mul-le-mul_right, mul-div_cancel_left}
+use Rattle.std.proofs.Common.{◌≡◌, ◌≢◌, ◌↔◌, ℕ, zero, suc, ◌+◌, ◌*◌, ◌/◌, ◌%◌, ◌<◌, ◌≤◌, Bool, List, length, get_or, take, sym, ◌∙◌, ap, ap₂, subst, arith}
+use Rattle.std.proofs.Math.Nat.{div-add-mod, mul-div_cancel_left, mul-le-mul_right, mul-mod_right}
 use Rattle.std.proofs.lemmas.List.{ext_get_or, get_or-take, length-take-le}
 use Rattle.std.proofs.lemmas.Nat.{div-add-mod', div_below}
 use native.Mathlib.Nat.{mod-lt}
 use Rattle.reed_solomon.specs.RoundTrip.{AgreeWherePresent, LostShardsReturn}
 use Rattle.reed_solomon.specs.Shards.{AreCodewords, IsEncoded, IsReconstructed, present_count}
+use Rattle.reed_solomon.specs.Sizes.{HasShardSize}
 use Rattle.shards.specs.Splits.{IsSplit}
 
 -- the shards of data hold the bytes, and encoding keeps them
@@ -101,3 +102,46 @@ joined_by k m own_data own_parity own_data_is own_parity_is present old new law 
     joined own_data (own_data + own_parity) present old new law (omega (arith, some)) few flags enough long done content whole
     (subst (λ (n : ℕ). IsSplit own_data n content whole) (sym total_is) (subst (λ (n : ℕ). IsSplit n (k + m) content whole) (sym own_data_is) split)) same
     (subst (λ (n : ℕ). AgreeWherePresent n (length old / n) present old whole) (sym total_is) agree)
+
+-- so many shards of a size that is not 0 have one size, which is this
+sized_by : (total size bytes : ℕ) → bytes ≡ total * size → 0 < total → 0 < size → HasShardSize total bytes
+sized_by total size bytes is some wide = (
+  λ none. absurd (omega (arith, is, none, mul-le-mul_right size (at_least_one total some), wide)),
+  ap (λ (n : ℕ). n % total) is ∙ mul-mod_right total size,
+)
+  where
+    at_least_one : (n : ℕ) → 0 < n → 1 ≤ n
+    at_least_one n h = omega (arith, h)
+
+-- code words by a code whose counts are those that were asked for, in shards whose size is known
+pub code_words_by : (k m own_data own_parity size : ℕ) (shards own : List ℕ) → own_data ≡ k → own_parity ≡ m → own ≡ shards → 0 < k
+    → length shards ≡ (k + m) * size
+    → (HasShardSize (own_data + own_parity) (length own) × AreCodewords own_data (own_data + own_parity) (length own / (own_data + own_parity)) own)
+    ↔ ((0 < size) × AreCodewords k (k + m) size shards)
+code_words_by k m own_data own_parity size shards own data_is parity_is own_is some long =
+    subst (λ (l : List ℕ). (HasShardSize (own_data + own_parity) (length l) × AreCodewords own_data (own_data + own_parity) (length l / (own_data + own_parity)) l)
+    ↔ ((0 < size) × AreCodewords k (k + m) size shards)) (sym own_is)
+    (subst (λ (j : ℕ). (HasShardSize (j + own_parity) (length shards) × AreCodewords j (j + own_parity) (length shards / (j + own_parity)) shards)
+    ↔ ((0 < size) × AreCodewords k (k + m) size shards)) (sym data_is)
+    (subst (λ (j : ℕ). (HasShardSize (k + j) (length shards) × AreCodewords k (k + j) (length shards / (k + j)) shards)
+    ↔ ((0 < size) × AreCodewords k (k + m) size shards)) (sym parity_is) (there, back)))
+  where
+    some_all : 0 < k + m
+    some_all = omega (arith, some)
+
+    size_is : length shards / (k + m) ≡ size
+    size_is = ap (λ (n : ℕ). n / (k + m)) long ∙ mul-div_cancel_left size some_all
+
+    there : HasShardSize (k + m) (length shards) × AreCodewords k (k + m) (length shards / (k + m)) shards
+        → (0 < size) × AreCodewords k (k + m) size shards
+    there both = (
+      positive_size (k + m) size (length shards) long both.0.0,
+      subst (λ (n : ℕ). AreCodewords k (k + m) n shards) size_is both.1,
+    )
+
+    back : (0 < size) × AreCodewords k (k + m) size shards
+        → HasShardSize (k + m) (length shards) × AreCodewords k (k + m) (length shards / (k + m)) shards
+    back both = (
+      sized_by (k + m) size (length shards) long some_all both.0,
+      subst (λ (n : ℕ). AreCodewords k (k + m) n shards) (sym size_is) both.1,
+    )

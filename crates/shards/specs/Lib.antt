@@ -1,3 +1,4 @@
+pub mod Files
 pub mod Groups
 pub mod Heads
 pub mod Splits

@@ -28,11 +28,6 @@ impl<'a, R: Files + AllocGlobal> NewFiles<'a, R> {
         }
     }
 
-    /// From now on each file is to have this mode.
-    pub(crate) fn set_mode(&mut self, mode: u32) {
-        self.mode = mode & 0o777;
-    }
-
     /// Fails where a file is at that place, and is not to be overwritten.
     pub(crate) fn require_free(&self, target: &str) -> Result<()> {
         if !self.is_forced && fs::symlink_metadata(self.rt, target).is_ok() {
@@ -69,11 +64,7 @@ impl<'a, R: Files + AllocGlobal> NewFiles<'a, R> {
     /// Puts all files at their places.
     pub(crate) fn place(&mut self) -> Result<()> {
         for i in 0..self.targets.len() {
-            let target = self.targets[i].as_str();
-            let part = part_of(self.rt, target)?;
-            fs::rename(self.rt, part.as_str(), target).context(format_args!(
-                "cannot write {target}"
-            ))?;
+            place_one(self.rt, self.targets[i].as_str())?;
             self.placed = i + 1;
         }
         if let Some(target) = self.targets.first() {
@@ -107,6 +98,12 @@ impl<'a, R: Files + AllocGlobal> NewFiles<'a, R> {
         }
         ended
     }
+}
+
+// Puts a file at its place.
+fn place_one<R: Files + AllocGlobal>(rt: &R, target: &str) -> Result<()> {
+    let part = part_of(rt, target)?;
+    fs::rename(rt, part.as_str(), target).context(format_args!("cannot write {target}"))
 }
 
 // The name under which a file is written at first.

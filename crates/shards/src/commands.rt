@@ -2,15 +2,15 @@
 use crate::beside::NewFiles;
 use crate::finding::{find_shards, mode_of};
 use crate::group::Group;
-use crate::head::Head;
+use crate::head::HEAD;
 use crate::progress::Progress;
 use crate::reading::write_content;
 use crate::words::Words;
-use crate::writing::{ShardFiles, put_shards, split_content, write_file};
-use anyhow::{Context, Result, bail};
-use std::fs;
+use crate::writing::{ShardFiles, put_shards, split_content};
+use anyhow::{Context, Result, anyhow, bail};
 use std::fs::Files;
 use std::path::Path;
+use std::{fs, io};
 
 /// The new files of the shards of a file.
 #[derive(Drop)]
@@ -20,21 +20,40 @@ struct NewShards<'a, R> {
     /// The names of the shards without their numbers.
     base: String,
     count: usize,
+    /// How many bytes each has.
+    size: usize,
     progress: Progress,
 }
 
+impl<R: Files + AllocGlobal> NewShards<'_, R> {
+    // The name of the next shard.
+    fn target(&self) -> Result<String> {
+        Ok(format!(in self.rt.alloc(); "{}.{}", self.base, self.count)?)
+    }
+}
+
+// What the system's files hold is not told.
 impl<R: Files + AllocGlobal + Eprint> ShardFiles for NewShards<'_, R> {
-    fn put(&mut self, head: &Head, shard: &[u8]) -> Result<()> {
-        let base = self.base.as_str();
-        let target = format!(in self.rt.alloc(); "{base}.{}", self.count)?;
-        let name = format!(in self.rt.alloc(); "{target}")?;
-        let mut file = self.files.begin(target)?;
-        write_file(&mut file, head, shard).context(format_args!("cannot write {name}.part"))?;
-        self.files.finish(&file, name.as_str())?;
+    type File = R::File;
+
+    ghost holds = { λ files held. ⊥ };
+
+    fn begin(&mut self) -> Result<R::File> {
+        let target = self.target()?;
+        self.files.begin(target)
+    }
+
+    fn finish(&mut self, file: R::File) -> Result<()> {
+        let target = self.target()?;
+        self.files.finish(&file, target.as_str())?;
         self.count = self.count.saturating_add(1);
         self.progress
-            .add(self.rt, base, "wrote", shard.len().saturating_add(88));
+            .add(self.rt, self.base.as_str(), "wrote", self.size);
         Ok(())
+    }
+
+    fn named(&self, error: io::Error) -> anyhow::Error {
+        anyhow!("cannot write {}.{}.part: {error}", self.base, self.count)
     }
 }
 
@@ -58,6 +77,7 @@ pub(crate) fn split_file<R: Files + AllocGlobal + Print + Eprint>(
         files: NewFiles::new(rt, mode, words.is_forced),
         base: base_of(rt, file, words.folder)?,
         count: 0,
+        size: shards.size.saturating_add(HEAD),
         progress: Progress::new(words.is_quiet),
     };
     for index in 0..shards.origin.total() {
@@ -80,16 +100,38 @@ pub(crate) fn join_file<R: Files + AllocGlobal + Print + Eprint>(
     words: &Words<'_>,
     file: &str,
 ) -> Result<()> {
-    let mut new = NewFiles::new(rt, 0o600, words.is_forced);
-    new.require_free(file)?;
-    let found = find_shards(rt, words, file)?;
-    let (mut group, mode) = found.gathered(rt)?;
+    require_free(rt, words, file)?;
+    let (mut group, mode) = group_of(rt, words, file)?;
+    join_group(rt, words, file, &mut group, mode)
+}
+
+// Fails where a file is at that place, and is not to be overwritten.
+fn require_free<R: Files + AllocGlobal>(rt: &R, words: &Words<'_>, file: &str) -> Result<()> {
+    NewFiles::new(rt, 0o600, words.is_forced).require_free(file)
+}
+
+// The shards that are at hand of the file that is to be restored, and the mode of the first.
+fn group_of<R: Files + AllocGlobal + Eprint>(
+    rt: &R,
+    words: &Words<'_>,
+    file: &str,
+) -> Result<(Group, u32)> {
+    find_shards(rt, words, file)?.gathered(rt)
+}
+
+fn join_group<R: Files + AllocGlobal + Print>(
+    rt: &R,
+    words: &Words<'_>,
+    file: &str,
+    group: &mut Group,
+    mode: u32,
+) -> Result<()> {
     let count = group.count();
     if count < group.origin.data_shards as usize {
-        bail!("{file}: {}", enough_of(rt, &group)?)
+        bail!("{file}: {}", enough_of(rt, group)?)
     }
-    new.set_mode(mode);
-    let work = write_joined(rt, &mut new, &mut group, file);
+    let mut new = NewFiles::new(rt, mode, words.is_forced);
+    let work = write_joined(rt, &mut new, group, file);
     new.end(work)?;
     let (total, length, size) = (group.origin.total(), group.origin.length, group.size);
     let _ = println!(rt; "{length} bytes from {count} of {total} shards of {size} bytes");
@@ -113,17 +155,26 @@ pub(crate) fn verify_file<R: Files + AllocGlobal + Print + Eprint>(
     words: &Words<'_>,
     file: &str,
 ) -> Result<()> {
-    let found = find_shards(rt, words, file)?;
-    let (group, _) = found.gathered(rt)?;
-    let total = group.origin.total();
-    for index in 0..total {
+    let (group, _) = group_of(rt, words, file)?;
+    tell_missing(rt, &group)?;
+    tell_verdict(rt, file, &group)
+}
+
+// Tells which shards are not at hand.
+fn tell_missing<R: Print>(rt: &R, group: &Group) -> Result<()> {
+    for index in 0..group.origin.total() {
         if index < 256 && !group.present[index] {
             println!(rt; "shard {index} is missing or damaged")?;
         }
     }
-    let count = group.count();
-    if count < total {
-        bail!("{file}: {}", enough_of(rt, &group)?)
+    Ok(())
+}
+
+// Tells that all shards are whole, or fails.
+fn tell_verdict<R: Print + AllocGlobal>(rt: &R, file: &str, group: &Group) -> Result<()> {
+    let total = group.origin.total();
+    if group.count() < total {
+        bail!("{file}: {}", enough_of(rt, group)?)
     }
     if !group.is_whole() {
         bail!("{file}: the parity is not that of the data, or the data are not those of the file")

@@ -18,7 +18,10 @@ struct OldFiles<'a, R> {
     progress: Progress,
 }
 
+// What the system's files hold is not told.
 impl<R: Files + AllocGlobal + Eprint> ShardSource for OldFiles<'_, R> {
+    ghost holds = { λ source files. ⊥ };
+
     fn count(&self) -> usize {
         self.paths.len()
     }
@@ -33,17 +36,19 @@ impl<R: Files + AllocGlobal + Eprint> ShardSource for OldFiles<'_, R> {
     }
 }
 
-/// The files of the shards of one file, and what their heads say.
+/// The files that were looked at, and the file that is to be restored from shards among them.
 #[derive(Drop)]
 pub(crate) struct Found<'a> {
     file: &'a str,
     is_quiet: bool,
     paths: Vec<String>,
+    /// The place of the first of its shards.
+    first: usize,
     seen: Seen,
 }
 
 impl Found<'_> {
-    /// The shards, and the mode of the first of their files.
+    /// Its shards, which are looked for in all of the files anew, and the mode of the first.
     pub(crate) fn gathered<R: Files + AllocGlobal + Eprint>(&self, rt: &R) -> Result<(Group, u32)> {
         let mut source = OldFiles {
             rt,
@@ -52,7 +57,7 @@ impl Found<'_> {
             progress: Progress::new(self.is_quiet),
         };
         let group = gather(rt.alloc(), &mut source, self.seen.origin, self.seen.size)?;
-        let mode = match self.paths.first() {
+        let mode = match self.paths.as_slice().get(self.first) {
             Some(path) => mode_of(rt, path.as_str())?,
             None => 0o600,
         };
@@ -76,11 +81,33 @@ pub(crate) fn find_shards<'a, R: Files + AllocGlobal + Eprint>(
     file: &'a str,
 ) -> Result<Found<'a>> {
     let paths = paths_of(rt, words, file)?;
+    let survey = survey_of(rt, words, file, paths.as_slice())?;
+    let chosen = choose(rt, words, file, &survey)?;
+    let first = tell_others(rt, paths.as_slice(), chosen, &survey)?;
+    match survey.seen.as_slice().get(chosen) {
+        Some(seen) => Ok(Found {
+            file,
+            is_quiet: words.is_quiet,
+            paths,
+            first,
+            seen: *seen,
+        }),
+        None => bail!("{file}: no shards"),
+    }
+}
+
+// What the files are.
+fn survey_of<R: Files + AllocGlobal + Eprint>(
+    rt: &R,
+    words: &Words<'_>,
+    file: &str,
+    paths: &[String],
+) -> Result<Survey> {
     let mut survey = Survey::new(rt.alloc());
     let mut source = OldFiles {
         rt,
         file,
-        paths: paths.as_slice(),
+        paths,
         progress: Progress::new(words.is_quiet),
     };
     for place in 0..paths.len() {
@@ -89,24 +116,25 @@ pub(crate) fn find_shards<'a, R: Files + AllocGlobal + Eprint>(
             None => survey.add(None)?,
         }
     }
-    let chosen = choose(rt, words, file, &survey)?;
-    let mut taken = Vec::new(rt.alloc());
-    for (place, path) in paths.into_iter().enumerate() {
+    Ok(survey)
+}
+
+// Tells of each file that is no shard of the chosen one, and finds the place of the first that is.
+fn tell_others<R: AllocGlobal + Eprint>(
+    rt: &R,
+    paths: &[String],
+    chosen: usize,
+    survey: &Survey,
+) -> Result<usize> {
+    let mut first = paths.len();
+    for place in 0..paths.len() {
         match survey.findings.as_slice().get(place) {
-            Some(Finding::Shard(of)) if *of == chosen => taken.push(path)?,
-            Some(finding) => tell(rt, path.as_str(), *finding, &survey)?,
+            Some(Finding::Shard(of)) if *of == chosen => first = first.min(place),
+            Some(finding) => tell(rt, paths[place].as_str(), *finding, survey)?,
             None => {}
         }
     }
-    match survey.seen.as_slice().get(chosen) {
-        Some(seen) => Ok(Found {
-            file,
-            is_quiet: words.is_quiet,
-            paths: taken,
-            seen: *seen,
-        }),
-        None => bail!("{file}: no shards"),
-    }
+    Ok(first)
 }
 
 // The names of the files that may be shards.

@@ -1,7 +1,9 @@
 // The shards of one file: gathered from files by what their heads say, restored, and looked at.
-ghost use Rattle.std.specs.Prelude.{◌≡◌, ◌+◌, ◌*◌, ◌≤◌, ◌↔◌, take, length, IsOk, IsTrue, IfOk};
-ghost use Rattle.reed_solomon.specs.Shards.{present_count};
-ghost use Rattle.shards.specs.Groups.{IsNamed, shard_total};
+ghost use Rattle.std.specs.Prelude.{◌≡◌, ◌+◌, ◌*◌, ◌/◌, ◌<◌, ◌≤◌, ◌↔◌, take, length, false, replicate, IsOk, IsTrue, IfOk, Some};
+ghost use Rattle.reed_solomon.specs.Shards.{AreCodewords, present_count};
+ghost use Rattle.reed_solomon.specs.Sizes.{HasShardSize};
+ghost use Rattle.shards.specs.Groups.{IsNamed, Puts, shard_total, Takes};
+ghost use Rattle.shards.specs.Heads.{IsOrigin};
 
 use crate::head::{HEAD, Head, Origin};
 use crate::split::join;
@@ -37,14 +39,19 @@ pub(crate) struct Group {
     pub(crate) size: usize,
     pub(crate) shards: Vec<u8>,
     pub(crate) present: [bool; 256],
+    ghost some_data: { 0 < origin.data_shards },
+    ghost some_parity: { 0 < origin.parity_shards },
     ghost few: { origin.data_shards + origin.parity_shards ≤ 256 },
+    ghost whole: { length shards.items ≡ (origin.data_shards + origin.parity_shards) * size },
     ghost flags: { length present ≡ 256 },
+    ghost fits: { IsOrigin origin },
 }
 
 impl Group {
     /// No shard of a file is at hand yet. Each is to have `size` bytes.
     pub(crate) fn new(alloc: Global, origin: Origin, size: usize) -> Result<Group, JoinError>
-        ensures { IfOk result (λ group. (group.origin ≡ origin) × (group.size ≡ size)) }
+        ensures of { IfOk result (λ group. (group.origin ≡ origin) × (group.size ≡ size)) }
+        ensures empty { IfOk result (λ group. group.present ≡ replicate 256 false) }
     {
         let total = origin.total();
         if origin.data_shards == 0 || origin.parity_shards == 0 || total > 256 {
@@ -62,19 +69,31 @@ impl Group {
         })
     }
 
-    /// Takes the shard of a file, if it is one of these and none of its number is at hand.
-    pub(crate) fn take(&mut self, file: &[u8]) {
-        let head = match Head::of_file(file) {
-            Some(head) => head,
-            None => return,
-        };
-        let index = head.index as usize;
-        let shard = &file[HEAD..];
-        let is_same = head.origin == self.origin && index < self.origin.total();
-        if !is_same || shard.len() != self.size || self.present[index] {
-            return;
+    /// Takes the shard that a file was written of, if it is one of these and none of its number is at hand.
+    pub(crate) fn take(&mut self, file: &[u8])
+        ensures kept { (self.new.origin ≡ self.old.origin) × (self.new.size ≡ self.old.size) }
+        ensures taken { Takes self.old.origin self.old.size (Some file.now)
+            self.old.shards.items self.old.present self.new.shards.items self.new.present }
+    {
+        match Head::of_file(file) {
+            Some(head) => {
+                if head.origin.is_same(&self.origin) {
+                    self.put(head.index as usize, &file[HEAD..]);
+                }
+            }
+            None => {}
         }
-        if put_shard(self.shards.as_mut_slice(), index, shard) {
+    }
+
+    // Puts a shard to its place, if it has the size of these and none of its number is at hand.
+    fn put(&mut self, index: usize, shard: &[u8])
+        ensures kept { (self.new.origin ≡ self.old.origin) × (self.new.size ≡ self.old.size) }
+        ensures put { Puts (shard_total self.old.origin) self.old.size index shard.now
+            self.old.shards.items self.old.present self.new.shards.items self.new.present }
+    {
+        if index < self.origin.total() && shard.len() == self.size && !self.present[index] {
+            let begin = index * self.size;
+            self.shards.as_mut_slice()[begin..begin + self.size].copy_from_slice(shard);
             self.present[index] = true;
         }
     }
@@ -136,21 +155,36 @@ impl Group {
 
     /// Whether all shards are at hand, the parity is that of the data, and the data are the file's.
     pub(crate) fn is_whole(&self) -> bool
-        ensures { IsTrue result → (present_count (take (shard_total self.now.origin) self.now.present) ≡ shard_total self.now.origin)
-            × IsNamed self.now.origin self.now.shards.items }
+        ensures { IsTrue result ↔ ((present_count (take (shard_total self.now.origin) self.now.present) ≡ shard_total self.now.origin)
+            × (0 < self.now.size) × AreCodewords self.now.origin.data_shards (shard_total self.now.origin) self.now.size self.now.shards.items
+            × IsNamed self.now.origin self.now.shards.items) }
     {
         self.count() == self.origin.total() && self.has_parity() && self.is_file()
     }
 
     // Whether the parity is that of the data.
-    fn has_parity(&self) -> bool {
+    fn has_parity(&self) -> bool
+        ensures { IsTrue result ↔ ((0 < self.now.size)
+            × AreCodewords self.now.origin.data_shards (shard_total self.now.origin) self.now.size self.now.shards.items) }
+    {
         match ReedSolomon::new(
             self.origin.data_shards as usize,
             self.origin.parity_shards as usize,
         ) {
-            Ok(code) => matches!(code.verify(self.shards.as_slice()), Ok(true)),
+            Ok(code) => are_code_words(&code, self.shards.as_slice()),
             Err(_) => false,
         }
+    }
+}
+
+// Whether shards have one size, and their parity is that of the data.
+fn are_code_words(code: &ReedSolomon, shards: &[u8]) -> bool
+    ensures { let total = code.now.data_shards + code.now.parity_shards in IsTrue result ↔ (HasShardSize total (length shards.now)
+        × AreCodewords code.now.data_shards total (length shards.now / total) shards.now) }
+{
+    match code.verify(shards) {
+        Ok(are_all) => are_all,
+        Err(_) => false,
     }
 }
 
@@ -169,19 +203,4 @@ pub(crate) fn zeros(alloc: Global, total: usize, size: usize) -> Result<Vec<u8>,
         Some(length) => vec![in alloc; 0u8; length],
         None => Err(AllocError),
     }
-}
-
-// Writes a shard to its place among others of its size, or returns false where there is no such place.
-fn put_shard(shards: &mut [u8], index: usize, shard: &[u8]) -> bool {
-    let begin = match index.checked_mul(shard.len()) {
-        Some(begin) if begin <= shards.len() => begin,
-        _ => return false,
-    };
-    if shards.len() - begin < shard.len() {
-        return false;
-    }
-    for i in 0..shard.len() {
-        shards[begin + i] = shard[i];
-    }
-    true
 }

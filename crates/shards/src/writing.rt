@@ -1,6 +1,9 @@
 // The files of the shards of a file: what they hold, and their writing.
-ghost use Rattle.std.specs.Prelude.{◌≡◌, ◌+◌, ◌*◌, ◌<◌, ◌≤◌, length, IfOk};
+ghost use Rattle.std.specs.Prelude.{◌≡◌, ℕ, ◌+◌, ◌*◌, ◌<◌, ◌≤◌, List, [], ◌∷◌, ◌++◌, length, IfOk, OnOk};
+ghost use Rattle.std.specs.Io.KnownBytes.{IsAtEnd};
 ghost use Rattle.sha2.specs.Sha256.{sha256};
+ghost use Rattle.shards.specs.Groups.{file_at, shard_total};
+ghost use Rattle.shards.specs.Files.{HasBytes, shard_files};
 ghost use Rattle.shards.specs.Splits.{IsSplit};
 
 use crate::group::{JoinError, zeros};
@@ -75,29 +78,52 @@ fn shard_size(length: usize, data_shards: usize) -> usize
 
 /// Where the files of shards are put, one after the other.
 pub(crate) trait ShardFiles {
-    /// Puts the next file, of a head and a shard.
-    fn put(&mut self, head: &Head, shard: &[u8]) -> anyhow::Result<()>;
+    /// A file that is being written.
+    type File: Write + Drop;
+
+    // These files were put, in this order.
+    ghost holds: { Self → List (List ℕ) → Type 0 };
+
+    /// Begins the next file, which is empty.
+    fn begin(&mut self) -> anyhow::Result<Self::File>
+        ensures kept { (files : List (List ℕ)) → holds self.old files → OnOk result (holds self.new files) }
+        ensures empty { (files : List (List ℕ)) → holds self.old files → IfOk result (λ file. IsAtEnd (Self.File.contents file)) };
+
+    /// Puts the file that was begun, once it is written.
+    fn finish(&mut self, file: Self::File) -> anyhow::Result<()>
+        ensures { (files : List (List ℕ)) (bytes : List ℕ) → holds self.old files → HasBytes (Self.File.contents file) bytes
+            → OnOk result (holds self.new (files ++ bytes ∷ [])) };
+
+    /// Says of which file it is that it could not be written.
+    fn named(&self, error: io::Error) -> anyhow::Error;
 }
 
 /// Puts the file of each shard.
-pub(crate) fn put_shards<F: ShardFiles>(shards: &Shards, files: &mut F) -> anyhow::Result<()> {
+pub(crate) fn put_shards<F: ShardFiles>(shards: &Shards, files: &mut F) -> anyhow::Result<()>
+    ensures { (before : List (List ℕ)) → F.holds files.old before → OnOk result (F.holds files.new
+        (before ++ shard_files shards.now.origin shards.now.size shards.now.bytes.items (shard_total shards.now.origin))) }
+{
     for index in 0..shards.origin.total() {
-        let head = Head {
-            origin: shards.origin,
-            index: index as u8,
-        };
-        let begin = index * shards.size;
-        let shard = &shards.bytes.as_slice()[begin..begin + shards.size];
-        files.put(&head, shard)?;
+        put_shard(shards, index, files)?;
     }
     Ok(())
 }
 
-/// Writes the file of a head and a shard.
-pub(crate) fn write_file<W: Write>(writer: &mut W, head: &Head, shard: &[u8]) -> io::Result<()> {
-    writer.write_all(&head.fields())?;
-    writer.write_all(&head.origin.length.to_le_bytes())?;
-    writer.write_all(&head.origin.identity)?;
-    writer.write_all(&head.digest(shard))?;
-    writer.write_all(shard)
+// Puts the file of one shard.
+fn put_shard<F: ShardFiles>(shards: &Shards, index: usize, files: &mut F) -> anyhow::Result<()>
+    requires { index < shard_total shards.now.origin }
+    ensures { (before : List (List ℕ)) → F.holds files.old before → OnOk result (F.holds files.new
+        (before ++ file_at shards.now.origin shards.now.size shards.now.bytes.items index ∷ [])) }
+{
+    let head = Head {
+        origin: shards.origin,
+        index: index as u8,
+    };
+    let begin = index * shards.size;
+    let shard = &shards.bytes.as_slice()[begin..begin + shards.size];
+    let mut file = files.begin()?;
+    match head.write(&mut file, shard) {
+        Ok(()) => files.finish(file),
+        Err(error) => Err(files.named(error)),
+    }
 }
