@@ -5,17 +5,14 @@
 //! an error, which standard error then names, or 2 where the words are wrong.
 #![tactic(auto)]
 
-ghost use Rattle.std.specs.Prelude.{◌≡◌};
-ghost use Rattle.tag.specs.Choice.{hash_named};
-
 mod key;
+mod stream;
 
 use crate::key::{Source, read_key};
+use crate::stream::hash;
 use anyhow::{Context, Result};
 use std::env;
-use std::io::Read;
 use std::process::ExitCode;
-use tags::{Ghash, Polyval, UniversalHash};
 
 const USAGE: &str = "usage: tag ghash|polyval KEY < MESSAGE
        tag ghash|polyval --key-file FILE < MESSAGE
@@ -36,24 +33,6 @@ pub enum Choice {
     Ghash,
     /// POLYVAL of RFC 8452.
     Polyval,
-}
-
-/// The hash of the blocks of `message`.
-pub fn hash(choice: Choice, key: &[u8; 16], message: &[u8]) -> [u8; 16]
-    ensures { result ≡ hash_named choice key.now message.now }
-{
-    match choice {
-        Choice::Ghash => {
-            let mut hash = Ghash::new(key);
-            hash.update(message);
-            hash.finalize()
-        }
-        Choice::Polyval => {
-            let mut hash = Polyval::new(key);
-            hash.update(message);
-            hash.finalize()
-        }
-    }
 }
 
 fn main(rt: HostRuntime) -> ExitCode {
@@ -95,12 +74,8 @@ fn run(rt: &HostRuntime) -> Result<ExitCode> {
         return misused(rt, "the key is KEY, --key-file FILE or --key-variable NAME");
     };
     let key = read_key(rt, source)?;
-    let mut message = Vec::new(rt.alloc());
-    rt.stdin()
-        .read_to_end(&mut message)
-        .context("reading standard input")?;
-    let tag = hash(choice, &key, message.as_slice());
-    let text = hex::encode(rt.alloc(), tag.as_slice()).context("writing the hash")?;
+    let hash = hash(choice, &key, &mut rt.stdin()).context("reading standard input")?;
+    let text = hex::encode(rt.alloc(), hash.as_slice()).context("writing the hash")?;
     println!(rt; "{text}").context("writing the hash")?;
     Ok(ExitCode::SUCCESS)
 }
