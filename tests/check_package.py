@@ -227,6 +227,9 @@ class Maps(unittest.TestCase):
             self.assertEqual(int(values[place]), definitions.transform_value(a.tolist(), 0, place))
         a = bf.Ghash128.random(1 << 16, seed=10)
         self.assertTrue((bf.inverse_transform(bf.transform(a, 3), 3) == a).all())
+        point = bf.transform_points(1, shift)
+        point += 1
+        self.assertEqual(point.tolist(), [int(shift) ^ 1])
         for count in (0, 3, -4, 2.0, "4", None):
             self.assertRaises(ValueError, bf.transform_points, count)
         for wrong in (bf.Ghash128.random(0), bf.Ghash128.random(3), bf.Ghash128.random((2, 2)), bf.Ghash128(1)):

@@ -68,7 +68,7 @@ def transform_points(count: int, shift: Any = 0) -> Any:
         raise ValueError("the number of points must be a power of two")
     field: Any = type(shift) if isinstance(shift, _LEVELS) else Ghash128
     if count == 1:
-        return field._operand(shift).reshape(1)
+        return field._operand(shift).reshape(1).copy()
     coefficients = field.zeros(count)
     coefficients[1] = 1
     return transform(coefficients, shift)
