@@ -6,3 +6,4 @@ mod memory;
 mod rows;
 mod slices;
 mod transform;
+mod words;
