@@ -1,3 +1,4 @@
+mod AddedShards
 mod ByteTables
 mod Factors
 mod GroupWriting

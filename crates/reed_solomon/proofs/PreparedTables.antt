@@ -1,11 +1,11 @@
 -- Tables of parity that are kept: four rows after four rows.
-use Rattle.std.proofs.Common.{◌≡◌, ◌≢◌, inl, inr, ℕ, ◌+◌, ◌-◌, ◌*◌, ◌/◌, ◌%◌, ◌<◌, ◌≤◌, ◌++◌, List, length, get_or, take, drop, min, sym, ◌∙◌, ap, subst, arith}
+use Rattle.std.proofs.Common.{◌≡◌, ◌≢◌, inl, inr, ℕ, ◌+◌, ◌-◌, ◌*◌, ◌/◌, ◌%◌, ◌^◌, ◌<◌, ◌≤◌, ◌++◌, List, length, get_or, take, drop, min, sym, ◌∙◌, ap, subst, arith}
 use Rattle.std.proofs.Math.Nat.{mul-le-mul_left}
 use Rattle.std.proofs.lemmas.Bool.{cases_lt}
 use Rattle.std.proofs.lemmas.List.{get_or-append-add, get_or-drop, get_or-take, get_or_append_left, length-append, length-take-le}
-use Rattle.reed_solomon.specs.Parity.{HaveParityTables, parity_factor, parity_symbol}
-use Rattle.reed_solomon.specs.Tables.{AreWritten, HasRow, IsEntry}
-use Rattle.reed_solomon.proofs.GroupWriting.{rows_joined}
+use Rattle.reed_solomon.specs.Parity.{HaveParityTables, parity_factor, parity_symbol, tables_length}
+use Rattle.reed_solomon.specs.Tables.{AreWritten, HasRow, IsEntry, row_sum}
+use Rattle.reed_solomon.proofs.GroupWriting.{row_symbol, rows_joined}
 
 -- how many of m rows come before group `group` of four
 abbrev pub rows_before : ℕ → ℕ → ℕ
@@ -75,36 +75,88 @@ tables_more k m group count tables entries part before within part_is room count
         (subst (λ (r : ℕ). HasRow (parity_factor k (4 * group + (t - 4 * group))) entries r k) row_is (set (t - 4 * group) inside)))
 
 -- after the last group there are all
-pub tables_whole : (k m group : ℕ) (tables : List ℕ) → AreTablesBefore k m group tables → group ≡ (m + 3) / 4 → HaveParityTables k m tables
-tables_whole k m group tables all end =
+pub tables_whole : (k m group : ℕ) (tables : List ℕ) → length tables ≡ tables_length k m → (m + 3) / 4 ≤ group
+    → AreTablesBefore k m group (take (128 * k * group) tables) → HaveParityTables k m tables
+tables_whole k m group tables long end before =
     record {
-      long = all.long ∙ ap (λ (g : ℕ). 128 * k * g) end;
-      rows = λ t below. all.rows t (omega (arith, below, end));
+      long = long;
+      rows = λ t below.
+          row-same (parity_factor k t) (drop (128 * k * (t / 4)) (take (128 * k * group) tables)) (drop (128 * k * (t / 4)) tables) (t % 4) k (omega arith)
+          (λ i less.
+          get_or-drop (128 * k * (t / 4)) (take (128 * k * group) tables) i 0
+          ∙ get_or-take (128 * k * group) tables (128 * k * (t / 4) + i) 0 (within t i below less)
+          ∙ sym (get_or-drop (128 * k * (t / 4)) tables i 0))
+          (before.rows t (omega (arith, below, end)));
     }
+  where
+    within : (t i : ℕ) → t < m → i < 128 * k → 128 * k * (t / 4) + i < 128 * k * group
+    within t i below less =
+        let inside : t / 4 + 1 ≤ group = omega (arith, below, end) in
+        let fits = mul-le-mul_left (128 * k) inside in
+        omega (arith, fits, less)
 
 -- no group yet
 pub no_tables : (k m : ℕ) (tables : List ℕ) → length tables ≡ 0 → AreTablesBefore k m 0 tables
 no_tables k m tables none = record { long = omega (arith, none); rows = λ t below. absurd (omega (arith, below)) }
 
+-- ---- where the tables of a group and of a row begin
+
+-- all tables are few bytes
+pub tables_small : (k m : ℕ) → k + m ≤ 256 → 128 * k * ((m + 3) / 4) ≤ 2 ^ 21
+tables_small k m few =
+    let groups : (m + 3) / 4 ≤ 64 = omega (arith, few) in
+    let fits = mul-le-mul_left (128 * k) groups in
+    omega (arith, fits, few)
+
+-- the tables of a group lie within all tables
+pub tables_room : (k m group : ℕ) (tables : List ℕ) → length tables ≡ tables_length k m → group < (m + 3) / 4
+    → 128 * k * group + 128 * k ≤ length tables
+tables_room k m group tables long within =
+    let one_more : group + 1 ≤ (m + 3) / 4 = omega (arith, within) in
+    let fits = mul-le-mul_left (128 * k) one_more in
+    omega (arith, fits, long)
+
+-- and so do those of the group of a row
+pub row_room : (k m t : ℕ) (tables : List ℕ) → length tables ≡ tables_length k m → t < m → 128 * k * (t / 4) + 128 * k ≤ length tables
+row_room k m t tables long within = tables_room k m (t / 4) tables long (omega (arith, within))
+
+-- a row of a group is the first one of the tables from there on
+pub row_first : (factor : ℕ → ℕ) (tables : List ℕ) (start row k : ℕ) → HasRow factor (drop start tables) row k
+    → HasRow factor (drop (start + 32 * row) tables) 0 k
+row_first factor tables start row k set j n within inside =
+    subst (IsEntry (factor j) n)
+    (get_or-drop start tables (128 * j + 32 * row + n) 0 ∙ ap (λ (p : ℕ). get_or tables p 0) place
+    ∙ sym (get_or-drop (start + 32 * row) tables (128 * j + 32 * 0 + n) 0))
+    (set j n within inside)
+  where
+    place : start + (128 * j + 32 * row + n) ≡ start + 32 * row + (128 * j + 32 * 0 + n)
+    place = omega arith
+
 -- ---- what the tables are used for
 
-module _ (k m group : ℕ) (tables : List ℕ) (all : HaveParityTables k m tables) (within : group < (m + 3) / 4) where
+module _ (k m : ℕ) (tables : List ℕ) (all : HaveParityTables k m tables) where
   -- those of a group
-  pub tables_of : (row : ℕ) → row < 4 → 4 * group + row < m → HasRow (parity_factor k (4 * group + row)) (drop (128 * k * group) tables) row k
-  tables_of row few inside =
+  pub tables_of : (group row : ℕ) → row < 4 → 4 * group + row < m
+      → HasRow (parity_factor k (4 * group + row)) (drop (128 * k * group) tables) row k
+  tables_of group row few inside =
       let of_group : (4 * group + row) / 4 ≡ group = omega (arith, few) in
       let row_is : (4 * group + row) % 4 ≡ row = omega (arith, few) in
       subst (λ (g : ℕ). HasRow (parity_factor k (4 * group + row)) (drop (128 * k * g) tables) row k) of_group
       (subst (λ (r : ℕ). HasRow (parity_factor k (4 * group + row)) (drop (128 * k * ((4 * group + row) / 4)) tables) r k) row_is
       (all.rows (4 * group + row) inside))
 
-  -- the tables of a group lie within all tables
-  pub tables_room : 128 * k * group + 128 * k ≤ length tables
-  tables_room =
-      let one_more : group + 1 ≤ (m + 3) / 4 = omega (arith, within) in
-      let fits = mul-le-mul_left (128 * k) one_more in
-      let long = all.long in
-      omega (arith, fits, long)
+  -- what the tables of a row give is the symbol of its shard
+  pub prepared_sum : (size t : ℕ) (shards starts : List ℕ) → t < m → k ≤ length starts → ((j : ℕ) → j < k → get_or starts j 0 ≡ (0 + j) * size)
+      → ((i : ℕ) → get_or shards i 0 < 256) → (column : ℕ)
+      → row_sum (drop (128 * k * (t / 4) + 32 * (t % 4)) tables) shards (take k starts) 0 column ≡ parity_symbol k size shards t column
+  prepared_sum size t shards starts below long begun bytes column =
+      row_symbol k size (λ i. i) (drop (128 * k * (t / 4) + 32 * (t % 4)) tables) shards (take k starts) 0 column (k + t) (length-take-le k starts long)
+      (λ j less. get_or-take k starts j 0 less ∙ begun j less ∙ ap (λ (n : ℕ). n * size) (same j))
+      (row_first (parity_factor k t) tables (128 * k * (t / 4)) (t % 4) k (all.rows t below))
+      bytes
+    where
+      same : (j : ℕ) → 0 + j ≡ j
+      same j = omega arith
 
 -- a group of rows more
 pub groups_joined : (k m size group count : ℕ) (shards old mid now : List ℕ) → group < (m + 3) / 4

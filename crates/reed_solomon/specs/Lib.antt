@@ -1,3 +1,4 @@
+pub mod Adding
 pub mod ErasureField
 pub mod Missing
 pub mod Parity

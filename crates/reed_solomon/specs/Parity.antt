@@ -19,7 +19,11 @@ abbrev pub MatchesParity : ℕ → ℕ → ℕ → List ℕ → Type 0
 MatchesParity k m size shards =
     (t column : ℕ) → t < m → column < size → shard_byte size shards (k + t) column ≡ parity_symbol k size shards t column
 
+-- how many bytes the tables of m shards of parity of k shards of data take: 32 for each two, where m is counted up to a multiple of four
+abbrev pub tables_length : ℕ → ℕ → ℕ
+tables_length k m = 128 * k * ((m + 3) / 4)
+
 -- the tables of the first m shards of parity: those of four shards stand together, and those of the next four behind them
 pub record HaveParityTables (k m : ℕ) (tables : List ℕ) : Type 0 where
-  pub long : length tables ≡ 128 * k * ((m + 3) / 4)
+  pub long : length tables ≡ tables_length k m
   pub rows : (t : ℕ) → t < m → HasRow (parity_factor k t) (drop (128 * k * (t / 4)) tables) (t % 4) k

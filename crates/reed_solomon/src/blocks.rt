@@ -14,7 +14,7 @@ pub(crate) fn block_sums<const N: usize>(
     column: usize,
 ) -> [u8x32; N]
     requires few { length starts.now ≤ 256 }
-    requires tables { 128 * length starts.now ≤ length entries.now }
+    requires tables { 128 * length starts.now + 32 * N ≤ length entries.now + 128 }
     requires rows { N ≤ 4 }
     requires inside { (j : ℕ) → j < length starts.now → slice_index starts.now j + column + 32 ≤ length shards.now }
     ensures long { (row : ℕ) → row < N → length (slice_index_or result row []) ≡ 32 }
@@ -40,7 +40,7 @@ pub(crate) fn column_sum(
     column: usize,
 ) -> u8
     requires few { length starts.now ≤ 256 }
-    requires tables { 128 * length starts.now ≤ length entries.now }
+    requires tables { 128 * length starts.now + 32 * row ≤ length entries.now + 96 }
     requires rows { row < 4 }
     requires inside { (j : ℕ) → j < length starts.now → slice_index starts.now j + column < length shards.now }
     ensures { result ≡ row_sum entries.now shards.now starts.now row column }
@@ -169,7 +169,7 @@ pub(crate) fn matches_row(
     begin: usize,
 ) -> bool
     requires few { length starts.now ≤ 256 }
-    requires tables { 128 * length starts.now ≤ length entries.now }
+    requires tables { 128 * length starts.now ≤ length entries.now + 96 }
     requires inside { (j : ℕ) → j < length starts.now → slice_index starts.now j + size ≤ length shards.now }
     requires room { begin + size ≤ length shards.now }
     ensures { IsTrue result ↔ ((column : ℕ) → column < size

@@ -1,6 +1,7 @@
 //! Reed-Solomon codes over bytes: of the shards of data and of parity any as many as there are shards of data restore the rest.
 #![tactic(auto)]
 
+mod adding;
 mod blocks;
 mod byte_field;
 mod codec;
@@ -18,5 +19,5 @@ mod tables;
 pub use crate::byte_field::erasure_field;
 pub use crate::codec::ReedSolomon;
 pub use crate::error::ReedSolomonError;
-pub use crate::laws::lost_shards_return;
+pub use crate::laws::{added_shards_encode, lost_shards_return};
 pub use crate::prepared::PreparedEncoder;

@@ -22,7 +22,7 @@ pub(crate) fn set_parity_rows(entries: &mut [u8], sample: &Sample, first: usize,
     set_rows(entries, sample, &points[..count]);
 }
 
-// Writes up to four shards of parity by their tables, from shard `first` of them on.
+// Writes up to four shards of parity by their tables, from shard `first` of them on. Other tables give other bytes.
 pub(crate) fn write_parity_group(
     shards: &[u8],
     size: usize,
@@ -39,8 +39,9 @@ pub(crate) fn write_parity_group(
     requires inside { (j : ℕ) → j < length starts.now → j * size + size ≤ length shards.now }
     requires begun { (j : ℕ) → j < length starts.now → slice_index starts.now j ≡ j * size }
     requires tables { 128 * length starts.now ≤ length entries.now }
-    requires set { (row : ℕ) → row < count → HasRow (parity_factor (length starts.now) (first + row)) entries.now row (length starts.now) }
-    ensures { AreWritten (λ row column. parity_symbol (length starts.now) size shards.now (first + row) column)
+    ensures long { length parity.new ≡ length parity.old }
+    ensures written { ((row : ℕ) → row < count → HasRow (parity_factor (length starts.now) (first + row)) entries.now row (length starts.now))
+        → AreWritten (λ row column. parity_symbol (length starts.now) size shards.now (first + row) column)
         (λ row. (first + row) * size) count size parity.old parity.new }
 {
     bytes_fit(shards);

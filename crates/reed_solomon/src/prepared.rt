@@ -1,10 +1,11 @@
-// Codes whose tables are made once.
-ghost use Rattle.std.specs.Prelude.{◌≡◌, ◌+◌, ◌-◌, ◌*◌, ◌/◌, ◌≤◌, ◌↔◌, ◌++◌, length, IsOk, IsTrue, IfOk, IfErr, OnErr};
-ghost use Rattle.reed_solomon.specs.Parity.{HaveParityTables};
+// Codes whose tables are made once, in memory of the caller or of an allocator.
+ghost use Rattle.std.specs.Prelude.{◌≡◌, ◌+◌, ◌*◌, ◌/◌, ◌<◌, ◌≤◌, ◌↔◌, ◌++◌, length, take, IsOk, IsTrue, IfOk, IfErr, OnErr};
+ghost use Rattle.reed_solomon.specs.Parity.{HaveParityTables, tables_length};
 ghost use Rattle.reed_solomon.specs.Shards.{AreCodewords, IsEncoded};
 ghost use Rattle.reed_solomon.specs.Sizes.{HasShardSize, ShardSizeError};
 
 use crate::ReedSolomon;
+use crate::blocks::matches_row;
 use crate::codec::shard_size;
 use crate::error::ReedSolomonError;
 use crate::groups::{bytes_fit, group_size, starts_from};
@@ -13,8 +14,64 @@ use crate::sample::Sample;
 use crate::tables::RowTables;
 use std::alloc::{AllocError, Allocator};
 
-/// A code with the tables of its parity, made once: a call computes none, which counts where shards are small. They take 32 bytes
-/// for each pair of a shard of data and one of parity, where the shards of parity are counted up to a multiple of four.
+impl ReedSolomon {
+    /// How many bytes the tables of its parity take: 32 for each pair of a shard of data and one of parity, where the shards of parity are
+    /// counted up to a multiple of four.
+    #[tactic(auto, using(crate::proofs::PreparedTables::tables_small))]
+    pub fn tables_length(&self) -> usize
+        ensures { result ≡ tables_length self.now.data_shards self.now.parity_shards }
+    {
+        128 * self.data_shards * ((self.parity_shards + 3) / 4)
+    }
+
+    /// Writes the tables of its parity, by which `encode_prepared` and `verify_prepared` work. `tables` has to have `tables_length` bytes.
+    /// Tables that begin at a multiple of 16 are read faster.
+    pub fn prepare(&self, tables: &mut [u8])
+        requires { length tables.old ≡ tables_length self.now.data_shards self.now.parity_shards }
+        ensures { HaveParityTables self.now.data_shards self.now.parity_shards tables.new }
+    {
+        write_tables(tables, self.data_shards, self.parity_shards);
+    }
+
+    /// Writes the shards of parity as `encode` does, by the tables that `prepare` wrote for this code. By any other bytes it writes shards
+    /// of parity of which nothing is said. `tables` has to have `tables_length` bytes.
+    pub fn encode_prepared(&self, tables: &[u8], shards: &mut [u8]) -> Result<(), ReedSolomonError>
+        requires { length tables.now ≡ tables_length self.now.data_shards self.now.parity_shards }
+        ensures accepted { IsOk result ↔ HasShardSize (self.now.data_shards + self.now.parity_shards) (length shards.old) }
+        ensures encoded { let total = self.now.data_shards + self.now.parity_shards in
+            IsOk result → HaveParityTables self.now.data_shards self.now.parity_shards tables.now
+            → IsEncoded self.now.data_shards total (length shards.old / total) shards.old shards.new }
+        ensures data_kept { let front = self.now.data_shards * (length shards.old / (self.now.data_shards + self.now.parity_shards)) in
+            IsOk result → take front shards.new ≡ take front shards.old }
+        ensures long { length shards.new ≡ length shards.old }
+        ensures refused { IfErr result (λ error. ShardSizeError (length shards.old) error) }
+        ensures same { OnErr result (shards.new ≡ shards.old) }
+    {
+        let (k, m) = (self.data_shards, self.parity_shards);
+        let size = shard_size(k + m, shards.len())?;
+        let (front, parity) = shards.split_at_mut(k * size);
+        write_prepared(front, size, k, tables, parity, m);
+        Ok(())
+    }
+
+    /// Whether the shards of parity are those of the data, as `verify` says it, by the tables that `prepare` wrote for this code. By any
+    /// other bytes nothing is said of the answer. `tables` has to have `tables_length` bytes.
+    pub fn verify_prepared(&self, tables: &[u8], shards: &[u8]) -> Result<bool, ReedSolomonError>
+        requires { length tables.now ≡ tables_length self.now.data_shards self.now.parity_shards }
+        ensures accepted { IsOk result ↔ HasShardSize (self.now.data_shards + self.now.parity_shards) (length shards.now) }
+        ensures answer { let total = self.now.data_shards + self.now.parity_shards in
+            HaveParityTables self.now.data_shards self.now.parity_shards tables.now
+            → IfOk result (λ is_whole. IsTrue is_whole ↔ AreCodewords self.now.data_shards total (length shards.now / total) shards.now) }
+        ensures refused { IfErr result (λ error. ShardSizeError (length shards.now) error) }
+    {
+        let (k, m) = (self.data_shards, self.parity_shards);
+        let size = shard_size(k + m, shards.len())?;
+        Ok(matches_prepared(shards, size, k, tables, m))
+    }
+}
+
+/// A code with the tables of its parity, made once: a call computes none, which counts where shards are small. They take
+/// `ReedSolomon::tables_length` bytes.
 #[derive(Drop)]
 pub struct PreparedEncoder<A: Allocator> {
     code: ReedSolomon,
@@ -28,7 +85,8 @@ impl<A: Allocator> PreparedEncoder<A> {
         ensures { IfOk result (λ encoder. (encoder.code.data_shards ≡ code.now.data_shards)
             × (encoder.code.parity_shards ≡ code.now.parity_shards)) }
     {
-        let tables = parity_tables(alloc, code.data_shards, code.parity_shards)?;
+        let mut tables = vec![in alloc; 0; code.tables_length()]?;
+        code.prepare(&mut tables);
         Ok(PreparedEncoder {
             code: *code,
             tables,
@@ -44,58 +102,46 @@ impl<A: Allocator> PreparedEncoder<A> {
         ensures refused { IfErr result (λ error. ShardSizeError (length shards.old) error) }
         ensures same { OnErr result (shards.new ≡ shards.old) }
     {
-        let total = self.code.total_shard_count();
-        let size = shard_size(total, shards.len())?;
-        let (data_bytes, parity_bytes) = shards.split_at_mut(self.code.data_shards * size);
-        write_prepared(
-            data_bytes,
-            size,
-            self.code.data_shards,
-            self.tables.as_slice(),
-            parity_bytes,
-            self.code.parity_shards,
-        );
-        Ok(())
+        self.code.encode_prepared(&self.tables, shards)
     }
 
-    /// Whether the shards of parity are those of the data, as `ReedSolomon::verify` does: it makes the tables of each row anew, since
-    /// it reads one row at a time.
+    /// Whether the shards of parity are those of the data, as `ReedSolomon::verify` does.
     pub fn verify(&self, shards: &[u8]) -> Result<bool, ReedSolomonError>
         ensures accepted { IsOk result ↔ HasShardSize (self.now.code.data_shards + self.now.code.parity_shards) (length shards.now) }
         ensures answer { let total = self.now.code.data_shards + self.now.code.parity_shards in
             IfOk result (λ is_whole. IsTrue is_whole ↔ AreCodewords self.now.code.data_shards total (length shards.now / total) shards.now) }
         ensures refused { IfErr result (λ error. ShardSizeError (length shards.now) error) }
     {
-        self.code.verify(shards)
+        self.code.verify_prepared(&self.tables, shards)
     }
 }
 
-// The tables of m shards of parity of k shards of data, four rows after four rows.
-#[tactic(auto, using(crate::proofs::PreparedTables::no_tables, crate::proofs::PreparedTables::tables_whole))]
-fn parity_tables<A: Allocator>(alloc: A, k: usize, m: usize) -> Result<Vec<u8, A>, AllocError>
-    requires { k + m ≤ 256 }
-    ensures { IfOk result (λ tables. HaveParityTables k m tables.items) }
+// Writes the tables of m shards of parity of k shards of data, four rows after four rows.
+#[tactic(auto, using(crate::proofs::PreparedTables::tables_room))]
+fn write_tables(tables: &mut [u8], k: usize, m: usize)
+    requires points { k + m ≤ 256 }
+    requires room { length tables.old ≡ tables_length k m }
+    ensures { HaveParityTables k m tables.new }
 {
     let sample = Sample::of_first(k);
     let mut rows = RowTables::empty();
-    let mut tables = Vec::new(alloc);
     for group in 0..(m + 3) / 4 {
         let done = 4 * group;
         set_parity_rows(&mut rows.entries, &sample, done, group_size(m - done));
-        tables.extend_from_slice(&rows.entries[..128 * k])?;
+        let start = 128 * k * group;
+        tables[start..start + 128 * k].copy_from_slice(&rows.entries[..128 * k]);
     }
-    Ok(tables)
 }
 
 // Writes m shards of parity behind one another, from k shards of data, by their tables.
 #[tactic(auto, using(crate::proofs::PreparedTables::tables_room))]
 fn write_prepared(shards: &[u8], size: usize, k: usize, tables: &[u8], parity: &mut [u8], m: usize)
     requires points { k + m ≤ 256 }
-    requires set { HaveParityTables k m tables.now }
+    requires listed { length tables.now ≡ tables_length k m }
     requires whole { length shards.now ≡ k * size }
     requires room { length parity.old ≡ m * size }
     ensures long { length parity.new ≡ length parity.old }
-    ensures encoded { IsEncoded k (k + m) size (shards.now ++ parity.old) (shards.now ++ parity.new) }
+    ensures encoded { HaveParityTables k m tables.now → IsEncoded k (k + m) size (shards.now ++ parity.old) (shards.now ++ parity.new) }
 {
     bytes_fit(shards);
     let starts = starts_from(0, k, size);
@@ -112,4 +158,24 @@ fn write_prepared(shards: &[u8], size: usize, k: usize, tables: &[u8], parity: &
             count,
         );
     }
+}
+
+// Whether m shards of parity are those of the k shards of data before them, by their tables.
+#[tactic(auto, using(crate::proofs::PreparedTables::row_room))]
+fn matches_prepared(shards: &[u8], size: usize, k: usize, tables: &[u8], m: usize) -> bool
+    requires some { 0 < k }
+    requires points { k + m ≤ 256 }
+    requires listed { length tables.now ≡ tables_length k m }
+    requires whole { length shards.now ≡ (k + m) * size }
+    ensures { HaveParityTables k m tables.now → IsTrue result ↔ AreCodewords k (k + m) size shards.now }
+{
+    bytes_fit(shards);
+    let starts = starts_from(0, k, size);
+    for t in 0..m {
+        let row = 128 * k * (t / 4) + 32 * (t % 4);
+        if !matches_row(shards, size, &starts[..k], &tables[row..], (k + t) * size) {
+            return false;
+        }
+    }
+    true
 }

@@ -12,35 +12,29 @@ write_parity_group-requires-clause-room c = λ row below.
     let inside : 4 * c.loop-group.group + row < c.args.m = omega (arith, below, c.group_size-count.ensures, c.loop-group-test.true) in
     omega (arith, place_inside c.args.size c.args.m (4 * c.loop-group.group + row) inside, c.requires.room, c.loop-group.auto.parity)
 
-pub write_parity_group-requires-clause-set : goal.write_parity_group-requires-clause-set
-write_parity_group-requires-clause-set c = λ row below.
-    let k = c.args.k in
-    let group = c.loop-group.group in
-    let starts = take k c.starts_from-starts.result in
-    let few : row < 4 = omega (arith, below, c.group_size-count.ensures) in
-    let inside : 4 * group + row < c.args.m = omega (arith, below, c.group_size-count.ensures, c.loop-group-test.true) in
-    subst (λ (l : List ℕ). HasRow (parity_factor (length starts) (4 * group + row)) l row (length starts))
-    (sym (take_rest c.args.tables.now (128 * k * group)))
-    (subst (λ (n : ℕ). HasRow (parity_factor n (4 * group + row)) (drop (128 * k * group) c.args.tables.now) row n)
-    (sym (length-take-le k c.starts_from-starts.result (omega (arith, c.requires.points, c.starts_from-starts.ensures.long))))
-    (tables_of k c.args.m group c.args.tables.now c.requires.set c.loop-group-test.true row few inside))
-
 pub loop-group-preserved : goal.loop-group-preserved
-loop-group-preserved c =
+loop-group-preserved c = λ all.
+    let k = c.args.k in
     let size = c.args.size in
     let shards = c.args.shards.now in
+    let tables = c.args.tables.now in
     let count = c.group_size-count.result in
-    let done = 4 * c.loop-group.group in
-    groups_joined c.args.k c.args.m size c.loop-group.group count shards c.args.parity.now c.loop-group.parity _ c.loop-group-test.true
-    c.group_size-count.ensures c.loop-group.invariant
+    let group = c.loop-group.group in
+    let counted = length-take-le k c.starts_from-starts.result (omega (arith, c.requires.points, c.starts_from-starts.ensures.long)) in
+    groups_joined k c.args.m size group count shards c.args.parity.now c.loop-group.parity _ c.loop-group-test.true c.group_size-count.ensures
+    (c.loop-group.invariant all)
     (subst
-    (λ (n : ℕ). AreWritten (λ row column. parity_symbol n size shards (done + row) column) (λ row. (done + row) * size) count size c.loop-group.parity
-    c.write_parity_group.new.parity)
-    (length-take-le c.args.k c.starts_from-starts.result (omega (arith, c.requires.points, c.starts_from-starts.ensures.long)))
-    c.write_parity_group.ensures)
+    (λ (n : ℕ). AreWritten (λ row column. parity_symbol n size shards (4 * group + row) column) (λ row. (4 * group + row) * size) count size
+    c.loop-group.parity c.write_parity_group.new.parity) counted
+    (c.write_parity_group.ensures.written (λ row below.
+    subst (λ (l : List ℕ). HasRow (parity_factor (length (take k c.starts_from-starts.result)) (4 * group + row)) l row (length (take k c.starts_from-starts.result)))
+    (sym (take_rest tables (128 * k * group)))
+    (subst (λ (n : ℕ). HasRow (parity_factor n (4 * group + row)) (drop (128 * k * group) tables) row n) (sym counted)
+    (tables_of k c.args.m tables all group row (omega (arith, below, c.group_size-count.ensures))
+    (omega (arith, below, c.group_size-count.ensures, c.loop-group-test.true)))))))
 
 pub returns-clause-encoded : goal.returns-clause-encoded
-returns-clause-encoded c =
+returns-clause-encoded c = λ all.
     parity_encoded c.args.k c.args.m c.args.size c.args.shards.now c.requires.points c.bytes_fit.ensures c.args.parity.now c.loop-group.parity
     c.requires.whole
-    (λ t column below inside. c.loop-group.invariant.written t column (omega (arith, below, c.loop-group-test.false)) inside)
+    (λ t column below inside. (c.loop-group.invariant all).written t column (omega (arith, below, c.loop-group-test.false)) inside)
