@@ -11,10 +11,10 @@ use test_support::{fill, next_number};
 // Runs the transform of 2^m elements for an m up to 10, or returns false.
 fn elements_forward<A: Allocator>(
     alloc: A,
+    kernel: &mut ElementKernel,
     elements: &mut [Ghash128],
     m: usize,
     z: u128,
-    kernel: &mut ElementKernel,
 ) -> Result<bool, AllocError> {
     if m > 10 || elements.len() != 1 << m || kernel.products > 1000 {
         return Ok(false);
@@ -25,10 +25,10 @@ fn elements_forward<A: Allocator>(
 
 // Runs the inverse of that.
 fn elements_inverse(
+    kernel: &mut ElementKernel,
     elements: &mut [Ghash128],
     m: usize,
     z: u128,
-    kernel: &mut ElementKernel,
 ) -> bool {
     if m > 10 || elements.len() != 1 << m || kernel.products > 1000 {
         return false;
@@ -54,8 +54,31 @@ fn kernel_at(products: u64) -> ElementKernel {
     }
 }
 
-// Whether the transform of so many drawn elements, which are 2^m, leaves what that of their representations leaves and counts as
-// many pairs, and its inverse takes them back.
+// Whether the transform of 2^m elements leaves what that of their representations, the values, leaves and counts as many pairs, and its
+// inverse takes them back to what they were drawn as.
+fn transform_alike(
+    alloc: Global,
+    elements: &mut [Ghash128],
+    values: &mut [u128],
+    drawn: &[u128],
+    m: usize,
+    z: u128,
+) -> Result<bool, AllocError> {
+    let mut products = 5;
+    let mut there = kernel_at(5);
+    let mut back = kernel_at(5);
+    let runs = forward_of(alloc, values, m, z, &mut products)?
+        && elements_forward(alloc, &mut there, elements, m, z)?
+        && represent(elements, values);
+    Ok(
+        runs && elements_inverse(&mut back, elements, m, z)
+            && represent(elements, drawn)
+            && there.products == products
+            && back.products == products,
+    )
+}
+
+// The same of so many drawn elements.
 fn kernels_agree(alloc: Global, m: usize, count: usize, z: u128) -> Result<bool, AllocError> {
     if count > 1024 {
         return Ok(false);
@@ -68,17 +91,13 @@ fn kernels_agree(alloc: Global, m: usize, count: usize, z: u128) -> Result<bool,
         elements.push(Ghash128::new(drawn[place]))?;
     }
     let values = &mut places[..count];
-    let mut products = 5;
-    let mut there = kernel_at(5);
-    let mut back = kernel_at(5);
-    let runs = forward_of(alloc, values, m, z, &mut products)?
-        && elements_forward(alloc, elements.as_mut_slice(), m, z, &mut there)?
-        && represent(elements.as_slice(), values);
-    Ok(
-        runs && elements_inverse(elements.as_mut_slice(), m, z, &mut back)
-            && represent(elements.as_slice(), &drawn[..count])
-            && there.products == products
-            && back.products == products,
+    transform_alike(
+        alloc,
+        elements.as_mut_slice(),
+        values,
+        &drawn[..count],
+        m,
+        z,
     )
 }
 

@@ -116,6 +116,17 @@ fn rows_of_the_transform(rt: HostRuntime) -> Result<(), Fail> {
     Ok(())
 }
 
+// Whether each value is that of the polynomial at the point of its place.
+fn are_at_points(coefficients: &[Ghash128], values: &[u128], z: u128) -> bool {
+    for (place, value) in values.iter().enumerate() {
+        let at = Ghash128::new(point(z, place as u128));
+        if evaluate_cantor(coefficients, at).to_bits() != *value {
+            return false;
+        }
+    }
+    true
+}
+
 // Whether the transform of so many drawn numbers, which are 2^m, leaves at each place the value of their polynomial at the place's point.
 fn values_are_at_points(
     alloc: Global,
@@ -135,13 +146,7 @@ fn values_are_at_points(
     }
     let mut products = 0;
     let runs = forward_of(alloc, values, m, z, &mut products)?;
-    for (place, value) in values.iter().enumerate() {
-        let at = Ghash128::new(point(z, place as u128));
-        if evaluate_cantor(coefficients.as_slice(), at).to_bits() != *value {
-            return Ok(false);
-        }
-    }
-    Ok(runs)
+    Ok(runs && are_at_points(coefficients.as_slice(), values, z))
 }
 
 #[test]
