@@ -1,4 +1,5 @@
 mod Groups
 mod Heads
+mod Restores
 mod Splits
 mod Writes

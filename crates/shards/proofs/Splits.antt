@@ -104,7 +104,7 @@ joined_by k m own_data own_parity own_data_is own_parity_is present old new law 
     (subst (λ (n : ℕ). AgreeWherePresent n (length old / n) present old whole) (sym total_is) agree)
 
 -- so many shards of a size that is not 0 have one size, which is this
-sized_by : (total size bytes : ℕ) → bytes ≡ total * size → 0 < total → 0 < size → HasShardSize total bytes
+pub sized_by : (total size bytes : ℕ) → bytes ≡ total * size → 0 < total → 0 < size → HasShardSize total bytes
 sized_by total size bytes is some wide = (
   λ none. absurd (omega (arith, is, none, mul-le-mul_right size (at_least_one total some), wide)),
   ap (λ (n : ℕ). n % total) is ∙ mul-mod_right total size,

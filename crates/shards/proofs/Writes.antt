@@ -1,5 +1,5 @@
 -- The file of a shard that is written part by part.
-use Rattle.std.proofs.Common.{◌≡◌, ℕ, List, ◌++◌, subst}
+use Rattle.std.proofs.Common.{◌≡◌, ℕ, List, [], ◌++◌, None, Some, refl, ◌∙◌, ap, subst}
 use Rattle.std.specs.Prelude.{Option}
 use Rattle.std.specs.Int.{w64, to_le_bytes}
 use Rattle.std.specs.Io.KnownBytes.{Appends}
@@ -21,3 +21,17 @@ shard_file_written head shard fields long digest a b c d e f fields_are long_is 
     (Appends-trans a d e begin (head_digest head shard)
     (Appends-trans a c d (head_fields head.origin head.index ++ to_le_bytes w64 head.origin.length) head.origin.identity
     (Appends-trans a b c (head_fields head.origin head.index) (to_le_bytes w64 head.origin.length) first second) three) fourth) five
+
+same_list : (a b : List ℕ) → Some a ≡ Some b → a ≡ b
+same_list a b same = cc
+
+-- a file that tells nothing is not told to be empty
+told : (none : Option (List ℕ)) → none ≡ None → none ≡ Some [] → ⊥
+told none is_none empty = cc
+
+-- what was added to an empty file is all that it has
+pub appended_to_none : (a b : Option (List ℕ)) (bytes : List ℕ) → a ≡ Some [] → Appends a b bytes → b ≡ Some bytes
+appended_to_none None b bytes empty added = absurd (told None refl empty)
+appended_to_none (Some held) None bytes empty added = absurd added
+appended_to_none (Some held) (Some now) bytes empty added =
+    ap (λ (l : List ℕ). Some l) (added ∙ ap (λ (l : List ℕ). l ++ bytes) (same_list held [] empty))

@@ -1,8 +1,9 @@
 -- The file that shards are of, by what their heads say, and which of its shards are at hand.
-use Rattle.std.specs.Prelude.{◌≡◌, ◌⊎◌, ℕ, ◌+◌, ◌*◌, ◌<◌, Bool, List, length, take, drop, slice_index_or, Option, Some, None}
+use Rattle.std.specs.Prelude.{◌≡◌, ◌⊎◌, ℕ, ◌+◌, ◌*◌, ◌<◌, ◌≤◌, Bool, List, length, take, drop, slice_index_or, Option, Some, None}
 use Rattle.sha2.specs.Sha256.{sha256}
-use Rattle.reed_solomon.specs.Shards.{IsPresent}
+use Rattle.reed_solomon.specs.Shards.{IsPresent, present_count}
 use Rattle.shards.specs.Heads.{shard_file}
+use Rattle.shards.specs.Splits.{IsSplit}
 use Rattle.shards.specs.declared.head.Head.{Head}
 use Rattle.shards.specs.declared.head.Origin.{Origin}
 
@@ -49,3 +50,13 @@ pub record Puts (total size index : ℕ) (shard : List ℕ) (old : List ℕ) (ha
   pub keeps : (other : ℕ) → other < total → IsPresent had other → IsPresent has other × (shard_at size new other ≡ shard_at size old other)
   pub found : (other : ℕ) → other < total → IsPresent has other → IsPresent had other ⊎ ((other ≡ index) × (shard_at size new other ≡ shard))
   pub put : index < total → length shard ≡ size → IsPresent has index
+
+-- as many shards as the data have are at hand, each as a file with these bytes was split into it, and the origin names that file
+pub record HasEnough (origin : Origin) (size : ℕ) (content shards : List ℕ) (present : List Bool) : Type 0 where
+  pub whole : List ℕ
+  pub split : IsSplit origin.data_shards (shard_total origin) content whole
+  pub long : length whole ≡ length shards
+  pub same : (index : ℕ) → index < shard_total origin → IsPresent present index → shard_at size shards index ≡ shard_at size whole index
+  pub enough : origin.data_shards ≤ present_count (take (shard_total origin) present)
+  pub length_is : length content ≡ origin.length
+  pub identity_is : sha256 content ≡ origin.identity

@@ -1,8 +1,8 @@
 // The shards of one file: gathered from files by what their heads say, restored, and looked at.
-ghost use Rattle.std.specs.Prelude.{◌≡◌, ◌+◌, ◌*◌, ◌/◌, ◌<◌, ◌≤◌, ◌↔◌, take, length, false, replicate, IsOk, IsTrue, IfOk, Some};
+ghost use Rattle.std.specs.Prelude.{◌≡◌, ℕ, List, ◌+◌, ◌*◌, ◌/◌, ◌<◌, ◌≤◌, ◌↔◌, take, length, false, replicate, IsOk, IsTrue, IfOk, Some};
 ghost use Rattle.reed_solomon.specs.Shards.{AreCodewords, present_count};
 ghost use Rattle.reed_solomon.specs.Sizes.{HasShardSize};
-ghost use Rattle.shards.specs.Groups.{IsNamed, Puts, shard_total, Takes};
+ghost use Rattle.shards.specs.Groups.{HasEnough, IsNamed, Puts, shard_total, Takes};
 ghost use Rattle.shards.specs.Heads.{IsOrigin};
 
 use crate::head::{HEAD, Head, Origin};
@@ -109,25 +109,44 @@ impl Group {
     pub(crate) fn restore(&mut self) -> Result<(), JoinError>
         ensures kept { (self.new.origin ≡ self.old.origin) × (self.new.size ≡ self.old.size) }
         ensures named { IsOk result → IsNamed self.old.origin self.new.shards.items }
+        ensures restored { (content : List ℕ) → HasEnough self.old.origin self.old.size content self.old.shards.items self.old.present
+            → IsOk result × (take self.old.origin.length self.new.shards.items ≡ content) }
     {
-        let total = self.origin.total();
-        if self.count() < self.origin.data_shards as usize {
+        if !self.has_enough() {
             return Err(JoinError::TooFew);
         }
+        if !self.join_shards() {
+            return Err(JoinError::Counts);
+        }
+        if !self.is_file() {
+            return Err(JoinError::OtherBytes);
+        }
+        Ok(())
+    }
+
+    // Whether as many shards are at hand as the data have.
+    fn has_enough(&self) -> bool
+        ensures { IsTrue result ↔ (self.now.origin.data_shards ≤ present_count (take (shard_total self.now.origin) self.now.present)) }
+    {
+        self.count() >= self.origin.data_shards as usize
+    }
+
+    // Restores the missing shards from those at hand, and says whether they are enough.
+    fn join_shards(&mut self) -> bool
+        ensures kept { (self.new.origin ≡ self.old.origin) × (self.new.size ≡ self.old.size) }
+        ensures joined { (content : List ℕ) → HasEnough self.old.origin self.old.size content self.old.shards.items self.old.present
+            → IsTrue result × (take self.old.origin.length self.new.shards.items ≡ content) }
+    {
+        let total = self.origin.total();
         let present = self.present;
-        let joined = join(
+        match join(
             self.origin.data_shards as usize,
             self.origin.parity_shards as usize,
             self.shards.as_mut_slice(),
             &present[..total],
-        );
-        if joined.is_err() {
-            return Err(JoinError::Counts);
-        }
-        if self.is_file() {
-            Ok(())
-        } else {
-            Err(JoinError::OtherBytes)
+        ) {
+            Ok(()) => true,
+            Err(_) => false,
         }
     }
 

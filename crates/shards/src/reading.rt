@@ -1,8 +1,9 @@
 // The shards of a file from the files that have them, and the file from its shards.
-ghost use Rattle.std.specs.Prelude.{◌≡◌, ℕ, List, length, slice_index_or, option_map, None, Option, IfOk, OnOk};
+ghost use Rattle.std.specs.Prelude.{◌≡◌, ℕ, List, length, slice_index_or, option_map, None, Option, IfErr, IfOk, OnOk};
 ghost use Rattle.std.specs.Io.KnownBytes.{Appends};
 ghost use Rattle.sha2.specs.Sha256.{sha256};
-ghost use Rattle.shards.specs.Groups.{IsGathered, Takes};
+ghost use Rattle.shards.specs.declared.group.JoinError.TheVariants.{CannotWrite};
+ghost use Rattle.shards.specs.Groups.{HasEnough, IsGathered, Takes};
 
 use crate::group::{Group, JoinError};
 use crate::head::Origin;
@@ -59,8 +60,12 @@ fn take_next<S: ShardSource>(source: &mut S, place: usize, group: &mut Group)
 
 /// Restores a file from a group of its shards, and writes it.
 pub(crate) fn write_content<W: Write>(group: &mut Group, writer: &mut W) -> Result<(), JoinError>
-    ensures { OnOk result ((content : List ℕ) × Appends (W.contents writer.old) (W.contents writer.new) content
+    ensures named { OnOk result ((content : List ℕ) × Appends (W.contents writer.old) (W.contents writer.new) content
         × (sha256 content ≡ group.old.origin.identity) × (length content ≡ group.old.origin.length)) }
+    ensures restored { (content : List ℕ) → HasEnough group.old.origin group.old.size content group.old.shards.items group.old.present
+        → OnOk result (Appends (W.contents writer.old) (W.contents writer.new) content) }
+    ensures granted { (content : List ℕ) → HasEnough group.old.origin group.old.size content group.old.shards.items group.old.present
+        → IfErr result (λ error. error ≡ CannotWrite) }
 {
     group.restore()?;
     match writer.write_all(group.content()) {

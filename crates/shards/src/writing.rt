@@ -1,9 +1,9 @@
 // The files of the shards of a file: what they hold, and their writing.
-ghost use Rattle.std.specs.Prelude.{◌≡◌, ℕ, ◌+◌, ◌*◌, ◌<◌, ◌≤◌, List, [], ◌∷◌, ◌++◌, length, IfOk, OnOk};
-ghost use Rattle.std.specs.Io.KnownBytes.{IsAtEnd};
+ghost use Rattle.std.specs.Prelude.{◌≡◌, ℕ, ◌+◌, ◌*◌, ◌<◌, ◌≤◌, List, [], ◌∷◌, ◌++◌, length, IfOk, OnOk, Some};
 ghost use Rattle.sha2.specs.Sha256.{sha256};
-ghost use Rattle.shards.specs.Groups.{file_at, shard_total};
-ghost use Rattle.shards.specs.Files.{HasBytes, shard_files};
+ghost use Rattle.shards.specs.Groups.{file_at, shard_at, shard_total};
+ghost use Rattle.shards.specs.Heads.{shard_file};
+ghost use Rattle.shards.specs.Files.{shard_files};
 ghost use Rattle.shards.specs.Splits.{IsSplit};
 
 use crate::group::{JoinError, zeros};
@@ -22,6 +22,17 @@ pub(crate) struct Shards {
     pub(crate) bytes: Vec<u8>,
     ghost few: { origin.data_shards + origin.parity_shards ≤ 256 },
     ghost whole: { length bytes.items ≡ (origin.data_shards + origin.parity_shards) * size },
+}
+
+impl Shards {
+    // The bytes of one shard.
+    fn part(&self, index: usize) -> &[u8]
+        requires { index < shard_total self.now.origin }
+        ensures { result.now ≡ shard_at self.now.size self.now.bytes.items index }
+    {
+        let begin = index * self.size;
+        &self.bytes.as_slice()[begin..begin + self.size]
+    }
 }
 
 /// Splits the bytes of a file into so many shards of data and of parity.
@@ -87,11 +98,11 @@ pub(crate) trait ShardFiles {
     /// Begins the next file, which is empty.
     fn begin(&mut self) -> anyhow::Result<Self::File>
         ensures kept { (files : List (List ℕ)) → holds self.old files → OnOk result (holds self.new files) }
-        ensures empty { (files : List (List ℕ)) → holds self.old files → IfOk result (λ file. IsAtEnd (Self.File.contents file)) };
+        ensures empty { (files : List (List ℕ)) → holds self.old files → IfOk result (λ file. Self.File.contents file ≡ Some []) };
 
     /// Puts the file that was begun, once it is written.
     fn finish(&mut self, file: Self::File) -> anyhow::Result<()>
-        ensures { (files : List (List ℕ)) (bytes : List ℕ) → holds self.old files → HasBytes (Self.File.contents file) bytes
+        ensures { (files : List (List ℕ)) (bytes : List ℕ) → holds self.old files → Self.File.contents file ≡ Some bytes
             → OnOk result (holds self.new (files ++ bytes ∷ [])) };
 
     /// Says of which file it is that it could not be written.
@@ -119,8 +130,15 @@ fn put_shard<F: ShardFiles>(shards: &Shards, index: usize, files: &mut F) -> any
         origin: shards.origin,
         index: index as u8,
     };
-    let begin = index * shards.size;
-    let shard = &shards.bytes.as_slice()[begin..begin + shards.size];
+    let shard = shards.part(index);
+    put_file(&head, shard, files)
+}
+
+// Puts the file of a head and a shard.
+fn put_file<F: ShardFiles>(head: &Head, shard: &[u8], files: &mut F) -> anyhow::Result<()>
+    ensures { (before : List (List ℕ)) → F.holds files.old before
+        → OnOk result (F.holds files.new (before ++ shard_file head.now shard.now ∷ [])) }
+{
     let mut file = files.begin()?;
     match head.write(&mut file, shard) {
         Ok(()) => files.finish(file),
