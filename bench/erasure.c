@@ -1,10 +1,11 @@
 /* Reed-Solomon codes of this library beside ISA-L (Debian's libisal-dev), on one core.
  *
- *   gcc -O2 -o erasure bench/erasure.c crates/binary_field_c/out/libbinary_field_c.a -lisal && ./erasure [ROUNDS]
+ *   gcc -O2 -o erasure bench/erasure.c crates/binary_field_c/out/libbinary_field_c.a -lisal && ./erasure [ROUNDS] [small]
  *
  * It links one build of the library: `rt lib` for x86-64-v2, `rt lib --cpu x86-64-v3` for AVX2. Each row is the least of many
  * samples, taken by turns with those of ISA-L in one run, and the results are compared byte for byte. ISA-L has its tables from
- * before; the library makes its own in each call. The shards of a row stand one after the other, 64 bytes apart.
+ * before; the library makes its own in each call, but where a row says "prepared". The shards of a row stand one after the other, 64 bytes
+ * apart. With the word `small`, shards of 32 bytes, 1 KiB and 64 KiB are encoded, with nothing between them, and nanoseconds are printed too.
  */
 #include <isa-l/erasure_code.h>
 #include <stdint.h>
@@ -14,6 +15,9 @@
 #include <time.h>
 
 uint32_t bf_rs_encode(uint64_t data, uint64_t parity, uint8_t *shards, size_t shards_length);
+uint32_t bf_rs_prepare(uint64_t data, uint64_t parity, uint8_t *tables, size_t tables_length);
+uint32_t bf_rs_encode_prepared(uint64_t data, uint64_t parity, const uint8_t *tables, size_t tables_length, uint8_t *shards,
+                               size_t shards_length);
 uint32_t bf_rs_reconstruct(uint64_t data, uint64_t parity, uint8_t *shards, size_t shards_length, const uint8_t *present,
                            size_t present_length);
 
@@ -23,8 +27,9 @@ static int data, parity, lost;
 static size_t size;
 static uint8_t *ours, *theirs, *whole;
 static uint8_t present[MOST], factors[MOST * MOST], tables[32 * MOST * MOST];
+static _Alignas(16) uint8_t prepared[32 * MOST * MOST];
 static uint8_t *sources[MOST], *targets[MOST];
-static int rows;
+static int rows, is_small;
 
 static double now(void) {
     struct timespec time;
@@ -68,6 +73,14 @@ static void prepare(void) {
 static void encode(void) {
     if (bf_rs_encode(data, parity, ours, (data + parity) * size) != 0) {
         puts("encode was refused");
+    }
+}
+
+static size_t prepared_length(void) { return (size_t)128 * data * ((parity + 3) / 4); }
+
+static void encode_prepared(void) {
+    if (bf_rs_encode_prepared(data, parity, prepared, prepared_length(), ours, (data + parity) * size) != 0) {
+        puts("encode by tables was refused");
     }
 }
 
@@ -123,40 +136,54 @@ static void measure(const char *name, void (*library)(void), int rounds) {
     for (int c = 0; c < 5; c++) {
         printf("  %s %.2f GB/s", column[c].name, bytes / column[c].best / 1e9);
     }
-    printf("  time to SSE %.2f, to AVX2 %.2f\n", column[0].best / column[1].best, column[0].best / column[2].best);
+    printf("  time to SSE %.2f, to AVX2 %.2f", column[0].best / column[1].best, column[0].best / column[2].best);
+    if (is_small) {
+        printf("; ns: ours %.0f, SSE %.0f, AVX2 %.0f, best %.0f", column[0].best * 1e9, column[1].best * 1e9, column[2].best * 1e9, column[3].best * 1e9);
+    }
+    putchar('\n');
     fflush(stdout);
+}
+
+/* The calls of one code at one size. */
+static void row(int rounds) {
+    size_t all = (data + parity) * size;
+    ours = aligned_alloc(64, (all + 63) / 64 * 64), theirs = aligned_alloc(64, (all + 63) / 64 * 64), whole = aligned_alloc(64, (all + 63) / 64 * 64);
+    for (size_t i = 0; i < data * size; i++) {
+        ours[i] = rand() >> 7;
+    }
+    encode();
+    memcpy(whole, ours, all);
+    memcpy(theirs, ours, all);
+    if (bf_rs_prepare(data, parity, prepared, prepared_length()) != 0) {
+        puts("tables were refused");
+    }
+    for (int i = 0; i < data + parity; i++) {
+        present[i] = i < data;
+    }
+    measure("encode", encode, rounds);
+    measure("prepared", encode_prepared, rounds);
+    for (lost = 1; !is_small && lost <= parity; lost += parity - 1) {
+        for (int i = 0; i < data + parity; i++) {
+            present[i] = i >= lost;
+        }
+        char name[32];
+        snprintf(name, sizeof name, "reconstruct %d", lost);
+        measure(name, reconstruct, rounds);
+    }
+    free(ours), free(theirs), free(whole);
 }
 
 int main(int count, char **words) {
     int rounds = count > 1 ? atoi(words[1]) : 40;
     int codes[2][2] = {{10, 4}, {17, 3}};
-    size_t sizes[2] = {65536, 1 << 20};
+    size_t large[2] = {65536 + 64, (1 << 20) + 64}, small[3] = {32, 1024, 65536};
+    is_small = count > 2 && strcmp(words[2], "small") == 0;
     for (int c = 0; c < 2; c++) {
-        for (int s = 0; s < 2; s++) {
-            data = codes[c][0];
-            parity = codes[c][1];
-            size = sizes[s] + 64;
-            size_t all = (data + parity) * size;
-            ours = aligned_alloc(64, all), theirs = aligned_alloc(64, all), whole = aligned_alloc(64, all);
-            for (size_t i = 0; i < data * size; i++) {
-                ours[i] = rand() >> 7;
-            }
-            encode();
-            memcpy(whole, ours, all);
-            memcpy(theirs, ours, all);
-            for (int i = 0; i < data + parity; i++) {
-                present[i] = i < data;
-            }
-            measure("encode", encode, rounds);
-            for (lost = 1; lost <= parity; lost += parity - 1) {
-                for (int i = 0; i < data + parity; i++) {
-                    present[i] = i >= lost;
-                }
-                char name[32];
-                snprintf(name, sizeof name, "reconstruct %d", lost);
-                measure(name, reconstruct, rounds);
-            }
-            free(ours), free(theirs), free(whole);
+        data = codes[c][0];
+        parity = codes[c][1];
+        for (int s = 0; s < (is_small ? 3 : 2); s++) {
+            size = is_small ? small[s] : large[s];
+            row(rounds);
         }
     }
     return 0;

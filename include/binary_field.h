@@ -73,6 +73,9 @@ typedef struct bf_u128 {
     uint64_t words[2];
 } bf_u128;
 
+/* How many bytes the tables of a Reed-Solomon code take, as bf_rs_tables_length gives it, for an array of that length. */
+#define BF_RS_TABLES_LENGTH(data, parity) ((size_t)128 * (data) * (((parity) + 3) / 4))
+
 /* Three numbers of 64 bits, the coefficient of 1 first. */
 typedef struct bf_u192 {
     uint64_t words[3];
@@ -556,6 +559,40 @@ uint32_t bf_rs_encode(
 uint32_t bf_rs_verify(
     size_t data, size_t parity, const uint8_t *shards, size_t shards_length, uint8_t *whole) BF_CHECKED BF_NONNULL(5);
 
+/* length: how many bytes the tables of the code take: 32 for each pair of a shard of data and one of parity, parity counted
+ * up to a multiple of 4. BF_CODE if data and parity are not both at least 1 and together at most 256. */
+uint32_t bf_rs_tables_length(
+    size_t data, size_t parity, uint64_t *length) BF_CHECKED BF_NONNULL(3);
+
+/* tables: the tables of the code, by which rs_encode_prepared and rs_verify_prepared work; they are read faster from a
+ * multiple of 16 on. BF_CODE if data and parity are not both at least 1 and together at most 256. BF_LENGTH unless tables
+ * has the bytes that bf_rs_tables_length gives. */
+uint32_t bf_rs_prepare(
+    size_t data, size_t parity, uint8_t *tables, size_t tables_length) BF_CHECKED;
+
+/* Writes the shards of parity, as rs_encode does, by the tables that rs_prepare wrote for this code; by other bytes it
+ * writes parity of which nothing is said, and the data stay. BF_CODE if data and parity are not both at least 1 and together
+ * at most 256. BF_LENGTH unless tables has the bytes that bf_rs_tables_length gives, and shards a multiple, but not 0, of
+ * data + parity. */
+uint32_t bf_rs_encode_prepared(
+    size_t data, size_t parity, const uint8_t *tables, size_t tables_length, uint8_t *shards,
+    size_t shards_length) BF_CHECKED;
+
+/* whole: 1 where the shards of parity are those of the data, else 0, by the tables that rs_prepare wrote for this code; by
+ * other bytes it is 0 or 1. BF_CODE if data and parity are not both at least 1 and together at most 256. BF_LENGTH unless
+ * tables has the bytes that bf_rs_tables_length gives, and shards a multiple, but not 0, of data + parity. */
+uint32_t bf_rs_verify_prepared(
+    size_t data, size_t parity, const uint8_t *tables, size_t tables_length, const uint8_t *shards,
+    size_t shards_length, uint8_t *whole) BF_CHECKED BF_NONNULL(7);
+
+/* Adds to sums what a shard of data is in a shard of parity, by the tables that rs_prepare wrote for this code; once each
+ * shard of data was added to zeros, in any order, sums is that shard of parity. BF_CODE if data and parity are not both at
+ * least 1 and together at most 256. BF_LENGTH unless tables has the bytes that bf_rs_tables_length gives, data_shard is
+ * below data and parity_shard below parity, and shard and sums have one length. */
+uint32_t bf_rs_add_shard(
+    size_t data, size_t parity, const uint8_t *tables, size_t tables_length, size_t data_shard,
+    size_t parity_shard, const uint8_t *shard, size_t shard_length, uint8_t *sums, size_t sums_length) BF_CHECKED;
+
 /* Writes the missing shards: shard i is missing where present[i] is 0. BF_CODE if data and parity are not both at least 1
  * and together at most 256. BF_LENGTH unless shards has a multiple, but not 0, of data + parity bytes, and present has data
  * + parity. BF_TOO_FEW_SHARDS unless at least as many entries of present as data are not 0. */
@@ -578,6 +615,7 @@ uint32_t bf_rs_reconstruct_data(
 uint32_t bf_g128_multiply_wide(const bf_u128 *left, size_t left_length, const bf_u128 *right, size_t right_length, bf_u128 *products, size_t products_length) BF_CHECKED;
 uint32_t bf_g128_multiply_in_place_wide(bf_u128 *products, size_t products_length, const bf_u128 *values, size_t values_length) BF_CHECKED;
 uint32_t bf_g128_multiply_by_wide(const bf_u128 *values, size_t values_length, const bf_u128 *scalar, bf_u128 *products, size_t products_length) BF_CHECKED BF_NONNULL(3);
+uint32_t bf_g128_multiply_by_in_place_wide(bf_u128 *values, size_t values_length, const bf_u128 *scalar) BF_CHECKED BF_NONNULL(3);
 uint32_t bf_g128_add_scaled_wide(bf_u128 *sums, size_t sums_length, const bf_u128 *scalar, const bf_u128 *values, size_t values_length) BF_CHECKED BF_NONNULL(3);
 uint32_t bf_g128_dot_product_wide(const bf_u128 *left, size_t left_length, const bf_u128 *right, size_t right_length, bf_u128 *sum) BF_CHECKED BF_NONNULL(5);
 uint32_t bf_g128_butterfly_forward_wide(bf_u128 *low, size_t low_length, bf_u128 *high, size_t high_length, const bf_u128 *scalar) BF_CHECKED BF_NONNULL(5);
@@ -585,6 +623,27 @@ uint32_t bf_g128_butterfly_inverse_wide(bf_u128 *low, size_t low_length, bf_u128
 uint32_t bf_g128_low_stages_wide(bf_u128 *values, size_t values_length, const bf_u128 *shifts, size_t shifts_length, const bf_u128 *basis, size_t basis_length, size_t first_run) BF_CHECKED;
 uint32_t bf_g128_transform_wide(bf_u128 *values, size_t values_length, const bf_u128 *shift) BF_CHECKED BF_NONNULL(3);
 uint32_t bf_g128_inverse_transform_wide(bf_u128 *values, size_t values_length, const bf_u128 *shift) BF_CHECKED BF_NONNULL(3);
+
+/* Writes the shards of parity of shards that stand apart, each of size bytes: the pointers are those of the shards of data and of parity, of
+ * which none of parity overlaps another shard. tables is what bf_rs_prepare wrote for this code. It is bf_rs_add_shard for each pair of shards,
+ * and no function of the library: it is tested and not proved. BF_CODE and BF_LENGTH are those of bf_rs_add_shard. */
+static inline uint32_t BF_CHECKED bf_rs_encode_pointers(
+    size_t data, size_t parity, const uint8_t *tables, size_t tables_length, const uint8_t *const *shards, uint8_t *const *parity_shards,
+    size_t size)
+{
+    size_t row, place, at;
+    /* Without bytes a call tells whether the counts and the tables fit, before anything is written. */
+    uint32_t status = bf_rs_add_shard(data, parity, tables, tables_length, 0, 0, NULL, 0, NULL, 0);
+    for (row = 0; status == BF_OK && row < parity; row++) {
+        for (place = 0; place < size; place++) {
+            parity_shards[row][place] = 0;
+        }
+        for (at = 0; status == BF_OK && at < data; at++) {
+            status = bf_rs_add_shard(data, parity, tables, tables_length, at, row, shards[at], size, parity_shards[row], size);
+        }
+    }
+    return status;
+}
 
 #ifdef __cplusplus
 }

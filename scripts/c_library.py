@@ -88,6 +88,19 @@ OTHER_FUNCTIONS = [
      "writes the shards of parity, which stand behind those of data; all shards stand one after the other and have one size"),
     ("rs_verify", [("count", "data"), ("count", "parity"), ("in", "shards", "u8"), ("result", "whole", "u8")],
      "1 where the shards of parity are those of the data, else 0"),
+    ("rs_tables_length", [("count", "data"), ("count", "parity"), ("result", "length", "u64")],
+     "how many bytes the tables of the code take: 32 for each pair of a shard of data and one of parity, parity counted up to a multiple of 4"),
+    ("rs_prepare", [("count", "data"), ("count", "parity"), ("out", "tables", "u8")],
+     "the tables of the code, by which rs_encode_prepared and rs_verify_prepared work; they are read faster from a multiple of 16 on"),
+    ("rs_encode_prepared", [("count", "data"), ("count", "parity"), ("in", "tables", "u8"), ("inout", "shards", "u8")],
+     "writes the shards of parity, as rs_encode does, by the tables that rs_prepare wrote for this code; by other bytes it writes parity of which "
+     "nothing is said, and the data stay"),
+    ("rs_verify_prepared", [("count", "data"), ("count", "parity"), ("in", "tables", "u8"), ("in", "shards", "u8"), ("result", "whole", "u8")],
+     "1 where the shards of parity are those of the data, else 0, by the tables that rs_prepare wrote for this code; by other bytes it is 0 or 1"),
+    ("rs_add_shard", [("count", "data"), ("count", "parity"), ("in", "tables", "u8"), ("count", "data_shard"), ("count", "parity_shard"),
+                      ("in", "shard", "u8"), ("inout", "sums", "u8")],
+     "adds to sums what a shard of data is in a shard of parity, by the tables that rs_prepare wrote for this code; once each shard of data was "
+     "added to zeros, in any order, sums is that shard of parity"),
     ("rs_reconstruct", [("count", "data"), ("count", "parity"), ("inout", "shards", "u8"), ("in", "present", "u8")],
      "writes the missing shards: shard i is missing where present[i] is 0"),
     ("rs_reconstruct_data", [("count", "data"), ("count", "parity"), ("inout", "shards", "u8"), ("in", "present", "u8")],
@@ -97,8 +110,8 @@ OTHER_FUNCTIONS = [
 # Of these there is a second form, bf_NAME_wide. It gives the same, and is made for x86-64-v3, whose vectors have 256 bits: in a library
 # built for x86-64-v2 it is the slower one.
 WIDE = [
-    "g128_multiply", "g128_multiply_in_place", "g128_multiply_by", "g128_add_scaled", "g128_dot_product", "g128_butterfly_forward", "g128_butterfly_inverse",
-    "g128_low_stages", "g128_transform", "g128_inverse_transform",
+    "g128_multiply", "g128_multiply_in_place", "g128_multiply_by", "g128_multiply_by_in_place", "g128_add_scaled", "g128_dot_product",
+    "g128_butterfly_forward", "g128_butterfly_inverse", "g128_low_stages", "g128_transform", "g128_inverse_transform",
 ]
 
 # These return no status.

@@ -19,44 +19,50 @@ WORDS = {"u128": "Wide", "u192": "Cubic"}
 # The stored words of kernels that are no integers of Rust, by those of the table.
 STORED = {"u192": "Triple"}
 
-# The function over any field that a call goes to, and the word of its contract.
-CALLS = {row.split()[0]: row.split()[1:] for row in """\
-add            slices::add          Adds
-multiply       slices::multiply     Multiplies
-multiply_by    slices::multiply_by  MultipliesBy
-add_scaled     slices::add_scaled   AddsScaled
-square         slices::square       Squares
-inverse        slices::invert       Inverts
-batch_inverse  batch_invert         Inverts
-square_root    slices::square_root  TakesRoots
-power          slices::power        RaisesTo
-product        slices::product      TakesProduct
-dot_product    slices::dot_product  TakesDotProduct
-evaluate       slices::evaluate     Evaluates
-add_in_place          in_place::add          Adds
-multiply_in_place     in_place::multiply     Multiplies
-multiply_by_in_place  in_place::multiply_by  MultipliesBy
-square_in_place       in_place::square       Squares
-inverse_in_place      in_place::invert       Inverts
-square_root_in_place  in_place::square_root  TakesRoots
-power_in_place        in_place::power        RaisesTo
-generator      slices::generator    NamesGenerator
-""".splitlines()}
+# The function over any field that a call goes to, the word of its contract, and the operation that it applies.
+CALL_ROWS = [row.split() for row in """\
+add            slices::write_each_of_two  Adds          Sum
+multiply       slices::write_each_of_two  Multiplies    Product
+multiply_by    slices::multiply_by        MultipliesBy
+add_scaled     in_place::add_scaled       AddsScaled
+square         slices::write_each         Squares       Square
+inverse        slices::write_each         Inverts       Inverse
+batch_inverse  batch_invert               Inverts
+square_root    slices::write_each         TakesRoots    SquareRoot
+power          slices::write_each         RaisesTo      Power
+product        slices::product            TakesProduct
+dot_product    slices::dot_product        TakesDotProduct
+evaluate       slices::evaluate           Evaluates
+add_in_place          in_place::change_each_by  Adds          Sum
+multiply_in_place     in_place::change_each_by  Multiplies    Product
+multiply_by_in_place  in_place::multiply_by     MultipliesBy
+square_in_place       in_place::change_each     Squares       Square
+inverse_in_place      in_place::change_each     Inverts       Inverse
+square_root_in_place  in_place::change_each     TakesRoots    SquareRoot
+power_in_place        in_place::change_each     RaisesTo      Power
+generator      slices::generator          NamesGenerator
+""".splitlines()]
+CALLS = {row[0]: row[1:3] for row in CALL_ROWS}
+OPERATIONS = {row[0]: row[3] for row in CALL_ROWS if len(row) > 3}
 
 # What a field does by functions of its own.
 OWN_CALLS = {
-    "g128": {"multiply": "multiply", "multiply_in_place": "multiply_in_place", "multiply_by": "multiply_by", "add_scaled": "add_scaled", "dot_product": "dot_product"},
+    "g128": {it: it for it in ("multiply", "multiply_in_place", "multiply_by", "multiply_by_in_place", "add_scaled", "dot_product")},
     "r8": {"multiply": "multiply_bytes"},
 }
 
 # The vectors that the calls work in, and the functions of c_arithmetic over a type of vectors.
 NARROW, WIDE = "u64x2", "u64x4"
 WITH_WIDTH = {
-    "multiply", "multiply_in_place", "multiply_by", "add_scaled", "dot_product", "butterfly_forward", "butterfly_inverse", "low_stages", "transform", "inverse_transform",
+    "multiply", "multiply_in_place", "multiply_by", "multiply_by_in_place", "add_scaled", "dot_product", "butterfly_forward", "butterfly_inverse",
+    "low_stages", "transform", "inverse_transform",
 }
 
 # Calls whose loops may take two elements in a turn.
 IN_TURNS = {"square", "square_root"}
+
+# The function whose loops may, and the field of an operation that a parameter goes into.
+MAY_TAKE_TURNS, OPERANDS = "slices::write_each", {"Power": "exponent"}
 
 # The functions of no field and of the stages: the file, the function of c_arithmetic, and the contract.
 OTHER_CALLS = {row.split()[0]: row.split(maxsplit=3)[1:] for row in """\
@@ -74,6 +80,11 @@ tag_gcm_ghash           messages    gcm_ghash          Hashes ((length associate
 tags_are_equal          messages    tags_are_equal     Compares left.now right.now equal.new result
 rs_encode               shards      encode             Encodes «data» parity shards.old shards.new result
 rs_verify               shards      verify             Verifies «data» parity shards.now whole.old whole.new result
+rs_tables_length        shards      tables_length      TellsTablesLength «data» parity length.old length.new result
+rs_prepare              shards      prepare            Prepares «data» parity tables.old tables.new result
+rs_encode_prepared      shards      encode_prepared    EncodesPrepared «data» parity tables.now shards.old shards.new result
+rs_verify_prepared      shards      verify_prepared    VerifiesPrepared «data» parity tables.now shards.now whole.old whole.new result
+rs_add_shard            shards      add_shard          AddsOneShard «data» parity tables.now data_shard parity_shard shard.now sums.old sums.new result
 rs_reconstruct          shards      reconstruct        Reconstructs «data» parity («data» + parity) present.now shards.old shards.new result
 rs_reconstruct_data     shards      reconstruct_data   Reconstructs «data» parity «data» present.now shards.old shards.new result
 """.splitlines()}
@@ -106,7 +117,7 @@ HOMES = {
     "tags.specs.Blocks": ["blocks_of", "gcm_blocks"],
     "tags.specs.Gcm": ["ghash"],
     "tags.specs.Polyval": ["polyval"],
-    "c_arithmetic.specs.Bytes": ["Compares", "Encodes", "Hashes", "Reconstructs", "Verifies"],
+    "c_arithmetic.specs.Bytes": ["AddsOneShard", "Compares", "Encodes", "EncodesPrepared", "Hashes", "Prepares", "Reconstructs", "TellsTablesLength", "Verifies", "VerifiesPrepared"],
     "c_arithmetic.specs.Linear": ["MapsLinearly"],
     "c_arithmetic.specs.Transforms": [
         "ButterfliesForward", "ButterfliesInverse", "InvertsLevelTransform", "InvertsTransform", "RunsLowStages", "Transforms", "TransformsLevel",
@@ -158,10 +169,11 @@ def field_clause(contract, field, parameters, is_in_place=False):
     return " ".join([contract, named, *reads, *writes, "result"])
 
 
-def function(name, parameters, text, called, clause, more=()):
-    """An exported function: what it computes, its signature, its contract and its call, with arguments behind its own."""
+def function(name, parameters, text, called, clause, more=(), inside=()):
+    """An exported function: what it computes, its signature, its contract and its call, with arguments behind its own but for those that lie
+    inside one of them."""
     typed = [(kind, it, WORDS.get(word, word)) for kind, it, word in parameters]
-    arguments = [f"*{it}" if kind == "scalar" and word in WORDS.values() else it for kind, it, word in typed]
+    arguments = [f"*{it}" if kind == "scalar" and word in WORDS.values() else it for kind, it, word in typed if it not in inside]
     shown = [parameter(*it) for it in typed]
     signature = f'pub extern "C" fn bf_{name}({", ".join(shown)}) -> u32'
     if len(signature) > COLUMNS:
@@ -182,9 +194,9 @@ def function(name, parameters, text, called, clause, more=()):
     ])
 
 
-def called_over(field, call):
-    """The call of a function over any field: its stored word, the word of its slices, and its kernel."""
-    return f"{call}::<{STORED.get(field.word, field.word)}, {WORDS.get(field.word, field.word)}, {field.kernel}>"
+def called_over(field, call, more=""):
+    """The call of a function over any field: its stored word, the word of its slices, its kernel, and what is found by the arguments."""
+    return f"{call}::<{STORED.get(field.word, field.word)}, {WORDS.get(field.word, field.word)}, {field.kernel}{more}>"
 
 
 def of_width(call, vector):
@@ -195,13 +207,20 @@ def of_width(call, vector):
 def field_function(field, name, parameters, text):
     """A function of a field."""
     call, contract = CALLS[name]
-    own = OWN_CALLS.get(field.name, {}).get(name)
-    called = of_width(own, NARROW) if own else called_over(field, call)
-    more = [str(field.is_looked_up).lower()] if name in IN_TURNS else []
+    own, operation = OWN_CALLS.get(field.name, {}).get(name), OPERATIONS.get(name)
+    inside = [OPERANDS[operation]] if operation in OPERANDS else []
+    if own:
+        called, more = of_width(own, NARROW), []
+    elif operation:
+        called, more = called_over(field, call, ", _"), [f"&{operation} {{ {inside[0]} }}" if inside else f"&{operation}"]
+    else:
+        called, more = called_over(field, call), []
+    if call == MAY_TAKE_TURNS:
+        more.append(str(name in IN_TURNS and field.is_looked_up).lower())
     typed = c_library.typed(parameters, field.word)
     words = [(kind, it, WORDS.get(of, of)) for kind, it, of in typed]
     clause = field_clause(contract, field.contract, words, name.endswith("_in_place"))
-    return function(f"{field.name}_{name}", typed, text, called, clause, more)
+    return function(f"{field.name}_{name}", typed, text, called, clause, more, inside)
 
 
 def change_of_basis(name, parameters, text):
@@ -255,10 +274,12 @@ def in_order(name):
 
 def used(bodies):
     """The line that brings in what bodies and signatures name without a path."""
-    names = set(re.findall(r"[&\[]&?(Wide|Cubic)\b|<\w+, \w+, (\w+)(?:<(\w+)>)?>|\b(slices)::|\b(in_place)::|\b(batch_invert)\b", bodies))
+    operations = sorted({it for it in OPERATIONS.values() if re.search(rf"&{it}\b", bodies)})
+    names = set(re.findall(r"[&\[]&?(Wide|Cubic)\b|<\w+, \w+, (\w+)(?:<(\w+)>)?(?:, _)?>|\b(slices)::|\b(in_place)::|\b(batch_invert)\b", bodies))
     words = [*WORDS.values(), *STORED.values()]
     named = {it for group in names for it in group if it} | {it for it in words if re.search(rf"\b{it}\b", bodies)}
-    lines = [f"use c_arithmetic::{{{', '.join(sorted(named, key=in_order))}}};" if len(named) > 1 else f"use c_arithmetic::{named.pop()};"] if named else []
+    lines = [f"use c_arithmetic::operations::{{{', '.join(operations)}}};"] if operations else []
+    lines += [f"use c_arithmetic::{{{', '.join(sorted(named, key=in_order))}}};" if len(named) > 1 else f"use c_arithmetic::{named.pop()};"] if named else []
     lines += ["use std::simd::prelude::*;"] if re.search(rf"\b({NARROW}|{WIDE})\b", bodies) else []
     return [*lines, ""] if lines else []
 

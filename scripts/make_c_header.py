@@ -27,6 +27,11 @@ LENGTHS = {
     "tags_are_equal": "",
     "rs_encode": "shards has a multiple, but not 0, of data + parity bytes",
     "rs_verify": "shards has a multiple, but not 0, of data + parity bytes",
+    "rs_tables_length": "",
+    "rs_add_shard": "tables has the bytes that bf_rs_tables_length gives, data_shard is below data and parity_shard below parity, and shard and sums "
+    "have one length",
+    "rs_prepare": "tables has the bytes that bf_rs_tables_length gives",
+    "prepared": "tables has the bytes that bf_rs_tables_length gives, and shards a multiple, but not 0, of data + parity",
     "reconstruct": "shards has a multiple, but not 0, of data + parity bytes, and present has data + parity",
     "reconstruct_data": "shards has a multiple, but not 0, of data + parity bytes, and present has data + parity",
 }
@@ -232,6 +237,9 @@ typedef struct bf_u128 {{
     uint64_t words[2];
 }} bf_u128;
 
+/* How many bytes the tables of a Reed-Solomon code take, as bf_rs_tables_length gives it, for an array of that length. */
+#define BF_RS_TABLES_LENGTH(data, parity) ((size_t)128 * (data) * (((parity) + 3) / 4))
+
 /* Three numbers of 64 bits, the coefficient of 1 first. */
 typedef struct bf_u192 {{
     uint64_t words[3];
@@ -240,6 +248,27 @@ typedef struct bf_u192 {{
 """
 
 TAIL = """\
+/* Writes the shards of parity of shards that stand apart, each of size bytes: the pointers are those of the shards of data and of parity, of
+ * which none of parity overlaps another shard. tables is what bf_rs_prepare wrote for this code. It is bf_rs_add_shard for each pair of shards,
+ * and no function of the library: it is tested and not proved. BF_CODE and BF_LENGTH are those of bf_rs_add_shard. */
+static inline uint32_t BF_CHECKED bf_rs_encode_pointers(
+    size_t data, size_t parity, const uint8_t *tables, size_t tables_length, const uint8_t *const *shards, uint8_t *const *parity_shards,
+    size_t size)
+{
+    size_t row, place, at;
+    /* Without bytes a call tells whether the counts and the tables fit, before anything is written. */
+    uint32_t status = bf_rs_add_shard(data, parity, tables, tables_length, 0, 0, NULL, 0, NULL, 0);
+    for (row = 0; status == BF_OK && row < parity; row++) {
+        for (place = 0; place < size; place++) {
+            parity_shards[row][place] = 0;
+        }
+        for (at = 0; status == BF_OK && at < data; at++) {
+            status = bf_rs_add_shard(data, parity, tables, tables_length, at, row, shards[at], size, parity_shards[row], size);
+        }
+    }
+    return status;
+}
+
 #ifdef __cplusplus
 }
 #endif

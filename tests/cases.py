@@ -220,6 +220,17 @@ def code_cases(draw):
         wrong = list(shards)
         wrong[draw.randrange(len(wrong))] ^= 1 << draw.randrange(8)
         yield case("rs_verify", data, parity, wrong, [0])
+        tables = list(definitions.parity_tables(data, parity))
+        yield case("rs_tables_length", data, parity, [len(tables)])
+        yield case("rs_prepare", data, parity, tables)
+        yield case("rs_encode_prepared", data, parity, tables, (raw, shards))
+        yield case("rs_verify_prepared", data, parity, tables, shards, [1])
+        yield case("rs_verify_prepared", data, parity, tables, wrong, [0])
+        own, row, sums = draw.randrange(data), draw.randrange(parity), list(draw.randbytes(size))
+        added = definitions.added_shard(data, own, row, content[own * size : own * size + size], sums)
+        yield case("rs_add_shard", data, parity, tables, own, row, list(content[own * size : own * size + size]), (sums, added))
+        for other, beyond in ((data, row), (own, parity), ((1 << 64) - 1, row)):
+            yield refused(case("rs_add_shard", data, parity, tables, other, beyond, sums, (sums, sums)), "BF_LENGTH")
         for lost in sorted({0, 1, parity // 2, parity}):
             missing = set(draw.sample(range(total), lost))
             damaged = [draw.getrandbits(8) if at // size in missing else it for at, it in enumerate(shards)]
@@ -285,7 +296,8 @@ def length_cases(it):
             power = it.name.endswith("transform") and other and other & (other - 1) == 0
             longer_basis = it.name == "g128_low_stages" and at == 2 and other >= 3
             no_values = it.name == "g128_low_stages" and at == 0 and other == 0
-            whole_shards = it.name.startswith("rs_") and at == 2 and other and other % (it.arguments[0].after[0] + it.arguments[1].after[0]) == 0
+            shards = it.name.startswith("rs_") and it.arguments[at].name == "shards"
+            whole_shards = shards and other and other % (it.arguments[0].after[0] + it.arguments[1].after[0]) == 0
             if other >= 0 and not (power or longer_basis or no_values or whole_shards):
                 yield refused(of_length(it, at, other), "BF_LENGTH")
 
@@ -325,10 +337,11 @@ def status_cases(cases):
             yield from element_cases(it, field.bits)
     everything = [0] * 512
     for data, parity in ((0, 1), (1, 0), (0, 0), (256, 1), (1, 256), (2, 255), (1 << 63, 1 << 63), ((1 << 64) - 1, 1), (1, (1 << 64) - 1), (1 << 32, 4)):
-        for name in ("rs_encode", "rs_verify", "rs_reconstruct", "rs_reconstruct_data"):
-            last = {"rs_encode": (), "rs_verify": ([0],)}.get(name, ([1] * 257,))
-            shards = everything if name == "rs_verify" else (everything, everything)
-            yield refused(case(name, data, parity, shards, *last), "BF_CODE")
+        for name in (it for it in FUNCTIONS if it.startswith("rs_")):
+            given = {"tables": everything, "shards": everything, "present": [1] * 257, "whole": [0], "length": [0], "shard": [1], "sums": [0]}
+            kinds = FUNCTIONS[name][2:]
+            rest = [(given[it], given[it]) if kind == "inout" else 0 if kind == "count" else given[it] for kind, it, _ in kinds]
+            yield refused(case(name, data, parity, *rest), "BF_CODE")
     field = FIELDS["g128"]
     draw = random.Random(1)
     # Runs past the basis: with five elements there are four runs.

@@ -7,7 +7,7 @@
 #include <stdlib.h>
 #include <string.h>
 
-enum { PARAMETERS = 6, FILL = 0xa5 };
+enum { PARAMETERS = 7, FILL = 0xa5 };
 
 /* One argument of a call: its bytes, at the end of a block. */
 struct buffer {
@@ -132,6 +132,41 @@ static const struct function *named(const char *name)
     exit(2);
 }
 
+/* Shards that stand apart, by pointers, against shards one after the other; and the length of tables as a constant. */
+static void run_pointers(void)
+{
+    enum { DATA = 5, PARITY = 6, SIZE = 67 };
+    static uint8_t shards[(DATA + PARITY) * SIZE], apart[PARITY][SIZE], tables[BF_RS_TABLES_LENGTH(DATA, PARITY)];
+    const uint8_t *sources[DATA];
+    uint8_t *targets[PARITY];
+    size_t i, j, wrong = 0;
+    uint64_t length;
+    for (i = 1; i < 256; i++) {
+        for (j = 1; i + j <= 256; j++) {
+            wrong += bf_rs_tables_length(i, j, &length) != BF_OK || length != BF_RS_TABLES_LENGTH(i, j);
+        }
+    }
+    for (i = 0; i < DATA * SIZE; i++) {
+        shards[i] = (uint8_t)(i * i + i / 7);
+    }
+    for (i = 0; i < DATA; i++) {
+        sources[i] = shards + i * SIZE;
+    }
+    for (i = 0; i < PARITY; i++) {
+        memset(targets[i] = apart[i], FILL, SIZE);
+    }
+    wrong += bf_rs_prepare(DATA, PARITY, tables, sizeof tables) != BF_OK || bf_rs_encode(DATA, PARITY, shards, sizeof shards) != BF_OK;
+    wrong += bf_rs_encode_pointers(DATA, PARITY, tables, sizeof tables - 1, sources, targets, SIZE) != BF_LENGTH;
+    wrong += bf_rs_encode_pointers(0, PARITY, tables, sizeof tables, sources, targets, SIZE) != BF_CODE;
+    wrong += apart[0][0] != FILL || apart[PARITY - 1][SIZE - 1] != FILL;
+    wrong += bf_rs_encode_pointers(DATA, PARITY, tables, sizeof tables, sources, targets, SIZE) != BF_OK;
+    wrong += memcmp(apart, shards + DATA * SIZE, sizeof apart) != 0;
+    if (wrong) {
+        failures++;
+        puts("check_functions: shards by pointers, or the lengths of tables, are wrong");
+    }
+}
+
 int main(int arguments, char **argument)
 {
     FILE *file = arguments > 1 ? fopen(argument[1], "r") : NULL;
@@ -148,6 +183,7 @@ int main(int arguments, char **argument)
         failures++;
         puts("check_functions: the header and the library have different versions");
     }
+    run_pointers();
     while (fscanf(file, "%63s %lu %ld %d", name, &status, &each, &parameters) == 4) {
         struct parameter p[PARAMETERS];
         long n;

@@ -299,6 +299,18 @@ class Bytes(unittest.TestCase):
         shards = code.encode(data)
         self.assertEqual(shards.tobytes(), definitions.encoded(4, 2, content))
         self.assertTrue(code.verify(shards))
+        rows = [content[9 * it : 9 * it + 9] for it in range(4)]
+        self.assertEqual(code.parity_of(rows).tobytes(), shards[4:].tobytes())
+        out = [bytearray(9), bytearray(b"overwrite")]
+        self.assertIs(code.parity_of([memoryview(it) for it in rows], out), out)
+        self.assertEqual(b"".join(out), shards[4:].tobytes())
+        for it in (2, 0, 3, 1):
+            code.add_shard(it, 1, rows[it], out[1])
+        self.assertEqual(out[1], bytes(9))
+        for given, written in ((rows[:3], None), (rows[:3] + [b"short"], None), (rows, out[:1]), (rows, [bytes(9), bytes(9)]), ([b""] * 4, None)):
+            self.assertRaises(ValueError, code.parity_of, given, written)
+        self.assertRaises(ValueError, code.add_shard, 4, 0, rows[0], out[0])
+        self.assertRaises(ValueError, code.add_shard, 0, 2, rows[0], out[0])
         damaged = [None if it in (0, 5) else row.tobytes() for it, row in enumerate(shards)]
         self.assertTrue((code.reconstruct(damaged) == shards).all())
         self.assertTrue((code.reconstruct_data(damaged) == data).all())

@@ -237,6 +237,34 @@ def codeword(column, total):
     return values
 
 
+@functools.cache
+def parity_factor(data, parity_at, own):
+    """The factor of a shard of data in a shard of parity, by Lagrange's formula."""
+    factor = 1
+    for it in range(data):
+        if it != own:
+            factor = make_shards.multiply(factor, make_shards.multiply(data + parity_at ^ it, byte_inverse(own ^ it)))
+    return factor
+
+
+def parity_tables(data, parity):
+    """The tables of a code: of four shards of parity at once, for each shard of data the products of its four factors by 0, .., 15 and by
+    0, 16, .., 240. Where fewer than four shards are left, the others keep what the four before had, and zeros where there are none."""
+    tables, group = b"", bytearray(128 * data)
+    for at in range(parity):
+        for own in range(data):
+            start, factor = 128 * own + 32 * (at % 4), parity_factor(data, at, own)
+            group[start : start + 32] = bytes(make_shards.multiply(factor, it) for it in [*range(16), *range(0, 256, 16)])
+        if at % 4 == 3 or at == parity - 1:
+            tables += group
+    return tables
+
+
+def added_shard(data, own, parity_at, shard, sums):
+    """The sums after a shard of data was added to a shard of parity."""
+    return [was ^ make_shards.multiply(parity_factor(data, parity_at, own), it) for was, it in zip(sums, shard)]
+
+
 def encoded(data, parity, content):
     """All shards, one after the other, of the bytes of those of data."""
     size = len(content) // data

@@ -67,7 +67,8 @@ class ReedSolomon:
     """The code with so many shards of data and of parity, at most 256 in all, over bytes modulo x^8 + x^4 + x^3 + x^2 + 1.
 
     Shards are the rows of an array of bytes, or of elements that are bytes, those of data first. Only losses are restored, of shards that
-    are known to be missing; a wrong byte is found by `verify` and not corrected.
+    are known to be missing; a wrong byte is found by `verify` and not corrected. The tables of the code are made at the first call that uses them, and
+    kept: 32 bytes for each pair of a shard of data and one of parity, where those of parity are counted up to a multiple of four.
 
     >>> code = bf.ReedSolomon(2, 1)
     >>> shards = code.encode([b"two ", b"rows"])
@@ -79,7 +80,29 @@ class ReedSolomon:
         data, parity = operator.index(data), operator.index(parity)
         if not (data >= 1 and parity >= 1 and data + parity <= 256):
             raise ValueError("invalid shard counts: at least one of data and one of parity, and at most 256 in all")
-        self.data, self.parity = data, parity
+        self._data, self._parity = data, parity
+        self._made: Words | None = None
+
+    @property
+    def data(self) -> int:
+        """How many shards of data there are."""
+        return self._data
+
+    @property
+    def parity(self) -> int:
+        """How many shards of parity there are."""
+        return self._parity
+
+    @property
+    def _tables(self) -> Words:
+        if self._made is None:
+            length = np.zeros(1, np.uint64)
+            call("rs_tables_length", self.data, self.parity, length)
+            tables = np.zeros(int(length[0]), np.uint8)
+            call("rs_prepare", self.data, self.parity, tables)
+            tables.flags.writeable = False
+            self._made = tables
+        return self._made
 
     def __repr__(self) -> str:
         return f"ReedSolomon({self.data}, {self.parity})"
@@ -89,13 +112,42 @@ class ReedSolomon:
         data = self._rows(data, self.data)
         shards = np.zeros((self.data + self.parity, data.shape[1]), np.uint8)
         shards[: self.data] = data
-        call("rs_encode", self.data, self.parity, shards)
+        call("rs_encode_prepared", self.data, self.parity, self._tables, shards)
         return shards
+
+    def parity_of(self, shards: Sequence[Any], out: Sequence[Any] | None = None) -> Any:
+        """The shards of parity of shards of data that are buffers of their own, none of which is copied: the rows of an array, or `out`, a
+        buffer for each of them that is written.
+
+        >>> code = bf.ReedSolomon(2, 1)
+        >>> code.parity_of([b"ab", bytearray(b"cd")]).tobytes() == code.encode([b"ab", b"cd"])[2].tobytes()
+        True
+        """
+        rows = [_bytes(it.to_words() if isinstance(it, Stored) else it) for it in shards]
+        if len(rows) != self.data or len({len(it) for it in rows}) != 1 or not len(rows[0]):
+            raise ValueError(f"expected {self.data} shards of one size, which is not 0")
+        sums: Sequence[Words] | Words
+        sums = np.zeros((self.parity, len(rows[0])), np.uint8) if out is None else [np.frombuffer(it, np.uint8) for it in out]
+        if len(sums) != self.parity or any(len(it) != len(rows[0]) for it in sums):
+            raise ValueError(f"expected {self.parity} shards of parity of the size of those of data")
+        if not all(it.flags.writeable for it in sums):
+            raise ValueError("a shard of parity is read-only")
+        for row, parity in enumerate(sums):
+            parity[:] = 0
+            for at, shard in enumerate(rows):
+                self.add_shard(at, row, shard, parity)
+        return sums if out is None else out
+
+    def add_shard(self, data_shard: int, parity_shard: int, shard: Any, sums: Any) -> None:
+        """Adds to `sums` what a shard of data is in a shard of parity, both counted from 0. Once each shard of data was added to zeros, in any
+        order, `sums` is that shard of parity."""
+        added = sums if isinstance(sums, np.ndarray) else np.frombuffer(sums, np.uint8)
+        call("rs_add_shard", self.data, self.parity, self._tables, data_shard, parity_shard, _bytes(shard), added)
 
     def verify(self, shards: Any) -> bool:
         """Whether the shards of parity are those of the data."""
         result = np.zeros(1, np.uint8)
-        call("rs_verify", self.data, self.parity, np.ascontiguousarray(self._rows(shards, self.data + self.parity)), result)
+        call("rs_verify_prepared", self.data, self.parity, self._tables, self._rows(shards, self.data + self.parity), result)
         return bool(result[0])
 
     def reconstruct(self, shards: Sequence[Any] | Words, present: Sequence[bool] | None = None) -> Words:

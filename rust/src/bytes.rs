@@ -126,6 +126,27 @@ impl ReedSolomon {
         Ok(whole == 1)
     }
 
+    /// How many bytes the tables of the code take: 32 for each pair of a shard of data and one of parity, where those of parity are
+    /// counted up to a multiple of four.
+    pub fn tables_length(&self) -> usize {
+        let mut length = 0;
+        // SAFETY: as above.
+        succeed(unsafe { bf_rs_tables_length(self.data, self.parity, &raw mut length) });
+        length as usize
+    }
+
+    /// The code with its tables, which are written into `tables`, of `tables_length` bytes. They are read faster from a multiple of 16 on.
+    pub fn prepare<'a>(&self, tables: &'a mut [u8]) -> Result<Prepared<'a>, Error> {
+        // SAFETY: as above.
+        Error::of(unsafe {
+            bf_rs_prepare(self.data, self.parity, tables.as_mut_ptr(), tables.len())
+        })?;
+        Ok(Prepared {
+            code: *self,
+            tables,
+        })
+    }
+
     /// Writes the missing shards: shard i is missing where `present[i]` is false.
     pub fn reconstruct(&self, shards: &mut [u8], present: &[bool]) -> Result<(), Error> {
         self.restored(bf_rs_reconstruct, shards, present)
@@ -153,5 +174,102 @@ impl ReedSolomon {
                 present.len(),
             )
         })
+    }
+}
+
+/// A code with its tables, made once, so that a call makes none: that counts where shards are small.
+#[derive(Clone, Copy, Debug)]
+pub struct Prepared<'a> {
+    code: ReedSolomon,
+    tables: &'a [u8],
+}
+
+impl Prepared<'_> {
+    /// The code.
+    pub fn code(&self) -> ReedSolomon {
+        self.code
+    }
+
+    /// Writes the shards of parity.
+    pub fn encode(&self, shards: &mut [u8]) -> Result<(), Error> {
+        // SAFETY: as above.
+        Error::of(unsafe {
+            bf_rs_encode_prepared(
+                self.code.data,
+                self.code.parity,
+                self.tables.as_ptr(),
+                self.tables.len(),
+                shards.as_mut_ptr(),
+                shards.len(),
+            )
+        })
+    }
+
+    /// Adds to `sums` what a shard of data is in a shard of parity, both counted from 0. Once each shard of data was added to zeros, in any
+    /// order, `sums` is that shard of parity.
+    pub fn add_shard(
+        &self,
+        data_shard: usize,
+        parity_shard: usize,
+        shard: &[u8],
+        sums: &mut [u8],
+    ) -> Result<(), Error> {
+        // SAFETY: as above.
+        Error::of(unsafe {
+            bf_rs_add_shard(
+                self.code.data,
+                self.code.parity,
+                self.tables.as_ptr(),
+                self.tables.len(),
+                data_shard,
+                parity_shard,
+                shard.as_ptr(),
+                shard.len(),
+                sums.as_mut_ptr(),
+                sums.len(),
+            )
+        })
+    }
+
+    /// Writes the shards of parity of shards that stand apart, all of one size.
+    pub fn encode_shards<D: AsRef<[u8]>, P: AsMut<[u8]>>(
+        &self,
+        data: &[D],
+        parity: &mut [P],
+    ) -> Result<(), Error> {
+        let size = data.first().map_or(0, |it| it.as_ref().len());
+        if data.len() != self.code.data
+            || parity.len() != self.code.parity
+            || size == 0
+            || data.iter().any(|it| it.as_ref().len() != size)
+            || parity.iter_mut().any(|it| it.as_mut().len() != size)
+        {
+            return Err(Error::Length);
+        }
+        for (row, sums) in parity.iter_mut().enumerate() {
+            sums.as_mut().fill(0);
+            for (at, shard) in data.iter().enumerate() {
+                self.add_shard(at, row, shard.as_ref(), sums.as_mut())?;
+            }
+        }
+        Ok(())
+    }
+
+    /// Whether the shards of parity are those of the data.
+    pub fn verify(&self, shards: &[u8]) -> Result<bool, Error> {
+        let mut whole = 0;
+        // SAFETY: as above.
+        Error::of(unsafe {
+            bf_rs_verify_prepared(
+                self.code.data,
+                self.code.parity,
+                self.tables.as_ptr(),
+                self.tables.len(),
+                shards.as_ptr(),
+                shards.len(),
+                &raw mut whole,
+            )
+        })?;
+        Ok(whole == 1)
     }
 }

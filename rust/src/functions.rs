@@ -1564,6 +1564,7 @@ unsafe extern "C" {
         values_length: usize,
     ) -> u32;
     /// Multiplies each element by the scalar.
+    #[cfg_attr(binary_field_wide, link_name = "bf_g128_multiply_by_in_place_wide")]
     pub fn bf_g128_multiply_by_in_place(
         values: *mut [u64; 2],
         values_length: usize,
@@ -1963,6 +1964,65 @@ unsafe extern "C" {
         shards: *const u8,
         shards_length: usize,
         whole: *mut u8,
+    ) -> u32;
+    /// length: how many bytes the tables of the code take: 32 for each pair of a shard of data and one of parity,
+    /// parity counted up to a multiple of 4. BF_CODE if data and parity are not both at least 1 and together at most
+    /// 256.
+    pub fn bf_rs_tables_length(
+        data: usize,
+        parity: usize,
+        length: *mut u64,
+    ) -> u32;
+    /// tables: the tables of the code, by which rs_encode_prepared and rs_verify_prepared work; they are read faster
+    /// from a multiple of 16 on. BF_CODE if data and parity are not both at least 1 and together at most 256.
+    /// BF_LENGTH unless tables has the bytes that bf_rs_tables_length gives.
+    pub fn bf_rs_prepare(
+        data: usize,
+        parity: usize,
+        tables: *mut u8,
+        tables_length: usize,
+    ) -> u32;
+    /// Writes the shards of parity, as rs_encode does, by the tables that rs_prepare wrote for this code; by other
+    /// bytes it writes parity of which nothing is said, and the data stay. BF_CODE if data and parity are not both at
+    /// least 1 and together at most 256. BF_LENGTH unless tables has the bytes that bf_rs_tables_length gives, and
+    /// shards a multiple, but not 0, of data + parity.
+    pub fn bf_rs_encode_prepared(
+        data: usize,
+        parity: usize,
+        tables: *const u8,
+        tables_length: usize,
+        shards: *mut u8,
+        shards_length: usize,
+    ) -> u32;
+    /// whole: 1 where the shards of parity are those of the data, else 0, by the tables that rs_prepare wrote for
+    /// this code; by other bytes it is 0 or 1. BF_CODE if data and parity are not both at least 1 and together at
+    /// most 256. BF_LENGTH unless tables has the bytes that bf_rs_tables_length gives, and shards a multiple, but not
+    /// 0, of data + parity.
+    pub fn bf_rs_verify_prepared(
+        data: usize,
+        parity: usize,
+        tables: *const u8,
+        tables_length: usize,
+        shards: *const u8,
+        shards_length: usize,
+        whole: *mut u8,
+    ) -> u32;
+    /// Adds to sums what a shard of data is in a shard of parity, by the tables that rs_prepare wrote for this code;
+    /// once each shard of data was added to zeros, in any order, sums is that shard of parity. BF_CODE if data and
+    /// parity are not both at least 1 and together at most 256. BF_LENGTH unless tables has the bytes that
+    /// bf_rs_tables_length gives, data_shard is below data and parity_shard below parity, and shard and sums have one
+    /// length.
+    pub fn bf_rs_add_shard(
+        data: usize,
+        parity: usize,
+        tables: *const u8,
+        tables_length: usize,
+        data_shard: usize,
+        parity_shard: usize,
+        shard: *const u8,
+        shard_length: usize,
+        sums: *mut u8,
+        sums_length: usize,
     ) -> u32;
     /// Writes the missing shards: shard i is missing where present\[i\] is 0. BF_CODE if data and parity are not both
     /// at least 1 and together at most 256. BF_LENGTH unless shards has a multiple, but not 0, of data + parity

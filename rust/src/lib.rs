@@ -46,7 +46,9 @@ mod space;
 mod text;
 mod words;
 
-pub use bytes::{RawDataSerializable, ReedSolomon, gcm_ghash, ghash, polyval, tags_are_equal};
+pub use bytes::{
+    Prepared, RawDataSerializable, ReedSolomon, gcm_ghash, ghash, polyval, tags_are_equal,
+};
 pub use error::Error;
 pub use field::Field;
 pub use fields::{

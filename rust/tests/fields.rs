@@ -417,5 +417,35 @@ fn tags_and_codes() {
         Err(Error::TooFewShards)
     );
     assert_eq!(code.encode(&mut shards[..5]), Err(Error::Length));
+    let mut tables = [0; 256];
+    assert_eq!(code.tables_length(), 256);
+    assert!(code.prepare(&mut tables[..255]).is_err());
+    let prepared = code.prepare(&mut tables).unwrap();
+    shards[6..].fill(0);
+    assert_eq!(prepared.verify(&shards), Ok(false));
+    prepared.encode(&mut shards).unwrap();
+    assert_eq!((shards, prepared.verify(&whole)), (whole, Ok(true)));
+    assert_eq!(prepared.encode(&mut shards[..5]), Err(Error::Length));
+    assert_eq!(prepared.code(), code);
+    let (mut first, mut second) = ([9; 3], [9; 3]);
+    prepared
+        .encode_shards(
+            &[&whole[..3], &whole[3..6]],
+            &mut [&mut first[..], &mut second],
+        )
+        .unwrap();
+    assert_eq!((&first[..], &second[..]), (&whole[6..9], &whole[9..]));
+    prepared.add_shard(1, 0, &whole[3..6], &mut first).unwrap();
+    prepared.add_shard(0, 0, &whole[..3], &mut first).unwrap();
+    assert_eq!(first, [0; 3]);
+    assert!(prepared.add_shard(2, 0, &whole[..3], &mut first).is_err());
+    assert!(
+        prepared
+            .encode_shards(
+                &[&whole[..3], &whole[3..5]],
+                &mut [&mut first[..], &mut second]
+            )
+            .is_err()
+    );
     assert_eq!(ReedSolomon::new(200, 57), Err(Error::Code));
 }

@@ -4,6 +4,7 @@ ghost use Rattle.c_arithmetic.specs.Calls.{Adds, AddsScaled, Evaluates, Inverts,
 ghost use Rattle.c_arithmetic.specs.Calls.{Squares, TakesDotProduct, TakesProduct, TakesRoots};
 ghost use Rattle.c_arithmetic.specs.Fields.{ghash_field};
 
+use c_arithmetic::operations::{Inverse, Power, Square, SquareRoot, Sum};
 use c_arithmetic::{GhashKernel, Wide, batch_invert, in_place, slices};
 use std::simd::prelude::*;
 
@@ -12,7 +13,7 @@ use std::simd::prelude::*;
 pub extern "C" fn bf_g128_add(left: &[Wide], right: &[Wide], sums: &mut [Wide]) -> u32
     ensures { Adds ghash_field left.now right.now sums.old sums.new result }
 {
-    slices::add::<u128, Wide, GhashKernel>(left, right, sums)
+    slices::write_each_of_two::<u128, Wide, GhashKernel, _>(left, right, sums, &Sum)
 }
 
 /// The product of the elements at each place.
@@ -44,7 +45,7 @@ pub extern "C" fn bf_g128_add_scaled(sums: &mut [Wide], scalar: &Wide, values: &
 pub extern "C" fn bf_g128_square(values: &[Wide], squares: &mut [Wide]) -> u32
     ensures { Squares ghash_field values.now squares.old squares.new result }
 {
-    slices::square::<u128, Wide, GhashKernel>(values, squares, false)
+    slices::write_each::<u128, Wide, GhashKernel, _>(values, squares, &Square, false)
 }
 
 /// The inverse of each element, and 0 for 0.
@@ -52,7 +53,7 @@ pub extern "C" fn bf_g128_square(values: &[Wide], squares: &mut [Wide]) -> u32
 pub extern "C" fn bf_g128_inverse(values: &[Wide], inverses: &mut [Wide]) -> u32
     ensures { Inverts ghash_field values.now inverses.old inverses.new result }
 {
-    slices::invert::<u128, Wide, GhashKernel>(values, inverses)
+    slices::write_each::<u128, Wide, GhashKernel, _>(values, inverses, &Inverse, false)
 }
 
 /// The same as inverse, by one inverse and three products an element.
@@ -68,7 +69,7 @@ pub extern "C" fn bf_g128_batch_inverse(values: &[Wide], inverses: &mut [Wide]) 
 pub extern "C" fn bf_g128_square_root(values: &[Wide], roots: &mut [Wide]) -> u32
     ensures { TakesRoots ghash_field values.now roots.old roots.new result }
 {
-    slices::square_root::<u128, Wide, GhashKernel>(values, roots, false)
+    slices::write_each::<u128, Wide, GhashKernel, _>(values, roots, &SquareRoot, false)
 }
 
 /// Each element to the power of the exponent; to the power 0 it is 1.
@@ -76,7 +77,7 @@ pub extern "C" fn bf_g128_square_root(values: &[Wide], roots: &mut [Wide]) -> u3
 pub extern "C" fn bf_g128_power(values: &[Wide], exponent: u64, powers: &mut [Wide]) -> u32
     ensures { RaisesTo ghash_field exponent values.now powers.old powers.new result }
 {
-    slices::power::<u128, Wide, GhashKernel>(values, exponent, powers)
+    slices::write_each::<u128, Wide, GhashKernel, _>(values, powers, &Power { exponent }, false)
 }
 
 /// The product of all elements, 1 of none.
@@ -112,7 +113,7 @@ pub extern "C" fn bf_g128_evaluate(
 pub extern "C" fn bf_g128_add_in_place(sums: &mut [Wide], values: &[Wide]) -> u32
     ensures { Adds ghash_field sums.old values.now sums.old sums.new result }
 {
-    in_place::add::<u128, Wide, GhashKernel>(sums, values)
+    in_place::change_each_by::<u128, Wide, GhashKernel, _>(sums, values, &Sum)
 }
 
 /// Multiplies each element of products by the value at its place.
@@ -128,7 +129,7 @@ pub extern "C" fn bf_g128_multiply_in_place(products: &mut [Wide], values: &[Wid
 pub extern "C" fn bf_g128_multiply_by_in_place(values: &mut [Wide], scalar: &Wide) -> u32
     ensures { MultipliesBy ghash_field scalar.now values.old values.old values.new result }
 {
-    in_place::multiply_by::<u128, Wide, GhashKernel>(values, *scalar)
+    c_arithmetic::multiply_by_in_place::<u64x2>(values, *scalar)
 }
 
 /// Squares each element.
@@ -136,7 +137,7 @@ pub extern "C" fn bf_g128_multiply_by_in_place(values: &mut [Wide], scalar: &Wid
 pub extern "C" fn bf_g128_square_in_place(values: &mut [Wide]) -> u32
     ensures { Squares ghash_field values.old values.old values.new result }
 {
-    in_place::square::<u128, Wide, GhashKernel>(values)
+    in_place::change_each::<u128, Wide, GhashKernel, _>(values, &Square)
 }
 
 /// Leaves the inverse of each element, and 0 of 0.
@@ -144,7 +145,7 @@ pub extern "C" fn bf_g128_square_in_place(values: &mut [Wide]) -> u32
 pub extern "C" fn bf_g128_inverse_in_place(values: &mut [Wide]) -> u32
     ensures { Inverts ghash_field values.old values.old values.new result }
 {
-    in_place::invert::<u128, Wide, GhashKernel>(values)
+    in_place::change_each::<u128, Wide, GhashKernel, _>(values, &Inverse)
 }
 
 /// Leaves the square root of each element.
@@ -152,7 +153,7 @@ pub extern "C" fn bf_g128_inverse_in_place(values: &mut [Wide]) -> u32
 pub extern "C" fn bf_g128_square_root_in_place(values: &mut [Wide]) -> u32
     ensures { TakesRoots ghash_field values.old values.old values.new result }
 {
-    in_place::square_root::<u128, Wide, GhashKernel>(values)
+    in_place::change_each::<u128, Wide, GhashKernel, _>(values, &SquareRoot)
 }
 
 /// Raises each element to the power of the exponent; to the power 0 it is 1.
@@ -160,7 +161,7 @@ pub extern "C" fn bf_g128_square_root_in_place(values: &mut [Wide]) -> u32
 pub extern "C" fn bf_g128_power_in_place(values: &mut [Wide], exponent: u64) -> u32
     ensures { RaisesTo ghash_field exponent values.old values.old values.new result }
 {
-    in_place::power::<u128, Wide, GhashKernel>(values, exponent)
+    in_place::change_each::<u128, Wide, GhashKernel, _>(values, &Power { exponent })
 }
 
 /// The generator of the field's multiplicative group that the library names.

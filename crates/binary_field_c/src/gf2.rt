@@ -4,6 +4,7 @@ ghost use Rattle.c_arithmetic.specs.Calls.{Adds, AddsScaled, Evaluates, Inverts,
 ghost use Rattle.c_arithmetic.specs.Calls.{Squares, TakesDotProduct, TakesProduct, TakesRoots};
 ghost use Rattle.c_arithmetic.specs.Fields.{level_field};
 
+use c_arithmetic::operations::{Inverse, Power, Product, Square, SquareRoot, Sum};
 use c_arithmetic::{Bits1, Tower, batch_invert, in_place, slices};
 
 /// The sum of the elements at each place.
@@ -11,7 +12,7 @@ use c_arithmetic::{Bits1, Tower, batch_invert, in_place, slices};
 pub extern "C" fn bf_gf2_add(left: &[u8], right: &[u8], sums: &mut [u8]) -> u32
     ensures { Adds (level_field 0) left.now right.now sums.old sums.new result }
 {
-    slices::add::<u8, u8, Tower<Bits1>>(left, right, sums)
+    slices::write_each_of_two::<u8, u8, Tower<Bits1>, _>(left, right, sums, &Sum)
 }
 
 /// The product of the elements at each place.
@@ -19,7 +20,7 @@ pub extern "C" fn bf_gf2_add(left: &[u8], right: &[u8], sums: &mut [u8]) -> u32
 pub extern "C" fn bf_gf2_multiply(left: &[u8], right: &[u8], products: &mut [u8]) -> u32
     ensures { Multiplies (level_field 0) left.now right.now products.old products.new result }
 {
-    slices::multiply::<u8, u8, Tower<Bits1>>(left, right, products)
+    slices::write_each_of_two::<u8, u8, Tower<Bits1>, _>(left, right, products, &Product)
 }
 
 /// The product of each element and the scalar.
@@ -35,7 +36,7 @@ pub extern "C" fn bf_gf2_multiply_by(values: &[u8], scalar: u8, products: &mut [
 pub extern "C" fn bf_gf2_add_scaled(sums: &mut [u8], scalar: u8, values: &[u8]) -> u32
     ensures { AddsScaled (level_field 0) scalar values.now sums.old sums.new result }
 {
-    slices::add_scaled::<u8, u8, Tower<Bits1>>(sums, scalar, values)
+    in_place::add_scaled::<u8, u8, Tower<Bits1>>(sums, scalar, values)
 }
 
 /// The square of each element.
@@ -43,7 +44,7 @@ pub extern "C" fn bf_gf2_add_scaled(sums: &mut [u8], scalar: u8, values: &[u8]) 
 pub extern "C" fn bf_gf2_square(values: &[u8], squares: &mut [u8]) -> u32
     ensures { Squares (level_field 0) values.now squares.old squares.new result }
 {
-    slices::square::<u8, u8, Tower<Bits1>>(values, squares, false)
+    slices::write_each::<u8, u8, Tower<Bits1>, _>(values, squares, &Square, false)
 }
 
 /// The inverse of each element, and 0 for 0.
@@ -51,7 +52,7 @@ pub extern "C" fn bf_gf2_square(values: &[u8], squares: &mut [u8]) -> u32
 pub extern "C" fn bf_gf2_inverse(values: &[u8], inverses: &mut [u8]) -> u32
     ensures { Inverts (level_field 0) values.now inverses.old inverses.new result }
 {
-    slices::invert::<u8, u8, Tower<Bits1>>(values, inverses)
+    slices::write_each::<u8, u8, Tower<Bits1>, _>(values, inverses, &Inverse, false)
 }
 
 /// The same as inverse, by one inverse and three products an element.
@@ -67,7 +68,7 @@ pub extern "C" fn bf_gf2_batch_inverse(values: &[u8], inverses: &mut [u8]) -> u3
 pub extern "C" fn bf_gf2_square_root(values: &[u8], roots: &mut [u8]) -> u32
     ensures { TakesRoots (level_field 0) values.now roots.old roots.new result }
 {
-    slices::square_root::<u8, u8, Tower<Bits1>>(values, roots, false)
+    slices::write_each::<u8, u8, Tower<Bits1>, _>(values, roots, &SquareRoot, false)
 }
 
 /// Each element to the power of the exponent; to the power 0 it is 1.
@@ -75,7 +76,7 @@ pub extern "C" fn bf_gf2_square_root(values: &[u8], roots: &mut [u8]) -> u32
 pub extern "C" fn bf_gf2_power(values: &[u8], exponent: u64, powers: &mut [u8]) -> u32
     ensures { RaisesTo (level_field 0) exponent values.now powers.old powers.new result }
 {
-    slices::power::<u8, u8, Tower<Bits1>>(values, exponent, powers)
+    slices::write_each::<u8, u8, Tower<Bits1>, _>(values, powers, &Power { exponent }, false)
 }
 
 /// The product of all elements, 1 of none.
@@ -107,7 +108,7 @@ pub extern "C" fn bf_gf2_evaluate(coefficients: &[u8], points: &[u8], values: &m
 pub extern "C" fn bf_gf2_add_in_place(sums: &mut [u8], values: &[u8]) -> u32
     ensures { Adds (level_field 0) sums.old values.now sums.old sums.new result }
 {
-    in_place::add::<u8, u8, Tower<Bits1>>(sums, values)
+    in_place::change_each_by::<u8, u8, Tower<Bits1>, _>(sums, values, &Sum)
 }
 
 /// Multiplies each element of products by the value at its place.
@@ -115,7 +116,7 @@ pub extern "C" fn bf_gf2_add_in_place(sums: &mut [u8], values: &[u8]) -> u32
 pub extern "C" fn bf_gf2_multiply_in_place(products: &mut [u8], values: &[u8]) -> u32
     ensures { Multiplies (level_field 0) products.old values.now products.old products.new result }
 {
-    in_place::multiply::<u8, u8, Tower<Bits1>>(products, values)
+    in_place::change_each_by::<u8, u8, Tower<Bits1>, _>(products, values, &Product)
 }
 
 /// Multiplies each element by the scalar.
@@ -131,7 +132,7 @@ pub extern "C" fn bf_gf2_multiply_by_in_place(values: &mut [u8], scalar: u8) -> 
 pub extern "C" fn bf_gf2_square_in_place(values: &mut [u8]) -> u32
     ensures { Squares (level_field 0) values.old values.old values.new result }
 {
-    in_place::square::<u8, u8, Tower<Bits1>>(values)
+    in_place::change_each::<u8, u8, Tower<Bits1>, _>(values, &Square)
 }
 
 /// Leaves the inverse of each element, and 0 of 0.
@@ -139,7 +140,7 @@ pub extern "C" fn bf_gf2_square_in_place(values: &mut [u8]) -> u32
 pub extern "C" fn bf_gf2_inverse_in_place(values: &mut [u8]) -> u32
     ensures { Inverts (level_field 0) values.old values.old values.new result }
 {
-    in_place::invert::<u8, u8, Tower<Bits1>>(values)
+    in_place::change_each::<u8, u8, Tower<Bits1>, _>(values, &Inverse)
 }
 
 /// Leaves the square root of each element.
@@ -147,7 +148,7 @@ pub extern "C" fn bf_gf2_inverse_in_place(values: &mut [u8]) -> u32
 pub extern "C" fn bf_gf2_square_root_in_place(values: &mut [u8]) -> u32
     ensures { TakesRoots (level_field 0) values.old values.old values.new result }
 {
-    in_place::square_root::<u8, u8, Tower<Bits1>>(values)
+    in_place::change_each::<u8, u8, Tower<Bits1>, _>(values, &SquareRoot)
 }
 
 /// Raises each element to the power of the exponent; to the power 0 it is 1.
@@ -155,7 +156,7 @@ pub extern "C" fn bf_gf2_square_root_in_place(values: &mut [u8]) -> u32
 pub extern "C" fn bf_gf2_power_in_place(values: &mut [u8], exponent: u64) -> u32
     ensures { RaisesTo (level_field 0) exponent values.old values.old values.new result }
 {
-    in_place::power::<u8, u8, Tower<Bits1>>(values, exponent)
+    in_place::change_each::<u8, u8, Tower<Bits1>, _>(values, &Power { exponent })
 }
 
 /// The generator of the field's multiplicative group that the library names.

@@ -4,6 +4,7 @@ ghost use Rattle.c_arithmetic.specs.Calls.{Adds, AddsScaled, Evaluates, Inverts,
 ghost use Rattle.c_arithmetic.specs.Calls.{Squares, TakesDotProduct, TakesProduct, TakesRoots};
 ghost use Rattle.c_arithmetic.specs.Fields.{cubic_field};
 
+use c_arithmetic::operations::{Inverse, Power, Product, Square, SquareRoot, Sum};
 use c_arithmetic::{Cubic, CubicKernel, Triple, batch_invert, in_place, slices};
 
 /// The sum of the elements at each place.
@@ -11,7 +12,7 @@ use c_arithmetic::{Cubic, CubicKernel, Triple, batch_invert, in_place, slices};
 pub extern "C" fn bf_p192_add(left: &[Cubic], right: &[Cubic], sums: &mut [Cubic]) -> u32
     ensures { Adds cubic_field left.now right.now sums.old sums.new result }
 {
-    slices::add::<Triple, Cubic, CubicKernel>(left, right, sums)
+    slices::write_each_of_two::<Triple, Cubic, CubicKernel, _>(left, right, sums, &Sum)
 }
 
 /// The product of the elements at each place.
@@ -19,7 +20,7 @@ pub extern "C" fn bf_p192_add(left: &[Cubic], right: &[Cubic], sums: &mut [Cubic
 pub extern "C" fn bf_p192_multiply(left: &[Cubic], right: &[Cubic], products: &mut [Cubic]) -> u32
     ensures { Multiplies cubic_field left.now right.now products.old products.new result }
 {
-    slices::multiply::<Triple, Cubic, CubicKernel>(left, right, products)
+    slices::write_each_of_two::<Triple, Cubic, CubicKernel, _>(left, right, products, &Product)
 }
 
 /// The product of each element and the scalar.
@@ -39,7 +40,7 @@ pub extern "C" fn bf_p192_multiply_by(
 pub extern "C" fn bf_p192_add_scaled(sums: &mut [Cubic], scalar: &Cubic, values: &[Cubic]) -> u32
     ensures { AddsScaled cubic_field scalar.now values.now sums.old sums.new result }
 {
-    slices::add_scaled::<Triple, Cubic, CubicKernel>(sums, *scalar, values)
+    in_place::add_scaled::<Triple, Cubic, CubicKernel>(sums, *scalar, values)
 }
 
 /// The square of each element.
@@ -47,7 +48,7 @@ pub extern "C" fn bf_p192_add_scaled(sums: &mut [Cubic], scalar: &Cubic, values:
 pub extern "C" fn bf_p192_square(values: &[Cubic], squares: &mut [Cubic]) -> u32
     ensures { Squares cubic_field values.now squares.old squares.new result }
 {
-    slices::square::<Triple, Cubic, CubicKernel>(values, squares, false)
+    slices::write_each::<Triple, Cubic, CubicKernel, _>(values, squares, &Square, false)
 }
 
 /// The inverse of each element, and 0 for 0.
@@ -55,7 +56,7 @@ pub extern "C" fn bf_p192_square(values: &[Cubic], squares: &mut [Cubic]) -> u32
 pub extern "C" fn bf_p192_inverse(values: &[Cubic], inverses: &mut [Cubic]) -> u32
     ensures { Inverts cubic_field values.now inverses.old inverses.new result }
 {
-    slices::invert::<Triple, Cubic, CubicKernel>(values, inverses)
+    slices::write_each::<Triple, Cubic, CubicKernel, _>(values, inverses, &Inverse, false)
 }
 
 /// The same as inverse, by one inverse and three products an element.
@@ -71,7 +72,7 @@ pub extern "C" fn bf_p192_batch_inverse(values: &[Cubic], inverses: &mut [Cubic]
 pub extern "C" fn bf_p192_square_root(values: &[Cubic], roots: &mut [Cubic]) -> u32
     ensures { TakesRoots cubic_field values.now roots.old roots.new result }
 {
-    slices::square_root::<Triple, Cubic, CubicKernel>(values, roots, false)
+    slices::write_each::<Triple, Cubic, CubicKernel, _>(values, roots, &SquareRoot, false)
 }
 
 /// Each element to the power of the exponent; to the power 0 it is 1.
@@ -79,7 +80,7 @@ pub extern "C" fn bf_p192_square_root(values: &[Cubic], roots: &mut [Cubic]) -> 
 pub extern "C" fn bf_p192_power(values: &[Cubic], exponent: u64, powers: &mut [Cubic]) -> u32
     ensures { RaisesTo cubic_field exponent values.now powers.old powers.new result }
 {
-    slices::power::<Triple, Cubic, CubicKernel>(values, exponent, powers)
+    slices::write_each::<Triple, Cubic, CubicKernel, _>(values, powers, &Power { exponent }, false)
 }
 
 /// The product of all elements, 1 of none.
@@ -115,7 +116,7 @@ pub extern "C" fn bf_p192_evaluate(
 pub extern "C" fn bf_p192_add_in_place(sums: &mut [Cubic], values: &[Cubic]) -> u32
     ensures { Adds cubic_field sums.old values.now sums.old sums.new result }
 {
-    in_place::add::<Triple, Cubic, CubicKernel>(sums, values)
+    in_place::change_each_by::<Triple, Cubic, CubicKernel, _>(sums, values, &Sum)
 }
 
 /// Multiplies each element of products by the value at its place.
@@ -123,7 +124,7 @@ pub extern "C" fn bf_p192_add_in_place(sums: &mut [Cubic], values: &[Cubic]) -> 
 pub extern "C" fn bf_p192_multiply_in_place(products: &mut [Cubic], values: &[Cubic]) -> u32
     ensures { Multiplies cubic_field products.old values.now products.old products.new result }
 {
-    in_place::multiply::<Triple, Cubic, CubicKernel>(products, values)
+    in_place::change_each_by::<Triple, Cubic, CubicKernel, _>(products, values, &Product)
 }
 
 /// Multiplies each element by the scalar.
@@ -139,7 +140,7 @@ pub extern "C" fn bf_p192_multiply_by_in_place(values: &mut [Cubic], scalar: &Cu
 pub extern "C" fn bf_p192_square_in_place(values: &mut [Cubic]) -> u32
     ensures { Squares cubic_field values.old values.old values.new result }
 {
-    in_place::square::<Triple, Cubic, CubicKernel>(values)
+    in_place::change_each::<Triple, Cubic, CubicKernel, _>(values, &Square)
 }
 
 /// Leaves the inverse of each element, and 0 of 0.
@@ -147,7 +148,7 @@ pub extern "C" fn bf_p192_square_in_place(values: &mut [Cubic]) -> u32
 pub extern "C" fn bf_p192_inverse_in_place(values: &mut [Cubic]) -> u32
     ensures { Inverts cubic_field values.old values.old values.new result }
 {
-    in_place::invert::<Triple, Cubic, CubicKernel>(values)
+    in_place::change_each::<Triple, Cubic, CubicKernel, _>(values, &Inverse)
 }
 
 /// Leaves the square root of each element.
@@ -155,7 +156,7 @@ pub extern "C" fn bf_p192_inverse_in_place(values: &mut [Cubic]) -> u32
 pub extern "C" fn bf_p192_square_root_in_place(values: &mut [Cubic]) -> u32
     ensures { TakesRoots cubic_field values.old values.old values.new result }
 {
-    in_place::square_root::<Triple, Cubic, CubicKernel>(values)
+    in_place::change_each::<Triple, Cubic, CubicKernel, _>(values, &SquareRoot)
 }
 
 /// Raises each element to the power of the exponent; to the power 0 it is 1.
@@ -163,7 +164,7 @@ pub extern "C" fn bf_p192_square_root_in_place(values: &mut [Cubic]) -> u32
 pub extern "C" fn bf_p192_power_in_place(values: &mut [Cubic], exponent: u64) -> u32
     ensures { RaisesTo cubic_field exponent values.old values.old values.new result }
 {
-    in_place::power::<Triple, Cubic, CubicKernel>(values, exponent)
+    in_place::change_each::<Triple, Cubic, CubicKernel, _>(values, &Power { exponent })
 }
 
 /// The generator of the field's multiplicative group that the library names.

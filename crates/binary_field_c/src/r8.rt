@@ -4,6 +4,7 @@ ghost use Rattle.c_arithmetic.specs.Calls.{Adds, AddsScaled, Evaluates, Inverts,
 ghost use Rattle.c_arithmetic.specs.Calls.{Squares, TakesDotProduct, TakesProduct, TakesRoots};
 ghost use Rattle.c_arithmetic.specs.Fields.{rijndael_field};
 
+use c_arithmetic::operations::{Inverse, Power, Product, Square, SquareRoot, Sum};
 use c_arithmetic::{RijndaelKernel, batch_invert, in_place, slices};
 
 /// The sum of the elements at each place.
@@ -11,7 +12,7 @@ use c_arithmetic::{RijndaelKernel, batch_invert, in_place, slices};
 pub extern "C" fn bf_r8_add(left: &[u8], right: &[u8], sums: &mut [u8]) -> u32
     ensures { Adds rijndael_field left.now right.now sums.old sums.new result }
 {
-    slices::add::<u8, u8, RijndaelKernel>(left, right, sums)
+    slices::write_each_of_two::<u8, u8, RijndaelKernel, _>(left, right, sums, &Sum)
 }
 
 /// The product of the elements at each place.
@@ -35,7 +36,7 @@ pub extern "C" fn bf_r8_multiply_by(values: &[u8], scalar: u8, products: &mut [u
 pub extern "C" fn bf_r8_add_scaled(sums: &mut [u8], scalar: u8, values: &[u8]) -> u32
     ensures { AddsScaled rijndael_field scalar values.now sums.old sums.new result }
 {
-    slices::add_scaled::<u8, u8, RijndaelKernel>(sums, scalar, values)
+    in_place::add_scaled::<u8, u8, RijndaelKernel>(sums, scalar, values)
 }
 
 /// The square of each element.
@@ -43,7 +44,7 @@ pub extern "C" fn bf_r8_add_scaled(sums: &mut [u8], scalar: u8, values: &[u8]) -
 pub extern "C" fn bf_r8_square(values: &[u8], squares: &mut [u8]) -> u32
     ensures { Squares rijndael_field values.now squares.old squares.new result }
 {
-    slices::square::<u8, u8, RijndaelKernel>(values, squares, false)
+    slices::write_each::<u8, u8, RijndaelKernel, _>(values, squares, &Square, false)
 }
 
 /// The inverse of each element, and 0 for 0.
@@ -51,7 +52,7 @@ pub extern "C" fn bf_r8_square(values: &[u8], squares: &mut [u8]) -> u32
 pub extern "C" fn bf_r8_inverse(values: &[u8], inverses: &mut [u8]) -> u32
     ensures { Inverts rijndael_field values.now inverses.old inverses.new result }
 {
-    slices::invert::<u8, u8, RijndaelKernel>(values, inverses)
+    slices::write_each::<u8, u8, RijndaelKernel, _>(values, inverses, &Inverse, false)
 }
 
 /// The same as inverse, by one inverse and three products an element.
@@ -67,7 +68,7 @@ pub extern "C" fn bf_r8_batch_inverse(values: &[u8], inverses: &mut [u8]) -> u32
 pub extern "C" fn bf_r8_square_root(values: &[u8], roots: &mut [u8]) -> u32
     ensures { TakesRoots rijndael_field values.now roots.old roots.new result }
 {
-    slices::square_root::<u8, u8, RijndaelKernel>(values, roots, false)
+    slices::write_each::<u8, u8, RijndaelKernel, _>(values, roots, &SquareRoot, false)
 }
 
 /// Each element to the power of the exponent; to the power 0 it is 1.
@@ -75,7 +76,7 @@ pub extern "C" fn bf_r8_square_root(values: &[u8], roots: &mut [u8]) -> u32
 pub extern "C" fn bf_r8_power(values: &[u8], exponent: u64, powers: &mut [u8]) -> u32
     ensures { RaisesTo rijndael_field exponent values.now powers.old powers.new result }
 {
-    slices::power::<u8, u8, RijndaelKernel>(values, exponent, powers)
+    slices::write_each::<u8, u8, RijndaelKernel, _>(values, powers, &Power { exponent }, false)
 }
 
 /// The product of all elements, 1 of none.
@@ -107,7 +108,7 @@ pub extern "C" fn bf_r8_evaluate(coefficients: &[u8], points: &[u8], values: &mu
 pub extern "C" fn bf_r8_add_in_place(sums: &mut [u8], values: &[u8]) -> u32
     ensures { Adds rijndael_field sums.old values.now sums.old sums.new result }
 {
-    in_place::add::<u8, u8, RijndaelKernel>(sums, values)
+    in_place::change_each_by::<u8, u8, RijndaelKernel, _>(sums, values, &Sum)
 }
 
 /// Multiplies each element of products by the value at its place.
@@ -115,7 +116,7 @@ pub extern "C" fn bf_r8_add_in_place(sums: &mut [u8], values: &[u8]) -> u32
 pub extern "C" fn bf_r8_multiply_in_place(products: &mut [u8], values: &[u8]) -> u32
     ensures { Multiplies rijndael_field products.old values.now products.old products.new result }
 {
-    in_place::multiply::<u8, u8, RijndaelKernel>(products, values)
+    in_place::change_each_by::<u8, u8, RijndaelKernel, _>(products, values, &Product)
 }
 
 /// Multiplies each element by the scalar.
@@ -131,7 +132,7 @@ pub extern "C" fn bf_r8_multiply_by_in_place(values: &mut [u8], scalar: u8) -> u
 pub extern "C" fn bf_r8_square_in_place(values: &mut [u8]) -> u32
     ensures { Squares rijndael_field values.old values.old values.new result }
 {
-    in_place::square::<u8, u8, RijndaelKernel>(values)
+    in_place::change_each::<u8, u8, RijndaelKernel, _>(values, &Square)
 }
 
 /// Leaves the inverse of each element, and 0 of 0.
@@ -139,7 +140,7 @@ pub extern "C" fn bf_r8_square_in_place(values: &mut [u8]) -> u32
 pub extern "C" fn bf_r8_inverse_in_place(values: &mut [u8]) -> u32
     ensures { Inverts rijndael_field values.old values.old values.new result }
 {
-    in_place::invert::<u8, u8, RijndaelKernel>(values)
+    in_place::change_each::<u8, u8, RijndaelKernel, _>(values, &Inverse)
 }
 
 /// Leaves the square root of each element.
@@ -147,7 +148,7 @@ pub extern "C" fn bf_r8_inverse_in_place(values: &mut [u8]) -> u32
 pub extern "C" fn bf_r8_square_root_in_place(values: &mut [u8]) -> u32
     ensures { TakesRoots rijndael_field values.old values.old values.new result }
 {
-    in_place::square_root::<u8, u8, RijndaelKernel>(values)
+    in_place::change_each::<u8, u8, RijndaelKernel, _>(values, &SquareRoot)
 }
 
 /// Raises each element to the power of the exponent; to the power 0 it is 1.
@@ -155,7 +156,7 @@ pub extern "C" fn bf_r8_square_root_in_place(values: &mut [u8]) -> u32
 pub extern "C" fn bf_r8_power_in_place(values: &mut [u8], exponent: u64) -> u32
     ensures { RaisesTo rijndael_field exponent values.old values.old values.new result }
 {
-    in_place::power::<u8, u8, RijndaelKernel>(values, exponent)
+    in_place::change_each::<u8, u8, RijndaelKernel, _>(values, &Power { exponent })
 }
 
 /// The generator of the field's multiplicative group that the library names.

@@ -1,7 +1,8 @@
 // Calls over shards, which stand one after the other and have one size: those of data, and then those of parity.
 // Written by scripts/make_c_exports.py; do not edit.
-ghost use Rattle.std.specs.Prelude.{◌+◌};
-ghost use Rattle.c_arithmetic.specs.Bytes.{Encodes, Reconstructs, Verifies};
+ghost use Rattle.std.specs.Prelude.{◌+◌, length};
+ghost use Rattle.c_arithmetic.specs.Bytes.{AddsOneShard, Encodes, EncodesPrepared, Prepares, Reconstructs, TellsTablesLength};
+ghost use Rattle.c_arithmetic.specs.Bytes.{Verifies, VerifiesPrepared};
 
 /// Writes the shards of parity, which stand behind those of data; all shards stand one after the other and have one size.
 #[unsafe(no_mangle)]
@@ -17,6 +18,69 @@ pub extern "C" fn bf_rs_verify(data: u64, parity: u64, shards: &[u8], whole: &mu
     ensures { Verifies «data» parity shards.now whole.old whole.new result }
 {
     c_arithmetic::verify(data, parity, shards, whole)
+}
+
+/// How many bytes the tables of the code take: 32 for each pair of a shard of data and one of parity, parity counted up to a multiple of
+/// 4.
+#[unsafe(no_mangle)]
+pub extern "C" fn bf_rs_tables_length(data: u64, parity: u64, length: &mut u64) -> u32
+    ensures { TellsTablesLength «data» parity length.old length.new result }
+{
+    c_arithmetic::tables_length(data, parity, length)
+}
+
+/// The tables of the code, by which rs_encode_prepared and rs_verify_prepared work; they are read faster from a multiple of 16 on.
+#[unsafe(no_mangle)]
+pub extern "C" fn bf_rs_prepare(data: u64, parity: u64, tables: &mut [u8]) -> u32
+    ensures { Prepares «data» parity tables.old tables.new result }
+{
+    c_arithmetic::prepare(data, parity, tables)
+}
+
+/// Writes the shards of parity, as rs_encode does, by the tables that rs_prepare wrote for this code; by other bytes it writes parity of
+/// which nothing is said, and the data stay.
+#[unsafe(no_mangle)]
+pub extern "C" fn bf_rs_encode_prepared(
+    data: u64,
+    parity: u64,
+    tables: &[u8],
+    shards: &mut [u8],
+) -> u32
+    ensures { EncodesPrepared «data» parity tables.now shards.old shards.new result }
+{
+    c_arithmetic::encode_prepared(data, parity, tables, shards)
+}
+
+/// 1 where the shards of parity are those of the data, else 0, by the tables that rs_prepare wrote for this code; by other bytes it is 0
+/// or 1.
+#[unsafe(no_mangle)]
+pub extern "C" fn bf_rs_verify_prepared(
+    data: u64,
+    parity: u64,
+    tables: &[u8],
+    shards: &[u8],
+    whole: &mut u8,
+) -> u32
+    ensures { VerifiesPrepared «data» parity tables.now shards.now whole.old whole.new result }
+{
+    c_arithmetic::verify_prepared(data, parity, tables, shards, whole)
+}
+
+/// Adds to sums what a shard of data is in a shard of parity, by the tables that rs_prepare wrote for this code; once each shard of data
+/// was added to zeros, in any order, sums is that shard of parity.
+#[unsafe(no_mangle)]
+pub extern "C" fn bf_rs_add_shard(
+    data: u64,
+    parity: u64,
+    tables: &[u8],
+    data_shard: u64,
+    parity_shard: u64,
+    shard: &[u8],
+    sums: &mut [u8],
+) -> u32
+    ensures { AddsOneShard «data» parity tables.now data_shard parity_shard shard.now sums.old sums.new result }
+{
+    c_arithmetic::add_shard(data, parity, tables, data_shard, parity_shard, shard, sums)
 }
 
 /// Writes the missing shards: shard i is missing where present[i] is 0.

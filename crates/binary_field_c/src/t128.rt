@@ -4,6 +4,7 @@ ghost use Rattle.c_arithmetic.specs.Calls.{Adds, AddsScaled, Evaluates, Inverts,
 ghost use Rattle.c_arithmetic.specs.Calls.{Squares, TakesDotProduct, TakesProduct, TakesRoots};
 ghost use Rattle.c_arithmetic.specs.Fields.{wide_level_field};
 
+use c_arithmetic::operations::{Inverse, Power, Product, Square, SquareRoot, Sum};
 use c_arithmetic::{Bits128, Tower, Wide, batch_invert, in_place, slices};
 
 /// The sum of the elements at each place.
@@ -11,7 +12,7 @@ use c_arithmetic::{Bits128, Tower, Wide, batch_invert, in_place, slices};
 pub extern "C" fn bf_t128_add(left: &[Wide], right: &[Wide], sums: &mut [Wide]) -> u32
     ensures { Adds wide_level_field left.now right.now sums.old sums.new result }
 {
-    slices::add::<u128, Wide, Tower<Bits128>>(left, right, sums)
+    slices::write_each_of_two::<u128, Wide, Tower<Bits128>, _>(left, right, sums, &Sum)
 }
 
 /// The product of the elements at each place.
@@ -19,7 +20,7 @@ pub extern "C" fn bf_t128_add(left: &[Wide], right: &[Wide], sums: &mut [Wide]) 
 pub extern "C" fn bf_t128_multiply(left: &[Wide], right: &[Wide], products: &mut [Wide]) -> u32
     ensures { Multiplies wide_level_field left.now right.now products.old products.new result }
 {
-    slices::multiply::<u128, Wide, Tower<Bits128>>(left, right, products)
+    slices::write_each_of_two::<u128, Wide, Tower<Bits128>, _>(left, right, products, &Product)
 }
 
 /// The product of each element and the scalar.
@@ -35,7 +36,7 @@ pub extern "C" fn bf_t128_multiply_by(values: &[Wide], scalar: &Wide, products: 
 pub extern "C" fn bf_t128_add_scaled(sums: &mut [Wide], scalar: &Wide, values: &[Wide]) -> u32
     ensures { AddsScaled wide_level_field scalar.now values.now sums.old sums.new result }
 {
-    slices::add_scaled::<u128, Wide, Tower<Bits128>>(sums, *scalar, values)
+    in_place::add_scaled::<u128, Wide, Tower<Bits128>>(sums, *scalar, values)
 }
 
 /// The square of each element.
@@ -43,7 +44,7 @@ pub extern "C" fn bf_t128_add_scaled(sums: &mut [Wide], scalar: &Wide, values: &
 pub extern "C" fn bf_t128_square(values: &[Wide], squares: &mut [Wide]) -> u32
     ensures { Squares wide_level_field values.now squares.old squares.new result }
 {
-    slices::square::<u128, Wide, Tower<Bits128>>(values, squares, false)
+    slices::write_each::<u128, Wide, Tower<Bits128>, _>(values, squares, &Square, false)
 }
 
 /// The inverse of each element, and 0 for 0.
@@ -51,7 +52,7 @@ pub extern "C" fn bf_t128_square(values: &[Wide], squares: &mut [Wide]) -> u32
 pub extern "C" fn bf_t128_inverse(values: &[Wide], inverses: &mut [Wide]) -> u32
     ensures { Inverts wide_level_field values.now inverses.old inverses.new result }
 {
-    slices::invert::<u128, Wide, Tower<Bits128>>(values, inverses)
+    slices::write_each::<u128, Wide, Tower<Bits128>, _>(values, inverses, &Inverse, false)
 }
 
 /// The same as inverse, by one inverse and three products an element.
@@ -67,7 +68,7 @@ pub extern "C" fn bf_t128_batch_inverse(values: &[Wide], inverses: &mut [Wide]) 
 pub extern "C" fn bf_t128_square_root(values: &[Wide], roots: &mut [Wide]) -> u32
     ensures { TakesRoots wide_level_field values.now roots.old roots.new result }
 {
-    slices::square_root::<u128, Wide, Tower<Bits128>>(values, roots, false)
+    slices::write_each::<u128, Wide, Tower<Bits128>, _>(values, roots, &SquareRoot, false)
 }
 
 /// Each element to the power of the exponent; to the power 0 it is 1.
@@ -75,7 +76,7 @@ pub extern "C" fn bf_t128_square_root(values: &[Wide], roots: &mut [Wide]) -> u3
 pub extern "C" fn bf_t128_power(values: &[Wide], exponent: u64, powers: &mut [Wide]) -> u32
     ensures { RaisesTo wide_level_field exponent values.now powers.old powers.new result }
 {
-    slices::power::<u128, Wide, Tower<Bits128>>(values, exponent, powers)
+    slices::write_each::<u128, Wide, Tower<Bits128>, _>(values, powers, &Power { exponent }, false)
 }
 
 /// The product of all elements, 1 of none.
@@ -111,7 +112,7 @@ pub extern "C" fn bf_t128_evaluate(
 pub extern "C" fn bf_t128_add_in_place(sums: &mut [Wide], values: &[Wide]) -> u32
     ensures { Adds wide_level_field sums.old values.now sums.old sums.new result }
 {
-    in_place::add::<u128, Wide, Tower<Bits128>>(sums, values)
+    in_place::change_each_by::<u128, Wide, Tower<Bits128>, _>(sums, values, &Sum)
 }
 
 /// Multiplies each element of products by the value at its place.
@@ -119,7 +120,7 @@ pub extern "C" fn bf_t128_add_in_place(sums: &mut [Wide], values: &[Wide]) -> u3
 pub extern "C" fn bf_t128_multiply_in_place(products: &mut [Wide], values: &[Wide]) -> u32
     ensures { Multiplies wide_level_field products.old values.now products.old products.new result }
 {
-    in_place::multiply::<u128, Wide, Tower<Bits128>>(products, values)
+    in_place::change_each_by::<u128, Wide, Tower<Bits128>, _>(products, values, &Product)
 }
 
 /// Multiplies each element by the scalar.
@@ -135,7 +136,7 @@ pub extern "C" fn bf_t128_multiply_by_in_place(values: &mut [Wide], scalar: &Wid
 pub extern "C" fn bf_t128_square_in_place(values: &mut [Wide]) -> u32
     ensures { Squares wide_level_field values.old values.old values.new result }
 {
-    in_place::square::<u128, Wide, Tower<Bits128>>(values)
+    in_place::change_each::<u128, Wide, Tower<Bits128>, _>(values, &Square)
 }
 
 /// Leaves the inverse of each element, and 0 of 0.
@@ -143,7 +144,7 @@ pub extern "C" fn bf_t128_square_in_place(values: &mut [Wide]) -> u32
 pub extern "C" fn bf_t128_inverse_in_place(values: &mut [Wide]) -> u32
     ensures { Inverts wide_level_field values.old values.old values.new result }
 {
-    in_place::invert::<u128, Wide, Tower<Bits128>>(values)
+    in_place::change_each::<u128, Wide, Tower<Bits128>, _>(values, &Inverse)
 }
 
 /// Leaves the square root of each element.
@@ -151,7 +152,7 @@ pub extern "C" fn bf_t128_inverse_in_place(values: &mut [Wide]) -> u32
 pub extern "C" fn bf_t128_square_root_in_place(values: &mut [Wide]) -> u32
     ensures { TakesRoots wide_level_field values.old values.old values.new result }
 {
-    in_place::square_root::<u128, Wide, Tower<Bits128>>(values)
+    in_place::change_each::<u128, Wide, Tower<Bits128>, _>(values, &SquareRoot)
 }
 
 /// Raises each element to the power of the exponent; to the power 0 it is 1.
@@ -159,7 +160,7 @@ pub extern "C" fn bf_t128_square_root_in_place(values: &mut [Wide]) -> u32
 pub extern "C" fn bf_t128_power_in_place(values: &mut [Wide], exponent: u64) -> u32
     ensures { RaisesTo wide_level_field exponent values.old values.old values.new result }
 {
-    in_place::power::<u128, Wide, Tower<Bits128>>(values, exponent)
+    in_place::change_each::<u128, Wide, Tower<Bits128>, _>(values, &Power { exponent })
 }
 
 /// The generator of the field's multiplicative group that the library names.

@@ -4,6 +4,7 @@ ghost use Rattle.c_arithmetic.specs.Calls.{Adds, AddsScaled, Evaluates, Inverts,
 ghost use Rattle.c_arithmetic.specs.Calls.{Squares, TakesDotProduct, TakesProduct, TakesRoots};
 ghost use Rattle.c_arithmetic.specs.Fields.{level_field};
 
+use c_arithmetic::operations::{Inverse, Power, Product, Square, SquareRoot, Sum};
 use c_arithmetic::{Bits16, Tower, batch_invert, in_place, slices};
 
 /// The sum of the elements at each place.
@@ -11,7 +12,7 @@ use c_arithmetic::{Bits16, Tower, batch_invert, in_place, slices};
 pub extern "C" fn bf_t16_add(left: &[u16], right: &[u16], sums: &mut [u16]) -> u32
     ensures { Adds (level_field 4) left.now right.now sums.old sums.new result }
 {
-    slices::add::<u16, u16, Tower<Bits16>>(left, right, sums)
+    slices::write_each_of_two::<u16, u16, Tower<Bits16>, _>(left, right, sums, &Sum)
 }
 
 /// The product of the elements at each place.
@@ -19,7 +20,7 @@ pub extern "C" fn bf_t16_add(left: &[u16], right: &[u16], sums: &mut [u16]) -> u
 pub extern "C" fn bf_t16_multiply(left: &[u16], right: &[u16], products: &mut [u16]) -> u32
     ensures { Multiplies (level_field 4) left.now right.now products.old products.new result }
 {
-    slices::multiply::<u16, u16, Tower<Bits16>>(left, right, products)
+    slices::write_each_of_two::<u16, u16, Tower<Bits16>, _>(left, right, products, &Product)
 }
 
 /// The product of each element and the scalar.
@@ -35,7 +36,7 @@ pub extern "C" fn bf_t16_multiply_by(values: &[u16], scalar: u16, products: &mut
 pub extern "C" fn bf_t16_add_scaled(sums: &mut [u16], scalar: u16, values: &[u16]) -> u32
     ensures { AddsScaled (level_field 4) scalar values.now sums.old sums.new result }
 {
-    slices::add_scaled::<u16, u16, Tower<Bits16>>(sums, scalar, values)
+    in_place::add_scaled::<u16, u16, Tower<Bits16>>(sums, scalar, values)
 }
 
 /// The square of each element.
@@ -43,7 +44,7 @@ pub extern "C" fn bf_t16_add_scaled(sums: &mut [u16], scalar: u16, values: &[u16
 pub extern "C" fn bf_t16_square(values: &[u16], squares: &mut [u16]) -> u32
     ensures { Squares (level_field 4) values.now squares.old squares.new result }
 {
-    slices::square::<u16, u16, Tower<Bits16>>(values, squares, true)
+    slices::write_each::<u16, u16, Tower<Bits16>, _>(values, squares, &Square, true)
 }
 
 /// The inverse of each element, and 0 for 0.
@@ -51,7 +52,7 @@ pub extern "C" fn bf_t16_square(values: &[u16], squares: &mut [u16]) -> u32
 pub extern "C" fn bf_t16_inverse(values: &[u16], inverses: &mut [u16]) -> u32
     ensures { Inverts (level_field 4) values.now inverses.old inverses.new result }
 {
-    slices::invert::<u16, u16, Tower<Bits16>>(values, inverses)
+    slices::write_each::<u16, u16, Tower<Bits16>, _>(values, inverses, &Inverse, false)
 }
 
 /// The same as inverse, by one inverse and three products an element.
@@ -67,7 +68,7 @@ pub extern "C" fn bf_t16_batch_inverse(values: &[u16], inverses: &mut [u16]) -> 
 pub extern "C" fn bf_t16_square_root(values: &[u16], roots: &mut [u16]) -> u32
     ensures { TakesRoots (level_field 4) values.now roots.old roots.new result }
 {
-    slices::square_root::<u16, u16, Tower<Bits16>>(values, roots, true)
+    slices::write_each::<u16, u16, Tower<Bits16>, _>(values, roots, &SquareRoot, true)
 }
 
 /// Each element to the power of the exponent; to the power 0 it is 1.
@@ -75,7 +76,7 @@ pub extern "C" fn bf_t16_square_root(values: &[u16], roots: &mut [u16]) -> u32
 pub extern "C" fn bf_t16_power(values: &[u16], exponent: u64, powers: &mut [u16]) -> u32
     ensures { RaisesTo (level_field 4) exponent values.now powers.old powers.new result }
 {
-    slices::power::<u16, u16, Tower<Bits16>>(values, exponent, powers)
+    slices::write_each::<u16, u16, Tower<Bits16>, _>(values, powers, &Power { exponent }, false)
 }
 
 /// The product of all elements, 1 of none.
@@ -107,7 +108,7 @@ pub extern "C" fn bf_t16_evaluate(coefficients: &[u16], points: &[u16], values: 
 pub extern "C" fn bf_t16_add_in_place(sums: &mut [u16], values: &[u16]) -> u32
     ensures { Adds (level_field 4) sums.old values.now sums.old sums.new result }
 {
-    in_place::add::<u16, u16, Tower<Bits16>>(sums, values)
+    in_place::change_each_by::<u16, u16, Tower<Bits16>, _>(sums, values, &Sum)
 }
 
 /// Multiplies each element of products by the value at its place.
@@ -115,7 +116,7 @@ pub extern "C" fn bf_t16_add_in_place(sums: &mut [u16], values: &[u16]) -> u32
 pub extern "C" fn bf_t16_multiply_in_place(products: &mut [u16], values: &[u16]) -> u32
     ensures { Multiplies (level_field 4) products.old values.now products.old products.new result }
 {
-    in_place::multiply::<u16, u16, Tower<Bits16>>(products, values)
+    in_place::change_each_by::<u16, u16, Tower<Bits16>, _>(products, values, &Product)
 }
 
 /// Multiplies each element by the scalar.
@@ -131,7 +132,7 @@ pub extern "C" fn bf_t16_multiply_by_in_place(values: &mut [u16], scalar: u16) -
 pub extern "C" fn bf_t16_square_in_place(values: &mut [u16]) -> u32
     ensures { Squares (level_field 4) values.old values.old values.new result }
 {
-    in_place::square::<u16, u16, Tower<Bits16>>(values)
+    in_place::change_each::<u16, u16, Tower<Bits16>, _>(values, &Square)
 }
 
 /// Leaves the inverse of each element, and 0 of 0.
@@ -139,7 +140,7 @@ pub extern "C" fn bf_t16_square_in_place(values: &mut [u16]) -> u32
 pub extern "C" fn bf_t16_inverse_in_place(values: &mut [u16]) -> u32
     ensures { Inverts (level_field 4) values.old values.old values.new result }
 {
-    in_place::invert::<u16, u16, Tower<Bits16>>(values)
+    in_place::change_each::<u16, u16, Tower<Bits16>, _>(values, &Inverse)
 }
 
 /// Leaves the square root of each element.
@@ -147,7 +148,7 @@ pub extern "C" fn bf_t16_inverse_in_place(values: &mut [u16]) -> u32
 pub extern "C" fn bf_t16_square_root_in_place(values: &mut [u16]) -> u32
     ensures { TakesRoots (level_field 4) values.old values.old values.new result }
 {
-    in_place::square_root::<u16, u16, Tower<Bits16>>(values)
+    in_place::change_each::<u16, u16, Tower<Bits16>, _>(values, &SquareRoot)
 }
 
 /// Raises each element to the power of the exponent; to the power 0 it is 1.
@@ -155,7 +156,7 @@ pub extern "C" fn bf_t16_square_root_in_place(values: &mut [u16]) -> u32
 pub extern "C" fn bf_t16_power_in_place(values: &mut [u16], exponent: u64) -> u32
     ensures { RaisesTo (level_field 4) exponent values.old values.old values.new result }
 {
-    in_place::power::<u16, u16, Tower<Bits16>>(values, exponent)
+    in_place::change_each::<u16, u16, Tower<Bits16>, _>(values, &Power { exponent })
 }
 
 /// The generator of the field's multiplicative group that the library names.

@@ -4,6 +4,7 @@ ghost use Rattle.c_arithmetic.specs.Calls.{Adds, AddsScaled, Evaluates, Inverts,
 ghost use Rattle.c_arithmetic.specs.Calls.{Squares, TakesDotProduct, TakesProduct, TakesRoots};
 ghost use Rattle.c_arithmetic.specs.Fields.{level_field};
 
+use c_arithmetic::operations::{Inverse, Power, Product, Square, SquareRoot, Sum};
 use c_arithmetic::{Bits64, Tower, batch_invert, in_place, slices};
 
 /// The sum of the elements at each place.
@@ -11,7 +12,7 @@ use c_arithmetic::{Bits64, Tower, batch_invert, in_place, slices};
 pub extern "C" fn bf_t64_add(left: &[u64], right: &[u64], sums: &mut [u64]) -> u32
     ensures { Adds (level_field 6) left.now right.now sums.old sums.new result }
 {
-    slices::add::<u64, u64, Tower<Bits64>>(left, right, sums)
+    slices::write_each_of_two::<u64, u64, Tower<Bits64>, _>(left, right, sums, &Sum)
 }
 
 /// The product of the elements at each place.
@@ -19,7 +20,7 @@ pub extern "C" fn bf_t64_add(left: &[u64], right: &[u64], sums: &mut [u64]) -> u
 pub extern "C" fn bf_t64_multiply(left: &[u64], right: &[u64], products: &mut [u64]) -> u32
     ensures { Multiplies (level_field 6) left.now right.now products.old products.new result }
 {
-    slices::multiply::<u64, u64, Tower<Bits64>>(left, right, products)
+    slices::write_each_of_two::<u64, u64, Tower<Bits64>, _>(left, right, products, &Product)
 }
 
 /// The product of each element and the scalar.
@@ -35,7 +36,7 @@ pub extern "C" fn bf_t64_multiply_by(values: &[u64], scalar: u64, products: &mut
 pub extern "C" fn bf_t64_add_scaled(sums: &mut [u64], scalar: u64, values: &[u64]) -> u32
     ensures { AddsScaled (level_field 6) scalar values.now sums.old sums.new result }
 {
-    slices::add_scaled::<u64, u64, Tower<Bits64>>(sums, scalar, values)
+    in_place::add_scaled::<u64, u64, Tower<Bits64>>(sums, scalar, values)
 }
 
 /// The square of each element.
@@ -43,7 +44,7 @@ pub extern "C" fn bf_t64_add_scaled(sums: &mut [u64], scalar: u64, values: &[u64
 pub extern "C" fn bf_t64_square(values: &[u64], squares: &mut [u64]) -> u32
     ensures { Squares (level_field 6) values.now squares.old squares.new result }
 {
-    slices::square::<u64, u64, Tower<Bits64>>(values, squares, false)
+    slices::write_each::<u64, u64, Tower<Bits64>, _>(values, squares, &Square, false)
 }
 
 /// The inverse of each element, and 0 for 0.
@@ -51,7 +52,7 @@ pub extern "C" fn bf_t64_square(values: &[u64], squares: &mut [u64]) -> u32
 pub extern "C" fn bf_t64_inverse(values: &[u64], inverses: &mut [u64]) -> u32
     ensures { Inverts (level_field 6) values.now inverses.old inverses.new result }
 {
-    slices::invert::<u64, u64, Tower<Bits64>>(values, inverses)
+    slices::write_each::<u64, u64, Tower<Bits64>, _>(values, inverses, &Inverse, false)
 }
 
 /// The same as inverse, by one inverse and three products an element.
@@ -67,7 +68,7 @@ pub extern "C" fn bf_t64_batch_inverse(values: &[u64], inverses: &mut [u64]) -> 
 pub extern "C" fn bf_t64_square_root(values: &[u64], roots: &mut [u64]) -> u32
     ensures { TakesRoots (level_field 6) values.now roots.old roots.new result }
 {
-    slices::square_root::<u64, u64, Tower<Bits64>>(values, roots, false)
+    slices::write_each::<u64, u64, Tower<Bits64>, _>(values, roots, &SquareRoot, false)
 }
 
 /// Each element to the power of the exponent; to the power 0 it is 1.
@@ -75,7 +76,7 @@ pub extern "C" fn bf_t64_square_root(values: &[u64], roots: &mut [u64]) -> u32
 pub extern "C" fn bf_t64_power(values: &[u64], exponent: u64, powers: &mut [u64]) -> u32
     ensures { RaisesTo (level_field 6) exponent values.now powers.old powers.new result }
 {
-    slices::power::<u64, u64, Tower<Bits64>>(values, exponent, powers)
+    slices::write_each::<u64, u64, Tower<Bits64>, _>(values, powers, &Power { exponent }, false)
 }
 
 /// The product of all elements, 1 of none.
@@ -107,7 +108,7 @@ pub extern "C" fn bf_t64_evaluate(coefficients: &[u64], points: &[u64], values: 
 pub extern "C" fn bf_t64_add_in_place(sums: &mut [u64], values: &[u64]) -> u32
     ensures { Adds (level_field 6) sums.old values.now sums.old sums.new result }
 {
-    in_place::add::<u64, u64, Tower<Bits64>>(sums, values)
+    in_place::change_each_by::<u64, u64, Tower<Bits64>, _>(sums, values, &Sum)
 }
 
 /// Multiplies each element of products by the value at its place.
@@ -115,7 +116,7 @@ pub extern "C" fn bf_t64_add_in_place(sums: &mut [u64], values: &[u64]) -> u32
 pub extern "C" fn bf_t64_multiply_in_place(products: &mut [u64], values: &[u64]) -> u32
     ensures { Multiplies (level_field 6) products.old values.now products.old products.new result }
 {
-    in_place::multiply::<u64, u64, Tower<Bits64>>(products, values)
+    in_place::change_each_by::<u64, u64, Tower<Bits64>, _>(products, values, &Product)
 }
 
 /// Multiplies each element by the scalar.
@@ -131,7 +132,7 @@ pub extern "C" fn bf_t64_multiply_by_in_place(values: &mut [u64], scalar: u64) -
 pub extern "C" fn bf_t64_square_in_place(values: &mut [u64]) -> u32
     ensures { Squares (level_field 6) values.old values.old values.new result }
 {
-    in_place::square::<u64, u64, Tower<Bits64>>(values)
+    in_place::change_each::<u64, u64, Tower<Bits64>, _>(values, &Square)
 }
 
 /// Leaves the inverse of each element, and 0 of 0.
@@ -139,7 +140,7 @@ pub extern "C" fn bf_t64_square_in_place(values: &mut [u64]) -> u32
 pub extern "C" fn bf_t64_inverse_in_place(values: &mut [u64]) -> u32
     ensures { Inverts (level_field 6) values.old values.old values.new result }
 {
-    in_place::invert::<u64, u64, Tower<Bits64>>(values)
+    in_place::change_each::<u64, u64, Tower<Bits64>, _>(values, &Inverse)
 }
 
 /// Leaves the square root of each element.
@@ -147,7 +148,7 @@ pub extern "C" fn bf_t64_inverse_in_place(values: &mut [u64]) -> u32
 pub extern "C" fn bf_t64_square_root_in_place(values: &mut [u64]) -> u32
     ensures { TakesRoots (level_field 6) values.old values.old values.new result }
 {
-    in_place::square_root::<u64, u64, Tower<Bits64>>(values)
+    in_place::change_each::<u64, u64, Tower<Bits64>, _>(values, &SquareRoot)
 }
 
 /// Raises each element to the power of the exponent; to the power 0 it is 1.
@@ -155,7 +156,7 @@ pub extern "C" fn bf_t64_square_root_in_place(values: &mut [u64]) -> u32
 pub extern "C" fn bf_t64_power_in_place(values: &mut [u64], exponent: u64) -> u32
     ensures { RaisesTo (level_field 6) exponent values.old values.old values.new result }
 {
-    in_place::power::<u64, u64, Tower<Bits64>>(values, exponent)
+    in_place::change_each::<u64, u64, Tower<Bits64>, _>(values, &Power { exponent })
 }
 
 /// The generator of the field's multiplicative group that the library names.

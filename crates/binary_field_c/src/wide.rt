@@ -35,6 +35,14 @@ pub extern "C" fn bf_g128_multiply_by_wide(
     c_arithmetic::multiply_by::<u64x4>(values, *scalar, products)
 }
 
+/// The same as `bf_g128_multiply_by_in_place`.
+#[unsafe(no_mangle)]
+pub extern "C" fn bf_g128_multiply_by_in_place_wide(values: &mut [Wide], scalar: &Wide) -> u32
+    ensures { MultipliesBy ghash_field scalar.now values.old values.old values.new result }
+{
+    c_arithmetic::multiply_by_in_place::<u64x4>(values, *scalar)
+}
+
 /// The same as `bf_g128_add_scaled`.
 #[unsafe(no_mangle)]
 pub extern "C" fn bf_g128_add_scaled_wide(sums: &mut [Wide], scalar: &Wide, values: &[Wide]) -> u32

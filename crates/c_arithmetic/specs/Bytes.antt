@@ -1,5 +1,7 @@
 -- Calls over messages and over shards.
-use Rattle.std.specs.Prelude.{◌≡◌, ◌≢◌, ℕ, ◌+◌, ◌/◌, ◌<◌, ◌≤◌, Bool, not, nat_eq, List, length, map}
+use Rattle.std.specs.Prelude.{◌≡◌, ◌≢◌, ℕ, ◌+◌, ◌*◌, ◌/◌, ◌<◌, ◌≤◌, Bool, not, nat_eq, List, length, map, take}
+use Rattle.reed_solomon.specs.Adding.{AddsShard}
+use Rattle.reed_solomon.specs.Parity.{HaveParityTables, tables_length}
 use Rattle.reed_solomon.specs.Shards.{AreCodewords, IsEncoded, IsReconstructed, present_count}
 use Rattle.reed_solomon.specs.Sizes.{HasShardSize}
 use Rattle.c_arithmetic.specs.Calls.{CallOf}
@@ -46,6 +48,41 @@ abbrev pub Verifies : ℕ → ℕ → List ℕ → ℕ → ℕ → ℕ → Type 
 Verifies k parity shards old new status =
     CallOfCode (IsCode k parity) (HasShardSize (k + parity) (length shards)) (Unit {0})
     (Answers (AreCodewords k (k + parity) (length shards / (k + parity)) shards) new) old new status
+
+-- a call that tells how many bytes the tables of a code take
+abbrev pub TellsTablesLength : ℕ → ℕ → ℕ → ℕ → ℕ → Type 0
+TellsTablesLength k parity old new status =
+    CallOfCode (IsCode k parity) (Unit {0}) (Unit {0}) (new ≡ tables_length k parity) old new status
+
+-- a call that writes the tables of a code
+abbrev pub Prepares : ℕ → ℕ → List ℕ → List ℕ → ℕ → Type 0
+Prepares k parity old new status =
+    CallOfCode (IsCode k parity) (length old ≡ tables_length k parity) (Unit {0}) (HaveParityTables k parity new) old new status
+
+-- shards after their parity was written by tables: that of the data, where these are the tables of the code. Otherwise nothing is said of the
+-- parity. The data stay by any tables
+pub record AreEncodedBy (k parity : ℕ) (tables old new : List ℕ) : Type 0 where
+  pub encoded : HaveParityTables k parity tables → IsEncoded k (k + parity) (length old / (k + parity)) old new
+  pub data_kept : take (k * (length old / (k + parity))) new ≡ take (k * (length old / (k + parity))) old
+  pub long : length new ≡ length old
+
+-- a call that writes the parity of k shards of data by tables
+abbrev pub EncodesPrepared : ℕ → ℕ → List ℕ → List ℕ → List ℕ → ℕ → Type 0
+EncodesPrepared k parity tables old new status =
+    CallOfCode (IsCode k parity) ((length tables ≡ tables_length k parity) × HasShardSize (k + parity) (length old)) (Unit {0})
+    (AreEncodedBy k parity tables old new) old new status
+
+-- a call that answers by tables whether the parity is that of the data, where these are the tables of the code. By others it answers 0 or 1
+abbrev pub VerifiesPrepared : ℕ → ℕ → List ℕ → List ℕ → ℕ → ℕ → ℕ → Type 0
+VerifiesPrepared k parity tables shards old new status =
+    CallOfCode (IsCode k parity) ((length tables ≡ tables_length k parity) × HasShardSize (k + parity) (length shards)) (Unit {0})
+    ((HaveParityTables k parity tables → Answers (AreCodewords k (k + parity) (length shards / (k + parity)) shards) new) × (new < 2)) old new status
+
+-- a call that adds shard j of the data to shard t of the parity, where these are the tables of the code
+abbrev pub AddsOneShard : ℕ → ℕ → List ℕ → ℕ → ℕ → List ℕ → List ℕ → List ℕ → ℕ → Type 0
+AddsOneShard k parity tables j t shard old new status =
+    CallOfCode (IsCode k parity) ((length tables ≡ tables_length k parity) × (j < k) × (t < parity) × (length shard ≡ length old)) (Unit {0})
+    ((HaveParityTables k parity tables → AddsShard k t j shard old new) × (length new ≡ length old)) old new status
 
 -- the missing shards before shard `until` are restored
 abbrev pub Reconstructs : ℕ → ℕ → ℕ → List ℕ → List ℕ → List ℕ → ℕ → Type 0

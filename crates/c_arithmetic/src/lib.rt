@@ -12,6 +12,7 @@ mod lanes;
 mod linear;
 mod messages;
 mod numbers;
+pub mod operations;
 mod products;
 mod scalars;
 mod shards;
@@ -27,8 +28,11 @@ pub use crate::kernels::Basis;
 pub use crate::linear::{map_bytes, map_wide};
 pub use crate::messages::{gcm_ghash, ghash, polyval, tags_are_equal};
 pub use crate::products::{dot_product, multiply, multiply_in_place};
-pub use crate::scalars::{add_scaled, multiply_by};
-pub use crate::shards::{encode, reconstruct, reconstruct_data, verify};
+pub use crate::scalars::{add_scaled, multiply_by, multiply_by_in_place};
+pub use crate::shards::{
+    add_shard, encode, encode_prepared, prepare, reconstruct, reconstruct_data, tables_length,
+    verify, verify_prepared,
+};
 pub use crate::transforms::{
     butterfly_forward, butterfly_inverse, inverse_transform, inverse_transform_level, low_stages,
     transform, transform_level,

@@ -1,7 +1,8 @@
 // Products of words of 128 bits by one scalar in the field of GHASH, in vectors of a width.
-ghost use Rattle.std.specs.Prelude.{◌≡◌};
+ghost use Rattle.std.specs.Prelude.{◌≡◌, ◌<◌, ◌≤◌, ℕ, length, get_or, min};
 ghost use Rattle.c_arithmetic.specs.Calls.{AddsScaled, MultipliesBy};
-ghost use Rattle.c_arithmetic.specs.Fields.{ghash_field};
+ghost use Rattle.c_arithmetic.specs.Fields.{ghash_field, wide_number};
+ghost use Rattle.ghash_slices.specs.LowStages.{ghash_product};
 
 use crate::numbers::clear;
 use crate::{Wide, status};
@@ -17,6 +18,81 @@ pub fn multiply_by<V: Width>(words: &[Wide], scalar: Wide, products: &mut [Wide]
     clear(products);
     add_multiples::<V, Wide>(products, words, scalar.number());
     status::OK
+}
+
+// How many words are copied at once in place, of few words and of many: to clear the copy of many takes longer than to multiply few.
+const FEW_AT_ONCE: usize = 64;
+
+const MANY_AT_ONCE: usize = 1024;
+
+/// Multiplies each word by the scalar: a block of words is copied to the stack, and its products are added to zeros, as in `multiply_by`.
+pub fn multiply_by_in_place<V: Width>(words: &mut [Wide], scalar: Wide) -> u32
+    ensures { MultipliesBy ghash_field scalar words.old words.old words.new result }
+{
+    multiply_all::<V>(words, scalar);
+    status::OK
+}
+
+// Multiplies each word by the scalar.
+fn multiply_all<V: Width>(words: &mut [Wide], scalar: Wide)
+    ensures long { length words.new ≡ length words.old }
+    ensures products { (k : ℕ) → k < length words.new → (d : _) → wide_number (get_or words.new k d)
+        ≡ ghash_product (wide_number (get_or words.old k d)) (wide_number scalar) }
+{
+    if words.len() <= FEW_AT_ONCE {
+        multiply_at_once::<V, FEW_AT_ONCE>(words, scalar);
+    } else {
+        multiply_at_once::<V, MANY_AT_ONCE>(words, scalar);
+    }
+}
+
+// Multiplies each word by the scalar, N of them at once. It is apart and never inlined, since a function clears its locals when it is called.
+#[inline(never)]
+fn multiply_at_once<V: Width, const N: usize>(words: &mut [Wide], scalar: Wide)
+    requires some { 0 < N }
+    requires few { N ≤ 1024 }
+    ensures long { length words.new ≡ length words.old }
+    ensures products { (k : ℕ) → k < length words.new → (d : _) → wide_number (get_or words.new k d)
+        ≡ ghash_product (wide_number (get_or words.old k d)) (wide_number scalar) }
+{
+    let mut copies = [Wide::of_number(0); N];
+    multiply_blocks::<V>(words, &mut copies, scalar);
+}
+
+// Multiplies each word by the scalar, as many at once as can be copied.
+fn multiply_blocks<V: Width>(words: &mut [Wide], copies: &mut [Wide], scalar: Wide)
+    requires { 0 < length copies.old }
+    ensures long { length words.new ≡ length words.old }
+    ensures products { (k : ℕ) → k < length words.new → (d : _) → wide_number (get_or words.new k d)
+        ≡ ghash_product (wide_number (get_or words.old k d)) (wide_number scalar) }
+{
+    let mut start = 0;
+    while start < words.len() {
+        let end = start + at_most(words.len() - start, copies.len());
+        multiply_block::<V>(&mut words[start..end], &mut copies[..end - start], scalar);
+        start = end;
+    }
+}
+
+// So many, but at most the bound.
+#[inline]
+fn at_most(count: usize, bound: usize) -> usize
+    ensures { result ≡ min count bound }
+{
+    if count < bound { count } else { bound }
+}
+
+// Multiplies each word of a block by the scalar. The slices are of one length.
+fn multiply_block<V: Width>(words: &mut [Wide], copies: &mut [Wide], scalar: Wide)
+    requires { length words.old ≡ length copies.old }
+    ensures long { length words.new ≡ length words.old }
+    ensures copied { length copies.new ≡ length copies.old }
+    ensures products { (k : ℕ) → k < length words.new → (d : _) → wide_number (get_or words.new k d)
+        ≡ ghash_product (wide_number (get_or words.old k d)) (wide_number scalar) }
+{
+    copies.copy_from_slice(words);
+    clear(words);
+    add_multiples::<V, Wide>(words, copies, scalar.number());
 }
 
 /// Adds to each sum the product of the scalar and the word at its place.

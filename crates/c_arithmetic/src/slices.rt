@@ -2,81 +2,41 @@
 // lengths are compared first, then it is seen that all words are elements, and nothing is written before.
 ghost use Rattle.std.specs.Prelude.{◌≡◌, ◌↔◌, ◌*◌, ◌≤◌, IsTrue};
 ghost use Rattle.field_base.specs.Powers.{power, value_of};
-ghost use Rattle.c_arithmetic.specs.Calls.{Adds, AddsScaled, AreElements, Evaluates, Inverts, Multiplies, MultipliesBy, NamesGenerator};
-ghost use Rattle.c_arithmetic.specs.Calls.{RaisesTo, Squares, TakesDotProduct, TakesImages, TakesPreimages, TakesProduct, TakesRoots};
+ghost use Rattle.c_arithmetic.specs.Calls.{AreElements, CallOnEach, CallOnTwo, Evaluates, MultipliesBy, NamesGenerator};
+ghost use Rattle.c_arithmetic.specs.Calls.{TakesDotProduct, TakesImages, TakesPreimages, TakesProduct};
 ghost use Rattle.c_arithmetic.specs.Fields.{field_of};
 
 use crate::kernels::Basis;
+use crate::operations::{OnOne, OnTwo, Scaled};
 use crate::{fields, status};
 use field_base::{FieldKernel, Stored};
 use tower_transforms::Holds;
 
-/// Writes the sum of the words at each place.
+/// Writes the result of the operation at the word at each place. Operations that look words up take two in a turn, for which the
+/// address of a table is loaded once.
 #[inline]
-pub fn add<R: Stored, W: Holds<R>, K: FieldKernel<R>>(
-    left: &[W],
-    right: &[W],
-    sums: &mut [W],
-) -> u32
-    ensures { Adds (field_of W.number K.width K.product K.generator) left.now right.now sums.old sums.new result }
-{
-    if left.len() != sums.len() || right.len() != sums.len() {
-        return status::LENGTH;
-    }
-    if !are_elements::<R, W, K>(left) || !are_elements::<R, W, K>(right) {
-        return status::NOT_AN_ELEMENT;
-    }
-    for place in 0..sums.len() {
-        sums[place] = fields::add::<R, W>(left[place], right[place]);
-    }
-    status::OK
-}
-
-/// Writes the product of the words at each place.
-#[inline]
-pub fn multiply<R: Stored, W: Holds<R>, K: FieldKernel<R>>(
-    left: &[W],
-    right: &[W],
-    products: &mut [W],
-) -> u32
-    ensures { Multiplies (field_of W.number K.width K.product K.generator) left.now right.now products.old products.new result }
-{
-    if left.len() != products.len() || right.len() != products.len() {
-        return status::LENGTH;
-    }
-    if !are_elements::<R, W, K>(left) || !are_elements::<R, W, K>(right) {
-        return status::NOT_AN_ELEMENT;
-    }
-    for place in 0..products.len() {
-        products[place] = fields::multiply::<R, W, K>(left[place], right[place]);
-    }
-    status::OK
-}
-
-/// Writes the square of the word at each place. Fields that look squares up take two in a turn, for which the address of a table is loaded
-/// once.
-#[inline]
-pub fn square<R: Stored, W: Holds<R>, K: FieldKernel<R>>(
+pub fn write_each<R: Stored, W: Holds<R>, K: FieldKernel<R>, O: OnOne<R, W, K>>(
     words: &[W],
-    squares: &mut [W],
+    results: &mut [W],
+    operation: &O,
     two_in_a_turn: bool,
 ) -> u32
-    ensures { Squares (field_of W.number K.width K.product K.generator) words.now squares.old squares.new result }
+    ensures { CallOnEach (field_of W.number K.width K.product K.generator) (O.gives operation.now) words.now results.old results.new result }
 {
-    if words.len() != squares.len() {
+    if words.len() != results.len() {
         return status::LENGTH;
     }
     if !are_elements::<R, W, K>(words) {
         return status::NOT_AN_ELEMENT;
     }
-    let pairs = pairs_of(squares.len(), two_in_a_turn);
+    let pairs = pairs_of(results.len(), two_in_a_turn);
     'pairs: for pair in 0..pairs {
         let place = 2 * pair;
-        squares[place] = fields::square::<R, W, K>(words[place]);
-        squares[place + 1] = fields::square::<R, W, K>(words[place + 1]);
+        results[place] = operation.result_at(words[place]);
+        results[place + 1] = operation.result_at(words[place + 1]);
     }
-    'rest: for place in 2 * pairs..squares.len() {
-        squares[place] = fields::square::<R, W, K>(words[place]);
+    'rest: for place in 2 * pairs..results.len() {
+        results[place] = operation.result_at(words[place]);
     }
     status::OK
 }
@@ -89,46 +49,25 @@ fn pairs_of(count: usize, two_in_a_turn: bool) -> usize
     if two_in_a_turn { count / 2 } else { 0 }
 }
 
-/// Writes the inverse of the word at each place, and 0 for 0.
+/// Writes the result of the operation at the words of two slices at each place.
 #[inline]
-pub fn invert<R: Stored, W: Holds<R>, K: FieldKernel<R>>(words: &[W], inverses: &mut [W]) -> u32
-    ensures { Inverts (field_of W.number K.width K.product K.generator) words.now inverses.old inverses.new result }
-{
-    if words.len() != inverses.len() {
-        return status::LENGTH;
-    }
-    if !are_elements::<R, W, K>(words) {
-        return status::NOT_AN_ELEMENT;
-    }
-    for place in 0..inverses.len() {
-        inverses[place] = fields::invert::<R, W, K>(words[place]);
-    }
-    status::OK
-}
-
-/// Writes the square root of the word at each place. Fields that look roots up take two in a turn.
-#[inline]
-pub fn square_root<R: Stored, W: Holds<R>, K: FieldKernel<R>>(
-    words: &[W],
-    roots: &mut [W],
-    two_in_a_turn: bool,
+pub fn write_each_of_two<R: Stored, W: Holds<R>, K: FieldKernel<R>, O: OnTwo<R, W, K>>(
+    left: &[W],
+    right: &[W],
+    results: &mut [W],
+    operation: &O,
 ) -> u32
-    ensures { TakesRoots (field_of W.number K.width K.product K.generator) words.now roots.old roots.new result }
+    ensures { CallOnTwo (field_of W.number K.width K.product K.generator) (O.gives operation.now) left.now right.now results.old results.new
+        result }
 {
-    if words.len() != roots.len() {
+    if left.len() != results.len() || right.len() != results.len() {
         return status::LENGTH;
     }
-    if !are_elements::<R, W, K>(words) {
+    if !are_elements::<R, W, K>(left) || !are_elements::<R, W, K>(right) {
         return status::NOT_AN_ELEMENT;
     }
-    let pairs = pairs_of(roots.len(), two_in_a_turn);
-    'pairs: for pair in 0..pairs {
-        let place = 2 * pair;
-        roots[place] = fields::sqrt::<R, W, K>(words[place]);
-        roots[place + 1] = fields::sqrt::<R, W, K>(words[place + 1]);
-    }
-    'rest: for place in 2 * pairs..roots.len() {
-        roots[place] = fields::sqrt::<R, W, K>(words[place]);
+    for place in 0..results.len() {
+        results[place] = operation.result_at(left[place], right[place]);
     }
     status::OK
 }
@@ -145,61 +84,10 @@ pub fn multiply_by<R: Stored, W: Holds<R>, K: FieldKernel<R>>(
     if words.len() != products.len() {
         return status::LENGTH;
     }
-    if !fields::is_element::<R, W, K>(scalar) || !are_elements::<R, W, K>(words) {
+    if !fields::is_element::<R, W, K>(scalar) {
         return status::NOT_AN_ELEMENT;
     }
-    for place in 0..products.len() {
-        products[place] = fields::multiply::<R, W, K>(words[place], scalar);
-    }
-    status::OK
-}
-
-/// Adds to each sum the product of the scalar and the word at its place.
-#[inline]
-pub fn add_scaled<R: Stored, W: Holds<R>, K: FieldKernel<R>>(
-    sums: &mut [W],
-    scalar: W,
-    words: &[W],
-) -> u32
-    ensures { AddsScaled (field_of W.number K.width K.product K.generator) scalar words.now sums.old sums.new result }
-{
-    if words.len() != sums.len() {
-        return status::LENGTH;
-    }
-    if !are_elements::<R, W, K>(sums)
-        || !fields::is_element::<R, W, K>(scalar)
-        || !are_elements::<R, W, K>(words)
-    {
-        return status::NOT_AN_ELEMENT;
-    }
-    for place in 0..sums.len() {
-        sums[place] = fields::add::<R, W>(
-            sums[place],
-            fields::multiply::<R, W, K>(scalar, words[place]),
-        );
-    }
-    status::OK
-}
-
-/// Writes each word to the power of the exponent; to the power of 0 it is 1.
-#[inline]
-pub fn power<R: Stored, W: Holds<R>, K: FieldKernel<R>>(
-    words: &[W],
-    exponent: u64,
-    powers: &mut [W],
-) -> u32
-    ensures { RaisesTo (field_of W.number K.width K.product K.generator) exponent words.now powers.old powers.new result }
-{
-    if words.len() != powers.len() {
-        return status::LENGTH;
-    }
-    if !are_elements::<R, W, K>(words) {
-        return status::NOT_AN_ELEMENT;
-    }
-    for place in 0..powers.len() {
-        powers[place] = power_of::<R, W, K>(words[place], exponent);
-    }
-    status::OK
+    write_each::<R, W, K, Scaled<W>>(words, products, &Scaled { scalar }, false)
 }
 
 /// Writes the product of all words, which is 1 of none.

@@ -1,9 +1,0 @@
-use Rattle.std.proofs.Common.{◌≡◌, ℕ, ◌<◌, get_or}
-use Rattle.c_arithmetic.specs.Fields.{field_of}
-use Rattle.c_arithmetic.proofs.slices.multiply.Given as goal
-
-abbrev pub invariant-loop-place : goal.invariant-loop-place
-invariant-loop-place g l =
-    let field = field_of g.W.Holds.number g.K.FieldKernel.width g.K.FieldKernel.product g.K.FieldKernel.generator in
-    (k : ℕ) → k < l.place → (d : _)
-    → field.number (get_or l.products k d) ≡ field.times (field.number (get_or l.left k d)) (field.number (get_or l.right k d))
