@@ -16,6 +16,16 @@ fn byte_at(place: usize) -> u8 {
     (place.wrapping_mul(167).wrapping_add(13) % 256) as u8
 }
 
+// What the map of the first `length` bytes leaves at a place.
+fn wanted_at(matrix: ByteMatrix, length: usize, place: usize) -> u8 {
+    let byte = byte_at(place);
+    if place < length {
+        matrix.apply(byte)
+    } else {
+        byte
+    }
+}
+
 // Whether the first `length` of 300 bytes are mapped, and the others stay.
 fn slice_is_mapped(length: usize) -> bool {
     let matrix = ByteMatrix::from_images(AFFINE);
@@ -30,13 +40,7 @@ fn slice_is_mapped(length: usize) -> bool {
     matrix.apply_slice(&mut bytes[..end]);
     let mut mapped = true;
     for place in 0..300usize {
-        let byte = byte_at(place);
-        let want = if place < length {
-            matrix.apply(byte)
-        } else {
-            byte
-        };
-        mapped = mapped && bytes[place] == want;
+        mapped = mapped && bytes[place] == wanted_at(matrix, length, place);
     }
     mapped
 }

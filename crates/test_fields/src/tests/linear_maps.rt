@@ -27,42 +27,68 @@ fn drawn(alloc: Global, seed: u64, len: usize) -> Result<Vec<Ghash128>, AllocErr
     Ok(elements)
 }
 
-/// Whether the map of so many elements is made or not, as wanted, and each place of the output is its element's image, or as it was.
-fn ends_right(alloc: Global, len: usize, is_made: bool) -> Result<bool, AllocError> {
+/// So many elements to be mapped.
+fn drawn_input(alloc: Global, len: usize) -> Result<Vec<BinaryField128>, AllocError> {
+    let mut state = 43;
+    let mut input = Vec::new(alloc);
+    for _ in 0..len {
+        input.push(element_of_word(next_number(&mut state)))?;
+    }
+    Ok(input)
+}
+
+/// Whether each element is the image of the one that is mapped at its place.
+fn are_images(output: &[Ghash128], images: &[u128; 128]) -> bool {
+    let mut state = 43;
+    for place in 0..output.len() {
+        let wanted = image_of(images, next_number(&mut state));
+        if output[place] != Ghash128::new(wanted) {
+            return false;
+        }
+    }
+    true
+}
+
+fn are_same(output: &[Ghash128], before: &[Ghash128]) -> bool {
+    output == before
+}
+
+/// Whether the map is made or not, as wanted, and each place of the output is its element's image, or as it was.
+fn is_mapped(
+    input: &[BinaryField128],
+    output: &mut [Ghash128],
+    before: &[Ghash128],
+    is_made: bool,
+) -> bool {
     let mut numbers = [0; 128];
     fill(&mut numbers, 41);
     let mut images = [Ghash128::new(0); 128];
     for j in 0..128usize {
         images[j] = Ghash128::new(numbers[j]);
     }
-    let mut output = drawn(alloc, 47, len)?;
-    let before = drawn(alloc, 47, len)?;
-    let mut input: Vec<BinaryField128> = Vec::new(alloc);
-    let mut state = 43;
-    for _ in 0..len {
-        input.push(element_of_word(next_number(&mut state)))?;
-    }
     if input.len() != output.len() {
-        return Ok(false);
+        return false;
     }
-    let made = Ghash128::try_apply_linear_map_into(
-        &images,
+    let made = Ghash128::try_apply_linear_map_into(&images, input, output);
+    if is_made {
+        made && are_images(output, &numbers)
+    } else {
+        !made && are_same(output, before)
+    }
+}
+
+/// The same of so many elements.
+fn ends_right(alloc: Global, len: usize, is_made: bool) -> Result<bool, AllocError> {
+    let input = drawn_input(alloc, len)?;
+    let before = drawn(alloc, 47, len)?;
+    let mut output = drawn(alloc, 47, len)?;
+    let is_right = is_mapped(
         input.as_slice(),
         output.as_mut_slice(),
+        before.as_slice(),
+        is_made,
     );
-    let mut state = 43;
-    for place in 0..output.len() {
-        let number = next_number(&mut state);
-        let wanted = if is_made {
-            Some(Ghash128::new(image_of(&numbers, number)))
-        } else {
-            before.as_slice().get(place).copied()
-        };
-        if Some(output[place]) != wanted {
-            return Ok(false);
-        }
-    }
-    Ok(made == is_made && output.len() == len)
+    Ok(is_right && output.len() == len)
 }
 
 #[test]

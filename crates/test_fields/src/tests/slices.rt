@@ -63,22 +63,32 @@ fn wanted(kernel: Kernel, low: u128, high: u128, scalar: u128) -> (u128, u128) {
     }
 }
 
-fn goes_value_by_value(alloc: Global, kernel: Kernel, len: usize) -> Result<bool, AllocError> {
-    let mut low = drawn(alloc, 42, len)?;
-    let mut high = drawn(alloc, 43, len)?;
-    let (first, second) = (low.clone()?, high.clone()?);
-    let scalar = 0x0123_4567_89ab_cdef_0123_4567_89ab_cdef;
-    run(kernel, low.as_mut_slice(), high.as_mut_slice(), scalar);
-    for place in 0..len {
-        if place >= first.len() || place >= second.len() {
-            return Ok(false);
+/// Whether each pair is what that before it should become.
+fn are_wanted(kernel: Kernel, before: [&[u128]; 2], after: [&[u128]; 2], scalar: u128) -> bool {
+    let [first, second] = before;
+    let [low, high] = after;
+    for place in 0..first.len() {
+        if place >= second.len() {
+            return false;
         }
         let values = wanted(kernel, first[place], second[place], scalar);
         if low.get(place) != Some(&values.0) || high.get(place) != Some(&values.1) {
-            return Ok(false);
+            return false;
         }
     }
-    Ok(true)
+    low.len() == first.len() && high.len() == first.len()
+}
+
+fn goes_value_by_value(alloc: Global, kernel: Kernel, len: usize) -> Result<bool, AllocError> {
+    let first = drawn(alloc, 42, len)?;
+    let second = drawn(alloc, 43, len)?;
+    let mut low = drawn(alloc, 42, len)?;
+    let mut high = drawn(alloc, 43, len)?;
+    let scalar = 0x0123_4567_89ab_cdef_0123_4567_89ab_cdef;
+    run(kernel, low.as_mut_slice(), high.as_mut_slice(), scalar);
+    let before = [first.as_slice(), second.as_slice()];
+    let after = [low.as_slice(), high.as_slice()];
+    Ok(first.len() == len && are_wanted(kernel, before, after, scalar))
 }
 
 #[test]
