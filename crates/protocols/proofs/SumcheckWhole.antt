@@ -60,19 +60,16 @@ module _ {C F : Type 0} (observes : C → F → C → Type 0) (gives : C → F �
       (last : ℕ) → items ≡ [] → map repr elements ≡ statement_numbers statement → InTurn observes elements old begun → e ≡ d
       → Verified observes gives width times repr e begun claim rounds values items final new last
       → IsRunOf observes gives repr old statement (messages_of d rounds values) final new
-      × (last ≡ reduced_claim width times claim (map (map repr) (messages_of d rounds values)) (map repr final))
+      × (last ≡ reduced_claim width times claim (map (map repr) (messages_of d rounds values)) (map repr final)) × (length final ≡ rounds)
   verified-run old begun new statement elements claim rounds e d values items final last none numbers observed same verified =
       let all : Verified observes gives width times repr d begun claim rounds values items final new last =
       subst (λ (n : ℕ). Verified observes gives width times repr n begun claim rounds values items final new last) same verified in
-      let point : final ≡ all.0 = all.1 ∙ ap (λ (xs : List F). xs ++ all.0) none in (
-        (
-          elements,
-          begun,
-          numbers,
-          observed,
-          subst (λ (rs : List F). AreTurns observes gives begun (messages_of d rounds values) rs new) (sym point) all.2,
-        ),
+      let point : final ≡ all.0 = all.1 ∙ ap (λ (xs : List F). xs ++ all.0) none in
+      let turns : AreTurns observes gives begun (messages_of d rounds values) final new =
+      subst (λ (rs : List F). AreTurns observes gives begun (messages_of d rounds values) rs new) (sym point) all.2 in (
+        (elements, begun, numbers, observed, turns),
         all.3 ∙ ap (λ (rs : List F). reduced_claim width times claim (map (map repr) (messages_of d rounds values)) (map repr rs)) (sym point),
+        turns-length observes gives (messages_of d rounds values) final begun new turns ∙ messages-length d rounds values,
       )
 
   module _ (terms : List Product) (count d : ℕ) where

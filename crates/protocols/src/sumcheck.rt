@@ -207,11 +207,12 @@ pub fn verify<F: Field, C: FieldChallenger<F>, A: Allocator + Copy>(
     messages: &[F],
 ) -> Result<Reduced<F, A>, ProtocolError>
     ensures length { IfOk result (λ reduced. length messages.now ≡ rounds * degree_of (map (term_product F.repr) terms.now)) }
-    ensures run { IfOk result (λ reduced. IsRunOf C.observes C.gives F.repr challenger.old
+    ensures read { IfOk result (λ reduced. IsRunOf C.observes C.gives F.repr challenger.old
         (statement_of F.width F.product rounds count (map (term_product F.repr) terms.now) (F.repr claim))
-        (messages_of (degree_of (map (term_product F.repr) terms.now)) rounds messages.now) reduced.point.items challenger.new) }
-    ensures claim { IfOk result (λ reduced. F.repr reduced.claim ≡ reduced_claim F.width F.product (F.repr claim)
-        (map (map F.repr) (messages_of (degree_of (map (term_product F.repr) terms.now)) rounds messages.now)) (map F.repr reduced.point.items)) }
+        (messages_of (degree_of (map (term_product F.repr) terms.now)) rounds messages.now) reduced.point.items challenger.new
+        × (F.repr reduced.claim ≡ reduced_claim F.width F.product (F.repr claim)
+        (map (map F.repr) (messages_of (degree_of (map (term_product F.repr) terms.now)) rounds messages.now)) (map F.repr reduced.point.items))
+        × (length reduced.point.items ≡ rounds)) }
 {
     let degree = degree(terms);
     if !has_length(messages.len(), rounds, degree) {

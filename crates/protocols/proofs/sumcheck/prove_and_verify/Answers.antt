@@ -27,5 +27,5 @@ returns g c =
     (field.repr c.cube_sum-claim.result) (field.repr c.in_ok-reduced.reduced.claim) (field.repr c.terms_at-value.result) c.args.values.now
     c.in_ok-proven.proven.messages.items c.as_slice.result.now c.in_ok-proven.proven.point.items c.in_ok-reduced.reduced.point.items
     c.in_ok-proven.proven.values.items c.as_slice-2.result.now c.requires.state proof.field (degree-few field.repr c.args.terms.now) c.requires.within c.requires.size
-    c.cube_sum-claim.ensures proof.run proof.honest proof.values c.as_slice.ensures.value c.as_slice-2.ensures.value verified.run verified.claim
+    c.cube_sum-claim.ensures proof.run proof.honest proof.values c.as_slice.ensures.value c.as_slice-2.ensures.value verified.read.0 verified.read.1
     c.terms_at-value.ensures))

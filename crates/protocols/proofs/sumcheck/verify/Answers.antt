@@ -12,26 +12,14 @@ pub returns-clause-length : goal.returns-clause-length
 returns-clause-length g c =
     c.has_length.ensures.0 c.if-not-has_length.false ∙ ap (λ (d : ℕ). c.args.rounds * d) c.degree-degree.ensures.is
 
-pub returns-clause-run : goal.returns-clause-run
-returns-clause-run g c =
+pub returns-clause-read : goal.returns-clause-read
+returns-clause-read g c =
     let field = g.F.Represented in
     let terms = map (term_product field.repr) c.args.terms.now in
-    (verified-run g.C.CanObserve.observes g.C.CanSample.gives field.width field.product field.repr c.args.challenger.now
+    verified-run g.C.CanObserve.observes g.C.CanSample.gives field.width field.product field.repr c.args.challenger.now
     c.observe_slice.new.self c.verify_rounds.new.challenger
     (statement_of field.width field.product c.args.rounds c.args.count terms (field.repr c.args.claim)) c.as_slice.result.now
     (field.repr c.args.claim) c.args.rounds c.degree-degree.result (degree_of terms) c.args.messages.now c.new-point.result.items
     c.verify_rounds.new.point.items (field.repr c.in_ok-claim.claim) c.new-point.ensures.items
     (ap (map field.repr) c.as_slice.ensures.value ∙ c.in_ok-elements.ensures.numbers) c.in_ok-observe_slice.ensures.ok
-    c.degree-degree.ensures.is c.in_ok-claim.ensures).0
-
-pub returns-clause-claim : goal.returns-clause-claim
-returns-clause-claim g c =
-    let field = g.F.Represented in
-    let terms = map (term_product field.repr) c.args.terms.now in
-    (verified-run g.C.CanObserve.observes g.C.CanSample.gives field.width field.product field.repr c.args.challenger.now
-    c.observe_slice.new.self c.verify_rounds.new.challenger
-    (statement_of field.width field.product c.args.rounds c.args.count terms (field.repr c.args.claim)) c.as_slice.result.now
-    (field.repr c.args.claim) c.args.rounds c.degree-degree.result (degree_of terms) c.args.messages.now c.new-point.result.items
-    c.verify_rounds.new.point.items (field.repr c.in_ok-claim.claim) c.new-point.ensures.items
-    (ap (map field.repr) c.as_slice.ensures.value ∙ c.in_ok-elements.ensures.numbers) c.in_ok-observe_slice.ensures.ok
-    c.degree-degree.ensures.is c.in_ok-claim.ensures).1
+    c.degree-degree.ensures.is c.in_ok-claim.ensures
