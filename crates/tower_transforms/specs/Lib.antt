@@ -1,2 +1,9 @@
+pub mod Butterflies
+pub mod ChunkLemmas
+pub mod Chunks
+pub mod LaneLemmas
+pub mod PairLemmas
+pub mod Products
+pub mod Rows
 pub mod Words
 pub mod LevelVectors

@@ -10,13 +10,13 @@ ghost use Rattle.tower_transforms.specs.LevelVectors.{level_vectors};
 ghost use Rattle.tower_transforms.specs.Words.{level_element};
 ghost use Rattle.word_tables.specs.Cantor.{cantor_vector};
 
+use crate::multiples::{multiples_8, multiples_16, multiples_32};
 use crate::pairs::run_pairs;
 use crate::products::{ChunkScalar, WholeScalar};
 use crate::words::Holds;
 use additive_transforms::StageArithmetic;
 use field_base::{LevelKernel, Unsigned};
 use std::marker::PhantomData;
-use subfield_products::{multiples_8, multiples_16, multiples_32};
 use word_tower::{Level, Tower};
 
 /// The arithmetic of the level `L` of the tower, with words `W` that hold its words `R`.

@@ -3,14 +3,28 @@
 //!
 //! The Cantor vectors of a level span the levels below it, so that the twiddles of the upper stages have 8 bits, those of the next 16, and
 //! so on (D. G. Cantor, On arithmetical algorithms over finite fields, Journal of Combinatorial Theory A 50, 1989). Such a scalar
-//! multiplies an element chunk by chunk, in a register.
+//! multiplies an element chunk by chunk, so a row of wide elements is a row of chunks. The product of a byte by a byte takes two look-ups in
+//! registers, that of a wider chunk three products of its halves (A. Karatsuba and Y. Ofman, Multiplication of multidigit numbers on
+//! automata, Soviet Physics Doklady 7, 1963), and no address depends on an element.
 #![tactic(auto)]
 
 mod arithmetic;
+mod blocks;
+mod butterflies;
+mod chunks;
+mod laws;
+mod multiples;
+mod pair;
 mod pairs;
+mod planes;
 mod products;
 mod whole;
 mod words;
 
+pub use crate::blocks::ByteBlock;
+pub use crate::butterflies::{butterflies_8, butterflies_16, butterflies_32};
+pub use crate::chunks::{Paired, Scales, times_number};
+pub use crate::laws::three_products_multiply;
+pub use crate::multiples::{ByteMultiples, HalfMultiples, multiples_8, multiples_16, multiples_32};
 pub use crate::whole::{forward_level, inverse_level};
 pub use crate::words::Holds;

@@ -1,11 +1,11 @@
 // Products of words by a scalar of a level of the tower.
 ghost use Rattle.std.specs.Prelude.{◌≡◌, ◌%◌, ◌^◌, ◌<◌, ◌≤◌, ℕ};
 ghost use Rattle.field_base.specs.Tower.{tower_mul};
-ghost use Rattle.subfield_products.specs.Rows.{level_of};
+ghost use Rattle.tower_transforms.specs.Rows.{level_of};
 
+use crate::{Scales, times_number};
 use field_base::Unsigned;
 use std::marker::PhantomData;
-use subfield_products::{Scales, times_number};
 use word_tower::Level;
 
 /// A scalar of a level, by which words are multiplied.

@@ -3,7 +3,7 @@
 use field_base::traits::TowerLevel;
 use field_element::{BinaryField8, BinaryField16, BinaryField32};
 use std::simd::prelude::*;
-use subfield_products::{ByteBlock, butterflies_8, butterflies_16, butterflies_32};
+use tower_transforms::{ByteBlock, butterflies_8, butterflies_16, butterflies_32};
 use test_support::{fill_bytes, next_number};
 
 // Runs the butterflies of two rows by a scalar of 8 bits, or returns false.

@@ -1,5 +1,5 @@
 use Rattle.std.proofs.Common.{ℕ, ◌%◌, ◌^◌, ◌∙◌, ap}
-use Rattle.subfield_products.specs.Rows.{level_of}
+use Rattle.tower_transforms.specs.Rows.{level_of}
 use Rattle.field_base.specs.Tower.{tower_mul}
 use Rattle.tower_transforms.proofs.LevelProducts.{product_in_level}
 use Rattle.tower_transforms.proofs.products.ChunkScalarMultiplies.times.Goals as goal

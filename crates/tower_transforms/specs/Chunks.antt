@@ -1,0 +1,25 @@
+-- Sixteen bytes in a register as elements of the tower, one after another, and their products by a scalar of a lower level. Past the
+-- bytes there are zeros, so that what is said of each element needs no bound.
+use Rattle.std.specs.Prelude.{◌≡◌, ℕ, zero, suc, ◌+◌, ◌*◌, ◌^◌, List, slice_index}
+use Rattle.field_base.specs.Quadratic.{pair}
+use Rattle.field_base.specs.Tower.{tower_mul}
+use Rattle.tower_transforms.specs.Rows.{level_of}
+
+-- element i of 2 ^ d bytes each: that of a byte, and otherwise the pair of two of the level below
+unfoldable pub chunk_of : ℕ → List ℕ → ℕ → ℕ
+chunk_of zero bytes i = slice_index bytes i
+chunk_of (suc d) bytes i = pair (2 ^ level_of d) (chunk_of d bytes (2 * i)) (chunk_of d bytes (2 * i + 1))
+
+-- each element of 2 ^ d bytes is the product of that of the old bytes by the scalar s
+abbrev pub AreTimes : ℕ → ℕ → List ℕ → List ℕ → Type 0
+AreTimes d s old new = (i : ℕ) → chunk_of d new i ≡ tower_mul (level_of d) s (chunk_of d old i)
+
+-- elements of 2 ^ d bytes that stand in pairs: the two of each pair are exchanged
+pub record AreExchanged (d : ℕ) (old new : List ℕ) : Type 0 where
+  pub low : (i : ℕ) → chunk_of d new (2 * i) ≡ chunk_of d old (2 * i + 1)
+  pub high : (i : ℕ) → chunk_of d new (2 * i + 1) ≡ chunk_of d old (2 * i)
+
+-- the low ones of the pairs are those of one list, and the high ones those of another
+pub record AreMerged (d : ℕ) (lows highs new : List ℕ) : Type 0 where
+  pub low : (i : ℕ) → chunk_of d new (2 * i) ≡ chunk_of d lows (2 * i)
+  pub high : (i : ℕ) → chunk_of d new (2 * i + 1) ≡ chunk_of d highs (2 * i + 1)
