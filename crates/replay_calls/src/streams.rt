@@ -1,4 +1,6 @@
 // Elements as bytes, as streams of bytes and words, and as text.
+ghost use Rattle.std.specs.Iterator.{IsFinite};
+
 use crate::fault::Fault;
 use crate::fields::{Asked, stored};
 use crate::reading::{numbers, word};
@@ -68,38 +70,27 @@ fn stream<E: RawDataSerializable + Display>(
     kind: &str,
     elements: &[E],
 ) -> Result<Vec<u128>, Fault> {
+    let elements_given = elements.iter().copied();
     match kind {
-        "bytes" => bytes(alloc, elements),
-        "u32" => words_32(alloc, elements),
-        "u64" => words_64(alloc, elements),
+        "bytes" => collected(alloc, into_byte_stream(elements_given)),
+        "u32" => collected(alloc, into_u32_stream(elements_given)),
+        "u64" => collected(alloc, into_u64_stream(elements_given)),
         "text" => text(alloc, elements),
         _ => Err(Fault::Line),
     }
 }
 
-/// The bytes of a stream of elements.
-fn bytes<E: RawDataSerializable>(alloc: Global, elements: &[E]) -> Result<Vec<u128>, Fault> {
+/// The numbers that an iterator gives.
+fn collected<T: Into<u128>, I: Iterator<Item = T> + Drop>(
+    alloc: Global,
+    given: I,
+) -> Result<Vec<u128>, Fault>
+    requires may { I.can_next given }
+    requires ends { IsFinite (I.remaining given) }
+{
     let mut items = Vec::new(alloc);
-    for byte in into_byte_stream(elements.iter().copied()) {
-        items.push(u128::from(byte))?;
-    }
-    Ok(items)
-}
-
-/// Its words of 32 bits.
-fn words_32<E: RawDataSerializable>(alloc: Global, elements: &[E]) -> Result<Vec<u128>, Fault> {
-    let mut items = Vec::new(alloc);
-    for word in into_u32_stream(elements.iter().copied()) {
-        items.push(u128::from(word))?;
-    }
-    Ok(items)
-}
-
-/// Its words of 64 bits.
-fn words_64<E: RawDataSerializable>(alloc: Global, elements: &[E]) -> Result<Vec<u128>, Fault> {
-    let mut items = Vec::new(alloc);
-    for word in into_u64_stream(elements.iter().copied()) {
-        items.push(u128::from(word))?;
+    for item in given {
+        items.push(item.into())?;
     }
     Ok(items)
 }

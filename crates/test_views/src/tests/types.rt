@@ -35,47 +35,36 @@ type OfField<F> = (
 // These, where the packing is P and an element has N bytes.
 type Wanted<F, P, const N: usize> = (Gf2, P, [u8; N], F, F, Gf2, F, F, F, F, F, F, [F; 1]);
 
-const OF_GF2: PhantomData<Wanted<Gf2, Gf2, 1>> = PhantomData::<OfField<Gf2>>;
+// These, where the field is its own packing.
+type Own<F, const N: usize> = Wanted<F, F, N>;
 
-const OF_2: PhantomData<Wanted<BinaryField2, BinaryField2, 1>> = PhantomData::<
-    OfField<BinaryField2>,
->;
+const OF_GF2: PhantomData<Own<Gf2, 1>> = PhantomData::<OfField<Gf2>>;
 
-const OF_4: PhantomData<Wanted<BinaryField4, BinaryField4, 1>> = PhantomData::<
-    OfField<BinaryField4>,
->;
+const OF_2: PhantomData<Own<BinaryField2, 1>> = PhantomData::<OfField<BinaryField2>>;
 
-const OF_8: PhantomData<Wanted<BinaryField8, BinaryField8, 1>> = PhantomData::<
-    OfField<BinaryField8>,
->;
+const OF_4: PhantomData<Own<BinaryField4, 1>> = PhantomData::<OfField<BinaryField4>>;
 
-const OF_16: PhantomData<Wanted<BinaryField16, BinaryField16, 2>> = PhantomData::<
-    OfField<BinaryField16>,
->;
+const OF_8: PhantomData<Own<BinaryField8, 1>> = PhantomData::<OfField<BinaryField8>>;
 
-const OF_32: PhantomData<Wanted<BinaryField32, BinaryField32, 4>> = PhantomData::<
-    OfField<BinaryField32>,
->;
+const OF_16: PhantomData<Own<BinaryField16, 2>> = PhantomData::<OfField<BinaryField16>>;
 
-const OF_64: PhantomData<Wanted<BinaryField64, BinaryField64, 8>> = PhantomData::<
-    OfField<BinaryField64>,
->;
+const OF_32: PhantomData<Own<BinaryField32, 4>> = PhantomData::<OfField<BinaryField32>>;
 
-const OF_128: PhantomData<Wanted<BinaryField128, BinaryField128, 16>> = PhantomData::<
-    OfField<BinaryField128>,
->;
+const OF_64: PhantomData<Own<BinaryField64, 8>> = PhantomData::<OfField<BinaryField64>>;
+
+const OF_128: PhantomData<Own<BinaryField128, 16>> = PhantomData::<OfField<BinaryField128>>;
 
 const OF_RIJNDAEL: PhantomData<Wanted<Rijndael8b, PackedRijndael8b<16>, 1>> = PhantomData::<
     OfField<Rijndael8b>,
 >;
 
-const OF_POLY64: PhantomData<Wanted<Poly64, Poly64, 8>> = PhantomData::<OfField<Poly64>>;
+const OF_POLY64: PhantomData<Own<Poly64, 8>> = PhantomData::<OfField<Poly64>>;
 
 const OF_GHASH: PhantomData<Wanted<Ghash128, PackedGhash128, 16>> = PhantomData::<
     OfField<Ghash128>,
 >;
 
-const OF_POLY192: PhantomData<Wanted<Poly192, Poly192, 24>> = PhantomData::<OfField<Poly192>>;
+const OF_POLY192: PhantomData<Own<Poly192, 24>> = PhantomData::<OfField<Poly192>>;
 
 // What stores an element of a field that has level k's 2^(2^k) elements.
 type Repr<F> = <F as TowerLevel>::Repr;

@@ -3,6 +3,7 @@
 ghost use Rattle.std.specs.Prelude.{◌≡◌, IfOk};
 ghost use Rattle.calculator.specs.Lines.{answers};
 
+use super::repeated;
 use calculator::{RunError, Watched, answer, run};
 use std::alloc::{AllocError, Global};
 use std::test::Fail;
@@ -188,10 +189,8 @@ fn row_is_answered(alloc: Global, row: &[u8]) -> Result<bool, AllocError> {
     let Some((line, want)) = line_and_answer(row) else {
         return Ok(false);
     };
-    let mut input = Vec::from_slice(alloc, line)?;
-    input.push(b'\n')?;
-    let mut output = Vec::from_slice(alloc, want)?;
-    output.push(b'\n')?;
+    let input = repeated(alloc, line, b"\n", 1, b"")?;
+    let output = repeated(alloc, want, b"\n", 1, b"")?;
     Ok(
         answer(line).as_bytes() == want
             && input_is_answered(alloc, input.as_slice(), output.as_slice()),

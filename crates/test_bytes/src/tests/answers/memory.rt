@@ -2,6 +2,7 @@
 // Only a line that continues past a read takes memory, also behind an answer, and a last line without a feed. After `Memory` all answers
 // before the line that did not fit are written.
 use super::ends::{Sink, Source, run_over};
+use super::repeated;
 use linked_list_allocator::LocalHeap;
 use std::alloc::{AllocError, Global};
 use std::test::Fail;
@@ -70,40 +71,30 @@ fn a_refused_growth_is_told(rt: HostRuntime) {
     }
 }
 
-/// Whether a line of so many bytes between two others, the last without a feed, and so many lines in short reads, are refused in turn.
-fn inputs_are_refused(alloc: Global, len: usize) -> Result<bool, AllocError> {
-    let mut input = Vec::from_slice(alloc, b"t8 mul 10 10\n")?;
-    let mut want = Vec::from_slice(alloc, b"41\n")?;
-    for _ in 0..len {
-        input.push(b'0')?;
-    }
-    input.extend_from_slice(b"\nt8 inv 00")?;
-    want.extend_from_slice(b"error 1\nnone\n")?;
-    let long = is_refused(
+/// Whether a line of so many bytes between two others, the last without a feed, is refused in turn.
+fn is_long_line_refused(alloc: Global, len: usize) -> Result<bool, AllocError> {
+    let input = repeated(alloc, b"t8 mul 10 10\n", b"0", len, b"\nt8 inv 00")?;
+    let want: &[u8] = b"41\nerror 1\nnone\n";
+    Ok(is_refused(alloc, &(input.as_slice(), usize::MAX, want, 3), true))
+}
+
+/// Whether so many lines in short reads are.
+fn are_lines_refused(alloc: Global, count: usize) -> Result<bool, AllocError> {
+    let lines = repeated(alloc, b"", b"t8 mul 10 10\n", count, b"")?;
+    let answers = repeated(alloc, b"", b"41\n", count, b"")?;
+    Ok(is_refused(
         alloc,
-        &(input.as_slice(), usize::MAX, want.as_slice(), 3),
-        true,
-    );
-    let mut lines = Vec::new(alloc);
-    let mut answers = Vec::new(alloc);
-    for _ in 0..len.min(257) {
-        lines.extend_from_slice(b"t8 mul 10 10\n")?;
-        answers.extend_from_slice(b"41\n")?;
-    }
-    Ok(
-        long && is_refused(
-            alloc,
-            &(lines.as_slice(), 5, answers.as_slice(), 0),
-            len > 0,
-        ),
-    )
+        &(lines.as_slice(), 5, answers.as_slice(), 0),
+        count > 0,
+    ))
 }
 
 #[test]
 fn inputs_of_all_lengths_are_answered(rt: HostRuntime) -> Result<(), Fail> {
     for len in 0..258usize {
-        assert!(rt; inputs_are_refused(rt.alloc(), len)?, "{len} lines");
+        assert!(rt; is_long_line_refused(rt.alloc(), len)?, "{len} bytes");
+        assert!(rt; are_lines_refused(rt.alloc(), len)?, "{len} lines");
     }
-    assert!(rt; inputs_are_refused(rt.alloc(), 20_000)?);
+    assert!(rt; is_long_line_refused(rt.alloc(), 20_000)?);
     Ok(())
 }

@@ -3,6 +3,7 @@
 // byte, after 0 to 7: `Write`, once. A flush that fails: `Write`; it is not tried again. A line of 100,000 spaces: its error. That a flush is
 // passed on, the contract of `Watched` lets through.
 use super::ends::{Sink, Source, run_over};
+use super::repeated;
 use calculator::Watched;
 use std::alloc::Global;
 use std::io::{Read, Write};
@@ -40,18 +41,10 @@ fn whole_answers_whatever_the_steps(rt: HostRuntime) {
 
 #[test]
 fn a_long_line_and_many_lines(rt: HostRuntime) -> Result<(), Fail> {
-    let mut input = Vec::new(rt.alloc());
-    let mut want = Vec::new(rt.alloc());
-    for _ in 0..3000u32 {
-        input.extend_from_slice(b"t8 mul 10 10\n")?;
-        want.extend_from_slice(b"41\n")?;
-    }
-    let long = vec![in rt.alloc(); b' '; 100_000]?;
-    input.extend_from_slice(long.as_slice())?;
-    want.extend_from_slice(b"error 1\n")?;
-    let source = Source::new(input.as_slice(), usize::MAX);
-    let after = run_over(rt.alloc(), source, Sink::new(rt.alloc(), usize::MAX));
-    assert!(rt; after.is_ok(want.as_slice()));
+    let long = repeated(rt.alloc(), b"", b" ", 100_000, b"")?;
+    let input = repeated(rt.alloc(), b"", b"t8 mul 10 10\n", 3000, long.as_slice())?;
+    let want = repeated(rt.alloc(), b"", b"41\n", 3000, b"error 1\n")?;
+    assert!(rt; is_answered_by_steps(rt.alloc(), input.as_slice(), want.as_slice(), usize::MAX));
     Ok(())
 }
 

@@ -42,11 +42,20 @@ fn sample_alike<C: ByteChallenger, D: ByteChallenger>(
     other: &mut D,
 ) -> Result<bool, AllocError> {
     for _ in 0..40 {
-        if one.sample_byte()? != other.sample_byte()? {
+        if !sample_one_byte(one, other)? {
             return Ok(false);
         }
     }
     Ok(true)
+}
+
+/// Whether both sample the same byte.
+fn sample_one_byte<C: ByteChallenger, D: ByteChallenger>(
+    one: &mut C,
+    other: &mut D,
+) -> Result<bool, AllocError> {
+    let sampled = one.sample_byte()?;
+    Ok(other.sample_byte()? == sampled)
 }
 
 // A call of a challenger whose initial state has `len` bytes and no room for more.
@@ -92,11 +101,8 @@ impl Growing for InTurn {
     fn run<'a>(&self, heap: &'a LocalHeap, rest: Rest<'a>) -> Result<Ending, AllocError> {
         let mut model = challenger_over(self.alloc, self.len)?;
         let mut challenger = challenger_over(heap, self.len)?;
-        if self.is_within_a_digest {
-            let sampled = challenger.sample_byte()?;
-            if model.sample_byte()? != sampled {
-                return Ok(Ending::Wrong);
-            }
+        if self.is_within_a_digest && !sample_one_byte(&mut challenger, &mut model)? {
+            return Ok(Ending::Wrong);
         }
         let was_granted = is_granted(&mut challenger, self.call);
         drop(rest);
