@@ -1,5 +1,5 @@
-//! Tests of what works on bytes: lines of the calculator, byte challengers, Reed-Solomon codes, openings of Merkle trees, GHASH and POLYVAL.
-//! The crate has nothing to call.
+//! Tests of what works on bytes: lines of the calculator, byte challengers, Reed-Solomon codes, GHASH and POLYVAL. The crate has nothing to
+//! call.
 #![tactic(auto)]
 
 #[cfg(test)]

@@ -1,6 +1,4 @@
 mod answers;
 mod challengers;
-mod code_words;
 mod codes;
 mod hashes;
-mod openings;

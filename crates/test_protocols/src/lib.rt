@@ -1,0 +1,6 @@
+//! Tests of protocols: code words by the transform, openings of Merkle trees, and provers of sum-check that cheat. The crate has nothing
+//! to call.
+#![tactic(auto)]
+
+#[cfg(test)]
+mod tests;

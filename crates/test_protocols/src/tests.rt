@@ -1,0 +1,3 @@
+mod cheats;
+mod code_words;
+mod openings;
