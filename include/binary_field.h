@@ -519,7 +519,12 @@ uint32_t bf_t128_inverse_transform(
     bf_u128 *values, size_t values_length, const bf_u128 *shift) BF_CHECKED BF_NONNULL(3);
 
 /* --------------------------------------------------------------------------------------------------------------------- */
-/* Hashes of authentication tags. Nothing is claimed on timing. */
+/* Hashes of authentication tags. Nothing is claimed on timing. Of a message in pieces nothing is kept but its hash so far,
+ * which the caller makes 16 zeros at first. bf_tag_ghash_update takes pieces of whole blocks, and bf_tag_ghash_update_padded
+ * the last one, of any length: behind each call hash is what bf_tag_ghash gives of all bytes so far. For GCM the associated
+ * data come first and then the ciphertext, the last piece of each padded, and bf_tag_gcm_ghash_final makes of that what
+ * bf_tag_gcm_ghash gives. GCM-SIV goes so by POLYVAL, over the plain text, and ends with bf_tag_polyval_update of 16 bytes:
+ * both lengths in bits, 8 bytes each, the lowest first. */
 
 /* hash: GHASH of the message (NIST SP 800-38D), zeros added to whole blocks; key and hash have 16 bytes. BF_LENGTH unless
  * key and hash have 16 bytes. */
@@ -538,6 +543,37 @@ uint32_t bf_tag_polyval(
 uint32_t bf_tag_gcm_ghash(
     const uint8_t *key, size_t key_length, const uint8_t *associated, size_t associated_length,
     const uint8_t *ciphertext, size_t ciphertext_length, uint8_t *hash, size_t hash_length) BF_CHECKED;
+
+/* GHASH of more whole blocks: hash is that of the blocks before, and then that of these too; key and hash have 16 bytes.
+ * BF_LENGTH unless key and hash have 16 bytes, and blocks a multiple of 16. */
+uint32_t bf_tag_ghash_update(
+    const uint8_t *key, size_t key_length, const uint8_t *blocks, size_t blocks_length, uint8_t *hash,
+    size_t hash_length) BF_CHECKED;
+
+/* GHASH of more bytes, zeros added to whole blocks: hash is that of the blocks before, and then that of these too; key and
+ * hash have 16 bytes. BF_LENGTH unless key and hash have 16 bytes. */
+uint32_t bf_tag_ghash_update_padded(
+    const uint8_t *key, size_t key_length, const uint8_t *message, size_t message_length, uint8_t *hash,
+    size_t hash_length) BF_CHECKED;
+
+/* POLYVAL of more whole blocks: hash is that of the blocks before, and then that of these too; key and hash have 16 bytes.
+ * BF_LENGTH unless key and hash have 16 bytes, and blocks a multiple of 16. */
+uint32_t bf_tag_polyval_update(
+    const uint8_t *key, size_t key_length, const uint8_t *blocks, size_t blocks_length, uint8_t *hash,
+    size_t hash_length) BF_CHECKED;
+
+/* POLYVAL of more bytes, zeros added to whole blocks: hash is that of the blocks before, and then that of these too; key and
+ * hash have 16 bytes. BF_LENGTH unless key and hash have 16 bytes. */
+uint32_t bf_tag_polyval_update_padded(
+    const uint8_t *key, size_t key_length, const uint8_t *message, size_t message_length, uint8_t *hash,
+    size_t hash_length) BF_CHECKED;
+
+/* GHASH of the block of two lengths in bytes, each below 2^61, as GCM has them: hash is that of the blocks before, and then
+ * that of this one too; key and hash have 16 bytes. BF_LENGTH unless key and hash have 16 bytes, and both lengths are below
+ * 2^61. */
+uint32_t bf_tag_gcm_ghash_final(
+    const uint8_t *key, size_t key_length, size_t associated_length, size_t ciphertext_length, uint8_t *hash,
+    size_t hash_length) BF_CHECKED;
 
 /* equal: 1 where the two have the same bytes, else 0. What a compiler made of it was looked at: all bytes are read whatever
  * they are, and one test comes at the end; unlike lengths return at once. No other function was looked at for its timing. */

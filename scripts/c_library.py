@@ -81,6 +81,16 @@ OTHER_FUNCTIONS = [
      "POLYVAL of the message (RFC 8452), zeros added to whole blocks; key and hash have 16 bytes"),
     ("tag_gcm_ghash", [("in", "key", "u8"), ("in", "associated", "u8"), ("in", "ciphertext", "u8"), ("out", "hash", "u8")],
      "the hash of GCM over associated data and ciphertext, each below 2^61 bytes, with the block of their lengths; key and hash have 16 bytes"),
+    *[it for name, standard in (("ghash", "GHASH"), ("polyval", "POLYVAL")) for it in [
+        (f"tag_{name}_update", [("in", "key", "u8"), ("in", "blocks", "u8"), ("inout", "hash", "u8")],
+         f"{standard} of more whole blocks: hash is that of the blocks before, and then that of these too; key and hash have 16 bytes"),
+        (f"tag_{name}_update_padded", [("in", "key", "u8"), ("in", "message", "u8"), ("inout", "hash", "u8")],
+         f"{standard} of more bytes, zeros added to whole blocks: hash is that of the blocks before, and then that of these too; key and "
+         "hash have 16 bytes"),
+    ]],
+    ("tag_gcm_ghash_final", [("in", "key", "u8"), ("count", "associated_length"), ("count", "ciphertext_length"), ("inout", "hash", "u8")],
+     "GHASH of the block of two lengths in bytes, each below 2^61, as GCM has them: hash is that of the blocks before, and then that of this "
+     "one too; key and hash have 16 bytes"),
     ("tags_are_equal", [("in", "left", "u8"), ("in", "right", "u8"), ("result", "equal", "u8")],
      "1 where the two have the same bytes, else 0. What a compiler made of it was looked at: all bytes are read whatever they are, and one test "
      "comes at the end; unlike lengths return at once. No other function was looked at for its timing"),

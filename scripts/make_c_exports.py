@@ -73,8 +73,18 @@ g128_butterfly_inverse  transforms  butterfly_inverse  ButterfliesInverse (wide_
 g128_low_stages         transforms  low_stages         RunsLowStages shifts.now basis.now first_run values.old values.new result
 g128_transform          transforms  transform          Transforms (wide_number shift.now) values.old values.new result
 g128_inverse_transform  transforms  inverse_transform  InvertsTransform (wide_number shift.now) values.old values.new result
-tag_ghash               messages    ghash              Hashes (Unit {0}) key.now (ghash key.now (blocks_of message.now)) hash.old hash.new result
-tag_polyval             messages    polyval            Hashes (Unit {0}) key.now (polyval key.now (blocks_of message.now)) hash.old hash.new result
+tag_ghash               messages    hash::<tags::Ghash>    Hashes (Unit {0}) key.now (ghash key.now (blocks_of message.now)) hash.old hash.new result
+tag_polyval             messages    hash::<tags::Polyval>  Hashes (Unit {0}) key.now (polyval key.now (blocks_of message.now)) hash.old hash.new result
+tag_ghash_update           messages  hash_update::<tags::HighestFirst>         Hashes (length blocks.now % 16 ≡ 0) key.now \
+(ghash_from key.now hash.old (blocks_of blocks.now)) hash.old hash.new result
+tag_ghash_update_padded    messages  hash_update_padded::<tags::HighestFirst>  Hashes (Unit {0}) key.now \
+(ghash_from key.now hash.old (blocks_of message.now)) hash.old hash.new result
+tag_polyval_update         messages  hash_update::<tags::LowestFirst>          Hashes (length blocks.now % 16 ≡ 0) key.now \
+(polyval_from key.now hash.old (blocks_of blocks.now)) hash.old hash.new result
+tag_polyval_update_padded  messages  hash_update_padded::<tags::LowestFirst>   Hashes (Unit {0}) key.now \
+(polyval_from key.now hash.old (blocks_of message.now)) hash.old hash.new result
+tag_gcm_ghash_final     messages    gcm_ghash_final    Hashes ((associated_length < 2 ^ 61) × (ciphertext_length < 2 ^ 61)) key.now \
+(ghash_from key.now hash.old (block_of_lengths associated_length ciphertext_length ∷ [])) hash.old hash.new result
 tag_gcm_ghash           messages    gcm_ghash          Hashes ((length associated.now < 2 ^ 61) × (length ciphertext.now < 2 ^ 61)) key.now \
 (ghash key.now (gcm_blocks associated.now ciphertext.now)) hash.old hash.new result
 tags_are_equal          messages    tags_are_equal     Compares left.now right.now equal.new result
@@ -111,11 +121,12 @@ ABOUT = {
 
 # The modules that define the words of contracts, in the order in which a file brings them in.
 HOMES = {
-    "std.specs.Prelude": ["◌^◌", "◌<◌", "◌+◌", "length"],
+    "std.specs.Prelude": ["◌≡◌", "◌^◌", "◌%◌", "◌<◌", "[]", "◌∷◌", "◌+◌", "length"],
     "field_base.specs.Basis": ["aes_images", "basis_image", "ghash_images", "poly64_images"],
     "field_base.specs.Remainder": ["aes_modulus", "ghash_modulus", "poly64_modulus"],
-    "tags.specs.Blocks": ["blocks_of", "gcm_blocks"],
+    "tags.specs.Blocks": ["block_of_lengths", "blocks_of", "gcm_blocks"],
     "tags.specs.Gcm": ["ghash"],
+    "tags.specs.Pieces": ["ghash_from", "polyval_from"],
     "tags.specs.Polyval": ["polyval"],
     "c_arithmetic.specs.Bytes": ["AddsOneShard", "Compares", "Encodes", "EncodesPrepared", "Hashes", "Prepares", "Reconstructs", "TellsTablesLength", "Verifies", "VerifiesPrepared"],
     "c_arithmetic.specs.Linear": ["MapsLinearly"],
@@ -255,7 +266,7 @@ def wide_function(name, parameters):
 
 def brought_in(clauses):
     """The lines that bring in the words of contracts."""
-    words = set(re.findall(r"[\w]+", clauses)) | {f"◌{it}◌" for it in re.findall(r" ([\^<+]) ", clauses)}
+    words = set(re.findall(r"[\w]+|\[\]", clauses)) | {f"◌{it}◌" for it in re.findall(r" ([≡^%<∷+]) ", clauses)}
     for home, names in HOMES.items():
         line = []
         for name in [it for it in names if it in words]:

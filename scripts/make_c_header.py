@@ -24,6 +24,9 @@ LENGTHS = {
     "tag_ghash": "key and hash have 16 bytes",
     "tag_polyval": "key and hash have 16 bytes",
     "tag_gcm_ghash": "key and hash have 16 bytes, and associated and ciphertext below 2^61 each",
+    "_update": "key and hash have 16 bytes, and blocks a multiple of 16",
+    "_update_padded": "key and hash have 16 bytes",
+    "tag_gcm_ghash_final": "key and hash have 16 bytes, and both lengths are below 2^61",
     "tags_are_equal": "",
     "rs_encode": "shards has a multiple, but not 0, of data + parity bytes",
     "rs_verify": "shards has a multiple, but not 0, of data + parity bytes",
@@ -142,7 +145,11 @@ def sections():
         "set bits j of k. Point p is the shift, and Cantor vector b for each set bit b of p; vector 0 is 1, and of v^2 + v each "
         "other vector v makes the one before. In the low stages the factor of stage j at place p is shifts[j], and basis[t] for "
         "each set bit t of p >> (j + 1).",
-        "tag_": "Hashes of authentication tags. Nothing is claimed on timing.",
+        "tag_": "Hashes of authentication tags. Nothing is claimed on timing. Of a message in pieces nothing is kept but its hash so far, which "
+        "the caller makes 16 zeros at first. bf_tag_ghash_update takes pieces of whole blocks, and bf_tag_ghash_update_padded the last one, of any "
+        "length: behind each call hash is what bf_tag_ghash gives of all bytes so far. For GCM the associated data come first and then the "
+        "ciphertext, the last piece of each padded, and bf_tag_gcm_ghash_final makes of that what bf_tag_gcm_ghash gives. GCM-SIV goes so by "
+        "POLYVAL, over the plain text, and ends with bf_tag_polyval_update of 16 bytes: both lengths in bits, 8 bytes each, the lowest first.",
         "rs_": "Reed-Solomon codes over bytes modulo x^8 + x^4 + x^3 + x^2 + 1: shard i has the values at the byte i of the polynomials "
         "that the data determine.",
         "_wide": "Second forms, made for x86-64-v3, whose vectors have 256 bits. Each gives the same as the function without _wide, in every "

@@ -195,10 +195,18 @@ def tag_cases(draw):
         key, message = draw.randbytes(16), draw.randbytes(length)
         yield case("tag_ghash", key, message, list(definitions.ghash(key, message)))
         yield case("tag_polyval", key, message, list(definitions.polyval(key, message)))
+        start = draw.randbytes(16)
+        for name, defined in (("ghash", definitions.ghash), ("polyval", definitions.polyval)):
+            after = list(defined(key, message, start))
+            yield case(f"tag_{name}_update_padded", key, message, (list(start), after))
+            whole = case(f"tag_{name}_update", key, message, (list(start), after))
+            yield refused(whole, "BF_LENGTH") if length % 16 else whole
         if length % 5 == 0 or length < 34:
             other = draw.randbytes(draw.randrange(40))
             for pair in ((message, other), (other, message)):
                 yield case("tag_gcm_ghash", key, *pair, list(definitions.gcm_ghash(key, *pair)))
+        sizes = [draw.getrandbits(draw.randrange(62)) for _ in range(2)]
+        yield case("tag_gcm_ghash_final", key, *sizes, (list(start), list(definitions.ghash(key, definitions.lengths(*sizes), start))))
         yield case("tags_are_equal", message, message, [1])
         yield case("tags_are_equal", message, message + b"\0", [0])
         if length:
@@ -280,7 +288,7 @@ def whole_case(it, n):
 
 
 # Arrays whose length says nothing to those of the others.
-FREE = {"coefficients", "message", "associated", "ciphertext"}
+FREE = {"coefficients", "message", "blocks", "associated", "ciphertext"}
 
 
 def length_cases(it):
@@ -335,6 +343,8 @@ def status_cases(cases):
                 it = dataclasses.replace(it, arguments=[dataclasses.replace(a, before=a.before or None) for a in it.arguments])
                 it = whole_case(evaluated(field, [1, 0, 1], [0, 1, 1, 0, 1]), 5)
             yield from element_cases(it, field.bits)
+    for sizes in ((1 << 61, 0), (0, 1 << 61), ((1 << 64) - 1, 5), (1 << 61, 1 << 61)):
+        yield refused(case("tag_gcm_ghash_final", bytes(16), *sizes, ([7] * 16, [7] * 16)), "BF_LENGTH")
     everything = [0] * 512
     for data, parity in ((0, 1), (1, 0), (0, 0), (256, 1), (1, 256), (2, 255), (1 << 63, 1 << 63), ((1 << 64) - 1, 1), (1, (1 << 64) - 1), (1 << 32, 4)):
         for name in (it for it in FUNCTIONS if it.startswith("rs_")):

@@ -280,6 +280,14 @@ class Maps(unittest.TestCase):
 class Bytes(unittest.TestCase):
     """Tags and codes."""
 
+    @staticmethod
+    def in_pieces(update, update_padded, key, message, hash_so_far=bytes(16)):
+        """The hash of a message in pieces of two blocks, and the rest."""
+        end = len(message) // 32 * 32
+        for at in range(0, end, 32):
+            hash_so_far = update(key, hash_so_far, message[at : at + 32])
+        return update_padded(key, hash_so_far, message[end:])
+
     def test_tags(self):
         draw = random.Random(48)
         for length in (0, 1, 16, 100):
@@ -287,6 +295,15 @@ class Bytes(unittest.TestCase):
             self.assertEqual(bf.ghash(key, message), definitions.ghash(key, message))
             self.assertEqual(bf.polyval(key, bytearray(message)), definitions.polyval(key, message))
             self.assertEqual(bf.gcm_ghash(key, message, np.frombuffer(key, np.uint8)), definitions.gcm_ghash(key, message, key))
+            self.assertEqual(self.in_pieces(bf.ghash_update, bf.ghash_update_padded, key, message), bf.ghash(key, message))
+            self.assertEqual(self.in_pieces(bf.polyval_update, bf.polyval_update_padded, key, message), bf.polyval(key, message))
+            both = self.in_pieces(bf.ghash_update, bf.ghash_update_padded, key, message, bf.ghash_update_padded(key, bytes(16), key[:3]))
+            self.assertEqual(bf.gcm_ghash_final(key, both, 3, length), bf.gcm_ghash(key, key[:3], message))
+        for wrong in (-1, 1 << 61, 1 << 70):
+            self.assertRaises(ValueError, bf.gcm_ghash_final, key, bytes(16), wrong, 0)
+            self.assertRaises(ValueError, bf.gcm_ghash_final, key, bytes(16), 0, wrong)
+        self.assertRaises(ValueError, bf.ghash_update, key, bytes(16), bytes(17))
+        self.assertRaises(ValueError, bf.polyval_update, key, bytes(15), bytes(16))
         self.assertTrue(bf.tags_are_equal(b"tag", b"tag"))
         self.assertFalse(bf.tags_are_equal(b"tag", b"tags"))
         self.assertRaises(ValueError, bf.ghash, b"short", b"")

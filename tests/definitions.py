@@ -184,28 +184,32 @@ def gcm_product(x, y):
     return z
 
 
-def ghash_blocks(key, message_blocks):
-    """Section 6.4."""
-    y = 0
+def ghash_blocks(key, message_blocks, start=bytes(16)):
+    """Section 6.4, from the hash `start` of the blocks before."""
+    y = int.from_bytes(start, "big")
     for block in message_blocks:
         y = gcm_product(y ^ int.from_bytes(block, "big"), int.from_bytes(key, "big"))
     return y.to_bytes(16, "big")
 
 
-def ghash(key, message):
-    return ghash_blocks(key, blocks(message))
+def ghash(key, message, start=bytes(16)):
+    return ghash_blocks(key, blocks(message), start)
+
+
+def lengths(associated_length, ciphertext_length):
+    """The last block of GCM: two lengths in bits."""
+    return (8 * associated_length).to_bytes(8, "big") + (8 * ciphertext_length).to_bytes(8, "big")
 
 
 def gcm_ghash(key, associated, ciphertext):
-    lengths = (8 * len(associated)).to_bytes(8, "big") + (8 * len(ciphertext)).to_bytes(8, "big")
-    return ghash_blocks(key, [*blocks(associated), *blocks(ciphertext), lengths])
+    return ghash_blocks(key, [*blocks(associated), *blocks(ciphertext), lengths(len(associated), len(ciphertext))])
 
 
-def polyval(key, message):
+def polyval(key, message, start=bytes(16)):
     """RFC 8452, section 3: the product of each step is a b x^-128."""
     modulus = 1 << 128 | 1 << 127 | 1 << 126 | 1 << 121 | 1
     inverse = 1 << 127 | 1 << 124 | 1 << 121 | 1 << 114 | 1
-    s = 0
+    s = int.from_bytes(start, "little")
     for block in blocks(message):
         s = polynomials.multiply(modulus, s ^ int.from_bytes(block, "little"), int.from_bytes(key, "little"))
         s = polynomials.multiply(modulus, s, inverse)

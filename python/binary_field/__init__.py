@@ -12,7 +12,18 @@ Trusted and not proved are this package, numpy, ctypes, and the C compiler and l
 # What numpy's functions are over elements comes into its tables where this module is read.
 from . import _numpy as _numpy
 from ._arrays import FieldArray
-from ._bytes import ReedSolomon, gcm_ghash, ghash, polyval, tags_are_equal
+from ._bytes import (
+    ReedSolomon,
+    gcm_ghash,
+    gcm_ghash_final,
+    ghash,
+    ghash_update,
+    ghash_update_padded,
+    polyval,
+    polyval_update,
+    polyval_update_padded,
+    tags_are_equal,
+)
 from ._fields import (
     BinaryField2,
     BinaryField4,
@@ -43,5 +54,6 @@ from ._transforms import (
 __all__ = [
     "BinaryField128", "BinaryField16", "BinaryField2", "BinaryField32", "BinaryField4", "BinaryField64", "BinaryField8", "FieldArray",
     "Gf2", "Ghash128", "Poly192", "Poly64", "ReedSolomon", "Rijndael8b", "butterfly_forward", "butterfly_inverse", "from_powers",
-    "gcm_ghash", "ghash", "inverse_transform", "linear_map", "low_stages", "polyval", "tags_are_equal", "to_powers", "transform", "transform_points",
+    "gcm_ghash", "gcm_ghash_final", "ghash", "ghash_update", "ghash_update_padded", "inverse_transform", "linear_map", "low_stages",
+    "polyval", "polyval_update", "polyval_update_padded", "tags_are_equal", "to_powers", "transform", "transform_points",
 ]

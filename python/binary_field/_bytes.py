@@ -52,6 +52,70 @@ def gcm_ghash(key: Any, associated: Any, ciphertext: Any) -> bytes:
     return _hash("tag_gcm_ghash", key, associated, ciphertext)
 
 
+def _goes_on(name: str, hash_so_far: Any, key: Any, *given: Any) -> bytes:
+    """The hash that a function makes of the one so far."""
+    result = _bytes(hash_so_far).copy()
+    call(name, _bytes(key), *given, result)
+    return result.tobytes()
+
+
+def ghash_update(key: Any, hash_so_far: Any, blocks: Any) -> bytes:
+    """GHASH of all bytes so far, by that of those before `blocks`, which are whole blocks of 16 bytes. It is 16 zeros before the first.
+
+    >>> so_far = bf.ghash_update(b"sixteen byte key", bytes(16), b"a message, which comes in pieces")
+    >>> bf.ghash_update_padded(b"sixteen byte key", so_far, b".").hex()
+    '7d9e6dd66a93ea27d3d304d7b02ffd90'
+    >>> bf.ghash(b"sixteen byte key", b"a message, which comes in pieces.").hex()
+    '7d9e6dd66a93ea27d3d304d7b02ffd90'
+    """
+    return _goes_on("tag_ghash_update", hash_so_far, key, _bytes(blocks))
+
+
+def ghash_update_padded(key: Any, hash_so_far: Any, message: Any) -> bytes:
+    """GHASH of all bytes so far, by that of the whole blocks before `message`, to which zeros are added to whole blocks.
+
+    >>> bf.ghash_update_padded(b"sixteen byte key", bytes(16), b"a message") == bf.ghash(b"sixteen byte key", b"a message")
+    True
+    """
+    return _goes_on("tag_ghash_update_padded", hash_so_far, key, _bytes(message))
+
+
+def polyval_update(key: Any, hash_so_far: Any, blocks: Any) -> bytes:
+    """POLYVAL of all bytes so far, by that of those before `blocks`, which are whole blocks of 16 bytes. It is 16 zeros before the first.
+
+    >>> so_far = bf.polyval_update(b"sixteen byte key", bytes(16), b"a message, which comes in pieces")
+    >>> bf.polyval_update_padded(b"sixteen byte key", so_far, b".").hex()
+    '3c900cb5e7b2393f47e9a9773c24d995'
+    >>> bf.polyval(b"sixteen byte key", b"a message, which comes in pieces.").hex()
+    '3c900cb5e7b2393f47e9a9773c24d995'
+    """
+    return _goes_on("tag_polyval_update", hash_so_far, key, _bytes(blocks))
+
+
+def polyval_update_padded(key: Any, hash_so_far: Any, message: Any) -> bytes:
+    """POLYVAL of all bytes so far, by that of the whole blocks before `message`, to which zeros are added to whole blocks.
+
+    >>> bf.polyval_update_padded(b"sixteen byte key", bytes(16), b"a message") == bf.polyval(b"sixteen byte key", b"a message")
+    True
+    """
+    return _goes_on("tag_polyval_update_padded", hash_so_far, key, _bytes(message))
+
+
+def gcm_ghash_final(key: Any, hash_so_far: Any, associated_length: int, ciphertext_length: int) -> bytes:
+    """What `gcm_ghash` gives, by GHASH of the associated data and then of the ciphertext, the last bytes of each by `ghash_update_padded`,
+    and by their lengths in bytes, below 2^61.
+
+    >>> so_far = bf.ghash_update_padded(b"sixteen byte key", bytes(16), b"associated")
+    >>> so_far = bf.ghash_update_padded(b"sixteen byte key", so_far, b"ciphertext")
+    >>> bf.gcm_ghash_final(b"sixteen byte key", so_far, 10, 10) == bf.gcm_ghash(b"sixteen byte key", b"associated", b"ciphertext")
+    True
+    """
+    for length in (associated_length, ciphertext_length):
+        if not 0 <= length < 1 << 61:
+            raise ValueError("expected lengths from 0 to 2^61 - 1")
+    return _goes_on("tag_gcm_ghash_final", hash_so_far, key, associated_length, ciphertext_length)
+
+
 def tags_are_equal(left: Any, right: Any) -> bool:
     """Whether the two have the same bytes. Nothing is claimed on the time that it takes.
 

@@ -18,13 +18,17 @@ pub trait RawDataSerializable: Field {
     }
 }
 
-// A hash of a message under a key.
+// A hash of a message under a key, whole or from the hash of the blocks before.
 type Hash = unsafe extern "C" fn(*const u8, usize, *const u8, usize, *mut u8, usize) -> u32;
 
-fn hashed(function: Hash, key: &[u8; 16], message: &[u8]) -> [u8; 16] {
-    let mut hash = [0; 16];
+fn hash_into(
+    function: Hash,
+    key: &[u8; 16],
+    message: &[u8],
+    hash: &mut [u8; 16],
+) -> Result<(), Error> {
     // SAFETY: the pointers and lengths are those of slices, of which the one that is written overlaps no other. So it is below.
-    succeed(unsafe {
+    Error::of(unsafe {
         function(
             key.as_ptr(),
             16,
@@ -33,7 +37,12 @@ fn hashed(function: Hash, key: &[u8; 16], message: &[u8]) -> [u8; 16] {
             hash.as_mut_ptr(),
             16,
         )
-    });
+    })
+}
+
+fn hashed(function: Hash, key: &[u8; 16], message: &[u8]) -> [u8; 16] {
+    let mut hash = [0; 16];
+    hash_into(function, key, message, &mut hash).expect("a hash of any message");
     hash
 }
 
@@ -64,6 +73,49 @@ pub fn gcm_ghash(key: &[u8; 16], associated: &[u8], ciphertext: &[u8]) -> [u8; 1
         )
     });
     hash
+}
+
+/// Makes of GHASH of the blocks before that of `blocks` too. `hash` is 16 zeros before the first. [`Error::Length`] where `blocks` are no
+/// whole blocks of 16 bytes.
+pub fn ghash_update(key: &[u8; 16], hash: &mut [u8; 16], blocks: &[u8]) -> Result<(), Error> {
+    hash_into(bf_tag_ghash_update, key, blocks, hash)
+}
+
+/// The same with the last bytes of a message, of any number, to which zeros are added to whole blocks.
+pub fn ghash_update_padded(key: &[u8; 16], hash: &mut [u8; 16], message: &[u8]) {
+    hash_into(bf_tag_ghash_update_padded, key, message, hash).expect("a hash of any message");
+}
+
+/// Makes of POLYVAL of the blocks before that of `blocks` too. `hash` is 16 zeros before the first. [`Error::Length`] where `blocks` are no
+/// whole blocks of 16 bytes.
+pub fn polyval_update(key: &[u8; 16], hash: &mut [u8; 16], blocks: &[u8]) -> Result<(), Error> {
+    hash_into(bf_tag_polyval_update, key, blocks, hash)
+}
+
+/// The same with the last bytes of a message, of any number, to which zeros are added to whole blocks.
+pub fn polyval_update_padded(key: &[u8; 16], hash: &mut [u8; 16], message: &[u8]) {
+    hash_into(bf_tag_polyval_update_padded, key, message, hash).expect("a hash of any message");
+}
+
+/// Makes what [`gcm_ghash`] gives of GHASH of the associated data and then of the ciphertext, the last bytes of each by
+/// [`ghash_update_padded`]. The lengths are in bytes. [`Error::Length`] where one is 2^61 or more.
+pub fn gcm_ghash_final(
+    key: &[u8; 16],
+    hash: &mut [u8; 16],
+    associated_length: usize,
+    ciphertext_length: usize,
+) -> Result<(), Error> {
+    // SAFETY: as above.
+    Error::of(unsafe {
+        bf_tag_gcm_ghash_final(
+            key.as_ptr(),
+            16,
+            associated_length,
+            ciphertext_length,
+            hash.as_mut_ptr(),
+            16,
+        )
+    })
 }
 
 /// Whether the two have the same bytes. Nothing is claimed on the time that it takes.

@@ -1937,6 +1937,57 @@ unsafe extern "C" {
         hash: *mut u8,
         hash_length: usize,
     ) -> u32;
+    /// GHASH of more whole blocks: hash is that of the blocks before, and then that of these too; key and hash have
+    /// 16 bytes. BF_LENGTH unless key and hash have 16 bytes, and blocks a multiple of 16.
+    pub fn bf_tag_ghash_update(
+        key: *const u8,
+        key_length: usize,
+        blocks: *const u8,
+        blocks_length: usize,
+        hash: *mut u8,
+        hash_length: usize,
+    ) -> u32;
+    /// GHASH of more bytes, zeros added to whole blocks: hash is that of the blocks before, and then that of these
+    /// too; key and hash have 16 bytes. BF_LENGTH unless key and hash have 16 bytes.
+    pub fn bf_tag_ghash_update_padded(
+        key: *const u8,
+        key_length: usize,
+        message: *const u8,
+        message_length: usize,
+        hash: *mut u8,
+        hash_length: usize,
+    ) -> u32;
+    /// POLYVAL of more whole blocks: hash is that of the blocks before, and then that of these too; key and hash have
+    /// 16 bytes. BF_LENGTH unless key and hash have 16 bytes, and blocks a multiple of 16.
+    pub fn bf_tag_polyval_update(
+        key: *const u8,
+        key_length: usize,
+        blocks: *const u8,
+        blocks_length: usize,
+        hash: *mut u8,
+        hash_length: usize,
+    ) -> u32;
+    /// POLYVAL of more bytes, zeros added to whole blocks: hash is that of the blocks before, and then that of these
+    /// too; key and hash have 16 bytes. BF_LENGTH unless key and hash have 16 bytes.
+    pub fn bf_tag_polyval_update_padded(
+        key: *const u8,
+        key_length: usize,
+        message: *const u8,
+        message_length: usize,
+        hash: *mut u8,
+        hash_length: usize,
+    ) -> u32;
+    /// GHASH of the block of two lengths in bytes, each below 2^61, as GCM has them: hash is that of the blocks
+    /// before, and then that of this one too; key and hash have 16 bytes. BF_LENGTH unless key and hash have 16
+    /// bytes, and both lengths are below 2^61.
+    pub fn bf_tag_gcm_ghash_final(
+        key: *const u8,
+        key_length: usize,
+        associated_length: usize,
+        ciphertext_length: usize,
+        hash: *mut u8,
+        hash_length: usize,
+    ) -> u32;
     /// equal: 1 where the two have the same bytes, else 0. What a compiler made of it was looked at: all bytes are
     /// read whatever they are, and one test comes at the end; unlike lengths return at once. No other function was
     /// looked at for its timing.

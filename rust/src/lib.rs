@@ -47,7 +47,8 @@ mod text;
 mod words;
 
 pub use bytes::{
-    Prepared, RawDataSerializable, ReedSolomon, gcm_ghash, ghash, polyval, tags_are_equal,
+    Prepared, RawDataSerializable, ReedSolomon, gcm_ghash, gcm_ghash_final, ghash, ghash_update,
+    ghash_update_padded, polyval, polyval_update, polyval_update_padded, tags_are_equal,
 };
 pub use error::Error;
 pub use field::Field;

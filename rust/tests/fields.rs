@@ -381,6 +381,33 @@ fn transforms_and_linear_maps() {
     assert_eq!(bytes, [2, 9]);
 }
 
+// A message of two blocks and a part of one, hashed in two pieces.
+fn tags_in_pieces(key: &[u8; 16], text: &[u8; 16]) {
+    let message = [&text[..], &key[..], &text[..5]].concat();
+    let mut hash = [0; 16];
+    ghash_update(key, &mut hash, &message[..16]).unwrap();
+    assert_eq!(hash, ghash(key, text));
+    assert_eq!(
+        ghash_update(key, &mut hash, &message[..15]),
+        Err(Error::Length)
+    );
+    assert_eq!(hash, ghash(key, text));
+    ghash_update_padded(key, &mut hash, &message[16..]);
+    assert_eq!(hash, ghash(key, &message));
+    ghash_update_padded(key, &mut hash, text);
+    assert_eq!(
+        gcm_ghash_final(key, &mut hash, message.len(), 1 << 61),
+        Err(Error::Length)
+    );
+    gcm_ghash_final(key, &mut hash, message.len(), text.len()).unwrap();
+    assert_eq!(hash, gcm_ghash(key, &message, text));
+    hash = [0; 16];
+    polyval_update(key, &mut hash, &message[..32]).unwrap();
+    polyval_update_padded(key, &mut hash, &message[32..]);
+    assert_eq!(hash, polyval(key, &message));
+    assert_eq!(polyval_update(key, &mut hash, &[0; 17]), Err(Error::Length));
+}
+
 #[test]
 fn tags_and_codes() {
     let key: [u8; 16] = core::array::from_fn(|i| {
@@ -393,6 +420,7 @@ fn tags_and_codes() {
     );
     assert_eq!(ghash(&key, &[]), [0; 16]);
     assert_ne!(ghash(&key, &text), polyval(&key, &text));
+    tags_in_pieces(&key, &text);
     assert!(
         tags_are_equal(&key, &key)
             && !tags_are_equal(&key, &text)

@@ -1,8 +1,9 @@
 // Calls over messages.
 // Written by scripts/make_c_exports.py; do not edit.
-ghost use Rattle.std.specs.Prelude.{◌^◌, ◌<◌, length};
-ghost use Rattle.tags.specs.Blocks.{blocks_of, gcm_blocks};
+ghost use Rattle.std.specs.Prelude.{◌≡◌, ◌^◌, ◌%◌, ◌<◌, [], ◌∷◌, length};
+ghost use Rattle.tags.specs.Blocks.{block_of_lengths, blocks_of, gcm_blocks};
 ghost use Rattle.tags.specs.Gcm.{ghash};
+ghost use Rattle.tags.specs.Pieces.{ghash_from, polyval_from};
 ghost use Rattle.tags.specs.Polyval.{polyval};
 ghost use Rattle.c_arithmetic.specs.Bytes.{Compares, Hashes};
 
@@ -11,7 +12,7 @@ ghost use Rattle.c_arithmetic.specs.Bytes.{Compares, Hashes};
 pub extern "C" fn bf_tag_ghash(key: &[u8], message: &[u8], hash: &mut [u8]) -> u32
     ensures { Hashes (Unit {0}) key.now (ghash key.now (blocks_of message.now)) hash.old hash.new result }
 {
-    c_arithmetic::ghash(key, message, hash)
+    c_arithmetic::hash::<tags::Ghash>(key, message, hash)
 }
 
 /// POLYVAL of the message (RFC 8452), zeros added to whole blocks; key and hash have 16 bytes.
@@ -19,7 +20,7 @@ pub extern "C" fn bf_tag_ghash(key: &[u8], message: &[u8], hash: &mut [u8]) -> u
 pub extern "C" fn bf_tag_polyval(key: &[u8], message: &[u8], hash: &mut [u8]) -> u32
     ensures { Hashes (Unit {0}) key.now (polyval key.now (blocks_of message.now)) hash.old hash.new result }
 {
-    c_arithmetic::polyval(key, message, hash)
+    c_arithmetic::hash::<tags::Polyval>(key, message, hash)
 }
 
 /// The hash of GCM over associated data and ciphertext, each below 2^61 bytes, with the block of their lengths; key and hash have 16
@@ -35,6 +36,56 @@ pub extern "C" fn bf_tag_gcm_ghash(
         (ghash key.now (gcm_blocks associated.now ciphertext.now)) hash.old hash.new result }
 {
     c_arithmetic::gcm_ghash(key, associated, ciphertext, hash)
+}
+
+/// GHASH of more whole blocks: hash is that of the blocks before, and then that of these too; key and hash have 16 bytes.
+#[unsafe(no_mangle)]
+pub extern "C" fn bf_tag_ghash_update(key: &[u8], blocks: &[u8], hash: &mut [u8]) -> u32
+    ensures { Hashes (length blocks.now % 16 ≡ 0) key.now (ghash_from key.now hash.old (blocks_of blocks.now)) hash.old hash.new result }
+{
+    c_arithmetic::hash_update::<tags::HighestFirst>(key, blocks, hash)
+}
+
+/// GHASH of more bytes, zeros added to whole blocks: hash is that of the blocks before, and then that of these too; key and hash have 16
+/// bytes.
+#[unsafe(no_mangle)]
+pub extern "C" fn bf_tag_ghash_update_padded(key: &[u8], message: &[u8], hash: &mut [u8]) -> u32
+    ensures { Hashes (Unit {0}) key.now (ghash_from key.now hash.old (blocks_of message.now)) hash.old hash.new result }
+{
+    c_arithmetic::hash_update_padded::<tags::HighestFirst>(key, message, hash)
+}
+
+/// POLYVAL of more whole blocks: hash is that of the blocks before, and then that of these too; key and hash have 16 bytes.
+#[unsafe(no_mangle)]
+pub extern "C" fn bf_tag_polyval_update(key: &[u8], blocks: &[u8], hash: &mut [u8]) -> u32
+    ensures { Hashes (length blocks.now % 16 ≡ 0) key.now (polyval_from key.now hash.old (blocks_of blocks.now)) hash.old hash.new result }
+{
+    c_arithmetic::hash_update::<tags::LowestFirst>(key, blocks, hash)
+}
+
+/// POLYVAL of more bytes, zeros added to whole blocks: hash is that of the blocks before, and then that of these too; key and hash have 16
+/// bytes.
+#[unsafe(no_mangle)]
+pub extern "C" fn bf_tag_polyval_update_padded(key: &[u8], message: &[u8], hash: &mut [u8]) -> u32
+    ensures { Hashes (Unit {0}) key.now (polyval_from key.now hash.old (blocks_of message.now)) hash.old hash.new result }
+{
+    c_arithmetic::hash_update_padded::<tags::LowestFirst>(key, message, hash)
+}
+
+/// GHASH of the block of two lengths in bytes, each below 2^61, as GCM has them: hash is that of the blocks before, and then that of this
+/// one too; key and hash have 16 bytes.
+#[unsafe(no_mangle)]
+pub extern "C" fn bf_tag_gcm_ghash_final(
+    key: &[u8],
+    associated_length: u64,
+    ciphertext_length: u64,
+    hash: &mut [u8],
+) -> u32
+    ensures { Hashes ((associated_length < 2 ^ 61) × (ciphertext_length < 2 ^ 61)) key.now
+        (ghash_from key.now hash.old (block_of_lengths associated_length ciphertext_length ∷ []))
+        hash.old hash.new result }
+{
+    c_arithmetic::gcm_ghash_final(key, associated_length, ciphertext_length, hash)
 }
 
 /// 1 where the two have the same bytes, else 0. What a compiler made of it was looked at: all bytes are read whatever they are, and one

@@ -26,7 +26,9 @@ pub use crate::batch::batch_invert;
 pub use crate::bytes::multiply_bytes;
 pub use crate::kernels::Basis;
 pub use crate::linear::{map_bytes, map_wide};
-pub use crate::messages::{gcm_ghash, ghash, polyval, tags_are_equal};
+pub use crate::messages::{
+    gcm_ghash, gcm_ghash_final, hash, hash_update, hash_update_padded, tags_are_equal,
+};
 pub use crate::products::{dot_product, multiply, multiply_in_place};
 pub use crate::scalars::{add_scaled, multiply_by, multiply_by_in_place};
 pub use crate::shards::{

@@ -1,12 +1,12 @@
-// Universal hashes of messages.
-ghost use Rattle.std.specs.Prelude.{◌≡◌, ◌^◌, ◌<◌, length};
-ghost use Rattle.tags.specs.Blocks.{blocks_of, gcm_blocks};
+// Universal hashes of messages, which may come in pieces.
+ghost use Rattle.std.specs.Prelude.{◌≡◌, ◌^◌, ◌%◌, ◌<◌, [], ◌∷◌, length};
+ghost use Rattle.tags.specs.Blocks.{block_of_lengths, blocks_of, gcm_blocks};
 ghost use Rattle.tags.specs.Gcm.{ghash};
-ghost use Rattle.tags.specs.Polyval.{polyval};
+ghost use Rattle.tags.specs.Pieces.{ghash_from};
 ghost use Rattle.c_arithmetic.specs.Bytes.{Compares, Hashes};
 
 use crate::status;
-use tags::{Ghash, Polyval, UniversalHash};
+use tags::{Encoding, UniversalHash, hash_from};
 
 // The bytes of a key, and of a hash.
 const BYTES: usize = 16;
@@ -14,30 +14,39 @@ const BYTES: usize = 16;
 // The longest part of a message for GCM, whose length in bits has 64 bits.
 const PART_END: usize = 1 << 61;
 
-/// Writes GHASH of the message, zeros added to whole blocks.
-pub fn ghash(key: &[u8], message: &[u8], hash: &mut [u8]) -> u32
-    ensures { Hashes (Unit {0}) key.now (ghash key.now (blocks_of message.now)) hash.old hash.new result }
+/// Writes the hash of the message, zeros added to whole blocks: GHASH or POLYVAL.
+pub fn hash<H: UniversalHash>(key: &[u8], message: &[u8], hash: &mut [u8]) -> u32
+    ensures { Hashes (Unit {0}) key.now (H.hash key.now (blocks_of message.now)) hash.old hash.new result }
 {
     if key.len() != BYTES || hash.len() != BYTES {
         return status::LENGTH;
     }
-    let mut state = Ghash::new(&key_of(key));
+    let mut state = H::new(&block_of(key));
     state.update(message);
     hash.copy_from_slice(&state.finalize());
     status::OK
 }
 
-/// Writes POLYVAL of the message, zeros added to whole blocks.
-pub fn polyval(key: &[u8], message: &[u8], hash: &mut [u8]) -> u32
-    ensures { Hashes (Unit {0}) key.now (polyval key.now (blocks_of message.now)) hash.old hash.new result }
+/// Goes on with a hash over more blocks, the last one filled up with zeros: `hash` is that of the blocks so far.
+pub fn hash_update_padded<E: Encoding>(key: &[u8], message: &[u8], hash: &mut [u8]) -> u32
+    ensures { Hashes (Unit {0}) key.now (E.hash_from key.now hash.old (blocks_of message.now)) hash.old hash.new result }
 {
     if key.len() != BYTES || hash.len() != BYTES {
         return status::LENGTH;
     }
-    let mut state = Polyval::new(&key_of(key));
-    state.update(message);
-    hash.copy_from_slice(&state.finalize());
+    let next = hash_from::<E>(&block_of(key), &block_of(hash), message);
+    hash.copy_from_slice(&next);
     status::OK
+}
+
+/// Goes on with a hash over whole blocks.
+pub fn hash_update<E: Encoding>(key: &[u8], blocks: &[u8], hash: &mut [u8]) -> u32
+    ensures { Hashes (length blocks.now % 16 ≡ 0) key.now (E.hash_from key.now hash.old (blocks_of blocks.now)) hash.old hash.new result }
+{
+    if blocks.len() % BYTES != 0 {
+        return status::LENGTH;
+    }
+    hash_update_padded::<E>(key, blocks, hash)
 }
 
 /// Writes the hash of GCM over associated data and ciphertext with the block of their lengths.
@@ -51,7 +60,33 @@ pub fn gcm_ghash(key: &[u8], associated: &[u8], ciphertext: &[u8], hash: &mut [u
     if associated.len() >= PART_END || ciphertext.len() >= PART_END {
         return status::LENGTH;
     }
-    hash.copy_from_slice(&tags::gcm_ghash(&key_of(key), associated, ciphertext));
+    hash.copy_from_slice(&tags::gcm_ghash(&block_of(key), associated, ciphertext));
+    status::OK
+}
+
+/// Goes on with the hash of GCM over the block of the lengths of associated data and ciphertext, in bytes.
+pub fn gcm_ghash_final(
+    key: &[u8],
+    associated_length: u64,
+    ciphertext_length: u64,
+    hash: &mut [u8],
+) -> u32
+    ensures { Hashes ((associated_length < 2 ^ 61) × (ciphertext_length < 2 ^ 61)) key.now
+        (ghash_from key.now hash.old (block_of_lengths associated_length ciphertext_length ∷ [])) hash.old hash.new result }
+{
+    if key.len() != BYTES || hash.len() != BYTES {
+        return status::LENGTH;
+    }
+    if associated_length >= PART_END as u64 || ciphertext_length >= PART_END as u64 {
+        return status::LENGTH;
+    }
+    let last = tags::gcm_ghash_final(
+        &block_of(key),
+        &block_of(hash),
+        associated_length,
+        ciphertext_length,
+    );
+    hash.copy_from_slice(&last);
     status::OK
 }
 
@@ -64,11 +99,11 @@ pub fn tags_are_equal(left: &[u8], right: &[u8], equal: &mut u8) -> u32
 }
 
 // Sixteen bytes as an array.
-fn key_of(key: &[u8]) -> [u8; 16]
-    requires { length key.now ≡ 16 }
-    ensures { result ≡ key.now }
+fn block_of(bytes: &[u8]) -> [u8; 16]
+    requires { length bytes.now ≡ 16 }
+    ensures { result ≡ bytes.now }
 {
-    let mut bytes = [0; 16];
-    bytes.copy_from_slice(key);
-    bytes
+    let mut block = [0; 16];
+    block.copy_from_slice(bytes);
+    block
 }
