@@ -41,7 +41,7 @@ pub use polynomials::{
 };
 
 // universal hashes
-pub use tags::{few_keys_collide, parts_are_encoded, products_are_reversed};
+pub use tags::{few_keys_collide, hashes_go_on, parts_are_encoded, products_are_reversed};
 
 // Reed-Solomon codes
 pub use reed_solomon::{added_shards_encode, erasure_field, lost_shards_return};
