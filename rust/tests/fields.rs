@@ -307,8 +307,11 @@ fn changes_of_basis_keep_products() {
     }
 }
 
-// A transform over a level of the tower, and back.
-fn is_transformed<F: Transformed + std::fmt::Debug>(coefficients: [F; 16], shift: F) {
+// A transform, and back.
+fn is_transformed<F: Transformed + std::fmt::Debug, const N: usize>(
+    coefficients: [F; N],
+    shift: F,
+) {
     let mut values = coefficients;
     transform(&mut values, shift).unwrap();
     assert_ne!(values, coefficients);
@@ -344,12 +347,7 @@ fn transforms_and_linear_maps() {
     let mut draw = Draw(50);
     let mut element = || Ghash128::new(u128::from(draw.next()) << 64 | u128::from(draw.next()));
     let (shift, coefficients) = (element(), [0; 64].map(|_| element()));
-    let mut values = coefficients;
-    transform(&mut values, shift).unwrap();
-    assert_ne!(values, coefficients);
-    inverse_transform(&mut values, shift).unwrap();
-    assert_eq!(values, coefficients);
-    assert_eq!(transform(&mut values[..3], shift), Err(Error::Length));
+    is_transformed(coefficients, shift);
     let (mut low, mut high) = ([element(); 3], [element(); 3]);
     let (low_before, high_before) = (low, high);
     butterfly_forward(&mut low, &mut high, shift).unwrap();
@@ -373,8 +371,8 @@ fn transforms_and_linear_maps() {
     );
     assert_eq!(low_stages(&mut run, &shifts, &basis, 1), Err(Error::Length));
     let images = core::array::from_fn::<_, 128, _>(|bit| Ghash128::new(1 << bit));
-    let mut mapped = coefficients;
-    linear_map(&values, &images, &mut mapped).unwrap();
+    let mut mapped = [Ghash128::ZERO; 64];
+    linear_map(&coefficients, &images, &mut mapped).unwrap();
     assert_eq!(mapped, coefficients);
     let mut bytes = [0; 2];
     linear_map_of_bytes(&[3, 128], &[1, 3, 0, 0, 0, 0, 0, 9], &mut bytes).unwrap();
@@ -467,13 +465,11 @@ fn tags_and_codes() {
     prepared.add_shard(0, 0, &whole[..3], &mut first).unwrap();
     assert_eq!(first, [0; 3]);
     assert!(prepared.add_shard(2, 0, &whole[..3], &mut first).is_err());
-    assert!(
-        prepared
-            .encode_shards(
-                &[&whole[..3], &whole[3..5]],
-                &mut [&mut first[..], &mut second]
-            )
-            .is_err()
-    );
+    assert!(prepared
+        .encode_shards(
+            &[&whole[..3], &whole[3..5]],
+            &mut [&mut first[..], &mut second]
+        )
+        .is_err());
     assert_eq!(ReedSolomon::new(200, 57), Err(Error::Code));
 }
