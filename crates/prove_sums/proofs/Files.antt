@@ -4,7 +4,7 @@ use Rattle.std.specs.List.{flat_map}
 use Rattle.std.specs.Simd.{first_chunks}
 use Rattle.std.proofs.Math.Seq.{drop-append_seam, take-append_seam, take-suc}
 use Rattle.std.proofs.lemmas.Grind.{flat_map-append}
-use Rattle.std.proofs.lemmas.List.{append-nil, append_assoc, drop-drop, length-append, length-drop, take-append-drop}
+use Rattle.std.proofs.lemmas.List.{append-nil, append_assoc, drop-drop, length-append, length-drop, length-take-le, take-append-drop}
 use Rattle.std.proofs.lemmas.List.Concat.{flat_map-cons}
 use native.Mathlib.Numerals.{add-one}
 use Rattle.prove_sums.specs.ProofFiles.{file_bytes, head, IsFile}
@@ -14,7 +14,7 @@ abbrev pub flat : List (List ℕ) → List ℕ
 flat numbers = flat_map (λ number. number) numbers
 
 -- each has 16 bytes
-abbrev AreNumbers : List (List ℕ) → Type 0
+abbrev pub AreNumbers : List (List ℕ) → Type 0
 AreNumbers numbers = (k : ℕ) → k < length numbers → length (get_or numbers k []) ≡ 16
 
 -- ---- numbers
@@ -52,6 +52,13 @@ flat-chunks (suc k) bytes size =
     flat_map-cons (λ x. x) (take 16 bytes) (first_chunks 16 k (drop 16 bytes))
     ∙ ap (λ (l : List ℕ). take 16 bytes ++ l) (flat-chunks k (drop 16 bytes) (omega (arith, length-drop 16 bytes, size)))
     ∙ take-append-drop 16 bytes
+
+-- each chunk has 16 bytes
+pub chunk-size : (k : ℕ) (bytes : List ℕ) → k * 16 ≤ length bytes → AreNumbers (first_chunks 16 k bytes)
+chunk-size zero bytes enough j inside = absurd (omega (arith, inside))
+chunk-size (suc k) bytes enough zero inside = length-take-le 16 bytes (omega (arith, enough))
+chunk-size (suc k) bytes enough (suc j) inside =
+    chunk-size k (drop 16 bytes) (omega (arith, length-drop 16 bytes, enough)) j (omega (arith, inside))
 
 -- one number more
 pub number_written : (numbers : List (List ℕ)) (place : ℕ) (number old new front : List ℕ) → place < length numbers

@@ -1,1 +1,2 @@
 pub mod ProofFiles
+pub mod Verdicts

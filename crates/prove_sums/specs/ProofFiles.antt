@@ -1,6 +1,8 @@
 -- Files of proofs.
-use Rattle.std.specs.Prelude.{◌≡◌, ℕ, ◌<◌, List, [], ◌∷◌, ◌++◌, get_or, length}
+use Rattle.std.specs.Prelude.{◌≡◌, ⊤, ℕ, ◌<◌, List, [], ◌∷◌, ◌++◌, get_or, length}
 use Rattle.std.specs.List.{flat_map}
+use Rattle.prove_sums.specs.declared.refusal.Refusal.{Refusal}
+use Rattle.prove_sums.specs.declared.refusal.Refusal.TheVariants.{NotAProof, OtherField, Length, OtherLeft, OtherRight, NotProved}
 
 -- what a file begins with: "sum 1 ", the letter G for the field of GHASH, and a line feed
 abbrev pub head : List ℕ
@@ -15,3 +17,12 @@ pub record IsFile (left right : List ℕ) (numbers : List (List ℕ)) : Type 0 w
   pub left_size : length left ≡ 32
   pub right_size : length right ≡ 32
   pub number_size : (k : ℕ) → k < length numbers → length (get_or numbers k []) ≡ 16
+
+-- why bytes are not read as a file: their length, or what they begin with
+abbrev pub IsReadRefusal : Refusal → Type 0
+IsReadRefusal Length = ⊤
+IsReadRefusal NotAProof = ⊤
+IsReadRefusal OtherField = ⊤
+IsReadRefusal OtherLeft = ⊥
+IsReadRefusal OtherRight = ⊥
+IsReadRefusal NotProved = ⊥

@@ -1,11 +1,18 @@
 // What the program does.
+ghost use Rattle.std.specs.Prelude.{◌≡◌, map, IfOk};
+ghost use Rattle.field_element.specs.Element.{repr_of};
+ghost use Rattle.prove_sums.specs.Verdicts.{IsProgramAnswer, IsProgramProof, IsTable, table_numbers, table_root};
+
+use crate::answers::answer_to;
+use crate::example;
 use crate::proof_file::{decode, encode};
 use crate::refusal::Refusal;
-use crate::tables::{root_of, words_of};
-use crate::{example, sums};
+use crate::tables::{Table, table_of};
+use crate::word_sums::prove;
 use anyhow::{Context, Result, bail};
 use std::alloc::Global;
 use std::{env, fs};
+use transcript_bytes::{ByteHasher32, Sha256Hasher};
 
 const VERSION: &str = "prove_sums 0.1.0";
 
@@ -48,7 +55,7 @@ pub fn run(rt: &HostRuntime) -> Result<bool> {
     let left = fs::read(rt, words[2].as_str()).context("reading the left table")?;
     let right = fs::read(rt, words[3].as_str()).context("reading the right table")?;
     if words[1].as_str() == "prove" {
-        let proof = prove_tables(rt.alloc(), left.as_slice(), right.as_slice())?;
+        let proof = prove_tables(rt.alloc(), &Sha256Hasher, left.as_slice(), right.as_slice())?;
         fs::write(rt, words[4].as_str(), proof.as_slice()).context("writing the proof")?;
         say_sum(rt, proof.as_slice())?;
         return Ok(true);
@@ -57,6 +64,7 @@ pub fn run(rt: &HostRuntime) -> Result<bool> {
         let proof = fs::read(rt, words[4].as_str()).context("reading the proof")?;
         let refusal = verify_tables(
             rt.alloc(),
+            &Sha256Hasher,
             left.as_slice(),
             right.as_slice(),
             proof.as_slice(),
@@ -84,51 +92,55 @@ fn say_sum(rt: &HostRuntime, proof: &[u8]) -> Result<()> {
     Ok(())
 }
 
-/// The bytes of the proof of the sum of two tables.
-pub(crate) fn prove_tables(alloc: Global, left: &[u8], right: &[u8]) -> Result<Vec<u8>> {
-    let (left_words, rounds) = words_of(left)?;
-    let (right_words, right_rounds) = words_of(right)?;
-    if rounds != right_rounds {
+// Two tables of as many words, one as the other.
+fn tables_of<H: ByteHasher32>(
+    alloc: Global,
+    hasher: &H,
+    left: &[u8],
+    right: &[u8],
+) -> Result<(Table, Table)>
+    ensures rounds { IfOk result (λ tables. tables.1.rounds ≡ tables.0.rounds) }
+    ensures left { IfOk result (λ tables. IsTable tables.0.rounds left.now
+        × (map repr_of tables.0.elements.items ≡ table_numbers left.now)
+        × (tables.0.root ≡ table_root (H.digest hasher.now) tables.0.rounds left.now)) }
+    ensures right { IfOk result (λ tables. IsTable tables.1.rounds right.now
+        × (map repr_of tables.1.elements.items ≡ table_numbers right.now)
+        × (tables.1.root ≡ table_root (H.digest hasher.now) tables.1.rounds right.now)) }
+{
+    let first = table_of(alloc, hasher, left)?;
+    let second = table_of(alloc, hasher, right)?;
+    if second.rounds != first.rounds {
         bail!("the tables have to have as many words, one as the other")
     }
-    let left_root = root_of(alloc, left)?;
-    let right_root = root_of(alloc, right)?;
-    let front = encode(alloc, &left_root, &right_root, &[])?;
-    let numbers = sums::prove(alloc, front, left_words, right_words, rounds)?;
-    Ok(encode(alloc, &left_root, &right_root, numbers.as_slice())?)
+    Ok((first, second))
+}
+
+/// The bytes of the proof of the sum of two tables.
+pub(crate) fn prove_tables<H: ByteHasher32>(
+    alloc: Global,
+    hasher: &H,
+    left: &[u8],
+    right: &[u8],
+) -> Result<Vec<u8>>
+    ensures { IfOk result (λ proof. IsProgramProof H.digest hasher.now left.now right.now proof.items) }
+{
+    let (first, second) = tables_of(alloc, hasher, left, right)?;
+    let numbers = prove(alloc, hasher, &first, &second)?;
+    let proof = encode(alloc, &first.root, &second.root, numbers.as_slice())?;
+    Ok(proof)
 }
 
 /// Why the proof of the sum of two tables is refused, if it is.
-pub(crate) fn verify_tables(
+pub(crate) fn verify_tables<H: ByteHasher32>(
     alloc: Global,
+    hasher: &H,
     left: &[u8],
     right: &[u8],
     proof: &[u8],
-) -> Result<Option<Refusal>> {
-    let (left_words, rounds) = words_of(left)?;
-    let (right_words, right_rounds) = words_of(right)?;
-    if rounds != right_rounds {
-        bail!("the tables have to have as many words, one as the other")
-    }
-    let left_root = root_of(alloc, left)?;
-    let right_root = root_of(alloc, right)?;
-    let read = match decode(proof) {
-        Ok(read) => read,
-        Err(refusal) => return Ok(Some(refusal)),
-    };
-    if read.left != left_root {
-        return Ok(Some(Refusal::OtherLeft));
-    }
-    if read.right != right_root {
-        return Ok(Some(Refusal::OtherRight));
-    }
-    if read.numbers.len() != 2 * rounds + 1 {
-        return Ok(Some(Refusal::Length));
-    }
-    let front = encode(alloc, &left_root, &right_root, &[])?;
-    if sums::verify(alloc, front, left_words, right_words, rounds, read.numbers)? {
-        Ok(None)
-    } else {
-        Ok(Some(Refusal::NotProved))
-    }
+) -> Result<Option<Refusal>>
+    ensures { IfOk result (λ refusal. IsProgramAnswer H.digest hasher.now left.now right.now proof.now refusal) }
+{
+    let (first, second) = tables_of(alloc, hasher, left, right)?;
+    let answer = answer_to(alloc, hasher, &first, &second, proof)?;
+    Ok(answer)
 }

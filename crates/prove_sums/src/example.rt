@@ -1,10 +1,11 @@
 // A worked example: two tables of eight words, and what becomes of their proof where it, or a table, is changed.
 use crate::commands::{prove_tables, verify_tables};
 use anyhow::Result;
+use transcript_bytes::Sha256Hasher;
 
 // Prints what the verifier says of a proof.
 fn say(rt: &HostRuntime, what: &str, left: &[u8], right: &[u8], proof: &[u8]) -> Result<()> {
-    match verify_tables(rt.alloc(), left, right, proof)? {
+    match verify_tables(rt.alloc(), &Sha256Hasher, left, right, proof)? {
         None => println!(rt; "{what}: accepted")?,
         Some(refusal) => println!(rt; "{what}: refused, {refusal}")?,
     }
@@ -34,7 +35,7 @@ pub(crate) fn print(rt: &HostRuntime) -> Result<()> {
         *b"Two tables of eight words, of 16 bytes each, whose products are added. This is the table on the left, and so on: 12345678901234567";
     let right = [7; 128];
     let left = &left[..128];
-    let mut proof = prove_tables(rt.alloc(), left, &right)?;
+    let mut proof = prove_tables(rt.alloc(), &Sha256Hasher, left, &right)?;
     let proof = proof.as_mut_slice();
     let text = hex::encode(rt.alloc(), &proof[..])?;
     println!(rt; "{text}")?;

@@ -5,12 +5,15 @@
 //! then names. Without arguments a worked example is printed.
 #![tactic(auto)]
 
+mod answers;
 mod commands;
 mod example;
 mod proof_file;
 mod refusal;
 mod sums;
 mod tables;
+mod word_sums;
+mod words;
 
 use std::process::ExitCode;
 

@@ -1,7 +1,7 @@
 // The bytes of a proof: eight that name the format and the field, the roots of the left and of the right table, 32 bytes each, and the
 // numbers of 16 bytes each, from the lowest: the sum, and then the messages.
 ghost use Rattle.std.specs.Prelude.{◌≡◌, ◌≢◌, ℕ, List, length, IfOk, IfErr};
-ghost use Rattle.prove_sums.specs.ProofFiles.{file_bytes, IsFile};
+ghost use Rattle.prove_sums.specs.ProofFiles.{file_bytes, IsFile, IsReadRefusal};
 
 use crate::refusal::Refusal;
 use std::alloc::{AllocError, Allocator};
@@ -46,10 +46,12 @@ pub fn encode<A: Allocator>(
 /// written; what is accepted is what `encode` writes of the result.
 pub fn decode(bytes: &[u8]) -> Result<Proof<'_>, Refusal>
     ensures whole { IfOk result (λ proof. bytes.now ≡ file_bytes proof.left proof.right proof.numbers.now) }
+    ensures sizes { IfOk result (λ proof. IsFile proof.left proof.right proof.numbers.now) }
     ensures written { IfOk result (λ proof. (left right : List ℕ) (numbers : List (List ℕ)) → IsFile left right numbers
         → bytes.now ≡ file_bytes left right numbers → (proof.left ≡ left) × (proof.right ≡ right) × (proof.numbers.now ≡ numbers)) }
     ensures refused { IfErr result (λ _. (left right : List ℕ) (numbers : List (List ℕ)) → IsFile left right numbers
         → bytes.now ≢ file_bytes left right numbers) }
+    ensures reason { IfErr result (λ refusal. IsReadRefusal refusal) }
 {
     if bytes.len() < FRONT || (bytes.len() - FRONT) % 16 != 0 {
         return Err(Refusal::Length);
@@ -70,7 +72,9 @@ pub fn decode(bytes: &[u8]) -> Result<Proof<'_>, Refusal>
 }
 
 // Why a proof that begins with these bytes is refused.
-fn other_head(head: &[u8]) -> Refusal {
+fn other_head(head: &[u8]) -> Refusal
+    ensures { IsReadRefusal result }
+{
     if head.starts_with(b"sum 1 ") {
         Refusal::OtherField
     } else {

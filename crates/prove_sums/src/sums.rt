@@ -1,212 +1,106 @@
-// Sums of products of two tables, over any field, in any transcript of it. The field of the program is chosen at the end.
-ghost use Rattle.std.specs.Prelude.{◌≡◌, ◌≤◌, ◌^◌, length, IfOk};
+// Sums of the products of two tables, over any field and in any transcript of it.
+ghost use Rattle.std.specs.Prelude.{◌≡◌, ◌↔◌, ◌*◌, ◌^◌, ◌≤◌, [], ◌∷◌, ◌<◌, List, length, map, drop, slice_index, IfOk, IsTrue};
+ghost use Rattle.polynomials.specs.Multilinear.{multilinear_value};
+ghost use Rattle.protocols.specs.Products.{term_product};
+ghost use Rattle.protocols.specs.Sumcheck.{IsRunOf, messages_of};
+ghost use Rattle.protocols.specs.SumcheckClaims.{AreHonestMessages, reduced_claim};
+ghost use Rattle.protocols.specs.Terms.{cube_sum};
+ghost use Rattle.prove_sums.specs.Verdicts.{interleaved, product_terms, sum_statement};
 
-use field_base::traits::{Field, PrimeCharacteristicRing, TowerLevel};
-use field_base::{LevelKernel, Unsigned};
-use field_element::{Element, HasPacking};
+use field_base::traits::Field;
 use polynomials::evaluate_multilinear;
-use protocols::terms::Term;
+use protocols::terms::{Term, cube_sum};
 use protocols::{ProtocolError, sumcheck};
 use std::alloc::{AllocError, Global};
-use transcript_bytes::{HashChallenger, Sha256Hasher};
-use transcript_elements::{BinaryChallenger, ByteLevel, FieldChallenger, ShortWord};
-use word_polynomial::GhashKernel;
+use transcript_elements::FieldChallenger;
 
-// The element of a word.
-fn element<F: ByteLevel>(word: &[u8; 16]) -> F {
-    F::from_repr(F::Repr::of_u128(u128::from_le_bytes(*word)))
-}
-
-// The word of an element.
-fn word_of<F: ByteLevel>(element: F) -> [u8; 16] {
-    element.to_repr().to_u128().to_le_bytes()
-}
-
-// The elements of words.
-fn elements<F: ByteLevel>(alloc: Global, words: &[[u8; 16]]) -> Result<Vec<F>, AllocError>
-    ensures { IfOk result (λ elements. length elements.items ≡ length words.now) }
+/// What is summed: the product of the polynomials 0 and 1.
+pub fn product<F: Field>() -> Term<F>
+    ensures { map (term_product F.repr) (result ∷ []) ≡ product_terms }
 {
-    let mut elements = F::zero_vec(alloc, words.len())?;
-    for place in 0..words.len() {
-        elements[place] = element(&words[place]);
-    }
-    Ok(elements)
+    Term::new(F::ONE, &[0, 1]).unwrap()
 }
 
-// The words of elements.
-fn words<F: ByteLevel>(alloc: Global, elements: &[F]) -> Result<Vec<[u8; 16]>, AllocError> {
-    let mut words = Vec::new(alloc);
-    for place in 0..elements.len() {
-        words.push(word_of(elements[place]))?;
+// The tables as rows of two values.
+fn rows<F: Field>(alloc: Global, left: &[F], right: &[F]) -> Result<Vec<F>, AllocError>
+    requires { length right.now ≡ length left.now }
+    ensures { IfOk result (λ rows. rows.items ≡ interleaved left.now right.now) }
+{
+    let mut rows = Vec::new(alloc);
+    'places: for place in 0..left.len() {
+        let (one, other) = (left[place], right[place]);
+        rows.push(one)?;
+        rows.push(other)?;
     }
-    Ok(words)
+    Ok(rows)
 }
 
-// What is summed: the product of the polynomials 0 and 1.
-fn product<F: Field>(alloc: Global) -> Result<Vec<Term<F>>, ProtocolError> {
-    let mut terms = Vec::new(alloc);
-    match Term::new(F::ONE, &[0, 1]) {
-        Some(term) => terms.push(term)?,
-        None => return Err(ProtocolError::Shape),
-    }
-    Ok(terms)
-}
-
-// The sum of the products of two tables of 2^rounds words, and the messages that prove it.
-fn prove_over<F: ByteLevel, C: FieldChallenger<F>>(
+/// The sum of the products of two tables of 2^rounds elements, followed by the messages that prove it. The statement and the messages are
+/// observed, and the challenges sampled. It fails as `sumcheck::prove` does.
+pub fn prove<F: Field, C: FieldChallenger<F>>(
     alloc: Global,
     challenger: &mut C,
-    left: &[[u8; 16]],
-    right: &[[u8; 16]],
+    terms: &[Term<F>],
+    left: &[F],
+    right: &[F],
     rounds: usize,
-) -> Result<Vec<[u8; 16]>, ProtocolError>
+) -> Result<Vec<F>, ProtocolError>
     requires left { length left.now ≡ 2 ^ rounds }
     requires right { length right.now ≡ 2 ^ rounds }
     requires few { rounds ≤ 39 }
+    requires terms { map (term_product F.repr) terms.now ≡ product_terms }
+    ensures { IfOk result (λ numbers. (sum : F) × (messages point : List F) × (numbers.items ≡ sum ∷ messages)
+        × IsRunOf C.observes C.gives F.repr challenger.old (sum_statement F.width F.product rounds (F.repr sum))
+        (messages_of 2 rounds messages) point challenger.new
+        × (F.repr sum ≡ cube_sum F.product product_terms 2 rounds (map F.repr (interleaved left.now right.now)))
+        × AreHonestMessages F.product product_terms 2 2 (map F.repr (interleaved left.now right.now))
+        (map (map F.repr) (messages_of 2 rounds messages)) (map F.repr point)) }
 {
-    let mut rows = Vec::new(alloc);
-    let mut sum = F::ZERO;
-    for place in 0..left.len() {
-        let (one, other) = (element::<F>(&left[place]), element::<F>(&right[place]));
-        rows.push(one)?;
-        rows.push(other)?;
-        sum = sum + one * other;
-    }
-    let terms = product(alloc)?;
+    let mut rows = rows(alloc, left, right)?;
+    let sum = cube_sum(terms, rows.as_slice(), 2, rounds);
     let proven = sumcheck::prove(
         alloc,
         challenger,
         rows.as_mut_slice(),
         rounds,
         2,
-        terms.as_slice(),
+        terms,
         sum,
     )?;
     let mut numbers = Vec::new(alloc);
-    numbers.push(word_of(sum))?;
-    numbers.extend_from_slice(words(alloc, proven.messages.as_slice())?.as_slice())?;
+    numbers.push(sum)?;
+    numbers.extend_from_slice(proven.messages.as_slice())?;
     Ok(numbers)
 }
 
-// Whether the numbers, a sum and messages, prove that it is the sum of the products of two tables of 2^rounds words. The claim to which
-// the messages reduce it is compared with the tables themselves, whose polynomials are evaluated at the point.
-fn verify_over<F: ByteLevel, C: FieldChallenger<F>>(
+/// Whether the numbers, a sum and messages, prove that it is the sum of the products of two tables of 2^rounds elements. The claim to
+/// which the messages reduce it is compared with the product of the values that the tables' polynomials have at the point. It fails as
+/// `sumcheck::verify` does.
+pub fn verify<F: Field, C: FieldChallenger<F>>(
     alloc: Global,
     challenger: &mut C,
-    left: &[[u8; 16]],
-    right: &[[u8; 16]],
+    terms: &[Term<F>],
+    left: &[F],
+    right: &[F],
     rounds: usize,
-    numbers: &[[u8; 16]],
+    numbers: &[F],
 ) -> Result<bool, ProtocolError>
     requires left { length left.now ≡ 2 ^ rounds }
     requires right { length right.now ≡ 2 ^ rounds }
-    requires few { rounds ≤ 39 }
+    requires terms { map (term_product F.repr) terms.now ≡ product_terms }
+    requires some { 0 < length numbers.now }
+    ensures { IfOk result (λ accepted. (point : List F) × IsRunOf C.observes C.gives F.repr challenger.old
+        (sum_statement F.width F.product rounds (slice_index (map F.repr numbers.now) 0)) (messages_of 2 rounds (drop 1 numbers.now))
+        point challenger.new
+        × (IsTrue accepted ↔ (reduced_claim F.width F.product (slice_index (map F.repr numbers.now) 0)
+        (map (map F.repr) (messages_of 2 rounds (drop 1 numbers.now))) (map F.repr point)
+        ≡ F.product (multilinear_value F.product (map F.repr left.now) (map F.repr point))
+        (multilinear_value F.product (map F.repr right.now) (map F.repr point))))) }
 {
-    if numbers.is_empty() {
-        return Ok(false);
-    }
-    let terms = product(alloc)?;
-    let messages = elements::<F>(alloc, &numbers[1..])?;
-    let reduced = match sumcheck::verify(
-        alloc,
-        challenger,
-        rounds,
-        2,
-        terms.as_slice(),
-        element(&numbers[0]),
-        messages.as_slice(),
-    ) {
-        Ok(reduced) => reduced,
-        Err(ProtocolError::Length) => return Ok(false),
-        Err(error) => return Err(error),
-    };
-    let one = value_at(alloc, left, reduced.point.as_slice())?;
-    let other = value_at(alloc, right, reduced.point.as_slice())?;
-    Ok(one * other == reduced.claim)
-}
-
-// The value of the polynomial of a table at a point of as many coordinates as the table has rounds, and 0 elsewhere.
-fn value_at<F: ByteLevel>(alloc: Global, table: &[[u8; 16]], point: &[F]) -> Result<F, AllocError> {
-    let values = elements::<F>(alloc, table)?;
-    if point.len() > 39 || values.len() != 1 << point.len() {
-        return Ok(F::ZERO);
-    }
-    Ok(evaluate_multilinear(values.as_slice(), point))
-}
-
-// A transcript that begins with these bytes.
-fn transcript<R: ShortWord, K: LevelKernel<R> + HasPacking<R>>(
-    front: Vec<u8>,
-) -> BinaryChallenger<Element<R, K>, HashChallenger<Sha256Hasher>> {
-    BinaryChallenger::from_hasher(front, Sha256Hasher)
-}
-
-// Proves over the field of a kernel.
-fn prove_in<R: ShortWord, K: LevelKernel<R> + HasPacking<R>>(
-    alloc: Global,
-    front: Vec<u8>,
-    left: &[[u8; 16]],
-    right: &[[u8; 16]],
-    rounds: usize,
-) -> Result<Vec<[u8; 16]>, ProtocolError>
-    requires left { length left.now ≡ 2 ^ rounds }
-    requires right { length right.now ≡ 2 ^ rounds }
-    requires few { rounds ≤ 39 }
-{
-    prove_over::<Element<R, K>, _>(alloc, &mut transcript::<R, K>(front), left, right, rounds)
-}
-
-// Verifies over the field of a kernel.
-fn verify_in<R: ShortWord, K: LevelKernel<R> + HasPacking<R>>(
-    alloc: Global,
-    front: Vec<u8>,
-    left: &[[u8; 16]],
-    right: &[[u8; 16]],
-    rounds: usize,
-    numbers: &[[u8; 16]],
-) -> Result<bool, ProtocolError>
-    requires left { length left.now ≡ 2 ^ rounds }
-    requires right { length right.now ≡ 2 ^ rounds }
-    requires few { rounds ≤ 39 }
-{
-    verify_over::<Element<R, K>, _>(
-        alloc,
-        &mut transcript::<R, K>(front),
-        left,
-        right,
-        rounds,
-        numbers,
-    )
-}
-
-/// The sum of the products of two tables of 2^rounds words in the field of GHASH, and the messages that prove it, in a transcript that
-/// begins with the bytes `front`.
-pub fn prove(
-    alloc: Global,
-    front: Vec<u8>,
-    left: &[[u8; 16]],
-    right: &[[u8; 16]],
-    rounds: usize,
-) -> Result<Vec<[u8; 16]>, ProtocolError>
-    requires left { length left.now ≡ 2 ^ rounds }
-    requires right { length right.now ≡ 2 ^ rounds }
-    requires few { rounds ≤ 39 }
-{
-    prove_in::<u128, GhashKernel>(alloc, front, left, right, rounds)
-}
-
-/// Whether the numbers, a sum and messages, prove that it is the sum of the products of two tables of 2^rounds words.
-pub fn verify(
-    alloc: Global,
-    front: Vec<u8>,
-    left: &[[u8; 16]],
-    right: &[[u8; 16]],
-    rounds: usize,
-    numbers: &[[u8; 16]],
-) -> Result<bool, ProtocolError>
-    requires left { length left.now ≡ 2 ^ rounds }
-    requires right { length right.now ≡ 2 ^ rounds }
-    requires few { rounds ≤ 39 }
-{
-    verify_in::<u128, GhashKernel>(alloc, front, left, right, rounds, numbers)
+    let sum = numbers[0];
+    let reduced = sumcheck::verify(alloc, challenger, rounds, 2, terms, sum, &numbers[1..])?;
+    let point = reduced.point.as_slice();
+    let one = evaluate_multilinear(left, point);
+    let other = evaluate_multilinear(right, point);
+    Ok(reduced.claim == one * other)
 }

@@ -1,8 +1,8 @@
-use Rattle.std.proofs.Common.{rules, arith, ◌≡◌, ℕ, List, length, take, drop, ◌-◌, ◌/◌, ◌%◌, ◌≤◌, sym, ◌∙◌, ap, ap₂}
+use Rattle.std.proofs.Common.{rules, arith, ◌≡◌, ℕ, List, length, take, drop, ◌-◌, ◌/◌, ◌%◌, ◌≤◌, sym, ◌∙◌, ap, ap₂, subst}
 use Rattle.std.specs.Simd.{first_chunks}
-use Rattle.std.proofs.lemmas.List.{take_rest}
+use Rattle.std.proofs.lemmas.List.{length-drop, length-take-le, take_rest}
 use Rattle.prove_sums.specs.ProofFiles.{file_bytes, head}
-use Rattle.prove_sums.proofs.Files.{file_left, file_length, file_numbers, file_right, left_of, numbers_of, right_of, whole}
+use Rattle.prove_sums.proofs.Files.{AreNumbers, chunk-size, file_left, file_length, file_numbers, file_right, left_of, numbers_of, right_of, whole}
 use Rattle.prove_sums.proofs.proof_file.decode.Goals as goal
 use Rattle.prove_sums.proofs.proof_file.decode.Goals.{then-bytes-lt-FRONT-via-then-bytes-lt-FRONT, then-bytes-lt-FRONT-via-else-bytes-lt-FRONT+then-bytes-ne0}
 
@@ -42,3 +42,17 @@ returns-clause-written c = λ left right numbers is same.
       right_is ∙ file_right bytes left right numbers is same,
       numbers_is ∙ file_numbers bytes left right numbers is same,
     )
+
+pub returns-clause-sizes : goal.returns-clause-sizes
+returns-clause-sizes c =
+    let bytes = c.args.bytes.now in
+    let enough : 72 ≤ length bytes = omega (arith, c.if-bytes-lt-FRONT.false) in
+    let left_is : c.copy_from_slice.new.self ≡ left_of bytes = search rules in
+    let right_is : c.copy_from_slice-2.new.self ≡ right_of bytes = search rules in
+    let numbers_is : c.as_chunks.result.0.now ≡ numbers_of bytes = c.as_chunks.ensures.front ∙ chunks_of_rest bytes in
+    record {
+      left_size = ap length left_is ∙ length-take-le 32 (drop 8 bytes) (omega (arith, length-drop 8 bytes, enough));
+      right_size = ap length right_is ∙ length-take-le 32 (drop 40 bytes) (omega (arith, length-drop 40 bytes, enough));
+      number_size =
+          subst (λ (ns : List (List ℕ)). AreNumbers ns) (sym numbers_is) (chunk-size (length (drop 72 bytes) / 16) (drop 72 bytes) (omega arith));
+    }
