@@ -1,6 +1,6 @@
 -- What is proved of two tables, and what a verifier says of a proof, over numbers and bytes alone. A table is a list of numbers, each the
 -- representation of an element of the field of GHASH, and `digest` a hash function.
-use Rattle.std.specs.Prelude.{◌≡◌, ◌≢◌, ◌↔◌, ◌⊎◌, ℕ, ◌+◌, ◌*◌, ◌^◌, ◌≤◌, ◌/◌, Bool, true, false, List, [], ◌∷◌, length, map, drop, slice_index, IsTrue}
+use Rattle.std.specs.Prelude.{◌≡◌, ◌≢◌, ◌↔◌, ◌⊎◌, ℕ, ◌+◌, ◌*◌, ◌^◌, ◌<◌, ◌≤◌, ◌/◌, Bool, true, false, List, [], ◌∷◌, length, map, drop, slice_index, IsTrue}
 use Rattle.std.specs.Int.{from_le_bytes, w64, w128}
 use Rattle.std.specs.Simd.{first_chunks}
 use Rattle.std.specs.declared.option.Option.{Option}
@@ -41,9 +41,9 @@ interleaved (x ∷ xs) (y ∷ ys) = x ∷ y ∷ interleaved xs ys
 abbrev pub observes_number : {H : Type 0} → (H → List ℕ → List ℕ) → HashState H → ℕ → HashState H → Type 0
 observes_number digest old n new = new ≡ after (hash_transitions digest) (observing (low_bytes 16 n)) old
 
--- an element is sampled: 16 bytes are, the lowest first
+-- an element is sampled: a number below 2 ^ 128, by its 16 bytes, the lowest first
 abbrev pub gives_number : {H : Type 0} → (H → List ℕ → List ℕ) → HashState H → ℕ → HashState H → Type 0
-gives_number digest old n new = SamplesCoefficients (hash_transitions digest) 16 128 1 old n new
+gives_number digest old n new = (n < 2 ^ 128) × SamplesCoefficients (hash_transitions digest) 16 128 1 old n new
 
 -- the product of the field of GHASH
 abbrev pub times : ℕ → ℕ → ℕ

@@ -11,7 +11,7 @@ returns g c =
     let accepted = c.in_ok-accepted.ensures in
     let left = c.args.left.now in
     let right = c.args.right.now in
-    verdict-by_numbers _ _ g.H.ByteHasher32.digest state_of repr_of (λ old x new is. is) (λ old x new is. is) left.rounds
+    verdict-by_numbers _ _ g.H.ByteHasher32.digest state_of repr_of (λ old x new is. is) (λ old x new is. (x.in_range, is)) left.rounds
     c.in_ok-challenger.challenger c.verify.new.challenger c.args.hasher.now (file_bytes left.root right.root []) c.as_slice.result.now
     c.as_slice-2.result.now c.as_slice-3.result.now accepted.0 (map repr_of left.elements.items) (map repr_of right.elements.items)
     (map number_of_word c.args.numbers.now) c.in_ok-accepted.accepted c.in_ok-challenger.ensures
