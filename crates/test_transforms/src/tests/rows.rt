@@ -3,8 +3,8 @@
 use field_base::traits::TowerLevel;
 use field_element::{BinaryField8, BinaryField16, BinaryField32};
 use std::simd::prelude::*;
-use tower_transforms::{ByteBlock, butterflies_8, butterflies_16, butterflies_32};
 use test_support::{fill_bytes, next_number};
+use tower_transforms::{ByteBlock, butterflies_8, butterflies_16, butterflies_32};
 
 // Runs the butterflies of two rows by a scalar of 8 bits, or returns false.
 fn run_8<V: ByteBlock>(lo: &mut [u8], hi: &mut [u8], scalar: u32, inverse: bool) -> bool {
