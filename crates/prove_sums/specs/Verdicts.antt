@@ -79,10 +79,11 @@ IsHonestProof {H} digest hasher front rounds left right numbers =
 abbrev pub number_of_word : List ℕ → ℕ
 number_of_word = from_le_bytes w128
 
--- the words of a table, and their numbers
+-- the words of a table
 abbrev pub table_words : List ℕ → List (List ℕ)
 table_words bytes = first_chunks 16 (length bytes / 16) bytes
 
+-- the numbers of its words
 abbrev pub table_numbers : List ℕ → List ℕ
 table_numbers bytes = map number_of_word (table_words bytes)
 
