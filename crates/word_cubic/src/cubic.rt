@@ -31,7 +31,7 @@ pub fn multiply_192(x: Triple, y: Triple) -> Triple
 }
 
 /// The square: (c0 + c1 y + c2 y²)² = c0² + c2² y + (c1² + c2²) y², since y⁴ = y² + y.
-#[inline]
+#[inline(always)]
 pub fn square_192(x: Triple) -> Triple
     ensures { triple_number result ≡ cubic_mul (triple_number x) (triple_number x) }
 {
@@ -63,7 +63,7 @@ pub fn reduce_squarings_192(x: Triple, count: usize) -> (Triple, usize)
 }
 
 /// The square root. Every element has exactly one.
-#[inline]
+#[inline(always)]
 pub fn sqrt_192(x: Triple) -> Triple
     ensures { cubic_mul (triple_number result) (triple_number result) ≡ triple_number x }
 {

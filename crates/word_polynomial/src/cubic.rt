@@ -51,7 +51,8 @@ impl<R: HoldsTriple> FieldKernel<R> for CubicKernel {
         R::of_triple(multiply_192(x.to_triple(), y.to_triple()))
     }
 
-    #[inline]
+    // Called by loops apart and in place: by a call of its own its three words would go through memory.
+    #[inline(always)]
     fn square(x: R) -> R {
         R::of_triple(square_192(x.to_triple()))
     }
@@ -61,7 +62,7 @@ impl<R: HoldsTriple> FieldKernel<R> for CubicKernel {
         R::of_triple(invert_192(x.to_triple()))
     }
 
-    #[inline]
+    #[inline(always)]
     fn sqrt(x: R) -> R {
         R::of_triple(sqrt_192(x.to_triple()))
     }
