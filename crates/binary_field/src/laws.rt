@@ -36,7 +36,7 @@ pub use ghash_slices::{
 };
 
 // polynomials in many variables, and the sum-check protocol
-pub use polynomials::{
+pub use field_slices::{
     corner_values_extend, first_coordinate_is_linear, folding_evaluates, honest_is_accepted,
 };
 

@@ -1,7 +1,13 @@
 pub mod BatchInversion
+pub mod Completeness
+pub mod CornerSums
+pub mod CubeLaws
+pub mod CubeTables
+pub mod LagrangeSteps
 pub mod LaneLists
 pub mod MixedDots
 pub mod PackedPowers
 pub mod Places
 pub mod PowerLists
+pub mod RoundSums
 pub mod Written

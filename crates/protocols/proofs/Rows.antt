@@ -14,9 +14,9 @@ use Rattle.field_base.proofs.BasisSums.{product_below-same, sum_below-add, sum_b
 use Rattle.field_base.proofs.PowerLemmas.{one-times}
 use Rattle.field_base.proofs.RingLemmas.{times-zero}
 use Rattle.field_laws.proofs.Polynomials.{IsPolynomial, polynomial-same, polynomial-scale, polynomial-sum, polynomial-zero, nil_xor}
-use Rattle.polynomials.specs.Multilinear.{eq_corner, folded, folded_all, on_line}
-use Rattle.polynomials.proofs.CornerSums.{corners-line, weighted-line}
-use Rattle.polynomials.proofs.CubeLaws.{line-one, line-zero}
+use Rattle.field_slices.specs.Multilinear.{eq_corner, folded, folded_all, on_line}
+use Rattle.field_slices.proofs.CornerSums.{corners-line, weighted-line}
+use Rattle.field_slices.proofs.CubeLaws.{line-one, line-zero}
 use Rattle.protocols.proofs.Polynomials.{polynomial-product, polynomial-widen}
 use Rattle.protocols.specs.Terms.{AreWithin, HaveFactors, FactorsAreWithin, Product, cube_sum, honest_at, product_value, table_value, terms_value}
 

@@ -13,7 +13,7 @@ use Rattle.field_laws.specs.PolynomialRoots.{AreDistinctBelow}
 use Rattle.field_laws.specs.Interpolation.{interpolated}
 use Rattle.field_laws.proofs.Interpolation.{interpolated-at, interpolated-is, interpolated-polynomial}
 use Rattle.field_laws.proofs.Polynomials.{IsPolynomial, polynomial-lt, polynomial-unique}
-use Rattle.polynomials.specs.Multilinear.{folded, folded_all}
+use Rattle.field_slices.specs.Multilinear.{folded, folded_all}
 use Rattle.protocols.proofs.Rows.{cube_sum-halves, cube_sum-lt, cube_sum-none, even-length, folded-fit, folded-values, honest-polynomial, rows-twice, terms_value-same}
 use Rattle.protocols.specs.SumcheckClaims.{AreHonestMessages, AreMessages, FalseClaimsNeedLuck, FewChallengesSave, HonestReduces, IsClaimShape, IsSaved, honest_message, message_at, node_values, reduced_claim}
 use Rattle.protocols.specs.Terms.{AreWithin, HaveFactors, Product, cube_sum, honest_at, table_value, terms_value}

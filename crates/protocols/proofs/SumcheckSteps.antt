@@ -11,7 +11,7 @@ use Rattle.std.proofs.lemmas.Result.{err_from_is_err_and}
 use Rattle.std.specs.List.{flat_map, range_with_len}
 use Rattle.std.proofs.lemmas.List.FromFn.{length-map-range_with_len, map-range_with_len_more}
 use Rattle.field_laws.specs.Interpolation.{interpolated}
-use Rattle.polynomials.specs.Multilinear.{folded, folded_all}
+use Rattle.field_slices.specs.Multilinear.{folded, folded_all}
 use Rattle.transcript_elements.specs.Lists.{InTurn}
 use Rattle.transcript_elements.specs.States.{GivesByState, LeadsByState}
 use Rattle.protocols.specs.Sumcheck.{AreTurns, IsTurn, messages_of, term_numbers}

@@ -16,8 +16,8 @@ use Rattle.field_base.proofs.FieldLemmas.{no_zero_divisors}
 use Rattle.field_base.proofs.PowerLemmas.{one-times}
 use Rattle.field_base.proofs.RingLemmas.{sum_times, times-zero, xor_nothing}
 use Rattle.field_laws.proofs.Polynomials.{nil_xor}
-use Rattle.polynomials.specs.Multilinear.{AreCornerValues, eq_corner, folded, folded_all, multilinear_value, on_line}
-use Rattle.polynomials.proofs.CubeLaws.{folded-at, folded-corners, value-alone, value-folded}
+use Rattle.field_slices.specs.Multilinear.{AreCornerValues, eq_corner, folded, folded_all, multilinear_value, on_line}
+use Rattle.field_slices.proofs.CubeLaws.{folded-at, folded-corners, value-alone, value-folded}
 use Rattle.protocols.specs.Terms.{cube_sum, product_value, terms_value}
 use Rattle.protocols.specs.ZeroCheck.{IsNonzeroLine, IsRootAt, LinesHaveOneRoot, ZeroCheckEvaluates, ZeroNeedsRoot, zero_check_terms, zero_check_values}
 

@@ -7,7 +7,7 @@ use Rattle.std.specs.List.{range_with_len}
 use Rattle.field_base.specs.Field.{IsField}
 use Rattle.field_laws.specs.Interpolation.{interpolated}
 use Rattle.field_laws.specs.PolynomialRoots.{AreDistinctBelow}
-use Rattle.polynomials.specs.Multilinear.{folded, folded_all}
+use Rattle.field_slices.specs.Multilinear.{folded, folded_all}
 use Rattle.protocols.specs.Terms.{AreWithin, HaveFactors, Product, cube_sum, honest_at, table_value, terms_value}
 
 -- ---- messages

@@ -4,7 +4,7 @@
 -- sum is `bit_xor`, and `times` the product of a ring.
 use Rattle.std.specs.Prelude.{◌≡◌, ℕ, ◌+◌, ◌*◌, ◌^◌, ◌<◌, ◌≤◌, List, [], ◌∷◌, length, max, slice_index, bit_xor}
 use Rattle.field_base.specs.Basis.{product_below, sum_below}
-use Rattle.polynomials.specs.Multilinear.{eq_corner, folded}
+use Rattle.field_slices.specs.Multilinear.{eq_corner, folded}
 
 -- a product of polynomials with a coefficient, by the numbers of the polynomials
 pub record Product : Type 0 where

@@ -3,7 +3,7 @@
 use Rattle.std.specs.Prelude.{◌≡◌, ◌≢◌, ◌⊎◌, ℕ, suc, ◌+◌, ◌-◌, ◌*◌, ◌^◌, ◌<◌, List, [], ◌∷◌, length, map, take, slice_index, bit_xor}
 use Rattle.std.specs.List.{range_with_len}
 use Rattle.field_base.specs.Field.{IsField}
-use Rattle.polynomials.specs.Multilinear.{AreCornerValues, eq_corner, folded_all, multilinear_value, on_line}
+use Rattle.field_slices.specs.Multilinear.{AreCornerValues, eq_corner, folded_all, multilinear_value, on_line}
 use Rattle.protocols.specs.Terms.{Product, cube_sum}
 
 -- a line, by its values at 0 and 1, is not 0

@@ -5,13 +5,13 @@ ghost use Rattle.protocols.specs.Products.{term_product};
 ghost use Rattle.protocols.specs.Sumcheck.{AreTurns, IsRunOf, IsTurn, messages_of, statement_of};
 ghost use Rattle.protocols.specs.SumcheckClaims.{AreHonestMessages, honest_message, message_at, node_values, reduced_claim};
 ghost use Rattle.protocols.specs.Terms.{AreWithin, cube_sum, degree_of, honest_at, table_value, terms_value};
-ghost use Rattle.polynomials.specs.Multilinear.{folded, folded_all};
+ghost use Rattle.field_slices.specs.Multilinear.{folded, folded_all};
 
 use crate::error::ProtocolError;
 use crate::statement::statement;
 use crate::terms::{Term, cube_sum, degree, terms_at};
 use field_base::traits::Field;
-use polynomials::{fold, interpolate_at_nodes};
+use field_slices::{fold, interpolate_at_nodes};
 use std::alloc::{AllocError, Allocator};
 use transcript_elements::FieldChallenger;
 

@@ -2,7 +2,7 @@
 use Rattle.std.proofs.Common.{◌≡◌, ◌↔◌, ℕ, zero, suc, Bool, List, [], ◌∷◌, map, drop, refl, sym, ◌∙◌, ap, ap₂, subst}
 use Rattle.std.specs.Prelude.{IsTrue, slice_index}
 use Rattle.std.proofs.lemmas.List.{map-id, take-map}
-use Rattle.polynomials.specs.Multilinear.{multilinear_value}
+use Rattle.field_slices.specs.Multilinear.{multilinear_value}
 use Rattle.transcript_bytes.specs.HashBuffers.{HashState}
 use Rattle.transcript_elements.specs.Lists.{InTurn}
 use Rattle.protocols.specs.Sumcheck.{AreTurns, IsRunOf, Statement, messages_of}

@@ -10,7 +10,7 @@ use Rattle.transcript_bytes.specs.HashBuffers.{HashState, hash_transitions}
 use Rattle.field_bytes.specs.Bytes.{low_bytes}
 use Rattle.transcript_elements.specs.Sampled.{SamplesCoefficients}
 use Rattle.field_base.specs.Remainder.{ghash_modulus, mul_mod}
-use Rattle.polynomials.specs.Multilinear.{multilinear_value}
+use Rattle.field_slices.specs.Multilinear.{multilinear_value}
 use Rattle.protocols.specs.Sumcheck.{IsRunOf, Statement, messages_of, statement_of}
 use Rattle.protocols.specs.SumcheckClaims.{AreHonestMessages, reduced_claim}
 use Rattle.protocols.specs.Terms.{Product, cube_sum}

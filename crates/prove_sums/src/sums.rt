@@ -1,6 +1,6 @@
 // Sums of the products of two tables, over any field and in any transcript of it.
 ghost use Rattle.std.specs.Prelude.{◌≡◌, ◌↔◌, ◌*◌, ◌^◌, ◌≤◌, [], ◌∷◌, ◌<◌, List, length, map, drop, slice_index, IfOk, IsTrue};
-ghost use Rattle.polynomials.specs.Multilinear.{multilinear_value};
+ghost use Rattle.field_slices.specs.Multilinear.{multilinear_value};
 ghost use Rattle.protocols.specs.Products.{term_product};
 ghost use Rattle.protocols.specs.Sumcheck.{IsRunOf, messages_of};
 ghost use Rattle.protocols.specs.SumcheckClaims.{AreHonestMessages, reduced_claim};
@@ -8,7 +8,7 @@ ghost use Rattle.protocols.specs.Terms.{cube_sum};
 ghost use Rattle.prove_sums.specs.Verdicts.{interleaved, product_terms, sum_statement};
 
 use field_base::traits::Field;
-use polynomials::evaluate_multilinear;
+use field_slices::evaluate_multilinear;
 use protocols::terms::{Term, cube_sum};
 use protocols::{ProtocolError, sumcheck};
 use std::alloc::{AllocError, Global};

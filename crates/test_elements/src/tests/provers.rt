@@ -3,11 +3,10 @@
 use field_base::traits::{Field, PrimeCharacteristicRing, TowerLevel};
 use field_element::{BinaryField8, Ghash128};
 use field_slices::{
-    batch_multiplicative_inverse, batch_multiplicative_inverse_in_place, mixed_dot_product,
-    powers_vec, shifted_powers_vec,
+    RoundPolynomial, batch_multiplicative_inverse, batch_multiplicative_inverse_in_place, eq_poly,
+    evaluate_multilinear, fold, mixed_dot_product, powers_vec, shifted_powers_vec,
 };
 use linked_list_allocator::LocalHeap;
-use polynomials::{RoundPolynomial, eq_poly, evaluate_multilinear, fold};
 use std::alloc::{AllocError, Allocator, Global};
 use std::test::Fail;
 

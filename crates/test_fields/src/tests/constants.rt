@@ -4,7 +4,7 @@
 use field_base::traits::{Field, PrimeCharacteristicRing, TowerLevel};
 use field_base::{LevelKernel, Unsigned};
 use field_element::{Element, HasPacking};
-use polynomials::evaluate;
+use field_slices::evaluate;
 use std::alloc::Global;
 use word_polynomial::{GhashKernel, Poly64Kernel, RijndaelKernel};
 use word_tower::{Bits2, Bits4, Bits8, Bits16, Bits32, Bits64, Bits128, Level, Tower};

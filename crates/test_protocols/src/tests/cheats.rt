@@ -7,7 +7,7 @@
 //   as about one message of 256 is.
 use field_base::traits::{PrimeCharacteristicRing, TowerLevel};
 use field_element::{BinaryField8, BinaryField128};
-use polynomials::evaluate_multilinear;
+use field_slices::evaluate_multilinear;
 use protocols::ProtocolError;
 use protocols::sumcheck::{prove, verify};
 use protocols::terms::{Term, are_within, cube_sum, terms_at};

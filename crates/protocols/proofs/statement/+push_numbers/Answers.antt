@@ -1,6 +1,6 @@
 use Rattle.std.proofs.Common.{refl, map}
 use Rattle.std.specs.Prelude.{slice_index}
-use Rattle.polynomials.proofs.CubeTables.{none-if_empty, some-unless_empty}
+use Rattle.field_slices.proofs.CubeTables.{none-if_empty, some-unless_empty}
 use Rattle.protocols.proofs.SumcheckSteps.{appended-none, numbers-more}
 use Rattle.protocols.proofs.TermSteps.{first-number}
 use Rattle.protocols.proofs.statement.+push_numbers.Goals as goal

@@ -1,6 +1,6 @@
 use Rattle.std.proofs.Common.{◌≡◌, ◌++◌, ◌∷◌, ℕ, List, map, refl, ap, ◌∙◌, sym}
 use Rattle.std.specs.List.{flat_map}
-use Rattle.polynomials.proofs.CubeTables.{none-if_empty, some-unless_empty}
+use Rattle.field_slices.proofs.CubeTables.{none-if_empty, some-unless_empty}
 use Rattle.protocols.specs.Products.{term_product}
 use Rattle.protocols.specs.Sumcheck.{term_numbers}
 use Rattle.protocols.proofs.SumcheckSteps.{appended-two, terms-none}

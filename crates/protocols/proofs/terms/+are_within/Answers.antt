@@ -1,6 +1,6 @@
 use Rattle.std.proofs.Common.{refl, subst}
 use Rattle.std.specs.Prelude.{IsTrue, ◌↔◌, List, ℕ}
-use Rattle.polynomials.proofs.CubeTables.{none-if_empty, some-unless_empty}
+use Rattle.field_slices.proofs.CubeTables.{none-if_empty, some-unless_empty}
 use Rattle.protocols.specs.Products.{term_product}
 use Rattle.protocols.proofs.TermSteps.{AreBelow, first-rest, within-more, within-none, within-not}
 use Rattle.protocols.proofs.terms.+are_within.Goals as goal

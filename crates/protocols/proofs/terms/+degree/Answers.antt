@@ -1,7 +1,7 @@
 use Rattle.std.proofs.Common.{refl, ℕ, length, ap, ap₂, ◌∙◌, subst, sym}
 use Rattle.std.specs.Prelude.{◌<◌, ◌≤◌, max}
 use Rattle.std.proofs.Math.Nat.{le-max_right, max-le, lt_of_lt_of_le}
-use Rattle.polynomials.proofs.CubeTables.{none-if_empty, some-unless_empty}
+use Rattle.field_slices.proofs.CubeTables.{none-if_empty, some-unless_empty}
 use Rattle.protocols.specs.Products.{term_product}
 use Rattle.protocols.proofs.TermSteps.{degree-more, degree-none, first-rest}
 use Rattle.protocols.proofs.terms.+degree.Goals as goal

@@ -1,6 +1,6 @@
 use Rattle.std.proofs.Common.{refl, ap, ap₂, ◌∙◌, length, map, rules}
 use Rattle.std.specs.Prelude.{bit_xor, slice_index}
-use Rattle.polynomials.proofs.CubeTables.{none-if_empty, some-unless_empty}
+use Rattle.field_slices.proofs.CubeTables.{none-if_empty, some-unless_empty}
 use Rattle.protocols.specs.Products.{term_product}
 use Rattle.protocols.proofs.TermSteps.{first-rest, terms_value-more, terms_value-none, within-first, within-rest}
 use Rattle.protocols.proofs.terms.+terms_at.Goals as goal

@@ -1,5 +1,5 @@
 use Rattle.std.proofs.Common.{◌≡◌, ◌^◌, ℕ, List, length, map, refl, sym, ◌∙◌, ap, ap₂}
-use Rattle.polynomials.specs.Multilinear.{multilinear_value}
+use Rattle.field_slices.specs.Multilinear.{multilinear_value}
 use Rattle.protocols.specs.Products.{term_product}
 use Rattle.prove_sums.proofs.SumSteps.{decided, verified-sum}
 use Rattle.prove_sums.proofs.sums.verify.Goals as goal

@@ -1,5 +1,0 @@
-use Rattle.polynomials.proofs.CubeLaws.{folding-evaluates}
-use Rattle.polynomials.proofs.laws.folding_evaluates.Goals as goal
-
-pub returns : goal.returns
-returns c width times point values ring are = folding-evaluates width times ring point values are

@@ -1,6 +1,0 @@
-use Rattle.polynomials.proofs.Completeness.{honest-accepted}
-use Rattle.polynomials.proofs.rounds.honest_is_accepted.Goals as goal
-
-pub returns : goal.returns
-returns c width times left right challenges messages ring wide is_left is_right honest =
-    honest-accepted width times ring wide challenges messages left right is_left is_right honest

@@ -1,3 +1,0 @@
-pub mod Multilinear
-pub mod Rounds
-pub mod Sumcheck
