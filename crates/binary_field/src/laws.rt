@@ -44,7 +44,7 @@ pub use field_slices::{
 pub use tags::{few_keys_collide, hashes_go_on, parts_are_encoded, products_are_reversed};
 
 // Reed-Solomon codes
-pub use reed_solomon::{added_shards_encode, erasure_field, lost_shards_return};
+pub use reed_solomon::{added_shards_encode, changes_are_seen, erasure_field, lost_shards_return};
 
 // transcripts
 pub use transcript_bytes::runs_join;

@@ -1,5 +1,5 @@
 -- Lost shards of codewords return.
-use Rattle.std.proofs.Common.{◌≡◌, inl, inr, ℕ, zero, suc, ◌+◌, ◌*◌, ◌/◌, ◌%◌, ◌<◌, ◌≤◌, Bool, false, List, length, get_or, take, set, replicate, sym, ◌∙◌, ap, subst, arith, lit<}
+use Rattle.std.proofs.Common.{◌≡◌, inl, inr, ℕ, zero, suc, ◌+◌, ◌*◌, ◌/◌, ◌%◌, ◌<◌, ◌≤◌, Bool, false, List, length, get_or, take, set, replicate, refl, sym, ◌∙◌, ap, subst, arith, lit<}
 use Rattle.std.proofs.lemmas.Bool.{true≢false, cases_Bool, cases_lt}
 use Rattle.std.proofs.lemmas.List.{ext_get_or, length-set, length-replicate}
 use Rattle.std.proofs.lemmas.Nat.{div-add-mod', div_below}
@@ -7,7 +7,7 @@ use Rattle.std.proofs.Math.Seq.{take-length}
 use native.Mathlib.Nat.{mod-lt}
 use Rattle.field_laws.proofs.Codewords.{codeword_is_unique}
 use Rattle.reed_solomon.specs.ErasureField.{erasure_product}
-use Rattle.reed_solomon.specs.RoundTrip.{LostShardsReturn}
+use Rattle.reed_solomon.specs.RoundTrip.{ChangesAreSeen, LostShardsReturn}
 use Rattle.reed_solomon.specs.Samples.{IsSample}
 use Rattle.reed_solomon.specs.Shards.{present_count, shard_byte}
 use Rattle.reed_solomon.proofs.ByteTables.{erasure_field}
@@ -128,3 +128,18 @@ lost_shards_return k total size present whole damaged restored fits flags enough
         let wide : 0 < size = positive total size n below in
         subst (λ (m : ℕ). get_or restored m 0 ≡ get_or whole m 0) (div-add-mod' n size)
         (column_is (n / size) (n % size) (div_below n size total wide below) (mod-lt n wide))
+
+-- codewords are restored from themselves, whatever shards are at hand
+pub changes_are_seen : ChangesAreSeen
+changes_are_seen k total size present whole changed fits flags enough whole_long changed_long words agree changed_words =
+    lost_shards_return k total size present whole changed changed fits flags enough whole_long changed_long words agree
+    record {
+      keeps = λ i column within inside at. refl;
+      restores = λ column inside.
+          record {
+            word = λ p. shard_byte size changed p column;
+            is_codeword = changed_words column inside;
+            agrees = λ i within first. refl;
+            missing = λ i below absent. refl;
+          };
+    }

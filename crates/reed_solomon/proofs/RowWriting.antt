@@ -1,13 +1,13 @@
 -- Rows of bytes that are written one after the other, and column by column.
-use Rattle.std.proofs.Common.{◌≡◌, ◌⊎◌, inl, inr, ℕ, ◌+◌, ◌-◌, ◌*◌, ◌<◌, ◌≤◌, List, [], length, get_or, replicate, set, refl, sym, ◌∙◌, ap, subst, arith}
+use Rattle.std.proofs.Common.{◌≡◌, ◌⊎◌, inl, inr, ℕ, zero, suc, ◌+◌, ◌-◌, ◌*◌, ◌<◌, ◌≤◌, true, false, nat_eq, List, [], length, get_or, replicate, set, refl, sym, ◌∙◌, ap, subst, arith}
 use Rattle.std.specs.Prelude.{bit_xor}
-use Rattle.std.specs.Simd.Lanes.{put_chunk, zip2}
+use Rattle.std.specs.Simd.Lanes.{chunk, put_chunk, zip2}
 use Rattle.std.proofs.lemmas.Bool.{cases_lt}
 use Rattle.std.proofs.lemmas.Bool.Decides.{eqb_tells}
 use Rattle.std.proofs.lemmas.List.{get_or-set_same, get_or-set_other, length-set}
-use Rattle.std.proofs.lemmas.Simd.{get_or-put_chunk_above, get_or-put_chunk_at, get_or-put_chunk_below, get_or-replicate, get_or-zip2, length-put_chunk, length-replicate, length-zip2}
+use Rattle.std.proofs.lemmas.Simd.{get_or-chunk, get_or-put_chunk_above, get_or-put_chunk_at, get_or-put_chunk_below, get_or-replicate, get_or-zip2, length-chunk, length-put_chunk, length-replicate, length-zip2}
 use Rattle.field_base.specs.Basis.{sum_below}
-use Rattle.reed_solomon.specs.Tables.{AreApart, AreWritten, nibble_sum, row_sum}
+use Rattle.reed_solomon.specs.Tables.{AreApart, AreWritten, nibble_sum, row_sum, row_sum_of}
 use Rattle.reed_solomon.proofs.Factors.{sum_more}
 use Rattle.reed_solomon.proofs.Samples.{below_next}
 use Rattle.reed_solomon.proofs.Writing.{sum_below-same}
@@ -90,6 +90,38 @@ byte_row value place row start byte old now before is room byte_is apart =
     (λ i out. get_or-set_other now start i byte 0 (λ e. elim out [ inl low ↦ absurd (omega (arith, low, is, e)) | inr high ↦ absurd (omega (arith, high, is, e)) ]))
     apart
 
+-- columns that are not written yet
+pub column_kept : (value : ℕ → ℕ → ℕ) (place : ℕ → ℕ) (rows columns size row c : ℕ) (old now : List ℕ) → AreWritten value place rows columns old now
+    → columns ≤ c → c < size → row < rows → ((a b : ℕ) → b < a → a < rows → AreApart size (place a) (place b))
+    → get_or now (place row + c) 0 ≡ get_or old (place row + c) 0
+column_kept value place rows columns size row c old now all past inside below apart = all.others (place row + c) outside
+  where
+    away : (r : ℕ) → AreApart size (place row) (place r) → (place row + c < place r) ⊎ (place r + columns ≤ place row + c)
+    away r apart_of = elim apart_of [ inl low ↦ inl (omega (arith, low, inside)) | inr high ↦ inr (omega (arith, high, past, inside)) ]
+
+    swapped : (r : ℕ) → AreApart size (place r) (place row) → AreApart size (place row) (place r)
+    swapped r apart_of = elim apart_of [ inl low ↦ inr low | inr high ↦ inl high ]
+
+    outside : (r : ℕ) → r < rows → (place row + c < place r) ⊎ (place r + columns ≤ place row + c)
+    outside r within =
+        elim (cases_lt r row) [
+          | inl less ↦ away r (apart row r less below)
+          | inr up ↦ elim (cases_lt row r) [
+            | inl more ↦ away r (swapped r (apart r row more within))
+            | inr down ↦ let same : r ≡ row = omega (arith, up, down) in inr (omega (arith, ap place same, past))
+          ]
+        ]
+
+-- rows that are written once more
+pub rows_rewritten : (value before : ℕ → ℕ → ℕ) (place : ℕ → ℕ) (rows width : ℕ) (old mid now : List ℕ) → AreWritten before place rows width old mid
+    → AreWritten value place rows width mid now → AreWritten value place rows width old now
+rows_rewritten value before place rows width old mid now first last =
+    record {
+      long = last.long ∙ first.long;
+      written = last.written;
+      others = λ i out. last.others i out ∙ first.others i out;
+    }
+
 -- more columns
 pub columns_written : (value : ℕ → ℕ → ℕ) (place : ℕ → ℕ) (rows columns width next_column size : ℕ) (old mid now : List ℕ)
     → AreWritten value place rows columns old mid
@@ -169,16 +201,81 @@ pub record HasSums (term : ℕ → ℕ → ℕ → ℕ) (rows done j : ℕ) (sum
   pub added : (row lane : ℕ) → row < done → lane < 32 → get_or (get_or sums row []) lane 0 ≡ sum_below (term row lane) (j + 1)
   pub others : (row lane : ℕ) → done ≤ row → row < rows → lane < 32 → get_or (get_or sums row []) lane 0 ≡ sum_below (term row lane) j
 
-pub no_sums : (term : ℕ → ℕ → ℕ → ℕ) (rows : ℕ) → HasSums term rows 0 0 (replicate rows (replicate 32 0))
-unfolding sum_below
-no_sums term rows =
+-- rows before `done` have their 32 bytes
+pub record AreRead (rows done column : ℕ) (places out : List ℕ) (sums : List (List ℕ)) : Type 0 where
+  pub count : length sums ≡ rows
+  pub long : (row : ℕ) → row < rows → length (get_or sums row []) ≡ 32
+  pub held : (row lane : ℕ) → row < done → lane < 32 → get_or (get_or sums row []) lane 0 ≡ get_or out (get_or places row 0 + (column + lane)) 0
+
+pub row_read : (rows row column : ℕ) (places out : List ℕ) (sums : List (List ℕ)) → AreRead rows row column places out sums → row < rows
+    → get_or places row 0 + column + 32 ≤ length out
+    → AreRead rows (row + 1) column places out (set sums row (chunk (get_or places row 0 + column) 32 out))
+row_read rows row column places out sums before within room =
     record {
-      count = length-replicate rows (replicate 32 0);
-      long = λ row below. ap (λ (xs : List ℕ). length xs) (get_or-replicate rows row (replicate 32 0) [] below) ∙ length-replicate {A = ℕ} 32 0;
-      added = λ row lane below inside. absurd (omega (arith, below));
-      others = λ row lane from below inside.
-          ap (λ (xs : List ℕ). get_or xs lane 0) (get_or-replicate rows row (replicate 32 0) [] below) ∙ get_or-replicate 32 lane 0 0 inside;
+      count = length-set sums row block ∙ before.count;
+      long = λ r below.
+          elim (eqb_tells r row) [
+            | inl same ↦ ap (λ (xs : List ℕ). length xs) (here r same.1) ∙ length-chunk start 32 out room
+            | inr other ↦ ap (λ (xs : List ℕ). length xs) (get_or-set_other sums row r block [] other.1) ∙ before.long r below
+          ];
+      held = λ r lane below inside.
+          below_next (λ n. get_or (get_or (set sums row block) n []) lane 0 ≡ get_or out (get_or places n 0 + (column + lane)) 0) row r below
+          (λ was. ap (λ (xs : List ℕ). get_or xs lane 0) (get_or-set_other sums row r block [] (λ e. absurd (omega (arith, was, e))))
+          ∙ before.held r lane was inside)
+          (ap (λ (xs : List ℕ). get_or xs lane 0) (here row refl) ∙ get_or-chunk start 32 out lane 0 inside ∙ at lane);
     }
+  where
+    start : ℕ
+    start = get_or places row 0 + column
+
+    block : List ℕ
+    block = chunk start 32 out
+
+    here : (r : ℕ) → r ≡ row → get_or (set sums row (chunk (get_or places row 0 + column) 32 out)) r [] ≡ chunk (get_or places row 0 + column) 32 out
+    here r e =
+        ap (λ (n : ℕ). get_or (set sums row block) n []) e ∙ get_or-set_same sums row block [] (omega (arith, within, before.count))
+
+    at : (lane : ℕ) → get_or out (start + lane) 0 ≡ get_or out (get_or places row 0 + (column + lane)) 0
+    at lane = let place : start + lane ≡ get_or places row 0 + (column + lane) = omega arith in ap (λ (n : ℕ). get_or out n 0) place
+
+-- what the test for 0 tells
+pub is_zero : (n : ℕ) → n ≡ 0 → nat_eq n 0 ≡ true
+is_zero n e = ap (λ (m : ℕ). nat_eq m 0) e
+
+pub is_later : (n : ℕ) → 0 < n → nat_eq n 0 ≡ false
+is_later n below = elim (eqb_tells n 0) [ inl same ↦ absurd (omega (arith, below, same.1)) | inr other ↦ other.0 ]
+
+-- no shard gives 0
+pub no_shards : (entries shards starts : List ℕ) (row column : ℕ) → 0 ≡ row_sum_of 0 entries shards starts row column
+unfolding sum_below
+no_shards entries shards starts row column = refl
+
+-- what a sum begins with: 0 where no shard was read, and else what is held
+pub sum_so_far : (entries shards starts : List ℕ) (from row column value held : ℕ) → (from ≡ 0 → value ≡ 0) → (0 < from → value ≡ held)
+    → (0 < from → held ≡ row_sum_of from entries shards starts row column) → value ≡ row_sum_of from entries shards starts row column
+sum_so_far entries shards starts zero row column value held none some is = none refl ∙ no_shards entries shards starts row column
+sum_so_far entries shards starts (suc from) row column value held none some is = some (omega arith) ∙ is (omega arith)
+
+-- what the rows begin with
+pub sums_begun : (term : ℕ → ℕ → ℕ → ℕ) (rows from : ℕ) (sums : List (List ℕ)) → length sums ≡ rows → ((row : ℕ) → row < rows → length (get_or sums row []) ≡ 32)
+    → ((row lane : ℕ) → row < rows → lane < 32 → get_or (get_or sums row []) lane 0 ≡ sum_below (term row lane) from)
+    → HasSums term rows 0 from sums
+sums_begun term rows from sums count long begun =
+    record {
+      count = count;
+      long = long;
+      added = λ row lane below inside. absurd (omega (arith, below));
+      others = λ row lane past below inside. begun row lane below inside;
+    }
+
+-- blocks of zeros
+pub zeros_long : (rows row : ℕ) → row < rows → length (get_or (replicate {A = List ℕ} rows (replicate {A = ℕ} 32 0)) row []) ≡ 32
+zeros_long rows row below =
+    ap (λ (xs : List ℕ). length xs) (get_or-replicate rows row (replicate 32 0) [] below) ∙ length-replicate {A = ℕ} 32 0
+
+pub zeros_are : (rows row lane : ℕ) → row < rows → lane < 32 → get_or (get_or (replicate {A = List ℕ} rows (replicate {A = ℕ} 32 0)) row []) lane 0 ≡ 0
+zeros_are rows row lane below inside =
+    ap (λ (xs : List ℕ). get_or xs lane 0) (get_or-replicate rows row (replicate 32 0) [] below) ∙ get_or-replicate 32 lane 0 0 inside
 
 -- the term of one row
 pub row_added : (term : ℕ → ℕ → ℕ → ℕ) (rows row j : ℕ) (sums : List (List ℕ)) (so_far product : List ℕ) → HasSums term rows row j sums

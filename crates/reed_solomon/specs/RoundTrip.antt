@@ -14,3 +14,12 @@ LostShardsReturn = (k total size : ℕ) (present : List Bool) (whole damaged res
     → length whole ≡ total * size → length restored ≡ total * size
     → AreCodewords k total size whole → AgreeWherePresent total size present damaged whole
     → IsReconstructed k total size total present damaged restored → restored ≡ whole
+
+-- two lists of codewords that have the same bytes in as many shards as the data have are equal: a change of at most as many shards as the
+-- parity has leaves no list of codewords (F. J. MacWilliams and N. J. A. Sloane, The Theory of Error-Correcting Codes, 1977, chapter 1)
+abbrev pub ChangesAreSeen : Type 0
+ChangesAreSeen = (k total size : ℕ) (present : List Bool) (whole changed : List ℕ)
+    → total ≤ 256 → length present ≡ total → k ≤ present_count present
+    → length whole ≡ total * size → length changed ≡ total * size
+    → AreCodewords k total size whole → AgreeWherePresent total size present changed whole
+    → AreCodewords k total size changed → changed ≡ whole

@@ -19,10 +19,14 @@ abbrev pub nibble_sum : List ℕ → ℕ → ℕ → ℕ
 nibble_sum entries start byte =
     bit_xor (slice_index entries (start + byte % 16)) (slice_index entries (start + 16 + byte / 16))
 
--- what the entries of one row give in one column of the shards that begin at `starts`
+-- what the entries of one row give in one column of the first n of the shards that begin at `starts`
+abbrev pub row_sum_of : ℕ → List ℕ → List ℕ → List ℕ → ℕ → ℕ → ℕ
+row_sum_of n entries shards starts row column =
+    sum_below (λ j. nibble_sum entries (128 * j + 32 * row) (slice_index shards (slice_index starts j + column))) n
+
+-- the same of all of them
 abbrev pub row_sum : List ℕ → List ℕ → List ℕ → ℕ → ℕ → ℕ
-row_sum entries shards starts row column =
-    sum_below (λ j. nibble_sum entries (128 * j + 32 * row) (slice_index shards (slice_index starts j + column))) (length starts)
+row_sum entries shards starts row column = row_sum_of (length starts) entries shards starts row column
 
 -- rows of `width` bytes, which begin at their places, have their values, and everything else is as it was
 pub record AreWritten (value : ℕ → ℕ → ℕ) (place : ℕ → ℕ) (rows width : ℕ) (old now : List ℕ) : Type 0 where

@@ -1,28 +1,37 @@
 // Rows of shards, 32 columns at a time. A shard is known by the place where its bytes begin.
-ghost use Rattle.std.specs.Prelude.{◌≡◌, ◌+◌, ◌*◌, ◌<◌, ◌≤◌, ◌↔◌, ℕ, [], length, slice_index, slice_index_or, IsTrue};
-ghost use Rattle.reed_solomon.specs.Tables.{AreApart, AreWritten, row_sum};
+ghost use Rattle.std.specs.Prelude.{◌≡◌, ◌+◌, ◌*◌, ◌<◌, ◌≤◌, ◌↔◌, ℕ, true, false, [], length, min, slice_index, slice_index_or, IsTrue};
+ghost use Rattle.reed_solomon.specs.Tables.{AreApart, AreWritten, row_sum, row_sum_of};
 
 use crate::lanes::nibble_sums;
 use std::simd::prelude::*;
 
-// What the tables of N rows give in the 32 columns from `column` on.
+// What the tables of N rows give in the 32 columns from `column` on of the shards before `until`, where `sums` has what those before
+// `from` give.
 #[inline(always)]
 pub(crate) fn block_sums<const N: usize>(
     shards: &[u8],
     starts: &[usize],
     entries: &[u8],
+    from: usize,
+    until: usize,
     column: usize,
+    mut sums: [u8x32; N],
 ) -> [u8x32; N]
     requires few { length starts.now ≤ 256 }
+    requires range { from ≤ until }
+    requires listed { until ≤ length starts.now }
     requires tables { 128 * length starts.now + 32 * N ≤ length entries.now + 128 }
     requires rows { N ≤ 4 }
     requires inside { (j : ℕ) → j < length starts.now → slice_index starts.now j + column + 32 ≤ length shards.now }
+    requires count { length sums ≡ N }
+    requires lanes { (row : ℕ) → row < N → length (slice_index_or sums row []) ≡ 32 }
+    requires begun { (row lane : ℕ) → row < N → lane < 32 → slice_index (slice_index_or sums row []) lane
+        ≡ row_sum_of from entries.now shards.now starts.now row (column + lane) }
     ensures long { (row : ℕ) → row < N → length (slice_index_or result row []) ≡ 32 }
     ensures sums { (row lane : ℕ) → row < N → lane < 32 → slice_index (slice_index_or result row []) lane
-        ≡ row_sum entries.now shards.now starts.now row (column + lane) }
+        ≡ row_sum_of until entries.now shards.now starts.now row (column + lane) }
 {
-    let mut sums = [u8x32::splat(0); N];
-    for j in 0..starts.len() {
+    for j in from..until {
         let bytes = u8x32::from_slice(&shards[starts[j] + column..]);
         for row in 0..N {
             sums[row] ^= nibble_sums(entries, 128 * j + 32 * row, bytes);
@@ -31,22 +40,64 @@ pub(crate) fn block_sums<const N: usize>(
     sums
 }
 
-// What the tables of one row give in one column.
+// 32 columns of zeros for each of N rows.
+#[inline(always)]
+fn zero_block<const N: usize>() -> [u8x32; N]
+    ensures count { length result ≡ N }
+    ensures long { (row : ℕ) → row < N → length (slice_index_or result row []) ≡ 32 }
+    ensures zero { (row lane : ℕ) → row < N → lane < 32 → slice_index (slice_index_or result row []) lane ≡ 0 }
+{
+    [u8x32::splat(0); N]
+}
+
+// The 32 columns from `column` on of N rows, or zeros in their place.
+#[inline(always)]
+fn block_so_far<const N: usize>(
+    out: &[u8],
+    rows: &[usize],
+    column: usize,
+    is_first: bool,
+) -> [u8x32; N]
+    requires named { length rows.now ≡ N }
+    requires room { (row : ℕ) → row < N → slice_index rows.now row + column + 32 ≤ length out.now }
+    ensures count { length result ≡ N }
+    ensures long { (row : ℕ) → row < N → length (slice_index_or result row []) ≡ 32 }
+    ensures zero { (row lane : ℕ) → is_first ≡ true → row < N → lane < 32 → slice_index (slice_index_or result row []) lane ≡ 0 }
+    ensures held { (row lane : ℕ) → is_first ≡ false → row < N → lane < 32 → slice_index (slice_index_or result row []) lane
+        ≡ slice_index out.now (slice_index rows.now row + (column + lane)) }
+{
+    let mut sums = zero_block::<N>();
+    if is_first {
+        return sums;
+    }
+    for row in 0..N {
+        sums[row] = u8x32::from_slice(&out[rows[row] + column..]);
+    }
+    sums
+}
+
+// What the tables of one row give in one column of the shards before `until`, where `so_far` is what those before `from` give.
 pub(crate) fn column_sum(
     shards: &[u8],
     starts: &[usize],
     entries: &[u8],
+    from: usize,
+    until: usize,
     row: usize,
     column: usize,
+    so_far: u8,
 ) -> u8
     requires few { length starts.now ≤ 256 }
+    requires range { from ≤ until }
+    requires listed { until ≤ length starts.now }
     requires tables { 128 * length starts.now + 32 * row ≤ length entries.now + 96 }
     requires rows { row < 4 }
     requires inside { (j : ℕ) → j < length starts.now → slice_index starts.now j + column < length shards.now }
-    ensures { result ≡ row_sum entries.now shards.now starts.now row column }
+    requires begun { so_far ≡ row_sum_of from entries.now shards.now starts.now row column }
+    ensures { result ≡ row_sum_of until entries.now shards.now starts.now row column }
 {
-    let mut sum = 0;
-    for j in 0..starts.len() {
+    let mut sum = so_far;
+    for j in from..until {
         let byte = shards[starts[j] + column] as usize;
         let start = 128 * j + 32 * row;
         sum ^= entries[start + byte % 16] ^ entries[start + 16 + byte / 16];
@@ -54,23 +105,38 @@ pub(crate) fn column_sum(
     sum
 }
 
-// What the tables of N rows give in one column.
+// What the tables of N rows give in one column of the shards before `until`. The rows have what those before `from` give.
 #[inline]
 fn column_sums<const N: usize>(
     shards: &[u8],
     starts: &[usize],
     entries: &[u8],
+    from: usize,
+    until: usize,
+    out: &[u8],
+    rows: &[usize],
     column: usize,
 ) -> [u8; N]
     requires few { length starts.now ≤ 256 }
+    requires range { from ≤ until }
+    requires listed { until ≤ length starts.now }
     requires tables { 128 * length starts.now ≤ length entries.now }
     requires rows { N ≤ 4 }
+    requires named { length rows.now ≡ N }
     requires inside { (j : ℕ) → j < length starts.now → slice_index starts.now j + column < length shards.now }
-    ensures { (row : ℕ) → row < N → slice_index result row ≡ row_sum entries.now shards.now starts.now row column }
+    requires room { (row : ℕ) → row < N → slice_index rows.now row + column < length out.now }
+    requires begun { (row : ℕ) → row < N → 0 < from
+        → slice_index out.now (slice_index rows.now row + column) ≡ row_sum_of from entries.now shards.now starts.now row column }
+    ensures { (row : ℕ) → row < N → slice_index result row ≡ row_sum_of until entries.now shards.now starts.now row column }
 {
     let mut sums = [0; N];
     for row in 0..N {
-        sums[row] = column_sum(shards, starts, entries, row, column);
+        let so_far = if from == 0 {
+            0
+        } else {
+            out[rows[row] + column]
+        };
+        sums[row] = column_sum(shards, starts, entries, from, until, row, column, so_far);
     }
     sums
 }
@@ -103,8 +169,47 @@ fn store_column<const N: usize>(out: &mut [u8], rows: &[usize], column: usize, s
     }
 }
 
-// Writes N rows of `size` bytes of another slice from the shards that begin at `starts`.
+// Writes what the tables of N rows give of the shards before `until` into rows of `size` bytes of another slice. These have what the
+// shards before `from` give.
 #[inline(never)]
+fn add_shards<const N: usize>(
+    shards: &[u8],
+    size: usize,
+    starts: &[usize],
+    entries: &[u8],
+    from: usize,
+    until: usize,
+    out: &mut [u8],
+    rows: &[usize],
+)
+    requires few { length starts.now ≤ 256 }
+    requires range { from ≤ until }
+    requires listed { until ≤ length starts.now }
+    requires tables { 128 * length starts.now ≤ length entries.now }
+    requires rows { N ≤ 4 }
+    requires named { length rows.now ≡ N }
+    requires inside { (j : ℕ) → j < length starts.now → slice_index starts.now j + size ≤ length shards.now }
+    requires room { (row : ℕ) → row < N → slice_index rows.now row + size ≤ length out.old }
+    requires apart { (row other : ℕ) → other < row → row < N → AreApart size (slice_index rows.now row) (slice_index rows.now other) }
+    requires begun { (row column : ℕ) → row < N → column < size → 0 < from
+        → slice_index out.old (slice_index rows.now row + column) ≡ row_sum_of from entries.now shards.now starts.now row column }
+    ensures { AreWritten (row_sum_of until entries.now shards.now starts.now) (slice_index rows.now) N size out.old out.new }
+{
+    let whole = size / 32 * 32;
+    for block in 0..size / 32 {
+        let column = 32 * block;
+        let so_far = block_so_far::<N>(out, rows, column, from == 0);
+        let sums = block_sums::<N>(shards, starts, entries, from, until, column, so_far);
+        store_block::<N>(out, rows, column, &sums);
+    }
+    for column in whole..size {
+        let sums = column_sums::<N>(shards, starts, entries, from, until, out, rows, column);
+        store_column::<N>(out, rows, column, &sums);
+    }
+}
+
+// Writes N rows of `size` bytes of another slice from the shards that begin at `starts`, of twenty shards at a time: more streams
+// of bytes, which begin in the same lines of the cache where shards are as long as a power of two, displace each other.
 fn write_rows<const N: usize>(
     shards: &[u8],
     size: usize,
@@ -122,15 +227,20 @@ fn write_rows<const N: usize>(
     requires apart { (row other : ℕ) → other < row → row < N → AreApart size (slice_index rows.now row) (slice_index rows.now other) }
     ensures { AreWritten (row_sum entries.now shards.now starts.now) (slice_index rows.now) N size out.old out.new }
 {
-    let whole = size / 32 * 32;
-    for block in 0..size / 32 {
-        let sums = block_sums::<N>(shards, starts, entries, 32 * block);
-        store_block::<N>(out, rows, 32 * block, &sums);
+    let mut done = at_most_20(starts.len());
+    add_shards::<N>(shards, size, starts, entries, 0, done, out, rows);
+    while done < starts.len() {
+        let next = done + at_most_20(starts.len() - done);
+        add_shards::<N>(shards, size, starts, entries, done, next, out, rows);
+        done = next;
     }
-    for column in whole..size {
-        let sums = column_sums::<N>(shards, starts, entries, column);
-        store_column::<N>(out, rows, column, &sums);
-    }
+}
+
+// How many of so many shards are read at a time.
+fn at_most_20(shards: usize) -> usize
+    ensures { result ≡ min shards 20 }
+{
+    if shards < 20 { shards } else { 20 }
 }
 
 // Writes up to four rows of `size` bytes of another slice from the shards that begin at `starts`, all at once.
@@ -175,15 +285,17 @@ pub(crate) fn matches_row(
     ensures { IsTrue result ↔ ((column : ℕ) → column < size
         → slice_index shards.now (begin + column) ≡ row_sum entries.now shards.now starts.now 0 column) }
 {
+    let count = starts.len();
     let whole = size / 32 * 32;
     for block in 0..size / 32 {
-        let sums = block_sums::<1>(shards, starts, entries, 32 * block);
+        let zeros = zero_block::<1>();
+        let sums = block_sums::<1>(shards, starts, entries, 0, count, 32 * block, zeros);
         if !has_lanes(shards, begin + 32 * block, sums[0]) {
             return false;
         }
     }
     for column in whole..size {
-        if shards[begin + column] != column_sum(shards, starts, entries, 0, column) {
+        if shards[begin + column] != column_sum(shards, starts, entries, 0, count, 0, column, 0) {
             return false;
         }
     }

@@ -19,5 +19,5 @@ mod tables;
 pub use crate::byte_field::erasure_field;
 pub use crate::codec::ReedSolomon;
 pub use crate::error::ReedSolomonError;
-pub use crate::laws::{added_shards_encode, lost_shards_return};
+pub use crate::laws::{added_shards_encode, changes_are_seen, lost_shards_return};
 pub use crate::prepared::PreparedEncoder;

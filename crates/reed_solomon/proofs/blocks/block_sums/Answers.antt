@@ -1,11 +1,11 @@
 use Rattle.std.proofs.Common.{◌+◌, ◌*◌, ◌≡◌, ◌∙◌, ap, refl, slice_index, arith}
 use Rattle.std.proofs.lemmas.Simd.{get_or-chunk}
 use Rattle.reed_solomon.specs.Tables.{nibble_sum}
-use Rattle.reed_solomon.proofs.RowWriting.{no_sums, row_added}
+use Rattle.reed_solomon.proofs.RowWriting.{row_added, sums_begun}
 use Rattle.reed_solomon.proofs.blocks.block_sums.Goals as goal
 
 pub loop-j-init : goal.loop-j-init
-loop-j-init g c = no_sums _ g.row.N
+loop-j-init g c = sums_begun _ g.row.N c.args.from c.args.sums c.requires.count c.requires.lanes c.requires.begun
 
 pub loop-row-preserved : goal.loop-row-preserved
 loop-row-preserved g c =

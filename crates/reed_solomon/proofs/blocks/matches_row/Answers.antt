@@ -2,8 +2,40 @@ use Rattle.std.proofs.Common.{◌≡◌, ◌≤◌, ◌+◌, ◌*◌, [], slice_
 use Rattle.std.proofs.lemmas.Bool.{false≢true}
 use Rattle.reed_solomon.specs.Tables.{row_sum}
 use Rattle.reed_solomon.proofs.GroupWriting.{block_matches, block_of_row}
+use Rattle.reed_solomon.proofs.RowWriting.{no_shards}
 use Rattle.reed_solomon.proofs.Samples.{below_next}
 use Rattle.reed_solomon.proofs.blocks.matches_row.Goals as goal
+
+pub block_sums-sums-requires : goal.block_sums-sums-requires
+block_sums-sums-requires c = (
+  omega arith,
+  (
+    c.requires.few,
+    (
+      omega arith,
+      (
+        omega arith,
+        (
+          omega (arith, c.requires.tables),
+          (
+            omega arith,
+            (
+              (λ j below. omega (arith, c.requires.inside j below, c.loop-block-test.true)),
+              (
+                c.zero_block-zeros.ensures.count,
+                (
+                  c.zero_block-zeros.ensures.long,
+                  (λ row lane within inside. c.zero_block-zeros.ensures.zero row lane within inside
+                      ∙ no_shards c.args.entries.now c.args.shards.now c.args.starts.now row (32 * c.loop-block.block + lane)),
+                ),
+              ),
+            ),
+          ),
+        ),
+      ),
+    ),
+  ),
+)
 
 pub loop-block-preserved : goal.loop-block-preserved
 loop-block-preserved c = λ n below.
@@ -22,6 +54,9 @@ returns-then-not-has_lanes c =
           (slice_index_or c.block_sums-sums.result 0 []) c.args.begin columns c.args.size fits all
           (λ lane inside. c.block_sums-sums.ensures.sums 0 lane (omega arith) inside)))),
     )
+
+pub column_sum-requires-clause-begun : goal.column_sum-requires-clause-begun
+column_sum-requires-clause-begun c = no_shards c.args.entries.now c.args.shards.now c.args.starts.now 0 c.loop-column.column
 
 pub loop-column-preserved : goal.loop-column-preserved
 loop-column-preserved c = λ n below.

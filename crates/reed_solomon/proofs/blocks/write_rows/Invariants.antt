@@ -1,11 +1,11 @@
-use Rattle.std.proofs.Common.{◌*◌, slice_index}
-use Rattle.reed_solomon.specs.Tables.{AreWritten, row_sum}
+use Rattle.std.proofs.Common.{◌≤◌, ◌-◌, length, slice_index}
+use Rattle.reed_solomon.specs.Tables.{AreWritten, row_sum_of}
 use Rattle.reed_solomon.proofs.blocks.write_rows.Given as goal
 
-abbrev pub invariant-loop-block : goal.invariant-loop-block
-invariant-loop-block g l =
-    AreWritten (row_sum l.entries l.shards l.starts) (slice_index l.rows) g.row.N (32 * l.block) l.fn.out l.out
+abbrev pub invariant-loop-done : goal.invariant-loop-done
+invariant-loop-done g l =
+    (l.done ≤ length l.starts)
+    × AreWritten (row_sum_of l.done l.entries l.shards l.starts) (slice_index l.rows) g.row.N l.size l.fn.out l.out
 
-abbrev pub invariant-loop-column : goal.invariant-loop-column
-invariant-loop-column g l =
-    AreWritten (row_sum l.entries l.shards l.starts) (slice_index l.rows) g.row.N l.column l.fn.out l.out
+abbrev pub decreases-loop-done : goal.decreases-loop-done
+decreases-loop-done g l = length l.starts - l.done
