@@ -1,11 +1,12 @@
 /* Reed-Solomon codes of this library beside ISA-L (Debian's libisal-dev), on one core.
  *
- *   gcc -O2 -o erasure bench/erasure.c crates/binary_field_c/out/libbinary_field_c.a -lisal && ./erasure [ROUNDS] [small]
+ *   gcc -O2 -o erasure bench/erasure.c crates/binary_field_c/out/libbinary_field_c.a -lisal && ./erasure [ROUNDS] [small | wide]
  *
  * It links one build of the library: `rt lib` for x86-64-v2, `rt lib --cpu x86-64-v3` for AVX2. Each row is the least of many
  * samples, taken by turns with those of ISA-L in one run, and the results are compared byte for byte. ISA-L has its tables from
  * before; the library makes its own in each call, but where a row says "prepared". The shards of a row stand one after the other, 64 bytes
  * apart. With the word `small`, shards of 32 bytes, 1 KiB and 64 KiB are encoded, with nothing between them, and nanoseconds are printed too.
+ * With the word `wide`, codes of 70 to 256 shards of 64 KiB and 1 MiB, with nothing between them.
  */
 #include <isa-l/erasure_code.h>
 #include <stdint.h>
@@ -30,6 +31,13 @@ static uint8_t present[MOST], factors[MOST * MOST], tables[32 * MOST * MOST];
 static _Alignas(16) uint8_t prepared[32 * MOST * MOST];
 static uint8_t *sources[MOST], *targets[MOST];
 static int rows, is_small;
+
+/* ISA-L's AVX code leaves the upper halves of the registers in use, which slows down SSE code after it. */
+static void leave_avx(void) {
+    if (__builtin_cpu_supports("avx")) {
+        __asm__ volatile("vzeroupper");
+    }
+}
 
 static double now(void) {
     struct timespec time;
@@ -122,6 +130,7 @@ static void measure(const char *name, void (*library)(void), int rounds) {
     for (int round = 0; round < rounds; round++) {
         for (int c = 0; c < (round < 3 ? 5 : 4); c++) {
             int calls = c == 4 ? 1 : 1 + 3000000 / bytes;
+            leave_avx();
             double begin = now();
             for (int call = 0; call < calls; call++) {
                 column[c].call();
@@ -175,9 +184,16 @@ static void row(int rounds) {
 
 int main(int count, char **words) {
     int rounds = count > 1 ? atoi(words[1]) : 40;
-    int codes[2][2] = {{10, 4}, {17, 3}};
+    int codes[2][2] = {{10, 4}, {17, 3}}, wide[3][3] = {{50, 20, 1 << 20}, {100, 30, 65536}, {200, 56, 65536}};
     size_t large[2] = {65536 + 64, (1 << 20) + 64}, small[3] = {32, 1024, 65536};
     is_small = count > 2 && strcmp(words[2], "small") == 0;
+    if (count > 2 && strcmp(words[2], "wide") == 0) {
+        for (int c = 0; c < 3; c++) {
+            data = wide[c][0], parity = wide[c][1], size = wide[c][2];
+            row(rounds);
+        }
+        return 0;
+    }
     for (int c = 0; c < 2; c++) {
         data = codes[c][0];
         parity = codes[c][1];
