@@ -81,22 +81,20 @@ def ghash_update_padded(key: Any, hash_so_far: Any, message: Any) -> bytes:
 
 
 def polyval_update(key: Any, hash_so_far: Any, blocks: Any) -> bytes:
-    """POLYVAL of all bytes so far, by that of those before `blocks`, which are whole blocks of 16 bytes. It is 16 zeros before the first.
+    """POLYVAL of all bytes so far, as `ghash_update` is GHASH of them.
 
-    >>> so_far = bf.polyval_update(b"sixteen byte key", bytes(16), b"a message, which comes in pieces")
-    >>> bf.polyval_update_padded(b"sixteen byte key", so_far, b".").hex()
-    '3c900cb5e7b2393f47e9a9773c24d995'
-    >>> bf.polyval(b"sixteen byte key", b"a message, which comes in pieces.").hex()
-    '3c900cb5e7b2393f47e9a9773c24d995'
+    >>> so_far = bf.polyval_update(b"sixteen byte key", bytes(16), bytes(160))
+    >>> bf.polyval_update_padded(b"sixteen byte key", so_far, b"end") == bf.polyval(b"sixteen byte key", bytes(160) + b"end")
+    True
     """
     return _goes_on("tag_polyval_update", hash_so_far, key, _bytes(blocks))
 
 
 def polyval_update_padded(key: Any, hash_so_far: Any, message: Any) -> bytes:
-    """POLYVAL of all bytes so far, by that of the whole blocks before `message`, to which zeros are added to whole blocks.
+    """POLYVAL of all bytes so far, of which the last need be no whole block, as in `ghash_update_padded`.
 
-    >>> bf.polyval_update_padded(b"sixteen byte key", bytes(16), b"a message") == bf.polyval(b"sixteen byte key", b"a message")
-    True
+    >>> bf.polyval_update_padded(b"sixteen byte key", bytes(16), b"a message").hex()
+    'e20c8edbbf9f56216764e11642057883'
     """
     return _goes_on("tag_polyval_update_padded", hash_so_far, key, _bytes(message))
 

@@ -121,12 +121,13 @@ def butterfly_forward(low: Ghash128, high: Ghash128, scalar: Any) -> None:
 
 
 def butterfly_inverse(low: Ghash128, high: Ghash128, scalar: Any) -> None:
-    """high += low, and then low += scalar * high, in both arrays: it takes back `butterfly_forward`.
+    """high += low, and then low += scalar * high, in both arrays: it takes back `butterfly_forward` by the same scalar.
 
-    >>> a = bf.Ghash128([5, 7])
-    >>> bf.butterfly_inverse(a[:1], a[1:], 2)
-    >>> a
-    Ghash128([0x1, 0x2])
+    >>> low, high = bf.Ghash128([7, 8]), bf.Ghash128([9, 10])
+    >>> bf.butterfly_forward(low, high, 5)
+    >>> bf.butterfly_inverse(low, high, 5)
+    >>> low, high
+    (Ghash128([0x7, 0x8]), Ghash128([0x9, 0xa]))
     """
     _butterfly("inverse", low, high, scalar)
 
