@@ -4,7 +4,7 @@
 from string import Template
 
 import fields
-from impls import impl, keep_all, number, power
+from impls import UNSIGNED, impl, keep_all, number, power
 
 # The levels by their bits.
 LEVELS = {it.bits: it for it in fields.FIELDS if it.level is not None}
@@ -565,10 +565,86 @@ def space_head(bits, trait, target):
     return impl(f"impl<S: Unsigned, J: CoefficientsOf<u{bits}, Bits{bits}, S>> {trait}", target)
 
 
+# ---- words as elements of a level (bit_slices)
+
+TOWER_WORD = Template("""\
+impl TowerWord for u$bits {
+    ghost LEVEL = { $level };
+
+    ghost number = { λ n. n };
+
+    const BITS: usize = $bits;
+
+    ghost BITS = { $bits };
+
+    const COUNT: usize = $count;
+
+    ghost COUNT = { $count };
+
+    #[inline(always)]
+    fn to_number(self) -> u128 {
+        $to_number
+    }
+
+    #[inline(always)]
+    fn of_number(bits: u128) -> u$bits {
+        $of_number
+    }
+
+    #[inline]
+    fn multiply(self, other: u$bits) -> u$bits {
+        Bits$bits::multiply(self, other)
+    }
+
+    #[inline]
+    fn square(self) -> u$bits {
+        Bits$bits::square(self)
+    }
+
+    #[inline]
+    fn invert(self) -> u$bits {
+        Bits$bits::invert(self)
+    }
+
+    #[inline]
+    fn sqrt(self) -> u$bits {
+        Bits$bits::sqrt(self)
+    }
+
+    ghost few_law = { lit≤ tt };
+
+    ghost bits_law = { refl };
+
+    ghost whole_law = { refl };
+}
+""")
+
+
+def tower_words():
+    yield """\
+// The unsigned integers of Rust as elements of the levels of 8 to 128 bits.
+ghost use Rattle.std.specs.Prelude.{◌≡◌, ◌<◌, ◌≤◌, ◌*◌, ◌%◌, ◌^◌, refl};
+ghost use Rattle.std.proofs.Common.{lit≤};
+
+use super::TowerWord;
+use word_tower::{Bits8, Bits16, Bits32, Bits64, Bits128, Level};
+"""
+    for bits in UNSIGNED:
+        whole = bits == 128
+        yield TOWER_WORD.substitute(
+            bits=bits,
+            level=LEVELS[bits].level,
+            count=128 // bits,
+            to_number="self" if whole else "u128::from(self)",
+            of_number="bits" if whole else f"(bits % {power(bits)}) as u{bits}",
+        )
+
+
 if __name__ == "__main__":
     keep_all(
         "make_level_impls.py",
         {
+            "bit_slices/src/word/impls.rt": tower_words,
             "word_tower/src/levels.rt": levels,
             "word_tower/src/subfields/impls.rt": tower_subfields,
             "field_element/src/subfields/impls.rt": element_subfields,

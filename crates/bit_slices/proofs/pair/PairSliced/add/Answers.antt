@@ -1,0 +1,12 @@
+use Rattle.bit_slices.proofs.PairProducts.{sum_of_pairs}
+use Rattle.bit_slices.proofs.pair.PairSliced.add.Goals as goal
+
+pub returns : goal.returns
+returns g c l =
+    let k = g.T.Sliced.LEVEL in
+    let lane = g.T.Sliced.lane in
+    let fits = g.met.T.Sliced.fits_law in
+    let x = c.args.x.now in
+    let s = c.args.self.now in
+    let sums = sum_of_pairs k (lane s.low l) (lane s.high l) (lane x.low l) (lane x.high l) (fits s.low l) (fits x.low l) in
+    cc (sums, c.add.ensures l, c.add-2.ensures l)

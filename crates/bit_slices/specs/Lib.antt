@@ -1,0 +1,3 @@
+pub mod Lanes
+pub mod LaneLemmas
+pub mod Layout

@@ -1,0 +1,111 @@
+// Blocks of words as slices of bits, and back. A block has as many words as a vector has bits.
+ghost use Rattle.std.specs.Prelude.{◌≡◌, ◌<◌, ◌≤◌, ◌+◌, ◌*◌, ◌^◌, ℕ, get_or, length};
+ghost use Rattle.bit_slices.specs.Layout.{AreInLanes, AreKept};
+
+use crate::operations::Operation;
+use crate::sliced::Sliced;
+use crate::word::TowerWord;
+
+/// Sets the lanes to the words of the block that begins at `start`.
+#[inline(always)]
+pub(crate) fn load<W: TowerWord, T: Sliced>(block: &mut T, words: &[W], start: usize)
+    requires level { T.LEVEL ≡ W.LEVEL }
+    requires fits { start + 128 * T.units ≤ length words.now }
+    ensures { (d : W) → AreInLanes (2 ^ W.LEVEL) (T.units * W.COUNT) (T.lane block.new) (λ n. W.number (get_or words.now (start + n) d)) }
+{
+    block.read(words, start);
+    block.turn();
+}
+
+// Sets the words of the block that begins at `start` to the lanes.
+#[inline(always)]
+fn store<W: TowerWord, T: Sliced>(block: &mut T, words: &mut [W], start: usize)
+    requires level { T.LEVEL ≡ W.LEVEL }
+    requires fits { start + 128 * T.units ≤ length words.old }
+    ensures stored { (d : W) → AreInLanes (2 ^ W.LEVEL) (T.units * W.COUNT) (T.lane block.old)
+        (λ n. W.number (get_or words.new (start + n) d)) }
+    ensures kept { AreKept start (128 * T.units) words.old words.new }
+{
+    block.turn();
+    block.write(words, start);
+}
+
+// Changes each word of the block that begins at `start`. What `block` holds before is of no matter.
+#[inline(always)]
+fn change_block<W: TowerWord, T: Sliced, O: Operation<W, T>>(
+    block: &mut T,
+    words: &mut [W],
+    others: &[W],
+    start: usize,
+)
+    requires level { T.LEVEL ≡ W.LEVEL }
+    requires fits { start + 128 * T.units ≤ length words.old }
+    requires reaches { (n : ℕ) → n < 128 * T.units → O.reaches others.now (start + n) }
+    ensures changed { (n : ℕ) → n < 128 * T.units → (d : W) → O.gives others.now (start + n) (W.number (get_or words.old (start + n) d))
+        (W.number (get_or words.new (start + n) d)) }
+    ensures kept { AreKept start (128 * T.units) words.old words.new }
+{
+    load(block, words, start);
+    O::change_block(block, others, start);
+    store(block, words, start);
+}
+
+// Changes each word of the whole blocks. It is apart and never inlined, since a function clears its locals when it is called.
+#[inline(never)]
+fn change_blocks<W: TowerWord, T: Sliced, O: Operation<W, T>>(
+    words: &mut [W],
+    others: &[W],
+    blocks: usize,
+)
+    requires level { T.LEVEL ≡ W.LEVEL }
+    requires fits { blocks * (128 * T.units) ≤ length words.old }
+    requires reaches { (k : ℕ) → k < length words.old → O.reaches others.now k }
+    ensures long { length words.new ≡ length words.old }
+    ensures changed { (k : ℕ) → k < blocks * (128 * T.units) → (d : W) → O.gives others.now k (W.number (get_or words.old k d))
+        (W.number (get_or words.new k d)) }
+    ensures kept { (k : ℕ) → blocks * (128 * T.units) ≤ k → (d : W) → get_or words.new k d ≡ get_or words.old k d }
+{
+    let mut block = T::zeros();
+    for number in 0..blocks {
+        change_block::<W, T, O>(&mut block, words, others, number * T::lanes());
+    }
+}
+
+// Changes each word of the whole blocks, if there is one.
+#[inline(always)]
+fn change_any_blocks<W: TowerWord, T: Sliced, O: Operation<W, T>>(
+    words: &mut [W],
+    others: &[W],
+    blocks: usize,
+)
+    requires level { T.LEVEL ≡ W.LEVEL }
+    requires fits { blocks * (128 * T.units) ≤ length words.old }
+    requires reaches { (k : ℕ) → k < length words.old → O.reaches others.now k }
+    ensures long { length words.new ≡ length words.old }
+    ensures changed { (k : ℕ) → k < blocks * (128 * T.units) → (d : W) → O.gives others.now k (W.number (get_or words.old k d))
+        (W.number (get_or words.new k d)) }
+    ensures kept { (k : ℕ) → blocks * (128 * T.units) ≤ k → (d : W) → get_or words.new k d ≡ get_or words.old k d }
+{
+    if blocks > 0 {
+        change_blocks::<W, T, O>(words, others, blocks);
+    }
+}
+
+/// Changes each word: whole blocks by slices of their bits, and the rest word by word.
+#[inline(always)]
+pub(crate) fn change_each<W: TowerWord, T: Sliced, O: Operation<W, T>>(
+    words: &mut [W],
+    others: &[W],
+)
+    requires level { T.LEVEL ≡ W.LEVEL }
+    requires reaches { (k : ℕ) → k < length words.old → O.reaches others.now k }
+    ensures long { length words.new ≡ length words.old }
+    ensures changed { (k : ℕ) → k < length words.new → (d : W) → O.gives others.now k (W.number (get_or words.old k d))
+        (W.number (get_or words.new k d)) }
+{
+    let blocks = words.len() / T::lanes();
+    change_any_blocks::<W, T, O>(words, others, blocks);
+    for place in blocks * T::lanes()..words.len() {
+        words[place] = O::result_at(words[place], others, place);
+    }
+}
