@@ -7,7 +7,7 @@ use Rattle.std.proofs.lemmas.List.{get_or-drop, get_or-take, length-drop, length
 use native.Mathlib.Nat.{one-mul}
 use Rattle.protocols.specs.declared.merkle_tree.MerkleTree.{MerkleTree}
 use Rattle.protocols.specs.Commitments.{cap_of, root_of}
-use Rattle.protocols.specs.MerkleTrees.{ending, leaf_input, Leads, LeadsToCap}
+use Rattle.protocols.specs.MerkleTrees.{DigestLeads, DigestLeadsToCap, ending}
 
 -- the first root of a cap, in 64 bits, is node 2 ^ height
 pub cap-room : (height depth : ℕ) → height ≤ depth → depth ≤ 40
@@ -28,10 +28,10 @@ pub cap-root : (nodes : List (List ℕ)) (n i : ℕ) → i < n → get_or (take 
 cap-root nodes n i below = get_or-take n (drop n nodes) i [] below ∙ get_or-drop n nodes i []
 
 -- a path to the cap of one root leads to the root
-pub leads_to_root : {A : Type 0} (hash : List ℕ → List ℕ) (tree : MerkleTree A) (index word : ℕ) (path : List (List ℕ)) → index < 2 ^ tree.depth
-    → LeadsToCap hash tree.depth (cap_of tree (tree.depth - tree.depth)) index word path
-    → Leads hash tree.depth (root_of tree) index word path
-leads_to_root hash tree index word path below leads =
+pub leads_to_root : {A : Type 0} (hash : List ℕ → List ℕ) (tree : MerkleTree A) (index : ℕ) (leaf : List ℕ) (path : List (List ℕ)) → index < 2 ^ tree.depth
+    → DigestLeadsToCap hash tree.depth (cap_of tree (tree.depth - tree.depth)) index leaf path
+    → DigestLeads hash tree.depth (root_of tree) index leaf path
+leads_to_root hash tree index leaf path below leads =
     let none : tree.depth - tree.depth ≡ 0 = omega arith in
     let first : index / 2 ^ tree.depth ≡ 0 = div-eq_of_lt below in
     record {
@@ -46,23 +46,23 @@ leads_to_root hash tree index word path below leads =
 not_so : {P : Type 0} → (P → ⊥) → IsTrue false ↔ P
 not_so not = ((λ yes. absurd (false≢true yes)), (λ is. absurd (not is)))
 
--- what `verify_to_cap` looks at is whether a path leads to the cap
-module _ (hash : List ℕ → List ℕ) (levels index word place : ℕ) (cap : List (List ℕ)) (digest : List ℕ) (path : List (List ℕ)) where
+-- what `leads_to_cap` looks at is whether a path leads to the cap
+module _ (hash : List ℕ → List ℕ) (levels index place : ℕ) (cap : List (List ℕ)) (leaf digest : List ℕ) (path : List (List ℕ)) where
   -- a path of another length does not lead anywhere
-  pub cap-not_whole : length path ≢ levels → IsTrue false ↔ LeadsToCap hash levels cap index word path
+  pub cap-not_whole : length path ≢ levels → IsTrue false ↔ DigestLeadsToCap hash levels cap index leaf path
   cap-not_whole differ = not_so (λ leads. differ leads.whole)
 
   -- nor does one past the cap
   pub cap-not_within : length path ≡ levels → place ≡ index / 2 ^ length path → length cap ≤ place
-      → IsTrue false ↔ LeadsToCap hash levels cap index word path
+      → IsTrue false ↔ DigestLeadsToCap hash levels cap index leaf path
   cap-not_within whole place_is past =
       let at : place ≡ index / 2 ^ levels = place_is ∙ ap (λ (k : ℕ). index / 2 ^ k) whole in
       not_so (λ leads. omega (arith, leads.within, at, past))
 
   -- any other leads to the cap exactly where it ends in its root
   pub cap-leads_exactly : (same : Bool) → length path ≡ levels → place ≡ index / 2 ^ length path → place < length cap
-      → digest ≡ ending hash index (hash (leaf_input word)) path → (IsTrue same ↔ (digest ≡ get_or cap place []))
-      → IsTrue same ↔ LeadsToCap hash levels cap index word path
+      → digest ≡ ending hash index leaf path → (IsTrue same ↔ (digest ≡ get_or cap place []))
+      → IsTrue same ↔ DigestLeadsToCap hash levels cap index leaf path
   cap-leads_exactly same whole place_is within ends says = (
     (λ yes.
         record {

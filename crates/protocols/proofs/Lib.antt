@@ -1,6 +1,5 @@
 mod Binding
 mod CapPaths
-mod Filling
 mod OpeningTurns
 mod PathChecks
 mod Paths

@@ -5,7 +5,7 @@ use Rattle.std.proofs.Math.Nat.{div-eq_of_lt}
 use Rattle.std.proofs.Math.Pow.{split}
 use Rattle.std.proofs.lemmas.Nat.{pow_pos}
 use native.Mathlib.Nat.{mod-lt, zero-mul}
-use Rattle.protocols.specs.MerkleTrees.{Leads, LeadsToCap}
+use Rattle.protocols.specs.MerkleTrees.{DigestLeads, DigestLeadsToCap}
 
 -- an index of which nothing is left after k halvings is below 2 ^ k
 below_power : (n k : ℕ) → n / 2 ^ k ≡ 0 → n < 2 ^ k
@@ -16,9 +16,9 @@ below_power n k none =
     omega (arith, parts, rest, product)
 
 -- a path leads to a root exactly where it leads to the cap of that root alone
-pub leads_as_cap : (same : Bool) (hash : List ℕ → List ℕ) (depth : ℕ) (root : List ℕ) (index word : ℕ) (path : List (List ℕ))
-    → IsTrue same ↔ LeadsToCap hash depth (root ∷ []) index word path → IsTrue same ↔ Leads hash depth root index word path
-leads_as_cap same hash depth root index word path says = (
+pub leads_as_cap : (same : Bool) (hash : List ℕ → List ℕ) (depth : ℕ) (root : List ℕ) (index : ℕ) (digest : List ℕ) (path : List (List ℕ))
+    → IsTrue same ↔ DigestLeadsToCap hash depth (root ∷ []) index digest path → IsTrue same ↔ DigestLeads hash depth root index digest path
+leads_as_cap same hash depth root index digest path says = (
   (λ yes.
       let leads = says.0 yes in
       let none : index / 2 ^ depth ≡ 0 = let within = leads.within in omega (arith, within) in

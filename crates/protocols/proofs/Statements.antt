@@ -1,19 +1,13 @@
 -- Statements of openings are told apart by the bytes that are observed.
 use Rattle.std.proofs.Common.{◌≡◌, ℕ, ◌^◌, ◌<◌, List, ◌++◌, length, refl, sym, ◌∙◌, ap}
-use Rattle.std.specs.Int.{from_le_bytes, to_le_bytes, w64}
+use Rattle.std.specs.Int.{to_le_bytes, w64}
 use Rattle.std.proofs.lemmas.List.{append_assoc}
-use Rattle.std.proofs.lemmas.Nat.{from_le_bytes-to_le_bytes_8}
 use Rattle.protocols.specs.Runs.{statement_bytes, StatementsDiffer}
-use Rattle.protocols.proofs.Binding.{back_same, front_same}
+use Rattle.protocols.proofs.Binding.{back_same, front_same, words_same}
 
 -- lists whose fronts have one length have the same fronts and the same rests
 parts_same : (a b s t : List ℕ) → length a ≡ length b → a ++ s ≡ b ++ t → (a ≡ b) × (s ≡ t)
 parts_same a b s t size same = (front_same a b s t size same, back_same s t a b size same)
-
--- words with the same bytes are the same
-words_same : (n m : ℕ) → n < 2 ^ 64 → m < 2 ^ 64 → to_le_bytes w64 n ≡ to_le_bytes w64 m → n ≡ m
-words_same n m n_fits m_fits same =
-    sym (from_le_bytes-to_le_bytes_8 n n_fits) ∙ ap (from_le_bytes w64) same ∙ from_le_bytes-to_le_bytes_8 m m_fits
 
 -- a word has eight bytes
 eight : (n m : ℕ) → length (to_le_bytes w64 n) ≡ length (to_le_bytes w64 m)

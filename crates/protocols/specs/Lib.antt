@@ -1,5 +1,6 @@
 pub mod CodeWords
 pub mod Commitments
+pub mod Filling
 pub mod MerkleTrees
 pub mod Products
 pub mod Runs

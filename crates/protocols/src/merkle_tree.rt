@@ -3,8 +3,8 @@ ghost use Rattle.std.specs.Prelude.{◌≡◌, ◌*◌, ◌^◌, ◌≤◌, vec_
 
 use std::alloc::Allocator;
 
-/// A Merkle tree over 2^depth words, depth from 0 to 40: the digests of its nodes. Node 1 is the root, the children of node i are
-/// the nodes 2 i and 2 i + 1, and the leaves are the last 2^depth nodes.
+/// A Merkle tree over 2^depth words, or rows of bytes, depth from 0 to 40: the digests of its nodes. Node 1 is the root, the children
+/// of node i are the nodes 2 i and 2 i + 1, and the leaves are the last 2^depth nodes.
 #[derive(Drop)]
 pub struct MerkleTree<A: Allocator> {
     pub(crate) depth: usize,

@@ -7,5 +7,5 @@ returns g c = (
   c.in_ok-witness.ensures,
   ap (λ (n : ℕ). c.in_ok-witness.number % n) c.requires.count,
   search rules,
-  λ hash holds. c.in_ok-path.ensures hash c.args.words.now holds,
+  λ hash holds. c.in_ok-path.ensures.words hash c.args.words.now holds,
 )

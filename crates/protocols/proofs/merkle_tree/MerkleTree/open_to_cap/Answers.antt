@@ -1,9 +1,10 @@
 use Rattle.std.proofs.Common.{◌≡◌, ◌++◌, ◌∷◌, [], ◌+◌, ◌-◌, ◌*◌, ◌/◌, ◌^◌, ◌<◌, ◌≤◌, ℕ, suc, List, refl, sym, ◌∙◌, ap, ap₂, subst, arith, lit<, length}
-use Rattle.std.specs.Prelude.{slice_index}
 use Rattle.std.proofs.Math.Nat.{pow-le-pow_right, two-pow-succ}
 use Rattle.std.proofs.lemmas.List.{append-nil, get_or_read, length-append}
+use Rattle.std.specs.Int.{to_le_bytes, w64}
+use Rattle.std.specs.Prelude.{slice_index}
 use Rattle.protocols.specs.Commitments.{digest_at}
-use Rattle.protocols.specs.MerkleTrees.{ending, leaf_input}
+use Rattle.protocols.specs.MerkleTrees.{ending, row_input}
 use native.Mathlib.Numerals.{add-one}
 use Rattle.ghash_slices.proofs.Places.{next_quotient}
 use Rattle.protocols.proofs.CapPaths.{cap-length, cap-root}
@@ -56,26 +57,26 @@ levels-preserved g c =
       omega (arith, twice, high),
       (let at = c.levels.invariant.3 in
           omega (arith, twice, power, at, next_quotient c.args.index c.levels.level) ∙ ap (λ (n : ℕ). 2 ^ m + c.args.index / 2 ^ n) (sym (add-one c.levels.level))),
-      λ hash words tree rest.
+      λ hash row tree rest.
           subst
-          (λ (path : List (List ℕ)). ending hash c.args.index (hash (leaf_input (slice_index words c.args.index))) (path ++ rest)
+          (λ (path : List (List ℕ)). ending hash c.args.index (hash (row_input (row c.args.index))) (path ++ rest)
           ≡ ending hash (node / 2 - 2 ^ m) (digest_at self (node / 2)) rest) pushed
-          (way_on hash self.depth (digest_at self) tree.node m node sibling c.args.index (hash (leaf_input (slice_index words c.args.index)))
+          (way_on hash self.depth (digest_at self) tree.node m node sibling c.args.index (hash (row_input (row c.args.index)))
           c.levels.path.items within low high c.sibling_of.ensures.even c.sibling_of.ensures.odd
           (subst
           (λ (e : ℕ). (others : List (List ℕ))
-          → ending hash c.args.index (hash (leaf_input (slice_index words c.args.index))) (c.levels.path.items ++ others)
-          ≡ ending hash (node - 2 ^ e) (digest_at self node) others) (sym more) (c.levels.invariant.4 hash words tree))
+          → ending hash c.args.index (hash (row_input (row c.args.index))) (c.levels.path.items ++ others)
+          ≡ ending hash (node - 2 ^ e) (digest_at self node) others) (sym more) (c.levels.invariant.4 hash row tree))
           rest),
     )
 
-pub returns : goal.returns
-returns g c = λ hash words tree.
+pub returns-clause-rows : goal.returns-clause-rows
+returns-clause-rows g c = λ hash row tree.
     let self = c.args.self.now in
     let last : c.levels.level ≡ c.args.levels = omega arith in
     let height : ℕ = self.depth - c.args.levels in
     let up : self.depth - c.levels.level ≡ height = ap (λ (n : ℕ). self.depth - n) last in
-    let leaf : List ℕ = hash (leaf_input (slice_index words c.args.index)) in
+    let leaf : List ℕ = hash (row_input (row c.args.index)) in
     let at : c.levels.node ≡ 2 ^ height + c.args.index / 2 ^ c.args.levels =
     c.levels.invariant.3 ∙ ap₂ (λ (h n : ℕ). 2 ^ h + c.args.index / 2 ^ n) up last in
     let few : c.args.index / 2 ^ c.args.levels < 2 ^ height =
@@ -89,7 +90,10 @@ returns g c = λ hash words tree.
       within = omega (arith, few, cap-length self.nodes.items (2 ^ height) room);
       whole = c.levels.invariant.0 ∙ last;
       ends =
-          sym (ap (ending hash c.args.index leaf) (append-nil c.levels.path.items)) ∙ c.levels.invariant.4 hash words tree []
+          sym (ap (ending hash c.args.index leaf) (append-nil c.levels.path.items)) ∙ c.levels.invariant.4 hash row tree []
           ∙ sym (ending-none hash (c.levels.node - 2 ^ (self.depth - c.levels.level)) (digest_at self c.levels.node) [] refl)
           ∙ ap (digest_at self) at ∙ sym (cap-root self.nodes.items (2 ^ height) (c.args.index / 2 ^ c.args.levels) few);
     }
+
+pub returns-clause-words : goal.returns-clause-words
+returns-clause-words g c = λ hash words tree. returns-clause-rows g c hash (λ i. to_le_bytes w64 (slice_index words i)) tree.over

@@ -1,6 +1,6 @@
-use Rattle.std.proofs.Common.{◌≡◌, ◌++◌, ◌+◌, ◌-◌, ◌*◌, ◌/◌, ◌^◌, ◌<◌, ◌≤◌, ℕ, List, length, slice_index}
-use Rattle.protocols.specs.Commitments.{digest_at, IsTreeOf}
-use Rattle.protocols.specs.MerkleTrees.{ending, leaf_input}
+use Rattle.std.proofs.Common.{◌≡◌, ◌++◌, ◌+◌, ◌-◌, ◌*◌, ◌/◌, ◌^◌, ◌<◌, ◌≤◌, ℕ, List, length}
+use Rattle.protocols.specs.Commitments.{digest_at, IsTreeOver}
+use Rattle.protocols.specs.MerkleTrees.{ending, row_input}
 use Rattle.protocols.proofs.merkle_tree.MerkleTree.open_to_cap.Given as goal
 
 -- the node is on the way, with as many levels above it as are left, and the siblings so far lead to it; it stands above the leaf
@@ -10,6 +10,6 @@ invariant-levels g l =
     × (2 ^ (l.self.depth - l.level) ≤ l.node)
     × (l.node < 2 * 2 ^ (l.self.depth - l.level))
     × (l.node ≡ 2 ^ (l.self.depth - l.level) + l.index / 2 ^ l.level)
-    × ((hash : List ℕ → List ℕ) (words : List ℕ) → IsTreeOf hash words l.self → (rest : List (List ℕ))
-    → ending hash l.index (hash (leaf_input (slice_index words l.index))) (l.path.items ++ rest)
+    × ((hash : List ℕ → List ℕ) (row : ℕ → List ℕ) → IsTreeOver hash row l.self → (rest : List (List ℕ))
+    → ending hash l.index (hash (row_input (row l.index))) (l.path.items ++ rest)
     ≡ ending hash (l.node - 2 ^ (l.self.depth - l.level)) (digest_at l.self l.node) rest)
