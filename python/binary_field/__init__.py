@@ -39,6 +39,7 @@ from ._fields import (
     Rijndael8b,
 )
 from ._functions import VERSION_TEXT as __version__
+from ._poly import Poly, egcd, gcd, lagrange_poly
 from ._transforms import (
     butterfly_forward,
     butterfly_inverse,
@@ -53,7 +54,8 @@ from ._transforms import (
 
 __all__ = [
     "BinaryField128", "BinaryField16", "BinaryField2", "BinaryField32", "BinaryField4", "BinaryField64", "BinaryField8", "FieldArray",
-    "Gf2", "Ghash128", "Poly192", "Poly64", "ReedSolomon", "Rijndael8b", "butterfly_forward", "butterfly_inverse", "from_powers",
-    "gcm_ghash", "gcm_ghash_final", "ghash", "ghash_update", "ghash_update_padded", "inverse_transform", "linear_map", "low_stages",
-    "polyval", "polyval_update", "polyval_update_padded", "tags_are_equal", "to_powers", "transform", "transform_points",
+    "Gf2", "Ghash128", "Poly", "Poly192", "Poly64", "ReedSolomon", "Rijndael8b", "butterfly_forward", "butterfly_inverse", "egcd",
+    "from_powers", "gcd", "gcm_ghash", "gcm_ghash_final", "ghash", "ghash_update", "ghash_update_padded", "inverse_transform",
+    "lagrange_poly", "linear_map", "low_stages", "polyval", "polyval_update", "polyval_update_padded", "tags_are_equal", "to_powers",
+    "transform", "transform_points",
 ]

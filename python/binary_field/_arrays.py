@@ -9,8 +9,8 @@ from typing import Any, Callable, TypeVar, Union
 
 import numpy as np
 
+from ._facts import Facts
 from ._library import Words, call, is_packed, packed
-from ._storage import Stored
 
 A = TypeVar("A", bound="FieldArray")
 # What an operator takes beside arrays of its field.
@@ -18,13 +18,18 @@ _Integers = Union[int, "np.integer[Any]", "list[Any]", "tuple[Any, ...]", Words]
 
 _MASK_64 = (1 << 64) - 1
 # The functions whose form in place takes no longer than the other one.
-_IN_PLACE = ("add", "inverse", "multiply", "power", "square", "square_root")
+_IN_PLACE = ("add", "inverse", "multiply", "multiply_by", "power", "square", "square_root")
 # What numpy's ufuncs and functions are over elements, which _numpy.py fills.
 UFUNCS: dict[np.ufunc, Callable[..., Any]] = {}
 FUNCTIONS: dict[Callable[..., Any], Callable[..., Any]] = {}
 
 
-class FieldArray(Stored):
+def _is_left_to(other: Any) -> bool:
+    """Whether an operator is left to the other operand, as numpy's arrays leave it: a polynomial says so."""
+    return getattr(other, "__array_ufunc__", True) is None
+
+
+class FieldArray(Facts):
     """An array of elements of one field; each field is a subclass. An element is an array of no dimensions.
 
     `F(x)` makes one of integers, which are the representations of elements, of nested lists of them, of texts of hexadecimal
@@ -153,6 +158,8 @@ class FieldArray(Stored):
             self._words[...] = sums
 
     def __add__(self: A, other: A | _Integers) -> A:
+        if _is_left_to(other):
+            return NotImplemented
         return self._elementwise("add", self._other(other))
 
     __radd__ = __sub__ = __rsub__ = __add__
@@ -163,6 +170,8 @@ class FieldArray(Stored):
     __isub__ = __iadd__
 
     def __mul__(self: A, other: A | _Integers) -> A:
+        if _is_left_to(other):
+            return NotImplemented
         return self._elementwise("multiply", self._other(other))
 
     __rmul__ = __mul__
@@ -414,6 +423,8 @@ class FieldArray(Stored):
 
     def __eq__(self, other: Any) -> Any:
         """Place by place, as numpy compares: with elements of the field, with integers by their representation; nothing else is equal."""
+        if _is_left_to(other):
+            return NotImplemented
         if isinstance(other, FieldArray):
             if type(other) is not type(self):
                 return NotImplemented

@@ -41,6 +41,36 @@ class _Constants(type):
         call(f"{result._name}_generator", result._words)
         return result
 
+    @property
+    def elements(cls) -> Any:
+        """All elements by their representations, in fields of up to 16 bits."""
+        if cls.degree > 16:
+            raise ValueError(f"{cls.__name__} has too many elements for an array of them: 2**{cls.degree}")
+        return cls(np.arange(cls.order))
+
+    @property
+    def units(cls) -> Any:
+        """All elements but 0, in fields of up to 16 bits."""
+        return cls.elements[1:]
+
+    @property
+    def primitive_elements(cls) -> Any:
+        """The elements of which each but 0 is a power, in fields of up to 16 bits."""
+        units = cls.units
+        return units[units.multiplicative_order() == cls.order - 1]
+
+    @property
+    def irreducible_poly(cls) -> Any:
+        """The modulus of a field of polynomials: over Gf2, and of Poly192 over Poly64. It has x**degree and what that is in the field."""
+        from ._poly import Poly
+
+        name = getattr(cls, "_name", "")
+        if name not in ("r8", "p64", "g128", "p192"):
+            raise AttributeError(f"elements of {cls.__name__} are no polynomials modulo one")
+        below: Any = _FIELDS["p64" if name == "p192" else "gf2"]
+        power = int(cls(1 << below.degree) ** (cls.degree // below.degree))
+        return Poly.Int(cls.order | power, below)
+
 
 class Stored(metaclass=_Constants):
     """What arrays of elements are but for arithmetic, which FieldArray adds."""

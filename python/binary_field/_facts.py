@@ -1,0 +1,195 @@
+"""Facts of single elements: orders, logarithms, traces, norms and minimal polynomials, by the arithmetic that FieldArray adds.
+
+The conjugates of x over a subfield of q elements are x, x**q, x**(q**2) and so on. Logarithms go by the method of Pohlig and Hellman
+(IEEE Transactions on Information Theory 24, 1978), and in groups of prime order by Shanks' baby steps and giant steps.
+"""
+
+from __future__ import annotations
+
+import functools
+import math
+from typing import TYPE_CHECKING, Any
+
+import numpy as np
+
+from ._library import Words
+from ._storage import _FIELDS, S, Stored
+
+if TYPE_CHECKING:
+    from ._poly import Poly
+
+# The primes that divide 2**n - 1 for the degrees n of the fields. The first 9 are those of 2**128 - 1, the factors of Fermat's numbers.
+_PRIMES = (
+    3, 5, 17, 257, 641, 65537, 274177, 6700417, 67280421310721,
+    7, 13, 97, 193, 241, 673, 22253377, 18446744069414584321,
+)
+# Above this degree 2**n - 1 has a prime for which baby steps are too many.
+_LOGARITHM_BITS = 64
+
+
+class Facts(Stored):
+    """What is known of elements beside arithmetic."""
+
+    @classmethod
+    def is_primitive_element(cls, element: Any) -> bool:
+        """Whether each element but 0 is a power of this one.
+
+        >>> bf.Rijndael8b.is_primitive_element(2), bf.Rijndael8b.is_primitive_element(3)
+        (False, True)
+        """
+        element = cls._single(element)
+        return bool(element) and element.multiplicative_order() == cls.order - 1
+
+    @classmethod
+    def _single(cls: type[S], element: Any) -> Any:
+        """An element, which is an array of no dimensions."""
+        element = cls._operand(element)
+        if element.ndim:
+            raise ValueError("a single element is wanted")
+        return element
+
+    @classmethod
+    def _integers(cls, numbers: Words) -> Any:
+        """Numbers as numpy has them of this field: of 64 bits where they fit, else Python's; of one element, one of Python."""
+        if not numbers.ndim:
+            return int(numbers[()])
+        return numbers.astype(np.int64) if cls.degree < 64 else numbers
+
+    def multiplicative_order(self) -> Any:
+        """The least exponent above 0 for which the power of each element is 1; ArithmeticError where one is 0.
+
+        >>> bf.Rijndael8b([1, 2, 3]).multiplicative_order()
+        array([  1,  51, 255])
+        """
+        elements: Any = self
+        if not elements.all():
+            raise ArithmeticError(f"0 of {type(self).__name__} has no multiplicative order")
+        group, orders = type(self).order - 1, np.full(self.shape, 1, dtype=object)
+        for prime in _PRIMES:
+            rest = group
+            while rest % prime == 0:
+                rest //= prime
+            power = elements**rest
+            while rest < group:
+                orders = np.where(power == 1, orders, orders * prime)
+                power, rest = power**prime, rest * prime
+        return self._integers(np.asarray(orders, dtype=object))
+
+    # ---- logarithms
+
+    def log(self, base: Any = None) -> Any:
+        """The exponent, from 0 to order - 2, for which the power of the base is each element, in fields of up to 64 bits. The base is a
+        primitive element, by default `primitive_element`; ArithmeticError where an element is 0.
+
+        >>> bf.Rijndael8b([1, 2, 3]).log(3)
+        array([ 0, 25,  1])
+        """
+        elements: Any = self
+        field: Any = type(self)
+        group = field.order - 1
+        if field.degree > _LOGARITHM_BITS:
+            raise ValueError(f"there are logarithms in fields of up to {_LOGARITHM_BITS} bits, and {field.__name__} has {field.degree}")
+        if not elements.all():
+            raise ArithmeticError(f"0 of {field.__name__} has no logarithm")
+        if base is not None and not field.is_primitive_element(base):
+            raise ValueError("the base of logarithms must be a primitive element")
+        logarithms = self._logarithms()
+        if base is not None and group > 1:
+            logarithms = logarithms * pow(int(field._operand(base).log()), -1, group) % group
+        return self._integers(np.asarray(logarithms, dtype=object))
+
+    def _logarithms(self) -> Words:
+        """Those to the primitive element: the Chinese remainder of those in the groups of prime order, since no square divides 2**n - 1."""
+        elements: Any = self
+        group = type(self).order - 1
+        result = np.full(self.shape, 0, dtype=object)
+        for prime in _PRIMES:
+            if group % prime == 0:
+                rest = group // prime
+                digits = _in_prime_group(elements**rest, type(self).primitive_element**rest, prime)
+                result = (result + digits.astype(object) * (rest * pow(rest, -1, prime))) % group
+        return np.asarray(result, dtype=object)
+
+    # ---- subfields
+
+    def _over(self, subfield: Any) -> tuple[Any, int]:
+        """A subfield, by default GF(2), and how often its order's logarithm goes into the degree."""
+        subfield = _FIELDS["gf2"] if subfield is None else subfield
+        type(self)(subfield.zeros(()))
+        return subfield, self.degree // subfield.degree
+
+    def _conjugates(self, subfield: Any) -> list[Any]:
+        """The elements, and the powers of each by those of the subfield's order, to the degree over it."""
+        found: list[Any] = [self]
+        for _ in range(self._over(subfield)[1] - 1):
+            found.append(found[-1] ** subfield.order)
+        return found
+
+    def _restricted(self, subfield: Any) -> Any:
+        """The elements of a subfield whose images in this field these are: `to` the other way."""
+        if subfield is type(self):
+            return self
+        if not self._is_in_tower():
+            below: Any = self._narrowed(_FIELDS["p64"]) if self.degree == 192 else self.to(_FIELDS[self._partner or ""])
+            return below._restricted(subfield)
+        level = subfield if subfield._is_in_tower() else _FIELDS[subfield._partner]
+        return self._narrowed(level).to(subfield)
+
+    def _narrowed(self, field: type[S]) -> Any:
+        """The same representations in a smaller field."""
+        result = field.zeros(self.shape)
+        for part, it in zip(result._parts(), self._parts()):
+            part[...] = it
+        return result
+
+    def field_trace(self, subfield: Any = None) -> Any:
+        """The trace of each element over a field that this one contains, by default GF(2): the sum of its conjugates, in that field.
+
+        >>> bf.Rijndael8b([1, 0x20]).field_trace()
+        Gf2([0x0, 0x1])
+        >>> bf.BinaryField16([0x100]).field_trace(bf.Rijndael8b)
+        Rijndael8b([0x35])
+        """
+        subfield, _ = self._over(subfield)
+        return functools.reduce(lambda x, y: x + y, self._conjugates(subfield))._restricted(subfield)
+
+    def field_norm(self, subfield: Any = None) -> Any:
+        """The norm of each element over a field that this one contains, by default GF(2): the product of its conjugates, in that field.
+
+        >>> bf.BinaryField16([0x100, 2]).field_norm(bf.BinaryField8)
+        BinaryField8([0x1, 0x3])
+        """
+        elements: Any = self
+        subfield, _ = self._over(subfield)
+        return (elements ** ((type(self).order - 1) // (subfield.order - 1)))._restricted(subfield)
+
+    def minimal_poly(self, subfield: Any = None) -> Poly:
+        """The monic polynomial of least degree over a field that this one contains, by default GF(2), with this single element as a root.
+
+        >>> bf.Rijndael8b(2).minimal_poly()
+        Poly(x^8 + x^4 + x^3 + x + 1, Gf2)
+        """
+        from ._poly import Poly
+
+        element = self._single(self)
+        subfield, _ = self._over(subfield)
+        conjugates = element._conjugates(subfield)
+        count = next((at for at, it in enumerate(conjugates) if at and it == element), len(conjugates))
+        over_this = Poly.Roots(type(self)(conjugates[:count]))
+        return Poly(over_this.coeffs._restricted(subfield))
+
+
+def _in_prime_group(values: Any, generator: Any, prime: int) -> Words:
+    """The logarithm of each value in the group of a prime order: its giant steps meet the baby steps, of which a table is made."""
+    reach = math.isqrt(prime - 1) + 1
+    powers = type(values)(np.full(reach, int(generator), dtype=object))
+    powers[0] = 1
+    baby = powers.cumprod()
+    order = np.argsort(baby._words)
+    table = baby._words[order]
+    result, back, now = np.full(values.shape, -1, dtype=np.int64), generator**-reach, values.copy()
+    for giant in range(reach):
+        places = np.minimum(np.searchsorted(table, now._words), reach - 1)
+        result = np.where((table[places] == now._words) & (result < 0), giant * reach + order[places], result)
+        now *= back
+    return np.asarray(result)
