@@ -4,6 +4,7 @@ pub mod Calls
 pub mod Fields
 pub mod Fits
 pub mod Lanes
+pub mod Places
 pub mod Linear
 pub mod Transforms
 pub mod WideLemmas

@@ -7,6 +7,7 @@ mod batch;
 mod bytes;
 mod fields;
 pub mod in_place;
+pub mod in_planes;
 mod kernels;
 mod lanes;
 mod linear;
@@ -41,7 +42,7 @@ pub use crate::transforms::{
 };
 pub use crate::wide::Wide;
 pub use crate::words::Cubic;
-pub use tower_transforms::Holds;
+pub use tower_transforms::{ByteMultiples, HalfMultiples, Holds, Pair};
 pub use word_cubic::Triple;
 pub use word_polynomial::{CubicKernel, GhashKernel, Poly64Kernel, RijndaelKernel};
 pub use word_tower::{Bits1, Bits2, Bits4, Bits8, Bits16, Bits32, Bits64, Bits128, Tower};

@@ -6,4 +6,8 @@ mod RowSteps
 mod ScalarHalves
 mod Scalars
 mod Tables
+mod LaneWeaving
 mod LevelProducts
+mod UnitFacts
+mod WordPlaces
+mod WordSteps

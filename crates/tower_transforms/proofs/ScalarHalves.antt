@@ -1,29 +1,88 @@
 -- Scalars by their halves: the multiples of three of them, and the product by a root.
-use Rattle.std.proofs.Common.{◌≡◌, ℕ, ◌+◌, ◌*◌, ◌/◌, ◌%◌, ◌^◌, ◌<◌, sym, ◌∙◌, ap, ap₂, subst, arith}
+use Rattle.std.proofs.Common.{◌≡◌, ℕ, suc, ◌+◌, ◌*◌, ◌/◌, ◌%◌, ◌^◌, ◌<◌, sym, ◌∙◌, ap, ap₂, subst, arith}
 use Rattle.std.specs.Prelude.{bit_xor}
-use native.Mathlib.Nat.{mod-eq_of_lt}
-use Rattle.field_base.specs.Quadratic.{high_half, pair}
+use Rattle.std.proofs.Math.Nat.{div-lt_iff_lt-mul, pow-suc}
+use Rattle.std.proofs.lemmas.Nat.{div-add-mod', pow-add, pow_pos, xor_lt}
+use native.Mathlib.Nat.{mod-lt}
+use Rattle.field_base.specs.Quadratic.{high_half, low_half, pair}
 use Rattle.field_base.specs.Tower.{root, tower_mul}
+use Rattle.field_base.proofs.QuadraticRing.{high_half-pair, low_half-pair}
 use Rattle.field_base.proofs.TowerProducts.{tower_mul-root_suc}
+use Rattle.field_base.proofs.TowerRing.{tower_ring}
 use Rattle.tower_transforms.specs.Products.{AreMultiplesOfHalves}
 
--- X (low + high X) = high + (low + t high) X, at level 4
-pub root_of_halves : (s low high product : ℕ) → s < 65536 → low ≡ s % 256 → high ≡ s / 256 → product ≡ tower_mul 3 (root 3) high
-    → 256 * bit_xor low product + high ≡ tower_mul 4 (root 4) s
-root_of_halves s low high product fits low_is high_is product_is =
-    ap (λ (x : ℕ). 256 * bit_xor low x + high) product_is ∙ place (bit_xor low (tower_mul 3 (root 3) high)) high
-    ∙ ap₂ (λ (x y : ℕ). pair 8 x (bit_xor y (tower_mul 3 (root 3) x))) same low_is
-    ∙ sym (tower_mul-root_suc 3 s)
+-- ---- a scalar of level k + 1 by its halves
+
+-- the scalar s has the halves low and high, of `half` bits each, and so many have their sum and the sums with the product by the root
+pub record AreHalves (k half s low high product : ℕ) : Type 0 where
+  pub half_is : half ≡ 2 ^ k
+  pub low_fits : low < 2 ^ half
+  pub high_fits : high < 2 ^ half
+  pub sum_fits : bit_xor low high < 2 ^ half
+  pub low_sum_fits : product ≡ tower_mul k (root k) high → bit_xor low product < 2 ^ half
+  pub both_sum_fits : product ≡ tower_mul k (root k) high → bit_xor (bit_xor low high) product < 2 ^ half
+  pub of_halves : s ≡ pair half low high
+
+pub are_halves : (k bits s low high product : ℕ) → bits ≡ 2 ^ suc k → s < 2 ^ bits → low ≡ s % 2 ^ (bits / 2) → high ≡ s / 2 ^ (bits / 2)
+    → AreHalves k (bits / 2) s low high product
+are_halves k bits s low high product bits_are fits low_is high_is =
+    record {
+      half_is = half;
+      low_fits = low_fits;
+      high_fits = high_fits;
+      sum_fits = sum_fits;
+      low_sum_fits = λ is. xor_lt (bits / 2) low product low_fits (product_fits is);
+      both_sum_fits = λ is. xor_lt (bits / 2) (bit_xor low high) product sum_fits (product_fits is);
+      of_halves = sym (ap₂ (pair (bits / 2)) low_is high_is ∙ div-add-mod' s (2 ^ (bits / 2)));
+    }
   where
-    place : (x y : ℕ) → 256 * x + y ≡ pair 8 y x
-    place x y = omega arith
+    half : bits / 2 ≡ 2 ^ k
+    half = let next = pow-suc 2 k in omega (arith, bits_are, next)
 
-    same : high ≡ high_half 8 s
-    same = let small : s / 256 < 256 = omega (arith, fits) in high_is ∙ sym (mod-eq_of_lt small)
+    low_fits : low < 2 ^ (bits / 2)
+    low_fits = subst (λ (x : ℕ). x < 2 ^ (bits / 2)) (sym low_is) (mod-lt s (pow_pos (bits / 2)))
 
--- the multiples of three scalars of a level are those of one of the next
-pub multiples_of_halves : (k : ℕ) {M : Type 0} (are : M → ℕ → Type 0) (both low high : M) (s s0 s1 product : ℕ) → s0 < 2 ^ 2 ^ k → s1 < 2 ^ 2 ^ k
-    → s ≡ pair (2 ^ k) s0 s1 → product ≡ tower_mul k (root k) s1 → are both s1 → are low (bit_xor s0 s1)
-    → are high (bit_xor (bit_xor s0 s1) product) → AreMultiplesOfHalves k are record { both = both; low = low; high = high } s
-multiples_of_halves k are both low high s s0 s1 product low_fits high_fits is product_is of_both of_low of_high =
-    (s0, s1, low_fits, high_fits, is, of_both, of_low, subst (λ (x : ℕ). are high (bit_xor (bit_xor s0 s1) x)) product_is of_high)
+    high_fits : high < 2 ^ (bits / 2)
+    high_fits =
+        let next = pow-suc 2 k in
+        let twice : bits ≡ bits / 2 + bits / 2 = omega (arith, bits_are, next) in
+        subst (λ (x : ℕ). x < 2 ^ (bits / 2)) (sym high_is)
+        ((div-lt_iff_lt-mul (pow_pos (bits / 2))).1
+        (subst (λ (b : ℕ). s < b) (ap (λ (e : ℕ). 2 ^ e) twice ∙ pow-add 2 (bits / 2) (bits / 2)) fits))
+
+    sum_fits : bit_xor low high < 2 ^ (bits / 2)
+    sum_fits = xor_lt (bits / 2) low high low_fits high_fits
+
+    product_fits : product ≡ tower_mul k (root k) high → product < 2 ^ (bits / 2)
+    product_fits is =
+        subst (λ (h : ℕ). product < 2 ^ h) (sym half)
+        (subst (λ (y : ℕ). y < 2 ^ 2 ^ k) (sym is) ((tower_ring k).below (root k) high))
+
+-- the multiples of three scalars are those of the scalar with these halves
+pub multiples_of_scalar : (k half s low high product : ℕ) {M : Type 0} (are : M → ℕ → Type 0) (of_both of_low of_high : M)
+    → AreHalves k half s low high product → product ≡ tower_mul k (root k) high → are of_both high → are of_low (bit_xor low high)
+    → are of_high (bit_xor (bit_xor low high) product)
+    → AreMultiplesOfHalves k are record { both = of_both; low = of_low; high = of_high } s
+multiples_of_scalar k half s low high product are of_both of_low of_high halves product_is both_are low_are high_are = (
+  low,
+  high,
+  subst (λ (h : ℕ). low < 2 ^ h) halves.half_is halves.low_fits,
+  subst (λ (h : ℕ). high < 2 ^ h) halves.half_is halves.high_fits,
+  halves.of_halves ∙ ap (λ (h : ℕ). pair h low high) halves.half_is,
+  both_are,
+  low_are,
+  subst (λ (x : ℕ). are of_high (bit_xor (bit_xor low high) x)) product_is high_are,
+)
+
+-- X (low + high X) = high + (low + t high) X
+pub root_times : (k half s low high product : ℕ) → AreHalves k half s low high product → product ≡ tower_mul k (root k) high
+    → pair half high (bit_xor low product) ≡ tower_mul (suc k) (root (suc k)) s
+root_times k half s low high product halves is =
+    let low_fits = subst (λ (h : ℕ). low < 2 ^ h) halves.half_is halves.low_fits in
+    let high_fits = subst (λ (h : ℕ). high < 2 ^ h) halves.half_is halves.high_fits in
+    let whole = halves.of_halves ∙ ap (λ (h : ℕ). pair h low high) halves.half_is in
+    ap₂ (λ (w y : ℕ). pair w high (bit_xor low y)) halves.half_is is
+    ∙ ap₂ (λ (x y : ℕ). pair (2 ^ k) x (bit_xor y (tower_mul k (root k) x)))
+    (sym (ap (high_half (2 ^ k)) whole ∙ high_half-pair (2 ^ k) low high low_fits high_fits))
+    (sym (ap (low_half (2 ^ k)) whole ∙ low_half-pair (2 ^ k) low high low_fits))
+    ∙ sym (tower_mul-root_suc k s)

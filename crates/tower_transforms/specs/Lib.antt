@@ -5,5 +5,6 @@ pub mod LaneLemmas
 pub mod PairLemmas
 pub mod Products
 pub mod Rows
+pub mod Units
 pub mod Words
 pub mod LevelVectors

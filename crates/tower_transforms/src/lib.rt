@@ -6,6 +6,8 @@
 //! multiplies an element chunk by chunk, so a row of wide elements is a row of chunks. The product of a byte by a byte takes two look-ups in
 //! registers, that of a wider chunk three products of its halves (A. Karatsuba and Y. Ofman, Multiplication of multidigit numbers on
 //! automata, Soviet Physics Doklady 7, 1963), and no address depends on an element.
+//!
+//! Slices of words of 16 to 128 bits are multiplied by one scalar of as many bits in vectors of the bytes of sixteen words or thirty-two.
 #![tactic(auto)]
 
 mod arithmetic;
@@ -16,9 +18,13 @@ mod laws;
 mod multiples;
 mod pair;
 mod pairs;
+mod plane_scalars;
 mod planes;
 mod products;
+mod scaled_words;
 mod whole;
+mod word_bytes;
+mod word_planes;
 mod words;
 
 pub use crate::blocks::ByteBlock;
@@ -26,5 +32,11 @@ pub use crate::butterflies::{butterflies_8, butterflies_16, butterflies_32};
 pub use crate::chunks::{Paired, Scales, times_number};
 pub use crate::laws::three_products_multiply;
 pub use crate::multiples::{ByteMultiples, HalfMultiples, multiples_8, multiples_16, multiples_32};
+pub use crate::pair::Pair;
+pub use crate::plane_scalars::PlaneScalars;
+pub use crate::planes::Planes;
+pub use crate::scaled_words::{add_multiples, multiply_words};
 pub use crate::whole::{forward_level, inverse_level};
+pub use crate::word_bytes::WordBytes;
+pub use crate::word_planes::WordPlanes;
 pub use crate::words::Holds;

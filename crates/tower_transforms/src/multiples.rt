@@ -1,6 +1,6 @@
 // The multiples of a scalar, by which elements are multiplied: of a byte by the halves of bytes, and of a wider scalar those of the three
 // scalars by which halves are multiplied.
-ghost use Rattle.std.specs.Prelude.{◌≡◌, ℕ, ◌+◌, ◌*◌, ◌/◌, ◌%◌, ◌<◌, ◌≤◌, length, slice_index};
+ghost use Rattle.std.specs.Prelude.{◌≡◌, ℕ, ◌+◌, ◌*◌, ◌<◌, ◌≤◌, length, slice_index};
 ghost use Rattle.std.specs.Simd.Lanes.{chunk};
 ghost use Rattle.field_base.specs.Tower.{root, tower_mul};
 ghost use Rattle.tower_transforms.specs.Products.{AreMultiples, AreMultiplesOfHalves};
@@ -8,6 +8,8 @@ ghost use Rattle.tower_transforms.specs.Products.{AreMultiples, AreMultiplesOfHa
 mod literals;
 
 use crate::multiples::literals::PRODUCTS;
+use crate::pair::Pair;
+use crate::plane_scalars::PlaneScalars;
 use std::simd::prelude::*;
 
 /// The products of a byte by 0 to 15, and by 0, 16, .., 240. They are vectors, so that a loop holds them in registers.
@@ -42,12 +44,7 @@ pub fn multiples_8(scalar: u8) -> ByteMultiples
 pub fn multiples_16(scalar: u16) -> HalfMultiples<ByteMultiples>
     ensures { AreMultiplesOfHalves 3 AreMultiples result scalar }
 {
-    let (low, high) = halves_16(scalar);
-    HalfMultiples {
-        both: multiples_8(high),
-        low: multiples_8(low ^ high),
-        high: multiples_8(low ^ high ^ times_root_8(high)),
-    }
+    <Pair<u8x16> as PlaneScalars<_>>::multiples(u128::from(scalar), 16)
 }
 
 /// The multiples of a scalar of 32 bits.
@@ -55,47 +52,15 @@ pub fn multiples_16(scalar: u16) -> HalfMultiples<ByteMultiples>
 pub fn multiples_32(scalar: u32) -> HalfMultiples<HalfMultiples<ByteMultiples>>
     ensures { AreMultiplesOfHalves 4 (AreMultiplesOfHalves 3 AreMultiples) result scalar }
 {
-    let (low, high) = halves_32(scalar);
-    HalfMultiples {
-        both: multiples_16(high),
-        low: multiples_16(low ^ high),
-        high: multiples_16(low ^ high ^ times_root_16(high)),
-    }
+    <Pair<Pair<u8x16>> as PlaneScalars<_>>::multiples(u128::from(scalar), 32)
 }
 
 // The product of a byte by the root that level 3 adjoins, 16.
 #[inline]
-fn times_root_8(scalar: u8) -> u8
+pub(crate) fn times_root_8(scalar: u8) -> u8
     ensures { result ≡ tower_mul 3 (root 3) scalar }
 {
     entry_at(&PRODUCTS, 32 * scalar as usize + 17)
-}
-
-// The product by the root X that level 4 adjoins: X (low + high X) is high + (low + t high) X, where t is the root of level 3.
-#[inline]
-fn times_root_16(scalar: u16) -> u16
-    ensures { result ≡ tower_mul 4 (root 4) scalar }
-{
-    let (low, high) = halves_16(scalar);
-    256 * (low ^ times_root_8(high)) as u16 + high as u16
-}
-
-// The halves of a scalar of 16 bits.
-#[inline]
-fn halves_16(scalar: u16) -> (u8, u8)
-    ensures low { result.0 ≡ scalar % 256 }
-    ensures high { result.1 ≡ scalar / 256 }
-{
-    ((scalar % 256) as u8, (scalar / 256) as u8)
-}
-
-// The halves of a scalar of 32 bits.
-#[inline]
-fn halves_32(scalar: u32) -> (u16, u16)
-    ensures low { result.0 ≡ scalar % 65536 }
-    ensures high { result.1 ≡ scalar / 65536 }
-{
-    ((scalar % 65536) as u16, (scalar / 65536) as u16)
 }
 
 // The entry at a place.

@@ -10,9 +10,9 @@ use crate::planes::Planes;
 
 /// The elements `low + high X`.
 #[derive(Clone, Copy)]
-pub(crate) struct Pair<P> {
-    low: P,
-    high: P,
+pub struct Pair<P> {
+    pub(crate) low: P,
+    pub(crate) high: P,
 }
 
 impl<M, P: Planes<M>> Planes<HalfMultiples<M>> for Pair<P> {

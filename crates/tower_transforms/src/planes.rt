@@ -11,7 +11,7 @@ use byte_maps::entry_sums;
 
 /// As many elements as a vector has bytes, in one, two or four planes. `M` holds the multiples of a scalar by which they are multiplied.
 /// All is done in place.
-pub(crate) trait Planes<M>: Copy {
+pub trait Planes<M>: Copy {
     // How often a row of elements is halved until its parts have one byte of each element.
     ghost depth: { ℕ };
 

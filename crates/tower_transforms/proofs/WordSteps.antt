@@ -1,0 +1,116 @@
+-- Numbers of which the first are multiplied, block by block, and the others as they were.
+use Rattle.std.proofs.Common.{◌≡◌, ◌⊎◌, inl, inr, ℕ, ◌+◌, ◌-◌, ◌*◌, ◌/◌, ◌%◌, ◌^◌, ◌<◌, ◌≤◌, List, refl, sym, ◌∙◌, ap, ap₂, subst, arith}
+use Rattle.std.specs.Prelude.{bit_xor, slice_index}
+use Rattle.std.proofs.Math.Nat.{mul-le-mul_right, mul-lt-mul_of_pos_right}
+use Rattle.std.proofs.lemmas.Bool.{cases_lt}
+use Rattle.std.proofs.lemmas.Nat.{pow_pos}
+use native.Mathlib.Nat.{mod-eq_of_lt}
+use lib.Bits.{xor_comm}
+use Rattle.field_base.specs.Tower.{tower_mul}
+use Rattle.field_base.proofs.RingLemmas.{times-mod}
+use Rattle.field_base.proofs.TowerRing.{tower_ring}
+use Rattle.tower_transforms.specs.Rows.{level_of}
+use Rattle.tower_transforms.specs.Units.{ArePut, AreUnits, FirstAre, byte_of, unit_of}
+use Rattle.tower_transforms.proofs.UnitFacts.{unit-modulo, unit-whole}
+
+-- before the first place all are as they were
+pub none_first : (n : ℕ) (value : ℕ → ℕ) (numbers : List ℕ) → n ≡ 0 → FirstAre n value numbers numbers
+none_first n value numbers none =
+    record {
+      done = λ k below. absurd (omega (arith, none, below));
+      kept = λ k past. refl;
+    }
+
+-- ---- units that are whole numbers
+
+-- those that were read
+numbers_read : (d size n lanes : ℕ) (units : ℕ → ℕ) (numbers : List ℕ) → size ≡ d → AreUnits d size n lanes units numbers
+    → (l : ℕ) → l < lanes → units l ≡ slice_index numbers (n + l) % 2 ^ 2 ^ level_of d
+numbers_read d size n lanes units numbers same are l below =
+    are n (ap (λ (e : ℕ). n * 2 ^ e) same) l below
+    ∙ subst (λ (e : ℕ). unit_of e (byte_of size numbers) (n + l) ≡ slice_index numbers (n + l) % 2 ^ 2 ^ level_of e) same
+    (unit-modulo size (n + l) numbers)
+
+-- those that were put
+numbers_put : (d size n lanes : ℕ) (units : ℕ → ℕ) (old new : List ℕ) → size ≡ d → ArePut d size n lanes units old new
+    → (l : ℕ) → l < lanes → slice_index new (n + l) ≡ units l
+numbers_put d size n lanes units old new same are l below =
+    let less : l * 2 ^ size < lanes * 2 ^ size = mul-lt-mul_of_pos_right below (pow_pos size) in
+    let bytes = ap (λ (e : ℕ). lanes * 2 ^ e) same in
+    sym (are.put n (ap (λ (e : ℕ). n * 2 ^ e) same) l below
+    ∙ subst (λ (e : ℕ). unit_of e (byte_of size new) (n + l) ≡ slice_index new (n + l)) same
+    (unit-whole size (n + l) new (are.fit (n + l) (omega arith) (omega (arith, less, bytes)))))
+
+-- ---- one block more
+
+module _ (d size lanes count block s : ℕ) (same : size ≡ d) (counted : count ≡ lanes) where
+  next : count * (block + 1) ≡ count * block + lanes
+  next = omega (arith, counted)
+
+  more : (value units : ℕ → ℕ) (old mid new : List ℕ) → FirstAre (count * block) value old mid
+      → ArePut d size (count * block) lanes units mid new → ((l : ℕ) → l < lanes → units l ≡ value (count * block + l))
+      → FirstAre (count * (block + 1)) value old new
+  more value units old mid new before put here = record { done = λ k below. pick k below (cases_lt k (count * block)); kept = kept }
+    where
+      pick : (k : ℕ) → k < count * (block + 1) → (k < count * block) ⊎ (count * block ≤ k) → slice_index new k ≡ value k
+      pick k below (inl early) = put.kept k (inl early) ∙ before.done k early
+      pick k below (inr past) =
+          let more = next in
+          let at : count * block + (k - count * block) ≡ k = omega (arith, past) in
+          let inside : k - count * block < lanes = omega (arith, below, more, past) in
+          subst (λ (p : ℕ). slice_index new p ≡ value p) at
+          (numbers_put d size (count * block) lanes units mid new same put (k - count * block) inside ∙ here (k - count * block) inside)
+
+      kept : (k : ℕ) → count * (block + 1) ≤ k → slice_index new k ≡ slice_index old k
+      kept k past =
+          let more = next in
+          let late : count * block + lanes ≤ k = omega (arith, past, more) in
+          let less : (count * block + lanes) * 2 ^ size ≤ k * 2 ^ size = mul-le-mul_right (2 ^ size) late in
+          let bytes = ap (λ (e : ℕ). lanes * 2 ^ e) same in
+          put.kept k (inr (omega (arith, less, bytes))) ∙ before.kept k (omega (arith, late))
+
+  -- the products of numbers that are as they were
+  products_are : (factors products : ℕ → ℕ) (old mid : List ℕ)
+      → ((k : ℕ) → count * block ≤ k → slice_index mid k ≡ slice_index old k)
+      → AreUnits d size (count * block) lanes factors mid
+      → ((l : ℕ) → l < lanes → products l ≡ tower_mul (level_of d) s (factors l))
+      → (l : ℕ) → l < lanes → products l ≡ tower_mul (level_of d) s (slice_index old (count * block + l))
+  products_are factors products old mid kept read times l below =
+      times l below
+      ∙ ap (tower_mul (level_of d) s) (numbers_read d size (count * block) lanes factors mid same read l below)
+      ∙ times-mod (2 ^ level_of d) 1 (tower_mul (level_of d)) (tower_ring (level_of d)) s (slice_index mid (count * block + l))
+      ∙ ap (tower_mul (level_of d) s) (kept (count * block + l) (omega arith))
+
+  -- a block that is multiplied
+  pub block_multiplied : (factors products : ℕ → ℕ) (old mid new : List ℕ)
+      → FirstAre (count * block) (λ k. tower_mul (level_of d) s (slice_index old k)) old mid
+      → AreUnits d size (count * block) lanes factors mid
+      → ((l : ℕ) → l < lanes → products l ≡ tower_mul (level_of d) s (factors l))
+      → ArePut d size (count * block) lanes products mid new
+      → FirstAre (count * (block + 1)) (λ k. tower_mul (level_of d) s (slice_index old k)) old new
+  block_multiplied factors products old mid new before read times put =
+      more (λ k. tower_mul (level_of d) s (slice_index old k)) products old mid new before put
+      (products_are factors products old mid before.kept read times)
+
+  -- and one that is added
+  pub block_added : (factors products addends sums : ℕ → ℕ) (words old mid new : List ℕ)
+      → ((k : ℕ) → slice_index old k < 2 ^ 2 ^ level_of d)
+      → FirstAre (count * block) (λ k. bit_xor (slice_index old k) (tower_mul (level_of d) s (slice_index words k))) old mid
+      → AreUnits d size (count * block) lanes factors words
+      → ((l : ℕ) → l < lanes → products l ≡ tower_mul (level_of d) s (factors l))
+      → AreUnits d size (count * block) lanes addends mid
+      → ((l : ℕ) → l < lanes → sums l ≡ bit_xor (products l) (addends l))
+      → ArePut d size (count * block) lanes sums mid new
+      → FirstAre (count * (block + 1)) (λ k. bit_xor (slice_index old k) (tower_mul (level_of d) s (slice_index words k))) old new
+  block_added factors products addends sums words old mid new fit before read times also sum put =
+      more (λ k. bit_xor (slice_index old k) (tower_mul (level_of d) s (slice_index words k))) sums old mid new before put each
+    where
+      each : (l : ℕ) → l < lanes
+          → sums l ≡ bit_xor (slice_index old (count * block + l)) (tower_mul (level_of d) s (slice_index words (count * block + l)))
+      each l below =
+          let place = count * block + l in
+          sum l below
+          ∙ ap₂ bit_xor (products_are factors products words words (λ k past. refl) read times l below)
+          (numbers_read d size (count * block) lanes addends mid same also l below
+          ∙ ap (λ (x : ℕ). x % 2 ^ 2 ^ level_of d) (before.kept place (omega arith)) ∙ mod-eq_of_lt (fit place))
+          ∙ xor_comm (tower_mul (level_of d) s (slice_index words place)) (slice_index old place)

@@ -1,0 +1,26 @@
+use Rattle.std.proofs.Common.{◌/◌, ◌∙◌}
+use Rattle.tower_transforms.specs.Rows.{level_of}
+use Rattle.tower_transforms.proofs.ScalarHalves.{are_halves, root_times}
+use Rattle.tower_transforms.proofs.plane_scalars.PairPlaneScalarsHalfMultiples.times_root.Goals as goal
+
+pub times_root-requires-clause-fits : goal.times_root-requires-clause-fits
+times_root-requires-clause-fits g c =
+    (are_halves (level_of g.P.Planes.depth) c.args.bits c.args.scalar c.halves_of-low.result.0 c.halves_of-low.result.1 0 c.requires.bits c.requires.fits
+    c.halves_of-low.ensures.low c.halves_of-low.ensures.high).high_fits
+
+pub pair_of-requires-clause-low : goal.pair_of-requires-clause-low
+pair_of-requires-clause-low g c =
+    (are_halves (level_of g.P.Planes.depth) c.args.bits c.args.scalar c.halves_of-low.result.0 c.halves_of-low.result.1 0 c.requires.bits c.requires.fits
+    c.halves_of-low.ensures.low c.halves_of-low.ensures.high).high_fits
+
+pub pair_of-requires-clause-high : goal.pair_of-requires-clause-high
+pair_of-requires-clause-high g c =
+    (are_halves (level_of g.P.Planes.depth) c.args.bits c.args.scalar c.halves_of-low.result.0 c.halves_of-low.result.1 c.times_root.result c.requires.bits c.requires.fits
+    c.halves_of-low.ensures.low c.halves_of-low.ensures.high).low_sum_fits c.times_root.ensures
+
+pub returns : goal.returns
+returns g c =
+    c.pair_of.ensures
+    ∙ root_times (level_of g.P.Planes.depth) (c.args.bits / 2) c.args.scalar c.halves_of-low.result.0 c.halves_of-low.result.1
+    c.times_root.result (are_halves (level_of g.P.Planes.depth) c.args.bits c.args.scalar c.halves_of-low.result.0 c.halves_of-low.result.1 c.times_root.result c.requires.bits c.requires.fits
+    c.halves_of-low.ensures.low c.halves_of-low.ensures.high) c.times_root.ensures

@@ -1,0 +1,93 @@
+// Words by their bytes in vectors.
+ghost use Rattle.std.specs.Prelude.{◌≡◌, ℕ, ◌+◌, ◌*◌, ◌^◌, ◌≤◌, length, map, slice_index};
+ghost use Rattle.tower_transforms.specs.ChunkLemmas.{no_halves, one_half, two_halves, three_halves, four_halves};
+ghost use Rattle.tower_transforms.specs.Units.{ArePut, AreUnits};
+
+use crate::words::Holds;
+use field_base::Stored;
+use std::simd::prelude::*;
+use word_carryless::{bytes_of_128, number_of_bytes};
+
+/// A word of 1 to 16 bytes of a slice. Sixteen bytes are one word or more, the lowest byte of each first.
+pub trait WordBytes<R: Stored>: Holds<R> {
+    // A word has 2 to the power of so many bytes.
+    ghost size: { ℕ };
+
+    /// The sixteen bytes of the words from `start` on.
+    fn read_bytes(words: &[Self], start: usize) -> u8x16
+        requires { start * 2 ^ size + 16 ≤ length words.now * 2 ^ size }
+        ensures { AreUnits 0 size start 16 (slice_index result) (map Self.Holds.number words.now) };
+
+    /// Writes sixteen bytes over those of the words from `start` on.
+    fn write_bytes(words: &mut [Self], start: usize, bytes: u8x16)
+        requires { start * 2 ^ size + 16 ≤ length words.old * 2 ^ size }
+        ensures length { length words.new ≡ length words.old }
+        ensures words { ArePut 0 size start 16 (slice_index bytes) (map Self.Holds.number words.old) (map Self.Holds.number words.new) };
+
+    ghost size_law: { size ≤ 4 };
+}
+
+impl WordBytes<u16> for u16 {
+    ghost size = { 1 };
+
+    #[inline(always)]
+    fn read_bytes(words: &[u16], start: usize) -> u8x16 {
+        u16x8::from_slice(&words[start..]).to_le_bytes()
+    }
+
+    #[inline(always)]
+    fn write_bytes(words: &mut [u16], start: usize, bytes: u8x16) {
+        u16x8::from_le_bytes(bytes).copy_to_slice(&mut words[start..]);
+    }
+
+    ghost size_law = { one_half };
+}
+
+impl WordBytes<u32> for u32 {
+    ghost size = { 2 };
+
+    #[inline(always)]
+    fn read_bytes(words: &[u32], start: usize) -> u8x16 {
+        u32x4::from_slice(&words[start..]).to_le_bytes()
+    }
+
+    #[inline(always)]
+    fn write_bytes(words: &mut [u32], start: usize, bytes: u8x16) {
+        u32x4::from_le_bytes(bytes).copy_to_slice(&mut words[start..]);
+    }
+
+    ghost size_law = { two_halves };
+}
+
+impl WordBytes<u64> for u64 {
+    ghost size = { 3 };
+
+    #[inline(always)]
+    fn read_bytes(words: &[u64], start: usize) -> u8x16 {
+        u64x2::from_slice(&words[start..]).to_le_bytes()
+    }
+
+    #[inline(always)]
+    fn write_bytes(words: &mut [u64], start: usize, bytes: u8x16) {
+        u64x2::from_le_bytes(bytes).copy_to_slice(&mut words[start..]);
+    }
+
+    ghost size_law = { three_halves };
+}
+
+// Words that hold numbers of 128 bits: the numbers themselves, or their halves as other languages have them.
+impl<W: Holds<u128>> WordBytes<u128> for W {
+    ghost size = { 4 };
+
+    #[inline(always)]
+    fn read_bytes(words: &[W], start: usize) -> u8x16 {
+        bytes_of_128(words[start].stored())
+    }
+
+    #[inline(always)]
+    fn write_bytes(words: &mut [W], start: usize, bytes: u8x16) {
+        words[start] = W::of_stored(number_of_bytes(bytes));
+    }
+
+    ghost size_law = { four_halves };
+}
