@@ -1,5 +1,5 @@
 -- Shards as vectors of bytes, of which some are missing, and the one list of bytes that they stand for.
-use Rattle.std.specs.Prelude.{◌≡◌, ◌≢◌, ◌⊎◌, ℕ, ◌<◌, ◌≤◌, Bool, false, not, List, [], ◌∷◌, length, map, replicate, is_some, slice_index, slice_index_or, flat_map, Option, Some, None, IsSome}
+use Rattle.std.specs.Prelude.{◌≡◌, ◌≢◌, ◌⊎◌, ℕ, ◌<◌, ◌≤◌, Bool, false, not, List, [], ◌∷◌, length, map, replicate, is_some, slice_index, slice_index_or, flat_map, Option, Some, None, IsSome, Result, IsOk, IfErr, OnErr}
 use Rattle.std.specs.declared.vec.Vec.{Vec}
 use Rattle.reed_solomon.specs.Shards.{IsPresent, IsReconstructed, present_count, shard_byte}
 use Rattle.reed_solomon.specs.declared.shard_vectors.error.ShardVectorError.{ShardVectorError}
@@ -54,6 +54,13 @@ pub record RestoreError {Z : Type 0} (k total : ℕ) (shards : List (Option (Vec
   pub empty : length shards ≡ total → HaveSize (first_size shards) shards → k ≤ present_count (shard_flags shards)
       → first_size shards ≡ 0 → error ≡ EmptyShard
   pub memory : CanRestore k total shards → error ≡ Memory
+
+-- what a call answers that restores the missing shards before shard `until`: where it accepts they could be restored, and are, and where it
+-- refuses it says why, and the shards are as they were
+abbrev pub RestoresUntil : {Z T : Type 0} → ℕ → ℕ → ℕ → List (Option (Vec ℕ Z)) → List (Option (Vec ℕ Z)) → Result T ShardVectorError → Type 0
+RestoresUntil k total until before after result =
+    (IsOk result → CanRestore k total before × AreRestored k total until before after)
+    × IfErr result (RestoreError k total before) × OnErr result (after ≡ before)
 
 -- a shard that is made where one is missing: bytes i * size to (i + 1) * size of the bytes of all
 pub record IsMade {Z : Type 0} (size i : ℕ) (bytes : List ℕ) (is_present : Bool) (made : Option (Vec ℕ Z)) : Type 0 where

@@ -1,8 +1,8 @@
 // Missing shards are made anew.
-ghost use Rattle.std.specs.Prelude.{◌≡◌, ◌≢◌, ◌⊎◌, ◌+◌, ◌/◌, ◌≤◌, length, IsOk, IfOk, IfErr, OnErr};
+ghost use Rattle.std.specs.Prelude.{◌≡◌, ◌≢◌, ◌⊎◌, ◌+◌, ◌/◌, ◌≤◌, length, IfOk};
 ghost use Rattle.reed_solomon.specs.Shards.{IsReconstructed, present_count};
 ghost use Rattle.reed_solomon.specs.Sizes.{HasShardSize};
-ghost use Rattle.reed_solomon.specs.ShardVectors.{AreMade, AreRestored, CanRestore, HaveSize, RestoreError, shard_flags};
+ghost use Rattle.reed_solomon.specs.ShardVectors.{AreMade, HaveSize, RestoresUntil, shard_flags};
 
 use crate::ReedSolomon;
 use crate::shard_vectors::error::ShardVectorError;
@@ -19,11 +19,8 @@ pub fn reconstruct<A: Allocator + Copy>(
     alloc: A,
     shards: &mut [Option<Vec<u8, A>>],
 ) -> Result<(), ShardVectorError>
-    ensures accepted { IsOk result → CanRestore code.now.data_shards (code.now.data_shards + code.now.parity_shards) shards.old }
-    ensures restored { let total = code.now.data_shards + code.now.parity_shards in
-        IsOk result → AreRestored code.now.data_shards total total shards.old shards.new }
-    ensures refused { IfErr result (RestoreError code.now.data_shards (code.now.data_shards + code.now.parity_shards) shards.old) }
-    ensures same { OnErr result (shards.new ≡ shards.old) }
+    ensures { let total = code.now.data_shards + code.now.parity_shards in
+        RestoresUntil code.now.data_shards total total shards.old shards.new result }
 {
     reconstruct_until(code, alloc, shards, code.total_shard_count())
 }
@@ -35,11 +32,8 @@ pub fn reconstruct_data<A: Allocator + Copy>(
     alloc: A,
     shards: &mut [Option<Vec<u8, A>>],
 ) -> Result<(), ShardVectorError>
-    ensures accepted { IsOk result → CanRestore code.now.data_shards (code.now.data_shards + code.now.parity_shards) shards.old }
-    ensures restored { let total = code.now.data_shards + code.now.parity_shards in
-        IsOk result → AreRestored code.now.data_shards total code.now.data_shards shards.old shards.new }
-    ensures refused { IfErr result (RestoreError code.now.data_shards (code.now.data_shards + code.now.parity_shards) shards.old) }
-    ensures same { OnErr result (shards.new ≡ shards.old) }
+    ensures { let total = code.now.data_shards + code.now.parity_shards in
+        RestoresUntil code.now.data_shards total code.now.data_shards shards.old shards.new result }
 {
     reconstruct_until(code, alloc, shards, code.data_shard_count())
 }
@@ -52,11 +46,8 @@ fn reconstruct_until<A: Allocator + Copy>(
     until: usize,
 ) -> Result<(), ShardVectorError>
     requires { (until ≡ code.now.data_shards) ⊎ (until ≡ code.now.data_shards + code.now.parity_shards) }
-    ensures accepted { IsOk result → CanRestore code.now.data_shards (code.now.data_shards + code.now.parity_shards) shards.old }
-    ensures restored { let total = code.now.data_shards + code.now.parity_shards in
-        IsOk result → AreRestored code.now.data_shards total until shards.old shards.new }
-    ensures refused { IfErr result (RestoreError code.now.data_shards (code.now.data_shards + code.now.parity_shards) shards.old) }
-    ensures same { OnErr result (shards.new ≡ shards.old) }
+    ensures { let total = code.now.data_shards + code.now.parity_shards in
+        RestoresUntil code.now.data_shards total until shards.old shards.new result }
 {
     let total = code.total_shard_count();
     if shards.len() < total {
