@@ -302,10 +302,11 @@ class Elements(unittest.TestCase):
     def test_no_memory_beside(self):
         for field in FIELDS.values():
             a, b = field.random(1 << 16, seed=57), field.random(1 << 16, seed=58)
-            c, wanted = a.copy(), ((a + b) * b).square()
+            c, wanted, scalar = a.copy(), ((a + b) * b * a[5]).square(), a[5]
             tracemalloc.start()
             a += b
             a *= b
+            a *= scalar
             np.square(a, out=c)
             row = c[1:].reshape(5, -1).T[2:]
             taken = tracemalloc.get_traced_memory()[1]
@@ -414,7 +415,7 @@ class Examples(unittest.TestCase):
 
     def test_examples(self):
         tried = 0
-        for name in ("_storage", "_facts", "_arrays", "_poly", "_transforms", "_bytes"):
+        for name in ("_storage", "_facts", "_arrays", "_poly", "_transforms", "_workers", "_bytes"):
             module = getattr(bf, name)
             found = doctest.testmod(module, extraglobs={"bf": bf, "np": np})
             self.assertEqual(found.failed, 0)

@@ -3,9 +3,15 @@
 The package is the one that Python finds, as in PYTHONPATH=python BINARY_FIELD_LIBRARY=FOLDER/lib.
 """
 
+import itertools
+import multiprocessing
+import operator
+import os
 import pickle
 import random
+import threading
 import unittest
+from unittest import mock
 
 import definitions
 import numpy as np
@@ -232,9 +238,23 @@ class Maps(unittest.TestCase):
         self.assertEqual(point.tolist(), [int(shift) ^ 1])
         for count in (0, 3, -4, 2.0, "4", None):
             self.assertRaises(ValueError, bf.transform_points, count)
-        for wrong in (bf.Ghash128.random(0), bf.Ghash128.random(3), bf.Ghash128.random((2, 2)), bf.Ghash128(1)):
+        for wrong in (bf.Ghash128.random(0), bf.Ghash128.random(3), bf.Ghash128.random((2, 3)), bf.Ghash128(1)):
             self.assertRaises(ValueError, bf.transform, wrong)
             self.assertRaises(ValueError, bf.inverse_transform, wrong)
+
+    def test_rows(self):
+        for field in (bf.Ghash128, bf.BinaryField16, bf.BinaryField128):
+            for a in (field.random((2, 3, 8), seed=22), field.random((8, 5), seed=23).T, field.random((0, 4)), field.random((3, 1), seed=24)):
+                for function in (bf.transform, bf.inverse_transform):
+                    for workers in (None, 1, 3):
+                        found = function(a, 5, workers=workers)
+                        self.assertEqual((type(found), found.shape), (field, a.shape))
+                        self.assertEqual([it.tolist() for it in found.reshape(-1, a.shape[-1])] if a.size else [], [
+                            function(it, 5).tolist() for it in a.reshape(-1, a.shape[-1])
+                        ] if a.size else [])
+                for function in (bf.from_powers, bf.to_powers):
+                    rows = a.reshape(a.size // a.shape[-1], a.shape[-1])
+                    self.assertEqual(function(a).reshape(*rows.shape).tolist(), [function(it).tolist() for it in rows])
 
     def test_powers(self):
         for m in range(8):
@@ -250,7 +270,7 @@ class Maps(unittest.TestCase):
             for k in range(64):
                 value += c[k] * field(np.stack([factors[j] for j in range(6) if k >> j & 1] + [field.ones(5)])).prod(0)
             self.assertTrue((field.evaluate(bf.to_powers(c), x) == value).all())
-        for wrong in (bf.Ghash128.zeros(0), bf.Ghash128.zeros(3), bf.Ghash128.zeros((2, 2)), bf.Ghash128(1), [1, 2]):
+        for wrong in (bf.Ghash128.zeros(0), bf.Ghash128.zeros(3), bf.Ghash128.zeros((2, 3)), bf.Ghash128(1), [1, 2]):
             self.assertRaises(ValueError, bf.from_powers, wrong)
             self.assertRaises(ValueError, bf.to_powers, wrong)
 
@@ -275,6 +295,86 @@ class Maps(unittest.TestCase):
         self.assertEqual(bf.low_stages(values, shifts, basis, 3).tolist(), wanted)
         self.assertRaises(ValueError, bf.low_stages, values, shifts, basis, 7)
         self.assertRaises(ValueError, bf.low_stages, values, shifts, basis, 1 << 64)
+
+
+class Workers(unittest.TestCase):
+    """Bulk calls by threads, which give the same."""
+
+    def test_pieces(self):
+        pieces = []
+        for field, length, workers in itertools.product(FIELDS.values(), (0, 1, 7, 8, 9, 50), (2, 3, 16)):
+            a, b, s = field.random(length, seed=25), field.random(length, seed=26), field.random(seed=27)
+            c = field.random(5, seed=28)
+            bulk = [
+                lambda **more: a.square(**more), lambda **more: a.sqrt(**more), lambda **more: a.inverse_or_zero(**more),
+                lambda **more: a.scaled(s, **more), lambda **more: field.evaluate(c, a, **more), lambda **more: a[a != 0].reciprocal(**more),
+                lambda **more: (added := b.copy()).add_scaled(s, a, **more) or added,
+            ]
+            if field in (bf.Rijndael8b, bf.Ghash128):
+                images = field.random(field.degree, seed=29)
+                bulk.append(lambda **more: bf.linear_map(a, images, **more))
+            inside = [
+                lambda: a * b, lambda: a + b, lambda: a**7, lambda: operator.imul(b.copy(), a), lambda: operator.imul(b.copy(), s),
+                lambda: a.prod(),
+            ]
+            if field._partner:
+                inside.append(lambda: a.to(FIELDS[field._partner]))
+            wanted = [it().tolist() for it in bulk + inside]
+            with mock.patch.object(bf._workers, "_PIECE", 1), mock.patch.object(bf._workers, "_pool", Counted(pieces)):
+                found = [it(workers=workers).tolist() for it in bulk]
+                with bf.set_workers(workers):
+                    self.assertEqual((found + [it().tolist() for it in inside], [it().tolist() for it in bulk]), (wanted, wanted[: len(bulk)]))
+        self.assertLessEqual({2, 3, 7}, set(pieces))
+
+    def test_numbers_of_workers(self):
+        count, seen = os.cpu_count(), []
+        for given, wanted in ((3, 3), (-1, count), (-count, 1), (None, 1)):
+            with bf.set_workers(given):
+                self.assertEqual(bf.get_workers(), wanted)
+                with bf.set_workers(2):
+                    thread = threading.Thread(target=lambda: seen.append(bf.get_workers()))
+                    thread.start()
+                    thread.join()
+                    self.assertEqual(bf.get_workers(), 2)
+                self.assertEqual(bf.get_workers(), wanted)
+        self.assertEqual((bf.get_workers(), seen), (1, [1] * 4))
+        a = bf.Ghash128([1, 2])
+        for error, given in ((ValueError, 0), (ValueError, -count - 1), (TypeError, 1.5), (TypeError, "2")):
+            for call in (a.square, lambda workers: bf.transform(a, workers=workers), bf.set_workers):
+                self.assertRaises(error, call, workers=given)
+        self.assertEqual(bf.get_workers(), 1)
+
+    def test_what_is_refused(self):
+        words = np.arange(40, dtype=np.uint8)
+        with mock.patch.object(bf._workers, "_PIECE", 1), bf.set_workers(4):
+            for arrays in ((words[:16], words[16:32], words[12:28]), (words[:16], words[16:31], words[24:40])):
+                self.assertRaises(ValueError, bf._library.call, "t8_add", *arrays)
+            self.assertRaises(ValueError, bf._library.call, "t4_add", *[np.full(16, 255, np.uint8) for _ in range(3)])
+        self.assertEqual(words.tolist(), list(range(40)))
+
+    def test_after_a_fork(self):
+        a = bf.Ghash128.random(1 << 15, seed=30)
+        wanted = a.square(workers=2).to_words().tobytes()
+        with multiprocessing.get_context("fork").Pool(1) as pool:
+            self.assertEqual(pool.apply(squared_by_two, [a]), wanted)
+
+
+def squared_by_two(a):
+    return a.square(workers=2).to_words().tobytes()
+
+
+class Counted:
+    """In the place of the pool: it calls one by one, and notes of how many items."""
+
+    def __init__(self, noted):
+        self.noted = noted
+
+    def __call__(self, workers):
+        return self
+
+    def map(self, function, items):
+        self.noted.append(len(items))
+        return [function(it) for it in items]
 
 
 class Bytes(unittest.TestCase):

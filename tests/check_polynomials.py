@@ -163,10 +163,10 @@ class Polynomials(unittest.TestCase):
     def test_what_is_refused(self):
         p, q, draw = bf.Poly.Int(0x11B), bf.Poly([1, 2], bf.Rijndael8b), bf.Poly.Random
         for mixed in (
-            lambda: p + q, lambda: p * q, lambda: divmod(p, q), lambda: bf.gcd(p, q), lambda: bf.egcd(p, q), lambda: p + bf.Rijndael8b(1), lambda: p % q,
-            lambda: bf.Rijndael8b(1) * p, lambda: p * 2, lambda: 2 + p, lambda: p + "1", lambda: p * np.array([1, 0]), lambda: bf.Gf2([1, 0]) * p,
-            lambda: p**0.5, lambda: p / p, lambda: p(q), lambda: p(bf.Rijndael8b(1)), lambda: np.add(p, p), lambda: bf.Poly(bf.Gf2([1]), bf.Rijndael8b),
-            lambda: bf.lagrange_poly(bf.Gf2([1]), bf.Rijndael8b([1])), lambda: bf.Gf2([1, 0]).__iadd__(p),
+            lambda: p + q, lambda: p * q, lambda: divmod(p, q), lambda: bf.gcd(p, q), lambda: bf.egcd(p, q), lambda: p + bf.Rijndael8b(1),
+            lambda: p % q, lambda: bf.Rijndael8b(1) * p, lambda: p * 2, lambda: 2 + p, lambda: p + "1", lambda: p * np.array([1, 0]),
+            lambda: bf.Gf2([1, 0]) * p, lambda: p**0.5, lambda: p / p, lambda: p(q), lambda: p(bf.Rijndael8b(1)), lambda: np.add(p, p),
+            lambda: bf.Poly(bf.Gf2([1]), bf.Rijndael8b), lambda: bf.lagrange_poly(bf.Gf2([1]), bf.Rijndael8b([1])), lambda: bf.Gf2([1, 0]).__iadd__(p),
         ):
             self.assertRaises(TypeError, mixed)
         for wrong in (

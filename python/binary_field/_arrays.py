@@ -11,6 +11,7 @@ import numpy as np
 
 from ._facts import Facts
 from ._library import Words, call, is_packed, packed
+from ._workers import set_workers
 
 A = TypeVar("A", bound="FieldArray")
 # What an operator takes beside arrays of its field.
@@ -121,10 +122,11 @@ class FieldArray(Facts):
             return self._called("multiply_by", values._broadcast(shape)._words, scalar._scalar(), out=out)
         return self._called(function, self._broadcast(shape)._words, other._broadcast(shape)._words, out=out)
 
-    def _each(self: A, function: str, *more: int, out: A | None = None) -> A:
+    def _each(self: A, function: str, *more: Any, out: A | None = None, workers: int | None = None) -> A:
         """A function of each element."""
         values = self if out is None else self._broadcast(self._shape_of(self, out=out))
-        return self._called(function, values._words, *more, out=out)
+        with set_workers(workers):
+            return self._called(function, values._words, *more, out=out)
 
     def _scalar(self) -> Any:
         """This element as the library takes a scalar."""
@@ -132,15 +134,15 @@ class FieldArray(Facts):
 
     # ---- arithmetic
 
-    def scaled(self: A, scalar: Any) -> A:
+    def scaled(self: A, scalar: Any, workers: int | None = None) -> A:
         """The product of each element and one.
 
         >>> bf.Rijndael8b([1, 0x80]).scaled(2)
         Rijndael8b([0x2, 0x1b])
         """
-        return self._called("multiply_by", self._words, self._operand(scalar)._scalar())
+        return self._each("multiply_by", self._operand(scalar)._scalar(), workers=workers)
 
-    def add_scaled(self: A, scalar: Any, values: A) -> None:
+    def add_scaled(self: A, scalar: Any, values: A, workers: int | None = None) -> None:
         """Adds to each element the scalar times the value at its place, in this array.
 
         >>> a = bf.Rijndael8b([1, 1])
@@ -153,7 +155,8 @@ class FieldArray(Facts):
             raise ValueError(f"the shapes {self.shape} and {values.shape} differ")
         sums = packed(self._words)
         added = values._words.copy() if np.may_share_memory(sums, values._words) else values._words
-        call(f"{self._name}_add_scaled", sums, self._operand(scalar)._scalar(), added)
+        with set_workers(workers):
+            call(f"{self._name}_add_scaled", sums, self._operand(scalar)._scalar(), added)
         if sums is not self._words:
             self._words[...] = sums
 
@@ -252,31 +255,31 @@ class FieldArray(Facts):
         products = self._product(other._of(columns.reshape(len(columns), math.prod(columns.shape[1:]))))
         return self._left_in(out, products.reshape(self.shape[:-1] + columns.shape[1:]))
 
-    def square(self: A, out: A | None = None) -> A:
+    def square(self: A, out: A | None = None, workers: int | None = None) -> A:
         """The square of each element.
 
         >>> bf.BinaryField8([2, 3]).square()
         BinaryField8([0x3, 0x2])
         """
-        return self._each("square", out=out)
+        return self._each("square", out=out, workers=workers)
 
-    def sqrt(self: A, out: A | None = None) -> A:
+    def sqrt(self: A, out: A | None = None, workers: int | None = None) -> A:
         """The one square root of each element.
 
         >>> bf.BinaryField8([2, 3]).sqrt()
         BinaryField8([0x3, 0x2])
         """
-        return self._each("square_root", out=out)
+        return self._each("square_root", out=out, workers=workers)
 
-    def inverse_or_zero(self: A, out: A | None = None) -> A:
+    def inverse_or_zero(self: A, out: A | None = None, workers: int | None = None) -> A:
         """The inverse of each element, and 0 for 0.
 
         >>> bf.Rijndael8b([0, 2]).inverse_or_zero()
         Rijndael8b([0x0, 0x8d])
         """
-        return self._each("batch_inverse" if self._is_batched else "inverse", out=out)
+        return self._each("batch_inverse" if self._is_batched else "inverse", out=out, workers=workers)
 
-    def reciprocal(self: A, out: A | None = None) -> A:
+    def reciprocal(self: A, out: A | None = None, workers: int | None = None) -> A:
         """The inverse of each element; ZeroDivisionError where one is 0.
 
         >>> bf.Rijndael8b([2]).reciprocal()
@@ -284,12 +287,12 @@ class FieldArray(Facts):
         """
         if not self._truths().all():
             raise ZeroDivisionError(f"0 of {type(self).__name__} has no inverse")
-        return self.inverse_or_zero(out)
+        return self.inverse_or_zero(out, workers)
 
     # ---- polynomials
 
     @classmethod
-    def evaluate(cls: type[A], coefficients: Any, points: Any) -> A:
+    def evaluate(cls: type[A], coefficients: Any, points: Any, workers: int | None = None) -> A:
         """The value at each point of the polynomial whose coefficients of 1, x, x**2 and so on are those of an array of one dimension.
         The transform's coefficients are others: `from_powers` makes them.
 
@@ -300,7 +303,8 @@ class FieldArray(Facts):
         if coefficients.ndim != 1:
             raise ValueError("coefficients must have one dimension")
         result = cls.zeros(points.shape)
-        call(f"{cls._name}_evaluate", coefficients._words, points._words, result._words)
+        with set_workers(workers):
+            call(f"{cls._name}_evaluate", coefficients._words, points._words, result._words)
         return result
 
     # ---- over axes

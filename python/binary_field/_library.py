@@ -13,6 +13,7 @@ from typing import Any
 import numpy as np
 
 from ._functions import FUNCTIONS, STATUSES, VERSION
+from ._workers import get_workers, in_pieces
 
 ARRAYS = ("in", "inout", "out")
 NARROW = {"u8": ctypes.c_uint8, "u16": ctypes.c_uint16, "u32": ctypes.c_uint32, "u64": ctypes.c_uint64}
@@ -21,6 +22,12 @@ NARROW = {"u8": ctypes.c_uint8, "u16": ctypes.c_uint16, "u32": ctypes.c_uint32, 
 Words = np.ndarray[Any, Any]
 WORDS: dict[str, np.dtype[Any]] = {it: np.dtype(f"<u{int(it[1:]) // 8}") for it in NARROW}
 WORDS |= {it: np.dtype([("words", "<u8", (int(it[1:]) // 64,))], align=True) for it in ("u128", "u192")}
+# The functions whose result at a place is made of what is at that place of the arrays, and of all of those that are taken whole.
+PLACE_BY_PLACE = {
+    "add", "add_scaled", "batch_inverse", "butterfly_forward", "butterfly_inverse", "evaluate", "inverse", "linear_map", "multiply",
+    "multiply_by", "power", "square", "square_root",
+}
+TAKEN_WHOLE = ("coefficients", "images")
 # What an empty array is passed as: the address of something.
 EMPTY = ctypes.create_string_buffer(32)
 
@@ -71,6 +78,25 @@ _CALLED = {
 }
 
 
+def _arrays_of(name: str) -> tuple[list[tuple[int, int]], list[int]]:
+    """Where a function that goes place by place has the addresses of arrays among what is passed: of those that are cut, each with the
+    bytes of an element, and of those that are taken whole. Nothing of another function."""
+    cut: list[tuple[int, int]] = []
+    whole: list[int] = []
+    own, at = name.partition("_")[2].removesuffix("_in_place"), 0
+    for kind, parameter, word in FUNCTIONS[name] if own in PLACE_BY_PLACE or own.startswith("to_") else []:
+        if kind == "in" and parameter in TAKEN_WHOLE:
+            whole.append(at)
+        elif kind in ARRAYS:
+            cut.append((at, WORDS[word].itemsize))
+        at += len(_types(kind, word))
+    return cut, whole
+
+
+# The functions that threads can share.
+_SHARED = {name: found for name in FUNCTIONS if (found := _arrays_of(name))[0]}
+
+
 def is_packed(words: Words) -> bool:
     """Whether the elements lie one after the other, each where the processor wants it."""
     return words.flags.c_contiguous and words.flags.aligned
@@ -112,7 +138,8 @@ def call(name: str, *arguments: Any) -> None:
         for _, other, stop, is_other in held[:at]:
             if start < stop and other < end and (is_written or is_other):
                 raise ValueError(f"{name}: an array that is written shares memory with another")
-    status = function(*given)
+    shared = _SHARED.get(name) if get_workers() > 1 else None
+    status = in_pieces(function, given, *shared) if shared else function(*given)
     if status:
         short, text = STATUSES[status]
         raise MemoryError(f"{name}: {text}") if short == "BF_MEMORY" else ValueError(f"{name}: {text}")

@@ -237,7 +237,8 @@ class Poly:
         """Whether the other one is a polynomial over the same field with the same coefficients, or a constant: an element, or 0 or 1."""
         if isinstance(other, Poly):
             return self.field is other.field and np.array_equal(self._low, other._low)
-        if isinstance(other, FieldArray) and (type(other) is not self.field or other.ndim) or not isinstance(other, (FieldArray, int, np.integer)):
+        is_element = isinstance(other, self.field) and not other.ndim
+        if not is_element and not isinstance(other, (int, np.integer)):
             return NotImplemented
         return not self.degree and bool(self._low[0] == other)
 

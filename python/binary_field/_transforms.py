@@ -5,6 +5,7 @@ s_j over the set bits j of k, for k from 0 on, are the basis that its coefficien
 coefficients of the powers of x, and `to_powers` goes back. Point p is the shift, and Cantor vector b for each set bit b of p.
 """
 
+import math
 from typing import Any
 
 import numpy as np
@@ -12,6 +13,7 @@ import numpy as np
 from ._arrays import A, FieldArray
 from ._fields import BinaryField16, BinaryField32, BinaryField64, BinaryField128, Ghash128
 from ._library import call, packed
+from ._workers import at_each, set_workers
 
 # The levels of the tower over which there is a transform.
 _LEVELS = (BinaryField16, BinaryField32, BinaryField64, BinaryField128)
@@ -25,36 +27,41 @@ def _vector(values: Any, field: type[A]) -> A:
     return result
 
 
-def _transformed(function: str, values: Any, shift: Any) -> Any:
-    """What a transform makes of an array, over its field where that is a level, and else over Ghash128."""
+def _transformed(function: str, values: Any, shift: Any, workers: int | None) -> Any:
+    """What a transform makes of an array along its last axis, over its field where that is a level, and else over Ghash128."""
     field: Any = type(values) if isinstance(values, _LEVELS) else Ghash128
-    result = _vector(values, field)
-    call(f"{field._name}_{function}", result._words, field._operand(shift)._scalar())
+    result, scalar = field._operand(values).copy(), field._operand(shift)._scalar()
+    if not result.ndim:
+        raise ValueError("expected an array of one dimension at least")
+    rows = result._words.reshape(math.prod(result.shape[:-1]), result.shape[-1])
+    with set_workers(workers):
+        at_each(lambda row: call(f"{field._name}_{function}", row, scalar), list(rows))
     return result
 
 
-def transform(coefficients: Any, shift: Any = 0) -> Any:
+def transform(coefficients: Any, shift: Any = 0, workers: int | None = None) -> Any:
     """The value at each of 2**m points of the polynomial with these 2**m coefficients, for an m from 0 to 40 that is at most the bits of
     the field: that of an array of BinaryField16 to BinaryField128, and else Ghash128. Coefficient k is that of the product of the s_j
     over the set bits j of k, where s_0(x) = x and s_(j+1)(x) = s_j(x)**2 + s_j(x); `from_powers` makes such coefficients of those of the
-    powers of x. `transform_points` has the points.
+    powers of x. `transform_points` has the points. An array of more dimensions is transformed along its last axis, by as many threads
+    as there are workers.
 
     >>> F = bf.Ghash128
     >>> c = F([1, 2, 3, 4])
     >>> bool((bf.transform(bf.from_powers(c)) == F.evaluate(c, bf.transform_points(4))).all())
     True
     """
-    return _transformed("transform", coefficients, shift)
+    return _transformed("transform", coefficients, shift, workers)
 
 
-def inverse_transform(values: Any, shift: Any = 0) -> Any:
+def inverse_transform(values: Any, shift: Any = 0, workers: int | None = None) -> Any:
     """The coefficients, as `transform` takes them, of the polynomial that has these values at the 2**m points. `to_powers` makes the
-    coefficients of the powers of x of them.
+    coefficients of the powers of x of them. An array of more dimensions goes as in `transform`.
 
     >>> bf.inverse_transform(bf.transform([1, 2, 3, 4]))
     Ghash128([0x1, 0x2, 0x3, 0x4])
     """
-    return _transformed("inverse_transform", values, shift)
+    return _transformed("inverse_transform", values, shift, workers)
 
 
 def transform_points(count: int, shift: Any = 0) -> Any:
@@ -75,7 +82,8 @@ def transform_points(count: int, shift: Any = 0) -> Any:
 
 
 def from_powers(coefficients: A) -> A:
-    """The coefficients that `transform` takes of the polynomial whose coefficients of 1, x, x**2 and so on are these, 2**m of any field.
+    """The coefficients that `transform` takes of the polynomial whose coefficients of 1, x, x**2 and so on are these, 2**m of any field,
+    along the last axis.
 
     >>> bf.from_powers(bf.Ghash128([0, 0, 1, 0]))
     Ghash128([0x0, 0x1, 0x1, 0x0])
@@ -84,7 +92,8 @@ def from_powers(coefficients: A) -> A:
 
 
 def to_powers(coefficients: A) -> A:
-    """The coefficients of 1, x, x**2 and so on of the polynomial that `transform` takes with these coefficients.
+    """The coefficients of 1, x, x**2 and so on of the polynomial that `transform` takes with these coefficients, along the last
+    axis.
 
     >>> bf.to_powers(bf.Ghash128([0, 1, 1, 0]))
     Ghash128([0x0, 0x0, 0x1, 0x0])
@@ -96,12 +105,13 @@ def _changed(coefficients: A, way: int) -> A:
     """Of each block of 2**(j + 1) coefficients, longest blocks first, the quotient by s_j goes to the upper half and the rest to the lower
     one. A step subtracts the multiples of s_j, which is the sum of x**(2**i) over the i whose bits are among those of j, by half of the
     quotient, the upper half first. The same steps from the last to the first multiply."""
-    if not isinstance(coefficients, FieldArray) or coefficients.ndim != 1 or not coefficients.size or coefficients.size & coefficients.size - 1:
-        raise ValueError("expected elements in one dimension, as many as a power of two")
+    length = coefficients.shape[-1] if isinstance(coefficients, FieldArray) and coefficients.ndim else 0
+    if not length or length & length - 1:
+        raise ValueError("expected elements, along the last axis as many as a power of two")
     result = coefficients.copy()
-    levels = range(coefficients.size.bit_length() - 2, 0, -1)
+    levels = range(length.bit_length() - 2, 0, -1)
     for j, start in [(j, start) for j in levels for start in (3 << j - 1, 1 << j)][::way]:
-        blocks, half = result.reshape(-1, 2 << j), 1 << j - 1
+        blocks, half = result.reshape(result.size >> j + 1, 2 << j), 1 << j - 1
         for i in range(j):
             if i & j == i:
                 low = start - (1 << j) + (1 << i)
@@ -158,7 +168,7 @@ def low_stages(values: Any, shifts: Any, basis: Any, first_run: int = 0) -> Ghas
     return result
 
 
-def linear_map(values: Any, images: A) -> A:
+def linear_map(values: Any, images: A, workers: int | None = None) -> A:
     """For each value the sum of the images at its set bits: 8 images of Rijndael8b, or 128 of Ghash128.
 
     >>> bf.linear_map([5], bf.Rijndael8b([1, 2, 3, 4, 5, 6, 7, 8]))
@@ -168,5 +178,6 @@ def linear_map(values: Any, images: A) -> A:
         raise TypeError("images must be an array of Rijndael8b or Ghash128")
     values = images._operand(values)
     result = images.zeros(values.shape)
-    call(f"{images._name}_linear_map", values._words, images._words, result._words)
+    with set_workers(workers):
+        call(f"{images._name}_linear_map", values._words, images._words, result._words)
     return result
