@@ -25,13 +25,7 @@ pub lanes_before_turn : (level word_level each : ℕ) (a c word : ℕ → ℕ) �
     → IsLaidOut (2 ^ word_level) each (2 ^ level) c word → IsTurned level a c → ((l : ℕ) → a l < 2 ^ 2 ^ level)
     → AreInLanes (2 ^ word_level) each a word
 lanes_before_turn level word_level each a c word same laid turned fits =
-    subst (λ (v : ℕ). AreInLanes (2 ^ v) each a word) same
-    (at_one (subst (λ (v : ℕ). IsLaidOut (2 ^ v) each (2 ^ level) c word) (sym same) laid))
-  where
-    at_one : IsLaidOut (2 ^ level) each (2 ^ level) c word → AreInLanes (2 ^ level) each a word
-    at_one laid q r q_fits r_fits =
-        same_from_bits_below (2 ^ level) (a (q * 2 ^ level + r)) (word (r * each + q)) (fits (q * 2 ^ level + r)) (laid.fit r q r_fits q_fits)
-        (λ i less. sym (turned r q i r_fits less) ∙ laid.bits r q i r_fits q_fits less)
+    turned_in_lanes level word_level each c a word same laid (λ i q r i_fits r_fits. sym (turned r q i r_fits i_fits)) fits
 
 -- the words of a block
 pub words_of_block : (w bits units count : ℕ) → bits * count ≡ 128 → bits ≡ w → w * (units * count) ≡ 128 * units

@@ -14,9 +14,9 @@ use Rattle.field_base.proofs.TowerProducts.{tower_mul-karatsuba, tower_mul-squar
 use Rattle.field_base.proofs.TowerRing.{tower_ring, halves-lt}
 
 -- the pair of two sums
-pub sum_of_pairs : (k a0 a1 b0 b1 : ℕ) → a0 < 2 ^ 2 ^ k → b0 < 2 ^ 2 ^ k
+pub sum_of_pairs : (k : ℕ) {a0 b0 : ℕ} (a1 b1 : ℕ) → a0 < 2 ^ 2 ^ k → b0 < 2 ^ 2 ^ k
     → pair (2 ^ k) (bit_xor a0 b0) (bit_xor a1 b1) ≡ bit_xor (pair (2 ^ k) a0 a1) (pair (2 ^ k) b0 b1)
-sum_of_pairs k a0 a1 b0 b1 a_fits b_fits = sym (xor_block (2 ^ k) a1 b1 a0 b0 a_fits b_fits)
+sum_of_pairs k {a0} {b0} a1 b1 a_fits b_fits = sym (xor_block (2 ^ k) a1 b1 a0 b0 a_fits b_fits)
 
 -- what three products give
 abbrev karatsuba : ℕ → ℕ → ℕ → ℕ → ℕ → ℕ
@@ -27,13 +27,13 @@ karatsuba k x0 x1 y0 y1 =
     (tower_mul k (root k) (tower_mul k x1 y1)))
 
 -- the product of two pairs: the low half serves the high half, too
-pub product_of_pairs : (k a0 a1 b0 b1 : ℕ) → a0 < 2 ^ 2 ^ k → a1 < 2 ^ 2 ^ k → b0 < 2 ^ 2 ^ k → b1 < 2 ^ 2 ^ k
+pub product_of_pairs : (k : ℕ) {a0 a1 b0 b1 : ℕ} → a0 < 2 ^ 2 ^ k → a1 < 2 ^ 2 ^ k → b0 < 2 ^ 2 ^ k → b1 < 2 ^ 2 ^ k
     → tower_mul (suc k) (pair (2 ^ k) a0 a1) (pair (2 ^ k) b0 b1)
     ≡ pair (2 ^ k) (bit_xor (tower_mul k a0 b0) (tower_mul k a1 b1))
     (bit_xor
     (bit_xor (tower_mul k (bit_xor a0 a1) (bit_xor b0 b1)) (bit_xor (tower_mul k a0 b0) (tower_mul k a1 b1)))
     (tower_mul k (root k) (tower_mul k a1 b1)))
-product_of_pairs k a0 a1 b0 b1 a0_fits a1_fits b0_fits b1_fits =
+product_of_pairs k {a0} {a1} {b0} {b1} a0_fits a1_fits b0_fits b1_fits =
     let a = pair (2 ^ k) a0 a1 in
     let b = pair (2 ^ k) b0 b1 in
     tower_mul-karatsuba k a b
@@ -53,20 +53,20 @@ root_of_pair k a0 a1 a0_fits a1_fits =
     (low_half-pair (2 ^ k) a0 a1 a0_fits) (high_half-pair (2 ^ k) a0 a1 a0_fits a1_fits)
 
 -- what is added by the root
-pub added_by_root : (k s0 s1 a0 a1 : ℕ) → s0 < 2 ^ 2 ^ k → a0 < 2 ^ 2 ^ k → a1 < 2 ^ 2 ^ k
+pub added_by_root : (k : ℕ) {s0 a0 a1 : ℕ} (s1 : ℕ) → s0 < 2 ^ 2 ^ k → a0 < 2 ^ 2 ^ k → a1 < 2 ^ 2 ^ k
     → pair (2 ^ k) (bit_xor s0 a1) (bit_xor (bit_xor s1 a0) (tower_mul k (root k) a1))
     ≡ bit_xor (pair (2 ^ k) s0 s1) (tower_mul (suc k) (root (suc k)) (pair (2 ^ k) a0 a1))
-added_by_root k s0 s1 a0 a1 s0_fits a0_fits a1_fits =
+added_by_root k {s0} {a0} {a1} s1 s0_fits a0_fits a1_fits =
     ap (pair (2 ^ k) (bit_xor s0 a1)) (xor_assoc s1 a0 (tower_mul k (root k) a1))
-    ∙ sum_of_pairs k s0 s1 a1 (bit_xor a0 (tower_mul k (root k) a1)) s0_fits a1_fits
+    ∙ sum_of_pairs k s1 (bit_xor a0 (tower_mul k (root k) a1)) s0_fits a1_fits
     ∙ ap (bit_xor (pair (2 ^ k) s0 s1)) (sym (root_of_pair k a0 a1 a0_fits a1_fits))
 
 -- the square of a pair
-pub square_of_pair : (k a0 a1 : ℕ) → a0 < 2 ^ 2 ^ k → a1 < 2 ^ 2 ^ k
+pub square_of_pair : (k : ℕ) {a0 a1 : ℕ} → a0 < 2 ^ 2 ^ k → a1 < 2 ^ 2 ^ k
     → tower_mul (suc k) (pair (2 ^ k) a0 a1) (pair (2 ^ k) a0 a1)
     ≡ pair (2 ^ k) (bit_xor (tower_mul k a0 a0) (tower_mul k a1 a1))
     (bit_xor (tower_mul k a1 a1) (bit_xor (tower_mul k a1 a1) (tower_mul k (root k) (tower_mul k a1 a1))))
-square_of_pair k a0 a1 a0_fits a1_fits =
+square_of_pair k {a0} {a1} a0_fits a1_fits =
     tower_mul-square k (pair (2 ^ k) a0 a1)
     ∙ ap₂ (λ (x y : ℕ). pair (2 ^ k) (bit_xor (tower_mul k x x) (tower_mul k y y)) (tower_mul k (root k) (tower_mul k y y)))
     (low_half-pair (2 ^ k) a0 a1 a0_fits) (high_half-pair (2 ^ k) a0 a1 a0_fits a1_fits)
@@ -122,18 +122,18 @@ twice_added : (a b : ℕ) → bit_xor (bit_xor a b) b ≡ a
 twice_added a b = xor_assoc a b b ∙ ap (bit_xor a) (xor_self b) ∙ xor_zero_r a
 
 -- X ((a1 + t a0) + a0 X) = a0 + a1 X
-pub quotient_by_root : (k a0 a1 : ℕ) → a0 < 2 ^ 2 ^ k → a1 < 2 ^ 2 ^ k
+pub quotient_by_root : (k : ℕ) {a0 a1 : ℕ} → a0 < 2 ^ 2 ^ k → a1 < 2 ^ 2 ^ k
     → tower_mul (suc k) (root (suc k)) (pair (2 ^ k) (bit_xor a1 (tower_mul k (root k) a0)) a0) ≡ pair (2 ^ k) a0 a1
-quotient_by_root k a0 a1 a0_fits a1_fits =
+quotient_by_root k {a0} {a1} a0_fits a1_fits =
     let r = tower_mul k (root k) a0 in
     root_of_pair k (bit_xor a1 r) a0 (xor_lt (2 ^ k) a1 r a1_fits ((tower_ring k).below (root k) a0)) a0_fits
     ∙ ap (pair (2 ^ k) a0) (twice_added a1 r)
 
 -- a0 + a1 X is the square of r0 + r1 X where r1² is the quotient q of a1 by t, and r0² is a0 + q
-pub sqrt_of_pair : (k a0 a1 q r0 r1 : ℕ) → r0 < 2 ^ 2 ^ k → r1 < 2 ^ 2 ^ k → tower_mul k (root k) q ≡ a1
+pub sqrt_of_pair : (k : ℕ) {r0 r1 : ℕ} (a0 a1 q : ℕ) → r0 < 2 ^ 2 ^ k → r1 < 2 ^ 2 ^ k → tower_mul k (root k) q ≡ a1
     → tower_mul k r0 r0 ≡ bit_xor a0 q → tower_mul k r1 r1 ≡ q
     → tower_mul (suc k) (pair (2 ^ k) r0 r1) (pair (2 ^ k) r0 r1) ≡ pair (2 ^ k) a0 a1
-sqrt_of_pair k a0 a1 q r0 r1 r0_fits r1_fits quotient low_square high_square =
+sqrt_of_pair k {r0} {r1} a0 a1 q r0_fits r1_fits quotient low_square high_square =
     tower_mul-square k (pair (2 ^ k) r0 r1)
     ∙ ap₂ (λ (x y : ℕ). pair (2 ^ k) (bit_xor (tower_mul k x x) (tower_mul k y y)) (tower_mul k (root k) (tower_mul k y y)))
     (low_half-pair (2 ^ k) r0 r1 r0_fits) (high_half-pair (2 ^ k) r0 r1 r0_fits r1_fits)

@@ -3,10 +3,8 @@ use Rattle.bit_slices.proofs.pair.PairSliced.add.Goals as goal
 
 pub returns : goal.returns
 returns g c l =
-    let k = g.T.Sliced.LEVEL in
-    let lane = g.T.Sliced.lane in
     let fits = g.met.T.Sliced.fits_law in
+    let sum = c.args.self.now in
     let x = c.args.x.now in
-    let s = c.args.self.now in
-    let sums = sum_of_pairs k (lane s.low l) (lane s.high l) (lane x.low l) (lane x.high l) (fits s.low l) (fits x.low l) in
+    let sums = sum_of_pairs g.T.Sliced.LEVEL (g.T.Sliced.lane sum.high l) (g.T.Sliced.lane x.high l) (fits sum.low l) (fits x.low l) in
     cc (sums, c.add.ensures l, c.add-2.ensures l)

@@ -3,16 +3,11 @@ use Rattle.bit_slices.proofs.pair.PairSliced.set_product.Goals as goal
 
 pub returns : goal.returns
 returns g c l =
-    let k = g.T.Sliced.LEVEL in
-    let lane = g.T.Sliced.lane in
     let fits = g.met.T.Sliced.fits_law in
     let x = c.args.x.now in
     let y = c.args.y.now in
-    let products =
-    product_of_pairs k (lane x.low l) (lane x.high l) (lane y.low l) (lane y.high l) (fits x.low l) (fits x.high l) (fits y.low l)
-    (fits y.high l) in
     cc (
-      products,
+      product_of_pairs g.T.Sliced.LEVEL (fits x.low l) (fits x.high l) (fits y.low l) (fits y.high l),
       c.set_sum.ensures l,
       c.set_sum-2.ensures l,
       c.set_product.ensures l,
