@@ -45,6 +45,10 @@ generator      slices::generator          NamesGenerator
 CALLS = {row[0]: row[1:3] for row in CALL_ROWS}
 OPERATIONS = {row[0]: row[3] for row in CALL_ROWS if len(row) > 3}
 
+# The calls by one scalar, which the levels of the tower of 16 to 128 bits make in planes, and the planes of these levels.
+IN_PLANES = ("multiply_by", "multiply_by_in_place", "add_scaled")
+PLANES = {"t16": "Planes16", "t32": "Planes32", "t64": "Planes64", "t128": "Planes128"}
+
 # What a field does by functions of its own.
 OWN_CALLS = {
     "g128": {it: it for it in ("multiply", "multiply_in_place", "multiply_by", "multiply_by_in_place", "add_scaled", "dot_product")},
@@ -222,6 +226,8 @@ def field_function(field, name, parameters, text):
     inside = [OPERANDS[operation]] if operation in OPERANDS else []
     if own:
         called, more = of_width(own, NARROW), []
+    elif name in IN_PLANES and field.name in PLANES:
+        called, more = called_over(field, f"in_planes::{name}", f", _, {PLANES[field.name]}"), []
     elif operation:
         called, more = called_over(field, call, ", _"), [f"&{operation} {{ {inside[0]} }}" if inside else f"&{operation}"]
     else:
@@ -286,7 +292,7 @@ def in_order(name):
 def used(bodies):
     """The line that brings in what bodies and signatures name without a path."""
     operations = sorted({it for it in OPERATIONS.values() if re.search(rf"&{it}\b", bodies)})
-    names = set(re.findall(r"[&\[]&?(Wide|Cubic)\b|<\w+, \w+, (\w+)(?:<(\w+)>)?(?:, _)?>|\b(slices)::|\b(in_place)::|\b(batch_invert)\b", bodies))
+    names = set(re.findall(r"[&\[]&?(Wide|Cubic)\b|<\w+, \w+, (\w+)(?:<(\w+)>)?(?:, _)?(?:, (\w+))?>|\b(slices)::|\b(in_place)::|\b(in_planes)::|\b(batch_invert)\b", bodies))
     words = [*WORDS.values(), *STORED.values()]
     named = {it for group in names for it in group if it} | {it for it in words if re.search(rf"\b{it}\b", bodies)}
     lines = [f"use c_arithmetic::operations::{{{', '.join(operations)}}};"] if operations else []

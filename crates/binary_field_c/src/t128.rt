@@ -5,7 +5,7 @@ ghost use Rattle.c_arithmetic.specs.Calls.{Squares, TakesDotProduct, TakesProduc
 ghost use Rattle.c_arithmetic.specs.Fields.{wide_level_field};
 
 use c_arithmetic::operations::{Inverse, Power, Product, Square, SquareRoot, Sum};
-use c_arithmetic::{Bits128, Tower, Wide, batch_invert, in_place, slices};
+use c_arithmetic::{Bits128, Planes128, Tower, Wide, batch_invert, in_place, in_planes, slices};
 
 /// The sum of the elements at each place.
 #[unsafe(no_mangle)]
@@ -28,7 +28,7 @@ pub extern "C" fn bf_t128_multiply(left: &[Wide], right: &[Wide], products: &mut
 pub extern "C" fn bf_t128_multiply_by(values: &[Wide], scalar: &Wide, products: &mut [Wide]) -> u32
     ensures { MultipliesBy wide_level_field scalar.now values.now products.old products.new result }
 {
-    slices::multiply_by::<u128, Wide, Tower<Bits128>>(values, *scalar, products)
+    in_planes::multiply_by::<u128, Wide, Tower<Bits128>, _, Planes128>(values, *scalar, products)
 }
 
 /// Adds to each element of sums the scalar times the value at its place.
@@ -36,7 +36,7 @@ pub extern "C" fn bf_t128_multiply_by(values: &[Wide], scalar: &Wide, products: 
 pub extern "C" fn bf_t128_add_scaled(sums: &mut [Wide], scalar: &Wide, values: &[Wide]) -> u32
     ensures { AddsScaled wide_level_field scalar.now values.now sums.old sums.new result }
 {
-    in_place::add_scaled::<u128, Wide, Tower<Bits128>>(sums, *scalar, values)
+    in_planes::add_scaled::<u128, Wide, Tower<Bits128>, _, Planes128>(sums, *scalar, values)
 }
 
 /// The square of each element.
@@ -128,7 +128,7 @@ pub extern "C" fn bf_t128_multiply_in_place(products: &mut [Wide], values: &[Wid
 pub extern "C" fn bf_t128_multiply_by_in_place(values: &mut [Wide], scalar: &Wide) -> u32
     ensures { MultipliesBy wide_level_field scalar.now values.old values.old values.new result }
 {
-    in_place::multiply_by::<u128, Wide, Tower<Bits128>>(values, *scalar)
+    in_planes::multiply_by_in_place::<u128, Wide, Tower<Bits128>, _, Planes128>(values, *scalar)
 }
 
 /// Squares each element.

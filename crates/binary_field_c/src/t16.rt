@@ -5,7 +5,7 @@ ghost use Rattle.c_arithmetic.specs.Calls.{Squares, TakesDotProduct, TakesProduc
 ghost use Rattle.c_arithmetic.specs.Fields.{level_field};
 
 use c_arithmetic::operations::{Inverse, Power, Product, Square, SquareRoot, Sum};
-use c_arithmetic::{Bits16, Tower, batch_invert, in_place, slices};
+use c_arithmetic::{Bits16, Planes16, Tower, batch_invert, in_place, in_planes, slices};
 
 /// The sum of the elements at each place.
 #[unsafe(no_mangle)]
@@ -28,7 +28,7 @@ pub extern "C" fn bf_t16_multiply(left: &[u16], right: &[u16], products: &mut [u
 pub extern "C" fn bf_t16_multiply_by(values: &[u16], scalar: u16, products: &mut [u16]) -> u32
     ensures { MultipliesBy (level_field 4) scalar values.now products.old products.new result }
 {
-    slices::multiply_by::<u16, u16, Tower<Bits16>>(values, scalar, products)
+    in_planes::multiply_by::<u16, u16, Tower<Bits16>, _, Planes16>(values, scalar, products)
 }
 
 /// Adds to each element of sums the scalar times the value at its place.
@@ -36,7 +36,7 @@ pub extern "C" fn bf_t16_multiply_by(values: &[u16], scalar: u16, products: &mut
 pub extern "C" fn bf_t16_add_scaled(sums: &mut [u16], scalar: u16, values: &[u16]) -> u32
     ensures { AddsScaled (level_field 4) scalar values.now sums.old sums.new result }
 {
-    in_place::add_scaled::<u16, u16, Tower<Bits16>>(sums, scalar, values)
+    in_planes::add_scaled::<u16, u16, Tower<Bits16>, _, Planes16>(sums, scalar, values)
 }
 
 /// The square of each element.
@@ -124,7 +124,7 @@ pub extern "C" fn bf_t16_multiply_in_place(products: &mut [u16], values: &[u16])
 pub extern "C" fn bf_t16_multiply_by_in_place(values: &mut [u16], scalar: u16) -> u32
     ensures { MultipliesBy (level_field 4) scalar values.old values.old values.new result }
 {
-    in_place::multiply_by::<u16, u16, Tower<Bits16>>(values, scalar)
+    in_planes::multiply_by_in_place::<u16, u16, Tower<Bits16>, _, Planes16>(values, scalar)
 }
 
 /// Squares each element.

@@ -8,7 +8,17 @@ ghost use Rattle.c_arithmetic.specs.Places.{FirstHold, IsInPlanes};
 use crate::slices::are_elements;
 use crate::{fields, status};
 use field_base::{FieldKernel, Unsigned};
-use tower_transforms::{PlaneScalars, WordBytes, WordPlanes, add_multiples, multiply_words};
+use std::simd::prelude::*;
+use tower_transforms::{Pair, PlaneScalars, WordBytes, WordPlanes, add_multiples, multiply_words};
+
+/// The planes of words of 16 bits, thirty-two at once, and of wider words.
+pub type Planes16 = Pair<u8x32>;
+
+pub type Planes32 = Pair<Planes16>;
+
+pub type Planes64 = Pair<Planes32>;
+
+pub type Planes128 = Pair<Planes64>;
 
 /// The least number of words that are multiplied in planes.
 const LEAST_IN_PLANES: usize = 32;

@@ -25,6 +25,7 @@ mod words;
 
 pub use crate::batch::batch_invert;
 pub use crate::bytes::multiply_bytes;
+pub use crate::in_planes::{Planes16, Planes32, Planes64, Planes128};
 pub use crate::kernels::Basis;
 pub use crate::linear::{map_bytes, map_wide};
 pub use crate::messages::{
@@ -42,7 +43,7 @@ pub use crate::transforms::{
 };
 pub use crate::wide::Wide;
 pub use crate::words::Cubic;
-pub use tower_transforms::{ByteMultiples, HalfMultiples, Holds, Pair};
+pub use tower_transforms::Holds;
 pub use word_cubic::Triple;
 pub use word_polynomial::{CubicKernel, GhashKernel, Poly64Kernel, RijndaelKernel};
 pub use word_tower::{Bits1, Bits2, Bits4, Bits8, Bits16, Bits32, Bits64, Bits128, Tower};
