@@ -1,5 +1,6 @@
 mod Binding
 mod CapPaths
+mod CodeColumns
 mod OpeningTurns
 mod PathChecks
 mod Paths

@@ -28,6 +28,6 @@ pub record IsTreeOf {A : Type 0} (hash : List ℕ → List ℕ) (words : List �
   pub leaves : length words ≡ 2 ^ tree.depth
   pub over : IsTreeOver hash (λ i. to_le_bytes w64 (slice_index words i)) tree
 
--- row i of rows of `size` bytes each, one after the other
-abbrev pub row_at : ℕ → List ℕ → ℕ → List ℕ
+-- row i of rows of `size` bytes, or symbols, each, one after the other
+abbrev pub row_at : {X : Type 0} → ℕ → List X → ℕ → List X
 row_at size rows i = take size (drop (i * size) rows)

@@ -1,8 +1,10 @@
 pub mod CodeWords
 pub mod Commitments
 pub mod Filling
+pub mod Interleaved
 pub mod MerkleTrees
 pub mod Products
+pub mod Queries
 pub mod Runs
 pub mod Sumcheck
 pub mod SumcheckClaims

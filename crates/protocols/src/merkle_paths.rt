@@ -102,8 +102,8 @@ pub(crate) fn power_of_two(levels: usize) -> usize
     1 << levels
 }
 
-// Row `index` of rows of `size` bytes each.
-pub(crate) fn row_of(rows: &[u8], size: usize, index: usize) -> &[u8]
+// Row `index` of rows of so many bytes, or symbols, each.
+pub(crate) fn row_of<T>(rows: &[T], size: usize, index: usize) -> &[T]
     requires { (index + 1) * size ≤ length rows.now }
     ensures { result.now ≡ row_at size rows.now index }
 {

@@ -1,0 +1,9 @@
+use Rattle.std.proofs.Common.{◌≡◌, ℕ, length}
+use Rattle.transcript_elements.specs.Lists.{InTurn}
+use Rattle.protocols.proofs.queries.places_of.Given as goal
+
+-- as many places as the counter says were sampled
+abbrev pub invariant-places : goal.invariant-places
+invariant-places g l =
+    (length l.places.items ≡ l.counter)
+    × InTurn (λ old (place : ℕ) new. g.C.CanSampleBits.gives_bits old l.depth place new) l.places.items l.initial.challenger l.challenger
