@@ -302,9 +302,9 @@ class Workers(unittest.TestCase):
 
     def test_pieces(self):
         pieces = []
-        for field, length, workers in itertools.product(FIELDS.values(), (0, 1, 7, 8, 9, 50), (2, 3, 16)):
+        for field, length, workers in itertools.product(FIELDS.values(), (0, 1, 7, 8, 9, 50, 128), (2, 3, 16)):
             a, b, s = field.random(length, seed=25), field.random(length, seed=26), field.random(seed=27)
-            c = field.random(5, seed=28)
+            c = field.random(length, seed=28)
             bulk = [
                 lambda **more: a.square(**more), lambda **more: a.sqrt(**more), lambda **more: a.inverse_or_zero(**more),
                 lambda **more: a.scaled(s, **more), lambda **more: field.evaluate(c, a, **more), lambda **more: a[a != 0].reciprocal(**more),
@@ -345,12 +345,12 @@ class Workers(unittest.TestCase):
         self.assertEqual(bf.get_workers(), 1)
 
     def test_what_is_refused(self):
-        words = np.arange(40, dtype=np.uint8)
+        words = np.arange(48, dtype=np.uint8)
         with mock.patch.object(bf._workers, "_PIECE", 1), bf.set_workers(4):
-            for arrays in ((words[:16], words[16:32], words[12:28]), (words[:16], words[16:31], words[24:40])):
+            for arrays in ((words[:16], words[16:32], words[12:28]), (words[:16], words[16:31], words[32:])):
                 self.assertRaises(ValueError, bf._library.call, "t8_add", *arrays)
             self.assertRaises(ValueError, bf._library.call, "t4_add", *[np.full(16, 255, np.uint8) for _ in range(3)])
-        self.assertEqual(words.tolist(), list(range(40)))
+        self.assertEqual(words.tolist(), list(range(48)))
 
     def test_after_a_fork(self):
         a = bf.Ghash128.random(1 << 15, seed=30)

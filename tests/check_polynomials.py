@@ -8,6 +8,7 @@ import itertools
 import math
 import random
 import unittest
+from unittest import mock
 
 import definitions
 import numpy as np
@@ -104,6 +105,21 @@ class Polynomials(unittest.TestCase):
             self.assertTrue(not rest or rest.degree < q.degree)
             self.assertEqual(plain_sum(plain_product(defined, low_of(quotient), other), low_of(rest)), low)
             self.assertEqual((p * q // q, p * q % q, pow(p, 5, q), field(scalar) // q), (p, 0, p**5 % q, bf.Poly(field([scalar])) // q))
+
+    def test_products_by_transforms(self):
+        draw = random.Random(67)
+        for field, least, lengths in itertools.product(FIELDS.values(), (1, 3), ((1, 1), (1, 4), (5, 4), (9, 8), (3, 2))):
+            low = [[draw.randrange(field.order) for _ in range(it)] for it in lengths]
+            by_transforms = mock.Mock(side_effect=bf._numpy.product_by_transforms)
+            with mock.patch.multiple(bf._numpy, _BY_TRANSFORMS=least, product_by_transforms=by_transforms):
+                found = np.convolve(field(low[0]), field(low[1]))
+            self.assertEqual(by_transforms.called, field is not bf.Poly192 and min(lengths) >= least)
+            self.assertEqual((type(found), found.size, trimmed(found.tolist())), (field, sum(lengths) - 1, plain_product(defined_of(field), *low)))
+        for field, lengths in [(it, (256, 300)) for it in FIELDS.values()] + [(bf.Rijndael8b, (66000, 257)), (bf.BinaryField16, (256, 65281))]:
+            a, b = (field.random(it, seed=it) for it in lengths)
+            found, short = np.convolve(a, b), np.convolve(a, b, "valid")
+            with mock.patch.object(bf._numpy, "_BY_TRANSFORMS", sum(lengths)):
+                self.assertTrue(np.array_equal(np.convolve(a, b), found) and np.array_equal(np.convolve(a, b, "valid"), short))
 
     def test_divisors(self):
         for field, _, (p, _), (q, _) in every_pair():

@@ -11,8 +11,12 @@ from typing import Any, Callable, Sequence
 import numpy as np
 
 from ._arrays import FUNCTIONS, UFUNCS, FieldArray
+from ._transforms import field_of_product, product_by_transforms
 
 Function = Callable[..., Any]
+
+# Where both operands of a convolution have so many elements, transforms take no longer than products of all pairs.
+_BY_TRANSFORMS = 256
 
 
 def _field_of(*values: Any) -> type[FieldArray]:
@@ -212,6 +216,18 @@ def _where(condition: Any, *both: Any) -> Any:
     return field._of(np.where(condition, left, right))
 
 
+def _whole_product(long: Any, short: Any) -> Any:
+    """All coefficients of the product of two polynomials, of which the second has no more than the first."""
+    count = long.size + short.size - 1
+    larger = field_of_product(type(long), count) if short.size >= _BY_TRANSFORMS else None
+    if larger:
+        return product_by_transforms(long, short, larger)
+    result = long.zeros(count)
+    for at in range(short.size):
+        result[at : at + long.size].add_scaled(short[at], long)
+    return result
+
+
 def _convolve(a: Any, v: Any, mode: str = "full") -> FieldArray:
     """The coefficients of the product of two polynomials; by `mode` those in the middle alone, as numpy has it."""
     field = _field_of(a, v)
@@ -221,9 +237,7 @@ def _convolve(a: Any, v: Any, mode: str = "full") -> FieldArray:
     long, short = long.ravel(), short.ravel()
     if not short.size:
         raise ValueError("a convolution with an empty array is not defined")
-    result = field.zeros(long.size + short.size - 1)
-    for at in range(short.size):
-        result[at : at + long.size].add_scaled(short[at], long)
+    result: FieldArray = _whole_product(long, short)
     whole, middle = (0, result.size), (short.size - 1, long.size - short.size + 1)
     first, length = {"full": whole, "same": ((short.size - 1) // 2, long.size), "valid": middle}[mode]
     return result[first : first + length]

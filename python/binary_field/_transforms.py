@@ -119,6 +119,27 @@ def _changed(coefficients: A, way: int) -> A:
     return result
 
 
+def field_of_product(field: type[FieldArray], count: int) -> Any:
+    """A field that contains this one or is isomorphic to it, with a transform of `count` values; None where there is none."""
+    if field is Ghash128:
+        return field
+    fit = (it for it in _LEVELS if it.degree % field.degree == 0 and it.order >= count)
+    return next(fit, None)
+
+
+def product_by_transforms(left: A, right: A, field: Any) -> A:
+    """The coefficients of the product of two polynomials, each by those of 1, x, x**2 and so on, by their values in a field as
+    `field_of_product` names it."""
+    count = left.size + right.size - 1
+    values = []
+    for it in (left, right):
+        coefficients = field.zeros(1 << (count - 1).bit_length())
+        coefficients[: it.size] = it.to(field)
+        values.append(transform(from_powers(coefficients)))
+    values[0] *= values[1]
+    return to_powers(inverse_transform(values[0]))[:count]._restricted(type(left))  # type: ignore[no-any-return]
+
+
 def butterfly_forward(low: Ghash128, high: Ghash128, scalar: Any) -> None:
     """low += scalar * high, and then high += low, in both arrays.
 
