@@ -3,8 +3,8 @@
 //!
 //! A list of 2^m values, m from 0 to 40, is a polynomial by its coefficients in the basis of the products of the s_j, where
 //! s_0(x) = x and s_(j + 1)(x) = s_j(x)^2 + s_j(x): coefficient k belongs to the product of the s_j over the set bits j of k.
-//! Point p is a shift z, and Cantor vector b for each set bit b of p. `forward` leaves at place p the value at point p, and
-//! `inverse` takes those values back to the coefficients (S. Gao and T. Mateer, Additive fast Fourier transforms over finite
+//! Point p is a shift z, and Cantor vector b for each set bit b of p. `forward_with` leaves at place p the value at point p, and
+//! `inverse_with` takes those values back to the coefficients (S. Gao and T. Mateer, Additive fast Fourier transforms over finite
 //! fields, IEEE Transactions on Information Theory 56, 2010; S.-J. Lin, W.-H. Chung and Y. S. Han, Novel polynomial basis and
 //! its application to Reed-Solomon erasure codes, 2014).
 #![tactic(auto)]
@@ -29,7 +29,4 @@ pub use crate::pairs::{PairByPair, PairKernel, low_stages};
 pub use crate::points::point;
 pub use crate::prepared::Transform;
 pub use crate::stages::{half_of, start_of};
-pub use crate::whole::{
-    forward, forward_numbers, forward_with, forward_words, inverse, inverse_numbers, inverse_with,
-    inverse_words, stages_of,
-};
+pub use crate::whole::{forward_with, forward_words, inverse_with, inverse_words, stages_of};

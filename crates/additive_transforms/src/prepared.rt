@@ -11,7 +11,7 @@ use ghash_slices::{LOW_STAGES, LowStageTwiddles, numbers_are_values};
 use std::alloc::{AllocError, Allocator};
 
 /// The transforms of 2^m values from one shift on, for one m from 0 to 40: the twiddles are made once, so that a call takes no
-/// memory, and does not fail. `forward` and `inverse` make them in each call, which counts where there are few values.
+/// memory, and does not fail. `forward_with` and `inverse_with` make them in each call, which counts where there are few values.
 #[derive(Drop)]
 pub struct Transform<A: Allocator> {
     stages: usize,
@@ -45,7 +45,7 @@ impl<A: Allocator> Transform<A> {
         })
     }
 
-    /// Leaves at each place the value at its point of the polynomial with the coefficients `values`, as `forward` does. There have to be 2
+    /// Leaves at each place the value at its point of the polynomial with the coefficients `values`, as `forward_with` does. There have to be 2
     /// to the power of the stages values.
     pub fn forward(&self, values: &mut [u128])
         requires { length values.old ≡ 2 ^ self.now.stages }
@@ -57,7 +57,7 @@ impl<A: Allocator> Transform<A> {
         self.forward_with(&mut kernel, values);
     }
 
-    /// Replaces the values at the points by the coefficients of their polynomial, as `inverse` does. There have to be 2 to the power of the
+    /// Replaces the values at the points by the coefficients of their polynomial, as `inverse_with` does. There have to be 2 to the power of the
     /// stages values.
     pub fn inverse(&self, values: &mut [u128])
         requires { length values.old ≡ 2 ^ self.now.stages }
@@ -76,7 +76,7 @@ impl<A: Allocator> Transform<A> {
         PolyKernel { products: 0 }
     }
 
-    /// The transform `forward` by any kernel: nothing but the kernel computes on its elements. There have to be 2 to the power of the
+    /// The transform `Transform::forward` by any kernel: nothing but the kernel computes on its elements. There have to be 2 to the power of the
     /// stages values, and the kernel's count and the pairs together have to fit 64 bits; the count rises by the pairs, half the values
     /// for each stage.
     pub fn forward_with<K: Kernel>(&self, kernel: &mut K, values: &mut [K::Elem])
@@ -100,7 +100,7 @@ impl<A: Allocator> Transform<A> {
         }
     }
 
-    /// The transform `inverse` by any kernel: nothing but the kernel computes on its elements. It requires what `forward_with` requires, and
+    /// The transform `Transform::inverse` by any kernel: nothing but the kernel computes on its elements. It requires what `forward_with` requires, and
     /// the count rises by as much.
     pub fn inverse_with<K: Kernel>(&self, kernel: &mut K, values: &mut [K::Elem])
         requires whole { length values.old ≡ 2 ^ self.now.stages }

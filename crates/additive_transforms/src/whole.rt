@@ -6,92 +6,17 @@ ghost use Rattle.ghash_slices.specs.Twiddles.{basis_of, shifts_of};
 ghost use Rattle.ghash_slices.specs.Cantor.{AreCantorTwiddles};
 ghost use Rattle.additive_transforms.specs.Stages.{AreLeft};
 
-use crate::kernel::{Kernel, PolyKernel, WordKernel};
+use crate::kernel::{Kernel, WordKernel};
 use crate::stages::run_stage;
 use crate::twiddles::Twiddles;
-use ghash_slices::{
-    LOW_STAGES, LowStageTwiddles, WideWord, Width, numbers_are_values, run_low_stages,
-};
+use ghash_slices::{LOW_STAGES, LowStageTwiddles, WideWord, Width, run_low_stages};
 use std::alloc::{AllocError, Allocator};
 
 /// Leaves at each place p the value, at point p, of the polynomial with the coefficients `values` in the basis of the products of
-/// the s_j: point p is `z`, and Cantor vector b for each set bit b of p. The length of `values` has to be 2^m for an m from 0 to 40.
-/// `products` rises by the m * 2^(m - 1) pairs of places that are computed, and has to fit 64 bits after it.
-/// Where `alloc` refuses the twiddles, it fails, and leaves `values` and `products` untouched; with fewer than 16 values it takes no
-/// memory, and does not fail.
-pub fn forward<A: Allocator>(
-    alloc: A,
-    values: &mut [u128],
-    z: u128,
-    products: &mut u64,
-) -> Result<(), AllocError>
-    requires { FitsTransform (length values.old) products.old }
-    ensures length { length values.new ≡ length values.old }
-    ensures values { IfOk result (λ _. HoldPolynomialValues z values.old values.new) }
-    ensures count { IfOk result (λ _. CountsPairs (length values.old) products.old products.new) }
-    ensures refused { IfErr result (λ _. (values.new ≡ values.old) × (products.new ≡ products.old)) }
-    ensures large { IfErr result (λ _. 16 ≤ length values.old) }
-{
-    numbers_are_values(values);
-    let mut kernel = PolyKernel {
-        products: *products,
-    };
-    forward_with(alloc, &mut kernel, values, z)?;
-    *products = kernel.products;
-    Ok(())
-}
-
-/// Replaces the values at the points by the coefficients of their polynomial, of which there is one list: with the same `z` it
-/// takes back what `forward` did. It asks what `forward` asks, and takes no memory; `products` rises by as much.
-pub fn inverse(values: &mut [u128], z: u128, products: &mut u64)
-    requires { FitsTransform (length values.old) products.old }
-    ensures length { length values.new ≡ length values.old }
-    ensures coefficients { AreOnlyCoefficients z values.old values.new }
-    ensures count { CountsPairs (length values.old) products.old products.new }
-{
-    numbers_are_values(values);
-    let mut kernel = PolyKernel {
-        products: *products,
-    };
-    inverse_with(&mut kernel, values, z);
-    *products = kernel.products;
-}
-
-/// The transform `forward` without a count. The length of `values` has to be 2^m for an m from 0 to 40. Where `alloc` refuses the
-/// twiddles, it fails, and leaves `values` untouched; with fewer than 16 values it takes no memory, and does not fail.
-///
-/// Its low stages go in lanes and its long butterflies by tables, so over the field of GHASH it is the fastest form. Elements of any
-/// field with Cantor vectors are transformed by `forward_elements`.
-pub fn forward_numbers<A: Allocator>(
-    alloc: A,
-    values: &mut [u128],
-    z: u128,
-) -> Result<(), AllocError>
-    requires { (m : ℕ) × HasStages m (length values.old) }
-    ensures length { length values.new ≡ length values.old }
-    ensures values { IfOk result (λ _. HoldPolynomialValues z values.old values.new) }
-    ensures refused { IfErr result (λ _. values.new ≡ values.old) }
-    ensures large { IfErr result (λ _. 16 ≤ length values.old) }
-{
-    let mut products = 0;
-    forward(alloc, values, z, &mut products)
-}
-
-/// The transform `inverse` without a count: it takes back what `forward_numbers` did with the same `z`. The length of `values` has to
-/// be 2^m for an m from 0 to 40. It takes no memory.
-pub fn inverse_numbers(values: &mut [u128], z: u128)
-    requires { (m : ℕ) × HasStages m (length values.old) }
-    ensures length { length values.new ≡ length values.old }
-    ensures coefficients { AreOnlyCoefficients z values.old values.new }
-{
-    let mut products = 0;
-    inverse(values, z, &mut products);
-}
-
-/// The transform `forward` by any kernel: nothing but the kernel computes on its elements. The length of `values` has to be 2^m
-/// for an m from 0 to 40, and the kernel's count and the m * 2^(m - 1) pairs of places together have to fit 64 bits; the count
-/// rises by those pairs. Where `alloc` refuses the twiddles, it fails, and leaves `values` and the kernel untouched; with fewer than
-/// 16 values it takes no memory, and does not fail.
+/// the s_j: point p is `z`, and Cantor vector b for each set bit b of p. It goes by any kernel: nothing but the kernel computes on its
+/// elements. The length of `values` has to be 2^m for an m from 0 to 40, and the kernel's count and the m * 2^(m - 1) pairs of places
+/// together have to fit 64 bits; the count rises by those pairs. Where `alloc` refuses the twiddles, it fails, and leaves `values` and the
+/// kernel untouched; with fewer than 16 values it takes no memory, and does not fail.
 pub fn forward_with<K: Kernel, A: Allocator>(
     alloc: A,
     kernel: &mut K,
@@ -116,7 +41,7 @@ pub fn forward_with<K: Kernel, A: Allocator>(
     Ok(())
 }
 
-/// The transform `forward` of words that hold numbers, where they lie, without a count. The length of `words` has to be 2^m for an m
+/// The transform `forward_with` of words that hold numbers, where they lie, without a count. The length of `words` has to be 2^m for an m
 /// from 0 to 40. It takes no memory.
 pub fn forward_words<V: Width, W: WideWord>(words: &mut [W], z: u128)
     requires { (m : ℕ) × HasStages m (length words.old) }
@@ -135,7 +60,7 @@ pub fn forward_words<V: Width, W: WideWord>(words: &mut [W], z: u128)
     run_low_stages::<V, W>(&twiddles.low_shifts(), basis, words, 0);
 }
 
-/// The transform `inverse` of words that hold numbers, where they lie, without a count: it takes back what `forward_words` did with the
+/// The transform `inverse_with` of words that hold numbers, where they lie, without a count: it takes back what `forward_words` did with the
 /// same `z`. The length of `words` has to be 2^m for an m from 0 to 40. It takes no memory.
 pub fn inverse_words<V: Width, W: WideWord>(words: &mut [W], z: u128)
     requires { (m : ℕ) × HasStages m (length words.old) }
@@ -145,8 +70,9 @@ pub fn inverse_words<V: Width, W: WideWord>(words: &mut [W], z: u128)
     inverse_with(&mut WordKernel::<V, W>::new(), words, z);
 }
 
-/// The transform `inverse` by any kernel: nothing but the kernel computes on its elements. It asks what `forward_with` asks, and
-/// takes no memory; the kernel's count rises by m * 2^(m - 1), as many pairs of places as there are.
+/// Replaces the values at the points by the coefficients of their polynomial, of which there is one list: with the same `z` it takes back
+/// what `forward_with` did. Nothing but the kernel computes on its elements. It asks what `forward_with` asks, and takes no memory; the
+/// kernel's count rises by m * 2^(m - 1), as many pairs of places as there are.
 pub fn inverse_with<K: Kernel>(kernel: &mut K, values: &mut [K::Elem], z: u128)
     requires { FitsTransform (length values.old) (K.count kernel.old) }
     ensures length { length values.new ≡ length values.old }

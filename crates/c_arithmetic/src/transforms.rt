@@ -8,10 +8,10 @@ ghost use Rattle.c_arithmetic.specs.Transforms.{RunsLowStages, Transforms, Trans
 
 use crate::numbers::{four_numbers, numbers_of};
 use crate::{Wide, status};
-use additive_transforms::{forward_words, inverse_words, stages_of};
+use additive_transforms::stages_of;
 use field_base::{FieldKernel, Unsigned};
 use ghash_slices::{WideWord, Width, add_each, add_multiples, run_low_stages};
-use tower_transforms::{Holds, forward_level, inverse_level};
+use tower_transforms::{Holds, forward_level, inverse_level, transform_ghash};
 use word_tower::{Level, Tower};
 
 /// At each place `low += scalar * high`, and then `high += low`.
@@ -83,11 +83,7 @@ fn transform_whole<V: Width>(values: &mut [Wide], shift: Wide, is_inverse: bool)
     if !has_stages(values.len()) {
         return status::LENGTH;
     }
-    if is_inverse {
-        inverse_words::<V, Wide>(values, shift.number());
-    } else {
-        forward_words::<V, Wide>(values, shift.number());
-    }
+    transform_ghash::<V, Wide>(values, shift.number(), is_inverse);
     status::OK
 }
 

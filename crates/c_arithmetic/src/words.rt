@@ -1,10 +1,12 @@
 // The words of more than one word in which elements cross to other languages, and the words of a field's arithmetic that they hold.
 ghost use Rattle.std.specs.Prelude.{◌≡◌, ◌<◌, ℕ};
+ghost use native.Mathlib.Nat.{mod-eq_of_lt};
 ghost use Rattle.c_arithmetic.specs.Fields.{cubic_number, wide_number};
+ghost use Rattle.c_arithmetic.specs.WideLemmas.{wide_number-lt};
 
 use crate::wide::Wide;
 use ghash_slices::WideWord;
-use tower_transforms::Holds;
+use tower_transforms::{GhashWord, Holds};
 use word_cubic::Triple;
 
 impl Holds<u128> for Wide {
@@ -19,6 +21,10 @@ impl Holds<u128> for Wide {
     fn of_stored(x: u128) -> Wide {
         Wide::of_number(x)
     }
+}
+
+impl GhashWord for Wide {
+    ghost same_law = { λ x. mod-eq_of_lt (wide_number-lt x) };
 }
 
 /// A word of 192 bits as three of 64, the coefficient of 1 first, then that of y and of y².

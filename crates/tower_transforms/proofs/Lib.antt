@@ -1,5 +1,6 @@
 mod ChunkProducts
 mod Exchanges
+mod ImageBlocks
 mod LaneFacts
 mod RowHalves
 mod RowSteps

@@ -1,6 +1,8 @@
 pub mod Butterflies
 pub mod ChunkLemmas
 pub mod Chunks
+pub mod ImageLemmas
+pub mod Images
 pub mod LaneLemmas
 pub mod PairLemmas
 pub mod Products

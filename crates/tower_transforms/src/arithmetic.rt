@@ -69,7 +69,7 @@ impl<R: Unsigned, L: Level<R>, W: Holds<R>> StageArithmetic for OfWords<R, L, W>
 }
 
 // s_j(z), where s_0(z) = z and s_(j + 1)(z) = s_j(z)^2 + s_j(z).
-fn shift_of<R: Unsigned, L: Level<R>>(z: R, stage: usize) -> R
+pub(crate) fn shift_of<R: Unsigned, L: Level<R>>(z: R, stage: usize) -> R
     ensures { R.number result ≡ subspace_value (tower_mul L.LEVEL) stage (R.number z) }
 {
     let mut shift = z;
@@ -80,7 +80,7 @@ fn shift_of<R: Unsigned, L: Level<R>>(z: R, stage: usize) -> R
 }
 
 // The butterflies of the halves of a block: products by 8, 16 or 32 bits where the twiddle has no more, and whole ones otherwise.
-fn run_block<R: Unsigned, L: Level<R>, W: Holds<R>>(
+pub(crate) fn run_block<R: Unsigned, L: Level<R>, W: Holds<R>>(
     lo: &mut [W],
     hi: &mut [W],
     twiddle: R,

@@ -8,7 +8,7 @@ use std::alloc::{AllocError, Allocator, Global};
 use std::test::Fail;
 use test_support::{fill, next_number};
 
-// Runs the transform of 2^m elements for an m up to 10, or returns false.
+// Runs the transform of 2^m elements for an m up to 12, or returns false.
 fn elements_forward<A: Allocator>(
     alloc: A,
     kernel: &mut ElementKernel,
@@ -16,7 +16,7 @@ fn elements_forward<A: Allocator>(
     m: usize,
     z: u128,
 ) -> Result<bool, AllocError> {
-    if m > 10 || elements.len() != 1 << m || kernel.products > 1000 {
+    if m > 12 || elements.len() != 1 << m || kernel.products > 1000 {
         return Ok(false);
     }
     forward_with(alloc, kernel, elements, z)?;
@@ -30,7 +30,7 @@ fn elements_inverse(
     m: usize,
     z: u128,
 ) -> bool {
-    if m > 10 || elements.len() != 1 << m || kernel.products > 1000 {
+    if m > 12 || elements.len() != 1 << m || kernel.products > 1000 {
         return false;
     }
     inverse_with(kernel, elements, z);

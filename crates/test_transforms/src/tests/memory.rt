@@ -1,13 +1,12 @@
 // Calls that take memory, with each growth refused in turn, and granted where there is memory: `LowStageTwiddles::new` with bases of 3 to 257
 // elements, which leaves nothing behind; and `forward_with`, `forward`, `forward_numbers` and `Transform::new` at 2^0 to 2^8 values. A refused
 // transform leaves the values and the count as they were. Fewer than 16 values take no memory, but for `Transform::new`.
-use additive_transforms::{
-    PolyKernel, Transform as KeptTransform, forward, forward_numbers, forward_with, inverse_numbers,
-};
+use additive_transforms::{PolyKernel, Transform as KeptTransform, forward_with};
 use ghash_slices::LowStageTwiddles;
 use linked_list_allocator::LocalHeap;
 use std::alloc::{AllocError, Allocator, Global};
 use test_support::{Ending, Growing, Rest, fill, is_refused_in_turn};
+use tower_transforms::{forward, forward_numbers, inverse_numbers};
 
 // Twiddles with a basis of so many elements.
 #[derive(Drop)]
@@ -88,7 +87,7 @@ fn transform_of<A: Allocator>(
     m: usize,
     products: &mut u64,
 ) -> Result<bool, AllocError> {
-    if m > 10 || values.len() != 1 << m || *products > 1000 {
+    if m > 12 || values.len() != 1 << m || *products > 1000 {
         return Ok(false);
     }
     match way {
@@ -119,7 +118,7 @@ fn are_drawn(values: &[u128]) -> bool {
 
 // Whether the inverse of 2^m values gives the first drawn numbers.
 fn are_transformed(values: &mut [u128], m: usize) -> bool {
-    if m > 10 || values.len() != 1 << m {
+    if m > 12 || values.len() != 1 << m {
         return false;
     }
     inverse_numbers(values, 3);

@@ -1,14 +1,16 @@
-// The whole transform and its inverse: worked rows, and the values of 2^4 to 2^10 numbers, drawn from the seed 53, against `evaluate_cantor` at
-// the point of each place. And that no instruction multiplies.
+// The whole transform and its inverse: worked rows, and the values of 2^0 to 2^12 numbers, drawn from the seed 53, against `evaluate_cantor` at
+// the points of drawn places, with shifts of each level of the tower. And that no instruction multiplies.
+use super::words::SHIFTS;
 use additive_transforms::over::evaluate_cantor;
-use additive_transforms::{forward, inverse, point};
+use additive_transforms::point;
 use field_element::Ghash128;
 use ghash_slices::HAS_HARDWARE_CLMUL;
 use std::alloc::{AllocError, Allocator, Global};
 use std::test::Fail;
 use test_support::{fill, next_number};
+use tower_transforms::{forward, inverse};
 
-// Runs the transform of 2^m values for an m up to 10, or returns false.
+// Runs the transform of 2^m values for an m up to 12, or returns false.
 pub(crate) fn forward_of<A: Allocator>(
     alloc: A,
     values: &mut [u128],
@@ -16,7 +18,7 @@ pub(crate) fn forward_of<A: Allocator>(
     z: u128,
     products: &mut u64,
 ) -> Result<bool, AllocError> {
-    if m > 10 || values.len() != 1 << m || *products > 1000 {
+    if m > 12 || values.len() != 1 << m || *products > 1000 {
         return Ok(false);
     }
     forward(alloc, values, z, products)?;
@@ -25,7 +27,7 @@ pub(crate) fn forward_of<A: Allocator>(
 
 // Runs the inverse of that.
 fn inverse_of(values: &mut [u128], m: usize, z: u128, products: &mut u64) -> bool {
-    if m > 10 || values.len() != 1 << m || *products > 1000 {
+    if m > 12 || values.len() != 1 << m || *products > 1000 {
         return false;
     }
     inverse(values, z, products);
@@ -116,27 +118,29 @@ fn rows_of_the_transform(rt: HostRuntime) -> Result<(), Fail> {
     Ok(())
 }
 
-// Whether each value is that of the polynomial at the point of its place.
+// Whether the values at drawn places are those of the polynomial at their points.
 fn are_at_points(coefficients: &[Ghash128], values: &[u128], z: u128) -> bool {
-    for (place, value) in values.iter().enumerate() {
-        let at = Ghash128::new(point(z, place as u128));
-        if evaluate_cantor(coefficients, at).to_bits() != *value {
+    if values.len() == 0 {
+        return false;
+    }
+    let mut state = 61;
+    for _ in 0..24 {
+        let place = next_number(&mut state) % values.len() as u128;
+        let at = Ghash128::new(point(z, place));
+        if evaluate_cantor(coefficients, at).to_bits() != values[place as usize] {
             return false;
         }
     }
     true
 }
 
-// Whether the transform of so many drawn numbers, which are 2^m, leaves at each place the value of their polynomial at the place's point.
-fn values_are_at_points(
-    alloc: Global,
-    m: usize,
-    count: usize,
-    z: u128,
-) -> Result<bool, AllocError> {
-    let mut numbers = [0; 1024];
+// Whether the transform of so many drawn numbers, which are 2^m, leaves at drawn places the value of their polynomial at the place's point,
+// and whether the inverse takes all of them back.
+fn is_transformed(alloc: Global, m: usize, count: usize, z: u128) -> Result<bool, AllocError> {
+    let mut numbers = [0; 4096];
     fill(&mut numbers, 53);
-    if count > 1024 {
+    let drawn = numbers;
+    if count > 4096 {
         return Ok(false);
     }
     let values = &mut numbers[..count];
@@ -145,15 +149,21 @@ fn values_are_at_points(
         coefficients.push(Ghash128::new(*value))?;
     }
     let mut products = 0;
-    let runs = forward_of(alloc, values, m, z, &mut products)?;
-    Ok(runs && are_at_points(coefficients.as_slice(), values, z))
+    Ok(
+        forward_of(alloc, values, m, z, &mut products)?
+            && are_at_points(coefficients.as_slice(), values, z)
+            && inverse_of(values, m, z, &mut 0)
+            && are_same(values, &drawn[..count]),
+    )
 }
 
+// The shifts are the points of the numbers that are shifts of words too: those of up to 32 bits have narrow twiddles.
 #[test]
 fn values_are_those_at_the_points(rt: HostRuntime) -> Result<(), Fail> {
-    let mut state = 59;
-    for m in 4..11usize {
-        assert!(rt; values_are_at_points(rt.alloc(), m, 1 << m, next_number(&mut state))?);
+    for m in 0..13usize {
+        for number in &SHIFTS {
+            assert!(rt; is_transformed(rt.alloc(), m, 1 << m, point(0, *number))?);
+        }
     }
     assert!(rt; !HAS_HARDWARE_CLMUL);
     Ok(())

@@ -71,7 +71,7 @@ fn level_agrees<F: TowerLevel, L: Level<F::Repr>>(
 }
 
 // No bits, and some of each level.
-static SHIFTS: [u128; 6] = [
+pub(crate) static SHIFTS: [u128; 6] = [
     0,
     0xb7,
     0x93a5,

@@ -4,4 +4,4 @@ use Rattle.test_transforms.proofs.tests.transform.inverse_of.Goals as goal
 
 pub inverse-requires : goal.inverse-requires
 inverse-requires c =
-    few_places c.args.m (length c.args.values.now) c.args.products.now c.if-m-gt10.false c.if-values-m.false c.if-products-gt1000.false
+    few_places c.args.m (length c.args.values.now) c.args.products.now c.if-m-gt12.false c.if-values-m.false c.if-products-gt1000.false

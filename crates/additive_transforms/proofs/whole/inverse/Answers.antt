@@ -1,8 +1,0 @@
-use Rattle.additive_transforms.specs.Transform.{AreOnlyCoefficients}
-use Rattle.additive_transforms.proofs.NumberValues.{of_numbers}
-use Rattle.additive_transforms.proofs.whole.inverse.Goals as goal
-
-pub returns-clause-coefficients : goal.returns-clause-coefficients
-returns-clause-coefficients c =
-    of_numbers (AreOnlyCoefficients c.args.z) c.args.values.now c.inverse_with.new.values c.numbers_are_values.ensures (λ p. (c.type_inv.values p).fits)
-    c.inverse_with.ensures.coefficients
