@@ -640,10 +640,139 @@ use word_tower::{Bits8, Bits16, Bits32, Bits64, Bits128, Level};
         )
 
 
+# ---- the levels by slices of bits (bit_slices)
+
+SLICES = Template("""\
+/// Elements of $bits bits, by slices in vectors `V`, with functions that are called.
+#[derive(Clone, Copy)]
+pub struct Slices$bits<V> {
+    inner: $inner,
+}
+
+impl<V: Vector> Sliced for Slices$bits<V> {
+    ghost LEVEL = { $quoted.LEVEL };
+
+    ghost units = { $quoted.units };
+
+    ghost lane = { λ x. $quoted.lane x.inner };
+
+    ghost fits_law = { λ x. $quoted.fits_law x.inner };
+
+    #[inline(always)]
+    fn level() -> usize {
+        $path::level()
+    }
+
+    #[inline(always)]
+    fn lanes() -> usize {
+        V::lanes()
+    }
+
+    #[inline(always)]
+    fn zeros() -> Slices$bits<V> {
+        Slices$bits {
+            inner: $path::zeros(),
+        }
+    }
+
+    #[inline(always)]
+    fn set_sum(&mut self, x: &Slices$bits<V>, y: &Slices$bits<V>) {
+        self.inner.set_sum(&x.inner, &y.inner);
+    }
+
+    #[inline(always)]
+    fn add(&mut self, x: &Slices$bits<V>) {
+        self.inner.add(&x.inner);
+    }
+
+    #[inline(never)]
+    fn set_product(&mut self, x: &Slices$bits<V>, y: &Slices$bits<V>) {
+        self.inner.set_product(&x.inner, &y.inner);
+    }
+
+    #[inline(always)]
+    fn add_by_root(&mut self, x: &Slices$bits<V>) {
+        self.inner.add_by_root(&x.inner);
+    }
+
+    #[inline(never)]
+    fn square(&mut self) {
+        self.inner.square();
+    }
+
+    #[inline(never)]
+    fn set_inverse(&mut self, x: &Slices$bits<V>) {
+        self.inner.set_inverse(&x.inner);
+    }
+
+    #[inline(always)]
+    fn set_quotient_by_root(&mut self, x: &Slices$bits<V>) {
+        self.inner.set_quotient_by_root(&x.inner);
+    }
+
+    #[inline(never)]
+    fn set_sqrt(&mut self, x: &Slices$bits<V>) {
+        self.inner.set_sqrt(&x.inner);
+    }
+
+    #[inline(always)]
+    fn exchange(x: &mut Slices$bits<V>, y: &mut Slices$bits<V>, level: usize) {
+        Sliced::exchange(&mut x.inner, &mut y.inner, level);
+    }
+
+    #[inline(never)]
+    fn turn(&mut self) {
+        self.inner.turn();
+    }
+
+    #[inline(always)]
+    fn read<W: TowerWord>(&mut self, words: &[W], start: usize) -> usize {
+        self.inner.read(words, start)
+    }
+
+    #[inline(always)]
+    fn write<W: TowerWord>(&self, words: &mut [W], start: usize) -> usize {
+        self.inner.write(words, start)
+    }
+
+    ghost some_law = { V.some_law };
+}
+""")
+
+SLICED_WORD = Template("""\
+impl<V: Vector> SlicedWord<V> for u$bits {
+    type Block = Slices$bits<V>;
+
+    ghost level_law = { refl };
+}
+""")
+
+
+def slices():
+    yield """\
+// The levels of 8 to 128 bits by slices of bits. Each is a type of its own whose products, squares, inverses, roots and transpositions are
+// called and not put in line: so LLVM compiles, and the checker names, each level once.
+ghost use Rattle.std.specs.Prelude.{◌≡◌, ◌<◌, ◌^◌, ℕ, refl};
+
+use crate::bit::Bit;
+use crate::pair::Pair;
+use crate::sliced::Sliced;
+use crate::slices::SlicedWord;
+use crate::vector::Vector;
+use crate::word::TowerWord;
+"""
+    for bits in UNSIGNED:
+        inner = "Pair<Pair<Pair<Bit<V>>>>" if bits == 8 else f"Pair<Slices{bits // 2}<V>>"
+        yield SLICES.substitute(bits=bits, inner=inner, path=inner.replace("<", "::<", 1), quoted=f"⟦<{inner} as Sliced>⟧")
+        yield SLICED_WORD.substitute(bits=bits)
+
+
+
 if __name__ == "__main__":
     keep_all(
         "make_level_impls.py",
         {
+            "bit_slices/src/levels.rt": slices,
             "bit_slices/src/word/impls.rt": tower_words,
             "word_tower/src/levels.rt": levels,
             "word_tower/src/subfields/impls.rt": tower_subfields,

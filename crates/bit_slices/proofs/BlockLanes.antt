@@ -1,11 +1,11 @@
 -- Blocks of words in lanes: a block that is read and turned has each word in a lane, and what is done in lanes is done at each word.
-use Rattle.std.proofs.Common.{◌≡◌, ℕ, ◌+◌, ◌-◌, ◌*◌, ◌/◌, ◌%◌, ◌<◌, ◌≤◌, ◌^◌, ◌⊎◌, inl, inr, List, length, get_or, sym, ◌∙◌, ap, subst, arith}
+use Rattle.std.proofs.Common.{◌≡◌, ℕ, ◌+◌, ◌-◌, ◌*◌, ◌/◌, ◌%◌, ◌<◌, ◌≤◌, ◌^◌, ◌⊎◌, inl, inr, List, get_or, sym, ◌∙◌, ap, subst, arith}
 use Rattle.std.proofs.lemmas.Bool.{cases_lt}
 use Rattle.std.proofs.lemmas.Nat.{div-add-mod', div_below, mul-le}
 use Rattle.std.proofs.lemmas.Nat.Bits.{same_from_bits_below}
 use Rattle.std.proofs.Math.Nat.{add-mul, mul_assoc, mul_comm}
 use native.Mathlib.Nat.{mod-lt}
-use Rattle.bit_slices.specs.Layout.{AreInLanes, AreKept, IsLaidOut, IsTurned}
+use Rattle.bit_slices.specs.Layout.{AreInLanes, AreKept, IsDoneUpTo, IsLaidOut, IsTurned}
 
 -- after a turn each word is in a lane
 pub turned_in_lanes : (level word_level each : ℕ) (a c word : ℕ → ℕ) → level ≡ word_level
@@ -67,10 +67,7 @@ changed_words w each total start gives before after old new whole read written g
 
 -- the blocks so far, and what is behind them
 abbrev pub BlocksDone : {W : Type 0} → ℕ → (ℕ → ℕ → ℕ → Type 0) → (W → ℕ) → List W → List W → ℕ → Type 0
-BlocksDone {W} size gives number old new blocks =
-    (length new ≡ length old)
-    × ((k : ℕ) → k < blocks * size → (d : W) → gives k (number (get_or old k d)) (number (get_or new k d)))
-    × ((k : ℕ) → blocks * size ≤ k → (d : W) → get_or new k d ≡ get_or old k d)
+BlocksDone size gives number old new blocks = IsDoneUpTo (blocks * size) gives number old new
 
 -- the block after so many lies within the blocks
 pub room_for_block : (size blocks number total : ℕ) → number < blocks → blocks * size ≤ total → number * size + size ≤ total

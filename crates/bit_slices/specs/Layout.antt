@@ -1,6 +1,6 @@
 -- How elements lie in the lanes of a block of vectors, and how a block is transposed. A block of level k has 2^k vectors; bit i of the
 -- number in lane l is bit l of vector i.
-use Rattle.std.specs.Prelude.{◌≡◌, ℕ, suc, ◌+◌, ◌*◌, ◌<◌, ◌^◌, List, length, get_or}
+use Rattle.std.specs.Prelude.{◌≡◌, ℕ, suc, ◌+◌, ◌*◌, ◌<◌, ◌≤◌, ◌^◌, List, length, get_or}
 use Rattle.std.specs.Int.{bit_at}
 
 -- lanes `a` and `b` become `c` and `d`: those of `a` whose numbers have bit j set, and those of `b` whose numbers have not, change places
@@ -36,3 +36,10 @@ pub record AreKept {W : Type 0} (start count : ℕ) (old new : List W) : Type 0 
   pub long : length new ≡ length old
   pub below : (p : ℕ) → p < start → (d : W) → get_or new p d ≡ get_or old p d
   pub above : (p : ℕ) (d : W) → get_or new (start + count + p) d ≡ get_or old (start + count + p) d
+
+-- each word before place `end` is, by its number, related to what it was, and those from there on are as they were
+abbrev pub IsDoneUpTo : {W : Type 0} → ℕ → (ℕ → ℕ → ℕ → Type 0) → (W → ℕ) → List W → List W → Type 0
+IsDoneUpTo {W} end gives number old new =
+    (length new ≡ length old)
+    × ((k : ℕ) → k < end → (d : W) → gives k (number (get_or old k d)) (number (get_or new k d)))
+    × ((k : ℕ) → end ≤ k → (d : W) → get_or new k d ≡ get_or old k d)

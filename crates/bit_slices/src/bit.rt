@@ -59,6 +59,8 @@ impl<V: Vector> Sliced for Bit<V> {
 
     ghost lane = { λ x. bit_lane (V.words x.words) };
 
+    ghost fits_law = { λ x. bit_lane-lt (V.words x.words) };
+
     #[inline(always)]
     fn level() -> usize {
         0
@@ -143,6 +145,4 @@ impl<V: Vector> Sliced for Bit<V> {
     }
 
     ghost some_law = { V.some_law };
-
-    ghost fits_law = { λ x. bit_lane-lt (V.words x.words) };
 }

@@ -1,6 +1,6 @@
 // Blocks of words as slices of bits, and back. A block has as many words as a vector has bits.
 ghost use Rattle.std.specs.Prelude.{◌≡◌, ◌<◌, ◌≤◌, ◌+◌, ◌*◌, ◌^◌, ℕ, get_or, length};
-ghost use Rattle.bit_slices.specs.Layout.{AreInLanes, AreKept};
+ghost use Rattle.bit_slices.specs.Layout.{AreInLanes, AreKept, IsDoneUpTo};
 
 use crate::operations::Operation;
 use crate::sliced::Sliced;
@@ -60,10 +60,7 @@ fn change_blocks<W: TowerWord, T: Sliced, O: Operation<W, T>>(
     requires level { T.LEVEL ≡ W.LEVEL }
     requires fits { blocks * (128 * T.units) ≤ length words.old }
     requires reaches { (k : ℕ) → k < length words.old → O.reaches others.now k }
-    ensures long { length words.new ≡ length words.old }
-    ensures changed { (k : ℕ) → k < blocks * (128 * T.units) → (d : W) → O.gives others.now k (W.number (get_or words.old k d))
-        (W.number (get_or words.new k d)) }
-    ensures kept { (k : ℕ) → blocks * (128 * T.units) ≤ k → (d : W) → get_or words.new k d ≡ get_or words.old k d }
+    ensures { IsDoneUpTo (blocks * (128 * T.units)) (O.gives others.now) W.number words.old words.new }
 {
     let mut block = T::zeros();
     for number in 0..blocks {
@@ -81,10 +78,7 @@ fn change_any_blocks<W: TowerWord, T: Sliced, O: Operation<W, T>>(
     requires level { T.LEVEL ≡ W.LEVEL }
     requires fits { blocks * (128 * T.units) ≤ length words.old }
     requires reaches { (k : ℕ) → k < length words.old → O.reaches others.now k }
-    ensures long { length words.new ≡ length words.old }
-    ensures changed { (k : ℕ) → k < blocks * (128 * T.units) → (d : W) → O.gives others.now k (W.number (get_or words.old k d))
-        (W.number (get_or words.new k d)) }
-    ensures kept { (k : ℕ) → blocks * (128 * T.units) ≤ k → (d : W) → get_or words.new k d ≡ get_or words.old k d }
+    ensures { IsDoneUpTo (blocks * (128 * T.units)) (O.gives others.now) W.number words.old words.new }
 {
     if blocks > 0 {
         change_blocks::<W, T, O>(words, others, blocks);

@@ -4,7 +4,7 @@
 
 mod bit;
 mod blocks;
-mod called;
+mod levels;
 mod operations;
 mod pair;
 mod sliced;
@@ -14,12 +14,9 @@ mod word;
 mod words;
 
 pub use crate::bit::Bit;
-pub use crate::called::Called;
+pub use crate::levels::{Slices8, Slices16, Slices32, Slices64, Slices128};
 pub use crate::pair::Pair;
 pub use crate::sliced::Sliced;
-pub use crate::slices::{
-    SlicedWord, Slices8, Slices16, Slices32, Slices64, Slices128, invert_each, multiply_each,
-    sqrt_each, square_each,
-};
+pub use crate::slices::{SlicedWord, invert_each, multiply_each, sqrt_each, square_each};
 pub use crate::vector::Vector;
 pub use crate::word::TowerWord;

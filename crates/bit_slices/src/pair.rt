@@ -20,6 +20,8 @@ impl<T: Sliced> Sliced for Pair<T> {
 
     ghost lane = { λ x l. pair (2 ^ T.LEVEL) (T.lane x.low l) (T.lane x.high l) };
 
+    ghost fits_law = { λ x l. halves-lt T.LEVEL (T.lane x.low l) (T.lane x.high l) (T.fits_law x.low l) (T.fits_law x.high l) };
+
     #[inline(always)]
     fn level() -> usize {
         T::level() + 1
@@ -139,6 +141,4 @@ impl<T: Sliced> Sliced for Pair<T> {
     }
 
     ghost some_law = { T.some_law };
-
-    ghost fits_law = { λ x l. halves-lt T.LEVEL (T.lane x.low l) (T.lane x.high l) (T.fits_law x.low l) (T.fits_law x.high l) };
 }

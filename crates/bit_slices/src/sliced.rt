@@ -16,6 +16,9 @@ pub trait Sliced: Copy {
     // The element in a lane.
     ghost lane: { Self → ℕ → ℕ };
 
+    // It stands above the functions, so that the terms of other impls can name it.
+    ghost fits_law: { (x : Self) (l : ℕ) → lane x l < 2 ^ 2 ^ LEVEL };
+
     /// The number of the level.
     fn level() -> usize
         requires { LEVEL ≤ 7 }
@@ -86,6 +89,4 @@ pub trait Sliced: Copy {
         ensures end { result ≡ start + 2 ^ LEVEL * (units * W.COUNT) };
 
     ghost some_law: { 0 < units };
-
-    ghost fits_law: { (x : Self) (l : ℕ) → lane x l < 2 ^ 2 ^ LEVEL };
 }

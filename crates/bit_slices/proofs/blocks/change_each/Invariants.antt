@@ -1,10 +1,6 @@
-use Rattle.std.proofs.Common.{◌≡◌, ℕ, ◌<◌, ◌≤◌, length, get_or}
+use Rattle.bit_slices.specs.Layout.{IsDoneUpTo}
 use Rattle.bit_slices.proofs.blocks.change_each.Given as goal
 
 -- the places before are done
 abbrev pub invariant-loop-place : goal.invariant-loop-place
-invariant-loop-place g l =
-    let number = g.W.TowerWord.number in
-    (length l.words ≡ length l.fn.words)
-    × ((k : ℕ) → k < l.place → (d : g.row.W.Denot) → g.O.Operation.gives l.others k (number (get_or l.fn.words k d)) (number (get_or l.words k d)))
-    × ((k : ℕ) → l.place ≤ k → (d : g.row.W.Denot) → get_or l.words k d ≡ get_or l.fn.words k d)
+invariant-loop-place g l = IsDoneUpTo l.place (g.O.Operation.gives l.others) g.W.TowerWord.number l.fn.words l.words

@@ -11,7 +11,7 @@ pub returns-clause-read : goal.returns-clause-read
 returns-clause-read g c d =
     laid_out_pairs g.T.Sliced.LEVEL (2 ^ g.W.TowerWord.LEVEL) (g.T.Sliced.units * g.W.TowerWord.COUNT) c.args.start c.read-middle.result
     (g.T.Sliced.lane c.read-middle.new.self) (g.T.Sliced.lane c.read.new.self) (λ n. g.W.TowerWord.number (get_or c.args.words.now n d))
-    (g.met.T.Sliced.fits_law c.read-middle.new.self) c.read-middle.ensures.end (c.read-middle.ensures.read d) (c.read.ensures.read d)
+    (g.T.Sliced.fits_law c.read-middle.new.self) c.read-middle.ensures.end (c.read-middle.ensures.read d) (c.read.ensures.read d)
 
 pub returns-clause-end : goal.returns-clause-end
 returns-clause-end g c =

@@ -7,7 +7,7 @@ pub returns : goal.returns
 returns g c l =
     let k = g.T.Sliced.LEVEL in
     let lane = g.T.Sliced.lane in
-    let fits = g.met.T.Sliced.fits_law in
+    let fits = g.T.Sliced.fits_law in
     let x = c.args.x.now in
     let v = lane c.set_inverse.new.self l in
     let is_norm : lane c.add.new.self l ≡ norm_of k (lane x.low l) (lane x.high l) =

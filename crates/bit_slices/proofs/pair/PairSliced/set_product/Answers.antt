@@ -3,7 +3,7 @@ use Rattle.bit_slices.proofs.pair.PairSliced.set_product.Goals as goal
 
 pub returns : goal.returns
 returns g c l =
-    let fits = g.met.T.Sliced.fits_law in
+    let fits = g.T.Sliced.fits_law in
     let x = c.args.x.now in
     let y = c.args.y.now in
     cc (

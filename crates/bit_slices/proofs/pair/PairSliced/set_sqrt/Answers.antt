@@ -7,5 +7,5 @@ returns g c l =
     let lane = g.T.Sliced.lane in
     let x = c.args.x.now in
     sqrt_of_pair g.T.Sliced.LEVEL (lane x.low l) (lane x.high l) (lane c.set_quotient_by_root.new.self l)
-    (g.met.T.Sliced.fits_law c.set_sqrt.new.self l) (g.met.T.Sliced.fits_law c.set_sqrt-2.new.self l)
+    (g.T.Sliced.fits_law c.set_sqrt.new.self l) (g.T.Sliced.fits_law c.set_sqrt-2.new.self l)
     (c.set_quotient_by_root.ensures l) (c.set_sqrt.ensures l ∙ c.add.ensures l) (c.set_sqrt-2.ensures l)

@@ -6,7 +6,7 @@ use Rattle.bit_slices.proofs.pair.PairSliced.turn.Goals as goal
 pub returns : goal.returns
 returns g c =
     let lane = g.T.Sliced.lane in
-    let fits = g.met.T.Sliced.fits_law in
+    let fits = g.T.Sliced.fits_law in
     let low = c.args.self.now.low in
     let high = c.args.self.now.high in
     turned_pairs g.T.Sliced.LEVEL (lane low) (lane high) (lane c.exchange.new.x) (lane c.exchange.new.y) (lane c.turn.new.self)

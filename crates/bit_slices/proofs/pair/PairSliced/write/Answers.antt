@@ -12,7 +12,7 @@ returns-clause-written g c d =
     let each : ℕ = g.T.Sliced.units * g.W.TowerWord.COUNT in
     laid_out_pairs g.T.Sliced.LEVEL (2 ^ g.W.TowerWord.LEVEL) each c.args.start c.write-middle.result
     (g.T.Sliced.lane c.args.self.now.low) (g.T.Sliced.lane c.args.self.now.high) (λ n. g.W.TowerWord.number (get_or c.write.new.words n d))
-    (g.met.T.Sliced.fits_law c.args.self.now.low) c.write-middle.ensures.end
+    (g.T.Sliced.fits_law c.args.self.now.low) c.write-middle.ensures.end
     (still_laid_out (2 ^ g.W.TowerWord.LEVEL) each (2 ^ g.T.Sliced.LEVEL) c.args.start (2 ^ g.T.Sliced.LEVEL * each) g.W.TowerWord.number c.write-middle.new.words
     c.write.new.words d (g.T.Sliced.lane c.args.self.now.low) c.write-middle.ensures.end c.write.ensures.kept (c.write-middle.ensures.written d))
     (c.write.ensures.written d)

@@ -1,0 +1,516 @@
+// Written by scripts/make_level_impls.py; do not edit.
+// The levels of 8 to 128 bits by slices of bits. Each is a type of its own whose products, squares, inverses, roots and transpositions are
+// called and not put in line: so LLVM compiles, and the checker names, each level once.
+ghost use Rattle.std.specs.Prelude.{◌≡◌, ◌<◌, ◌^◌, ℕ, refl};
+
+use crate::bit::Bit;
+use crate::pair::Pair;
+use crate::sliced::Sliced;
+use crate::slices::SlicedWord;
+use crate::vector::Vector;
+use crate::word::TowerWord;
+
+/// Elements of 8 bits, by slices in vectors `V`, with functions that are called.
+#[derive(Clone, Copy)]
+pub struct Slices8<V> {
+    inner: Pair<Pair<Pair<Bit<V>>>>,
+}
+
+impl<V: Vector> Sliced for Slices8<V> {
+    ghost LEVEL = { ⟦<Pair<Pair<Pair<Bit<V>>>> as Sliced>⟧.LEVEL };
+
+    ghost units = { ⟦<Pair<Pair<Pair<Bit<V>>>> as Sliced>⟧.units };
+
+    ghost lane = { λ x. ⟦<Pair<Pair<Pair<Bit<V>>>> as Sliced>⟧.lane x.inner };
+
+    ghost fits_law = { λ x. ⟦<Pair<Pair<Pair<Bit<V>>>> as Sliced>⟧.fits_law x.inner };
+
+    #[inline(always)]
+    fn level() -> usize {
+        Pair::<Pair<Pair<Bit<V>>>>::level()
+    }
+
+    #[inline(always)]
+    fn lanes() -> usize {
+        V::lanes()
+    }
+
+    #[inline(always)]
+    fn zeros() -> Slices8<V> {
+        Slices8 {
+            inner: Pair::<Pair<Pair<Bit<V>>>>::zeros(),
+        }
+    }
+
+    #[inline(always)]
+    fn set_sum(&mut self, x: &Slices8<V>, y: &Slices8<V>) {
+        self.inner.set_sum(&x.inner, &y.inner);
+    }
+
+    #[inline(always)]
+    fn add(&mut self, x: &Slices8<V>) {
+        self.inner.add(&x.inner);
+    }
+
+    #[inline(never)]
+    fn set_product(&mut self, x: &Slices8<V>, y: &Slices8<V>) {
+        self.inner.set_product(&x.inner, &y.inner);
+    }
+
+    #[inline(always)]
+    fn add_by_root(&mut self, x: &Slices8<V>) {
+        self.inner.add_by_root(&x.inner);
+    }
+
+    #[inline(never)]
+    fn square(&mut self) {
+        self.inner.square();
+    }
+
+    #[inline(never)]
+    fn set_inverse(&mut self, x: &Slices8<V>) {
+        self.inner.set_inverse(&x.inner);
+    }
+
+    #[inline(always)]
+    fn set_quotient_by_root(&mut self, x: &Slices8<V>) {
+        self.inner.set_quotient_by_root(&x.inner);
+    }
+
+    #[inline(never)]
+    fn set_sqrt(&mut self, x: &Slices8<V>) {
+        self.inner.set_sqrt(&x.inner);
+    }
+
+    #[inline(always)]
+    fn exchange(x: &mut Slices8<V>, y: &mut Slices8<V>, level: usize) {
+        Sliced::exchange(&mut x.inner, &mut y.inner, level);
+    }
+
+    #[inline(never)]
+    fn turn(&mut self) {
+        self.inner.turn();
+    }
+
+    #[inline(always)]
+    fn read<W: TowerWord>(&mut self, words: &[W], start: usize) -> usize {
+        self.inner.read(words, start)
+    }
+
+    #[inline(always)]
+    fn write<W: TowerWord>(&self, words: &mut [W], start: usize) -> usize {
+        self.inner.write(words, start)
+    }
+
+    ghost some_law = { V.some_law };
+}
+
+impl<V: Vector> SlicedWord<V> for u8 {
+    type Block = Slices8<V>;
+
+    ghost level_law = { refl };
+}
+
+/// Elements of 16 bits, by slices in vectors `V`, with functions that are called.
+#[derive(Clone, Copy)]
+pub struct Slices16<V> {
+    inner: Pair<Slices8<V>>,
+}
+
+impl<V: Vector> Sliced for Slices16<V> {
+    ghost LEVEL = { ⟦<Pair<Slices8<V>> as Sliced>⟧.LEVEL };
+
+    ghost units = { ⟦<Pair<Slices8<V>> as Sliced>⟧.units };
+
+    ghost lane = { λ x. ⟦<Pair<Slices8<V>> as Sliced>⟧.lane x.inner };
+
+    ghost fits_law = { λ x. ⟦<Pair<Slices8<V>> as Sliced>⟧.fits_law x.inner };
+
+    #[inline(always)]
+    fn level() -> usize {
+        Pair::<Slices8<V>>::level()
+    }
+
+    #[inline(always)]
+    fn lanes() -> usize {
+        V::lanes()
+    }
+
+    #[inline(always)]
+    fn zeros() -> Slices16<V> {
+        Slices16 {
+            inner: Pair::<Slices8<V>>::zeros(),
+        }
+    }
+
+    #[inline(always)]
+    fn set_sum(&mut self, x: &Slices16<V>, y: &Slices16<V>) {
+        self.inner.set_sum(&x.inner, &y.inner);
+    }
+
+    #[inline(always)]
+    fn add(&mut self, x: &Slices16<V>) {
+        self.inner.add(&x.inner);
+    }
+
+    #[inline(never)]
+    fn set_product(&mut self, x: &Slices16<V>, y: &Slices16<V>) {
+        self.inner.set_product(&x.inner, &y.inner);
+    }
+
+    #[inline(always)]
+    fn add_by_root(&mut self, x: &Slices16<V>) {
+        self.inner.add_by_root(&x.inner);
+    }
+
+    #[inline(never)]
+    fn square(&mut self) {
+        self.inner.square();
+    }
+
+    #[inline(never)]
+    fn set_inverse(&mut self, x: &Slices16<V>) {
+        self.inner.set_inverse(&x.inner);
+    }
+
+    #[inline(always)]
+    fn set_quotient_by_root(&mut self, x: &Slices16<V>) {
+        self.inner.set_quotient_by_root(&x.inner);
+    }
+
+    #[inline(never)]
+    fn set_sqrt(&mut self, x: &Slices16<V>) {
+        self.inner.set_sqrt(&x.inner);
+    }
+
+    #[inline(always)]
+    fn exchange(x: &mut Slices16<V>, y: &mut Slices16<V>, level: usize) {
+        Sliced::exchange(&mut x.inner, &mut y.inner, level);
+    }
+
+    #[inline(never)]
+    fn turn(&mut self) {
+        self.inner.turn();
+    }
+
+    #[inline(always)]
+    fn read<W: TowerWord>(&mut self, words: &[W], start: usize) -> usize {
+        self.inner.read(words, start)
+    }
+
+    #[inline(always)]
+    fn write<W: TowerWord>(&self, words: &mut [W], start: usize) -> usize {
+        self.inner.write(words, start)
+    }
+
+    ghost some_law = { V.some_law };
+}
+
+impl<V: Vector> SlicedWord<V> for u16 {
+    type Block = Slices16<V>;
+
+    ghost level_law = { refl };
+}
+
+/// Elements of 32 bits, by slices in vectors `V`, with functions that are called.
+#[derive(Clone, Copy)]
+pub struct Slices32<V> {
+    inner: Pair<Slices16<V>>,
+}
+
+impl<V: Vector> Sliced for Slices32<V> {
+    ghost LEVEL = { ⟦<Pair<Slices16<V>> as Sliced>⟧.LEVEL };
+
+    ghost units = { ⟦<Pair<Slices16<V>> as Sliced>⟧.units };
+
+    ghost lane = { λ x. ⟦<Pair<Slices16<V>> as Sliced>⟧.lane x.inner };
+
+    ghost fits_law = { λ x. ⟦<Pair<Slices16<V>> as Sliced>⟧.fits_law x.inner };
+
+    #[inline(always)]
+    fn level() -> usize {
+        Pair::<Slices16<V>>::level()
+    }
+
+    #[inline(always)]
+    fn lanes() -> usize {
+        V::lanes()
+    }
+
+    #[inline(always)]
+    fn zeros() -> Slices32<V> {
+        Slices32 {
+            inner: Pair::<Slices16<V>>::zeros(),
+        }
+    }
+
+    #[inline(always)]
+    fn set_sum(&mut self, x: &Slices32<V>, y: &Slices32<V>) {
+        self.inner.set_sum(&x.inner, &y.inner);
+    }
+
+    #[inline(always)]
+    fn add(&mut self, x: &Slices32<V>) {
+        self.inner.add(&x.inner);
+    }
+
+    #[inline(never)]
+    fn set_product(&mut self, x: &Slices32<V>, y: &Slices32<V>) {
+        self.inner.set_product(&x.inner, &y.inner);
+    }
+
+    #[inline(always)]
+    fn add_by_root(&mut self, x: &Slices32<V>) {
+        self.inner.add_by_root(&x.inner);
+    }
+
+    #[inline(never)]
+    fn square(&mut self) {
+        self.inner.square();
+    }
+
+    #[inline(never)]
+    fn set_inverse(&mut self, x: &Slices32<V>) {
+        self.inner.set_inverse(&x.inner);
+    }
+
+    #[inline(always)]
+    fn set_quotient_by_root(&mut self, x: &Slices32<V>) {
+        self.inner.set_quotient_by_root(&x.inner);
+    }
+
+    #[inline(never)]
+    fn set_sqrt(&mut self, x: &Slices32<V>) {
+        self.inner.set_sqrt(&x.inner);
+    }
+
+    #[inline(always)]
+    fn exchange(x: &mut Slices32<V>, y: &mut Slices32<V>, level: usize) {
+        Sliced::exchange(&mut x.inner, &mut y.inner, level);
+    }
+
+    #[inline(never)]
+    fn turn(&mut self) {
+        self.inner.turn();
+    }
+
+    #[inline(always)]
+    fn read<W: TowerWord>(&mut self, words: &[W], start: usize) -> usize {
+        self.inner.read(words, start)
+    }
+
+    #[inline(always)]
+    fn write<W: TowerWord>(&self, words: &mut [W], start: usize) -> usize {
+        self.inner.write(words, start)
+    }
+
+    ghost some_law = { V.some_law };
+}
+
+impl<V: Vector> SlicedWord<V> for u32 {
+    type Block = Slices32<V>;
+
+    ghost level_law = { refl };
+}
+
+/// Elements of 64 bits, by slices in vectors `V`, with functions that are called.
+#[derive(Clone, Copy)]
+pub struct Slices64<V> {
+    inner: Pair<Slices32<V>>,
+}
+
+impl<V: Vector> Sliced for Slices64<V> {
+    ghost LEVEL = { ⟦<Pair<Slices32<V>> as Sliced>⟧.LEVEL };
+
+    ghost units = { ⟦<Pair<Slices32<V>> as Sliced>⟧.units };
+
+    ghost lane = { λ x. ⟦<Pair<Slices32<V>> as Sliced>⟧.lane x.inner };
+
+    ghost fits_law = { λ x. ⟦<Pair<Slices32<V>> as Sliced>⟧.fits_law x.inner };
+
+    #[inline(always)]
+    fn level() -> usize {
+        Pair::<Slices32<V>>::level()
+    }
+
+    #[inline(always)]
+    fn lanes() -> usize {
+        V::lanes()
+    }
+
+    #[inline(always)]
+    fn zeros() -> Slices64<V> {
+        Slices64 {
+            inner: Pair::<Slices32<V>>::zeros(),
+        }
+    }
+
+    #[inline(always)]
+    fn set_sum(&mut self, x: &Slices64<V>, y: &Slices64<V>) {
+        self.inner.set_sum(&x.inner, &y.inner);
+    }
+
+    #[inline(always)]
+    fn add(&mut self, x: &Slices64<V>) {
+        self.inner.add(&x.inner);
+    }
+
+    #[inline(never)]
+    fn set_product(&mut self, x: &Slices64<V>, y: &Slices64<V>) {
+        self.inner.set_product(&x.inner, &y.inner);
+    }
+
+    #[inline(always)]
+    fn add_by_root(&mut self, x: &Slices64<V>) {
+        self.inner.add_by_root(&x.inner);
+    }
+
+    #[inline(never)]
+    fn square(&mut self) {
+        self.inner.square();
+    }
+
+    #[inline(never)]
+    fn set_inverse(&mut self, x: &Slices64<V>) {
+        self.inner.set_inverse(&x.inner);
+    }
+
+    #[inline(always)]
+    fn set_quotient_by_root(&mut self, x: &Slices64<V>) {
+        self.inner.set_quotient_by_root(&x.inner);
+    }
+
+    #[inline(never)]
+    fn set_sqrt(&mut self, x: &Slices64<V>) {
+        self.inner.set_sqrt(&x.inner);
+    }
+
+    #[inline(always)]
+    fn exchange(x: &mut Slices64<V>, y: &mut Slices64<V>, level: usize) {
+        Sliced::exchange(&mut x.inner, &mut y.inner, level);
+    }
+
+    #[inline(never)]
+    fn turn(&mut self) {
+        self.inner.turn();
+    }
+
+    #[inline(always)]
+    fn read<W: TowerWord>(&mut self, words: &[W], start: usize) -> usize {
+        self.inner.read(words, start)
+    }
+
+    #[inline(always)]
+    fn write<W: TowerWord>(&self, words: &mut [W], start: usize) -> usize {
+        self.inner.write(words, start)
+    }
+
+    ghost some_law = { V.some_law };
+}
+
+impl<V: Vector> SlicedWord<V> for u64 {
+    type Block = Slices64<V>;
+
+    ghost level_law = { refl };
+}
+
+/// Elements of 128 bits, by slices in vectors `V`, with functions that are called.
+#[derive(Clone, Copy)]
+pub struct Slices128<V> {
+    inner: Pair<Slices64<V>>,
+}
+
+impl<V: Vector> Sliced for Slices128<V> {
+    ghost LEVEL = { ⟦<Pair<Slices64<V>> as Sliced>⟧.LEVEL };
+
+    ghost units = { ⟦<Pair<Slices64<V>> as Sliced>⟧.units };
+
+    ghost lane = { λ x. ⟦<Pair<Slices64<V>> as Sliced>⟧.lane x.inner };
+
+    ghost fits_law = { λ x. ⟦<Pair<Slices64<V>> as Sliced>⟧.fits_law x.inner };
+
+    #[inline(always)]
+    fn level() -> usize {
+        Pair::<Slices64<V>>::level()
+    }
+
+    #[inline(always)]
+    fn lanes() -> usize {
+        V::lanes()
+    }
+
+    #[inline(always)]
+    fn zeros() -> Slices128<V> {
+        Slices128 {
+            inner: Pair::<Slices64<V>>::zeros(),
+        }
+    }
+
+    #[inline(always)]
+    fn set_sum(&mut self, x: &Slices128<V>, y: &Slices128<V>) {
+        self.inner.set_sum(&x.inner, &y.inner);
+    }
+
+    #[inline(always)]
+    fn add(&mut self, x: &Slices128<V>) {
+        self.inner.add(&x.inner);
+    }
+
+    #[inline(never)]
+    fn set_product(&mut self, x: &Slices128<V>, y: &Slices128<V>) {
+        self.inner.set_product(&x.inner, &y.inner);
+    }
+
+    #[inline(always)]
+    fn add_by_root(&mut self, x: &Slices128<V>) {
+        self.inner.add_by_root(&x.inner);
+    }
+
+    #[inline(never)]
+    fn square(&mut self) {
+        self.inner.square();
+    }
+
+    #[inline(never)]
+    fn set_inverse(&mut self, x: &Slices128<V>) {
+        self.inner.set_inverse(&x.inner);
+    }
+
+    #[inline(always)]
+    fn set_quotient_by_root(&mut self, x: &Slices128<V>) {
+        self.inner.set_quotient_by_root(&x.inner);
+    }
+
+    #[inline(never)]
+    fn set_sqrt(&mut self, x: &Slices128<V>) {
+        self.inner.set_sqrt(&x.inner);
+    }
+
+    #[inline(always)]
+    fn exchange(x: &mut Slices128<V>, y: &mut Slices128<V>, level: usize) {
+        Sliced::exchange(&mut x.inner, &mut y.inner, level);
+    }
+
+    #[inline(never)]
+    fn turn(&mut self) {
+        self.inner.turn();
+    }
+
+    #[inline(always)]
+    fn read<W: TowerWord>(&mut self, words: &[W], start: usize) -> usize {
+        self.inner.read(words, start)
+    }
+
+    #[inline(always)]
+    fn write<W: TowerWord>(&self, words: &mut [W], start: usize) -> usize {
+        self.inner.write(words, start)
+    }
+
+    ghost some_law = { V.some_law };
+}
+
+impl<V: Vector> SlicedWord<V> for u128 {
+    type Block = Slices128<V>;
+
+    ghost level_law = { refl };
+}
