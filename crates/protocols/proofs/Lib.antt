@@ -1,6 +1,8 @@
 mod Binding
 mod CapPaths
 mod CodeColumns
+mod OpenedLeaves
+mod OpeningPaths
 mod OpeningTurns
 mod PathChecks
 mod Paths

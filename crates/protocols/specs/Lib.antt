@@ -3,6 +3,7 @@ pub mod Commitments
 pub mod Filling
 pub mod Interleaved
 pub mod MerkleTrees
+pub mod Openings
 pub mod Products
 pub mod Queries
 pub mod Runs

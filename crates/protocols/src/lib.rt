@@ -14,6 +14,7 @@ pub mod interleaved;
 pub mod laws;
 pub mod merkle_paths;
 pub mod merkle_tree;
+pub mod openings;
 pub mod queries;
 pub mod statement;
 pub mod sumcheck;
