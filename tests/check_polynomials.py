@@ -193,6 +193,7 @@ class Polynomials(unittest.TestCase):
         ):
             self.assertRaises(ValueError, wrong)
         self.assertEqual((p == q, p != q, p == bf.Rijndael8b(1), bf.Poly.One() == bf.Gf2([1]), p == "x"), (False, True, False, False, False))
+        self.assertEqual({bf.Poly.One(), bf.Poly([0x53], bf.Rijndael8b), p}, {1, 0x53, bf.Poly.Int(0x11B)})
         self.assertTrue(bf.Poly.One() == 1 and bf.Gf2(1) == bf.Poly.One() and bf.Poly([0x53], bf.Rijndael8b) == 0x53)
 
     def test_texts(self):

@@ -5,6 +5,7 @@
     F = bf.Ghash128
     a, b = F.random(1000, seed=1), F.random(1000, seed=2)
     c = a * b + 1 / a
+    p = bf.Poly.Roots(a[:3])
 
 Trusted and not proved are this package, numpy, ctypes, and the C compiler and linker that made the shared library.
 """

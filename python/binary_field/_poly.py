@@ -243,7 +243,8 @@ class Poly:
         return not self.degree and bool(self._low[0] == other)
 
     def __hash__(self) -> int:
-        return hash((self.field, int(self)))
+        # A constant is equal to an integer.
+        return hash((self.field, int(self))) if self.degree else hash(int(self))
 
     # ---- arithmetic
 

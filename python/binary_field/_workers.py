@@ -73,8 +73,8 @@ os.register_at_fork(after_in_child=_pool.cache_clear)
 
 def at_each(function: Callable[[Any], Any], items: Sequence[Any]) -> list[Any]:
     """What a function gives of each item, by as many threads as are set."""
-    workers = min(get_workers(), len(items))
-    return list(map(function, items) if workers < 2 else _pool(workers).map(function, items))
+    workers = get_workers()
+    return list(map(function, items) if min(workers, len(items)) < 2 else _pool(workers).map(function, items))
 
 
 def in_pieces(function: Callable[..., Any], given: list[int], cut: list[tuple[int, int]], whole: list[int]) -> Any:
