@@ -45,9 +45,9 @@ generator      slices::generator          NamesGenerator
 CALLS = {row[0]: row[1:3] for row in CALL_ROWS}
 OPERATIONS = {row[0]: row[3] for row in CALL_ROWS if len(row) > 3}
 
-# The calls by one scalar, which the levels of the tower of 16 to 128 bits make in planes, and the planes of these levels.
+# The calls by one scalar, which the levels of the tower of 8 to 128 bits make in planes, and the planes of these levels.
 IN_PLANES = ("multiply_by", "multiply_by_in_place", "add_scaled")
-PLANES = {"t16": "Planes16", "t32": "Planes32", "t64": "Planes64", "t128": "Planes128"}
+PLANES = {"t8": "Planes8", "t16": "Planes16", "t32": "Planes32", "t64": "Planes64", "t128": "Planes128"}
 
 # What a field does by functions of its own.
 OWN_CALLS = {

@@ -11,13 +11,19 @@ use field_base::{FieldKernel, Unsigned};
 use std::simd::prelude::*;
 use tower_transforms::{Pair, PlaneScalars, WordBytes, WordPlanes, add_multiples, multiply_words};
 
-/// The planes of words of 16 bits, thirty-two at once, and of wider words.
-pub type Planes16 = Pair<u8x32>;
+/// The planes of words of 8 bits, thirty-two at once.
+pub type Planes8 = u8x32;
 
+/// Those of words of 16 bits.
+pub type Planes16 = Pair<Planes8>;
+
+/// Those of words of 32 bits.
 pub type Planes32 = Pair<Planes16>;
 
+/// Those of words of 64 bits.
 pub type Planes64 = Pair<Planes32>;
 
+/// Those of words of 128 bits.
 pub type Planes128 = Pair<Planes64>;
 
 /// The least number of words that are multiplied in planes.

@@ -16,6 +16,7 @@ mod numbers;
 pub mod operations;
 mod products;
 mod scalars;
+mod scaled_bytes;
 mod shards;
 pub mod slices;
 pub mod status;
@@ -25,7 +26,7 @@ mod words;
 
 pub use crate::batch::batch_invert;
 pub use crate::bytes::multiply_bytes;
-pub use crate::in_planes::{Planes16, Planes32, Planes64, Planes128};
+pub use crate::in_planes::{Planes8, Planes16, Planes32, Planes64, Planes128};
 pub use crate::kernels::Basis;
 pub use crate::linear::{map_bytes, map_wide};
 pub use crate::messages::{
@@ -33,6 +34,7 @@ pub use crate::messages::{
 };
 pub use crate::products::{dot_product, multiply, multiply_in_place};
 pub use crate::scalars::{add_scaled, multiply_by, multiply_by_in_place};
+pub use crate::scaled_bytes::{multiply_bytes_by, multiply_bytes_by_in_place};
 pub use crate::shards::{
     add_shard, encode, encode_prepared, prepare, reconstruct, reconstruct_data, tables_length,
     verify, verify_prepared,

@@ -177,6 +177,17 @@ half_count (suc (suc (suc zero))) count m w few is total = (omega (arith, is, to
 half_count (suc (suc (suc (suc zero)))) count m w few is total = (omega (arith, is, total), omega (arith, is, total))
 half_count (suc (suc (suc (suc (suc size))))) count m w few is total = absurd (omega (arith, few))
 
+-- both halves of the numbers of thirty-two bytes are inside
+pub half_rooms : (size count start long : ℕ) → size ≤ 4 → count * 2 ^ size ≡ 32 → start + count ≤ long
+    → (start * 2 ^ size + 16 ≤ long * 2 ^ size) × ((start + count / 2) * 2 ^ size + 16 ≤ long * 2 ^ size)
+half_rooms size count start long few total inside =
+    let half = half_count size count 16 1 few refl total in
+    let bytes = half.0 in
+    let twice = half.1 in
+    let less = mul-le-mul_right (2 ^ size) inside in
+    let sum : count * 2 ^ size ≡ count / 2 * 2 ^ size + count / 2 * 2 ^ size = omega (arith, bytes, total) in
+    (omega (arith, less, total), omega (arith, less, total, bytes))
+
 -- the same where they are units of the next level
 pub half_units : (d size count n : ℕ) → size ≤ 4 → n % 16 ≡ 0 → count * 2 ^ size ≡ n * 2 ^ suc d
     → (count / 2 * 2 ^ size ≡ n * 2 ^ d) × (count / 2 + count / 2 ≡ count)

@@ -1,11 +1,11 @@
 -- The bytes of words in vectors of sixteen bytes.
-use Rattle.std.proofs.Common.{◌≡◌, ◌⊎◌, inl, inr, ℕ, zero, suc, ◌+◌, ◌-◌, ◌*◌, ◌/◌, ◌%◌, ◌^◌, ◌<◌, ◌≤◌, List, [], ◌∷◌, length, get_or, refl, sym, ◌∙◌, ap, ap₂, subst, arith, lit<, w8, Fits}
+use Rattle.std.proofs.Common.{◌≡◌, ◌⊎◌, inl, inr, ℕ, zero, suc, ◌+◌, ◌-◌, ◌*◌, ◌/◌, ◌%◌, ◌^◌, ◌<◌, ◌≤◌, List, [], ◌∷◌, length, get_or, map, refl, sym, ◌∙◌, ap, ap₂, subst, arith, lit<, w8, Fits}
 use Rattle.std.specs.Prelude.{slice_index}
 use Rattle.std.specs.Simd.Lanes.{Each1, chunk, digits_l, number_l, put_chunk}
 use Rattle.std.proofs.Math.Nat.{div-div-eq-div-mul, div-le_self, div-lt_iff_lt-mul, le_of_mul-le-mul_right, lt_of_mul-lt-mul_right, mul-add-div_right, mul-add-mod_self_right, mul-le-mul_right, one-le-pow, pow-succ'}
 use Rattle.std.proofs.lemmas.Nat.{div-add-mod', pow_pos}
 use Rattle.std.proofs.Math.ListN.{set}
-use Rattle.std.proofs.lemmas.List.{get_or-set_other, get_or-set_same}
+use Rattle.std.proofs.lemmas.List.{get_or-set_other, get_or-set_same, map-id}
 use Rattle.std.proofs.lemmas.Simd.{Each1-chunk, Each1-from_get_or, below_from_Fits, get_or-chunk, get_or-put_chunk_above, get_or-put_chunk_at, get_or-put_chunk_below, get_or_narrower, get_or_wider}
 use native.Mathlib.Nat.{mod-lt}
 use Rattle.tower_transforms.specs.Units.{ArePut, AreUnits, byte_of, unit_of}
@@ -143,6 +143,37 @@ module _ (size n start : ℕ) (old new bytes : List ℕ) (whole : n * 2 ^ size �
 
   pub words_put : ArePut 0 size start 16 (slice_index bytes) old new
   words_put = record { put = put; fit = fitting; kept = kept }
+
+-- ---- words that are their own numbers
+
+-- the numbers that a vector of words has
+pub own_words_read : (size n start : ℕ) (words bytes : List ℕ) → n * 2 ^ size ≡ 16 → ((k : ℕ) → slice_index words k < 256 ^ 2 ^ size)
+    → bytes ≡ digits_l 256 16 (number_l (256 ^ 2 ^ size) (chunk start n words))
+    → AreUnits 0 size start 16 (slice_index bytes) (map (λ x. x) words)
+own_words_read size n start words bytes whole fit is =
+    subst (AreUnits 0 size start 16 (slice_index bytes)) (sym (map-id words)) (bytes_read size n start words bytes whole fit is)
+
+-- and those that are written
+pub own_words_put : (size n start : ℕ) (old new bytes : List ℕ) → n * 2 ^ size ≡ 16 → start * 2 ^ size + 16 ≤ length old * 2 ^ size
+    → Each1 (Fits w8) bytes → new ≡ put_chunk start old (digits_l (256 ^ 2 ^ size) n (number_l 256 bytes))
+    → ArePut 0 size start 16 (slice_index bytes) (map (λ x. x) old) (map (λ x. x) new)
+own_words_put size n start old new bytes whole room fit is =
+    subst (λ (numbers : List ℕ). ArePut 0 size start 16 (slice_index bytes) numbers (map (λ x. x) new)) (sym (map-id old))
+    (subst (ArePut 0 size start 16 (slice_index bytes) old) (sym (map-id new)) (words_put size n start old new bytes whole room fit is))
+
+-- the digits of the number of a list of bytes, as a list
+pub digits-number : (bytes : List ℕ) → Each1 (Fits w8) bytes → digits_l 256 (length bytes) (number_l 256 bytes) ≡ bytes
+digits-number [] fit = refl
+digits-number (b ∷ bytes) fit =
+    let low = fit.0.fits in
+    let digit : (b + 256 * number_l 256 bytes) % 256 ≡ b = omega (arith, low) in
+    let rest : (b + 256 * number_l 256 bytes) / 256 ≡ number_l 256 bytes = omega (arith, low) in
+    ap₂ (λ (d : ℕ) (ds : List ℕ). d ∷ ds) digit (ap (digits_l 256 (length bytes)) rest ∙ digits-number bytes fit.1)
+
+-- sixteen bytes in a row
+pub sixteen_digits : (bytes : List ℕ) → length bytes ≡ 16 → Each1 (Fits w8) bytes → digits_l 256 16 (number_l 256 bytes) ≡ bytes
+sixteen_digits bytes long fit =
+    subst (λ (n : ℕ). digits_l 256 n (number_l 256 bytes) ≡ bytes) long (digits-number bytes fit)
 
 -- ---- one number of sixteen bytes
 

@@ -21,6 +21,11 @@ none_first n value numbers none =
       kept = λ k past. refl;
     }
 
+-- after the last block
+pub last_first : (value : ℕ → ℕ) (old new : List ℕ) (count block blocks : ℕ) → block ≡ blocks → FirstAre (count * block) value old new
+    → FirstAre (count * blocks) value old new
+last_first value old new count block blocks last are = subst (λ (b : ℕ). FirstAre (count * b) value old new) last are
+
 -- ---- units that are whole numbers
 
 -- those that were read

@@ -27,6 +27,22 @@ pub trait WordBytes<R: Stored>: Holds<R> {
     ghost size_law: { size ≤ 4 };
 }
 
+impl WordBytes<u8> for u8 {
+    ghost size = { 0 };
+
+    #[inline(always)]
+    fn read_bytes(words: &[u8], start: usize) -> u8x16 {
+        u8x16::from_slice(&words[start..])
+    }
+
+    #[inline(always)]
+    fn write_bytes(words: &mut [u8], start: usize, bytes: u8x16) {
+        bytes.copy_to_slice(&mut words[start..]);
+    }
+
+    ghost size_law = { no_halves };
+}
+
 impl WordBytes<u16> for u16 {
     ghost size = { 1 };
 

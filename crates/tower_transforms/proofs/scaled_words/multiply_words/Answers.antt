@@ -1,9 +1,5 @@
-use Rattle.std.proofs.Common.{◌≡◌, ◌*◌, ◌/◌, ℕ, length, map, refl, ◌∙◌, subst, arith}
-use Rattle.std.specs.Prelude.{slice_index}
-use Rattle.field_base.specs.Tower.{tower_mul}
-use Rattle.tower_transforms.specs.Rows.{level_of}
-use Rattle.tower_transforms.specs.Units.{FirstAre}
-use Rattle.tower_transforms.proofs.WordSteps.{block_multiplied, none_first}
+use Rattle.std.proofs.Common.{◌≡◌, ◌*◌, ◌/◌, ℕ, length, map, refl, ◌∙◌, arith}
+use Rattle.tower_transforms.proofs.WordSteps.{block_multiplied, last_first, none_first}
 use Rattle.tower_transforms.proofs.scaled_words.multiply_words.Goals as goal
 
 pub loop-block-init : goal.loop-block-init
@@ -25,7 +21,5 @@ pub returns-clause-products : goal.returns-clause-products
 returns-clause-products g c s are =
     let so_far = c.loop-block.invariant in
     let over = c.loop-block-test.false in
-    let last : c.loop-block.block ≡ length c.args.words.now / c.lane_count-lanes.result = omega (arith, so_far.2, over) in
-    subst (λ (b : ℕ). FirstAre (c.lane_count-lanes.result * b)
-    (λ k. tower_mul (level_of g.P.Planes.depth) s (slice_index (map g.W.Holds.number c.args.words.now) k))
-    (map g.W.Holds.number c.args.words.now) (map g.W.Holds.number c.loop-block.words)) last (so_far.1 s are)
+    last_first _ _ _ c.lane_count-lanes.result c.loop-block.block (length c.args.words.now / c.lane_count-lanes.result)
+    (omega (arith, so_far.2, over)) (so_far.1 s are)

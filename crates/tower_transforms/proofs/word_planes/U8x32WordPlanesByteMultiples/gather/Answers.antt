@@ -1,26 +1,19 @@
-use Rattle.std.proofs.Common.{◌≡◌, ◌*◌, ◌/◌, ◌^◌, ◌+◌, ◌≤◌, ℕ, List, ◌++◌, length, map, refl, sym, subst, arith}
+use Rattle.std.proofs.Common.{◌≡◌, ◌*◌, ◌/◌, ◌^◌, ◌+◌, ◌≤◌, ℕ, List, ◌++◌, length, map, refl, sym, subst}
 use Rattle.std.specs.Prelude.{slice_index}
 use Rattle.tower_transforms.specs.Units.{AreUnits}
 use Rattle.tower_transforms.proofs.LaneWeaving.{joined_first, joined_second, lanes_read}
-use Rattle.tower_transforms.proofs.UnitFacts.{half_count, two_read}
-use Rattle.tower_transforms.proofs.WordPlaces.{room_for}
+use Rattle.tower_transforms.proofs.UnitFacts.{half_count, half_rooms, two_read}
 use Rattle.tower_transforms.proofs.word_planes.U8x32WordPlanesByteMultiples.gather.Goals as goal
 
 pub read_bytes-first-requires : goal.read_bytes-first-requires
 read_bytes-first-requires g c =
-    let size = g.W.WordBytes.size in
-    let half = half_count size c.args.count 16 1 g.met.W.WordBytes.size_law refl c.requires.count in
-    let twice = half.1 in
-    let inside = c.requires.inside in
-    room_for size c.args.start (c.args.count / 2) (length c.args.words.now) 16 half.0 (omega (arith, inside, twice))
+    (half_rooms g.W.WordBytes.size c.args.count c.args.start (length c.args.words.now) g.met.W.WordBytes.size_law c.requires.count
+    c.requires.inside).0
 
 pub read_bytes-second-requires : goal.read_bytes-second-requires
 read_bytes-second-requires g c =
-    let size = g.W.WordBytes.size in
-    let half = half_count size c.args.count 16 1 g.met.W.WordBytes.size_law refl c.requires.count in
-    let twice = half.1 in
-    let inside = c.requires.inside in
-    room_for size (c.args.start + c.args.count / 2) (c.args.count / 2) (length c.args.words.now) 16 half.0 (omega (arith, inside, twice))
+    (half_rooms g.W.WordBytes.size c.args.count c.args.start (length c.args.words.now) g.met.W.WordBytes.size_law c.requires.count
+    c.requires.inside).1
 
 pub returns : goal.returns
 returns g c =

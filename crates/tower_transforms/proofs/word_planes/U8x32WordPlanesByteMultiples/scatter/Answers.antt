@@ -1,27 +1,18 @@
-use Rattle.std.proofs.Common.{◌≡◌, ◌*◌, ◌/◌, ◌^◌, ◌+◌, ◌≤◌, ℕ, List, length, map, refl, ◌∙◌, ap, arith}
+use Rattle.std.proofs.Common.{◌≡◌, ◌*◌, ◌/◌, ◌^◌, ◌+◌, ◌≤◌, ℕ, List, length, map, refl, sym, ◌∙◌, ap, subst}
 use Rattle.std.specs.Prelude.{slice_index}
 use Rattle.tower_transforms.proofs.LaneWeaving.{halved, joined_first, joined_second, lanes_put}
-use Rattle.tower_transforms.proofs.UnitFacts.{half_count, two_put}
-use Rattle.tower_transforms.proofs.WordPlaces.{room_for}
+use Rattle.tower_transforms.proofs.UnitFacts.{half_count, half_rooms, two_put}
 use Rattle.tower_transforms.proofs.word_planes.U8x32WordPlanesByteMultiples.scatter.Goals as goal
 
 pub write_bytes-requires : goal.write_bytes-requires
 write_bytes-requires g c =
-    let size = g.W.WordBytes.size in
-    let half = half_count size c.args.count 16 1 g.met.W.WordBytes.size_law refl c.requires.count in
-    let twice = half.1 in
-    let inside = c.requires.inside in
-    room_for size c.args.start (c.args.count / 2) (length c.args.words.now) 16 half.0 (omega (arith, inside, twice))
+    (half_rooms g.W.WordBytes.size c.args.count c.args.start (length c.args.words.now) g.met.W.WordBytes.size_law c.requires.count
+    c.requires.inside).0
 
 pub write_bytes-requires-2 : goal.write_bytes-requires-2
 write_bytes-requires-2 g c =
-    let size = g.W.WordBytes.size in
-    let half = half_count size c.args.count 16 1 g.met.W.WordBytes.size_law refl c.requires.count in
-    let twice = half.1 in
-    let inside = c.requires.inside in
-    let long = c.write_bytes.ensures.length in
-    room_for size (c.args.start + c.args.count / 2) (c.args.count / 2) (length c.write_bytes.new.words) 16 half.0
-    (omega (arith, inside, twice, long))
+    (half_rooms g.W.WordBytes.size c.args.count c.args.start (length c.write_bytes.new.words) g.met.W.WordBytes.size_law c.requires.count
+    (subst (λ (n : ℕ). c.args.start + c.args.count ≤ n) (sym c.write_bytes.ensures.length) c.requires.inside)).1
 
 pub returns-clause-words : goal.returns-clause-words
 returns-clause-words g c =
