@@ -52,7 +52,8 @@ PLANES = {"t8": "Planes8", "t16": "Planes16", "t32": "Planes32", "t64": "Planes6
 # What a field does by functions of its own.
 OWN_CALLS = {
     "g128": {it: it for it in ("multiply", "multiply_in_place", "multiply_by", "multiply_by_in_place", "add_scaled", "dot_product")},
-    "r8": {"multiply": "multiply_bytes"},
+    "r8": {"multiply": "multiply_bytes", "multiply_by": "multiply_bytes_by::<RijndaelKernel>",
+           "multiply_by_in_place": "multiply_bytes_by_in_place::<RijndaelKernel>"},
 }
 
 # The vectors that the calls work in, and the functions of c_arithmetic over a type of vectors.

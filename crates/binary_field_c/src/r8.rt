@@ -28,7 +28,7 @@ pub extern "C" fn bf_r8_multiply(left: &[u8], right: &[u8], products: &mut [u8])
 pub extern "C" fn bf_r8_multiply_by(values: &[u8], scalar: u8, products: &mut [u8]) -> u32
     ensures { MultipliesBy rijndael_field scalar values.now products.old products.new result }
 {
-    slices::multiply_by::<u8, u8, RijndaelKernel>(values, scalar, products)
+    c_arithmetic::multiply_bytes_by::<RijndaelKernel>(values, scalar, products)
 }
 
 /// Adds to each element of sums the scalar times the value at its place.
@@ -124,7 +124,7 @@ pub extern "C" fn bf_r8_multiply_in_place(products: &mut [u8], values: &[u8]) ->
 pub extern "C" fn bf_r8_multiply_by_in_place(values: &mut [u8], scalar: u8) -> u32
     ensures { MultipliesBy rijndael_field scalar values.old values.old values.new result }
 {
-    in_place::multiply_by::<u8, u8, RijndaelKernel>(values, scalar)
+    c_arithmetic::multiply_bytes_by_in_place::<RijndaelKernel>(values, scalar)
 }
 
 /// Squares each element.

@@ -7,14 +7,20 @@ ghost use Rattle.c_arithmetic.specs.Places.{FirstHold};
 ghost use Rattle.field_base.specs.LinearMaps.{linear_image};
 
 use crate::slices::are_elements;
-use crate::{fields, status};
+use crate::{fields, in_place, slices, status};
 use byte_maps::map_bytes;
 use field_base::FieldKernel;
+
+/// The least number of bytes that are mapped; fewer are multiplied one after another.
+const LEAST_MAPPED: usize = 32;
 
 /// Writes the product of each byte and the scalar.
 pub fn multiply_bytes_by<K: FieldKernel<u8>>(bytes: &[u8], scalar: u8, products: &mut [u8]) -> u32
     ensures { MultipliesBy (field_of itself K.width K.product K.generator) scalar bytes.now products.old products.new result }
 {
+    if bytes.len() < LEAST_MAPPED {
+        return slices::multiply_by::<u8, u8, K>(bytes, scalar, products);
+    }
     if bytes.len() != products.len() {
         return status::LENGTH;
     }
@@ -30,6 +36,9 @@ pub fn multiply_bytes_by<K: FieldKernel<u8>>(bytes: &[u8], scalar: u8, products:
 pub fn multiply_bytes_by_in_place<K: FieldKernel<u8>>(bytes: &mut [u8], scalar: u8) -> u32
     ensures { MultipliesBy (field_of itself K.width K.product K.generator) scalar bytes.old bytes.old bytes.new result }
 {
+    if bytes.len() < LEAST_MAPPED {
+        return in_place::multiply_by::<u8, u8, K>(bytes, scalar);
+    }
     if !fields::is_element::<u8, u8, K>(scalar) || !are_elements::<u8, u8, K>(bytes) {
         return status::NOT_AN_ELEMENT;
     }
