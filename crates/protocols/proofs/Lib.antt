@@ -8,6 +8,7 @@ mod PathChecks
 mod Paths
 mod Points
 mod Polynomials
+mod Refusals
 mod Roots
 mod Statements
 mod Words
@@ -18,3 +19,4 @@ mod SumcheckSteps
 mod SumcheckWhole
 mod TermSteps
 mod ZeroChecks
+mod ZeroSums

@@ -1,28 +1,24 @@
 -- One round of the prover and of the verifier of sum-check, and what is observed before the first.
 use Rattle.std.proofs.Common.{◌≡◌, ◌≢◌, ◌↔◌, false, ℕ, zero, suc, ◌+◌, ◌-◌, ◌*◌, ◌/◌, ◌%◌, ◌^◌, ◌<◌, ◌≤◌, List, [], ◌∷◌, ◌++◌, length, map, take, drop, get_or, refl, sym, ◌∙◌, ap, ap₂, subst, append_assoc, arith, lit<}
-use Rattle.std.specs.Prelude.{IsErrAnd, IsTrue, OnOk, Result, bit_xor, slice_index}
+use Rattle.std.specs.Prelude.{IsTrue, bit_xor, slice_index}
 use Rattle.std.proofs.Math.Seq.{drop-append_seam, take-append_seam}
 use Rattle.std.proofs.Math.Nat.{mod-eq_of_lt, mul-div_cancel, mul-mod_left, mul_comm, pow-le-pow_right, two-pow-succ}
 use Rattle.std.proofs.Math.Pow.{pow-lt}
 use Rattle.std.proofs.lemmas.Bool.{false≢true}
 use Rattle.std.proofs.lemmas.Nat.{div-add-mod'}
-use Rattle.std.proofs.lemmas.List.{append-nil, length-append, length-drop, length-map, length-take-le, map-append, take_rest}
-use Rattle.std.proofs.lemmas.Result.{err_from_is_err_and}
+use Rattle.std.proofs.lemmas.List.{append-nil, length-append, length-drop, length-map, length-take-le, map-append, take-map, take_rest}
 use Rattle.std.specs.List.{flat_map, range_with_len}
 use Rattle.std.proofs.lemmas.List.FromFn.{length-map-range_with_len, map-range_with_len_more}
 use Rattle.field_laws.specs.Interpolation.{interpolated}
-use Rattle.field_slices.specs.Multilinear.{folded, folded_all}
+use Rattle.field_base.specs.Ring.{IsRing}
+use Rattle.field_slices.specs.Multilinear.{folded, folded_all, on_line}
+use Rattle.field_slices.proofs.CubeLaws.{line-zero}
+use Rattle.std.specs.Simd.Lanes.{zip2}
 use Rattle.transcript_elements.specs.Lists.{InTurn}
 use Rattle.transcript_elements.specs.States.{GivesByState, LeadsByState}
 use Rattle.protocols.specs.Sumcheck.{AreTurns, IsTurn, messages_of, term_numbers}
 use Rattle.protocols.specs.SumcheckClaims.{AreHonestMessages, honest_message, message_at, node_values, reduced_claim}
 use Rattle.protocols.specs.Terms.{Product, honest_at}
-
--- ---- refusals
-
--- what is ensured where there is a result holds where there is none
-pub refused : {T E : Type 0} (P : Type 0) (Q : E → Type 0) (r : Result T E) → IsErrAnd r Q → OnOk r P
-refused {T} {E} P Q r is = let p = err_from_is_err_and r is in subst (λ (q : Result T E). OnOk q P) (sym p.1) tt
 
 -- ---- lists
 
@@ -281,6 +277,31 @@ pub cube-even : (size rounds count : ℕ) → size ≡ 2 ^ (rounds + 1) * count 
 cube-even size rounds count is = let half = cube-half size rounds count is in omega (arith, half)
 
 -- ---- the prover's message
+
+zip-first : (f : ℕ → ℕ → ℕ) → ((x y : ℕ) → f x y ≡ x) → (xs ys : List ℕ) → length xs ≡ length ys → zip2 f xs ys ≡ xs
+zip-first f same [] ys long = refl
+zip-first f same (x ∷ xs) [] long = absurd (omega (arith, long))
+zip-first f same (x ∷ xs) (y ∷ ys) long = ap₂ (λ (z : ℕ) (zs : List ℕ). z ∷ zs) (same x y) (zip-first f same xs ys (omega (arith, long)))
+
+-- where the first coordinate is 0, the lower half of the values is left
+pub lower-is : {F : Type 0} (repr : F → ℕ) (width : ℕ) (times : ℕ → ℕ → ℕ) → IsRing width 1 times → 0 < width → (values : List F)
+    → length values % 2 ≡ 0 → map repr (take (length values / 2) values) ≡ folded times 0 (map repr values)
+lower-is repr width times ring wide values even =
+    sym (take-map repr (length values / 2) values)
+    ∙ ap (λ (n : ℕ). take (n / 2) (map repr values)) (sym long)
+    ∙ sym (zip-first (on_line times 0) (line-zero width times ring wide) (take (length numbers / 2) numbers) (drop (length numbers / 2) numbers) halves)
+  where
+    numbers : List ℕ
+    numbers = map repr values
+
+    long : length numbers ≡ length values
+    long = length-map values repr
+
+    halves : length (take (length numbers / 2) numbers) ≡ length (drop (length numbers / 2) numbers)
+    halves =
+        let front = length-take-le (length numbers / 2) numbers (omega arith) in
+        let back = length-drop (length numbers / 2) numbers in
+        omega (arith, front, back, long, even)
 
 module _ {F : Type 0} (repr : F → ℕ) (h : ℕ → ℕ) where
   pub values-first : (none pushed : List F) (first : F) (x : ℕ) → none ≡ [] → pushed ≡ none ++ first ∷ [] → repr first ≡ h x → x ≡ 0

@@ -1,6 +1,6 @@
 -- The whole of a proof by sum-check and of its verification.
-use Rattle.std.proofs.Common.{◌≡◌, ℕ, zero, suc, ◌+◌, ◌*◌, ◌^◌, ◌<◌, ◌≤◌, List, [], ◌∷◌, ◌++◌, length, map, refl, sym, ◌∙◌, ap, ap₂, subst, arith, lit<}
-use Rattle.std.specs.Prelude.{max, min, slice_index}
+use Rattle.std.proofs.Common.{◌≡◌, ◌↔◌, Bool, ℕ, zero, suc, ◌+◌, ◌*◌, ◌^◌, ◌<◌, ◌≤◌, List, [], ◌∷◌, ◌++◌, length, map, refl, sym, ◌∙◌, ap, ap₂, subst, arith, lit<}
+use Rattle.std.specs.Prelude.{IsTrue, max, min, slice_index}
 use Rattle.std.proofs.Math.Nat.{max-le, min-le_left, min-le_right, pow-le-pow_right}
 use Rattle.std.proofs.lemmas.List.{length-map, length-take}
 use Rattle.field_base.specs.Field.{IsField}
@@ -13,8 +13,9 @@ use Rattle.protocols.proofs.Soundness.{honest_reduces}
 use Rattle.protocols.proofs.SumcheckSteps.{Proved, Verified, elements-same, messages-length, observed-same, turns-length, turns-same}
 use Rattle.protocols.proofs.TermSteps.{degree-most, degree-some}
 use Rattle.protocols.specs.Products.{term_product}
-use Rattle.protocols.specs.Sumcheck.{AreTurns, IsRunOf, Statement, messages_of, statement_numbers}
+use Rattle.protocols.specs.Sumcheck.{AreTurns, IsRunOf, Statement, messages_of, statement_numbers, statement_of}
 use Rattle.protocols.specs.SumcheckClaims.{AreHonestMessages, IsClaimShape, reduced_claim}
+use Rattle.protocols.specs.SumcheckRuns.{IsProofAndVerdict}
 use Rattle.protocols.specs.declared.terms.Term.{Term}
 use Rattle.protocols.specs.Terms.{AreWithin, Product, cube_sum, degree_of, table_value, terms_value}
 
@@ -98,55 +99,94 @@ module _ {C F : Type 0} (observes : C → F → C → Type 0) (gives : C → F �
   module _ {S : Type 0} (state : C → S) (observes_law : (value : F) → LeadsByState state (λ old new. observes old value new))
       (gives_law : GivesByState state gives) (field : IsField width times) (wide : 0 < width) (range : (x : F) → repr x < 2 ^ width)
       (same_law : (x y : F) → repr x ≡ repr y → x ≡ y) where
-    -- an honest prover of a true claim is accepted by a verifier whose transcript begins in the same state, and that reads the messages in
-    -- another slice
-    pub accepted-whole : (old new other_old other_new : C) (statement : Statement) (terms : List Product) (count rounds claim last value : ℕ)
+    -- An honest prover of a true claim, and a verifier whose transcript begins in the same state, and that reads the messages in another
+    -- slice.
+    module _ (old new other_old other_new : C) (statement : Statement) (terms : List Product) (count rounds claim last value : ℕ)
         (values : List F) (messages read point other_point left left_read : List F)
-        → state old ≡ state other_old → 3 ≤ width → degree_of terms ≤ 4 → AreWithin count terms
-        → length values ≡ 2 ^ rounds * count → claim ≡ cube_sum times terms count rounds (map repr values)
-        → IsRunOf observes gives repr old statement (messages_of (degree_of terms) rounds messages) point new
-        → AreHonestMessages times terms count (degree_of terms) (map repr values) (map (map repr) (messages_of (degree_of terms) rounds messages)) (map repr point)
-        → ((j : ℕ) → j < count → slice_index (map repr left) j ≡ table_value times count (map repr values) (map repr point) j)
-        → read ≡ messages → left_read ≡ left
-        → IsRunOf observes gives repr other_old statement (messages_of (degree_of terms) rounds read) other_point other_new
-        → last ≡ reduced_claim width times claim (map (map repr) (messages_of (degree_of terms) rounds read)) (map repr other_point)
-        → value ≡ terms_value times terms (slice_index (map repr left_read)) → last ≡ value
-    accepted-whole old new other_old other_new statement terms count rounds claim last value values messages read point other_point left left_read
-        same enough few within size true_claim run honest over is_read is_left other_run is_last is_value =
-        is_last
-        ∙ ap (λ (xs : List F). reduced_claim width times claim (map (map repr) (messages_of (degree_of terms) rounds xs)) (map repr other_point)) is_read
-        ∙ ap (λ (rs : List F). reduced_claim width times claim (map (map repr) (messages_of (degree_of terms) rounds messages)) (map repr rs)) (sym points)
-        ∙ honest_reduces width times terms count (degree_of terms) claim (map repr values) (map repr point)
-        (map (map repr) (messages_of (degree_of terms) rounds messages)) shape
-        (true_claim ∙ ap (λ (n : ℕ). cube_sum times terms count n (map repr values)) (sym long)) honest
-        ∙ sym (is_value ∙ ap (λ (xs : List F). terms_value times terms (slice_index (map repr xs))) is_left
-        ∙ terms_value-same times count terms (slice_index (map repr left)) (table_value times count (map repr values) (map repr point)) within over)
-      where
-        begun_same : state run.1 ≡ state other_run.1
-        begun_same =
-            observed-same observes gives state observes_law gives_law run.0 old run.1 other_old other_run.1 same run.3
-            (subst (λ (xs : List F). InTurn observes xs other_old other_run.1)
-            (elements-same repr same_law other_run.0 run.0 (other_run.2 ∙ sym run.2)) other_run.3)
+        (same : state old ≡ state other_old) (enough : 3 ≤ width) (few : degree_of terms ≤ 4) (within : AreWithin count terms)
+        (size : length values ≡ 2 ^ rounds * count) (true_claim : claim ≡ cube_sum times terms count rounds (map repr values))
+        (run : IsRunOf observes gives repr old statement (messages_of (degree_of terms) rounds messages) point new)
+        (honest : AreHonestMessages times terms count (degree_of terms) (map repr values) (map (map repr) (messages_of (degree_of terms) rounds messages)) (map repr point))
+        (over : (j : ℕ) → j < count → slice_index (map repr left) j ≡ table_value times count (map repr values) (map repr point) j)
+        (is_read : read ≡ messages) (is_left : left_read ≡ left)
+        (other_run : IsRunOf observes gives repr other_old statement (messages_of (degree_of terms) rounds read) other_point other_new)
+        (is_last : last ≡ reduced_claim width times claim (map (map repr) (messages_of (degree_of terms) rounds read)) (map repr other_point))
+        (is_value : value ≡ terms_value times terms (slice_index (map repr left_read))) where
+      begun_same : state run.1 ≡ state other_run.1
+      begun_same =
+          observed-same observes gives state observes_law gives_law run.0 old run.1 other_old other_run.1 same run.3
+          (subst (λ (xs : List F). InTurn observes xs other_old other_run.1)
+          (elements-same repr same_law other_run.0 run.0 (other_run.2 ∙ sym run.2)) other_run.3)
 
-        points : point ≡ other_point
-        points =
-            turns-same observes gives state observes_law gives_law (messages_of (degree_of terms) rounds messages) point other_point run.1 new
-            other_run.1 other_new begun_same run.4
-            (subst (λ (xs : List F). AreTurns observes gives other_run.1 (messages_of (degree_of terms) rounds xs) other_point other_new) is_read other_run.4)
+      points : point ≡ other_point
+      points =
+          turns-same observes gives state observes_law gives_law (messages_of (degree_of terms) rounds messages) point other_point run.1 new
+          other_run.1 other_new begun_same run.4
+          (subst (λ (xs : List F). AreTurns observes gives other_run.1 (messages_of (degree_of terms) rounds xs) other_point other_new) is_read other_run.4)
 
-        long : length (map repr point) ≡ rounds
-        long =
-            length-map point repr ∙ turns-length observes gives (messages_of (degree_of terms) rounds messages) point run.1 new run.4
-            ∙ messages-length (degree_of terms) rounds messages
+      long : length (map repr point) ≡ rounds
+      long =
+          length-map point repr ∙ turns-length observes gives (messages_of (degree_of terms) rounds messages) point run.1 new run.4
+          ∙ messages-length (degree_of terms) rounds messages
 
-        shape : IsClaimShape width times terms count (degree_of terms) (length (map repr point)) (map repr values)
-        shape = record {
-          field = field;
-          wide = wide;
-          nodes = let power : 2 ^ 3 ≤ 2 ^ width = pow-le-pow_right (lit< tt) enough in omega (arith, power, few);
-          some = degree-some terms;
-          few = degree-most terms;
-          within = within;
-          size = length-map values repr ∙ size ∙ ap (λ (n : ℕ). 2 ^ n * count) (sym long);
-          fits = numbers-lt repr width range values;
-        }
+      shape : IsClaimShape width times terms count (degree_of terms) (length (map repr point)) (map repr values)
+      shape = record {
+        field = field;
+        wide = wide;
+        nodes = let power : 2 ^ 3 ≤ 2 ^ width = pow-le-pow_right (lit< tt) enough in omega (arith, power, few);
+        some = degree-some terms;
+        few = degree-most terms;
+        within = within;
+        size = length-map values repr ∙ size ∙ ap (λ (n : ℕ). 2 ^ n * count) (sym long);
+        fits = numbers-lt repr width range values;
+      }
+
+      last_is : last ≡ reduced_claim width times claim (map (map repr) (messages_of (degree_of terms) rounds messages)) (map repr point)
+      last_is =
+          is_last
+          ∙ ap (λ (xs : List F). reduced_claim width times claim (map (map repr) (messages_of (degree_of terms) rounds xs)) (map repr other_point)) is_read
+          ∙ ap (λ (rs : List F). reduced_claim width times claim (map (map repr) (messages_of (degree_of terms) rounds messages)) (map repr rs)) (sym points)
+
+      value_is : value ≡ terms_value times terms (table_value times count (map repr values) (map repr point))
+      value_is =
+          is_value ∙ ap (λ (xs : List F). terms_value times terms (slice_index (map repr xs))) is_left
+          ∙ terms_value-same times count terms (slice_index (map repr left)) (table_value times count (map repr values) (map repr point)) within over
+
+      -- the verifier accepts
+      accepted-whole : last ≡ value
+      accepted-whole =
+          last_is
+          ∙ honest_reduces width times terms count (degree_of terms) claim (map repr values) (map repr point)
+          (map (map repr) (messages_of (degree_of terms) rounds messages)) shape
+          (true_claim ∙ ap (λ (n : ℕ). cube_sum times terms count n (map repr values)) (sym long)) honest
+          ∙ sym value_is
+
+      -- and it is in the challenges of the prover that it does
+      proof-and-verdict : (accepted : Bool) → statement ≡ statement_of width times rounds count terms claim
+          → length messages ≡ rounds * degree_of terms → IsTrue accepted ↔ (last ≡ value)
+          → IsProofAndVerdict observes gives width times repr terms count rounds values old new other_old other_new accepted
+      proof-and-verdict accepted is_statement sent decides =
+          let stated : statement ≡ statement_of width times rounds count terms (cube_sum times terms count rounds (map repr values)) =
+          is_statement ∙ ap (statement_of width times rounds count terms) true_claim in
+          let final : last ≡ reduced_claim width times (cube_sum times terms count rounds (map repr values))
+          (map (map repr) (messages_of (degree_of terms) rounds messages)) (map repr point) =
+          last_is
+          ∙ ap (λ (c : ℕ). reduced_claim width times c (map (map repr) (messages_of (degree_of terms) rounds messages)) (map repr point)) true_claim in
+          record {
+            messages = messages;
+            challenges = point;
+            count_of_messages = sent;
+            proved = subst (λ (s : Statement). IsRunOf observes gives repr old s (messages_of (degree_of terms) rounds messages) point new) stated run;
+            honest = honest;
+            verified =
+                subst (λ (s : Statement). IsRunOf observes gives repr other_old s (messages_of (degree_of terms) rounds messages) point other_new) stated
+                (subst (λ (rs : List F). IsRunOf observes gives repr other_old statement (messages_of (degree_of terms) rounds messages) rs other_new) (sym points)
+                (subst (λ (xs : List F). IsRunOf observes gives repr other_old statement (messages_of (degree_of terms) rounds xs) other_point other_new) is_read other_run));
+            verdict = (λ holds. sym final ∙ decides.0 holds ∙ value_is, λ meets. decides.1 (final ∙ meets ∙ sym value_is));
+          }
+
+      pub proved-and-accepted : (accepted : Bool) → statement ≡ statement_of width times rounds count terms claim
+          → length messages ≡ rounds * degree_of terms → IsTrue accepted ↔ (last ≡ value)
+          → IsTrue accepted × IsProofAndVerdict observes gives width times repr terms count rounds values old new other_old other_new accepted
+      proved-and-accepted accepted is_statement sent decides =
+          (decides.1 accepted-whole, proof-and-verdict accepted is_statement sent decides)

@@ -1,11 +1,13 @@
 -- Steps over a list of terms, from the first on, and over the factors of one.
-use Rattle.std.proofs.Common.{◌≡◌, ◌↔◌, ℕ, zero, suc, ◌+◌, ◌-◌, ◌*◌, ◌^◌, ◌<◌, ◌≤◌, Bool, true, false, List, [], ◌∷◌, length, map, take, drop, get_or, refl, sym, ◌∙◌, ap, ap₂, subst, arith}
+use Rattle.std.proofs.Common.{◌≡◌, ◌↔◌, ℕ, zero, suc, ◌+◌, ◌-◌, ◌*◌, ◌^◌, ◌<◌, ◌≤◌, Bool, true, false, List, [], ◌∷◌, length, map, take, drop, get_or, refl, sym, ◌∙◌, ap, ap₂, subst, arith, lit<}
 use Rattle.std.specs.Prelude.{IsTrue, bit_xor, max, slice_index}
-use Rattle.std.proofs.Math.Nat.{le-max_left, le-max_right, lt_of_lt_of_le, mul-le-mul_right}
+use Rattle.std.proofs.Math.Nat.{le-max_left, le-max_right, lt_of_lt_of_le, mul-le-mul_right, two-pow-succ}
 use Rattle.std.proofs.lemmas.Bool.{false≢true}
 use Rattle.std.proofs.lemmas.List.{get_or-drop, get_or-take, take-map, take_rest}
 use Rattle.field_slices.proofs.CubeTables.{drop-map}
 use Rattle.field_base.specs.Basis.{product_below, sum_below}
+use Rattle.field_base.specs.Ring.{IsRing}
+use Rattle.field_base.proofs.PowerLemmas.{one-times}
 use Rattle.protocols.specs.Terms.{AreWithin, HaveFactors, FactorsAreWithin, Product, degree_of, product_value, terms_value}
 
 -- a list that is not empty is its first element and the others
@@ -46,6 +48,23 @@ module _ (count : ℕ) where
   below-more ns rest n holds is low others =
       subst (λ (ms : List ℕ). IsTrue holds ↔ AreBelow ms) (sym is)
       ((λ true_now. below-cons n rest low (others.0 true_now)), λ all. others.1 (λ k inside. all (suc k) (omega (arith, inside))))
+
+  -- the numbers behind the first
+  pub below-rest : (ns rest : List ℕ) (n : ℕ) → ns ≡ n ∷ rest → AreBelow ns → AreBelow rest
+  below-rest ns rest n is all k inside = subst AreBelow is all (suc k) (omega (arith, inside))
+
+-- four numbers
+pub below-four : (a b c d bound : ℕ) → a < bound → b < bound → c < bound → d < bound → AreBelow bound (a ∷ b ∷ c ∷ d ∷ [])
+below-four a b c d bound a_below b_below c_below d_below zero inside = a_below
+below-four a b c d bound a_below b_below c_below d_below (suc zero) inside = b_below
+below-four a b c d bound a_below b_below c_below d_below (suc (suc zero)) inside = c_below
+below-four a b c d bound a_below b_below c_below d_below (suc (suc (suc zero))) inside = d_below
+below-four a b c d bound a_below b_below c_below d_below (suc (suc (suc (suc k)))) inside = absurd (omega (arith, inside))
+
+-- a number is below the power of two with it as the exponent
+pub below-power : (n : ℕ) → n < 2 ^ n
+below-power zero = lit< tt
+below-power (suc n) = let below = below-power n in let twice = two-pow-succ n in omega (arith, below, twice)
 
 -- ---- terms
 
@@ -130,6 +149,17 @@ degree-most (term ∷ terms) = (
 pub product-none : (times : ℕ → ℕ → ℕ) (f : ℕ → ℕ) → 1 ≡ product_below times f 0
 unfolding product_below
 product-none times f = refl
+
+-- the first factor is the product of one
+pub product-first : (width : ℕ) (times : ℕ → ℕ → ℕ) → IsRing width 1 times → (f : ℕ → ℕ) → f 0 < 2 ^ width → f 0 ≡ product_below times f 1
+unfolding product_below
+product-first width times ring f fits = sym (one-times width 1 times ring (f 0) fits)
+
+-- a product with a coefficient that is 1
+pub one-scaled : (width : ℕ) (times : ℕ → ℕ → ℕ) → IsRing width 1 times → (coefficient value product : ℕ) → coefficient ≡ 1 → value < 2 ^ width
+    → value ≡ product → value ≡ times coefficient product
+one-scaled width times ring coefficient value product one fits is =
+    sym (ap₂ times one (sym is) ∙ one-times width 1 times ring value fits)
 
 pub product-more : (times : ℕ → ℕ → ℕ) (f : ℕ → ℕ) (n before after : ℕ) → before ≡ product_below times f n → after ≡ times before (f n)
     → after ≡ product_below times f (n + 1)

@@ -116,7 +116,7 @@ lines_have_one_root width times v w x y field wide v_fits w_fits x_fits y_fits l
 
 module _ (width : ℕ) (times : ℕ → ℕ → ℕ) (ring : IsRing width 1 times) where
   -- 1 ((1 e) a b) + (1 ((1 e) c) + 0) = (a b + c) e
-  terms-at : (row : ℕ → ℕ) → row 0 < 2 ^ width
+  pub terms-at : (row : ℕ → ℕ) → row 0 < 2 ^ width
       → terms_value times zero_check_terms row ≡ times (bit_xor (times (row 1) (row 2)) (row 3)) (row 0)
   unfolding terms_value product_below
   terms-at row fits =

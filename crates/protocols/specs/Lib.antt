@@ -6,8 +6,10 @@ pub mod MerkleTrees
 pub mod Openings
 pub mod Products
 pub mod Queries
+pub mod Refusals
 pub mod Runs
 pub mod Sumcheck
 pub mod SumcheckClaims
+pub mod SumcheckRuns
 pub mod Terms
 pub mod ZeroCheck

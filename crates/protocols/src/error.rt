@@ -1,4 +1,8 @@
 // Why a protocol stopped.
+ghost use Rattle.std.specs.Prelude.{◌≡◌};
+ghost use Rattle.protocols.specs.Refusals.{error_of_call};
+ghost use Rattle.protocols.specs.declared.error.ProtocolError.TheVariants.{Memory};
+
 use std::alloc::{AllocError, AllocFailed};
 use thiserror::Error;
 use transcript_bytes::ChallengerError;
@@ -25,18 +29,24 @@ pub enum ProtocolError {
 }
 
 impl From<AllocError> for ProtocolError {
+    ghost from_gives = { λ _ error. error ≡ Memory };
+
     fn from(_error: AllocError) -> ProtocolError {
         ProtocolError::Memory
     }
 }
 
 impl<T: Drop> From<AllocFailed<T>> for ProtocolError {
+    ghost from_gives = { λ _ error. error ≡ Memory };
+
     fn from(_error: AllocFailed<T>) -> ProtocolError {
         ProtocolError::Memory
     }
 }
 
 impl From<ChallengerError> for ProtocolError {
+    ghost from_gives = { λ refusal error. error ≡ error_of_call refusal };
+
     fn from(error: ChallengerError) -> ProtocolError {
         match error {
             ChallengerError::Memory => ProtocolError::Memory,

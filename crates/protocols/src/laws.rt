@@ -1,6 +1,6 @@
 // Completeness and soundness of the sum-check protocol, as contracts of functions that compute nothing.
 ghost use Rattle.protocols.specs.SumcheckClaims.{FalseClaimsNeedLuck, FewChallengesSave, HonestReduces};
-ghost use Rattle.protocols.specs.ZeroCheck.{LinesHaveOneRoot, ZeroCheckEvaluates, ZeroNeedsRoot};
+ghost use Rattle.protocols.specs.ZeroCheck.{FalseZerosNeedLuck, LinesHaveOneRoot, ZeroCheckEvaluates, ZeroNeedsRoot, ZerosReduce};
 
 /// States completeness: the messages of an honest prover lead from a true claim to a true one, whatever the challenges are.
 pub fn honest_reduces()
@@ -34,4 +34,17 @@ pub fn lines_have_one_root()
 /// some coordinate is such a root.
 pub fn zero_check_evaluates()
     ensures { ZeroCheckEvaluates }
+{}
+
+/// States completeness of a zero-check: where a b = c at every corner, the messages of an honest prover lead from the sum 0 to
+/// eq(point, challenges) (a b + c) at the challenges, whatever the point and the challenges are.
+pub fn zeros_reduce()
+    ensures { ZerosReduce }
+{}
+
+/// States soundness of a zero-check, for every prover, without probability: where a b and c differ at a corner, messages lead from the sum
+/// 0 to eq(point, challenges) (a b + c) at the challenges only where a coordinate of the point is the root of a line that is not 0, or a
+/// challenge saves the claim that the sum is 0. A line has one root at most, and at most three challenges of a round save the claim.
+pub fn false_zeros_need_luck()
+    ensures { FalseZerosNeedLuck }
 {}

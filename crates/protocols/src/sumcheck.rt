@@ -1,15 +1,19 @@
 // The prover and the verifier of the sum-check protocol, over any field and any challenger of it.
 ghost use Rattle.std.specs.Prelude.{◌≡◌, ◌↔◌, ◌+◌, ◌*◌, ◌-◌, ◌/◌, ◌^◌, ◌<◌, ◌≤◌, ◌++◌, ℕ, List, length, map, slice_index, take, Err, IfOk};
-ghost use Rattle.std.specs.Prelude.{OnOk, IsTrue};
+ghost use Rattle.std.specs.Prelude.{false, ◌||◌, IfErr, IsTrue, OnOk};
 ghost use Rattle.protocols.specs.Products.{term_product};
+ghost use Rattle.protocols.specs.Refusals.{CanBeProved, CanBeStated, IsAnswer, ProverRefuses, VerifierRefuses};
 ghost use Rattle.protocols.specs.Sumcheck.{AreTurns, IsRunOf, IsTurn, messages_of, statement_of};
 ghost use Rattle.protocols.specs.SumcheckClaims.{AreHonestMessages, honest_message, message_at, node_values, reduced_claim};
+ghost use Rattle.protocols.specs.SumcheckRuns.{IsProofAndVerdict};
 ghost use Rattle.protocols.specs.Terms.{AreWithin, cube_sum, degree_of, honest_at, table_value, terms_value};
+ghost use Rattle.protocols.specs.declared.error.ProtocolError.TheVariants.{Memory, Shape};
 ghost use Rattle.field_slices.specs.Multilinear.{folded, folded_all};
 
 use crate::error::ProtocolError;
-use crate::statement::statement;
+use crate::statement::{can_be_stated, statement};
 use crate::terms::{Term, cube_sum, degree, terms_at};
+use crate::verdicts::both;
 use field_base::traits::Field;
 use field_slices::{fold, interpolate_at_nodes};
 use std::alloc::{AllocError, Allocator};
@@ -37,7 +41,9 @@ pub struct Reduced<F: Field, A: Allocator> {
 
 /// Proves that the sum of the terms over the cube of `rounds` coordinates is the claim: row i of the values has those of `count`
 /// polynomials at corner i. The values are folded in place. The statement is observed, then each round's message, after which its
-/// challenge is sampled. It fails with `Shape` if the numbers do not fit the values or the field, and with `Memory` or `Challenger`.
+/// challenge is sampled. It fails with `Challenger` if a call of the challenger had failed before; else with `Shape` exactly if there are
+/// not 2^rounds rows, or 2^64 of them, or the claim cannot be stated (`can_be_stated`); and else only with `Memory`. The first two leave
+/// the challenger and the values as they are.
 pub fn prove<F: Field, C: FieldChallenger<F>, A: Allocator + Copy>(
     alloc: A,
     challenger: &mut C,
@@ -54,15 +60,19 @@ pub fn prove<F: Field, C: FieldChallenger<F>, A: Allocator + Copy>(
         (degree_of (map (term_product F.repr) terms.now)) (map F.repr values.old)
         (map (map F.repr) (messages_of (degree_of (map (term_product F.repr) terms.now)) rounds proven.messages.items))
         (map F.repr proven.point.items)) }
+    ensures length { IfOk result (λ proven. length proven.messages.items ≡ rounds * degree_of (map (term_product F.repr) terms.now)) }
     ensures field { IfOk result (λ proven. 3 ≤ F.width) }
     ensures count { IfOk result (λ proven. length proven.values.items ≡ count) }
     ensures values { IfOk result (λ proven. (j : ℕ) → j < count → slice_index (map F.repr proven.values.items) j
         ≡ table_value F.product count (map F.repr values.old) (map F.repr proven.point.items) j) }
+    ensures answer { IsAnswer (C.has_failed challenger.old) (C.has_failed challenger.new)
+        (ProverRefuses F.width rounds count (map (term_product F.repr) terms.now) (length values.old))
+        ((challenger.new ≡ challenger.old) × (values.new ≡ values.old)) result }
 {
-    if rounds >= 64 {
-        return Err(ProtocolError::Shape);
+    if challenger.failed() {
+        return Err(ProtocolError::Challenger);
     }
-    if !has_length(values.len(), count, 1 << rounds) {
+    if !can_be_proved(rounds, count, terms, values.len()) {
         return Err(ProtocolError::Shape);
     }
     let elements = statement(alloc, rounds, count, terms, claim)?;
@@ -86,6 +96,19 @@ pub fn prove<F: Field, C: FieldChallenger<F>, A: Allocator + Copy>(
     Ok(proven)
 }
 
+// Whether the claim can be stated and so many values are those of the polynomials at the corners of the cube.
+fn can_be_proved<F: Field>(rounds: usize, count: usize, terms: &[Term<F>], size: usize) -> bool
+    ensures { IsTrue result ↔ CanBeProved F.width rounds count (map (term_product F.repr) terms.now) size }
+{
+    if rounds >= 64 {
+        return false;
+    }
+    both(
+        can_be_stated(rounds, count, terms),
+        has_length(size, count, 1 << rounds),
+    )
+}
+
 // Appends the messages and the challenges of the rounds that are left, and folds the values by the challenges.
 fn prove_rounds<F: Field, C: FieldChallenger<F>, A: Allocator + Copy>(
     alloc: A,
@@ -97,12 +120,15 @@ fn prove_rounds<F: Field, C: FieldChallenger<F>, A: Allocator + Copy>(
     count: usize,
     proven: &mut Proven<F, A>,
 ) -> Result<(), ProtocolError>
+    requires going { C.has_failed challenger.old ≡ false }
     requires few { rounds < 64 }
     requires field { 3 ≤ F.width }
     requires within { AreWithin count (map (term_product F.repr) terms.now) }
     requires size { length values.old ≡ 2 ^ rounds * count }
     requires room { length scratch.old ≡ length values.old }
-    ensures { OnOk result ((messages : List F) × (challenges : List F) × (left : List F)
+    ensures goes_on { OnOk result (C.has_failed challenger.new ≡ false) }
+    ensures memory { IfErr result (λ error. error ≡ Memory) }
+    ensures run { IfOk result (λ done. (messages : List F) × (challenges : List F) × (left : List F)
         × (proven.new.messages.items ≡ proven.old.messages.items ++ messages) × (proven.new.point.items ≡ proven.old.point.items ++ challenges)
         × (proven.new.values.items ≡ left)
         × (length messages ≡ rounds * degree_of (map (term_product F.repr) terms.now))
@@ -160,7 +186,7 @@ fn message<F: Field, A: Allocator>(
         (map F.repr values.now) (degree_of (map (term_product F.repr) terms.now))) }
 {
     let mut message = Vec::new(alloc);
-    let first = value_at(terms, values, scratch, rounds, count, F::ZERO);
+    let first = cube_sum(terms, &values[..values.len() / 2], count, rounds);
     message.push(first)?;
     let degree = degree(terms);
     for node in 2..degree + 1 {
@@ -195,8 +221,9 @@ fn value_at<F: Field>(
 
 /// Reduces the claim that the sum of the terms of `count` polynomials over the cube of `rounds` coordinates is `claim` to one claim at one
 /// point: that the terms have the value `claim` of the result at its point. The caller has to check that one, with values that were
-/// committed to before the challenges were sampled. It fails with `Length` if there are not as many messages as rounds, each of as many
-/// values as a term has factors at most, with `Shape` if a number does not fit the field, and with `Memory` or `Challenger`.
+/// committed to before the challenges were sampled. It fails with `Challenger` if a call of the challenger had failed before; else with
+/// `Length` exactly if there are not as many messages as rounds, each of as many values as a term has factors at most; else with `Shape`
+/// exactly if the claim cannot be stated (`can_be_stated`); and else only with `Memory`. The first three leave the challenger as it is.
 pub fn verify<F: Field, C: FieldChallenger<F>, A: Allocator + Copy>(
     alloc: A,
     challenger: &mut C,
@@ -213,11 +240,15 @@ pub fn verify<F: Field, C: FieldChallenger<F>, A: Allocator + Copy>(
         × (F.repr reduced.claim ≡ reduced_claim F.width F.product (F.repr claim)
         (map (map F.repr) (messages_of (degree_of (map (term_product F.repr) terms.now)) rounds messages.now)) (map F.repr reduced.point.items))
         × (length reduced.point.items ≡ rounds)) }
+    ensures answer { IsAnswer (C.has_failed challenger.old) (C.has_failed challenger.new)
+        (VerifierRefuses F.width rounds count (map (term_product F.repr) terms.now) (length messages.now))
+        (challenger.new ≡ challenger.old) result }
 {
-    let degree = degree(terms);
-    if !has_length(messages.len(), rounds, degree) {
-        return Err(ProtocolError::Length);
+    if challenger.failed() {
+        return Err(ProtocolError::Challenger);
     }
+    test_messages(rounds, count, terms, messages.len())?;
+    let degree = degree(terms);
     let elements = statement(alloc, rounds, count, terms, claim)?;
     challenger.observe_slice(elements.as_slice())?;
     let mut point = Vec::new(alloc);
@@ -225,6 +256,26 @@ pub fn verify<F: Field, C: FieldChallenger<F>, A: Allocator + Copy>(
         alloc, challenger, claim, messages, rounds, degree, &mut point,
     )?;
     Ok(Reduced { point, claim })
+}
+
+// Whether the claim can be stated, and so many values are those of `rounds` messages, each of as many as a term has factors at most.
+fn test_messages<F: Field>(
+    rounds: usize,
+    count: usize,
+    terms: &[Term<F>],
+    size: usize,
+) -> Result<(), ProtocolError>
+    ensures long { OnOk result (size ≡ rounds * degree_of (map (term_product F.repr) terms.now)) }
+    ensures stated { OnOk result (CanBeStated F.width rounds count (map (term_product F.repr) terms.now)) }
+    ensures refused { IfErr result (λ error. VerifierRefuses F.width rounds count (map (term_product F.repr) terms.now) size error) }
+{
+    if !has_length(size, rounds, degree(terms)) {
+        return Err(ProtocolError::Length);
+    }
+    if !can_be_stated(rounds, count, terms) {
+        return Err(ProtocolError::Shape);
+    }
+    Ok(())
 }
 
 // Whether so many values are `count` parts of this size, which is not 0.
@@ -252,7 +303,10 @@ fn verify_rounds<F: Field, C: FieldChallenger<F>, A: Allocator + Copy>(
     requires some { 0 < degree }
     requires few { degree ≤ 4 }
     requires count { length messages.now ≡ rounds * degree }
-    ensures { IfOk result (λ last. (challenges : List F) × (point.new.items ≡ point.old.items ++ challenges)
+    requires going { C.has_failed challenger.old ≡ false }
+    ensures goes_on { OnOk result (C.has_failed challenger.new ≡ false) }
+    ensures memory { IfErr result (λ error. error ≡ Memory) }
+    ensures run { IfOk result (λ last. (challenges : List F) × (point.new.items ≡ point.old.items ++ challenges)
         × AreTurns C.observes C.gives challenger.old (messages_of degree rounds messages.now) challenges challenger.new
         × (F.repr last ≡ reduced_claim F.width F.product (F.repr claim) (map (map F.repr) (messages_of degree rounds messages.now))
         (map F.repr challenges))) }
@@ -289,7 +343,8 @@ fn node_values<F: Field, A: Allocator>(
 }
 
 /// Proves that the sum is what it is, and verifies the proof in a challenger that begins in the same state. The verifier accepts,
-/// whatever the challenger is.
+/// whatever the challenger is. It fails with `Challenger` if a call of either challenger had failed before; else with `Shape` exactly if
+/// the claim cannot be stated (`can_be_stated`); and else only with `Memory`.
 pub fn prove_and_verify<F: Field, C: FieldChallenger<F>, A: Allocator + Copy>(
     alloc: A,
     prover: &mut C,
@@ -303,8 +358,16 @@ pub fn prove_and_verify<F: Field, C: FieldChallenger<F>, A: Allocator + Copy>(
     requires few { rounds < 64 }
     requires within { AreWithin count (map (term_product F.repr) terms.now) }
     requires size { length values.old ≡ 2 ^ rounds * count }
-    ensures { IfOk result (λ accepted. IsTrue accepted) }
+    ensures accepted { IfOk result (λ accepted. IsTrue accepted) }
+    ensures ran { IfOk result (λ accepted. IsProofAndVerdict C.observes C.gives F.width F.product F.repr
+        (map (term_product F.repr) terms.now) count rounds values.old prover.old prover.new verifier.old verifier.new accepted) }
+    ensures answer { IsAnswer (C.has_failed prover.old || C.has_failed verifier.old) (C.has_failed prover.new || C.has_failed verifier.new)
+        (λ error. (error ≡ Shape) × (CanBeStated F.width rounds count (map (term_product F.repr) terms.now) → ⊥))
+        ((prover.new ≡ prover.old) × (verifier.new ≡ verifier.old) × (values.new ≡ values.old)) result }
 {
+    if prover.failed() || verifier.failed() {
+        return Err(ProtocolError::Challenger);
+    }
     let claim = cube_sum(terms, values, count, rounds);
     let proven = prove(alloc, prover, values, rounds, count, terms, claim)?;
     let reduced = verify(

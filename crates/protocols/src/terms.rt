@@ -1,5 +1,6 @@
 // Sums of products of polynomials, by their values.
 ghost use Rattle.std.specs.Prelude.{◌≡◌, ◌+◌, ◌*◌, ◌^◌, ◌<◌, ◌≤◌, ◌↔◌, ℕ, length, map, slice_index, IfSome, IsNone, IsTrue};
+ghost use Rattle.field_base.specs.Basis.{product_below};
 ghost use Rattle.protocols.specs.Terms.{AreWithin, FactorsAreWithin, cube_sum, degree_of, product_value, terms_value};
 
 use field_base::traits::Field;
@@ -46,17 +47,32 @@ impl<F: Field> Term<F> {
         requires { FactorsAreWithin (length row.now) (term_product F.repr self.now) }
         ensures { F.repr result ≡ product_value F.product (slice_index (map F.repr row.now)) (term_product F.repr self.now) }
     {
-        let factors = self.factors();
-        let mut product = F::ONE;
-        for place in 0..factors.len() {
-            let factor = factors[place];
-            product = product * row[factor];
+        let product = product_of(self.factors(), row);
+        if self.coefficient == F::ONE {
+            return product;
         }
         self.coefficient * product
     }
 }
 
 ghost use Rattle.protocols.specs.Products.{term_product};
+
+// The product of the values at these places of the row, with a product for each but the first.
+fn product_of<F: Field>(factors: &[usize], row: &[F]) -> F
+    requires { (k : ℕ) → k < length factors.now → slice_index factors.now k < length row.now }
+    ensures { F.repr result
+        ≡ product_below F.product (λ k. slice_index (map F.repr row.now) (slice_index factors.now k)) (length factors.now) }
+{
+    if factors.is_empty() {
+        return F::ONE;
+    }
+    let mut product = row[factors[0]];
+    for place in 1..factors.len() {
+        let factor = factors[place];
+        product = product * row[factor];
+    }
+    product
+}
 
 // Whether each of the numbers is below `count`.
 fn are_below(numbers: &[usize], count: usize) -> bool

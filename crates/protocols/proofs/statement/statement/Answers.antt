@@ -1,8 +1,27 @@
-use Rattle.std.proofs.Common.{◌≡◌, ◌∷◌, ◌++◌, [], ℕ, List, length, map, refl, ap, ap₂, ◌∙◌, sym, arith}
+use Rattle.std.proofs.Common.{◌≡◌, ◌<◌, ◌≤◌, ◌^◌, ◌∷◌, ◌++◌, [], ℕ, List, length, map, refl, ap, ap₂, ◌∙◌, sym, subst, arith, lit<}
+use Rattle.std.proofs.Math.Nat.{pow-le-pow_right}
 use Rattle.std.proofs.lemmas.List.{length-map}
 use Rattle.protocols.specs.Products.{term_product}
+use Rattle.protocols.proofs.Refusals.{within-greater}
 use Rattle.protocols.proofs.SumcheckSteps.{statement-numbers}
+use Rattle.protocols.proofs.TermSteps.{below-four, below-power}
 use Rattle.protocols.proofs.statement.statement.Goals as goal
+
+pub push_numbers-requires : goal.push_numbers-requires
+push_numbers-requires g c =
+    let width = g.F.Represented.width in
+    below-four c.bits.result c.args.rounds c.args.count _ (2 ^ width) (subst (λ (n : ℕ). n < 2 ^ width) (sym c.bits.ensures) (below-power width))
+    (c.can_be_stated.ensures.0 c.if-not-can_be_stated.false).rounds_fit (c.can_be_stated.ensures.0 c.if-not-can_be_stated.false).count_fits
+    (subst (λ (n : ℕ). n < 2 ^ width) (length-map c.args.terms.now (term_product g.F.Represented.repr)) (c.can_be_stated.ensures.0 c.if-not-can_be_stated.false).terms_fit)
+
+pub interpolation_node-two-requires : goal.interpolation_node-two-requires
+interpolation_node-two-requires g c =
+    let power : 2 ^ 3 ≤ 2 ^ g.F.Represented.width = pow-le-pow_right (lit< tt) (c.can_be_stated.ensures.0 c.if-not-can_be_stated.false).field in omega (arith, power)
+
+pub push_terms-requires-clause-within : goal.push_terms-requires-clause-within
+push_terms-requires-clause-within g c =
+    within-greater (map (term_product g.F.Represented.repr) c.args.terms.now) c.args.count (2 ^ g.F.Represented.width)
+    (let below = (c.can_be_stated.ensures.0 c.if-not-can_be_stated.false).count_fits in omega (arith, below)) (c.can_be_stated.ensures.0 c.if-not-can_be_stated.false).within
 
 pub returns-clause-numbers : goal.returns-clause-numbers
 returns-clause-numbers g c =
@@ -12,8 +31,8 @@ returns-clause-numbers g c =
     (length (map (term_product field.repr) c.args.terms.now)) (field.product 2 2) (map (term_product field.repr) c.args.terms.now)
     c.new-elements.ensures.items
     (c.in_ok-push_numbers.ensures
-    ∙ ap₂ (λ (w n : ℕ). map field.repr c.new-elements.result.items ++ w ∷ c.args.rounds ∷ c.args.count ∷ n ∷ []) c.bits-2.ensures (sym (length-map c.args.terms.now (term_product field.repr))))
+    ∙ ap₂ (λ (w n : ℕ). map field.repr c.new-elements.result.items ++ w ∷ c.args.rounds ∷ c.args.count ∷ n ∷ []) c.bits.ensures (sym (length-map c.args.terms.now (term_product field.repr))))
     c.in_ok-push.ensures.items
-    (g.met.F.Represented.mul_law c.in_ok-two.two c.in_ok-two.two c.mul-square.result c.mul-square.ensures
-    ∙ ap₂ field.product c.in_ok-two.ensures c.in_ok-two.ensures)
+    (g.met.F.Represented.mul_law c.interpolation_node-two.result c.interpolation_node-two.result c.mul-square.result c.mul-square.ensures
+    ∙ ap₂ field.product c.interpolation_node-two.ensures c.interpolation_node-two.ensures)
     c.in_ok-push_terms.ensures c.in_ok-push-2.ensures.items

@@ -1,12 +1,12 @@
 use Rattle.std.proofs.Common.{◌≡◌, ℕ, ◌/◌, ◌-◌, ◌<◌, length, map, take, sym, ◌∙◌, ap, arith, rules}
 use Rattle.protocols.specs.Products.{term_product}
 use Rattle.protocols.specs.Terms.{degree_of}
-use Rattle.protocols.proofs.SumcheckSteps.{cube-even, cube-more, half-size, honest-long, proved-more, proved-none, refused}
+use Rattle.protocols.proofs.SumcheckSteps.{cube-even, cube-more, half-size, honest-long, proved-more, proved-none}
 use Rattle.protocols.proofs.TermSteps.{degree-some}
 use Rattle.protocols.proofs.sumcheck.+prove_rounds.Goals as goal
 
-pub returns-then-rounds-eq0 : goal.returns-then-rounds-eq0
-returns-then-rounds-eq0 g t c =
+pub returns-then-rounds-eq0-clause-run : goal.returns-then-rounds-eq0-clause-run
+returns-then-rounds-eq0-clause-run g t c =
     let repr = g.F.Represented.repr in
     let terms = map (term_product repr) c.args.terms.now in
     proved-none g.C.CanObserve.observes g.C.CanSample.gives g.F.Represented.width g.F.Represented.product repr (degree_of terms) terms c.args.count
@@ -24,8 +24,8 @@ fold-requires g t c =
     cube-even (length c.args.values.now) (c.args.rounds - 1) c.args.count
     (cube-more (length c.args.values.now) c.args.rounds c.args.count some c.requires.size)
 
-pub returns : goal.returns
-returns g t c =
+pub returns-clause-run : goal.returns-clause-run
+returns-clause-run g t c =
     let repr = g.F.Represented.repr in
     let times = g.F.Represented.product in
     let terms = map (term_product repr) c.args.terms.now in
@@ -40,7 +40,7 @@ returns g t c =
     c.in_ok-challenge.challenge some
     (honest-long repr times terms c.args.count _ (degree_of terms) (map repr c.args.values.now) sent (degree-some terms) honest)
     honest c.in_ok-observe_slice.ensures.ok c.in_ok-challenge.ensures.ok c.in_ok-extend_from_slice.ensures.items c.in_ok-push.ensures.items
-    (ap (λ (n : ℕ). map repr (take (n / 2) c.fold.new.values)) same ∙ c.fold.ensures.folded) c.in_ok-prove_rounds.ensures
+    (ap (λ (n : ℕ). map repr (take (n / 2) c.fold.new.values)) same ∙ c.fold.ensures.folded) c.in_ok-prove_rounds.ensures.run
 
 pub prove_rounds-requires : goal.prove_rounds-requires
 prove_rounds-requires g t c =
@@ -53,24 +53,3 @@ prove_rounds-requires g t c =
     (c.message.ensures.room ∙ c.requires.room) in
     let both = room ∙ sym half in
     search rules
-
-pub returns-in_err-left : goal.returns-in_err-left
-returns-in_err-left g t c = refused _ _ c.from_residual.result c.from_residual.ensures.1
-
-pub returns-in_err-message : goal.returns-in_err-message
-returns-in_err-message g t c = refused _ _ c.from_residual-in_err-message.result c.from_residual-in_err-message.ensures.1
-
-pub returns-in_err-observe_slice : goal.returns-in_err-observe_slice
-returns-in_err-observe_slice g t c = refused _ _ c.from_residual-in_err-observe_slice.result c.from_residual-in_err-observe_slice.ensures.1
-
-pub returns-in_err-extend_from_slice : goal.returns-in_err-extend_from_slice
-returns-in_err-extend_from_slice g t c = refused _ _ c.from_residual-in_err-extend_from_slice.result c.from_residual-in_err-extend_from_slice.ensures.1
-
-pub returns-in_err-challenge : goal.returns-in_err-challenge
-returns-in_err-challenge g t c = refused _ _ c.from_residual-in_err-challenge.result c.from_residual-in_err-challenge.ensures.1
-
-pub returns-in_err-push : goal.returns-in_err-push
-returns-in_err-push g t c = refused _ _ c.from_residual-in_err-push.result c.from_residual-in_err-push.ensures.1
-
-pub returns-in_err-prove_rounds : goal.returns-in_err-prove_rounds
-returns-in_err-prove_rounds g t c = refused _ _ c.from_residual-in_err-prove_rounds.result c.from_residual-in_err-prove_rounds.ensures.1

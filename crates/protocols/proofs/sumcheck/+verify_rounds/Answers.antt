@@ -3,8 +3,8 @@ use Rattle.transcript_elements.specs.Lists.{InTurn}
 use Rattle.protocols.proofs.SumcheckSteps.{message-fits, message-long, next-claim, nodes-few, rest-long, verified-more, verified-none}
 use Rattle.protocols.proofs.sumcheck.+verify_rounds.Goals as goal
 
-pub returns-then-rounds-eq0 : goal.returns-then-rounds-eq0
-returns-then-rounds-eq0 g t c =
+pub returns-then-rounds-eq0-clause-run : goal.returns-then-rounds-eq0-clause-run
+returns-then-rounds-eq0-clause-run g t c =
     verified-none g.C.CanObserve.observes g.C.CanSample.gives g.F.Represented.width g.F.Represented.product g.F.Represented.repr c.args.degree
     c.args.challenger.now (g.F.Represented.repr c.args.claim) c.args.rounds c.args.messages.now c.args.point.now.items c.if-rounds-eq0.true
 
@@ -33,8 +33,8 @@ verify_rounds-requires g t c =
     let long = rest-long c.args.messages.now _ c.args.rounds c.args.degree some c.requires.count c.split_at.ensures.back in
     search rules
 
-pub returns : goal.returns
-returns g t c =
+pub returns-clause-run : goal.returns-clause-run
+returns-clause-run g t c =
     let repr = g.F.Represented.repr in
     let some : 0 < c.args.rounds = omega arith in
     verified-more g.C.CanObserve.observes g.C.CanSample.gives g.F.Represented.width g.F.Represented.product repr c.args.degree
@@ -45,4 +45,4 @@ returns g t c =
     (next-claim repr g.F.Represented.width g.F.Represented.product c.in_ok-nodes.nodes.items c.as_slice.result.now _ (repr c.args.claim)
     (repr c.in_ok-challenge.challenge) (repr c.interpolate_at_nodes-next.result) c.as_slice.ensures.value c.in_ok-nodes.ensures
     c.interpolate_at_nodes-next.ensures)
-    c.in_ok-last.ensures
+    c.in_ok-last.ensures.run

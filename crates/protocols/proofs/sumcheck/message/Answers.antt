@@ -1,20 +1,32 @@
-use Rattle.std.proofs.Common.{◌≡◌, ◌-◌, ◌∷◌, ◌≤◌, ◌<◌, ◌^◌, ℕ, length, map, refl, ap, ◌∙◌, sym, subst, arith, lit<}
+use Rattle.std.proofs.Common.{◌≡◌, ◌-◌, ◌*◌, ◌/◌, ◌∷◌, ◌≤◌, ◌<◌, ◌^◌, ℕ, length, map, refl, ap, ◌∙◌, sym, subst, arith, lit<}
 use Rattle.std.proofs.Math.Nat.{pow-le-pow_right}
 use Rattle.std.specs.List.{range_with_len}
 use Rattle.protocols.specs.Products.{term_product}
-use Rattle.protocols.specs.Terms.{degree_of, honest_at}
-use Rattle.protocols.proofs.SumcheckSteps.{values-first, values-more}
+use Rattle.protocols.specs.Terms.{cube_sum, degree_of, honest_at}
+use Rattle.std.proofs.lemmas.List.{length-take-le}
+use Rattle.protocols.proofs.SumcheckSteps.{cube-even, cube-half, lower-is, values-first, values-more}
 use Rattle.protocols.proofs.sumcheck.message.Goals as goal
 
 pub loop-node-init : goal.loop-node-init
 loop-node-init g c =
-    let field = g.F.Represented in (
-      values-first field.repr (honest_at field.product (map (term_product field.repr) c.args.terms.now) c.args.count c.args.rounds
-          (map field.repr c.args.values.now)) c.new-message.result.items c.push.new.self.items c.value_at-first.result (field.repr c.ZERO.result)
-          c.new-message.ensures.items c.in_ok-push.ensures.items c.value_at-first.ensures.value
-          (ap field.repr c.ZERO.ensures ∙ g.met.F.PrimeCharacteristicRing.zero_law),
-      c.value_at-first.ensures.room ∙ c.requires.room,
+    let field = g.F.Represented in
+    let law = g.met.F.Field in
+    let terms = map (term_product field.repr) c.args.terms.now in (
+      values-first field.repr (honest_at field.product terms c.args.count c.args.rounds (map field.repr c.args.values.now))
+          c.new-message.result.items c.push.new.self.items c.cube_sum-first.result 0 c.new-message.ensures.items c.in_ok-push.ensures.items
+          (c.cube_sum-first.ensures
+          ∙ ap (cube_sum field.product terms c.args.count c.args.rounds)
+          (lower-is field.repr field.width field.product law.field_law.ring law.wide_law c.args.values.now
+          (cube-even (length c.args.values.now) c.args.rounds c.args.count c.requires.size)))
+          refl,
+      c.requires.room,
     )
+
+pub cube_sum-first-requires-clause-size : goal.cube_sum-first-requires-clause-size
+cube_sum-first-requires-clause-size g c =
+    let half = cube-half (length c.args.values.now) c.args.rounds c.args.count c.requires.size in
+    let all : length c.args.values.now / 2 ≡ 2 ^ c.args.rounds * c.args.count = omega (arith, half) in
+    length-take-le (length c.args.values.now / 2) c.args.values.now (omega arith) ∙ all
 
 pub interpolation_node-x-requires : goal.interpolation_node-x-requires
 interpolation_node-x-requires g c =

@@ -2,14 +2,24 @@ use Rattle.std.proofs.Common.{◌≡◌, ◌*◌, ◌^◌, ◌<◌, ℕ, length,
 use Rattle.protocols.specs.Products.{term_product}
 use Rattle.protocols.specs.Sumcheck.{statement_of}
 use Rattle.protocols.specs.Terms.{degree_of}
-use Rattle.protocols.proofs.SumcheckSteps.{rows-size}
 use Rattle.protocols.proofs.SumcheckWhole.{left-count, left-values, proved-run}
 use Rattle.protocols.proofs.sumcheck.prove.Goals as goal
 
 pub prove_rounds-requires-clause-size : goal.prove_rounds-requires-clause-size
 prove_rounds-requires-clause-size g c =
-    let few : c.args.rounds < 64 = omega arith in
-    rows-size (length c.args.values.now) c.args.rounds c.args.count few (c.has_length.ensures.0 c.if-not-has_length.false)
+    (c.can_be_proved.ensures.0 c.if-not-can_be_proved.false).whole
+
+pub prove_rounds-requires-clause-going : goal.prove_rounds-requires-clause-going
+prove_rounds-requires-clause-going g c = c.in_ok-observe_slice.ensures.answer.goes_on
+
+pub prove_rounds-requires-clause-few : goal.prove_rounds-requires-clause-few
+prove_rounds-requires-clause-few g c = (c.can_be_proved.ensures.0 c.if-not-can_be_proved.false).few
+
+pub prove_rounds-requires-clause-field : goal.prove_rounds-requires-clause-field
+prove_rounds-requires-clause-field g c = (c.can_be_proved.ensures.0 c.if-not-can_be_proved.false).stated.field
+
+pub prove_rounds-requires-clause-within : goal.prove_rounds-requires-clause-within
+prove_rounds-requires-clause-within g c = (c.can_be_proved.ensures.0 c.if-not-can_be_proved.false).stated.within
 
 pub returns-clause-run : goal.returns-clause-run
 returns-clause-run g c =
@@ -21,15 +31,13 @@ returns-clause-run g c =
     (map field.repr c.args.values.now) _ c.prove_rounds.new.proven.messages.items _ c.prove_rounds.new.proven.point.items
     c.prove_rounds.new.proven.values.items c.new.ensures.items c.new-2.ensures.items
     (ap (map field.repr) c.as_slice.ensures.value ∙ c.in_ok-elements.ensures.numbers) c.in_ok-observe_slice.ensures.ok
-    c.in_ok-prove_rounds.ensures).0
+    c.in_ok-prove_rounds.ensures.run).0
 
 pub returns-clause-count : goal.returns-clause-count
 returns-clause-count g c =
     let field = g.F.Represented in
     let terms = map (term_product field.repr) c.args.terms.now in
-    let few : c.args.rounds < 64 = omega arith in
-    let size =
-    rows-size (length c.args.values.now) c.args.rounds c.args.count few (c.has_length.ensures.0 c.if-not-has_length.false) in
+    let size = (c.can_be_proved.ensures.0 c.if-not-can_be_proved.false).whole in
     let run =
     proved-run g.C.CanObserve.observes g.C.CanSample.gives field.width field.product field.repr terms c.args.count (degree_of terms)
     c.args.challenger.now c.observe_slice.new.self c.prove_rounds.new.challenger
@@ -37,7 +45,7 @@ returns-clause-count g c =
     (map field.repr c.args.values.now) _ c.prove_rounds.new.proven.messages.items _ c.prove_rounds.new.proven.point.items
     c.prove_rounds.new.proven.values.items c.new.ensures.items c.new-2.ensures.items
     (ap (map field.repr) c.as_slice.ensures.value ∙ c.in_ok-elements.ensures.numbers) c.in_ok-observe_slice.ensures.ok
-    c.in_ok-prove_rounds.ensures in
+    c.in_ok-prove_rounds.ensures.run in
     left-count field.repr field.product c.args.count c.args.rounds c.args.values.now c.prove_rounds.new.proven.values.items
     (map field.repr c.prove_rounds.new.proven.point.items) size run.3 run.2
 
@@ -46,9 +54,7 @@ returns-clause-values g c =
     let field = g.F.Represented in
     let law = g.met.F.Field in
     let terms = map (term_product field.repr) c.args.terms.now in
-    let few : c.args.rounds < 64 = omega arith in
-    let size =
-    rows-size (length c.args.values.now) c.args.rounds c.args.count few (c.has_length.ensures.0 c.if-not-has_length.false) in
+    let size = (c.can_be_proved.ensures.0 c.if-not-can_be_proved.false).whole in
     let run =
     proved-run g.C.CanObserve.observes g.C.CanSample.gives field.width field.product field.repr terms c.args.count (degree_of terms)
     c.args.challenger.now c.observe_slice.new.self c.prove_rounds.new.challenger
@@ -56,6 +62,6 @@ returns-clause-values g c =
     (map field.repr c.args.values.now) _ c.prove_rounds.new.proven.messages.items _ c.prove_rounds.new.proven.point.items
     c.prove_rounds.new.proven.values.items c.new.ensures.items c.new-2.ensures.items
     (ap (map field.repr) c.as_slice.ensures.value ∙ c.in_ok-elements.ensures.numbers) c.in_ok-observe_slice.ensures.ok
-    c.in_ok-prove_rounds.ensures in
+    c.in_ok-prove_rounds.ensures.run in
     left-values field.repr field.product c.args.count c.args.rounds c.args.values.now c.prove_rounds.new.proven.values.items
     (map field.repr c.prove_rounds.new.proven.point.items) size run.3 run.2 field.width law.field_law law.wide_law field.range_law

@@ -6,11 +6,17 @@ use Rattle.protocols.proofs.SumcheckWhole.{verified-run}
 use Rattle.protocols.proofs.sumcheck.verify.Goals as goal
 
 pub verify_rounds-requires-clause-count : goal.verify_rounds-requires-clause-count
-verify_rounds-requires-clause-count g c = c.has_length.ensures.0 c.if-not-has_length.false
+verify_rounds-requires-clause-count g c =
+    c.in_ok-test_messages.ensures.long ∙ ap (λ (d : ℕ). c.args.rounds * d) (sym c.degree-degree.ensures.is)
+
+pub verify_rounds-requires-clause-field : goal.verify_rounds-requires-clause-field
+verify_rounds-requires-clause-field g c = c.in_ok-test_messages.ensures.stated.field
+
+pub verify_rounds-requires-clause-going : goal.verify_rounds-requires-clause-going
+verify_rounds-requires-clause-going g c = c.in_ok-observe_slice.ensures.answer.goes_on
 
 pub returns-clause-length : goal.returns-clause-length
-returns-clause-length g c =
-    c.has_length.ensures.0 c.if-not-has_length.false ∙ ap (λ (d : ℕ). c.args.rounds * d) c.degree-degree.ensures.is
+returns-clause-length g c = c.in_ok-test_messages.ensures.long
 
 pub returns-clause-read : goal.returns-clause-read
 returns-clause-read g c =
@@ -22,4 +28,4 @@ returns-clause-read g c =
     (field.repr c.args.claim) c.args.rounds c.degree-degree.result (degree_of terms) c.args.messages.now c.new-point.result.items
     c.verify_rounds.new.point.items (field.repr c.in_ok-claim.claim) c.new-point.ensures.items
     (ap (map field.repr) c.as_slice.ensures.value ∙ c.in_ok-elements.ensures.numbers) c.in_ok-observe_slice.ensures.ok
-    c.degree-degree.ensures.is c.in_ok-claim.ensures
+    c.degree-degree.ensures.is c.in_ok-claim.ensures.run
