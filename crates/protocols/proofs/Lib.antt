@@ -3,6 +3,7 @@ mod CapPaths
 mod CodeColumns
 mod OpenedLeaves
 mod OpeningPaths
+mod OpeningTrees
 mod OpeningTurns
 mod PathChecks
 mod Paths

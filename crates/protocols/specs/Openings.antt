@@ -1,7 +1,9 @@
 -- Openings of many leaves of a Merkle tree at once, in which no digest is given that others determine (L. Ramabaja and A. Avdullahu,
 -- Compact Merkle multiproofs, 2020, with the digests in the order of the tree from left to right). A leaf is its place and its digest.
-use Rattle.std.specs.Prelude.{◌≡◌, ◌≢◌, ℕ, zero, suc, ◌+◌, ◌^◌, ◌<◌, List, [], ◌∷◌, ◌++◌, length, map, slice_index}
+use Rattle.std.specs.Prelude.{◌≡◌, ◌≢◌, ℕ, zero, suc, ◌+◌, ◌^◌, ◌<◌, ◌≤◌, List, [], ◌∷◌, ◌++◌, length, map, get_or, slice_index}
 use Rattle.std.specs.List.{range_with_len}
+use Rattle.protocols.specs.declared.merkle_tree.MerkleTree.{MerkleTree}
+use Rattle.protocols.specs.Commitments.{digest_at}
 use Rattle.protocols.specs.MerkleTrees.{HaveCollision, HaveDigestSize, node_input, row_input, RowLeads}
 
 -- The root of the tree over the 2 ^ n places from `first` on has this digest, by the leaves that are opened in it, in the order of their
@@ -23,6 +25,19 @@ leaves_at hash places row = map (λ k. (slice_index places k, hash (row_input (r
 -- the rows at these places of the tree over 2 ^ depth rows, row k at place k of the list, are opened by nodes
 abbrev pub OpensRows : (List ℕ → List ℕ) → ℕ → List ℕ → List ℕ → (ℕ → List ℕ) → List (List ℕ) → Type 0
 OpensRows hash depth root places row nodes = Opens hash depth 0 (leaves_at hash places row) nodes root
+
+-- places in ascending order, none twice, all below `end`
+pub record AreAscending (end : ℕ) (places : List ℕ) : Type 0 where
+  pub below : (k : ℕ) → k < length places → slice_index places k < end
+  pub grow : (k : ℕ) → suc k < length places → slice_index places k < slice_index places (suc k)
+
+-- leaves of a tree in ascending order, none twice, at places from `low` on and below `high`
+pub record AreLeavesOf {A : Type 0} (tree : MerkleTree A) (low high : ℕ) (leaves : List (ℕ × List ℕ)) : Type 0 where
+  pub from : (k : ℕ) → k < length leaves → low ≤ (get_or leaves k (0, [])).0
+  pub below : (k : ℕ) → k < length leaves → (get_or leaves k (0, [])).0 < high
+  pub grow : (k : ℕ) → suc k < length leaves → (get_or leaves k (0, [])).0 < (get_or leaves (suc k) (0, [])).0
+  pub digests : (k : ℕ) → k < length leaves
+      → (get_or leaves k (0, [])).1 ≡ digest_at tree (2 ^ tree.depth + (get_or leaves k (0, [])).0)
 
 -- no first nodes open the leaves
 abbrev pub NoFrontOpens : (List ℕ → List ℕ) → ℕ → ℕ → List (ℕ × List ℕ) → List (List ℕ) → Type 0

@@ -142,7 +142,8 @@ pub fn verify_row<H: ByteHasher32, A: Allocator>(
     row: &[u8],
     path: &[[u8; 32]],
 ) -> Result<bool, AllocError>
-    ensures { IfOk result (λ leads. IsTrue leads ↔ RowLeads (H.digest hasher.now) commitment.depth commitment.root index row.now path.now) }
+    ensures { IfOk result (λ leads. IsTrue leads ↔ RowLeads (H.digest hasher.now) commitment.depth commitment.root index row.now
+        path.now) }
 {
     let root = commitment.root;
     let leads = verify_row_to_cap(alloc, hasher, &[root], commitment.depth, index, row, path)?;

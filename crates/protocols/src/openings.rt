@@ -1,14 +1,87 @@
 // Openings of many leaves of a Merkle tree at once. The nodes that are sent are the roots of the largest trees in which nothing is opened,
 // from left to right, so that none is sent twice and none that the others give.
-ghost use Rattle.std.specs.Prelude.{◌≡◌, ◌↔◌, ◌+◌, ◌*◌, ◌^◌, ◌<◌, ◌≤◌, ℕ, [], take, get_or, length, IfNone, IfOk, IfSome, IsTrue};
-ghost use Rattle.protocols.specs.Commitments.{row_at};
-ghost use Rattle.protocols.specs.Openings.{NoFrontOpens, Opens, OpensRows, OpeningsBind, OpeningsLead};
+ghost use Rattle.std.specs.Prelude.{◌≡◌, ◌↔◌, ◌+◌, ◌*◌, ◌^◌, ◌<◌, ◌≤◌, ℕ, List, [], ◌++◌, take, get_or, length, slice_index, IfNone, IfOk, IfSome, IsTrue, OnOk};
+ghost use Rattle.protocols.specs.Commitments.{digest_at, IsTreeOver, root_of, row_at};
+ghost use Rattle.protocols.specs.Openings.{AreAscending, AreLeavesOf, NoFrontOpens, Opens, OpensRows, OpeningsBind, OpeningsLead};
 
 use crate::digests::{node_digest, row_digest};
 use crate::merkle_paths::{Commitment, power_of_two, row_of};
+use crate::merkle_tree::MerkleTree;
 use crate::verdicts::both;
 use std::alloc::{AllocError, Allocator};
 use transcript_bytes::ByteHasher32;
+
+impl<A: Allocator> MerkleTree<A> {
+    /// The nodes that open the leaves at these places, which are in ascending order, none twice, and below 2^depth. It fails if memory was
+    /// refused.
+    pub fn open_many<B: Allocator + Copy>(
+        &self,
+        alloc: B,
+        places: &[usize],
+    ) -> Result<Vec<[u8; 32], B>, AllocError>
+        requires { AreAscending (2 ^ self.now.depth) places.now }
+        ensures { IfOk result (λ nodes. (hash : List ℕ → List ℕ) (row : ℕ → List ℕ) → IsTreeOver hash row self.now
+            → OpensRows hash self.now.depth (root_of self.now) places.now (λ k. row (slice_index places.now k)) nodes.items) }
+    {
+        let mut leaves = Vec::new(alloc);
+        'leaves: for index in 0..places.len() {
+            let place = places[index];
+            let digest = leaf_at(self, place);
+            leaves.push((place, digest))?;
+        }
+        let mut nodes = Vec::new(alloc);
+        push_nodes(self, 1, self.depth, 0, leaves.as_slice(), &mut nodes)?;
+        Ok(nodes)
+    }
+}
+
+// The digest of the leaf at a place.
+fn leaf_at<A: Allocator>(tree: &MerkleTree<A>, place: usize) -> [u8; 32]
+    requires { place < 2 ^ tree.now.depth }
+    ensures { result ≡ digest_at tree.now (2 ^ tree.now.depth + place) }
+{
+    let first = power_of_two(tree.depth);
+    tree.nodes[first + place]
+}
+
+// Appends the nodes that open these leaves in the tree below `node`, which is over the 2^levels places from `first` on.
+fn push_nodes<A: Allocator, B: Allocator>(
+    tree: &MerkleTree<A>,
+    node: usize,
+    levels: usize,
+    first: usize,
+    leaves: &[(usize, [u8; 32])],
+    nodes: &mut Vec<[u8; 32], B>,
+) -> Result<(), AllocError>
+    requires few { levels ≤ 40 }
+    requires at { node * 2 ^ levels ≡ 2 ^ tree.now.depth + first }
+    requires room { first + 2 ^ levels ≤ 2 ^ tree.now.depth }
+    requires leaves { AreLeavesOf tree.now first (first + 2 ^ levels) leaves.now }
+    ensures { OnOk result ((gained : List (List ℕ)) × (nodes.new.items ≡ nodes.old.items ++ gained)
+        × ((hash : List ℕ → List ℕ) (row : ℕ → List ℕ) → IsTreeOver hash row tree.now
+        → Opens hash levels first leaves.now gained (digest_at tree.now node))) }
+{
+    if leaves.is_empty() {
+        nodes.push(tree.nodes[node])?;
+        return Ok(());
+    }
+    if levels == 0 {
+        return Ok(());
+    }
+    let half = power_of_two(levels - 1);
+    let middle = first + half;
+    let count = count_below(leaves, middle);
+    push_nodes(tree, 2 * node, levels - 1, first, &leaves[..count], nodes)?;
+    push_nodes(
+        tree,
+        2 * node + 1,
+        levels - 1,
+        middle,
+        &leaves[count..],
+        nodes,
+    )?;
+    Ok(())
+}
 
 // How many of the first leaves are at places below `end`.
 fn count_below(leaves: &[(usize, [u8; 32])], end: usize) -> usize
