@@ -1,5 +1,5 @@
-// Arithmetic by one scalar on slices of words of a level of the tower, many words at once: in planes, of which each has a byte of each word.
-// The scalar's multiples are made once, and few words are multiplied one after another.
+// Arithmetic by one scalar on slices of words of a level of the tower, many words at once: in planes, of which each has a byte of each
+// word. The scalar's multiples are made once, and few words are multiplied one after another.
 ghost use Rattle.std.specs.Prelude.{◌≡◌, ◌<◌, ◌^◌, bit_xor, get_or, length};
 ghost use Rattle.c_arithmetic.specs.Calls.{AddsScaled, AreElements, MultipliesBy};
 ghost use Rattle.c_arithmetic.specs.Fields.{field_of};

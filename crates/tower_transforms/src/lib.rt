@@ -7,7 +7,7 @@
 //! registers, that of a wider chunk three products of its halves (A. Karatsuba and Y. Ofman, Multiplication of multidigit numbers on
 //! automata, Soviet Physics Doklady 7, 1963), and no address depends on an element.
 //!
-//! Slices of words of 16 to 128 bits are multiplied by one scalar of as many bits in vectors of the bytes of sixteen words or thirty-two.
+//! Slices of words of 8 to 128 bits are multiplied by one scalar of as many bits in vectors of the bytes of sixteen words or thirty-two.
 #![tactic(auto)]
 
 mod arithmetic;

@@ -34,8 +34,8 @@ pub fn multiply_words<R: Stored, W: WordBytes<R>, M, P: WordPlanes<R, W, M>>(
     lanes * blocks
 }
 
-/// Adds the products of other words by the scalar of the multiples to the sums, as many at once as a vector has bytes, and returns how many.
-/// The slices are of one length, and a word has as many bytes as an element of the planes, and fits its level.
+/// Adds the products of other words by the scalar of the multiples to the sums, as many at once as a vector has bytes, and returns how
+/// many. The slices are of one length, and a word has as many bytes as an element of the planes, and fits its level.
 #[inline]
 pub fn add_multiples<R: Stored, W: WordBytes<R>, M, P: WordPlanes<R, W, M>>(
     sums: &mut [W],
