@@ -1,6 +1,7 @@
 // Openings of many leaves of a Merkle tree at once. The nodes that are sent are the roots of the largest trees in which nothing is opened,
 // from left to right, so that none is sent twice and none that the others give.
-ghost use Rattle.std.specs.Prelude.{◌≡◌, ◌↔◌, ◌+◌, ◌*◌, ◌^◌, ◌<◌, ◌≤◌, ℕ, List, [], ◌++◌, take, get_or, length, slice_index, IfNone, IfOk, IfSome, IsTrue, OnOk};
+ghost use Rattle.std.specs.Prelude.{◌≡◌, ◌↔◌, ◌+◌, ◌*◌, ◌^◌, ◌<◌, ◌≤◌, ℕ, List, [], ◌++◌};
+ghost use Rattle.std.specs.Prelude.{take, get_or, length, slice_index, IfNone, IfOk, IfSome, IsTrue, OnOk};
 ghost use Rattle.protocols.specs.Commitments.{digest_at, IsTreeOver, root_of, row_at};
 ghost use Rattle.protocols.specs.Openings.{AreAscending, AreLeavesOf, NoFrontOpens, Opens, OpensRows, OpeningsBind, OpeningsLead};
 
