@@ -1,10 +1,11 @@
 -- Products of elements that stand one after another in sixteen bytes, by products of their halves and as the products of one number.
-use Rattle.std.proofs.Common.{◌≡◌, ◌⊎◌, inl, inr, ℕ, zero, suc, ◌+◌, ◌-◌, ◌*◌, ◌/◌, ◌^◌, ◌<◌, ◌≤◌, List, length, get_or, map, refl, sym, ◌∙◌, ap, ap₂, subst, arith, w8, Fits}
+use Rattle.std.proofs.Common.{◌≡◌, ◌⊎◌, inl, inr, ℕ, zero, suc, ◌+◌, ◌-◌, ◌*◌, ◌/◌, ◌^◌, ◌<◌, ◌≤◌, List, ◌++◌, drop, length, get_or, map, refl, take, sym, ◌∙◌, ap, ap₂, subst, arith, w8, Fits}
 use Rattle.std.specs.Prelude.{bit_xor, slice_index}
 use Rattle.std.specs.Simd.Lanes.{Each1, digits_l, number_l, pick_l, zip2}
 use Rattle.std.specs.List.{range_with_len}
 use Rattle.std.proofs.lemmas.Bool.{cases_lt}
-use Rattle.std.proofs.lemmas.List.{get_or-map, get_or_past, length-map}
+use Rattle.std.proofs.Math.Nat.{mul-le-mul_right, two-pow-succ}
+use Rattle.std.proofs.lemmas.List.{get_or-append-add, get_or-map, get_or_append_left, get_or_past, length-drop, length-map, length-take-le, take-append-drop}
 use Rattle.std.proofs.lemmas.Simd.{Each1-get_or, get_or-zip2, length-zip2, pick_l_whole}
 use native.Mathlib.Nat.{pow-suc, zero-add}
 use lib.Bits.{xor_comm}
@@ -22,22 +23,22 @@ use Rattle.tower_transforms.specs.declared.multiples.ByteMultiples.{ByteMultiple
 use Rattle.tower_transforms.proofs.LaneFacts.{multiples_sum}
 use Rattle.tower_transforms.proofs.Scalars.{product_of_pairs}
 
--- sixteen bytes
-pub record AreBytes (bytes : List ℕ) : Type 0 where
-  pub sixteen : length bytes ≡ 16
+-- so many bytes
+pub record AreBytes (n : ℕ) (bytes : List ℕ) : Type 0 where
+  pub count : length bytes ≡ n
   pub fit : (i : ℕ) → slice_index bytes i < 256
 
 -- a place past them holds 0
-past : (bytes : List ℕ) (i : ℕ) → length bytes ≡ 16 → 16 ≤ i → slice_index bytes i ≡ 0
-past bytes i sixteen beyond = get_or_past bytes i 0 (omega (arith, sixteen, beyond))
+past : (n : ℕ) (bytes : List ℕ) (i : ℕ) → length bytes ≡ n → n ≤ i → slice_index bytes i ≡ 0
+past n bytes i count beyond = get_or_past bytes i 0 (omega (arith, count, beyond))
 
 -- what a vector of bytes has
-pub bytes_of : (bytes : List ℕ) → length bytes ≡ 16 → Each1 (Fits w8) bytes → AreBytes bytes
-bytes_of bytes sixteen fit = record { sixteen = sixteen; fit = λ i. pick i (cases_lt i 16) }
+pub bytes_of : (n : ℕ) (bytes : List ℕ) → length bytes ≡ n → Each1 (Fits w8) bytes → AreBytes n bytes
+bytes_of n bytes count fit = record { count = count; fit = λ i. pick i (cases_lt i n) }
   where
-    pick : (i : ℕ) → (i < 16) ⊎ (16 ≤ i) → slice_index bytes i < 256
-    pick i (inl inside) = (Each1-get_or (Fits w8) bytes i 0 (omega (arith, sixteen, inside)) fit).fits
-    pick i (inr beyond) = let none = past bytes i sixteen beyond in omega (arith, none)
+    pick : (i : ℕ) → (i < n) ⊎ (n ≤ i) → slice_index bytes i < 256
+    pick i (inl inside) = (Each1-get_or (Fits w8) bytes i 0 (omega (arith, count, inside)) fit).fits
+    pick i (inr beyond) = let none = past n bytes i count beyond in omega (arith, none)
 
 -- ---- elements by their halves
 
@@ -48,14 +49,14 @@ unfolding chunk_of
 chunk-halves d bytes i = refl
 
 -- elements fit their level
-pub chunk-lt : (d : ℕ) (bytes : List ℕ) → AreBytes bytes → (i : ℕ) → chunk_of d bytes i < 2 ^ 2 ^ level_of d
+pub chunk-lt : {n : ℕ} (d : ℕ) (bytes : List ℕ) → AreBytes n bytes → (i : ℕ) → chunk_of d bytes i < 2 ^ 2 ^ level_of d
 unfolding chunk_of
 chunk-lt zero bytes are i = are.fit i
 chunk-lt (suc d) bytes are i =
     halves-lt (level_of d) (chunk_of d bytes (2 * i)) (chunk_of d bytes (2 * i + 1)) (chunk-lt d bytes are (2 * i)) (chunk-lt d bytes are (2 * i + 1))
 
 -- what is a sum byte by byte is one element by element
-pub chunk_xor : (d : ℕ) (xs ys zs : List ℕ) → AreBytes xs → AreBytes ys
+pub chunk_xor : {n : ℕ} (d : ℕ) (xs ys zs : List ℕ) → AreBytes n xs → AreBytes n ys
     → ((i : ℕ) → slice_index zs i ≡ bit_xor (slice_index xs i) (slice_index ys i))
     → (i : ℕ) → chunk_of d zs i ≡ bit_xor (chunk_of d xs i) (chunk_of d ys i)
 unfolding chunk_of
@@ -65,40 +66,40 @@ chunk_xor (suc d) xs ys zs x_are y_are sums i =
     ∙ pair_xor (2 ^ level_of d) _ _ _ _ (chunk-lt d xs x_are (2 * i)) (chunk-lt d ys y_are (2 * i))
 
 -- the sums of two vectors, place by place
-pub bytes_summed : (xs ys : List ℕ) → AreBytes xs → AreBytes ys
-    → (i : ℕ) → slice_index (zip2 bit_xor xs ys) i ≡ bit_xor (slice_index xs i) (slice_index ys i)
-bytes_summed xs ys x_are y_are i = pick (cases_lt i 16)
+pub bytes_summed : (n : ℕ) (xs ys zs : List ℕ) → AreBytes n xs → AreBytes n ys → zs ≡ zip2 bit_xor xs ys
+    → (i : ℕ) → slice_index zs i ≡ bit_xor (slice_index xs i) (slice_index ys i)
+bytes_summed n xs ys zs x_are y_are is i = ap (λ (l : List ℕ). slice_index l i) is ∙ pick (cases_lt i n)
   where
-    pick : (i < 16) ⊎ (16 ≤ i) → slice_index (zip2 bit_xor xs ys) i ≡ bit_xor (slice_index xs i) (slice_index ys i)
+    pick : (i < n) ⊎ (n ≤ i) → slice_index (zip2 bit_xor xs ys) i ≡ bit_xor (slice_index xs i) (slice_index ys i)
     pick (inl inside) =
-        let x_long = x_are.sixteen in
-        let y_long = y_are.sixteen in
+        let x_long = x_are.count in
+        let y_long = y_are.count in
         get_or-zip2 bit_xor xs ys i 0 0 0 (omega (arith, x_long, inside)) (omega (arith, y_long, inside))
     pick (inr beyond) =
-        past (zip2 bit_xor xs ys) i (length-zip2 bit_xor xs ys (x_are.sixteen ∙ sym y_are.sixteen) ∙ x_are.sixteen) beyond
-        ∙ sym (ap₂ bit_xor (past xs i x_are.sixteen beyond) (past ys i y_are.sixteen beyond))
+        past n (zip2 bit_xor xs ys) i (length-zip2 bit_xor xs ys (x_are.count ∙ sym y_are.count) ∙ x_are.count) beyond
+        ∙ sym (ap₂ bit_xor (past n xs i x_are.count beyond) (past n ys i y_are.count beyond))
 
 -- ---- products
 
 -- the entries of two tables make the products of bytes
-pub bytes_times : (multiples : ByteMultiples) (s : ℕ) (old new : List ℕ) → AreMultiples multiples s → AreBytes old
+pub bytes_times : (n : ℕ) (multiples : ByteMultiples) (s : ℕ) (old new : List ℕ) → AreMultiples multiples s → AreBytes n old
     → new ≡ map (entry_sum multiples.low multiples.high) old → AreTimes 0 s old new
 unfolding chunk_of
-bytes_times multiples s old new are bytes is i = pick (cases_lt i 16)
+bytes_times n multiples s old new are bytes is i = pick (cases_lt i n)
   where
-    pick : (i < 16) ⊎ (16 ≤ i) → slice_index new i ≡ tower_mul 3 s (slice_index old i)
+    pick : (i < n) ⊎ (n ≤ i) → slice_index new i ≡ tower_mul 3 s (slice_index old i)
     pick (inl inside) =
         ap (λ (r : List ℕ). get_or r i 0) is
-        ∙ get_or-map (entry_sum multiples.low multiples.high) old i 0 0 (let long = bytes.sixteen in omega (arith, long, inside))
+        ∙ get_or-map (entry_sum multiples.low multiples.high) old i 0 0 (let long = bytes.count in omega (arith, long, inside))
         ∙ multiples_sum multiples s (slice_index old i) are (bytes.fit i)
     pick (inr beyond) =
-        past new i (ap length is ∙ length-map old (entry_sum multiples.low multiples.high) ∙ bytes.sixteen) beyond
-        ∙ sym (ap (tower_mul 3 s) (past old i bytes.sixteen beyond) ∙ times-zero 8 1 (tower_mul 3) (tower_ring 3) s)
+        past n new i (ap length is ∙ length-map old (entry_sum multiples.low multiples.high) ∙ bytes.count) beyond
+        ∙ sym (ap (tower_mul 3 s) (past n old i bytes.count beyond) ∙ times-zero 8 1 (tower_mul 3) (tower_ring 3) s)
 
 -- three products of elements make those of pairs of them
-pub pairs_times : (d s s0 s1 : ℕ) (old exchanged sums both lows highs merged new : List ℕ)
+pub pairs_times : {n : ℕ} (d s s0 s1 : ℕ) (old exchanged sums both lows highs merged new : List ℕ)
     → s0 < 2 ^ 2 ^ level_of d → s1 < 2 ^ 2 ^ level_of d → s ≡ pair (2 ^ level_of d) s0 s1
-    → AreBytes old → AreBytes exchanged → AreBytes both → AreBytes merged
+    → AreBytes n old → AreBytes n exchanged → AreBytes n both → AreBytes n merged
     → AreExchanged d old exchanged
     → ((i : ℕ) → slice_index sums i ≡ bit_xor (slice_index old i) (slice_index exchanged i))
     → AreTimes d s1 sums both → AreTimes d (bit_xor s0 s1) old lows
@@ -127,7 +128,7 @@ pairs_times d s s0 s1 old exchanged sums both lows highs merged new s0_fits s1_f
     a1 = chunk_of d old (2 * i + 1)
 
 -- so a scalar multiplies elements of the next level
-times_next : (d s : ℕ) (old new : List ℕ) → s < 2 ^ 2 ^ level_of d → AreBytes old → AreTimes d s old new → AreTimes (suc d) s old new
+times_next : {n : ℕ} (d s : ℕ) (old new : List ℕ) → s < 2 ^ 2 ^ level_of d → AreBytes n old → AreTimes d s old new → AreTimes (suc d) s old new
 times_next d s old new fits are times i =
     let k = level_of d in
     let low = chunk-lt d old are (2 * i) in
@@ -140,7 +141,7 @@ times_next d s old new fits are times i =
     ∙ ap (tower_mul (suc k) s) (sym (chunk-halves d old i))
 
 -- and those e levels above
-pub times_above : (e d s : ℕ) (old new : List ℕ) → s < 2 ^ 2 ^ level_of d → AreBytes old → AreTimes d s old new → AreTimes (e + d) s old new
+times_above : {n : ℕ} (e d s : ℕ) (old new : List ℕ) → s < 2 ^ 2 ^ level_of d → AreBytes n old → AreTimes d s old new → AreTimes (e + d) s old new
 times_above zero d s old new fits are times = subst (λ (n : ℕ). AreTimes n s old new) (sym (zero-add d)) times
 times_above (suc e) d s old new fits are times =
     let next : suc e + d ≡ suc (e + d) = omega arith in
@@ -189,13 +190,115 @@ number-digits (suc n) x below =
     let higher : x / 256 < 256 ^ n = omega arith in
     let rest = number-digits n (x / 256) higher in omega arith
 
--- the number of the products is the product of the number
-pub number_times : (d s x : ℕ) (old new : List ℕ) → d ≤ 4 → s < 2 ^ 2 ^ level_of d → x < 2 ^ 128 → old ≡ digits_l 256 16 x
-    → AreTimes d s old new → AreBytes old → AreBytes new → number_l 256 new ≡ tower_mul 7 s x
-number_times d s x old new few fits x_fits digits times old_are new_are =
-    sym (chunk-number new new_are.sixteen)
-    ∙ subst (λ (n : ℕ). AreTimes n s old new) all (times_above (4 - d) d s old new fits old_are times) 0
-    ∙ ap (tower_mul 7 s) (chunk-number old old_are.sixteen ∙ ap (number_l 256) digits ∙ number-digits 16 x x_fits)
+-- the bytes of a number of 128 bits are one element, the number
+pub digits_number : (x : ℕ) (bytes : List ℕ) → length bytes ≡ 16 → x < 2 ^ 128 → bytes ≡ digits_l 256 16 x → chunk_of 4 bytes 0 ≡ x
+digits_number x bytes sixteen fits are = chunk-number bytes sixteen ∙ ap (number_l 256) are ∙ number-digits 16 x fits
+
+-- products by a scalar of a lower level are those of elements of sixteen bytes
+pub whole_times : {n : ℕ} (d s : ℕ) (old new : List ℕ) → d ≤ 4 → s < 2 ^ 2 ^ level_of d → AreTimes d s old new → AreBytes n old
+    → (i : ℕ) → chunk_of 4 new i ≡ tower_mul 7 s (chunk_of 4 old i)
+whole_times d s old new few s_fits times old_are =
+    subst (λ (n : ℕ). AreTimes n s old new) all (times_above (4 - d) d s old new s_fits old_are times)
   where
     all : 4 - d + d ≡ 4
     all = omega (arith, few)
+
+-- ---- halves of a vector
+
+-- an element of the first of two lists is one of both
+pub chunk_left : (d i : ℕ) (xs ys : List ℕ) → 2 ^ d * i + 2 ^ d ≤ length xs → chunk_of d (xs ++ ys) i ≡ chunk_of d xs i
+unfolding chunk_of
+chunk_left zero i xs ys inside = get_or_append_left xs ys 0 i (omega (arith, inside))
+chunk_left (suc d) i xs ys inside =
+    let twice = two-pow-succ d in
+    let more = ap (λ (n : ℕ). n * i) twice in
+    ap₂ (pair (2 ^ level_of d)) (chunk_left d (2 * i) xs ys (omega (arith, inside, twice, more)))
+    (chunk_left d (2 * i + 1) xs ys (omega (arith, inside, twice, more)))
+
+-- and so is one of the second, past those of the first
+pub chunk_right : (d m i : ℕ) (xs ys : List ℕ) → length xs ≡ 2 ^ d * m → chunk_of d (xs ++ ys) (m + i) ≡ chunk_of d ys i
+unfolding chunk_of
+chunk_right zero m i xs ys count =
+    let same : m + i ≡ length xs + i = omega (arith, count) in
+    ap (λ (n : ℕ). get_or (xs ++ ys) n 0) same ∙ get_or-append-add xs ys i 0
+chunk_right (suc d) m i xs ys count =
+    let twice = two-pow-succ d in
+    let more = ap (λ (n : ℕ). n * m) twice in
+    let fits : length xs ≡ 2 ^ d * (2 * m) = omega (arith, count, more) in
+    let low : 2 * (m + i) ≡ 2 * m + 2 * i = omega arith in
+    let high : 2 * (m + i) + 1 ≡ 2 * m + (2 * i + 1) = omega arith in
+    ap₂ (pair (2 ^ level_of d)) (ap (chunk_of d (xs ++ ys)) low ∙ chunk_right d (2 * m) (2 * i) xs ys fits)
+    (ap (chunk_of d (xs ++ ys)) high ∙ chunk_right d (2 * m) (2 * i + 1) xs ys fits)
+
+-- a vector of thirty-two bytes is both of its halves
+pub halved : (whole first second : List ℕ) → length whole ≡ 32
+    → ((a b : List ℕ) → length a ≡ 16 → length b ≡ 16 → whole ≡ a ++ b → (first ≡ a) × (second ≡ b))
+    → (whole ≡ first ++ second) × (length first ≡ 16) × (length second ≡ 16)
+halved whole first second count halves =
+    let left = length-take-le 16 whole (omega (arith, count)) in
+    let rest = length-drop 16 whole in
+    let right : length (drop 16 whole) ≡ 16 = omega (arith, count, rest) in
+    let are = halves (take 16 whole) (drop 16 whole) left right (sym (take-append-drop 16 whole)) in (
+      sym (take-append-drop 16 whole) ∙ sym (ap₂ (λ (a b : List ℕ). a ++ b) are.0 are.1),
+      ap length are.0 ∙ left,
+      ap length are.1 ∙ right,
+    )
+
+-- where each h pairs of elements of halves are taken, those of the whole are: p and q say which of a pair
+two_taken : (d h : ℕ) (p q : ℕ → ℕ) (old_a old_b a b : List ℕ) → 2 ^ d * (2 * h) ≡ 16
+    → ((i : ℕ) → p i ≤ 2 * i + 1) → ((i : ℕ) → q i ≤ 2 * i + 1) → ((i : ℕ) → p (h + i) ≡ 2 * h + p i) → ((i : ℕ) → q (h + i) ≡ 2 * h + q i)
+    → length old_a ≡ 16 → length a ≡ 16
+    → ((i : ℕ) → chunk_of d a (p i) ≡ chunk_of d old_a (q i)) → ((i : ℕ) → chunk_of d b (p i) ≡ chunk_of d old_b (q i))
+    → (i : ℕ) → chunk_of d (a ++ b) (p i) ≡ chunk_of d (old_a ++ old_b) (q i)
+two_taken d h p q old_a old_b a b size p_small q_small p_next q_next old_long long first second i = pick (cases_lt i h)
+  where
+    within : (j : ℕ) → j ≤ 2 * i + 1 → i < h → 2 ^ d * j + 2 ^ d ≤ 16
+    within j small below =
+        let most : (j + 1) * 2 ^ d ≤ 2 * h * 2 ^ d = mul-le-mul_right (2 ^ d) (omega (arith, small, below)) in
+        omega (arith, most, size)
+
+    pick : (i < h) ⊎ (h ≤ i) → chunk_of d (a ++ b) (p i) ≡ chunk_of d (old_a ++ old_b) (q i)
+    pick (inl below) =
+        let inside = within (p i) (p_small i) below in
+        let old_inside = within (q i) (q_small i) below in
+        chunk_left d (p i) a b (omega (arith, inside, long)) ∙ first i
+        ∙ sym (chunk_left d (q i) old_a old_b (omega (arith, old_inside, old_long)))
+    pick (inr above) =
+        let parts : i ≡ h + (i - h) = omega (arith, above) in
+        ap (chunk_of d (a ++ b)) (ap p parts ∙ p_next (i - h))
+        ∙ chunk_right d (2 * h) (p (i - h)) a b (long ∙ sym size) ∙ second (i - h)
+        ∙ sym (ap (chunk_of d (old_a ++ old_b)) (ap q parts ∙ q_next (i - h)) ∙ chunk_right d (2 * h) (q (i - h)) old_a old_b (old_long ∙ sym size))
+
+even_small : (i : ℕ) → 2 * i ≤ 2 * i + 1
+even_small i = omega arith
+
+odd_small : (i : ℕ) → 2 * i + 1 ≤ 2 * i + 1
+odd_small i = omega arith
+
+even_next : (h i : ℕ) → 2 * (h + i) ≡ 2 * h + 2 * i
+even_next h i = omega arith
+
+odd_next : (h i : ℕ) → 2 * (h + i) + 1 ≡ 2 * h + (2 * i + 1)
+odd_next h i = omega arith
+
+-- so elements are exchanged in a vector where they are in both halves
+pub two_exchanged : (d h : ℕ) (old old_a old_b a b : List ℕ) → 2 ^ d * (2 * h) ≡ 16
+    → (old ≡ old_a ++ old_b) × (length old_a ≡ 16) × (length old_b ≡ 16) → length a ≡ 16
+    → AreExchanged d old_a a → AreExchanged d old_b b → AreExchanged d old (a ++ b)
+two_exchanged d h old old_a old_b a b size parts long first second =
+    subst (λ (l : List ℕ). AreExchanged d l (a ++ b)) (sym parts.0) (record {
+      low = two_taken d h (λ i. 2 * i) (λ i. 2 * i + 1) old_a old_b a b size even_small odd_small (even_next h) (odd_next h) parts.1 long first.low second.low;
+      high = two_taken d h (λ i. 2 * i + 1) (λ i. 2 * i) old_a old_b a b size odd_small even_small (odd_next h) (even_next h) parts.1 long first.high second.high;
+    })
+
+-- and taken from two vectors
+pub two_merged : (d h : ℕ) (lows highs low_a low_b high_a high_b a b : List ℕ) → 2 ^ d * (2 * h) ≡ 16
+    → (lows ≡ low_a ++ low_b) × (length low_a ≡ 16) × (length low_b ≡ 16)
+    → (highs ≡ high_a ++ high_b) × (length high_a ≡ 16) × (length high_b ≡ 16) → length a ≡ 16
+    → AreMerged d low_a high_a a → AreMerged d low_b high_b b → AreMerged d lows highs (a ++ b)
+two_merged d h lows highs low_a low_b high_a high_b a b size low_parts high_parts long first second =
+    subst (λ (l : List ℕ). AreMerged d l highs (a ++ b)) (sym low_parts.0)
+    (subst (λ (l : List ℕ). AreMerged d (low_a ++ low_b) l (a ++ b)) (sym high_parts.0) (record {
+      low = two_taken d h (λ i. 2 * i) (λ i. 2 * i) low_a low_b a b size even_small even_small (even_next h) (even_next h) low_parts.1 long first.low second.low;
+      high = two_taken d h (λ i. 2 * i + 1) (λ i. 2 * i + 1) high_a high_b a b size odd_small odd_small (odd_next h) (odd_next h) high_parts.1 long first.high second.high;
+    }))

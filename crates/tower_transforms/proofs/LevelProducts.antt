@@ -1,10 +1,11 @@
 -- Products by scalars of lower levels, in the bits of a level.
-use Rattle.std.proofs.Common.{◌≡◌, ℕ, suc, ◌+◌, ◌-◌, ◌/◌, ◌%◌, ◌^◌, ◌<◌, ◌≤◌, Bool, [], ◌∷◌, refl, sym, ◌∙◌, ap, subst, arith}
+use Rattle.std.proofs.Common.{◌≡◌, ℕ, suc, ◌+◌, ◌-◌, ◌/◌, ◌%◌, ◌^◌, ◌<◌, ◌≤◌, Bool, false, true, [], ◌∷◌, refl, sym, ◌∙◌, ap, subst, arith, lit<}
 use Rattle.std.specs.Prelude.{bit_xor, slice_index}
 use Rattle.std.proofs.Math.Pow.{mod-mod-pow}
 use Rattle.std.proofs.lemmas.Nat.{pow_pos, xor_mod}
 use native.Mathlib.Nat.{div-one, mod-eq_of_lt, mul-zero}
-use Rattle.additive_transforms.specs.Stages.{TakesBlock}
+use Rattle.additive_transforms.specs.Stages.{IsButterfly, TakesBlock}
+use Rattle.additive_transforms.proofs.PairLoops.{pair_on}
 use Rattle.field_base.specs.Chunks.{chunk}
 use Rattle.field_base.specs.Tower.{tower_mul}
 use Rattle.field_base.proofs.Coefficients.{scales_coefficients}
@@ -25,15 +26,18 @@ first_chunk : (width x : ℕ) → chunk width 0 x ≡ x % 2 ^ width
 first_chunk width x = ap (λ (k : ℕ). x / 2 ^ k % 2 ^ width) (mul-zero width) ∙ ap (λ (y : ℕ). y % 2 ^ width) (div-one x)
 
 -- a product at level 7 by an element of a level is, in the bits of a level between, the product at that level
-pub product_in_level : (j k bits s x : ℕ) → j ≤ k → k ≤ 7 → 2 ^ k ≤ bits → s < 2 ^ 2 ^ j
-    → tower_mul 7 s x % 2 ^ bits % 2 ^ 2 ^ k ≡ tower_mul k s x
-product_in_level j k bits s x within few room fits =
-    (let parts : bits ≡ bits - 2 ^ k + 2 ^ k = omega (arith, room) in
-    ap (λ (n : ℕ). tower_mul 7 s x % 2 ^ n % 2 ^ 2 ^ k) parts ∙ mod-mod-pow (tower_mul 7 s x) (bits - 2 ^ k) (2 ^ k))
-    ∙ sym (first_chunk (2 ^ k) (tower_mul 7 s x))
+product_in_level : (j k s x : ℕ) → j ≤ k → k ≤ 7 → s < 2 ^ 2 ^ j → tower_mul 7 s x % 2 ^ 2 ^ k ≡ tower_mul k s x
+product_in_level j k s x within few fits =
+    sym (first_chunk (2 ^ k) (tower_mul 7 s x))
     ∙ scales_coefficients 7 k (2 ^ (7 - k)) refl few 0 s x (pow_pos (7 - k)) (fits_above j k s within fits)
     ∙ ap (tower_mul k s) (first_chunk (2 ^ k) x)
     ∙ times-mod (2 ^ k) 1 (tower_mul k) (tower_ring k) s x
+
+-- the bits of a level are among those of a word
+low_bits : (k bits x : ℕ) → 2 ^ k ≤ bits → x % 2 ^ bits % 2 ^ 2 ^ k ≡ x % 2 ^ 2 ^ k
+low_bits k bits x room =
+    let parts : bits ≡ bits - 2 ^ k + 2 ^ k = omega (arith, room) in
+    ap (λ (n : ℕ). x % 2 ^ n % 2 ^ 2 ^ k) parts ∙ mod-mod-pow x (bits - 2 ^ k) (2 ^ k)
 
 -- a product at the level has no more bits
 pub whole_product : (k s t x product : ℕ) → product ≡ tower_mul k t x → t ≡ s → product % 2 ^ 2 ^ k ≡ tower_mul k s x
@@ -78,3 +82,29 @@ same_pair inverse times s a b c d a' b' c' d' first second third fourth holds =
     (subst (λ (v : ℕ). TakesBlock inverse times s 1 (slice_index (a' ∷ b' ∷ [])) (slice_index (v ∷ d ∷ []))) third
     (subst (λ (v : ℕ). TakesBlock inverse times s 1 (slice_index (a' ∷ v ∷ [])) (slice_index (c ∷ d ∷ []))) second
     (subst (λ (v : ℕ). TakesBlock inverse times s 1 (slice_index (v ∷ b ∷ [])) (slice_index (c ∷ d ∷ []))) first holds)))
+
+-- so the butterfly of two numbers at level 7 is, in the bits of a level between, that of the level
+butterfly_in_level : (j k s a b c d : ℕ) → j ≤ k → k ≤ 7 → s < 2 ^ 2 ^ j
+    → IsButterfly (tower_mul 7) s 1 (slice_index (a ∷ b ∷ [])) (slice_index (c ∷ d ∷ []))
+    → IsButterfly (tower_mul k) s 1 (slice_index (a % 2 ^ 2 ^ k ∷ b % 2 ^ 2 ^ k ∷ [])) (slice_index (c % 2 ^ 2 ^ k ∷ d % 2 ^ 2 ^ k ∷ []))
+butterfly_in_level j k s a b c d within few fits is =
+    pair_on (tower_mul k) s (a % 2 ^ 2 ^ k) (b % 2 ^ 2 ^ k) (c % 2 ^ 2 ^ k) (d % 2 ^ 2 ^ k) false refl
+    (multiple_in_level k s a b (tower_mul 7 s b) c (is.lower 0 (lit< tt)) (product_in_level j k s b within few fits))
+    (sum_in_level k b c d (is.upper 0 (lit< tt)))
+
+-- whichever way it goes, and in words of some more bits
+pub pair_in_level : (inverse : Bool) (j k bits s a b c d a' b' c' d' : ℕ) → j ≤ k → k ≤ 7 → 2 ^ k ≤ bits → s < 2 ^ 2 ^ j
+    → a' ≡ a → b' ≡ b → c' ≡ c % 2 ^ bits → d' ≡ d % 2 ^ bits
+    → TakesBlock inverse (tower_mul 7) s 1 (slice_index (a' ∷ b' ∷ [])) (slice_index (c ∷ d ∷ []))
+    → TakesBlock inverse (tower_mul k) s 1 (slice_index (a % 2 ^ 2 ^ k ∷ b % 2 ^ 2 ^ k ∷ []))
+    (slice_index (c' % 2 ^ 2 ^ k ∷ d' % 2 ^ 2 ^ k ∷ []))
+pair_in_level inverse j k bits s a b c d a' b' c' d' within few room fits same_a same_b of_c of_d is =
+    same_pair inverse (tower_mul k) s (a' % 2 ^ 2 ^ k) (b' % 2 ^ 2 ^ k) (c % 2 ^ 2 ^ k) (d % 2 ^ 2 ^ k) (a % 2 ^ 2 ^ k) (b % 2 ^ 2 ^ k)
+    (c' % 2 ^ 2 ^ k) (d' % 2 ^ 2 ^ k) (ap (λ (y : ℕ). y % 2 ^ 2 ^ k) same_a) (ap (λ (y : ℕ). y % 2 ^ 2 ^ k) same_b)
+    (sym (ap (λ (y : ℕ). y % 2 ^ 2 ^ k) of_c ∙ low_bits k bits c room)) (sym (ap (λ (y : ℕ). y % 2 ^ 2 ^ k) of_d ∙ low_bits k bits d room))
+    (either inverse is)
+  where
+    either : (way : Bool) → TakesBlock way (tower_mul 7) s 1 (slice_index (a' ∷ b' ∷ [])) (slice_index (c ∷ d ∷ []))
+        → TakesBlock way (tower_mul k) s 1 (slice_index (a' % 2 ^ 2 ^ k ∷ b' % 2 ^ 2 ^ k ∷ [])) (slice_index (c % 2 ^ 2 ^ k ∷ d % 2 ^ 2 ^ k ∷ []))
+    either false on = butterfly_in_level j k s a' b' c d within few fits on
+    either true back = butterfly_in_level j k s c d a' b' within few fits back

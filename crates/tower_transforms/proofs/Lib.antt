@@ -7,6 +7,7 @@ mod RowSteps
 mod ScalarHalves
 mod Scalars
 mod Tables
+mod TwoPairs
 mod LaneWeaving
 mod LevelProducts
 mod UnitFacts

@@ -79,7 +79,9 @@ pub(crate) fn shift_of<R: Unsigned, L: Level<R>>(z: R, stage: usize) -> R
     shift
 }
 
-// The butterflies of the halves of a block: products by 8, 16 or 32 bits where the twiddle has no more, and whole ones otherwise.
+// The butterflies of the halves of a block: products by 8, 16 or 32 bits where the twiddle has no more, and whole ones otherwise. The lowest
+// stages have blocks of few pairs, so that a call of its own would count.
+#[inline(always)]
 pub(crate) fn run_block<R: Unsigned, L: Level<R>, W: Holds<R>>(
     lo: &mut [W],
     hi: &mut [W],

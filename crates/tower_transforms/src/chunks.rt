@@ -1,17 +1,19 @@
-// Products by a scalar of sixteen bytes in a register: of all their elements of 8, 16 or 32 bits at once, which stand one after another.
-ghost use Rattle.std.specs.Prelude.{◌≡◌, ◌^◌, ◌<◌, ◌≤◌, ℕ, suc};
+// Products by a scalar of vectors of bytes: of all their elements of 8, 16 or 32 bits at once, which stand one after another.
+ghost use Rattle.std.specs.Prelude.{◌≡◌, [], ◌∷◌, ◌^◌, ◌<◌, ◌≤◌, ℕ, slice_index, suc};
+ghost use Rattle.additive_transforms.specs.Stages.{TakesBlock};
 ghost use Rattle.field_base.specs.Tower.{tower_mul};
 ghost use Rattle.tower_transforms.specs.ChunkLemmas.{no_halves, one_half, two_halves};
-ghost use Rattle.tower_transforms.specs.Chunks.{AreExchanged, AreMerged, AreTimes};
+ghost use Rattle.tower_transforms.specs.Chunks.{AreExchanged, AreMerged, AreTimes, chunk_of};
 ghost use Rattle.tower_transforms.specs.Products.{AreMultiples, AreMultiplesOfHalves};
 ghost use Rattle.tower_transforms.specs.Rows.{level_of};
 
 use crate::multiples::{ByteMultiples, HalfMultiples};
-use byte_maps::{ByteVector, entry_sums};
+use crate::vectors::ChunkVector;
+use byte_maps::{ByteVector, entry_sums, halves, joined};
 use std::simd::prelude::*;
 use word_carryless::{bytes_of_128, number_of_bytes};
 
-/// The multiples of a scalar of 8, 16 or 32 bits, by which all elements of so many bits in sixteen bytes are multiplied at once.
+/// The multiples of a scalar of 8, 16 or 32 bits, by which all elements of so many bits in a vector are multiplied at once.
 pub trait Scales {
     // The elements have 2 to the power of so many bytes.
     ghost depth: { ℕ };
@@ -20,8 +22,8 @@ pub trait Scales {
     ghost are_multiples: { Self → ℕ → Type 0 };
 
     /// Each element, multiplied by the scalar.
-    fn times(&self, bytes: u8x16) -> u8x16
-        ensures { (s : ℕ) → are_multiples self.now s → AreTimes depth s bytes result };
+    fn times<V: ChunkVector>(&self, bytes: V) -> V
+        ensures { (s : ℕ) → are_multiples self.now s → AreTimes depth s (V.ByteVector.bytes bytes) (V.ByteVector.bytes result) };
 
     ghost few_law: { depth ≤ 4 };
 }
@@ -29,12 +31,12 @@ pub trait Scales {
 /// The multiples of scalars whose elements stand in pairs, as the halves of wider ones.
 pub trait Paired: Scales {
     /// The elements of each pair exchanged.
-    fn exchanged(bytes: u8x16) -> u8x16
-        ensures { AreExchanged Self.Scales.depth bytes result };
+    fn exchanged<V: ChunkVector>(bytes: V) -> V
+        ensures { AreExchanged Self.Scales.depth (V.ByteVector.bytes bytes) (V.ByteVector.bytes result) };
 
     /// The low elements of the pairs of one vector, and the high ones of another.
-    fn merged(lows: u8x16, highs: u8x16) -> u8x16
-        ensures { AreMerged Self.Scales.depth lows highs result };
+    fn merged<V: ChunkVector>(lows: V, highs: V) -> V
+        ensures { AreMerged Self.Scales.depth (V.ByteVector.bytes lows) (V.ByteVector.bytes highs) (V.ByteVector.bytes result) };
 
     ghost pairs_law: { suc Self.Scales.depth ≤ 4 };
 }
@@ -45,7 +47,8 @@ impl Scales for ByteMultiples {
     ghost are_multiples = { AreMultiples };
 
     #[inline(always)]
-    fn times(&self, bytes: u8x16) -> u8x16 {
+    fn times<V: ChunkVector>(&self, bytes: V) -> V {
+        bytes.holds_bytes();
         entry_sums(self.low, self.high, bytes)
     }
 
@@ -54,16 +57,13 @@ impl Scales for ByteMultiples {
 
 impl Paired for ByteMultiples {
     #[inline(always)]
-    fn exchanged(bytes: u8x16) -> u8x16 {
-        bytes.swizzle([1, 0, 3, 2, 5, 4, 7, 6, 9, 8, 11, 10, 13, 12, 15, 14])
+    fn exchanged<V: ChunkVector>(bytes: V) -> V {
+        bytes.exchanged_bytes()
     }
 
     #[inline(always)]
-    fn merged(lows: u8x16, highs: u8x16) -> u8x16 {
-        lows.shuffle(
-            highs,
-            [0, 17, 2, 19, 4, 21, 6, 23, 8, 25, 10, 27, 12, 29, 14, 31],
-        )
+    fn merged<V: ChunkVector>(lows: V, highs: V) -> V {
+        lows.merged_bytes(highs)
     }
 
     ghost pairs_law = { one_half };
@@ -71,16 +71,13 @@ impl Paired for ByteMultiples {
 
 impl Paired for HalfMultiples<ByteMultiples> {
     #[inline(always)]
-    fn merged(lows: u8x16, highs: u8x16) -> u8x16 {
-        lows.shuffle(
-            highs,
-            [0, 1, 18, 19, 4, 5, 22, 23, 8, 9, 26, 27, 12, 13, 30, 31],
-        )
+    fn exchanged<V: ChunkVector>(bytes: V) -> V {
+        bytes.exchanged_words()
     }
 
     #[inline(always)]
-    fn exchanged(bytes: u8x16) -> u8x16 {
-        bytes.swizzle([2, 3, 0, 1, 6, 7, 4, 5, 10, 11, 8, 9, 14, 15, 12, 13])
+    fn merged<V: ChunkVector>(lows: V, highs: V) -> V {
+        lows.merged_words(highs)
     }
 
     ghost pairs_law = { two_halves };
@@ -93,15 +90,15 @@ impl<M: Paired> Scales for HalfMultiples<M> {
 
     // (s0 + s1 X) (a0 + a1 X), where q = s1 (a0 + a1), is q + (s0 + s1) a0 and q + (s0 + s1 + t s1) a1.
     #[inline(always)]
-    fn times(&self, bytes: u8x16) -> u8x16 {
+    fn times<V: ChunkVector>(&self, bytes: V) -> V {
         let exchanged = M::exchanged(bytes);
+        bytes.holds_bytes();
         exchanged.holds_bytes();
-        let sums = bytes ^ exchanged;
-        let both = self.both.times(sums);
+        let both = self.both.times(bytes.sum(exchanged));
         both.holds_bytes();
         let merged = M::merged(self.low.times(bytes), self.high.times(bytes));
         merged.holds_bytes();
-        merged ^ both
+        merged.sum(both)
     }
 
     ghost few_law = { M.pairs_law };
@@ -117,4 +114,101 @@ pub fn times_number<M: Scales>(multiples: &M, x: u128) -> u128
     let products = multiples.times(bytes);
     products.holds_bytes();
     number_of_bytes(products)
+}
+
+/// The forward butterfly of two such numbers, `lo += s * hi` and then `hi += lo`, or, where `inverse` is true, the inverse one.
+#[inline(always)]
+pub(crate) fn pair_of_numbers<M: Scales>(
+    multiples: &M,
+    lo: u128,
+    hi: u128,
+    inverse: bool,
+) -> (u128, u128)
+    ensures { (s : ℕ) → M.are_multiples multiples.now s → s < 2 ^ 2 ^ level_of M.depth
+        → TakesBlock inverse (tower_mul 7) s 1 (slice_index (lo ∷ hi ∷ [])) (slice_index (result.0 ∷ result.1 ∷ [])) }
+{
+    let (x, y) = pair_of_vectors(multiples, vector_of_one(lo), vector_of_one(hi), inverse);
+    (number_of_one(x), number_of_one(y))
+}
+
+/// The butterflies of two pairs of such numbers, in vectors of both.
+#[inline(always)]
+pub(crate) fn two_pairs_of_numbers<M: Scales>(
+    multiples: &M,
+    lo: (u128, u128),
+    hi: (u128, u128),
+    inverse: bool,
+) -> ((u128, u128), (u128, u128))
+    ensures first { (s : ℕ) → M.are_multiples multiples.now s → s < 2 ^ 2 ^ level_of M.depth
+        → TakesBlock inverse (tower_mul 7) s 1 (slice_index (lo.0 ∷ hi.0 ∷ [])) (slice_index (result.0.0 ∷ result.1.0 ∷ [])) }
+    ensures second { (s : ℕ) → M.are_multiples multiples.now s → s < 2 ^ 2 ^ level_of M.depth
+        → TakesBlock inverse (tower_mul 7) s 1 (slice_index (lo.1 ∷ hi.1 ∷ [])) (slice_index (result.0.1 ∷ result.1.1 ∷ [])) }
+{
+    let (x, y) = pair_of_vectors(multiples, vector_of_two(lo), vector_of_two(hi), inverse);
+    (numbers_of_two(x), numbers_of_two(y))
+}
+
+// The butterfly of each sixteen bytes of two vectors, which stay in vectors from the first sum to the last.
+#[inline(always)]
+fn pair_of_vectors<M: Scales, V: ChunkVector>(multiples: &M, lo: V, hi: V, inverse: bool) -> (V, V)
+    ensures { (s : ℕ) → M.are_multiples multiples.now s → s < 2 ^ 2 ^ level_of M.depth → (i : ℕ)
+        → TakesBlock inverse (tower_mul 7) s 1
+        (slice_index (chunk_of 4 (V.ByteVector.bytes lo) i ∷ chunk_of 4 (V.ByteVector.bytes hi) i ∷ []))
+        (slice_index (chunk_of 4 (V.ByteVector.bytes result.0) i ∷ chunk_of 4 (V.ByteVector.bytes result.1) i ∷ [])) }
+{
+    lo.holds_bytes();
+    hi.holds_bytes();
+    if inverse {
+        let high = hi.sum(lo);
+        high.holds_bytes();
+        let product = multiples.times(high);
+        product.holds_bytes();
+        (lo.sum(product), high)
+    } else {
+        let product = multiples.times(hi);
+        product.holds_bytes();
+        let low = lo.sum(product);
+        low.holds_bytes();
+        (low, hi.sum(low))
+    }
+}
+
+// A number as the sixteen bytes of a vector.
+#[inline(always)]
+fn vector_of_one(x: u128) -> u8x16
+    ensures { chunk_of 4 result 0 ≡ x }
+{
+    let bytes = bytes_of_128(x);
+    bytes.holds_bytes();
+    bytes
+}
+
+// The number of sixteen bytes.
+#[inline(always)]
+fn number_of_one(bytes: u8x16) -> u128
+    ensures { result ≡ chunk_of 4 bytes 0 }
+{
+    number_of_bytes(bytes)
+}
+
+// Two numbers as the halves of a vector.
+#[inline(always)]
+fn vector_of_two(numbers: (u128, u128)) -> u8x32
+    ensures first { chunk_of 4 result 0 ≡ numbers.0 }
+    ensures second { chunk_of 4 result 1 ≡ numbers.1 }
+{
+    let (first, second) = (vector_of_one(numbers.0), vector_of_one(numbers.1));
+    first.holds_bytes();
+    second.holds_bytes();
+    joined(first, second)
+}
+
+// The numbers of both halves.
+#[inline(always)]
+fn numbers_of_two(bytes: u8x32) -> (u128, u128)
+    ensures first { result.0 ≡ chunk_of 4 bytes 0 }
+    ensures second { result.1 ≡ chunk_of 4 bytes 1 }
+{
+    let (first, second) = halves(bytes);
+    (number_of_one(first), number_of_one(second))
 }

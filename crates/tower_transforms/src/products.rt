@@ -1,14 +1,18 @@
-// Products of words by a scalar of a level of the tower.
-ghost use Rattle.std.specs.Prelude.{◌≡◌, ◌%◌, ◌^◌, ◌<◌, ◌≤◌, ℕ};
+// Butterflies of two words by a scalar of a level of the tower (S. Gao and T. Mateer, Additive fast Fourier transforms over finite fields,
+// IEEE Transactions on Information Theory 56, 2010).
+ghost use Rattle.std.specs.Prelude.{◌≡◌, [], ◌∷◌, ◌^◌, ◌<◌, ◌≤◌, ℕ, slice_index};
+ghost use Rattle.additive_transforms.specs.Stages.{TakesBlock};
 ghost use Rattle.field_base.specs.Tower.{tower_mul};
+ghost use Rattle.ghash_slices.specs.Stages.{add_multiple};
 ghost use Rattle.tower_transforms.specs.Rows.{level_of};
+ghost use Rattle.tower_transforms.specs.Words.{level_element};
 
-use crate::{Scales, times_number};
+use crate::chunks::{Scales, pair_of_numbers, two_pairs_of_numbers};
 use field_base::Unsigned;
 use std::marker::PhantomData;
 use word_tower::Level;
 
-/// A scalar of a level, by which words are multiplied.
+/// A scalar of a level, by which the butterflies of words are computed.
 pub(crate) trait Multiplies<R: Unsigned> {
     // The level.
     ghost level: { ℕ };
@@ -16,9 +20,20 @@ pub(crate) trait Multiplies<R: Unsigned> {
     // What it is as a number.
     ghost is_scalar: { Self → ℕ → Type 0 };
 
-    /// The product by the scalar, in the bits of the level.
-    fn times(&self, x: R) -> R
-        ensures { (s : ℕ) → is_scalar self.now s → R.number result % 2 ^ 2 ^ level ≡ tower_mul level s (R.number x) };
+    /// The forward butterfly of two words by the scalar, `lo += s * hi` and then `hi += lo`, or, where `inverse` is true, the inverse one.
+    fn pair(&self, lo: R, hi: R, inverse: bool) -> (R, R)
+        ensures { (s : ℕ) → is_scalar self.now s → let element = level_element R.number level in
+            TakesBlock inverse (tower_mul level) s 1 (slice_index (element lo ∷ element hi ∷ []))
+            (slice_index (element result.0 ∷ element result.1 ∷ [])) };
+
+    /// The same of two pairs: both lower words, and then both upper ones.
+    fn two_pairs(&self, lo: R, next_lo: R, hi: R, next_hi: R, inverse: bool) -> (R, R, R, R)
+        ensures first { (s : ℕ) → is_scalar self.now s → let element = level_element R.number level in
+            TakesBlock inverse (tower_mul level) s 1 (slice_index (element lo ∷ element hi ∷ []))
+            (slice_index (element result.0 ∷ element result.2 ∷ [])) }
+        ensures second { (s : ℕ) → is_scalar self.now s → let element = level_element R.number level in
+            TakesBlock inverse (tower_mul level) s 1 (slice_index (element next_lo ∷ element next_hi ∷ []))
+            (slice_index (element result.1 ∷ element result.3 ∷ [])) };
 }
 
 /// A scalar of all the bits of a level.
@@ -34,9 +49,31 @@ impl<R: Unsigned, L: Level<R>> Multiplies<R> for WholeScalar<R, L> {
     ghost is_scalar = { λ whole s. R.number whole.scalar ≡ s };
 
     #[inline(always)]
-    fn times(&self, x: R) -> R {
-        L::multiply(self.scalar, x)
+    fn pair(&self, lo: R, hi: R, inverse: bool) -> (R, R) {
+        if inverse {
+            let high = hi.xor(lo);
+            (sum_of_multiple::<R, L>(lo, high, self.scalar), high)
+        } else {
+            let low = sum_of_multiple::<R, L>(lo, hi, self.scalar);
+            (low, hi.xor(low))
+        }
     }
+
+    #[inline(always)]
+    fn two_pairs(&self, lo: R, next_lo: R, hi: R, next_hi: R, inverse: bool) -> (R, R, R, R) {
+        let first = self.pair(lo, hi, inverse);
+        let second = self.pair(next_lo, next_hi, inverse);
+        (first.0, second.0, first.1, second.1)
+    }
+}
+
+// `x`, and the product of `y` by the scalar.
+#[inline(always)]
+fn sum_of_multiple<R: Unsigned, L: Level<R>>(x: R, y: R, scalar: R) -> R
+    ensures { (s : ℕ) → R.number scalar ≡ s → let element = level_element R.number L.LEVEL in
+        element result ≡ add_multiple (tower_mul L.LEVEL) s (element x) (element y) }
+{
+    x.xor(L::multiply(scalar, y))
 }
 
 /// A scalar of a lower level, by its multiples.
@@ -52,7 +89,21 @@ impl<R: Unsigned, L: Level<R>, M: Scales> Multiplies<R> for ChunkScalar<M, L> {
     ghost is_scalar = { λ chunk s. M.are_multiples chunk.multiples s × (s < 2 ^ 2 ^ level_of M.depth) × (level_of M.depth ≤ L.LEVEL) };
 
     #[inline(always)]
-    fn times(&self, x: R) -> R {
-        R::of_u128(times_number(&self.multiples, x.to_u128()))
+    fn pair(&self, lo: R, hi: R, inverse: bool) -> (R, R) {
+        let (low, high) = pair_of_numbers(&self.multiples, lo.to_u128(), hi.to_u128(), inverse);
+        (R::of_u128(low), R::of_u128(high))
+    }
+
+    #[inline(always)]
+    fn two_pairs(&self, lo: R, next_lo: R, hi: R, next_hi: R, inverse: bool) -> (R, R, R, R) {
+        let lows = (lo.to_u128(), next_lo.to_u128());
+        let highs = (hi.to_u128(), next_hi.to_u128());
+        let (low, high) = two_pairs_of_numbers(&self.multiples, lows, highs, inverse);
+        (
+            R::of_u128(low.0),
+            R::of_u128(low.1),
+            R::of_u128(high.0),
+            R::of_u128(high.1),
+        )
     }
 }

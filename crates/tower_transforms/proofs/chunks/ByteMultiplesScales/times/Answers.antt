@@ -2,6 +2,7 @@ use Rattle.tower_transforms.proofs.ChunkProducts.{bytes_of, bytes_times}
 use Rattle.tower_transforms.proofs.chunks.ByteMultiplesScales.times.Goals as goal
 
 pub returns : goal.returns
-returns c s are =
-    bytes_times c.args.self.now s c.args.bytes c.entry_sums.result are (bytes_of c.args.bytes c.fits-bytes.0 c.fits-bytes.1)
-    c.entry_sums.ensures
+returns g c s are =
+    let bytes = g.V.ByteVector.bytes c.args.bytes in
+    bytes_times g.V.ByteVector.lanes c.args.self.now s bytes (g.V.ByteVector.bytes c.entry_sums.result) are
+    (bytes_of g.V.ByteVector.lanes bytes c.holds_bytes.ensures.count c.holds_bytes.ensures.fit) c.entry_sums.ensures
