@@ -67,7 +67,7 @@ pub use bits_packed::{
 pub use field_slices;
 
 // polynomials in many variables by their values at corners, in one by those at the first elements, and rounds of sum-check
-pub use polynomials;
+pub use field_slices as polynomials;
 
 // universal hashes of two authenticated ciphers
 pub use tags;
