@@ -14,7 +14,7 @@ to="$copy/crates/bench_provers"
 mkdir -p "$to/src" "$to/proofs/transform_elements"
 cp "$here/main.txt" "$to/src/main.rt"
 cp "$here/answers.txt" "$to/proofs/transform_elements/Answers.antt"
-echo "bench_provers: field_base field_element field_slices polynomials additive_transforms anyhow" >> "$copy/crates.txt"
+echo "bench_provers: field_base field_element field_slices additive_transforms anyhow" >> "$copy/crates.txt"
 
 print_machine ""
 cd "$to"
