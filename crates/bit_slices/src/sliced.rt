@@ -28,7 +28,7 @@ pub trait Sliced: Copy {
     fn lanes() -> usize
         ensures { result ≡ 128 * units };
 
-    /// Elements to start from, which are 0.
+    /// A block to be read into. Nothing is said of its elements.
     fn zeros() -> Self;
 
     /// Sets each lane to the sum.

@@ -9,8 +9,8 @@ use std::alloc::Allocator;
 use transcript_elements::{CanSampleUniformBits, GrindingChallenger};
 
 /// Searches for a witness of `bits` bits of work, and then samples so many places below 2^depth, in order: they may repeat, and each number
-/// of `depth` bits is as likely as any other if the bytes that are sampled are. It returns the witness and the places. It fails with
-/// `NoWitness` if no element is one, with `Memory` if memory was refused, and with `Challenger` if an earlier call had failed.
+/// of `depth` bits is as likely as any other if the bytes that are sampled are. It returns the witness and the places. It fails where
+/// the challenger does, or memory is refused; no clause says with which error, or that it succeeds otherwise.
 pub fn draw_queries<
     W: Drop,
     F,
@@ -35,7 +35,7 @@ pub fn draw_queries<
 }
 
 /// Checks a witness of `bits` bits of work, and then samples so many places below 2^depth, as `draw_queries` does. It returns whether the
-/// witness works, and the places. It fails with `Memory` if memory was refused, and with `Challenger` if an earlier call had failed.
+/// witness works, and the places. It fails as `draw_queries` does.
 pub fn check_queries<
     W: Drop,
     F,
