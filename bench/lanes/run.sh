@@ -23,7 +23,7 @@ rm -rf "$to/src" "$to/proofs"
     mkdir -p "$to/$(dirname "$text")"
     cp "$here/library/$text" "$to/${text%.txt}.$end"
 done
-echo "bench_lanes staticlib: field_base field_element field_aes packed_lanes word_carryless byte_maps ghash_slices additive_transforms" >> "$copy/crates.txt"
+echo "bench_lanes staticlib: field_base field_element field_aes packed_lanes word_carryless word_tables ghash_slices additive_transforms" >> "$copy/crates.txt"
 
 # Both builds, with the kit's calls of malloc and free; of their symbols the units alone stay global, under a name of the build.
 for build in v2 v3; do

@@ -4,9 +4,8 @@ ghost use Rattle.c_arithmetic.specs.Fields.{itself, wide_number};
 
 use crate::numbers::numbers_of;
 use crate::{Wide, status};
-use byte_maps::ByteMatrix;
 use ghash_slices::WideWord;
-use word_tables::ByteMap;
+use word_tables::{ByteMap, ByteMatrix};
 
 /// Writes for each byte the sum of the images at its set bits: eight images, that of bit 0 first.
 pub fn map_bytes(values: &[u8], images: &[u8], mapped: &mut [u8]) -> u32

@@ -8,8 +8,8 @@ ghost use Rattle.field_base.specs.LinearMaps.{linear_image};
 
 use crate::slices::are_elements;
 use crate::{fields, in_place, slices, status};
-use byte_maps::map_bytes;
 use field_base::FieldKernel;
+use word_tables::map_bytes;
 
 /// The least number of bytes that are mapped; fewer are multiplied one after another.
 const LEAST_MAPPED: usize = 32;

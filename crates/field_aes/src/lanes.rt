@@ -2,12 +2,12 @@
 ghost use Rattle.std.specs.Prelude.{◌≡◌, map};
 ghost use Rattle.field_base.specs.LinearMaps.{linear_image};
 ghost use Rattle.field_element.specs.Element.{repr_of};
-ghost use Rattle.byte_maps.specs.Matrix.{images_of};
+ghost use Rattle.word_tables.specs.Matrix.{images_of};
 
-use byte_maps::ByteMatrix;
 use field_base::traits::PrimeCharacteristicRing;
 use field_element::{PackedRijndael8b, Rijndael8b, read_bytes, write_bytes};
 use packed_lanes::PackedValue;
+use word_tables::ByteMatrix;
 
 /// Packings of bytes of AES, whose lanes a matrix maps. It is a method of a trait, since a type has functions of its own in its
 /// crate alone.

@@ -8,4 +8,4 @@ mod maps;
 pub use crate::lanes::ByteLanes;
 pub use crate::linearized::LinearizedPoly8b;
 pub use crate::maps::RijndaelMaps;
-pub use byte_maps::{ByteMatrix, columns_are_transposed, zero_and_identity};
+pub use word_tables::{ByteMatrix, columns_are_transposed, zero_and_identity};

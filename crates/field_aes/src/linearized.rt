@@ -5,13 +5,13 @@ ghost use Rattle.field_base.specs.Powers.{repeated_square};
 ghost use Rattle.field_base.specs.Remainder.{aes_modulus, mul_mod};
 ghost use Rattle.field_element.specs.Element.{repr_of};
 ghost use Rattle.field_aes.specs.Linearized.{linearized_value};
-ghost use Rattle.byte_maps.specs.Matrix.{images_of};
+ghost use Rattle.word_tables.specs.Matrix.{images_of};
 
 mod numbers;
 
-use byte_maps::ByteMatrix;
 use field_base::traits::{PrimeCharacteristicRing, TowerLevel};
 use field_element::Rijndael8b;
+use word_tables::ByteMatrix;
 
 /// The polynomial that is the sum of coefficient j times x^(2^j), for j from 0 to 7. Every map of bytes that is linear over
 /// GF(2) is one.

@@ -4,11 +4,11 @@ ghost use Rattle.field_base.specs.LinearMaps.{linear_image};
 ghost use Rattle.field_base.specs.Powers.{repeated_square};
 ghost use Rattle.field_base.specs.Remainder.{aes_modulus, mul_mod};
 ghost use Rattle.field_element.specs.Element.{repr_of};
-ghost use Rattle.byte_maps.specs.Matrix.{images_of};
+ghost use Rattle.word_tables.specs.Matrix.{images_of};
 
-use byte_maps::ByteMatrix;
 use field_base::traits::{PrimeCharacteristicRing, TowerLevel};
 use field_element::Rijndael8b;
+use word_tables::ByteMatrix;
 
 /// The elements of `Rijndael8b` as bytes, and its maps that are linear over GF(2) as matrices. They are methods of a trait, since
 /// a type has functions of its own in its crate alone.

@@ -14,7 +14,7 @@ use Rattle.field_base.specs.Carryless.{carryless}
 use Rattle.field_base.proofs.RemainderRing.{ghash_ring}
 use Rattle.field_base.proofs.RingLemmas.{times-zero}
 use Rattle.word_carryless.specs.Tail.{ghash_tail}
-use Rattle.byte_maps.specs.Nibbles.{entry_sum}
+use Rattle.word_tables.specs.Nibbles.{entry_sum}
 use Rattle.ghash_slices.specs.Blocks.{HoldLanes, HoldRows}
 use Rattle.ghash_slices.specs.LowStages.{ghash_product}
 use Rattle.ghash_slices.specs.Multiples.{byte_of_multiple, horner_step}

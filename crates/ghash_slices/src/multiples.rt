@@ -13,9 +13,9 @@ ghost use Rattle.ghash_slices.specs.LowStages.{ghash_product};
 
 use crate::blocks::{bytes_from, lanes_at, put_lanes, transposed};
 use crate::words::numbers_are_values;
-use byte_maps::{ByteVector, entry_sums, halves, joined};
 use std::simd::prelude::*;
 use word_carryless::{multiply_by_power_128, reduce_128};
+use word_tables::{ByteVector, entry_sums, halves, joined};
 
 /// The low and the high bytes of the products of the numbers below 16 and x^7 + x^2 + x + 1, and of 16 times those numbers.
 const LOW_TAILS_LOW: [u8; 16] = [

@@ -7,7 +7,7 @@ use Rattle.std.proofs.lemmas.Nat.{xor_block, xor_comm}
 use Rattle.std.proofs.lemmas.Simd.{Each1-get_or, get_or-chunk}
 use native.Mathlib.Nat.{mod-lt}
 use lib.Bits.{xor_zero_r}
-use Rattle.byte_maps.specs.Nibbles.{entry_sum}
+use Rattle.word_tables.specs.Nibbles.{entry_sum}
 use Rattle.reed_solomon.specs.ErasureField.{erasure_product}
 use Rattle.reed_solomon.specs.Tables.{HasRow, nibble_sum}
 use Rattle.reed_solomon.proofs.ByteTables.{erasure_field}

@@ -2,8 +2,8 @@
 ghost use Rattle.std.specs.Prelude.{◌≡◌, ◌+◌, ◌<◌, ◌≤◌, ℕ, length, slice_index};
 ghost use Rattle.reed_solomon.specs.Tables.{nibble_sum};
 
-use byte_maps::entry_sums;
 use std::simd::prelude::*;
+use word_tables::entry_sums;
 
 // The sums of the entries of the halves of 32 bytes. The 32 entries begin at `start`.
 #[inline(always)]

@@ -9,7 +9,7 @@ use Rattle.std.proofs.lemmas.List.{get_or-append-add, get_or-map, get_or_append_
 use Rattle.std.proofs.lemmas.Simd.{Each1-get_or, get_or-zip2, length-zip2, pick_l_whole}
 use native.Mathlib.Nat.{pow-suc, zero-add}
 use lib.Bits.{xor_comm}
-use Rattle.byte_maps.specs.Nibbles.{entry_sum}
+use Rattle.word_tables.specs.Nibbles.{entry_sum}
 use Rattle.field_base.specs.Quadratic.{pair}
 use Rattle.field_base.specs.Tower.{root, tower_mul}
 use Rattle.field_base.proofs.QuadraticRing.{high_half-pair, low_half-pair, pair_xor}

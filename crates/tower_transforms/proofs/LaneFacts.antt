@@ -7,7 +7,7 @@ use Rattle.std.proofs.lemmas.Nat.{xor_lt}
 use Rattle.std.proofs.lemmas.Simd.{Each1-get_or, get_or-put_chunk_above, get_or-put_chunk_below, get_or-zip2}
 use native.Mathlib.Nat.{mod-eq_of_lt, mod-lt}
 use lib.Bits.{xor_comm, xor_shifted}
-use Rattle.byte_maps.specs.Nibbles.{entry_sum}
+use Rattle.word_tables.specs.Nibbles.{entry_sum}
 use Rattle.field_base.specs.Tower.{tower_mul}
 use Rattle.field_base.proofs.TowerRing.{tower_ring}
 use Rattle.tower_transforms.specs.Products.{AreMultiples}

@@ -2,8 +2,8 @@
 ghost use Rattle.std.specs.Prelude.{◌≡◌, ℕ, ◌+◌, ◌<◌, ◌≤◌, length, slice_index};
 ghost use Rattle.std.specs.Simd.Lanes.{chunk, put_chunk};
 
-use byte_maps::ByteVector;
 use std::simd::prelude::*;
+use word_tables::ByteVector;
 
 /// A vector of sixteen or thirty-two bytes that is read from a slice and written to it, whole or as far as the slice goes.
 pub trait ByteBlock: ByteVector {

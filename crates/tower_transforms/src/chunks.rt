@@ -9,9 +9,9 @@ ghost use Rattle.tower_transforms.specs.Rows.{level_of};
 
 use crate::multiples::{ByteMultiples, HalfMultiples};
 use crate::vectors::ChunkVector;
-use byte_maps::{ByteVector, entry_sums, halves, joined};
 use std::simd::prelude::*;
 use word_carryless::{bytes_of_128, number_of_bytes};
+use word_tables::{ByteVector, entry_sums, halves, joined};
 
 /// The multiples of a scalar of 8, 16 or 32 bits, by which all elements of so many bits in a vector are multiplied at once.
 pub trait Scales {

@@ -7,7 +7,7 @@ ghost use Rattle.tower_transforms.specs.LaneLemmas.{byte_of_lane-lt};
 
 use crate::blocks::ByteBlock;
 use crate::multiples::ByteMultiples;
-use byte_maps::entry_sums;
+use word_tables::entry_sums;
 
 /// As many elements as a vector has bytes, in one, two or four planes. `M` holds the multiples of a scalar by which they are multiplied.
 /// All is done in place.

@@ -1,8 +1,8 @@
 // Vectors of bytes whose elements stand one after another: the two of each pair exchanged, or taken from two vectors.
 ghost use Rattle.tower_transforms.specs.Chunks.{AreExchanged, AreMerged};
 
-use byte_maps::{ByteVector, halves, joined};
 use std::simd::prelude::*;
+use word_tables::{ByteVector, halves, joined};
 
 /// A vector of sixteen or thirty-two bytes as elements of 8 and of 16 bits that stand in pairs.
 pub trait ChunkVector: ByteVector {

@@ -9,9 +9,9 @@ use crate::multiples::{ByteMultiples, HalfMultiples};
 use crate::pair::Pair;
 use crate::planes::Planes;
 use crate::word_bytes::WordBytes;
-use byte_maps::{ByteVector, halves, joined};
 use field_base::Stored;
 use std::simd::prelude::*;
+use word_tables::{ByteVector, halves, joined};
 
 /// Planes that are read from a slice of words and written to it. Their elements are words or their parts: a word has as many bytes or more.
 pub trait WordPlanes<R: Stored, W: WordBytes<R>, M>: Planes<M> {

@@ -4,7 +4,7 @@ use Rattle.std.specs.Prelude.{bit_and, slice_index_or}
 use Rattle.std.specs.List.{All}
 use Rattle.std.specs.Simd.Lanes.{zip2, chunk}
 use Rattle.std.proofs.lemmas.Simd.{length-chunk, get_or-chunk}
-use Rattle.byte_maps.proofs.BlockLemmas.{done_before}
+use Rattle.word_tables.proofs.BlockLemmas.{done_before}
 use Rattle.field_base.specs.Carryless.{carryless}
 use Rattle.word_carryless.specs.Masked.{CarryIsolationInLanes, IsInClass, in_class}
 use Rattle.word_carryless.proofs.CarryIsolation.{carry_isolation, masked_carryless}

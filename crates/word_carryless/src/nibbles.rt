@@ -5,8 +5,8 @@ ghost use Rattle.std.specs.Simd.Lanes.{digits_l, number_l};
 ghost use Rattle.field_base.specs.Carryless.{carryless};
 
 use crate::split::split_128;
-use byte_maps::ByteVector;
 use std::simd::prelude::*;
+use word_tables::ByteVector;
 
 /// The carryless squares of the numbers below 16.
 const NIBBLE_SQUARES: [u8; 16] = [

@@ -1,11 +1,16 @@
+pub mod BlockLemmas
 pub mod ByteTables
 pub mod CantorVectors
+mod ColumnLemmas
 pub mod DigitMaps
 pub mod FrobeniusFacts
 pub mod GeneratorImages
+mod HalfImages
+mod ImageLemmas
 pub mod Isomorphisms
 pub mod LevelLaws
 pub mod LinearMaps
+mod Lookups
 pub mod Orders
 pub mod RepeatedSquares
 pub mod RijndaelTables

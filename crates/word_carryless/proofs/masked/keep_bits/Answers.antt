@@ -1,6 +1,6 @@
 use Rattle.std.proofs.Common.{◌<◌, length, arith}
 use Rattle.std.specs.Prelude.{bit_and}
-use Rattle.byte_maps.proofs.BlockLemmas.{place_done}
+use Rattle.word_tables.proofs.BlockLemmas.{place_done}
 use Rattle.word_carryless.specs.Masked.{class_mask}
 use Rattle.word_carryless.proofs.masked.keep_bits.Goals as goal
 

@@ -1,6 +1,6 @@
 use Rattle.std.proofs.Common.{◌≡◌}
 use Rattle.std.specs.Prelude.{bit_and}
-use Rattle.byte_maps.proofs.BlockLemmas.{done_before}
+use Rattle.word_tables.proofs.BlockLemmas.{done_before}
 use Rattle.word_carryless.specs.Masked.{class_mask}
 use Rattle.word_carryless.proofs.masked.keep_bits.Given as goal
 

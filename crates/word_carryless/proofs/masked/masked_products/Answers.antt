@@ -1,7 +1,7 @@
 use Rattle.std.proofs.Common.{◌*◌, ◌+◌, ◌%◌, ◌^◌, arith}
 use Rattle.field_base.specs.Carryless.{carryless}
 use Rattle.word_carryless.specs.Masked.{IsInClass}
-use Rattle.byte_maps.proofs.BlockLemmas.{block_done, place_done}
+use Rattle.word_tables.proofs.BlockLemmas.{block_done, place_done}
 use Rattle.word_carryless.proofs.MaskedLanes.{block_keeps, place_keeps}
 use Rattle.word_carryless.proofs.masked.masked_products.Goals as goal
 

@@ -1,6 +1,6 @@
 use Rattle.std.proofs.Common.{◌≡◌, ◌*◌, ◌%◌, ◌^◌}
 use Rattle.field_base.specs.Carryless.{carryless}
-use Rattle.byte_maps.proofs.BlockLemmas.{done_before}
+use Rattle.word_tables.proofs.BlockLemmas.{done_before}
 use Rattle.word_carryless.proofs.masked.masked_products.Given as goal
 
 -- the words before this block of four are products, the others are as they were

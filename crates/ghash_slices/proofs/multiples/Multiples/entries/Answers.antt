@@ -1,6 +1,6 @@
 use Rattle.std.proofs.Common.{List, ℕ, ◌*◌, ◌∙◌, ap₂, map}
 use Rattle.std.specs.Simd.Lanes.{chunk}
-use Rattle.byte_maps.specs.Nibbles.{entry_sum}
+use Rattle.word_tables.specs.Nibbles.{entry_sum}
 use Rattle.ghash_slices.specs.Multiples.{byte_of_multiple}
 use Rattle.ghash_slices.proofs.HornerProducts.{looked_up, multiples_looked_up}
 use Rattle.ghash_slices.proofs.multiples.Multiples.entries.Goals as goal

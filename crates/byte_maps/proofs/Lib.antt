@@ -1,5 +1,0 @@
-pub mod BlockLemmas
-mod ColumnLemmas
-mod HalfImages
-mod ImageLemmas
-mod Lookups

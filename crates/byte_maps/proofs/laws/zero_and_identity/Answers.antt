@@ -1,9 +1,0 @@
--- Each of the eight images is the one that the map has.
-use Rattle.byte_maps.proofs.ImageLemmas.{identity_map, zero_map}
-use Rattle.byte_maps.proofs.laws.zero_and_identity.Goals as goal
-
-pub returns-clause-zero : goal.returns-clause-zero
-returns-clause-zero c = zero_map
-
-pub returns-clause-identity : goal.returns-clause-identity
-returns-clause-identity c = identity_map

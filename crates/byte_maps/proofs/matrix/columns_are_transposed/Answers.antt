@@ -1,8 +1,0 @@
-use Rattle.byte_maps.proofs.ColumnLemmas.{columns_back, columns_bit}
-use Rattle.byte_maps.proofs.matrix.columns_are_transposed.Goals as goal
-
-pub returns-clause-bits : goal.returns-clause-bits
-returns-clause-bits c = columns_bit
-
-pub returns-clause-back : goal.returns-clause-back
-returns-clause-back c = columns_back

@@ -1,3 +1,0 @@
-pub mod Columns
-pub mod Matrix
-pub mod Nibbles
