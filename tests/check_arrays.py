@@ -377,7 +377,7 @@ class Elements(unittest.TestCase):
                 lambda: a + [0, 1, 2], lambda: [2, 0, 0] @ a, lambda: np.array([2, 0, 0]) @ a, lambda: a.dot([2, 0, 0]), lambda: a + None,
                 lambda: a + "1", lambda: a + 1.0, lambda: a * np.ones(3), lambda: a**a, lambda: 2**a, lambda: np.float64(1) * a,
                 lambda: np.sum(a, dtype=int), lambda: np.add(a, a, dtype=int), lambda: np.insert(a, 0, 1), lambda: np.mean(a), lambda: np.sort(a),
-                lambda: np.linalg.inv(a), lambda: np.maximum(a, a), lambda: np.subtract.reduce(a), lambda: np.add.reduceat(a, [0]),
+                lambda: np.linalg.eig(a), lambda: np.maximum(a, a), lambda: np.subtract.reduce(a), lambda: np.add.reduceat(a, [0]),
                 lambda: np.einsum("i,i", a, a), lambda: np.bitwise_xor(a, a), lambda: np.tile(np.array([1]), a),
                 lambda: np.add.at(np.zeros(3), [0], a), lambda: iter(a[0]),
             ):

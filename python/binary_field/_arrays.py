@@ -9,8 +9,8 @@ from typing import Any, Callable, TypeVar, Union
 
 import numpy as np
 
-from ._facts import Facts
 from ._library import Words, call, is_packed, packed
+from ._matrices import Matrices
 from ._workers import set_workers
 
 A = TypeVar("A", bound="FieldArray")
@@ -30,7 +30,7 @@ def _is_left_to(other: Any) -> bool:
     return getattr(other, "__array_ufunc__", True) is None
 
 
-class FieldArray(Facts):
+class FieldArray(Matrices):
     """An array of elements of one field; each field is a subclass. An element is an array of no dimensions.
 
     `F(x)` makes one of integers, which are the representations of elements, of nested lists of them, of texts of hexadecimal

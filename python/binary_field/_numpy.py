@@ -10,6 +10,7 @@ from typing import Any, Callable, Sequence
 
 import numpy as np
 
+from . import _matrices
 from ._arrays import FUNCTIONS, UFUNCS, FieldArray
 from ._transforms import field_of_product, product_by_transforms
 
@@ -265,6 +266,12 @@ FUNCTIONS.update({
     np.cumprod: lambda a, *more, **options: a.cumprod(*more, **options),
     np.cumsum: lambda a, *more, **options: a.cumsum(*more, **options),
     np.dot: lambda a, b, out=None: _field_of(a, b)._other(a).dot(b, out),
+    np.linalg.det: lambda a: _matrices.determinant(a),
+    np.linalg.inv: lambda a: _matrices.inverse(a),
+    np.linalg.matrix_power: lambda a, n: _matrices.power(a, n),
+    np.linalg.matrix_rank: lambda A: _matrices.rank(A),
+    np.linalg.multi_dot: lambda arrays: _matrices.product_of_all(arrays),
+    np.linalg.solve: lambda a, b: _matrices.solution(a, b),
     np.ndim: lambda a: a.ndim,
     np.ones_like: _filled("ones"),
     np.outer: _outer_product,

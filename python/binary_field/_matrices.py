@@ -1,0 +1,290 @@
+"""Linear algebra over matrices in the last two axes, by Gauss' elimination (Golub and Van Loan, Matrix Computations, chapter 3).
+
+In a field each pivot that is not 0 is as good as another, so that the first one is taken, and a result is exact. A stack of matrices
+is eliminated at once, a column at a time.
+"""
+
+from __future__ import annotations
+
+import functools
+import math
+import operator
+from typing import Any, TypeVar
+
+import numpy as np
+
+from ._facts import Facts
+
+M = TypeVar("M", bound="Matrices")
+
+# Rows of so many bytes are added one by one, by a call each; shorter ones all at once, by products of all pairs.
+_LONG_ROW = 1 << 12
+
+
+class Matrices(Facts):
+    """What arrays of elements are as matrices."""
+
+    # ---- making
+
+    @classmethod
+    def Identity(cls: type[M], size: int) -> M:
+        """The matrix with ones on its diagonal and zeros elsewhere.
+
+        >>> bf.Gf2.Identity(2)
+        Gf2([[0x1, 0x0], [0x0, 0x1]])
+        """
+        return cls(np.eye(size, dtype=np.uint8))
+
+    @classmethod
+    def Vandermonde(cls: type[M], element: Any, rows: int, cols: int) -> M:
+        """The matrix with the powers of element**i, from the power 0 on, in row i. Those of any points are `np.vander`.
+
+        >>> bf.Rijndael8b.Vandermonde(2, 3, 3)
+        Rijndael8b([[0x1, 0x1, 0x1], [0x1, 0x2, 0x4], [0x1, 0x4, 0x10]])
+        """
+        points = powers(cls._single(element), rows)
+        return cls._operand(powers(points, cols))
+
+    @classmethod
+    def Cauchy(cls: type[M], x: Any, y: Any) -> M:
+        """The matrix with 1 / (x[i] + y[j]) in row i and column j, of which each square part has an inverse where the elements of x
+        differ, and those of y. ZeroDivisionError where x and y share an element.
+
+        >>> bf.Rijndael8b.Cauchy([2, 3], [0, 1])
+        Rijndael8b([[0x8d, 0xf6], [0xf6, 0x8d]])
+        """
+        left, right = cls._operand(x), cls._operand(y)
+        if left.ndim != 1 or right.ndim != 1:
+            raise ValueError("the elements of a Cauchy matrix must have one dimension")
+        sums: Any = np.add.outer(left, right)
+        result: M = sums.reciprocal()
+        return result
+
+    # ---- spaces
+
+    def _one_matrix(self: M) -> M:
+        if self.ndim != 2:
+            raise ValueError(f"a matrix is wanted, and the shape is {self.shape}")
+        return self
+
+    def row_reduce(self: M, ncols: int | None = None) -> M:
+        """The reduced row echelon form of a matrix, whose pivots are among the first `ncols` columns, by default all.
+
+        >>> bf.Rijndael8b([[2, 4, 6], [1, 2, 1]]).row_reduce()
+        Rijndael8b([[0x1, 0x2, 0x0], [0x0, 0x0, 0x1]])
+        """
+        return reduced(self._one_matrix(), self.shape[1] if ncols is None else operator.index(ncols))[0]
+
+    def row_space(self: M) -> M:
+        """A basis of the combinations of a matrix's rows: the rows of its reduced echelon form that are not 0.
+
+        >>> bf.Gf2([[1, 1], [1, 1]]).row_space()
+        Gf2([[0x1, 0x1]])
+        """
+        echelon, ranks, _ = reduced(self._one_matrix(), self.shape[1])
+        return echelon[: int(ranks)]
+
+    def column_space(self: M) -> M:
+        """A basis of the combinations of a matrix's columns, whose vectors are the rows of the result.
+
+        >>> bf.Rijndael8b([[1, 2], [3, 6]]).column_space()
+        Rijndael8b([[0x1, 0x3]])
+        """
+        return self._transposed().row_space()
+
+    def left_null_space(self: M) -> M:
+        """A basis of the vectors x with x @ A = 0, as the rows of the result.
+
+        >>> bf.Gf2([[1, 1], [1, 1], [0, 1]]).left_null_space()
+        Gf2([[0x1, 0x1, 0x0]])
+        """
+        matrix: Any = self._one_matrix()
+        rows, columns = self.shape
+        # Each row stands beside the combination that it is.
+        both, ranks, _ = reduced(np.concatenate([matrix, matrix.Identity(rows)], axis=1), columns)
+        basis: M = both[int(ranks) :, columns:].row_space()
+        return basis
+
+    def null_space(self: M) -> M:
+        """A basis of the vectors x with A @ x = 0, as the rows of the result.
+
+        >>> a = bf.Rijndael8b([[1, 2, 3]])
+        >>> a.null_space()
+        Rijndael8b([[0x1, 0x0, 0xf6], [0x0, 0x1, 0xf7]])
+        >>> a @ a.null_space().T
+        Rijndael8b([[0x0, 0x0]])
+        """
+        return self._transposed().left_null_space()
+
+    def _transposed(self: M) -> M:
+        return self._one_matrix().transpose()
+
+    # ---- decompositions
+
+    def lu_decompose(self: M) -> tuple[M, M]:
+        """The lower triangular matrix with ones on its diagonal and the upper triangular one whose product this matrix is. ValueError
+        where there are none: `plu_decompose` always has some.
+
+        >>> low, high = bf.Rijndael8b([[1, 2], [3, 4]]).lu_decompose()
+        >>> low, high
+        (Rijndael8b([[0x1, 0x0], [0x3, 0x1]]), Rijndael8b([[0x1, 0x2], [0x0, 0x2]]))
+        """
+        return _lower_and_upper(self._one_matrix(), False)[1:]
+
+    def plu_decompose(self: M) -> tuple[M, M, M]:
+        """A matrix that moves rows, and a lower and an upper triangular one as those of `lu_decompose`, whose product this matrix is.
+
+        >>> a = bf.Rijndael8b([[0, 2], [3, 4]])
+        >>> moved, low, high = a.plu_decompose()
+        >>> moved
+        Rijndael8b([[0x0, 0x1], [0x1, 0x0]])
+        >>> np.array_equal(moved @ low @ high, a)
+        True
+        """
+        order, low, high = _lower_and_upper(self._one_matrix(), True)
+        moved: Any = type(self).zeros((order.size, order.size))
+        moved[order, np.arange(order.size)] = 1
+        return moved, low, high
+
+
+# ---- elimination
+
+
+def powers(elements: Any, count: int) -> Any:
+    """The powers 0 to count - 1 of each element, along a last axis."""
+    result = elements.ones((*elements.shape, count))
+    if count > 1:
+        result[..., 1:] = elements[..., np.newaxis]
+    return result.cumprod(axis=-1)
+
+
+def _add_multiples(matrices: Any, factors: Any, rows: Any) -> None:
+    """Adds to each row of each matrix of a stack a multiple of the row that belongs to its matrix, in this array."""
+    if rows.shape[-1] * rows.dtype.itemsize < _LONG_ROW:
+        matrices += factors[..., np.newaxis] * rows[:, np.newaxis]
+        return
+    for at, row in np.argwhere(factors):
+        matrices[at, row].add_scaled(factors[at, row], rows[at])
+
+
+def reduced(matrices: M, columns: int) -> tuple[M, Any, Any]:
+    """The reduced row echelon forms of a stack of matrices, whose pivots are among so many columns, the rank of each, and the product of
+    its pivots."""
+    if not 0 <= columns <= matrices.shape[-1]:
+        raise ValueError(f"there are no {columns} columns in matrices of the shape {matrices.shape}")
+    result, shape = matrices.copy(), matrices.shape[:-2]
+    stack: Any = result.reshape(math.prod(shape), *matrices.shape[-2:])
+    ranks, pivots = np.zeros(len(stack), np.intp), stack.ones(len(stack))
+    for column in range(columns):
+        is_left = stack[:, :, column]._truths().astype(bool) & (np.arange(stack.shape[1]) >= ranks[:, np.newaxis])
+        found = np.flatnonzero(is_left.any(axis=1))
+        if found.size:
+            pivots[found] *= _reduce_column(stack, column, found, is_left[found].argmax(axis=1), ranks[found])
+            ranks[found] += 1
+    return result, ranks.reshape(shape)[()], pivots.reshape(shape)
+
+
+def _reduce_column(stack: Any, column: int, found: Any, first: Any, to: Any) -> Any:
+    """Clears a column of some matrices of a stack by the row `first` of each, which comes to row `to` with a 1; it has what that was."""
+    rows, scalars = stack[found, first, column:], stack[found, first, column]
+    stack[found, first, column:] = stack[found, to, column:]
+    rows *= scalars.reciprocal()[:, np.newaxis]
+    factors = stack[found, :, column]
+    factors[np.arange(found.size), to] = 0
+    if found.size == len(stack):
+        _add_multiples(stack[:, :, column:], factors, rows)
+    else:
+        rest = stack[found, :, column:]
+        _add_multiples(rest, factors, rows)
+        stack[found, :, column:] = rest
+    stack[found, to, column:] = rows
+    return scalars
+
+
+def _lower_and_upper(matrix: Any, may_move: bool) -> tuple[Any, Any, Any]:
+    """Where each row of the product came from, and the lower and the upper triangular matrix."""
+    rows, columns = matrix.shape
+    order, low, high = np.arange(rows), matrix.Identity(rows), matrix.copy()
+    for at in range(min(rows, columns)):
+        places = at + np.flatnonzero(high[at:, at])
+        if not places.size:
+            continue
+        if places[0] != at:
+            if not may_move:
+                raise ValueError("the matrix has no such decomposition without moving rows: plu_decompose() has one")
+            both, swapped = [at, int(places[0])], [int(places[0]), at]
+            order[both], high[both], low[both, :at] = order[swapped], high[swapped], low[swapped, :at]
+        low[at + 1 :, at] = high[at + 1 :, at] / high[at, at]
+        _add_multiples(high[np.newaxis, at + 1 :, at:], low[np.newaxis, at + 1 :, at], high[np.newaxis, at, at:].copy())
+    return order, low, high
+
+
+# ---- functions of np.linalg
+
+
+def _squares(a: Any) -> Any:
+    """An array of square matrices."""
+    if a.ndim < 2:
+        raise np.linalg.LinAlgError(f"{a.ndim}-dimensional array given. Array must be at least two-dimensional")
+    if a.shape[-1] != a.shape[-2]:
+        raise np.linalg.LinAlgError("Last 2 dimensions of the array must be square")
+    return a
+
+
+def _solved(a: Any, right: Any) -> Any:
+    """What the inverse of each matrix takes the columns beside it to."""
+    size = a.shape[-1]
+    both, ranks, _ = reduced(np.concatenate([a, right], axis=-1), size)
+    if np.any(ranks < size):
+        raise np.linalg.LinAlgError("Singular matrix")
+    return both[..., size:]
+
+
+def inverse(a: Any) -> Any:
+    """`np.linalg.inv`: the inverse of each matrix."""
+    return _solved(_squares(a), np.broadcast_to(a.Identity(a.shape[-1]), a.shape)).copy()
+
+
+def solution(a: Any, b: Any) -> Any:
+    """`np.linalg.solve`: the x with a @ x = b, where b is a vector or has matrices in its last two axes."""
+    field = type(a if isinstance(a, Matrices) else b)
+    a, b = _squares(field._operand(a)), field._operand(b)
+    is_vector = b.ndim == 1
+    columns = b[:, np.newaxis] if is_vector else b
+    if columns.ndim < 2 or columns.shape[-2] != a.shape[-1]:
+        raise ValueError(f"matrices of the shape {a.shape} have no solutions of the shape {b.shape}")
+    stack = np.broadcast_shapes(a.shape[:-2], columns.shape[:-2])
+    a, columns = (np.broadcast_to(it, stack + it.shape[-2:]) for it in (a, columns))
+    found = _solved(a, columns).copy()
+    return found[..., 0] if is_vector else found
+
+
+def determinant(a: Any) -> Any:
+    """`np.linalg.det`: the product of the pivots, which 2 = 0 spares a sign, or 0 where there are too few."""
+    _, ranks, pivots = reduced(_squares(a), a.shape[-1])
+    pivots[ranks < a.shape[-1]] = 0
+    return pivots
+
+
+def rank(a: Any) -> Any:
+    """`np.linalg.matrix_rank`: of fewer than two dimensions whether an element is not 0."""
+    if a.ndim < 2:
+        return int(a.any())
+    return reduced(a, a.shape[-1])[1]
+
+
+def power(a: Any, n: int) -> Any:
+    """`np.linalg.matrix_power`: of each matrix, or of its inverse where the exponent is negative."""
+    exponent = operator.index(n)
+    base = inverse(a) if exponent < 0 else _squares(a)
+    result = np.broadcast_to(a.Identity(a.shape[-1]), a.shape).copy()
+    for bit in f"{abs(exponent):b}":
+        result = result @ result
+        if bit == "1":
+            result = result @ base
+    return result
+
+
+def product_of_all(arrays: Any) -> Any:
+    """`np.linalg.multi_dot`: the product from the left, which takes no order that is faster."""
+    return functools.reduce(operator.matmul, arrays)
