@@ -6,7 +6,7 @@ ghost use Rattle.c_arithmetic.specs.Fields.{field_of};
 ghost use Rattle.c_arithmetic.specs.Places.{FirstHold, IsInPlanes};
 
 use crate::slices::are_elements;
-use crate::{fields, status};
+use crate::{fields, slices, status};
 use field_base::{FieldKernel, Unsigned};
 use std::simd::prelude::*;
 use tower_transforms::{Pair, PlaneScalars, WordBytes, WordPlanes, add_multiples, multiply_words};
@@ -41,6 +41,9 @@ pub fn multiply_by<
     requires level { IsInPlanes P.Planes.depth W.size K.width K.product }
     ensures { MultipliesBy (field_of W.Holds.number K.width K.product K.generator) scalar words.now products.old products.new result }
 {
+    if words.len() < LEAST_IN_PLANES {
+        return slices::multiply_by::<R, W, K>(words, scalar, products);
+    }
     if words.len() != products.len() {
         return status::LENGTH;
     }
