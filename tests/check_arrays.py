@@ -4,6 +4,7 @@ numpy itself is the reference. What a call gives for arrays of elements is compa
 which each computes in the field by the definitions: the numbers, the shape, or the exception.
 """
 
+import concurrent.futures
 import copy
 import doctest
 import io
@@ -238,7 +239,6 @@ class AsNumpy(unittest.TestCase):
         self.compare(CHANGES)
 
 
-
 class Elements(unittest.TestCase):
     """What objects of numpy cannot be compared with."""
 
@@ -313,6 +313,31 @@ class Elements(unittest.TestCase):
             tracemalloc.stop()
             self.assertLess(taken, 1 << 15)
             self.assertTrue((c == wanted).all() and (row[0] == wanted[3::13107]).all())
+
+    def test_single_elements(self):
+        # They go by rooms of their own, of which each thread has to have another.
+        for field in FIELDS.values():
+            a, b = field.random(200, seed=59), field.random(200, seed=60)
+            wanted = (a * b + a.square() + b.inverse_or_zero()).tolist()
+            with concurrent.futures.ThreadPoolExecutor(4) as pool:
+                found = list(pool.map(lambda x, y: int(x * y + x.square() + y.inverse_or_zero()), a, b))
+            self.assertEqual(found, wanted)
+            x, one = a[0, ...], field(1)
+            y = x + 0
+            y += one
+            self.assertFalse((x + 1 == x) or (one == 0) or (one * 1 is one))
+            self.assertEqual((int(y), int(x * 0), int(1 / one), int(field(True))), (int(x) ^ 1, 0, 1, 1))
+        self.assertRaises(ValueError, operator.mul, bf.BinaryField4._of(np.array(16, np.uint8)), bf.BinaryField4(1))
+
+    def test_other_kinds_of_types(self):
+        for field in FIELDS.values():
+            a = field.random((2, 1, 3), seed=61)
+            self.assertTrue(np.array_equal(a.astype(a.dtype), a) and not np.shares_memory(a.astype(a.dtype), a))
+            self.assertIs(a.astype(a.dtype, copy=False), a)
+            self.assertEqual((a.squeeze().shape, a.squeeze(1).shape, np.zeros_like(a, dtype=a.dtype).shape), ((2, 3), (2, 3), (2, 1, 3)))
+            for wrong in (lambda: a.astype(float), lambda: np.zeros_like(a, dtype=float), lambda: a.astype(object)):
+                self.assertRaises(TypeError, wrong)
+            self.assertRaises(ValueError, a.squeeze, 0)
 
     def test_add_scaled(self):
         for field in FIELDS.values():

@@ -9,8 +9,8 @@ from typing import Any, Callable, TypeVar, Union
 
 import numpy as np
 
-from ._library import Words, call, is_packed, packed
-from ._matrices import Matrices
+from ._library import Words, call, call_of_one, is_packed, packed
+from ._matrices import Matrices, product
 from ._workers import set_workers
 
 A = TypeVar("A", bound="FieldArray")
@@ -26,8 +26,19 @@ FUNCTIONS: dict[Callable[..., Any], Callable[..., Any]] = {}
 
 
 def _is_left_to(other: Any) -> bool:
-    """Whether an operator is left to the other operand, as numpy's arrays leave it: a polynomial says so."""
-    return getattr(other, "__array_ufunc__", True) is None
+    """Whether an operator is left to the other operand, as numpy's arrays leave it: a polynomial says so, and arrays of other libraries,
+    as those of dask, have their own rules."""
+    return hasattr(other, "__array_ufunc__") and not isinstance(other, (FieldArray, np.ndarray, np.generic))
+
+
+@functools.cache
+def _constant(dtype: np.dtype[Any], value: int) -> Words:
+    """The words of 0 or 1, which nobody can write."""
+    words = np.array(value, dtype) if dtype.names is None else np.zeros((), dtype)
+    if dtype.names:
+        words["words"][0] = value
+    words.flags.writeable = False
+    return words
 
 
 class FieldArray(Matrices):
@@ -57,6 +68,8 @@ class FieldArray(Matrices):
     """
 
     __hash__ = None  # type: ignore[assignment]
+    # That of numpy's arrays: dask compares the priorities of chunks.
+    __array_priority__ = 0.0
 
     # ---- operands
 
@@ -66,7 +79,7 @@ class FieldArray(Matrices):
         if isinstance(value, FieldArray):
             return cls._operand(value)
         if type(value) is int and value in (0, 1):
-            return cls.ones(()) if value else cls.zeros(())
+            return cls._of(_constant(cls._dtype(), value))
         array = value if isinstance(value, np.ndarray) else np.array(value, dtype=object)
         if array.dtype.kind in "bui":
             is_meant = bool(((array == 0) | (array == 1)).all())
@@ -114,8 +127,9 @@ class FieldArray(Matrices):
 
     def _elementwise(self: A, function: str, other: A, out: A | None = None) -> A:
         """A function of two arrays, after broadcasting."""
-        if out is None and self.shape == other.shape:
-            return self._called(function, self._words, other._words)
+        words, others = self._words, other._words
+        if out is None and words.shape == others.shape:
+            return self._called(function, words, others) if words.ndim else self._of(call_of_one(f"{self._name}_{function}", words, others))
         shape = self._shape_of(self, other, out=out)
         if function == "multiply" and self.shape != other.shape and 0 in (self.ndim, other.ndim):
             scalar, values = (self, other) if self.ndim == 0 else (other, self)
@@ -124,6 +138,8 @@ class FieldArray(Matrices):
 
     def _each(self: A, function: str, *more: Any, out: A | None = None, workers: int | None = None) -> A:
         """A function of each element."""
+        if out is None and not more and not self._words.ndim:
+            return self._of(call_of_one(f"{self._name}_{function}", self._words))
         values = self if out is None else self._broadcast(self._shape_of(self, out=out))
         with set_workers(workers):
             return self._called(function, values._words, *more, out=out)
@@ -161,6 +177,8 @@ class FieldArray(Matrices):
             self._words[...] = sums
 
     def __add__(self: A, other: A | _Integers) -> A:
+        if type(other) is type(self):
+            return self._elementwise("add", other)  # type: ignore[arg-type]
         if _is_left_to(other):
             return NotImplemented
         return self._elementwise("add", self._other(other))
@@ -173,6 +191,8 @@ class FieldArray(Matrices):
     __isub__ = __iadd__
 
     def __mul__(self: A, other: A | _Integers) -> A:
+        if type(other) is type(self):
+            return self._elementwise("multiply", other)  # type: ignore[arg-type]
         if _is_left_to(other):
             return NotImplemented
         return self._elementwise("multiply", self._other(other))
@@ -188,6 +208,8 @@ class FieldArray(Matrices):
     __pos__ = __neg__
 
     def __truediv__(self: A, other: A | _Integers) -> A:
+        if _is_left_to(other):
+            return NotImplemented
         return self._elementwise("multiply", self._other(other).reciprocal())
 
     def __rtruediv__(self: A, other: A | _Integers) -> A:
@@ -218,24 +240,12 @@ class FieldArray(Matrices):
         return self
 
     def __matmul__(self: A, other: A | _Integers) -> A:
-        return self._product(self._other(other))
+        if _is_left_to(other):
+            return NotImplemented
+        return product(self, self._other(other))
 
     def __rmatmul__(self: A, other: A | _Integers) -> A:
-        return self._other(other)._product(self)
-
-    def _product(self: A, other: A) -> A:
-        """The product of matrices in the last two axes, with broadcasting of the others, by dot products of rows and columns."""
-        if not self.ndim or not other.ndim or self.shape[-1] != other.shape[-2 if other.ndim > 1 else 0]:
-            raise ValueError(f"cannot multiply arrays of shapes {self.shape} and {other.shape}")
-        rows = self._words if self.ndim > 1 else self._words[np.newaxis]
-        columns = (other._words if other.ndim > 1 else other._words[:, np.newaxis]).swapaxes(-1, -2)
-        stack = np.broadcast_shapes(rows.shape[:-2], columns.shape[:-2])
-        rows, columns = (packed(np.broadcast_to(it, stack + it.shape[-2:])) for it in (rows, columns))
-        result = np.empty(stack + (rows.shape[-2], columns.shape[-2]), self._dtype())
-        for at in np.ndindex(result.shape):
-            call(f"{self._name}_dot_product", rows[at[:-1]], columns[(*at[:-2], at[-1])], result[(*at, np.newaxis)])
-        kept: Any = (..., 0 if self.ndim == 1 else slice(None), 0 if other.ndim == 1 else slice(None))
-        return self._of(result[kept])
+        return product(self._other(other), self)
 
     def dot(self: A, other: Any, out: A | None = None) -> A:
         """The sums of products over the last axis of this array and the last but one of the other, which of vectors is its only one; the
@@ -244,15 +254,15 @@ class FieldArray(Matrices):
         >>> bf.Rijndael8b([1, 2]).dot(bf.Rijndael8b([3, 0x80]))
         Rijndael8b(0x18)
         """
-        other = self._other(other)
-        if not self.ndim or not other.ndim:
-            return self._left_in(out, self.__mul__(other))
-        if other.ndim == 1:
-            return self._left_in(out, self._product(other))
-        columns = np.moveaxis(other._words, -2, 0)
+        factor: A = self._other(other)
+        if not self.ndim or not factor.ndim:
+            return self._left_in(out, self.__mul__(factor))
+        if factor.ndim == 1:
+            return self._left_in(out, product(self, factor))
+        columns = np.moveaxis(factor._words, -2, 0)
         if columns.shape[0] != self.shape[-1]:
-            raise ValueError(f"cannot multiply arrays of shapes {self.shape} and {other.shape}")
-        products = self._product(other._of(columns.reshape(len(columns), math.prod(columns.shape[1:]))))
+            raise ValueError(f"cannot multiply arrays of shapes {self.shape} and {factor.shape}")
+        products = product(self, factor._of(columns.reshape(len(columns), math.prod(columns.shape[1:]))))
         return self._left_in(out, products.reshape(self.shape[:-1] + columns.shape[1:]))
 
     def square(self: A, out: A | None = None, workers: int | None = None) -> A:
@@ -285,7 +295,7 @@ class FieldArray(Matrices):
         >>> bf.Rijndael8b([2]).reciprocal()
         Rijndael8b([0x8d])
         """
-        if not self._truths().all():
+        if not (self._truths().all() if self._words.ndim else int(self)):
             raise ZeroDivisionError(f"0 of {type(self).__name__} has no inverse")
         return self.inverse_or_zero(out, workers)
 

@@ -6,9 +6,10 @@ function that has a form made for that processor is that form, which gives the s
 """
 
 import ctypes
+import functools
 import os
 import pathlib
-from typing import Any
+from typing import Any, Callable
 
 import numpy as np
 
@@ -107,12 +108,49 @@ def packed(words: Words) -> Words:
     return words if is_packed(words) else np.array(words, order="C")
 
 
+# For each function the rooms that are free: of each parameter an array of one element, and the call of the function with their addresses.
+# A thread takes a room out of the list and puts it back behind the call, so that no two use one at once.
+_ROOMS: dict[str, list[tuple[list[Words], Callable[[], int]]]] = {name: [] for name in FUNCTIONS}
+
+
+def _room(name: str) -> tuple[list[Words], Callable[[], int]]:
+    """Memory for a call of a function of single elements, each an array of the function's."""
+    function, parameters = _CALLED[name]
+    arrays = [np.empty((), it[-1]) for it in parameters]
+    return arrays, functools.partial(function, *(value for it in arrays for value in (it.ctypes.data, 1)))
+
+
+def call_of_one(name: str, *elements: Words) -> Words:
+    """What a function that reads arrays and then writes one makes of single elements, each an array of no dimensions of the function's words.
+    They are copied to where the function finds them, which takes a fifth of the time that it takes to ask an array for its address."""
+    rooms = _ROOMS[name]
+    try:
+        room = rooms.pop()
+    except IndexError:
+        room = _room(name)
+    arrays, function = room
+    for array, it in zip(arrays, elements):
+        array[()] = it
+    _test(name, function())
+    result = np.empty((), arrays[-1].dtype)
+    result[()] = arrays[-1]
+    rooms.append(room)
+    return result
+
+
+def _test(name: str, status: int) -> None:
+    """Raises what a status says."""
+    if status:
+        short, text = STATUSES[status]
+        raise MemoryError(f"{name}: {text}") if short == "BF_MEMORY" else ValueError(f"{name}: {text}")
+
+
 def call(name: str, *arguments: Any) -> None:
     """Calls a function. An array is one of numpy of the function's words, packed where it is written; a scalar up to 64 bits and a number
     are integers, and every other scalar and result is an array of one element.
 
-    What the library reads and writes is exactly what numpy holds, and what it writes nothing else shares: this is the one place that
-    hands out an address."""
+    What the library reads and writes is exactly what numpy holds, and what it writes nothing else shares: no other place hands out an
+    address, but for `_room`, whose arrays nobody else has."""
     function, parameters = _CALLED[name]
     given: list[int] = []
     held: list[tuple[Words, int, int, bool]] = []
@@ -139,7 +177,4 @@ def call(name: str, *arguments: Any) -> None:
             if start < stop and other < end and (is_written or is_other):
                 raise ValueError(f"{name}: an array that is written shares memory with another")
     shared = _SHARED.get(name) if get_workers() > 1 else None
-    status = in_pieces(function, given, *shared) if shared else function(*given)
-    if status:
-        short, text = STATUSES[status]
-        raise MemoryError(f"{name}: {text}") if short == "BF_MEMORY" else ValueError(f"{name}: {text}")
+    _test(name, in_pieces(function, given, *shared) if shared else function(*given))

@@ -14,6 +14,7 @@ from typing import Any, TypeVar
 import numpy as np
 
 from ._facts import Facts
+from ._library import call, packed
 
 M = TypeVar("M", bound="Matrices")
 
@@ -165,6 +166,29 @@ def _add_multiples(matrices: Any, factors: Any, rows: Any) -> None:
         return
     for at, row in np.argwhere(factors):
         matrices[at, row].add_scaled(factors[at, row], rows[at])
+
+
+def product(left: M, right: M) -> M:
+    """The product of matrices in the last two axes, with broadcasting of the others: by dot products of rows and columns where these are
+    longer than the result has places, and else by sums of multiples of rows."""
+    if not left.ndim or not right.ndim or left.shape[-1] != right.shape[-2 if right.ndim > 1 else 0]:
+        raise ValueError(f"cannot multiply arrays of shapes {left.shape} and {right.shape}")
+    rows: Any = left if left.ndim > 1 else left.reshape(1, -1)
+    columns: Any = right if right.ndim > 1 else right.reshape(-1, 1)
+    shape, inner = np.broadcast_shapes(rows.shape[:-2], columns.shape[:-2]), rows.shape[-1]
+    size = math.prod(shape)
+    rows, columns = (np.broadcast_to(it, shape + it.shape[-2:]).reshape(size, *it.shape[-2:]) for it in (rows, columns))
+    result: Any = left.zeros((size, rows.shape[1], columns.shape[2]))
+    if result.size <= inner:
+        rows, turned = packed(rows._words), packed(columns._words.swapaxes(1, 2))
+        for at, row, column in np.ndindex(result.shape):
+            call(f"{left._name}_dot_product", rows[at, row], turned[at, column], result._words[at, row, column, np.newaxis])
+    else:
+        for at in range(inner):
+            _add_multiples(result, rows[:, :, at], columns[:, at])
+    kept: Any = (..., 0 if left.ndim == 1 else slice(None), 0 if right.ndim == 1 else slice(None))
+    whole: M = result.reshape(*shape, *result.shape[1:])[kept]
+    return whole
 
 
 def reduced(matrices: M, columns: int) -> tuple[M, Any, Any]:

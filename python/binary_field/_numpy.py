@@ -112,7 +112,7 @@ def _matmul(method: str, inputs: Sequence[Any], options: dict[str, Any]) -> Any:
     out, field = options.pop("out", (None,))[0], _field_of(*inputs)
     if options or method != "__call__":
         return NotImplemented
-    return field._left_in(out, field._other(inputs[0])._product(field._other(inputs[1])))
+    return field._left_in(out, _matrices.product(field._other(inputs[0]), field._other(inputs[1])))
 
 
 def _add(left: FieldArray, right: FieldArray, out: FieldArray | None = None) -> FieldArray:
@@ -249,8 +249,12 @@ def _array_equal(a1: Any, a2: Any) -> bool:
 
 
 def _filled(name: str) -> Function:
-    """Zeros or ones of an array's field, and of its shape where no other is named."""
-    return lambda a, *, shape=None: getattr(type(a), name)(a.shape if shape is None else shape)
+    """Zeros or ones of an array's field, and of its shape where no other is named; of another type of numbers there are none."""
+
+    def filled(a: Any, dtype: Any = None, *, shape: Any = None) -> Any:
+        return getattr(type(a), name)(a.shape if shape is None else shape).astype(dtype or a.dtype)
+
+    return filled
 
 
 def _outer_product(a: Any, b: Any, out: Any = None) -> Any:
@@ -266,6 +270,7 @@ FUNCTIONS.update({
     np.cumprod: lambda a, *more, **options: a.cumprod(*more, **options),
     np.cumsum: lambda a, *more, **options: a.cumsum(*more, **options),
     np.dot: lambda a, b, out=None: _field_of(a, b)._other(a).dot(b, out),
+    np.empty_like: _filled("zeros"),
     np.linalg.det: lambda a: _matrices.determinant(a),
     np.linalg.inv: lambda a: _matrices.inverse(a),
     np.linalg.matrix_power: lambda a, n: _matrices.power(a, n),

@@ -101,7 +101,9 @@ class Stored(metaclass=_Constants):
         Ghash128([0x1, 0x295ac0b1f4731af9676aac9fa4b20b08])
         """
         dtype = self._dtype()
-        if isinstance(values, Stored):
+        if type(values) is int:
+            self._words = np.frombuffer(bytearray(self._integer(values).to_bytes(dtype.itemsize, "little")), dtype).reshape(())
+        elif isinstance(values, Stored):
             self._words = values.to(type(self))._words.copy()
         elif isinstance(values, np.ndarray) and values.dtype.kind in "bui":
             self._words = self._of_numbers(values)
@@ -251,6 +253,16 @@ class Stored(metaclass=_Constants):
             return result
         between = _FIELDS[self._partner or ""] if not self._is_in_tower() else _FIELDS[field._partner or "p64"]
         return self.to(between).to(field)
+
+    def astype(self: S, dtype: Any, copy: bool = True) -> S:
+        """The same elements, by numpy's type of what holds them, `a.dtype`, which is the only one. Integers are `np.asarray(a, int)`.
+
+        >>> bf.Gf2([1, 0]).astype(np.uint8)
+        Gf2([0x1, 0x0])
+        """
+        if np.dtype(dtype) != self._dtype():
+            raise TypeError(f"elements of {type(self).__name__} are held by {self._dtype()} alone: take to(field), or np.asarray(a, dtype) for numbers")
+        return self.copy() if copy else self
 
     @classmethod
     def _is_in_tower(cls) -> bool:
@@ -430,6 +442,14 @@ class Stored(metaclass=_Constants):
         (2, 1)
         """
         return self._of(self._words.swapaxes(first, second))
+
+    def squeeze(self: S, axis: Any = None) -> S:
+        """The same elements without the axes of length 1, or without those that are named.
+
+        >>> bf.Gf2([[1, 0]]).squeeze().shape
+        (2,)
+        """
+        return self._of(self._words.squeeze(axis))
 
     def diagonal(self: S, offset: int = 0, axis1: int = 0, axis2: int = 1) -> S:
         """The elements at equal places of two axes.
