@@ -67,6 +67,9 @@ class Plain:
 
     __pos__ = __neg__
 
+    def conjugate(self):
+        return self
+
     def sqrt(self):
         return Plain(self.field, self.field.square_root(self.number))
 
@@ -134,6 +137,13 @@ SHAPES = [
     lambda o: np.where(o.mask, o.m, 0), lambda o: np.where(o.mask, 1, o.m[0]), lambda o: np.where(o.mask, o.v, o.m), lambda o: np.where(o.v),
     lambda o: bool(np.any(o.v)), lambda o: np.asarray(np.all(o.m, axis=1), bool), lambda o: np.count_nonzero(o.m), lambda o: np.argwhere(o.m),
     lambda o: np.flatnonzero(o.v), lambda o: np.shape(o.m), lambda o: np.ndim(o.m), lambda o: np.size(o.m), lambda o: np.size(o.m, 1),
+    lambda o: np.append(o.v, o.w), lambda o: np.append(o.n, o.n, axis=0), lambda o: np.append(o.n, o.w, axis=0),
+    lambda o: np.block([[o.n, o.n], [o.n, o.n]]), lambda o: np.block([o.v, o.w]), lambda o: np.extract([True, False, True], o.v),
+    lambda o: np.resize(o.n, (3, 7)), lambda o: np.meshgrid(o.v, o.w), lambda o: np.lib.stride_tricks.sliding_window_view(o.v, 2),
+    lambda o: o.v.take([2, 0]), lambda o: o.m.take([1], axis=2), lambda o: o.v.take(2), lambda o: o.v.take(9), lambda o: o.v.repeat(3),
+    lambda o: o.m.repeat([2, 1], axis=0), lambda o: o.m.repeat([2, 1], axis=1), lambda o: o.v.compress([True, False, True]),
+    lambda o: o.m.compress([False, True], axis=1), lambda o: o.m.nonzero(), lambda o: list(o.m.flat), lambda o: o.v.item(1), lambda o: o.m.item(1, 2, 3),
+    lambda o: o.m.item(7), lambda o: o.v[1:2].item(), lambda o: o.v.item(), lambda o: o.m.item((0, 1, 2)), lambda o: o.v.item(9),
     lambda o: copy.copy(o.v), lambda o: copy.deepcopy(o.v), lambda o: bool(o.v[0]), lambda o: bool(o.v),
 ]
 
@@ -157,7 +167,13 @@ AXES = [
     lambda o: np.dot(o.w, o.w[0]), lambda o: o.m @ o.n, lambda o: o.n @ o.m[0], lambda o: o.n @ o.m, lambda o: o.m @ o.m, lambda o: o.w @ o.m,
     lambda o: o.n @ o.w, lambda o: o.v @ o.v, lambda o: o.v @ o.w, lambda o: o.m @ o.v[0], lambda o: np.matmul(o.n, o.w),
     lambda o: o.m[:, None] @ o.n, lambda o: o.n @ [0, 1, 1], lambda o: [0, 1, 1] @ o.n.T, lambda o: np.array([0, 1, 1]) @ o.w,
-    lambda o: o.v[:0] + o.v[:0],
+    lambda o: o.v[:0] + o.v[:0], lambda o: np.inner(o.v, o.v), lambda o: np.inner(o.m, o.m[0]), lambda o: np.inner(o.v, o.w),
+    lambda o: np.inner(o.n, o.w[0]), lambda o: np.vdot(o.n, o.m[0]), lambda o: np.vdot(o.v, o.w), lambda o: np.kron(o.n, o.w), lambda o: np.kron(o.w, o.n),
+    lambda o: np.kron(o.n, o.n.T), lambda o: np.tensordot(o.m, o.n, 1), lambda o: np.tensordot(o.m, o.m), lambda o: np.tensordot(o.m, o.n, ([1, 2], [1, 0])),
+    lambda o: np.tensordot(o.n, o.m, (0, -1)), lambda o: np.tensordot(o.v, o.w, 0), lambda o: np.tensordot(o.n, o.m, 1), lambda o: np.tensordot(o.n, o.m, (0, 3)),
+    lambda o: np.vander(o.v), lambda o: np.vander(o.v, 3), lambda o: np.vander(o.v, 4, increasing=True), lambda o: np.vander(o.v, 0),
+    lambda o: np.vander(o.n), lambda o: np.diff(o.v), lambda o: np.diff(o.m, 2, axis=1), lambda o: np.diff(o.m, axis=3), lambda o: np.diff(o.v, 0),
+    lambda o: np.diff(o.v, -1), lambda o: np.diff(o.v, 7), lambda o: np.polyval(o.v, o.w), lambda o: np.polyval(o.v, o.v[2]),
 ]
 
 PLACES = [
@@ -170,7 +186,9 @@ PLACES = [
     lambda o: o.v == [1, 0, 1, 0, 1], lambda o: o.v == o.w,
     lambda o: o.v[0] in o.v, lambda o: o.m[1, 2, 3] in o.m, lambda o: 300 in o.m, lambda o: o.m[0] in o.m, lambda o: None in o.v,
     lambda o: o.v[0] == None, lambda o: np.add(o.v, o.v, where=[True] * 5),
-    lambda o: np.equal(o.v, o.v), lambda o: np.not_equal(o.v, 0),
+    lambda o: np.equal(o.v, o.v), lambda o: np.not_equal(o.v, 0), lambda o: o.v ** np.array([0, 1, 2, 3, 300]),
+    lambda o: o.n ** np.array([1, 2, 3]), lambda o: np.power(o.w, np.array([[1], [2]])), lambda o: o.v ** np.array([1, 2]),
+    lambda o: o.v ** np.array([1 << 70, 5, 0, 1, 2], dtype=object),
 ]
 
 
@@ -206,6 +224,9 @@ CHANGES = [changed(it) for it in [
     lambda o, n: n.__setitem__(9, 1), lambda o, n: n.reshape(-1).__setitem__(2, o.w[0]), lambda o, n: n.flatten().__setitem__(2, o.w[0]),
     lambda o, n: n.ravel().__setitem__(2, o.w[0]), lambda o, n: n.T.ravel().__setitem__(2, o.w[0]), lambda o, n: n[[0, 1]].__setitem__(0, o.w),
     lambda o, n: n[n != 0].__setitem__(0, o.w[0]), lambda o, n: n.swapaxes(0, 1)[0].__setitem__(0, o.w[0]),
+    lambda o, n: np.copyto(n, o.w), lambda o, n: np.copyto(n, o.n[::-1], where=o.mask[0].T), lambda o, n: np.copyto(n, o.v),
+    lambda o, n: np.fill_diagonal(n, o.w[0]), lambda o, n: np.fill_diagonal(n, o.w), lambda o, n: np.fill_diagonal(n, 1, wrap=True),
+    lambda o, n: n.fill(o.w[1]), lambda o, n: n.T[0].fill(1), lambda o, n: np.full_like(n, o.w[1]), lambda o, n: operator.ipow(n, np.array([1, 2, 3])),
     lambda o, n: n.diagonal().__setitem__(0, o.w[0]), lambda o, n: np.broadcast_to(n, (2, 4, 3)).__setitem__(0, n),
 ]]
 
@@ -328,6 +349,25 @@ class Elements(unittest.TestCase):
             self.assertFalse((x + 1 == x) or (one == 0) or (one * 1 is one))
             self.assertEqual((int(y), int(x * 0), int(1 / one), int(field(True))), (int(x) ^ 1, 0, 1, 1))
         self.assertRaises(ValueError, operator.mul, bf.BinaryField4._of(np.array(16, np.uint8)), bf.BinaryField4(1))
+
+    def test_negative_exponents(self):
+        for field in FIELDS.values():
+            a = field.random(4, seed=62)
+            a[a == 0] = 1
+            self.assertTrue(np.array_equal(a ** [-1, -2, 0, 3], [1 / a[0], 1 / a[1] ** 2, field(1), a[2] ** 0 * a[3] ** 3]))
+            self.assertRaises(ZeroDivisionError, lambda: field([0, 1]) ** [-1, 1])
+            self.assertTrue(np.array_equal(field([0, 0]) ** [0, 1], [1, 0]) and np.array_equal(a[0] ** [3, 4], [a[0] ** 3, a[0] ** 4]))
+            for wrong in (0.5, [0.5] * 4, ["1"] * 4, None):
+                self.assertRaises(TypeError, operator.pow, a, wrong)
+
+    def test_memory_as_numpy_tells_it(self):
+        for field in FIELDS.values():
+            a = field.random((2, 3), seed=63)
+            words = a.to_words(copy=False)
+            self.assertEqual((a.itemsize * a.size, a.tobytes(), a.strides), (a.nbytes, words.tobytes(), words.strides[: a.ndim]))
+            self.assertEqual((a.flags.c_contiguous, a.T.flags.c_contiguous, a.T.flags.f_contiguous), (True, False, True))
+            for wrong in (lambda: np.copyto(np.zeros(3), a), lambda: np.full_like(a, None), lambda: np.inner(a, bf.Poly64(1).to(bf.Poly192))):
+                self.assertRaises(TypeError, wrong) if field is not bf.Poly192 else None
 
     def test_other_kinds_of_types(self):
         for field in FIELDS.values():

@@ -95,6 +95,30 @@ class Elements(unittest.TestCase):
         self.assertEqual(str(bf.Gf2.zeros(5000)), "[0x0, 0x0, 0x0, .., 0x0, 0x0, 0x0], 5000 elements of shape (5000,)")
 
 
+    def test_ways_to_print(self):
+        a = bf.Rijndael8b([0, 1, 2, 0x53])
+        with bf.Rijndael8b.repr("int"):
+            self.assertEqual((repr(a), f"{a:x}", str(bf.BinaryField8(16))), ("Rijndael8b([0, 1, 2, 83])", "[0, 1, 2, 53]", "0x10"))
+            with bf.Rijndael8b.repr("poly"):
+                self.assertEqual(str(a), "[0, 1, x, x^6 + x^4 + x + 1]")
+            self.assertEqual(str(a[3]), "83")
+        self.assertEqual(str(a[3]), "0x53")
+        for field in (it for it in FIELDS.values() if it.degree <= 16):
+            g = field.primitive_element
+            with field.repr("power"):
+                shown = str(field([0, 1, g, g**2] if field.degree > 2 else [0, 1]))
+                self.assertEqual((shown, str(field(0))), ("[0, 1, g, g^2]" if field.degree > 2 else "[0, 1]", "0"))
+            field.repr("int")
+            self.assertEqual(str(field(1)), "1")
+            field.repr()
+            self.assertEqual(str(field(1)), "0x1")
+        with bf.BinaryField16.repr("power"):
+            self.assertTrue(str(bf.BinaryField16.ones(2000)).startswith("[1, 1, 1, .., 1, 1, 1], 2000"))
+        for field, wrong in ((bf.Ghash128, "power"), (bf.BinaryField8, "poly"), (bf.Poly192, "poly"), (bf.Gf2, "decimal")):
+            self.assertRaises(ValueError, field.repr, wrong)
+            self.assertEqual(str(field(1)), "0x1")
+
+
 class Arithmetic(unittest.TestCase):
     """The operators, and numpy's functions."""
 

@@ -12,6 +12,7 @@ Trusted and not proved are this package, numpy, ctypes, and the C compiler and l
 
 # What numpy's functions are over elements comes into its tables where this module is read.
 from . import _numpy as _numpy
+from . import _products as _products
 from ._arrays import FieldArray
 from ._bytes import (
     ReedSolomon,

@@ -219,14 +219,17 @@ class FieldArray(Matrices):
     def __itruediv__(self: A, other: A | _Integers) -> A:
         return self._elementwise("multiply", self._other(other).reciprocal(), self)
 
-    def __pow__(self: A, exponent: int) -> A:
-        """Each element to the power of one integer, of any size; a negative one is a power of the inverses.
+    def __pow__(self: A, exponent: Any) -> A:
+        """Each element to the power of an integer, of any size, or of the one at its place in an array of integers; a negative one is a
+        power of the inverse.
 
         >>> bf.Rijndael8b([2, 3]) ** -1
         Rijndael8b([0x8d, 0xf6])
+        >>> bf.Rijndael8b([2, 3]) ** [3, 0]
+        Rijndael8b([0x8, 0x1])
         """
         if not isinstance(exponent, (int, np.integer)):
-            raise TypeError("the exponent must be a single integer")
+            return self._powers(np.array(None if isinstance(exponent, FieldArray) else exponent))
         base, rest = (self, int(exponent)) if exponent >= 0 else (self.reciprocal(), -int(exponent))
         result = base._each("power", rest & _MASK_64)
         while rest := rest >> 64:
@@ -235,7 +238,24 @@ class FieldArray(Matrices):
             result = result * base._each("power", rest & _MASK_64)
         return result
 
-    def __ipow__(self: A, exponent: int) -> A:
+    def _powers(self: A, exponents: Words) -> A:
+        """By the bits of all exponents, the lowest first."""
+        is_whole = exponents.dtype.kind in "iu" or exponents.dtype == object and all(isinstance(it, (int, np.integer)) for it in exponents.flat)
+        if not is_whole:
+            raise TypeError("the exponents must be integers")
+        numbers = exponents.astype(object)
+        shape = np.broadcast_shapes(self.shape, numbers.shape)
+        base, rest = self._broadcast(shape).copy(), np.array(np.broadcast_to(numbers, shape))
+        is_negative = np.asarray(rest < 0, bool)
+        base[is_negative] = base[is_negative].reciprocal()
+        rest, result = np.asarray(abs(rest), object), self.ones(shape)
+        while (is_left := np.asarray(rest != 0, bool)).any():
+            is_odd = is_left & np.asarray(rest % 2 == 1, bool)
+            result[is_odd] *= base[is_odd]
+            base, rest = base.square(), np.asarray(rest // 2, object)
+        return result
+
+    def __ipow__(self: A, exponent: Any) -> A:
         self[...] = self**exponent
         return self
 
@@ -408,6 +428,14 @@ class FieldArray(Matrices):
     def _truths(self) -> Any:
         """What is true to numpy where an element is not 0."""
         return self._words["words"].any(-1) if self._dtype().names else self._words
+
+    def nonzero(self) -> Any:
+        """The places of the elements that are not 0, along each axis.
+
+        >>> bf.Gf2([0, 1, 1]).nonzero()
+        (array([1, 2]),)
+        """
+        return np.nonzero(self._truths())
 
     def any(self, axis: Any = None) -> Any:
         """Whether an element is not 0.

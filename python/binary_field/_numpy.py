@@ -156,7 +156,16 @@ def _words_of(field: type[FieldArray], value: Any) -> Any:
         return field._operand(value)._words
     if isinstance(value, (list, tuple)) and any(isinstance(it, FieldArray) for it in value):
         return type(value)(field._other(it)._words for it in value)
+    if isinstance(value, list) and any(isinstance(it, list) for it in value):
+        return [_words_of(field, it) for it in value]
     return value
+
+
+def _all_of(value: Any) -> Any:
+    """A value, and those in its lists."""
+    yield value
+    for it in value if isinstance(value, (list, tuple)) else ():
+        yield from _all_of(it)
 
 
 def _elements_of(field: type[FieldArray], words: Any) -> Any:
@@ -169,8 +178,7 @@ def _elements_of(field: type[FieldArray], words: Any) -> Any:
 
 def _moving(function: Function) -> Function:
     def moved(*arguments: Any, **options: Any) -> Any:
-        given = [*arguments, *options.values()]
-        field = _field_of(*given, *(it for value in given if isinstance(value, (list, tuple)) for it in value))
+        field = _field_of(*_all_of([*arguments, *options.values()]))
         result = function(*(_words_of(field, it) for it in arguments), **{name: _words_of(field, it) for name, it in options.items()})
         out = options.get("out")
         return _elements_of(field, result) if out is None else out
@@ -179,9 +187,9 @@ def _moving(function: Function) -> Function:
 
 
 _MOVING: tuple[Any, ...] = (
-    np.array_split, np.atleast_1d, np.atleast_2d, np.atleast_3d, np.broadcast_arrays, np.broadcast_to, np.column_stack, np.compress,
-    np.concatenate, np.copy, np.delete, np.diag, np.diagflat, np.diagonal, np.dstack, np.expand_dims, np.flip, np.fliplr, np.flipud,
-    np.hsplit, np.hstack, np.moveaxis, np.ravel, np.repeat, np.reshape, np.roll, np.rollaxis, np.rot90, np.split, np.squeeze, np.stack,
+    np.append, np.array_split, np.atleast_1d, np.atleast_2d, np.atleast_3d, np.block, np.broadcast_arrays, np.broadcast_to, np.column_stack, np.compress,
+    np.concatenate, np.copy, np.delete, np.diag, np.diagflat, np.diagonal, np.dstack, np.expand_dims, np.extract, np.flip, np.fliplr, np.flipud,
+    np.hsplit, np.hstack, np.lib.stride_tricks.sliding_window_view, np.meshgrid, np.moveaxis, np.ravel, np.repeat, np.reshape, np.resize, np.roll, np.rollaxis, np.rot90, np.split, np.squeeze, np.stack,
     np.swapaxes, np.take, np.take_along_axis, np.tile, np.transpose, np.tril, np.triu, np.vsplit, np.vstack,
 )
 

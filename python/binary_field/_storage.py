@@ -2,6 +2,7 @@
 
 from __future__ import annotations
 
+import contextlib
 import functools
 import operator
 from typing import Any, Callable, Iterator, Sequence, TypeVar, Union
@@ -13,6 +14,8 @@ from ._library import WORDS, Words, call
 S = TypeVar("S", bound="Stored")
 Shape = Union[int, Sequence[int]]
 
+# The format of each way to print elements.
+_SPECS = {"hex": "#x", "int": "d", "poly": "p", "power": "g"}
 # An array of more elements is printed by its first and last three.
 _PRINTED = 1000
 # The fields by their names in the library.
@@ -80,6 +83,8 @@ class Stored(metaclass=_Constants):
     _word: str
     # The isomorphic field: a level of the tower, or the polynomial basis of its degree.
     _partner: str | None = None
+    # The format of elements where none is named.
+    _spec = "#x"
     # Whether inverses one by one cost more than three products an element.
     _is_batched = False
     _words: Words
@@ -293,6 +298,23 @@ class Stored(metaclass=_Constants):
     def nbytes(self) -> int:
         return self._words.nbytes
 
+    @property
+    def itemsize(self) -> int:
+        return self._words.itemsize
+
+    @property
+    def strides(self) -> tuple[int, ...]:
+        return self._words.strides
+
+    @property
+    def flags(self) -> Any:
+        return self._words.flags
+
+    @property
+    def flat(self: S) -> Iterator[S]:
+        """The elements one by one, in numpy's order."""
+        return self.ravel().__iter__()
+
     def __len__(self) -> int:
         if not self.ndim:
             raise TypeError("an element has no length")
@@ -336,6 +358,33 @@ class Stored(metaclass=_Constants):
         numbers = (it.astype(object) << 64 * at for at, it in enumerate(self._parts()))
         return np.array(functools.reduce(operator.or_, numbers), dtype=object)
 
+    def _exponents(self) -> Any:
+        """The logarithms to the primitive element, and -1 of 0, as `tolist` has numbers."""
+        elements: Any = self
+        result = np.full(self.shape, -1, dtype=object)
+        chosen = elements != 0
+        result[chosen] = elements[chosen].log()
+        return result.tolist()
+
+    def item(self, *place: Any) -> int:
+        """The representation of a single element, or of that at a place.
+
+        >>> bf.Ghash128([[1, 2]]).item(0, 1)
+        2
+        """
+        at = place[0] if len(place) == 1 and isinstance(place[0], tuple) else place
+        if not at and self.size != 1 or len(at) not in (0, 1, self.ndim):
+            raise ValueError("only a single element has an item without its place, which is one number or one for each axis")
+        return int(self.ravel()[at] if len(at) == 1 else self[at])
+
+    def tobytes(self) -> bytes:
+        """The bytes of the words, the lowest of each first.
+
+        >>> bf.BinaryField16([1, 0x203]).tobytes().hex()
+        '01000302'
+        """
+        return self._words.tobytes()
+
     def tolist(self) -> Any:
         """The representations, as nested lists of integers.
 
@@ -360,24 +409,45 @@ class Stored(metaclass=_Constants):
         return f"{type(self).__name__}({self})"
 
     def __str__(self) -> str:
-        return f"{self:#x}"
+        return format(self)
 
     def __format__(self, spec: str) -> str:
-        """The representations, each by a format of integers, as `#x` where none is given; or `p`, polynomials, of a field that is of
-        polynomials over GF(2).
+        """The representations, each by a format of integers, as `#x`; or `p`, polynomials, of a field that is of polynomials over GF(2); or
+        `g`, powers of the primitive element, of a field of up to 64 bits. Where none is given, it is what `repr` said last.
 
         >>> f"{bf.BinaryField8([1, 255]):08b}"
         '[00000001, 11111111]'
         >>> f"{bf.Rijndael8b(0x53):p}"
         'x^6 + x^4 + x + 1'
         """
-        spec = spec or "#x"
+        spec = spec or self._spec
         if spec == "p" and (self._is_in_tower() or self.degree == 192):
             raise ValueError(f"elements of {type(self).__name__} are no polynomials over GF(2)")
         if self.size <= _PRINTED:
-            return _shown(self.tolist(), spec)
-        first, last = (_shown(self._of(self._words.flat[at]).tolist(), spec)[1:-1] for at in (slice(3), slice(-3, None)))
+            return _shown(self._exponents() if spec == "g" else self.tolist(), spec)
+        first, last = (format(self._of(self._words.flat[at]), spec)[1:-1] for at in (slice(3), slice(-3, None)))
         return f"[{first}, .., {last}], {self.size} elements of shape {self.shape}"
+
+    @classmethod
+    def repr(cls, representation: str = "hex") -> contextlib.AbstractContextManager[Any]:
+        """From here on the elements of this field are printed as hexadecimal numbers ("hex"), decimal ones ("int"), polynomials over GF(2)
+        ("poly") or powers of the primitive element g ("power"), by formats of `format`; in a `with` statement until its end.
+
+        >>> with bf.Rijndael8b.repr("poly"):
+        ...     bf.Rijndael8b([2, 0x53])
+        Rijndael8b([x, x^6 + x^4 + x + 1])
+        >>> with bf.Rijndael8b.repr("power"):
+        ...     bf.Rijndael8b([0, 1, 3, 5])
+        Rijndael8b([0, 1, g^184, g^113])
+        """
+        if representation not in _SPECS:
+            raise ValueError(f"elements are printed by one of {', '.join(_SPECS)}")
+        before, spec = cls._spec, _SPECS[representation]
+        format(cls.zeros(()), spec)
+        cls._spec = spec
+        kept = contextlib.ExitStack()
+        kept.callback(setattr, cls, "_spec", before)
+        return kept
 
     # ---- shapes: views where numpy's are
 
@@ -459,6 +529,40 @@ class Stored(metaclass=_Constants):
         """
         return self._of(self._words.diagonal(offset, axis1, axis2))
 
+    def take(self: S, indices: Any, axis: int | None = None) -> S:
+        """The elements at places, of all or along an axis.
+
+        >>> bf.BinaryField8([5, 6, 7]).take([2, 0])
+        BinaryField8([0x7, 0x5])
+        """
+        return self._of(self._words.take(indices, axis))
+
+    def repeat(self: S, repeats: Any, axis: int | None = None) -> S:
+        """Each element as often as it is said.
+
+        >>> bf.BinaryField8([5, 6]).repeat([1, 2])
+        BinaryField8([0x5, 0x6, 0x6])
+        """
+        return self._of(self._words.repeat(repeats, axis))
+
+    def compress(self: S, condition: Any, axis: int | None = None) -> S:
+        """The elements at which a condition holds, of all or along an axis.
+
+        >>> bf.BinaryField8([5, 6]).compress([False, True])
+        BinaryField8([0x6])
+        """
+        return self._of(self._words.compress(condition, axis))
+
+    def fill(self, value: Any) -> None:
+        """Makes each element the one that is given.
+
+        >>> a = bf.BinaryField8([5, 6])
+        >>> a.fill(7)
+        >>> a
+        BinaryField8([0x7, 0x7])
+        """
+        self[...] = value
+
     @classmethod
     def _operand(cls: type[S], value: Any) -> S:
         """An array of this field, of representations where it is not one already."""
@@ -472,6 +576,8 @@ class Stored(metaclass=_Constants):
 def _shown(values: Any, spec: str) -> str:
     if isinstance(values, list):
         return f"[{', '.join(_shown(it, spec) for it in values)}]"
+    if spec == "g":
+        return "0" if values < 0 else "1" if values == 0 else "g" if values == 1 else f"g^{values}"
     if spec != "p":
         return format(values, spec)
     powers = [f"x^{i}" if i > 1 else "x" if i else "1" for i in reversed(range(values.bit_length())) if values >> i & 1]
