@@ -1,19 +1,19 @@
 -- Rows of parity to which shards of data are added one at a time.
-use Rattle.std.proofs.Common.{◌≡◌, ◌≢◌, inl, inr, ℕ, zero, suc, ◌+◌, ◌-◌, ◌*◌, ◌/◌, ◌%◌, ◌<◌, ◌≤◌, Bool, true, false, List, length, get_or, set, get_or-set_other, get_or-set_same, drop, refl, sym, ◌∙◌, ap, ap₂, subst, arith}
+use Rattle.std.proofs.Common.{◌≡◌, ◌≢◌, inl, inr, ℕ, zero, suc, ◌+◌, ◌-◌, ◌*◌, ◌/◌, ◌%◌, ◌<◌, ◌≤◌, Bool, List, length, get_or, set, get_or-set_other, get_or-set_same, drop, refl, sym, ◌∙◌, ap, ap₂, subst, arith}
 use Rattle.std.specs.Prelude.{if◌then◌else◌, bit_xor}
 use Rattle.std.specs.Simd.Lanes.{chunk, put_chunk, zip2}
 use Rattle.std.proofs.Math.ListN.{length-set}
 use Rattle.std.proofs.Math.Nat.{mul-le-mul_left}
-use Rattle.std.proofs.lemmas.Bool.{cases_lt, cases_order}
+use Rattle.std.proofs.lemmas.Bool.{cases_lt}
 use Rattle.std.proofs.lemmas.List.{get_or-drop}
 use Rattle.std.specs.Int.Bits.{xor_assoc}
 use Rattle.std.proofs.lemmas.Nat.{xor_comm}
 use Rattle.std.proofs.lemmas.Simd.{get_or-chunk, get_or-put_chunk_above, get_or-put_chunk_at, get_or-put_chunk_below, get_or-zip2, length-chunk, length-put_chunk, length-zip2}
 use lib.Bits.{xor_zero_r}
 use Rattle.field_base.specs.Basis.{sum_below}
-use Rattle.reed_solomon.specs.Adding.{AddedShardsEncode, HasAdded}
+use Rattle.reed_solomon.specs.Adding.{AddedShardsEncode}
 use Rattle.reed_solomon.specs.ErasureField.{erasure_product}
-use Rattle.reed_solomon.specs.Parity.{HaveParityTables, parity_factor, parity_symbol, tables_length}
+use Rattle.reed_solomon.specs.Parity.{HaveParityTables, parity_factor, tables_length}
 use Rattle.reed_solomon.specs.Shards.{shard_byte}
 use Rattle.reed_solomon.specs.Tables.{nibble_sum}
 use Rattle.reed_solomon.proofs.NibbleTables.{nibble_product}

@@ -1,6 +1,6 @@
 // Rows of shards, 32 columns at a time. A shard is known by the place where its bytes begin.
 ghost use Rattle.std.specs.Prelude.{◌≡◌, ◌+◌, ◌*◌, ◌<◌, ◌≤◌, ◌↔◌, ℕ, true, false, [], length, min, slice_index, slice_index_or, IsTrue};
-ghost use Rattle.reed_solomon.specs.Tables.{AreApart, AreWritten, row_sum, row_sum_of};
+ghost use Rattle.reed_solomon.specs.Tables.{AreApart, AreWritten, FitRows, row_sum, row_sum_of};
 
 use crate::lanes::nibble_sums;
 use std::simd::prelude::*;
@@ -169,32 +169,41 @@ fn store_column<const N: usize>(out: &mut [u8], rows: &[usize], column: usize, s
     }
 }
 
-// Writes what the tables of N rows give of the shards before `until` into rows of `size` bytes of another slice. These have what the
-// shards before `from` give.
-#[inline(never)]
+// What rows are computed from: shards of `size` bytes, which begin at `starts`, and the entries of tables of four rows, 128 a shard.
+#[derive(Clone, Copy)]
+pub(crate) struct Sources<'a> {
+    pub(crate) shards: &'a [u8],
+    pub(crate) size: usize,
+    pub(crate) starts: &'a [usize],
+    pub(crate) entries: &'a [u8],
+}
+
+// Writes what the tables of N rows give of the shards before `until` into rows of another slice. These have what the shards before
+// `from` give. In place it is compiled anew for the first shards, where no row is read.
+#[inline(always)]
 fn add_shards<const N: usize>(
-    shards: &[u8],
-    size: usize,
-    starts: &[usize],
-    entries: &[u8],
+    sources: &Sources<'_>,
     from: usize,
     until: usize,
     out: &mut [u8],
     rows: &[usize],
 )
-    requires few { length starts.now ≤ 256 }
+    requires fit { FitRows sources.now.size sources.now.entries.now sources.now.shards.now sources.now.starts.now (length out.old)
+        rows.now N }
     requires range { from ≤ until }
-    requires listed { until ≤ length starts.now }
-    requires tables { 128 * length starts.now ≤ length entries.now }
-    requires rows { N ≤ 4 }
-    requires named { length rows.now ≡ N }
-    requires inside { (j : ℕ) → j < length starts.now → slice_index starts.now j + size ≤ length shards.now }
-    requires room { (row : ℕ) → row < N → slice_index rows.now row + size ≤ length out.old }
-    requires apart { (row other : ℕ) → other < row → row < N → AreApart size (slice_index rows.now row) (slice_index rows.now other) }
-    requires begun { (row column : ℕ) → row < N → column < size → 0 < from
-        → slice_index out.old (slice_index rows.now row + column) ≡ row_sum_of from entries.now shards.now starts.now row column }
-    ensures { AreWritten (row_sum_of until entries.now shards.now starts.now) (slice_index rows.now) N size out.old out.new }
+    requires listed { until ≤ length sources.now.starts.now }
+    requires begun { (row column : ℕ) → row < N → column < sources.now.size → 0 < from
+        → slice_index out.old (slice_index rows.now row + column)
+        ≡ row_sum_of from sources.now.entries.now sources.now.shards.now sources.now.starts.now row column }
+    ensures { AreWritten (row_sum_of until sources.now.entries.now sources.now.shards.now sources.now.starts.now) (slice_index rows.now) N
+        sources.now.size out.old out.new }
 {
+    let Sources {
+        shards,
+        size,
+        starts,
+        entries,
+    } = *sources;
     let whole = size / 32 * 32;
     for block in 0..size / 32 {
         let column = 32 * block;
@@ -208,30 +217,21 @@ fn add_shards<const N: usize>(
     }
 }
 
-// Writes N rows of `size` bytes of another slice from the shards that begin at `starts`, of twenty shards at a time: more streams
-// of bytes, which begin in the same lines of the cache where shards are as long as a power of two, displace each other.
-fn write_rows<const N: usize>(
-    shards: &[u8],
-    size: usize,
-    starts: &[usize],
-    entries: &[u8],
-    out: &mut [u8],
-    rows: &[usize],
-)
-    requires few { length starts.now ≤ 256 }
-    requires tables { 128 * length starts.now ≤ length entries.now }
-    requires rows { N ≤ 4 }
-    requires named { length rows.now ≡ N }
-    requires inside { (j : ℕ) → j < length starts.now → slice_index starts.now j + size ≤ length shards.now }
-    requires room { (row : ℕ) → row < N → slice_index rows.now row + size ≤ length out.old }
-    requires apart { (row other : ℕ) → other < row → row < N → AreApart size (slice_index rows.now row) (slice_index rows.now other) }
-    ensures { AreWritten (row_sum entries.now shards.now starts.now) (slice_index rows.now) N size out.old out.new }
+// Writes N rows of another slice, of twenty shards at a time: more streams of bytes, which begin in the same lines of the cache where
+// shards are as long as a power of two, displace each other.
+#[inline(never)]
+fn write_rows<const N: usize>(sources: &Sources<'_>, out: &mut [u8], rows: &[usize])
+    requires { FitRows sources.now.size sources.now.entries.now sources.now.shards.now sources.now.starts.now (length out.old)
+        rows.now N }
+    ensures { AreWritten (row_sum sources.now.entries.now sources.now.shards.now sources.now.starts.now) (slice_index rows.now) N
+        sources.now.size out.old out.new }
 {
-    let mut done = at_most_20(starts.len());
-    add_shards::<N>(shards, size, starts, entries, 0, done, out, rows);
-    while done < starts.len() {
-        let next = done + at_most_20(starts.len() - done);
-        add_shards::<N>(shards, size, starts, entries, done, next, out, rows);
+    let count = sources.starts.len();
+    let mut done = at_most_20(count);
+    add_shards::<N>(sources, 0, done, out, rows);
+    while done < count {
+        let next = done + at_most_20(count - done);
+        add_shards::<N>(sources, done, next, out, rows);
         done = next;
     }
 }
@@ -243,29 +243,18 @@ fn at_most_20(shards: usize) -> usize
     if shards < 20 { shards } else { 20 }
 }
 
-// Writes up to four rows of `size` bytes of another slice from the shards that begin at `starts`, all at once.
-pub(crate) fn write_group(
-    shards: &[u8],
-    size: usize,
-    starts: &[usize],
-    entries: &[u8],
-    out: &mut [u8],
-    rows: &[usize],
-)
-    requires few { length starts.now ≤ 256 }
-    requires tables { 128 * length starts.now ≤ length entries.now }
-    requires rows { length rows.now ≤ 4 }
-    requires inside { (j : ℕ) → j < length starts.now → slice_index starts.now j + size ≤ length shards.now }
-    requires room { (row : ℕ) → row < length rows.now → slice_index rows.now row + size ≤ length out.old }
-    requires apart { (row other : ℕ) → other < row → row < length rows.now
-        → AreApart size (slice_index rows.now row) (slice_index rows.now other) }
-    ensures { AreWritten (row_sum entries.now shards.now starts.now) (slice_index rows.now) (length rows.now) size out.old out.new }
+// Writes up to four rows of another slice, all at once.
+pub(crate) fn write_group(sources: &Sources<'_>, out: &mut [u8], rows: &[usize])
+    requires { FitRows sources.now.size sources.now.entries.now sources.now.shards.now sources.now.starts.now (length out.old)
+        rows.now (length rows.now) }
+    ensures { AreWritten (row_sum sources.now.entries.now sources.now.shards.now sources.now.starts.now) (slice_index rows.now)
+        (length rows.now) sources.now.size out.old out.new }
 {
     match rows.len() {
-        4 => write_rows::<4>(shards, size, starts, entries, out, rows),
-        3 => write_rows::<3>(shards, size, starts, entries, out, rows),
-        2 => write_rows::<2>(shards, size, starts, entries, out, rows),
-        1 => write_rows::<1>(shards, size, starts, entries, out, rows),
+        4 => write_rows::<4>(sources, out, rows),
+        3 => write_rows::<3>(sources, out, rows),
+        2 => write_rows::<2>(sources, out, rows),
+        1 => write_rows::<1>(sources, out, rows),
         _ => {}
     }
 }

@@ -5,7 +5,7 @@ ghost use Rattle.reed_solomon.specs.ErasureField.{erasure_product};
 ghost use Rattle.reed_solomon.specs.Samples.{symbol_at};
 ghost use Rattle.reed_solomon.specs.Tables.{AreApart, AreWritten, HasRow, row_sum};
 
-use crate::blocks::write_group;
+use crate::blocks::{Sources, write_group};
 use crate::sample::Sample;
 use crate::tables::{RowTables, set_row};
 
@@ -107,14 +107,13 @@ fn restore_group(shards: &mut [u8], size: usize, starts: &[usize], entries: &[u8
     let mut column = 0;
     while column < size {
         let width = strip_width(size - column);
-        write_group(
-            &shards[column..],
-            width,
+        let sources = Sources {
+            shards: &shards[column..],
+            size: width,
             starts,
             entries,
-            &mut strip,
-            &rows[..targets.len()],
-        );
+        };
+        write_group(&sources, &mut strip, &rows[..targets.len()]);
         put_strip(shards, size, targets, column, width, &strip);
         column += width;
     }

@@ -4,7 +4,7 @@ ghost use Rattle.reed_solomon.specs.Parity.{parity_factor, parity_symbol};
 ghost use Rattle.reed_solomon.specs.Shards.{AreCodewords, IsEncoded};
 ghost use Rattle.reed_solomon.specs.Tables.{AreWritten, HasRow};
 
-use crate::blocks::{matches_row, write_group};
+use crate::blocks::{Sources, matches_row, write_group};
 use crate::groups::{bytes_fit, group_size, set_rows, starts_from};
 use crate::sample::{Sample, places_from};
 use crate::tables::RowTables;
@@ -46,7 +46,13 @@ pub(crate) fn write_parity_group(
 {
     bytes_fit(shards);
     let rows = starts_from(first, count, size);
-    write_group(shards, size, starts, entries, parity, &rows[..count]);
+    let sources = Sources {
+        shards,
+        size,
+        starts,
+        entries,
+    };
+    write_group(&sources, parity, &rows[..count]);
 }
 
 // Writes m shards of parity behind one another, from k shards of data.

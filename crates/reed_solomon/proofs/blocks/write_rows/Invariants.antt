@@ -4,8 +4,8 @@ use Rattle.reed_solomon.proofs.blocks.write_rows.Given as goal
 
 abbrev pub invariant-loop-done : goal.invariant-loop-done
 invariant-loop-done g l =
-    (l.done ≤ length l.starts)
-    × AreWritten (row_sum_of l.done l.entries l.shards l.starts) (slice_index l.rows) g.row.N l.size l.fn.out l.out
+    (l.done ≤ length l.sources.starts.now)
+    × AreWritten (row_sum_of l.done l.sources.entries.now l.sources.shards.now l.sources.starts.now) (slice_index l.rows) g.row.N l.sources.size l.fn.out l.out
 
 abbrev pub decreases-loop-done : goal.decreases-loop-done
-decreases-loop-done g l = length l.starts - l.done
+decreases-loop-done g l = length l.sources.starts.now - l.done
