@@ -3,11 +3,15 @@ pub mod Completeness
 pub mod CornerSums
 pub mod CubeLaws
 pub mod CubeTables
+pub mod EchelonUniqueness
+pub mod Elimination
 pub mod LagrangeSteps
 pub mod LaneLists
+pub mod MatrixRows
 pub mod MixedDots
 pub mod PackedPowers
 pub mod Places
 pub mod PowerLists
 pub mod RoundSums
+pub mod RowSpaces
 pub mod Written

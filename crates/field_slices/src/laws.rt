@@ -1,4 +1,5 @@
-// Laws of values of multilinear polynomials, as contracts of functions that compute nothing.
+// Laws of values of multilinear polynomials and of matrices, as contracts of functions that compute nothing.
+ghost use Rattle.field_slices.specs.Matrices.{ReducedEchelonIsUnique};
 ghost use Rattle.field_slices.specs.Multilinear.{ExtendsCornerValues, FirstCoordinateIsLinear, FoldingEvaluates};
 
 /// States that what folding by every coordinate leaves is the value of the polynomial at the point.
@@ -14,4 +15,9 @@ pub fn first_coordinate_is_linear()
 /// States that the polynomial has the values that it is given by at the corners.
 pub fn corner_values_extend()
     ensures { ExtendsCornerValues }
+{}
+
+/// States that two matrices in reduced row echelon form whose rows span the same space are equal.
+pub fn reduced_echelon_is_unique()
+    ensures { ReducedEchelonIsUnique }
 {}

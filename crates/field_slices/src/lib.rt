@@ -1,12 +1,14 @@
 //! Many elements at once, over any field or ring of `field_base`: batch inversion, sums and products of slices, and powers; a slice as
 //! packings and back; and polynomials over any field: values in one variable by coefficients or by values at the first elements,
-//! multilinear polynomials by their values at the corners of the cube {0, 1}^n, and the rounds of sum-check for a product of two of these.
+//! multilinear polynomials by their values at the corners of the cube {0, 1}^n, and the rounds of sum-check for a product of two of these;
+//! and matrices over any field: products, and reduced row echelon form.
 #![tactic(auto)]
 
 mod cube;
 mod horner;
 mod inversion;
 mod laws;
+pub mod matrices;
 mod nodes;
 mod packings;
 mod powers;
@@ -19,7 +21,9 @@ pub use crate::inversion::{
     batch_multiplicative_inverse, batch_multiplicative_inverse_in_place,
     batch_multiplicative_inverse_into,
 };
-pub use crate::laws::{corner_values_extend, first_coordinate_is_linear, folding_evaluates};
+pub use crate::laws::{
+    corner_values_extend, first_coordinate_is_linear, folding_evaluates, reduced_echelon_is_unique,
+};
 pub use crate::nodes::interpolate_at_nodes;
 pub use crate::packings::powers::{packed_powers, packed_powers_vec};
 pub use crate::packings::slices::{pack_slice, pack_slice_into, unpack_slice};

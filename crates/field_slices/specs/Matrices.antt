@@ -1,0 +1,49 @@
+-- Matrices over a field whose elements are numbers (K. Hoffman and R. Kunze, Linear Algebra, chapters 1 and 2; R. Lidl and
+-- H. Niederreiter, Finite Fields, chapter 1). A matrix is the function of its entries: row i and column j, both from 0, give A i j. A sum
+-- is `bit_xor`, and `times` the product of the field.
+use Rattle.std.specs.Prelude.{◌≡◌, ◌≢◌, ◌↔◌, ℕ, ◌+◌, ◌*◌, ◌^◌, ◌<◌, ◌≤◌, List, map, slice_index}
+use Rattle.field_base.specs.Basis.{sum_below}
+use Rattle.field_base.specs.Ring.{IsRing}
+
+-- the entries of a matrix of so many columns whose rows stand one behind the other in a list
+abbrev pub entry_of : {V : Type 0} → (V → ℕ) → ℕ → List V → ℕ → ℕ → ℕ
+entry_of number columns values i j = slice_index (map number values) (i * columns + j)
+
+-- entry (i, j) of the product of two matrices: the sum over k < inner of A i k times B k j (Hoffman and Kunze, section 1.5)
+abbrev pub product_entry : (ℕ → ℕ → ℕ) → ℕ → (ℕ → ℕ → ℕ) → (ℕ → ℕ → ℕ) → ℕ → ℕ → ℕ
+product_entry times inner A B i j = sum_below (λ k. times (A i k) (B k j)) inner
+
+-- C, of so many rows and columns, is the product of A and B
+abbrev pub IsMatrixProduct : (ℕ → ℕ → ℕ) → ℕ → ℕ → ℕ → (ℕ → ℕ → ℕ) → (ℕ → ℕ → ℕ) → (ℕ → ℕ → ℕ) → Type 0
+IsMatrixProduct times rows inner columns A B C =
+    (i j : ℕ) → i < rows → j < columns → C i j ≡ product_entry times inner A B i j
+
+-- the vector v is a combination of the rows of A: the sum of these times coefficients c 0, c 1, ..
+abbrev pub IsRowCombination : (ℕ → ℕ → ℕ) → ℕ → ℕ → (ℕ → ℕ → ℕ) → (ℕ → ℕ) → Type 0
+IsRowCombination times rows columns A v =
+    (c : ℕ → ℕ) × ((j : ℕ) → j < columns → v j ≡ sum_below (λ i. times (c i) (A i j)) rows)
+
+-- the rows of both matrices span one space: what is a combination of the rows of one is a combination of those of the other
+abbrev pub HaveSameRowSpace : (ℕ → ℕ → ℕ) → ℕ → ℕ → (ℕ → ℕ → ℕ) → (ℕ → ℕ → ℕ) → Type 0
+HaveSameRowSpace times rows columns A B =
+    (v : ℕ → ℕ) → IsRowCombination times rows columns A v ↔ IsRowCombination times rows columns B v
+
+-- A is in reduced row echelon form, of this rank, with these columns of its leading entries (Hoffman and Kunze, section 1.4)
+pub record IsReducedEchelon (rows columns rank : ℕ) (pivot : ℕ → ℕ) (A : ℕ → ℕ → ℕ) : Type 0 where
+  pub rank_fits : rank ≤ rows
+  pub pivots_fit : (i : ℕ) → i < rank → pivot i < columns
+  pub pivots_rise : (i k : ℕ) → i < k → k < rank → pivot i < pivot k
+  -- the leading entry of a row is 1, and stands behind zeros and alone in its column
+  pub leading : (i : ℕ) → i < rank → A i (pivot i) ≡ 1
+  pub zeros_before : (i j : ℕ) → i < rank → j < pivot i → A i j ≡ 0
+  pub alone : (i k : ℕ) → i < rank → k < rows → k ≢ i → A k (pivot i) ≡ 0
+  -- the other rows are 0, and come last
+  pub zero_rows : (i j : ℕ) → rank ≤ i → i < rows → j < columns → A i j ≡ 0
+
+-- a row space has one matrix in reduced row echelon form: two of the same space have the same rank, the same columns of leading entries,
+-- and the same entries (Hoffman and Kunze, section 2.5)
+abbrev pub ReducedEchelonIsUnique : Type 0
+ReducedEchelonIsUnique = (width : ℕ) (times : ℕ → ℕ → ℕ) (rows columns r s : ℕ) (p q : ℕ → ℕ) (A B : ℕ → ℕ → ℕ)
+    → IsRing width 1 times → ((i j : ℕ) → A i j < 2 ^ width) → ((i j : ℕ) → B i j < 2 ^ width)
+    → IsReducedEchelon rows columns r p A → IsReducedEchelon rows columns s q B → HaveSameRowSpace times rows columns A B
+    → (r ≡ s) × ((i : ℕ) → i < r → p i ≡ q i) × ((i j : ℕ) → i < rows → j < columns → A i j ≡ B i j)

@@ -1,0 +1,12 @@
+//! Matrices over a field, in memory of the caller: row after row in a slice, so that entry (i, j) of a matrix of `columns` columns stands at
+//! place i * columns + j. `Scalars` is what a place holds and how it is computed with; for the elements of a field `F` that is
+//! `Elements<F>`, as in `row_reduce::<Elements<F>>(..)`.
+
+mod products;
+mod reduction;
+mod rows;
+mod scalars;
+
+pub use crate::matrices::products::multiply_into;
+pub use crate::matrices::reduction::{row_reduce, row_reduce_augmented};
+pub use crate::matrices::scalars::{Elements, Scalars};

@@ -1,0 +1,94 @@
+// What matrices compute with.
+ghost use Rattle.std.specs.Prelude.{◌≡◌, ◌≢◌, ◌↔◌, ◌^◌, ◌<◌, ℕ, IsTrue, bit_xor};
+ghost use Rattle.field_base.specs.Field.{IsField};
+
+use field_base::traits::Field;
+use std::marker::PhantomData;
+
+/// The arithmetic of a field of characteristic two, of which `Value` is what a place of a slice holds: an element, or a word that
+/// stands for one.
+pub trait Scalars {
+    /// What a place holds.
+    type Value: Copy;
+
+    // The bits of the field, its product, and the number that a value stands for.
+    ghost width: { ℕ };
+
+    ghost product: { ℕ → ℕ → ℕ };
+
+    ghost number: { Self.Value → ℕ };
+
+    /// The value 0.
+    fn zero() -> Self::Value
+        ensures { number result ≡ 0 };
+
+    /// The value 1.
+    fn one() -> Self::Value
+        ensures { number result ≡ 1 };
+
+    /// Whether the value is 0.
+    fn is_zero(x: Self::Value) -> bool
+        ensures { IsTrue result ↔ (number x ≡ 0) };
+
+    /// The sum.
+    fn add(x: Self::Value, y: Self::Value) -> Self::Value
+        ensures { number result ≡ bit_xor (number x) (number y) };
+
+    /// The product.
+    fn multiply(x: Self::Value, y: Self::Value) -> Self::Value
+        ensures { number result ≡ product (number x) (number y) };
+
+    /// The inverse of a value that is not 0.
+    fn invert(x: Self::Value) -> Self::Value
+        requires { number x ≢ 0 }
+        ensures { product (number x) (number result) ≡ 1 };
+
+    ghost wide_law: { 0 < width };
+
+    ghost field_law: { IsField width product };
+
+    ghost range_law: { (x : Self.Value) → number x < 2 ^ width };
+}
+
+/// The arithmetic of the elements of `F`: a place holds one.
+pub struct Elements<F>(PhantomData<F>);
+
+impl<F: Field> Scalars for Elements<F> {
+    type Value = F;
+
+    ghost width = { F.width };
+
+    ghost product = { F.product };
+
+    ghost number = { F.repr };
+
+    fn zero() -> F {
+        F::ZERO
+    }
+
+    fn one() -> F {
+        F::ONE
+    }
+
+    fn is_zero(x: F) -> bool {
+        x.is_zero()
+    }
+
+    fn add(x: F, y: F) -> F {
+        x + y
+    }
+
+    fn multiply(x: F, y: F) -> F {
+        x * y
+    }
+
+    fn invert(x: F) -> F {
+        x.inverse()
+    }
+
+    ghost wide_law = { F.wide_law };
+
+    ghost field_law = { F.field_law };
+
+    ghost range_law = { F.range_law };
+}
