@@ -1,0 +1,5 @@
+pub mod BlockPoints
+mod CodeWordPlaces
+mod CodedColumns
+mod ColumnPlaces
+pub mod Polynomials

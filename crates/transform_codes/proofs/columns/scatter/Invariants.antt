@@ -1,0 +1,5 @@
+use Rattle.transform_codes.specs.Columns.{AreScattered}
+use Rattle.transform_codes.proofs.columns.scatter.Given as goal
+
+abbrev pub invariant-loop-t : goal.invariant-loop-t
+invariant-loop-t g l = AreScattered g.R.Stored.ZERO l.size l.column l.first l.t l.values l.initial.shards l.shards

@@ -1,0 +1,11 @@
+use Rattle.std.proofs.Common.{ℕ, ◌<◌}
+use Rattle.tower_transforms.specs.Words.{level_element}
+use Rattle.transform_codes.specs.Codes.{IsCodedColumn, shard_symbol}
+use Rattle.transform_codes.proofs.encoding.encode_columns.Given as goal
+
+abbrev pub invariant-loop-column : goal.invariant-loop-column
+invariant-loop-column g l =
+    let element = level_element g.R.Stored.number g.L.Level.LEVEL in
+    (column : ℕ) → column < l.column
+    → IsCodedColumn g.L.Level.LEVEL l.levels l.data_shards l.parity_shards (shard_symbol element g.R.Stored.ZERO l.size l.shards column)
+    (shard_symbol element g.R.Stored.ZERO l.size l.parity column)

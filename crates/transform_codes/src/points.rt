@@ -1,0 +1,22 @@
+// The points at which polynomials have symbols as their values.
+ghost use Rattle.std.specs.Prelude.{◌≡◌, ◌^◌};
+ghost use Rattle.ghash_slices.specs.Cantor.{point};
+ghost use Rattle.word_tables.specs.Cantor.{cantor_vector};
+
+use field_base::{FieldKernel, LevelKernel, Unsigned};
+use word_tower::{Level, Tower};
+
+// Point p, of p's bits below those of the level: the sum of Cantor vector b for each set bit b.
+pub(crate) fn point_of<R: Unsigned, L: Level<R>>(p: usize) -> R
+    ensures { R.number result ≡ point (2 ^ L.LEVEL) cantor_vector 0 p }
+{
+    let mut sum = R::ZERO;
+    let mut rest = p;
+    for bit in 0..<Tower<L> as FieldKernel<R>>::bits() {
+        if rest % 2 == 1 {
+            sum = sum.xor(<Tower<L> as LevelKernel<R>>::cantor_vector(bit));
+        }
+        rest /= 2;
+    }
+    sum
+}
