@@ -214,6 +214,32 @@ class Methods(unittest.TestCase):
                     self.assertEqual(plain_product(defined, low.tolist(), high.tolist()), a.tolist())
         self.assertGreater(refused, 10)
 
+    def test_polynomials(self):
+        for field in FIELDS.values():
+            larger, defined = (bf.BinaryField8, definitions.FIELDS["t8"]) if field.degree < 8 else (field, defined_of(field))
+            for a in (it for it in some_matrices(field) if it.shape[0] == it.shape[1]):
+                size, plain = len(a), larger(a).tolist()
+                found, least = a.characteristic_poly(), a.minimal_poly()
+                # A monic polynomial is told by as many values as its degree says.
+                self.assertEqual((found.degree, found.is_monic, found.field), (size, True, field))
+                for x in range(size + 1):
+                    wanted = plain_determinant(defined, [[it ^ (x if i == j else 0) for j, it in enumerate(row)] for i, row in enumerate(plain)])
+                    self.assertEqual(int(bf.Poly(larger(found.coeffs))(larger(x))), wanted)
+                # The powers below the degree of the other one are independent, and those up to it are not.
+                powers = [np.linalg.matrix_power(a, it) for it in range(least.degree + 1)]
+                self.assertEqual(np.linalg.matrix_rank(np.stack([it.ravel() for it in powers])), least.degree)
+                self.assertFalse(sum((it * c for it, c in zip(powers, least.coefficients(order="asc"))), field.zeros(a.shape)).any())
+                self.assertEqual((least.is_monic, found % least), (True, 0))
+            poly = bf.Poly.Random(4, seed=77, field=field)
+            poly = poly * poly.coeffs[0].reciprocal()
+            self.assertEqual((poly.companion_matrix().characteristic_poly(), poly.companion_matrix().minimal_poly()), (poly, poly))
+            x = field(field.order - 1)
+            self.assertEqual((x.characteristic_poly().degree, x.characteristic_poly().factors()[0]), (field.degree, [x.minimal_poly()]))
+            self.assertRaises(ValueError, bf.Poly.One(field).companion_matrix)
+            for wrong in (field.ones((2, 3)), field.ones(2)):
+                self.assertRaises(ValueError, wrong.characteristic_poly)
+                self.assertRaises(ValueError, wrong.minimal_poly)
+
     def test_made_matrices(self):
         for field in FIELDS.values():
             defined, x = defined_of(field), int(field.primitive_element)

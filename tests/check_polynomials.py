@@ -220,6 +220,72 @@ def is_prime(number):
 TEXTS = ["", "x +", "y", "x^", "x^-1", "12x", "0xx", "*x", "2x", "x x", "x^2.5", "+"]
 
 
+def monic_lists(field, degree):
+    """All monic polynomials of a degree."""
+    return ([*it, 1] for it in itertools.product(range(field.order), repeat=degree))
+
+
+def divides(defined, divisor, low):
+    """Whether a monic polynomial divides another, by the rule of school."""
+    rest = list(low)
+    while len(rest) >= len(divisor):
+        if rest[-1]:
+            at = len(rest) - len(divisor)
+            rest = [it ^ (defined.multiply(rest[-1], divisor[i - at]) if i >= at else 0) for i, it in enumerate(rest)]
+        rest.pop()
+    return not any(rest)
+
+
+class Factors(unittest.TestCase):
+    """Irreducible polynomials, and those that a polynomial is a product of."""
+
+    def test_irreducible_polynomials(self):
+        for field, most in ((bf.Gf2, 6), (bf.BinaryField2, 4), (bf.BinaryField4, 2)):
+            defined = defined_of(field)
+            for degree in range(1, most + 1):
+                smaller = [it for below in range(1, degree // 2 + 1) for it in monic_lists(field, below)]
+                wanted = [low for low in monic_lists(field, degree) if not any(divides(defined, it, low) for it in smaller)]
+                polys = [bf.Poly(low, field, order="asc") for low in monic_lists(field, degree)]
+                self.assertEqual(sorted(low_of(it) for it in polys if it.is_irreducible()), sorted(wanted))
+                self.assertEqual(bf.irreducible_poly(degree, field), min((it for it in polys if low_of(it) in wanted), key=int))
+        for poly in (bf.Poly.Zero(), bf.Poly.One(bf.Ghash128)):
+            self.assertFalse(poly.is_irreducible())
+        self.assertFalse(bf.Poly.Zero().is_square_free())
+        self.assertRaises(ValueError, bf.irreducible_poly, 0)
+
+    def test_factors(self):
+        draw = random.Random(68)
+        for field in FIELDS.values():
+            for sizes in ([], [1], [2, 2], [1, 1, 3], [4, 1]):
+                parts = [drawn(field, draw, it)[0] for it in sizes]
+                scale = field(draw.randrange(1, field.order))
+                poly = scale * bf.Poly.One(field)
+                for at, it in enumerate(parts):
+                    poly *= it ** (at + 1)
+                found, times = poly.factors()
+                product = bf.Poly(field([int(poly.coeffs[0])]))
+                for it, count in zip(found, times):
+                    product *= it**count
+                self.assertEqual(product, poly)
+                self.assertTrue(all(it.is_monic and it.is_irreducible() for it in found))
+                self.assertEqual((len(set(found)), [(it.degree, int(it)) for it in found]), (len(found), sorted((it.degree, int(it)) for it in found)))
+                self.assertEqual(poly.is_square_free(), set(times) <= {1})
+                self.assertEqual(poly.degree > 0 and poly.is_irreducible(), times == [1])
+                bases, powers = poly.square_free_factors()
+                self.assertEqual(powers, sorted(set(times)))
+                for base, power in zip(bases, powers):
+                    self.assertEqual(base.factors()[0], [it for it, count in zip(found, times) if count == power])
+            self.assertRaises(ValueError, bf.Poly.Zero(field).factors)
+            self.assertRaises(ValueError, bf.Poly.Zero(field).square_free_factors)
+
+    def test_roots_are_factors(self):
+        draw = random.Random(69)
+        for field in FIELDS.values():
+            roots = sorted({draw.randrange(field.order) for _ in range(5)})
+            found, times = bf.Poly.Roots(field(roots), range(1, len(roots) + 1)).factors()
+            self.assertEqual(([low_of(it) for it in found], times), ([[it, 1] for it in roots], list(range(1, len(roots) + 1))))
+
+
 class Facts(unittest.TestCase):
     """Elements, orders, logarithms, traces, norms and minimal polynomials."""
 

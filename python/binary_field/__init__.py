@@ -41,7 +41,7 @@ from ._fields import (
     Rijndael8b,
 )
 from ._functions import VERSION_TEXT as __version__
-from ._poly import Poly, egcd, gcd, lagrange_poly
+from ._poly import Poly, egcd, gcd, irreducible_poly, lagrange_poly
 from ._transforms import (
     butterfly_forward,
     butterfly_inverse,
@@ -59,6 +59,6 @@ __all__ = [
     "BinaryField128", "BinaryField16", "BinaryField2", "BinaryField32", "BinaryField4", "BinaryField64", "BinaryField8", "FieldArray",
     "Gf2", "Ghash128", "Poly", "Poly192", "Poly64", "ReedSolomon", "Rijndael8b", "butterfly_forward", "butterfly_inverse", "egcd",
     "from_powers", "gcd", "gcm_ghash", "gcm_ghash_final", "get_workers", "ghash", "ghash_update", "ghash_update_padded",
-    "inverse_transform", "lagrange_poly", "linear_map", "low_stages", "polyval", "polyval_update", "polyval_update_padded", "set_workers",
-    "tags_are_equal", "to_powers", "transform", "transform_points",
+    "inverse_transform", "irreducible_poly", "lagrange_poly", "linear_map", "low_stages", "polyval", "polyval_update", "polyval_update_padded",
+    "set_workers", "tags_are_equal", "to_powers", "transform", "transform_points",
 ]

@@ -126,11 +126,11 @@ def tags_are_equal(left: Any, right: Any) -> bool:
 
 
 class ReedSolomon:
-    """The code with so many shards of data and of parity, at most 256 in all, over bytes modulo x^8 + x^4 + x^3 + x^2 + 1.
+    """A code that restores losses, of shards that are known to be missing, and corrects no errors.
 
-    Shards are the rows of an array of bytes, or of elements that are bytes, those of data first. Only losses are restored, of shards that
-    are known to be missing; wrong bytes in at most as many shards as there are of parity are found by `verify`, and not corrected. The parity
-    is that of klauspost/reedsolomon, and not of other libraries: the last example has 1569 by zfec. The tables of the code are made at the
+    It has so many shards of data and of parity, at most 256 in all, over bytes modulo x^8 + x^4 + x^3 + x^2 + 1. Shards are the rows of an
+    array of bytes, or of elements that are bytes, those of data first. Wrong bytes in at most as many shards as there are of parity are found
+    by `verify`, and not corrected. The parity is that of klauspost/reedsolomon, and not of other libraries: the last example has 1569 by zfec. The tables of the code are made at the
     first call that uses them, and kept: 32 bytes for each pair of a shard of data and one of parity, where those of parity are counted up to
     a multiple of four.
 

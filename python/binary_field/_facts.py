@@ -164,19 +164,46 @@ class Facts(Stored):
         return (elements ** ((type(self).order - 1) // (subfield.order - 1)))._restricted(subfield)
 
     def minimal_poly(self, subfield: Any = None) -> Poly:
-        """The monic polynomial of least degree over a field that this one contains, by default GF(2), with this single element as a root.
+        """The monic polynomial of least degree over a field that this one contains, by default GF(2), with this single element as a root;
+        and over this field with a square matrix as one.
 
         >>> bf.Rijndael8b(2).minimal_poly()
         Poly(x^8 + x^4 + x^3 + x + 1, Gf2)
+        >>> bf.Rijndael8b([[2, 0], [0, 2]]).minimal_poly()
+        Poly(x + 0x2, Rijndael8b)
         """
+        from . import _factors
         from ._poly import Poly
 
+        if self.ndim == 2 and subfield is None:
+            return _factors.minimal(self._square())
         element = self._single(self)
         subfield, _ = self._over(subfield)
         conjugates = element._conjugates(subfield)
         count = next((at for at, it in enumerate(conjugates) if at and it == element), len(conjugates))
         over_this = Poly.Roots(type(self)(conjugates[:count]))
         return Poly(over_this.coeffs._restricted(subfield))
+
+
+    def characteristic_poly(self) -> Poly:
+        """Of a square matrix the determinant of x minus it; of a single element that of its products, over GF(2).
+
+        >>> bf.Rijndael8b([[1, 2], [3, 4]]).characteristic_poly()
+        Poly(x^2 + 0x5*x + 0x2, Rijndael8b)
+        >>> bf.Rijndael8b(1).characteristic_poly() == bf.Poly.Int(3) ** 8
+        True
+        """
+        from . import _factors
+
+        if self.ndim == 2:
+            return _factors.characteristic(self._square())
+        minimal = self.minimal_poly()
+        return minimal ** (type(self).degree // minimal.degree)
+
+    def _square(self) -> Any:
+        if self.shape[0] != self.shape[1]:
+            raise ValueError(f"a square matrix is wanted, and the shape is {self.shape}")
+        return self
 
 
 def _in_prime_group(values: Any, generator: Any, prime: int) -> Words:

@@ -7,6 +7,7 @@ from typing import Any, Iterable, Union
 
 import numpy as np
 
+from . import _factors
 from ._arrays import FieldArray
 from ._fields import Gf2
 
@@ -372,6 +373,62 @@ class Poly:
         return found, times
 
 
+    # ---- factors
+
+    def _monic(self) -> Poly:
+        if not self:
+            raise ValueError("the polynomial 0 has no factors")
+        return self.__mul__(self._low[-1].reciprocal())
+
+    def factors(self) -> tuple[list[Poly], list[int]]:
+        """The monic irreducible factors, by degree and representation, and how often each is one. The polynomial is their product times its
+        highest coefficient.
+
+        >>> bf.Poly.Int(0b101110).factors()
+        ([Poly(x, Gf2), Poly(x + 1, Gf2), Poly(x^3 + x^2 + 1, Gf2)], [1, 1, 1])
+        >>> (bf.Poly.Roots(bf.Rijndael8b([3, 3, 5]))).factors()
+        ([Poly(x + 0x3, Rijndael8b), Poly(x + 0x5, Rijndael8b)], [2, 1])
+        """
+        return _factors.factors(self._monic())
+
+    def square_free_factors(self) -> tuple[list[Poly], list[int]]:
+        """For each multiplicity of a factor the product of the monic irreducible factors that have it, and the multiplicities.
+
+        >>> bf.Poly.Roots(bf.Rijndael8b([3, 3, 5, 6])).square_free_factors()
+        ([Poly(x^2 + 0x3*x + 0x1e, Rijndael8b), Poly(x + 0x3, Rijndael8b)], [1, 2])
+        """
+        parts = sorted(_factors.square_free_parts(self._monic()).items())
+        return [part for _, part in parts], [times for times, _ in parts]
+
+    def is_irreducible(self) -> bool:
+        """Whether the degree is 1 at least and no polynomials of lower ones have this product.
+
+        >>> bf.Poly.Int(0x11B).is_irreducible(), bf.Poly.Int(0x101).is_irreducible()
+        (True, False)
+        """
+        return self.degree > 0 and _factors.is_irreducible(self)
+
+    def is_square_free(self) -> bool:
+        """Whether no factor but a constant is there twice.
+
+        >>> bf.Poly.Int(0b101).is_square_free()
+        False
+        """
+        return bool(self) and gcd(self, self.derivative()).degree == 0
+
+    def companion_matrix(self) -> Any:
+        """The matrix with ones below its diagonal whose characteristic polynomial this is, which is monic and of degree 1 at least.
+
+        >>> bf.Poly.Int(0b1011).companion_matrix()
+        Gf2([[0x0, 0x0, 0x1], [0x1, 0x0, 0x1], [0x0, 0x1, 0x0]])
+        """
+        if not self.degree or not self.is_monic:
+            raise ValueError("a monic polynomial of degree 1 at least has a companion matrix")
+        result = self.field(np.eye(self.degree, k=-1, dtype=np.uint8))
+        result[:, -1] += self._low[:-1]
+        return result
+
+
 def _trimmed(low: Any) -> Any:
     """The coefficients up to the last that is not 0, or the first alone."""
     places = np.flatnonzero(low)
@@ -424,6 +481,15 @@ def gcd(a: Poly, b: Poly) -> Poly:
     while b:
         a, b = b, a % b
     return a.__mul__(a._low[-1].inverse_or_zero())
+
+
+def irreducible_poly(degree: int, field: type[FieldArray] = Gf2) -> Poly:
+    """The monic irreducible polynomial of a degree whose integer, as `Poly.Int` takes it, is the least.
+
+    >>> bf.irreducible_poly(8)
+    Poly(x^8 + x^4 + x^3 + x + 1, Gf2)
+    """
+    return _factors.first_irreducible(degree, field)
 
 
 def egcd(a: Poly, b: Poly) -> tuple[Poly, Poly, Poly]:
