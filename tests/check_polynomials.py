@@ -369,6 +369,20 @@ class Facts(unittest.TestCase):
         self.assertRaises(ValueError, bf.Rijndael8b([1]).minimal_poly)
         self.assertEqual(bf.Rijndael8b([]).field_trace().tolist(), [])
 
+    def test_subfields(self):
+        for field, smaller in itertools.product(FIELDS.values(), repeat=2):
+            try:
+                images = field(smaller.random((2, 3), seed=78))
+            except TypeError:
+                self.assertRaises(TypeError, field(1).to_subfield, smaller)
+                continue
+            found = images.to_subfield(smaller)
+            self.assertEqual((type(found), found.tolist()), (smaller, smaller.random((2, 3), seed=78).tolist()))
+            if smaller.degree < field.degree:
+                # The generator is in no smaller field.
+                images[1, 1] = field.primitive_element
+                self.assertRaises(ValueError, images.to_subfield, smaller)
+
     def test_moduli(self):
         for name, field in FIELDS.items():
             modulus = definitions.FIELDS[name].row.modulus

@@ -136,10 +136,25 @@ class Facts(Stored):
         return self._narrowed(level).to(subfield)
 
     def _narrowed(self, field: type[S]) -> Any:
-        """The same representations in a smaller field."""
+        """The low bits of the representations in a smaller field, which of its own elements are all."""
         result = field.zeros(self.shape)
         for part, it in zip(result._parts(), self._parts()):
             part[...] = it
+        if field.degree < 8:
+            result._words &= np.uint8(field.order - 1)
+        return result
+
+    def to_subfield(self, subfield: Any) -> Any:
+        """The elements of a field that this one contains whose images these are, as `to` goes the other way; ValueError where an element is
+        none of its images.
+
+        >>> bf.BinaryField16([7, 0x35]).to_subfield(bf.Rijndael8b).to(bf.BinaryField16)
+        BinaryField16([0x7, 0x35])
+        """
+        subfield, _ = self._over(subfield)
+        result = self._restricted(subfield)
+        if not (result.to(type(self)) == self).all():
+            raise ValueError(f"an element of {type(self).__name__} is not in {subfield.__name__}")
         return result
 
     def field_trace(self, subfield: Any = None) -> Any:
