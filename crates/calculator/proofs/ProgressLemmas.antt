@@ -1,7 +1,8 @@
 -- How runs that follow one another join.
 use Rattle.std.proofs.Common.{◌≡◌, ℕ, ◌+◌, ◌-◌, ◌≤◌, ◌<◌, length, length-append, List, [], ◌∷◌, ◌++◌, Option, refl, sym, ap, ◌∙◌, append_assoc, append-nil, take, drop, take-append-drop, arith, inl, inr}
-use Rattle.std.proofs.lemmas.List.{drop-take}
-use Rattle.std.specs.Prelude.{Result, Ok, Err, OnOk, OnErr, IfErr, IsErrAnd, ⊤}
+use Rattle.std.proofs.lemmas.Bool.{false≢true}
+use Rattle.std.proofs.lemmas.List.{drop-take, length-drop}
+use Rattle.std.specs.Prelude.{Result, Ok, Err, IsErr, OnOk, OnErr, IfErr, IsErrAnd, ⊤}
 use Rattle.std.specs.Io.KnownBytes.{Appends, Consumes, IsAtEnd, Keeps}
 use Rattle.std.proofs.KnownBytes.{Appends-nil, Appends-trans, Consumes-trans, Consumes-kept}
 use Rattle.std.proofs.lemmas.List.Elements.{All-nil, All-cons, All-append}
@@ -153,6 +154,14 @@ LeavesLines-told {a} {b} {waiting} {left} c leaves appended = record {
   answered = AnswersLines-front_left leaves.answered (Takes-whole b c left appended);
 }
 
+-- the lines that end before a place were answered, and no more are: what was left is written
+pub LeavesLines-refused : {a b : Option (List ℕ)} {waiting left bytes : List ℕ} (c : Option (List ℕ)) (line chunk : List ℕ) (start : ℕ) → IsLine line
+    → AnswersLines a b waiting left bytes (line ++ drop start chunk) → Appends b c left → LeavesLines a c waiting [] bytes (length chunk)
+LeavesLines-refused c line chunk start is_line answered appended =
+    LeavesLines-told c
+    (record { line = line; is_line = is_line; tail = drop start chunk; few = omega (arith, length-drop start chunk); answered = answered })
+    appended
+
 -- one line that ends
 pub AnswersLines-line : {a b : Option (List ℕ)} {waiting left : List ℕ} (line rest : List ℕ) → IsLine line
     → Takes a b (waiting ++ (answer_of line ++ 10 ∷ [])) left → AnswersLines a b waiting left (line ++ 10 ∷ rest) rest
@@ -271,6 +280,11 @@ module _ (r0 r1 : Option (List ℕ)) {w0 w1 : Option (List ℕ)} (read line left
 pub OnErr-from : {T E : Type 0} (P : Type 0) (r : Result T E) → P → OnErr r P
 OnErr-from P (Ok _) p = tt
 OnErr-from P (Err _) p = p
+
+-- or of a value, where there is an error
+pub OnOk-never : {T E : Type 0} (P : Type 0) (r : Result T E) → IsErr r → OnOk r P
+OnOk-never P (Ok _) is = absurd (false≢true is)
+OnOk-never P (Err _) is = tt
 
 -- or of some errors
 pub IfErr-from : {T E : Type 0} (Is : E → Type 0) (P : Type 0) (r : Result T E) → P → IfErr r (λ e. Is e → P)

@@ -1,5 +1,5 @@
 //! Reading lines and writing their answers.
-ghost use Rattle.std.specs.Prelude.{◌≡◌, ℕ, false, List, [], ◌∷◌, ◌++◌, length, OnOk, OnErr, IfErr};
+ghost use Rattle.std.specs.Prelude.{◌≡◌, ℕ, false, List, [], ◌∷◌, ◌++◌, length, IsErr, OnOk, OnErr, IfErr};
 ghost use Rattle.calculator.specs.Answer.{answer_of};
 ghost use Rattle.std.specs.Io.KnownBytes.{Appends};
 ghost use Rattle.calculator.specs.Lines.{lines, answers, finished, IsLine, AreLinesOf, IsFinished};
@@ -56,7 +56,7 @@ pub fn run<A: Allocator, R: Read, W: Write>(
     'reads: loop {
         match reader.read(&mut chunk) {
             Ok(0) => return finish(line.as_slice(), &mut outbox, writer),
-            Ok(count) => answer_chunk(&chunk[..count], &mut line, &mut outbox, writer)?,
+            Ok(count) => answer_lines(&chunk[..count], &mut line, &mut outbox, writer)?,
             Err(_) => return Err(RunError::Read),
         }
     }
@@ -71,8 +71,9 @@ pub fn lines_law()
     ensures finished { (bytes : List ℕ) → IsFinished (finished bytes) bytes }
 {}
 
-// Does what `answer_lines` does, and writes all that waits before it returns `Memory`.
-fn answer_chunk<A: Allocator, W: Write>(
+// Answers the lines that end in `chunk`. `line` has the bytes of the line that has not ended. Before it returns `Memory`, it writes all
+// that waits.
+fn answer_lines<A: Allocator, W: Write>(
     chunk: &[u8],
     line: &mut Vec<u8, A>,
     outbox: &mut Outbox,
@@ -92,36 +93,6 @@ fn answer_chunk<A: Allocator, W: Write>(
         (W.contents (watched_inner writer.old)) (W.contents (watched_inner writer.new))
         (waiting outbox.old) [] (line.old.items ++ chunk.now) (length chunk.now)) }
 {
-    match answer_lines(chunk, line, outbox, writer) {
-        Err(RunError::Memory) => {
-            write_out(outbox, writer)?;
-            Err(RunError::Memory)
-        }
-        done => done,
-    }
-}
-
-// Answers the lines that end in `chunk`. `line` has the bytes of the line that has not ended.
-fn answer_lines<A: Allocator, W: Write>(
-    chunk: &[u8],
-    line: &mut Vec<u8, A>,
-    outbox: &mut Outbox,
-    writer: &mut Watched<W>,
-) -> Result<(), RunError>
-    requires line { IsLine line.old.items }
-    requires writer { has_failed writer.old ≡ false }
-    ensures ok { OnOk result (AnswersLines (W.contents (watched_inner writer.old))
-        (W.contents (watched_inner writer.new)) (waiting outbox.old) (waiting outbox.new)
-        (line.old.items ++ chunk.now) line.new.items) }
-    ensures line { OnOk result (IsLine line.new.items) }
-    ensures err { OnErr result ((left rest : List ℕ) × AnswersLines
-        (W.contents (watched_inner writer.old)) (W.contents (watched_inner writer.new))
-        (waiting outbox.old) left (line.old.items ++ chunk.now) rest) }
-    ensures failed { FailedEnds result false (has_failed writer.new) }
-    ensures memory { IfErr result (λ fault. fault ≡ Memory → LeavesLines
-        (W.contents (watched_inner writer.old)) (W.contents (watched_inner writer.new))
-        (waiting outbox.old) (waiting outbox.new) (line.old.items ++ chunk.now) (length chunk.now)) }
-{
     let mut start = 0;
     'lines: while let Some(len) = memchr(b'\n', &chunk[start..]) {
         end_line(&chunk[start..start + len], line, outbox, writer)?;
@@ -129,11 +100,11 @@ fn answer_lines<A: Allocator, W: Write>(
     }
     match line.extend_from_slice(&chunk[start..]) {
         Ok(()) => Ok(()),
-        Err(_) => Err(RunError::Memory),
+        Err(_) => refuse(outbox, writer),
     }
 }
 
-// Answers `line` with `tail` behind it, and empties `line`.
+// Answers `line` with `tail` behind it, and empties `line`. Before it returns `Memory`, it writes all that waits.
 fn end_line<A: Allocator, W: Write>(
     tail: &[u8],
     line: &mut Vec<u8, A>,
@@ -149,19 +120,32 @@ fn end_line<A: Allocator, W: Write>(
     ensures err { OnErr result (GainsFront (W.contents (watched_inner writer.old))
         (W.contents (watched_inner writer.new)) (waiting outbox.old)) }
     ensures failed { FailedEnds result false (has_failed writer.new) }
-    ensures memory { IfErr result (λ fault. fault ≡ Memory →
-        (W.contents (watched_inner writer.new) ≡ W.contents (watched_inner writer.old))
-        × (waiting outbox.new ≡ waiting outbox.old)) }
+    ensures memory { IfErr result (λ fault. fault ≡ Memory → Appends (W.contents (watched_inner writer.old))
+        (W.contents (watched_inner writer.new)) (waiting outbox.old)) }
 {
     if line.is_empty() {
         return answer_line(tail, outbox, writer);
     }
     if line.extend_from_slice(tail).is_err() {
-        return Err(RunError::Memory);
+        return refuse(outbox, writer);
     }
     answer_line(line.as_slice(), outbox, writer)?;
     line.clear();
     Ok(())
+}
+
+// Writes all that waits, since memory was refused.
+fn refuse<W: Write>(outbox: &mut Outbox, writer: &mut Watched<W>) -> Result<(), RunError>
+    requires { has_failed writer.old ≡ false }
+    ensures refused { IsErr result }
+    ensures front { GainsFront (W.contents (watched_inner writer.old))
+        (W.contents (watched_inner writer.new)) (waiting outbox.old) }
+    ensures failed { FailedEnds result false (has_failed writer.new) }
+    ensures memory { IfErr result (λ fault. fault ≡ Memory → Appends (W.contents (watched_inner writer.old))
+        (W.contents (watched_inner writer.new)) (waiting outbox.old)) }
+{
+    write_out(outbox, writer)?;
+    Err(RunError::Memory)
 }
 
 // Puts the answer to `line` behind what waits.
@@ -181,29 +165,7 @@ fn answer_line<W: Write>(
     outbox.push_line(answer(line).as_bytes(), writer)
 }
 
-// Answers the last line, if it has a byte.
-fn answer_last<W: Write>(
-    line: &[u8],
-    outbox: &mut Outbox,
-    writer: &mut Watched<W>,
-) -> Result<(), RunError>
-    requires line { IsLine line.now }
-    requires writer { has_failed writer.old ≡ false }
-    ensures ok { OnOk result (Takes (W.contents (watched_inner writer.old))
-        (W.contents (watched_inner writer.new)) (waiting outbox.old ++ answers line.now)
-        (waiting outbox.new)) }
-    ensures err { OnErr result (GainsFront (W.contents (watched_inner writer.old))
-        (W.contents (watched_inner writer.new)) (waiting outbox.old)) }
-    ensures failed { FailedWriter result (has_failed writer.new) }
-{
-    if line.is_empty() {
-        Ok(())
-    } else {
-        answer_line(line, outbox, writer)
-    }
-}
-
-// Answers the last line, and writes all that waits.
+// Answers the last line, if it has a byte, and writes all that waits.
 fn finish<W: Write>(
     line: &[u8],
     outbox: &mut Outbox,
@@ -217,7 +179,10 @@ fn finish<W: Write>(
         (W.contents (watched_inner writer.new)) (waiting outbox.old ++ answers line.now)) }
     ensures failed { FailedWriter result (has_failed writer.new) }
 {
-    answer_last(line, outbox, writer)?;
+    if line.is_empty() {
+        return write_out(outbox, writer);
+    }
+    answer_line(line, outbox, writer)?;
     write_out(outbox, writer)
 }
 

@@ -30,7 +30,7 @@ returns-in-Ok-eq0-clause-err g c =
 pub reads-preserved : goal.reads-preserved
 reads-preserved g c =
     let so_far = c.reads.invariant.answered in
-    let fed = c.in_ok-answer_chunk-in-Ok.ensures in
+    let fed = c.in_ok-answer_lines-in-Ok.ensures in
     let chunk = take c.in-Ok.count c.read.new.buf in
     record {
       answered = (so_far.0 ++ chunk, Consumes-trans _ _ _ so_far.0 chunk so_far.1 c.in-Ok.ensures.bytes.0, AnswersLines-next chunk so_far.2 fed.ok);
@@ -40,26 +40,26 @@ reads-preserved g c =
       writer_passed = fed.failed.1;
     }
 
-pub returns-in_err-answer_chunk-in-Ok-clause-err : goal.returns-in_err-answer_chunk-in-Ok-clause-err
-returns-in_err-answer_chunk-in-Ok-clause-err g c =
+pub returns-in_err-answer_lines-in-Ok-clause-err : goal.returns-in_err-answer_lines-in-Ok-clause-err
+returns-in_err-answer_lines-in-Ok-clause-err g c =
     let so_far = c.reads.invariant.answered in
-    let fed = c.in_err-answer_chunk-in-Ok.ensures.err in
+    let fed = c.in_err-answer_lines-in-Ok.ensures.err in
     OnErr-from _ _ (AnswersFront-next _ (g.R.Read.remaining (watched_inner c.reads.reader)) so_far.0 c.reads.line.items _ so_far.1 so_far.2 _ _ c.in-Ok.ensures.bytes.0 fed.2)
 
-pub returns-in_err-answer_chunk-in-Ok-clause-memory : goal.returns-in_err-answer_chunk-in-Ok-clause-memory
-returns-in_err-answer_chunk-in-Ok-clause-memory g c =
+pub returns-in_err-answer_lines-in-Ok-clause-memory : goal.returns-in_err-answer_lines-in-Ok-clause-memory
+returns-in_err-answer_lines-in-Ok-clause-memory g c =
     let so_far = c.reads.invariant.answered in
     let some : 0 < length (take c.in-Ok.count c.read.new.buf) = omega (arith, length-take c.in-Ok.count c.read.new.buf, c.in-Ok.ensures.bound) in
     IfErr-from (λ (fault : RunError). fault ≡ Memory) _ _
     (GaveSome-next _ (g.R.Read.remaining (watched_inner c.reads.reader)) so_far.0 c.reads.line.items _ so_far.1 so_far.2 _ _ c.in-Ok.ensures.bytes.0 some)
 
-pub returns-in_err-answer_chunk-in-Ok-clause-told : goal.returns-in_err-answer_chunk-in-Ok-clause-told
-returns-in_err-answer_chunk-in-Ok-clause-told g c =
+pub returns-in_err-answer_lines-in-Ok-clause-told : goal.returns-in_err-answer_lines-in-Ok-clause-told
+returns-in_err-answer_lines-in-Ok-clause-told g c =
     let so_far = c.reads.invariant.answered in
     let few : length (take c.in-Ok.count c.read.new.buf) ≤ 8192 = omega (arith, length-take c.in-Ok.count c.read.new.buf, c.in-Ok.ensures.bound) in
-    IfErr-given Memory c.in_err-answer_chunk-in-Ok.field-0.0 c.from_residual.result c.from_residual.ensures.1 (λ is.
+    IfErr-given Memory c.in_err-answer_lines-in-Ok.field-0.0 c.from_residual.result c.from_residual.ensures.1 (λ is.
     AnswersWhole-next _ (g.R.Read.remaining (watched_inner c.reads.reader)) so_far.0 c.reads.line.items _ so_far.1 so_far.2 _ _ 8192
-    c.in-Ok.ensures.bytes.0 few (c.in_err-answer_chunk-in-Ok.ensures.memory is))
+    c.in-Ok.ensures.bytes.0 few (c.in_err-answer_lines-in-Ok.ensures.memory is))
 
 pub returns-in-Err-clause-err : goal.returns-in-Err-clause-err
 returns-in-Err-clause-err g c =
