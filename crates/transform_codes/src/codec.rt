@@ -87,7 +87,7 @@ impl TransformCode {
         shards: &[R],
         parity: &mut [R],
     ) -> Result<(), TransformCodeError>
-        ensures accepted { IsOk result → CanEncode L.LEVEL self.now.levels self.now.data_shards self.now.parity_shards
+        ensures accepted { IsOk result ↔ CanEncode L.LEVEL self.now.levels self.now.data_shards self.now.parity_shards
             (length shards.now) (length parity.old) (length space.old) }
         ensures encoded { IsOk result → AreCodedColumns (level_element R.number L.LEVEL) R.ZERO L.LEVEL self.now.levels
             self.now.data_shards self.now.parity_shards (length shards.now / self.now.data_shards) shards.now parity.new }
@@ -120,7 +120,7 @@ impl TransformCode {
         parity_words: usize,
         space: usize,
     ) -> Result<usize, TransformCodeError>
-        ensures accepted { IsOk result → CanEncode L.LEVEL self.now.levels self.now.data_shards self.now.parity_shards words
+        ensures accepted { IsOk result ↔ CanEncode L.LEVEL self.now.levels self.now.data_shards self.now.parity_shards words
             parity_words space }
         ensures size { IfOk result (λ size. (size ≡ words / self.now.data_shards) × (words ≡ self.now.data_shards * size)
             × (parity_words ≡ self.now.parity_shards * size)) }
