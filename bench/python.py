@@ -3,7 +3,7 @@
     scripts/build-library build && PYTHONPATH=python BINARY_FIELD_LIBRARY=build/lib python3 bench/python.py
 
 It prints nanoseconds a product over arrays of COUNT elements (a million), the least of SAMPLES samples (7), the two sides by
-turns, and whether both computed the same; then microseconds of calls of one element, and milliseconds of transforms. By hand, a
+turns, and whether both computed the same; then microseconds of calls of one element, and milliseconds of matrices and of transforms. By hand, a
 product of 8 bits is one look-up in a table of all products, one of 16 bits goes by logarithms, and a wider one by Karatsuba's rule
 down to those, in polynomial bases down to a table of carryless products of bytes.
 """
@@ -182,6 +182,11 @@ def main():
         a, b, many = field(3), field(5), range(1000)
         for name, call in (("a * b", lambda: [a * b for _ in many]), ("a + b", lambda: [a + b for _ in many]), ("1 / a", lambda: [1 / a for _ in many])):
             print(f"| `{name}`, `{field.__name__}` | {least([call])[0] * 1e3:.2f} |")
+    print("\n| Matrices of 100 rows and columns | product, ms | inverse, ms |\n|---|---:|---:|")
+    for field in (bf.BinaryField8, bf.Rijndael8b, bf.BinaryField64, bf.Ghash128):
+        a, b = field.random((100, 100), seed=1), field.random((100, 100), seed=2)
+        product, inverse = least([lambda: a @ b, lambda: np.linalg.inv(a)])
+        print(f"| `{field.__name__}` | {product * 1e3:.1f} | {inverse * 1e3:.1f} |")
     print("\n| Transform of `Ghash128` | ms | ns a value |\n|---|---:|---:|")
     for log in (10, 16):
         values = bf.Ghash128.random(1 << log, seed=3)

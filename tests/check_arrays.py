@@ -480,7 +480,7 @@ class Examples(unittest.TestCase):
 
     def test_examples(self):
         tried = 0
-        for name in ("_storage", "_facts", "_arrays", "_poly", "_transforms", "_workers", "_bytes"):
+        for name in ("_storage", "_facts", "_matrices", "_arrays", "_poly", "_transforms", "_workers", "_bytes"):
             module = getattr(bf, name)
             found = doctest.testmod(module, extraglobs={"bf": bf, "np": np})
             self.assertEqual(found.failed, 0)
@@ -489,10 +489,10 @@ class Examples(unittest.TestCase):
 
     def test_every_function_has_one(self):
         functions = {name: getattr(bf, name) for name in bf.__all__ if not isinstance(getattr(bf, name), type)}
-        for kind in (bf._storage.Stored, bf._facts.Facts, bf.FieldArray, bf.Poly):
+        for kind in (bf._storage.Stored, bf._facts.Facts, bf._matrices.Matrices, bf.FieldArray, bf.Poly, bf.ReedSolomon):
             functions |= {name: it for name, it in vars(kind).items() if not name.startswith("_") and not isinstance(it, property)}
         lacking = [name for name, it in functions.items() if callable(it) or isinstance(it, classmethod) if ">>> " not in (it.__doc__ or "")]
-        self.assertEqual((lacking, len(functions) > 55), ([], True))
+        self.assertEqual((lacking, len(functions) > 100), ([], True))
 
 
 if __name__ == "__main__":

@@ -4,7 +4,6 @@ The package is the one that Python finds, as check_package.py has it. A determin
 largest part with a determinant that is not 0, and a space the set of all its vectors, each by the definitions of the fields.
 """
 
-import doctest
 import itertools
 import unittest
 from unittest import mock
@@ -254,18 +253,6 @@ class Methods(unittest.TestCase):
                 wanted = [[defined.inverse(i ^ j) for j in (4, 5, 6)] for i in (1, 2, 3)]
                 self.assertEqual(field.Cauchy([1, 2, 3], [4, 5, 6]).tolist(), wanted)
                 self.assertNotEqual(plain_determinant(defined, wanted), 0)
-
-
-class Examples(unittest.TestCase):
-    """The examples in the texts of matrices."""
-
-    def test_examples(self):
-        found = doctest.testmod(LINEAR, extraglobs={"bf": bf, "np": np})
-        self.assertEqual((found.failed, found.attempted > 10), (0, True))
-
-    def test_every_function_has_one(self):
-        names = [name for name in vars(LINEAR.Matrices) if not name.startswith("_")]
-        self.assertEqual([name for name in names if ">>> " not in getattr(LINEAR.Matrices, name).__doc__], [])
 
 
 if __name__ == "__main__":

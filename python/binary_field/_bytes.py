@@ -174,7 +174,11 @@ class ReedSolomon:
         return f"ReedSolomon({self.data}, {self.parity})"
 
     def encode(self, data: Any) -> Words:
-        """All shards: those of data, and behind them those of parity."""
+        """All shards: those of data, and behind them those of parity.
+
+        >>> bf.ReedSolomon(2, 1).encode([b"ab", b"cd"]).tobytes()
+        b'abcden'
+        """
         data = self._rows(data, self.data)
         shards = np.zeros((self.data + self.parity, data.shape[1]), np.uint8)
         shards[: self.data] = data
@@ -206,22 +210,45 @@ class ReedSolomon:
 
     def add_shard(self, data_shard: int, parity_shard: int, shard: Any, sums: Any) -> None:
         """Adds to `sums` what a shard of data is in a shard of parity, both counted from 0. Once each shard of data was added to zeros, in any
-        order, `sums` is that shard of parity."""
+        order, `sums` is that shard of parity.
+
+        >>> code, sums = bf.ReedSolomon(2, 1), bytearray(2)
+        >>> code.add_shard(0, 0, b"ab", sums)
+        >>> code.add_shard(1, 0, b"cd", sums)
+        >>> bytes(sums) == code.encode([b"ab", b"cd"])[2].tobytes()
+        True
+        """
         added = sums if isinstance(sums, np.ndarray) else np.frombuffer(sums, np.uint8)
         call("rs_add_shard", self.data, self.parity, self._tables, data_shard, parity_shard, _bytes(shard), added)
 
     def verify(self, shards: Any) -> bool:
-        """Whether the shards of parity are those of the data."""
+        """Whether the shards of parity are those of the data.
+
+        >>> shards = bf.ReedSolomon(2, 1).encode([b"ab", b"cd"])
+        >>> shards[0, 0] += 1
+        >>> bf.ReedSolomon(2, 1).verify(shards)
+        False
+        """
         result = np.zeros(1, np.uint8)
         call("rs_verify_prepared", self.data, self.parity, self._tables, self._rows(shards, self.data + self.parity), result)
         return bool(result[0])
 
     def reconstruct(self, shards: Sequence[Any] | Words, present: Sequence[bool] | None = None) -> Words:
-        """All shards, the missing ones restored. A shard is missing where it is None, and where `present` has False."""
+        """All shards, the missing ones restored. A shard is missing where it is None, and where `present` has False.
+
+        >>> shards = bf.ReedSolomon(2, 1).encode([b"ab", b"cd"])
+        >>> bf.ReedSolomon(2, 1).reconstruct([shards[0], b"??", shards[2]], [True, False, True]).tobytes() == shards.tobytes()
+        True
+        """
         return self._restored("rs_reconstruct", shards, present)
 
     def reconstruct_data(self, shards: Sequence[Any] | Words, present: Sequence[bool] | None = None) -> Words:
-        """The shards of data, the missing ones restored."""
+        """The shards of data, the missing ones restored.
+
+        >>> shards = bf.ReedSolomon(2, 1).encode([b"ab", b"cd"])
+        >>> bf.ReedSolomon(2, 1).reconstruct_data([None, *shards[1:]]).tobytes()
+        b'abcd'
+        """
         return self._restored("rs_reconstruct_data", shards, present)[: self.data]
 
     def _restored(self, name: str, shards: Any, present: Any) -> Words:
