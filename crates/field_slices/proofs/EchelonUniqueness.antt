@@ -12,7 +12,7 @@ use Rattle.field_slices.proofs.RowSpaces.{only, only-same, only-other, only-befo
 -- ---- columns of leading entries
 
 -- a column is that of a leading entry, or of none
-find-pivot : (p : ℕ → ℕ) (j n : ℕ) → ((k : ℕ) × (k < n) × (p k ≡ j)) ⊎ ((k : ℕ) → k < n → p k ≢ j)
+pub find-pivot : (p : ℕ → ℕ) (j n : ℕ) → ((k : ℕ) × (k < n) × (p k ≡ j)) ⊎ ((k : ℕ) → k < n → p k ≢ j)
 find-pivot p j zero = inr (λ k below e. absurd (omega (arith, below)))
 find-pivot p j (suc n) =
     elim (cases_eq (p n) j) [
@@ -82,7 +82,7 @@ module _ (r s : ℕ) (p q : ℕ → ℕ) (p_rises : (i k : ℕ) → i < k → k 
   rising-same : (k : ℕ) → k < r → k < s → p k ≡ q k
   rising-same k in_p in_q = rising-before (suc k) k (omega arith) in_p in_q
 
-  rising-counts : r ≡ s
+  pub rising-counts : r ≡ s
   rising-counts =
       let most = rising-count r s p q p_rises q_rises p_in (λ k in_q in_p. rising-same k in_p in_q) in
       let least = rising-count s r q p q_rises p_rises q_in (λ k in_p in_q. sym (rising-same k in_p in_q)) in
@@ -123,7 +123,7 @@ module _ (width : ℕ) (times : ℕ → ℕ → ℕ) (ring : IsRing width 1 time
             ∙ sym (ap (times (v (p i))) (A_reduced.zero_rows i j past inside within) ∙ times-zero width 1 times ring (v (p i)))
 
     -- the first entry of a combination that is not 0 stands in the column of a leading entry
-    leads-at : (j : ℕ) → j < columns → v j ≢ 0 → ((m : ℕ) → m < j → v m ≡ 0) → (k : ℕ) × (k < r) × (p k ≡ j)
+    pub leads-at : (j : ℕ) → j < columns → v j ≢ 0 → ((m : ℕ) → m < j → v m ≡ 0) → (k : ℕ) × (k < r) × (p k ≡ j)
     leads-at j within nonzero zeros =
         elim (find-pivot p j r) [
           | inl found ↦ found

@@ -5,8 +5,10 @@ pub mod CubeLaws
 pub mod CubeTables
 pub mod EchelonUniqueness
 pub mod Elimination
+pub mod InverseMatrices
 pub mod LagrangeSteps
 pub mod LaneLists
+pub mod LinearSystems
 pub mod MatrixRows
 pub mod MixedDots
 pub mod PackedPowers

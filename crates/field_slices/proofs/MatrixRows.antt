@@ -41,12 +41,11 @@ pub record RowWritten (columns row : ℕ) (wanted : ℕ → ℕ) (old now : ℕ 
   pub others : (i j : ℕ) → i ≢ row → j < columns → now i j ≡ old i j
 
 module _ (columns row : ℕ) (wanted : ℕ → ℕ) (old : ℕ → ℕ → ℕ) where
+  pub row_from : (n : ℕ) → ((j : ℕ) → j < n → old row j ≡ wanted j) → RowWritten columns row wanted old old n
+  row_from n done = record { done = done; rest = λ j past inside. refl; others = λ i j other inside. refl }
+
   pub row_start : RowWritten columns row wanted old old 0
-  row_start = record {
-    done = λ j below. absurd (omega (arith, below));
-    rest = λ j past inside. refl;
-    others = λ i j other inside. refl;
-  }
+  row_start = row_from 0 (λ j below. absurd (omega (arith, below)))
 
   pub row_step : (now next : ℕ → ℕ → ℕ) (n : ℕ) → n < columns → next row n ≡ wanted n
       → ((i j : ℕ) → j < columns → (i ≢ row) ⊎ (j ≢ n) → next i j ≡ now i j)

@@ -8,7 +8,7 @@ use Rattle.field_base.specs.Basis.{sum_below}
 use Rattle.field_base.specs.Ring.{IsRing}
 use Rattle.field_base.proofs.BasisSums.{sum_below-same}
 use Rattle.field_base.proofs.RingLemmas.{xor_left_comm, sum_times, times-zero, zero-times}
-use Rattle.field_slices.specs.Matrices.{IsRowCombination, HaveSameRowSpace}
+use Rattle.field_slices.specs.Matrices.{HaveSameRowSpace, IsRowCombination, identity_entry}
 
 -- (a + b) + (c + d) = (a + c) + (b + d)
 sums_exchange : (a b c d : ℕ) → bit_xor (bit_xor a b) (bit_xor c d) ≡ bit_xor (bit_xor a c) (bit_xor b d)
@@ -34,6 +34,11 @@ only-other k s i different =
       | inl is ↦ absurd (different is.1)
       | inr other ↦ ap (λ (b : Bool). if b then s else 0) other.0
     ]
+
+-- so are those of a column of the identity matrix
+pub identity-only : (k j : ℕ) → identity_entry k j ≡ only j 1 k
+unfolding only
+identity-only k j = refl
 
 module _ (width : ℕ) (times : ℕ → ℕ → ℕ) (ring : IsRing width 1 times) where
   -- a sum with one coefficient, before its place and behind it
@@ -70,7 +75,7 @@ module _ (width : ℕ) (times : ℕ → ℕ → ℕ) (ring : IsRing width 1 time
       (λ k within. ap (times (c k)) (is k within) ∙ ring.comm (c k) (only j 1 k)) ∙ only-after j 1 c n inside ∙ ring.one (c j)
 
   -- a sum with coefficients c + s d
-  sum_with : (c d f : ℕ → ℕ) (s n : ℕ) → sum_below (λ i. times (bit_xor (c i) (times s (d i))) (f i)) n
+  pub sum_with : (c d f : ℕ → ℕ) (s n : ℕ) → sum_below (λ i. times (bit_xor (c i) (times s (d i))) (f i)) n
       ≡ bit_xor (sum_below (λ i. times (c i) (f i)) n) (times s (sum_below (λ i. times (d i) (f i)) n))
   unfolding sum_below
   sum_with c d f s zero = sym (ap (bit_xor 0) (times-zero width 1 times ring s))

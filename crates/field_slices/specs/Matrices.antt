@@ -1,7 +1,7 @@
 -- Matrices over a field whose elements are numbers (K. Hoffman and R. Kunze, Linear Algebra, chapters 1 and 2; R. Lidl and
 -- H. Niederreiter, Finite Fields, chapter 1). A matrix is the function of its entries: row i and column j, both from 0, give A i j. A sum
 -- is `bit_xor`, and `times` the product of the field.
-use Rattle.std.specs.Prelude.{◌≡◌, ◌≢◌, ◌↔◌, ℕ, ◌+◌, ◌*◌, ◌^◌, ◌<◌, ◌≤◌, List, map, slice_index}
+use Rattle.std.specs.Prelude.{◌≡◌, ◌≢◌, ◌↔◌, ◌==◌, ℕ, ◌+◌, ◌-◌, ◌*◌, ◌^◌, ◌<◌, ◌≤◌, List, if◌then◌else◌, map, nat_lt, slice_index}
 use Rattle.field_base.specs.Basis.{sum_below}
 use Rattle.field_base.specs.Ring.{IsRing}
 
@@ -17,6 +17,22 @@ product_entry times inner A B i j = sum_below (λ k. times (A i k) (B k j)) inne
 abbrev pub IsMatrixProduct : (ℕ → ℕ → ℕ) → ℕ → ℕ → ℕ → (ℕ → ℕ → ℕ) → (ℕ → ℕ → ℕ) → (ℕ → ℕ → ℕ) → Type 0
 IsMatrixProduct times rows inner columns A B C =
     (i j : ℕ) → i < rows → j < columns → C i j ≡ product_entry times inner A B i j
+
+-- the entries of the identity matrix
+abbrev pub identity_entry : ℕ → ℕ → ℕ
+identity_entry i j = if i == j then 1 else 0
+
+-- the square matrices A and B of n rows are inverses: both products are the identity matrix (Hoffman and Kunze, section 1.6)
+abbrev pub AreInverseMatrices : (ℕ → ℕ → ℕ) → ℕ → (ℕ → ℕ → ℕ) → (ℕ → ℕ → ℕ) → Type 0
+AreInverseMatrices times n A B = IsMatrixProduct times n n n A B identity_entry × IsMatrixProduct times n n n B A identity_entry
+
+-- the entries of a matrix of n columns beside the identity matrix
+abbrev pub beside_identity : ℕ → (ℕ → ℕ → ℕ) → ℕ → ℕ → ℕ
+beside_identity n A i j = if nat_lt j n then A i j else identity_entry i (j - n)
+
+-- x solves the equations whose coefficients are the first `count` columns of A, and whose right sides are the column behind them
+abbrev pub IsSolution : (ℕ → ℕ → ℕ) → ℕ → ℕ → (ℕ → ℕ → ℕ) → (ℕ → ℕ) → Type 0
+IsSolution times rows count A x = (i : ℕ) → i < rows → sum_below (λ j. times (A i j) (x j)) count ≡ A i count
 
 -- the vector v is a combination of the rows of A: the sum of these times coefficients c 0, c 1, ..
 abbrev pub IsRowCombination : (ℕ → ℕ → ℕ) → ℕ → ℕ → (ℕ → ℕ → ℕ) → (ℕ → ℕ) → Type 0

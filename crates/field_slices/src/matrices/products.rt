@@ -1,6 +1,5 @@
-// Products of matrices.
+// Products and transposes of matrices.
 ghost use Rattle.std.specs.Prelude.{◌≡◌, ◌≢◌, ◌*◌, ◌<◌, ℕ, length};
-ghost use Rattle.field_base.specs.Basis.{sum_below};
 ghost use Rattle.field_slices.specs.Matrices.{IsMatrixProduct, entry_of, product_entry};
 
 use crate::matrices::rows::{entry, set_entry};
@@ -79,4 +78,45 @@ fn row_times_column<S: Scalars>(
         sum = S::add(sum, S::multiply(x, y));
     }
     sum
+}
+
+/// Writes the transpose of `source`, a matrix of `rows` rows of `columns` entries, to `target`, of `columns` rows of `rows` entries: its
+/// entry (i, j) is entry (j, i) of `source`. It takes no memory.
+pub fn transpose_into<S: Scalars>(
+    target: &mut [S::Value],
+    source: &[S::Value],
+    rows: usize,
+    columns: usize,
+)
+    requires source { length source.now ≡ rows * columns }
+    requires shape { length target.old ≡ columns * rows }
+    ensures shape { length target.new ≡ length target.old }
+    ensures entries { (i j : ℕ) → i < columns → j < rows
+        → entry_of S.number rows target.new i j ≡ entry_of S.number columns source.now j i }
+{
+    for row in 0..columns {
+        write_transposed_row::<S>(target, source, rows, columns, row);
+    }
+}
+
+// Writes a row of the transpose, and leaves the other rows.
+fn write_transposed_row<S: Scalars>(
+    target: &mut [S::Value],
+    source: &[S::Value],
+    rows: usize,
+    columns: usize,
+    row: usize,
+)
+    requires source { length source.now ≡ rows * columns }
+    requires shape { length target.old ≡ columns * rows }
+    requires row { row < columns }
+    ensures shape { length target.new ≡ length target.old }
+    ensures row { (j : ℕ) → j < rows → entry_of S.number rows target.new row j ≡ entry_of S.number columns source.now j row }
+    ensures others { (i j : ℕ) → i ≢ row → j < rows
+        → entry_of S.number rows target.new i j ≡ entry_of S.number rows target.old i j }
+{
+    for column in 0..rows {
+        let value = entry::<S>(source, rows, columns, column, row);
+        set_entry::<S>(target, columns, rows, row, column, value);
+    }
 }

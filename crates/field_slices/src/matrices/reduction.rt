@@ -77,7 +77,7 @@ fn reduce_column<S: Scalars>(
 }
 
 // The first row from `from` on that is not 0 in this column.
-fn find_pivot<S: Scalars>(
+pub(crate) fn find_pivot<S: Scalars>(
     matrix: &[S::Value],
     rows: usize,
     columns: usize,
