@@ -53,7 +53,7 @@ def combinations(field, rows, count):
 
 
 def some_matrices(field):
-    """Matrices of several shapes; of some the ranks are less than the shapes allow."""
+    """Matrices of several shapes; of some the ranks are less than the shapes allow, and in some rows have to be moved."""
     for at, (rows, columns) in enumerate([(1, 1), (2, 2), (3, 3), (2, 4), (4, 2), (3, 1), (1, 3)]):
         yield field.random((rows, columns), seed=at)
         yield field.zeros((rows, columns))
@@ -61,6 +61,11 @@ def some_matrices(field):
         moved = field.random((rows, columns), seed=at)
         moved[0] = 0
         yield moved[::-1] if at % 2 else moved
+        if rows == columns:
+            yield field.Identity(rows)[::-1]
+            later = field.Identity(rows)[::-1] + field.random((rows, rows), seed=at + 60)
+            later[0, 0] = 0
+            yield later
 
 
 def identity(size):

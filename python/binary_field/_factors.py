@@ -24,7 +24,7 @@ def square_free_parts(poly: Poly) -> dict[int, Poly]:
     from ._poly import Poly, gcd
 
     parts: dict[int, Poly] = {}
-    # The derivative of a square is 0, so that the factors of even multiplicities stay in the rest.
+    # The derivative of a square is 0, so that the factors of even multiplicities stay in the rest, and all others come out of it.
     rest = gcd(poly, poly.derivative())
     single, times = poly // rest, 1
     while single.degree:
@@ -34,8 +34,7 @@ def square_free_parts(poly: Poly) -> dict[int, Poly]:
         single, rest, times = both, rest // both, times + 1
     if rest.degree:
         root = Poly(rest._low[::2].sqrt(), order="asc")
-        for it, part in square_free_parts(root).items():
-            parts[2 * it] = parts[2 * it] * part if 2 * it in parts else part
+        parts |= {2 * it: part for it, part in square_free_parts(root).items()}
     return parts
 
 
