@@ -465,12 +465,12 @@ class FieldArray(Matrices):
 
     def __eq__(self, other: Any) -> Any:
         """Place by place, as numpy compares: with elements of the field, with integers by their representation; nothing else is equal."""
-        if _is_left_to(other):
-            return NotImplemented
         if isinstance(other, FieldArray):
             if type(other) is not type(self):
                 return NotImplemented
             return functools.reduce(operator.and_, (x == y for x, y in zip(self._parts(), other._parts())))
+        if _is_left_to(other):
+            return NotImplemented
         if isinstance(other, (int, np.integer)):
             is_element = 0 <= other < type(self).order
             return self == type(self)(int(other)) if is_element else np.zeros(self.shape, bool)[()]
