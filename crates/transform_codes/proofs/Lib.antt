@@ -2,4 +2,6 @@ pub mod BlockPoints
 mod CodeWordPlaces
 mod CodedColumns
 mod ColumnPlaces
+mod Decoding
+mod LocatorFacts
 pub mod Polynomials

@@ -1,4 +1,6 @@
 pub mod Codes
 pub mod Columns
 pub mod Determined
+pub mod Located
+pub mod Locators
 pub mod Sizes

@@ -1,8 +1,16 @@
 // The laws of the codes, as contracts of functions that compute nothing.
 ghost use Rattle.transform_codes.specs.Determined.{ShardsDetermine};
+ghost use Rattle.transform_codes.specs.Located.{LostSymbolsAreLocated};
 
 /// States that any shards, as many as there are of data, determine the others: two code words of one code that agree in k shards of k of
 /// data and m of parity agree in all, in every level that has the points.
 pub fn shards_determine()
     ensures { ShardsDetermine }
+{}
+
+/// States that two inverse transforms and a forward one give the polynomial of a code word whose lost symbols are anything, as long as as
+/// many are known as it has coefficients: from the products of the symbols and the locator of the lost ones to the coefficients of that
+/// product, to its values at as many points behind, and from their quotients by the locator, which is 0 at none of them, to the polynomial.
+pub fn lost_symbols_are_located()
+    ensures { LostSymbolsAreLocated }
 {}

@@ -15,4 +15,4 @@ mod points;
 
 pub use crate::codec::TransformCode;
 pub use crate::error::TransformCodeError;
-pub use crate::laws::shards_determine;
+pub use crate::laws::{lost_symbols_are_located, shards_determine};
