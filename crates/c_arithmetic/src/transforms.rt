@@ -11,7 +11,9 @@ use crate::{Wide, status};
 use additive_transforms::stages_of;
 use field_base::{FieldKernel, Unsigned};
 use ghash_slices::{WideWord, Width, add_each, add_multiples, run_low_stages};
-use tower_transforms::{Holds, forward_level, inverse_level, transform_ghash};
+use tower_transforms::{
+    WordBytes, forward_level_in_vectors, inverse_level_in_vectors, transform_ghash,
+};
 use word_tower::{Level, Tower};
 
 /// At each place `low += scalar * high`, and then `high += low`.
@@ -88,27 +90,27 @@ fn transform_whole<V: Width>(values: &mut [Wide], shift: Wide, is_inverse: bool)
 }
 
 /// Replaces the coefficients by the values at the points from `shift` on, in the level `L` of the tower.
-pub fn transform_level<R: Unsigned, W: Holds<R>, L: Level<R>>(values: &mut [W], shift: W) -> u32
-    ensures { TransformsLevel W.number L.LEVEL (W.number shift) values.old values.new result }
+pub fn transform_level<R: Unsigned, W: WordBytes<R>, L: Level<R>>(values: &mut [W], shift: W) -> u32
+    ensures { TransformsLevel W.Holds.number L.LEVEL (W.Holds.number shift) values.old values.new result }
 {
     if !fits_level::<R, L>(values.len()) {
         return status::LENGTH;
     }
-    forward_level::<R, L, W>(values, shift.stored());
+    forward_level_in_vectors::<R, L, W>(values, shift.stored());
     status::OK
 }
 
 /// Replaces the values at those points by the coefficients.
-pub fn inverse_transform_level<R: Unsigned, W: Holds<R>, L: Level<R>>(
+pub fn inverse_transform_level<R: Unsigned, W: WordBytes<R>, L: Level<R>>(
     values: &mut [W],
     shift: W,
 ) -> u32
-    ensures { InvertsLevelTransform W.number L.LEVEL (W.number shift) values.old values.new result }
+    ensures { InvertsLevelTransform W.Holds.number L.LEVEL (W.Holds.number shift) values.old values.new result }
 {
     if !fits_level::<R, L>(values.len()) {
         return status::LENGTH;
     }
-    inverse_level::<R, L, W>(values, shift.stored());
+    inverse_level_in_vectors::<R, L, W>(values, shift.stored());
     status::OK
 }
 

@@ -194,13 +194,13 @@ number-digits (suc n) x below =
 pub digits_number : (x : ℕ) (bytes : List ℕ) → length bytes ≡ 16 → x < 2 ^ 128 → bytes ≡ digits_l 256 16 x → chunk_of 4 bytes 0 ≡ x
 digits_number x bytes sixteen fits are = chunk-number bytes sixteen ∙ ap (number_l 256) are ∙ number-digits 16 x fits
 
--- products by a scalar of a lower level are those of elements of sixteen bytes
-pub whole_times : {n : ℕ} (d s : ℕ) (old new : List ℕ) → d ≤ 4 → s < 2 ^ 2 ^ level_of d → AreTimes d s old new → AreBytes n old
-    → (i : ℕ) → chunk_of 4 new i ≡ tower_mul 7 s (chunk_of 4 old i)
-whole_times d s old new few s_fits times old_are =
-    subst (λ (n : ℕ). AreTimes n s old new) all (times_above (4 - d) d s old new s_fits old_are times)
+-- products by a scalar of a lower level are those of wider elements
+pub whole_times : {n : ℕ} (d e s : ℕ) (old new : List ℕ) → d ≤ e → s < 2 ^ 2 ^ level_of d → AreTimes d s old new → AreBytes n old
+    → AreTimes e s old new
+whole_times d e s old new few s_fits times old_are =
+    subst (λ (n : ℕ). AreTimes n s old new) all (times_above (e - d) d s old new s_fits old_are times)
   where
-    all : 4 - d + d ≡ 4
+    all : e - d + d ≡ e
     all = omega (arith, few)
 
 -- ---- halves of a vector

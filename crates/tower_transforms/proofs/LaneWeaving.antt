@@ -1,12 +1,12 @@
 -- Vectors of bytes that are read from words and put into them, taken apart and woven.
-use Rattle.std.proofs.Common.{◌≡◌, ◌⊎◌, inl, inr, ℕ, ◌+◌, ◌-◌, ◌*◌, ◌/◌, ◌%◌, ◌^◌, ◌<◌, ◌≤◌, List, ◌++◌, length, get_or, take, drop, true, refl, sym, ◌∙◌, ap, ap₂, subst, arith, lit<, w8, Fits}
+use Rattle.std.proofs.Common.{◌≡◌, ℕ, ◌+◌, ◌-◌, ◌*◌, ◌/◌, ◌%◌, ◌^◌, ◌<◌, ◌≤◌, List, ◌++◌, length, get_or, take, drop, true, refl, sym, ◌∙◌, ap, ap₂, subst, arith, lit<, w8, Fits}
 use Rattle.std.specs.Prelude.{slice_index}
 use Rattle.std.specs.Simd.Lanes.{Each1, pick_l}
 use Rattle.std.proofs.lemmas.List.{get_or-append-add, get_or-map, get_or_append_left, length-drop, length-take-le, take-append-drop}
 use native.Mathlib.Nat.{mod-eq_of_lt, mod-lt}
 use Rattle.field_base.proofs.TableChecks.{tabulates, tabulates_at}
 use Rattle.tower_transforms.specs.Rows.{byte_of_lane}
-use Rattle.tower_transforms.specs.Units.{ArePut, AreUnits, AreUnwoven, byte_of, unit_of}
+use Rattle.tower_transforms.specs.Units.{ArePut, AreUnits, AreUnwoven, byte_of}
 use Rattle.tower_transforms.proofs.LaneFacts.{lane-byte}
 use Rattle.tower_transforms.proofs.WordPlaces.{unit-byte}
 

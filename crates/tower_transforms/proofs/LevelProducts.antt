@@ -1,7 +1,7 @@
 -- Products by scalars of lower levels, in the bits of a level.
 use Rattle.std.proofs.Common.{◌≡◌, ℕ, suc, ◌+◌, ◌-◌, ◌/◌, ◌%◌, ◌^◌, ◌<◌, ◌≤◌, Bool, false, true, [], ◌∷◌, refl, sym, ◌∙◌, ap, subst, arith, lit<}
 use Rattle.std.specs.Prelude.{bit_xor, slice_index}
-use Rattle.std.proofs.Math.Pow.{mod-mod-pow}
+use Rattle.std.proofs.Math.Pow.{mod-mod-pow, pow_mono}
 use Rattle.std.proofs.lemmas.Nat.{pow_pos, xor_mod}
 use native.Mathlib.Nat.{div-one, mod-eq_of_lt, mul-zero}
 use Rattle.additive_transforms.specs.Stages.{IsButterfly, TakesBlock}
@@ -25,11 +25,11 @@ fits_above j k s within fits =
 first_chunk : (width x : ℕ) → chunk width 0 x ≡ x % 2 ^ width
 first_chunk width x = ap (λ (k : ℕ). x / 2 ^ k % 2 ^ width) (mul-zero width) ∙ ap (λ (y : ℕ). y % 2 ^ width) (div-one x)
 
--- a product at level 7 by an element of a level is, in the bits of a level between, the product at that level
-product_in_level : (j k s x : ℕ) → j ≤ k → k ≤ 7 → s < 2 ^ 2 ^ j → tower_mul 7 s x % 2 ^ 2 ^ k ≡ tower_mul k s x
-product_in_level j k s x within few fits =
-    sym (first_chunk (2 ^ k) (tower_mul 7 s x))
-    ∙ scales_coefficients 7 k (2 ^ (7 - k)) refl few 0 s x (pow_pos (7 - k)) (fits_above j k s within fits)
+-- a product at a level m by an element of a level is, in the bits of a level between, the product at that level
+product_in_level : (j k m s x : ℕ) → j ≤ k → k ≤ m → s < 2 ^ 2 ^ j → tower_mul m s x % 2 ^ 2 ^ k ≡ tower_mul k s x
+product_in_level j k m s x within few fits =
+    sym (first_chunk (2 ^ k) (tower_mul m s x))
+    ∙ scales_coefficients m k (2 ^ (m - k)) refl few 0 s x (pow_pos (m - k)) (fits_above j k s within fits)
     ∙ ap (tower_mul k s) (first_chunk (2 ^ k) x)
     ∙ times-mod (2 ^ k) 1 (tower_mul k) (tower_ring k) s x
 
@@ -83,16 +83,24 @@ same_pair inverse times s a b c d a' b' c' d' first second third fourth holds =
     (subst (λ (v : ℕ). TakesBlock inverse times s 1 (slice_index (a' ∷ v ∷ [])) (slice_index (c ∷ d ∷ []))) second
     (subst (λ (v : ℕ). TakesBlock inverse times s 1 (slice_index (v ∷ b ∷ [])) (slice_index (c ∷ d ∷ []))) first holds)))
 
--- so the butterfly of two numbers at level 7 is, in the bits of a level between, that of the level
-butterfly_in_level : (j k s a b c d : ℕ) → j ≤ k → k ≤ 7 → s < 2 ^ 2 ^ j
-    → IsButterfly (tower_mul 7) s 1 (slice_index (a ∷ b ∷ [])) (slice_index (c ∷ d ∷ []))
+-- so the butterfly of two numbers at the level m is, in the bits of a level between, that of the level
+butterfly_in_level : (j k m s a b c d : ℕ) → j ≤ k → k ≤ m → s < 2 ^ 2 ^ j
+    → IsButterfly (tower_mul m) s 1 (slice_index (a ∷ b ∷ [])) (slice_index (c ∷ d ∷ []))
     → IsButterfly (tower_mul k) s 1 (slice_index (a % 2 ^ 2 ^ k ∷ b % 2 ^ 2 ^ k ∷ [])) (slice_index (c % 2 ^ 2 ^ k ∷ d % 2 ^ 2 ^ k ∷ []))
-butterfly_in_level j k s a b c d within few fits is =
+butterfly_in_level j k m s a b c d within few fits is =
     pair_on (tower_mul k) s (a % 2 ^ 2 ^ k) (b % 2 ^ 2 ^ k) (c % 2 ^ 2 ^ k) (d % 2 ^ 2 ^ k) false refl
-    (multiple_in_level k s a b (tower_mul 7 s b) c (is.lower 0 (lit< tt)) (product_in_level j k s b within few fits))
+    (multiple_in_level k s a b (tower_mul m s b) c (is.lower 0 (lit< tt)) (product_in_level j k m s b within few fits))
     (sum_in_level k b c d (is.upper 0 (lit< tt)))
 
--- whichever way it goes, and in words of some more bits
+-- whichever way it goes
+pub taken_in_level : (inverse : Bool) (j k m s a b c d : ℕ) → j ≤ k → k ≤ m → s < 2 ^ 2 ^ j
+    → TakesBlock inverse (tower_mul m) s 1 (slice_index (a ∷ b ∷ [])) (slice_index (c ∷ d ∷ []))
+    → TakesBlock inverse (tower_mul k) s 1 (slice_index (a % 2 ^ 2 ^ k ∷ b % 2 ^ 2 ^ k ∷ []))
+    (slice_index (c % 2 ^ 2 ^ k ∷ d % 2 ^ 2 ^ k ∷ []))
+taken_in_level false j k m s a b c d within few fits on = butterfly_in_level j k m s a b c d within few fits on
+taken_in_level true j k m s a b c d within few fits back = butterfly_in_level j k m s c d a b within few fits back
+
+-- and in words of some more bits
 pub pair_in_level : (inverse : Bool) (j k bits s a b c d a' b' c' d' : ℕ) → j ≤ k → k ≤ 7 → 2 ^ k ≤ bits → s < 2 ^ 2 ^ j
     → a' ≡ a → b' ≡ b → c' ≡ c % 2 ^ bits → d' ≡ d % 2 ^ bits
     → TakesBlock inverse (tower_mul 7) s 1 (slice_index (a' ∷ b' ∷ [])) (slice_index (c ∷ d ∷ []))
@@ -102,9 +110,18 @@ pair_in_level inverse j k bits s a b c d a' b' c' d' within few room fits same_a
     same_pair inverse (tower_mul k) s (a' % 2 ^ 2 ^ k) (b' % 2 ^ 2 ^ k) (c % 2 ^ 2 ^ k) (d % 2 ^ 2 ^ k) (a % 2 ^ 2 ^ k) (b % 2 ^ 2 ^ k)
     (c' % 2 ^ 2 ^ k) (d' % 2 ^ 2 ^ k) (ap (λ (y : ℕ). y % 2 ^ 2 ^ k) same_a) (ap (λ (y : ℕ). y % 2 ^ 2 ^ k) same_b)
     (sym (ap (λ (y : ℕ). y % 2 ^ 2 ^ k) of_c ∙ low_bits k bits c room)) (sym (ap (λ (y : ℕ). y % 2 ^ 2 ^ k) of_d ∙ low_bits k bits d room))
-    (either inverse is)
+    (taken_in_level inverse j k 7 s a' b' c d within few fits is)
+
+-- the butterfly of numbers that are those of words in the bits of a level above
+pub place_taken : (inverse : Bool) (j k m s a b c d a' b' c' d' : ℕ) → j ≤ k → k ≤ m → s < 2 ^ 2 ^ j
+    → a' ≡ a % 2 ^ 2 ^ m → b' ≡ b % 2 ^ 2 ^ m → c' ≡ c % 2 ^ 2 ^ m → d' ≡ d % 2 ^ 2 ^ m
+    → TakesBlock inverse (tower_mul m) s 1 (slice_index (a' ∷ b' ∷ [])) (slice_index (c' ∷ d' ∷ []))
+    → TakesBlock inverse (tower_mul k) s 1 (slice_index (a % 2 ^ 2 ^ k ∷ b % 2 ^ 2 ^ k ∷ []))
+    (slice_index (c % 2 ^ 2 ^ k ∷ d % 2 ^ 2 ^ k ∷ []))
+place_taken inverse j k m s a b c d a' b' c' d' within few fits of_a of_b of_c of_d is =
+    same_pair inverse (tower_mul k) s (a' % 2 ^ 2 ^ k) (b' % 2 ^ 2 ^ k) (c' % 2 ^ 2 ^ k) (d' % 2 ^ 2 ^ k) (a % 2 ^ 2 ^ k) (b % 2 ^ 2 ^ k)
+    (c % 2 ^ 2 ^ k) (d % 2 ^ 2 ^ k) (low a a' of_a) (low b b' of_b) (low c c' of_c) (low d d' of_d)
+    (taken_in_level inverse j k m s a' b' c' d' within few fits is)
   where
-    either : (way : Bool) → TakesBlock way (tower_mul 7) s 1 (slice_index (a' ∷ b' ∷ [])) (slice_index (c ∷ d ∷ []))
-        → TakesBlock way (tower_mul k) s 1 (slice_index (a' % 2 ^ 2 ^ k ∷ b' % 2 ^ 2 ^ k ∷ [])) (slice_index (c % 2 ^ 2 ^ k ∷ d % 2 ^ 2 ^ k ∷ []))
-    either false on = butterfly_in_level j k s a' b' c d within few fits on
-    either true back = butterfly_in_level j k s c d a' b' within few fits back
+    low : (x x' : ℕ) → x' ≡ x % 2 ^ 2 ^ m → x' % 2 ^ 2 ^ k ≡ x % 2 ^ 2 ^ k
+    low x x' is = ap (λ (y : ℕ). y % 2 ^ 2 ^ k) is ∙ low_bits k (2 ^ m) x (pow_mono few)

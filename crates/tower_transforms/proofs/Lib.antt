@@ -7,9 +7,10 @@ mod RowSteps
 mod ScalarHalves
 mod Scalars
 mod Tables
-mod TwoPairs
 mod LaneWeaving
 mod LevelProducts
 mod UnitFacts
+mod VectorPairs
 mod WordPlaces
+mod WordRows
 mod WordSteps

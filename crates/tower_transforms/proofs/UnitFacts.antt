@@ -41,7 +41,7 @@ unfolding unit_of
 unit-pair d bytes i = refl
 
 -- a unit depends on its bytes alone
-unit-same : (d : ℕ) (f g : ℕ → ℕ) (i : ℕ) → ((p : ℕ) → p < (i + 1) * 2 ^ d → f p ≡ g p) → unit_of d f i ≡ unit_of d g i
+pub unit-same : (d : ℕ) (f g : ℕ → ℕ) (i : ℕ) → ((p : ℕ) → p < (i + 1) * 2 ^ d → f p ≡ g p) → unit_of d f i ≡ unit_of d g i
 unfolding unit_of
 unit-same zero f g i same = same i (omega arith)
 unit-same (suc d) f g i same =

@@ -1,6 +1,7 @@
 -- Sixteen bytes in a register as elements of the tower, one after another, and their products by a scalar of a lower level. Past the
 -- bytes there are zeros, so that what is said of each element needs no bound.
-use Rattle.std.specs.Prelude.{◌≡◌, ℕ, zero, suc, ◌+◌, ◌*◌, ◌^◌, List, slice_index}
+use Rattle.std.specs.Prelude.{◌≡◌, ℕ, zero, suc, ◌+◌, ◌*◌, ◌^◌, Bool, List, [], ◌∷◌, slice_index}
+use Rattle.additive_transforms.specs.Stages.{TakesBlock}
 use Rattle.field_base.specs.Quadratic.{pair}
 use Rattle.field_base.specs.Tower.{tower_mul}
 use Rattle.tower_transforms.specs.Rows.{level_of}
@@ -23,3 +24,17 @@ pub record AreExchanged (d : ℕ) (old new : List ℕ) : Type 0 where
 pub record AreMerged (d : ℕ) (lows highs new : List ℕ) : Type 0 where
   pub low : (i : ℕ) → chunk_of d new (2 * i) ≡ chunk_of d lows (2 * i)
   pub high : (i : ℕ) → chunk_of d new (2 * i + 1) ≡ chunk_of d highs (2 * i + 1)
+
+-- the low ones of the pairs of two lists, those of the first at even places and those of the second at odd ones, and so the high ones
+pub record AreRegrouped (d : ℕ) (first second low high : List ℕ) : Type 0 where
+  pub first_low : (i : ℕ) → chunk_of d low (2 * i) ≡ chunk_of d first (2 * i)
+  pub second_low : (i : ℕ) → chunk_of d low (2 * i + 1) ≡ chunk_of d second (2 * i)
+  pub first_high : (i : ℕ) → chunk_of d high (2 * i) ≡ chunk_of d first (2 * i + 1)
+  pub second_high : (i : ℕ) → chunk_of d high (2 * i + 1) ≡ chunk_of d second (2 * i + 1)
+
+-- in each place the butterfly with the scalar s takes the elements of 2 ^ e bytes of two lists to those of two others
+abbrev pub TakesChunks : Bool → ℕ → ℕ → List ℕ → List ℕ → List ℕ → List ℕ → Type 0
+TakesChunks inverse e s lo hi now_lo now_hi =
+    (i : ℕ)
+    → TakesBlock inverse (tower_mul (level_of e)) s 1 (slice_index (chunk_of e lo i ∷ chunk_of e hi i ∷ []))
+    (slice_index (chunk_of e now_lo i ∷ chunk_of e now_hi i ∷ []))

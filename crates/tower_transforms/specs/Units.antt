@@ -2,6 +2,7 @@
 -- and put into it: units of 2 ^ d bytes, from the number at `start` on.
 use Rattle.std.specs.Prelude.{◌≡◌, ◌⊎◌, ℕ, zero, suc, ◌+◌, ◌-◌, ◌*◌, ◌/◌, ◌%◌, ◌^◌, ◌<◌, ◌≤◌, List, slice_index}
 use Rattle.field_base.specs.Quadratic.{pair}
+use Rattle.tower_transforms.specs.Chunks.{chunk_of}
 use Rattle.tower_transforms.specs.Rows.{level_of}
 
 -- byte p of the row
@@ -35,3 +36,8 @@ pub record AreUnwoven (n : ℕ) (first second evens odds : ℕ → ℕ) : Type 0
 pub record FirstAre (n : ℕ) (value : ℕ → ℕ) (old new : List ℕ) : Type 0 where
   pub done : (k : ℕ) → k < n → slice_index new k ≡ value k
   pub kept : (k : ℕ) → n ≤ k → slice_index new k ≡ slice_index old k
+
+-- the elements of bytes are the numbers from `start` on, so many, as far as their bytes go
+abbrev pub AreChunks : ℕ → ℕ → ℕ → List ℕ → List ℕ → Type 0
+AreChunks size start count bytes numbers =
+    (i : ℕ) → i < count → chunk_of size bytes i ≡ slice_index numbers (start + i) % 2 ^ 2 ^ level_of size

@@ -3,7 +3,7 @@ ghost use Rattle.std.specs.Prelude.{◌≡◌, [], ◌∷◌, ◌^◌, ◌<◌, 
 ghost use Rattle.additive_transforms.specs.Stages.{TakesBlock};
 ghost use Rattle.field_base.specs.Tower.{tower_mul};
 ghost use Rattle.tower_transforms.specs.ChunkLemmas.{no_halves, one_half, two_halves};
-ghost use Rattle.tower_transforms.specs.Chunks.{AreExchanged, AreMerged, AreTimes, chunk_of};
+ghost use Rattle.tower_transforms.specs.Chunks.{AreExchanged, AreMerged, AreTimes, AreRegrouped, TakesChunks, chunk_of};
 ghost use Rattle.tower_transforms.specs.Products.{AreMultiples, AreMultiplesOfHalves};
 ghost use Rattle.tower_transforms.specs.Rows.{level_of};
 
@@ -11,7 +11,7 @@ use crate::multiples::{ByteMultiples, HalfMultiples};
 use crate::vectors::ChunkVector;
 use std::simd::prelude::*;
 use word_carryless::{bytes_of_128, number_of_bytes};
-use word_tables::{ByteVector, entry_sums, halves, joined};
+use word_tables::{ByteVector, entry_sums};
 
 /// The multiples of a scalar of 8, 16 or 32 bits, by which all elements of so many bits in a vector are multiplied at once.
 pub trait Scales {
@@ -24,6 +24,11 @@ pub trait Scales {
     /// Each element, multiplied by the scalar.
     fn times<V: ChunkVector>(&self, bytes: V) -> V
         ensures { (s : ℕ) → are_multiples self.now s → AreTimes depth s (V.ByteVector.bytes bytes) (V.ByteVector.bytes result) };
+
+    /// Each element of two vectors, multiplied by the scalar: the halves of elements take as many products of one vector as for one.
+    fn times_two<V: ChunkVector>(&self, first: V, second: V) -> (V, V)
+        ensures first { (s : ℕ) → are_multiples self.now s → AreTimes depth s (V.ByteVector.bytes first) (V.ByteVector.bytes result.0) }
+        ensures second { (s : ℕ) → are_multiples self.now s → AreTimes depth s (V.ByteVector.bytes second) (V.ByteVector.bytes result.1) };
 
     ghost few_law: { depth ≤ 4 };
 }
@@ -50,6 +55,11 @@ impl Scales for ByteMultiples {
     fn times<V: ChunkVector>(&self, bytes: V) -> V {
         bytes.holds_bytes();
         entry_sums(self.low, self.high, bytes)
+    }
+
+    #[inline(always)]
+    fn times_two<V: ChunkVector>(&self, first: V, second: V) -> (V, V) {
+        (self.times(first), self.times(second))
     }
 
     ghost few_law = { no_halves };
@@ -101,7 +111,32 @@ impl<M: Paired> Scales for HalfMultiples<M> {
         merged.sum(both)
     }
 
+    // The same of the vector of all low halves and that of all high ones.
+    #[inline(always)]
+    fn times_two<V: ChunkVector>(&self, first: V, second: V) -> (V, V) {
+        let (low, high) = transposed::<M, V>(first, second);
+        low.holds_bytes();
+        high.holds_bytes();
+        let both = self.both.times(low.sum(high));
+        both.holds_bytes();
+        let low_product = self.low.times(low);
+        low_product.holds_bytes();
+        let high_product = self.high.times(high);
+        high_product.holds_bytes();
+        transposed::<M, V>(low_product.sum(both), high_product.sum(both))
+    }
+
     ghost few_law = { M.pairs_law };
+}
+
+// The low elements of the pairs of two vectors, those of the first at even places, and the high ones.
+#[inline(always)]
+fn transposed<M: Paired, V: ChunkVector>(first: V, second: V) -> (V, V)
+    ensures { AreRegrouped M.Scales.depth (V.ByteVector.bytes first) (V.ByteVector.bytes second) (V.ByteVector.bytes result.0)
+        (V.ByteVector.bytes result.1) }
+{
+    let low = M::merged(first, M::exchanged(second));
+    (low, M::merged(M::exchanged(first), second))
 }
 
 /// The product by the scalar of a number of 128 bits, an element of the level of so many.
@@ -131,30 +166,16 @@ pub(crate) fn pair_of_numbers<M: Scales>(
     (number_of_one(x), number_of_one(y))
 }
 
-/// The butterflies of two pairs of such numbers, in vectors of both.
+/// The butterfly of each element of two vectors, of as many bytes as the scalar or more. They stay in vectors from the first sum to the last.
 #[inline(always)]
-pub(crate) fn two_pairs_of_numbers<M: Scales>(
+pub(crate) fn pair_of_vectors<M: Scales, V: ChunkVector>(
     multiples: &M,
-    lo: (u128, u128),
-    hi: (u128, u128),
+    lo: V,
+    hi: V,
     inverse: bool,
-) -> ((u128, u128), (u128, u128))
-    ensures first { (s : ℕ) → M.are_multiples multiples.now s → s < 2 ^ 2 ^ level_of M.depth
-        → TakesBlock inverse (tower_mul 7) s 1 (slice_index (lo.0 ∷ hi.0 ∷ [])) (slice_index (result.0.0 ∷ result.1.0 ∷ [])) }
-    ensures second { (s : ℕ) → M.are_multiples multiples.now s → s < 2 ^ 2 ^ level_of M.depth
-        → TakesBlock inverse (tower_mul 7) s 1 (slice_index (lo.1 ∷ hi.1 ∷ [])) (slice_index (result.0.1 ∷ result.1.1 ∷ [])) }
-{
-    let (x, y) = pair_of_vectors(multiples, vector_of_two(lo), vector_of_two(hi), inverse);
-    (numbers_of_two(x), numbers_of_two(y))
-}
-
-// The butterfly of each sixteen bytes of two vectors, which stay in vectors from the first sum to the last.
-#[inline(always)]
-fn pair_of_vectors<M: Scales, V: ChunkVector>(multiples: &M, lo: V, hi: V, inverse: bool) -> (V, V)
-    ensures { (s : ℕ) → M.are_multiples multiples.now s → s < 2 ^ 2 ^ level_of M.depth → (i : ℕ)
-        → TakesBlock inverse (tower_mul 7) s 1
-        (slice_index (chunk_of 4 (V.ByteVector.bytes lo) i ∷ chunk_of 4 (V.ByteVector.bytes hi) i ∷ []))
-        (slice_index (chunk_of 4 (V.ByteVector.bytes result.0) i ∷ chunk_of 4 (V.ByteVector.bytes result.1) i ∷ [])) }
+) -> (V, V)
+    ensures { (s : ℕ) → M.are_multiples multiples.now s → s < 2 ^ 2 ^ level_of M.depth → (e : ℕ) → M.depth ≤ e
+        → TakesChunks inverse e s (V.ByteVector.bytes lo) (V.ByteVector.bytes hi) (V.ByteVector.bytes result.0) (V.ByteVector.bytes result.1) }
 {
     lo.holds_bytes();
     hi.holds_bytes();
@@ -170,6 +191,52 @@ fn pair_of_vectors<M: Scales, V: ChunkVector>(multiples: &M, lo: V, hi: V, inver
         let low = lo.sum(product);
         low.holds_bytes();
         (low, hi.sum(low))
+    }
+}
+
+/// The same of two pairs of vectors.
+#[inline(always)]
+pub(crate) fn two_pairs_of_vectors<M: Scales, V: ChunkVector>(
+    multiples: &M,
+    lo: (V, V),
+    hi: (V, V),
+    inverse: bool,
+) -> ((V, V), (V, V))
+    ensures first { (s : ℕ) → M.are_multiples multiples.now s → s < 2 ^ 2 ^ level_of M.depth → (e : ℕ) → M.depth ≤ e
+        → TakesChunks inverse e s (V.ByteVector.bytes lo.0) (V.ByteVector.bytes hi.0) (V.ByteVector.bytes result.0.0)
+        (V.ByteVector.bytes result.1.0) }
+    ensures second { (s : ℕ) → M.are_multiples multiples.now s → s < 2 ^ 2 ^ level_of M.depth → (e : ℕ) → M.depth ≤ e
+        → TakesChunks inverse e s (V.ByteVector.bytes lo.1) (V.ByteVector.bytes hi.1) (V.ByteVector.bytes result.0.1)
+        (V.ByteVector.bytes result.1.1) }
+{
+    let (lo_first, lo_second) = lo;
+    let (hi_first, hi_second) = hi;
+    lo_first.holds_bytes();
+    lo_second.holds_bytes();
+    hi_first.holds_bytes();
+    hi_second.holds_bytes();
+    if inverse {
+        let upper_first = hi_first.sum(lo_first);
+        let upper_second = hi_second.sum(lo_second);
+        upper_first.holds_bytes();
+        upper_second.holds_bytes();
+        let upper = multiples.times_two(upper_first, upper_second);
+        upper.0.holds_bytes();
+        upper.1.holds_bytes();
+        let low_first = lo_first.sum(upper.0);
+        let low_second = lo_second.sum(upper.1);
+        ((low_first, low_second), (upper_first, upper_second))
+    } else {
+        let product = multiples.times_two(hi_first, hi_second);
+        product.0.holds_bytes();
+        product.1.holds_bytes();
+        let lower_first = lo_first.sum(product.0);
+        let lower_second = lo_second.sum(product.1);
+        lower_first.holds_bytes();
+        lower_second.holds_bytes();
+        let high_first = hi_first.sum(lower_first);
+        let high_second = hi_second.sum(lower_second);
+        ((lower_first, lower_second), (high_first, high_second))
     }
 }
 
@@ -189,26 +256,4 @@ fn number_of_one(bytes: u8x16) -> u128
     ensures { result ≡ chunk_of 4 bytes 0 }
 {
     number_of_bytes(bytes)
-}
-
-// Two numbers as the halves of a vector.
-#[inline(always)]
-fn vector_of_two(numbers: (u128, u128)) -> u8x32
-    ensures first { chunk_of 4 result 0 ≡ numbers.0 }
-    ensures second { chunk_of 4 result 1 ≡ numbers.1 }
-{
-    let (first, second) = (vector_of_one(numbers.0), vector_of_one(numbers.1));
-    first.holds_bytes();
-    second.holds_bytes();
-    joined(first, second)
-}
-
-// The numbers of both halves.
-#[inline(always)]
-fn numbers_of_two(bytes: u8x32) -> (u128, u128)
-    ensures first { result.0 ≡ chunk_of 4 bytes 0 }
-    ensures second { result.1 ≡ chunk_of 4 bytes 1 }
-{
-    let (first, second) = halves(bytes);
-    (number_of_one(first), number_of_one(second))
 }

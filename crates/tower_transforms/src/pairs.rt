@@ -1,16 +1,17 @@
 // Butterflies of pairs of words of two slices (S. Gao and T. Mateer, Additive fast Fourier transforms over finite fields, 2010).
-ghost use Rattle.std.specs.Prelude.{◌≡◌, [], ◌∷◌, ◌++◌, ℕ, length, map, slice_index};
+ghost use Rattle.std.specs.Prelude.{◌≡◌, [], ◌∷◌, ◌++◌, ℕ, ◌≤◌, length, map, slice_index};
 ghost use Rattle.field_base.specs.Tower.{tower_mul};
 ghost use Rattle.additive_transforms.specs.Stages.{TakesBlock};
-ghost use Rattle.tower_transforms.specs.Words.{level_element};
+ghost use Rattle.additive_transforms.proofs.PairLoops.{taken_pair};
+ghost use Rattle.tower_transforms.specs.Words.{TakesPairs, level_element};
 
 use crate::products::Multiplies;
 use crate::words::Holds;
 use field_base::Unsigned;
 
-/// The forward butterfly of each pair, `lo += s * hi` and then `hi += lo`, or, where `inverse` is true, the inverse one, `hi += lo` and then
-/// `lo += s * hi`. Both slices, the halves of a block, have to be of one length.
-pub(crate) fn run_pairs<R: Unsigned, W: Holds<R>, S: Multiplies<R>>(
+/// The forward butterfly of each pair of two slices, or, where `inverse` is true, the inverse one. Both slices, the halves of a block, have
+/// to be of one length.
+pub(crate) fn run_all<R: Unsigned, W: Holds<R>, S: Multiplies<R>>(
     lo: &mut [W],
     hi: &mut [W],
     scalar: &S,
@@ -23,18 +24,28 @@ pub(crate) fn run_pairs<R: Unsigned, W: Holds<R>, S: Multiplies<R>>(
         TakesBlock inverse (tower_mul S.level) s (length lo.old) (slice_index (map element lo.old ++ map element hi.old))
         (slice_index (map element lo.new ++ map element hi.new)) }
 {
-    for pair in 0..lo.len() / 2 {
-        let place = 2 * pair;
-        let (lows, highs) = ((lo[place], lo[place + 1]), (hi[place], hi[place + 1]));
-        let (low, next_low, high, next_high) = two_pairs_of(lows, highs, scalar, inverse);
-        lo[place] = low;
-        hi[place] = high;
-        lo[place + 1] = next_low;
-        hi[place + 1] = next_high;
-    }
-    if lo.len() % 2 == 1 {
-        let last = lo.len() - 1;
-        run_pair(&mut lo[last], &mut hi[last], scalar, inverse);
+    run_pairs(lo, hi, 0, scalar, inverse);
+}
+
+/// The forward butterfly of each pair from place `first` on, `lo += s * hi` and then `hi += lo`, or, where `inverse` is true, the inverse one,
+/// `hi += lo` and then `lo += s * hi`. Both slices, the halves of a block, have to be of one length.
+pub(crate) fn run_pairs<R: Unsigned, W: Holds<R>, S: Multiplies<R>>(
+    lo: &mut [W],
+    hi: &mut [W],
+    first: usize,
+    scalar: &S,
+    inverse: bool,
+)
+    requires same { length lo.old ≡ length hi.old }
+    requires inside { first ≤ length lo.old }
+    ensures lower { length lo.new ≡ length lo.old }
+    ensures upper { length hi.new ≡ length hi.old }
+    ensures values { (s : ℕ) → S.is_scalar scalar.now s → let element = level_element W.number S.level in
+        TakesPairs (taken_pair inverse (tower_mul S.level) s) first (length lo.old) (map element lo.old) (map element hi.old) (map element lo.new)
+        (map element hi.new) }
+{
+    for place in first..lo.len() {
+        run_pair(&mut lo[place], &mut hi[place], scalar, inverse);
     }
 }
 
@@ -53,34 +64,4 @@ fn run_pair<R: Unsigned, W: Holds<R>, S: Multiplies<R>>(
     let (low, high) = scalar.pair(lo.stored(), hi.stored(), inverse);
     *lo = W::of_stored(low);
     *hi = W::of_stored(high);
-}
-
-// The butterflies of two pairs: both lower words, and then both upper ones.
-#[inline(always)]
-fn two_pairs_of<R: Unsigned, W: Holds<R>, S: Multiplies<R>>(
-    lo: (W, W),
-    hi: (W, W),
-    scalar: &S,
-    inverse: bool,
-) -> (W, W, W, W)
-    ensures first { (s : ℕ) → S.is_scalar scalar.now s → let element = level_element W.number S.level in
-        TakesBlock inverse (tower_mul S.level) s 1 (slice_index (element lo.0 ∷ element hi.0 ∷ []))
-        (slice_index (element result.0 ∷ element result.2 ∷ [])) }
-    ensures second { (s : ℕ) → S.is_scalar scalar.now s → let element = level_element W.number S.level in
-        TakesBlock inverse (tower_mul S.level) s 1 (slice_index (element lo.1 ∷ element hi.1 ∷ []))
-        (slice_index (element result.1 ∷ element result.3 ∷ [])) }
-{
-    let (low, next_low, high, next_high) = scalar.two_pairs(
-        lo.0.stored(),
-        lo.1.stored(),
-        hi.0.stored(),
-        hi.1.stored(),
-        inverse,
-    );
-    (
-        W::of_stored(low),
-        W::of_stored(next_low),
-        W::of_stored(high),
-        W::of_stored(next_high),
-    )
 }

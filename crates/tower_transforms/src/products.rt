@@ -7,7 +7,7 @@ ghost use Rattle.ghash_slices.specs.Stages.{add_multiple};
 ghost use Rattle.tower_transforms.specs.Rows.{level_of};
 ghost use Rattle.tower_transforms.specs.Words.{level_element};
 
-use crate::chunks::{Scales, pair_of_numbers, two_pairs_of_numbers};
+use crate::chunks::{Scales, pair_of_numbers};
 use field_base::Unsigned;
 use std::marker::PhantomData;
 use word_tower::Level;
@@ -25,15 +25,6 @@ pub(crate) trait Multiplies<R: Unsigned> {
         ensures { (s : ℕ) → is_scalar self.now s → let element = level_element R.number level in
             TakesBlock inverse (tower_mul level) s 1 (slice_index (element lo ∷ element hi ∷ []))
             (slice_index (element result.0 ∷ element result.1 ∷ [])) };
-
-    /// The same of two pairs: both lower words, and then both upper ones.
-    fn two_pairs(&self, lo: R, next_lo: R, hi: R, next_hi: R, inverse: bool) -> (R, R, R, R)
-        ensures first { (s : ℕ) → is_scalar self.now s → let element = level_element R.number level in
-            TakesBlock inverse (tower_mul level) s 1 (slice_index (element lo ∷ element hi ∷ []))
-            (slice_index (element result.0 ∷ element result.2 ∷ [])) }
-        ensures second { (s : ℕ) → is_scalar self.now s → let element = level_element R.number level in
-            TakesBlock inverse (tower_mul level) s 1 (slice_index (element next_lo ∷ element next_hi ∷ []))
-            (slice_index (element result.1 ∷ element result.3 ∷ [])) };
 }
 
 /// A scalar of all the bits of a level.
@@ -57,13 +48,6 @@ impl<R: Unsigned, L: Level<R>> Multiplies<R> for WholeScalar<R, L> {
             let low = sum_of_multiple::<R, L>(lo, hi, self.scalar);
             (low, hi.xor(low))
         }
-    }
-
-    #[inline(always)]
-    fn two_pairs(&self, lo: R, next_lo: R, hi: R, next_hi: R, inverse: bool) -> (R, R, R, R) {
-        let first = self.pair(lo, hi, inverse);
-        let second = self.pair(next_lo, next_hi, inverse);
-        (first.0, second.0, first.1, second.1)
     }
 }
 
@@ -92,18 +76,5 @@ impl<R: Unsigned, L: Level<R>, M: Scales> Multiplies<R> for ChunkScalar<M, L> {
     fn pair(&self, lo: R, hi: R, inverse: bool) -> (R, R) {
         let (low, high) = pair_of_numbers(&self.multiples, lo.to_u128(), hi.to_u128(), inverse);
         (R::of_u128(low), R::of_u128(high))
-    }
-
-    #[inline(always)]
-    fn two_pairs(&self, lo: R, next_lo: R, hi: R, next_hi: R, inverse: bool) -> (R, R, R, R) {
-        let lows = (lo.to_u128(), next_lo.to_u128());
-        let highs = (hi.to_u128(), next_hi.to_u128());
-        let (low, high) = two_pairs_of_numbers(&self.multiples, lows, highs, inverse);
-        (
-            R::of_u128(low.0),
-            R::of_u128(low.1),
-            R::of_u128(high.0),
-            R::of_u128(high.1),
-        )
     }
 }

@@ -6,7 +6,8 @@ ghost use Rattle.field_base.specs.Tower.{tower_mul};
 ghost use Rattle.tower_transforms.specs.Words.{level_element};
 ghost use Rattle.word_tables.specs.Cantor.{cantor_vector};
 
-use crate::arithmetic::OfWords;
+use crate::arithmetic::{OfVectors, OfWords};
+use crate::word_bytes::WordBytes;
 use crate::words::Holds;
 use additive_transforms::{forward_by, inverse_by};
 use field_base::Unsigned;
@@ -36,4 +37,25 @@ pub fn inverse_level<R: Unsigned, L: Level<R>, W: Holds<R>>(words: &mut [W], z: 
     ensures length { length words.new ≡ length words.old }
 {
     inverse_by::<OfWords<R, L, W>>(words, z);
+}
+
+/// The transform `forward_level` of words that are read into vectors of their bytes, many at once: the faster one. It requires what
+/// `forward_level` requires, and takes no memory.
+pub fn forward_level_in_vectors<R: Unsigned, L: Level<R>, W: WordBytes<R>>(words: &mut [W], z: R)
+    requires { FitsField (2 ^ L.LEVEL) (length words.old) }
+    ensures length { length words.new ≡ length words.old }
+    ensures values { let element = level_element W.Holds.number L.LEVEL in
+        HoldValuesAtPoints (2 ^ L.LEVEL) (tower_mul L.LEVEL) cantor_vector (R.number z) (map element words.old) (map element words.new) }
+{
+    forward_by::<OfVectors<R, L, W>>(words, z);
+}
+
+/// The transform `inverse_level` of such words. It requires what `forward_level` requires, and takes no memory.
+pub fn inverse_level_in_vectors<R: Unsigned, L: Level<R>, W: WordBytes<R>>(words: &mut [W], z: R)
+    requires { FitsField (2 ^ L.LEVEL) (length words.old) }
+    ensures coefficients { let element = level_element W.Holds.number L.LEVEL in
+        AreTheCoefficients (2 ^ L.LEVEL) (tower_mul L.LEVEL) cantor_vector (R.number z) (map element words.old) (map element words.new) }
+    ensures length { length words.new ≡ length words.old }
+{
+    inverse_by::<OfVectors<R, L, W>>(words, z);
 }

@@ -1,5 +1,6 @@
 // Words by their bytes in vectors.
-ghost use Rattle.std.specs.Prelude.{◌≡◌, ℕ, ◌+◌, ◌*◌, ◌^◌, ◌≤◌, length, map, slice_index};
+ghost use Rattle.std.specs.Prelude.{◌≡◌, ℕ, ◌+◌, ◌*◌, ◌^◌, ◌<◌, ◌≤◌, length, map, refl, slice_index};
+ghost use Rattle.tower_transforms.specs.Rows.{level_of};
 ghost use Rattle.tower_transforms.specs.ChunkLemmas.{no_halves, one_half, two_halves, three_halves, four_halves};
 ghost use Rattle.tower_transforms.specs.Units.{ArePut, AreUnits};
 
@@ -24,7 +25,15 @@ pub trait WordBytes<R: Stored>: Holds<R> {
         ensures length { length words.new ≡ length words.old }
         ensures words { ArePut 0 size start 16 (slice_index bytes) (map Self.Holds.number words.old) (map Self.Holds.number words.new) };
 
+    /// How many words sixteen bytes are.
+    fn in_sixteen() -> usize
+        ensures bytes { result * 2 ^ size ≡ 16 }
+        ensures some { 0 < result }
+        ensures few { result ≤ 16 };
+
     ghost size_law: { size ≤ 4 };
+
+    ghost bits_law: { R.bits ≡ 2 ^ level_of size };
 }
 
 impl WordBytes<u8> for u8 {
@@ -40,7 +49,14 @@ impl WordBytes<u8> for u8 {
         bytes.copy_to_slice(&mut words[start..]);
     }
 
+    #[inline(always)]
+    fn in_sixteen() -> usize {
+        16
+    }
+
     ghost size_law = { no_halves };
+
+    ghost bits_law = { refl };
 }
 
 impl WordBytes<u16> for u16 {
@@ -56,7 +72,14 @@ impl WordBytes<u16> for u16 {
         u16x8::from_le_bytes(bytes).copy_to_slice(&mut words[start..]);
     }
 
+    #[inline(always)]
+    fn in_sixteen() -> usize {
+        8
+    }
+
     ghost size_law = { one_half };
+
+    ghost bits_law = { refl };
 }
 
 impl WordBytes<u32> for u32 {
@@ -72,7 +95,14 @@ impl WordBytes<u32> for u32 {
         u32x4::from_le_bytes(bytes).copy_to_slice(&mut words[start..]);
     }
 
+    #[inline(always)]
+    fn in_sixteen() -> usize {
+        4
+    }
+
     ghost size_law = { two_halves };
+
+    ghost bits_law = { refl };
 }
 
 impl WordBytes<u64> for u64 {
@@ -88,7 +118,14 @@ impl WordBytes<u64> for u64 {
         u64x2::from_le_bytes(bytes).copy_to_slice(&mut words[start..]);
     }
 
+    #[inline(always)]
+    fn in_sixteen() -> usize {
+        2
+    }
+
     ghost size_law = { three_halves };
+
+    ghost bits_law = { refl };
 }
 
 // Words that hold numbers of 128 bits: the numbers themselves, or their halves as other languages have them.
@@ -105,5 +142,12 @@ impl<W: Holds<u128>> WordBytes<u128> for W {
         words[start] = W::of_stored(number_of_bytes(bytes));
     }
 
+    #[inline(always)]
+    fn in_sixteen() -> usize {
+        1
+    }
+
     ghost size_law = { four_halves };
+
+    ghost bits_law = { refl };
 }

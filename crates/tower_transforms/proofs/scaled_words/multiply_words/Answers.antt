@@ -1,4 +1,4 @@
-use Rattle.std.proofs.Common.{◌≡◌, ◌*◌, ◌/◌, ℕ, length, map, refl, ◌∙◌, arith}
+use Rattle.std.proofs.Common.{◌/◌, length, map, refl, ◌∙◌, arith}
 use Rattle.tower_transforms.proofs.WordSteps.{block_multiplied, last_first, none_first}
 use Rattle.tower_transforms.proofs.scaled_words.multiply_words.Goals as goal
 

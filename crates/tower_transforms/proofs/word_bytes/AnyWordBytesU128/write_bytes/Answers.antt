@@ -1,4 +1,4 @@
-use Rattle.std.proofs.Common.{ℕ, map, length, ◌∙◌, ap, arith}
+use Rattle.std.proofs.Common.{map, ◌∙◌, ap, arith}
 use Rattle.std.proofs.Math.ListN.{set}
 use Rattle.std.proofs.lemmas.List.{length-map, map-set}
 use Rattle.tower_transforms.proofs.WordPlaces.{number_put}

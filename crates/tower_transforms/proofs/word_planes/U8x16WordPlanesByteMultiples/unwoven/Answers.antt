@@ -1,4 +1,4 @@
-use Rattle.std.proofs.Common.{ℕ, List, ◌∷◌, [], refl}
+use Rattle.std.proofs.Common.{◌∷◌, [], refl}
 use Rattle.field_base.proofs.TableChecks.{passes, tabulates}
 use Rattle.tower_transforms.proofs.LaneWeaving.{lanes_unwoven}
 use Rattle.tower_transforms.proofs.word_planes.U8x16WordPlanesByteMultiples.unwoven.Goals as goal

@@ -1,4 +1,4 @@
-use Rattle.std.proofs.Common.{◌≡◌, ◌*◌, ◌/◌, ◌^◌, ◌+◌, ◌≤◌, ℕ, List, ◌++◌, length, map, refl, sym, subst}
+use Rattle.std.proofs.Common.{◌/◌, ℕ, List, ◌++◌, length, map, refl, sym, subst}
 use Rattle.std.specs.Prelude.{slice_index}
 use Rattle.tower_transforms.specs.Units.{AreUnits}
 use Rattle.tower_transforms.proofs.LaneWeaving.{joined_first, joined_second, lanes_read}

@@ -1,4 +1,4 @@
-use Rattle.std.proofs.Common.{◌≡◌, ◌*◌, ◌/◌, ◌^◌, ◌+◌, ◌≤◌, ℕ, List, length, map, refl, sym, ◌∙◌, ap, subst}
+use Rattle.std.proofs.Common.{◌/◌, ◌+◌, ◌≤◌, ℕ, List, length, map, refl, sym, ◌∙◌, ap, subst}
 use Rattle.std.specs.Prelude.{slice_index}
 use Rattle.tower_transforms.proofs.LaneWeaving.{halved, joined_first, joined_second, lanes_put}
 use Rattle.tower_transforms.proofs.UnitFacts.{half_count, half_rooms, two_put}

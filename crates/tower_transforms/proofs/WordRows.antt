@@ -1,0 +1,219 @@
+-- Words in vectors of bytes: what is read from a slice and written to it, and the pairs of places that are so computed.
+use Rattle.std.proofs.Common.{◌≡◌, ◌≢◌, ◌⊎◌, inl, inr, ℕ, zero, suc, ◌+◌, ◌-◌, ◌*◌, ◌%◌, ◌^◌, ◌<◌, ◌≤◌, Bool, List, length, map, get_or, refl, sym, ◌∙◌, ap, ap₂, subst, arith, w8, Fits}
+use Rattle.std.specs.Prelude.{slice_index}
+use Rattle.std.specs.Simd.Lanes.{Each1}
+use Rattle.std.proofs.Math.ListN.{get_or-map}
+use Rattle.std.proofs.Math.Nat.{mul-le-mul_right, pow-suc}
+use Rattle.std.proofs.Math.Pow.{pow_mono}
+use Rattle.std.proofs.lemmas.Bool.{cases_lt}
+use Rattle.std.proofs.Math.ListN.{set}
+use Rattle.std.proofs.lemmas.List.{get_or-map as get_or-map_inside, get_or-set_other, get_or-set_same, length-map, length-set, map-set}
+use Rattle.std.proofs.lemmas.Nat.{pow_pos}
+use Rattle.std.proofs.lemmas.Simd.{map-map}
+use native.Mathlib.Nat.{mod-eq_of_lt}
+use Rattle.additive_transforms.proofs.PairLoops.{taken_pair}
+use Rattle.field_base.specs.Quadratic.{pair}
+use Rattle.field_base.specs.Tower.{tower_mul}
+use Rattle.tower_transforms.specs.Chunks.{TakesChunks, chunk_of}
+use Rattle.tower_transforms.specs.Rows.{byte_of_lane, level_of}
+use Rattle.tower_transforms.specs.Units.{AreChunks, ArePut, AreUnits, byte_of, unit_of}
+use Rattle.tower_transforms.specs.Words.{TakesPairs, level_element}
+use Rattle.tower_transforms.proofs.LaneFacts.{lane-byte}
+use Rattle.tower_transforms.proofs.LevelProducts.{place_taken, same_pair}
+use Rattle.tower_transforms.proofs.UnitFacts.{unit-modulo, unit-same}
+use Rattle.tower_transforms.proofs.WordPlaces.{unit-byte}
+
+-- an element of bytes is a unit of them
+chunk-unit : (d : ℕ) (bytes : List ℕ) (i : ℕ) → chunk_of d bytes i ≡ unit_of d (slice_index bytes) i
+unfolding chunk_of unit_of
+chunk-unit zero bytes i = refl
+chunk-unit (suc d) bytes i = ap₂ (pair (2 ^ level_of d)) (chunk-unit d bytes (2 * i)) (chunk-unit d bytes (2 * i + 1))
+
+-- units of what begins further on are further on
+unit-further : (d first : ℕ) (bytes : ℕ → ℕ) (i : ℕ) → unit_of d (λ p. bytes (first * 2 ^ d + p)) i ≡ unit_of d bytes (first + i)
+unfolding unit_of
+unit-further zero first bytes i = let at : first * 1 + i ≡ first + i = omega arith in ap bytes at
+unit-further (suc d) first bytes i =
+    ap₂ (pair (2 ^ level_of d))
+    (unit-same d (λ p. bytes (first * 2 ^ suc d + p)) (λ p. bytes (2 * first * 2 ^ d + p)) (2 * i) (λ p below. ap bytes (next p))
+    ∙ unit-further d (2 * first) bytes (2 * i) ∙ ap (unit_of d bytes) even)
+    (unit-same d (λ p. bytes (first * 2 ^ suc d + p)) (λ p. bytes (2 * first * 2 ^ d + p)) (2 * i + 1) (λ p below. ap bytes (next p))
+    ∙ unit-further d (2 * first) bytes (2 * i + 1) ∙ ap (unit_of d bytes) odd)
+  where
+    next : (p : ℕ) → first * 2 ^ suc d + p ≡ 2 * first * 2 ^ d + p
+    next p = let twice = ap (λ (x : ℕ). first * x) (pow-suc 2 d) in omega (arith, twice)
+
+    even : 2 * first + 2 * i ≡ 2 * (first + i)
+    even = omega arith
+
+    odd : 2 * first + (2 * i + 1) ≡ 2 * (first + i) + 1
+    odd = omega arith
+
+-- the bytes in the lanes of a vector are elements, the numbers
+pub chunks_are : (size start count n : ℕ) (bytes numbers : List ℕ) → count * 2 ^ size ≡ n → length bytes ≡ n → Each1 (Fits w8) bytes
+    → AreUnits 0 size start n (byte_of_lane bytes) numbers → AreChunks size start count bytes numbers
+chunks_are size start count n bytes numbers whole long fit are i below =
+    chunk-unit size bytes i
+    ∙ unit-same size (slice_index bytes) (λ p. byte_of size numbers (start * 2 ^ size + p)) i each
+    ∙ unit-further size start (byte_of size numbers) i
+    ∙ unit-modulo size (start + i) numbers
+  where
+    each : (p : ℕ) → p < (i + 1) * 2 ^ size → slice_index bytes p ≡ byte_of size numbers (start * 2 ^ size + p)
+    each p early =
+        let most : (i + 1) * 2 ^ size ≤ count * 2 ^ size = mul-le-mul_right (2 ^ size) (omega (arith, below)) in
+        let inside : p < n = omega (arith, early, most, whole) in
+        sym (lane-byte bytes p fit (omega (arith, inside, long)))
+        ∙ are (start * 2 ^ size) (omega arith) p inside
+        ∙ unit-byte (byte_of size numbers) (start * 2 ^ size + p)
+
+-- and the others are as they were
+pub others_kept : (size start count n : ℕ) (units : ℕ → ℕ) (old new : List ℕ) → count * 2 ^ size ≡ n → ArePut 0 size start n units old new
+    → (k : ℕ) → (k < start) ⊎ (start + count ≤ k) → slice_index new k ≡ slice_index old k
+others_kept size start count n units old new whole are k (inl before) = are.kept k (inl before)
+others_kept size start count n units old new whole are k (inr past) =
+    let less : (start + count) * 2 ^ size ≤ k * 2 ^ size = mul-le-mul_right (2 ^ size) past in
+    are.kept k (inr (omega (arith, less, whole)))
+
+-- ---- pairs of places
+
+-- the elements of words are those of their numbers
+element-at : {A : Type 0} (number : A → ℕ) (k : ℕ) (words : List A) (p : ℕ)
+    → slice_index (map (level_element number k) words) p ≡ slice_index (map number words) p % 2 ^ 2 ^ k
+element-at number k words p =
+    ap (λ (l : List ℕ). slice_index l p) (sym (map-map (λ (x : ℕ). x % 2 ^ 2 ^ k) number words))
+    ∙ ap (get_or (map (λ (x : ℕ). x % 2 ^ 2 ^ k) (map number words)) p) (sym (mod-eq_of_lt (pow_pos (2 ^ k))))
+    ∙ get_or-map (λ (x : ℕ). x % 2 ^ 2 ^ k) (map number words) p 0
+
+-- more pairs that are done
+pub more_pairs : (related : ℕ → ℕ → ℕ → ℕ → Type 0) (n c : ℕ) (lo hi lo' hi' : List ℕ) → length lo' ≡ length lo → length hi' ≡ length hi
+    → ((p : ℕ) → n ≤ p → p < n + c → related (slice_index lo p) (slice_index hi p) (slice_index lo' p) (slice_index hi' p))
+    → ((p : ℕ) → (p < n) ⊎ (n + c ≤ p) → slice_index lo' p ≡ slice_index lo p)
+    → ((p : ℕ) → (p < n) ⊎ (n + c ≤ p) → slice_index hi' p ≡ slice_index hi p)
+    → TakesPairs related n (n + c) lo hi lo' hi'
+more_pairs related n c lo hi lo' hi' low_long high_long here low_kept high_kept lower upper before =
+    record {
+      low_length = low_long ∙ before.low_length;
+      high_length = high_long ∙ before.high_length;
+      done = λ p below. pick p below (cases_lt p n);
+      low_rest = λ p past. low_kept p (inr past) ∙ before.low_rest p (omega (arith, past));
+      high_rest = λ p past. high_kept p (inr past) ∙ before.high_rest p (omega (arith, past));
+    }
+  where
+    same : (a b c d a' b' c' d' : ℕ) → a ≡ a' → b ≡ b' → c ≡ c' → d ≡ d' → related a b c d → related a' b' c' d'
+    same a b c d a' b' c' d' first second third fourth holds =
+        subst (λ (v : ℕ). related a' b' c' v) fourth (subst (λ (v : ℕ). related a' b' v d) third
+        (subst (λ (v : ℕ). related a' v c d) second (subst (λ (v : ℕ). related v b c d) first holds)))
+
+    pick : (p : ℕ) → p < n + c → (p < n) ⊎ (n ≤ p) → related (slice_index lower p) (slice_index upper p) (slice_index lo' p) (slice_index hi' p)
+    pick p below (inl early) =
+        same _ _ _ _ _ _ _ _ refl refl (sym (low_kept p (inl early))) (sym (high_kept p (inl early))) (before.done p early)
+    pick p below (inr late) = same _ _ _ _ _ _ _ _ (before.low_rest p late) (before.high_rest p late) refl refl (here p late below)
+
+module _ {A : Type 0} (number : A → ℕ) (inverse : Bool) (j k size start count s : ℕ) (x y x' y' : List ℕ) (read_lo read_hi lo hi lo' hi' : List A)
+    (within : j ≤ k) (few : k ≤ level_of size) (fits : s < 2 ^ 2 ^ j)
+    (x_read : AreChunks size start count x (map number read_lo)) (y_read : AreChunks size start count y (map number read_hi))
+    (lo_as : (p : ℕ) → start ≤ p → slice_index (map number lo) p ≡ slice_index (map number read_lo) p)
+    (hi_as : (p : ℕ) → start ≤ p → slice_index (map number hi) p ≡ slice_index (map number read_hi) p)
+    (taken : TakesChunks inverse size s x y x' y')
+    (low_long : length lo' ≡ length lo) (x_put : AreChunks size start count x' (map number lo'))
+    (low_kept : (p : ℕ) → (p < start) ⊎ (start + count ≤ p) → slice_index (map number lo') p ≡ slice_index (map number lo) p)
+    (high_long : length hi' ≡ length hi) (y_put : AreChunks size start count y' (map number hi'))
+    (high_kept : (p : ℕ) → (p < start) ⊎ (start + count ≤ p) → slice_index (map number hi') p ≡ slice_index (map number hi) p) where
+  kept : (old new : List A)
+      → ((p : ℕ) → (p < start) ⊎ (start + count ≤ p) → slice_index (map number new) p ≡ slice_index (map number old) p)
+      → (p : ℕ) → (p < start) ⊎ (start + count ≤ p) → slice_index (map (level_element number k) new) p ≡ slice_index (map (level_element number k) old) p
+  kept old new stays p side =
+      element-at number k new p ∙ ap (λ (v : ℕ). v % 2 ^ 2 ^ k) (stays p side) ∙ sym (element-at number k old p)
+
+  in_vector : (i : ℕ) → i < count → taken_pair inverse (tower_mul k) s (slice_index (map (level_element number k) lo) (start + i))
+      (slice_index (map (level_element number k) hi) (start + i)) (slice_index (map (level_element number k) lo') (start + i)) (slice_index (map (level_element number k) hi') (start + i))
+  in_vector i below =
+      let p = start + i in
+      let m = level_of size in
+      let late : start ≤ start + i = omega arith in
+      same_pair inverse (tower_mul k) s _ _ _ _ _ _ _ _ (sym (element-at number k lo p)) (sym (element-at number k hi p))
+      (sym (element-at number k lo' p)) (sym (element-at number k hi' p))
+      (place_taken inverse j k m s (slice_index (map number lo) p) (slice_index (map number hi) p) (slice_index (map number lo') p)
+      (slice_index (map number hi') p) (chunk_of size x i) (chunk_of size y i) (chunk_of size x' i) (chunk_of size y' i) within few fits
+      (x_read i below ∙ ap (λ (v : ℕ). v % 2 ^ 2 ^ m) (sym (lo_as p late)))
+      (y_read i below ∙ ap (λ (v : ℕ). v % 2 ^ 2 ^ m) (sym (hi_as p late))) (x_put i below) (y_put i below) (taken i))
+
+  here : (p : ℕ) → start ≤ p → p < start + count → taken_pair inverse (tower_mul k) s (slice_index (map (level_element number k) lo) p)
+      (slice_index (map (level_element number k) hi) p) (slice_index (map (level_element number k) lo') p) (slice_index (map (level_element number k) hi') p)
+  here p late below =
+      let at : start + (p - start) ≡ p = omega (arith, late) in
+      subst (λ (q : ℕ). taken_pair inverse (tower_mul k) s (slice_index (map (level_element number k) lo) q) (slice_index (map (level_element number k) hi) q)
+      (slice_index (map (level_element number k) lo') q) (slice_index (map (level_element number k) hi') q)) at (in_vector (p - start) (omega (arith, late, below)))
+
+  -- those of a vector of each row are done, which were read while the words from `start` on were as they are before it is written
+  pub vector_taken : TakesPairs (taken_pair inverse (tower_mul k) s) start (start + count) (map (level_element number k) lo) (map (level_element number k) hi) (map (level_element number k) lo')
+      (map (level_element number k) hi')
+  vector_taken =
+      more_pairs (taken_pair inverse (tower_mul k) s) start count (map (level_element number k) lo) (map (level_element number k) hi) (map (level_element number k) lo') (map (level_element number k) hi')
+      (length-map lo' (level_element number k) ∙ low_long ∙ sym (length-map lo (level_element number k))) (length-map hi' (level_element number k) ∙ high_long ∙ sym (length-map hi (level_element number k)))
+      here (kept lo lo' low_kept) (kept hi hi' high_kept)
+
+-- a level that fits so many bits is no higher than theirs
+pub level_within : (k m : ℕ) → 2 ^ k ≤ 2 ^ m → k ≤ m
+level_within k m fits = pick (cases_lt m k)
+  where
+    pick : (m < k) ⊎ (k ≤ m) → k ≤ m
+    pick (inl less) =
+        let more : 2 ^ suc m ≤ 2 ^ k = pow_mono (omega (arith, less)) in
+        let next = pow-suc 2 m in
+        let some = pow_pos m in absurd (omega (arith, more, next, some, fits))
+    pick (inr within) = within
+
+-- levels are ordered as the numbers of bytes
+pub depth_within : (d e : ℕ) → level_of d ≤ level_of e → d ≤ e
+depth_within d e within = let low = level-three d in let high = level-three e in omega (arith, low, high, within)
+  where
+    level-three : (n : ℕ) → level_of n ≡ n + 3
+    level-three zero = refl
+    level-three (suc n) = let before = level-three n in omega (arith, before)
+
+-- ---- one place of words
+
+module _ {A : Type 0} (element : A → ℕ) (n : ℕ) (words : List A) (word : A) where
+  put_at : n < length words → slice_index (map element (set words n word)) n ≡ element word
+  put_at inside =
+      ap (λ (l : List ℕ). slice_index l n) (map-set element words n word)
+      ∙ get_or-set_same (map element words) n (element word) 0 (let same = length-map words element in omega (arith, same, inside))
+
+  put_off : (p : ℕ) → (p < n) ⊎ (n + 1 ≤ p) → slice_index (map element (set words n word)) p ≡ slice_index (map element words) p
+  put_off p side =
+      ap (λ (l : List ℕ). slice_index l p) (map-set element words n word)
+      ∙ get_or-set_other (map element words) n p (element word) 0 (λ same. apart side same)
+    where
+      apart : (p < n) ⊎ (n + 1 ≤ p) → p ≢ n
+      apart (inl before) same = absurd (omega (arith, before, same))
+      apart (inr past) same = absurd (omega (arith, past, same))
+
+  put_long : length (map element (set words n word)) ≡ length (map element words)
+  put_long = ap length (map-set element words n word) ∙ length-set (map element words) n (element word)
+
+-- one more pair done
+pub next_pair : {A : Type 0} (element : A → ℕ) (related : ℕ → ℕ → ℕ → ℕ → Type 0) (n : ℕ) (low high : List A) (x y x' y' : A)
+    → length low ≡ length high → n < length low
+    → related (element (get_or low n x)) (element (get_or high n y)) (element x') (element y')
+    → TakesPairs related n (n + 1) (map element low) (map element high) (map element (set low n x')) (map element (set high n y'))
+next_pair element related n low high x y x' y' equal below is =
+    more_pairs related n 1 (map element low) (map element high) (map element (set low n x')) (map element (set high n y'))
+    (put_long element n low x') (put_long element n high y') here (put_off element n low x') (put_off element n high y')
+  where
+    same : (a b c d a' b' c' d' : ℕ) → a ≡ a' → b ≡ b' → c ≡ c' → d ≡ d' → related a b c d → related a' b' c' d'
+    same a b c d a' b' c' d' first second third fourth holds =
+        subst (λ (v : ℕ). related a' b' c' v) fourth (subst (λ (v : ℕ). related a' b' v d) third
+        (subst (λ (v : ℕ). related a' v c d) second (subst (λ (v : ℕ). related v b c d) first holds)))
+
+    high_below : n < length high
+    high_below = omega (arith, equal, below)
+
+    here : (p : ℕ) → n ≤ p → p < n + 1 → related (slice_index (map element low) p) (slice_index (map element high) p)
+        (slice_index (map element (set low n x')) p) (slice_index (map element (set high n y')) p)
+    here p late early =
+        let at : n ≡ p = omega (arith, late, early) in
+        subst (λ (q : ℕ). related (slice_index (map element low) q) (slice_index (map element high) q)
+        (slice_index (map element (set low n x')) q) (slice_index (map element (set high n y')) q)) at
+        (same _ _ _ _ _ _ _ _ (sym (get_or-map_inside element low n x 0 below)) (sym (get_or-map_inside element high n y 0 high_below))
+        (sym (put_at element n low x' below)) (sym (put_at element n high y' high_below)) is)
