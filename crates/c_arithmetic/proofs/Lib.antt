@@ -3,5 +3,6 @@ pub mod BatchProducts
 mod FirstPlaces
 mod PlacesPut
 mod ScaledBytes
+mod SlicedWords
 pub mod WordDots
 pub mod WordNumbers

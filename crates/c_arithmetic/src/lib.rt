@@ -8,6 +8,7 @@ mod bytes;
 mod fields;
 pub mod in_place;
 pub mod in_planes;
+pub mod in_slices;
 mod kernels;
 mod lanes;
 mod linear;
@@ -22,6 +23,7 @@ pub mod slices;
 pub mod status;
 mod transforms;
 mod wide;
+mod wide_level;
 mod words;
 
 pub use crate::batch::batch_invert;

@@ -1,0 +1,65 @@
+// Two words of 64 bits as an element of the level of the tower of 128 bits, and the slices of bits of its kind.
+ghost use Rattle.std.specs.Prelude.{◌≡◌, ◌<◌, ◌≤◌, ◌*◌, ◌%◌, ◌^◌, refl};
+ghost use Rattle.std.proofs.Common.{lit≤};
+ghost use Rattle.c_arithmetic.specs.Fields.{wide_number};
+
+use crate::Wide;
+use bit_slices::{SlicedWord, Slices128, TowerWord, Vector};
+use tower_transforms::Holds;
+use word_tower::{Bits128, Level};
+
+impl TowerWord for Wide {
+    ghost LEVEL = { 7 };
+
+    ghost number = { wide_number };
+
+    const BITS: usize = 128;
+
+    ghost BITS = { 128 };
+
+    const COUNT: usize = 1;
+
+    ghost COUNT = { 1 };
+
+    #[inline(always)]
+    fn to_number(self) -> u128 {
+        self.stored()
+    }
+
+    #[inline(always)]
+    fn of_number(bits: u128) -> Wide {
+        Wide::of_stored(bits)
+    }
+
+    #[inline]
+    fn multiply(self, other: Wide) -> Wide {
+        Wide::of_stored(Bits128::multiply(self.stored(), other.stored()))
+    }
+
+    #[inline]
+    fn square(self) -> Wide {
+        Wide::of_stored(Bits128::square(self.stored()))
+    }
+
+    #[inline]
+    fn invert(self) -> Wide {
+        Wide::of_stored(Bits128::invert(self.stored()))
+    }
+
+    #[inline]
+    fn sqrt(self) -> Wide {
+        Wide::of_stored(Bits128::sqrt(self.stored()))
+    }
+
+    ghost few_law = { lit≤ tt };
+
+    ghost bits_law = { refl };
+
+    ghost whole_law = { refl };
+}
+
+impl<V: Vector> SlicedWord<V> for Wide {
+    type Block = Slices128<V>;
+
+    ghost level_law = { refl };
+}
