@@ -123,6 +123,16 @@ takes_nothing origin size file shards had other =
       missed = λ index shard inside sized is. absurd (other index shard is);
     }
 
+-- one whose head is of another origin, or of none
+pub takes_other : (origin : Origin) (size : ℕ) (file : List ℕ) (read : Option Head) (shards : List ℕ) (had : List Bool) → IsOrigin origin
+    → ((head : Head) (shard : List ℕ) → IsOrigin head.origin → file ≡ shard_file head shard → read ≡ Some head)
+    → ((head : Head) → head.origin ≡ origin → read ≡ Some head → ⊥) → Takes origin size (Some file) shards had shards had
+takes_other origin size file read shards had is_origin reads other =
+    takes_nothing origin size (Some file) shards had
+    (λ index shard is.
+    other (numbered origin index) refl
+    (reads (numbered origin index) shard is_origin (same_bytes file (shard_file (numbered origin index) shard) is)))
+
 -- one that is
 module _ (origin : Origin) (size : ℕ) (file : List ℕ) (head : Head) (old new : List ℕ) (had has : List Bool) (is : IsOrigin origin)
     (same : head.origin ≡ origin) (written : file ≡ shard_file head (drop 88 file))

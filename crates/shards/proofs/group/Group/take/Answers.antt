@@ -1,10 +1,9 @@
-use Rattle.std.proofs.Common.{◌≡◌, ℕ, List, None, Some, sym, ◌∙◌, ap, subst}
+use Rattle.std.proofs.Common.{ℕ, List, None, Some, sym, ◌∙◌, ap, subst}
 use Rattle.std.proofs.lemmas.Bool.{true≢false}
 use Rattle.std.proofs.lemmas.List.{take_rest}
-use Rattle.shards.specs.Groups.{numbered, Puts, shard_total}
-use Rattle.shards.specs.Heads.{shard_file}
+use Rattle.shards.specs.Groups.{Puts, shard_total}
 use Rattle.shards.specs.declared.head.Head.{Head}
-use Rattle.shards.proofs.Groups.{same_bytes, same_some, takes_nothing, takes_shard}
+use Rattle.shards.proofs.Groups.{same_some, takes_other, takes_shard}
 use Rattle.shards.proofs.group.Group.take.Goals as goal
 
 pub returns-then-is_same-clause-taken : goal.returns-then-is_same-clause-taken
@@ -22,19 +21,11 @@ returns-then-is_same-clause-taken c =
 pub returns-else-is_same-clause-taken : goal.returns-else-is_same-clause-taken
 returns-else-is_same-clause-taken c =
     let group = c.args.self.now in
-    let file = c.args.file.now in
-    takes_nothing group.origin group.size (Some file) group.shards.items group.present
-    (λ index shard is.
-    let head_is = same_some c.in-Some.head (numbered group.origin index)
-    (c.in-Some.ensures.read (numbered group.origin index) shard group.fits (same_bytes file (shard_file (numbered group.origin index) shard) is)) in
-    true≢false (sym (c.is_same.ensures.1 (ap (λ (head : Head). head.origin) head_is)) ∙ c.if-is_same.false))
+    takes_other group.origin group.size c.args.file.now (Some c.in-Some.head) group.shards.items group.present group.fits c.in-Some.ensures.read
+    (λ head same is.
+    true≢false (sym (c.is_same.ensures.1 (ap (λ (read : Head). read.origin) (same_some c.in-Some.head head is) ∙ same)) ∙ c.if-is_same.false))
 
 pub returns-in-None-clause-taken : goal.returns-in-None-clause-taken
 returns-in-None-clause-taken c =
     let group = c.args.self.now in
-    let file = c.args.file.now in
-    takes_nothing group.origin group.size (Some file) group.shards.items group.present
-    (λ index shard is.
-    let none : None ≡ Some (numbered group.origin index) =
-    c.in-None.ensures.read (numbered group.origin index) shard group.fits (same_bytes file (shard_file (numbered group.origin index) shard) is) in
-    cc)
+    takes_other group.origin group.size c.args.file.now None group.shards.items group.present group.fits c.in-None.ensures.read (λ head same is. cc)
