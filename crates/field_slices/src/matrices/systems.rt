@@ -1,6 +1,6 @@
 // Linear equations, by reducing the matrix of their coefficients beside their right sides.
 ghost use Rattle.std.specs.Prelude.{◌≡◌, ◌≢◌, ◌+◌, ◌*◌, ◌<◌, ℕ, IsTrue, false, length, map, slice_index};
-ghost use Rattle.field_slices.specs.Matrices.{IsReducedEchelon, IsSolution, entry_of};
+ghost use Rattle.field_slices.specs.Matrices.{HaveSameRowSpace, IsReducedEchelon, IsSolution, entry_of};
 
 use crate::matrices::reduction::{find_pivot, row_reduce_augmented};
 use crate::matrices::rows::entry;
@@ -8,8 +8,8 @@ use crate::matrices::scalars::Scalars;
 
 /// Writes a solution of linear equations to `solution`, and returns whether there is one; else `solution` stays. A row of `augmented`, a
 /// matrix of `rows` rows of `columns` entries, is an equation: the coefficients of the unknowns, of which there are as many as places of
-/// `solution`, and behind them the right side. The matrix is left in reduced row echelon form. `pivots`, of as many places as there are
-/// rows, is written too. It takes no memory.
+/// `solution`, and behind them the right side. Row operations leave the columns of the unknowns in reduced row echelon form, solvable or
+/// not, and `pivots`, of as many places as there are rows, begins with the columns of its leading entries. It takes no memory.
 pub fn solve_augmented<S: Scalars>(
     augmented: &mut [S::Value],
     rows: usize,
@@ -28,6 +28,10 @@ pub fn solve_augmented<S: Scalars>(
     ensures unsolvable { result ≡ false → (x : ℕ → ℕ)
         → IsSolution S.product rows (length solution.old) (entry_of S.number columns augmented.old) x → ⊥ }
     ensures stays { result ≡ false → solution.new ≡ solution.old }
+    ensures reduced { (rank : ℕ) × IsReducedEchelon rows (length solution.old) rank (slice_index pivots.new)
+        (entry_of S.number columns augmented.new) }
+    ensures space { HaveSameRowSpace S.product rows columns (entry_of S.number columns augmented.old)
+        (entry_of S.number columns augmented.new) }
 {
     let unknowns = solution.len();
     let rank = row_reduce_augmented::<S>(augmented, rows, columns, unknowns, pivots);

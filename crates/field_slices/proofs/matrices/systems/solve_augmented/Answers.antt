@@ -40,3 +40,9 @@ returns-in-None-clause-solution g c = λ _.
     (slice_index (map scalars.number c.write_solution.new.solution))
     (record { at_pivots = c.write_solution.ensures.at_pivots; elsewhere = c.write_solution.ensures.elsewhere })
     (c.in-None.ensures.none refl)
+
+pub returns-in-Some-clause-reduced : goal.returns-in-Some-clause-reduced
+returns-in-Some-clause-reduced g c = (c.row_reduce_augmented-rank.result, c.row_reduce_augmented-rank.ensures.reduced)
+
+pub returns-in-None-clause-reduced : goal.returns-in-None-clause-reduced
+returns-in-None-clause-reduced g c = (c.row_reduce_augmented-rank.result, c.row_reduce_augmented-rank.ensures.reduced)
