@@ -24,7 +24,8 @@
  *   bf_F_add_scaled(sums, scalar, values)  adds to each element of sums the scalar times the value at its place
  *   bf_F_square(values, squares)  squares: the square of each element
  *   bf_F_inverse(values, inverses)  inverses: the inverse of each element, and 0 for 0
- *   bf_F_batch_inverse(values, inverses)  inverses: the same as inverse, by one inverse and three products an element
+ *   bf_F_batch_inverse(values, inverses)  inverses: the same as inverse; in p64 and g128 by one inverse and three products
+ *       an element
  *   bf_F_square_root(values, roots)  roots: the square root of each element
  *   bf_F_power(values, exponent, powers)  powers: each element to the power of the exponent; to the power 0 it is 1
  *   bf_F_product(values, product)  product: the product of all elements, 1 of none

@@ -33,7 +33,7 @@ FIELD_FUNCTIONS = [
     ("add_scaled", [("inout", "sums"), ("scalar", "scalar"), ("in", "values")], "adds to each element of sums the scalar times the value at its place"),
     ("square", [("in", "values"), ("out", "squares")], "the square of each element"),
     ("inverse", [("in", "values"), ("out", "inverses")], "the inverse of each element, and 0 for 0"),
-    ("batch_inverse", [("in", "values"), ("out", "inverses")], "the same as inverse, by one inverse and three products an element"),
+    ("batch_inverse", [("in", "values"), ("out", "inverses")], "the same as inverse; in p64 and g128 by one inverse and three products an element"),
     ("square_root", [("in", "values"), ("out", "roots")], "the square root of each element"),
     ("power", [("in", "values"), ("number", "exponent"), ("out", "powers")], "each element to the power of the exponent; to the power 0 it is 1"),
     ("product", [("in", "values"), ("result", "product")], "the product of all elements, 1 of none"),

@@ -49,6 +49,10 @@ OPERATIONS = {row[0]: row[3] for row in CALL_ROWS if len(row) > 3}
 IN_PLANES = ("multiply_by", "multiply_by_in_place", "add_scaled")
 PLANES = {"t8": "Planes8", "t16": "Planes16", "t32": "Planes32", "t64": "Planes64", "t128": "Planes128"}
 
+# The products and inverses of levels of the tower that go by slices of bits, which pay from 16 bits on, and the functions that they call.
+IN_SLICES = {"multiply": "multiply", "multiply_in_place": "multiply_in_place", "inverse": "invert", "inverse_in_place": "invert_in_place"}
+SLICED = ("t16", "t32", "t64", "t128")
+
 # What a field does by functions of its own.
 OWN_CALLS = {
     "g128": {it: it for it in ("multiply", "multiply_in_place", "multiply_by", "multiply_by_in_place", "add_scaled", "dot_product")},
@@ -121,7 +125,7 @@ ABOUT = {
     "transforms": "Calls that transform values in the field of GHASH, and in levels of the tower.",
     "messages": "Calls over messages.",
     "shards": "Calls over shards, which stand one after the other and have one size: those of data, and then those of parity.",
-    "wide": "Second forms of calls in the field of GHASH, made for x86-64-v3, whose vectors have 256 bits.",
+    "wide": "Second forms of calls, made for x86-64-v3, whose vectors have 256 bits.",
 }
 
 # The modules that define the words of contracts, in the order in which a file brings them in.
@@ -220,20 +224,31 @@ def of_width(call, vector):
     return f"c_arithmetic::{call}::<{vector}>" if call in WITH_WIDTH else f"c_arithmetic::{call}"
 
 
+def called_in_vectors(field, name, vector):
+    """The call of a function that a field has of its own, or that goes by slices of bits, in vectors of that type."""
+    if name in OWN_CALLS.get(field.name, {}):
+        return of_width(OWN_CALLS[field.name][name], vector)
+    if name in IN_SLICES and field.name in SLICED:
+        return called_over(field, f"in_slices::{IN_SLICES[name]}", f", {vector}")
+    return None
+
+
 def field_function(field, name, parameters, text):
     """A function of a field."""
-    call, contract = CALLS[name]
-    own, operation = OWN_CALLS.get(field.name, {}).get(name), OPERATIONS.get(name)
+    # Where an inverse costs no more than three products, a batch is inverted one by one.
+    alike = "inverse" if name == "batch_inverse" and not field.is_batched else name
+    (call, contract), operation = CALLS[alike], OPERATIONS.get(alike)
     inside = [OPERANDS[operation]] if operation in OPERANDS else []
-    if own:
-        called, more = of_width(own, NARROW), []
+    in_vectors = called_in_vectors(field, alike, NARROW)
+    if in_vectors:
+        called, more = in_vectors, []
     elif name in IN_PLANES and field.name in PLANES:
         called, more = called_over(field, f"in_planes::{name}", f", _, {PLANES[field.name]}"), []
     elif operation:
         called, more = called_over(field, call, ", _"), [f"&{operation} {{ {inside[0]} }}" if inside else f"&{operation}"]
     else:
         called, more = called_over(field, call), []
-    if call == MAY_TAKE_TURNS:
+    if call == MAY_TAKE_TURNS and not in_vectors:
         more.append(str(name in IN_TURNS and field.is_looked_up).lower())
     typed = c_library.typed(parameters, field.word)
     words = [(kind, it, WORDS.get(of, of)) for kind, it, of in typed]
@@ -260,15 +275,16 @@ def other_function(name, parameters, text):
 
 
 def wide_function(name, parameters):
-    """The second form of a function of GHASH."""
+    """The second form of a function."""
     field_name, own = name.split("_", 1)
     if name in OTHER_CALLS:
         _, call, clause = OTHER_CALLS[name]
+        called = of_width(call, WIDE)
     else:
         field = fields.field_named(field_name)
         typed = [(kind, it, WORDS.get(word, word)) for kind, it, word in parameters]
-        call, clause = OWN_CALLS[field_name][own], field_clause(CALLS[own][1], field.contract, typed, own.endswith("_in_place"))
-    return function(f"{name}_wide", parameters, f"the same as `bf_{name}`", of_width(call, WIDE), clause)
+        called, clause = called_in_vectors(field, own, WIDE), field_clause(CALLS[own][1], field.contract, typed, own.endswith("_in_place"))
+    return function(f"{name}_wide", parameters, f"the same as `bf_{name}`", called, clause)
 
 
 def brought_in(clauses):
@@ -293,9 +309,10 @@ def in_order(name):
 def used(bodies):
     """The line that brings in what bodies and signatures name without a path."""
     operations = sorted({it for it in OPERATIONS.values() if re.search(rf"&{it}\b", bodies)})
-    names = set(re.findall(r"[&\[]&?(Wide|Cubic)\b|<\w+, \w+, (\w+)(?:<(\w+)>)?(?:, _)?(?:, (\w+))?>|\b(slices)::|\b(in_place)::|\b(in_planes)::|\b(batch_invert)\b", bodies))
+    names = set(re.findall(r"[&\[]&?(Wide|Cubic)\b|<\w+, \w+, (\w+)(?:<(\w+)>)?(?:, _)?(?:, (\w+))?>|\b(slices)::|\b(in_place)::|\b(in_planes)::|\b(in_slices)::|\b(batch_invert)\b", bodies))
     words = [*WORDS.values(), *STORED.values()]
     named = {it for group in names for it in group if it} | {it for it in words if re.search(rf"\b{it}\b", bodies)}
+    named -= {NARROW, WIDE}
     lines = [f"use c_arithmetic::operations::{{{', '.join(operations)}}};"] if operations else []
     lines += [f"use c_arithmetic::{{{', '.join(sorted(named, key=in_order))}}};" if len(named) > 1 else f"use c_arithmetic::{named.pop()};"] if named else []
     lines += ["use std::simd::prelude::*;"] if re.search(rf"\b({NARROW}|{WIDE})\b", bodies) else []

@@ -72,8 +72,8 @@ unsafe extern "C" {
         inverses: *mut u8,
         inverses_length: usize,
     ) -> u32;
-    /// inverses: the same as inverse, by one inverse and three products an element. BF_LENGTH unless values and
-    /// inverses have one length. BF_NOT_AN_ELEMENT unless each word that is read is below 2.
+    /// inverses: the same as inverse; in p64 and g128 by one inverse and three products an element. BF_LENGTH unless
+    /// values and inverses have one length. BF_NOT_AN_ELEMENT unless each word that is read is below 2.
     pub fn bf_gf2_batch_inverse(
         values: *const u8,
         values_length: usize,
@@ -221,8 +221,8 @@ unsafe extern "C" {
         inverses: *mut u8,
         inverses_length: usize,
     ) -> u32;
-    /// inverses: the same as inverse, by one inverse and three products an element. BF_LENGTH unless values and
-    /// inverses have one length. BF_NOT_AN_ELEMENT unless each word that is read is below 4.
+    /// inverses: the same as inverse; in p64 and g128 by one inverse and three products an element. BF_LENGTH unless
+    /// values and inverses have one length. BF_NOT_AN_ELEMENT unless each word that is read is below 4.
     pub fn bf_t2_batch_inverse(
         values: *const u8,
         values_length: usize,
@@ -370,8 +370,8 @@ unsafe extern "C" {
         inverses: *mut u8,
         inverses_length: usize,
     ) -> u32;
-    /// inverses: the same as inverse, by one inverse and three products an element. BF_LENGTH unless values and
-    /// inverses have one length. BF_NOT_AN_ELEMENT unless each word that is read is below 16.
+    /// inverses: the same as inverse; in p64 and g128 by one inverse and three products an element. BF_LENGTH unless
+    /// values and inverses have one length. BF_NOT_AN_ELEMENT unless each word that is read is below 16.
     pub fn bf_t4_batch_inverse(
         values: *const u8,
         values_length: usize,
@@ -515,8 +515,8 @@ unsafe extern "C" {
         inverses: *mut u8,
         inverses_length: usize,
     ) -> u32;
-    /// inverses: the same as inverse, by one inverse and three products an element. BF_LENGTH unless values and
-    /// inverses have one length.
+    /// inverses: the same as inverse; in p64 and g128 by one inverse and three products an element. BF_LENGTH unless
+    /// values and inverses have one length.
     pub fn bf_t8_batch_inverse(
         values: *const u8,
         values_length: usize,
@@ -655,8 +655,8 @@ unsafe extern "C" {
         inverses: *mut u16,
         inverses_length: usize,
     ) -> u32;
-    /// inverses: the same as inverse, by one inverse and three products an element. BF_LENGTH unless values and
-    /// inverses have one length.
+    /// inverses: the same as inverse; in p64 and g128 by one inverse and three products an element. BF_LENGTH unless
+    /// values and inverses have one length.
     pub fn bf_t16_batch_inverse(
         values: *const u16,
         values_length: usize,
@@ -795,8 +795,8 @@ unsafe extern "C" {
         inverses: *mut u32,
         inverses_length: usize,
     ) -> u32;
-    /// inverses: the same as inverse, by one inverse and three products an element. BF_LENGTH unless values and
-    /// inverses have one length.
+    /// inverses: the same as inverse; in p64 and g128 by one inverse and three products an element. BF_LENGTH unless
+    /// values and inverses have one length.
     pub fn bf_t32_batch_inverse(
         values: *const u32,
         values_length: usize,
@@ -935,8 +935,8 @@ unsafe extern "C" {
         inverses: *mut u64,
         inverses_length: usize,
     ) -> u32;
-    /// inverses: the same as inverse, by one inverse and three products an element. BF_LENGTH unless values and
-    /// inverses have one length.
+    /// inverses: the same as inverse; in p64 and g128 by one inverse and three products an element. BF_LENGTH unless
+    /// values and inverses have one length.
     pub fn bf_t64_batch_inverse(
         values: *const u64,
         values_length: usize,
@@ -1075,8 +1075,8 @@ unsafe extern "C" {
         inverses: *mut [u64; 2],
         inverses_length: usize,
     ) -> u32;
-    /// inverses: the same as inverse, by one inverse and three products an element. BF_LENGTH unless values and
-    /// inverses have one length.
+    /// inverses: the same as inverse; in p64 and g128 by one inverse and three products an element. BF_LENGTH unless
+    /// values and inverses have one length.
     pub fn bf_t128_batch_inverse(
         values: *const [u64; 2],
         values_length: usize,
@@ -1215,8 +1215,8 @@ unsafe extern "C" {
         inverses: *mut u8,
         inverses_length: usize,
     ) -> u32;
-    /// inverses: the same as inverse, by one inverse and three products an element. BF_LENGTH unless values and
-    /// inverses have one length.
+    /// inverses: the same as inverse; in p64 and g128 by one inverse and three products an element. BF_LENGTH unless
+    /// values and inverses have one length.
     pub fn bf_r8_batch_inverse(
         values: *const u8,
         values_length: usize,
@@ -1355,8 +1355,8 @@ unsafe extern "C" {
         inverses: *mut u64,
         inverses_length: usize,
     ) -> u32;
-    /// inverses: the same as inverse, by one inverse and three products an element. BF_LENGTH unless values and
-    /// inverses have one length.
+    /// inverses: the same as inverse; in p64 and g128 by one inverse and three products an element. BF_LENGTH unless
+    /// values and inverses have one length.
     pub fn bf_p64_batch_inverse(
         values: *const u64,
         values_length: usize,
@@ -1498,8 +1498,8 @@ unsafe extern "C" {
         inverses: *mut [u64; 2],
         inverses_length: usize,
     ) -> u32;
-    /// inverses: the same as inverse, by one inverse and three products an element. BF_LENGTH unless values and
-    /// inverses have one length.
+    /// inverses: the same as inverse; in p64 and g128 by one inverse and three products an element. BF_LENGTH unless
+    /// values and inverses have one length.
     pub fn bf_g128_batch_inverse(
         values: *const [u64; 2],
         values_length: usize,
@@ -1641,8 +1641,8 @@ unsafe extern "C" {
         inverses: *mut [u64; 3],
         inverses_length: usize,
     ) -> u32;
-    /// inverses: the same as inverse, by one inverse and three products an element. BF_LENGTH unless values and
-    /// inverses have one length.
+    /// inverses: the same as inverse; in p64 and g128 by one inverse and three products an element. BF_LENGTH unless
+    /// values and inverses have one length.
     pub fn bf_p192_batch_inverse(
         values: *const [u64; 3],
         values_length: usize,

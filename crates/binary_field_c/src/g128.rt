@@ -56,7 +56,7 @@ pub extern "C" fn bf_g128_inverse(values: &[Wide], inverses: &mut [Wide]) -> u32
     slices::write_each::<u128, Wide, GhashKernel, _>(values, inverses, &Inverse, false)
 }
 
-/// The same as inverse, by one inverse and three products an element.
+/// The same as inverse; in p64 and g128 by one inverse and three products an element.
 #[unsafe(no_mangle)]
 pub extern "C" fn bf_g128_batch_inverse(values: &[Wide], inverses: &mut [Wide]) -> u32
     ensures { Inverts ghash_field values.now inverses.old inverses.new result }

@@ -5,7 +5,7 @@ ghost use Rattle.c_arithmetic.specs.Calls.{Squares, TakesDotProduct, TakesProduc
 ghost use Rattle.c_arithmetic.specs.Fields.{cubic_field};
 
 use c_arithmetic::operations::{Inverse, Power, Product, Square, SquareRoot, Sum};
-use c_arithmetic::{Cubic, CubicKernel, Triple, batch_invert, in_place, slices};
+use c_arithmetic::{Cubic, CubicKernel, Triple, in_place, slices};
 
 /// The sum of the elements at each place.
 #[unsafe(no_mangle)]
@@ -59,12 +59,12 @@ pub extern "C" fn bf_p192_inverse(values: &[Cubic], inverses: &mut [Cubic]) -> u
     slices::write_each::<Triple, Cubic, CubicKernel, _>(values, inverses, &Inverse, false)
 }
 
-/// The same as inverse, by one inverse and three products an element.
+/// The same as inverse; in p64 and g128 by one inverse and three products an element.
 #[unsafe(no_mangle)]
 pub extern "C" fn bf_p192_batch_inverse(values: &[Cubic], inverses: &mut [Cubic]) -> u32
     ensures { Inverts cubic_field values.now inverses.old inverses.new result }
 {
-    batch_invert::<Triple, Cubic, CubicKernel>(values, inverses)
+    slices::write_each::<Triple, Cubic, CubicKernel, _>(values, inverses, &Inverse, false)
 }
 
 /// The square root of each element.

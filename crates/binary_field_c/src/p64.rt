@@ -55,7 +55,7 @@ pub extern "C" fn bf_p64_inverse(values: &[u64], inverses: &mut [u64]) -> u32
     slices::write_each::<u64, u64, Poly64Kernel, _>(values, inverses, &Inverse, false)
 }
 
-/// The same as inverse, by one inverse and three products an element.
+/// The same as inverse; in p64 and g128 by one inverse and three products an element.
 #[unsafe(no_mangle)]
 pub extern "C" fn bf_p64_batch_inverse(values: &[u64], inverses: &mut [u64]) -> u32
     ensures { Inverts poly64_field values.now inverses.old inverses.new result }

@@ -5,7 +5,7 @@ ghost use Rattle.c_arithmetic.specs.Calls.{Squares, TakesDotProduct, TakesProduc
 ghost use Rattle.c_arithmetic.specs.Fields.{rijndael_field};
 
 use c_arithmetic::operations::{Inverse, Power, Product, Square, SquareRoot, Sum};
-use c_arithmetic::{RijndaelKernel, batch_invert, in_place, slices};
+use c_arithmetic::{RijndaelKernel, in_place, slices};
 
 /// The sum of the elements at each place.
 #[unsafe(no_mangle)]
@@ -55,12 +55,12 @@ pub extern "C" fn bf_r8_inverse(values: &[u8], inverses: &mut [u8]) -> u32
     slices::write_each::<u8, u8, RijndaelKernel, _>(values, inverses, &Inverse, false)
 }
 
-/// The same as inverse, by one inverse and three products an element.
+/// The same as inverse; in p64 and g128 by one inverse and three products an element.
 #[unsafe(no_mangle)]
 pub extern "C" fn bf_r8_batch_inverse(values: &[u8], inverses: &mut [u8]) -> u32
     ensures { Inverts rijndael_field values.now inverses.old inverses.new result }
 {
-    batch_invert::<u8, u8, RijndaelKernel>(values, inverses)
+    slices::write_each::<u8, u8, RijndaelKernel, _>(values, inverses, &Inverse, false)
 }
 
 /// The square root of each element.

@@ -4,8 +4,9 @@ ghost use Rattle.c_arithmetic.specs.Calls.{Adds, AddsScaled, Evaluates, Inverts,
 ghost use Rattle.c_arithmetic.specs.Calls.{Squares, TakesDotProduct, TakesProduct, TakesRoots};
 ghost use Rattle.c_arithmetic.specs.Fields.{wide_level_field};
 
-use c_arithmetic::operations::{Inverse, Power, Product, Square, SquareRoot, Sum};
-use c_arithmetic::{Bits128, Planes128, Tower, Wide, batch_invert, in_place, in_planes, slices};
+use c_arithmetic::operations::{Power, Square, SquareRoot, Sum};
+use c_arithmetic::{Bits128, Planes128, Tower, Wide, in_place, in_planes, in_slices, slices};
+use std::simd::prelude::*;
 
 /// The sum of the elements at each place.
 #[unsafe(no_mangle)]
@@ -20,7 +21,7 @@ pub extern "C" fn bf_t128_add(left: &[Wide], right: &[Wide], sums: &mut [Wide]) 
 pub extern "C" fn bf_t128_multiply(left: &[Wide], right: &[Wide], products: &mut [Wide]) -> u32
     ensures { Multiplies wide_level_field left.now right.now products.old products.new result }
 {
-    slices::write_each_of_two::<u128, Wide, Tower<Bits128>, _>(left, right, products, &Product)
+    in_slices::multiply::<u128, Wide, Tower<Bits128>, u64x2>(left, right, products)
 }
 
 /// The product of each element and the scalar.
@@ -52,15 +53,15 @@ pub extern "C" fn bf_t128_square(values: &[Wide], squares: &mut [Wide]) -> u32
 pub extern "C" fn bf_t128_inverse(values: &[Wide], inverses: &mut [Wide]) -> u32
     ensures { Inverts wide_level_field values.now inverses.old inverses.new result }
 {
-    slices::write_each::<u128, Wide, Tower<Bits128>, _>(values, inverses, &Inverse, false)
+    in_slices::invert::<u128, Wide, Tower<Bits128>, u64x2>(values, inverses)
 }
 
-/// The same as inverse, by one inverse and three products an element.
+/// The same as inverse; in p64 and g128 by one inverse and three products an element.
 #[unsafe(no_mangle)]
 pub extern "C" fn bf_t128_batch_inverse(values: &[Wide], inverses: &mut [Wide]) -> u32
     ensures { Inverts wide_level_field values.now inverses.old inverses.new result }
 {
-    batch_invert::<u128, Wide, Tower<Bits128>>(values, inverses)
+    in_slices::invert::<u128, Wide, Tower<Bits128>, u64x2>(values, inverses)
 }
 
 /// The square root of each element.
@@ -120,7 +121,7 @@ pub extern "C" fn bf_t128_add_in_place(sums: &mut [Wide], values: &[Wide]) -> u3
 pub extern "C" fn bf_t128_multiply_in_place(products: &mut [Wide], values: &[Wide]) -> u32
     ensures { Multiplies wide_level_field products.old values.now products.old products.new result }
 {
-    in_place::change_each_by::<u128, Wide, Tower<Bits128>, _>(products, values, &Product)
+    in_slices::multiply_in_place::<u128, Wide, Tower<Bits128>, u64x2>(products, values)
 }
 
 /// Multiplies each element by the scalar.
@@ -144,7 +145,7 @@ pub extern "C" fn bf_t128_square_in_place(values: &mut [Wide]) -> u32
 pub extern "C" fn bf_t128_inverse_in_place(values: &mut [Wide]) -> u32
     ensures { Inverts wide_level_field values.old values.old values.new result }
 {
-    in_place::change_each::<u128, Wide, Tower<Bits128>, _>(values, &Inverse)
+    in_slices::invert_in_place::<u128, Wide, Tower<Bits128>, u64x2>(values)
 }
 
 /// Leaves the square root of each element.

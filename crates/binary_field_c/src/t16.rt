@@ -4,8 +4,9 @@ ghost use Rattle.c_arithmetic.specs.Calls.{Adds, AddsScaled, Evaluates, Inverts,
 ghost use Rattle.c_arithmetic.specs.Calls.{Squares, TakesDotProduct, TakesProduct, TakesRoots};
 ghost use Rattle.c_arithmetic.specs.Fields.{level_field};
 
-use c_arithmetic::operations::{Inverse, Power, Product, Square, SquareRoot, Sum};
-use c_arithmetic::{Bits16, Planes16, Tower, batch_invert, in_place, in_planes, slices};
+use c_arithmetic::operations::{Power, Square, SquareRoot, Sum};
+use c_arithmetic::{Bits16, Planes16, Tower, in_place, in_planes, in_slices, slices};
+use std::simd::prelude::*;
 
 /// The sum of the elements at each place.
 #[unsafe(no_mangle)]
@@ -20,7 +21,7 @@ pub extern "C" fn bf_t16_add(left: &[u16], right: &[u16], sums: &mut [u16]) -> u
 pub extern "C" fn bf_t16_multiply(left: &[u16], right: &[u16], products: &mut [u16]) -> u32
     ensures { Multiplies (level_field 4) left.now right.now products.old products.new result }
 {
-    slices::write_each_of_two::<u16, u16, Tower<Bits16>, _>(left, right, products, &Product)
+    in_slices::multiply::<u16, u16, Tower<Bits16>, u64x2>(left, right, products)
 }
 
 /// The product of each element and the scalar.
@@ -52,15 +53,15 @@ pub extern "C" fn bf_t16_square(values: &[u16], squares: &mut [u16]) -> u32
 pub extern "C" fn bf_t16_inverse(values: &[u16], inverses: &mut [u16]) -> u32
     ensures { Inverts (level_field 4) values.now inverses.old inverses.new result }
 {
-    slices::write_each::<u16, u16, Tower<Bits16>, _>(values, inverses, &Inverse, false)
+    in_slices::invert::<u16, u16, Tower<Bits16>, u64x2>(values, inverses)
 }
 
-/// The same as inverse, by one inverse and three products an element.
+/// The same as inverse; in p64 and g128 by one inverse and three products an element.
 #[unsafe(no_mangle)]
 pub extern "C" fn bf_t16_batch_inverse(values: &[u16], inverses: &mut [u16]) -> u32
     ensures { Inverts (level_field 4) values.now inverses.old inverses.new result }
 {
-    batch_invert::<u16, u16, Tower<Bits16>>(values, inverses)
+    in_slices::invert::<u16, u16, Tower<Bits16>, u64x2>(values, inverses)
 }
 
 /// The square root of each element.
@@ -116,7 +117,7 @@ pub extern "C" fn bf_t16_add_in_place(sums: &mut [u16], values: &[u16]) -> u32
 pub extern "C" fn bf_t16_multiply_in_place(products: &mut [u16], values: &[u16]) -> u32
     ensures { Multiplies (level_field 4) products.old values.now products.old products.new result }
 {
-    in_place::change_each_by::<u16, u16, Tower<Bits16>, _>(products, values, &Product)
+    in_slices::multiply_in_place::<u16, u16, Tower<Bits16>, u64x2>(products, values)
 }
 
 /// Multiplies each element by the scalar.
@@ -140,7 +141,7 @@ pub extern "C" fn bf_t16_square_in_place(values: &mut [u16]) -> u32
 pub extern "C" fn bf_t16_inverse_in_place(values: &mut [u16]) -> u32
     ensures { Inverts (level_field 4) values.old values.old values.new result }
 {
-    in_place::change_each::<u16, u16, Tower<Bits16>, _>(values, &Inverse)
+    in_slices::invert_in_place::<u16, u16, Tower<Bits16>, u64x2>(values)
 }
 
 /// Leaves the square root of each element.

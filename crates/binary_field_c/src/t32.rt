@@ -4,8 +4,9 @@ ghost use Rattle.c_arithmetic.specs.Calls.{Adds, AddsScaled, Evaluates, Inverts,
 ghost use Rattle.c_arithmetic.specs.Calls.{Squares, TakesDotProduct, TakesProduct, TakesRoots};
 ghost use Rattle.c_arithmetic.specs.Fields.{level_field};
 
-use c_arithmetic::operations::{Inverse, Power, Product, Square, SquareRoot, Sum};
-use c_arithmetic::{Bits32, Planes32, Tower, batch_invert, in_place, in_planes, slices};
+use c_arithmetic::operations::{Power, Square, SquareRoot, Sum};
+use c_arithmetic::{Bits32, Planes32, Tower, in_place, in_planes, in_slices, slices};
+use std::simd::prelude::*;
 
 /// The sum of the elements at each place.
 #[unsafe(no_mangle)]
@@ -20,7 +21,7 @@ pub extern "C" fn bf_t32_add(left: &[u32], right: &[u32], sums: &mut [u32]) -> u
 pub extern "C" fn bf_t32_multiply(left: &[u32], right: &[u32], products: &mut [u32]) -> u32
     ensures { Multiplies (level_field 5) left.now right.now products.old products.new result }
 {
-    slices::write_each_of_two::<u32, u32, Tower<Bits32>, _>(left, right, products, &Product)
+    in_slices::multiply::<u32, u32, Tower<Bits32>, u64x2>(left, right, products)
 }
 
 /// The product of each element and the scalar.
@@ -52,15 +53,15 @@ pub extern "C" fn bf_t32_square(values: &[u32], squares: &mut [u32]) -> u32
 pub extern "C" fn bf_t32_inverse(values: &[u32], inverses: &mut [u32]) -> u32
     ensures { Inverts (level_field 5) values.now inverses.old inverses.new result }
 {
-    slices::write_each::<u32, u32, Tower<Bits32>, _>(values, inverses, &Inverse, false)
+    in_slices::invert::<u32, u32, Tower<Bits32>, u64x2>(values, inverses)
 }
 
-/// The same as inverse, by one inverse and three products an element.
+/// The same as inverse; in p64 and g128 by one inverse and three products an element.
 #[unsafe(no_mangle)]
 pub extern "C" fn bf_t32_batch_inverse(values: &[u32], inverses: &mut [u32]) -> u32
     ensures { Inverts (level_field 5) values.now inverses.old inverses.new result }
 {
-    batch_invert::<u32, u32, Tower<Bits32>>(values, inverses)
+    in_slices::invert::<u32, u32, Tower<Bits32>, u64x2>(values, inverses)
 }
 
 /// The square root of each element.
@@ -116,7 +117,7 @@ pub extern "C" fn bf_t32_add_in_place(sums: &mut [u32], values: &[u32]) -> u32
 pub extern "C" fn bf_t32_multiply_in_place(products: &mut [u32], values: &[u32]) -> u32
     ensures { Multiplies (level_field 5) products.old values.now products.old products.new result }
 {
-    in_place::change_each_by::<u32, u32, Tower<Bits32>, _>(products, values, &Product)
+    in_slices::multiply_in_place::<u32, u32, Tower<Bits32>, u64x2>(products, values)
 }
 
 /// Multiplies each element by the scalar.
@@ -140,7 +141,7 @@ pub extern "C" fn bf_t32_square_in_place(values: &mut [u32]) -> u32
 pub extern "C" fn bf_t32_inverse_in_place(values: &mut [u32]) -> u32
     ensures { Inverts (level_field 5) values.old values.old values.new result }
 {
-    in_place::change_each::<u32, u32, Tower<Bits32>, _>(values, &Inverse)
+    in_slices::invert_in_place::<u32, u32, Tower<Bits32>, u64x2>(values)
 }
 
 /// Leaves the square root of each element.

@@ -4,8 +4,9 @@ ghost use Rattle.c_arithmetic.specs.Calls.{Adds, AddsScaled, Evaluates, Inverts,
 ghost use Rattle.c_arithmetic.specs.Calls.{Squares, TakesDotProduct, TakesProduct, TakesRoots};
 ghost use Rattle.c_arithmetic.specs.Fields.{level_field};
 
-use c_arithmetic::operations::{Inverse, Power, Product, Square, SquareRoot, Sum};
-use c_arithmetic::{Bits64, Planes64, Tower, batch_invert, in_place, in_planes, slices};
+use c_arithmetic::operations::{Power, Square, SquareRoot, Sum};
+use c_arithmetic::{Bits64, Planes64, Tower, in_place, in_planes, in_slices, slices};
+use std::simd::prelude::*;
 
 /// The sum of the elements at each place.
 #[unsafe(no_mangle)]
@@ -20,7 +21,7 @@ pub extern "C" fn bf_t64_add(left: &[u64], right: &[u64], sums: &mut [u64]) -> u
 pub extern "C" fn bf_t64_multiply(left: &[u64], right: &[u64], products: &mut [u64]) -> u32
     ensures { Multiplies (level_field 6) left.now right.now products.old products.new result }
 {
-    slices::write_each_of_two::<u64, u64, Tower<Bits64>, _>(left, right, products, &Product)
+    in_slices::multiply::<u64, u64, Tower<Bits64>, u64x2>(left, right, products)
 }
 
 /// The product of each element and the scalar.
@@ -52,15 +53,15 @@ pub extern "C" fn bf_t64_square(values: &[u64], squares: &mut [u64]) -> u32
 pub extern "C" fn bf_t64_inverse(values: &[u64], inverses: &mut [u64]) -> u32
     ensures { Inverts (level_field 6) values.now inverses.old inverses.new result }
 {
-    slices::write_each::<u64, u64, Tower<Bits64>, _>(values, inverses, &Inverse, false)
+    in_slices::invert::<u64, u64, Tower<Bits64>, u64x2>(values, inverses)
 }
 
-/// The same as inverse, by one inverse and three products an element.
+/// The same as inverse; in p64 and g128 by one inverse and three products an element.
 #[unsafe(no_mangle)]
 pub extern "C" fn bf_t64_batch_inverse(values: &[u64], inverses: &mut [u64]) -> u32
     ensures { Inverts (level_field 6) values.now inverses.old inverses.new result }
 {
-    batch_invert::<u64, u64, Tower<Bits64>>(values, inverses)
+    in_slices::invert::<u64, u64, Tower<Bits64>, u64x2>(values, inverses)
 }
 
 /// The square root of each element.
@@ -116,7 +117,7 @@ pub extern "C" fn bf_t64_add_in_place(sums: &mut [u64], values: &[u64]) -> u32
 pub extern "C" fn bf_t64_multiply_in_place(products: &mut [u64], values: &[u64]) -> u32
     ensures { Multiplies (level_field 6) products.old values.now products.old products.new result }
 {
-    in_place::change_each_by::<u64, u64, Tower<Bits64>, _>(products, values, &Product)
+    in_slices::multiply_in_place::<u64, u64, Tower<Bits64>, u64x2>(products, values)
 }
 
 /// Multiplies each element by the scalar.
@@ -140,7 +141,7 @@ pub extern "C" fn bf_t64_square_in_place(values: &mut [u64]) -> u32
 pub extern "C" fn bf_t64_inverse_in_place(values: &mut [u64]) -> u32
     ensures { Inverts (level_field 6) values.old values.old values.new result }
 {
-    in_place::change_each::<u64, u64, Tower<Bits64>, _>(values, &Inverse)
+    in_slices::invert_in_place::<u64, u64, Tower<Bits64>, u64x2>(values)
 }
 
 /// Leaves the square root of each element.

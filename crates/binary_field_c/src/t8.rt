@@ -5,7 +5,7 @@ ghost use Rattle.c_arithmetic.specs.Calls.{Squares, TakesDotProduct, TakesProduc
 ghost use Rattle.c_arithmetic.specs.Fields.{level_field};
 
 use c_arithmetic::operations::{Inverse, Power, Product, Square, SquareRoot, Sum};
-use c_arithmetic::{Bits8, Planes8, Tower, batch_invert, in_place, in_planes, slices};
+use c_arithmetic::{Bits8, Planes8, Tower, in_place, in_planes, slices};
 
 /// The sum of the elements at each place.
 #[unsafe(no_mangle)]
@@ -55,12 +55,12 @@ pub extern "C" fn bf_t8_inverse(values: &[u8], inverses: &mut [u8]) -> u32
     slices::write_each::<u8, u8, Tower<Bits8>, _>(values, inverses, &Inverse, false)
 }
 
-/// The same as inverse, by one inverse and three products an element.
+/// The same as inverse; in p64 and g128 by one inverse and three products an element.
 #[unsafe(no_mangle)]
 pub extern "C" fn bf_t8_batch_inverse(values: &[u8], inverses: &mut [u8]) -> u32
     ensures { Inverts (level_field 3) values.now inverses.old inverses.new result }
 {
-    batch_invert::<u8, u8, Tower<Bits8>>(values, inverses)
+    slices::write_each::<u8, u8, Tower<Bits8>, _>(values, inverses, &Inverse, false)
 }
 
 /// The square root of each element.

@@ -1,4 +1,4 @@
-// Second forms of calls in the field of GHASH, made for x86-64-v3, whose vectors have 256 bits.
+// Second forms of calls, made for x86-64-v3, whose vectors have 256 bits.
 // Written by scripts/make_c_exports.py; do not edit.
 ghost use Rattle.c_arithmetic.specs.Transforms.{ButterfliesForward, ButterfliesInverse, InvertsTransform, RunsLowStages, Transforms};
 ghost use Rattle.c_arithmetic.specs.Calls.{AddsScaled, Multiplies, MultipliesBy, TakesDotProduct};
