@@ -12,11 +12,11 @@ use Rattle.transform_codes.specs.Columns.{AreParityBelow, AreScattered, HoldColu
 use Rattle.transform_codes.proofs.BlockPoints.{point-joined}
 
 module _ {W : Type 0} (element : W → ℕ) (zero : W) (level n : ℕ) where
-  abbrev Holds : ℕ → List W → List W → Type 0
+  abbrev pub Holds : ℕ → List W → List W → Type 0
   Holds z coefficients values = HoldValuesAtPoints (2 ^ level) (tower_mul level) cantor_vector z (map element coefficients) (map element values)
 
   -- the value that a place holds
-  held : (z : ℕ) (coefficients values : List W) → length coefficients ≡ 2 ^ n → length values ≡ 2 ^ n → Holds z coefficients values
+  pub held : (z : ℕ) (coefficients values : List W) → length coefficients ≡ 2 ^ n → length values ≡ 2 ^ n → Holds z coefficients values
       → (p : ℕ) → p < 2 ^ n
       → element (get_or values p zero) ≡ polynomial_value (tower_mul level) n (slice_index (map element coefficients)) (point (2 ^ level) cantor_vector z p)
   held z coefficients values count long holds p below =

@@ -4,4 +4,7 @@ mod CodedColumns
 mod ColumnPlaces
 mod Decoding
 mod LocatorFacts
+mod LostCounts
+mod MendedColumns
 pub mod Polynomials
+mod RestoredColumns

@@ -1,16 +1,34 @@
 -- A locator is a polynomial, 0 at the lost points and at no others, so that its product with a code word's polynomial is known everywhere.
-use Rattle.std.proofs.Common.{◌≡◌, ◌≢◌, ◌⊎◌, inl, inr, ℕ, zero, suc, ◌^◌, ◌<◌, ◌≤◌, Bool, true, false, lit<, refl, sym, ◌∙◌, ap, subst, arith, if◌then◌else◌}
+use Rattle.std.proofs.Common.{◌≡◌, ◌≢◌, ◌⊎◌, inl, inr, ℕ, zero, suc, ◌+◌, ◌^◌, ◌<◌, ◌≤◌, Bool, true, false, lit<, refl, sym, ◌∙◌, ap, subst, arith, if◌then◌else◌}
 use Rattle.std.specs.Prelude.{bit_xor}
 use Rattle.std.proofs.lemmas.Bool.{cases_lt, true≢false}
 use Rattle.std.proofs.lemmas.Nat.{xor_lt}
 use Rattle.std.proofs.Math.Nat.{pow-le-pow_right}
 use lib.Bits.{xor_self, xor_zero_r}
 use native.Mathlib.Nat.{mod-eq_of_lt}
+use native.Mathlib.Numerals.{add-one}
 use Rattle.field_base.specs.Field.{IsField}
 use Rattle.field_base.proofs.FieldLemmas.{no_zero_divisors}
 use Rattle.field_base.proofs.RingLemmas.{times-zero, xor_nothing}
 use Rattle.field_laws.proofs.Polynomials.{IsPolynomial, polynomial-root}
 use Rattle.transform_codes.specs.Locators.{locator, lost_count}
+
+-- one place more, which is lost or not
+module _ (times : ℕ → ℕ → ℕ) (point : ℕ → ℕ) (lost : ℕ → Bool) (n x : ℕ) where
+  chosen : Bool → ℕ
+  chosen b = if b then times (bit_xor x (point n)) (locator times point lost n x) else locator times point lost n x
+
+  pub locator-start : locator times point lost 0 x ≡ 1
+  unfolding locator
+  locator-start = refl
+
+  pub locator-hit : lost n ≡ true → locator times point lost (n + 1) x ≡ times (bit_xor x (point n)) (locator times point lost n x)
+  unfolding locator chosen
+  locator-hit is = ap (λ (k : ℕ). locator times point lost k x) (add-one n) ∙ ap chosen is
+
+  pub locator-miss : lost n ≡ false → locator times point lost (n + 1) x ≡ locator times point lost n x
+  unfolding locator chosen
+  locator-miss is = ap (λ (k : ℕ). locator times point lost k x) (add-one n) ∙ ap chosen is
 
 module _ (width : ℕ) (times : ℕ → ℕ → ℕ) (wide : 0 < width) (field : IsField width times) (point : ℕ → ℕ) (lost : ℕ → Bool) where
   one-lt : 1 < 2 ^ width
@@ -38,7 +56,7 @@ module _ (width : ℕ) (times : ℕ → ℕ → ℕ) (wide : 0 < width) (field :
       pick before true = polynomial-root width times field.ring (suc (lost_count lost n)) (point n) (locator times point lost n) before
       pick before false = before
 
-  locator-lt : (n x : ℕ) → locator times point lost n x < 2 ^ width
+  pub locator-lt : (n x : ℕ) → locator times point lost n x < 2 ^ width
   unfolding locator
   locator-lt zero x = one-lt
   locator-lt (suc n) x = pick (locator-lt n x) (lost n)

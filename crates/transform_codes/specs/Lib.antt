@@ -3,4 +3,6 @@ pub mod Columns
 pub mod Determined
 pub mod Located
 pub mod Locators
+pub mod Restoring
+pub mod Returned
 pub mod Sizes

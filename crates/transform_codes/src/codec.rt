@@ -2,11 +2,14 @@
 ghost use Rattle.std.specs.Prelude.{◌≡◌, ℕ, ◌+◌, ◌*◌, ◌/◌, ◌^◌, ◌<◌, ◌≤◌, ◌↔◌, length, IsTrue, IsOk, IfOk, IfErr, OnErr};
 ghost use Rattle.tower_transforms.specs.Words.{level_element};
 ghost use Rattle.transform_codes.specs.Codes.{AreCodedColumns};
-ghost use Rattle.transform_codes.specs.Sizes.{CanEncode, EncodeError, IsPadded};
+ghost use Rattle.transform_codes.specs.Locators.{lost_count};
+ghost use Rattle.transform_codes.specs.Restoring.{AreRestoredColumns, is_missing};
+ghost use Rattle.transform_codes.specs.Sizes.{CanEncode, CanRebuild, EncodeError, IsPadded, RebuildError};
 ghost use Rattle.transform_codes.specs.declared.error.TransformCodeError.TheVariants.{TooFewDataShards, TooFewParityShards, TooManyShards};
 
 use crate::encoding::encode_columns;
 use crate::error::TransformCodeError;
+use crate::restoring::{restore_columns, set_factors, set_points};
 use field_base::Unsigned;
 use word_tower::Level;
 
@@ -17,11 +20,14 @@ pub struct TransformCode {
     pub(crate) data_shards: usize,
     pub(crate) parity_shards: usize,
     pub(crate) levels: usize,
+    pub(crate) all_levels: usize,
     ghost some_data: { 0 < data_shards },
     ghost some_parity: { 0 < parity_shards },
     ghost padded: { IsPadded data_shards levels },
     ghost low: { levels ≤ 16 },
     ghost few: { 2 ^ levels + parity_shards ≤ 65536 },
+    ghost all: { IsPadded (2 ^ levels + parity_shards) all_levels },
+    ghost all_low: { all_levels ≤ 16 },
 }
 
 impl TransformCode {
@@ -47,13 +53,15 @@ impl TransformCode {
             return Err(TransformCodeError::TooManyShards);
         }
         let levels = levels_of(data_shards);
-        if (1 << levels) + parity_shards > 65536 {
+        let places = power_of(levels) + parity_shards;
+        if places > 65536 {
             return Err(TransformCodeError::TooManyShards);
         }
         Ok(TransformCode {
             data_shards,
             parity_shards,
             levels,
+            all_levels: levels_of(places),
         })
     }
 
@@ -75,7 +83,15 @@ impl TransformCode {
     pub fn coefficient_count(&self) -> usize
         ensures { result ≡ 2 ^ self.now.levels }
     {
-        1 << self.levels
+        power_of(self.levels)
+    }
+
+    /// The number of points that `reconstruct` computes with: the least power of two that is not below `coefficient_count` and the number
+    /// of shards of parity together.
+    pub fn point_count(&self) -> usize
+        ensures { result ≡ 2 ^ self.now.all_levels }
+    {
+        power_of(self.all_levels)
     }
 
     /// Writes the shards of parity. `data` and `parity` have their shards, of one size, one after the other; a word is an element of the
@@ -111,6 +127,105 @@ impl TransformCode {
             self.levels,
         );
         Ok(())
+    }
+
+    /// Restores the missing shards: shard i, of the data and then of the parity, is missing where `present[i]` is false, no more are than
+    /// there are of parity, and what their words are does not matter. The shards become those of the code word that the ones at hand agree
+    /// with, by as many bits of a word as the level has; where they agree with none, since a word is wrong, the missing ones become
+    /// anything. The shards at hand stay. What `space` has does not matter: it takes five words for each of `point_count`, and the level
+    /// has to have twice as many points. A column takes four transforms, and all columns together a product for each of twice
+    /// `point_count` points and each symbol that is lost. The error is the first that applies.
+    pub fn reconstruct<R: Unsigned, L: Level<R>>(
+        &self,
+        space: &mut [R],
+        shards: &mut [R],
+        parity: &mut [R],
+        present: &[bool],
+    ) -> Result<(), TransformCodeError>
+        ensures accepted { IsOk result ↔ CanRebuild L.LEVEL self.now.all_levels self.now.data_shards self.now.parity_shards
+            (length shards.old) (length parity.old) (length space.old) present.now }
+        ensures restored { let size = length shards.old / self.now.data_shards in
+            IsOk result → AreRestoredColumns (level_element R.number L.LEVEL) R.ZERO L.LEVEL self.now.levels self.now.data_shards
+            self.now.parity_shards size present.now size shards.old parity.old shards.new parity.new }
+        ensures long { length shards.new ≡ length shards.old }
+        ensures parity_long { length parity.new ≡ length parity.old }
+        ensures refused { IfErr result (λ error. RebuildError L.LEVEL self.now.all_levels self.now.data_shards
+            self.now.parity_shards (length shards.old) (length parity.old) (length space.old) present.now error) }
+        ensures same { OnErr result ((shards.new ≡ shards.old) × (parity.new ≡ parity.old)) }
+    {
+        let size = self.rebuild_size::<R, L>(shards.len(), parity.len(), space.len(), present)?;
+        self.restore_shards::<R, L>(space, shards, parity, present, size);
+        Ok(())
+    }
+
+    // Restores the missing shards of words that are those of shards of a size.
+    fn restore_shards<R: Unsigned, L: Level<R>>(
+        &self,
+        space: &mut [R],
+        shards: &mut [R],
+        parity: &mut [R],
+        present: &[bool],
+        size: usize,
+    )
+        requires whole { length shards.old ≡ self.now.data_shards * size }
+        requires parity_whole { length parity.old ≡ self.now.parity_shards * size }
+        requires can { CanRebuild L.LEVEL self.now.all_levels self.now.data_shards self.now.parity_shards
+            (length shards.old) (length parity.old) (length space.old) present.now }
+        ensures restored { AreRestoredColumns (level_element R.number L.LEVEL) R.ZERO L.LEVEL self.now.levels self.now.data_shards
+            self.now.parity_shards size present.now size shards.old parity.old shards.new parity.new }
+        ensures long { length shards.new ≡ length shards.old }
+        ensures parity_long { length parity.new ≡ length parity.old }
+    {
+        let count = self.point_count();
+        let (values, rest) = space.split_at_mut(count);
+        let (points, others) = rest.split_at_mut(2 * count);
+        let (factors, _rest) = others.split_at_mut(2 * count);
+        set_points::<R, L>(points);
+        set_factors::<R, L>(factors, self, present, points, count);
+        let behind = points[count];
+        let levels = self.all_levels;
+        restore_columns::<R, L>(
+            values, factors, behind, self, present, shards, parity, size, levels,
+        );
+    }
+
+    // The size of each shard, by the words of all, where they can be restored.
+    fn rebuild_size<R: Unsigned, L: Level<R>>(
+        &self,
+        words: usize,
+        parity_words: usize,
+        space: usize,
+        present: &[bool],
+    ) -> Result<usize, TransformCodeError>
+        ensures accepted { IsOk result ↔ CanRebuild L.LEVEL self.now.all_levels self.now.data_shards self.now.parity_shards
+            words parity_words space present.now }
+        ensures size { IfOk result (λ size. (size ≡ words / self.now.data_shards) × (words ≡ self.now.data_shards * size)
+            × (parity_words ≡ self.now.parity_shards * size)) }
+        ensures refused { IfErr result (λ error. RebuildError L.LEVEL self.now.all_levels self.now.data_shards
+            self.now.parity_shards words parity_words space present.now error) }
+    {
+        let count = self.point_count();
+        if present.len() != self.data_shards + self.parity_shards {
+            return Err(TransformCodeError::InvalidShardFlags);
+        }
+        if !has_points::<R, L>(2 * count) {
+            return Err(TransformCodeError::TooManyShards);
+        }
+        if words == 0 {
+            return Err(TransformCodeError::EmptyShard);
+        }
+        let size = words / self.data_shards;
+        let whole = words % self.data_shards == 0 && parity_words % self.parity_shards == 0;
+        if !whole || parity_words / self.parity_shards != size {
+            return Err(TransformCodeError::IncorrectShardSize);
+        }
+        if missing_count(present) > self.parity_shards {
+            return Err(TransformCodeError::TooFewShardsPresent);
+        }
+        if space < 5 * count {
+            return Err(TransformCodeError::TooLittleSpace);
+        }
+        Ok(size)
     }
 
     // The size of each shard, by the words of all.
@@ -162,8 +277,30 @@ fn levels_of(k: usize) -> usize
 
 // Whether the level has so many points.
 fn has_points<R: Unsigned, L: Level<R>>(points: usize) -> bool
-    requires { points ≤ 65536 }
+    requires { points ≤ 131072 }
     ensures { IsTrue result ↔ points ≤ 2 ^ 2 ^ L.LEVEL }
 {
-    L::LEVEL >= 4 || points <= 1 << (1 << L::LEVEL)
+    L::LEVEL >= 5 || points <= 1 << (1 << L::LEVEL)
+}
+
+// 2^levels.
+fn power_of(levels: usize) -> usize
+    requires { levels ≤ 16 }
+    ensures power { result ≡ 2 ^ levels }
+    ensures few { result ≤ 65536 }
+{
+    1 << levels
+}
+
+// How many shards are missing.
+fn missing_count(present: &[bool]) -> usize
+    ensures { result ≡ lost_count (is_missing present.now) (length present.now) }
+{
+    let mut count = 0;
+    for i in 0..present.len() {
+        if !present[i] {
+            count += 1;
+        }
+    }
+    count
 }

@@ -1,6 +1,11 @@
 // The laws of the codes, as contracts of functions that compute nothing.
 ghost use Rattle.transform_codes.specs.Determined.{ShardsDetermine};
+ghost use Rattle.tower_transforms.specs.Words.{level_element};
 ghost use Rattle.transform_codes.specs.Located.{LostSymbolsAreLocated};
+ghost use Rattle.transform_codes.specs.Returned.{LostSymbolsReturn};
+
+use field_base::Unsigned;
+use word_tower::Level;
 
 /// States that any shards, as many as there are of data, determine the others: two code words of one code that agree in k shards of k of
 /// data and m of parity agree in all, in every level that has the points.
@@ -13,4 +18,11 @@ pub fn shards_determine()
 /// product, to its values at as many points behind, and from their quotients by the locator, which is 0 at none of them, to the polynomial.
 pub fn lost_symbols_are_located()
     ensures { LostSymbolsAreLocated }
+{}
+
+/// States that shards that were encoded and then lost come back: where `encode` left the shards, and those at hand are as it left them,
+/// what `reconstruct` makes has its symbols in all shards, whatever the missing ones are overwritten by. A symbol is an element of the
+/// level `L`, by as many bits of a word as that has. `reconstruct` asks that no more are missing than there are of parity.
+pub fn lost_shards_return<R: Unsigned, L: Level<R>>()
+    ensures { LostSymbolsReturn (level_element R.number L.LEVEL) R.ZERO L.LEVEL }
 {}

@@ -12,7 +12,8 @@ mod encoding;
 mod error;
 mod laws;
 mod points;
+mod restoring;
 
 pub use crate::codec::TransformCode;
 pub use crate::error::TransformCodeError;
-pub use crate::laws::{lost_symbols_are_located, shards_determine};
+pub use crate::laws::{lost_shards_return, lost_symbols_are_located, shards_determine};

@@ -1,16 +1,12 @@
-use Rattle.std.proofs.Common.{◌≡◌, ◌+◌, ◌*◌, ◌%◌, ◌^◌, ◌<◌, ◌≤◌, ℕ, refl, ◌∙◌, arith, lit<}
+use Rattle.std.proofs.Common.{◌+◌, ◌^◌, ◌<◌, ◌≤◌, ℕ, refl, arith, lit<}
 use Rattle.std.proofs.Math.Nat.{pow-le-pow_right}
-use Rattle.std.proofs.Math.Pow.{shl_exact}
-use native.Mathlib.Nat.{one-mul}
 use Rattle.transform_codes.proofs.codec.TransformCode.new.Goals as goal
 
-pub returns-then-levels-parity_shards-gt65536-clause-many : goal.returns-then-levels-parity_shards-gt65536-clause-many
-returns-then-levels-parity_shards-gt65536-clause-many c some_data some_parity = (refl, λ n padded. past n padded)
+pub returns-then-places-gt65536-clause-many : goal.returns-then-places-gt65536-clause-many
+returns-then-places-gt65536-clause-many c some_data some_parity = (refl, λ n padded. past n padded)
   where
     past : (n : ℕ) → c.args.data_shards ≤ 2 ^ n → 65536 < 2 ^ n + c.args.parity_shards
     past n padded =
         let levels = c.levels_of-levels.result in
         let more : 2 ^ levels ≤ 2 ^ n = pow-le-pow_right (lit< tt) (c.levels_of-levels.ensures.padded.least n padded) in
-        let shifted : (1 * 2 ^ levels) % 2 ^ 64 ≡ 2 ^ levels =
-        shl_exact {a = 1} 1 levels 64 (lit< tt) (omega (arith, c.levels_of-levels.ensures.low)) ∙ one-mul (2 ^ levels) in
-        omega (arith, more, shifted, c.if-levels-parity_shards-gt65536.true)
+        omega (arith, more, c.power_of.ensures.power, c.if-places-gt65536.true)
