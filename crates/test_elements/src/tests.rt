@@ -1,5 +1,6 @@
 mod arrays;
 mod bits;
+mod matrices;
 mod packings;
 mod provers;
 mod slices;
