@@ -4,6 +4,8 @@
 //! are the values of one polynomial at the points that Cantor vectors span, so that an inverse transform of the data and forward ones at
 //! the points of the parity encode it (S.-J. Lin, W.-H. Chung and Y. S. Han, Novel polynomial basis and its application to Reed-Solomon
 //! erasure codes, 2014): some log k products a symbol, where a code by matrices takes m.
+//!
+//! Missing shards, no more than there are of parity, are restored by four transforms a column, in a level that has twice the points.
 #![tactic(auto)]
 
 mod codec;
