@@ -9,6 +9,7 @@ mod PathChecks
 mod Paths
 mod Points
 mod Polynomials
+mod ProofBytes
 mod Refusals
 mod Roots
 mod Statements

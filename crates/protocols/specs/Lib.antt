@@ -5,6 +5,7 @@ pub mod Interleaved
 pub mod MerkleTrees
 pub mod Openings
 pub mod Products
+pub mod ProofBytes
 pub mod Queries
 pub mod Refusals
 pub mod Runs

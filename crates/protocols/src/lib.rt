@@ -15,6 +15,7 @@ pub mod laws;
 pub mod merkle_paths;
 pub mod merkle_tree;
 pub mod openings;
+pub mod proof_bytes;
 pub mod queries;
 pub mod statement;
 pub mod sumcheck;
