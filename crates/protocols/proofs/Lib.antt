@@ -19,6 +19,9 @@ mod Soundness
 mod SumcheckStatements
 mod SumcheckSteps
 mod SumcheckWhole
+mod TableLaws
+mod TableOpenings
+mod TableRows
 mod TermSteps
 mod ZeroChecks
 mod ZeroSums

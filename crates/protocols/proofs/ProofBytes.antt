@@ -10,67 +10,67 @@ use Rattle.std.proofs.lemmas.List.Concat.{flat_map-cons}
 use native.Mathlib.Numerals.{add-one}
 use Rattle.field_bytes.specs.Bytes.{low_bytes, number_of_bytes}
 use Rattle.field_bytes.proofs.Taking.{given_back, length-chunks}
-use Rattle.protocols.specs.ProofBytes.{proof_bytes}
+use Rattle.field_bytes.specs.Streams.{joined_bytes}
 
 module _ {F : Type 0} (size : ℕ) (repr : F → ℕ) where
   abbrev bytes_of : F → List ℕ
   bytes_of x = low_bytes size (repr x)
 
-  pub proof-cons : (x : F) (xs : List F) → proof_bytes size repr (x ∷ xs) ≡ low_bytes size (repr x) ++ proof_bytes size repr xs
+  pub proof-cons : (x : F) (xs : List F) → joined_bytes size repr (x ∷ xs) ≡ low_bytes size (repr x) ++ joined_bytes size repr xs
   proof-cons x xs = flat_map-cons bytes_of x xs
 
   -- one element more
-  pub proof-more : (xs longer : List F) (x : F) → longer ≡ xs ++ x ∷ [] → proof_bytes size repr longer ≡ proof_bytes size repr xs ++ low_bytes size (repr x)
+  pub proof-more : (xs longer : List F) (x : F) → longer ≡ xs ++ x ∷ [] → joined_bytes size repr longer ≡ joined_bytes size repr xs ++ low_bytes size (repr x)
   proof-more xs longer x is =
-      ap (proof_bytes size repr) is ∙ flat_map-append bytes_of xs (x ∷ [])
-      ∙ ap (λ (ys : List ℕ). proof_bytes size repr xs ++ ys) (append-nil (low_bytes size (repr x)))
+      ap (joined_bytes size repr) is ∙ flat_map-append bytes_of xs (x ∷ [])
+      ∙ ap (λ (ys : List ℕ). joined_bytes size repr xs ++ ys) (append-nil (low_bytes size (repr x)))
 
   pub element-written : (elements : List F) (index : ℕ) (x : F) (old new part : List ℕ) → index < length elements → x ≡ get_or elements index x
-      → new ≡ old ++ part → part ≡ low_bytes size (repr x) → old ≡ proof_bytes size repr (take index elements)
-      → new ≡ proof_bytes size repr (take (index + 1) elements)
+      → new ≡ old ++ part → part ≡ low_bytes size (repr x) → old ≡ joined_bytes size repr (take index elements)
+      → new ≡ joined_bytes size repr (take (index + 1) elements)
   element-written elements index x old new part inside is written bytes so_far =
       written ∙ ap₂ (λ (a b : List ℕ). a ++ b) so_far bytes
       ∙ sym (proof-more (take index elements) (take (index + 1) elements) x
       (ap (λ (n : ℕ). take n elements) (add-one index) ∙ take-suc elements index x inside ∙ ap (λ (y : F). take index elements ++ y ∷ []) (sym is)))
 
-  pub length-proof : (xs : List F) → length (proof_bytes size repr xs) ≡ length xs * size
+  pub length-proof : (xs : List F) → length (joined_bytes size repr xs) ≡ length xs * size
   length-proof [] = let none : 0 ≡ 0 * size = omega arith in none
   length-proof (x ∷ xs) =
       let rest = length-proof xs in
       let first = length-chunks 8 size (repr x) in
-      ap length (proof-cons x xs) ∙ length-append (low_bytes size (repr x)) (proof_bytes size repr xs) ∙ ap₂ (λ (a b : ℕ). a + b) first rest ∙ omega arith
+      ap length (proof-cons x xs) ∙ length-append (low_bytes size (repr x)) (joined_bytes size repr xs) ∙ ap₂ (λ (a b : ℕ). a + b) first rest ∙ omega arith
 
   -- the first element, and the others
-  proof-first : (x : F) (xs : List F) → take size (proof_bytes size repr (x ∷ xs)) ≡ low_bytes size (repr x)
+  proof-first : (x : F) (xs : List F) → take size (joined_bytes size repr (x ∷ xs)) ≡ low_bytes size (repr x)
   proof-first x xs =
       ap (take size) (proof-cons x xs)
-      ∙ ap (λ (n : ℕ). take n (low_bytes size (repr x) ++ proof_bytes size repr xs)) (sym (length-chunks 8 size (repr x)))
-      ∙ take-append_seam (low_bytes size (repr x)) (proof_bytes size repr xs)
+      ∙ ap (λ (n : ℕ). take n (low_bytes size (repr x) ++ joined_bytes size repr xs)) (sym (length-chunks 8 size (repr x)))
+      ∙ take-append_seam (low_bytes size (repr x)) (joined_bytes size repr xs)
 
-  proof-rest : (x : F) (xs : List F) → drop size (proof_bytes size repr (x ∷ xs)) ≡ proof_bytes size repr xs
+  proof-rest : (x : F) (xs : List F) → drop size (joined_bytes size repr (x ∷ xs)) ≡ joined_bytes size repr xs
   proof-rest x xs =
       ap (drop size) (proof-cons x xs)
-      ∙ ap (λ (n : ℕ). drop n (low_bytes size (repr x) ++ proof_bytes size repr xs)) (sym (length-chunks 8 size (repr x)))
-      ∙ drop-append_seam (low_bytes size (repr x)) (proof_bytes size repr xs)
+      ∙ ap (λ (n : ℕ). drop n (low_bytes size (repr x) ++ joined_bytes size repr xs)) (sym (length-chunks 8 size (repr x)))
+      ∙ drop-append_seam (low_bytes size (repr x)) (joined_bytes size repr xs)
 
   -- the bytes at the place of an element are those of an element
   pub element-at : (xs : List F) (index : ℕ) → index < length xs
-      → (x : F) × (take size (drop (index * size) (proof_bytes size repr xs)) ≡ low_bytes size (repr x))
+      → (x : F) × (take size (drop (index * size) (joined_bytes size repr xs)) ≡ low_bytes size (repr x))
   element-at [] index inside = absurd (omega (arith, inside))
   element-at (x ∷ xs) zero inside =
-      let none : 0 * size ≡ 0 = omega arith in (x, ap (λ (n : ℕ). take size (drop n (proof_bytes size repr (x ∷ xs)))) none ∙ proof-first x xs)
+      let none : 0 * size ≡ 0 = omega arith in (x, ap (λ (n : ℕ). take size (drop n (joined_bytes size repr (x ∷ xs)))) none ∙ proof-first x xs)
   element-at (x ∷ xs) (suc index) inside =
       let later = element-at xs index (omega (arith, inside)) in
       let next : suc index * size ≡ size + index * size = omega arith in (
         later.0,
-        ap (λ (n : ℕ). take size (drop n (proof_bytes size repr (x ∷ xs)))) next
-            ∙ ap (take size) (sym (drop-drop (index * size) size (proof_bytes size repr (x ∷ xs))))
+        ap (λ (n : ℕ). take size (drop n (joined_bytes size repr (x ∷ xs)))) next
+            ∙ ap (take size) (sym (drop-drop (index * size) size (joined_bytes size repr (x ∷ xs))))
             ∙ ap (λ (ys : List ℕ). take size (drop (index * size) ys)) (proof-rest x xs) ∙ later.1,
       )
 
   -- two proofs with the same bytes are the same
   pub same-proof : 0 < size → ((x y : F) → low_bytes size (repr x) ≡ low_bytes size (repr y) → x ≡ y) → (xs ys : List F)
-      → proof_bytes size repr xs ≡ proof_bytes size repr ys → xs ≡ ys
+      → joined_bytes size repr xs ≡ joined_bytes size repr ys → xs ≡ ys
   same-proof some same [] [] is = refl
   same-proof some same [] (y ∷ ys) is =
       let none = length-proof [] in
@@ -146,8 +146,8 @@ front-whole bytes index size even last =
 module _ {F : Type 0} (size : ℕ) (repr : F → ℕ) (some : 0 < size) (bytes : List ℕ) (local : ℕ) (same : local ≡ size) where
   -- one element more is read
   pub element-read : (part : List ℕ) (index : ℕ) (items longer : List F) (x : F) → part ≡ take local (drop (index * local) bytes)
-      → part ≡ low_bytes size (repr x) → longer ≡ items ++ x ∷ [] → take (index * size) bytes ≡ proof_bytes size repr items
-      → take ((index + 1) * size) bytes ≡ proof_bytes size repr longer
+      → part ≡ low_bytes size (repr x) → longer ≡ items ++ x ∷ [] → take (index * size) bytes ≡ joined_bytes size repr items
+      → take ((index + 1) * size) bytes ≡ joined_bytes size repr longer
   element-read part index items longer x is own pushed so_far =
       let next : (index + 1) * size ≡ index * size + size = omega arith in
       ap (λ (n : ℕ). take n bytes) next ∙ take-add (index * size) size bytes
@@ -156,19 +156,19 @@ module _ {F : Type 0} (size : ℕ) (repr : F → ℕ) (some : 0 < size) (bytes :
 
   -- all of the bytes are read
   pub all-read : (index : ℕ) (items : List F) → length bytes % local ≡ 0 → index ≡ length bytes / local
-      → take (index * size) bytes ≡ proof_bytes size repr items → bytes ≡ proof_bytes size repr items
+      → take (index * size) bytes ≡ joined_bytes size repr items → bytes ≡ joined_bytes size repr items
   all-read index items even last so_far =
       sym (front-whole bytes index local even last) ∙ ap (λ (n : ℕ). take (index * n) bytes) same ∙ so_far
 
   -- bytes of another number are of no proof
-  pub no-proof : length bytes % local ≢ 0 → (elements : List F) → bytes ≢ proof_bytes size repr elements
+  pub no-proof : length bytes % local ≢ 0 → (elements : List F) → bytes ≢ joined_bytes size repr elements
   no-proof other elements is =
       other (ap (λ (n : ℕ). n % local) (ap length is ∙ length-proof size repr elements ∙ ap (λ (n : ℕ). length elements * n) (sym same))
       ∙ mul-mod_left (length elements) local)
 
   -- and so are bytes of which a part is of no element
   pub no-part : (part : List ℕ) (index : ℕ) → part ≡ take local (drop (index * local) bytes) → index < length bytes / local
-      → ((x : F) → part ≢ low_bytes size (repr x)) → (elements : List F) → bytes ≢ proof_bytes size repr elements
+      → ((x : F) → part ≢ low_bytes size (repr x)) → (elements : List F) → bytes ≢ joined_bytes size repr elements
   no-part part index is inside none elements all =
       let long : length bytes / local ≡ length elements =
       ap₂ (λ (a b : ℕ). a / b) (ap length all ∙ length-proof size repr elements) same ∙ mul-div_cancel (length elements) some in

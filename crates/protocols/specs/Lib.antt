@@ -5,12 +5,12 @@ pub mod Interleaved
 pub mod MerkleTrees
 pub mod Openings
 pub mod Products
-pub mod ProofBytes
 pub mod Queries
 pub mod Refusals
 pub mod Runs
 pub mod Sumcheck
 pub mod SumcheckClaims
 pub mod SumcheckRuns
+pub mod Tables
 pub mod Terms
 pub mod ZeroCheck

@@ -19,6 +19,7 @@ pub mod proof_bytes;
 pub mod queries;
 pub mod statement;
 pub mod sumcheck;
+pub mod tables;
 pub mod terms;
 mod verdicts;
 

@@ -2,7 +2,7 @@
 // values at the challenges, or a witness of work. The verifier knows how many of each there are.
 ghost use Rattle.std.specs.Prelude.{◌≡◌, ◌≢◌, List, length, IfNone, IfOk, IfSome};
 ghost use Rattle.field_bytes.specs.Bytes.{low_bytes};
-ghost use Rattle.protocols.specs.ProofBytes.{proof_bytes};
+ghost use Rattle.field_bytes.specs.Streams.{joined_bytes};
 
 use crate::merkle_paths::row_of;
 use std::alloc::{AllocError, Allocator};
@@ -14,7 +14,7 @@ pub fn encode<F: ByteLevel, A: Allocator>(
     alloc: A,
     elements: &[F],
 ) -> Result<Vec<u8, A>, AllocError>
-    ensures { IfOk result (λ bytes. bytes.items ≡ proof_bytes F.NUM_BYTES F.repr elements.now) }
+    ensures { IfOk result (λ bytes. bytes.items ≡ joined_bytes F.NUM_BYTES F.repr elements.now) }
 {
     let mut bytes = Vec::new(alloc);
     'elements: for index in 0..elements.len() {
@@ -31,10 +31,10 @@ pub fn decode<F: ByteLevel, A: Allocator>(
     alloc: A,
     bytes: &[u8],
 ) -> Result<Option<Vec<F, A>>, AllocError>
-    ensures written { IfOk result (λ read. IfSome read (λ elements. bytes.now ≡ proof_bytes F.NUM_BYTES F.repr elements.items)) }
-    ensures own { IfOk result (λ read. IfSome read (λ elements. (others : List F) → bytes.now ≡ proof_bytes F.NUM_BYTES F.repr others
+    ensures written { IfOk result (λ read. IfSome read (λ elements. bytes.now ≡ joined_bytes F.NUM_BYTES F.repr elements.items)) }
+    ensures own { IfOk result (λ read. IfSome read (λ elements. (others : List F) → bytes.now ≡ joined_bytes F.NUM_BYTES F.repr others
         → elements.items ≡ others)) }
-    ensures none { IfOk result (λ read. IfNone read ((elements : List F) → bytes.now ≢ proof_bytes F.NUM_BYTES F.repr elements)) }
+    ensures none { IfOk result (λ read. IfNone read ((elements : List F) → bytes.now ≢ joined_bytes F.NUM_BYTES F.repr elements)) }
 {
     let size = F::NUM_BYTES;
     if bytes.len() % size != 0 {

@@ -279,7 +279,7 @@ fn test_messages<F: Field>(
 }
 
 // Whether so many values are `count` parts of this size, which is not 0.
-fn has_length(length: usize, count: usize, size: usize) -> bool
+pub(crate) fn has_length(length: usize, count: usize, size: usize) -> bool
     requires { 0 < size }
     ensures { IsTrue result ↔ (length ≡ count * size) }
 {

@@ -1,8 +1,8 @@
 use Rattle.std.proofs.Common.{◌≡◌, take}
-use Rattle.protocols.specs.ProofBytes.{proof_bytes}
+use Rattle.field_bytes.specs.Streams.{joined_bytes}
 use Rattle.protocols.proofs.ProofBytes.{element-written}
 use Rattle.protocols.proofs.proof_bytes.encode.Given as goal
 
 -- the elements before this one are written
 abbrev pub invariant-elements : goal.invariant-elements
-invariant-elements g l = l.bytes.items ≡ proof_bytes g.F.RawDataSerializable.NUM_BYTES g.F.Represented.repr (take l.index l.elements)
+invariant-elements g l = l.bytes.items ≡ joined_bytes g.F.RawDataSerializable.NUM_BYTES g.F.Represented.repr (take l.index l.elements)
