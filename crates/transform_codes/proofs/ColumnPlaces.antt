@@ -17,6 +17,10 @@ same_column size i j c d c_below d_below same =
 pub place_below : (size count i c : ℕ) → i < count → c < size → i * size + c < count * size
 place_below size count i c within inside = let below = mul-add-lt i size c count within inside in omega (arith, below)
 
+-- the same, where the shards have so many words
+pub place_within : (size count i c words : ℕ) → words ≡ count * size → i < count → c < size → i * size + c ≤ words
+place_within size count i c words long within inside = omega (arith, long, place_below size count i c within inside)
+
 -- one more word is written
 pub scattered_more : {W : Type 0} (zero : W) (size column first t count : ℕ) (values old now : List W) (v : W)
     → column < size → length now ≡ count * size → first + t < count → v ≡ get_or values t zero

@@ -2,6 +2,19 @@
 use Rattle.std.specs.Prelude.{◌≡◌, ◌≢◌, ◌⊎◌, ℕ, ◌+◌, ◌*◌, ◌^◌, ◌<◌, ◌≤◌, List, slice_index_or}
 use Rattle.transform_codes.specs.Codes.{shard_symbol, value_at}
 
+-- what coded columns need: words of k shards and of m of parity, and 2 ^ n coefficients and as many words of a block, no fewer than shards
+-- of data, where the level has as many points
+pub record FitEncoding (level n k m size words parity_words coefficients block : ℕ) : Type 0 where
+  pub few : n ≤ 16
+  pub points : n ≤ 2 ^ level
+  pub coefficients_long : coefficients ≡ 2 ^ n
+  pub block_long : block ≡ 2 ^ n
+  pub padded : k ≤ 2 ^ n
+  pub room : m ≤ 65536
+  pub some : 0 < m
+  pub whole : words ≡ k * size
+  pub parity_whole : parity_words ≡ m * size
+
 -- the first `until` places hold the words of a column of `count` shards, and zeros behind them
 abbrev pub HoldColumn : {W : Type 0} → W → ℕ → ℕ → ℕ → List W → ℕ → List W → Type 0
 HoldColumn zero count size column shards until values =

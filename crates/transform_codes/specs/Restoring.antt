@@ -4,7 +4,7 @@ use Rattle.field_base.specs.Tower.{tower_mul}
 use Rattle.ghash_slices.specs.Cantor.{point}
 use Rattle.word_tables.specs.Cantor.{cantor_vector}
 use Rattle.transform_codes.specs.Codes.{IsCodedColumn, shard_symbol}
-use Rattle.transform_codes.specs.Locators.{locator}
+use Rattle.transform_codes.specs.Locators.{locator, lost_count}
 
 -- shard i is at hand
 abbrev pub IsAtHand : List Bool → ℕ → Type 0
@@ -41,6 +41,23 @@ pub record IsFactor (level k n m : ℕ) (present : List Bool) (count p factor : 
 abbrev pub AreFactors : {W : Type 0} → (W → ℕ) → W → ℕ → ℕ → ℕ → ℕ → List Bool → ℕ → ℕ → List W → Type 0
 AreFactors number zero level k n m present count until factors =
     (p : ℕ) → p < until → IsFactor level k n m present count p (number (slice_index_or factors p zero))
+
+-- what restored columns need: words of k shards and of m of parity, with a flag for each, values at 2 ^ r points, of which the level has
+-- twice as many, no more lost symbols among them than leave as many as a polynomial has coefficients, the point behind them, and the
+-- factors of all
+pub record FitRestoring {W : Type 0} (number : W → ℕ) (zero : W) (level n k m size r : ℕ) (present : List Bool)
+    (words parity_words values : ℕ) (behind : W) (factors : List W) : Type 0 where
+  pub flags : length present ≡ k + m
+  pub whole : words ≡ k * size
+  pub parity_whole : parity_words ≡ m * size
+  pub count : values ≡ 2 ^ r
+  pub few : r ≤ 16
+  pub points : r + 1 ≤ 2 ^ level
+  pub room : 2 ^ n + m ≤ 2 ^ r
+  pub enough : lost_count (is_lost k n m present) (2 ^ r) + 2 ^ n ≤ 2 ^ r
+  pub next : number behind ≡ point (2 ^ level) cantor_vector 0 (2 ^ r)
+  pub factors_long : length factors ≡ 2 * 2 ^ r
+  pub all : AreFactors number zero level k n m present (2 ^ r) (2 * 2 ^ r) factors
 
 -- the word of a column at point p: of the data, zero up to 2 ^ n, of the parity, and zero behind it
 abbrev pub word_at : {W : Type 0} → W → ℕ → ℕ → ℕ → ℕ → ℕ → List W → List W → ℕ → W

@@ -4,7 +4,7 @@ ghost use Rattle.tower_transforms.specs.Words.{level_element};
 ghost use Rattle.transform_codes.specs.Codes.{AreCodedColumns};
 ghost use Rattle.transform_codes.specs.Locators.{lost_count};
 ghost use Rattle.transform_codes.specs.Restoring.{AreRestoredColumns, is_missing};
-ghost use Rattle.transform_codes.specs.Sizes.{CanEncode, CanRebuild, EncodeError, IsPadded, RebuildError};
+ghost use Rattle.transform_codes.specs.Sizes.{CanEncode, CanRebuild, EncodeError, HaveOneSize, IsPadded, RebuildError, SizeError};
 ghost use Rattle.transform_codes.specs.declared.error.TransformCodeError.TheVariants.{TooFewDataShards, TooFewParityShards, TooManyShards};
 
 use crate::encoding::encode_columns;
@@ -211,14 +211,7 @@ impl TransformCode {
         if !has_points::<R, L>(2 * count) {
             return Err(TransformCodeError::TooManyShards);
         }
-        if words == 0 {
-            return Err(TransformCodeError::EmptyShard);
-        }
-        let size = words / self.data_shards;
-        let whole = words % self.data_shards == 0 && parity_words % self.parity_shards == 0;
-        if !whole || parity_words / self.parity_shards != size {
-            return Err(TransformCodeError::IncorrectShardSize);
-        }
+        let size = self.one_size(words, parity_words)?;
         if missing_count(present) > self.parity_shards {
             return Err(TransformCodeError::TooFewShardsPresent);
         }
@@ -246,6 +239,20 @@ impl TransformCode {
         if !has_points::<R, L>(points + self.parity_shards) {
             return Err(TransformCodeError::TooManyShards);
         }
+        let size = self.one_size(words, parity_words)?;
+        if space < 2 * points {
+            return Err(TransformCodeError::TooLittleSpace);
+        }
+        Ok(size)
+    }
+
+    // The size of each shard, by the words of all, where all have one.
+    fn one_size(&self, words: usize, parity_words: usize) -> Result<usize, TransformCodeError>
+        ensures accepted { IsOk result ↔ HaveOneSize self.now.data_shards self.now.parity_shards words parity_words }
+        ensures size { IfOk result (λ size. (size ≡ words / self.now.data_shards) × (words ≡ self.now.data_shards * size)
+            × (parity_words ≡ self.now.parity_shards * size)) }
+        ensures refused { IfErr result (λ error. SizeError self.now.data_shards self.now.parity_shards words parity_words error) }
+    {
         if words == 0 {
             return Err(TransformCodeError::EmptyShard);
         }
@@ -253,9 +260,6 @@ impl TransformCode {
         let whole = words % self.data_shards == 0 && parity_words % self.parity_shards == 0;
         if !whole || parity_words / self.parity_shards != size {
             return Err(TransformCodeError::IncorrectShardSize);
-        }
-        if space < 2 * points {
-            return Err(TransformCodeError::TooLittleSpace);
         }
         Ok(size)
     }

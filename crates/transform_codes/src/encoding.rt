@@ -2,7 +2,7 @@
 ghost use Rattle.std.specs.Prelude.{◌≡◌, ◌⊎◌, ℕ, ◌+◌, ◌*◌, ◌^◌, ◌<◌, ◌≤◌, length, map, slice_index_or};
 ghost use Rattle.tower_transforms.specs.Words.{level_element};
 ghost use Rattle.transform_codes.specs.Codes.{AreCodedColumns, IsCodedColumn, shard_symbol};
-ghost use Rattle.transform_codes.specs.Columns.{AreParityBelow, OthersAreKept};
+ghost use Rattle.transform_codes.specs.Columns.{AreParityBelow, FitEncoding, OthersAreKept};
 
 use crate::columns::{gather, scatter};
 use crate::points::point_of;
@@ -69,16 +69,9 @@ fn encode_column<R: Unsigned, L: Level<R>>(
     column: usize,
     levels: usize,
 )
-    requires few { levels ≤ 16 }
-    requires points { levels ≤ 2 ^ L.LEVEL }
-    requires coefficients { length coefficients.old ≡ 2 ^ levels }
-    requires block { length block.old ≡ 2 ^ levels }
     requires inside { column < size }
-    requires padded { data_shards ≤ 2 ^ levels }
-    requires room { parity_shards ≤ 65536 }
-    requires some { 0 < parity_shards }
-    requires whole { length shards.now ≡ data_shards * size }
-    requires parity_whole { length parity.old ≡ parity_shards * size }
+    requires fit { FitEncoding L.LEVEL levels data_shards parity_shards size (length shards.now) (length parity.old)
+        (length coefficients.old) (length block.old) }
     ensures coefficients_long { length coefficients.new ≡ length coefficients.old }
     ensures block_long { length block.new ≡ length block.old }
     ensures long { length parity.new ≡ length parity.old }
@@ -115,15 +108,8 @@ pub(crate) fn encode_columns<R: Unsigned, L: Level<R>>(
     size: usize,
     levels: usize,
 )
-    requires few { levels ≤ 16 }
-    requires points { levels ≤ 2 ^ L.LEVEL }
-    requires coefficients { length coefficients.old ≡ 2 ^ levels }
-    requires block { length block.old ≡ 2 ^ levels }
-    requires padded { data_shards ≤ 2 ^ levels }
-    requires room { parity_shards ≤ 65536 }
-    requires some { 0 < parity_shards }
-    requires whole { length shards.now ≡ data_shards * size }
-    requires parity_whole { length parity.old ≡ parity_shards * size }
+    requires { FitEncoding L.LEVEL levels data_shards parity_shards size (length shards.now) (length parity.old)
+        (length coefficients.old) (length block.old) }
     ensures long { length parity.new ≡ length parity.old }
     ensures encoded { AreCodedColumns (level_element R.number L.LEVEL) R.ZERO L.LEVEL levels data_shards parity_shards size shards.now
         parity.new }

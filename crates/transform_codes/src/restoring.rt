@@ -1,14 +1,11 @@
 // Lost shards, column by column, by four transforms. The product of a word's polynomial and the locator of its lost symbols is known at all
 // points, since it is 0 at the lost ones, so that an inverse transform gives its coefficients. At as many points behind those, where the
 // locator has no root, it is divided by the locator, and what an inverse transform makes of that is the word's polynomial.
-ghost use Rattle.std.specs.Prelude.{◌≡◌, ◌≢◌, ◌⊎◌, ℕ, ◌+◌, ◌-◌, ◌*◌, ◌^◌, ◌<◌, ◌≤◌, length, map, slice_index_or};
+ghost use Rattle.std.specs.Prelude.{◌≡◌, ◌≢◌, ◌⊎◌, ℕ, ◌+◌, ◌-◌, ◌*◌, ◌<◌, ◌≤◌, length, slice_index_or};
 ghost use Rattle.field_base.specs.Tower.{tower_mul};
 ghost use Rattle.tower_transforms.specs.Words.{level_element};
-ghost use Rattle.transform_codes.specs.Locators.{lost_count};
-ghost use Rattle.transform_codes.specs.Restoring.{AreFactors, AreMended, ArePoints, AreRestoredColumns, IsAtHand, IsFactor};
+ghost use Rattle.transform_codes.specs.Restoring.{AreFactors, AreMended, ArePoints, AreRestoredColumns, FitRestoring, IsAtHand, IsFactor};
 ghost use Rattle.transform_codes.specs.Restoring.{RestoresSymbols, is_lost, missing_locator, word_at};
-ghost use Rattle.ghash_slices.specs.Cantor.{point};
-ghost use Rattle.word_tables.specs.Cantor.{cantor_vector};
 
 use crate::codec::TransformCode;
 use crate::points::point_of;
@@ -209,19 +206,8 @@ fn restore_column<R: Unsigned, L: Level<R>>(
     levels: usize,
 )
     requires inside { column < size }
-    requires flags { length present.now ≡ code.now.data_shards + code.now.parity_shards }
-    requires whole { length shards.old ≡ code.now.data_shards * size }
-    requires parity_whole { length parity.old ≡ code.now.parity_shards * size }
-    requires count { length values.old ≡ 2 ^ levels }
-    requires few { levels ≤ 16 }
-    requires points { levels + 1 ≤ 2 ^ L.LEVEL }
-    requires room { 2 ^ code.now.levels + code.now.parity_shards ≤ 2 ^ levels }
-    requires enough { lost_count (is_lost code.now.data_shards code.now.levels code.now.parity_shards present.now) (2 ^ levels)
-        + 2 ^ code.now.levels ≤ 2 ^ levels }
-    requires behind { R.number behind ≡ point (2 ^ L.LEVEL) cantor_vector 0 (2 ^ levels) }
-    requires factors_long { length factors.now ≡ 2 * 2 ^ levels }
-    requires factors { AreFactors R.number R.ZERO L.LEVEL code.now.data_shards code.now.levels code.now.parity_shards present.now
-        (2 ^ levels) (2 * 2 ^ levels) factors.now }
+    requires fit { FitRestoring R.number R.ZERO L.LEVEL code.now.levels code.now.data_shards code.now.parity_shards size levels present.now
+        (length shards.old) (length parity.old) (length values.old) behind factors.now }
     ensures values_long { length values.new ≡ length values.old }
     ensures long { length shards.new ≡ length shards.old }
     ensures parity_long { length parity.new ≡ length parity.old }
@@ -273,19 +259,8 @@ pub(crate) fn restore_columns<R: Unsigned, L: Level<R>>(
     size: usize,
     levels: usize,
 )
-    requires flags { length present.now ≡ code.now.data_shards + code.now.parity_shards }
-    requires whole { length shards.old ≡ code.now.data_shards * size }
-    requires parity_whole { length parity.old ≡ code.now.parity_shards * size }
-    requires count { length values.old ≡ 2 ^ levels }
-    requires few { levels ≤ 16 }
-    requires points { levels + 1 ≤ 2 ^ L.LEVEL }
-    requires room { 2 ^ code.now.levels + code.now.parity_shards ≤ 2 ^ levels }
-    requires enough { lost_count (is_lost code.now.data_shards code.now.levels code.now.parity_shards present.now) (2 ^ levels)
-        + 2 ^ code.now.levels ≤ 2 ^ levels }
-    requires behind { R.number behind ≡ point (2 ^ L.LEVEL) cantor_vector 0 (2 ^ levels) }
-    requires factors_long { length factors.now ≡ 2 * 2 ^ levels }
-    requires factors { AreFactors R.number R.ZERO L.LEVEL code.now.data_shards code.now.levels code.now.parity_shards present.now
-        (2 ^ levels) (2 * 2 ^ levels) factors.now }
+    requires { FitRestoring R.number R.ZERO L.LEVEL code.now.levels code.now.data_shards code.now.parity_shards size levels present.now
+        (length shards.old) (length parity.old) (length values.old) behind factors.now }
     ensures long { length shards.new ≡ length shards.old }
     ensures parity_long { length parity.new ≡ length parity.old }
     ensures restored { AreRestoredColumns (level_element R.number L.LEVEL) R.ZERO L.LEVEL code.now.levels code.now.data_shards

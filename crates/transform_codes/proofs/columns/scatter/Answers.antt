@@ -1,17 +1,14 @@
-use Rattle.std.proofs.Common.{◌≡◌, ◌+◌, ◌*◌, ◌<◌, ◌≤◌, length, rules, ◌∙◌, arith}
+use Rattle.std.proofs.Common.{◌+◌, ◌*◌, length, rules, ◌∙◌, arith}
 use Rattle.std.proofs.lemmas.List.{get_or_read}
 use borrow.Author.Rules.{scaled_fits≤}
-use Rattle.transform_codes.proofs.ColumnPlaces.{place_below, scattered_more}
+use Rattle.transform_codes.proofs.ColumnPlaces.{place_within, scattered_more}
 use Rattle.transform_codes.proofs.columns.scatter.Goals as goal
 
 pub offset_bounds-shards-first : goal.offset_bounds-shards-first
 offset_bounds-shards-first g c =
     let i = c.args.first + c.loop-t.t in
-    let within : i < c.args.count = omega arith in
-    let long : length c.loop-t.shards ≡ c.args.count * c.args.size = omega arith in
-    let below : i * c.args.size + c.args.column ≤ length c.loop-t.shards =
-    omega (arith, long, place_below c.args.size c.args.count i c.args.column within c.requires.inside) in
-    scaled_fits≤ (i * c.args.size + c.args.column) (length c.loop-t.shards) _ below (search rules)
+    scaled_fits≤ (i * c.args.size + c.args.column) (length c.loop-t.shards) _
+    (place_within c.args.size c.args.count i c.args.column _ (omega arith) (omega arith) c.requires.inside) (search rules)
 
 pub loop-t-preserved : goal.loop-t-preserved
 loop-t-preserved g c =

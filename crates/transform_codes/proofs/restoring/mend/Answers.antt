@@ -1,20 +1,16 @@
-use Rattle.std.proofs.Common.{◌≡◌, ◌+◌, ◌*◌, ◌<◌, ◌≤◌, List, length, rules, sym, ◌∙◌, subst, arith}
+use Rattle.std.proofs.Common.{◌≡◌, ◌+◌, ◌*◌, ◌<◌, List, length, rules, sym, ◌∙◌, subst, arith}
 use Rattle.std.proofs.lemmas.List.{get_or_read}
 use borrow.Author.Rules.{scaled_fits≤}
 use Rattle.transform_codes.specs.Restoring.{AreMended}
-use Rattle.transform_codes.proofs.ColumnPlaces.{place_below}
+use Rattle.transform_codes.proofs.ColumnPlaces.{place_below, place_within}
 use Rattle.transform_codes.proofs.MendedColumns.{mended_passed, mended_wrote}
 use Rattle.transform_codes.proofs.restoring.mend.Goals as goal
 use Rattle.transform_codes.proofs.restoring.mend.Goals.{then-not-present-first, else-not-present-first}
 
 pub offset_bounds-shards-i : goal.offset_bounds-shards-i
 offset_bounds-shards-i g c =
-    let i = c.loop-i.i in
-    let within : i < c.args.count = omega arith in
-    let long : length c.loop-i.shards ≡ c.args.count * c.args.size = omega arith in
-    let below : i * c.args.size + c.args.column ≤ length c.loop-i.shards =
-    omega (arith, long, place_below c.args.size c.args.count i c.args.column within c.requires.inside) in
-    scaled_fits≤ (i * c.args.size + c.args.column) (length c.loop-i.shards) _ below (search rules)
+    scaled_fits≤ (c.loop-i.i * c.args.size + c.args.column) (length c.loop-i.shards) _
+    (place_within c.args.size c.args.count c.loop-i.i c.args.column _ (omega arith) (omega arith) c.requires.inside) (search rules)
 
 pub loop-i-preserved : goal.loop-i-preserved
 loop-i-preserved g c =

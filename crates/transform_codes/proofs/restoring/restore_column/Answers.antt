@@ -29,8 +29,8 @@ returns-clause-restored g c =
     let quotients = c.divide_each.new.values in
     let second = c.inverse_level-2.new.words in
     let values = c.forward_level-2.new.words in
-    let room : suc r ≤ 2 ^ level = omega (arith, c.requires.points) in
-    let products_long : length products ≡ 2 ^ r = c.set_products.ensures.long ∙ c.requires.count in
+    let room : suc r ≤ 2 ^ level = omega (arith, c.requires.fit.points) in
+    let products_long : length products ≡ 2 ^ r = c.set_products.ensures.long ∙ c.requires.fit.count in
     let first_long : length first ≡ 2 ^ r = c.inverse_level.ensures.length ∙ products_long in
     let behind_long : length behind ≡ 2 ^ r = c.forward_level.ensures.length ∙ first_long in
     let quotients_long : length quotients ≡ 2 ^ r = c.divide_each.ensures.long ∙ behind_long in
@@ -39,10 +39,10 @@ returns-clause-restored g c =
     let nothing : number c.ZERO.result ≡ 0 = ap number c.ZERO.ensures ∙ g.R.Stored.zero_number in
     let nothing_too : number c.ZERO-2.result ≡ 0 = ap number c.ZERO-2.ensures ∙ g.R.Stored.zero_number in
     let padded : k ≤ 2 ^ n = code.padded.enough in
-    let restored = restored_values number zero level k n m r present g.L.Level.few room c.requires.enough (slice_index word.coefficients)
+    let restored = restored_values number zero level k n m r present g.L.Level.few room c.requires.fit.enough (slice_index word.coefficients)
     (word_at zero k n m c.args.size c.args.column shards parity) c.args.factors.now products first behind quotients second values 0
-    (number c.args.behind) (omega arith) c.requires.behind c.requires.factors products_long first_long behind_long quotients_long second_long
-    values_long (λ p below. c.set_products.ensures.products p (omega (arith, below, c.requires.count)))
+    (number c.args.behind) (omega arith) c.requires.fit.next c.requires.fit.all products_long first_long behind_long quotients_long second_long
+    values_long (λ p below. c.set_products.ensures.products p (omega (arith, below, c.requires.fit.count)))
     (subst (λ (y : ℕ). Holds element zero level r y first products) nothing c.inverse_level.ensures.coefficients.have)
     c.forward_level.ensures.values
     (λ p below.
@@ -54,8 +54,8 @@ returns-clause-restored g c =
     known_words number zero g.R.Stored.zero_number level k n m c.args.size c.args.column present shards parity symbol word_parity word data_known
     parity_known padded p known) in (
       data_restored element zero level n k m r c.args.size c.args.column (2 ^ n) present shards parity c.mend.new.shards c.mend-2.new.shards values
-          symbol word_parity word c.requires.inside padded c.requires.room (omega arith) restored data_known c.mend.ensures.mended,
+          symbol word_parity word c.requires.inside padded c.requires.fit.room (omega arith) restored data_known c.mend.ensures.mended,
       parity_restored element zero level n k m r c.args.size c.args.column c.coefficient_count-first.result present shards parity c.mend.new.shards
-          c.mend-2.new.shards values symbol word_parity word c.requires.inside padded c.requires.room c.coefficient_count-first.ensures restored
+          c.mend-2.new.shards values symbol word_parity word c.requires.inside padded c.requires.fit.room c.coefficient_count-first.ensures restored
           parity_known c.mend-2.ensures.mended,
     )
