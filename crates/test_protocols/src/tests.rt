@@ -1,3 +1,5 @@
 mod cheats;
 mod code_words;
 mod openings;
+mod rows;
+mod tables;
