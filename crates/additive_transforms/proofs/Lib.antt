@@ -1,3 +1,5 @@
+pub mod BasisPolynomials
+pub mod BlockPoints
 pub mod BlockStages
 pub mod Butterflies
 pub mod CantorSums

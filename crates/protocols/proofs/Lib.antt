@@ -7,8 +7,6 @@ mod OpeningTrees
 mod OpeningTurns
 mod PathChecks
 mod Paths
-mod Points
-mod Polynomials
 mod ProofBytes
 mod Refusals
 mod Roots

@@ -17,7 +17,7 @@ use Rattle.field_laws.proofs.Polynomials.{IsPolynomial, polynomial-same, polynom
 use Rattle.field_slices.specs.Multilinear.{eq_corner, folded, folded_all, on_line}
 use Rattle.field_slices.proofs.CornerSums.{corners-line, weighted-line}
 use Rattle.field_slices.proofs.CubeLaws.{line-one, line-zero}
-use Rattle.protocols.proofs.Polynomials.{polynomial-product, polynomial-widen}
+use Rattle.additive_transforms.proofs.BasisPolynomials.{polynomial-product, polynomial-widen}
 use Rattle.protocols.specs.Terms.{AreWithin, HaveFactors, FactorsAreWithin, Product, cube_sum, honest_at, product_value, table_value, terms_value}
 
 -- ---- folding a list of an even length

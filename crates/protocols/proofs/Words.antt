@@ -1,24 +1,20 @@
 -- The values of a polynomial, block by block, are a code word, and as many symbols as the message has determine it.
-use Rattle.std.proofs.Common.{◌≡◌, ◌⊎◌, inl, inr, ℕ, zero, suc, ◌+◌, ◌-◌, ◌*◌, ◌%◌, ◌^◌, ◌<◌, ◌≤◌, List, ◌++◌, length, map, sym, ◌∙◌, ap, subst, le_trans, arith, lit<}
+use Rattle.std.proofs.Common.{◌≡◌, ◌⊎◌, inl, inr, ℕ, ◌+◌, ◌-◌, ◌*◌, ◌%◌, ◌^◌, ◌<◌, ◌≤◌, List, ◌++◌, length, map, sym, ◌∙◌, ap, subst, le_trans, arith, lit<}
 use Rattle.std.specs.Prelude.{slice_index}
 use Rattle.std.proofs.Math.Nat.{add-mul, mul-le-mul_left, pow-le-pow_right}
 use Rattle.std.proofs.Math.Pow.{shl_exact}
 use Rattle.std.proofs.lemmas.Bool.{cases_lt}
 use Rattle.std.proofs.lemmas.Grind.{same_number_lists}
 use Rattle.std.proofs.lemmas.List.{get_or_append_left, get_or-append_right, length-append}
-use Rattle.std.proofs.lemmas.Nat.{pow-add, pow_pos, xor_lt}
-use Rattle.std.proofs.lemmas.Nat.Bits.{bit_at-lt}
-use Rattle.std.specs.Int.{bit_at}
-use native.Mathlib.Nat.{one-mul, zero-mul}
-use Rattle.field_base.specs.Basis.{sum_below}
-use Rattle.field_base.specs.BitRingLemmas.{two_cases}
+use Rattle.std.proofs.lemmas.Nat.{pow-add}
+use native.Mathlib.Nat.{one-mul}
 use Rattle.field_laws.proofs.Polynomials.{polynomial-unique}
 use Rattle.ghash_slices.specs.Cantor.{point, polynomial_value}
 use Rattle.ghash_slices.proofs.CantorValues.{points_are_distinct}
 use Rattle.additive_transforms.specs.Transform.{HoldValuesAtPoints}
 use Rattle.protocols.specs.CodeWords.{IsCodeWordOf, PartsDetermine}
-use Rattle.protocols.proofs.Points.{point-joined}
-use Rattle.protocols.proofs.Polynomials.{value-polynomial}
+use Rattle.additive_transforms.proofs.BlockPoints.{point-joined, point-lt}
+use Rattle.additive_transforms.proofs.BasisPolynomials.{value-polynomial}
 
 -- ---- blocks
 
@@ -102,27 +98,6 @@ few_pairs k few =
     omega (arith, product, few)
 
 -- ---- as many symbols as the message has
-
-module _ (width : ℕ) (vector : ℕ → ℕ) (vector-lt : (b : ℕ) → b < width → vector b < 2 ^ width) where
-  -- sums of vectors are elements
-  sum-lt : (p n : ℕ) → n ≤ width → sum_below (λ b. bit_at p b * vector b) n < 2 ^ width
-  unfolding sum_below
-  sum-lt p zero few = pow_pos width
-  sum-lt p (suc n) few =
-      xor_lt width (sum_below (λ b. bit_at p b * vector b) n) (bit_at p n * vector n) (sum-lt p n (omega (arith, few)))
-      (term-lt (vector n) (vector-lt n (omega (arith, few))) (bit_at p n) (bit_at-lt p n))
-    where
-      term-lt : (v : ℕ) → v < 2 ^ width → (d : ℕ) → d < 2 → d * v < 2 ^ width
-      term-lt v fits =
-          two_cases (λ d. d * v < 2 ^ width) (subst (λ (m : ℕ). m < 2 ^ width) (sym (zero-mul v)) (pow_pos width))
-          (subst (λ (m : ℕ). m < 2 ^ width) (sym (one-mul v)) fits)
-
-  -- and points
-  point-lt : (p : ℕ) → point width vector 0 p < 2 ^ width
-  unfolding point
-  point-lt p =
-      let all : width ≤ width = omega arith in
-      xor_lt width 0 (sum_below (λ b. bit_at p b * vector b) width) (pow_pos width) (sum-lt p width all)
 
 -- two code words that agree at 2 ^ k places are the same
 pub parts_determine : PartsDetermine

@@ -1,14 +1,9 @@
 -- As many symbols as there are data determine a code word.
-use Rattle.std.proofs.Common.{◌≡◌, ◌⊎◌, inl, inr, ℕ, zero, suc, ◌+◌, ◌-◌, ◌*◌, ◌^◌, ◌<◌, ◌≤◌, List, sym, ◌∙◌, subst, arith, if◌then◌else◌, nat_lt}
+use Rattle.std.proofs.Common.{◌≡◌, ◌⊎◌, inl, inr, ℕ, ◌+◌, ◌-◌, ◌^◌, ◌<◌, ◌≤◌, List, sym, ◌∙◌, arith, if◌then◌else◌, nat_lt}
 use Rattle.std.specs.Prelude.{slice_index}
 use Rattle.std.proofs.lemmas.Bool.{cases_lt}
 use Rattle.std.proofs.lemmas.Bool.Decides.{nat_tests}
-use Rattle.std.proofs.lemmas.Nat.{pow_pos, xor_lt}
-use Rattle.std.proofs.lemmas.Nat.Bits.{bit_at-lt}
-use Rattle.std.specs.Int.{bit_at}
-use native.Mathlib.Nat.{one-mul, zero-mul}
-use Rattle.field_base.specs.Basis.{sum_below}
-use Rattle.field_base.specs.BitRingLemmas.{two_cases}
+use Rattle.std.proofs.lemmas.Nat.{pow_pos}
 use Rattle.field_base.specs.Tower.{tower_mul}
 use Rattle.field_base.specs.Field.{IsField}
 use Rattle.field_base.proofs.TowerLaws.{tower_field}
@@ -20,24 +15,8 @@ use Rattle.word_tables.specs.Cantor.{cantor_vector}
 use Rattle.word_tables.proofs.LevelLaws.{level_cantor}
 use Rattle.transform_codes.specs.Codes.{IsCodedColumn, value_at}
 use Rattle.transform_codes.specs.Determined.{ShardsDetermine, symbol_of}
-use Rattle.transform_codes.proofs.Polynomials.{value-polynomial}
-
-module _ (width : ℕ) (vector : ℕ → ℕ) (vector-lt : (b : ℕ) → b < width → vector b < 2 ^ width) where
-  -- sums of vectors are elements
-  sum-lt : (p n : ℕ) → n ≤ width → sum_below (λ b. bit_at p b * vector b) n < 2 ^ width
-  unfolding sum_below
-  sum-lt p zero few = pow_pos width
-  sum-lt p (suc n) few =
-      xor_lt width (sum_below (λ b. bit_at p b * vector b) n) (bit_at p n * vector n) (sum-lt p n (omega (arith, few)))
-      (two_cases (λ d. d * vector n < 2 ^ width) (subst (λ (m : ℕ). m < 2 ^ width) (sym (zero-mul (vector n))) (pow_pos width))
-      (subst (λ (m : ℕ). m < 2 ^ width) (sym (one-mul (vector n))) (vector-lt n (omega (arith, few)))) (bit_at p n) (bit_at-lt p n))
-
-  -- and points
-  pub point-lt : (p : ℕ) → point width vector 0 p < 2 ^ width
-  unfolding point
-  point-lt p =
-      let all : width ≤ width = omega arith in
-      xor_lt width 0 (sum_below (λ b. bit_at p b * vector b) width) (pow_pos width) (sum-lt p width all)
+use Rattle.additive_transforms.proofs.BasisPolynomials.{value-polynomial}
+use Rattle.additive_transforms.proofs.BlockPoints.{point-lt}
 
 -- the place of shard i among the points
 abbrev pub place_of : ℕ → ℕ → ℕ → ℕ

@@ -9,7 +9,7 @@ use Rattle.ghash_slices.specs.Cantor.{point, polynomial_value}
 use Rattle.word_tables.specs.Cantor.{cantor_vector}
 use Rattle.transform_codes.specs.Codes.{IsCodedColumn, shard_symbol, value_at}
 use Rattle.transform_codes.specs.Columns.{AreParityBelow, AreScattered, HoldColumn, OthersAreKept}
-use Rattle.transform_codes.proofs.BlockPoints.{point-joined}
+use Rattle.additive_transforms.proofs.BlockPoints.{point-joined}
 
 module _ {W : Type 0} (element : W → ℕ) (zero : W) (level n : ℕ) where
   abbrev pub Holds : ℕ → List W → List W → Type 0

@@ -17,9 +17,9 @@ use Rattle.word_tables.specs.Cantor.{cantor_vector}
 use Rattle.word_tables.proofs.LevelLaws.{level_cantor}
 use Rattle.transform_codes.specs.Located.{LostSymbolsAreLocated, level_point}
 use Rattle.transform_codes.specs.Locators.{locator, lost_count}
-use Rattle.transform_codes.proofs.CodeWordPlaces.{point-lt}
+use Rattle.additive_transforms.proofs.BlockPoints.{point-lt}
 use Rattle.transform_codes.proofs.LocatorFacts.{locator-nonzero, locator-polynomial, locator-root}
-use Rattle.transform_codes.proofs.Polynomials.{polynomial-product, polynomial-widen, value-polynomial}
+use Rattle.additive_transforms.proofs.BasisPolynomials.{polynomial-product, polynomial-widen, value-polynomial}
 
 module _ (level n r : ℕ) (low : level ≤ 7) (room : suc r ≤ 2 ^ level) (lost : ℕ → Bool) (enough : lost_count lost (2 ^ r) + 2 ^ n ≤ 2 ^ r)
     (coefficients : ℕ → ℕ) where

@@ -1,4 +1,3 @@
-pub mod BlockPoints
 mod CodeWordPlaces
 mod CodedColumns
 mod ColumnPlaces
@@ -6,5 +5,4 @@ mod Decoding
 mod LocatorFacts
 mod LostCounts
 mod MendedColumns
-pub mod Polynomials
 mod RestoredColumns

@@ -14,7 +14,7 @@ use Rattle.word_tables.specs.Cantor.{cantor_vector}
 use Rattle.transform_codes.specs.Codes.{IsCodedColumn, shard_symbol, value_at}
 use Rattle.transform_codes.specs.Locators.{lost_count}
 use Rattle.transform_codes.specs.Restoring.{AreFactors, IsAtHand, is_lost, missing_locator, word_at}
-use Rattle.transform_codes.proofs.BlockPoints.{point-joined}
+use Rattle.additive_transforms.proofs.BlockPoints.{point-joined}
 use Rattle.transform_codes.proofs.CodedColumns.{Holds, held}
 use Rattle.transform_codes.proofs.Decoding.{decoded_is, divisor, product_is, quotient_is}
 

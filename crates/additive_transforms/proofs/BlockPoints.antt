@@ -1,13 +1,14 @@
--- The points behind whole blocks of 2 ^ k.
-use Rattle.std.proofs.Common.{◌≡◌, ◌⊎◌, inl, inr, ℕ, ◌+◌, ◌-◌, ◌*◌, ◌^◌, ◌<◌, ◌≤◌, sym, ◌∙◌, ap, ap₂, arith}
+-- The points behind whole blocks of 2 ^ k, and that points are elements.
+use Rattle.std.proofs.Common.{◌≡◌, ◌⊎◌, inl, inr, ℕ, zero, suc, ◌+◌, ◌-◌, ◌*◌, ◌^◌, ◌<◌, ◌≤◌, sym, ◌∙◌, ap, ap₂, subst, arith}
 use Rattle.std.specs.Prelude.{bit_xor}
 use Rattle.std.specs.Int.{bit_at}
 use Rattle.std.proofs.lemmas.Bool.{cases_lt}
-use Rattle.std.proofs.lemmas.Nat.{div-mul-add, mod-mul-add, pow_pos}
-use Rattle.std.proofs.lemmas.Nat.Bits.{bit_at-zero, bit_at_above}
-use native.Mathlib.Nat.{zero-mul}
+use Rattle.std.proofs.lemmas.Nat.{div-mul-add, mod-mul-add, pow_pos, xor_lt}
+use Rattle.std.proofs.lemmas.Nat.Bits.{bit_at-lt, bit_at-zero, bit_at_above}
+use native.Mathlib.Nat.{one-mul, zero-mul}
 use lib.Bits.{xor_assoc, xor_comm, xor_zero_r}
 use Rattle.field_base.specs.Basis.{sum_below}
+use Rattle.field_base.specs.BitRingLemmas.{two_cases}
 use Rattle.field_base.proofs.BasisSums.{bit_at-add, bit_at-mod, sum_below-same}
 use Rattle.ghash_slices.specs.Cantor.{point}
 use Rattle.ghash_slices.proofs.StageSums.{sum_below-xor}
@@ -56,3 +57,22 @@ module _ (vector : ℕ → ℕ) (k q p : ℕ) (below : p < 2 ^ k) where
       (sum_below-xor (λ b. bit_at (q * 2 ^ k) b * vector b) (λ b. bit_at p b * vector b) count
       ∙ sum_below-same (λ b. bit_xor (bit_at (q * 2 ^ k) b * vector b) (bit_at p b * vector b)) (λ b. bit_at (q * 2 ^ k + p) b * vector b) count
       (λ b within. term_joined b))
+
+-- ---- points are elements
+
+module _ (width : ℕ) (vector : ℕ → ℕ) (vector-lt : (b : ℕ) → b < width → vector b < 2 ^ width) where
+  -- sums of vectors are elements
+  sum-lt : (p n : ℕ) → n ≤ width → sum_below (λ b. bit_at p b * vector b) n < 2 ^ width
+  unfolding sum_below
+  sum-lt p zero few = pow_pos width
+  sum-lt p (suc n) few =
+      xor_lt width (sum_below (λ b. bit_at p b * vector b) n) (bit_at p n * vector n) (sum-lt p n (omega (arith, few)))
+      (two_cases (λ d. d * vector n < 2 ^ width) (subst (λ (m : ℕ). m < 2 ^ width) (sym (zero-mul (vector n))) (pow_pos width))
+      (subst (λ (m : ℕ). m < 2 ^ width) (sym (one-mul (vector n))) (vector-lt n (omega (arith, few)))) (bit_at p n) (bit_at-lt p n))
+
+  -- and points
+  pub point-lt : (p : ℕ) → point width vector 0 p < 2 ^ width
+  unfolding point
+  point-lt p =
+      let all : width ≤ width = omega arith in
+      xor_lt width 0 (sum_below (λ b. bit_at p b * vector b) width) (pow_pos width) (sum-lt p width all)
