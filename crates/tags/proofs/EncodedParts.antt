@@ -2,9 +2,9 @@
 use Rattle.std.proofs.Common.{◌≡◌, ℕ, zero, suc, ◌+◌, ◌*◌, ◌/◌, ◌^◌, ◌<◌, List, [], ◌∷◌, ◌++◌, length, take, drop, get_or, refl, sym, ap, ap₂, ◌∙◌, arith, length-append}
 use Rattle.std.specs.Prelude.{bit_xor, map, reverse}
 use Rattle.std.specs.List.{All}
-use Rattle.std.specs.Int.{from_be_bytes, from_le_bytes, to_be_bytes, to_le_bytes, w64, w128}
+use Rattle.std.specs.Int.{byte_at, bytes_high_first, bytes_low_first, from_be_bytes, from_le_bytes, to_be_bytes, to_le_bytes, w64, w128}
 use Rattle.std.proofs.lemmas.List.{length-map, map-append, reverse-append}
-use Rattle.std.proofs.lemmas.List.Elements.{All-append}
+use Rattle.std.proofs.lemmas.List.Elements.{All-append, All-cons, All-nil}
 use Rattle.std.proofs.lemmas.Nat.{from_be_bytes-to_be_bytes_8, from_le_bytes-to_le_bytes_8, pow_pos}
 use Rattle.std.proofs.Math.Seq.{drop-append_seam, take-append_seam}
 use Rattle.tags.specs.Blocks.{AreBytes, IsBlock, blocks_of}
@@ -33,13 +33,15 @@ same_rest p q r s same_length same =
 last_number : (xs : List ℕ) (x : ℕ) → get_or (reverse (xs ++ x ∷ [])) 0 0 ≡ x
 last_number xs x = ap (λ (ys : List ℕ). get_or ys 0 0) (reverse-append xs (x ∷ []))
 
--- a way to write blocks as numbers, and numbers as eight bytes, by which both tell them apart
-module _ (number : List ℕ → ℕ) (write : ℕ → List ℕ)
-    (number_injective : (b c : List ℕ) → IsBlock b → IsBlock c → number b ≡ number c → b ≡ c)
-    (number_lt : (b : List ℕ) → IsBlock b → number b < 2 ^ 128)
-    (length_write : (n : ℕ) → length (write n) ≡ 8)
-    (bytes_write : (n : ℕ) → AreBytes (write n))
-    (write_injective : (m n : ℕ) → m < 2 ^ 64 → n < 2 ^ 64 → write m ≡ write n → m ≡ n) where
+-- a way to write blocks as numbers, and numbers as eight bytes, by which both are told apart
+record TellsApart (number : List ℕ → ℕ) (write : ℕ → List ℕ) : Type 0 where
+  number_injective : (b c : List ℕ) → IsBlock b → IsBlock c → number b ≡ number c → b ≡ c
+  number_lt : (b : List ℕ) → IsBlock b → number b < 2 ^ 128
+  length_write : (n : ℕ) → length (write n) ≡ 8
+  bytes_write : (n : ℕ) → AreBytes (write n)
+  write_injective : (m n : ℕ) → m < 2 ^ 64 → n < 2 ^ 64 → write m ≡ write n → m ≡ n
+
+module _ (number : List ℕ → ℕ) (write : ℕ → List ℕ) (way : TellsApart number write) where
   -- the block of lengths, the blocks, and all of them
   abbrev lengths : List ℕ → List ℕ → List ℕ
   lengths a t = write (length a * 8) ++ write (length t * 8)
@@ -52,8 +54,8 @@ module _ (number : List ℕ → ℕ) (write : ℕ → List ℕ)
 
   lengths_are : (a t : List ℕ) → IsBlock (lengths a t)
   lengths_are a t = (
-    omega (arith, length-append (write (length a * 8)) (write (length t * 8)), length_write (length a * 8), length_write (length t * 8)),
-    All-append (λ byte. byte < 256) (write (length a * 8)) (write (length t * 8)) (bytes_write (length a * 8)) (bytes_write (length t * 8)),
+    omega (arith, length-append (write (length a * 8)) (write (length t * 8)), way.length_write (length a * 8), way.length_write (length t * 8)),
+    All-append (λ byte. byte < 256) (write (length a * 8)) (write (length t * 8)) (way.bytes_write (length a * 8)) (way.bytes_write (length t * 8)),
   )
 
   encoded_are : (a t : List ℕ) → IsPart a → IsPart t → All IsBlock (encoded a t)
@@ -80,13 +82,13 @@ module _ (number : List ℕ → ℕ) (write : ℕ → List ℕ)
   same_numbers (x ∷ xs) [] of_xs of_ys same = absurd (omega (arith, ap length same))
   same_numbers (x ∷ xs) (y ∷ ys) of_xs of_ys same =
       ap₂ (λ (b : List ℕ) (bs : List (List ℕ)). b ∷ bs)
-      (number_injective x y (of_xs 0 [] (omega arith)) (of_ys 0 [] (omega arith)) (ap (λ (zs : List ℕ). get_or zs 0 0) same))
+      (way.number_injective x y (of_xs 0 [] (omega arith)) (of_ys 0 [] (omega arith)) (ap (λ (zs : List ℕ). get_or zs 0 0) same))
       (same_numbers xs ys (λ j e within. of_xs (suc j) e (omega (arith, within))) (λ j e within. of_ys (suc j) e (omega (arith, within)))
       (ap (drop 1) same))
 
   numbers_fit : (xs : List (List ℕ)) → All IsBlock xs → All (λ x. x < 2 ^ 128) (map number xs)
   numbers_fit [] are k d within = absurd (omega (arith, within))
-  numbers_fit (x ∷ xs) are zero d within = number_lt x (are 0 [] (omega arith))
+  numbers_fit (x ∷ xs) are zero d within = way.number_lt x (are 0 [] (omega arith))
   numbers_fit (x ∷ xs) are (suc k) d within =
       numbers_fit xs (λ j e j_within. are (suc j) e (omega (arith, j_within))) k d (omega (arith, within))
 
@@ -95,7 +97,7 @@ module _ (number : List ℕ → ℕ) (write : ℕ → List ℕ)
   same_lengths a t b u same =
       let left : List ℕ = map number (parts a t) in
       let right : List ℕ = map number (parts b u) in
-      number_injective (lengths a t) (lengths b u) (lengths_are a t) (lengths_are b u)
+      way.number_injective (lengths a t) (lengths b u) (lengths_are a t) (lengths_are b u)
       (sym (last_number left (number (lengths a t)))
       ∙ ap (λ (xs : List ℕ). get_or (reverse xs) 0 0) (sym (map-append number (parts a t) (lengths a t ∷ [])))
       ∙ same 0
@@ -104,14 +106,14 @@ module _ (number : List ℕ → ℕ) (write : ℕ → List ℕ)
 
   eight_times : (m n : ℕ) → m < 2 ^ 61 → n < 2 ^ 61 → write (m * 8) ≡ write (n * 8) → m ≡ n
   eight_times m n m_fits n_fits same =
-      let eight : m * 8 ≡ n * 8 = write_injective (m * 8) (n * 8) (omega (arith, m_fits)) (omega (arith, n_fits)) same in
+      let eight : m * 8 ≡ n * 8 = way.write_injective (m * 8) (n * 8) (omega (arith, m_fits)) (omega (arith, n_fits)) same in
       omega (arith, eight)
 
-  pub parts_are_encoded : EncodesParts number encoded
+  parts_are_encoded : EncodesParts number encoded
   parts_are_encoded a t b u of_a of_t of_b of_u same =
       let last : lengths a t ≡ lengths b u = same_lengths a t b u same in
       let eight : length (write (length a * 8)) ≡ length (write (length b * 8)) =
-      length_write (length a * 8) ∙ sym (length_write (length b * 8)) in
+      way.length_write (length a * 8) ∙ sym (way.length_write (length b * 8)) in
       let a_length : length a ≡ length b =
       eight_times (length a) (length b) of_a.1 of_b.1
       (same_first (write (length a * 8)) (write (length b * 8)) (write (length t * 8)) (write (length u * 8)) eight last) in
@@ -143,7 +145,7 @@ module _ (number : List ℕ → ℕ) (write : ℕ → List ℕ)
   module _ (of_numbers : ℕ → List ℕ → ℕ) (of_bytes : List ℕ → List (List ℕ) → List ℕ)
       (number_of_bytes : (key : List ℕ) (blocks : List (List ℕ)) → number (of_bytes key blocks) ≡ of_numbers (number key) (map number blocks))
       (few : AtMostCollide 128 of_numbers) where
-    pub few_keys : FewKeysCollide number of_bytes encoded
+    few_keys : FewKeysCollide number of_bytes encoded
     unfolding AtMostCollide
     few_keys n count difference a t b u key of_a of_t of_b of_u differ left_fits right_fits of_keys keys_differ collide =
         few n count difference (map number (encoded a t)) (map number (encoded b u)) (λ i. number (key i))
@@ -151,9 +153,9 @@ module _ (number : List ℕ → ℕ) (write : ℕ → List ℕ)
         (omega (arith, length-map (encoded b u) number, right_fits), numbers_fit (encoded b u) (encoded_are b u of_b of_u))
         (λ same. differ (parts_are_encoded a t b u of_a of_t of_b of_u same))
         record {
-          below = λ i within. number_lt (key i) (of_keys i within);
+          below = λ i within. way.number_lt (key i) (of_keys i within);
           differ = λ i j i_within j_within same. keys_differ i j i_within j_within
-              (number_injective (key i) (key j) (of_keys i i_within) (of_keys j j_within) same);
+              (way.number_injective (key i) (key j) (of_keys i i_within) (of_keys j j_within) same);
         }
         (λ i within.
         sym (ap₂ bit_xor (number_of_bytes (key i) (encoded a t)) (number_of_bytes (key i) (encoded b u)))
@@ -161,44 +163,50 @@ module _ (number : List ℕ → ℕ) (write : ℕ → List ℕ)
 
 -- ---- the two standards
 
--- eight bytes of a number are bytes, in either order
-be_bytes : (n : ℕ) → AreBytes (to_be_bytes w64 n)
-be_bytes n zero d within = omega arith
-be_bytes n (suc zero) d within = omega arith
-be_bytes n (suc (suc zero)) d within = omega arith
-be_bytes n (suc (suc (suc zero))) d within = omega arith
-be_bytes n (suc (suc (suc (suc zero)))) d within = omega arith
-be_bytes n (suc (suc (suc (suc (suc zero))))) d within = omega arith
-be_bytes n (suc (suc (suc (suc (suc (suc zero)))))) d within = omega arith
-be_bytes n (suc (suc (suc (suc (suc (suc (suc zero))))))) d within = omega arith
-be_bytes n (suc (suc (suc (suc (suc (suc (suc (suc k)))))))) d within = absurd (omega (arith, within))
+-- the bytes of a number are bytes, in either order
+byte_at-lt : (i n : ℕ) → byte_at i n < 256
+byte_at-lt zero n = omega arith
+byte_at-lt (suc i) n = omega arith
 
-le_bytes : (n : ℕ) → AreBytes (to_le_bytes w64 n)
-le_bytes n zero d within = omega arith
-le_bytes n (suc zero) d within = omega arith
-le_bytes n (suc (suc zero)) d within = omega arith
-le_bytes n (suc (suc (suc zero))) d within = omega arith
-le_bytes n (suc (suc (suc (suc zero)))) d within = omega arith
-le_bytes n (suc (suc (suc (suc (suc zero))))) d within = omega arith
-le_bytes n (suc (suc (suc (suc (suc (suc zero)))))) d within = omega arith
-le_bytes n (suc (suc (suc (suc (suc (suc (suc zero))))))) d within = omega arith
-le_bytes n (suc (suc (suc (suc (suc (suc (suc (suc k)))))))) d within = absurd (omega (arith, within))
+high_first_are : (k n : ℕ) → AreBytes (bytes_high_first k n)
+high_first_are zero n = All-nil (λ byte. byte < 256)
+high_first_are (suc k) n = All-cons (λ byte. byte < 256) (byte_at k n) (bytes_high_first k n) (byte_at-lt k n) (high_first_are k n)
 
-be_injective : (m n : ℕ) → m < 2 ^ 64 → n < 2 ^ 64 → to_be_bytes w64 m ≡ to_be_bytes w64 n → m ≡ n
-be_injective m n m_fits n_fits same =
-    sym (from_be_bytes-to_be_bytes_8 m m_fits) ∙ ap (from_be_bytes w64) same ∙ from_be_bytes-to_be_bytes_8 n n_fits
+low_first_are : (i k n : ℕ) → AreBytes (bytes_low_first i k n)
+low_first_are i zero n = All-nil (λ byte. byte < 256)
+low_first_are i (suc k) n =
+    All-cons (λ byte. byte < 256) (byte_at i n) (bytes_low_first (suc i) k n) (byte_at-lt i n) (low_first_are (suc i) k n)
 
-le_injective : (m n : ℕ) → m < 2 ^ 64 → n < 2 ^ 64 → to_le_bytes w64 m ≡ to_le_bytes w64 n → m ≡ n
-le_injective m n m_fits n_fits same =
-    sym (from_le_bytes-to_le_bytes_8 m m_fits) ∙ ap (from_le_bytes w64) same ∙ from_le_bytes-to_le_bytes_8 n n_fits
+-- numbers that are read back from what is written are told apart
+read_back : (write : ℕ → List ℕ) (read : List ℕ → ℕ) → ((n : ℕ) → n < 2 ^ 64 → read (write n) ≡ n)
+    → (m n : ℕ) → m < 2 ^ 64 → n < 2 ^ 64 → write m ≡ write n → m ≡ n
+read_back write read back m n m_fits n_fits same = sym (back m m_fits) ∙ ap read same ∙ back n n_fits
+
+of_gcm : TellsApart (from_be_bytes w128) (to_be_bytes w64)
+of_gcm =
+    record {
+      number_injective = from_be-injective;
+      number_lt = from_be-lt;
+      length_write = λ n. refl;
+      bytes_write = high_first_are 8;
+      write_injective = read_back (to_be_bytes w64) (from_be_bytes w64) from_be_bytes-to_be_bytes_8;
+    }
+
+of_gcm_siv : TellsApart (from_le_bytes w128) (to_le_bytes w64)
+of_gcm_siv =
+    record {
+      number_injective = from_le-injective;
+      number_lt = from_le-lt;
+      length_write = λ n. refl;
+      bytes_write = low_first_are 0 8;
+      write_injective = read_back (to_le_bytes w64) (from_le_bytes w64) from_le_bytes-to_le_bytes_8;
+    }
 
 pub gcm_encodes_parts : GcmEncodesParts
-gcm_encodes_parts =
-    parts_are_encoded (from_be_bytes w128) (to_be_bytes w64) from_be-injective from_be-lt (λ n. refl) be_bytes be_injective
+gcm_encodes_parts = parts_are_encoded (from_be_bytes w128) (to_be_bytes w64) of_gcm
 
 pub gcm_siv_encodes_parts : GcmSivEncodesParts
-gcm_siv_encodes_parts =
-    parts_are_encoded (from_le_bytes w128) (to_le_bytes w64) from_le-injective from_le-lt (λ n. refl) le_bytes le_injective
+gcm_siv_encodes_parts = parts_are_encoded (from_le_bytes w128) (to_le_bytes w64) of_gcm_siv
 
 -- the number of the hash of bytes
 ghash_number : (key : List ℕ) (blocks : List (List ℕ))
@@ -216,11 +224,7 @@ polyval_number key blocks =
     (fold-lt dot (from_le_bytes w128 key) (λ a. dot-lt a _) 0 (map (from_le_bytes w128) blocks) (pow_pos 128))
 
 pub gcm_collides : GcmCollides
-gcm_collides =
-    few_keys (from_be_bytes w128) (to_be_bytes w64) from_be-injective from_be-lt (λ n. refl) be_bytes be_injective
-    gcm_hash ghash ghash_number ghash_collides
+gcm_collides = few_keys (from_be_bytes w128) (to_be_bytes w64) of_gcm gcm_hash ghash ghash_number ghash_collides
 
 pub gcm_siv_collides : GcmSivCollides
-gcm_siv_collides =
-    few_keys (from_le_bytes w128) (to_le_bytes w64) from_le-injective from_le-lt (λ n. refl) le_bytes le_injective
-    polyval_hash polyval polyval_number polyval_collides
+gcm_siv_collides = few_keys (from_le_bytes w128) (to_le_bytes w64) of_gcm_siv polyval_hash polyval polyval_number polyval_collides
