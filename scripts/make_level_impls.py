@@ -616,6 +616,8 @@ impl TowerWord for u$bits {
     ghost bits_law = { refl };
 
     ghost whole_law = { refl };
+
+    ghost room_law = { lit< tt };
 }
 """)
 
@@ -624,7 +626,7 @@ def tower_words():
     yield """\
 // The unsigned integers of Rust as elements of the levels of 8 to 128 bits.
 ghost use Rattle.std.specs.Prelude.{◌≡◌, ◌<◌, ◌≤◌, ◌*◌, ◌%◌, ◌^◌, refl};
-ghost use Rattle.std.proofs.Common.{lit≤};
+ghost use Rattle.std.proofs.Common.{lit<, lit≤};
 
 use super::TowerWord;
 use word_tower::{Bits8, Bits16, Bits32, Bits64, Bits128, Level};

@@ -43,3 +43,10 @@ IsDoneUpTo {W} end gives number old new =
     (length new ≡ length old)
     × ((k : ℕ) → k < end → (d : W) → gives k (number (get_or old k d)) (number (get_or new k d)))
     × ((k : ℕ) → end ≤ k → (d : W) → get_or new k d ≡ get_or old k d)
+
+-- each word from place `start` on is, by its number, related to what it was, and those before are as they were
+abbrev pub IsDoneFrom : {W : Type 0} → ℕ → (ℕ → ℕ → ℕ → Type 0) → (W → ℕ) → List W → List W → Type 0
+IsDoneFrom {W} start gives number old new =
+    (length new ≡ length old)
+    × ((k : ℕ) → k < start → (d : W) → get_or new k d ≡ get_or old k d)
+    × ((k : ℕ) → start ≤ k → k < length new → (d : W) → gives k (number (get_or old k d)) (number (get_or new k d)))

@@ -1,6 +1,6 @@
 // Blocks of words as slices of bits, and back. A block has as many words as a vector has bits.
 ghost use Rattle.std.specs.Prelude.{◌≡◌, ◌<◌, ◌≤◌, ◌+◌, ◌*◌, ◌^◌, ℕ, get_or, length};
-ghost use Rattle.bit_slices.specs.Layout.{AreInLanes, AreKept, IsDoneUpTo};
+ghost use Rattle.bit_slices.specs.Layout.{AreInLanes, AreKept, IsDoneFrom, IsDoneUpTo};
 
 use crate::operations::Operation;
 use crate::sliced::Sliced;
@@ -85,7 +85,7 @@ fn change_any_blocks<W: TowerWord, T: Sliced, O: Operation<W, T>>(
     }
 }
 
-/// Changes each word: whole blocks by slices of their bits, and the rest word by word.
+/// Changes each word: whole blocks by slices of their bits, and the rest in a block of their own where that is faster than word by word.
 #[inline(always)]
 pub(crate) fn change_each<W: TowerWord, T: Sliced, O: Operation<W, T>>(
     words: &mut [W],
@@ -99,7 +99,60 @@ pub(crate) fn change_each<W: TowerWord, T: Sliced, O: Operation<W, T>>(
 {
     let blocks = words.len() / T::lanes();
     change_any_blocks::<W, T, O>(words, others, blocks);
-    for place in blocks * T::lanes()..words.len() {
-        words[place] = O::result_at(words[place], others, place);
+    change_rest::<W, T, O>(words, others, blocks * T::lanes());
+}
+
+// Changes each word from `start` on.
+#[inline(always)]
+fn change_rest<W: TowerWord, T: Sliced, O: Operation<W, T>>(
+    words: &mut [W],
+    others: &[W],
+    start: usize,
+)
+    requires level { T.LEVEL ≡ W.LEVEL }
+    requires inside { start ≤ length words.old }
+    requires reaches { (k : ℕ) → k < length words.old → O.reaches others.now k }
+    ensures { IsDoneFrom start (O.gives others.now) W.number words.old words.new }
+{
+    let rest = words.len() - start;
+    if T::lanes() == 128 && 0 < rest && rest <= 128 && O::pays(rest) {
+        change_padded::<W, T, O>(words, others, start);
+    } else {
+        for place in start..words.len() {
+            words[place] = O::result_at(words[place], others, place);
+        }
     }
+}
+
+// Changes each word from `start` on in a block of their own, whose other words are of no matter.
+#[inline(never)]
+fn change_padded<W: TowerWord, T: Sliced, O: Operation<W, T>>(
+    words: &mut [W],
+    others: &[W],
+    start: usize,
+)
+    requires level { T.LEVEL ≡ W.LEVEL }
+    requires one { 128 * T.units ≡ 128 }
+    requires inside { start < length words.old }
+    requires few { length words.old ≤ start + 128 }
+    requires reaches { (k : ℕ) → k < length words.old → O.reaches others.now k }
+    ensures { IsDoneFrom start (O.gives others.now) W.number words.old words.new }
+{
+    let mut block = padded(words, start, words[start]);
+    let beside = padded(others, start, words[start]);
+    change_blocks::<W, T, O>(&mut block, &beside, 1);
+    for place in start..words.len() {
+        words[place] = block[place - start];
+    }
+}
+
+// The 128 words from `start` on, or as many as there are, and `filler` behind them.
+fn padded<W: TowerWord>(words: &[W], start: usize, filler: W) -> [W; 128]
+    ensures { (n : ℕ) → n < 128 → start + n < length words.now → (d : W) → get_or result n d ≡ get_or words.now (start + n) d }
+{
+    let mut block = [filler; 128];
+    for lane in 0..words.len().saturating_sub(start).min(128) {
+        block[lane] = words[start + lane];
+    }
+    block
 }

@@ -1,5 +1,6 @@
 // Operations on the elements of a block, each alone or with the word of another slice at its place.
 ghost use Rattle.std.specs.Prelude.{◌≡◌, ◌<◌, ◌≤◌, ◌+◌, ◌*◌, ◌^◌, ℕ, List, get_or, length};
+ghost use Rattle.std.proofs.Common.{◌∙◌, ap};
 ghost use Rattle.field_base.specs.Field.{IsInverseOrZero};
 ghost use Rattle.field_base.specs.Tower.{tower_mul};
 
@@ -26,6 +27,16 @@ pub trait Operation<W: TowerWord, T: Sliced> {
     fn result_at(word: W, others: &[W], place: usize) -> W
         requires { reaches others.now place }
         ensures { gives others.now place (W.number word) (W.number result) };
+
+    /// Whether a block of 128 words takes less than so many words one by one.
+    fn pays(count: usize) -> bool;
+
+    // It can be done at every place of the other words, and depends on no other place.
+    ghost full_law: { (others : List W) (k : ℕ) → k < length others → reaches others k };
+
+    ghost place_law: { (others beside : List W) (k n : ℕ) → reaches others k
+        → (k < length others → (d : W) → get_or beside n d ≡ get_or others k d)
+        → (x y : ℕ) → gives beside n x y → gives others k x y };
 }
 
 /// The product by the other word.
@@ -48,6 +59,16 @@ impl<W: TowerWord, T: Sliced> Operation<W, T> for Product {
     fn result_at(word: W, others: &[W], place: usize) -> W {
         word.multiply(others[place])
     }
+
+    #[inline(always)]
+    fn pays(count: usize) -> bool {
+        count >= 80
+    }
+
+    ghost full_law = { λ others k inside. inside };
+
+    ghost place_law = { λ others beside k n reached same x y is d.
+        is d ∙ ap (λ (w : W). tower_mul W.LEVEL x (W.number w)) (same reached d) };
 }
 
 /// The square.
@@ -67,6 +88,15 @@ impl<W: TowerWord, T: Sliced> Operation<W, T> for Square {
     fn result_at(word: W, _others: &[W], _place: usize) -> W {
         word.square()
     }
+
+    #[inline(always)]
+    fn pays(_count: usize) -> bool {
+        false
+    }
+
+    ghost full_law = { λ others k inside. tt };
+
+    ghost place_law = { λ others beside k n reached same x y is. is };
 }
 
 /// The inverse, and 0 for 0.
@@ -87,6 +117,15 @@ impl<W: TowerWord, T: Sliced> Operation<W, T> for Inverse {
     fn result_at(word: W, _others: &[W], _place: usize) -> W {
         word.invert()
     }
+
+    #[inline(always)]
+    fn pays(count: usize) -> bool {
+        count >= 64 || W::BITS > 16 && count >= 32
+    }
+
+    ghost full_law = { λ others k inside. tt };
+
+    ghost place_law = { λ others beside k n reached same x y is. is };
 }
 
 /// The square root.
@@ -107,4 +146,13 @@ impl<W: TowerWord, T: Sliced> Operation<W, T> for SquareRoot {
     fn result_at(word: W, _others: &[W], _place: usize) -> W {
         word.sqrt()
     }
+
+    #[inline(always)]
+    fn pays(_count: usize) -> bool {
+        false
+    }
+
+    ghost full_law = { λ others k inside. tt };
+
+    ghost place_law = { λ others beside k n reached same x y is. is };
 }

@@ -1,4 +1,6 @@
 // Words that are elements of levels of the tower, one by one, and as many of them as have 128 bits.
+ghost use prog.Memory.{size};
+ghost use denote.Param.{layout};
 ghost use Rattle.std.specs.Prelude.{◌≡◌, ◌<◌, ◌≤◌, ◌*◌, ◌%◌, ◌^◌, ℕ};
 ghost use Rattle.field_base.specs.Field.{IsInverseOrZero};
 ghost use Rattle.field_base.specs.Tower.{tower_mul};
@@ -56,4 +58,7 @@ pub trait TowerWord: Copy {
     ghost bits_law: { BITS ≡ 2 ^ LEVEL };
 
     ghost whole_law: { BITS * COUNT ≡ 128 };
+
+    // An array of 128 words can be a value.
+    ghost room_law: { 128 * size (layout Self.row) < 2 ^ 63 };
 }

@@ -1,6 +1,6 @@
 // Two words of 64 bits as an element of the level of the tower of 128 bits, and the slices of bits of its kind.
 ghost use Rattle.std.specs.Prelude.{◌≡◌, ◌<◌, ◌≤◌, ◌*◌, ◌%◌, ◌^◌, refl};
-ghost use Rattle.std.proofs.Common.{lit≤};
+ghost use Rattle.std.proofs.Common.{lit<, lit≤};
 ghost use Rattle.c_arithmetic.specs.Fields.{wide_number};
 
 use crate::Wide;
@@ -56,6 +56,8 @@ impl TowerWord for Wide {
     ghost bits_law = { refl };
 
     ghost whole_law = { refl };
+
+    ghost room_law = { lit< tt };
 }
 
 impl<V: Vector> SlicedWord<V> for Wide {

@@ -1,7 +1,7 @@
 // Written by scripts/make_level_impls.py; do not edit.
 // The unsigned integers of Rust as elements of the levels of 8 to 128 bits.
 ghost use Rattle.std.specs.Prelude.{◌≡◌, ◌<◌, ◌≤◌, ◌*◌, ◌%◌, ◌^◌, refl};
-ghost use Rattle.std.proofs.Common.{lit≤};
+ghost use Rattle.std.proofs.Common.{lit<, lit≤};
 
 use super::TowerWord;
 use word_tower::{Bits8, Bits16, Bits32, Bits64, Bits128, Level};
@@ -54,6 +54,8 @@ impl TowerWord for u8 {
     ghost bits_law = { refl };
 
     ghost whole_law = { refl };
+
+    ghost room_law = { lit< tt };
 }
 
 impl TowerWord for u16 {
@@ -104,6 +106,8 @@ impl TowerWord for u16 {
     ghost bits_law = { refl };
 
     ghost whole_law = { refl };
+
+    ghost room_law = { lit< tt };
 }
 
 impl TowerWord for u32 {
@@ -154,6 +158,8 @@ impl TowerWord for u32 {
     ghost bits_law = { refl };
 
     ghost whole_law = { refl };
+
+    ghost room_law = { lit< tt };
 }
 
 impl TowerWord for u64 {
@@ -204,6 +210,8 @@ impl TowerWord for u64 {
     ghost bits_law = { refl };
 
     ghost whole_law = { refl };
+
+    ghost room_law = { lit< tt };
 }
 
 impl TowerWord for u128 {
@@ -254,4 +262,6 @@ impl TowerWord for u128 {
     ghost bits_law = { refl };
 
     ghost whole_law = { refl };
+
+    ghost room_law = { lit< tt };
 }
