@@ -1,5 +1,5 @@
 -- A point, bit by bit of its number.
-use Rattle.std.proofs.Common.{◌≡◌, ℕ, ◌+◌, ◌*◌, ◌/◌, ◌%◌, ◌^◌, sym, ◌∙◌, ap}
+use Rattle.std.proofs.Common.{◌≡◌, ℕ, suc, ◌+◌, ◌*◌, ◌/◌, ◌%◌, ◌^◌, sym, ◌∙◌, ap, arith}
 use Rattle.std.specs.Int.{bit_at}
 use Rattle.std.specs.Prelude.{bit_xor}
 use native.Mathlib.Nat.{one-mul, zero-mul}
@@ -7,6 +7,13 @@ use native.Mathlib.Numerals.{add-one}
 use lib.Bits.{xor_assoc, xor_zero_r}
 use Rattle.field_base.specs.Basis.{sum_below}
 use Rattle.ghash_slices.specs.Cantor.{point}
+use Rattle.ghash_slices.proofs.Places.{next_quotient}
+
+-- half of what is left of a number
+pub halved : (p rest n : ℕ) → rest ≡ p / 2 ^ n → rest / 2 ≡ p / 2 ^ (n + 1)
+halved p rest n left =
+    let after : suc n ≡ n + 1 = omega arith in
+    ap (λ (r : ℕ). r / 2) left ∙ sym (next_quotient p n) ∙ ap (λ (k : ℕ). p / 2 ^ k) after
 
 module _ (vector : ℕ → ℕ) (z p : ℕ) where
   -- before the first bit there is the shift

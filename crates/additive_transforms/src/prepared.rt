@@ -1,7 +1,5 @@
 // Transforms whose twiddles are made once.
 ghost use Rattle.std.specs.Prelude.{◌≡◌, ℕ, ◌+◌, ◌-◌, ◌*◌, ◌^◌, ◌<◌, ◌≤◌, IfOk, length, map, take};
-ghost use Rattle.ghash_slices.specs.Cantor.{AreCantorTwiddles};
-ghost use Rattle.ghash_slices.specs.LowStages.{ghash_cantor_vector, ghash_product};
 ghost use Rattle.ghash_slices.specs.Twiddles.{basis_of, shifts_of};
 
 use crate::kernel::{Kernel, PolyKernel};
@@ -15,12 +13,9 @@ use std::alloc::{AllocError, Allocator};
 #[derive(Drop)]
 pub struct Transform<A: Allocator> {
     stages: usize,
-    z: u128,
     twiddles: Twiddles,
     low: LowStageTwiddles<A>,
     ghost few: { stages ≤ 40 },
-    ghost twiddles_are: { AreCantorTwiddles 128 ghash_product ghash_cantor_vector z 40 twiddles.shifts twiddles.basis },
-    ghost reach: { length twiddles.basis ≡ 39 },
     ghost shifts_are: { shifts_of low ≡ take 4 twiddles.shifts },
     ghost basis_is: { 4 ≤ stages → basis_of low ≡ take (stages - 1) twiddles.basis },
 }
@@ -32,14 +27,13 @@ impl<A: Allocator> Transform<A> {
     /// only where the allocator refuses.
     pub fn new(alloc: A, stages: usize, z: u128) -> Result<Transform<A>, AllocError>
         requires { stages ≤ 40 }
-        ensures { IfOk result (λ transform. (transform.stages ≡ stages) × (transform.z ≡ z)) }
+        ensures { IfOk result (λ transform. (transform.stages ≡ stages) × (transform.twiddles.z ≡ z)) }
     {
         let twiddles = Twiddles::new(z);
         let elements = elements_for(stages);
         let low = LowStageTwiddles::new(alloc, &twiddles.shifts, &twiddles.basis[..elements])?;
         Ok(Transform {
             stages,
-            z,
             twiddles,
             low,
         })
@@ -50,11 +44,10 @@ impl<A: Allocator> Transform<A> {
     pub fn forward(&self, values: &mut [u128])
         requires { length values.old ≡ 2 ^ self.now.stages }
         ensures length { length values.new ≡ length values.old }
-        ensures values { HoldPolynomialValues self.now.z values.old values.new }
+        ensures values { HoldPolynomialValues self.now.twiddles.z values.old values.new }
     {
         numbers_are_values(values);
-        let mut kernel = self.kernel();
-        self.forward_with(&mut kernel, values);
+        self.forward_with(&mut self.kernel(), values);
     }
 
     /// Replaces the values at the points by the coefficients of their polynomial, as `inverse_with` does. There have to be 2 to the power of the
@@ -62,11 +55,10 @@ impl<A: Allocator> Transform<A> {
     pub fn inverse(&self, values: &mut [u128])
         requires { length values.old ≡ 2 ^ self.now.stages }
         ensures length { length values.new ≡ length values.old }
-        ensures coefficients { AreOnlyCoefficients self.now.z values.old values.new }
+        ensures coefficients { AreOnlyCoefficients self.now.twiddles.z values.old values.new }
     {
         numbers_are_values(values);
-        let mut kernel = self.kernel();
-        self.inverse_with(&mut kernel, values);
+        self.inverse_with(&mut self.kernel(), values);
     }
 
     // The kernel over plain numbers, before it has counted a pair: all pairs have room in its count.
@@ -83,20 +75,13 @@ impl<A: Allocator> Transform<A> {
         requires whole { length values.old ≡ 2 ^ self.now.stages }
         requires room { K.count kernel.old + self.now.stages * 2 ^ (self.now.stages - 1) < 2 ^ 64 }
         ensures length { length values.new ≡ length values.old }
-        ensures values { HoldPolynomialValues self.now.z (map K.value values.old) (map K.value values.new) }
+        ensures values { HoldPolynomialValues self.now.twiddles.z (map K.value values.old) (map K.value values.new) }
         ensures count { K.count kernel.new ≡ K.count kernel.old + self.now.stages * 2 ^ (self.now.stages - 1) }
     {
         if self.stages < LOW_STAGES {
-            every_stage(kernel, values, self.stages, &self.twiddles, self.z);
+            every_stage(kernel, values, self.stages, &self.twiddles);
         } else {
-            forward_stages(
-                kernel,
-                values,
-                self.stages,
-                &self.twiddles,
-                &self.low,
-                self.z,
-            );
+            forward_stages(kernel, values, self.stages, &self.twiddles, &self.low);
         }
     }
 
@@ -106,10 +91,10 @@ impl<A: Allocator> Transform<A> {
         requires whole { length values.old ≡ 2 ^ self.now.stages }
         requires room { K.count kernel.old + self.now.stages * 2 ^ (self.now.stages - 1) < 2 ^ 64 }
         ensures length { length values.new ≡ length values.old }
-        ensures coefficients { AreOnlyCoefficients self.now.z (map K.value values.old) (map K.value values.new) }
+        ensures coefficients { AreOnlyCoefficients self.now.twiddles.z (map K.value values.old) (map K.value values.new) }
         ensures count { K.count kernel.new ≡ K.count kernel.old + self.now.stages * 2 ^ (self.now.stages - 1) }
     {
-        undo_stages(kernel, values, self.stages, &self.twiddles, self.z);
+        undo_stages(kernel, values, self.stages, &self.twiddles);
     }
 }
 

@@ -10,14 +10,16 @@ use word_tables::{cantor_vector, sum_of_images, to_polynomial_128};
 /// The twiddles of a transform with the shift z: shift j is s_j(z), and element t of the basis is Cantor vector t + 1.
 #[derive(Drop)]
 pub(crate) struct Twiddles {
+    pub(crate) z: u128,
     pub(crate) shifts: [u128; 40],
     pub(crate) basis: [u128; 39],
+    ghost are: { AreCantorTwiddles 128 ghash_product ghash_cantor_vector z 40 shifts basis },
+    ghost reach: { length basis ≡ 39 },
 }
 
 impl Twiddles {
     pub(crate) fn new(z: u128) -> Twiddles
-        ensures twiddles { AreCantorTwiddles 128 ghash_product ghash_cantor_vector z 40 result.shifts result.basis }
-        ensures reach { length result.basis ≡ 39 }
+        ensures { result.z ≡ z }
     {
         let mut shifts = [z; 40];
         for j in 1..40 {
@@ -27,7 +29,7 @@ impl Twiddles {
         for t in 0..39 {
             basis[t] = to_polynomial_128(cantor_vector(t + 1));
         }
-        Twiddles { shifts, basis }
+        Twiddles { z, shifts, basis }
     }
 
     /// The shifts of the four lowest stages.

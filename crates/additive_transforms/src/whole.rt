@@ -1,9 +1,8 @@
 // Whole transforms.
 ghost use Rattle.std.specs.Prelude.{◌≡◌, ℕ, ◌+◌, ◌-◌, ◌*◌, ◌^◌, ◌<◌, ◌≤◌, IfErr, IfOk, length, map, slice_index, take};
 ghost use Rattle.additive_transforms.specs.Transform.{AreOnlyCoefficients, CountsPairs, FitsTransform, HasStages, HoldPolynomialValues};
-ghost use Rattle.ghash_slices.specs.LowStages.{ghash_cantor_vector, ghash_product};
+ghost use Rattle.ghash_slices.specs.LowStages.{ghash_product};
 ghost use Rattle.ghash_slices.specs.Twiddles.{basis_of, shifts_of};
-ghost use Rattle.ghash_slices.specs.Cantor.{AreCantorTwiddles};
 ghost use Rattle.additive_transforms.specs.Stages.{AreLeft};
 
 use crate::kernel::{Kernel, WordKernel};
@@ -33,11 +32,11 @@ pub fn forward_with<K: Kernel, A: Allocator>(
     let stages = stages_of(values.len());
     let twiddles = Twiddles::new(z);
     if stages < LOW_STAGES {
-        every_stage(kernel, values, stages, &twiddles, z);
+        every_stage(kernel, values, stages, &twiddles);
         return Ok(());
     }
     let low = LowStageTwiddles::new(alloc, &twiddles.shifts, &twiddles.basis[..stages - 1])?;
-    forward_stages(kernel, values, stages, &twiddles, &low, z);
+    forward_stages(kernel, values, stages, &twiddles, &low);
     Ok(())
 }
 
@@ -52,7 +51,7 @@ pub fn forward_words<V: Width, W: WideWord>(words: &mut [W], z: u128)
     let twiddles = Twiddles::new(z);
     let mut kernel = WordKernel::<V, W>::new();
     if stages < LOW_STAGES {
-        every_stage(&mut kernel, words, stages, &twiddles, z);
+        every_stage(&mut kernel, words, stages, &twiddles);
         return;
     }
     stages_down_to(&mut kernel, words, stages, LOW_STAGES, &twiddles);
@@ -81,7 +80,7 @@ pub fn inverse_with<K: Kernel>(kernel: &mut K, values: &mut [K::Elem], z: u128)
 {
     let stages = stages_of(values.len());
     let twiddles = Twiddles::new(z);
-    undo_stages(kernel, values, stages, &twiddles, z);
+    undo_stages(kernel, values, stages, &twiddles);
 }
 
 /// The stages of a transform of so many values: the m for which there are 2^m. There has to be one, from 0 to 40.
@@ -105,14 +104,11 @@ pub(crate) fn undo_stages<K: Kernel>(
     values: &mut [K::Elem],
     stages: usize,
     twiddles: &Twiddles,
-    z: u128,
 )
     requires stages { HasStages stages (length values.old) }
     requires room { K.count kernel.old + stages * 2 ^ (stages - 1) < 2 ^ 64 }
-    requires twiddles { AreCantorTwiddles 128 ghash_product ghash_cantor_vector z 40 twiddles.now.shifts twiddles.now.basis }
-    requires reach { length twiddles.now.basis ≡ 39 }
     ensures length { length values.new ≡ length values.old }
-    ensures coefficients { AreOnlyCoefficients z (map K.value values.old) (map K.value values.new) }
+    ensures coefficients { AreOnlyCoefficients twiddles.now.z (map K.value values.old) (map K.value values.new) }
     ensures count { K.count kernel.new ≡ K.count kernel.old + stages * 2 ^ (stages - 1) }
 {
     for stage in 0..stages {
@@ -126,14 +122,11 @@ pub(crate) fn every_stage<K: Kernel>(
     values: &mut [K::Elem],
     stages: usize,
     twiddles: &Twiddles,
-    z: u128,
 )
     requires stages { HasStages stages (length values.old) }
     requires room { K.count kernel.old + stages * 2 ^ (stages - 1) < 2 ^ 64 }
-    requires twiddles { AreCantorTwiddles 128 ghash_product ghash_cantor_vector z 40 twiddles.now.shifts twiddles.now.basis }
-    requires reach { length twiddles.now.basis ≡ 39 }
     ensures length { length values.new ≡ length values.old }
-    ensures values { HoldPolynomialValues z (map K.value values.old) (map K.value values.new) }
+    ensures values { HoldPolynomialValues twiddles.now.z (map K.value values.old) (map K.value values.new) }
     ensures count { K.count kernel.new ≡ K.count kernel.old + stages * 2 ^ (stages - 1) }
 {
     stages_down_to(kernel, values, stages, 0, twiddles);
@@ -147,17 +140,14 @@ pub(crate) fn forward_stages<K: Kernel, A: Allocator>(
     stages: usize,
     twiddles: &Twiddles,
     low: &LowStageTwiddles<A>,
-    z: u128,
 )
     requires enough { 4 ≤ stages }
     requires stages { HasStages stages (length values.old) }
     requires room { K.count kernel.old + stages * 2 ^ (stages - 1) < 2 ^ 64 }
-    requires twiddles { AreCantorTwiddles 128 ghash_product ghash_cantor_vector z 40 twiddles.now.shifts twiddles.now.basis }
-    requires reach { length twiddles.now.basis ≡ 39 }
     requires shifts { shifts_of low.now ≡ take 4 twiddles.now.shifts }
     requires basis { basis_of low.now ≡ take (stages - 1) twiddles.now.basis }
     ensures length { length values.new ≡ length values.old }
-    ensures values { HoldPolynomialValues z (map K.value values.old) (map K.value values.new) }
+    ensures values { HoldPolynomialValues twiddles.now.z (map K.value values.old) (map K.value values.new) }
     ensures count { K.count kernel.new ≡ K.count kernel.old + stages * 2 ^ (stages - 1) }
 {
     stages_down_to(kernel, values, stages, LOW_STAGES, twiddles);

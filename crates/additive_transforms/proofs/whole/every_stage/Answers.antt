@@ -8,6 +8,7 @@ pub returns-clause-values : goal.returns-clause-values
 returns-clause-values g c =
     let value = g.K.Kernel.value in
     let new = c.stages_down_to.new.values in
-    ghash_all_leave c.args.twiddles.now.shifts c.args.twiddles.now.basis c.args.z c.requires.twiddles c.requires.reach c.args.stages
-    c.requires.stages.0 (map value c.args.values.now) (map value new) (length-map c.args.values.now value ∙ c.requires.stages.1)
+    let twiddles = c.args.twiddles.now in
+    ghash_all_leave twiddles.shifts twiddles.basis twiddles.z twiddles.are twiddles.reach c.args.stages c.requires.stages.0
+    (map value c.args.values.now) (map value new) (length-map c.args.values.now value ∙ c.requires.stages.1)
     (values_fit 128 value g.K.Kernel.range_law new) c.stages_down_to.ensures.left

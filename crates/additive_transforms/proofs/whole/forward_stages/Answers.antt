@@ -14,7 +14,7 @@ pub low_forward-requires-clause-numbered : goal.low_forward-requires-clause-numb
 low_forward-requires-clause-numbered g c some =
     let m = c.args.stages in
     let above : 3 < m = omega arith in
-    let few : m - 1 ≤ length c.args.twiddles.now.basis = omega (arith, c.requires.reach, c.requires.stages.0) in
+    let few : m - 1 ≤ length c.args.twiddles.now.basis = omega (arith, c.args.twiddles.now.reach, c.requires.stages.0) in
     let elements = ap length c.requires.basis ∙ length-take-le (m - 1) c.args.twiddles.now.basis few in
     let same : length (basis_of c.args.low.now) - 3 ≡ m - 4 = omega (arith, elements) in
     let runs = block_count m 3 (length c.stages_down_to.new.values) above (c.stages_down_to.ensures.length ∙ c.requires.stages.1)
@@ -36,8 +36,8 @@ pub returns-clause-values : goal.returns-clause-values
 returns-clause-values g c =
     let value = g.K.Kernel.value in
     let upper = c.stages_down_to.new.values in
-    forward_leaves c.args.twiddles.now.shifts c.args.twiddles.now.basis c.args.z c.requires.twiddles c.requires.reach c.args.stages
-    c.requires.stages.0 c.requires.enough _ _ (map value c.args.values.now) (map value upper) _ c.requires.shifts c.requires.basis
+    let twiddles = c.args.twiddles.now in
+    forward_leaves twiddles.shifts twiddles.basis twiddles.z twiddles.are twiddles.reach c.args.stages c.requires.stages.0 c.requires.enough _ _ (map value c.args.values.now) (map value upper) _ c.requires.shifts c.requires.basis
     (length-map c.args.values.now value ∙ c.requires.stages.1)
     (length-map upper value ∙ c.stages_down_to.ensures.length ∙ c.requires.stages.1) c.stages_down_to.ensures.left c.low_forward.ensures.sums
 

@@ -1,6 +1,7 @@
-use Rattle.std.proofs.Common.{◌≡◌, ℕ, ◌-◌, ◌^◌, ◌<◌, ◌≤◌, length, map, refl, sym, take, ◌∙◌, ap, arith}
+use Rattle.std.proofs.Common.{◌≡◌, ℕ, ◌-◌, ◌^◌, ◌<◌, ◌≤◌, length, map, refl, sym, take, ◌∙◌, ap, subst, arith}
 use Rattle.std.proofs.lemmas.List.{length-map}
 use lib.Seq.{length-take-le}
+use Rattle.additive_transforms.specs.Transform.{HoldPolynomialValues}
 use Rattle.additive_transforms.proofs.Counts.{block_count, pairs_fit, whole_blocks}
 use Rattle.additive_transforms.proofs.OneOrigin.{forward_leaves}
 use Rattle.additive_transforms.proofs.whole.forward_words.Goals as goal
@@ -19,7 +20,7 @@ run_low_stages-requires-clause-numbered g c some =
     let m = c.stages_of-stages.result in
     let basis = c.new-twiddles.result.basis in
     let above : 3 < m = omega arith in
-    let few : m - 1 ≤ length basis = omega (arith, c.new-twiddles.ensures.reach, c.stages_of-stages.ensures.stages.0) in
+    let few : m - 1 ≤ length basis = omega (arith, c.new-twiddles.result.reach, c.stages_of-stages.ensures.stages.0) in
     let elements = length-take-le (m - 1) basis few in
     let same : length (take (m - 1) basis) - 3 ≡ m - 4 = omega (arith, elements) in
     let runs = block_count m 3 (length c.stages_down_to.new.values) above (c.stages_down_to.ensures.length ∙ c.stages_of-stages.ensures.stages.1)
@@ -32,7 +33,8 @@ returns-clause-values g c =
     let twiddles = c.new-twiddles.result in
     let upper = c.stages_down_to.new.values in
     let is = c.stages_of-stages.ensures.stages in
-    forward_leaves twiddles.shifts twiddles.basis c.args.z c.new-twiddles.ensures.twiddles c.new-twiddles.ensures.reach c.stages_of-stages.result is.0
+    subst (λ (z : ℕ). HoldPolynomialValues z (map value c.args.words.now) (map value c.run_low_stages.new.values)) c.new-twiddles.ensures
+    (forward_leaves twiddles.shifts twiddles.basis twiddles.z twiddles.are twiddles.reach c.stages_of-stages.result is.0
     (omega arith) _ _ (map value c.args.words.now) (map value upper) _ c.low_shifts.ensures refl
     (length-map c.args.words.now value ∙ is.1) (length-map upper value ∙ c.stages_down_to.ensures.length ∙ is.1) c.stages_down_to.ensures.left
-    c.run_low_stages.ensures.sums
+    c.run_low_stages.ensures.sums)

@@ -41,7 +41,7 @@ returns-clause-coefficients g c =
     let twiddles = c.args.twiddles.now in
     let stages = c.requires.stages in
     let last : c.loop-stage.stage ≡ m = omega arith in
-    ghash_inverse_leaves twiddles.shifts twiddles.basis c.args.z c.requires.twiddles c.requires.reach m stages.0
+    ghash_inverse_leaves twiddles.shifts twiddles.basis twiddles.z twiddles.are twiddles.reach m stages.0
     (map value c.args.values.now) (map value c.loop-stage.values) (length-map c.args.values.now value ∙ stages.1)
     (length-map c.loop-stage.values value ∙ c.loop-stage.invariant.0 ∙ stages.1)
     (values_fit 128 value g.K.Kernel.range_law c.args.values.now) (values_fit 128 value g.K.Kernel.range_law c.loop-stage.values)

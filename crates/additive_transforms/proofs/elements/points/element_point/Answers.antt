@@ -1,6 +1,5 @@
-use Rattle.std.proofs.Common.{◌≡◌, ℕ, suc, ◌+◌, ◌/◌, ◌%◌, ◌^◌, ◌∙◌, sym, ap, arith}
-use Rattle.ghash_slices.proofs.Places.{next_quotient}
-use Rattle.additive_transforms.proofs.ElementPoints.{bit_adds, bit_passes, point_ends, point_starts}
+use Rattle.std.proofs.Common.{◌≡◌, ℕ, ◌%◌, ◌∙◌, ap, arith}
+use Rattle.additive_transforms.proofs.ElementPoints.{bit_adds, bit_passes, halved, point_ends, point_starts}
 use Rattle.additive_transforms.proofs.elements.points.element_point.Goals as goal
 use Rattle.additive_transforms.proofs.elements.points.element_point.Goals.{then-rest-eq1, else-rest-eq1}
 
@@ -8,12 +7,6 @@ pub loop-bit-init : goal.loop-bit-init
 loop-bit-init g c =
     let level = g.F.TowerLevel in
     (omega arith, point_starts (λ i. level.basis (level.cantor i)) (g.F.Represented.repr c.args.z) c.args.p)
-
--- half of what is left
-halved : (p rest n : ℕ) → rest ≡ p / 2 ^ n → rest / 2 ≡ p / 2 ^ (n + 1)
-halved p rest n left =
-    let after : suc n ≡ n + 1 = omega arith in
-    ap (λ (r : ℕ). r / 2) left ∙ sym (next_quotient p n) ∙ ap (λ (k : ℕ). p / 2 ^ k) after
 
 pub loop-bit-preserved : goal.loop-bit-preserved
 loop-bit-preserved g c =
