@@ -12,7 +12,7 @@ use Rattle.ghash_slices.proofs.WordValues.{values_fit}
 use Rattle.additive_transforms.specs.Stages.{AreLeft, IsStage, TakesStage}
 use Rattle.additive_transforms.specs.Transform.{AreTheCoefficients, HasStages, HoldValuesAtPoints}
 use Rattle.additive_transforms.proofs.Counts.{block_count}
-use Rattle.additive_transforms.proofs.OneOrigin.{all_leave, inverse_leaves}
+use Rattle.additive_transforms.proofs.OneOrigin.{all_leave, only_these, undone_leave}
 use Rattle.additive_transforms.proofs.WholeStages.{AreUndone, left_step, undone_step}
 use Rattle.additive_transforms.specs.Elements.{FitsField, twiddle_basis}
 
@@ -67,27 +67,27 @@ module _ (width : ℕ) (times : ℕ → ℕ → ℕ) (vector : ℕ → ℕ) (wid
         basis_is = λ t below. basis_at width vector t (omega (arith, long, below));
       }
 
-  -- one more stage of the forward transform, with its shift as it was computed
-  pub level_left : (n blocks shift : ℕ) (old now next : List ℕ) → n < m → blocks ≡ 2 ^ (m - suc n)
-      → ((p : ℕ) → slice_index now p < 2 ^ width) → shift ≡ subspace_value times n z
-      → IsStage times shift (twiddle_basis width vector) n blocks now next
+  -- one more stage of the forward transform
+  pub level_left : (n blocks : ℕ) (old now next : List ℕ) → n < m → blocks ≡ 2 ^ (m - suc n)
+      → ((p : ℕ) → slice_index now p < 2 ^ width)
+      → IsStage times (subspace_value times n z) (twiddle_basis width vector) n blocks now next
       → AreLeft times (level_shifts width times z) (twiddle_basis width vector) m (suc n) old now
       → AreLeft times (level_shifts width times z) (twiddle_basis width vector) m n old next
-  level_left n blocks shift old now next below count fits shift_is is =
+  level_left n blocks old now next below count fits is =
       left_step width times ring (level_shifts width times z) (twiddle_basis width vector) m n blocks old now next below count fits
       (subst (λ (s : ℕ). IsStage times s (twiddle_basis width vector) n blocks now next)
-      (shift_is ∙ sym (shift_at width times z n (omega (arith, below, few)))) is)
+      (sym (shift_at width times z n (omega (arith, below, few)))) is)
 
   -- one more stage of the inverse transform
-  pub level_undone : (n blocks shift : ℕ) (old now next : List ℕ) → n < m → blocks ≡ 2 ^ (m - suc n)
-      → ((p : ℕ) → slice_index next p < 2 ^ width) → shift ≡ subspace_value times n z
-      → IsStage times shift (twiddle_basis width vector) n blocks next now
+  pub level_undone : (n blocks : ℕ) (old now next : List ℕ) → n < m → blocks ≡ 2 ^ (m - suc n)
+      → ((p : ℕ) → slice_index next p < 2 ^ width)
+      → IsStage times (subspace_value times n z) (twiddle_basis width vector) n blocks next now
       → AreUndone times (level_shifts width times z) (twiddle_basis width vector) m n old now
       → AreUndone times (level_shifts width times z) (twiddle_basis width vector) m (suc n) old next
-  level_undone n blocks shift old now next below count fits shift_is is =
+  level_undone n blocks old now next below count fits is =
       undone_step width times ring (level_shifts width times z) (twiddle_basis width vector) m n blocks old now next below count fits
       (subst (λ (s : ℕ). IsStage times s (twiddle_basis width vector) n blocks next now)
-      (shift_is ∙ sym (shift_at width times z n (omega (arith, below, few)))) is)
+      (sym (shift_at width times z n (omega (arith, below, few)))) is)
 
   -- after all the stages there are the values
   pub level_values : (old new : List ℕ) → length old ≡ 2 ^ m → ((p : ℕ) → slice_index new p < 2 ^ width)
@@ -97,13 +97,20 @@ module _ (width : ℕ) (times : ℕ → ℕ → ℕ) (vector : ℕ → ℕ) (wid
       all_leave width times vector wide ring vectors (level_shifts width times z) (twiddle_basis width vector) z width twiddles
       (basis_length width vector wide) m few
 
-  -- and before all of them the coefficients
-  pub level_coefficients : (old new : List ℕ) → length old ≡ 2 ^ m → length new ≡ 2 ^ m → ((p : ℕ) → slice_index old p < 2 ^ width)
-      → ((p : ℕ) → slice_index new p < 2 ^ width)
+  -- and before all of them coefficients
+  pub level_undone_values : (old new : List ℕ) → length new ≡ 2 ^ m → ((p : ℕ) → slice_index old p < 2 ^ width)
       → AreUndone times (level_shifts width times z) (twiddle_basis width vector) m m old new
-      → AreTheCoefficients width times vector z old new
+      → HoldValuesAtPoints width times vector z new old
+  level_undone_values =
+      undone_leave width times vector wide ring vectors (level_shifts width times z) (twiddle_basis width vector) z width twiddles
+      (basis_length width vector wide) m few
+
+  -- which are the only ones
+  pub level_coefficients : (values coefficients : List ℕ) → length values ≡ 2 ^ m → length coefficients ≡ 2 ^ m
+      → ((p : ℕ) → slice_index coefficients p < 2 ^ width) → HoldValuesAtPoints width times vector z coefficients values
+      → AreTheCoefficients width times vector z values coefficients
   level_coefficients =
-      inverse_leaves width times vector wide ring vectors (level_shifts width times z) (twiddle_basis width vector) z width twiddles
+      only_these width times vector wide ring vectors (level_shifts width times z) (twiddle_basis width vector) z width twiddles
       (basis_length width vector wide) m few
 
 -- ---- the loops over the stages of a slice of elements
@@ -120,35 +127,31 @@ InverseSoFar width times vector z value m n old now =
     (length now ≡ length old)
     × AreUndone times (level_shifts width times z) (twiddle_basis width vector) m n (map value old) (map value now)
 
-module _ {width : ℕ} {times : ℕ → ℕ → ℕ} {vector : ℕ → ℕ} (wide : 0 < width) (ring : IsRing width 1 times) (vectors : AreCantorVectors width times vector) {A : Type 0} (value : A → ℕ) (range : (x : A) → value x < 2 ^ width) (z : ℕ) {m : ℕ} (old : List A) (room : FitsField width (length old)) (has : HasStages m (length old)) (only : (n : ℕ) → length old ≡ 2 ^ n → n ≡ m) where
-  -- the field has room for the stages
-  reach : m ≤ width
-  reach = fits_stages width (length old) m room only
-
+module _ {width : ℕ} {times : ℕ → ℕ → ℕ} {vector : ℕ → ℕ} (wide : 0 < width) (ring : IsRing width 1 times) (vectors : AreCantorVectors width times vector) {A : Type 0} (value : A → ℕ) (range : (x : A) → value x < 2 ^ width) (z : ℕ) {m : ℕ} (few : m ≤ width) (old : List A) (has : HasStages m (length old)) where
   -- one more stage of the forward transform
-  pub forward_on : (n shift : ℕ) (now next : List A) → 0 < n → n ≤ m → length next ≡ length now → shift ≡ subspace_value times (n - 1) z
-      → TakesStage false times shift (twiddle_basis width vector) (n - 1) (length now / 2 ^ (n - 1 + 1)) (map value now) (map value next)
+  pub forward_on : (n : ℕ) (now next : List A) → 0 < n → n ≤ m → length next ≡ length now
+      → TakesStage false times (subspace_value times (n - 1) z) (twiddle_basis width vector) (n - 1) (length now / 2 ^ (n - 1 + 1)) (map value now) (map value next)
       → ForwardSoFar width times vector z value m n old now → ForwardSoFar width times vector z value m (n - 1) old next
-  forward_on n shift now next some most same shift_is taken so_far =
+  forward_on n now next some most same taken so_far =
       let below : n - 1 < m = omega (arith, some, most) in
       let again : n ≡ suc (n - 1) = omega (arith, some) in (
         same ∙ so_far.0,
-        level_left width times vector wide ring vectors z m reach (n - 1) (length now / 2 ^ (n - 1 + 1)) shift (map value old) (map value now)
-            (map value next) below (block_count m (n - 1) (length now) below (so_far.0 ∙ has.1)) (values_fit width value range now) shift_is taken
+        level_left width times vector wide ring vectors z m few (n - 1) (length now / 2 ^ (n - 1 + 1)) (map value old) (map value now)
+            (map value next) below (block_count m (n - 1) (length now) below (so_far.0 ∙ has.1)) (values_fit width value range now) taken
             (subst (λ (k : ℕ). AreLeft times (level_shifts width times z) (twiddle_basis width vector) m k (map value old) (map value now))
             again so_far.1),
       )
 
   -- one more stage of the inverse transform
-  pub inverse_on : (n shift : ℕ) (now next : List A) → n < m → length next ≡ length now → shift ≡ subspace_value times n z
-      → TakesStage true times shift (twiddle_basis width vector) n (length now / 2 ^ (n + 1)) (map value now) (map value next)
+  pub inverse_on : (n : ℕ) (now next : List A) → n < m → length next ≡ length now
+      → TakesStage true times (subspace_value times n z) (twiddle_basis width vector) n (length now / 2 ^ (n + 1)) (map value now) (map value next)
       → InverseSoFar width times vector z value m n old now → InverseSoFar width times vector z value m (n + 1) old next
-  inverse_on n shift now next below same shift_is taken so_far =
+  inverse_on n now next below same taken so_far =
       let again : suc n ≡ n + 1 = omega arith in (
         same ∙ so_far.0,
         subst (λ (k : ℕ). AreUndone times (level_shifts width times z) (twiddle_basis width vector) m k (map value old) (map value next)) again
-            (level_undone width times vector wide ring vectors z m reach n (length now / 2 ^ (n + 1)) shift (map value old) (map value now)
-            (map value next) below (block_count m n (length now) below (so_far.0 ∙ has.1)) (values_fit width value range next) shift_is taken
+            (level_undone width times vector wide ring vectors z m few n (length now / 2 ^ (n + 1)) (map value old) (map value now)
+            (map value next) below (block_count m n (length now) below (so_far.0 ∙ has.1)) (values_fit width value range next) taken
             so_far.1),
       )
 
@@ -156,16 +159,25 @@ module _ {width : ℕ} {times : ℕ → ℕ → ℕ} {vector : ℕ → ℕ} (wid
   pub forward_whole : (n : ℕ) (now : List A) → n ≡ 0 → ForwardSoFar width times vector z value m n old now
       → HoldValuesAtPoints width times vector z (map value old) (map value now)
   forward_whole n now last so_far =
-      level_values width times vector wide ring vectors z m reach (map value old) (map value now) (length-map old value ∙ has.1)
+      level_values width times vector wide ring vectors z m few (map value old) (map value now) (length-map old value ∙ has.1)
       (values_fit width value range now)
       (subst (λ (k : ℕ). AreLeft times (level_shifts width times z) (twiddle_basis width vector) m k (map value old) (map value now)) last
       so_far.1)
 
-  -- and after the last one of the inverse transform the coefficients
+  -- and after the last one of the inverse transform coefficients
   pub inverse_whole : (n : ℕ) (now : List A) → n ≡ m → InverseSoFar width times vector z value m n old now
-      → AreTheCoefficients width times vector z (map value old) (map value now)
+      → HoldValuesAtPoints width times vector z (map value now) (map value old)
   inverse_whole n now last so_far =
-      level_coefficients width times vector wide ring vectors z m reach (map value old) (map value now) (length-map old value ∙ has.1)
-      (length-map now value ∙ so_far.0 ∙ has.1) (values_fit width value range old) (values_fit width value range now)
+      level_undone_values width times vector wide ring vectors z m few (map value old) (map value now)
+      (length-map now value ∙ so_far.0 ∙ has.1) (values_fit width value range old)
       (subst (λ (k : ℕ). AreUndone times (level_shifts width times z) (twiddle_basis width vector) m k (map value old) (map value now)) last
       so_far.1)
+
+-- the coefficients that have the values are the only ones
+pub the_coefficients : {width : ℕ} {times : ℕ → ℕ → ℕ} {vector : ℕ → ℕ} → 0 < width → IsRing width 1 times → AreCantorVectors width times vector
+    → {A : Type 0} (value : A → ℕ) → ((x : A) → value x < 2 ^ width) → (z : ℕ) (old new : List A) → FitsField width (length old)
+    → length new ≡ length old → HoldValuesAtPoints width times vector z (map value new) (map value old)
+    → AreTheCoefficients width times vector z (map value old) (map value new)
+the_coefficients wide ring vectors value range z old new room same =
+    level_coefficients _ _ _ wide ring vectors z room.0 room.2 (map value old) (map value new) (length-map old value ∙ room.1.1)
+    (length-map new value ∙ same ∙ room.1.1) (values_fit _ value range new)

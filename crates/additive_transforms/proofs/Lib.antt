@@ -7,6 +7,7 @@ pub mod Carries
 pub mod Counts
 pub mod ElementPoints
 pub mod ElementStages
+pub mod HalfValues
 pub mod ImageValues
 pub mod LowStageRuns
 pub mod NumberValues

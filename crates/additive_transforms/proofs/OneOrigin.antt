@@ -207,26 +207,40 @@ module _ (width : ℕ) (times : ℕ → ℕ → ℕ) (vector : ℕ → ℕ) (wid
   all_leave old new whole fits left =
       values_of old new whole (λ p inside. sym (mod-eq_of_lt (fits p)) ∙ ap (λ (v : ℕ). v % 2 ^ width) (left p inside))
 
-  -- the inverse transform leaves the one list of coefficients with those values
+  -- the inverse transform leaves coefficients with those values
+  pub undone_leave : (old new : List ℕ) → length new ≡ 2 ^ m → ((p : ℕ) → slice_index old p < 2 ^ width)
+      → AreUndone times shifts basis m m old new → HoldValuesAtPoints width times vector z new old
+  undone_leave old new whole fits undone =
+      values_of new old whole (λ p inside. sym (ap (λ (v : ℕ). v % 2 ^ width) (undone p inside) ∙ mod-eq_of_lt (fits p)))
+
+  -- and no others have them
+  pub only_these : (values coefficients : List ℕ) → length values ≡ 2 ^ m → length coefficients ≡ 2 ^ m
+      → ((p : ℕ) → slice_index coefficients p < 2 ^ width) → HoldValuesAtPoints width times vector z coefficients values
+      → AreTheCoefficients width times vector z values coefficients
+  only_these values coefficients whole whole' fits these =
+      record {
+        have = these;
+        only =
+            λ others as_long others_fit hold.
+            let count : length others ≡ 2 ^ m = as_long ∙ whole in
+            ext_get_or 0 others coefficients (count ∙ sym whole')
+            (λ p below.
+            let here : p < 2 ^ m = omega (arith, count, below) in
+            stages_origin width times ring shifts basis m m (omega arith) (slice_index others) (slice_index coefficients) others_fit fits
+            (λ k inside.
+            are_values others k inside
+            ∙ sym (hold m count k inside)
+            ∙ these m whole' k inside
+            ∙ sym (are_values coefficients k inside))
+            p here);
+      }
+
+  -- so it leaves the one list of coefficients
   pub inverse_leaves : (old new : List ℕ) → length old ≡ 2 ^ m → length new ≡ 2 ^ m → ((p : ℕ) → slice_index old p < 2 ^ width)
       → ((p : ℕ) → slice_index new p < 2 ^ width) → AreUndone times shifts basis m m old new
       → AreTheCoefficients width times vector z old new
   inverse_leaves old new whole whole' fits fits' undone =
-      record {
-        have = values_of new old whole' (λ p inside. sym (ap (λ (v : ℕ). v % 2 ^ width) (undone p inside) ∙ mod-eq_of_lt (fits p)));
-        only =
-            λ others as_long others_fit hold.
-            let count : length others ≡ 2 ^ m = as_long ∙ whole in
-            ext_get_or 0 others new (count ∙ sym whole')
-            (λ p below.
-            let here : p < 2 ^ m = omega (arith, count, below) in
-            stages_origin width times ring shifts basis m m (omega arith) (slice_index others) (slice_index new) others_fit fits'
-            (λ k inside.
-            are_values others k inside
-            ∙ sym (hold m count k inside)
-            ∙ sym (ap (λ (v : ℕ). v % 2 ^ width) (undone k inside) ∙ mod-eq_of_lt (fits k)))
-            p here);
-      }
+      only_these old new whole whole' fits' (undone_leave old new whole' fits undone)
 
 -- ---- in the field of GHASH, with the twiddles of 40 stages
 

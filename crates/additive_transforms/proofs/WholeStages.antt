@@ -93,6 +93,14 @@ stage-same times f j blocks a b same p inside =
     ap₂ (λ (x y : ℕ). bit_xor x (times (f j p) y)) (same (lower_place j p) (lower_inside j blocks p inside))
     (same (upper_place j p) (upper_inside j blocks p inside))
 
+-- the upper result of a butterfly is the lower one of a scalar that is 1 more
+pub upper_result : (width : ℕ) (times : ℕ → ℕ → ℕ) → IsRing width 1 times → (t low high : ℕ) → high < 2 ^ width
+    → bit_xor high (bit_xor low (times t high)) ≡ bit_xor low (times (bit_xor t 1) high)
+upper_result width times ring t low high fits =
+    xor_comm high (bit_xor low (times t high)) ∙ xor_assoc low (times t high) high
+    ∙ ap (bit_xor low)
+    (sym (sum_times width 1 times ring t 1 high ∙ ap (bit_xor (times t high)) (ring.one high ∙ mod-eq_of_lt fits)))
+
 -- the butterfly of a block is the stage at its places, whose factors are the block's twiddle and bit j of the place
 pub stage-at : (width : ℕ) (times : ℕ → ℕ → ℕ) → IsRing width 1 times → (f : ℕ → ℕ → ℕ) (j p t : ℕ) (a b : ℕ → ℕ)
     → ((k : ℕ) → a k < 2 ^ width) → f j p ≡ bit_xor t (bit_at p j)
@@ -130,11 +138,8 @@ stage-at width times ring f j p t a b fits factor_is block =
         let high : ℕ = a (q * 2 ^ suc j + (2 ^ j + r)) in
         let low : ℕ = a (q * 2 ^ suc j + r) in
         ap b at ∙ block.upper r split.low ∙ ap (bit_xor high) (block.lower r split.low)
-        ∙ xor_comm high (bit_xor low (times t high)) ∙ xor_assoc low (times t high) high
-        ∙ ap (bit_xor low)
-        (sym (sum_times width 1 times ring t 1 high
-        ∙ ap (bit_xor (times t high)) (ring.one high ∙ mod-eq_of_lt (fits (q * 2 ^ suc j + (2 ^ j + r)))))
-        ∙ ap₂ (λ (s : ℕ) (k : ℕ). times s (a k)) (ap (bit_xor t) (sym one)) other)
+        ∙ upper_result width times ring t low high (fits (q * 2 ^ suc j + (2 ^ j + r)))
+        ∙ ap (bit_xor low) (ap₂ (λ (s : ℕ) (k : ℕ). times s (a k)) (ap (bit_xor t) (sym one)) other)
 
 -- ---- stages one after another, of 2 ^ m places
 

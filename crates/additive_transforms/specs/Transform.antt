@@ -1,5 +1,5 @@
 -- What a whole transform leaves, over any field with Cantor vectors, and over that of GHASH.
-use Rattle.std.specs.Prelude.{◌≡◌, ℕ, ◌+◌, ◌-◌, ◌*◌, ◌^◌, ◌<◌, ◌≤◌, List, length, slice_index}
+use Rattle.std.specs.Prelude.{◌≡◌, ℕ, ◌+◌, ◌-◌, ◌*◌, ◌^◌, ◌<◌, ◌≤◌, Bool, List, cond, length, slice_index}
 use Rattle.ghash_slices.specs.LowStages.{ghash_cantor_vector, ghash_product}
 use Rattle.ghash_slices.specs.Cantor.{point, polynomial_value}
 
@@ -21,6 +21,11 @@ abbrev pub HoldValuesAtPoints : ℕ → (ℕ → ℕ → ℕ) → (ℕ → ℕ) 
 HoldValuesAtPoints width times vector z coefficients values =
     (m : ℕ) → length coefficients ≡ 2 ^ m → (p : ℕ) → p < 2 ^ m
     → slice_index values p ≡ polynomial_value times m (slice_index coefficients) (point width vector z p)
+
+-- the transform takes the values `old` to `new`, or, where `inverse` is true, the inverse one does, which the transform takes back
+abbrev pub TakesTransform : Bool → ℕ → (ℕ → ℕ → ℕ) → (ℕ → ℕ) → ℕ → List ℕ → List ℕ → Type 0
+TakesTransform inverse width times vector z old new =
+    HoldValuesAtPoints width times vector z (cond inverse new old) (cond inverse old new)
 
 -- these coefficients have those values, and no other list of as many elements has them
 pub record AreTheCoefficients (width : ℕ) (times : ℕ → ℕ → ℕ) (vector : ℕ → ℕ) (z : ℕ) (values coefficients : List ℕ) : Type 0 where

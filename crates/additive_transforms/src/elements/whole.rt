@@ -1,10 +1,10 @@
 // Whole transforms.
 ghost use Rattle.std.specs.Prelude.{◌≡◌, length, map};
 ghost use Rattle.additive_transforms.specs.Elements.{FitsField};
-ghost use Rattle.additive_transforms.specs.Transform.{AreTheCoefficients, HoldValuesAtPoints};
+ghost use Rattle.additive_transforms.specs.Transform.{AreTheCoefficients, HoldValuesAtPoints, TakesTransform};
 
 use crate::elements::arithmetic::{OfElements, StageArithmetic};
-use crate::elements::stages::run_stage;
+use crate::elements::halves::run_halves;
 use crate::stages_of;
 use field_base::traits::TowerLevel;
 
@@ -40,10 +40,7 @@ pub fn forward_by<K: StageArithmetic>(values: &mut [K::Value], z: K::Twiddle)
     ensures length { length values.new ≡ length values.old }
     ensures values { HoldValuesAtPoints K.width K.product K.vector (K.number z) (map K.value values.old) (map K.value values.new) }
 {
-    let stages = stages_of(values.len());
-    for stage in (0..stages).rev() {
-        run_stage::<K>(values, stage, K::shift(z, stage), false);
-    }
+    transform::<K>(values, z, false);
 }
 
 /// The transform `inverse_elements` by an arithmetic: with the same `z` it takes back what `forward_by` did. It requires what
@@ -53,8 +50,14 @@ pub fn inverse_by<K: StageArithmetic>(values: &mut [K::Value], z: K::Twiddle)
     ensures length { length values.new ≡ length values.old }
     ensures coefficients { AreTheCoefficients K.width K.product K.vector (K.number z) (map K.value values.old) (map K.value values.new) }
 {
-    let stages = stages_of(values.len());
-    for stage in 0..stages {
-        run_stage::<K>(values, stage, K::shift(z, stage), true);
-    }
+    transform::<K>(values, z, true);
+}
+
+// The transform of values, or, where `inverse` is true, the inverse one.
+fn transform<K: StageArithmetic>(values: &mut [K::Value], z: K::Twiddle, inverse: bool)
+    requires { FitsField K.width (length values.old) }
+    ensures length { length values.new ≡ length values.old }
+    ensures values { TakesTransform inverse K.width K.product K.vector (K.number z) (map K.value values.old) (map K.value values.new) }
+{
+    run_halves::<K>(values, stages_of(values.len()), z, inverse);
 }
