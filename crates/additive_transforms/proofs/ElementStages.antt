@@ -7,10 +7,12 @@ use Rattle.std.proofs.lemmas.List.{length-map}
 use Rattle.std.proofs.lemmas.List.FromFn.{get_or-map-range_with_len, length-map-range_with_len}
 use Rattle.field_base.specs.Orders.{AreCantorVectors}
 use Rattle.field_base.specs.Ring.{IsRing}
+use Rattle.field_base.proofs.RemainderRing.{ghash_ring}
 use Rattle.ghash_slices.specs.Cantor.{AreCantorTwiddles, subspace_value}
+use Rattle.ghash_slices.proofs.GhashVectors.{ghash_vectors}
 use Rattle.ghash_slices.proofs.WordValues.{values_fit}
 use Rattle.additive_transforms.specs.Stages.{AreLeft, IsStage, TakesStage}
-use Rattle.additive_transforms.specs.Transform.{AreTheCoefficients, HasStages, HoldValuesAtPoints}
+use Rattle.additive_transforms.specs.Transform.{AreOnlyCoefficients, AreTheCoefficients, HasStages, HoldPolynomialValues, HoldValuesAtPoints}
 use Rattle.additive_transforms.proofs.Counts.{block_count}
 use Rattle.additive_transforms.proofs.OneOrigin.{all_leave, only_these, undone_leave}
 use Rattle.additive_transforms.proofs.WholeStages.{AreUndone, left_step, undone_step}
@@ -174,10 +176,17 @@ module _ {width : ℕ} {times : ℕ → ℕ → ℕ} {vector : ℕ → ℕ} (wid
       so_far.1)
 
 -- the coefficients that have the values are the only ones
-pub the_coefficients : {width : ℕ} {times : ℕ → ℕ → ℕ} {vector : ℕ → ℕ} → 0 < width → IsRing width 1 times → AreCantorVectors width times vector
-    → {A : Type 0} (value : A → ℕ) → ((x : A) → value x < 2 ^ width) → (z : ℕ) (old new : List A) → FitsField width (length old)
+pub the_coefficients : {width : ℕ} {times : ℕ → ℕ → ℕ} {vector : ℕ → ℕ} → 0 < width → IsRing width 1 times
+    → AreCantorVectors width times vector → {A : Type 0} (value : A → ℕ) → ((x : A) → value x < 2 ^ width) → (z : ℕ) (old new : List A) → FitsField width (length old)
     → length new ≡ length old → HoldValuesAtPoints width times vector z (map value new) (map value old)
     → AreTheCoefficients width times vector z (map value old) (map value new)
 the_coefficients wide ring vectors value range z old new room same =
     level_coefficients _ _ _ wide ring vectors z room.0 room.2 (map value old) (map value new) (length-map old value ∙ room.1.1)
     (length-map new value ∙ same ∙ room.1.1) (values_fit _ value range new)
+
+-- in the field of GHASH
+pub ghash_coefficients : {A : Type 0} (value : A → ℕ) → ((x : A) → value x < 2 ^ 128) → (z m : ℕ) (old new : List A)
+    → HasStages m (length old) → length new ≡ length old → HoldPolynomialValues z (map value new) (map value old)
+    → AreOnlyCoefficients z (map value old) (map value new)
+ghash_coefficients value range z m old new has same =
+    the_coefficients (lit< tt) ghash_ring ghash_vectors value range z old new (m, has, omega (arith, has.0)) same

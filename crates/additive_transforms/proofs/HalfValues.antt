@@ -160,8 +160,8 @@ module _ (width : ℕ) (times : ℕ → ℕ → ℕ) (vector : ℕ → ℕ) (wid
 -- ---- elements, by their values
 
 module _ {width : ℕ} {times : ℕ → ℕ → ℕ} {vector : ℕ → ℕ} (wide : 0 < width) (ring : IsRing width 1 times) (vectors : AreCantorVectors width times vector) {A : Type 0} (value : A → ℕ) (range : (x : A) → value x < 2 ^ width) where
-  -- the halves c and d become lo and hi by the butterfly, whose values are those at lo' and hi': the lower ones from the shift z on, and the
-  -- upper ones from one vector on
+  -- the halves c and d become lo and hi by the butterfly, whose values are those at lo' and hi': the lower ones from the shift z on, and
+  -- the upper ones from one vector on
   pub joined_hold : (n half z t v next : ℕ) → n < width → half ≡ 2 ^ n → t ≡ subspace_value times n z → v ≡ vector n → next ≡ bit_xor z v
       → (c d lo hi lo' hi' coefficients values : List A) → coefficients ≡ c ++ d → values ≡ lo' ++ hi' → length c ≡ half → length d ≡ half
       → length lo ≡ half → length hi ≡ half → length lo' ≡ half
@@ -169,16 +169,18 @@ module _ {width : ℕ} {times : ℕ → ℕ → ℕ} {vector : ℕ → ℕ} (wid
       → HoldValuesAtPoints width times vector z (map value lo) (map value lo')
       → HoldValuesAtPoints width times vector next (map value hi) (map value hi')
       → HoldValuesAtPoints width times vector z (map value coefficients) (map value values)
-  joined_hold n half z t v next below half_is twiddle vector_is next_is c d lo hi lo' hi' coefficients values first second c_long d_long low high
-      low' is lower upper =
+  joined_hold n half z t v next below half_is twiddle vector_is next_is c d lo hi lo' hi' coefficients values first second c_long d_long low
+      high low' is lower upper =
       subst (λ (l : List ℕ). HoldValuesAtPoints width times vector z (map value coefficients) l) (sym second_is)
       (halves_hold width times vector wide ring vectors n below z t twiddle (map value coefficients) (map value lo) (map value hi)
       (map value lo') (map value hi') whole (length-map lo value ∙ low ∙ half_is) (length-map hi value ∙ high ∙ half_is)
       (length-map lo' value ∙ low' ∙ half_is) (values_fit width value range coefficients)
       (subst (λ (l : List ℕ). IsButterfly times t (2 ^ n) (slice_index l) (slice_index (map value lo ++ map value hi))) (sym first_is)
-      (subst (λ (h : ℕ). IsButterfly times t h (slice_index (map value c ++ map value d)) (slice_index (map value lo ++ map value hi))) half_is is))
+      (subst (λ (h : ℕ). IsButterfly times t h (slice_index (map value c ++ map value d)) (slice_index (map value lo ++ map value hi)))
+      half_is is))
       lower
-      (subst (λ (s : ℕ). HoldValuesAtPoints width times vector s (map value hi) (map value hi')) (next_is ∙ ap (bit_xor z) vector_is) upper))
+      (subst (λ (s : ℕ). HoldValuesAtPoints width times vector s (map value hi) (map value hi')) (next_is ∙ ap (bit_xor z) vector_is)
+      upper))
     where
       first_is : map value coefficients ≡ map value c ++ map value d
       first_is = ap (map value) first ∙ map-append value c d

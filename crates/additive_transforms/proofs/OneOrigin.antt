@@ -18,7 +18,7 @@ use Rattle.ghash_slices.specs.Stages.{factor, lower_place, stage, stages, upper_
 use Rattle.ghash_slices.specs.Cantor.{AreCantorTwiddles, point, polynomial_value}
 use Rattle.ghash_slices.proofs.GhashVectors.{ghash_vectors}
 use Rattle.ghash_slices.specs.LowStages.{ghash_cantor_vector, ghash_product, HoldSums}
-use Rattle.additive_transforms.specs.Transform.{AreOnlyCoefficients, AreTheCoefficients, HoldPolynomialValues, HoldValuesAtPoints}
+use Rattle.additive_transforms.specs.Transform.{AreTheCoefficients, HoldPolynomialValues, HoldValuesAtPoints}
 use Rattle.additive_transforms.proofs.Butterflies.{twice}
 use Rattle.additive_transforms.proofs.Counts.{one_exponent}
 use Rattle.additive_transforms.proofs.WholeStages.{AreUndone, SplitPlace, end_before, low_stages_are, split_place, stages_are_values, whole_blocks}
@@ -235,13 +235,6 @@ module _ (width : ℕ) (times : ℕ → ℕ → ℕ) (vector : ℕ → ℕ) (wid
             p here);
       }
 
-  -- so it leaves the one list of coefficients
-  pub inverse_leaves : (old new : List ℕ) → length old ≡ 2 ^ m → length new ≡ 2 ^ m → ((p : ℕ) → slice_index old p < 2 ^ width)
-      → ((p : ℕ) → slice_index new p < 2 ^ width) → AreUndone times shifts basis m m old new
-      → AreTheCoefficients width times vector z old new
-  inverse_leaves old new whole whole' fits fits' undone =
-      only_these old new whole whole' fits' (undone_leave old new whole' fits undone)
-
 -- ---- in the field of GHASH, with the twiddles of 40 stages
 
 module _ (shifts basis : List ℕ) (z : ℕ) (twiddles : AreCantorTwiddles 128 ghash_product ghash_cantor_vector z 40 shifts basis) (long : length basis ≡ 39) (m : ℕ) (few : m ≤ 40) where
@@ -255,10 +248,10 @@ module _ (shifts basis : List ℕ) (z : ℕ) (twiddles : AreCantorTwiddles 128 g
   ghash_all_leave =
       all_leave 128 ghash_product ghash_cantor_vector (lit< tt) ghash_ring ghash_vectors shifts basis z 40 twiddles one_shorter m few
 
-  pub ghash_inverse_leaves : (old new : List ℕ) → length old ≡ 2 ^ m → length new ≡ 2 ^ m → ((p : ℕ) → slice_index old p < 2 ^ 128)
-      → ((p : ℕ) → slice_index new p < 2 ^ 128) → AreUndone ghash_product shifts basis m m old new → AreOnlyCoefficients z old new
-  ghash_inverse_leaves =
-      inverse_leaves 128 ghash_product ghash_cantor_vector (lit< tt) ghash_ring ghash_vectors shifts basis z 40 twiddles one_shorter m few
+  pub ghash_undone_leave : (old new : List ℕ) → length new ≡ 2 ^ m → ((p : ℕ) → slice_index old p < 2 ^ 128)
+      → AreUndone ghash_product shifts basis m m old new → HoldPolynomialValues z new old
+  ghash_undone_leave =
+      undone_leave 128 ghash_product ghash_cantor_vector (lit< tt) ghash_ring ghash_vectors shifts basis z 40 twiddles one_shorter m few
 
   -- the forward transform leaves the values where the four lowest stages were done in runs
   pub forward_leaves : (enough : 4 ≤ m) (low_shifts low_basis old now new : List ℕ) → low_shifts ≡ take 4 shifts → low_basis ≡ take (m - 1) basis

@@ -4,7 +4,7 @@ ghost use Rattle.ghash_slices.specs.Twiddles.{basis_of, shifts_of};
 
 use crate::kernel::{Kernel, PolyKernel};
 use crate::twiddles::Twiddles;
-use crate::whole::{every_stage, forward_stages, undo_stages};
+use crate::whole::{every_stage, forward_stages};
 use ghash_slices::{LOW_STAGES, LowStageTwiddles, numbers_are_values};
 use std::alloc::{AllocError, Allocator};
 
@@ -79,7 +79,7 @@ impl<A: Allocator> Transform<A> {
         ensures count { K.count kernel.new ≡ K.count kernel.old + self.now.stages * 2 ^ (self.now.stages - 1) }
     {
         if self.stages < LOW_STAGES {
-            every_stage(kernel, values, self.stages, &self.twiddles);
+            every_stage(kernel, values, self.stages, &self.twiddles, false);
         } else {
             forward_stages(kernel, values, self.stages, &self.twiddles, &self.low);
         }
@@ -94,7 +94,7 @@ impl<A: Allocator> Transform<A> {
         ensures coefficients { AreOnlyCoefficients self.now.twiddles.z (map K.value values.old) (map K.value values.new) }
         ensures count { K.count kernel.new ≡ K.count kernel.old + self.now.stages * 2 ^ (self.now.stages - 1) }
     {
-        undo_stages(kernel, values, self.stages, &self.twiddles);
+        every_stage(kernel, values, self.stages, &self.twiddles, true);
     }
 }
 

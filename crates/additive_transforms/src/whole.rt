@@ -1,7 +1,8 @@
 // Whole transforms.
 ghost use Rattle.std.specs.Prelude.{◌≡◌, ℕ, ◌+◌, ◌-◌, ◌*◌, ◌^◌, ◌<◌, ◌≤◌, IfErr, IfOk, length, map, slice_index, take};
-ghost use Rattle.additive_transforms.specs.Transform.{AreOnlyCoefficients, CountsPairs, FitsTransform, HasStages, HoldPolynomialValues};
-ghost use Rattle.ghash_slices.specs.LowStages.{ghash_product};
+ghost use Rattle.additive_transforms.specs.Transform.{AreOnlyCoefficients, CountsPairs, FitsTransform, HasStages};
+ghost use Rattle.additive_transforms.specs.Transform.{HoldPolynomialValues, TakesTransform};
+ghost use Rattle.ghash_slices.specs.LowStages.{ghash_cantor_vector, ghash_product};
 ghost use Rattle.ghash_slices.specs.Twiddles.{basis_of, shifts_of};
 ghost use Rattle.additive_transforms.specs.Stages.{AreLeft};
 
@@ -32,7 +33,7 @@ pub fn forward_with<K: Kernel, A: Allocator>(
     let stages = stages_of(values.len());
     let twiddles = Twiddles::new(z);
     if stages < LOW_STAGES {
-        every_stage(kernel, values, stages, &twiddles);
+        every_stage(kernel, values, stages, &twiddles, false);
         return Ok(());
     }
     let low = LowStageTwiddles::new(alloc, &twiddles.shifts, &twiddles.basis[..stages - 1])?;
@@ -51,7 +52,7 @@ pub fn forward_words<V: Width, W: WideWord>(words: &mut [W], z: u128)
     let twiddles = Twiddles::new(z);
     let mut kernel = WordKernel::<V, W>::new();
     if stages < LOW_STAGES {
-        every_stage(&mut kernel, words, stages, &twiddles);
+        every_stage(&mut kernel, words, stages, &twiddles, false);
         return;
     }
     stages_down_to(&mut kernel, words, stages, LOW_STAGES, &twiddles);
@@ -80,7 +81,7 @@ pub fn inverse_with<K: Kernel>(kernel: &mut K, values: &mut [K::Elem], z: u128)
 {
     let stages = stages_of(values.len());
     let twiddles = Twiddles::new(z);
-    undo_stages(kernel, values, stages, &twiddles);
+    every_stage(kernel, values, stages, &twiddles, true);
 }
 
 /// The stages of a transform of so many values: the m for which there are 2^m. There has to be one, from 0 to 40.
@@ -98,37 +99,28 @@ pub fn stages_of(count: usize) -> usize
     40
 }
 
-// The stages of an inverse transform, from the lowest up.
-pub(crate) fn undo_stages<K: Kernel>(
-    kernel: &mut K,
-    values: &mut [K::Elem],
-    stages: usize,
-    twiddles: &Twiddles,
-)
-    requires stages { HasStages stages (length values.old) }
-    requires room { K.count kernel.old + stages * 2 ^ (stages - 1) < 2 ^ 64 }
-    ensures length { length values.new ≡ length values.old }
-    ensures coefficients { AreOnlyCoefficients twiddles.now.z (map K.value values.old) (map K.value values.new) }
-    ensures count { K.count kernel.new ≡ K.count kernel.old + stages * 2 ^ (stages - 1) }
-{
-    for stage in 0..stages {
-        run_stage(kernel, values, stage, twiddles, true);
-    }
-}
-
-// The stages of a forward transform, from the highest down.
+// All the stages of a transform by butterflies: from the highest down, or, where `inverse` is true, those of the inverse one from the
+// lowest up.
 pub(crate) fn every_stage<K: Kernel>(
     kernel: &mut K,
     values: &mut [K::Elem],
     stages: usize,
     twiddles: &Twiddles,
+    inverse: bool,
 )
     requires stages { HasStages stages (length values.old) }
     requires room { K.count kernel.old + stages * 2 ^ (stages - 1) < 2 ^ 64 }
     ensures length { length values.new ≡ length values.old }
-    ensures values { HoldPolynomialValues twiddles.now.z (map K.value values.old) (map K.value values.new) }
+    ensures values { TakesTransform inverse 128 ghash_product ghash_cantor_vector twiddles.now.z (map K.value values.old)
+        (map K.value values.new) }
     ensures count { K.count kernel.new ≡ K.count kernel.old + stages * 2 ^ (stages - 1) }
 {
+    if inverse {
+        for stage in 0..stages {
+            run_stage(kernel, values, stage, twiddles, true);
+        }
+        return;
+    }
     stages_down_to(kernel, values, stages, 0, twiddles);
 }
 

@@ -1,5 +1,5 @@
-// Transforms depth first: a slice that is too large for the first cache takes its highest stage alone, and then each of its halves takes all
-// the others before the next half does.
+// Transforms depth first: a slice that is too large for the first cache takes its highest stage alone, and then each of its halves takes
+// all the others before the next half does.
 ghost use Rattle.std.specs.Prelude.{◌≡◌, ◌+◌, ◌/◌, ◌^◌, ◌<◌, ◌≤◌, length, map};
 ghost use Rattle.additive_transforms.specs.Elements.{twiddle_basis};
 ghost use Rattle.additive_transforms.specs.Stages.{TakesStage};
@@ -10,7 +10,8 @@ use crate::elements::arithmetic::StageArithmetic;
 use crate::elements::stages::run_stage;
 use crate::half_of;
 
-// The stages of a slice that fits the first cache, which is 32 KB or more: so many stages have 2^10 values, 16 KB where a value has 16 bytes.
+// The stages of a slice that fits the first cache, which is 32 KB or more: so many stages have 2^10 values, which are 16 KB where a value
+// has 16 bytes.
 const CACHED_STAGES: usize = 10;
 
 /// The transform of 2 to the power of `stages` values, or, where `inverse` is true, the inverse one. The highest stage has one block, whose

@@ -1,7 +1,7 @@
 use Rattle.std.proofs.Common.{◌≡◌, ◌+◌, ◌-◌, ◌*◌, ◌^◌, length, map}
 use Rattle.ghash_slices.specs.LowStages.{ghash_product}
 use Rattle.additive_transforms.proofs.WholeStages.{AreUndone}
-use Rattle.additive_transforms.proofs.whole.undo_stages.Given as goal
+use Rattle.additive_transforms.proofs.whole.every_stage.Given as goal
 
 -- the stages before this one are undone, and each counted its pairs
 abbrev pub invariant-loop-stage : goal.invariant-loop-stage
