@@ -36,7 +36,7 @@ symbol-value : (level n k m : ℕ) (symbol parity : ℕ → ℕ) (word : IsCoded
     → symbol_of k symbol parity i ≡ value_at level n word.coefficients (place_of n k i)
 symbol-value level n k m symbol parity word i below =
     elim (cases_lt i k) [
-      | inl lower ↦ let is = word.of_data i lower in grind (arith, nat_tests)
+      | inl lower ↦ let is = word.of_data.values i lower in grind (arith, nat_tests)
       | inr past ↦ let within : i - k < m = omega (arith, below, past) in let is = word.of_parity (i - k) within in grind (arith, nat_tests)
     ]
 
@@ -90,7 +90,7 @@ shards_determine level n k m one one_parity other other_parity shard low padded 
     same_at j below (inl lower) =
         sym (symbol-value level n k m one one_parity a (shard j) (distinct.below j lower)) ∙ agree j lower
         ∙ symbol-value level n k m other other_parity b (shard j) (distinct.below j lower)
-    same_at j below (inr past) = a.padding j past below ∙ sym (b.padding j past below)
+    same_at j below (inr past) = a.of_data.padding j past below ∙ sym (b.of_data.padding j past below)
 
     same : (j : ℕ) → j < 2 ^ n → value_of a.coefficients (at (place j)) ≡ value_of b.coefficients (at (place j))
     same j below = same_at j below (cases_lt j k)

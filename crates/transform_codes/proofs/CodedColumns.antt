@@ -1,5 +1,5 @@
 -- A column that is encoded: its data are values of a polynomial, and its parity too, block by block.
-use Rattle.std.proofs.Common.{◌≡◌, ◌≢◌, ◌⊎◌, inl, inr, ℕ, ◌+◌, ◌-◌, ◌*◌, ◌/◌, ◌^◌, ◌<◌, ◌≤◌, List, length, get_or, map, sym, ◌∙◌, ap, subst, arith}
+use Rattle.std.proofs.Common.{◌≡◌, ◌≢◌, ◌⊎◌, inl, inr, ℕ, ◌+◌, ◌-◌, ◌*◌, ◌/◌, ◌^◌, ◌<◌, ◌≤◌, List, length, get_or, map, sym, ◌∙◌, ap, subst, arith, div-mul-le_self, mul-le-mul_right}
 use Rattle.std.specs.Prelude.{slice_index}
 use Rattle.std.proofs.lemmas.Bool.{cases_lt}
 use Rattle.std.proofs.lemmas.List.{get_or-map, length-map}
@@ -81,12 +81,17 @@ module _ {W : Type 0} (element : W → ℕ) (zero : W) (level n : ℕ) where
   kept_word k m size column c symbol old new inside other kept word =
       record {
         coefficients = word.coefficients;
-        count = word.count;
         of_data = word.of_data;
-        padding = word.padding;
         of_parity = λ t below. ap element (kept t c inside other) ∙ word.of_parity t below;
       }
 
 -- so many blocks have all places
 pub all_blocks : (m long len : ℕ) → long ≡ len → 0 < len → m ≤ ((m - 1) / long + 1) * len
 all_blocks m long len is some = subst (λ (k : ℕ). m ≤ ((m - 1) / k + 1) * len) (sym is) (omega (arith, some))
+
+-- and each begins below the last place
+pub block_begins : (m long number : ℕ) → 0 < m → number < (m - 1) / long + 1 → number * long ≤ m
+block_begins m long number some below =
+    let whole = div-mul-le_self (m - 1) long in
+    let before : number * long ≤ (m - 1) / long * long = mul-le-mul_right long (omega (arith, below)) in
+    omega (arith, whole, before)

@@ -1,6 +1,7 @@
 mod CodeWordPlaces
 mod CodedColumns
 mod ColumnPlaces
+mod ComparedColumns
 mod Decoding
 mod LocatorFacts
 mod LostCounts

@@ -4,13 +4,15 @@ use Rattle.std.specs.Prelude.{bit_xor}
 use Rattle.std.proofs.lemmas.Bool.{cases_lt, true≢false}
 use Rattle.std.proofs.lemmas.Nat.{xor_lt}
 use Rattle.std.proofs.Math.Nat.{pow-le-pow_right}
-use lib.Bits.{xor_self, xor_zero_r}
-use native.Mathlib.Nat.{mod-eq_of_lt}
+use lib.Bits.{xor_self}
 use native.Mathlib.Numerals.{add-one}
 use Rattle.field_base.specs.Field.{IsField}
 use Rattle.field_base.proofs.FieldLemmas.{no_zero_divisors}
 use Rattle.field_base.proofs.RingLemmas.{times-zero, xor_nothing}
-use Rattle.field_laws.proofs.Polynomials.{IsPolynomial, polynomial-root}
+use Rattle.field_base.specs.Basis.{product_below}
+use Rattle.field_laws.specs.Interpolation.{other_factors}
+use Rattle.field_laws.proofs.Interpolation.{factors-polynomial, factors_skip}
+use Rattle.field_laws.proofs.Polynomials.{IsPolynomial, polynomial-root, polynomial-same}
 use Rattle.transform_codes.specs.Locators.{locator, lost_count}
 
 -- one place more, which is lost or not
@@ -34,16 +36,12 @@ module _ (width : ℕ) (times : ℕ → ℕ → ℕ) (wide : 0 < width) (field :
   one-lt : 1 < 2 ^ width
   one-lt = let least : 2 ^ 1 ≤ 2 ^ width = pow-le-pow_right (lit< tt) wide in omega (arith, least)
 
-  -- the product of no factors
+  -- the product of no factors, as that of one place is without its own
   constant : IsPolynomial times 1 (λ x. 1)
-  unfolding IsPolynomial
-  constant = (
-    1,
-    (λ x. 0),
-    (λ x. refl),
-    λ x.
-        sym (ap (bit_xor (times 1 1)) (times-zero width 1 times field.ring x) ∙ xor_zero_r (times 1 1) ∙ field.ring.one 1 ∙ mod-eq_of_lt one-lt),
-  )
+  unfolding product_below
+  constant =
+      polynomial-same width times field.ring 1 (λ x. other_factors times point 0 x 1) (λ x. 1)
+      (λ x. factors_skip width times field wide point 0 x 0 refl) (factors-polynomial width times field wide point 0 1 (lit< tt))
 
   -- it has as many roots as places are lost
   pub locator-polynomial : (n : ℕ) → IsPolynomial times (suc (lost_count lost n)) (locator times point lost n)

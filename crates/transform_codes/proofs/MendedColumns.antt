@@ -122,7 +122,7 @@ module _ {W : Type 0} (element : W → ℕ) (zero : W) (level n k m r size colum
         | inr absent ↦
             ap element (done.mended i below (flag ∙ absent))
             ∙ ap (λ (s : ℕ). element (get_or values s zero)) same
-            ∙ values_are i (omega (arith, below, padded, room)) ∙ sym (word.of_data i below)
+            ∙ values_are i (omega (arith, below, padded, room)) ∙ sym (word.of_data.values i below)
       ]
 
   -- and so is the parity

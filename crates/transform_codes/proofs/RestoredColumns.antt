@@ -135,9 +135,9 @@ module _ {W : Type 0} (number : W → ℕ) (zero : W) (nothing : number zero ≡
       elim (cases_lt p k) [
         | inl lower ↦
             ap (level_element number level) (word-first p lower)
-            ∙ data_known p lower (lost-first p lower is) ∙ word.of_data p lower
+            ∙ data_known p lower (lost-first p lower is) ∙ word.of_data.values p lower
         | inr past ↦ elim (cases_lt p (2 ^ n)) [
-          | inl below ↦ ap (level_element number level) (word-padding p past below) ∙ none ∙ sym (word.padding p past below)
+          | inl below ↦ ap (level_element number level) (word-padding p past below) ∙ none ∙ sym (word.of_data.padding p past below)
           | inr late ↦ elim (cases_lt p (2 ^ n + m)) [
             | inl within ↦ of_parity past late within
             | inr far ↦ absurd (true≢false (sym (lost-past p past late far) ∙ is))

@@ -11,13 +11,17 @@ use Rattle.word_tables.specs.Cantor.{cantor_vector}
 abbrev pub value_at : ℕ → ℕ → List ℕ → ℕ → ℕ
 value_at level n coefficients p = polynomial_value (tower_mul level) n (slice_index coefficients) (point (2 ^ level) cantor_vector 0 p)
 
--- one polynomial of 2 ^ n coefficients, which is of degree below 2 ^ n, has the symbols of data as its values at points 0, 1, .., k - 1,
--- zeros at the points from there to 2 ^ n, and the symbols of parity as its values at the m points from 2 ^ n on
+-- the polynomial of these 2 ^ n coefficients, which is of degree below 2 ^ n, has the symbols of data as its values at points 0, 1, .., k - 1,
+-- and zeros at the points from there to 2 ^ n
+pub record AreOfData (level n k : ℕ) (symbol : ℕ → ℕ) (coefficients : List ℕ) : Type 0 where
+  pub count : length coefficients ≡ 2 ^ n
+  pub values : (i : ℕ) → i < k → symbol i ≡ value_at level n coefficients i
+  pub padding : (p : ℕ) → k ≤ p → p < 2 ^ n → value_at level n coefficients p ≡ 0
+
+-- one such polynomial has the symbols of parity as its values at the m points from 2 ^ n on
 pub record IsCodedColumn (level n k m : ℕ) (symbol parity : ℕ → ℕ) : Type 0 where
   pub coefficients : List ℕ
-  pub count : length coefficients ≡ 2 ^ n
-  pub of_data : (i : ℕ) → i < k → symbol i ≡ value_at level n coefficients i
-  pub padding : (p : ℕ) → k ≤ p → p < 2 ^ n → value_at level n coefficients p ≡ 0
+  pub of_data : AreOfData level n k symbol coefficients
   pub of_parity : (t : ℕ) → t < m → parity t ≡ value_at level n coefficients (2 ^ n + t)
 
 -- symbol `column` of shard i, where shards of `size` words stand one after the other, and a word has an element

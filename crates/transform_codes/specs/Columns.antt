@@ -2,16 +2,13 @@
 use Rattle.std.specs.Prelude.{◌≡◌, ◌≢◌, ◌⊎◌, ℕ, ◌+◌, ◌*◌, ◌^◌, ◌<◌, ◌≤◌, List, slice_index_or}
 use Rattle.transform_codes.specs.Codes.{shard_symbol, value_at}
 
--- what coded columns need: words of k shards and of m of parity, and 2 ^ n coefficients and as many words of a block, no fewer than shards
--- of data, where the level has as many points
+-- what coded columns need: words of k shards and of m of parity, and 2 ^ n coefficients and as many words of a block, where the level has
+-- the points
 pub record FitEncoding (level n k m size words parity_words coefficients block : ℕ) : Type 0 where
-  pub few : n ≤ 16
   pub points : n ≤ 2 ^ level
+  pub room : 2 ^ n + m ≤ 2 ^ 2 ^ level
   pub coefficients_long : coefficients ≡ 2 ^ n
   pub block_long : block ≡ 2 ^ n
-  pub padded : k ≤ 2 ^ n
-  pub room : m ≤ 65536
-  pub some : 0 < m
   pub whole : words ≡ k * size
   pub parity_whole : parity_words ≡ m * size
 

@@ -24,15 +24,14 @@ pub record SizeError (k m words parity_words : ℕ) (error : TransformCodeError)
   pub parity_whole : words ≢ 0 → parity_words % m ≢ 0 → error ≡ IncorrectShardSize
   pub same : words ≢ 0 → parity_words / m ≢ words / k → error ≡ IncorrectShardSize
 
--- the level has the points of a code, words of k shards of data and of m of parity have one size, and there is space for twice as many
--- words as the polynomials have coefficients
-pub record CanEncode (level n k m words parity_words space : ℕ) : Type 0 where
+-- the level has the points of a code, words of k shards of data and of m of parity have one size, and there is space for so many words
+pub record CanEncode (level n k m words parity_words needed space : ℕ) : Type 0 where
   pub points : 2 ^ n + m ≤ 2 ^ 2 ^ level
   pub sizes : HaveOneSize k m words parity_words
-  pub room : 2 * 2 ^ n ≤ space
+  pub room : needed ≤ space
 
--- why they are not encoded: the first that applies
-pub record EncodeError (level n k m words parity_words space : ℕ) (error : TransformCodeError) : Type 0 where
+-- why they are not encoded or compared: the first that applies
+pub record EncodeError (level n k m words parity_words : ℕ) (error : TransformCodeError) : Type 0 where
   pub points : 2 ^ 2 ^ level < 2 ^ n + m → error ≡ TooManyShards
   pub sizes : 2 ^ n + m ≤ 2 ^ 2 ^ level → SizeError k m words parity_words error
   pub room : 2 ^ n + m ≤ 2 ^ 2 ^ level → HaveOneSize k m words parity_words → error ≡ TooLittleSpace

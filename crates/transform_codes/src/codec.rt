@@ -7,9 +7,10 @@ ghost use Rattle.transform_codes.specs.Restoring.{AreRestoredColumns, is_missing
 ghost use Rattle.transform_codes.specs.Sizes.{CanEncode, CanRebuild, EncodeError, HaveOneSize, IsPadded, RebuildError, SizeError};
 ghost use Rattle.transform_codes.specs.declared.error.TransformCodeError.TheVariants.{TooFewDataShards, TooFewParityShards, TooManyShards};
 
+use crate::comparing::are_coded;
 use crate::encoding::encode_columns;
 use crate::error::TransformCodeError;
-use crate::restoring::{restore_columns, set_factors, set_points};
+use crate::restoring::{restore_column, set_factors, set_points};
 use field_base::Unsigned;
 use word_tower::Level;
 
@@ -104,29 +105,47 @@ impl TransformCode {
         parity: &mut [R],
     ) -> Result<(), TransformCodeError>
         ensures accepted { IsOk result ↔ CanEncode L.LEVEL self.now.levels self.now.data_shards self.now.parity_shards
-            (length shards.now) (length parity.old) (length space.old) }
+            (length shards.now) (length parity.old) (2 * 2 ^ self.now.levels) (length space.old) }
         ensures encoded { IsOk result → AreCodedColumns (level_element R.number L.LEVEL) R.ZERO L.LEVEL self.now.levels
             self.now.data_shards self.now.parity_shards (length shards.now / self.now.data_shards) shards.now parity.new }
         ensures long { length parity.new ≡ length parity.old }
         ensures refused { IfErr result (λ error. EncodeError L.LEVEL self.now.levels self.now.data_shards self.now.parity_shards
-            (length shards.now) (length parity.old) (length space.old) error) }
+            (length shards.now) (length parity.old) error) }
         ensures same { OnErr result (parity.new ≡ parity.old) }
     {
         let points = self.coefficient_count();
-        let size = self.shard_size::<R, L>(shards.len(), parity.len(), space.len())?;
+        let size = self.shard_size::<R, L>(shards.len(), parity.len(), 2 * points, space.len())?;
         let (coefficients, rest) = space.split_at_mut(points);
         let (block, _rest) = rest.split_at_mut(points);
-        encode_columns::<R, L>(
-            coefficients,
-            block,
-            shards,
-            parity,
-            self.data_shards,
-            self.parity_shards,
-            size,
-            self.levels,
-        );
+        encode_columns::<R, L>(self, coefficients, block, shards, parity, size);
         Ok(())
+    }
+
+    /// Whether the shards of parity are those of the data, symbol by symbol: those that `encode` writes, where bits of a word above the
+    /// level do not count. What `space` has before and afterwards does not matter: it takes two words for each of `coefficient_count`,
+    /// and one for each shard of parity. The error is the first that applies.
+    pub fn verify<R: Unsigned, L: Level<R>>(
+        &self,
+        space: &mut [R],
+        shards: &[R],
+        parity: &[R],
+    ) -> Result<bool, TransformCodeError>
+        ensures accepted { let needed = 2 * 2 ^ self.now.levels + self.now.parity_shards in
+            IsOk result ↔ CanEncode L.LEVEL self.now.levels self.now.data_shards self.now.parity_shards
+            (length shards.now) (length parity.now) needed (length space.old) }
+        ensures answer { IfOk result (λ is_whole. IsTrue is_whole ↔ AreCodedColumns (level_element R.number L.LEVEL) R.ZERO L.LEVEL
+            self.now.levels self.now.data_shards self.now.parity_shards (length shards.now / self.now.data_shards) shards.now parity.now) }
+        ensures refused { IfErr result (λ error. EncodeError L.LEVEL self.now.levels self.now.data_shards self.now.parity_shards
+            (length shards.now) (length parity.now) error) }
+    {
+        let points = self.coefficient_count();
+        let needed = 2 * points + self.parity_shards;
+        let size = self.shard_size::<R, L>(shards.len(), parity.len(), needed, space.len())?;
+        let (coefficients, rest) = space.split_at_mut(points);
+        let (block, others) = rest.split_at_mut(points);
+        let (symbols, _rest) = others.split_at_mut(self.parity_shards);
+        let is_whole = are_coded::<R, L>(self, coefficients, block, symbols, shards, parity, size);
+        Ok(is_whole)
     }
 
     /// Restores the missing shards: shard i, of the data and then of the parity, is missing where `present[i]` is false, no more are than
@@ -183,10 +202,11 @@ impl TransformCode {
         set_points::<R, L>(points);
         set_factors::<R, L>(factors, self, present, points, count);
         let behind = points[count];
-        let levels = self.all_levels;
-        restore_columns::<R, L>(
-            values, factors, behind, self, present, shards, parity, size, levels,
-        );
+        for column in 0..size {
+            restore_column::<R, L>(
+                values, factors, behind, self, present, shards, parity, size, column,
+            );
+        }
     }
 
     // The size of each shard, by the words of all, where they can be restored.
@@ -221,26 +241,26 @@ impl TransformCode {
         Ok(size)
     }
 
-    // The size of each shard, by the words of all.
+    // The size of each shard, by the words of all, where there is space for the words that are needed.
     fn shard_size<R: Unsigned, L: Level<R>>(
         &self,
         words: usize,
         parity_words: usize,
+        needed: usize,
         space: usize,
     ) -> Result<usize, TransformCodeError>
         ensures accepted { IsOk result ↔ CanEncode L.LEVEL self.now.levels self.now.data_shards self.now.parity_shards words
-            parity_words space }
+            parity_words needed space }
         ensures size { IfOk result (λ size. (size ≡ words / self.now.data_shards) × (words ≡ self.now.data_shards * size)
             × (parity_words ≡ self.now.parity_shards * size)) }
         ensures refused { IfErr result (λ error. EncodeError L.LEVEL self.now.levels self.now.data_shards self.now.parity_shards words
-            parity_words space error) }
+            parity_words error) }
     {
-        let points = self.coefficient_count();
-        if !has_points::<R, L>(points + self.parity_shards) {
+        if !has_points::<R, L>(self.coefficient_count() + self.parity_shards) {
             return Err(TransformCodeError::TooManyShards);
         }
         let size = self.one_size(words, parity_words)?;
-        if space < 2 * points {
+        if space < needed {
             return Err(TransformCodeError::TooLittleSpace);
         }
         Ok(size)

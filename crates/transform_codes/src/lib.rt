@@ -10,6 +10,7 @@
 
 mod codec;
 mod columns;
+mod comparing;
 mod encoding;
 mod error;
 mod laws;

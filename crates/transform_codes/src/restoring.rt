@@ -4,7 +4,7 @@
 ghost use Rattle.std.specs.Prelude.{◌≡◌, ◌≢◌, ◌⊎◌, ℕ, ◌+◌, ◌-◌, ◌*◌, ◌<◌, ◌≤◌, length, slice_index_or};
 ghost use Rattle.field_base.specs.Tower.{tower_mul};
 ghost use Rattle.tower_transforms.specs.Words.{level_element};
-ghost use Rattle.transform_codes.specs.Restoring.{AreFactors, AreMended, ArePoints, AreRestoredColumns, FitRestoring, IsAtHand, IsFactor};
+ghost use Rattle.transform_codes.specs.Restoring.{AreFactors, AreMended, ArePoints, FitRestoring, IsAtHand, IsFactor};
 ghost use Rattle.transform_codes.specs.Restoring.{RestoresSymbols, is_lost, missing_locator, word_at};
 
 use crate::codec::TransformCode;
@@ -193,7 +193,7 @@ fn mend<R: Unsigned>(
 }
 
 // Restores one column.
-fn restore_column<R: Unsigned, L: Level<R>>(
+pub(crate) fn restore_column<R: Unsigned, L: Level<R>>(
     values: &mut [R],
     factors: &[R],
     behind: R,
@@ -203,11 +203,10 @@ fn restore_column<R: Unsigned, L: Level<R>>(
     parity: &mut [R],
     size: usize,
     column: usize,
-    levels: usize,
 )
     requires inside { column < size }
-    requires fit { FitRestoring R.number R.ZERO L.LEVEL code.now.levels code.now.data_shards code.now.parity_shards size levels present.now
-        (length shards.old) (length parity.old) (length values.old) behind factors.now }
+    requires fit { FitRestoring R.number R.ZERO L.LEVEL code.now.levels code.now.data_shards code.now.parity_shards size
+        code.now.all_levels present.now (length shards.old) (length parity.old) (length values.old) behind factors.now }
     ensures values_long { length values.new ≡ length values.old }
     ensures long { length shards.new ≡ length shards.old }
     ensures parity_long { length parity.new ≡ length parity.old }
@@ -245,30 +244,4 @@ fn restore_column<R: Unsigned, L: Level<R>>(
         first,
         code.data_shards,
     );
-}
-
-// Restores each column.
-pub(crate) fn restore_columns<R: Unsigned, L: Level<R>>(
-    values: &mut [R],
-    factors: &[R],
-    behind: R,
-    code: &TransformCode,
-    present: &[bool],
-    shards: &mut [R],
-    parity: &mut [R],
-    size: usize,
-    levels: usize,
-)
-    requires { FitRestoring R.number R.ZERO L.LEVEL code.now.levels code.now.data_shards code.now.parity_shards size levels present.now
-        (length shards.old) (length parity.old) (length values.old) behind factors.now }
-    ensures long { length shards.new ≡ length shards.old }
-    ensures parity_long { length parity.new ≡ length parity.old }
-    ensures restored { AreRestoredColumns (level_element R.number L.LEVEL) R.ZERO L.LEVEL code.now.levels code.now.data_shards
-        code.now.parity_shards size present.now size shards.old parity.old shards.new parity.new }
-{
-    for column in 0..size {
-        restore_column::<R, L>(
-            values, factors, behind, code, present, shards, parity, size, column, levels,
-        );
-    }
 }

@@ -7,5 +7,5 @@ abbrev pub invariant-loop-column : goal.invariant-loop-column
 invariant-loop-column g l =
     let element = level_element g.R.Stored.number g.L.Level.LEVEL in
     (column : ℕ) → column < l.column
-    → IsCodedColumn g.L.Level.LEVEL l.levels l.data_shards l.parity_shards (shard_symbol element g.R.Stored.ZERO l.size l.shards column)
-    (shard_symbol element g.R.Stored.ZERO l.size l.parity column)
+    → IsCodedColumn g.L.Level.LEVEL l.code.levels l.code.data_shards l.code.parity_shards
+    (shard_symbol element g.R.Stored.ZERO l.size l.shards column) (shard_symbol element g.R.Stored.ZERO l.size l.parity column)

@@ -5,9 +5,11 @@ use Rattle.std.proofs.lemmas.Nat.{pow_pos}
 use Rattle.std.proofs.Math.Pow.{pow_mono}
 use Rattle.ghash_slices.specs.Cantor.{point}
 use Rattle.word_tables.specs.Cantor.{cantor_vector}
+use Rattle.tower_transforms.specs.Words.{level_element}
 use Rattle.transform_codes.specs.Locators.{lost_count}
-use Rattle.transform_codes.specs.Restoring.{AreFactors, is_missing}
+use Rattle.transform_codes.specs.Restoring.{AreFactors, AreRestoredColumns, is_missing}
 use Rattle.transform_codes.proofs.LostCounts.{enough_left}
+use Rattle.transform_codes.proofs.MendedColumns.{restored_more}
 use Rattle.transform_codes.proofs.codec.TransformCode.restore_shards.Goals as goal
 
 -- a level that has twice as many points as 2 ^ r has more than r bits
@@ -18,8 +20,8 @@ bits_left r bits points =
       | inr past ↦ absurd (omega (arith, points, pow_mono past, pow_pos r))
     ]
 
-pub restore_columns-requires : goal.restore_columns-requires
-restore_columns-requires g c =
+pub restore_column-requires-clause-fit : goal.restore_column-requires-clause-fit
+restore_column-requires-clause-fit g c =
     let code = c.args.self.now in
     let present = c.args.present.now in
     let number = g.R.Stored.number in
@@ -36,8 +38,8 @@ restore_columns-requires g c =
     λ (q s : ℕ). AreFactors number zero level code.data_shards code.levels code.parity_shards present q s factors in
     record {
       flags = c.requires.can.flags;
-      whole = c.requires.whole;
-      parity_whole = c.requires.parity_whole;
+      whole = c.loop-column.auto.shards ∙ c.requires.whole;
+      parity_whole = c.loop-column.auto.parity ∙ c.requires.parity_whole;
       count = omega arith;
       few = code.all_low;
       points = bits_left code.all_levels (2 ^ level) c.requires.can.points;
@@ -51,3 +53,19 @@ restore_columns-requires g c =
       all = subst (λ (q : ℕ). all q (2 * 2 ^ code.all_levels)) c.point_count-count.ensures
           (subst (λ (s : ℕ). all count s) (sym c.set_factors.ensures.long ∙ long) c.set_factors.ensures.factors);
     }
+
+pub loop-column-preserved : goal.loop-column-preserved
+loop-column-preserved g c =
+    let code = c.args.self.now in
+    restored_more (level_element g.R.Stored.number g.L.Level.LEVEL) g.R.Stored.ZERO g.L.Level.LEVEL code.levels code.data_shards code.parity_shards
+    c.args.size c.args.present.now c.loop-column.column c.args.shards.now c.args.parity.now c.loop-column.shards c.loop-column.parity
+    c.restore_column.new.shards c.restore_column.new.parity (omega (arith, c.loop-column-test.true)) c.loop-column.invariant
+    c.restore_column.ensures.kept c.restore_column.ensures.parity_kept c.restore_column.ensures.restored
+
+pub returns-clause-restored : goal.returns-clause-restored
+returns-clause-restored g c =
+    let code = c.args.self.now in
+    let all : c.loop-column.column ≡ c.args.size = omega (arith, c.loop-column.auto.column-end, c.loop-column-test.false) in
+    subst (λ (u : ℕ). AreRestoredColumns (level_element g.R.Stored.number g.L.Level.LEVEL) g.R.Stored.ZERO g.L.Level.LEVEL code.levels
+    code.data_shards code.parity_shards c.args.size c.args.present.now u c.args.shards.now c.args.parity.now c.loop-column.shards
+    c.loop-column.parity) all c.loop-column.invariant

@@ -1,0 +1,46 @@
+use Rattle.std.proofs.Common.{◌≡◌, ◌⊎◌, inl, inr, ℕ, ◌+◌, ◌*◌, ◌^◌, ◌≤◌, length, map, ◌∙◌, ap, subst, arith}
+use Rattle.std.proofs.lemmas.Nat.{pow_pos}
+use Rattle.field_base.specs.Tower.{tower_mul}
+use Rattle.additive_transforms.specs.Transform.{HoldValuesAtPoints}
+use Rattle.ghash_slices.specs.Cantor.{point}
+use Rattle.tower_transforms.specs.Words.{level_element}
+use Rattle.word_tables.specs.Cantor.{cantor_vector}
+use Rattle.transform_codes.proofs.CodedColumns.{all_blocks, block_begins, next_block}
+use Rattle.transform_codes.proofs.encoding.write_parity.Goals as goal
+
+pub loop-number-preserved : goal.loop-number-preserved
+loop-number-preserved g c =
+    let level = g.L.Level.LEVEL in
+    let element = level_element g.R.Stored.number level in
+    let coefficients = c.args.coefficients.now in
+    let block = c.forward_level.new.words in
+    let code = c.args.code.now in
+    let n = code.levels in
+    let number = c.loop-number.number in
+    let first : ℕ = number * length coefficients in
+    let first_is : first ≡ number * 2 ^ n = ap (λ (k : ℕ). number * k) c.requires.count in
+    let shift : g.R.Stored.number c.point_of.result ≡ point (2 ^ level) cantor_vector 0 ((number + 1) * 2 ^ n) =
+    c.point_of.ensures ∙ ap (λ (k : ℕ). point (2 ^ level) cantor_vector 0 ((number + 1) * k)) c.requires.count in
+    let end : (c.least-taken.result ≡ 2 ^ n) ⊎ (first + c.least-taken.result ≡ code.parity_shards) =
+    elim c.least-taken.ensures.either [
+      | inl all ↦ inl (all ∙ c.requires.count)
+      | inr rest ↦ inr (omega (arith, rest, block_begins code.parity_shards (length coefficients) number code.some_parity c.loop-number-test.true))
+    ] in (
+      next_block element g.R.Stored.ZERO level n code.parity_shards c.args.size c.args.column number first c.least-taken.result
+          (g.R.Stored.number c.point_of.result) coefficients block c.loop-number.parity c.scatter.new.shards c.requires.inside c.requires.count
+          (c.forward_level.ensures.length ∙ c.copy_from_slice.ensures.len ∙ c.loop-number.auto.block ∙ c.requires.block) first_is shift end
+          (subst (λ l. HoldValuesAtPoints (2 ^ level) (tower_mul level) cantor_vector (g.R.Stored.number c.point_of.result) (map element l) (map element block))
+          c.copy_from_slice.ensures.after c.forward_level.ensures.values)
+          c.loop-number.invariant.0 c.scatter.ensures.scattered,
+      λ i d below other. c.scatter.ensures.scattered.kept i d below (inl other) ∙ c.loop-number.invariant.1 i d below other,
+    )
+
+pub returns-clause-written : goal.returns-clause-written
+returns-clause-written g c =
+    let code = c.args.code.now in
+    let coefficients = c.args.coefficients.now in
+    let some = pow_pos code.levels in
+    let blocks = all_blocks code.parity_shards (length coefficients) (2 ^ code.levels) c.requires.count some in
+    let all : code.parity_shards ≤ c.loop-number.number * 2 ^ code.levels =
+    subst (λ (q : ℕ). code.parity_shards ≤ q * 2 ^ code.levels) (omega arith) blocks in
+    λ t below few. c.loop-number.invariant.0 t (omega (arith, below, all)) below

@@ -1,8 +1,0 @@
-use Rattle.tower_transforms.specs.Words.{level_element}
-use Rattle.transform_codes.specs.Restoring.{AreRestoredColumns}
-use Rattle.transform_codes.proofs.restoring.restore_columns.Given as goal
-
-abbrev pub invariant-loop-column : goal.invariant-loop-column
-invariant-loop-column g l =
-    AreRestoredColumns (level_element g.R.Stored.number g.L.Level.LEVEL) g.R.Stored.ZERO g.L.Level.LEVEL l.code.levels l.code.data_shards
-    l.code.parity_shards l.size l.present l.column l.initial.shards l.initial.parity l.shards l.parity
