@@ -1,51 +1,56 @@
 -- Elimination: what a row operation keeps, and how the reduced row echelon form grows by a column.
-use Rattle.std.proofs.Common.{◌≡◌, ◌≢◌, ◌⊎◌, inl, inr, ℕ, ◌+◌, ◌^◌, ◌<◌, ◌≤◌, refl, sym, subst, ◌∙◌, ap, ap₂, arith, below_more}
-use Rattle.std.specs.Prelude.{bit_xor}
-use Rattle.std.proofs.lemmas.Bool.{cases_eq}
+use Rattle.std.proofs.Common.{◌≡◌, ◌≢◌, ◌⊎◌, inl, inr, ℕ, ◌+◌, ◌*◌, ◌^◌, ◌<◌, ◌≤◌, Bool, List, refl, sym, subst, ◌∙◌, ap, ap₂, arith, below_more}
+use Rattle.std.specs.Prelude.{bit_xor, if◌then◌else◌}
+use Rattle.std.proofs.lemmas.Bool.{cases_eq, cases_lt, eq-eqb, ne_eqb}
+use Rattle.std.proofs.lemmas.Nat.{pow_below}
 use lib.Bits.{xor_assoc, xor_self, xor_zero_r}
 use Rattle.field_base.specs.Ring.{IsRing}
 use Rattle.field_base.proofs.RingLemmas.{times-zero}
 use Rattle.field_base.proofs.PowerLemmas.{one-times, times-one}
-use Rattle.field_slices.specs.Matrices.{IsRowCombination, HaveSameRowSpace, IsReducedEchelon}
+use Rattle.field_slices.specs.Matrices.{IsRowCombination, HaveSameRowSpace, IsReducedEchelon, IsRowWritten, cleared_entry, entry_of, joined_entry}
+use Rattle.field_slices.proofs.MatrixRows.{RowsWritten}
+use Rattle.field_slices.proofs.Places.{numbers-lt}
 use Rattle.field_slices.proofs.RowSpaces.{same_space, space_then, combination_row, combination_rows, combination_multiple}
 
--- ---- the rows that are cleared
+-- ---- a row that is added, and rows that are cleared
 
--- the rows before n but one have its multiples added, and the others are as they were
-pub record ClearedBefore (times : ℕ → ℕ → ℕ) (rows columns row column : ℕ) (old now : ℕ → ℕ → ℕ) (n : ℕ) : Type 0 where
-  pub own : (j : ℕ) → j < columns → now row j ≡ old row j
-  pub done : (i j : ℕ) → i < n → i ≢ row → j < columns → now i j ≡ bit_xor (old i j) (times (old i column) (old row j))
-  pub rest : (i j : ℕ) → n ≤ i → j < columns → now i j ≡ old i j
+module _ (row other : ℕ) (A : ℕ → ℕ → ℕ) (j : ℕ) where
+  pub joined-same : other ≡ row → joined_entry row other A j ≡ A row j
+  joined-same same = ap (λ (b : Bool). if b then A row j else bit_xor (A row j) (A other j)) (eq-eqb other row same)
 
-module _ (times : ℕ → ℕ → ℕ) (rows columns row column : ℕ) (column_within : column < columns) (old : ℕ → ℕ → ℕ) where
-  pub cleared_start : ClearedBefore times rows columns row column old old 0
-  cleared_start = record {
-    own = λ j inside. refl;
-    done = λ i j below other inside. absurd (omega (arith, below));
-    rest = λ i j past inside. refl;
-  }
+  pub joined-other : other ≢ row → joined_entry row other A j ≡ bit_xor (A row j) (A other j)
+  joined-other differs = ap (λ (b : Bool). if b then A row j else bit_xor (A row j) (A other j)) (ne_eqb other row differs)
 
-  pub cleared_step : (now next : ℕ → ℕ → ℕ) (n : ℕ)
-      → (n ≢ row → (j : ℕ) → j < columns → next n j ≡ bit_xor (now n j) (times (now n column) (now row j)))
-      → ((j : ℕ) → j < columns → next row j ≡ now row j) → ((i j : ℕ) → i ≢ n → j < columns → next i j ≡ now i j)
-      → ClearedBefore times rows columns row column old now n → ClearedBefore times rows columns row column old next (n + 1)
-  cleared_step now next n cleared keeps others so_far =
-      record {
-        own = λ j inside. keeps j inside ∙ so_far.own j inside;
-        done = λ i j below other inside.
-            elim (cases_eq i n) [
-              | inl same ↦ ap (λ (k : ℕ). next k j) same ∙ cleared (λ e. other (same ∙ e)) j inside
-                  ∙ ap₂ bit_xor (so_far.rest n j (omega arith) inside)
-                  (ap₂ times (so_far.rest n column (omega arith) column_within) (so_far.own j inside))
-                  ∙ ap (λ (k : ℕ). bit_xor (old k j) (times (old k column) (old row j))) (sym same)
-              | inr different ↦ others i j different inside ∙ so_far.done i j (less i below different) other inside
-            ];
-        rest = λ i j past inside.
-            others i j (λ e. absurd (omega (arith, e, past))) inside ∙ so_far.rest i j (omega (arith, past)) inside;
-      }
-    where
-      less : (i : ℕ) → i < n + 1 → (i ≡ n → ⊥) → i < n
-      less i below different = omega (arith, below, different)
+module _ (times : ℕ → ℕ → ℕ) (row column : ℕ) (A : ℕ → ℕ → ℕ) (i j : ℕ) where
+  pub cleared-own : i ≡ row → cleared_entry times row column A i j ≡ A i j
+  cleared-own same = ap (λ (b : Bool). if b then A i j else bit_xor (A i j) (times (A i column) (A row j))) (eq-eqb i row same)
+
+  pub cleared-other : i ≢ row → cleared_entry times row column A i j ≡ bit_xor (A i j) (times (A i column) (A row j))
+  cleared-other differs =
+      ap (λ (b : Bool). if b then A i j else bit_xor (A i j) (times (A i column) (A row j))) (ne_eqb i row differs)
+
+module _ {V : Type 0} {number : V → ℕ} {columns : ℕ} (times : ℕ → ℕ → ℕ) (row column : ℕ) {old now : List V} {n : ℕ}
+    (so_far : RowsWritten number columns (cleared_entry times row column (entry_of number columns old)) old now n) where
+  -- the row that clears the others stays
+  clearing-stays : (j : ℕ) → j < columns → entry_of number columns now row j ≡ entry_of number columns old row j
+  clearing-stays j inside =
+      elim (cases_lt row n) [
+        | inl below ↦ so_far.done row j below inside ∙ cleared-own times row column (entry_of number columns old) row j refl
+        | inr past ↦ so_far.rest row j past inside
+      ]
+
+  -- so that what the next row is to become can be said by the entries as they are
+  pub cleared-step : column < columns → (j : ℕ) → j < columns
+      → cleared_entry times row column (entry_of number columns now) n j ≡ cleared_entry times row column (entry_of number columns old) n j
+  cleared-step within j inside =
+      elim (cases_eq n row) [
+        | inl same ↦ cleared-own times row column (entry_of number columns now) n j same ∙ so_far.rest n j (omega arith) inside
+            ∙ sym (cleared-own times row column (entry_of number columns old) n j same)
+        | inr other ↦ cleared-other times row column (entry_of number columns now) n j other
+            ∙ ap₂ bit_xor (so_far.rest n j (omega arith) inside)
+            (ap₂ times (so_far.rest n column (omega arith) within) (clearing-stays j inside))
+            ∙ sym (cleared-other times row column (entry_of number columns old) n j other)
+      ]
 
 -- ---- a pivot
 
@@ -72,6 +77,36 @@ pub record PivotMade (times : ℕ → ℕ → ℕ) (rows columns rank row column
 xor_back : (a b : ℕ) → bit_xor (bit_xor a b) b ≡ a
 xor_back a b = xor_assoc a b b ∙ ap (bit_xor a) (xor_self b) ∙ xor_zero_r a
 
+-- ---- row spaces
+
+-- what holds of one row and of the others
+row_by_row : (P : ℕ → Type 0) (rows rank : ℕ) → P rank → ((i : ℕ) → i < rows → i ≢ rank → P i) → (i : ℕ) → i < rows → P i
+row_by_row P rows rank own others i below =
+    elim (cases_eq i rank) [
+      | inl same ↦ subst P (sym same) own
+      | inr other ↦ others i below other
+    ]
+
+-- matrices of which one row is said apart
+module _ (width : ℕ) (times : ℕ → ℕ → ℕ) (ring : IsRing width 1 times) (rows columns rank : ℕ) (A B : ℕ → ℕ → ℕ)
+    (A_fits : (i j : ℕ) → A i j < 2 ^ width) (B_fits : (i j : ℕ) → B i j < 2 ^ width)
+    (there : IsRowCombination times rows columns A (B rank)) (back : IsRowCombination times rows columns B (A rank)) where
+  space_of_rows : ((i : ℕ) → i < rows → i ≢ rank → IsRowCombination times rows columns A (B i))
+      → ((i : ℕ) → i < rows → i ≢ rank → IsRowCombination times rows columns B (A i)) → HaveSameRowSpace times rows columns A B
+  space_of_rows there_others back_others =
+      same_space width times ring rows columns A B
+      (row_by_row (λ i. IsRowCombination times rows columns A (B i)) rows rank there there_others)
+      (row_by_row (λ i. IsRowCombination times rows columns B (A i)) rows rank back back_others)
+
+  -- and the others are the same in both
+  space_of_row : ((i j : ℕ) → i ≢ rank → j < columns → B i j ≡ A i j) → HaveSameRowSpace times rows columns A B
+  space_of_row rest =
+      space_of_rows
+      (λ i below other. combination_row width times ring rows columns A A_fits i (B i) below (λ j inside. rest i j other inside))
+      (λ i below other. combination_row width times ring rows columns B B_fits i (A i) below (λ j inside. sym (rest i j other inside)))
+
+-- ---- the steps of a pivot
+
 -- What the three steps of a pivot do: `brought` has row `row` added to row `rank`, where it is another; `scaled` has row `rank` times
 -- `inverse`; and `cleared` has multiples of row `rank` added to the others.
 module _ (width : ℕ) (times : ℕ → ℕ → ℕ) (ring : IsRing width 1 times) (rows columns rank row column : ℕ)
@@ -84,33 +119,27 @@ module _ (width : ℕ) (times : ℕ → ℕ → ℕ) (ring : IsRing width 1 time
     (brings_rest : (i j : ℕ) → i ≢ rank → j < columns → brought i j ≡ old i j) where
   brought-space : HaveSameRowSpace times rows columns old brought
   brought-space =
-      same_space width times ring rows columns old brought
-      (λ i below. there i below (cases_eq i rank) (cases_eq row rank)) (λ i below. back i below (cases_eq i rank) (cases_eq row rank))
+      space_of_row width times ring rows columns rank old brought old_fits brought_fits (there (cases_eq row rank)) (back (cases_eq row rank))
+      brings_rest
     where
       one_of : (x : ℕ) → x < 2 ^ width → x ≡ times 1 x
       one_of x fits = sym (one-times width 1 times ring x fits)
 
-      there : (i : ℕ) → i < rows → (i ≡ rank) ⊎ (i ≡ rank → ⊥) → (row ≡ rank) ⊎ (row ≡ rank → ⊥)
-          → IsRowCombination times rows columns old (brought i)
-      there i below (inr other) _ = combination_row width times ring rows columns old old_fits i (brought i) below (λ j inside. brings_rest i j other inside)
-      there i below (inl same) (inl own) =
-          combination_row width times ring rows columns old old_fits rank (brought i) rank_within
-          (λ j inside. ap (λ (k : ℕ). brought k j) same ∙ brings_same own j inside)
-      there i below (inl same) (inr other) =
-          combination_rows width times ring rows columns old old_fits rank row 1 (brought i) rank_within row_within
-          (λ j inside. ap (λ (k : ℕ). brought k j) same ∙ brings_other other j inside ∙ ap (bit_xor (old rank j)) (one_of (old row j) (old_fits row j)))
+      there : (row ≡ rank) ⊎ (row ≡ rank → ⊥) → IsRowCombination times rows columns old (brought rank)
+      there (inl own) =
+          combination_row width times ring rows columns old old_fits rank (brought rank) rank_within (λ j inside. brings_same own j inside)
+      there (inr other) =
+          combination_rows width times ring rows columns old old_fits rank row 1 (brought rank) rank_within row_within
+          (λ j inside. brings_other other j inside ∙ ap (bit_xor (old rank j)) (one_of (old row j) (old_fits row j)))
 
-      back : (i : ℕ) → i < rows → (i ≡ rank) ⊎ (i ≡ rank → ⊥) → (row ≡ rank) ⊎ (row ≡ rank → ⊥)
-          → IsRowCombination times rows columns brought (old i)
-      back i below (inr other) _ =
-          combination_row width times ring rows columns brought brought_fits i (old i) below (λ j inside. sym (brings_rest i j other inside))
-      back i below (inl same) (inl own) =
-          combination_row width times ring rows columns brought brought_fits rank (old i) rank_within
-          (λ j inside. ap (λ (k : ℕ). old k j) same ∙ sym (brings_same own j inside))
-      back i below (inl same) (inr other) =
-          combination_rows width times ring rows columns brought brought_fits rank row 1 (old i) rank_within row_within
+      back : (row ≡ rank) ⊎ (row ≡ rank → ⊥) → IsRowCombination times rows columns brought (old rank)
+      back (inl own) =
+          combination_row width times ring rows columns brought brought_fits rank (old rank) rank_within
+          (λ j inside. sym (brings_same own j inside))
+      back (inr other) =
+          combination_rows width times ring rows columns brought brought_fits rank row 1 (old rank) rank_within row_within
           (λ j inside.
-          ap (λ (k : ℕ). old k j) same ∙ sym (xor_back (old rank j) (old row j))
+          sym (xor_back (old rank j) (old row j))
           ∙ ap₂ bit_xor (sym (brings_other other j inside)) (sym (brings_rest row j other inside) ∙ one_of (brought row j) (brought_fits row j)))
 
   module _ (inverse : ℕ) (inverts : times (brought rank column) inverse ≡ 1) (one_fits : 1 < 2 ^ width)
@@ -120,48 +149,26 @@ module _ (width : ℕ) (times : ℕ → ℕ → ℕ) (ring : IsRing width 1 time
       (clears_own : (j : ℕ) → j < columns → cleared rank j ≡ scaled rank j) where
     scaled-space : HaveSameRowSpace times rows columns brought scaled
     scaled-space =
-        same_space width times ring rows columns brought scaled (λ i below. there i below (cases_eq i rank))
-        (λ i below. back i below (cases_eq i rank))
-      where
-        there : (i : ℕ) → i < rows → (i ≡ rank) ⊎ (i ≡ rank → ⊥) → IsRowCombination times rows columns brought (scaled i)
-        there i below (inr other) =
-            combination_row width times ring rows columns brought brought_fits i (scaled i) below (λ j inside. scales_rest i j other inside)
-        there i below (inl same) =
-            combination_multiple width times ring rows columns brought rank inverse (scaled i) rank_within
-            (λ j inside. ap (λ (k : ℕ). scaled k j) same ∙ scales j inside)
-
-        back : (i : ℕ) → i < rows → (i ≡ rank) ⊎ (i ≡ rank → ⊥) → IsRowCombination times rows columns scaled (brought i)
-        back i below (inr other) =
-            combination_row width times ring rows columns scaled scaled_fits i (brought i) below (λ j inside. sym (scales_rest i j other inside))
-        back i below (inl same) =
-            combination_multiple width times ring rows columns scaled rank (brought rank column) (brought i) rank_within
-            (λ j inside.
-            ap (λ (k : ℕ). brought k j) same ∙ sym (one-times width 1 times ring (brought rank j) (brought_fits rank j))
-            ∙ ap (λ (x : ℕ). times x (brought rank j)) (sym inverts) ∙ ring.assoc (brought rank column) inverse (brought rank j)
-            ∙ ap (times (brought rank column)) (sym (scales j inside)))
+        space_of_row width times ring rows columns rank brought scaled brought_fits scaled_fits
+        (combination_multiple width times ring rows columns brought rank inverse (scaled rank) rank_within (λ j inside. scales j inside))
+        (combination_multiple width times ring rows columns scaled rank (brought rank column) (brought rank) rank_within
+        (λ j inside.
+        sym (one-times width 1 times ring (brought rank j) (brought_fits rank j))
+        ∙ ap (λ (x : ℕ). times x (brought rank j)) (sym inverts) ∙ ring.assoc (brought rank column) inverse (brought rank j)
+        ∙ ap (times (brought rank column)) (sym (scales j inside)))) scales_rest
 
     cleared-space : HaveSameRowSpace times rows columns scaled cleared
     cleared-space =
-        same_space width times ring rows columns scaled cleared (λ i below. there i below (cases_eq i rank))
-        (λ i below. back i below (cases_eq i rank))
-      where
-        there : (i : ℕ) → i < rows → (i ≡ rank) ⊎ (i ≡ rank → ⊥) → IsRowCombination times rows columns scaled (cleared i)
-        there i below (inr other) =
-            combination_rows width times ring rows columns scaled scaled_fits i rank (scaled i column) (cleared i) below rank_within
-            (λ j inside. clears i j below other inside)
-        there i below (inl same) =
-            combination_row width times ring rows columns scaled scaled_fits rank (cleared i) rank_within
-            (λ j inside. ap (λ (k : ℕ). cleared k j) same ∙ clears_own j inside)
-
-        back : (i : ℕ) → i < rows → (i ≡ rank) ⊎ (i ≡ rank → ⊥) → IsRowCombination times rows columns cleared (scaled i)
-        back i below (inr other) =
-            combination_rows width times ring rows columns cleared cleared_fits i rank (scaled i column) (scaled i) below rank_within
-            (λ j inside.
-            sym (xor_back (scaled i j) (times (scaled i column) (scaled rank j)))
-            ∙ ap₂ bit_xor (sym (clears i j below other inside)) (ap (times (scaled i column)) (sym (clears_own j inside))))
-        back i below (inl same) =
-            combination_row width times ring rows columns cleared cleared_fits rank (scaled i) rank_within
-            (λ j inside. ap (λ (k : ℕ). scaled k j) same ∙ sym (clears_own j inside))
+        space_of_rows width times ring rows columns rank scaled cleared scaled_fits cleared_fits
+        (combination_row width times ring rows columns scaled scaled_fits rank (cleared rank) rank_within (λ j inside. clears_own j inside))
+        (combination_row width times ring rows columns cleared cleared_fits rank (scaled rank) rank_within
+        (λ j inside. sym (clears_own j inside)))
+        (λ i below other. combination_rows width times ring rows columns scaled scaled_fits i rank (scaled i column) (cleared i) below rank_within
+        (λ j inside. clears i j below other inside))
+        (λ i below other. combination_rows width times ring rows columns cleared cleared_fits i rank (scaled i column) (scaled i) below rank_within
+        (λ j inside.
+        sym (xor_back (scaled i j) (times (scaled i column) (scaled rank j)))
+        ∙ ap₂ bit_xor (sym (clears i j below other inside)) (ap (times (scaled i column)) (sym (clears_own j inside)))))
 
     pivot-space : HaveSameRowSpace times rows columns old cleared
     pivot-space =
@@ -209,6 +216,41 @@ module _ (width : ℕ) (times : ℕ → ℕ → ℕ) (ring : IsRing width 1 time
       stays = λ i j within inside rank_zero row_zero. pivot-stays j inside rank_zero row_zero i within;
       space = pivot-space;
     }
+
+-- the same of matrices in lists
+module _ {V : Type 0} (number : V → ℕ) (width : ℕ) (times : ℕ → ℕ → ℕ) (ring : IsRing width 1 times) (wide : 0 < width)
+    (range : (x : V) → number x < 2 ^ width) (rows columns rank row column inverse : ℕ)
+    (rank_within : rank < rows) (row_within : row < rows) (column_within : column < columns) (old brought scaled cleared : List V)
+    (brings : IsRowWritten number columns rank (joined_entry rank row (entry_of number columns old)) old brought) where
+  joins_same : row ≡ rank → (j : ℕ) → j < columns → entry_of number columns brought rank j ≡ entry_of number columns old rank j
+  joins_same own j inside = brings.entries j inside ∙ joined-same rank row (entry_of number columns old) j own
+
+  joins_other : row ≢ rank → (j : ℕ) → j < columns → entry_of number columns brought rank j
+      ≡ bit_xor (entry_of number columns old rank j) (entry_of number columns old row j)
+  joins_other other j inside = brings.entries j inside ∙ joined-other rank row (entry_of number columns old) j other
+
+  pub joined-nonzero : entry_of number columns old row column ≢ 0 → (row ≢ rank → entry_of number columns old rank column ≡ 0)
+      → entry_of number columns brought rank column ≢ 0
+  joined-nonzero nonzero first =
+      brought-nonzero columns rank row column (entry_of number columns old) (entry_of number columns brought) column_within joins_same
+      joins_other nonzero first
+
+  fits : (values : List V) (i j : ℕ) → entry_of number columns values i j < 2 ^ width
+  fits values i j = numbers-lt number width range values (i * columns + j)
+
+  pub pivot-written : times (entry_of number columns brought rank column) inverse ≡ 1
+      → IsRowWritten number columns rank (λ j. times inverse (entry_of number columns brought rank j)) brought scaled
+      → ((i j : ℕ) → i < rows → j < columns
+      → entry_of number columns cleared i j ≡ cleared_entry times rank column (entry_of number columns scaled) i j)
+      → PivotMade times rows columns rank row column (entry_of number columns old) (entry_of number columns cleared)
+  pivot-written inverts scales clears =
+      pivot-made width times ring rows columns rank row column rank_within row_within column_within
+      (entry_of number columns old) (entry_of number columns brought) (entry_of number columns scaled) (entry_of number columns cleared)
+      (fits old) (fits brought) (fits scaled) (fits cleared) joins_same joins_other brings.others
+      inverse inverts (pow_below 0 width wide) scales.entries scales.others
+      (λ i j below other inside.
+      clears i j below inside ∙ cleared-other times rank column (entry_of number columns scaled) i j other)
+      (λ j inside. clears rank j rank_within inside ∙ cleared-own times rank column (entry_of number columns scaled) rank j refl)
 
 -- ---- the form
 

@@ -1,5 +1,5 @@
 -- The inverse of a matrix A, by reducing A beside the identity matrix.
-use Rattle.std.proofs.Common.{◌≡◌, ◌≢◌, ◌⊎◌, inl, inr, ℕ, zero, suc, ◌+◌, ◌-◌, ◌*◌, ◌%◌, ◌^◌, ◌<◌, ◌≤◌, Bool, refl, sym, subst, ◌∙◌, ap, arith}
+use Rattle.std.proofs.Common.{◌≡◌, ◌≢◌, ◌⊎◌, inl, inr, ℕ, zero, suc, ◌+◌, ◌-◌, ◌*◌, ◌%◌, ◌^◌, ◌<◌, ◌≤◌, Bool, List, refl, sym, subst, ◌∙◌, ap, arith}
 use Rattle.std.specs.Prelude.{if◌then◌else◌}
 use Rattle.std.proofs.lemmas.Bool.{cases_eq, cases_lt, lt-ltb, le-ltb}
 use Rattle.std.proofs.lemmas.Nat.{mul-add-lt}
@@ -7,7 +7,8 @@ use Rattle.field_base.specs.Basis.{sum_below}
 use Rattle.field_base.specs.Ring.{IsRing}
 use Rattle.field_base.proofs.BasisSums.{sum_below-same}
 use Rattle.field_base.proofs.RingLemmas.{mod-times}
-use Rattle.field_slices.specs.Matrices.{IsRowCombination, HaveSameRowSpace, IsReducedEchelon, IsMatrixProduct, AreInverseMatrices, product_entry, identity_entry, beside_identity}
+use Rattle.field_slices.specs.Matrices.{IsRowCombination, HaveSameRowSpace, IsReducedEchelon, IsMatrixProduct, AreInverseMatrices, product_entry, identity_entry, beside_identity, entry_of}
+use Rattle.field_slices.proofs.Places.{numbers-lt}
 use Rattle.field_slices.proofs.RowSpaces.{only, only-same, only-other, identity-only, coefficient_at, combination_row}
 use Rattle.field_slices.proofs.EchelonUniqueness.{leads-at, rising-counts}
 
@@ -136,13 +137,30 @@ module _ (width : ℕ) (times : ℕ → ℕ → ℕ) (ring : IsRing width 1 time
       let back : n + j - n ≡ j = omega arith in
       halves i (n + j) inside (omega (arith, within)) ∙ beside-right n A i (n + j) (omega arith) ∙ ap (identity_entry i) back
 
-  pub inverse_found : r ≡ n → AreInverseMatrices times n A (λ i j. N i (n + j))
+  inverse_found : r ≡ n → AreInverseMatrices times n A (λ i j. N i (n + j))
   inverse_found full =
       let whole = subst (λ (k : ℕ). IsReducedEchelon n n k pivot N) full reduced in (
         inverse_right width times ring n A M N M_fits N_fits left_half right_half same pivot whole,
         inverse_left width times ring n A M N M_fits N_fits left_half right_half same pivot whole,
       )
 
-  pub inverse_missing : r ≢ n → (B : ℕ → ℕ → ℕ) → IsMatrixProduct times n n n B A identity_entry → ⊥
+  inverse_missing : r ≢ n → (B : ℕ → ℕ → ℕ) → IsMatrixProduct times n n n B A identity_entry → ⊥
   inverse_missing short B inverts =
       short (sym (inverse_rank width times ring n A M N M_fits N_fits left_half right_half same r pivot reduced B inverts))
+
+-- the rank tells whether there is an inverse, of matrices in lists
+pub inverse_tells : {V : Type 0} (number : V → ℕ) (width : ℕ) (times : ℕ → ℕ → ℕ) → IsRing width 1 times → ((x : V) → number x < 2 ^ width)
+    → (n r : ℕ) (pivot : ℕ → ℕ) (A : ℕ → ℕ → ℕ) (beside now : List V)
+    → ((i j : ℕ) → i < n → j < n + n → entry_of number (n + n) beside i j ≡ beside_identity n A i j)
+    → IsReducedEchelon n n r pivot (entry_of number (n + n) now)
+    → HaveSameRowSpace times n (n + n) (entry_of number (n + n) beside) (entry_of number (n + n) now)
+    → (r ≡ n → AreInverseMatrices times n A (λ i j. entry_of number (n + n) now i (n + j)))
+    × (r ≢ n → (B : ℕ → ℕ → ℕ) → IsMatrixProduct times n n n B A identity_entry → ⊥)
+inverse_tells number width times ring range n r pivot A beside now halves reduced same = (
+  inverse_found width times ring n r pivot A (entry_of number (n + n) beside) (entry_of number (n + n) now)
+      (λ i j. numbers-lt number width range beside (i * (n + n) + j)) (λ i j. numbers-lt number width range now (i * (n + n) + j))
+      halves reduced same,
+  inverse_missing width times ring n r pivot A (entry_of number (n + n) beside) (entry_of number (n + n) now)
+      (λ i j. numbers-lt number width range beside (i * (n + n) + j)) (λ i j. numbers-lt number width range now (i * (n + n) + j))
+      halves reduced same,
+)

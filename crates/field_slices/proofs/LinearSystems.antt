@@ -1,5 +1,5 @@
 -- Solutions of linear equations, whose coefficients and right sides are the rows of a matrix.
-use Rattle.std.proofs.Common.{◌≡◌, ◌≢◌, ◌⊎◌, inl, inr, ℕ, zero, suc, ◌+◌, ◌^◌, ◌<◌, ◌≤◌, refl, sym, ◌∙◌, ap, ap₂, arith, below_more}
+use Rattle.std.proofs.Common.{◌≡◌, ◌≢◌, ◌⊎◌, inl, inr, ℕ, zero, suc, ◌+◌, ◌^◌, ◌*◌, ◌<◌, ◌≤◌, List, refl, sym, ◌∙◌, ap, ap₂, arith, below_more}
 use Rattle.std.specs.Prelude.{bit_xor}
 use Rattle.std.proofs.lemmas.Bool.{cases_eq, cases_lt}
 use Rattle.field_base.specs.Basis.{sum_below}
@@ -7,7 +7,8 @@ use Rattle.field_base.specs.Ring.{IsRing}
 use Rattle.field_base.proofs.BasisSums.{sum_below-same}
 use Rattle.field_base.proofs.PowerLemmas.{times-one}
 use Rattle.field_base.proofs.RingLemmas.{times-zero, zero-times}
-use Rattle.field_slices.specs.Matrices.{HaveSameRowSpace, IsReducedEchelon, IsSolution}
+use Rattle.field_slices.specs.Matrices.{HaveSameRowSpace, IsReducedEchelon, IsSolution, entry_of}
+use Rattle.field_slices.proofs.Places.{numbers-lt}
 use Rattle.field_slices.proofs.RowSpaces.{only, only-same, only-other, only-after, sum_with, combination_row}
 use Rattle.field_slices.proofs.EchelonUniqueness.{find-pivot}
 
@@ -69,7 +70,7 @@ module _ (width : ℕ) (times : ℕ → ℕ → ℕ) (ring : IsRing width 1 time
           (λ j below. ap (λ (z : ℕ). times z (x j)) (reduced.zero_rows i j past inside below)) ∙ sum_of_nothing x count
 
       -- so that none solves an equation of zeros whose right side is not 0
-      pub solution_missing : (i : ℕ) → r ≤ i → i < rows → N i count ≢ 0 → (x : ℕ → ℕ) → IsSolution times rows count M x → ⊥
+      solution_missing : (i : ℕ) → r ≤ i → i < rows → N i count ≢ 0 → (x : ℕ → ℕ) → IsSolution times rows count M x → ⊥
       solution_missing i past inside nonzero x solves =
           nonzero (sym (solution_passes M N x N_fits same solves i inside) ∙ zero_row_sum x i past inside)
 
@@ -116,10 +117,31 @@ module _ (width : ℕ) (times : ℕ → ℕ → ℕ) (ring : IsRing width 1 time
                     ap (λ (z : ℕ). times z (x j)) zero_there ∙ zero-times width 1 times ring (x j)
                     ∙ sym (ap (λ (z : ℕ). times z 1) (only-other (pivot i) (N i count) j (differs zero_there)) ∙ zero-times width 1 times ring 1)
 
-        pub solution_found : IsSolution times rows count M x
+        solution_found : IsSolution times rows count M x
         solution_found =
             solution_passes N M x M_fits (λ v. ((same v).1, (same v).0))
             (λ i inside. elim (cases_lt i r) [
               | inl below ↦ leading_row_sum i below inside
               | inr past ↦ zero_row_sum x i past inside ∙ sym (zeros i past inside)
             ])
+
+-- the same of matrices in lists
+module _ {V : Type 0} (number : V → ℕ) (width : ℕ) (times : ℕ → ℕ → ℕ) (ring : IsRing width 1 times) (range : (x : V) → number x < 2 ^ width)
+    (rows columns count r : ℕ) (behind : columns ≡ count + 1) (pivot : ℕ → ℕ) (old now : List V)
+    (reduced : IsReducedEchelon rows count r pivot (entry_of number columns now))
+    (same : HaveSameRowSpace times rows columns (entry_of number columns old) (entry_of number columns now)) where
+  fits : (values : List V) (i j : ℕ) → entry_of number columns values i j < 2 ^ width
+  fits values i j = numbers-lt number width range values (i * columns + j)
+
+  pub system_unsolvable : (i : ℕ) → r ≤ i → i < rows → entry_of number columns now i count ≢ 0 → (x : ℕ → ℕ)
+      → IsSolution times rows count (entry_of number columns old) x → ⊥
+  system_unsolvable =
+      solution_missing width times ring rows columns count (omega (arith, behind)) r pivot (entry_of number columns old)
+      (entry_of number columns now) (fits old) (fits now) reduced same
+
+  pub system_solved : (x : ℕ → ℕ) → SolvedBefore count pivot (λ k. entry_of number columns now k count) x r
+      → ((i : ℕ) → r ≤ i → i < rows → entry_of number columns now i count ≡ 0)
+      → IsSolution times rows count (entry_of number columns old) x
+  system_solved =
+      solution_found width times ring rows columns count (omega (arith, behind)) r pivot (entry_of number columns old)
+      (entry_of number columns now) (fits old) (fits now) reduced same

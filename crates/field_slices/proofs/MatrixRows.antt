@@ -1,7 +1,8 @@
 -- Places of the entries of a matrix, and loops that write one row, or one row after the other.
-use Rattle.std.proofs.Common.{◌≡◌, ◌≢◌, ◌⊎◌, inl, inr, ℕ, ◌+◌, ◌*◌, ◌<◌, ◌≤◌, refl, sym, ◌∙◌, ap, arith, below_more}
+use Rattle.std.proofs.Common.{◌≡◌, ◌≢◌, ◌⊎◌, inl, inr, ℕ, ◌+◌, ◌*◌, ◌<◌, ◌≤◌, List, length, refl, sym, ◌∙◌, ap, arith, below_more}
 use Rattle.std.proofs.lemmas.Bool.{cases_order}
 use Rattle.std.proofs.lemmas.Nat.{mul-add-lt}
+use Rattle.field_slices.specs.Matrices.{IsEntryWritten, IsRowWritten, entry_of}
 
 -- ---- places
 
@@ -35,54 +36,69 @@ places-differ columns i j row column inside within (inr other) = λ e. other (sa
 -- ---- one row
 
 -- the row has what is wanted before column n, and what it had from there on, and the other rows have what they had
-pub record RowWritten (columns row : ℕ) (wanted : ℕ → ℕ) (old now : ℕ → ℕ → ℕ) (n : ℕ) : Type 0 where
-  pub done : (j : ℕ) → j < n → now row j ≡ wanted j
-  pub rest : (j : ℕ) → n ≤ j → j < columns → now row j ≡ old row j
-  pub others : (i j : ℕ) → i ≢ row → j < columns → now i j ≡ old i j
+pub record RowWritten {V : Type 0} (number : V → ℕ) (columns row : ℕ) (wanted : ℕ → ℕ) (old now : List V) (n : ℕ) : Type 0 where
+  pub shape : length now ≡ length old
+  pub done : (j : ℕ) → j < n → entry_of number columns now row j ≡ wanted j
+  pub rest : (j : ℕ) → n ≤ j → j < columns → entry_of number columns now row j ≡ entry_of number columns old row j
+  pub others : (i j : ℕ) → i ≢ row → j < columns → entry_of number columns now i j ≡ entry_of number columns old i j
 
-module _ (columns row : ℕ) (wanted : ℕ → ℕ) (old : ℕ → ℕ → ℕ) where
-  pub row_from : (n : ℕ) → ((j : ℕ) → j < n → old row j ≡ wanted j) → RowWritten columns row wanted old old n
-  row_from n done = record { done = done; rest = λ j past inside. refl; others = λ i j other inside. refl }
+module _ {V : Type 0} (number : V → ℕ) (columns row : ℕ) (wanted : ℕ → ℕ) (old : List V) where
+  pub row_from : (n : ℕ) → ((j : ℕ) → j < n → entry_of number columns old row j ≡ wanted j)
+      → RowWritten number columns row wanted old old n
+  row_from n done = record { shape = refl; done = done; rest = λ j past inside. refl; others = λ i j other inside. refl }
 
-  pub row_start : RowWritten columns row wanted old old 0
+  pub row_start : RowWritten number columns row wanted old old 0
   row_start = row_from 0 (λ j below. absurd (omega (arith, below)))
 
-  pub row_step : (now next : ℕ → ℕ → ℕ) (n : ℕ) → n < columns → next row n ≡ wanted n
-      → ((i j : ℕ) → j < columns → (i ≢ row) ⊎ (j ≢ n) → next i j ≡ now i j)
-      → RowWritten columns row wanted old now n → RowWritten columns row wanted old next (n + 1)
-  row_step now next n within is same so_far =
+module _ {V : Type 0} {number : V → ℕ} {columns row : ℕ} {wanted : ℕ → ℕ} {old now : List V} {n : ℕ}
+    (so_far : RowWritten number columns row wanted old now n) where
+  pub row_step : {next : List V} {value : ℕ} → n < columns → value ≡ wanted n → IsEntryWritten number columns row n value now next
+      → RowWritten number columns row wanted old next (n + 1)
+  row_step {next} within is write =
       record {
-        done = below_more (λ j. next row j ≡ wanted j) n
-            (λ j below. same row j (omega (arith, below, within)) (inr (λ e. absurd (omega (arith, e, below)))) ∙ so_far.done j below)
-            is;
+        shape = write.shape ∙ so_far.shape;
+        done = below_more (λ j. entry_of number columns next row j ≡ wanted j) n
+            (λ j below. write.others row j (omega (arith, below, within)) (inr (λ e. absurd (omega (arith, e, below)))) ∙ so_far.done j below)
+            (write.written ∙ is);
         rest = λ j past inside.
-            same row j inside (inr (λ e. absurd (omega (arith, e, past)))) ∙ so_far.rest j (omega (arith, past)) inside;
-        others = λ i j other inside. same i j inside (inl other) ∙ so_far.others i j other inside;
+            write.others row j inside (inr (λ e. absurd (omega (arith, e, past)))) ∙ so_far.rest j (omega (arith, past)) inside;
+        others = λ i j other inside. write.others i j inside (inl other) ∙ so_far.others i j other inside;
       }
 
-  pub row_end : (now : ℕ → ℕ → ℕ) (n : ℕ) → columns ≤ n → RowWritten columns row wanted old now n
-      → (j : ℕ) → j < columns → now row j ≡ wanted j
-  row_end now n past so_far j inside = so_far.done j (omega (arith, past, inside))
+  pub row_end : columns ≤ n → IsRowWritten number columns row wanted old now
+  row_end past = record {
+    shape = so_far.shape;
+    entries = λ j inside. so_far.done j (omega (arith, past, inside));
+    others = so_far.others;
+  }
 
 -- ---- rows
 
 -- the rows before n have what is wanted, and the others what they had
-pub record RowsWritten (columns : ℕ) (wanted old now : ℕ → ℕ → ℕ) (n : ℕ) : Type 0 where
-  pub done : (i j : ℕ) → i < n → j < columns → now i j ≡ wanted i j
-  pub rest : (i j : ℕ) → n ≤ i → j < columns → now i j ≡ old i j
+pub record RowsWritten {V : Type 0} (number : V → ℕ) (columns : ℕ) (wanted : ℕ → ℕ → ℕ) (old now : List V) (n : ℕ) : Type 0 where
+  pub shape : length now ≡ length old
+  pub done : (i j : ℕ) → i < n → j < columns → entry_of number columns now i j ≡ wanted i j
+  pub rest : (i j : ℕ) → n ≤ i → j < columns → entry_of number columns now i j ≡ entry_of number columns old i j
 
-module _ (columns : ℕ) (wanted old : ℕ → ℕ → ℕ) where
-  pub rows_start : RowsWritten columns wanted old old 0
-  rows_start = record { done = λ i j below inside. absurd (omega (arith, below)); rest = λ i j past inside. refl }
+pub rows_start : {V : Type 0} (number : V → ℕ) (columns : ℕ) (wanted : ℕ → ℕ → ℕ) (old : List V)
+    → RowsWritten number columns wanted old old 0
+rows_start number columns wanted old =
+    record { shape = refl; done = λ i j below inside. absurd (omega (arith, below)); rest = λ i j past inside. refl }
 
-  pub rows_step : (now next : ℕ → ℕ → ℕ) (n : ℕ) → ((j : ℕ) → j < columns → next n j ≡ wanted n j)
-      → ((i j : ℕ) → i ≢ n → j < columns → next i j ≡ now i j)
-      → RowsWritten columns wanted old now n → RowsWritten columns wanted old next (n + 1)
-  rows_step now next n is same so_far =
+module _ {V : Type 0} {number : V → ℕ} {columns : ℕ} {wanted : ℕ → ℕ → ℕ} {old now : List V} {n : ℕ}
+    (so_far : RowsWritten number columns wanted old now n) where
+  pub rows_step : {next : List V} {own : ℕ → ℕ} → ((j : ℕ) → j < columns → own j ≡ wanted n j)
+      → IsRowWritten number columns n own now next → RowsWritten number columns wanted old next (n + 1)
+  rows_step {next} is write =
       record {
+        shape = write.shape ∙ so_far.shape;
         done = λ i j below inside.
-            below_more (λ k. next k j ≡ wanted k j) n
-            (λ k before. same k j (λ e. absurd (omega (arith, e, before))) inside ∙ so_far.done k j before inside) (is j inside) i below;
+            below_more (λ k. entry_of number columns next k j ≡ wanted k j) n
+            (λ k before. write.others k j (λ e. absurd (omega (arith, e, before))) inside ∙ so_far.done k j before inside)
+            (write.entries j inside ∙ is j inside) i below;
         rest = λ i j past inside.
-            same i j (λ e. absurd (omega (arith, e, past))) inside ∙ so_far.rest i j (omega (arith, past)) inside;
+            write.others i j (λ e. absurd (omega (arith, e, past))) inside ∙ so_far.rest i j (omega (arith, past)) inside;
       }
+
+  pub rows_end : (rows : ℕ) → rows ≤ n → (i j : ℕ) → i < rows → j < columns → entry_of number columns now i j ≡ wanted i j
+  rows_end rows past i j below inside = so_far.done i j (omega (arith, below, past)) inside

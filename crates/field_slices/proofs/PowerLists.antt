@@ -15,6 +15,10 @@ pushed repr f xs n x so_far is =
     ∙ sym (map-range_with_len_more f 0 n n (omega arith))
 
 module _ (unit : ℕ) (times : ℕ → ℕ → ℕ) (a : ℕ) where
+  pub power-none : (current : ℕ) → current ≡ unit → current ≡ power unit times a 0
+  unfolding power
+  power-none current is = is
+
   pub power-next : (n current next : ℕ) → current ≡ power unit times a n → next ≡ times current a → next ≡ power unit times a (n + 1)
   unfolding power
   power-next n current next is multiplied =

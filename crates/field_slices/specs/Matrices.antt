@@ -1,7 +1,7 @@
 -- Matrices over a field whose elements are numbers (K. Hoffman and R. Kunze, Linear Algebra, chapters 1 and 2; R. Lidl and
 -- H. Niederreiter, Finite Fields, chapter 1). A matrix is the function of its entries: row i and column j, both from 0, give A i j. A sum
 -- is `bit_xor`, and `times` the product of the field.
-use Rattle.std.specs.Prelude.{◌≡◌, ◌≢◌, ◌↔◌, ◌==◌, ℕ, ◌+◌, ◌-◌, ◌*◌, ◌^◌, ◌<◌, ◌≤◌, List, if◌then◌else◌, map, nat_lt, slice_index}
+use Rattle.std.specs.Prelude.{◌≡◌, ◌≢◌, ◌↔◌, ◌⊎◌, ◌==◌, ℕ, ◌+◌, ◌-◌, ◌*◌, ◌^◌, ◌<◌, ◌≤◌, List, bit_xor, if◌then◌else◌, length, map, nat_lt, slice_index}
 use Rattle.field_base.specs.Basis.{sum_below}
 use Rattle.field_base.specs.Ring.{IsRing}
 
@@ -63,3 +63,36 @@ ReducedEchelonIsUnique = (width : ℕ) (times : ℕ → ℕ → ℕ) (rows colum
     → IsRing width 1 times → ((i j : ℕ) → A i j < 2 ^ width) → ((i j : ℕ) → B i j < 2 ^ width)
     → IsReducedEchelon rows columns r p A → IsReducedEchelon rows columns s q B → HaveSameRowSpace times rows columns A B
     → (r ≡ s) × ((i : ℕ) → i < r → p i ≡ q i) × ((i j : ℕ) → i < rows → j < columns → A i j ≡ B i j)
+
+-- ---- what functions that read and write a matrix need and leave
+
+-- a list of so many places has the rows of a matrix one behind the other, and this row is one of them
+pub record HasMatrixRow (rows columns row len : ℕ) : Type 0 where
+  pub shape : len ≡ rows * columns
+  pub row_within : row < rows
+
+-- this row and column are those of an entry
+pub record HasMatrixEntry (rows columns row column len : ℕ) : Type 0 where
+  pub shape : len ≡ rows * columns
+  pub row_within : row < rows
+  pub column_within : column < columns
+
+-- the entry in this row and column has a value, and the others are as they were
+pub record IsEntryWritten {V : Type 0} (number : V → ℕ) (columns row column value : ℕ) (old now : List V) : Type 0 where
+  pub shape : length now ≡ length old
+  pub written : entry_of number columns now row column ≡ value
+  pub others : (i j : ℕ) → j < columns → (i ≢ row) ⊎ (j ≢ column) → entry_of number columns now i j ≡ entry_of number columns old i j
+
+-- the row has these entries, and the other rows are as they were
+pub record IsRowWritten {V : Type 0} (number : V → ℕ) (columns row : ℕ) (wanted : ℕ → ℕ) (old now : List V) : Type 0 where
+  pub shape : length now ≡ length old
+  pub entries : (j : ℕ) → j < columns → entry_of number columns now row j ≡ wanted j
+  pub others : (i j : ℕ) → i ≢ row → j < columns → entry_of number columns now i j ≡ entry_of number columns old i j
+
+-- entry j of a row after another row was added to it, and of a row alone
+abbrev pub joined_entry : ℕ → ℕ → (ℕ → ℕ → ℕ) → ℕ → ℕ
+joined_entry row other A j = if other == row then A row j else bit_xor (A row j) (A other j)
+
+-- entry (i, j) of a matrix after multiples of a row that is 1 in a column were added to the others, so that these are 0 there
+abbrev pub cleared_entry : (ℕ → ℕ → ℕ) → ℕ → ℕ → (ℕ → ℕ → ℕ) → ℕ → ℕ → ℕ
+cleared_entry times row column A i j = if i == row then A i j else bit_xor (A i j) (times (A i column) (A row j))

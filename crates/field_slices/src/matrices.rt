@@ -2,14 +2,18 @@
 //! place i * columns + j. `Scalars` is what a place holds and how it is computed with; for the elements of a field `F` that is
 //! `Elements<F>`, as in `row_reduce::<Elements<F>>(..)`.
 
+mod identities;
 mod inverses;
+mod points;
 mod products;
 mod reduction;
 mod rows;
 mod scalars;
 mod systems;
 
+pub use crate::matrices::identities::identity_into;
 pub use crate::matrices::inverses::invert_beside;
+pub use crate::matrices::points::vandermonde_into;
 pub use crate::matrices::products::{multiply_into, transpose_into};
 pub use crate::matrices::reduction::{row_reduce, row_reduce_augmented};
 pub use crate::matrices::scalars::{Elements, Scalars};

@@ -1,8 +1,9 @@
 // Reduced row echelon form, by the elimination of Gauss and Jordan.
-ghost use Rattle.std.specs.Prelude.{◌≡◌, ◌≢◌, ◌+◌, ◌*◌, ◌<◌, ◌≤◌, ℕ, IsNone, IfSome, bit_xor, length, slice_index};
-ghost use Rattle.field_slices.specs.Matrices.{HaveSameRowSpace, IsReducedEchelon, entry_of};
+ghost use Rattle.std.specs.Prelude.{◌≡◌, ◌≢◌, ◌+◌, ◌*◌, ◌<◌, ◌≤◌, ℕ, IsNone, IfSome, length, slice_index};
+ghost use Rattle.field_slices.specs.Matrices.{HasMatrixEntry, HasMatrixRow, HaveSameRowSpace, IsReducedEchelon, IsRowWritten};
+ghost use Rattle.field_slices.specs.Matrices.{cleared_entry, entry_of, joined_entry};
 
-use crate::matrices::rows::{add_scaled_row, entry, scale_row};
+use crate::matrices::rows::{Shape, add_scaled_row, entry, scale_row};
 use crate::matrices::scalars::Scalars;
 
 /// Brings a matrix of `rows` rows of `columns` entries to reduced row echelon form, and returns its rank, which is the number of rows
@@ -41,9 +42,10 @@ pub fn row_reduce_augmented<S: Scalars>(
     ensures reduced { IsReducedEchelon rows count result (slice_index pivots.new) (entry_of S.number columns matrix.new) }
     ensures space { HaveSameRowSpace S.product rows columns (entry_of S.number columns matrix.old) (entry_of S.number columns matrix.new) }
 {
+    let shape = Shape { rows, columns };
     let mut rank = 0;
     for column in 0..count {
-        rank = reduce_column::<S>(matrix, rows, columns, rank, column, pivots);
+        rank = reduce_column::<S>(matrix, shape, rank, column, pivots);
     }
     rank
 }
@@ -51,25 +53,26 @@ pub fn row_reduce_augmented<S: Scalars>(
 // Goes on from a matrix whose columns before `column` are in reduced row echelon form to one column more, and returns the rank of these.
 fn reduce_column<S: Scalars>(
     matrix: &mut [S::Value],
-    rows: usize,
-    columns: usize,
+    shape: Shape,
     rank: usize,
     column: usize,
     pivots: &mut [usize],
 ) -> usize
-    requires shape { length matrix.old ≡ rows * columns }
-    requires room { length pivots.old ≡ rows }
-    requires column { column < columns }
-    requires reduced { IsReducedEchelon rows column rank (slice_index pivots.old) (entry_of S.number columns matrix.old) }
+    requires shape { length matrix.old ≡ shape.rows * shape.columns }
+    requires room { length pivots.old ≡ shape.rows }
+    requires column { column < shape.columns }
+    requires reduced { IsReducedEchelon shape.rows column rank (slice_index pivots.old) (entry_of S.number shape.columns matrix.old) }
     ensures shape { length matrix.new ≡ length matrix.old }
     ensures room { length pivots.new ≡ length pivots.old }
-    ensures reduced { IsReducedEchelon rows (column + 1) result (slice_index pivots.new) (entry_of S.number columns matrix.new) }
-    ensures space { HaveSameRowSpace S.product rows columns (entry_of S.number columns matrix.old) (entry_of S.number columns matrix.new) }
+    ensures reduced { IsReducedEchelon shape.rows (column + 1) result (slice_index pivots.new)
+        (entry_of S.number shape.columns matrix.new) }
+    ensures space { HaveSameRowSpace S.product shape.rows shape.columns (entry_of S.number shape.columns matrix.old)
+        (entry_of S.number shape.columns matrix.new) }
 {
-    match find_pivot::<S>(matrix, rows, columns, rank, column) {
+    match find_pivot::<S>(matrix, shape, rank, column) {
         None => rank,
         Some(row) => {
-            make_pivot::<S>(matrix, rows, columns, rank, row, column);
+            make_pivot::<S>(matrix, shape, rank, row, column);
             pivots[rank] = column;
             rank + 1
         }
@@ -79,20 +82,19 @@ fn reduce_column<S: Scalars>(
 // The first row from `from` on that is not 0 in this column.
 pub(crate) fn find_pivot<S: Scalars>(
     matrix: &[S::Value],
-    rows: usize,
-    columns: usize,
+    shape: Shape,
     from: usize,
     column: usize,
 ) -> Option<usize>
-    requires shape { length matrix.now ≡ rows * columns }
-    requires column { column < columns }
-    ensures none { IsNone result → (i : ℕ) → from ≤ i → i < rows → entry_of S.number columns matrix.now i column ≡ 0 }
-    ensures inside { IfSome result (λ row. (from ≤ row) × (row < rows)) }
-    ensures nonzero { IfSome result (λ row. entry_of S.number columns matrix.now row column ≢ 0) }
-    ensures first { IfSome result (λ row. (i : ℕ) → from ≤ i → i < row → entry_of S.number columns matrix.now i column ≡ 0) }
+    requires shape { length matrix.now ≡ shape.rows * shape.columns }
+    requires column { column < shape.columns }
+    ensures none { IsNone result → (i : ℕ) → from ≤ i → i < shape.rows → entry_of S.number shape.columns matrix.now i column ≡ 0 }
+    ensures inside { IfSome result (λ row. (from ≤ row) × (row < shape.rows)) }
+    ensures nonzero { IfSome result (λ row. entry_of S.number shape.columns matrix.now row column ≢ 0) }
+    ensures first { IfSome result (λ row. (i : ℕ) → from ≤ i → i < row → entry_of S.number shape.columns matrix.now i column ≡ 0) }
 {
-    for row in from..rows {
-        if !S::is_zero(entry::<S>(matrix, rows, columns, row, column)) {
+    for row in from..shape.rows {
+        if !S::is_zero(entry::<S>(matrix, shape, row, column)) {
             return Some(row);
         }
     }
@@ -103,101 +105,69 @@ pub(crate) fn find_pivot<S: Scalars>(
 // column where both are 0 stays.
 fn make_pivot<S: Scalars>(
     matrix: &mut [S::Value],
-    rows: usize,
-    columns: usize,
+    shape: Shape,
     rank: usize,
     row: usize,
     column: usize,
 )
-    requires shape { length matrix.old ≡ rows * columns }
-    requires rank { rank < rows }
-    requires row { row < rows }
-    requires column { column < columns }
-    requires nonzero { entry_of S.number columns matrix.old row column ≢ 0 }
-    requires first { row ≢ rank → entry_of S.number columns matrix.old rank column ≡ 0 }
+    requires rank { HasMatrixEntry shape.rows shape.columns rank column (length matrix.old) }
+    requires row { row < shape.rows }
+    requires nonzero { entry_of S.number shape.columns matrix.old row column ≢ 0 }
+    requires first { row ≢ rank → entry_of S.number shape.columns matrix.old rank column ≡ 0 }
     ensures shape { length matrix.new ≡ length matrix.old }
-    ensures leading { entry_of S.number columns matrix.new rank column ≡ 1 }
-    ensures alone { (i : ℕ) → i < rows → i ≢ rank → entry_of S.number columns matrix.new i column ≡ 0 }
-    ensures stays { (i j : ℕ) → i < rows → j < columns → entry_of S.number columns matrix.old rank j ≡ 0
-        → entry_of S.number columns matrix.old row j ≡ 0
-        → entry_of S.number columns matrix.new i j ≡ entry_of S.number columns matrix.old i j }
-    ensures space { HaveSameRowSpace S.product rows columns (entry_of S.number columns matrix.old) (entry_of S.number columns matrix.new) }
+    ensures leading { entry_of S.number shape.columns matrix.new rank column ≡ 1 }
+    ensures alone { (i : ℕ) → i < shape.rows → i ≢ rank → entry_of S.number shape.columns matrix.new i column ≡ 0 }
+    ensures stays { (i j : ℕ) → i < shape.rows → j < shape.columns → entry_of S.number shape.columns matrix.old rank j ≡ 0
+        → entry_of S.number shape.columns matrix.old row j ≡ 0
+        → entry_of S.number shape.columns matrix.new i j ≡ entry_of S.number shape.columns matrix.old i j }
+    ensures space { HaveSameRowSpace S.product shape.rows shape.columns (entry_of S.number shape.columns matrix.old)
+        (entry_of S.number shape.columns matrix.new) }
 {
-    bring_nonzero::<S>(matrix, rows, columns, rank, row);
-    let inverse = S::invert(entry::<S>(matrix, rows, columns, rank, column));
-    scale_row::<S>(matrix, rows, columns, rank, inverse);
-    clear_column::<S>(matrix, rows, columns, rank, column);
+    bring_nonzero::<S>(matrix, shape, rank, row);
+    let inverse = S::invert(entry::<S>(matrix, shape, rank, column));
+    scale_row::<S>(matrix, shape, rank, inverse);
+    clear_column::<S>(matrix, shape, rank, column);
 }
 
 // Adds row `row` to row `rank`, if it is another one.
-fn bring_nonzero<S: Scalars>(
-    matrix: &mut [S::Value],
-    rows: usize,
-    columns: usize,
-    rank: usize,
-    row: usize,
-)
-    requires shape { length matrix.old ≡ rows * columns }
-    requires rank { rank < rows }
-    requires row { row < rows }
-    ensures shape { length matrix.new ≡ length matrix.old }
-    ensures same { row ≡ rank → (j : ℕ) → j < columns
-        → entry_of S.number columns matrix.new rank j ≡ entry_of S.number columns matrix.old rank j }
-    ensures other { row ≢ rank → (j : ℕ) → j < columns → entry_of S.number columns matrix.new rank j
-        ≡ bit_xor (entry_of S.number columns matrix.old rank j) (entry_of S.number columns matrix.old row j) }
-    ensures others { (i j : ℕ) → i ≢ rank → j < columns
-        → entry_of S.number columns matrix.new i j ≡ entry_of S.number columns matrix.old i j }
+fn bring_nonzero<S: Scalars>(matrix: &mut [S::Value], shape: Shape, rank: usize, row: usize)
+    requires rank { HasMatrixRow shape.rows shape.columns rank (length matrix.old) }
+    requires row { row < shape.rows }
+    ensures { IsRowWritten S.number shape.columns rank (joined_entry rank row (entry_of S.number shape.columns matrix.old))
+        matrix.old matrix.new }
 {
     if row != rank {
-        add_scaled_row::<S>(matrix, rows, columns, rank, row, S::one());
+        add_scaled_row::<S>(matrix, shape, rank, row, S::one());
     }
 }
 
 // Makes the other rows 0 in this column, where row `row` is 1, by adding multiples of that row.
-fn clear_column<S: Scalars>(
-    matrix: &mut [S::Value],
-    rows: usize,
-    columns: usize,
-    row: usize,
-    column: usize,
-)
-    requires shape { length matrix.old ≡ rows * columns }
-    requires row { row < rows }
-    requires column { column < columns }
+fn clear_column<S: Scalars>(matrix: &mut [S::Value], shape: Shape, row: usize, column: usize)
+    requires { HasMatrixEntry shape.rows shape.columns row column (length matrix.old) }
     ensures shape { length matrix.new ≡ length matrix.old }
-    ensures row { (j : ℕ) → j < columns → entry_of S.number columns matrix.new row j ≡ entry_of S.number columns matrix.old row j }
-    ensures others { (i j : ℕ) → i < rows → i ≢ row → j < columns → entry_of S.number columns matrix.new i j
-        ≡ bit_xor (entry_of S.number columns matrix.old i j)
-        (S.product (entry_of S.number columns matrix.old i column) (entry_of S.number columns matrix.old row j)) }
+    ensures cleared { (i j : ℕ) → i < shape.rows → j < shape.columns → entry_of S.number shape.columns matrix.new i j
+        ≡ cleared_entry S.product row column (entry_of S.number shape.columns matrix.old) i j }
 {
-    for other in 0..rows {
-        clear_entry::<S>(matrix, rows, columns, row, other, column);
+    for other in 0..shape.rows {
+        clear_entry::<S>(matrix, shape, row, other, column);
     }
 }
 
 // Adds to row `other` the multiple of row `row` that its entry in this column says; to that row itself nothing.
 fn clear_entry<S: Scalars>(
     matrix: &mut [S::Value],
-    rows: usize,
-    columns: usize,
+    shape: Shape,
     row: usize,
     other: usize,
     column: usize,
 )
-    requires shape { length matrix.old ≡ rows * columns }
-    requires row { row < rows }
-    requires other { other < rows }
-    requires column { column < columns }
-    ensures shape { length matrix.new ≡ length matrix.old }
-    ensures cleared { other ≢ row → (j : ℕ) → j < columns → entry_of S.number columns matrix.new other j
-        ≡ bit_xor (entry_of S.number columns matrix.old other j)
-        (S.product (entry_of S.number columns matrix.old other column) (entry_of S.number columns matrix.old row j)) }
-    ensures own { (j : ℕ) → j < columns → entry_of S.number columns matrix.new row j ≡ entry_of S.number columns matrix.old row j }
-    ensures others { (i j : ℕ) → i ≢ other → j < columns
-        → entry_of S.number columns matrix.new i j ≡ entry_of S.number columns matrix.old i j }
+    requires row { HasMatrixEntry shape.rows shape.columns row column (length matrix.old) }
+    requires other { other < shape.rows }
+    ensures { IsRowWritten S.number shape.columns other
+        (cleared_entry S.product row column (entry_of S.number shape.columns matrix.old) other) matrix.old matrix.new }
 {
     if other != row {
-        let scalar = entry::<S>(matrix, rows, columns, other, column);
-        add_scaled_row::<S>(matrix, rows, columns, other, row, scalar);
+        let scalar = entry::<S>(matrix, shape, other, column);
+        add_scaled_row::<S>(matrix, shape, other, row, scalar);
     }
 }

@@ -3,7 +3,7 @@ ghost use Rattle.std.specs.Prelude.{◌≡◌, ◌≢◌, ◌+◌, ◌*◌, ◌<
 ghost use Rattle.field_slices.specs.Matrices.{HaveSameRowSpace, IsReducedEchelon, IsSolution, entry_of};
 
 use crate::matrices::reduction::{find_pivot, row_reduce_augmented};
-use crate::matrices::rows::entry;
+use crate::matrices::rows::{Shape, entry};
 use crate::matrices::scalars::Scalars;
 
 /// Writes a solution of linear equations to `solution`, and returns whether there is one; else `solution` stays. A row of `augmented`, a
@@ -34,11 +34,12 @@ pub fn solve_augmented<S: Scalars>(
         (entry_of S.number columns augmented.new) }
 {
     let unknowns = solution.len();
+    let shape = Shape { rows, columns };
     let rank = row_reduce_augmented::<S>(augmented, rows, columns, unknowns, pivots);
-    match find_pivot::<S>(augmented, rows, columns, rank, unknowns) {
+    match find_pivot::<S>(augmented, shape, rank, unknowns) {
         Some(_) => false,
         None => {
-            write_solution::<S>(solution, augmented, rows, columns, rank, pivots);
+            write_solution::<S>(solution, augmented, shape, rank, pivots);
             true
         }
     }
@@ -48,25 +49,25 @@ pub fn solve_augmented<S: Scalars>(
 fn write_solution<S: Scalars>(
     solution: &mut [S::Value],
     reduced: &[S::Value],
-    rows: usize,
-    columns: usize,
+    shape: Shape,
     rank: usize,
     pivots: &[usize],
 )
-    requires shape { length reduced.now ≡ rows * columns }
-    requires unknowns { columns ≡ length solution.old + 1 }
-    requires room { length pivots.now ≡ rows }
-    requires reduced { IsReducedEchelon rows (length solution.old) rank (slice_index pivots.now) (entry_of S.number columns reduced.now) }
+    requires shape { length reduced.now ≡ shape.rows * shape.columns }
+    requires unknowns { shape.columns ≡ length solution.old + 1 }
+    requires room { length pivots.now ≡ shape.rows }
+    requires reduced { IsReducedEchelon shape.rows (length solution.old) rank (slice_index pivots.now)
+        (entry_of S.number shape.columns reduced.now) }
     ensures unknowns { length solution.new ≡ length solution.old }
     ensures at_pivots { (k : ℕ) → k < rank → slice_index (map S.number solution.new) (slice_index pivots.now k)
-        ≡ entry_of S.number columns reduced.now k (length solution.old) }
+        ≡ entry_of S.number shape.columns reduced.now k (length solution.old) }
     ensures elsewhere { (j : ℕ) → j < length solution.old → ((k : ℕ) → k < rank → slice_index pivots.now k ≢ j)
         → slice_index (map S.number solution.new) j ≡ 0 }
 {
     write_zeros::<S>(solution);
     for row in 0..rank {
         let column = pivots[row];
-        solution[column] = entry::<S>(reduced, rows, columns, row, columns - 1);
+        solution[column] = entry::<S>(reduced, shape, row, shape.columns - 1);
     }
 }
 

@@ -21,20 +21,18 @@ pub loop-place-preserved : goal.loop-place-preserved
 loop-place-preserved g c =
     let field = g.F.Represented in
     let law = g.met.F.Field in
-    let value = c.index-values-place.result in
-    let inside = c.loop-place-test.true in
     products-step field.width field.product law.field_law law.wide_law field.repr field.range_law c.args.values.now c.loop-place.products
     c.loop-place.place c.loop-place.product c.if-not-is_zero.product (omega arith) c.loop-place.invariant.0 c.loop-place.invariant.1
     (elim c.if-not-is_zero.branch [
       | then-not-is_zero w ↦
           products-more field.width field.product law.field_law law.wide_law field.repr field.range_law c.args.values.now c.loop-place.place
-          c.loop-place.product c.if-not-is_zero.product value inside c.index-values-place.is
+          c.loop-place.product c.if-not-is_zero.product c.index-values-place.result c.loop-place-test.true c.index-values-place.is
           (λ e. true≢false (sym (c.is_zero.ensures.1 e) ∙ w.if-not-is_zero.true)) c.loop-place.invariant.1
-          (ap field.repr w.product-is ∙ g.met.F.Represented.mul_law c.loop-place.product value w.mul-product.result w.mul-product.ensures)
+          (ap field.repr w.product-is ∙ g.met.F.Represented.mul_law c.loop-place.product c.index-values-place.result w.mul-product.result w.mul-product.ensures)
       | else-not-is_zero w ↦
           ap field.repr w.product-is
           ∙ products-zero field.width field.product law.field_law law.wide_law field.repr field.range_law c.args.values.now c.loop-place.place
-          c.loop-place.product value inside c.index-values-place.is (c.is_zero.ensures.0 w.if-not-is_zero.false)
+          c.loop-place.product c.index-values-place.result c.loop-place-test.true c.index-values-place.is (c.is_zero.ensures.0 w.if-not-is_zero.false)
           c.loop-place.invariant.1
     ])
 

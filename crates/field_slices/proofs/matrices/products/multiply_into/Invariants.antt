@@ -1,4 +1,3 @@
-use Rattle.std.proofs.Common.{◌≡◌, length}
 use Rattle.field_slices.specs.Matrices.{entry_of, product_entry}
 use Rattle.field_slices.proofs.MatrixRows.{RowsWritten}
 use Rattle.field_slices.proofs.matrices.products.multiply_into.Given as goal
@@ -7,7 +6,6 @@ use Rattle.field_slices.proofs.matrices.products.multiply_into.Given as goal
 abbrev pub invariant-loop-row : goal.invariant-loop-row
 invariant-loop-row g l =
     let scalars = g.S.Scalars in
-    (length l.target ≡ length l.fn.target)
-    × RowsWritten l.columns
+    RowsWritten scalars.number l.columns
     (product_entry scalars.product l.inner (entry_of scalars.number l.inner l.left) (entry_of scalars.number l.columns l.right))
-    (entry_of scalars.number l.columns l.fn.target) (entry_of scalars.number l.columns l.target) l.row
+    l.fn.target l.target l.row

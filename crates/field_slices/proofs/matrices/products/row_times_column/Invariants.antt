@@ -7,4 +7,4 @@ abbrev pub invariant-loop-k : goal.invariant-loop-k
 invariant-loop-k g l =
     let scalars = g.S.Scalars in
     scalars.number l.sum
-    ≡ product_entry scalars.product l.k (entry_of scalars.number l.inner l.left) (entry_of scalars.number l.columns l.right) l.row l.column
+    ≡ product_entry scalars.product l.k (entry_of scalars.number l.inner l.left) (entry_of scalars.number l.fn.shape.columns l.right) l.row l.column

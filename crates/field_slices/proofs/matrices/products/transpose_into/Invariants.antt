@@ -1,4 +1,3 @@
-use Rattle.std.proofs.Common.{◌≡◌, length}
 use Rattle.field_slices.specs.Matrices.{entry_of}
 use Rattle.field_slices.proofs.MatrixRows.{RowsWritten}
 use Rattle.field_slices.proofs.matrices.products.transpose_into.Given as goal
@@ -7,6 +6,4 @@ use Rattle.field_slices.proofs.matrices.products.transpose_into.Given as goal
 abbrev pub invariant-loop-row : goal.invariant-loop-row
 invariant-loop-row g l =
     let number = g.S.Scalars.number in
-    (length l.target ≡ length l.fn.target)
-    × RowsWritten l.rows (λ i j. entry_of number l.columns l.source j i)
-    (entry_of number l.rows l.fn.target) (entry_of number l.rows l.target) l.row
+    RowsWritten number l.rows (λ i j. entry_of number l.columns l.source j i) l.fn.target l.target l.row

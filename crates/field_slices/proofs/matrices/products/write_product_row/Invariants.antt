@@ -1,4 +1,3 @@
-use Rattle.std.proofs.Common.{◌≡◌, length}
 use Rattle.field_slices.specs.Matrices.{entry_of, product_entry}
 use Rattle.field_slices.proofs.MatrixRows.{RowWritten}
 use Rattle.field_slices.proofs.matrices.products.write_product_row.Given as goal
@@ -7,7 +6,7 @@ use Rattle.field_slices.proofs.matrices.products.write_product_row.Given as goal
 abbrev pub invariant-loop-column : goal.invariant-loop-column
 invariant-loop-column g l =
     let scalars = g.S.Scalars in
-    (length l.target ≡ length l.fn.target)
-    × RowWritten l.columns l.row
-    (product_entry scalars.product l.inner (entry_of scalars.number l.inner l.left) (entry_of scalars.number l.columns l.right) l.row)
-    (entry_of scalars.number l.columns l.fn.target) (entry_of scalars.number l.columns l.target) l.column
+    let columns = l.shape.columns in
+    RowWritten scalars.number columns l.row
+    (product_entry scalars.product l.inner (entry_of scalars.number l.inner l.left) (entry_of scalars.number columns l.right) l.row)
+    l.fn.target l.target l.column

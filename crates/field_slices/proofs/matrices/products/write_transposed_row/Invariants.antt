@@ -1,4 +1,3 @@
-use Rattle.std.proofs.Common.{◌≡◌, length}
 use Rattle.field_slices.specs.Matrices.{entry_of}
 use Rattle.field_slices.proofs.MatrixRows.{RowWritten}
 use Rattle.field_slices.proofs.matrices.products.write_transposed_row.Given as goal
@@ -7,6 +6,4 @@ use Rattle.field_slices.proofs.matrices.products.write_transposed_row.Given as g
 abbrev pub invariant-loop-column : goal.invariant-loop-column
 invariant-loop-column g l =
     let number = g.S.Scalars.number in
-    (length l.target ≡ length l.fn.target)
-    × RowWritten l.rows l.row (λ j. entry_of number l.columns l.source j l.row)
-    (entry_of number l.rows l.fn.target) (entry_of number l.rows l.target) l.column
+    RowWritten number l.shape.rows l.row (λ j. entry_of number l.shape.columns l.source j l.row) l.fn.target l.target l.column

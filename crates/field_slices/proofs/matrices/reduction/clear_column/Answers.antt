@@ -1,29 +1,20 @@
-use Rattle.std.proofs.Common.{refl, ◌∙◌, arith}
-use Rattle.field_slices.specs.Matrices.{entry_of}
-use Rattle.field_slices.proofs.Elimination.{cleared_start, cleared_step}
+use Rattle.std.proofs.Common.{arith}
+use Rattle.field_slices.specs.Matrices.{cleared_entry, entry_of}
+use Rattle.field_slices.proofs.Elimination.{cleared-step}
+use Rattle.field_slices.proofs.MatrixRows.{rows_start, rows_step, rows_end}
 use Rattle.field_slices.proofs.matrices.reduction.clear_column.Goals as goal
 
 pub loop-other-init : goal.loop-other-init
 loop-other-init g c =
-    let scalars = g.S.Scalars in (
-      refl,
-      cleared_start scalars.product c.args.rows c.args.columns c.args.row c.args.column c.requires.column
-          (entry_of scalars.number c.args.columns c.args.matrix.now),
-    )
+    let scalars = g.S.Scalars in
+    let columns = c.args.shape.columns in
+    let old = c.args.matrix.now in
+    rows_start scalars.number columns (cleared_entry scalars.product c.args.row c.args.column (entry_of scalars.number columns old)) old
 
 pub loop-other-preserved : goal.loop-other-preserved
 loop-other-preserved g c =
-    let scalars = g.S.Scalars in
-    let columns = c.args.columns in (
-      c.clear_entry.ensures.shape ∙ c.loop-other.invariant.0,
-      cleared_step scalars.product c.args.rows columns c.args.row c.args.column c.requires.column
-          (entry_of scalars.number columns c.args.matrix.now) (entry_of scalars.number columns c.loop-other.matrix)
-          (entry_of scalars.number columns c.clear_entry.new.matrix) c.loop-other.other c.clear_entry.ensures.cleared c.clear_entry.ensures.own
-          c.clear_entry.ensures.others c.loop-other.invariant.1,
-    )
+    let so_far = c.loop-other.invariant in
+    rows_step so_far (cleared-step g.S.Scalars.product c.args.row c.args.column so_far c.requires.column_within) c.clear_entry.ensures
 
-pub returns-clause-row : goal.returns-clause-row
-returns-clause-row g c = c.loop-other.invariant.1.own
-
-pub returns-clause-others : goal.returns-clause-others
-returns-clause-others g c = λ i j below other inside. c.loop-other.invariant.1.done i j (omega (arith, below)) other inside
+pub returns-clause-cleared : goal.returns-clause-cleared
+returns-clause-cleared g c = rows_end c.loop-other.invariant c.args.shape.rows (omega arith)

@@ -1,4 +1,3 @@
-use Rattle.std.proofs.Common.{◌≡◌, length}
 use Rattle.std.specs.Prelude.{bit_xor}
 use Rattle.field_slices.specs.Matrices.{entry_of}
 use Rattle.field_slices.proofs.MatrixRows.{RowWritten}
@@ -8,7 +7,6 @@ use Rattle.field_slices.proofs.matrices.rows.add_scaled_row.Given as goal
 abbrev pub invariant-loop-column : goal.invariant-loop-column
 invariant-loop-column g l =
     let scalars = g.S.Scalars in
-    let old = entry_of scalars.number l.columns l.fn.matrix in
-    (length l.matrix ≡ length l.fn.matrix)
-    × RowWritten l.columns l.to (λ j. bit_xor (old l.to j) (scalars.product (scalars.number l.scalar) (old l.from j))) old
-    (entry_of scalars.number l.columns l.matrix) l.column
+    let old = entry_of scalars.number l.shape.columns l.fn.matrix in
+    RowWritten scalars.number l.shape.columns l.to (λ j. bit_xor (old l.to j) (scalars.product (scalars.number l.scalar) (old l.from j)))
+    l.fn.matrix l.matrix l.column

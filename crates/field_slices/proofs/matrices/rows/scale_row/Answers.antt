@@ -1,4 +1,4 @@
-use Rattle.std.proofs.Common.{refl, ◌∙◌, ap, arith}
+use Rattle.std.proofs.Common.{◌∙◌, ap, arith}
 use Rattle.field_slices.specs.Matrices.{entry_of}
 use Rattle.field_slices.proofs.MatrixRows.{row_start, row_step, row_end}
 use Rattle.field_slices.proofs.matrices.rows.scale_row.Goals as goal
@@ -6,31 +6,18 @@ use Rattle.field_slices.proofs.matrices.rows.scale_row.Goals as goal
 pub loop-column-init : goal.loop-column-init
 loop-column-init g c =
     let scalars = g.S.Scalars in
-    let old = entry_of scalars.number c.args.columns c.args.matrix.now in
-    (refl, row_start c.args.columns c.args.row (λ j. scalars.product (scalars.number c.args.scalar) (old c.args.row j)) old)
+    let columns = c.args.shape.columns in
+    row_start scalars.number columns c.args.row
+    (λ j. scalars.product (scalars.number c.args.scalar) (entry_of scalars.number columns c.args.matrix.now c.args.row j)) c.args.matrix.now
 
 pub loop-column-preserved : goal.loop-column-preserved
 loop-column-preserved g c =
     let scalars = g.S.Scalars in
-    let columns = c.args.columns in
-    let old = entry_of scalars.number columns c.args.matrix.now in
-    let column = c.loop-column.column in
-    let written = c.loop-column.invariant.1 in (
-      c.set_entry.ensures.shape ∙ c.loop-column.invariant.0,
-      row_step columns c.args.row (λ j. scalars.product (scalars.number c.args.scalar) (old c.args.row j)) old
-          (entry_of scalars.number columns c.loop-column.matrix) (entry_of scalars.number columns c.set_entry.new.matrix) column (omega arith)
-          (c.set_entry.ensures.written ∙ c.multiply-value.ensures
-          ∙ ap (scalars.product (scalars.number c.args.scalar)) (c.entry-own.ensures ∙ written.rest column (omega arith) (omega arith)))
-          c.set_entry.ensures.others written,
-    )
+    let so_far = c.loop-column.invariant in
+    row_step so_far (omega arith)
+    (c.multiply-value.ensures
+    ∙ ap (scalars.product (scalars.number c.args.scalar))
+    (c.entry-own.ensures ∙ so_far.rest c.loop-column.column (omega arith) (omega arith))) c.set_entry.ensures
 
-pub returns-clause-row : goal.returns-clause-row
-returns-clause-row g c =
-    let scalars = g.S.Scalars in
-    let columns = c.args.columns in
-    let old = entry_of scalars.number columns c.args.matrix.now in
-    row_end columns c.args.row (λ j. scalars.product (scalars.number c.args.scalar) (old c.args.row j)) old
-    (entry_of scalars.number columns c.loop-column.matrix) c.loop-column.column (omega arith) c.loop-column.invariant.1
-
-pub returns-clause-others : goal.returns-clause-others
-returns-clause-others g c = c.loop-column.invariant.1.others
+pub returns : goal.returns
+returns g c = row_end c.loop-column.invariant (omega arith)

@@ -1,45 +1,29 @@
-use Rattle.std.proofs.Common.{◌+◌, ◌*◌, ◌<◌, length, map, refl, arith}
+use Rattle.std.proofs.Common.{length, map, refl}
 use Rattle.std.specs.Prelude.{slice_index}
-use Rattle.field_slices.specs.Matrices.{entry_of}
-use Rattle.field_slices.proofs.Places.{numbers-lt}
-use Rattle.field_slices.proofs.LinearSystems.{solution_found, solution_missing}
+use Rattle.field_slices.proofs.LinearSystems.{system_solved, system_unsolvable}
 use Rattle.field_slices.proofs.matrices.systems.solve_augmented.Goals as goal
 
 pub returns-in-Some-clause-unsolvable : goal.returns-in-Some-clause-unsolvable
-returns-in-Some-clause-unsolvable g c = λ _ x solves.
+returns-in-Some-clause-unsolvable g c = λ _.
     let scalars = g.S.Scalars in
-    let law = g.met.S.Scalars in
-    let columns = c.args.columns in
-    let count = length c.args.solution.now in
-    let old = c.args.augmented.now in
-    let reduced = c.row_reduce_augmented-rank.new.matrix in
-    let within : count < columns = omega (arith, c.requires.unknowns) in
-    solution_missing scalars.width scalars.product law.field_law.ring c.args.rows columns count within
-    c.row_reduce_augmented-rank.result (slice_index c.row_reduce_augmented-rank.new.pivots)
-    (entry_of scalars.number columns old) (entry_of scalars.number columns reduced)
-    (λ i j. numbers-lt scalars.number scalars.width law.range_law old (i * columns + j))
-    (λ i j. numbers-lt scalars.number scalars.width law.range_law reduced (i * columns + j))
-    c.row_reduce_augmented-rank.ensures.reduced c.row_reduce_augmented-rank.ensures.space
-    c.in-Some.field-0 c.in-Some.ensures.inside.0 c.in-Some.ensures.inside.1 c.in-Some.ensures.nonzero x solves
+    let reduction = c.row_reduce_augmented-rank in
+    let found = c.in-Some.ensures in
+    system_unsolvable scalars.number scalars.width scalars.product g.met.S.Scalars.field_law.ring g.met.S.Scalars.range_law c.args.rows
+    c.args.columns (length c.args.solution.now) reduction.result c.requires.unknowns (slice_index reduction.new.pivots) c.args.augmented.now
+    reduction.new.matrix reduction.ensures.reduced reduction.ensures.space c.in-Some.field-0 found.inside.0 found.inside.1 found.nonzero
 
 pub returns-in-None-clause-solution : goal.returns-in-None-clause-solution
 returns-in-None-clause-solution g c = λ _.
     let scalars = g.S.Scalars in
     let law = g.met.S.Scalars in
-    let columns = c.args.columns in
-    let count = length c.args.solution.now in
-    let old = c.args.augmented.now in
-    let reduced = c.row_reduce_augmented-rank.new.matrix in
-    let within : count < columns = omega (arith, c.requires.unknowns) in
-    solution_found scalars.width scalars.product law.field_law.ring c.args.rows columns count within
-    c.row_reduce_augmented-rank.result (slice_index c.row_reduce_augmented-rank.new.pivots)
-    (entry_of scalars.number columns old) (entry_of scalars.number columns reduced)
-    (λ i j. numbers-lt scalars.number scalars.width law.range_law old (i * columns + j))
-    (λ i j. numbers-lt scalars.number scalars.width law.range_law reduced (i * columns + j))
-    c.row_reduce_augmented-rank.ensures.reduced c.row_reduce_augmented-rank.ensures.space
-    (slice_index (map scalars.number c.write_solution.new.solution))
-    (record { at_pivots = c.write_solution.ensures.at_pivots; elsewhere = c.write_solution.ensures.elsewhere })
-    (c.in-None.ensures.none refl)
+    let rank = c.row_reduce_augmented-rank.result in
+    let step = c.row_reduce_augmented-rank.ensures in
+    let pivots = c.row_reduce_augmented-rank.new.pivots in
+    let written = c.write_solution.ensures in
+    system_solved scalars.number scalars.width scalars.product law.field_law.ring law.range_law c.args.rows c.args.columns
+    (length c.args.solution.now) rank c.requires.unknowns (slice_index pivots) c.args.augmented.now
+    c.row_reduce_augmented-rank.new.matrix step.reduced step.space (slice_index (map scalars.number c.write_solution.new.solution))
+    (record { at_pivots = written.at_pivots; elsewhere = written.elsewhere }) (c.in-None.ensures.none refl)
 
 pub returns-in-Some-clause-reduced : goal.returns-in-Some-clause-reduced
 returns-in-Some-clause-reduced g c = (c.row_reduce_augmented-rank.result, c.row_reduce_augmented-rank.ensures.reduced)

@@ -11,7 +11,7 @@ loop-row-init g c =
     let number = g.S.Scalars.number in (
       c.write_zeros.ensures.count,
       solved_start (length c.args.solution.now) (slice_index c.args.pivots.now)
-          (λ k. entry_of number c.args.columns c.args.reduced.now k (length c.args.solution.now))
+          (λ k. entry_of number c.args.shape.columns c.args.reduced.now k (length c.args.solution.now))
           (slice_index (map number c.write_zeros.new.values)) c.write_zeros.ensures.zeros,
     )
 
@@ -26,12 +26,12 @@ loop-row-preserved g c =
     let below = c.loop-row-test.true in
     let fits = c.requires.reduced.pivots_fit row below in
     let same = c.loop-row.invariant.0 in
-    let behind : c.args.columns - 1 ≡ count = omega (arith, c.requires.unknowns) in (
+    let behind : c.args.shape.columns - 1 ≡ count = omega (arith, c.requires.unknowns) in (
       length-set solution (pivot row) value ∙ same,
-      solved_step count pivot (λ k. entry_of number c.args.columns c.args.reduced.now k count) (slice_index (map number solution))
+      solved_step count pivot (λ k. entry_of number c.args.shape.columns c.args.reduced.now k count) (slice_index (map number solution))
           (slice_index (map number (set solution (pivot row) value))) row
           (number-set_same number solution (pivot row) value (omega (arith, fits, same)) ∙ c.entry.ensures
-          ∙ ap (entry_of number c.args.columns c.args.reduced.now row) behind)
+          ∙ ap (entry_of number c.args.shape.columns c.args.reduced.now row) behind)
           (λ j other. number-set_other number solution (pivot row) j value other)
           (λ k before. c.requires.reduced.pivots_rise k row before below) c.loop-row.invariant.1,
     )

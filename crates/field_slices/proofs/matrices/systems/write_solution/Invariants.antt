@@ -9,5 +9,5 @@ abbrev pub invariant-loop-row : goal.invariant-loop-row
 invariant-loop-row g l =
     let number = g.S.Scalars.number in
     (length l.solution ≡ length l.fn.solution)
-    × SolvedBefore (length l.fn.solution) (slice_index l.pivots) (λ k. entry_of number l.columns l.reduced k (length l.fn.solution))
+    × SolvedBefore (length l.fn.solution) (slice_index l.pivots) (λ k. entry_of number l.shape.columns l.reduced k (length l.fn.solution))
     (slice_index (map number l.solution)) l.row
