@@ -13,7 +13,7 @@ mod systems;
 
 pub use crate::matrices::identities::identity_into;
 pub use crate::matrices::inverses::invert_beside;
-pub use crate::matrices::points::vandermonde_into;
+pub use crate::matrices::points::{cauchy_into, vandermonde_into};
 pub use crate::matrices::products::{multiply_into, transpose_into};
 pub use crate::matrices::reduction::{row_reduce, row_reduce_augmented};
 pub use crate::matrices::scalars::{Elements, Scalars};
