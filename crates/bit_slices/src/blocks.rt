@@ -68,23 +68,6 @@ fn change_blocks<W: TowerWord, T: Sliced, O: Operation<W, T>>(
     }
 }
 
-// Changes each word of the whole blocks, if there is one.
-#[inline(always)]
-fn change_any_blocks<W: TowerWord, T: Sliced, O: Operation<W, T>>(
-    words: &mut [W],
-    others: &[W],
-    blocks: usize,
-)
-    requires level { T.LEVEL ≡ W.LEVEL }
-    requires fits { blocks * (128 * T.units) ≤ length words.old }
-    requires reaches { (k : ℕ) → k < length words.old → O.reaches others.now k }
-    ensures { IsDoneUpTo (blocks * (128 * T.units)) (O.gives others.now) W.number words.old words.new }
-{
-    if blocks > 0 {
-        change_blocks::<W, T, O>(words, others, blocks);
-    }
-}
-
 /// Changes each word: whole blocks by slices of their bits, and the rest in a block of their own where that is faster than word by word.
 #[inline(always)]
 pub(crate) fn change_each<W: TowerWord, T: Sliced, O: Operation<W, T>>(
@@ -98,22 +81,10 @@ pub(crate) fn change_each<W: TowerWord, T: Sliced, O: Operation<W, T>>(
         (W.number (get_or words.new k d)) }
 {
     let blocks = words.len() / T::lanes();
-    change_any_blocks::<W, T, O>(words, others, blocks);
-    change_rest::<W, T, O>(words, others, blocks * T::lanes());
-}
-
-// Changes each word from `start` on.
-#[inline(always)]
-fn change_rest<W: TowerWord, T: Sliced, O: Operation<W, T>>(
-    words: &mut [W],
-    others: &[W],
-    start: usize,
-)
-    requires level { T.LEVEL ≡ W.LEVEL }
-    requires inside { start ≤ length words.old }
-    requires reaches { (k : ℕ) → k < length words.old → O.reaches others.now k }
-    ensures { IsDoneFrom start (O.gives others.now) W.number words.old words.new }
-{
+    if blocks > 0 {
+        change_blocks::<W, T, O>(words, others, blocks);
+    }
+    let start = blocks * T::lanes();
     let rest = words.len() - start;
     if T::lanes() == 128 && 0 < rest && rest <= 128 && O::pays(rest) {
         change_padded::<W, T, O>(words, others, start);
