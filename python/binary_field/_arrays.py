@@ -176,12 +176,16 @@ class FieldArray(Matrices):
         if sums is not self._words:
             self._words[...] = sums
 
-    def __add__(self: A, other: A | _Integers) -> A:
+    def _operated(self: A, operation: str, other: A | _Integers) -> A:
+        """The operation as an operator has it, which is left to some operands."""
         if type(other) is type(self):
-            return self._elementwise("add", other)  # type: ignore[arg-type]
+            return self._elementwise(operation, other)  # type: ignore[arg-type]
         if _is_left_to(other):
             return NotImplemented
-        return self._elementwise("add", self._other(other))
+        return self._elementwise(operation, self._other(other))
+
+    def __add__(self: A, other: A | _Integers) -> A:
+        return self._operated("add", other)
 
     __radd__ = __sub__ = __rsub__ = __add__
 
@@ -191,11 +195,7 @@ class FieldArray(Matrices):
     __isub__ = __iadd__
 
     def __mul__(self: A, other: A | _Integers) -> A:
-        if type(other) is type(self):
-            return self._elementwise("multiply", other)  # type: ignore[arg-type]
-        if _is_left_to(other):
-            return NotImplemented
-        return self._elementwise("multiply", self._other(other))
+        return self._operated("multiply", other)
 
     __rmul__ = __mul__
 
