@@ -242,17 +242,6 @@ module _ (shifts basis : List ℕ) (z : ℕ) (twiddles : AreCantorTwiddles 128 g
   one_shorter : suc (length basis) ≡ 40
   one_shorter = omega (arith, long)
 
-  -- the same two facts
-  pub ghash_all_leave : (old new : List ℕ) → length old ≡ 2 ^ m → ((p : ℕ) → slice_index new p < 2 ^ 128)
-      → AreLeft ghash_product shifts basis m 0 old new → HoldPolynomialValues z old new
-  ghash_all_leave =
-      all_leave 128 ghash_product ghash_cantor_vector (lit< tt) ghash_ring ghash_vectors shifts basis z 40 twiddles one_shorter m few
-
-  pub ghash_undone_leave : (old new : List ℕ) → length new ≡ 2 ^ m → ((p : ℕ) → slice_index old p < 2 ^ 128)
-      → AreUndone ghash_product shifts basis m m old new → HoldPolynomialValues z new old
-  ghash_undone_leave =
-      undone_leave 128 ghash_product ghash_cantor_vector (lit< tt) ghash_ring ghash_vectors shifts basis z 40 twiddles one_shorter m few
-
   -- the forward transform leaves the values where the four lowest stages were done in runs
   pub forward_leaves : (enough : 4 ≤ m) (low_shifts low_basis old now new : List ℕ) → low_shifts ≡ take 4 shifts → low_basis ≡ take (m - 1) basis
       → length old ≡ 2 ^ m → length now ≡ 2 ^ m → AreLeft ghash_product shifts basis m 4 old now → HoldSums low_shifts low_basis 0 now new

@@ -1,10 +1,9 @@
 // Transforms depth first: a slice that is too large for the first cache takes its highest stage alone, and then each of its halves takes
 // all the others before the next half does.
-ghost use Rattle.std.specs.Prelude.{◌≡◌, ◌+◌, ◌/◌, ◌^◌, ◌<◌, ◌≤◌, length, map};
-ghost use Rattle.additive_transforms.specs.Elements.{twiddle_basis};
+ghost use Rattle.std.specs.Prelude.{◌≡◌, ◌+◌, ◌/◌, ◌^◌, ◌<◌, ◌≤◌, length, map, slice_index};
+ghost use Rattle.additive_transforms.specs.Elements.{level_shifts, twiddle_basis};
 ghost use Rattle.additive_transforms.specs.Stages.{TakesStage};
 ghost use Rattle.additive_transforms.specs.Transform.{HasStages, TakesTransform};
-ghost use Rattle.ghash_slices.specs.Cantor.{subspace_value};
 
 use crate::elements::arithmetic::StageArithmetic;
 use crate::elements::stages::run_stage;
@@ -81,8 +80,8 @@ fn stage_of<K: StageArithmetic>(
     requires few { stages ≤ K.width }
     requires stage { stage < stages }
     ensures length { length values.new ≡ length values.old }
-    ensures stage { TakesStage inverse K.product (subspace_value K.product stage (K.number z)) (twiddle_basis K.width K.vector) stage
-        (length values.old / 2 ^ (stage + 1)) (map K.value values.old) (map K.value values.new) }
+    ensures stage { TakesStage inverse K.product (slice_index (level_shifts K.width K.product (K.number z)) stage)
+        (twiddle_basis K.width K.vector) stage (length values.old / 2 ^ (stage + 1)) (map K.value values.old) (map K.value values.new) }
 {
     run_stage::<K>(values, stage, K::shift(z, stage), inverse);
 }

@@ -1,10 +1,10 @@
-use Rattle.std.proofs.Common.{◌≡◌, ℕ, suc, ◌+◌, ◌-◌, ◌*◌, ◌^◌, ◌<◌, length, map, refl, sym, ◌∙◌, ap, subst, arith}
+use Rattle.std.proofs.Common.{◌≡◌, ℕ, suc, ◌+◌, ◌-◌, ◌*◌, ◌^◌, ◌<◌, length, map, refl, sym, ◌∙◌, ap, subst, arith, lit<}
 use Rattle.field_base.proofs.RemainderRing.{ghash_ring}
 use Rattle.ghash_slices.specs.LowStages.{ghash_product}
-use Rattle.ghash_slices.proofs.WordValues.{values_fit}
+use Rattle.ghash_slices.proofs.GhashVectors.{ghash_vectors}
 use Rattle.additive_transforms.specs.Stages.{AreLeft}
-use Rattle.additive_transforms.proofs.Counts.{block_count, half_count, half_counted, stage_room, whole_blocks}
-use Rattle.additive_transforms.proofs.WholeStages.{left_step}
+use Rattle.additive_transforms.proofs.Counts.{half_count, half_counted, stage_room, whole_blocks}
+use Rattle.additive_transforms.proofs.ElementStages.{forward_on}
 use Rattle.additive_transforms.proofs.whole.stages_down_to.Goals as goal
 
 -- before the first stage nothing is counted
@@ -15,42 +15,36 @@ start count stages half =
     same ∙ ap (λ (n : ℕ). count + n * half) (sym none)
 
 pub loop-stage-init : goal.loop-stage-init
-loop-stage-init g c = (refl, omega arith, (λ p inside. refl), start (g.K.Kernel.count c.args.kernel.now) c.args.stages (2 ^ (c.args.stages - 1)))
+loop-stage-init g c =
+    (omega arith, (refl, λ p inside. refl), start (g.K.Kernel.count c.args.kernel.now) c.args.stages (2 ^ (c.args.stages - 1)))
 
 pub run_stage-requires-clause-whole : goal.run_stage-requires-clause-whole
 run_stage-requires-clause-whole g c =
     whole_blocks c.args.stages (c.loop-stage.stage - 1) (length c.loop-stage.values) (omega arith)
-    (c.loop-stage.invariant.0 ∙ c.requires.stages.1)
+    (c.loop-stage.invariant.1.0 ∙ c.requires.stages.1)
 
 pub run_stage-requires-clause-room : goal.run_stage-requires-clause-room
 run_stage-requires-clause-room g c =
     let m = c.args.stages in
     let above : 0 < m = omega arith in
     let below : m - c.loop-stage.stage < m = omega arith in
-    let half = half_count m (length c.loop-stage.values) above (c.loop-stage.invariant.0 ∙ c.requires.stages.1) in
+    let half = half_count m (length c.loop-stage.values) above (c.loop-stage.invariant.1.0 ∙ c.requires.stages.1) in
     let room = stage_room (g.K.Kernel.count c.args.kernel.now) (g.K.Kernel.count c.loop-stage.kernel) (m - c.loop-stage.stage) m
-    (2 ^ (m - 1)) below c.requires.room c.loop-stage.invariant.3 in
+    (2 ^ (m - 1)) below c.requires.room c.loop-stage.invariant.2 in
     subst (λ (h : ℕ). g.K.Kernel.count c.loop-stage.kernel + h < 2 ^ 64) (sym half) room
 
 pub loop-stage-preserved : goal.loop-stage-preserved
 loop-stage-preserved g c =
     let m = c.args.stages in
     let stage = c.loop-stage.stage in
-    let value = g.K.Kernel.value in
     let twiddles = c.args.twiddles.now in
-    let is = c.loop-stage.invariant.0 ∙ c.requires.stages.1 in
-    let next : suc (stage - 1) ≡ stage = omega arith in
-    let below : stage - 1 < m = omega arith in
     let done : suc (m - stage) ≡ m - (stage - 1) = omega arith in (
-      c.run_stage.ensures.length ∙ c.loop-stage.invariant.0,
       omega arith,
-      left_step 128 ghash_product ghash_ring twiddles.shifts twiddles.basis m (stage - 1) _ (map value c.args.values.now)
-          (map value c.loop-stage.values) (map value c.run_stage.new.values) below (block_count m (stage - 1) _ below is)
-          (values_fit 128 value g.K.Kernel.range_law c.loop-stage.values) c.run_stage.ensures.stage
-          (subst (λ (n : ℕ). AreLeft ghash_product twiddles.shifts twiddles.basis m n (map value c.args.values.now)
-          (map value c.loop-stage.values))
-          (sym next) c.loop-stage.invariant.2),
-      half_counted _ _ _ (m - stage) m _ (omega arith) is c.loop-stage.invariant.3 c.run_stage.ensures.count
+      forward_on (lit< tt) ghash_ring ghash_vectors twiddles.are (ap suc twiddles.reach) g.K.Kernel.value g.K.Kernel.range_law
+          c.requires.stages.0 c.args.values.now c.requires.stages stage c.loop-stage.values c.run_stage.new.values (omega arith) (omega arith)
+          c.run_stage.ensures.length c.run_stage.ensures.stage c.loop-stage.invariant.1,
+      half_counted _ _ _ (m - stage) m _ (omega arith) (c.loop-stage.invariant.1.0 ∙ c.requires.stages.1) c.loop-stage.invariant.2
+          c.run_stage.ensures.count
           ∙ ap (λ (n : ℕ). g.K.Kernel.count c.args.kernel.now + n * 2 ^ (m - 1)) done,
     )
 
@@ -59,9 +53,9 @@ returns-clause-left g c =
     let value = g.K.Kernel.value in
     let last : c.loop-stage.stage ≡ c.args.lowest = omega arith in
     subst (λ (n : ℕ). AreLeft ghash_product c.args.twiddles.now.shifts c.args.twiddles.now.basis c.args.stages n
-    (map value c.args.values.now) (map value c.loop-stage.values)) last c.loop-stage.invariant.2
+    (map value c.args.values.now) (map value c.loop-stage.values)) last c.loop-stage.invariant.1.1
 
 pub returns-clause-count : goal.returns-clause-count
 returns-clause-count g c =
     let last : c.args.stages - c.loop-stage.stage ≡ c.args.stages - c.args.lowest = omega arith in
-    c.loop-stage.invariant.3 ∙ ap (λ (n : ℕ). g.K.Kernel.count c.args.kernel.now + n * 2 ^ (c.args.stages - 1)) last
+    c.loop-stage.invariant.2 ∙ ap (λ (n : ℕ). g.K.Kernel.count c.args.kernel.now + n * 2 ^ (c.args.stages - 1)) last

@@ -1,3 +1,4 @@
+use Rattle.additive_transforms.specs.Elements.{level_shifts, twiddle_basis}
 use Rattle.additive_transforms.proofs.ElementStages.{ForwardSoFar, InverseSoFar}
 use Rattle.additive_transforms.proofs.elements.halves.run_stages.Given as goal
 
@@ -5,10 +6,12 @@ use Rattle.additive_transforms.proofs.elements.halves.run_stages.Given as goal
 abbrev pub invariant-loop-stage : goal.invariant-loop-stage
 invariant-loop-stage g l =
     let by = g.K.StageArithmetic in
-    InverseSoFar by.width by.product by.vector (by.number l.z) by.value l.stages l.stage l.fn.values l.values
+    InverseSoFar by.product (level_shifts by.width by.product (by.number l.z)) (twiddle_basis by.width by.vector) by.value l.stages l.stage
+    l.fn.values l.values
 
 -- the stages from this one on are done
 abbrev pub invariant-loop-stage-2 : goal.invariant-loop-stage-2
 invariant-loop-stage-2 g l =
     let by = g.K.StageArithmetic in
-    ForwardSoFar by.width by.product by.vector (by.number l.z) by.value l.stages l.stage l.fn.values l.values
+    ForwardSoFar by.product (level_shifts by.width by.product (by.number l.z)) (twiddle_basis by.width by.vector) by.value l.stages l.stage
+    l.fn.values l.values
