@@ -28,6 +28,10 @@ module _ (n : ℕ) (A : ℕ → ℕ → ℕ) (i j : ℕ) where
   pub beside-right : n ≤ j → beside_identity n A i j ≡ identity_entry i (j - n)
   beside-right past = ap (λ (b : Bool). if b then A i j else identity_entry i (j - n)) (le-ltb j n past)
 
+-- with nothing on its left it is the identity matrix
+pub beside-none : (A : ℕ → ℕ → ℕ) (i j : ℕ) → beside_identity 0 A i j ≡ identity_entry i j
+beside-none A i j = let own : j - 0 ≡ j = omega arith in beside-right 0 A i j (omega arith) ∙ ap (identity_entry i) own
+
 -- it depends only on the left half
 pub beside-same : (n : ℕ) (A B : ℕ → ℕ → ℕ) (i j : ℕ) → (j < n → A i j ≡ B i j) → beside_identity n A i j ≡ beside_identity n B i j
 beside-same n A B i j same =
@@ -39,7 +43,7 @@ beside-same n A B i j same =
 -- ---- all columns
 
 -- rising columns move apart at least as their rows do
-rising-apart : (r : ℕ) (p : ℕ → ℕ) → ((i k : ℕ) → i < k → k < r → p i < p k) → (k d : ℕ) → k + d < r → p k + d ≤ p (k + d)
+pub rising-apart : (r : ℕ) (p : ℕ → ℕ) → ((i k : ℕ) → i < k → k < r → p i < p k) → (k d : ℕ) → k + d < r → p k + d ≤ p (k + d)
 rising-apart r p rises k zero within =
     let same : k + 0 ≡ k = omega arith in let is = ap p same in omega (arith, is)
 rising-apart r p rises k (suc d) within =

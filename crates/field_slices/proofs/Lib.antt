@@ -11,6 +11,7 @@ pub mod LaneLists
 pub mod LinearSystems
 pub mod MatrixRows
 pub mod MixedDots
+pub mod NullSpaces
 pub mod PackedPowers
 pub mod Places
 pub mod PowerLists

@@ -37,7 +37,7 @@ module _ (count : ℕ) (pivot right x : ℕ → ℕ) where
       apart k before = λ e. let rise = rises k before in absurd (omega (arith, rise, e))
 
 module _ (width : ℕ) (times : ℕ → ℕ → ℕ) (ring : IsRing width 1 times) where
-  sum_of_nothing : (x : ℕ → ℕ) (n : ℕ) → sum_below (λ j. times 0 (x j)) n ≡ 0
+  pub sum_of_nothing : (x : ℕ → ℕ) (n : ℕ) → sum_below (λ j. times 0 (x j)) n ≡ 0
   unfolding sum_below
   sum_of_nothing x zero = refl
   sum_of_nothing x (suc n) = ap₂ bit_xor (sum_of_nothing x n) (zero-times width 1 times ring (x n))

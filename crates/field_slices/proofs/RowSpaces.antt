@@ -11,7 +11,7 @@ use Rattle.field_base.proofs.RingLemmas.{xor_left_comm, sum_times, times-zero, z
 use Rattle.field_slices.specs.Matrices.{HaveSameRowSpace, IsRowCombination, identity_entry}
 
 -- (a + b) + (c + d) = (a + c) + (b + d)
-sums_exchange : (a b c d : ℕ) → bit_xor (bit_xor a b) (bit_xor c d) ≡ bit_xor (bit_xor a c) (bit_xor b d)
+pub sums_exchange : (a b c d : ℕ) → bit_xor (bit_xor a b) (bit_xor c d) ≡ bit_xor (bit_xor a c) (bit_xor b d)
 sums_exchange a b c d =
     xor_assoc a b (bit_xor c d) ∙ ap (bit_xor a) (xor_left_comm b c d) ∙ sym (xor_assoc a c (bit_xor b d))
 

@@ -1,7 +1,7 @@
 -- Matrices over a field whose elements are numbers (K. Hoffman and R. Kunze, Linear Algebra, chapters 1 and 2; R. Lidl and
 -- H. Niederreiter, Finite Fields, chapter 1). A matrix is the function of its entries: row i and column j, both from 0, give A i j. A sum
 -- is `bit_xor`, and `times` the product of the field.
-use Rattle.std.specs.Prelude.{◌≡◌, ◌≢◌, ◌↔◌, ◌⊎◌, ◌==◌, ℕ, ◌+◌, ◌-◌, ◌*◌, ◌^◌, ◌<◌, ◌≤◌, List, bit_xor, if◌then◌else◌, length, map, nat_lt, slice_index}
+use Rattle.std.specs.Prelude.{◌≡◌, ◌≢◌, ◌↔◌, ◌⊎◌, ◌==◌, ℕ, zero, suc, ◌+◌, ◌-◌, ◌*◌, ◌^◌, ◌<◌, ◌≤◌, List, bit_xor, if◌then◌else◌, length, map, nat_lt, slice_index}
 use Rattle.field_base.specs.Basis.{sum_below}
 use Rattle.field_base.specs.Ring.{IsRing}
 
@@ -63,6 +63,26 @@ ReducedEchelonIsUnique = (width : ℕ) (times : ℕ → ℕ → ℕ) (rows colum
     → IsRing width 1 times → ((i j : ℕ) → A i j < 2 ^ width) → ((i j : ℕ) → B i j < 2 ^ width)
     → IsReducedEchelon rows columns r p A → IsReducedEchelon rows columns s q B → HaveSameRowSpace times rows columns A B
     → (r ≡ s) × ((i : ℕ) → i < r → p i ≡ q i) × ((i j : ℕ) → i < rows → j < columns → A i j ≡ B i j)
+
+-- ---- null spaces
+
+-- A x = 0 (Hoffman and Kunze, section 1.2)
+abbrev pub IsNullVector : (ℕ → ℕ → ℕ) → ℕ → ℕ → (ℕ → ℕ → ℕ) → (ℕ → ℕ) → Type 0
+IsNullVector times rows columns A x = (i : ℕ) → i < rows → sum_below (λ j. times (A i j) (x j)) columns ≡ 0
+
+-- the first `count` rows of B are a basis of the null space of A (Hoffman and Kunze, sections 2.3 and 3.1)
+pub record IsNullBasis (width : ℕ) (times : ℕ → ℕ → ℕ) (rows columns count : ℕ) (A B : ℕ → ℕ → ℕ) : Type 0 where
+  -- they lie in it, and what lies in it is a combination of them
+  pub null : (q : ℕ) → q < count → IsNullVector times rows columns A (B q)
+  pub spans : (x : ℕ → ℕ) → ((j : ℕ) → x j < 2 ^ width) → IsNullVector times rows columns A x → IsRowCombination times count columns B x
+  -- each has a column where it is 1 and the others are 0, so that none is a combination of the others
+  pub alone : (q : ℕ) → q < count → (f : ℕ) × (f < columns) × ((m : ℕ) → m < count → B m f ≡ identity_entry m q)
+
+-- entry j of the vector of column f, of the first n columns of leading entries: 1 for j = f, what row k has in column f where j is the
+-- column of its leading entry, and else 0
+unfoldable pub null_entry : (ℕ → ℕ) → (ℕ → ℕ → ℕ) → ℕ → ℕ → ℕ → ℕ
+null_entry pivot A f zero j = identity_entry f j
+null_entry pivot A f (suc n) j = if j == pivot n then A n f else null_entry pivot A f n j
 
 -- ---- what functions that read and write a matrix need and leave
 

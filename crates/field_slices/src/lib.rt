@@ -1,8 +1,8 @@
 //! Many elements at once, over any field or ring of `field_base`: batch inversion, sums and products of slices, and powers; a slice as
 //! packings and back; and polynomials over any field: values in one variable by coefficients or by values at the first elements,
 //! multilinear polynomials by their values at the corners of the cube {0, 1}^n, and the rounds of sum-check for a product of two of these;
-//! and matrices over any field: identity matrices and those of Vandermonde and Cauchy, products, reduced row echelon form, inverses and
-//! linear equations.
+//! and matrices over any field: identity matrices and those of Vandermonde and Cauchy, products, reduced row echelon form, null spaces,
+//! inverses and linear equations.
 #![tactic(auto)]
 
 mod cube;

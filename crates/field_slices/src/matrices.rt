@@ -4,6 +4,7 @@
 
 mod identities;
 mod inverses;
+mod null_spaces;
 mod points;
 mod products;
 mod reduction;
@@ -13,6 +14,7 @@ mod systems;
 
 pub use crate::matrices::identities::identity_into;
 pub use crate::matrices::inverses::invert_beside;
+pub use crate::matrices::null_spaces::null_space_into;
 pub use crate::matrices::points::{cauchy_into, vandermonde_into};
 pub use crate::matrices::products::{multiply_into, transpose_into};
 pub use crate::matrices::reduction::{row_reduce, row_reduce_augmented};

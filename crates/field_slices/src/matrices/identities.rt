@@ -27,19 +27,24 @@ pub(crate) fn write_identity<S: Scalars>(matrix: &mut [S::Value], shape: Shape, 
         ≡ beside_identity from (entry_of S.number shape.columns matrix.old) i j }
 {
     for row in 0..shape.rows {
-        write_identity_row::<S>(matrix, shape, row, from);
+        write_identity_row::<S>(matrix, shape, row, from, row);
     }
 }
 
-// Writes a row of it.
-fn write_identity_row<S: Scalars>(matrix: &mut [S::Value], shape: Shape, row: usize, from: usize)
-    requires columns { shape.columns ≡ from + shape.rows }
-    requires row { HasMatrixRow shape.rows shape.columns row (length matrix.old) }
-    ensures { IsRowWritten S.number shape.columns row (beside_identity from (entry_of S.number shape.columns matrix.old) row)
-        matrix.old matrix.new }
+// Writes row `place` of an identity matrix to the columns of a row from `from` on.
+pub(crate) fn write_identity_row<S: Scalars>(
+    matrix: &mut [S::Value],
+    shape: Shape,
+    row: usize,
+    from: usize,
+    place: usize,
+)
+    requires { HasMatrixRow shape.rows shape.columns row (length matrix.old) }
+    ensures { IsRowWritten S.number shape.columns row
+        (beside_identity from (λ i. entry_of S.number shape.columns matrix.old row) place) matrix.old matrix.new }
 {
     for column in from..shape.columns {
-        let value = identity_value::<S>(row, column - from);
+        let value = identity_value::<S>(place, column - from);
         set_entry::<S>(matrix, shape, row, column, value);
     }
 }

@@ -1,4 +1,4 @@
-use Rattle.std.proofs.Common.{arith}
+use Rattle.std.proofs.Common.{ℕ, arith}
 use Rattle.field_slices.specs.Matrices.{beside_identity, entry_of}
 use Rattle.field_slices.proofs.MatrixRows.{rows_start, rows_step, rows_end}
 use Rattle.field_slices.proofs.InverseMatrices.{beside-same}
@@ -17,7 +17,7 @@ loop-row-preserved g c =
     let so_far = c.loop-row.invariant in
     rows_step so_far
     (λ j inside.
-    beside-same c.args.from (entries c.loop-row.matrix) (entries c.args.matrix.now) row j
+    beside-same c.args.from (λ (i : ℕ). entries c.loop-row.matrix row) (entries c.args.matrix.now) row j
     (λ within. so_far.rest row j (omega arith) inside)) c.write_identity_row.ensures
 
 pub returns-clause-entries : goal.returns-clause-entries
