@@ -45,9 +45,9 @@ generator      slices::generator          NamesGenerator
 CALLS = {row[0]: row[1:3] for row in CALL_ROWS}
 OPERATIONS = {row[0]: row[3] for row in CALL_ROWS if len(row) > 3}
 
-# The calls by one scalar, which the levels of the tower of 8 to 128 bits make in planes, and the planes of these levels.
+# The calls by one scalar that levels of the tower of 8 to 128 bits make in planes.
 IN_PLANES = ("multiply_by", "multiply_by_in_place", "add_scaled")
-PLANES = {"t8": "Planes8", "t16": "Planes16", "t32": "Planes32", "t64": "Planes64", "t128": "Planes128"}
+PLANED = ("t8", "t16", "t32", "t64", "t128")
 
 # The products and inverses of levels of the tower that go by slices of bits, which pay from 16 bits on, and the functions that they call.
 IN_SLICES = {"multiply": "multiply", "multiply_in_place": "multiply_in_place", "inverse": "invert", "inverse_in_place": "invert_in_place"}
@@ -216,7 +216,12 @@ def function(name, parameters, text, called, clause, more=(), inside=()):
 
 def called_over(field, call, more=""):
     """The call of a function over any field: its stored word, the word of its slices, its kernel, and what is found by the arguments."""
-    return f"{call}::<{STORED.get(field.word, field.word)}, {WORDS.get(field.word, field.word)}, {field.kernel}{more}>"
+    return called_over_words(field, call, f"{WORDS.get(field.word, field.word)}, {field.kernel}{more}")
+
+
+def called_over_words(field, call, more):
+    """The call of a function over fields: its stored word, and then what else names the field."""
+    return f"{call}::<{STORED.get(field.word, field.word)}, {more}>"
 
 
 def of_width(call, vector):
@@ -229,7 +234,7 @@ def called_in_vectors(field, name, vector):
     if name in OWN_CALLS.get(field.name, {}):
         return of_width(OWN_CALLS[field.name][name], vector)
     if name in IN_SLICES and field.name in SLICED:
-        return called_over(field, f"in_slices::{IN_SLICES[name]}", f", {vector}")
+        return called_over_words(field, f"in_slices::{IN_SLICES[name]}", f"{field.kernel}, {vector}")
     return None
 
 
@@ -242,8 +247,8 @@ def field_function(field, name, parameters, text):
     in_vectors = called_in_vectors(field, alike, NARROW)
     if in_vectors:
         called, more = in_vectors, []
-    elif name in IN_PLANES and field.name in PLANES:
-        called, more = called_over(field, f"in_planes::{name}", f", _, {PLANES[field.name]}"), []
+    elif name in IN_PLANES and field.name in PLANED:
+        called, more = called_over_words(field, f"in_planes::{name}", field.kernel), []
     elif operation:
         called, more = called_over(field, call, ", _"), [f"&{operation} {{ {inside[0]} }}" if inside else f"&{operation}"]
     else:
@@ -309,7 +314,7 @@ def in_order(name):
 def used(bodies):
     """The line that brings in what bodies and signatures name without a path."""
     operations = sorted({it for it in OPERATIONS.values() if re.search(rf"&{it}\b", bodies)})
-    names = set(re.findall(r"[&\[]&?(Wide|Cubic)\b|<\w+, \w+, (\w+)(?:<(\w+)>)?(?:, _)?(?:, (\w+))?>|\b(slices)::|\b(in_place)::|\b(in_planes)::|\b(in_slices)::|\b(batch_invert)\b", bodies))
+    names = set(re.findall(r"[&\[]&?(Wide|Cubic)\b|<\w+,(?: \w+,)? (\w+)(?:<(\w+)>)?(?:, \w+)?>|\b(slices)::|\b(in_place)::|\b(in_planes)::|\b(in_slices)::|\b(batch_invert)\b", bodies))
     words = [*WORDS.values(), *STORED.values()]
     named = {it for group in names for it in group if it} | {it for it in words if re.search(rf"\b{it}\b", bodies)}
     named -= {NARROW, WIDE}

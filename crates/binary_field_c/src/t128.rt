@@ -5,7 +5,7 @@ ghost use Rattle.c_arithmetic.specs.Calls.{Squares, TakesDotProduct, TakesProduc
 ghost use Rattle.c_arithmetic.specs.Fields.{wide_level_field};
 
 use c_arithmetic::operations::{Power, Square, SquareRoot, Sum};
-use c_arithmetic::{Bits128, Planes128, Tower, Wide, in_place, in_planes, in_slices, slices};
+use c_arithmetic::{Bits128, Tower, Wide, in_place, in_planes, in_slices, slices};
 use std::simd::prelude::*;
 
 /// The sum of the elements at each place.
@@ -21,7 +21,7 @@ pub extern "C" fn bf_t128_add(left: &[Wide], right: &[Wide], sums: &mut [Wide]) 
 pub extern "C" fn bf_t128_multiply(left: &[Wide], right: &[Wide], products: &mut [Wide]) -> u32
     ensures { Multiplies wide_level_field left.now right.now products.old products.new result }
 {
-    in_slices::multiply::<u128, Wide, Tower<Bits128>, u64x2>(left, right, products)
+    in_slices::multiply::<u128, Tower<Bits128>, u64x2>(left, right, products)
 }
 
 /// The product of each element and the scalar.
@@ -29,7 +29,7 @@ pub extern "C" fn bf_t128_multiply(left: &[Wide], right: &[Wide], products: &mut
 pub extern "C" fn bf_t128_multiply_by(values: &[Wide], scalar: &Wide, products: &mut [Wide]) -> u32
     ensures { MultipliesBy wide_level_field scalar.now values.now products.old products.new result }
 {
-    in_planes::multiply_by::<u128, Wide, Tower<Bits128>, _, Planes128>(values, *scalar, products)
+    in_planes::multiply_by::<u128, Tower<Bits128>>(values, *scalar, products)
 }
 
 /// Adds to each element of sums the scalar times the value at its place.
@@ -37,7 +37,7 @@ pub extern "C" fn bf_t128_multiply_by(values: &[Wide], scalar: &Wide, products: 
 pub extern "C" fn bf_t128_add_scaled(sums: &mut [Wide], scalar: &Wide, values: &[Wide]) -> u32
     ensures { AddsScaled wide_level_field scalar.now values.now sums.old sums.new result }
 {
-    in_planes::add_scaled::<u128, Wide, Tower<Bits128>, _, Planes128>(sums, *scalar, values)
+    in_planes::add_scaled::<u128, Tower<Bits128>>(sums, *scalar, values)
 }
 
 /// The square of each element.
@@ -53,7 +53,7 @@ pub extern "C" fn bf_t128_square(values: &[Wide], squares: &mut [Wide]) -> u32
 pub extern "C" fn bf_t128_inverse(values: &[Wide], inverses: &mut [Wide]) -> u32
     ensures { Inverts wide_level_field values.now inverses.old inverses.new result }
 {
-    in_slices::invert::<u128, Wide, Tower<Bits128>, u64x2>(values, inverses)
+    in_slices::invert::<u128, Tower<Bits128>, u64x2>(values, inverses)
 }
 
 /// The same as inverse; in p64 and g128 by one inverse and three products an element.
@@ -61,7 +61,7 @@ pub extern "C" fn bf_t128_inverse(values: &[Wide], inverses: &mut [Wide]) -> u32
 pub extern "C" fn bf_t128_batch_inverse(values: &[Wide], inverses: &mut [Wide]) -> u32
     ensures { Inverts wide_level_field values.now inverses.old inverses.new result }
 {
-    in_slices::invert::<u128, Wide, Tower<Bits128>, u64x2>(values, inverses)
+    in_slices::invert::<u128, Tower<Bits128>, u64x2>(values, inverses)
 }
 
 /// The square root of each element.
@@ -121,7 +121,7 @@ pub extern "C" fn bf_t128_add_in_place(sums: &mut [Wide], values: &[Wide]) -> u3
 pub extern "C" fn bf_t128_multiply_in_place(products: &mut [Wide], values: &[Wide]) -> u32
     ensures { Multiplies wide_level_field products.old values.now products.old products.new result }
 {
-    in_slices::multiply_in_place::<u128, Wide, Tower<Bits128>, u64x2>(products, values)
+    in_slices::multiply_in_place::<u128, Tower<Bits128>, u64x2>(products, values)
 }
 
 /// Multiplies each element by the scalar.
@@ -129,7 +129,7 @@ pub extern "C" fn bf_t128_multiply_in_place(products: &mut [Wide], values: &[Wid
 pub extern "C" fn bf_t128_multiply_by_in_place(values: &mut [Wide], scalar: &Wide) -> u32
     ensures { MultipliesBy wide_level_field scalar.now values.old values.old values.new result }
 {
-    in_planes::multiply_by_in_place::<u128, Wide, Tower<Bits128>, _, Planes128>(values, *scalar)
+    in_planes::multiply_by_in_place::<u128, Tower<Bits128>>(values, *scalar)
 }
 
 /// Squares each element.
@@ -145,7 +145,7 @@ pub extern "C" fn bf_t128_square_in_place(values: &mut [Wide]) -> u32
 pub extern "C" fn bf_t128_inverse_in_place(values: &mut [Wide]) -> u32
     ensures { Inverts wide_level_field values.old values.old values.new result }
 {
-    in_slices::invert_in_place::<u128, Wide, Tower<Bits128>, u64x2>(values)
+    in_slices::invert_in_place::<u128, Tower<Bits128>, u64x2>(values)
 }
 
 /// Leaves the square root of each element.

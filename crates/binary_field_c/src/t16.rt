@@ -5,7 +5,7 @@ ghost use Rattle.c_arithmetic.specs.Calls.{Squares, TakesDotProduct, TakesProduc
 ghost use Rattle.c_arithmetic.specs.Fields.{level_field};
 
 use c_arithmetic::operations::{Power, Square, SquareRoot, Sum};
-use c_arithmetic::{Bits16, Planes16, Tower, in_place, in_planes, in_slices, slices};
+use c_arithmetic::{Bits16, Tower, in_place, in_planes, in_slices, slices};
 use std::simd::prelude::*;
 
 /// The sum of the elements at each place.
@@ -21,7 +21,7 @@ pub extern "C" fn bf_t16_add(left: &[u16], right: &[u16], sums: &mut [u16]) -> u
 pub extern "C" fn bf_t16_multiply(left: &[u16], right: &[u16], products: &mut [u16]) -> u32
     ensures { Multiplies (level_field 4) left.now right.now products.old products.new result }
 {
-    in_slices::multiply::<u16, u16, Tower<Bits16>, u64x2>(left, right, products)
+    in_slices::multiply::<u16, Tower<Bits16>, u64x2>(left, right, products)
 }
 
 /// The product of each element and the scalar.
@@ -29,7 +29,7 @@ pub extern "C" fn bf_t16_multiply(left: &[u16], right: &[u16], products: &mut [u
 pub extern "C" fn bf_t16_multiply_by(values: &[u16], scalar: u16, products: &mut [u16]) -> u32
     ensures { MultipliesBy (level_field 4) scalar values.now products.old products.new result }
 {
-    in_planes::multiply_by::<u16, u16, Tower<Bits16>, _, Planes16>(values, scalar, products)
+    in_planes::multiply_by::<u16, Tower<Bits16>>(values, scalar, products)
 }
 
 /// Adds to each element of sums the scalar times the value at its place.
@@ -37,7 +37,7 @@ pub extern "C" fn bf_t16_multiply_by(values: &[u16], scalar: u16, products: &mut
 pub extern "C" fn bf_t16_add_scaled(sums: &mut [u16], scalar: u16, values: &[u16]) -> u32
     ensures { AddsScaled (level_field 4) scalar values.now sums.old sums.new result }
 {
-    in_planes::add_scaled::<u16, u16, Tower<Bits16>, _, Planes16>(sums, scalar, values)
+    in_planes::add_scaled::<u16, Tower<Bits16>>(sums, scalar, values)
 }
 
 /// The square of each element.
@@ -53,7 +53,7 @@ pub extern "C" fn bf_t16_square(values: &[u16], squares: &mut [u16]) -> u32
 pub extern "C" fn bf_t16_inverse(values: &[u16], inverses: &mut [u16]) -> u32
     ensures { Inverts (level_field 4) values.now inverses.old inverses.new result }
 {
-    in_slices::invert::<u16, u16, Tower<Bits16>, u64x2>(values, inverses)
+    in_slices::invert::<u16, Tower<Bits16>, u64x2>(values, inverses)
 }
 
 /// The same as inverse; in p64 and g128 by one inverse and three products an element.
@@ -61,7 +61,7 @@ pub extern "C" fn bf_t16_inverse(values: &[u16], inverses: &mut [u16]) -> u32
 pub extern "C" fn bf_t16_batch_inverse(values: &[u16], inverses: &mut [u16]) -> u32
     ensures { Inverts (level_field 4) values.now inverses.old inverses.new result }
 {
-    in_slices::invert::<u16, u16, Tower<Bits16>, u64x2>(values, inverses)
+    in_slices::invert::<u16, Tower<Bits16>, u64x2>(values, inverses)
 }
 
 /// The square root of each element.
@@ -117,7 +117,7 @@ pub extern "C" fn bf_t16_add_in_place(sums: &mut [u16], values: &[u16]) -> u32
 pub extern "C" fn bf_t16_multiply_in_place(products: &mut [u16], values: &[u16]) -> u32
     ensures { Multiplies (level_field 4) products.old values.now products.old products.new result }
 {
-    in_slices::multiply_in_place::<u16, u16, Tower<Bits16>, u64x2>(products, values)
+    in_slices::multiply_in_place::<u16, Tower<Bits16>, u64x2>(products, values)
 }
 
 /// Multiplies each element by the scalar.
@@ -125,7 +125,7 @@ pub extern "C" fn bf_t16_multiply_in_place(products: &mut [u16], values: &[u16])
 pub extern "C" fn bf_t16_multiply_by_in_place(values: &mut [u16], scalar: u16) -> u32
     ensures { MultipliesBy (level_field 4) scalar values.old values.old values.new result }
 {
-    in_planes::multiply_by_in_place::<u16, u16, Tower<Bits16>, _, Planes16>(values, scalar)
+    in_planes::multiply_by_in_place::<u16, Tower<Bits16>>(values, scalar)
 }
 
 /// Squares each element.
@@ -141,7 +141,7 @@ pub extern "C" fn bf_t16_square_in_place(values: &mut [u16]) -> u32
 pub extern "C" fn bf_t16_inverse_in_place(values: &mut [u16]) -> u32
     ensures { Inverts (level_field 4) values.old values.old values.new result }
 {
-    in_slices::invert_in_place::<u16, u16, Tower<Bits16>, u64x2>(values)
+    in_slices::invert_in_place::<u16, Tower<Bits16>, u64x2>(values)
 }
 
 /// Leaves the square root of each element.

@@ -5,7 +5,7 @@ ghost use Rattle.c_arithmetic.specs.Calls.{Squares, TakesDotProduct, TakesProduc
 ghost use Rattle.c_arithmetic.specs.Fields.{level_field};
 
 use c_arithmetic::operations::{Power, Square, SquareRoot, Sum};
-use c_arithmetic::{Bits32, Planes32, Tower, in_place, in_planes, in_slices, slices};
+use c_arithmetic::{Bits32, Tower, in_place, in_planes, in_slices, slices};
 use std::simd::prelude::*;
 
 /// The sum of the elements at each place.
@@ -21,7 +21,7 @@ pub extern "C" fn bf_t32_add(left: &[u32], right: &[u32], sums: &mut [u32]) -> u
 pub extern "C" fn bf_t32_multiply(left: &[u32], right: &[u32], products: &mut [u32]) -> u32
     ensures { Multiplies (level_field 5) left.now right.now products.old products.new result }
 {
-    in_slices::multiply::<u32, u32, Tower<Bits32>, u64x2>(left, right, products)
+    in_slices::multiply::<u32, Tower<Bits32>, u64x2>(left, right, products)
 }
 
 /// The product of each element and the scalar.
@@ -29,7 +29,7 @@ pub extern "C" fn bf_t32_multiply(left: &[u32], right: &[u32], products: &mut [u
 pub extern "C" fn bf_t32_multiply_by(values: &[u32], scalar: u32, products: &mut [u32]) -> u32
     ensures { MultipliesBy (level_field 5) scalar values.now products.old products.new result }
 {
-    in_planes::multiply_by::<u32, u32, Tower<Bits32>, _, Planes32>(values, scalar, products)
+    in_planes::multiply_by::<u32, Tower<Bits32>>(values, scalar, products)
 }
 
 /// Adds to each element of sums the scalar times the value at its place.
@@ -37,7 +37,7 @@ pub extern "C" fn bf_t32_multiply_by(values: &[u32], scalar: u32, products: &mut
 pub extern "C" fn bf_t32_add_scaled(sums: &mut [u32], scalar: u32, values: &[u32]) -> u32
     ensures { AddsScaled (level_field 5) scalar values.now sums.old sums.new result }
 {
-    in_planes::add_scaled::<u32, u32, Tower<Bits32>, _, Planes32>(sums, scalar, values)
+    in_planes::add_scaled::<u32, Tower<Bits32>>(sums, scalar, values)
 }
 
 /// The square of each element.
@@ -53,7 +53,7 @@ pub extern "C" fn bf_t32_square(values: &[u32], squares: &mut [u32]) -> u32
 pub extern "C" fn bf_t32_inverse(values: &[u32], inverses: &mut [u32]) -> u32
     ensures { Inverts (level_field 5) values.now inverses.old inverses.new result }
 {
-    in_slices::invert::<u32, u32, Tower<Bits32>, u64x2>(values, inverses)
+    in_slices::invert::<u32, Tower<Bits32>, u64x2>(values, inverses)
 }
 
 /// The same as inverse; in p64 and g128 by one inverse and three products an element.
@@ -61,7 +61,7 @@ pub extern "C" fn bf_t32_inverse(values: &[u32], inverses: &mut [u32]) -> u32
 pub extern "C" fn bf_t32_batch_inverse(values: &[u32], inverses: &mut [u32]) -> u32
     ensures { Inverts (level_field 5) values.now inverses.old inverses.new result }
 {
-    in_slices::invert::<u32, u32, Tower<Bits32>, u64x2>(values, inverses)
+    in_slices::invert::<u32, Tower<Bits32>, u64x2>(values, inverses)
 }
 
 /// The square root of each element.
@@ -117,7 +117,7 @@ pub extern "C" fn bf_t32_add_in_place(sums: &mut [u32], values: &[u32]) -> u32
 pub extern "C" fn bf_t32_multiply_in_place(products: &mut [u32], values: &[u32]) -> u32
     ensures { Multiplies (level_field 5) products.old values.now products.old products.new result }
 {
-    in_slices::multiply_in_place::<u32, u32, Tower<Bits32>, u64x2>(products, values)
+    in_slices::multiply_in_place::<u32, Tower<Bits32>, u64x2>(products, values)
 }
 
 /// Multiplies each element by the scalar.
@@ -125,7 +125,7 @@ pub extern "C" fn bf_t32_multiply_in_place(products: &mut [u32], values: &[u32])
 pub extern "C" fn bf_t32_multiply_by_in_place(values: &mut [u32], scalar: u32) -> u32
     ensures { MultipliesBy (level_field 5) scalar values.old values.old values.new result }
 {
-    in_planes::multiply_by_in_place::<u32, u32, Tower<Bits32>, _, Planes32>(values, scalar)
+    in_planes::multiply_by_in_place::<u32, Tower<Bits32>>(values, scalar)
 }
 
 /// Squares each element.
@@ -141,7 +141,7 @@ pub extern "C" fn bf_t32_square_in_place(values: &mut [u32]) -> u32
 pub extern "C" fn bf_t32_inverse_in_place(values: &mut [u32]) -> u32
     ensures { Inverts (level_field 5) values.old values.old values.new result }
 {
-    in_slices::invert_in_place::<u32, u32, Tower<Bits32>, u64x2>(values)
+    in_slices::invert_in_place::<u32, Tower<Bits32>, u64x2>(values)
 }
 
 /// Leaves the square root of each element.

@@ -5,7 +5,7 @@ ghost use Rattle.c_arithmetic.specs.Calls.{Squares, TakesDotProduct, TakesProduc
 ghost use Rattle.c_arithmetic.specs.Fields.{level_field};
 
 use c_arithmetic::operations::{Power, Square, SquareRoot, Sum};
-use c_arithmetic::{Bits64, Planes64, Tower, in_place, in_planes, in_slices, slices};
+use c_arithmetic::{Bits64, Tower, in_place, in_planes, in_slices, slices};
 use std::simd::prelude::*;
 
 /// The sum of the elements at each place.
@@ -21,7 +21,7 @@ pub extern "C" fn bf_t64_add(left: &[u64], right: &[u64], sums: &mut [u64]) -> u
 pub extern "C" fn bf_t64_multiply(left: &[u64], right: &[u64], products: &mut [u64]) -> u32
     ensures { Multiplies (level_field 6) left.now right.now products.old products.new result }
 {
-    in_slices::multiply::<u64, u64, Tower<Bits64>, u64x2>(left, right, products)
+    in_slices::multiply::<u64, Tower<Bits64>, u64x2>(left, right, products)
 }
 
 /// The product of each element and the scalar.
@@ -29,7 +29,7 @@ pub extern "C" fn bf_t64_multiply(left: &[u64], right: &[u64], products: &mut [u
 pub extern "C" fn bf_t64_multiply_by(values: &[u64], scalar: u64, products: &mut [u64]) -> u32
     ensures { MultipliesBy (level_field 6) scalar values.now products.old products.new result }
 {
-    in_planes::multiply_by::<u64, u64, Tower<Bits64>, _, Planes64>(values, scalar, products)
+    in_planes::multiply_by::<u64, Tower<Bits64>>(values, scalar, products)
 }
 
 /// Adds to each element of sums the scalar times the value at its place.
@@ -37,7 +37,7 @@ pub extern "C" fn bf_t64_multiply_by(values: &[u64], scalar: u64, products: &mut
 pub extern "C" fn bf_t64_add_scaled(sums: &mut [u64], scalar: u64, values: &[u64]) -> u32
     ensures { AddsScaled (level_field 6) scalar values.now sums.old sums.new result }
 {
-    in_planes::add_scaled::<u64, u64, Tower<Bits64>, _, Planes64>(sums, scalar, values)
+    in_planes::add_scaled::<u64, Tower<Bits64>>(sums, scalar, values)
 }
 
 /// The square of each element.
@@ -53,7 +53,7 @@ pub extern "C" fn bf_t64_square(values: &[u64], squares: &mut [u64]) -> u32
 pub extern "C" fn bf_t64_inverse(values: &[u64], inverses: &mut [u64]) -> u32
     ensures { Inverts (level_field 6) values.now inverses.old inverses.new result }
 {
-    in_slices::invert::<u64, u64, Tower<Bits64>, u64x2>(values, inverses)
+    in_slices::invert::<u64, Tower<Bits64>, u64x2>(values, inverses)
 }
 
 /// The same as inverse; in p64 and g128 by one inverse and three products an element.
@@ -61,7 +61,7 @@ pub extern "C" fn bf_t64_inverse(values: &[u64], inverses: &mut [u64]) -> u32
 pub extern "C" fn bf_t64_batch_inverse(values: &[u64], inverses: &mut [u64]) -> u32
     ensures { Inverts (level_field 6) values.now inverses.old inverses.new result }
 {
-    in_slices::invert::<u64, u64, Tower<Bits64>, u64x2>(values, inverses)
+    in_slices::invert::<u64, Tower<Bits64>, u64x2>(values, inverses)
 }
 
 /// The square root of each element.
@@ -117,7 +117,7 @@ pub extern "C" fn bf_t64_add_in_place(sums: &mut [u64], values: &[u64]) -> u32
 pub extern "C" fn bf_t64_multiply_in_place(products: &mut [u64], values: &[u64]) -> u32
     ensures { Multiplies (level_field 6) products.old values.now products.old products.new result }
 {
-    in_slices::multiply_in_place::<u64, u64, Tower<Bits64>, u64x2>(products, values)
+    in_slices::multiply_in_place::<u64, Tower<Bits64>, u64x2>(products, values)
 }
 
 /// Multiplies each element by the scalar.
@@ -125,7 +125,7 @@ pub extern "C" fn bf_t64_multiply_in_place(products: &mut [u64], values: &[u64])
 pub extern "C" fn bf_t64_multiply_by_in_place(values: &mut [u64], scalar: u64) -> u32
     ensures { MultipliesBy (level_field 6) scalar values.old values.old values.new result }
 {
-    in_planes::multiply_by_in_place::<u64, u64, Tower<Bits64>, _, Planes64>(values, scalar)
+    in_planes::multiply_by_in_place::<u64, Tower<Bits64>>(values, scalar)
 }
 
 /// Squares each element.
@@ -141,7 +141,7 @@ pub extern "C" fn bf_t64_square_in_place(values: &mut [u64]) -> u32
 pub extern "C" fn bf_t64_inverse_in_place(values: &mut [u64]) -> u32
     ensures { Inverts (level_field 6) values.old values.old values.new result }
 {
-    in_slices::invert_in_place::<u64, u64, Tower<Bits64>, u64x2>(values)
+    in_slices::invert_in_place::<u64, Tower<Bits64>, u64x2>(values)
 }
 
 /// Leaves the square root of each element.

@@ -5,7 +5,7 @@ ghost use Rattle.c_arithmetic.specs.Calls.{Squares, TakesDotProduct, TakesProduc
 ghost use Rattle.c_arithmetic.specs.Fields.{level_field};
 
 use c_arithmetic::operations::{Inverse, Power, Product, Square, SquareRoot, Sum};
-use c_arithmetic::{Bits8, Planes8, Tower, in_place, in_planes, slices};
+use c_arithmetic::{Bits8, Tower, in_place, in_planes, slices};
 
 /// The sum of the elements at each place.
 #[unsafe(no_mangle)]
@@ -28,7 +28,7 @@ pub extern "C" fn bf_t8_multiply(left: &[u8], right: &[u8], products: &mut [u8])
 pub extern "C" fn bf_t8_multiply_by(values: &[u8], scalar: u8, products: &mut [u8]) -> u32
     ensures { MultipliesBy (level_field 3) scalar values.now products.old products.new result }
 {
-    in_planes::multiply_by::<u8, u8, Tower<Bits8>, _, Planes8>(values, scalar, products)
+    in_planes::multiply_by::<u8, Tower<Bits8>>(values, scalar, products)
 }
 
 /// Adds to each element of sums the scalar times the value at its place.
@@ -36,7 +36,7 @@ pub extern "C" fn bf_t8_multiply_by(values: &[u8], scalar: u8, products: &mut [u
 pub extern "C" fn bf_t8_add_scaled(sums: &mut [u8], scalar: u8, values: &[u8]) -> u32
     ensures { AddsScaled (level_field 3) scalar values.now sums.old sums.new result }
 {
-    in_planes::add_scaled::<u8, u8, Tower<Bits8>, _, Planes8>(sums, scalar, values)
+    in_planes::add_scaled::<u8, Tower<Bits8>>(sums, scalar, values)
 }
 
 /// The square of each element.
@@ -124,7 +124,7 @@ pub extern "C" fn bf_t8_multiply_in_place(products: &mut [u8], values: &[u8]) ->
 pub extern "C" fn bf_t8_multiply_by_in_place(values: &mut [u8], scalar: u8) -> u32
     ensures { MultipliesBy (level_field 3) scalar values.old values.old values.new result }
 {
-    in_planes::multiply_by_in_place::<u8, u8, Tower<Bits8>, _, Planes8>(values, scalar)
+    in_planes::multiply_by_in_place::<u8, Tower<Bits8>>(values, scalar)
 }
 
 /// Squares each element.

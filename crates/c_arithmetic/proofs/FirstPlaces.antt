@@ -60,6 +60,13 @@ module _ {W : Type 0} (number : W → ℕ) (value : ℕ → W → ℕ) where
           subst (λ (p : ℕ). number (get_or (set mid n word) p d) ≡ value p d) same
           (ap number (get_or-set_same mid n word d (omega (arith, inside, long))) ∙ holds d)
 
+  -- where no place is left, all words are so
+  pub all_hold : (n : ℕ) (old new : List W) → FirstHold number n value old new → length old ≤ n
+      → FirstHold number (length old) value old new
+  all_hold n old new are over =
+      let few = are.few in
+      subst (λ (m : ℕ). FirstHold number m value old new) (omega (arith, few, over)) are
+
 -- numbers of elements fit
 pub all_fit : {W : Type 0} (number : W → ℕ) (words : List W) (bound : ℕ) → 0 < bound
     → ((k : ℕ) → k < length words → (d : W) → number (get_or words k d) < bound)

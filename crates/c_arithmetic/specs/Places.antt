@@ -1,5 +1,5 @@
 -- Slices of words whose first words are changed, and fields whose words are changed in planes and in slices of bits.
-use Rattle.std.specs.Prelude.{◌≡◌, ℕ, ◌^◌, ◌<◌, ◌≤◌, List, length, get_or}
+use Rattle.std.specs.Prelude.{◌≡◌, ℕ, ◌^◌, ◌<◌, ◌≤◌, List, length, get_or, refl}
 use Rattle.field_base.specs.Tower.{tower_mul}
 use Rattle.tower_transforms.specs.Rows.{level_of}
 
@@ -10,11 +10,19 @@ pub record IsInPlanes (d size width : ℕ) (product : ℕ → ℕ → ℕ) : Typ
   pub few : width ≤ 128
   pub product_is : (x y : ℕ) → product x y ≡ tower_mul (level_of d) x y
 
+-- so it is where the field is that level
+pub level_in_planes : (d : ℕ) → 2 ^ level_of d ≤ 128 → IsInPlanes d d (2 ^ level_of d) (tower_mul (level_of d))
+level_in_planes d few = record { size_is = refl; width_is = refl; few = few; product_is = λ x y. refl }
+
 -- a field of so many bits and such a product is level k of the tower, in which words stand for the same numbers
 pub record IsInSlices {W : Type 0} (k width : ℕ) (product : ℕ → ℕ → ℕ) (number level_number : W → ℕ) : Type 0 where
   pub width_is : width ≡ 2 ^ k
   pub product_is : (x y : ℕ) → product x y ≡ tower_mul k x y
   pub number_is : (x : W) → number x ≡ level_number x
+
+-- so it is where the field is that level
+pub level_in_slices : {W : Type 0} → (k : ℕ) → (number : W → ℕ) → IsInSlices k (2 ^ k) (tower_mul k) number number
+level_in_slices k number = record { width_is = refl; product_is = λ x y. refl; number_is = λ x. refl }
 
 -- the first n words stand for these values, and the others for what they stood for
 pub record FirstHold {W : Type 0} (number : W → ℕ) (n : ℕ) (value : ℕ → W → ℕ) (old new : List W) : Type 0 where

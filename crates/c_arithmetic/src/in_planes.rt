@@ -1,200 +1,239 @@
 // Arithmetic by one scalar on slices of words of a level of the tower, many words at once: in planes, of which each has a byte of each
 // word. The scalar's multiples are made once, and few words are multiplied one after another.
 ghost use Rattle.std.specs.Prelude.{◌≡◌, ◌<◌, ◌^◌, bit_xor, get_or, length};
+ghost use Rattle.std.proofs.Common.{lit≤};
 ghost use Rattle.c_arithmetic.specs.Calls.{AddsScaled, AreElements, MultipliesBy};
 ghost use Rattle.c_arithmetic.specs.Fields.{field_of};
-ghost use Rattle.c_arithmetic.specs.Places.{FirstHold, IsInPlanes};
+ghost use Rattle.c_arithmetic.specs.Places.{FirstHold, IsInPlanes, level_in_planes};
 
 use crate::slices::are_elements;
-use crate::{fields, slices, status};
+use crate::{Wide, fields, slices, status};
 use field_base::{FieldKernel, Unsigned};
 use std::simd::prelude::*;
-use tower_transforms::{Pair, PlaneScalars, WordBytes, WordPlanes, add_multiples, multiply_words};
+use tower_transforms::{
+    ByteMultiples, HalfMultiples, Holds, Pair, PlaneScalars, WordBytes, WordPlanes, add_multiples,
+    multiply_words,
+};
+use word_tower::{Bits8, Bits16, Bits32, Bits64, Bits128, Tower};
 
-/// The planes of words of 8 bits, thirty-two at once.
-pub type Planes8 = u8x32;
+/// A field that is a level of the tower, its words, and the planes that it multiplies them in.
+pub trait FieldInPlanes<R: Unsigned>: FieldKernel<R> {
+    /// The words.
+    type Word: WordBytes<R>;
 
-/// Those of words of 16 bits.
-pub type Planes16 = Pair<Planes8>;
+    /// The multiples of a scalar.
+    type Multiples: Copy;
 
-/// Those of words of 32 bits.
-pub type Planes32 = Pair<Planes16>;
+    /// The planes, of as many words as a vector has bytes.
+    type Vectors: WordPlanes<R, Self::Word, Self::Multiples> + PlaneScalars<Self::Multiples>;
 
-/// Those of words of 64 bits.
-pub type Planes64 = Pair<Planes32>;
+    // The words are of this level.
+    ghost level_law: { IsInPlanes Self.Vectors.Planes.depth Self.Word.size Self.width Self.product };
+}
 
-/// Those of words of 128 bits.
-pub type Planes128 = Pair<Planes64>;
+// The planes of words of 8 to 128 bits, thirty-two words at once, and the multiples of a scalar.
+type Planes8 = u8x32;
+
+type Planes16 = Pair<Planes8>;
+
+type Planes32 = Pair<Planes16>;
+
+type Planes64 = Pair<Planes32>;
+
+type Planes128 = Pair<Planes64>;
+
+type Multiples8 = ByteMultiples;
+
+type Multiples16 = HalfMultiples<Multiples8>;
+
+type Multiples32 = HalfMultiples<Multiples16>;
+
+type Multiples64 = HalfMultiples<Multiples32>;
+
+type Multiples128 = HalfMultiples<Multiples64>;
+
+impl FieldInPlanes<u8> for Tower<Bits8> {
+    type Word = u8;
+
+    type Multiples = Multiples8;
+
+    type Vectors = Planes8;
+
+    ghost level_law = { level_in_planes 0 (lit≤ tt) };
+}
+
+impl FieldInPlanes<u16> for Tower<Bits16> {
+    type Word = u16;
+
+    type Multiples = Multiples16;
+
+    type Vectors = Planes16;
+
+    ghost level_law = { level_in_planes 1 (lit≤ tt) };
+}
+
+impl FieldInPlanes<u32> for Tower<Bits32> {
+    type Word = u32;
+
+    type Multiples = Multiples32;
+
+    type Vectors = Planes32;
+
+    ghost level_law = { level_in_planes 2 (lit≤ tt) };
+}
+
+impl FieldInPlanes<u64> for Tower<Bits64> {
+    type Word = u64;
+
+    type Multiples = Multiples64;
+
+    type Vectors = Planes64;
+
+    ghost level_law = { level_in_planes 3 (lit≤ tt) };
+}
+
+impl FieldInPlanes<u128> for Tower<Bits128> {
+    type Word = Wide;
+
+    type Multiples = Multiples128;
+
+    type Vectors = Planes128;
+
+    ghost level_law = { level_in_planes 4 (lit≤ tt) };
+}
 
 /// The least number of words that are multiplied in planes.
 const LEAST_IN_PLANES: usize = 32;
 
 /// Writes the product of each word and the scalar.
 #[inline]
-pub fn multiply_by<
-    R: Unsigned,
-    W: WordBytes<R>,
-    K: FieldKernel<R>,
-    M: Copy,
-    P: WordPlanes<R, W, M> + PlaneScalars<M>,
->(words: &[W], scalar: W, products: &mut [W]) -> u32
-    requires level { IsInPlanes P.Planes.depth W.size K.width K.product }
-    ensures { MultipliesBy (field_of W.Holds.number K.width K.product K.generator) scalar words.now products.old products.new result }
+pub fn multiply_by<R: Unsigned, K: FieldInPlanes<R>>(
+    words: &[K::Word],
+    scalar: K::Word,
+    products: &mut [K::Word],
+) -> u32
+    ensures { MultipliesBy (field_of K.Word.Holds.number K.width K.product K.generator) scalar words.now products.old products.new result }
 {
     if words.len() < LEAST_IN_PLANES {
-        return slices::multiply_by::<R, W, K>(words, scalar, products);
+        return slices::multiply_by::<R, K::Word, K>(words, scalar, products);
     }
     if words.len() != products.len() {
         return status::LENGTH;
     }
-    if !fields::is_element::<R, W, K>(scalar) || !are_elements::<R, W, K>(words) {
+    if !fields::is_element::<R, K::Word, K>(scalar) || !are_elements::<R, K::Word, K>(words) {
         return status::NOT_AN_ELEMENT;
     }
     products.copy_from_slice(words);
-    multiply_all::<R, W, K, M, P>(products, scalar);
+    multiply_all::<R, K>(products, scalar);
     status::OK
 }
 
 /// Multiplies each word by the scalar.
 #[inline]
-pub fn multiply_by_in_place<
-    R: Unsigned,
-    W: WordBytes<R>,
-    K: FieldKernel<R>,
-    M: Copy,
-    P: WordPlanes<R, W, M> + PlaneScalars<M>,
->(words: &mut [W], scalar: W) -> u32
-    requires level { IsInPlanes P.Planes.depth W.size K.width K.product }
-    ensures { MultipliesBy (field_of W.Holds.number K.width K.product K.generator) scalar words.old words.old words.new result }
+pub fn multiply_by_in_place<R: Unsigned, K: FieldInPlanes<R>>(
+    words: &mut [K::Word],
+    scalar: K::Word,
+) -> u32
+    ensures { MultipliesBy (field_of K.Word.Holds.number K.width K.product K.generator) scalar words.old words.old words.new result }
 {
-    if !fields::is_element::<R, W, K>(scalar) || !are_elements::<R, W, K>(words) {
+    if !fields::is_element::<R, K::Word, K>(scalar) || !are_elements::<R, K::Word, K>(words) {
         return status::NOT_AN_ELEMENT;
     }
-    multiply_all::<R, W, K, M, P>(words, scalar);
+    multiply_all::<R, K>(words, scalar);
     status::OK
 }
 
 /// Adds to each sum the product of the scalar and the word at its place.
 #[inline]
-pub fn add_scaled<
-    R: Unsigned,
-    W: WordBytes<R>,
-    K: FieldKernel<R>,
-    M: Copy,
-    P: WordPlanes<R, W, M> + PlaneScalars<M>,
->(sums: &mut [W], scalar: W, words: &[W]) -> u32
-    requires level { IsInPlanes P.Planes.depth W.size K.width K.product }
-    ensures { AddsScaled (field_of W.Holds.number K.width K.product K.generator) scalar words.now sums.old sums.new result }
+pub fn add_scaled<R: Unsigned, K: FieldInPlanes<R>>(
+    sums: &mut [K::Word],
+    scalar: K::Word,
+    words: &[K::Word],
+) -> u32
+    ensures { AddsScaled (field_of K.Word.Holds.number K.width K.product K.generator) scalar words.now sums.old sums.new result }
 {
     if words.len() != sums.len() {
         return status::LENGTH;
     }
-    if !fields::is_element::<R, W, K>(scalar)
-        || !are_elements::<R, W, K>(sums)
-        || !are_elements::<R, W, K>(words)
+    if !fields::is_element::<R, K::Word, K>(scalar)
+        || !are_elements::<R, K::Word, K>(sums)
+        || !are_elements::<R, K::Word, K>(words)
     {
         return status::NOT_AN_ELEMENT;
     }
-    add_all::<R, W, K, M, P>(sums, words, scalar);
+    add_all::<R, K>(sums, words, scalar);
     status::OK
 }
 
 // Multiplies each word by the scalar, an element.
-fn multiply_all<
-    R: Unsigned,
-    W: WordBytes<R>,
-    K: FieldKernel<R>,
-    M: Copy,
-    P: WordPlanes<R, W, M> + PlaneScalars<M>,
->(words: &mut [W], scalar: W)
-    requires level { IsInPlanes P.Planes.depth W.size K.width K.product }
-    requires fits { W.Holds.number scalar < 2 ^ K.width }
-    ensures { FirstHold W.Holds.number (length words.old)
-        (λ k d. K.product (W.Holds.number (get_or words.old k d)) (W.Holds.number scalar)) words.old words.new }
+fn multiply_all<R: Unsigned, K: FieldInPlanes<R>>(words: &mut [K::Word], scalar: K::Word)
+    requires fits { K.Word.Holds.number scalar < 2 ^ K.width }
+    ensures { FirstHold K.Word.Holds.number (length words.old)
+        (λ k d. K.product (K.Word.Holds.number (get_or words.old k d)) (K.Word.Holds.number scalar)) words.old words.new }
 {
-    let done = multiply_first::<R, W, K, M, P>(words, scalar);
+    let done = multiply_first::<R, K>(words, scalar);
     for place in done..words.len() {
-        words[place] = fields::multiply::<R, W, K>(words[place], scalar);
+        words[place] = fields::multiply::<R, K::Word, K>(words[place], scalar);
     }
 }
 
 // Multiplies the first words by the scalar, as many as fill vectors, and returns how many.
-fn multiply_first<
-    R: Unsigned,
-    W: WordBytes<R>,
-    K: FieldKernel<R>,
-    M: Copy,
-    P: WordPlanes<R, W, M> + PlaneScalars<M>,
->(words: &mut [W], scalar: W) -> usize
-    requires level { IsInPlanes P.Planes.depth W.size K.width K.product }
-    requires fits { W.Holds.number scalar < 2 ^ K.width }
-    ensures { FirstHold W.Holds.number result (λ k d. K.product (W.Holds.number (get_or words.old k d)) (W.Holds.number scalar)) words.old
-        words.new }
+fn multiply_first<R: Unsigned, K: FieldInPlanes<R>>(words: &mut [K::Word], scalar: K::Word) -> usize
+    requires fits { K.Word.Holds.number scalar < 2 ^ K.width }
+    ensures { FirstHold K.Word.Holds.number result
+        (λ k d. K.product (K.Word.Holds.number (get_or words.old k d)) (K.Word.Holds.number scalar)) words.old words.new }
 {
     if words.len() < LEAST_IN_PLANES {
         return 0;
     }
-    let multiples = multiples_of::<R, W, K, M, P>(scalar);
-    multiply_words::<R, W, M, P>(words, &multiples)
+    let multiples = multiples_of::<R, K>(scalar);
+    multiply_words::<R, K::Word, K::Multiples, K::Vectors>(words, &multiples)
 }
 
 // Adds to each sum the product of the scalar, an element, and the word at its place.
-fn add_all<
-    R: Unsigned,
-    W: WordBytes<R>,
-    K: FieldKernel<R>,
-    M: Copy,
-    P: WordPlanes<R, W, M> + PlaneScalars<M>,
->(sums: &mut [W], words: &[W], scalar: W)
-    requires level { IsInPlanes P.Planes.depth W.size K.width K.product }
-    requires fits { W.Holds.number scalar < 2 ^ K.width }
+fn add_all<R: Unsigned, K: FieldInPlanes<R>>(
+    sums: &mut [K::Word],
+    words: &[K::Word],
+    scalar: K::Word,
+)
+    requires fits { K.Word.Holds.number scalar < 2 ^ K.width }
     requires same { length words.now ≡ length sums.old }
-    requires elements { AreElements (field_of W.Holds.number K.width K.product K.generator) sums.old }
-    ensures { FirstHold W.Holds.number (length sums.old)
-        (λ k d. bit_xor (W.Holds.number (get_or sums.old k d)) (K.product (W.Holds.number scalar) (W.Holds.number (get_or words.now k d))))
-        sums.old sums.new }
+    requires elements { AreElements (field_of K.Word.Holds.number K.width K.product K.generator) sums.old }
+    ensures { FirstHold K.Word.Holds.number (length sums.old)
+        (λ k d. bit_xor (K.Word.Holds.number (get_or sums.old k d))
+        (K.product (K.Word.Holds.number scalar) (K.Word.Holds.number (get_or words.now k d)))) sums.old sums.new }
 {
-    let done = add_first::<R, W, K, M, P>(sums, words, scalar);
+    let done = add_first::<R, K>(sums, words, scalar);
     for place in done..sums.len() {
-        let product = fields::multiply::<R, W, K>(scalar, words[place]);
-        sums[place] = fields::add::<R, W>(sums[place], product);
+        let product = fields::multiply::<R, K::Word, K>(scalar, words[place]);
+        sums[place] = fields::add::<R, K::Word>(sums[place], product);
     }
 }
 
 // Adds the products of the first words, as many as fill vectors, and returns how many.
-fn add_first<
-    R: Unsigned,
-    W: WordBytes<R>,
-    K: FieldKernel<R>,
-    M: Copy,
-    P: WordPlanes<R, W, M> + PlaneScalars<M>,
->(sums: &mut [W], words: &[W], scalar: W) -> usize
-    requires level { IsInPlanes P.Planes.depth W.size K.width K.product }
-    requires fits { W.Holds.number scalar < 2 ^ K.width }
+fn add_first<R: Unsigned, K: FieldInPlanes<R>>(
+    sums: &mut [K::Word],
+    words: &[K::Word],
+    scalar: K::Word,
+) -> usize
+    requires fits { K.Word.Holds.number scalar < 2 ^ K.width }
     requires same { length words.now ≡ length sums.old }
-    requires elements { AreElements (field_of W.Holds.number K.width K.product K.generator) sums.old }
-    ensures { FirstHold W.Holds.number result
-        (λ k d. bit_xor (W.Holds.number (get_or sums.old k d)) (K.product (W.Holds.number scalar) (W.Holds.number (get_or words.now k d))))
-        sums.old sums.new }
+    requires elements { AreElements (field_of K.Word.Holds.number K.width K.product K.generator) sums.old }
+    ensures { FirstHold K.Word.Holds.number result
+        (λ k d. bit_xor (K.Word.Holds.number (get_or sums.old k d))
+        (K.product (K.Word.Holds.number scalar) (K.Word.Holds.number (get_or words.now k d)))) sums.old sums.new }
 {
     if words.len() < LEAST_IN_PLANES {
         return 0;
     }
-    let multiples = multiples_of::<R, W, K, M, P>(scalar);
-    add_multiples::<R, W, M, P>(sums, words, &multiples)
+    let multiples = multiples_of::<R, K>(scalar);
+    add_multiples::<R, K::Word, K::Multiples, K::Vectors>(sums, words, &multiples)
 }
 
 // The multiples of a scalar, an element.
-fn multiples_of<
-    R: Unsigned,
-    W: WordBytes<R>,
-    K: FieldKernel<R>,
-    M: Copy,
-    P: WordPlanes<R, W, M> + PlaneScalars<M>,
->(scalar: W) -> M
-    requires level { IsInPlanes P.Planes.depth W.size K.width K.product }
-    requires fits { W.Holds.number scalar < 2 ^ K.width }
-    ensures { P.Planes.are_multiples result (W.Holds.number scalar) }
+fn multiples_of<R: Unsigned, K: FieldInPlanes<R>>(scalar: K::Word) -> K::Multiples
+    requires fits { K.Word.Holds.number scalar < 2 ^ K.width }
+    ensures { K.Vectors.Planes.are_multiples result (K.Word.Holds.number scalar) }
 {
-    P::multiples(scalar.stored().to_u128(), K::bits() as u32)
+    K::Vectors::multiples(scalar.stored().to_u128(), K::bits() as u32)
 }

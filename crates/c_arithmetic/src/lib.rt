@@ -28,7 +28,6 @@ mod words;
 
 pub use crate::batch::batch_invert;
 pub use crate::bytes::multiply_bytes;
-pub use crate::in_planes::{Planes8, Planes16, Planes32, Planes64, Planes128};
 pub use crate::kernels::Basis;
 pub use crate::linear::{map_bytes, map_wide};
 pub use crate::messages::{
