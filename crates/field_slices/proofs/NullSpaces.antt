@@ -8,12 +8,12 @@ use Rattle.field_base.specs.Ring.{IsRing}
 use Rattle.field_base.proofs.BasisSums.{sum_below-same}
 use Rattle.field_base.proofs.PowerLemmas.{times-one}
 use Rattle.field_base.proofs.RingLemmas.{times-zero, zero-times}
-use Rattle.field_slices.specs.Matrices.{IsEntryWritten, IsNullBasis, IsNullVector, IsReducedEchelon, IsRowWritten}
+use Rattle.field_slices.specs.Matrices.{HaveSameRowSpace, IsEntryWritten, IsNullBasis, IsNullVector, IsReducedEchelon, IsRowWritten, NullSpaceIsKept}
 use Rattle.field_slices.specs.Matrices.{beside_identity, entry_of, identity_entry, null_entry}
 use Rattle.field_slices.proofs.InverseMatrices.{beside-none, rising-apart}
 use Rattle.field_slices.proofs.LagrangeSteps.{sum-more}
 use Rattle.field_slices.proofs.LinearSystems.{sum_of_nothing}
-use Rattle.field_slices.proofs.RowSpaces.{identity-only, only, only-same, only-other, only-after, sums_exchange}
+use Rattle.field_slices.proofs.RowSpaces.{identity-only, only, only-same, only-other, only-after, sum_with, sums_exchange, combination_row}
 use Rattle.field_slices.proofs.EchelonUniqueness.{find-pivot}
 
 -- ---- the vector of a column
@@ -502,3 +502,31 @@ module _ (width : ℕ) (times : ℕ → ℕ → ℕ) (ring : IsRing width 1 time
               let sum = whole.spans x in (sum.0, λ j inside. sym (vectors-span x x_fits null j inside) ∙ sum.1 j inside);
           alone = λ q below. let row = whole.rows_are q below in (row.column, row.before, row.alone);
         }
+
+-- ---- matrices with the same row space
+
+module _ (width : ℕ) (times : ℕ → ℕ → ℕ) (ring : IsRing width 1 times) (rows columns : ℕ) where
+  -- what a matrix takes to 0 each combination of its rows does
+  null-combination : (A : ℕ → ℕ → ℕ) (x : ℕ → ℕ) → IsNullVector times rows columns A x → (c : ℕ → ℕ) (n : ℕ) → n ≤ rows
+      → sum_below (λ j. times (sum_below (λ k. times (c k) (A k j)) n) (x j)) columns ≡ 0
+  unfolding sum_below
+  null-combination A x null c zero few = sum_of_nothing width times ring x columns
+  null-combination A x null c (suc n) few =
+      sum_with width times ring (λ j. sum_below (λ k. times (c k) (A k j)) n) (A n) x (c n) columns
+      ∙ ap₂ bit_xor (null-combination A x null c n (omega (arith, few)))
+      (ap (times (c n)) (null n (omega (arith, few))) ∙ times-zero width 1 times ring (c n))
+      ∙ zero-sum 0
+
+  null_passes : (A B : ℕ → ℕ → ℕ) → ((i j : ℕ) → B i j < 2 ^ width) → HaveSameRowSpace times rows columns A B → (x : ℕ → ℕ)
+      → IsNullVector times rows columns A x → IsNullVector times rows columns B x
+  null_passes A B B_fits same x null i inside =
+      let row = (same (B i)).1 (combination_row width times ring rows columns B B_fits i (B i) inside (λ j _. refl)) in
+      sum_below-same (λ j. times (B i j) (x j)) (λ j. times (sum_below (λ k. times (row.0 k) (A k j)) rows) (x j)) columns
+      (λ j j_inside. ap (λ (z : ℕ). times z (x j)) (row.1 j j_inside))
+      ∙ null-combination A x null row.0 rows (omega arith)
+
+pub null_is_kept : NullSpaceIsKept
+null_is_kept width times rows columns A B ring A_fits B_fits same x = (
+  null_passes width times ring rows columns A B B_fits same x,
+  null_passes width times ring rows columns B A A_fits (λ v. ((same v).1, (same v).0)) x,
+)

@@ -70,6 +70,12 @@ ReducedEchelonIsUnique = (width : ℕ) (times : ℕ → ℕ → ℕ) (rows colum
 abbrev pub IsNullVector : (ℕ → ℕ → ℕ) → ℕ → ℕ → (ℕ → ℕ → ℕ) → (ℕ → ℕ) → Type 0
 IsNullVector times rows columns A x = (i : ℕ) → i < rows → sum_below (λ j. times (A i j) (x j)) columns ≡ 0
 
+-- what matrices with the same row space take to 0 is the same (Hoffman and Kunze, section 1.3)
+abbrev pub NullSpaceIsKept : Type 0
+NullSpaceIsKept = (width : ℕ) (times : ℕ → ℕ → ℕ) (rows columns : ℕ) (A B : ℕ → ℕ → ℕ) → IsRing width 1 times
+    → ((i j : ℕ) → A i j < 2 ^ width) → ((i j : ℕ) → B i j < 2 ^ width) → HaveSameRowSpace times rows columns A B
+    → (x : ℕ → ℕ) → IsNullVector times rows columns A x ↔ IsNullVector times rows columns B x
+
 -- the first `count` rows of B are a basis of the null space of A (Hoffman and Kunze, sections 2.3 and 3.1)
 pub record IsNullBasis (width : ℕ) (times : ℕ → ℕ → ℕ) (rows columns count : ℕ) (A B : ℕ → ℕ → ℕ) : Type 0 where
   -- they lie in it, and what lies in it is a combination of them

@@ -1,5 +1,5 @@
 // Laws of values of multilinear polynomials and of matrices, as contracts of functions that compute nothing.
-ghost use Rattle.field_slices.specs.Matrices.{ReducedEchelonIsUnique};
+ghost use Rattle.field_slices.specs.Matrices.{NullSpaceIsKept, ReducedEchelonIsUnique};
 ghost use Rattle.field_slices.specs.Multilinear.{ExtendsCornerValues, FirstCoordinateIsLinear, FoldingEvaluates};
 
 /// States that what folding by every coordinate leaves is the value of the polynomial at the point.
@@ -20,4 +20,9 @@ pub fn corner_values_extend()
 /// States that two matrices in reduced row echelon form whose rows span the same space are equal.
 pub fn reduced_echelon_is_unique()
     ensures { ReducedEchelonIsUnique }
+{}
+
+/// States that matrices whose rows span the same space take the same vectors to 0, so that row operations keep the null space.
+pub fn null_space_is_kept()
+    ensures { NullSpaceIsKept }
 {}

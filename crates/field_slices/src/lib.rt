@@ -23,7 +23,8 @@ pub use crate::inversion::{
     batch_multiplicative_inverse_into,
 };
 pub use crate::laws::{
-    corner_values_extend, first_coordinate_is_linear, folding_evaluates, reduced_echelon_is_unique,
+    corner_values_extend, first_coordinate_is_linear, folding_evaluates, null_space_is_kept,
+    reduced_echelon_is_unique,
 };
 pub use crate::nodes::interpolate_at_nodes;
 pub use crate::packings::powers::{packed_powers, packed_powers_vec};
