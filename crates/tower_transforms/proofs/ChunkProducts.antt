@@ -282,23 +282,26 @@ odd_next : (h i : ℕ) → 2 * (h + i) + 1 ≡ 2 * h + (2 * i + 1)
 odd_next h i = omega arith
 
 -- so elements are exchanged in a vector where they are in both halves
-pub two_exchanged : (d h : ℕ) (old old_a old_b a b : List ℕ) → 2 ^ d * (2 * h) ≡ 16
-    → (old ≡ old_a ++ old_b) × (length old_a ≡ 16) × (length old_b ≡ 16) → length a ≡ 16
-    → AreExchanged d old_a a → AreExchanged d old_b b → AreExchanged d old (a ++ b)
-two_exchanged d h old old_a old_b a b size parts long first second =
-    subst (λ (l : List ℕ). AreExchanged d l (a ++ b)) (sym parts.0) (record {
+pub two_exchanged : (d h : ℕ) (old new old_a old_b a b : List ℕ) → 2 ^ d * (2 * h) ≡ 16 → length old ≡ 32
+    → ((x y : List ℕ) → length x ≡ 16 → length y ≡ 16 → old ≡ x ++ y → (old_a ≡ x) × (old_b ≡ y)) → length a ≡ 16 → new ≡ a ++ b
+    → AreExchanged d old_a a → AreExchanged d old_b b → AreExchanged d old new
+two_exchanged d h old new old_a old_b a b size count halves long joined first second =
+    let parts = halved old old_a old_b count halves in
+    subst (λ (l : List ℕ). AreExchanged d l new) (sym parts.0) (subst (AreExchanged d (old_a ++ old_b)) (sym joined) (record {
       low = two_taken d h (λ i. 2 * i) (λ i. 2 * i + 1) old_a old_b a b size even_small odd_small (even_next h) (odd_next h) parts.1 long first.low second.low;
       high = two_taken d h (λ i. 2 * i + 1) (λ i. 2 * i) old_a old_b a b size odd_small even_small (odd_next h) (even_next h) parts.1 long first.high second.high;
-    })
+    }))
 
 -- and taken from two vectors
-pub two_merged : (d h : ℕ) (lows highs low_a low_b high_a high_b a b : List ℕ) → 2 ^ d * (2 * h) ≡ 16
-    → (lows ≡ low_a ++ low_b) × (length low_a ≡ 16) × (length low_b ≡ 16)
-    → (highs ≡ high_a ++ high_b) × (length high_a ≡ 16) × (length high_b ≡ 16) → length a ≡ 16
-    → AreMerged d low_a high_a a → AreMerged d low_b high_b b → AreMerged d lows highs (a ++ b)
-two_merged d h lows highs low_a low_b high_a high_b a b size low_parts high_parts long first second =
-    subst (λ (l : List ℕ). AreMerged d l highs (a ++ b)) (sym low_parts.0)
-    (subst (λ (l : List ℕ). AreMerged d (low_a ++ low_b) l (a ++ b)) (sym high_parts.0) (record {
+pub two_merged : (d h : ℕ) (lows highs new low_a low_b high_a high_b a b : List ℕ) → 2 ^ d * (2 * h) ≡ 16 → length lows ≡ 32
+    → ((x y : List ℕ) → length x ≡ 16 → length y ≡ 16 → lows ≡ x ++ y → (low_a ≡ x) × (low_b ≡ y)) → length highs ≡ 32
+    → ((x y : List ℕ) → length x ≡ 16 → length y ≡ 16 → highs ≡ x ++ y → (high_a ≡ x) × (high_b ≡ y)) → length a ≡ 16 → new ≡ a ++ b
+    → AreMerged d low_a high_a a → AreMerged d low_b high_b b → AreMerged d lows highs new
+two_merged d h lows highs new low_a low_b high_a high_b a b size low_count low_halves high_count high_halves long joined first second =
+    let low_parts = halved lows low_a low_b low_count low_halves in
+    let high_parts = halved highs high_a high_b high_count high_halves in
+    subst (λ (l : List ℕ). AreMerged d l highs new) (sym low_parts.0)
+    (subst (λ (l : List ℕ). AreMerged d (low_a ++ low_b) l new) (sym high_parts.0) (subst (AreMerged d (low_a ++ low_b) (high_a ++ high_b)) (sym joined) (record {
       low = two_taken d h (λ i. 2 * i) (λ i. 2 * i) low_a low_b a b size even_small even_small (even_next h) (even_next h) low_parts.1 long first.low second.low;
       high = two_taken d h (λ i. 2 * i + 1) (λ i. 2 * i + 1) high_a high_b a b size odd_small odd_small (odd_next h) (odd_next h) high_parts.1 long first.high second.high;
-    }))
+    })))

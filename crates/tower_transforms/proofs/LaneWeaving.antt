@@ -1,8 +1,8 @@
 -- Vectors of bytes that are read from words and put into them, taken apart and woven.
-use Rattle.std.proofs.Common.{◌≡◌, ℕ, ◌+◌, ◌-◌, ◌*◌, ◌/◌, ◌%◌, ◌^◌, ◌<◌, ◌≤◌, List, ◌++◌, length, get_or, take, drop, true, refl, sym, ◌∙◌, ap, ap₂, subst, arith, lit<, w8, Fits}
+use Rattle.std.proofs.Common.{◌≡◌, ℕ, ◌+◌, ◌-◌, ◌*◌, ◌/◌, ◌%◌, ◌^◌, ◌<◌, ◌≤◌, List, ◌++◌, length, get_or, true, refl, sym, ◌∙◌, ap, ap₂, subst, arith, lit<, w8, Fits}
 use Rattle.std.specs.Prelude.{slice_index}
 use Rattle.std.specs.Simd.Lanes.{Each1, pick_l}
-use Rattle.std.proofs.lemmas.List.{get_or-append-add, get_or-map, get_or_append_left, length-drop, length-take-le, take-append-drop}
+use Rattle.std.proofs.lemmas.List.{get_or-append-add, get_or-map, get_or_append_left}
 use native.Mathlib.Nat.{mod-eq_of_lt, mod-lt}
 use Rattle.field_base.proofs.TableChecks.{tabulates, tabulates_at}
 use Rattle.tower_transforms.specs.Rows.{byte_of_lane}
@@ -35,18 +35,6 @@ pub joined_second : (x y : List ℕ) (n p : ℕ) → length x ≡ n → n ≤ p 
 joined_second x y n p long past =
     let at : p ≡ length x + (p - n) = omega (arith, long, past) in
     ap (λ (q : ℕ). get_or (x ++ y) q 0) at ∙ get_or-append-add x y (p - n) 0
-
--- the halves of a vector
-pub halved : (lanes a b : List ℕ) → length lanes ≡ 32
-    → ((first second : List ℕ) → length first ≡ 16 → length second ≡ 16 → lanes ≡ first ++ second → (a ≡ first) × (b ≡ second))
-    → (length a ≡ 16) × (lanes ≡ a ++ b)
-halved lanes a b long parts =
-    let front : length (take 16 lanes) ≡ 16 = length-take-le 16 lanes (omega (arith, long)) in
-    let rest = length-drop 16 lanes in
-    let back : length (drop 16 lanes) ≡ 16 = omega (arith, rest, long) in
-    let whole = take-append-drop 16 lanes in
-    let are = parts (take 16 lanes) (drop 16 lanes) front back (sym whole) in
-    (ap length are.0 ∙ front, sym (ap₂ (λ (x y : List ℕ). x ++ y) are.0 are.1 ∙ whole))
 
 -- ---- vectors of which lanes are picked
 

@@ -7,7 +7,7 @@ use lib.Bits.{xor_assoc, xor_self, xor_zero_r}
 use Rattle.field_base.specs.Quadratic.{pair}
 use Rattle.field_base.specs.Tower.{tower_mul}
 use Rattle.tower_transforms.specs.Butterflies.{TakesPair}
-use Rattle.tower_transforms.specs.Rows.{element_of, level_of}
+use Rattle.tower_transforms.specs.Rows.{count_of, element_of, level_of}
 
 -- an element of a row of bytes is a byte
 pub element-byte : (row : List ℕ) (i : ℕ) → element_of 0 row i ≡ slice_index row i
@@ -34,16 +34,37 @@ element-joined d low high i same =
 pub second_half : (n m : ℕ) → m + n / 2 ≡ n → n % 2 ≡ 0 → n / 2 ≡ m
 second_half n m rest even = omega (arith, rest, even)
 
+-- so what holds of half of its length holds of that of each part
+pub of_first : (P : ℕ → Type 0) (n a : ℕ) → a ≡ n / 2 → P (n / 2) → P a
+of_first P n a front holds = subst P (sym front) holds
+
+pub of_second : (P : ℕ → Type 0) (n b : ℕ) → b + n / 2 ≡ n → n % 2 ≡ 0 → P (n / 2) → P b
+of_second P n b back even holds = subst P (second_half n b back even) holds
+
+-- an element of which both halves were read
+pub halves_read : (d i a b : ℕ) (row low high : List ℕ) → low ≡ take (length row / 2) row → high ≡ drop (length row / 2) row
+    → length low ≡ length row / 2 → length high + length row / 2 ≡ length row → length row % 2 ≡ 0 → i < count_of d (length row / 2)
+    → (i < count_of d (length low) → a ≡ element_of d low i) → (i < count_of d (length high) → b ≡ element_of d high i)
+    → pair (2 ^ level_of d) a b ≡ element_of (suc d) row i
+halves_read d i a b row low high front back front_long back_long even inside low_is high_is =
+    element-pair d a b row low high i front back
+    (low_is (of_first (λ (n : ℕ). i < count_of d n) (length row) (length low) front_long inside))
+    (high_is (of_second (λ (n : ℕ). i < count_of d n) (length row) (length high) back_long even inside))
+
 module _ (d i n : ℕ) (low high low' high' : List ℕ) (front : length low ≡ n / 2) (back : length high + n / 2 ≡ n) (even : n % 2 ≡ 0)
-    (low_long : length low' ≡ length low) (high_long : length high' ≡ length high) where
-  -- an element of which both halves were written
-  pub halves_written : (a b : ℕ) → element_of d low' i ≡ a → element_of d high' i ≡ b
+    (low_long : length low' ≡ length low) (high_long : length high' ≡ length high) (inside : i < count_of d (n / 2)) where
+  -- one of which both were written
+  pub halves_written : (a b : ℕ) → (i < count_of d (length low) → element_of d low' i ≡ a)
+      → (i < count_of d (length high) → element_of d high' i ≡ b)
       → element_of (suc d) (low' ++ high') i ≡ pair (2 ^ level_of d) a b
   halves_written a b low_is high_is =
-      element-joined d low' high' i (omega (arith, front, back, even, low_long, high_long)) ∙ ap₂ (pair (2 ^ level_of d)) low_is high_is
+      element-joined d low' high' i (omega (arith, front, back, even, low_long, high_long))
+      ∙ ap₂ (pair (2 ^ level_of d)) (low_is (of_first (λ (m : ℕ). i < count_of d m) n (length low) front inside))
+      (high_is (of_second (λ (m : ℕ). i < count_of d m) n (length high) back even inside))
 
   -- and one of which both were kept
-  pub halves_kept : (row : List ℕ) → row ≡ low ++ high → element_of d low' i ≡ element_of d low i → element_of d high' i ≡ element_of d high i
+  pub halves_kept : (row : List ℕ) → row ≡ low ++ high → (i < count_of d (length low) → element_of d low' i ≡ element_of d low i)
+      → (i < count_of d (length high) → element_of d high' i ≡ element_of d high i)
       → element_of (suc d) (low' ++ high') i ≡ element_of (suc d) row i
   halves_kept row parts low_is high_is =
       halves_written (element_of d low i) (element_of d high i) low_is high_is

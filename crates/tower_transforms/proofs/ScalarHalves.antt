@@ -9,20 +9,9 @@ use Rattle.field_base.specs.Tower.{root, tower_mul}
 use Rattle.field_base.proofs.QuadraticRing.{high_half-pair, low_half-pair}
 use Rattle.field_base.proofs.TowerProducts.{tower_mul-root_suc}
 use Rattle.field_base.proofs.TowerRing.{tower_ring}
-use Rattle.tower_transforms.specs.Products.{AreMultiplesOfHalves}
+use Rattle.tower_transforms.specs.Products.{AreHalves, AreMultiplesOfHalves}
 
--- ---- a scalar of level k + 1 by its halves
-
--- the scalar s has the halves low and high, of `half` bits each, and so many have their sum and the sums with the product by the root
-pub record AreHalves (k half s low high product : ℕ) : Type 0 where
-  pub half_is : half ≡ 2 ^ k
-  pub low_fits : low < 2 ^ half
-  pub high_fits : high < 2 ^ half
-  pub sum_fits : bit_xor low high < 2 ^ half
-  pub low_sum_fits : product ≡ tower_mul k (root k) high → bit_xor low product < 2 ^ half
-  pub both_sum_fits : product ≡ tower_mul k (root k) high → bit_xor (bit_xor low high) product < 2 ^ half
-  pub of_halves : s ≡ pair half low high
-
+-- a scalar of level k + 1 has these halves
 pub are_halves : (k bits s low high product : ℕ) → bits ≡ 2 ^ suc k → s < 2 ^ bits → low ≡ s % 2 ^ (bits / 2) → high ≡ s / 2 ^ (bits / 2)
     → AreHalves k (bits / 2) s low high product
 are_halves k bits s low high product bits_are fits low_is high_is =

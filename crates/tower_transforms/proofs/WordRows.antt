@@ -1,5 +1,5 @@
 -- Words in vectors of bytes: what is read from a slice and written to it, and the pairs of places that are so computed.
-use Rattle.std.proofs.Common.{◌≡◌, ◌≢◌, ◌⊎◌, inl, inr, ℕ, zero, suc, ◌+◌, ◌-◌, ◌*◌, ◌%◌, ◌^◌, ◌<◌, ◌≤◌, Bool, List, length, map, get_or, refl, sym, ◌∙◌, ap, ap₂, subst, arith, w8, Fits}
+use Rattle.std.proofs.Common.{◌≡◌, ◌≢◌, ◌⊎◌, inl, inr, ℕ, zero, suc, ◌+◌, ◌-◌, ◌*◌, ◌/◌, ◌%◌, ◌^◌, ◌<◌, ◌≤◌, Bool, List, [], ◌∷◌, ◌++◌, length, map, get_or, refl, sym, ◌∙◌, ap, ap₂, subst, arith, w8, Fits}
 use Rattle.std.specs.Prelude.{slice_index}
 use Rattle.std.specs.Simd.Lanes.{Each1}
 use Rattle.std.proofs.Math.ListN.{get_or-map}
@@ -7,7 +7,7 @@ use Rattle.std.proofs.Math.Nat.{mul-le-mul_right, pow-suc}
 use Rattle.std.proofs.Math.Pow.{pow_mono}
 use Rattle.std.proofs.lemmas.Bool.{cases_lt}
 use Rattle.std.proofs.Math.ListN.{set}
-use Rattle.std.proofs.lemmas.List.{get_or-map as get_or-map_inside, get_or-set_other, get_or-set_same, length-map, length-set, map-set}
+use Rattle.std.proofs.lemmas.List.{length-append, get_or-map as get_or-map_inside, get_or-set_other, get_or-set_same, length-map, length-set, map-set}
 use Rattle.std.proofs.lemmas.Nat.{pow_pos}
 use Rattle.std.proofs.lemmas.Simd.{map-map}
 use native.Mathlib.Nat.{mod-eq_of_lt}
@@ -18,9 +18,11 @@ use Rattle.tower_transforms.specs.Chunks.{TakesChunks, chunk_of}
 use Rattle.tower_transforms.specs.Rows.{byte_of_lane, level_of}
 use Rattle.tower_transforms.specs.Units.{AreChunks, ArePut, AreUnits, byte_of, unit_of}
 use Rattle.tower_transforms.specs.Words.{TakesPairs, level_element}
+use Rattle.tower_transforms.proofs.ChunkProducts.{chunk_left, chunk_right}
 use Rattle.tower_transforms.proofs.LaneFacts.{lane-byte}
+use Rattle.tower_transforms.proofs.LaneWeaving.{joined_first, joined_second}
 use Rattle.tower_transforms.proofs.LevelProducts.{place_taken, same_pair}
-use Rattle.tower_transforms.proofs.UnitFacts.{unit-modulo, unit-same}
+use Rattle.tower_transforms.proofs.UnitFacts.{half_count, two_put, two_read, unit-modulo, unit-same}
 use Rattle.tower_transforms.proofs.WordPlaces.{unit-byte}
 
 -- an element of bytes is a unit of them
@@ -74,6 +76,88 @@ others_kept size start count n units old new whole are k (inr past) =
     let less : (start + count) * 2 ^ size ≤ k * 2 ^ size = mul-le-mul_right (2 ^ size) past in
     are.kept k (inr (omega (arith, less, whole)))
 
+-- ---- words in two vectors
+
+each_joined : {A : Type 0} (P : A → Type 0) (xs ys : List A) → Each1 P xs → Each1 P ys → Each1 P (xs ++ ys)
+each_joined P [] ys first second = second
+each_joined P (x ∷ xs) ys first second = (first.0, each_joined P xs ys first.1 second)
+
+module _ (size start count : ℕ) (a b : List ℕ) (few : size ≤ 4) (whole : count * 2 ^ size ≡ 64) (a_long : length a ≡ 32) (b_long : length b ≡ 32)
+    (a_fit : Each1 (Fits w8) a) (b_fit : Each1 (Fits w8) b) where
+  half : count / 2 * 2 ^ size ≡ 32
+  half = (half_count size count 32 2 few refl whole).0
+
+  long : length (a ++ b) ≡ 64
+  long = let sum = length-append a b in omega (arith, sum, a_long, b_long)
+
+  fit : Each1 (Fits w8) (a ++ b)
+  fit = each_joined (Fits w8) a b a_fit b_fit
+
+  at_first : (p : ℕ) → p < 32 → byte_of_lane (a ++ b) p ≡ byte_of_lane a p
+  at_first p below = ap (λ (x : ℕ). x % 2 ^ 8) (joined_first a b 32 p a_long below)
+
+  at_second : (p : ℕ) → 32 ≤ p → p < 64 → byte_of_lane (a ++ b) p ≡ byte_of_lane b (p - 32)
+  at_second p past below = ap (λ (x : ℕ). x % 2 ^ 8) (joined_second a b 32 p a_long past)
+
+  -- that are read
+  pub two_chunks_read : (numbers : List ℕ) → AreUnits 0 size start 32 (byte_of_lane a) numbers
+      → AreUnits 0 size (start + count / 2) 32 (byte_of_lane b) numbers → AreChunks size start count (a ++ b) numbers
+  two_chunks_read numbers first second =
+      chunks_are size start count 64 (a ++ b) numbers whole long fit
+      (two_read 0 size start (count / 2) 32 half (byte_of_lane a) (byte_of_lane b) (byte_of_lane (a ++ b)) at_first at_second numbers first second)
+
+  -- and that are put
+  pub two_chunks_put : (old mid new : List ℕ) → ArePut 0 size start 32 (byte_of_lane a) old mid
+      → ArePut 0 size (start + count / 2) 32 (byte_of_lane b) mid new
+      → AreChunks size start count (a ++ b) new × ((k : ℕ) → (k < start) ⊎ (start + count ≤ k) → slice_index new k ≡ slice_index old k)
+  two_chunks_put old mid new first second =
+      let put = two_put 0 size start (count / 2) 32 half (byte_of_lane a) (byte_of_lane b) (byte_of_lane (a ++ b)) at_first at_second old mid new
+      first second in (
+        chunks_are size start count 64 (a ++ b) new whole long fit put.put,
+        others_kept size start count 64 (byte_of_lane (a ++ b)) old new whole put,
+      )
+
+-- so many elements has a vector of thirty-two bytes
+elements_in : (size : ℕ) → size ≤ 4 → (m : ℕ) × (2 ^ size * m ≡ 32)
+elements_in zero few = (32, refl)
+elements_in (suc zero) few = (16, refl)
+elements_in (suc (suc zero)) few = (8, refl)
+elements_in (suc (suc (suc zero))) few = (4, refl)
+elements_in (suc (suc (suc (suc zero)))) few = (2, refl)
+elements_in (suc (suc (suc (suc (suc size))))) few = absurd (omega (arith, few))
+
+-- the butterflies of two vectors, and those of two others
+pub taken_both : (inverse : Bool) (size s : ℕ) (x x₂ y y₂ z z₂ w w₂ : List ℕ) → size ≤ 4 → length x ≡ 32 → length y ≡ 32
+    → length z ≡ 32 → length w ≡ 32 → TakesChunks inverse size s x y z w → TakesChunks inverse size s x₂ y₂ z₂ w₂
+    → TakesChunks inverse size s (x ++ x₂) (y ++ y₂) (z ++ z₂) (w ++ w₂)
+taken_both inverse size s x x₂ y y₂ z z₂ w w₂ few x_long y_long z_long w_long first second i = pick (cases_lt i m)
+  where
+    m : ℕ
+    m = (elements_in size few).0
+
+    whole : 2 ^ size * m ≡ 32
+    whole = (elements_in size few).1
+
+    left : i < m → (u v : List ℕ) → length u ≡ 32 → chunk_of size u i ≡ chunk_of size (u ++ v) i
+    left below u v long =
+        let most : (i + 1) * 2 ^ size ≤ m * 2 ^ size = mul-le-mul_right (2 ^ size) (omega (arith, below)) in
+        let all = whole in
+        sym (chunk_left size i u v (omega (arith, most, all, long)))
+
+    right : m ≤ i → (u v : List ℕ) → length u ≡ 32 → chunk_of size v (i - m) ≡ chunk_of size (u ++ v) i
+    right past u v long =
+        let at : m + (i - m) ≡ i = omega (arith, past) in
+        sym (chunk_right size m (i - m) u v (long ∙ sym whole)) ∙ ap (chunk_of size (u ++ v)) at
+
+    pick : (i < m) ⊎ (m ≤ i) → taken_pair inverse (tower_mul (level_of size)) s (chunk_of size (x ++ x₂) i) (chunk_of size (y ++ y₂) i)
+        (chunk_of size (z ++ z₂) i) (chunk_of size (w ++ w₂) i)
+    pick (inl below) =
+        same_pair inverse (tower_mul (level_of size)) s _ _ _ _ _ _ _ _ (left below x x₂ x_long) (left below y y₂ y_long)
+        (left below z z₂ z_long) (left below w w₂ w_long) (first i)
+    pick (inr past) =
+        same_pair inverse (tower_mul (level_of size)) s _ _ _ _ _ _ _ _ (right past x x₂ x_long) (right past y y₂ y_long)
+        (right past z z₂ z_long) (right past w w₂ w_long) (second (i - m))
+
 -- ---- pairs of places
 
 -- the elements of words are those of their numbers
@@ -83,6 +167,13 @@ element-at number k words p =
     ap (λ (l : List ℕ). slice_index l p) (sym (map-map (λ (x : ℕ). x % 2 ^ 2 ^ k) number words))
     ∙ ap (get_or (map (λ (x : ℕ). x % 2 ^ 2 ^ k) (map number words)) p) (sym (mod-eq_of_lt (pow_pos (2 ^ k))))
     ∙ get_or-map (λ (x : ℕ). x % 2 ^ 2 ^ k) (map number words) p 0
+
+-- what holds of four numbers holds of equal ones
+same : (related : ℕ → ℕ → ℕ → ℕ → Type 0) (a b c d a' b' c' d' : ℕ) → a ≡ a' → b ≡ b' → c ≡ c' → d ≡ d' → related a b c d
+    → related a' b' c' d'
+same related a b c d a' b' c' d' first second third fourth holds =
+    subst (λ (v : ℕ). related a' b' c' v) fourth (subst (λ (v : ℕ). related a' b' v d) third
+    (subst (λ (v : ℕ). related a' v c d) second (subst (λ (v : ℕ). related v b c d) first holds)))
 
 -- more pairs that are done
 pub more_pairs : (related : ℕ → ℕ → ℕ → ℕ → Type 0) (n c : ℕ) (lo hi lo' hi' : List ℕ) → length lo' ≡ length lo → length hi' ≡ length hi
@@ -99,21 +190,14 @@ more_pairs related n c lo hi lo' hi' low_long high_long here low_kept high_kept 
       high_rest = λ p past. high_kept p (inr past) ∙ before.high_rest p (omega (arith, past));
     }
   where
-    same : (a b c d a' b' c' d' : ℕ) → a ≡ a' → b ≡ b' → c ≡ c' → d ≡ d' → related a b c d → related a' b' c' d'
-    same a b c d a' b' c' d' first second third fourth holds =
-        subst (λ (v : ℕ). related a' b' c' v) fourth (subst (λ (v : ℕ). related a' b' v d) third
-        (subst (λ (v : ℕ). related a' v c d) second (subst (λ (v : ℕ). related v b c d) first holds)))
-
     pick : (p : ℕ) → p < n + c → (p < n) ⊎ (n ≤ p) → related (slice_index lower p) (slice_index upper p) (slice_index lo' p) (slice_index hi' p)
     pick p below (inl early) =
-        same _ _ _ _ _ _ _ _ refl refl (sym (low_kept p (inl early))) (sym (high_kept p (inl early))) (before.done p early)
-    pick p below (inr late) = same _ _ _ _ _ _ _ _ (before.low_rest p late) (before.high_rest p late) refl refl (here p late below)
+        same related _ _ _ _ _ _ _ _ refl refl (sym (low_kept p (inl early))) (sym (high_kept p (inl early))) (before.done p early)
+    pick p below (inr late) = same related _ _ _ _ _ _ _ _ (before.low_rest p late) (before.high_rest p late) refl refl (here p late below)
 
-module _ {A : Type 0} (number : A → ℕ) (inverse : Bool) (j k size start count s : ℕ) (x y x' y' : List ℕ) (read_lo read_hi lo hi lo' hi' : List A)
+module _ {A : Type 0} (number : A → ℕ) (inverse : Bool) (j k size start count s : ℕ) (x y x' y' : List ℕ) (lo hi lo' hi' : List A)
     (within : j ≤ k) (few : k ≤ level_of size) (fits : s < 2 ^ 2 ^ j)
-    (x_read : AreChunks size start count x (map number read_lo)) (y_read : AreChunks size start count y (map number read_hi))
-    (lo_as : (p : ℕ) → start ≤ p → slice_index (map number lo) p ≡ slice_index (map number read_lo) p)
-    (hi_as : (p : ℕ) → start ≤ p → slice_index (map number hi) p ≡ slice_index (map number read_hi) p)
+    (x_read : AreChunks size start count x (map number lo)) (y_read : AreChunks size start count y (map number hi))
     (taken : TakesChunks inverse size s x y x' y')
     (low_long : length lo' ≡ length lo) (x_put : AreChunks size start count x' (map number lo'))
     (low_kept : (p : ℕ) → (p < start) ⊎ (start + count ≤ p) → slice_index (map number lo') p ≡ slice_index (map number lo) p)
@@ -130,13 +214,11 @@ module _ {A : Type 0} (number : A → ℕ) (inverse : Bool) (j k size start coun
   in_vector i below =
       let p = start + i in
       let m = level_of size in
-      let late : start ≤ start + i = omega arith in
       same_pair inverse (tower_mul k) s _ _ _ _ _ _ _ _ (sym (element-at number k lo p)) (sym (element-at number k hi p))
       (sym (element-at number k lo' p)) (sym (element-at number k hi' p))
       (place_taken inverse j k m s (slice_index (map number lo) p) (slice_index (map number hi) p) (slice_index (map number lo') p)
       (slice_index (map number hi') p) (chunk_of size x i) (chunk_of size y i) (chunk_of size x' i) (chunk_of size y' i) within few fits
-      (x_read i below ∙ ap (λ (v : ℕ). v % 2 ^ 2 ^ m) (sym (lo_as p late)))
-      (y_read i below ∙ ap (λ (v : ℕ). v % 2 ^ 2 ^ m) (sym (hi_as p late))) (x_put i below) (y_put i below) (taken i))
+      (x_read i below) (y_read i below) (x_put i below) (y_put i below) (taken i))
 
   here : (p : ℕ) → start ≤ p → p < start + count → taken_pair inverse (tower_mul k) s (slice_index (map (level_element number k) lo) p)
       (slice_index (map (level_element number k) hi) p) (slice_index (map (level_element number k) lo') p) (slice_index (map (level_element number k) hi') p)
@@ -145,7 +227,7 @@ module _ {A : Type 0} (number : A → ℕ) (inverse : Bool) (j k size start coun
       subst (λ (q : ℕ). taken_pair inverse (tower_mul k) s (slice_index (map (level_element number k) lo) q) (slice_index (map (level_element number k) hi) q)
       (slice_index (map (level_element number k) lo') q) (slice_index (map (level_element number k) hi') q)) at (in_vector (p - start) (omega (arith, late, below)))
 
-  -- those of a vector of each row are done, which were read while the words from `start` on were as they are before it is written
+  -- those of a block of each row are done
   pub vector_taken : TakesPairs (taken_pair inverse (tower_mul k) s) start (start + count) (map (level_element number k) lo) (map (level_element number k) hi) (map (level_element number k) lo')
       (map (level_element number k) hi')
   vector_taken =
@@ -201,11 +283,6 @@ next_pair element related n low high x y x' y' equal below is =
     more_pairs related n 1 (map element low) (map element high) (map element (set low n x')) (map element (set high n y'))
     (put_long element n low x') (put_long element n high y') here (put_off element n low x') (put_off element n high y')
   where
-    same : (a b c d a' b' c' d' : ℕ) → a ≡ a' → b ≡ b' → c ≡ c' → d ≡ d' → related a b c d → related a' b' c' d'
-    same a b c d a' b' c' d' first second third fourth holds =
-        subst (λ (v : ℕ). related a' b' c' v) fourth (subst (λ (v : ℕ). related a' b' v d) third
-        (subst (λ (v : ℕ). related a' v c d) second (subst (λ (v : ℕ). related v b c d) first holds)))
-
     high_below : n < length high
     high_below = omega (arith, equal, below)
 
@@ -215,5 +292,5 @@ next_pair element related n low high x y x' y' equal below is =
         let at : n ≡ p = omega (arith, late, early) in
         subst (λ (q : ℕ). related (slice_index (map element low) q) (slice_index (map element high) q)
         (slice_index (map element (set low n x')) q) (slice_index (map element (set high n y')) q)) at
-        (same _ _ _ _ _ _ _ _ (sym (get_or-map_inside element low n x 0 below)) (sym (get_or-map_inside element high n y 0 high_below))
+        (same related _ _ _ _ _ _ _ _ (sym (get_or-map_inside element low n x 0 below)) (sym (get_or-map_inside element high n y 0 high_below))
         (sym (put_at element n low x' below)) (sym (put_at element n high y' high_below)) is)

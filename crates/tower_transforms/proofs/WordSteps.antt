@@ -46,6 +46,15 @@ numbers_put d size n lanes units old new same are l below =
     ∙ subst (λ (e : ℕ). unit_of e (byte_of size new) (n + l) ≡ slice_index new (n + l)) same
     (unit-whole size (n + l) new (are.fit (n + l) (omega arith) (omega (arith, less, bytes)))))
 
+-- the products of those
+pub products_read : (d size n lanes s : ℕ) (factors products : ℕ → ℕ) (numbers : List ℕ) → size ≡ d → AreUnits d size n lanes factors numbers
+    → ((l : ℕ) → l < lanes → products l ≡ tower_mul (level_of d) s (factors l))
+    → (l : ℕ) → l < lanes → products l ≡ tower_mul (level_of d) s (slice_index numbers (n + l))
+products_read d size n lanes s factors products numbers same read times l below =
+    times l below
+    ∙ ap (tower_mul (level_of d) s) (numbers_read d size n lanes factors numbers same read l below)
+    ∙ times-mod (2 ^ level_of d) 1 (tower_mul (level_of d)) (tower_ring (level_of d)) s (slice_index numbers (n + l))
+
 -- ---- one block more
 
 module _ (d size lanes count block s : ℕ) (same : size ≡ d) (counted : count ≡ lanes) where
@@ -74,40 +83,26 @@ module _ (d size lanes count block s : ℕ) (same : size ≡ d) (counted : count
           let bytes = ap (λ (e : ℕ). lanes * 2 ^ e) same in
           put.kept k (inr (omega (arith, less, bytes))) ∙ before.kept k (omega (arith, late))
 
-  -- the products of numbers that are as they were
-  products_are : (factors products : ℕ → ℕ) (old mid : List ℕ)
-      → ((k : ℕ) → count * block ≤ k → slice_index mid k ≡ slice_index old k)
-      → AreUnits d size (count * block) lanes factors mid
-      → ((l : ℕ) → l < lanes → products l ≡ tower_mul (level_of d) s (factors l))
-      → (l : ℕ) → l < lanes → products l ≡ tower_mul (level_of d) s (slice_index old (count * block + l))
-  products_are factors products old mid kept read times l below =
-      times l below
-      ∙ ap (tower_mul (level_of d) s) (numbers_read d size (count * block) lanes factors mid same read l below)
-      ∙ times-mod (2 ^ level_of d) 1 (tower_mul (level_of d)) (tower_ring (level_of d)) s (slice_index mid (count * block + l))
-      ∙ ap (tower_mul (level_of d) s) (kept (count * block + l) (omega arith))
-
   -- a block that is multiplied
-  pub block_multiplied : (factors products : ℕ → ℕ) (old mid new : List ℕ)
+  pub block_multiplied : (products : ℕ → ℕ) (old mid new : List ℕ)
       → FirstAre (count * block) (λ k. tower_mul (level_of d) s (slice_index old k)) old mid
-      → AreUnits d size (count * block) lanes factors mid
-      → ((l : ℕ) → l < lanes → products l ≡ tower_mul (level_of d) s (factors l))
+      → ((l : ℕ) → l < lanes → products l ≡ tower_mul (level_of d) s (slice_index mid (count * block + l)))
       → ArePut d size (count * block) lanes products mid new
       → FirstAre (count * (block + 1)) (λ k. tower_mul (level_of d) s (slice_index old k)) old new
-  block_multiplied factors products old mid new before read times put =
+  block_multiplied products old mid new before times put =
       more (λ k. tower_mul (level_of d) s (slice_index old k)) products old mid new before put
-      (products_are factors products old mid before.kept read times)
+      (λ l below. times l below ∙ ap (tower_mul (level_of d) s) (before.kept (count * block + l) (omega arith)))
 
   -- and one that is added
-  pub block_added : (factors products addends sums : ℕ → ℕ) (words old mid new : List ℕ)
+  pub block_added : (products addends sums : ℕ → ℕ) (words old mid new : List ℕ)
       → ((k : ℕ) → slice_index old k < 2 ^ 2 ^ level_of d)
       → FirstAre (count * block) (λ k. bit_xor (slice_index old k) (tower_mul (level_of d) s (slice_index words k))) old mid
-      → AreUnits d size (count * block) lanes factors words
-      → ((l : ℕ) → l < lanes → products l ≡ tower_mul (level_of d) s (factors l))
+      → ((l : ℕ) → l < lanes → products l ≡ tower_mul (level_of d) s (slice_index words (count * block + l)))
       → AreUnits d size (count * block) lanes addends mid
       → ((l : ℕ) → l < lanes → sums l ≡ bit_xor (products l) (addends l))
       → ArePut d size (count * block) lanes sums mid new
       → FirstAre (count * (block + 1)) (λ k. bit_xor (slice_index old k) (tower_mul (level_of d) s (slice_index words k))) old new
-  block_added factors products addends sums words old mid new fit before read times also sum put =
+  block_added products addends sums words old mid new fit before times also sum put =
       more (λ k. bit_xor (slice_index old k) (tower_mul (level_of d) s (slice_index words k))) sums old mid new before put each
     where
       each : (l : ℕ) → l < lanes
@@ -115,7 +110,7 @@ module _ (d size lanes count block s : ℕ) (same : size ≡ d) (counted : count
       each l below =
           let place = count * block + l in
           sum l below
-          ∙ ap₂ bit_xor (products_are factors products words words (λ k past. refl) read times l below)
+          ∙ ap₂ bit_xor (times l below)
           (numbers_read d size (count * block) lanes addends mid same also l below
           ∙ ap (λ (x : ℕ). x % 2 ^ 2 ^ level_of d) (before.kept place (omega arith)) ∙ mod-eq_of_lt (fit place))
           ∙ xor_comm (tower_mul (level_of d) s (slice_index words place)) (slice_index old place)

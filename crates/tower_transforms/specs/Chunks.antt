@@ -15,6 +15,13 @@ chunk_of (suc d) bytes i = pair (2 ^ level_of d) (chunk_of d bytes (2 * i)) (chu
 abbrev pub AreTimes : ℕ → ℕ → List ℕ → List ℕ → Type 0
 AreTimes d s old new = (i : ℕ) → chunk_of d new i ≡ tower_mul (level_of d) s (chunk_of d old i)
 
+-- each element, whose low half is one of 2 ^ d bytes of one list and whose high half is that of another, is the product by the scalar s
+abbrev pub AreHalfTimes : ℕ → ℕ → List ℕ → List ℕ → List ℕ → List ℕ → Type 0
+AreHalfTimes d s low high new_low new_high =
+    (i : ℕ)
+    → pair (2 ^ level_of d) (chunk_of d new_low i) (chunk_of d new_high i)
+    ≡ tower_mul (suc (level_of d)) s (pair (2 ^ level_of d) (chunk_of d low i) (chunk_of d high i))
+
 -- elements of 2 ^ d bytes that stand in pairs: the two of each pair are exchanged
 pub record AreExchanged (d : ℕ) (old new : List ℕ) : Type 0 where
   pub low : (i : ℕ) → chunk_of d new (2 * i) ≡ chunk_of d old (2 * i + 1)

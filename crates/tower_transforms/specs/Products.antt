@@ -1,5 +1,5 @@
 -- Products by scalars of the tower: by the multiples of a byte, and by three products of the level below.
-use Rattle.std.specs.Prelude.{◌≡◌, ℕ, suc, ◌*◌, ◌^◌, ◌<◌, slice_index, bit_xor}
+use Rattle.std.specs.Prelude.{◌≡◌, ℕ, suc, ◌*◌, ◌/◌, ◌^◌, ◌<◌, slice_index, bit_xor}
 use Rattle.field_base.specs.Quadratic.{pair}
 use Rattle.field_base.specs.Tower.{root, tower_mul}
 use Rattle.tower_transforms.specs.declared.multiples.ByteMultiples.{ByteMultiples}
@@ -23,3 +23,17 @@ abbrev pub AreMultiplesOfHalves : ℕ → {M : Type 0} → (M → ℕ → Type 0
 AreMultiplesOfHalves k are multiples s =
     (s0 : ℕ) × (s1 : ℕ) × (s0 < 2 ^ 2 ^ k) × (s1 < 2 ^ 2 ^ k) × (s ≡ pair (2 ^ k) s0 s1) × are multiples.both s1
     × are multiples.low (bit_xor s0 s1) × are multiples.high (bit_xor (bit_xor s0 s1) (tower_mul k (root k) s1))
+
+-- the scalar s has the halves low and high, of `half` bits each, and so many have their sum and the sums with the product by the root
+pub record AreHalves (k half s low high product : ℕ) : Type 0 where
+  pub half_is : half ≡ 2 ^ k
+  pub low_fits : low < 2 ^ half
+  pub high_fits : high < 2 ^ half
+  pub sum_fits : bit_xor low high < 2 ^ half
+  pub low_sum_fits : product ≡ tower_mul k (root k) high → bit_xor low product < 2 ^ half
+  pub both_sum_fits : product ≡ tower_mul k (root k) high → bit_xor (bit_xor low high) product < 2 ^ half
+  pub of_halves : s ≡ pair half low high
+
+-- so has a number of so many bits those that low and high are, whatever product it is
+abbrev pub HasHalves : ℕ → ℕ → ℕ → ℕ → Type 0
+HasHalves bits s low high = (k product : ℕ) → bits ≡ 2 ^ suc k → s < 2 ^ bits → AreHalves k (bits / 2) s low high product

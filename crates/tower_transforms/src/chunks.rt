@@ -1,9 +1,10 @@
 // Products by a scalar of vectors of bytes: of all their elements of 8, 16 or 32 bits at once, which stand one after another.
-ghost use Rattle.std.specs.Prelude.{◌≡◌, [], ◌∷◌, ◌^◌, ◌<◌, ◌≤◌, ℕ, slice_index, suc};
+ghost use Rattle.std.specs.Prelude.{◌≡◌, [], ◌∷◌, ◌^◌, ◌<◌, ◌≤◌, ℕ, Bool, IsTrue, bit_xor, false, slice_index, suc};
+ghost use Rattle.std.specs.Simd.Lanes.{zip2};
 ghost use Rattle.additive_transforms.specs.Stages.{TakesBlock};
 ghost use Rattle.field_base.specs.Tower.{tower_mul};
 ghost use Rattle.tower_transforms.specs.ChunkLemmas.{no_halves, one_half, two_halves};
-ghost use Rattle.tower_transforms.specs.Chunks.{AreExchanged, AreMerged, AreTimes, AreRegrouped, TakesChunks, chunk_of};
+ghost use Rattle.tower_transforms.specs.Chunks.{AreExchanged, AreHalfTimes, AreMerged, AreTimes, AreRegrouped, TakesChunks, chunk_of};
 ghost use Rattle.tower_transforms.specs.Products.{AreMultiples, AreMultiplesOfHalves};
 ghost use Rattle.tower_transforms.specs.Rows.{level_of};
 
@@ -115,18 +116,29 @@ impl<M: Paired> Scales for HalfMultiples<M> {
     #[inline(always)]
     fn times_two<V: ChunkVector>(&self, first: V, second: V) -> (V, V) {
         let (low, high) = transposed::<M, V>(first, second);
-        low.holds_bytes();
-        high.holds_bytes();
-        let both = self.both.times(low.sum(high));
-        both.holds_bytes();
-        let low_product = self.low.times(low);
-        low_product.holds_bytes();
-        let high_product = self.high.times(high);
-        high_product.holds_bytes();
-        transposed::<M, V>(low_product.sum(both), high_product.sum(both))
+        let (low_product, high_product) = half_products(self, low, high);
+        transposed::<M, V>(low_product, high_product)
     }
 
     ghost few_law = { M.pairs_law };
+}
+
+// The products of elements whose low halves are those of one vector and whose high halves those of another.
+#[inline(always)]
+fn half_products<M: Paired, V: ChunkVector>(multiples: &HalfMultiples<M>, low: V, high: V) -> (V, V)
+    ensures { (s : ℕ) → AreMultiplesOfHalves (level_of M.Scales.depth) M.Scales.are_multiples multiples.now s
+        → AreHalfTimes M.Scales.depth s (V.ByteVector.bytes low) (V.ByteVector.bytes high) (V.ByteVector.bytes result.0)
+        (V.ByteVector.bytes result.1) }
+{
+    low.holds_bytes();
+    high.holds_bytes();
+    let both = multiples.both.times(low.sum(high));
+    both.holds_bytes();
+    let low_product = multiples.low.times(low);
+    low_product.holds_bytes();
+    let high_product = multiples.high.times(high);
+    high_product.holds_bytes();
+    (low_product.sum(both), high_product.sum(both))
 }
 
 // The low elements of the pairs of two vectors, those of the first at even places, and the high ones.
@@ -177,20 +189,11 @@ pub(crate) fn pair_of_vectors<M: Scales, V: ChunkVector>(
     ensures { (s : ℕ) → M.are_multiples multiples.now s → s < 2 ^ 2 ^ level_of M.depth → (e : ℕ) → M.depth ≤ e
         → TakesChunks inverse e s (V.ByteVector.bytes lo) (V.ByteVector.bytes hi) (V.ByteVector.bytes result.0) (V.ByteVector.bytes result.1) }
 {
-    lo.holds_bytes();
-    hi.holds_bytes();
     if inverse {
         let high = hi.sum(lo);
-        high.holds_bytes();
-        let product = multiples.times(high);
-        product.holds_bytes();
-        (lo.sum(product), high)
+        (low_before(lo, hi, high, multiples.times(high)), high)
     } else {
-        let product = multiples.times(hi);
-        product.holds_bytes();
-        let low = lo.sum(product);
-        low.holds_bytes();
-        (low, hi.sum(low))
+        pair_after(lo, hi, multiples.times(hi))
     }
 }
 
@@ -209,35 +212,50 @@ pub(crate) fn two_pairs_of_vectors<M: Scales, V: ChunkVector>(
         → TakesChunks inverse e s (V.ByteVector.bytes lo.1) (V.ByteVector.bytes hi.1) (V.ByteVector.bytes result.0.1)
         (V.ByteVector.bytes result.1.1) }
 {
-    let (lo_first, lo_second) = lo;
-    let (hi_first, hi_second) = hi;
-    lo_first.holds_bytes();
-    lo_second.holds_bytes();
-    hi_first.holds_bytes();
-    hi_second.holds_bytes();
     if inverse {
-        let upper_first = hi_first.sum(lo_first);
-        let upper_second = hi_second.sum(lo_second);
-        upper_first.holds_bytes();
-        upper_second.holds_bytes();
-        let upper = multiples.times_two(upper_first, upper_second);
-        upper.0.holds_bytes();
-        upper.1.holds_bytes();
-        let low_first = lo_first.sum(upper.0);
-        let low_second = lo_second.sum(upper.1);
-        ((low_first, low_second), (upper_first, upper_second))
+        let first = hi.0.sum(lo.0);
+        let second = hi.1.sum(lo.1);
+        let product = multiples.times_two(first, second);
+        let low_first = low_before(lo.0, hi.0, first, product.0);
+        let low_second = low_before(lo.1, hi.1, second, product.1);
+        ((low_first, low_second), (first, second))
     } else {
-        let product = multiples.times_two(hi_first, hi_second);
-        product.0.holds_bytes();
-        product.1.holds_bytes();
-        let lower_first = lo_first.sum(product.0);
-        let lower_second = lo_second.sum(product.1);
-        lower_first.holds_bytes();
-        lower_second.holds_bytes();
-        let high_first = hi_first.sum(lower_first);
-        let high_second = hi_second.sum(lower_second);
-        ((lower_first, lower_second), (high_first, high_second))
+        let product = multiples.times_two(hi.0, hi.1);
+        let (low_first, high_first) = pair_after(lo.0, hi.0, product.0);
+        let (low_second, high_second) = pair_after(lo.1, hi.1, product.1);
+        ((low_first, low_second), (high_first, high_second))
     }
+}
+
+// What the inverse butterflies make of `lo`, where `high` is what they make of `hi`, and `product` the products of that.
+#[inline(always)]
+fn low_before<V: ChunkVector>(lo: V, hi: V, high: V, product: V) -> V
+    ensures { (inverse : Bool) → IsTrue inverse → (d s : ℕ) → s < 2 ^ 2 ^ level_of d
+        → V.ByteVector.bytes high ≡ zip2 bit_xor (V.ByteVector.bytes hi) (V.ByteVector.bytes lo)
+        → AreTimes d s (V.ByteVector.bytes high) (V.ByteVector.bytes product) → (e : ℕ) → d ≤ e
+        → TakesChunks inverse e s (V.ByteVector.bytes lo) (V.ByteVector.bytes hi) (V.ByteVector.bytes result) (V.ByteVector.bytes high) }
+{
+    lo.holds_bytes();
+    hi.holds_bytes();
+    high.holds_bytes();
+    product.holds_bytes();
+    lo.sum(product)
+}
+
+// What the forward butterflies make of `lo` and `hi`, where `product` has the products of `hi`.
+#[inline(always)]
+fn pair_after<V: ChunkVector>(lo: V, hi: V, product: V) -> (V, V)
+    ensures { (inverse : Bool) → inverse ≡ false → (d s : ℕ) → s < 2 ^ 2 ^ level_of d
+        → AreTimes d s (V.ByteVector.bytes hi) (V.ByteVector.bytes product) → (e : ℕ) → d ≤ e
+        → TakesChunks inverse e s (V.ByteVector.bytes lo) (V.ByteVector.bytes hi) (V.ByteVector.bytes result.0)
+        (V.ByteVector.bytes result.1) }
+{
+    lo.holds_bytes();
+    hi.holds_bytes();
+    product.holds_bytes();
+    let low = lo.sum(product);
+    low.holds_bytes();
+    (low, hi.sum(low))
 }
 
 // A number as the sixteen bytes of a vector.

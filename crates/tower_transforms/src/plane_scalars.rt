@@ -1,7 +1,8 @@
 // The multiples of a scalar, by which elements in planes are multiplied, at every level.
-ghost use Rattle.std.specs.Prelude.{◌≡◌, ◌/◌, ◌%◌, ◌^◌, ◌<◌, ◌≤◌};
+ghost use Rattle.std.specs.Prelude.{◌≡◌, ◌^◌, ◌<◌, ◌≤◌};
 ghost use Rattle.field_base.specs.Quadratic.{pair};
 ghost use Rattle.field_base.specs.Tower.{root, tower_mul};
+ghost use Rattle.tower_transforms.specs.Products.{HasHalves};
 ghost use Rattle.tower_transforms.specs.Rows.{level_of};
 
 use crate::blocks::ByteBlock;
@@ -42,7 +43,7 @@ impl<M, P: PlaneScalars<M>> PlaneScalars<HalfMultiples<M>> for Pair<P> {
     #[inline]
     fn multiples(scalar: u128, bits: u32) -> HalfMultiples<M> {
         let half = bits / 2;
-        let (low, high) = halves_of(scalar, half);
+        let (low, high) = halves_of(scalar, bits);
         let sum = low ^ high;
         HalfMultiples {
             both: P::multiples(high, half),
@@ -55,18 +56,18 @@ impl<M, P: PlaneScalars<M>> PlaneScalars<HalfMultiples<M>> for Pair<P> {
     #[inline]
     fn times_root(scalar: u128, bits: u32) -> u128 {
         let half = bits / 2;
-        let (low, high) = halves_of(scalar, half);
+        let (low, high) = halves_of(scalar, bits);
         pair_of(high, low ^ P::times_root(high, half), half)
     }
 }
 
-// The low bits of a number, so many, and those above them.
+// The halves of a number of so many bits, the low one and the high one.
 #[inline]
-fn halves_of(number: u128, half: u32) -> (u128, u128)
-    requires { half ≤ 64 }
-    ensures low { result.0 ≡ number % 2 ^ half }
-    ensures high { result.1 ≡ number / 2 ^ half }
+fn halves_of(number: u128, bits: u32) -> (u128, u128)
+    requires { bits ≤ 128 }
+    ensures { HasHalves bits number result.0 result.1 }
 {
+    let half = bits / 2;
     (number % (1 << half), number >> half)
 }
 

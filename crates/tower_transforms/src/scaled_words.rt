@@ -1,5 +1,5 @@
 // Slices of words that are multiplied by one scalar, in planes.
-ghost use Rattle.std.specs.Prelude.{◌≡◌, ◌^◌, ◌<◌, ◌≤◌, ℕ, bit_xor, length, map, slice_index};
+ghost use Rattle.std.specs.Prelude.{◌≡◌, ◌+◌, ◌^◌, ◌<◌, ◌≤◌, ℕ, bit_xor, length, map, slice_index};
 ghost use Rattle.field_base.specs.Tower.{tower_mul};
 ghost use Rattle.tower_transforms.specs.Rows.{level_of};
 ghost use Rattle.tower_transforms.specs.Units.{FirstAre};
@@ -26,9 +26,7 @@ pub fn multiply_words<R: Stored, W: WordBytes<R>, M, P: WordPlanes<R, W, M>>(
     let blocks = words.len() / lanes;
     for block in 0..blocks {
         let start = lanes * block;
-        let elements = P::gather(words, start, lanes);
-        let mut products = elements;
-        products.set_product(multiples, &elements);
+        let products: P = products_at(words, start, lanes, multiples);
         products.scatter(words, start, lanes);
     }
     lanes * blocks
@@ -57,11 +55,29 @@ pub fn add_multiples<R: Stored, W: WordBytes<R>, M, P: WordPlanes<R, W, M>>(
     let blocks = words.len() / lanes;
     for block in 0..blocks {
         let start = lanes * block;
-        let elements = P::gather(words, start, lanes);
-        let mut products = elements;
-        products.set_product(multiples, &elements);
+        let mut products: P = products_at(words, start, lanes, multiples);
         products.add(&P::gather(sums, start, lanes));
         products.scatter(sums, start, lanes);
     }
     lanes * blocks
+}
+
+// The products of the words from `start` on, as many as there are elements.
+#[inline(always)]
+fn products_at<R: Stored, W: WordBytes<R>, M, P: WordPlanes<R, W, M>>(
+    words: &[W],
+    start: usize,
+    lanes: usize,
+    multiples: &M,
+) -> P
+    requires size { W.size ≡ P.Planes.depth }
+    requires count { lanes ≡ P.Planes.lanes }
+    requires inside { start + lanes ≤ length words.now }
+    ensures { (s : ℕ) → P.Planes.are_multiples multiples.now s → (l : ℕ) → l < P.Planes.lanes
+        → P.Planes.lane result l ≡ tower_mul (level_of P.Planes.depth) s (slice_index (map W.Holds.number words.now) (start + l)) }
+{
+    let elements = P::gather(words, start, lanes);
+    let mut products = elements;
+    products.set_product(multiples, &elements);
+    products
 }

@@ -11,9 +11,9 @@ loop-block-preserved g c =
       c.scatter.ensures.length ∙ c.loop-block.invariant.0,
       λ s are.
           block_added g.P.Planes.depth g.W.WordBytes.size g.P.Planes.lanes c.lane_count-lanes.result c.loop-block.block s c.requires.size
-          c.lane_count-lanes.ensures.count _ _ _ _ (map g.W.Holds.number c.args.words.now) (map g.W.Holds.number c.args.sums.now)
+          c.lane_count-lanes.ensures.count _ _ _ (map g.W.Holds.number c.args.words.now) (map g.W.Holds.number c.args.sums.now)
           (map g.W.Holds.number c.loop-block.sums) (map g.W.Holds.number c.scatter.new.words) c.requires.fit (c.loop-block.invariant.1 s are)
-          c.gather-elements.ensures (c.set_product.ensures s are) c.gather.ensures c.add.ensures c.scatter.ensures.words,
+          (c.products_at-products.ensures s are) c.gather.ensures c.add.ensures c.scatter.ensures.words,
       omega (arith, within),
     )
 

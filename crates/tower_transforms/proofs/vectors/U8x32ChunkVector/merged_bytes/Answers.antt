@@ -1,12 +1,8 @@
-use Rattle.std.proofs.Common.{refl, sym, subst}
-use Rattle.tower_transforms.specs.Chunks.{AreMerged}
-use Rattle.tower_transforms.proofs.ChunkProducts.{halved, two_merged}
+use Rattle.std.proofs.Common.{refl}
+use Rattle.tower_transforms.proofs.ChunkProducts.{two_merged}
 use Rattle.tower_transforms.proofs.vectors.U8x32ChunkVector.merged_bytes.Goals as goal
 
 pub returns : goal.returns
 returns c =
-    subst (AreMerged 0 c.args.self c.args.highs) (sym c.joined.ensures)
-    (two_merged 0 8 c.args.self c.args.highs c.halves.result.0 c.halves.result.1 c.halves-2.result.0
-    c.halves-2.result.1 c.merged_bytes-merged.result c.merged_bytes.result refl
-    (halved c.args.self _ _ c.fits-self.0 c.halves.ensures) (halved c.args.highs _ _ c.fits-highs.0 c.halves-2.ensures)
-    c.holds_bytes.ensures.count c.merged_bytes-merged.ensures c.merged_bytes.ensures)
+    two_merged 0 8 c.args.self c.args.highs c.joined.result _ _ _ _ _ _ refl c.fits-self.0 c.halves.ensures c.fits-highs.0 c.halves-2.ensures
+    c.holds_bytes.ensures.count c.joined.ensures c.merged_bytes-merged.ensures c.merged_bytes.ensures

@@ -1,6 +1,6 @@
 use Rattle.std.proofs.Common.{map}
 use Rattle.tower_transforms.proofs.WordRows.{chunks_are}
-use Rattle.tower_transforms.proofs.word_rows.U8x16WordVector.read_words.Goals as goal
+use Rattle.tower_transforms.proofs.word_rows.U8x16WordBlock.read_words.Goals as goal
 
 pub returns : goal.returns
 returns g c =
