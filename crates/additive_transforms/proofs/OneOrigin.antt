@@ -238,16 +238,12 @@ module _ (width : ℕ) (times : ℕ → ℕ → ℕ) (vector : ℕ → ℕ) (wid
 -- ---- in the field of GHASH, with the twiddles of 40 stages
 
 module _ (shifts basis : List ℕ) (z : ℕ) (twiddles : AreCantorTwiddles 128 ghash_product ghash_cantor_vector z 40 shifts basis) (long : length basis ≡ 39) (m : ℕ) (few : m ≤ 40) where
-  -- the basis is one shorter than the shifts
-  one_shorter : suc (length basis) ≡ 40
-  one_shorter = omega (arith, long)
-
   -- the forward transform leaves the values where the four lowest stages were done in runs
   pub forward_leaves : (enough : 4 ≤ m) (low_shifts low_basis old now new : List ℕ) → low_shifts ≡ take 4 shifts → low_basis ≡ take (m - 1) basis
       → length old ≡ 2 ^ m → length now ≡ 2 ^ m → AreLeft ghash_product shifts basis m 4 old now → HoldSums low_shifts low_basis 0 now new
       → HoldPolynomialValues z old new
   forward_leaves enough low_shifts low_basis old now new are_shifts are_basis whole whole' left sums =
-      values_of 128 ghash_product ghash_cantor_vector (lit< tt) ghash_ring ghash_vectors shifts basis z 40 twiddles one_shorter m few
+      values_of 128 ghash_product ghash_cantor_vector (lit< tt) ghash_ring ghash_vectors shifts basis z 40 twiddles (ap suc long) m few
       old new whole
       (λ p inside.
       low_stages_are shifts basis z twiddles long m enough few now new whole'

@@ -1,6 +1,5 @@
 // Kernels that compute one pair of places at a time.
 ghost use Rattle.std.specs.Prelude.{◌≡◌, ℕ, ◌+◌, ◌-◌, ◌*◌, ◌%◌, ◌/◌, ◌^◌, ◌<◌, ◌≤◌, length, map, slice_index, bit_xor};
-ghost use Rattle.field_base.specs.LinearMaps.{linear_image};
 ghost use Rattle.ghash_slices.specs.LowStages.{ghash_product, HoldSums};
 ghost use Rattle.ghash_slices.specs.Slices.{IsForward, IsInverse};
 ghost use Rattle.ghash_slices.specs.Stages.{add_multiple};
@@ -133,17 +132,9 @@ fn low_stage<P: PairKernel>(
     let first = first_block(first_run, stage);
     for block in 0..values.len() / (2 * half) {
         let start = start_of(block, 2 * half, values.len());
-        let twiddle = twiddle_of(shifts, basis, stage, first + block as u128);
+        let twiddle = shifts[stage] ^ sum_of_images(basis, first + block as u128);
         pairs_of_block(pairs, &mut values[start..start + 2 * half], half, twiddle);
     }
-}
-
-// The twiddle of all pairs of a block of one of those stages.
-fn twiddle_of(shifts: &[u128; 4], basis: &[u128], stage: usize, block: u128) -> u128
-    requires { stage < 4 }
-    ensures { result ≡ bit_xor (slice_index shifts.now stage) (linear_image basis.now block) }
-{
-    shifts[stage] ^ sum_of_images(basis, block)
 }
 
 // The forward butterfly of each pair of a block of twice `half` places.

@@ -5,9 +5,10 @@ ghost use Rattle.additive_transforms.specs.Stages.{TakesBlock, TakesStage};
 
 use crate::kernel::Kernel;
 use crate::twiddles::Twiddles;
+use word_tables::sum_of_images;
 
 /// A stage of the forward transform, or, where `inverse` is true, of the inverse one: the butterfly in each block of 2^(stage + 1) places,
-/// with the block's twiddle.
+/// with the block's twiddle: the shift of the stage, and the elements of the basis at the set bits of the block's number.
 pub(crate) fn run_stage<K: Kernel>(
     kernel: &mut K,
     values: &mut [K::Elem],
@@ -26,7 +27,7 @@ pub(crate) fn run_stage<K: Kernel>(
     let half = half_of(stage);
     for block in 0..values.len() / (2 * half) {
         let start = start_of(block, 2 * half, values.len());
-        let twiddle = twiddles.of_block(stage, block);
+        let twiddle = twiddles.shifts[stage] ^ sum_of_images(&twiddles.basis, block as u128);
         run_block(
             kernel,
             &mut values[start..start + 2 * half],

@@ -1,11 +1,10 @@
 // The twiddles of all the stages of a transform.
-ghost use Rattle.std.specs.Prelude.{◌≡◌, ◌<◌, ◌≤◌, ℕ, bit_xor, length, slice_index, take};
-ghost use Rattle.field_base.specs.LinearMaps.{linear_image};
+ghost use Rattle.std.specs.Prelude.{◌≡◌, ◌<◌, ◌≤◌, ℕ, length, take};
 ghost use Rattle.ghash_slices.specs.LowStages.{ghash_cantor_vector, ghash_product};
 ghost use Rattle.ghash_slices.specs.Cantor.{AreCantorTwiddles};
 
 use word_carryless::square_mod_128;
-use word_tables::{cantor_vector, sum_of_images, to_polynomial_128};
+use word_tables::{cantor_vector, to_polynomial_128};
 
 /// The twiddles of a transform with the shift z: shift j is s_j(z), and element t of the basis is Cantor vector t + 1.
 #[derive(Drop)]
@@ -42,14 +41,5 @@ impl Twiddles {
             self.shifts[2],
             self.shifts[3],
         ]
-    }
-
-    /// The twiddle of all pairs of a block of a stage: the shift of the stage, and the elements of the basis at the set bits of
-    /// the block's number.
-    pub(crate) fn of_block(&self, stage: usize, block: usize) -> u128
-        requires { stage < 40 }
-        ensures { result ≡ bit_xor (slice_index self.now.shifts stage) (linear_image self.now.basis block) }
-    {
-        self.shifts[stage] ^ sum_of_images(&self.basis, block as u128)
     }
 }

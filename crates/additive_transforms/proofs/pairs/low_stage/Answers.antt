@@ -11,7 +11,8 @@ loop-block-preserved g c =
     stage_step false ghash_product (λ (q : ℕ). twiddle (c.args.first_run * 2 ^ (3 - c.args.stage) + q)) c.args.stage _
     c.half_of-half.ensures.half g.P.PairKernel.value _ _ _ c.args.values.now c.loop-block.values c.pairs_of_block.new.block
     c.start_of-start.ensures.start c.start_of-start.ensures.inside c.pairs_of_block.ensures.length
-    (c.twiddle_of-twiddle.ensures ∙ ap (λ (b : ℕ). twiddle (b + c.loop-block.block)) c.first_block-first.ensures.first)
+    (ap (bit_xor (slice_index c.args.shifts.now c.args.stage)) c.sum_of_images.ensures
+    ∙ ap (λ (b : ℕ). twiddle (b + c.loop-block.block)) c.first_block-first.ensures.first)
     c.pairs_of_block.ensures.values c.loop-block.invariant.0 c.loop-block.invariant.1
 
 pub returns-clause-stage : goal.returns-clause-stage

@@ -1,4 +1,4 @@
-use Rattle.std.proofs.Common.{ℕ, arith}
+use Rattle.std.proofs.Common.{ℕ, ap, arith}
 use Rattle.std.specs.Prelude.{bit_xor, slice_index}
 use Rattle.field_base.specs.LinearMaps.{linear_image}
 use Rattle.ghash_slices.specs.LowStages.{ghash_product}
@@ -15,7 +15,8 @@ loop-block-preserved g c =
     stage_step c.args.inverse ghash_product
     (λ (q : ℕ). bit_xor (slice_index twiddles.shifts c.args.stage) (linear_image twiddles.basis q)) c.args.stage _ half
     g.K.Kernel.value _ _ _ c.args.values.now c.loop-block.values c.run_block.new.block c.start_of-start.ensures.start
-    c.start_of-start.ensures.inside c.run_block.ensures.length c.of_block-twiddle.ensures c.run_block.ensures.values
+    c.start_of-start.ensures.inside c.run_block.ensures.length
+    (ap (bit_xor (slice_index twiddles.shifts c.args.stage)) c.sum_of_images.ensures) c.run_block.ensures.values
     c.loop-block.invariant.0 c.loop-block.invariant.1 in
     (both.0, both.1, omega (arith, count, counted, half))
 
