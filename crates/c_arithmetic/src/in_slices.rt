@@ -46,6 +46,9 @@ impl<V: Vector> FieldInSlices<u128, V> for Tower<Bits128> {
     ghost level_law = { level_in_slices 7 wide_number };
 }
 
+/// The least number of words that may pay in slices of bits: fewer are computed one after another, and neither copied first nor put in a block.
+const LEAST_IN_SLICES: usize = 32;
+
 /// Writes the product of the words at each place.
 #[inline]
 pub fn multiply<R: Stored, K: FieldInSlices<R, V>, V: Vector>(
@@ -55,7 +58,7 @@ pub fn multiply<R: Stored, K: FieldInSlices<R, V>, V: Vector>(
 ) -> u32
     ensures { Multiplies (field_of K.Word.Holds.number K.width K.product K.generator) left.now right.now products.old products.new result }
 {
-    if left.len() < V::lanes() {
+    if left.len() < LEAST_IN_SLICES {
         return slices::write_each_of_two::<R, K::Word, K, Product>(left, right, products, &Product);
     }
     if left.len() != products.len() || right.len() != products.len() {
@@ -78,7 +81,7 @@ pub fn multiply_in_place<R: Stored, K: FieldInSlices<R, V>, V: Vector>(
     ensures { Multiplies (field_of K.Word.Holds.number K.width K.product K.generator) products.old words.now products.old
         products.new result }
 {
-    if products.len() < V::lanes() {
+    if products.len() < LEAST_IN_SLICES {
         return in_place::change_each_by::<R, K::Word, K, Product>(products, words, &Product);
     }
     if words.len() != products.len() {
@@ -99,7 +102,7 @@ pub fn invert<R: Stored, K: FieldInSlices<R, V>, V: Vector>(
 ) -> u32
     ensures { Inverts (field_of K.Word.Holds.number K.width K.product K.generator) words.now inverses.old inverses.new result }
 {
-    if words.len() < V::lanes() {
+    if words.len() < LEAST_IN_SLICES {
         return slices::write_each::<R, K::Word, K, Inverse>(words, inverses, &Inverse, false);
     }
     if words.len() != inverses.len() {
@@ -118,7 +121,7 @@ pub fn invert<R: Stored, K: FieldInSlices<R, V>, V: Vector>(
 pub fn invert_in_place<R: Stored, K: FieldInSlices<R, V>, V: Vector>(words: &mut [K::Word]) -> u32
     ensures { Inverts (field_of K.Word.Holds.number K.width K.product K.generator) words.old words.old words.new result }
 {
-    if words.len() < V::lanes() {
+    if words.len() < LEAST_IN_SLICES {
         return in_place::change_each::<R, K::Word, K, Inverse>(words, &Inverse);
     }
     if !are_elements::<R, K::Word, K>(words) {
