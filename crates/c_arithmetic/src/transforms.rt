@@ -11,9 +11,7 @@ use crate::{Wide, status};
 use additive_transforms::stages_of;
 use field_base::{FieldKernel, Unsigned};
 use ghash_slices::{WideWord, Width, add_each, add_multiples, run_low_stages};
-use tower_transforms::{
-    WordBytes, forward_level_in_vectors, inverse_level_in_vectors, transform_ghash,
-};
+use tower_transforms::{WordBytes, forward_level, inverse_level, transform_ghash};
 use word_tower::{Level, Tower};
 
 /// At each place `low += scalar * high`, and then `high += low`.
@@ -96,7 +94,7 @@ pub fn transform_level<R: Unsigned, W: WordBytes<R>, L: Level<R>>(values: &mut [
     if !fits_level::<R, L>(values.len()) {
         return status::LENGTH;
     }
-    forward_level_in_vectors::<R, L, W>(values, shift.stored());
+    forward_level::<R, L, W>(values, shift.stored());
     status::OK
 }
 
@@ -110,7 +108,7 @@ pub fn inverse_transform_level<R: Unsigned, W: WordBytes<R>, L: Level<R>>(
     if !fits_level::<R, L>(values.len()) {
         return status::LENGTH;
     }
-    inverse_level_in_vectors::<R, L, W>(values, shift.stored());
+    inverse_level::<R, L, W>(values, shift.stored());
     status::OK
 }
 

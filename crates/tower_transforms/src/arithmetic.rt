@@ -15,69 +15,19 @@ use crate::pairs::run_all;
 use crate::products::{ChunkScalar, WholeScalar};
 use crate::word_bytes::WordBytes;
 use crate::word_rows::run_words;
-use crate::words::Holds;
 use additive_transforms::StageArithmetic;
 use field_base::{LevelKernel, Unsigned};
 use std::marker::PhantomData;
 use word_tower::{Level, Tower};
 
-/// The arithmetic of the level `L` of the tower, with words `W` that hold its words `R`.
-pub(crate) struct OfWords<R, L, W> {
+/// The arithmetic of the level `L` of the tower, with words `W` that hold its words `R` and are read into vectors of their bytes.
+pub(crate) struct OfLevel<R, L, W> {
     stored: PhantomData<R>,
     level: PhantomData<L>,
     words: PhantomData<W>,
 }
 
-impl<R: Unsigned, L: Level<R>, W: Holds<R>> StageArithmetic for OfWords<R, L, W> {
-    type Value = W;
-
-    type Twiddle = R;
-
-    ghost width = { 2 ^ L.LEVEL };
-
-    ghost product = { tower_mul L.LEVEL };
-
-    ghost vector = { cantor_vector };
-
-    ghost value = { level_element W.number L.LEVEL };
-
-    ghost number = { R.number };
-
-    #[inline]
-    fn sum(x: R, y: R) -> R {
-        x.xor(y)
-    }
-
-    #[inline]
-    fn cantor_vector(i: usize) -> R {
-        <Tower<L> as LevelKernel<R>>::cantor_vector(i)
-    }
-
-    fn shift(z: R, stage: usize) -> R {
-        shift_of::<R, L>(z, stage)
-    }
-
-    fn butterflies(lo: &mut [W], hi: &mut [W], twiddle: R, inverse: bool) {
-        run_block_of_words::<R, L, W>(lo, hi, twiddle, inverse);
-    }
-
-    ghost wide_law = { pow_pos L.LEVEL };
-
-    ghost ring_law = { tower_ring L.LEVEL };
-
-    ghost vector_law = { level_vectors L.LEVEL L.few };
-
-    ghost range_law = { λ x. mod-lt (W.number x) (pow_pos (2 ^ L.LEVEL)) };
-}
-
-/// The same of words that are read into vectors of their bytes.
-pub(crate) struct OfVectors<R, L, W> {
-    stored: PhantomData<R>,
-    level: PhantomData<L>,
-    words: PhantomData<W>,
-}
-
-impl<R: Unsigned, L: Level<R>, W: WordBytes<R>> StageArithmetic for OfVectors<R, L, W> {
+impl<R: Unsigned, L: Level<R>, W: WordBytes<R>> StageArithmetic for OfLevel<R, L, W> {
     type Value = W;
 
     type Twiddle = R;
@@ -130,40 +80,8 @@ pub(crate) fn shift_of<R: Unsigned, L: Level<R>>(z: R, stage: usize) -> R
     shift
 }
 
-// The butterflies of the halves of a block: products by 8, 16 or 32 bits where the twiddle has no more, and whole ones otherwise. The lowest
-// stages have blocks of few pairs, so that a call of its own would count.
-#[inline(always)]
-pub(crate) fn run_block_of_words<R: Unsigned, L: Level<R>, W: Holds<R>>(
-    lo: &mut [W],
-    hi: &mut [W],
-    twiddle: R,
-    inverse: bool,
-)
-    requires { length lo.old ≡ length hi.old }
-    ensures lower { length lo.new ≡ length lo.old }
-    ensures upper { length hi.new ≡ length hi.old }
-    ensures values { let element = level_element W.number L.LEVEL in
-        TakesBlock inverse (tower_mul L.LEVEL) (R.number twiddle) (length lo.old) (slice_index (map element lo.old ++ map element hi.old))
-        (slice_index (map element lo.new ++ map element hi.new)) }
-{
-    let level = PhantomData::<L>;
-    let scalar = twiddle.to_u128();
-    if 3 <= L::LEVEL && scalar < 1 << 8 {
-        let multiples = multiples_8(scalar as u8);
-        run_all(lo, hi, &ChunkScalar { multiples, level }, inverse);
-    } else if 4 <= L::LEVEL && scalar < 1 << 16 {
-        let multiples = multiples_16(scalar as u16);
-        run_all(lo, hi, &ChunkScalar { multiples, level }, inverse);
-    } else if 5 <= L::LEVEL && scalar < 1 << 32 {
-        let multiples = multiples_32(scalar as u32);
-        run_all(lo, hi, &ChunkScalar { multiples, level }, inverse);
-    } else {
-        let scalar = twiddle;
-        run_all(lo, hi, &WholeScalar { scalar, level }, inverse);
-    }
-}
-
-/// The same, in vectors of the bytes of the words.
+/// The butterflies of the halves of a block: products by 8, 16 or 32 bits in vectors where the twiddle has no more, and whole ones
+/// otherwise. The lowest stages have blocks of few pairs, so that a call of its own would count.
 #[inline(always)]
 pub(crate) fn run_block<R: Unsigned, L: Level<R>, W: WordBytes<R>>(
     lo: &mut [W],

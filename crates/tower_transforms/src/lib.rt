@@ -42,9 +42,7 @@ pub use crate::plane_scalars::PlaneScalars;
 pub use crate::planes::Planes;
 pub use crate::scaled_words::{add_multiples, multiply_words};
 pub use crate::vectors::ChunkVector;
-pub use crate::whole::{
-    forward_level, forward_level_in_vectors, inverse_level, inverse_level_in_vectors,
-};
-pub use crate::word_bytes::WordBytes;
+pub use crate::whole::{forward_level, inverse_level};
+pub use crate::word_bytes::{StoredBytes, WordBytes};
 pub use crate::word_planes::WordPlanes;
 pub use crate::words::{GhashWord, Holds};

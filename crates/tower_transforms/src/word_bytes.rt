@@ -5,7 +5,7 @@ ghost use Rattle.tower_transforms.specs.ChunkLemmas.{no_halves, one_half, two_ha
 ghost use Rattle.tower_transforms.specs.Units.{ArePut, AreUnits};
 
 use crate::words::Holds;
-use field_base::Stored;
+use field_base::{Stored, Unsigned};
 use std::simd::prelude::*;
 use word_carryless::{bytes_of_128, number_of_bytes};
 
@@ -34,6 +34,31 @@ pub trait WordBytes<R: Stored>: Holds<R> {
     ghost size_law: { size ≤ 4 };
 
     ghost bits_law: { R.bits ≡ 2 ^ level_of size };
+}
+
+/// A stored word that is a word of a slice itself, and so has one number as both.
+pub trait StoredBytes: Unsigned + WordBytes<Self> {
+    ghost number_law: { Self.Holds.number ≡ Self.Stored.number };
+}
+
+impl StoredBytes for u8 {
+    ghost number_law = { refl };
+}
+
+impl StoredBytes for u16 {
+    ghost number_law = { refl };
+}
+
+impl StoredBytes for u32 {
+    ghost number_law = { refl };
+}
+
+impl StoredBytes for u64 {
+    ghost number_law = { refl };
+}
+
+impl StoredBytes for u128 {
+    ghost number_law = { refl };
 }
 
 impl WordBytes<u8> for u8 {

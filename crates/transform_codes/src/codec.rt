@@ -12,6 +12,7 @@ use crate::encoding::encode_columns;
 use crate::error::TransformCodeError;
 use crate::restoring::{restore_column, set_factors, set_points};
 use field_base::Unsigned;
+use tower_transforms::StoredBytes;
 use word_tower::Level;
 
 /// An erasure code of so many shards of data and of parity. The data, of which there are k, have the points from 0 on, and the parity has
@@ -98,7 +99,7 @@ impl TransformCode {
     /// Writes the shards of parity. `data` and `parity` have their shards, of one size, one after the other; a word is an element of the
     /// level `L`, by as many bits as that has. What `space` has before and afterwards does not matter: it takes two words for each of
     /// `coefficient_count`. The error is the first that applies.
-    pub fn encode<R: Unsigned, L: Level<R>>(
+    pub fn encode<R: StoredBytes, L: Level<R>>(
         &self,
         space: &mut [R],
         shards: &[R],
@@ -106,7 +107,7 @@ impl TransformCode {
     ) -> Result<(), TransformCodeError>
         ensures accepted { IsOk result ↔ CanEncode L.LEVEL self.now.levels self.now.data_shards self.now.parity_shards
             (length shards.now) (length parity.old) (2 * 2 ^ self.now.levels) (length space.old) }
-        ensures encoded { IsOk result → AreCodedColumns (level_element R.number L.LEVEL) R.ZERO L.LEVEL self.now.levels
+        ensures encoded { IsOk result → AreCodedColumns (level_element R.Stored.number L.LEVEL) R.ZERO L.LEVEL self.now.levels
             self.now.data_shards self.now.parity_shards (length shards.now / self.now.data_shards) shards.now parity.new }
         ensures long { length parity.new ≡ length parity.old }
         ensures refused { IfErr result (λ error. EncodeError L.LEVEL self.now.levels self.now.data_shards self.now.parity_shards
@@ -124,7 +125,7 @@ impl TransformCode {
     /// Whether the shards of parity are those of the data, symbol by symbol: those that `encode` writes, where bits of a word above the
     /// level do not count. What `space` has before and afterwards does not matter: it takes two words for each of `coefficient_count`,
     /// and one for each shard of parity. The error is the first that applies.
-    pub fn verify<R: Unsigned, L: Level<R>>(
+    pub fn verify<R: StoredBytes, L: Level<R>>(
         &self,
         space: &mut [R],
         shards: &[R],
@@ -133,7 +134,7 @@ impl TransformCode {
         ensures accepted { let needed = 2 * 2 ^ self.now.levels + self.now.parity_shards in
             IsOk result ↔ CanEncode L.LEVEL self.now.levels self.now.data_shards self.now.parity_shards
             (length shards.now) (length parity.now) needed (length space.old) }
-        ensures answer { IfOk result (λ is_whole. IsTrue is_whole ↔ AreCodedColumns (level_element R.number L.LEVEL) R.ZERO L.LEVEL
+        ensures answer { IfOk result (λ is_whole. IsTrue is_whole ↔ AreCodedColumns (level_element R.Stored.number L.LEVEL) R.ZERO L.LEVEL
             self.now.levels self.now.data_shards self.now.parity_shards (length shards.now / self.now.data_shards) shards.now parity.now) }
         ensures refused { IfErr result (λ error. EncodeError L.LEVEL self.now.levels self.now.data_shards self.now.parity_shards
             (length shards.now) (length parity.now) error) }
@@ -154,7 +155,7 @@ impl TransformCode {
     /// anything. The shards at hand stay. What `space` has does not matter: it takes five words for each of `point_count`, and the level
     /// has to have twice as many points. A column takes four transforms, and all columns together a product for each of twice
     /// `point_count` points and each symbol that is lost. The error is the first that applies.
-    pub fn reconstruct<R: Unsigned, L: Level<R>>(
+    pub fn reconstruct<R: StoredBytes, L: Level<R>>(
         &self,
         space: &mut [R],
         shards: &mut [R],
@@ -164,7 +165,7 @@ impl TransformCode {
         ensures accepted { IsOk result ↔ CanRebuild L.LEVEL self.now.all_levels self.now.data_shards self.now.parity_shards
             (length shards.old) (length parity.old) (length space.old) present.now }
         ensures restored { let size = length shards.old / self.now.data_shards in
-            IsOk result → AreRestoredColumns (level_element R.number L.LEVEL) R.ZERO L.LEVEL self.now.levels self.now.data_shards
+            IsOk result → AreRestoredColumns (level_element R.Stored.number L.LEVEL) R.ZERO L.LEVEL self.now.levels self.now.data_shards
             self.now.parity_shards size present.now size shards.old parity.old shards.new parity.new }
         ensures long { length shards.new ≡ length shards.old }
         ensures parity_long { length parity.new ≡ length parity.old }
@@ -178,7 +179,7 @@ impl TransformCode {
     }
 
     // Restores the missing shards of words that are those of shards of a size.
-    fn restore_shards<R: Unsigned, L: Level<R>>(
+    fn restore_shards<R: StoredBytes, L: Level<R>>(
         &self,
         space: &mut [R],
         shards: &mut [R],
@@ -190,7 +191,7 @@ impl TransformCode {
         requires parity_whole { length parity.old ≡ self.now.parity_shards * size }
         requires can { CanRebuild L.LEVEL self.now.all_levels self.now.data_shards self.now.parity_shards
             (length shards.old) (length parity.old) (length space.old) present.now }
-        ensures restored { AreRestoredColumns (level_element R.number L.LEVEL) R.ZERO L.LEVEL self.now.levels self.now.data_shards
+        ensures restored { AreRestoredColumns (level_element R.Stored.number L.LEVEL) R.ZERO L.LEVEL self.now.levels self.now.data_shards
             self.now.parity_shards size present.now size shards.old parity.old shards.new parity.new }
         ensures long { length shards.new ≡ length shards.old }
         ensures parity_long { length parity.new ≡ length parity.old }

@@ -7,10 +7,11 @@ ghost use Rattle.transform_codes.specs.Columns.{FitEncoding};
 use crate::codec::TransformCode;
 use crate::encoding::{interpolate, write_parity};
 use field_base::Unsigned;
+use tower_transforms::StoredBytes;
 use word_tower::Level;
 
 // Whether each column is a code word. The coefficients, the block and a symbol for each shard of parity are space to compute in.
-pub(crate) fn are_coded<R: Unsigned, L: Level<R>>(
+pub(crate) fn are_coded<R: StoredBytes, L: Level<R>>(
     code: &TransformCode,
     coefficients: &mut [R],
     block: &mut [R],
@@ -22,7 +23,7 @@ pub(crate) fn are_coded<R: Unsigned, L: Level<R>>(
     requires fit { FitEncoding L.LEVEL code.now.levels code.now.data_shards code.now.parity_shards size (length shards.now)
         (length parity.now) (length coefficients.old) (length block.old) }
     requires symbols { length symbols.old ≡ code.now.parity_shards }
-    ensures { IsTrue result ↔ AreCodedColumns (level_element R.number L.LEVEL) R.ZERO L.LEVEL code.now.levels code.now.data_shards
+    ensures { IsTrue result ↔ AreCodedColumns (level_element R.Stored.number L.LEVEL) R.ZERO L.LEVEL code.now.levels code.now.data_shards
         code.now.parity_shards size shards.now parity.now }
 {
     for column in 0..size {

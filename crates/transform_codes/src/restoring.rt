@@ -9,8 +9,9 @@ ghost use Rattle.transform_codes.specs.Restoring.{RestoresSymbols, is_lost, miss
 
 use crate::codec::TransformCode;
 use crate::points::point_of;
+use crate::transforms::{forward_level, inverse_level};
 use field_base::Unsigned;
-use tower_transforms::{forward_level, inverse_level};
+use tower_transforms::StoredBytes;
 use word_tower::Level;
 
 // Sets word p to point p.
@@ -193,7 +194,7 @@ fn mend<R: Unsigned>(
 }
 
 // Restores one column.
-pub(crate) fn restore_column<R: Unsigned, L: Level<R>>(
+pub(crate) fn restore_column<R: StoredBytes, L: Level<R>>(
     values: &mut [R],
     factors: &[R],
     behind: R,
@@ -205,7 +206,7 @@ pub(crate) fn restore_column<R: Unsigned, L: Level<R>>(
     column: usize,
 )
     requires inside { column < size }
-    requires fit { FitRestoring R.number R.ZERO L.LEVEL code.now.levels code.now.data_shards code.now.parity_shards size
+    requires fit { FitRestoring R.Stored.number R.ZERO L.LEVEL code.now.levels code.now.data_shards code.now.parity_shards size
         code.now.all_levels present.now (length shards.old) (length parity.old) (length values.old) behind factors.now }
     ensures values_long { length values.new ≡ length values.old }
     ensures long { length shards.new ≡ length shards.old }
@@ -214,15 +215,15 @@ pub(crate) fn restore_column<R: Unsigned, L: Level<R>>(
         → slice_index_or shards.new (i * size + c) R.ZERO ≡ slice_index_or shards.old (i * size + c) R.ZERO }
     ensures parity_kept { (t c : ℕ) → c < size → (c ≢ column) ⊎ (IsAtHand present.now (code.now.data_shards + t))
         → slice_index_or parity.new (t * size + c) R.ZERO ≡ slice_index_or parity.old (t * size + c) R.ZERO }
-    ensures restored { RestoresSymbols (level_element R.number L.LEVEL) R.ZERO L.LEVEL code.now.levels code.now.data_shards
+    ensures restored { RestoresSymbols (level_element R.Stored.number L.LEVEL) R.ZERO L.LEVEL code.now.levels code.now.data_shards
         code.now.parity_shards size present.now column shards.old parity.old shards.new parity.new }
 {
     set_products::<R, L>(values, code, shards, parity, factors, size, column);
-    inverse_level::<R, L, R>(values, R::ZERO);
-    forward_level::<R, L, R>(values, behind);
+    inverse_level::<R, L>(values, R::ZERO);
+    forward_level::<R, L>(values, behind);
     divide_each::<R, L>(values, factors);
-    inverse_level::<R, L, R>(values, behind);
-    forward_level::<R, L, R>(values, R::ZERO);
+    inverse_level::<R, L>(values, behind);
+    forward_level::<R, L>(values, R::ZERO);
     mend(
         shards,
         values,

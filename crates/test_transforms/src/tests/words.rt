@@ -7,11 +7,16 @@ use field_element::{BinaryField16, BinaryField32, BinaryField64, BinaryField128}
 use std::alloc::{AllocError, Global};
 use std::test::Fail;
 use test_support::next_number;
-use tower_transforms::{forward_level, inverse_level};
+use tower_transforms::{WordBytes, forward_level, inverse_level};
 use word_tower::{Bits16, Bits32, Bits64, Bits128, Level, Tower};
 
 // Runs the transform of 2^m words for an m up to 12 and the level's bits, or, where `inverse` is true, the inverse one; or returns false.
-fn run_words<R: Unsigned, L: Level<R>>(words: &mut [R], m: usize, z: R, inverse: bool) -> bool {
+fn run_words<R: Unsigned + WordBytes<R>, L: Level<R>>(
+    words: &mut [R],
+    m: usize,
+    z: R,
+    inverse: bool,
+) -> bool {
     if m > 12 || m > <Tower<L> as FieldKernel<R>>::bits() || words.len() != 1 << m {
         return false;
     }
@@ -47,7 +52,10 @@ fn level_agrees<F: TowerLevel, L: Level<F::Repr>>(
     alloc: Global,
     m: usize,
     z: u128,
-) -> Result<bool, AllocError> {
+) -> Result<bool, AllocError>
+where
+    F::Repr: WordBytes<F::Repr>,
+{
     if m > 12 {
         return Ok(false);
     }
