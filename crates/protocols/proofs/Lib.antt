@@ -22,4 +22,5 @@ mod TableOpenings
 mod TableRows
 mod TermSteps
 mod ZeroChecks
+mod ZeroRuns
 mod ZeroSums

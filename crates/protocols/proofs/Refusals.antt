@@ -82,6 +82,17 @@ module _ (width rounds count : ℕ) (terms : List Product) where
   verifier-takes size long can error (inl is) = is.1 long
   verifier-takes size long can error (inr is) = can is.2
 
+  -- .. and has one error for others
+  pub refused-length : (size : ℕ) → size ≢ rounds * degree_of terms → (error : ProtocolError) → VerifierRefuses width rounds count terms size error
+      → error ≡ Length
+  refused-length size other error (inl is) = is.0
+  refused-length size other error (inr is) = absurd (other is.1)
+
+  pub refused-shape : (size : ℕ) → size ≡ rounds * degree_of terms → (error : ProtocolError) → VerifierRefuses width rounds count terms size error
+      → error ≡ Shape
+  refused-shape size long error (inl is) = absurd (is.1 long)
+  refused-shape size long error (inr is) = is.0
+
 -- factors below a number are below a greater one
 pub within-greater : (terms : List Product) (count most : ℕ) → count ≤ most → AreWithin count terms → AreWithin most terms
 unfolding AreWithin

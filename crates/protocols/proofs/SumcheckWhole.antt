@@ -80,7 +80,7 @@ module _ {C F : Type 0} (observes : C → F → C → Type 0) (gives : C → F �
         → InTurn observes elements old begun → Proved observes gives width times repr d terms count begun rounds values messages messages' point point' left new
         → IsRunOf observes gives repr old statement (messages_of d rounds messages') point' new
         × AreHonestMessages times terms count d values (map (map repr) (messages_of d rounds messages')) (map repr point')
-        × (map repr left ≡ folded_all times (map repr point') values) × (length (map repr point') ≡ rounds)
+        × (map repr left ≡ folded_all times (map repr point') values) × (length (map repr point') ≡ rounds) × (length messages' ≡ rounds * d)
     proved-run old begun new statement elements rounds values messages messages' point point' left no_messages no_point numbers observed proved =
         let sent : messages' ≡ proved.0 = proved.3 ∙ ap (λ (xs : List F). xs ++ proved.0) no_messages in
         let given : point' ≡ proved.1 = proved.4 ∙ ap (λ (xs : List F). xs ++ proved.1) no_point in
@@ -92,6 +92,7 @@ module _ {C F : Type 0} (observes : C → F → C → Type 0) (gives : C → F �
               (subst (λ (rs : List F). AreHonestMessages times terms count d values (map (map repr) (messages_of d rounds proved.0)) (map repr rs)) (sym given) proved.8),
           ap (map repr) proved.5 ∙ proved.9 ∙ ap (λ (rs : List F). folded_all times (map repr rs) values) (sym given),
           length-map point' repr ∙ turns-length observes gives (messages_of d rounds messages') point' begun new turns ∙ messages-length d rounds messages',
+          ap length sent ∙ proved.6,
         )
 
   -- ---- both

@@ -19,6 +19,7 @@ use Rattle.field_slices.proofs.CornerSums.{corners-line, eq_corner-lower, eq_cor
 use Rattle.protocols.specs.SumcheckClaims.{AreMessages, IsClaimShape}
 use Rattle.protocols.specs.Terms.{AreWithin, HaveFactors, cube_sum, table_value, terms_value}
 use Rattle.protocols.specs.ZeroCheck.{FalseZerosNeedLuck, ZerosReduce, eq_point, zero_check_entry, zero_check_rows, zero_check_terms, zero_check_value, zero_check_values, zero_differences}
+use Rattle.protocols.specs.ZeroCheckRuns.{zero_check_row}
 use Rattle.protocols.proofs.Soundness.{false_claims_need_luck, honest_reduces}
 use Rattle.protocols.proofs.ZeroChecks.{terms-at, zero_check_evaluates, zero_needs_root}
 
@@ -135,25 +136,54 @@ module _ (width : ℕ) (times : ℕ → ℕ → ℕ) (ring : IsRing width 1 time
           (λ i below. ap (λ (v : ℕ). times v (eq_corner times challenges i))
           (row-at i j (subst (λ (n : ℕ). i < 2 ^ n) same below) inside ∙ is i))
 
+      -- .. those of e, a, b and c
+      pub entry-value : 0 < width → (j : ℕ) → j < 4
+          → table_value times 4 (zero_check_rows times point a b c) challenges j ≡ slice_index (zero_check_row times point challenges a b c) j
+      unfolding zero_check_entry
+      entry-value wide zero inside = table-is 0 (eq_corner times point) (lit< tt) (λ i. refl) ∙ eq-sum wide point challenges (sym same)
+      entry-value wide (suc zero) inside = table-is 1 (slice_index a) (lit< tt) (λ i. refl)
+      entry-value wide (suc (suc zero)) inside = table-is 2 (slice_index b) (lit< tt) (λ i. refl)
+      entry-value wide (suc (suc (suc zero))) inside = table-is 3 (slice_index c) (lit< tt) (λ i. refl)
+      entry-value wide (suc (suc (suc (suc j)))) inside = absurd (omega (arith, inside))
+
       -- what the terms have there
       pub value-is : 0 < width
           → terms_value times zero_check_terms (table_value times 4 (zero_check_rows times point a b c) challenges)
           ≡ zero_check_value times point challenges a b c
-      unfolding zero_check_entry
       value-is wide =
           let row = table_value times 4 (zero_check_rows times point a b c) challenges in
           terms-at width times ring row
           (weighted-lt width times ring (λ i. slice_index (zero_check_rows times point a b c) (i * 4 + 0)) (eq_corner times challenges)
           (2 ^ length challenges))
           ∙ ap₂ times
-          (ap₂ bit_xor (ap₂ times (table-is 1 (slice_index a) (lit< tt) (λ i. refl)) (table-is 2 (slice_index b) (lit< tt) (λ i. refl)))
-          (table-is 3 (slice_index c) (lit< tt) (λ i. refl)))
-          (table-is 0 (eq_corner times point) (lit< tt) (λ i. refl) ∙ eq-sum wide point challenges (sym same))
+          (ap₂ bit_xor (ap₂ times (entry-value wide 1 (lit< tt)) (entry-value wide 2 (lit< tt))) (entry-value wide 3 (lit< tt)))
+          (entry-value wide 0 (lit< tt))
           ∙ ring.comm
           (bit_xor (times (multilinear_value times a challenges) (multilinear_value times b challenges)) (multilinear_value times c challenges))
           (eq_point times point challenges)
 
 -- ---- what the sum says of the tables
+
+-- the terms have three factors at most
+few : HaveFactors 3 zero_check_terms
+unfolding HaveFactors
+few = (omega arith, (omega arith, tt))
+
+-- .. of the four tables
+pub within-four : AreWithin 4 zero_check_terms
+unfolding AreWithin
+within-four = (first, (second, tt))
+  where
+    first : (k : ℕ) → k < 3 → slice_index (0 ∷ 1 ∷ 2 ∷ []) k < 4
+    first zero inside = lit< tt
+    first (suc zero) inside = lit< tt
+    first (suc (suc zero)) inside = lit< tt
+    first (suc (suc (suc k))) inside = absurd (omega (arith, inside))
+
+    second : (k : ℕ) → k < 2 → slice_index (0 ∷ 3 ∷ []) k < 4
+    second zero inside = lit< tt
+    second (suc zero) inside = lit< tt
+    second (suc (suc k)) inside = absurd (omega (arith, inside))
 
 module _ (width : ℕ) (times : ℕ → ℕ → ℕ) (field : IsField width times) (enough : 2 ≤ width) (point a b c : List ℕ)
     (a_are : AreCornerValues width (length point) a) (b_are : AreCornerValues width (length point) b)
@@ -180,25 +210,6 @@ module _ (width : ℕ) (times : ℕ → ℕ → ℕ) (field : IsField width time
         function-fits (λ k. bit_xor (times (slice_index a k) (slice_index b k)) (slice_index c k)) (2 ^ length point) width i
         (λ k. xor_lt width (times (slice_index a k) (slice_index b k)) (slice_index c k) (field.ring.below (slice_index a k) (slice_index b k)) (c_are.each_fits k));
   }
-
-  few : HaveFactors 3 zero_check_terms
-  unfolding HaveFactors
-  few = (omega arith, (omega arith, tt))
-
-  within-four : AreWithin 4 zero_check_terms
-  unfolding AreWithin
-  within-four = (first, (second, tt))
-    where
-      first : (k : ℕ) → k < 3 → slice_index (0 ∷ 1 ∷ 2 ∷ []) k < 4
-      first zero inside = lit< tt
-      first (suc zero) inside = lit< tt
-      first (suc (suc zero)) inside = lit< tt
-      first (suc (suc (suc k))) inside = absurd (omega (arith, inside))
-
-      second : (k : ℕ) → k < 2 → slice_index (0 ∷ 3 ∷ []) k < 4
-      second zero inside = lit< tt
-      second (suc zero) inside = lit< tt
-      second (suc (suc k)) inside = absurd (omega (arith, inside))
 
   shape : (n : ℕ) → n ≡ length point → IsClaimShape width times zero_check_terms 4 3 n (zero_check_rows times point a b c)
   shape n same = record {

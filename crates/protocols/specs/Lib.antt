@@ -14,3 +14,4 @@ pub mod SumcheckRuns
 pub mod Tables
 pub mod Terms
 pub mod ZeroCheck
+pub mod ZeroCheckRuns

@@ -1,5 +1,5 @@
-//! Protocols over any field: the sum-check protocol for sums of products of multilinear polynomials, commitments by Merkle trees with work
-//! and openings, and the low-degree extension of a message by an additive transform.
+//! Protocols over any field: the sum-check protocol for sums of products of multilinear polynomials, zero-checks, commitments by Merkle
+//! trees with work and openings, and the low-degree extension of a message by an additive transform.
 //!
 //! A prover and a verifier share a transcript: a challenger that observes what is sent and samples the challenges (A. Fiat and A. Shamir,
 //! How to prove yourself, 1986).
@@ -22,5 +22,6 @@ pub mod sumcheck;
 pub mod tables;
 pub mod terms;
 mod verdicts;
+pub mod zero_check;
 
 pub use crate::error::ProtocolError;

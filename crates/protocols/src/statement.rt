@@ -31,7 +31,7 @@ fn has_element<F: Field>(n: usize) -> bool
 }
 
 // Whether a transcript over the field can observe a statement about so many coordinates, polynomials and terms.
-fn has_counts<F: Field>(rounds: usize, count: usize, terms: usize) -> bool
+pub(crate) fn has_counts<F: Field>(rounds: usize, count: usize, terms: usize) -> bool
     ensures { IsTrue result ↔ (3 ≤ F.width) × (rounds < 2 ^ F.width) × (count < 2 ^ F.width) × (terms < 2 ^ F.width) }
 {
     let wide = F::bits() >= 3;
