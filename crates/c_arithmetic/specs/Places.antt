@@ -20,10 +20,6 @@ pub record IsInSlices {W : Type 0} (k width : ℕ) (product : ℕ → ℕ → �
   pub product_is : (x y : ℕ) → product x y ≡ tower_mul k x y
   pub number_is : (x : W) → number x ≡ level_number x
 
--- so it is where the field is that level
-pub level_in_slices : {W : Type 0} → (k : ℕ) → (number : W → ℕ) → IsInSlices k (2 ^ k) (tower_mul k) number number
-level_in_slices k number = record { width_is = refl; product_is = λ x y. refl; number_is = λ x. refl }
-
 -- the first n words stand for these values, and the others for what they stood for
 pub record FirstHold {W : Type 0} (number : W → ℕ) (n : ℕ) (value : ℕ → W → ℕ) (old new : List W) : Type 0 where
   pub long : length new ≡ length old

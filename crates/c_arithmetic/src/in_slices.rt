@@ -2,8 +2,8 @@
 // Fewer words are computed one after another.
 ghost use Rattle.std.specs.Prelude.{◌≡◌, length};
 ghost use Rattle.c_arithmetic.specs.Calls.{EachOfTwo, HoldInverses, Inverts, Multiplies};
-ghost use Rattle.c_arithmetic.specs.Fields.{field_of, itself, wide_number};
-ghost use Rattle.c_arithmetic.specs.Places.{IsInSlices, level_in_slices};
+ghost use Rattle.c_arithmetic.specs.Fields.{field_of};
+ghost use Rattle.c_arithmetic.specs.Places.{IsInSlices};
 
 use crate::operations::{Inverse, Product};
 use crate::slices::are_elements;
@@ -13,37 +13,71 @@ use field_base::{FieldKernel, Stored};
 use tower_transforms::Holds;
 use word_tower::{Bits16, Bits32, Bits64, Bits128, Tower};
 
-/// A field that is a level of the tower, and its words, of which slices of bits hold as many as a vector `V` has bits.
+/// A field whose words are multiplied and inverted many at once, by slices of as many as a vector `V` has bits. A call at a field names these
+/// methods alone, and not the slices: naming them takes seconds in each function, and more with each level.
 pub trait FieldInSlices<R: Stored, V: Vector>: FieldKernel<R> {
     /// The words.
-    type Word: Holds<R> + SlicedWord<V>;
+    type Word: Holds<R>;
 
-    // The words are of this level.
-    ghost level_law: { IsInSlices Self.Word.TowerWord.LEVEL Self.width Self.product Self.Word.Holds.number Self.Word.TowerWord.number };
+    /// Multiplies each product by the word at its place.
+    fn multiply_all(products: &mut [Self::Word], words: &[Self::Word])
+        requires same { length words.now ≡ length products.old }
+        ensures long { length products.new ≡ length products.old }
+        ensures products { EachOfTwo (field_of Self.Word.Holds.number Self.width Self.product Self.generator) (λ x y z. z ≡ Self.product x y)
+            products.old words.now products.new };
+
+    /// Leaves the inverse of each word, and 0 of 0.
+    fn invert_all(words: &mut [Self::Word])
+        ensures long { length words.new ≡ length words.old }
+        ensures inverses { HoldInverses (field_of Self.Word.Holds.number Self.width Self.product Self.generator) words.old words.new };
 }
 
 impl<V: Vector> FieldInSlices<u16, V> for Tower<Bits16> {
     type Word = u16;
 
-    ghost level_law = { level_in_slices 4 itself };
+    fn multiply_all(products: &mut [u16], words: &[u16]) {
+        multiply_words::<u16, u16, Tower<Bits16>, V>(products, words);
+    }
+
+    fn invert_all(words: &mut [u16]) {
+        invert_words::<u16, u16, Tower<Bits16>, V>(words);
+    }
 }
 
 impl<V: Vector> FieldInSlices<u32, V> for Tower<Bits32> {
     type Word = u32;
 
-    ghost level_law = { level_in_slices 5 itself };
+    fn multiply_all(products: &mut [u32], words: &[u32]) {
+        multiply_words::<u32, u32, Tower<Bits32>, V>(products, words);
+    }
+
+    fn invert_all(words: &mut [u32]) {
+        invert_words::<u32, u32, Tower<Bits32>, V>(words);
+    }
 }
 
 impl<V: Vector> FieldInSlices<u64, V> for Tower<Bits64> {
     type Word = u64;
 
-    ghost level_law = { level_in_slices 6 itself };
+    fn multiply_all(products: &mut [u64], words: &[u64]) {
+        multiply_words::<u64, u64, Tower<Bits64>, V>(products, words);
+    }
+
+    fn invert_all(words: &mut [u64]) {
+        invert_words::<u64, u64, Tower<Bits64>, V>(words);
+    }
 }
 
 impl<V: Vector> FieldInSlices<u128, V> for Tower<Bits128> {
     type Word = Wide;
 
-    ghost level_law = { level_in_slices 7 wide_number };
+    fn multiply_all(products: &mut [Wide], words: &[Wide]) {
+        multiply_words::<u128, Wide, Tower<Bits128>, V>(products, words);
+    }
+
+    fn invert_all(words: &mut [Wide]) {
+        invert_words::<u128, Wide, Tower<Bits128>, V>(words);
+    }
 }
 
 /// The least number of words that may pay in slices of bits: fewer are computed one after another, and neither copied first nor put in a block.
@@ -68,7 +102,7 @@ pub fn multiply<R: Stored, K: FieldInSlices<R, V>, V: Vector>(
         return status::NOT_AN_ELEMENT;
     }
     products.copy_from_slice(left);
-    multiply_all::<R, K, V>(products, right);
+    K::multiply_all(products, right);
     status::OK
 }
 
@@ -90,7 +124,7 @@ pub fn multiply_in_place<R: Stored, K: FieldInSlices<R, V>, V: Vector>(
     if !are_elements::<R, K::Word, K>(products) || !are_elements::<R, K::Word, K>(words) {
         return status::NOT_AN_ELEMENT;
     }
-    multiply_all::<R, K, V>(products, words);
+    K::multiply_all(products, words);
     status::OK
 }
 
@@ -112,7 +146,7 @@ pub fn invert<R: Stored, K: FieldInSlices<R, V>, V: Vector>(
         return status::NOT_AN_ELEMENT;
     }
     inverses.copy_from_slice(words);
-    invert_all::<R, K, V>(inverses);
+    K::invert_all(inverses);
     status::OK
 }
 
@@ -127,27 +161,31 @@ pub fn invert_in_place<R: Stored, K: FieldInSlices<R, V>, V: Vector>(words: &mut
     if !are_elements::<R, K::Word, K>(words) {
         return status::NOT_AN_ELEMENT;
     }
-    invert_all::<R, K, V>(words);
+    K::invert_all(words);
     status::OK
 }
 
 // Multiplies each product by the word at its place.
-fn multiply_all<R: Stored, K: FieldInSlices<R, V>, V: Vector>(
-    products: &mut [K::Word],
-    words: &[K::Word],
+fn multiply_words<R: Stored, W: Holds<R> + SlicedWord<V>, K: FieldKernel<R>, V: Vector>(
+    products: &mut [W],
+    words: &[W],
 )
+    requires level { IsInSlices W.TowerWord.LEVEL K.width K.product W.Holds.number W.TowerWord.number }
     requires same { length words.now ≡ length products.old }
     ensures long { length products.new ≡ length products.old }
-    ensures products { EachOfTwo (field_of K.Word.Holds.number K.width K.product K.generator) (λ x y z. z ≡ K.product x y)
-        products.old words.now products.new }
+    ensures products { EachOfTwo (field_of W.Holds.number K.width K.product K.generator) (λ x y z. z ≡ K.product x y) products.old words.now
+        products.new }
 {
-    multiply_each::<V, K::Word>(products, words);
+    multiply_each::<V, W>(products, words);
 }
 
 // Leaves the inverse of each word, and 0 of 0.
-fn invert_all<R: Stored, K: FieldInSlices<R, V>, V: Vector>(words: &mut [K::Word])
+fn invert_words<R: Stored, W: Holds<R> + SlicedWord<V>, K: FieldKernel<R>, V: Vector>(
+    words: &mut [W],
+)
+    requires level { IsInSlices W.TowerWord.LEVEL K.width K.product W.Holds.number W.TowerWord.number }
     ensures long { length words.new ≡ length words.old }
-    ensures inverses { HoldInverses (field_of K.Word.Holds.number K.width K.product K.generator) words.old words.new }
+    ensures inverses { HoldInverses (field_of W.Holds.number K.width K.product K.generator) words.old words.new }
 {
-    invert_each::<V, K::Word>(words);
+    invert_each::<V, W>(words);
 }

@@ -1,8 +1,0 @@
-use Rattle.c_arithmetic.proofs.SlicedWords.{inverses_of_field}
-use Rattle.c_arithmetic.proofs.in_slices.invert_all.Goals as goal
-
-pub returns-clause-inverses : goal.returns-clause-inverses
-returns-clause-inverses g c =
-    inverses_of_field g.K.Word.TowerWord.LEVEL g.K.FieldKernel.width g.K.FieldKernel.generator g.K.FieldKernel.product g.K.Word.Holds.number
-    g.K.Word.TowerWord.number g.met.K.FieldInSlices.level_law c.args.words.now c.invert_each.new.words
-    c.invert_each.ensures.fit c.invert_each.ensures.inverses

@@ -1,8 +1,0 @@
-use Rattle.c_arithmetic.proofs.SlicedWords.{products_of_field}
-use Rattle.c_arithmetic.proofs.in_slices.multiply_all.Goals as goal
-
-pub returns-clause-products : goal.returns-clause-products
-returns-clause-products g c =
-    products_of_field g.K.Word.TowerWord.LEVEL g.K.FieldKernel.width g.K.FieldKernel.generator g.K.FieldKernel.product g.K.Word.Holds.number
-    g.K.Word.TowerWord.number g.met.K.FieldInSlices.level_law c.args.products.now c.args.words.now c.multiply_each.new.words
-    c.multiply_each.ensures.products
