@@ -1,5 +1,6 @@
 mod ByteProducts
 pub mod BatchProducts
+mod ErasureCounts
 mod FirstPlaces
 mod PlacesPut
 mod ScaledBytes

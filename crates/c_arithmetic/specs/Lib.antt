@@ -1,6 +1,7 @@
 pub mod Batch
 pub mod Bytes
 pub mod Calls
+pub mod Erasure
 pub mod Fields
 pub mod Fits
 pub mod Lanes

@@ -5,6 +5,7 @@
 
 mod batch;
 mod bytes;
+mod erasure;
 mod fields;
 pub mod in_place;
 pub mod in_planes;
@@ -28,6 +29,7 @@ mod words;
 
 pub use crate::batch::batch_invert;
 pub use crate::bytes::multiply_bytes;
+pub use crate::erasure::{erasure_encode, erasure_reconstruct, erasure_space, erasure_verify};
 pub use crate::kernels::Basis;
 pub use crate::linear::{map_bytes, map_wide};
 pub use crate::messages::{

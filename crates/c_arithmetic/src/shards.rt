@@ -152,7 +152,7 @@ fn restore(data: u64, parity: u64, shards: &mut [u8], present: &[u8], data_alone
     if present.len() != total || !have_size(shards.len(), total) {
         return status::LENGTH;
     }
-    let flags = flags_of(present);
+    let flags = flags_of::<256>(present);
     if data_alone {
         return status_of(code.reconstruct_data(shards, &flags[..total]));
     }
@@ -198,11 +198,11 @@ fn have_size(bytes: usize, shards: usize) -> bool
 }
 
 // Which shards are there, by bytes that are not 0.
-fn flags_of(present: &[u8]) -> [bool; 256]
-    requires { length present.now ≤ 256 }
+pub(crate) fn flags_of<const N: usize>(present: &[u8]) -> [bool; N]
+    requires { length present.now ≤ N }
     ensures { take (length present.now) result ≡ flags_of present.now }
 {
-    let mut flags = [false; 256];
+    let mut flags = [false; N];
     for place in 0..present.len() {
         flags[place] = present[place] != 0;
     }

@@ -96,6 +96,13 @@ impl TransformCode {
         power_of(self.all_levels)
     }
 
+    /// Whether the level has twice `point_count` points, as `reconstruct` requires.
+    pub fn can_reconstruct<R: Unsigned, L: Level<R>>(&self) -> bool
+        ensures { IsTrue result ↔ 2 * 2 ^ self.now.all_levels ≤ 2 ^ 2 ^ L.LEVEL }
+    {
+        has_points::<R, L>(2 * self.point_count())
+    }
+
     /// Writes the shards of parity. `data` and `parity` have their shards, of one size, one after the other; a word is an element of the
     /// level `L`, by as many bits as that has. What `space` has before and afterwards does not matter: it takes two words for each of
     /// `coefficient_count`. The error is the first that applies.
@@ -229,7 +236,7 @@ impl TransformCode {
         if present.len() != self.data_shards + self.parity_shards {
             return Err(TransformCodeError::InvalidShardFlags);
         }
-        if !has_points::<R, L>(2 * count) {
+        if !self.can_reconstruct::<R, L>() {
             return Err(TransformCodeError::TooManyShards);
         }
         let size = self.one_size(words, parity_words)?;
@@ -267,8 +274,8 @@ impl TransformCode {
         Ok(size)
     }
 
-    // The size of each shard, by the words of all, where all have one.
-    fn one_size(&self, words: usize, parity_words: usize) -> Result<usize, TransformCodeError>
+    /// The size of each shard, by the words of all those of data and all those of parity, where all have one.
+    pub fn one_size(&self, words: usize, parity_words: usize) -> Result<usize, TransformCodeError>
         ensures accepted { IsOk result ↔ HaveOneSize self.now.data_shards self.now.parity_shards words parity_words }
         ensures size { IfOk result (λ size. (size ≡ words / self.now.data_shards) × (words ≡ self.now.data_shards * size)
             × (parity_words ≡ self.now.parity_shards * size)) }

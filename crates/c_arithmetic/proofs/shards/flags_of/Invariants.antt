@@ -4,5 +4,5 @@ use Rattle.c_arithmetic.proofs.shards.flags_of.Given as goal
 
 -- the places before have their flags
 abbrev pub invariant-loop-place : goal.invariant-loop-place
-invariant-loop-place l =
-    (length l.flags ≡ 256) × (take l.place l.flags ≡ flags_of (take l.place l.present))
+invariant-loop-place g l =
+    (length l.flags ≡ g.row.N) × (take l.place l.flags ≡ flags_of (take l.place l.present))
