@@ -4,7 +4,8 @@
  *
  * It links one build of the library: `rt lib` for x86-64-v2, `rt lib --cpu x86-64-v3` for AVX2. A number is processor time in nanoseconds a
  * value, the least of so many calls (100; a tenth of them for 2^16 values, and three for 2^20), of the transform and of its inverse. What was
- * transformed is first transformed back, and compared. The shift is 0, but in the last two rows, where it has 128 bits.
+ * transformed is first transformed back, and compared. The shift is 0, but in the rows "wide", where it has 128 bits. The last row copies
+ * values of 16 bytes.
  */
 #include "binary_field.h"
 #include <stdio.h>
@@ -32,6 +33,8 @@ WIDE(g128, no)
 WIDE(t128, wide)
 WIDE(g128, wide)
 
+static uint32_t copied(size_t n) { return memcpy(copy, values, n * WIDEST) == NULL; }
+
 static const struct {
     const char *name;
     size_t word, most;
@@ -44,6 +47,7 @@ static const struct {
     {"g128", 16, MOST, forward_g128_no, inverse_g128_no},
     {"t128, wide", 16, 1 << 16, forward_t128_wide, inverse_t128_wide},
     {"g128, wide", 16, 1 << 16, forward_g128_wide, inverse_g128_wide},
+    {"memcpy", 16, MOST, copied, copied},
 };
 
 static double now(void) {

@@ -124,8 +124,26 @@ pub fn stages() -> Stages {
         low_stages: |values, shifts, basis| {
             poly_basis::LowStageTwiddles::new(&shifts, &basis).forward(values, 0);
         },
-        transform: None,
+        transform: Some(transform),
     }
+}
+
+// The whole transform with the shift 0: the crate has its butterflies and its low stages, and leaves the loop to its user.
+fn transform(values: &mut [u128]) {
+    let stages = values.len().ilog2() as usize;
+    let basis: Vec<u128> = (1..stages)
+        .map(|i| Ghash128::cantor_basis(i).to_repr())
+        .collect();
+    for stage in (poly_basis::LOW_STAGES..stages).rev() {
+        for (block, halves) in values.chunks_exact_mut(2 << stage).enumerate() {
+            let (low, high) = halves.split_at_mut(1 << stage);
+            let twiddle = (0..stages)
+                .filter(|bit| block >> bit & 1 == 1)
+                .fold(0, |sum, bit| sum ^ basis[bit]);
+            poly_basis::butterfly_forward(low, high, twiddle);
+        }
+    }
+    poly_basis::LowStageTwiddles::new(&[0; poly_basis::LOW_STAGES], &basis).forward(values, 0);
 }
 
 /// The functions of the change of basis at 64 bits. The crate has no slice form there that takes a slice, so a loop stands
