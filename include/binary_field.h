@@ -10,11 +10,11 @@
  * Arrays. An array is a pointer and a length, which counts elements and not bytes. The pointer may be NULL where the length is
  * 0; a scalar or a result is never NULL. Each pointer is aligned as C aligns its type. An array or a result that a function
  * writes may overlap no other array, result or scalar of the same call; what is only read may overlap each other. For x = x * y
- * there are the functions whose names end in _in_place.
+ * there are the functions whose names end in _in_place. In an array named space a call works: behind it nothing is said of that.
  * A comment begins with the name of what the function writes. Where it says nothing of lengths, every length will do.
  *
  * Statuses. Every function but bf_version returns a status. On a status that is not BF_OK everything that the function could
- * write is as before the call. The first status applies, in the order in which a function's comment names them.
+ * write is as before the call, but for space. The first status applies, in the order in which a function's comment names them.
  *
  * Fields. For each field F, by its name in the sections below:
  *
@@ -643,6 +643,43 @@ uint32_t bf_rs_reconstruct(
 uint32_t bf_rs_reconstruct_data(
     size_t data, size_t parity, uint8_t *shards, size_t shards_length, const uint8_t *present,
     size_t present_length) BF_CHECKED;
+
+/* --------------------------------------------------------------------------------------------------------------------- */
+/* Reed-Solomon codes over t16 by additive transforms, of thousands of shards: column i of the shards, their word i, has the
+ * values of one polynomial. With 2^n the least power of two that is at least data, it has a degree below 2^n; shard j of
+ * data is its value at point j, shard j of parity that at point 2^n + j, and it is 0 at the points from data to 2^n. Point p
+ * is the sum of Cantor vector b for each set bit b of p, as above. Shards of data stand one after the other, and so do those
+ * of parity, in an array of their own. */
+
+/* length: how many words of space each call of the code takes: 5 times the least power of two that is at least data, counted
+ * up to a power of two, and parity together. BF_CODE if data and parity are not both at least 1, or data, counted up to a
+ * power of two, and parity are together more than 32768. */
+uint32_t bf_erasure_space(
+    size_t data, size_t parity, uint64_t *length) BF_CHECKED BF_NONNULL(3);
+
+/* parity_shards: the shards of parity of these shards of data. BF_CODE if data and parity are not both at least 1, or data,
+ * counted up to a power of two, and parity are together more than 32768. BF_LENGTH unless shards has data, and parity_shards
+ * parity, times one number of words, which is not 0, and space at least what bf_erasure_space gives. */
+uint32_t bf_erasure_encode(
+    size_t data, size_t parity, const uint16_t *shards, size_t shards_length, uint16_t *parity_shards,
+    size_t parity_shards_length, uint16_t *space, size_t space_length) BF_CHECKED;
+
+/* whole: 1 where the shards of parity are those of the data, else 0. BF_CODE if data and parity are not both at least 1, or
+ * data, counted up to a power of two, and parity are together more than 32768. BF_LENGTH unless shards has data, and
+ * parity_shards parity, times one number of words, which is not 0, and space at least what bf_erasure_space gives. */
+uint32_t bf_erasure_verify(
+    size_t data, size_t parity, const uint16_t *shards, size_t shards_length, const uint16_t *parity_shards,
+    size_t parity_shards_length, uint16_t *space, size_t space_length, uint8_t *whole) BF_CHECKED BF_NONNULL(9);
+
+/* Writes the missing shards: shard i, of the data and then of the parity, is missing where present[i] is 0. BF_CODE if data
+ * and parity are not both at least 1, or data, counted up to a power of two, and parity are together more than 32768.
+ * BF_LENGTH unless shards has data, and parity_shards parity, times one number of words, which is not 0, and space at least
+ * what bf_erasure_space gives, and present has data + parity. BF_TOO_FEW_SHARDS unless at least as many entries of present
+ * as data are not 0. */
+uint32_t bf_erasure_reconstruct(
+    size_t data, size_t parity, uint16_t *shards, size_t shards_length, uint16_t *parity_shards,
+    size_t parity_shards_length, const uint8_t *present, size_t present_length, uint16_t *space,
+    size_t space_length) BF_CHECKED;
 
 /* --------------------------------------------------------------------------------------------------------------------- */
 /* Second forms, made for x86-64-v3, whose vectors have 256 bits. Each gives the same as the function without _wide, in every

@@ -6,6 +6,7 @@ The fields are those of fields.py. A parameter is (kind, name) or (kind, name, w
   out     an array that is written: a pointer and a length
   scalar  one element that is read: by value up to 64 bits, else by a pointer that is not null
   result  one element or number that is written: a pointer that is not null
+  space   an array in which a call works, and of which nothing is said behind it: a pointer and a length
   number  a number of 64 bits, by value
   count   a number of things, by value: a size_t, which has 64 bits
 Every function returns a status but where the table says otherwise. Lengths count words, not bytes.
@@ -115,6 +116,17 @@ OTHER_FUNCTIONS = [
      "writes the missing shards: shard i is missing where present[i] is 0"),
     ("rs_reconstruct_data", [("count", "data"), ("count", "parity"), ("inout", "shards", "u8"), ("in", "present", "u8")],
      "writes the missing shards of data alone"),
+    ("erasure_space", [("count", "data"), ("count", "parity"), ("result", "length", "u64")],
+     "how many words of space each call of the code takes: 5 times the least power of two that is at least data, counted up to a power of two, "
+     "and parity together"),
+    ("erasure_encode", [("count", "data"), ("count", "parity"), ("in", "shards", "u16"), ("out", "parity_shards", "u16"), ("space", "space", "u16")],
+     "the shards of parity of these shards of data"),
+    ("erasure_verify", [("count", "data"), ("count", "parity"), ("in", "shards", "u16"), ("in", "parity_shards", "u16"), ("space", "space", "u16"),
+                        ("result", "whole", "u8")],
+     "1 where the shards of parity are those of the data, else 0"),
+    ("erasure_reconstruct", [("count", "data"), ("count", "parity"), ("inout", "shards", "u16"), ("inout", "parity_shards", "u16"),
+                             ("in", "present", "u8"), ("space", "space", "u16")],
+     "writes the missing shards: shard i, of the data and then of the parity, is missing where present[i] is 0"),
 ]
 
 # Of these there is a second form, bf_NAME_wide. It gives the same, and is made for x86-64-v3, whose vectors have 256 bits: in a library

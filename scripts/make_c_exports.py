@@ -118,9 +118,20 @@ for _field in fields.FIELDS:
                 f"{_contract} {_number} {_field.bits.bit_length() - 1} {_shift} values.old values.new result",
             ]
 
+# The calls of erasure codes by transforms, which are written once over the level too.
+for _name, _clause in (
+    ("space", "TellsSpace 4 «data» parity length.old length.new result"),
+    ("encode", "EncodesErasure itself 0 4 «data» parity shards.now parity_shards.old parity_shards.new (length space.old) result"),
+    ("verify", "VerifiesErasure itself 0 4 «data» parity shards.now parity_shards.now (length space.old) whole.old whole.new result"),
+    ("reconstruct", "ReconstructsErasure itself 0 4 «data» parity present.now shards.old parity_shards.old shards.new parity_shards.new "
+                    "(length space.old) result"),
+):
+    OTHER_CALLS[f"erasure_{_name}"] = ["erasure", f"erasure_{_name}::<u16, Bits16>", _clause]
+
 # What each file of such functions has.
 ABOUT = {
     "changes": "Calls over slices of elements of a level of the tower, and of their images in a field of polynomials.",
+    "erasure": "Calls of erasure codes by transforms, over words of 16 bits: shards of data, and those of parity, stand one after the other.",
     "linear": "Calls that map words linearly.",
     "transforms": "Calls that transform values in the field of GHASH, and in levels of the tower.",
     "messages": "Calls over messages.",
@@ -138,6 +149,7 @@ HOMES = {
     "tags.specs.Pieces": ["ghash_from", "polyval_from"],
     "tags.specs.Polyval": ["polyval"],
     "c_arithmetic.specs.Bytes": ["AddsOneShard", "Compares", "Encodes", "EncodesPrepared", "Hashes", "Prepares", "Reconstructs", "TellsTablesLength", "Verifies", "VerifiesPrepared"],
+    "c_arithmetic.specs.Erasure": ["EncodesErasure", "ReconstructsErasure", "TellsSpace", "VerifiesErasure"],
     "c_arithmetic.specs.Linear": ["MapsLinearly"],
     "c_arithmetic.specs.Transforms": [
         "ButterfliesForward", "ButterfliesInverse", "InvertsLevelTransform", "InvertsTransform", "RunsLowStages", "Transforms", "TransformsLevel",
@@ -158,6 +170,7 @@ def parameter(kind, name, word):
         "in": f"&[{word}]",
         "out": f"&mut [{word}]",
         "inout": f"&mut [{word}]",
+        "space": f"&mut [{word}]",
         "scalar": f"&{word}" if word in WORDS.values() else word,
         "result": f"&mut {word}",
         "number": "u64",
@@ -202,13 +215,18 @@ def function(name, parameters, text, called, clause, more=(), inside=()):
     contract = f"    ensures {{ {clause} }}"
     if len(contract) > CONTRACT_COLUMNS:
         contract = textwrap.fill(contract, COLUMNS, subsequent_indent=" " * 8, drop_whitespace=True)
+    passed = [*arguments, *more]
+    body = f"    {called}({', '.join(passed)})"
+    if len(body) > COLUMNS:
+        rows = "".join(f"        {it},\n" for it in passed)
+        body = f"    {called}(\n{rows}    )"
     return "\n".join([
         *(f"/// {it}" for it in textwrap.wrap(c_library.sentence(text, parameters), LONG_COLUMNS)),
         "#[unsafe(no_mangle)]",
         signature,
         contract,
         "{",
-        f"    {called}({', '.join([*arguments, *more])})",
+        body,
         "}",
         "",
     ])

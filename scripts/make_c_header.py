@@ -9,8 +9,11 @@ import fields
 import files
 from c_library import sentence
 
-POINTERS = {"in": "const ", "inout": "", "out": "", "result": ""}
-ARRAYS = ("in", "inout", "out")
+POINTERS = {"in": "const ", "inout": "", "out": "", "result": "", "space": ""}
+ARRAYS = ("in", "inout", "out", "space")
+
+# The lengths of shards of an erasure code by transforms.
+ERASURE_LENGTHS = "shards has data, and parity_shards parity, times one number of words, which is not 0, and space at least what bf_erasure_space gives"
 
 # Which lengths a function takes, where they are not all the same, by the end of its name.
 LENGTHS = {
@@ -37,6 +40,10 @@ LENGTHS = {
     "prepared": "tables has the bytes that bf_rs_tables_length gives, and shards a multiple, but not 0, of data + parity",
     "reconstruct": "shards has a multiple, but not 0, of data + parity bytes, and present has data + parity",
     "reconstruct_data": "shards has a multiple, but not 0, of data + parity bytes, and present has data + parity",
+    "erasure_space": "",
+    "erasure_encode": ERASURE_LENGTHS,
+    "erasure_verify": ERASURE_LENGTHS,
+    "erasure_reconstruct": f"{ERASURE_LENGTHS}, and present has data + parity",
 }
 
 
@@ -55,6 +62,8 @@ def statuses_of(name, parameters, bits):
     """The statuses besides BF_OK that a function returns, each with its condition."""
     if name.startswith("rs_"):
         yield "BF_CODE", "data and parity are not both at least 1 and together at most 256"
+    if name.startswith("erasure_"):
+        yield "BF_CODE", "data and parity are not both at least 1, or data, counted up to a power of two, and parity are together more than 32768"
     lengths = lengths_of(name, parameters)
     if lengths:
         yield "BF_LENGTH", lengths
@@ -152,6 +161,10 @@ def sections():
         "POLYVAL, over the plain text, and ends with bf_tag_polyval_update of 16 bytes: both lengths in bits, 8 bytes each, the lowest first.",
         "rs_": "Reed-Solomon codes over bytes modulo x^8 + x^4 + x^3 + x^2 + 1: shard i has the values at the byte i of the polynomials "
         "that the data determine.",
+        "erasure_": "Reed-Solomon codes over t16 by additive transforms, of thousands of shards: column i of the shards, their word i, has the "
+        "values of one polynomial. With 2^n the least power of two that is at least data, it has a degree below 2^n; shard j of data is its value "
+        "at point j, shard j of parity that at point 2^n + j, and it is 0 at the points from data to 2^n. Point p is the sum of Cantor vector b "
+        "for each set bit b of p, as above. Shards of data stand one after the other, and so do those of parity, in an array of their own.",
         "_wide": "Second forms, made for x86-64-v3, whose vectors have 256 bits. Each gives the same as the function without _wide, in every "
         "library; in one built for x86-64-v2 it is the slower of the two. The file libbinary_field.cpu beside the library says which it is.",
     }
@@ -202,11 +215,11 @@ HEAD = """\
  * Arrays. An array is a pointer and a length, which counts elements and not bytes. The pointer may be NULL where the length is
  * 0; a scalar or a result is never NULL. Each pointer is aligned as C aligns its type. An array or a result that a function
  * writes may overlap no other array, result or scalar of the same call; what is only read may overlap each other. For x = x * y
- * there are the functions whose names end in _in_place.
+ * there are the functions whose names end in _in_place. In an array named space a call works: behind it nothing is said of that.
  * A comment begins with the name of what the function writes. Where it says nothing of lengths, every length will do.
  *
  * Statuses. Every function but bf_version returns a status. On a status that is not BF_OK everything that the function could
- * write is as before the call. The first status applies, in the order in which a function's comment names them.
+ * write is as before the call, but for space. The first status applies, in the order in which a function's comment names them.
  *
  * Fields. For each field F, by its name in the sections below:
  *

@@ -12,7 +12,7 @@ import definitions
 from definitions import FIELDS, c_library
 
 LONGEST = 257
-ARRAYS = ("in", "inout", "out")
+ARRAYS = ("in", "inout", "out", "space")
 REPLAYED = pathlib.Path(__file__).resolve().parent / "replayed_calls.txt"
 STATUS = {name: value for name, value, _ in c_library.STATUSES}
 FUNCTIONS = {name: parameters for name, parameters, _ in c_library.functions()}
@@ -47,13 +47,15 @@ class Case:
 
 def case(name, *values, each=None, whole=(), status="BF_OK"):
     """A case by the values of its parameters in order: a pair, before and after, of what is read and written, the expected values
-    of what is written, and the values of what is read. The parameters named in `whole` are not cut."""
+    of what is written, how many words of space there are, and the values of what is read. The parameters named in `whole` are not cut."""
     arguments = []
     for (kind, parameter, word), value in zip(FUNCTIONS[name], values, strict=True):
         if kind == "inout":
             before, after = value
         elif kind in ("out", "result"):
             before, after = None, value
+        elif kind == "space":
+            before, after = None, [0] * value
         else:
             before = after = list(value) if kind == "in" else [value]
         cut = each is not None and kind in (*ARRAYS, "result") and parameter not in whole
@@ -251,6 +253,35 @@ def code_cases(draw):
             yield refused(case(name, data, parity, (shards, shards), few), "BF_TOO_FEW_SHARDS")
 
 
+def erasure_cases(draw):
+    """Erasure codes by transforms, with shards lost."""
+    for data, parity, size in ((1, 1, 1), (2, 1, 5), (3, 9, 4), (4, 2, 17), (5, 3, 33), (10, 6, 8), (16, 4, 3), (17, 20, 2), (1, 31, 2)):
+        total, space = data + parity, definitions.transform_space(data, parity)
+        words = [draw.getrandbits(16) for _ in range(data * size)]
+        coded = definitions.transform_parity(data, parity, words)
+        yield case("erasure_space", data, parity, [space])
+        yield case("erasure_encode", data, parity, words, coded, space)
+        yield case("erasure_encode", data, parity, words, coded, space + 3)
+        yield case("erasure_verify", data, parity, words, coded, space, [1])
+        for changed in ((words[:-1] + [words[-1] ^ 1], coded), (words, [coded[0] ^ 0x8000] + coded[1:])):
+            yield case("erasure_verify", data, parity, *changed, space, [0])
+        for lost in sorted({0, 1, parity // 2, parity}):
+            missing = set(draw.sample(range(total), lost))
+            damaged = [draw.getrandbits(16) if at // size in missing else it for at, it in enumerate(words + coded)]
+            present = [0 if i in missing else draw.choice((1, 2, 255)) for i in range(total)]
+            halves = (damaged[: data * size], words), (damaged[data * size :], coded)
+            yield case("erasure_reconstruct", data, parity, *halves, present, space)
+        few = [0] * (parity + 1) + [1] * (data - 1)
+        yield refused(case("erasure_reconstruct", data, parity, (words, words), (coded, coded), few, space), "BF_TOO_FEW_SHARDS")
+    # There is no code of such counts, whatever the lengths.
+    for data, parity in ((0, 1), (1, 0), (1, 32768), (16385, 1), (32768, 1), (65536, 1), (1 << 63, 1 << 63), ((1 << 64) - 1, 1), (1, (1 << 64) - 1)):
+        yield refused(case("erasure_space", data, parity, [0]), "BF_CODE")
+        yield refused(case("erasure_encode", data, parity, [0], [0], 64), "BF_CODE")
+        yield refused(case("erasure_verify", data, parity, [0], [0], 64, [0]), "BF_CODE")
+        yield refused(case("erasure_reconstruct", data, parity, ([0], [0]), ([0], [0]), [1, 1], 64), "BF_CODE")
+    yield case("erasure_space", 16384, 16384, [5 << 15])
+
+
 def refused(it, status):
     """The case with another status: everything is as before."""
     arguments = [
@@ -305,8 +336,9 @@ def length_cases(it):
             longer_basis = it.name == "g128_low_stages" and at == 2 and other >= 3
             no_values = it.name == "g128_low_stages" and at == 0 and other == 0
             shards = it.name.startswith("rs_") and it.arguments[at].name == "shards"
+            more_space = it.arguments[at].kind == "space" and other > length
             whole_shards = shards and other and other % (it.arguments[0].after[0] + it.arguments[1].after[0]) == 0
-            if other >= 0 and not (power or longer_basis or no_values or whole_shards):
+            if other >= 0 and not (power or longer_basis or no_values or more_space or whole_shards):
                 yield refused(of_length(it, at, other), "BF_LENGTH")
 
 
@@ -393,7 +425,7 @@ def all_cases():
     cases = []
     for field in FIELDS.values():
         cases += field_cases(field, draw)
-    for them in (basis_cases, stage_cases, tag_cases, code_cases, long_cases):
+    for them in (basis_cases, stage_cases, tag_cases, code_cases, erasure_cases, long_cases):
         cases += them(draw)
     cases = list(with_second_forms(cases + list(status_cases(cases))))
     missing = FUNCTIONS.keys() - {it.name for it in cases}

@@ -108,6 +108,10 @@ static void run(const struct function *function, uint32_t status, struct paramet
         int is_result = strcmp(p[i].kind, "result") == 0;
         const unsigned char *after = p[i].after + (is_result && p[i].cut ? n * p[i].size : 0);
         int kept = status != BF_OK;
+        /* Of space nothing is said. */
+        if (strcmp(p[i].kind, "space") == 0) {
+            at = bytes;
+        }
         while (at < bytes && b[i].data[at] == (kept && !p[i].before ? FILL : kept ? p[i].before[at] : after[at])) {
             at++;
         }

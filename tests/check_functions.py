@@ -44,7 +44,8 @@ def call(library, it):
         after = a.bytes_of(a.after)
         before = a.bytes_of(a.before) if a.before is not None else bytes([FILL]) * len(after)
         buffer = Buffer(before, a.word)
-        buffers.append((a.name, buffer, before if it.status else after))
+        # Of space nothing is said.
+        buffers.append((a.name, buffer, None if a.kind == "space" else before if it.status else after))
         arguments.append(ctypes.c_void_p(buffer.address))
         if a.kind in cases.ARRAYS:
             arguments.append(ctypes.c_size_t(len(a.after)))
@@ -57,7 +58,7 @@ def call(library, it):
         found = buffer.read()
         if found is None:
             return f"bytes beside {name} were written"
-        if found != wanted:
+        if wanted is not None and found != wanted:
             place = next(at for at, (x, y) in enumerate(zip(found, wanted)) if x != y)
             return f"{name} differs at byte {place}: {found[place:place + 16].hex()} and not {wanted[place:place + 16].hex()}"
     return None

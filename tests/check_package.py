@@ -479,6 +479,34 @@ class Bytes(unittest.TestCase):
         self.assertTrue((code.reconstruct([None, *rows[1:]]) == shards).all())
         self.assertRaises(TypeError, code.encode, bf.BinaryField16.zeros((4, 9)))
 
+    def test_transform_codes(self):
+        code = bf.TransformCode(5, 3)
+        words = np.frombuffer(random.Random(50).randbytes(5 * 14), "<u2").reshape(5, 7)
+        data = words.view(np.uint8)
+        shards = code.encode(data)
+        self.assertEqual(shards[:5].tobytes(), data.tobytes())
+        self.assertEqual(shards[5:].view("<u2").ravel().tolist(), definitions.transform_parity(5, 3, words.ravel().tolist()))
+        self.assertEqual((code.data, code.parity, repr(code)), (5, 3, "TransformCode(5, 3)"))
+        self.assertTrue(code.verify(shards) and code.verify([it.tobytes() for it in shards]))
+        damaged = [None if it in (0, 4, 6) else row.tobytes() for it, row in enumerate(shards)]
+        self.assertTrue((code.reconstruct(damaged) == shards).all())
+        wrong = shards.copy()
+        wrong[2, 3] ^= 1
+        self.assertFalse(code.verify(wrong))
+        self.assertTrue((code.reconstruct(wrong, [it != 2 for it in range(8)]) == shards).all())
+        # Shards need not lie at even addresses.
+        self.assertTrue((code.encode(np.frombuffer(b"x" + data.tobytes(), np.uint8)[1:].reshape(5, 14)) == shards).all())
+        for given in ([None] * 8, [None] * 4 + damaged[4:], damaged[:5], [b"abc"] * 8):
+            self.assertRaises(ValueError, code.reconstruct, given)
+        for given in (np.zeros((4, 8), np.uint8), np.zeros((5, 0), np.uint8), np.zeros((5, 3), np.uint8)):
+            self.assertRaises(ValueError, code.encode, given)
+        for counts in ((0, 1), (1, 0), (-1, 3), (16385, 1), (1, 32768), (1 << 64, 1)):
+            self.assertRaises(ValueError, bf.TransformCode, *counts)
+        self.assertRaises(TypeError, bf.TransformCode, 2.0, 3)
+        many = bf.TransformCode(3000, 1000)
+        shards = many.encode(np.frombuffer(random.Random(51).randbytes(6000), np.uint8).reshape(3000, 2))
+        self.assertTrue((many.reconstruct([None] * 1000 + list(shards[1000:])) == shards).all())
+
 
 if __name__ == "__main__":
     unittest.main()

@@ -225,6 +225,13 @@ def byte_inverse(a):
     return next(b for b in range(256) if make_shards.multiply(a, b) == 1)
 
 
+class CodeBytes:
+    """The field of the codes."""
+
+    multiply = staticmethod(make_shards.multiply)
+    inverse = staticmethod(byte_inverse)
+
+
 def codeword(column, total):
     """The values at the bytes 0 to total - 1 of the polynomial with these values at the first of them, by divided differences."""
     newton = list(column)
@@ -241,14 +248,19 @@ def codeword(column, total):
     return values
 
 
+def lagrange_factor(field, points, own, at):
+    """The factor of the value at the point `own`, one of these, in the value at another point, by Lagrange's formula."""
+    factor = 1
+    for it in points:
+        if it != own:
+            factor = field.multiply(factor, field.multiply(at ^ it, field.inverse(own ^ it)))
+    return factor
+
+
 @functools.cache
 def parity_factor(data, parity_at, own):
-    """The factor of a shard of data in a shard of parity, by Lagrange's formula."""
-    factor = 1
-    for it in range(data):
-        if it != own:
-            factor = make_shards.multiply(factor, make_shards.multiply(data + parity_at ^ it, byte_inverse(own ^ it)))
-    return factor
+    """The factor of a shard of data in a shard of parity."""
+    return lagrange_factor(CodeBytes, range(data), own, data + parity_at)
 
 
 def parity_tables(data, parity):
@@ -274,3 +286,40 @@ def encoded(data, parity, content):
     size = len(content) // data
     columns = [codeword(content[at::size], data + parity) for at in range(size)]
     return b"".join(bytes(shard) for shard in zip(*columns))
+
+
+# ---- erasure codes by transforms, over t16
+
+
+@functools.cache
+def cantor_point(place):
+    """The point of a place: the sum of the Cantor vectors at its set bits."""
+    return linear_map(cantor.vectors(), place)
+
+
+def coefficient_count(data):
+    """The least power of two that is at least the number of shards of data."""
+    return 1 << (data - 1).bit_length()
+
+
+@functools.cache
+def transform_factor(data, parity_at, own):
+    """The factor of a shard of data in a shard of parity: the polynomial has zeros at the points behind those of the data."""
+    count = coefficient_count(data)
+    points = [cantor_point(it) for it in range(count)]
+    return lagrange_factor(FIELDS["t16"], points, points[own], cantor_point(count + parity_at))
+
+
+def transform_parity(data, parity, words):
+    """The words of the shards of parity, of the words of those of data."""
+    field, size = FIELDS["t16"], len(words) // data
+    return [
+        total(field.multiply(transform_factor(data, row, own), words[own * size + column]) for own in range(data))
+        for row in range(parity)
+        for column in range(size)
+    ]
+
+
+def transform_space(data, parity):
+    """How many words of space a call takes."""
+    return 5 * coefficient_count(coefficient_count(data) + parity)

@@ -1,4 +1,4 @@
-"""Hashes of authentication tags, and Reed-Solomon codes, over bytes."""
+"""Hashes of authentication tags, and erasure codes, over bytes."""
 
 from __future__ import annotations
 
@@ -7,7 +7,7 @@ from typing import Any, Sequence
 
 import numpy as np
 
-from ._library import Words, call
+from ._library import WORDS, Words, call
 from ._storage import Stored
 
 
@@ -125,7 +125,58 @@ def tags_are_equal(left: Any, right: Any) -> bool:
     return bool(result[0])
 
 
-class ReedSolomon:
+class _Code:
+    """How many shards of data and of parity a code has, and shards as the rows of an array of bytes."""
+
+    def __init__(self, data: int, parity: int) -> None:
+        self._data, self._parity = data, parity
+
+    @property
+    def data(self) -> int:
+        """How many shards of data there are."""
+        return self._data
+
+    @property
+    def parity(self) -> int:
+        """How many shards of parity there are."""
+        return self._parity
+
+    def __repr__(self) -> str:
+        return f"{type(self).__name__}({self.data}, {self.parity})"
+
+    def _with_room(self, data: Any) -> Words:
+        """All shards, those of data as they are and those of parity with zeros."""
+        data = self._rows(data, self.data)
+        shards = np.zeros((self.data + self.parity, data.shape[1]), np.uint8)
+        shards[: self.data] = data
+        return shards
+
+    def _with_flags(self, shards: Any, present: Any) -> tuple[Words, Words]:
+        """All shards in an array of their own, the missing ones with anything, and a byte for each, which is 0 where it is missing."""
+        given = [it is not None for it in shards]
+        if present is not None:
+            if len(present) != len(given):
+                raise ValueError("expected as many flags as shards")
+            given = [is_given and bool(flag) for is_given, flag in zip(given, present)]
+        sizes = [len(it) for it in shards if it is not None]
+        if not sizes:
+            raise ValueError("too few shards are present")
+        rows = [np.zeros(sizes[0], np.uint8) if it is None else it for it in shards]
+        return self._rows(rows, self.data + self.parity).copy(), np.array(given, dtype=np.uint8)
+
+    @staticmethod
+    def _rows(shards: Any, count: int) -> Words:
+        if not isinstance(shards, np.ndarray):
+            shards = [_bytes(it.to_words() if isinstance(it, Stored) else it) for it in shards]
+            if len({len(it) for it in shards}) > 1:
+                raise ValueError("all shards must have one size")
+            shards = np.array(shards, np.uint8)
+        if shards.dtype != np.uint8 or shards.ndim != 2 or len(shards) != count:
+            raise ValueError(f"expected {count} rows of bytes")
+        return np.ascontiguousarray(shards)
+
+
+class ReedSolomon(_Code):
     """A code that restores losses, of shards that are known to be missing, and corrects no errors.
 
     It has so many shards of data and of parity, at most 256 in all, over bytes modulo x^8 + x^4 + x^3 + x^2 + 1. Shards are the rows of an
@@ -146,18 +197,8 @@ class ReedSolomon:
         data, parity = operator.index(data), operator.index(parity)
         if not (data >= 1 and parity >= 1 and data + parity <= 256):
             raise ValueError("invalid shard counts: at least one of data and one of parity, and at most 256 in all")
-        self._data, self._parity = data, parity
+        super().__init__(data, parity)
         self._made: Words | None = None
-
-    @property
-    def data(self) -> int:
-        """How many shards of data there are."""
-        return self._data
-
-    @property
-    def parity(self) -> int:
-        """How many shards of parity there are."""
-        return self._parity
 
     @property
     def _tables(self) -> Words:
@@ -170,18 +211,13 @@ class ReedSolomon:
             self._made = tables
         return self._made
 
-    def __repr__(self) -> str:
-        return f"ReedSolomon({self.data}, {self.parity})"
-
     def encode(self, data: Any) -> Words:
         """All shards: those of data, and behind them those of parity.
 
         >>> bf.ReedSolomon(2, 1).encode([b"ab", b"cd"]).tobytes()
         b'abcden'
         """
-        data = self._rows(data, self.data)
-        shards = np.zeros((self.data + self.parity, data.shape[1]), np.uint8)
-        shards[: self.data] = data
+        shards = self._with_room(data)
         call("rs_encode_prepared", self.data, self.parity, self._tables, shards)
         return shards
 
@@ -252,26 +288,75 @@ class ReedSolomon:
         return self._restored("rs_reconstruct_data", shards, present)[: self.data]
 
     def _restored(self, name: str, shards: Any, present: Any) -> Words:
-        given = [it is not None for it in shards]
-        if present is not None:
-            if len(present) != len(given):
-                raise ValueError("expected as many flags as shards")
-            given = [is_given and bool(flag) for is_given, flag in zip(given, present)]
-        sizes = [len(it) for it in shards if it is not None]
-        if not sizes:
-            raise ValueError("too few shards are present")
-        rows = [np.zeros(sizes[0], np.uint8) if it is None else it for it in shards]
-        all_shards = self._rows(rows, self.data + self.parity).copy()
-        call(name, self.data, self.parity, all_shards, np.array(given, dtype=np.uint8))
+        all_shards, flags = self._with_flags(shards, present)
+        call(name, self.data, self.parity, all_shards, flags)
         return all_shards
 
-    @staticmethod
-    def _rows(shards: Any, count: int) -> Words:
-        if not isinstance(shards, np.ndarray):
-            shards = [_bytes(it.to_words() if isinstance(it, Stored) else it) for it in shards]
-            if len({len(it) for it in shards}) > 1:
-                raise ValueError("all shards must have one size")
-            shards = np.array(shards, np.uint8)
-        if shards.dtype != np.uint8 or shards.ndim != 2 or len(shards) != count:
-            raise ValueError(f"expected {count} rows of bytes")
-        return np.ascontiguousarray(shards)
+
+class TransformCode(_Code):
+    """A code that restores losses, as `ReedSolomon` does, of thousands of shards. It goes by additive transforms over `BinaryField16`.
+
+    The number of shards of data, counted up to a power of two, and that of shards of parity are together at most 32,768. Shards are the rows
+    of an array of bytes, those of data first; each has an even number of bytes, of which two are an element, the low one first. The parity is
+    not that of `ReedSolomon`.
+
+    >>> code = bf.TransformCode(1000, 500)
+    >>> shards = code.encode([f"row {it:4}".encode() for it in range(1000)])
+    >>> code.reconstruct([None] * 500 + list(shards[500:]))[7].tobytes()
+    b'row    7'
+    """
+
+    def __init__(self, data: int, parity: int) -> None:
+        data, parity = operator.index(data), operator.index(parity)
+        if not (data >= 1 and parity >= 1 and (1 << (data - 1).bit_length()) + parity <= 1 << 15):
+            raise ValueError(
+                "invalid shard counts: at least one of data and one of parity, and at most 32768 in all, those of data counted up to a power of 2"
+            )
+        super().__init__(data, parity)
+
+    def encode(self, data: Any) -> Words:
+        """All shards: those of data, and behind them those of parity.
+
+        >>> bf.TransformCode(2, 1).encode([b"ab", b"cd"])[:2].tobytes()
+        b'abcd'
+        """
+        shards = self._with_room(data)
+        call("erasure_encode", self.data, self.parity, *self._halves(shards), self._space())
+        return shards
+
+    def verify(self, shards: Any) -> bool:
+        """Whether the shards of parity are those of the data.
+
+        >>> shards = bf.TransformCode(2, 1).encode([b"ab", b"cd"])
+        >>> shards[0, 0] += 1
+        >>> bf.TransformCode(2, 1).verify(shards)
+        False
+        """
+        result = np.zeros(1, np.uint8)
+        halves = self._halves(self._rows(shards, self.data + self.parity))
+        call("erasure_verify", self.data, self.parity, *halves, self._space(), result)
+        return bool(result[0])
+
+    def reconstruct(self, shards: Sequence[Any] | Words, present: Sequence[bool] | None = None) -> Words:
+        """All shards, the missing ones restored. A shard is missing where it is None, and where `present` has False.
+
+        >>> shards = bf.TransformCode(2, 1).encode([b"ab", b"cd"])
+        >>> bf.TransformCode(2, 1).reconstruct([shards[0], b"??", shards[2]], [True, False, True]).tobytes() == shards.tobytes()
+        True
+        """
+        all_shards, flags = self._with_flags(shards, present)
+        call("erasure_reconstruct", self.data, self.parity, *self._halves(all_shards), flags, self._space())
+        return all_shards
+
+    def _halves(self, shards: Words) -> tuple[Words, Words]:
+        """The words of the shards of data, and those of the shards of parity."""
+        if shards.shape[1] % 2:
+            raise ValueError("expected shards of an even number of bytes")
+        words = shards.view(WORDS["u16"])
+        return words[: self.data], words[self.data :]
+
+    def _space(self) -> Words:
+        """What a call works in."""
+        length = np.zeros(1, np.uint64)
+        call("erasure_space", self.data, self.parity, length)
+        return np.empty(int(length[0]), WORDS["u16"])

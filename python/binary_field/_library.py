@@ -16,7 +16,7 @@ import numpy as np
 from ._functions import FUNCTIONS, STATUSES, VERSION
 from ._workers import get_workers, in_pieces
 
-ARRAYS = ("in", "inout", "out")
+ARRAYS = ("in", "inout", "out", "space")
 NARROW = {"u8": ctypes.c_uint8, "u16": ctypes.c_uint16, "u32": ctypes.c_uint32, "u64": ctypes.c_uint64}
 # What holds an element in an array of numpy: an unsigned integer or, of 128 and 192 bits, a structure of words of 64, the lowest first. It
 # has the alignment of its words, so that numpy says of an array whether it has that.
@@ -71,7 +71,7 @@ _CALLED = {
     name: (
         function,
         [
-            (parameter, kind == "number" or (kind == "scalar" and word in NARROW), kind in ARRAYS, kind in ("inout", "out", "result"), WORDS[word])
+            (parameter, kind == "number" or (kind == "scalar" and word in NARROW), kind in ARRAYS, kind in ("inout", "out", "result", "space"), WORDS[word])
             for kind, parameter, word in FUNCTIONS[name]
         ],
     )

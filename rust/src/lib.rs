@@ -31,6 +31,7 @@
 mod field_macros;
 
 mod bytes;
+mod erasure;
 #[rustfmt::skip]
 mod error;
 mod field;
@@ -50,6 +51,7 @@ pub use bytes::{
     Prepared, RawDataSerializable, ReedSolomon, gcm_ghash, gcm_ghash_final, ghash, ghash_update,
     ghash_update_padded, polyval, polyval_update, polyval_update_padded, tags_are_equal,
 };
+pub use erasure::TransformCode;
 pub use error::Error;
 pub use field::Field;
 pub use fields::{

@@ -473,3 +473,45 @@ fn tags_and_codes() {
         .is_err());
     assert_eq!(ReedSolomon::new(200, 57), Err(Error::Code));
 }
+
+#[test]
+fn transform_codes_restore() {
+    let code = TransformCode::new(3, 2).unwrap();
+    let mut space = vec![7; code.space_length()];
+    assert_eq!(space.len(), 40);
+    let data = [1, 0x8000, 0x1234, 0xffff, 0, 5];
+    let (mut shards, mut parity) = (data, [0; 4]);
+    code.encode(&data, &mut parity, &mut space).unwrap();
+    // By the definition of tests/definitions.py.
+    assert_eq!(parity, [0x8c45, 0xedd5, 0xbd6a, 0x775]);
+    assert_eq!(code.verify(&data, &parity, &mut space), Ok(true));
+    let whole = parity;
+    shards[2..4].fill(9);
+    parity[..2].fill(9);
+    assert_eq!(code.verify(&shards, &parity, &mut space), Ok(false));
+    code.reconstruct(
+        &mut shards,
+        &mut parity,
+        &[true, false, true, false, true],
+        &mut space,
+    )
+    .unwrap();
+    assert_eq!((shards, parity), (data, whole));
+    let few = [true, false, false, false, true];
+    assert_eq!(
+        code.reconstruct(&mut shards, &mut parity, &few, &mut space),
+        Err(Error::TooFewShards)
+    );
+    assert_eq!(
+        code.encode(&data[..5], &mut parity, &mut space),
+        Err(Error::Length)
+    );
+    assert_eq!(
+        code.encode(&data, &mut parity, &mut space[..39]),
+        Err(Error::Length)
+    );
+    assert!(TransformCode::new(16384, 16384).is_ok());
+    for (data, parity) in [(0, 1), (1, 0), (16385, 1), (1, 32768), (usize::MAX, 1)] {
+        assert_eq!(TransformCode::new(data, parity), Err(Error::Code));
+    }
+}

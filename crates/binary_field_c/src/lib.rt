@@ -4,6 +4,7 @@
 #![tactic(auto)]
 
 mod changes;
+mod erasure;
 mod g128;
 mod gf2;
 mod linear;
