@@ -3,10 +3,12 @@ use Rattle.std.proofs.Common.{◌≡◌, ◌≢◌, ◌↔◌, ◌⊎◌, inl, i
 use Rattle.std.specs.Prelude.{IsErrAnd, IsTrue, IfErr, OnErr, slice_index}
 use Rattle.std.proofs.lemmas.Bool.{true≢false}
 use Rattle.std.proofs.lemmas.Result.{err_from_is_err_and}
-use Rattle.protocols.specs.Refusals.{CanBeProved, CanBeStated, IsAnswer, ProverRefuses, VerifierRefuses}
+use Rattle.transcript_elements.specs.Grinding.{FailsSearch, NonePasses, candidate_count}
+use Rattle.transcript_elements.specs.declared.error.GrindError.{GrindError}
+use Rattle.protocols.specs.Refusals.{CanBeProved, CanBeStated, error_of_search, IsAnswer, IsOutcome, ProverRefuses, VerifierRefuses}
 use Rattle.protocols.specs.Terms.{AreWithin, FactorsAreWithin, Product, degree_of}
 use Rattle.protocols.specs.declared.error.ProtocolError.{ProtocolError}
-use Rattle.protocols.specs.declared.error.ProtocolError.TheVariants.{Challenger, Length, Memory, Shape}
+use Rattle.protocols.specs.declared.error.ProtocolError.TheVariants.{Challenger, Length, Memory, NoWitness, Shape}
 
 -- ---- exits
 
@@ -51,6 +53,24 @@ module _ {T : Type 0} (before after : Bool) (refuses : ProtocolError → Type 0)
     memory = λ _. tt;
     goes_on = on;
   }
+
+module _ {T : Type 0} (before after : Bool) (allowed : ProtocolError → Type 0) (kept : Type 0) where
+  -- a call within fails, with an error that is allowed
+  pub outcome-stops : {Q : ProtocolError → Type 0} (result : Result T ProtocolError) → IsErrAnd result Q
+      → ((error : ProtocolError) → Q error → allowed error) → before ≡ false → IsOutcome before after allowed kept result
+  outcome-stops result fails may goes =
+      let error = err_from_is_err_and result fails in
+      subst (λ (r : Result T ProtocolError). IsOutcome before after allowed kept r) (sym error.1) (record {
+        failed = λ fails. absurd (true≢false (sym fails ∙ goes));
+        errors = λ _. may error.0 error.2;
+        goes_on = tt;
+      })
+
+-- why a search stops a protocol
+pub search-stops : (passing : ℕ → Bool) (width : ℕ) (refusal : GrindError) (error : ProtocolError) → error ≡ error_of_search refusal
+    → FailsSearch passing width refusal → (error ≡ Memory) ⊎ (error ≡ NoWitness) × NonePasses passing (candidate_count width)
+search-stops passing width refusal error same (inl is) = inl (same ∙ ap error_of_search is)
+search-stops passing width refusal error same (inr is) = inr (same ∙ ap error_of_search is.0, is.1)
 
 -- a result is no error
 pub no-error : {T : Type 0} (value : T) (error : ProtocolError) → Ok value ≡ Err error → ⊥

@@ -1,16 +1,24 @@
--- When a prover or a verifier of sum-check fails, and with which error. The terms are sums of products of `count` polynomials in `rounds`
+-- When a prover or a verifier fails, and with which error. The terms are sums of products of `count` polynomials in `rounds`
 -- coordinates, over a field of `width` bits.
 use Rattle.std.specs.Prelude.{◌≡◌, ◌≢◌, ◌⊎◌, ◌*◌, ◌^◌, ◌<◌, ◌≤◌, ℕ, Bool, true, false, List, length, Err, IfErr, OnOk, Result}
 use Rattle.protocols.specs.Terms.{AreWithin, Product, degree_of}
 use Rattle.protocols.specs.declared.error.ProtocolError.{ProtocolError}
-use Rattle.protocols.specs.declared.error.ProtocolError.TheVariants.{Challenger, Length, Memory, Shape}
+use Rattle.protocols.specs.declared.error.ProtocolError.TheVariants.{Challenger, Length, Memory, NoWitness, Shape}
 use Rattle.transcript_bytes.specs.declared.error.ChallengerError.{ChallengerError}
 use Rattle.transcript_bytes.specs.declared.error.ChallengerError.TheVariants as challenger_error
+use Rattle.transcript_elements.specs.declared.error.GrindError.{GrindError}
+use Rattle.transcript_elements.specs.declared.error.GrindError.TheVariants as grind_error
 
 -- the error of a call of a challenger
 abbrev pub error_of_call : ChallengerError → ProtocolError
 error_of_call challenger_error.Memory = Memory
 error_of_call challenger_error.Failed = Challenger
+
+-- .. and of a search for a witness
+abbrev pub error_of_search : GrindError → ProtocolError
+error_of_search grind_error.Memory = Memory
+error_of_search grind_error.Failed = Challenger
+error_of_search grind_error.NoWitness = NoWitness
 
 -- ---- what has to fit
 
@@ -49,4 +57,12 @@ pub record IsAnswer {T : Type 0} (failed_before failed_after : Bool) (refuses : 
   pub failed : failed_before ≡ true → (result ≡ Err Challenger) × kept
   pub refused : failed_before ≡ false → (error : ProtocolError) → refuses error → (result ≡ Err error) × kept
   pub memory : failed_before ≡ false → IfErr result (λ error. (error ≡ Memory) ⊎ refuses error)
+  pub goes_on : OnOk result (failed_after ≡ false)
+
+-- Of a call that tests no operands, in a transcript that had failed before, or had not: `Challenger` if it had, and what is called is then as
+-- before; else a result, or an error that is allowed. After a result the transcript has not failed.
+pub record IsOutcome {T : Type 0} (failed_before failed_after : Bool) (allowed : ProtocolError → Type 0) (kept : Type 0)
+    (result : Result T ProtocolError) : Type 0 where
+  pub failed : failed_before ≡ true → (result ≡ Err Challenger) × kept
+  pub errors : failed_before ≡ false → IfErr result allowed
   pub goes_on : OnOk result (failed_after ≡ false)

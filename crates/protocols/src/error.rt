@@ -1,6 +1,6 @@
 // Why a protocol stopped.
 ghost use Rattle.std.specs.Prelude.{◌≡◌};
-ghost use Rattle.protocols.specs.Refusals.{error_of_call};
+ghost use Rattle.protocols.specs.Refusals.{error_of_call, error_of_search};
 ghost use Rattle.protocols.specs.declared.error.ProtocolError.TheVariants.{Memory};
 
 use std::alloc::{AllocError, AllocFailed};
@@ -56,6 +56,8 @@ impl From<ChallengerError> for ProtocolError {
 }
 
 impl From<GrindError> for ProtocolError {
+    ghost from_gives = { λ refusal error. error ≡ error_of_search refusal };
+
     fn from(error: GrindError) -> ProtocolError {
         match error {
             GrindError::Memory => ProtocolError::Memory,

@@ -1,16 +1,19 @@
 // Places to open, sampled in a transcript after a proof of work.
-ghost use Rattle.std.specs.Prelude.{◌≡◌, ◌<◌, true, length, IfOk};
-ghost use Rattle.transcript_elements.specs.Grinding.{MayGrind};
+ghost use Rattle.std.specs.Prelude.{◌≡◌, ◌⊎◌, ◌<◌, false, true, length, IfErr, IfOk, OnOk};
+ghost use Rattle.transcript_elements.specs.Grinding.{MayGrind, NonePasses, candidate_count};
 ghost use Rattle.transcript_elements.specs.Lists.{InTurn};
 ghost use Rattle.protocols.specs.Queries.{AreQueries};
+ghost use Rattle.protocols.specs.Refusals.{IsOutcome};
+ghost use Rattle.protocols.specs.declared.error.ProtocolError.TheVariants.{Memory, NoWitness};
 
 use crate::error::ProtocolError;
 use std::alloc::Allocator;
 use transcript_elements::{CanSampleUniformBits, GrindingChallenger};
 
 /// Searches for a witness of `bits` bits of work, and then samples so many places below 2^depth, in order: they may repeat, and each number
-/// of `depth` bits is as likely as any other if the bytes that are sampled are. It returns the witness and the places. It fails where
-/// the challenger does, or memory is refused; no clause says with which error, or that it succeeds otherwise.
+/// of `depth` bits is as likely as any other if the bytes that are sampled are. It returns the witness and the places. It fails with
+/// `Challenger` if a call of the challenger had failed before, which then stays as it is; else with `NoWitness` only if no candidate passes,
+/// and with no other error than that and `Memory`.
 pub fn draw_queries<
     W: Drop,
     F,
@@ -28,14 +31,21 @@ pub fn draw_queries<
     ensures count { IfOk result (λ drawn. length drawn.1.items ≡ count) }
     ensures drawn { IfOk result (λ drawn. AreQueries C.passing C.checks C.gives_bits challenger.old bits (C.number drawn.0) true depth
         drawn.1.items challenger.new) }
+    ensures answer { IsOutcome (C.has_failed challenger.old) (C.has_failed challenger.new)
+        (λ error. (error ≡ Memory) ⊎ (error ≡ NoWitness) × NonePasses (C.passing challenger.old bits) (candidate_count C.witness_bits))
+        (challenger.new ≡ challenger.old) result }
 {
+    if challenger.failed() {
+        return Err(ProtocolError::Challenger);
+    }
     let witness = challenger.grind(bits)?;
     let places = places_of(alloc, challenger, depth, count)?;
     Ok((witness, places))
 }
 
 /// Checks a witness of `bits` bits of work, and then samples so many places below 2^depth, as `draw_queries` does. It returns whether the
-/// witness works, and the places. It fails as `draw_queries` does.
+/// witness works, and the places. It fails with `Challenger` if a call of the challenger had failed before, which then stays as it is, and
+/// else only with `Memory`.
 pub fn check_queries<
     W: Drop,
     F,
@@ -54,7 +64,12 @@ pub fn check_queries<
     ensures count { IfOk result (λ drawn. length drawn.1.items ≡ count) }
     ensures drawn { IfOk result (λ drawn. AreQueries C.passing C.checks C.gives_bits challenger.old bits (C.number witness) drawn.0 depth
         drawn.1.items challenger.new) }
+    ensures answer { IsOutcome (C.has_failed challenger.old) (C.has_failed challenger.new) (λ error. error ≡ Memory)
+        (challenger.new ≡ challenger.old) result }
 {
+    if challenger.failed() {
+        return Err(ProtocolError::Challenger);
+    }
     let works = challenger.check_witness(bits, witness)?;
     let places = places_of(alloc, challenger, depth, count)?;
     Ok((works, places))
@@ -67,7 +82,10 @@ fn places_of<F, C: CanSampleUniformBits<F>, A: Allocator>(
     depth: usize,
     count: usize,
 ) -> Result<Vec<usize, A>, ProtocolError>
-    requires { depth < 64 }
+    requires depth { depth < 64 }
+    requires going { C.has_failed challenger.old ≡ false }
+    ensures goes_on { OnOk result (C.has_failed challenger.new ≡ false) }
+    ensures memory { IfErr result (λ error. error ≡ Memory) }
     ensures count { IfOk result (λ places. length places.items ≡ count) }
     ensures ok { IfOk result (λ places. InTurn (λ old place new. C.gives_bits old depth place new) places.items
         challenger.old challenger.new) }

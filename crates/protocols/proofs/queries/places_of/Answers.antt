@@ -7,6 +7,7 @@ pub places-init : goal.places-init
 places-init g c = (
   search rules,
   empty_in_turn (λ old (place : ℕ) new. g.C.CanSampleBits.gives_bits old c.args.depth place new) _ c.args.challenger.now (search rules),
+  c.requires.going,
 )
 
 pub places-preserved : goal.places-preserved
@@ -16,4 +17,5 @@ places-preserved g c =
       grown_in_turn (λ old (place : ℕ) new. g.C.CanSampleBits.gives_bits old c.args.depth place new) c.places.places.items
           c.push.new.self.items c.in_ok-place.place c.args.challenger.now c.places.challenger c.sample_uniform_bits.new.self
           c.in_ok-push.ensures.items c.places.invariant.1 c.in_ok-place.ensures.ok,
+      c.in_ok-place.ensures.answer.goes_on,
     )
