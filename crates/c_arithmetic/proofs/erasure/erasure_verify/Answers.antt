@@ -1,4 +1,4 @@
-use Rattle.std.proofs.Common.{inl, inr, ℕ, length, refl, ◌∙◌, ap, arith}
+use Rattle.std.proofs.Common.{inl, inr, length, refl, ◌∙◌, ap, arith}
 use Rattle.std.proofs.lemmas.Bool.{cases_Bool}
 use mir.Val.{bool_byte}
 use Rattle.tower_transforms.specs.Words.{level_element}
