@@ -1,5 +1,6 @@
 -- Files are cut into the parts of which they are made.
-use Rattle.std.proofs.Common.{◌≡◌, ℕ, zero, suc, ◌+◌, ◌-◌, ◌*◌, ◌/◌, ◌%◌, ◌<◌, ◌≤◌, List, [], ◌∷◌, ◌++◌, length, get_or, take, drop, refl, sym, ◌∙◌, ap, ap₂, arith}
+use Rattle.std.proofs.Common.{◌≡◌, ℕ, zero, suc, ◌+◌, ◌-◌, ◌*◌, ◌/◌, ◌%◌, ◌<◌, ◌≤◌, List, [], ◌∷◌, ◌++◌, length, get_or, take, drop, refl, sym, ◌∙◌, ap, ap₂, subst, arith}
+use Rattle.std.specs.Prelude.{IfNone, IfSome, None, Option, Some, slice_index}
 use Rattle.std.specs.List.{flat_map}
 use Rattle.std.specs.Simd.{first_chunks}
 use Rattle.std.proofs.Math.Seq.{drop-append_seam, take-append_seam, take-suc}
@@ -7,145 +8,257 @@ use Rattle.std.proofs.lemmas.Grind.{flat_map-append}
 use Rattle.std.proofs.lemmas.List.{append-nil, append_assoc, drop-drop, length-append, length-drop, length-take-le, take-append-drop}
 use Rattle.std.proofs.lemmas.List.Concat.{flat_map-cons}
 use native.Mathlib.Numerals.{add-one}
-use Rattle.prove_sums.specs.ProofFiles.{file_bytes, head, IsFile}
+use Rattle.field_bytes.specs.Bytes.{low_bytes}
+use Rattle.field_bytes.specs.Streams.{joined_bytes}
+use Rattle.field_bytes.proofs.Taking.{length-chunks}
+use Rattle.prove_sums.specs.ProofFiles.{file_bytes, head, IsCutTo, IsFile}
+use Rattle.prove_sums.specs.Shapes.{element_count}
 
--- the numbers, one after the other
+-- the nodes, one after the other
 abbrev pub flat : List (List ℕ) → List ℕ
-flat numbers = flat_map (λ number. number) numbers
+flat nodes = flat_map (λ node. node) nodes
 
--- each has 16 bytes
-abbrev pub AreNumbers : List (List ℕ) → Type 0
-AreNumbers numbers = (k : ℕ) → k < length numbers → length (get_or numbers k []) ≡ 16
+-- each has 32 bytes
+abbrev pub AreNodes : List (List ℕ) → Type 0
+AreNodes nodes = (k : ℕ) → k < length nodes → length (get_or nodes k []) ≡ 32
 
--- ---- numbers
+-- ---- nodes
 
-length-flat : (numbers : List (List ℕ)) → AreNumbers numbers → length (flat numbers) ≡ length numbers * 16
+length-flat : (nodes : List (List ℕ)) → AreNodes nodes → length (flat nodes) ≡ length nodes * 32
 length-flat [] sized = refl
 length-flat (n ∷ ns) sized =
     let first = sized 0 (omega arith) in
     let rest = length-flat ns (λ k within. sized (suc k) (omega (arith, within))) in
     ap length (flat_map-cons (λ x. x) n ns) ∙ length-append n (flat ns) ∙ omega (arith, first, rest)
 
--- chunks of 16 bytes of numbers are the numbers
-chunks-flat : (numbers : List (List ℕ)) → AreNumbers numbers → (k : ℕ) → k ≡ length numbers → first_chunks 16 k (flat numbers) ≡ numbers
+-- chunks of 32 bytes of nodes are the nodes
+chunks-flat : (nodes : List (List ℕ)) → AreNodes nodes → (k : ℕ) → k ≡ length nodes → first_chunks 32 k (flat nodes) ≡ nodes
 chunks-flat [] sized zero same = refl
 chunks-flat [] sized (suc k) same = absurd (omega (arith, same))
 chunks-flat (n ∷ ns) sized zero same = absurd (omega (arith, same))
 chunks-flat (n ∷ ns) sized (suc k) same =
     ap₂ (λ (a : List ℕ) (b : List (List ℕ)). a ∷ b) front
-    (ap (first_chunks 16 k) back ∙ chunks-flat ns (λ j within. sized (suc j) (omega (arith, within))) k (omega (arith, same)))
+    (ap (first_chunks 32 k) back ∙ chunks-flat ns (λ j within. sized (suc j) (omega (arith, within))) k (omega (arith, same)))
   where
-    first : length n ≡ 16
+    first : length n ≡ 32
     first = sized 0 (omega arith)
 
-    front : take 16 (flat (n ∷ ns)) ≡ n
-    front = ap (take 16) (flat_map-cons (λ x. x) n ns) ∙ ap (λ (m : ℕ). take m (n ++ flat ns)) (sym first) ∙ take-append_seam n (flat ns)
+    front : take 32 (flat (n ∷ ns)) ≡ n
+    front = ap (take 32) (flat_map-cons (λ x. x) n ns) ∙ ap (λ (m : ℕ). take m (n ++ flat ns)) (sym first) ∙ take-append_seam n (flat ns)
 
-    back : drop 16 (flat (n ∷ ns)) ≡ flat ns
-    back = ap (drop 16) (flat_map-cons (λ x. x) n ns) ∙ ap (λ (m : ℕ). drop m (n ++ flat ns)) (sym first) ∙ drop-append_seam n (flat ns)
+    back : drop 32 (flat (n ∷ ns)) ≡ flat ns
+    back = ap (drop 32) (flat_map-cons (λ x. x) n ns) ∙ ap (λ (m : ℕ). drop m (n ++ flat ns)) (sym first) ∙ drop-append_seam n (flat ns)
 
 -- and chunks of bytes, one after the other, are the bytes
-flat-chunks : (k : ℕ) (bytes : List ℕ) → length bytes ≡ k * 16 → flat (first_chunks 16 k bytes) ≡ bytes
+flat-chunks : (k : ℕ) (bytes : List ℕ) → length bytes ≡ k * 32 → flat (first_chunks 32 k bytes) ≡ bytes
 flat-chunks zero [] size = refl
 flat-chunks zero (b ∷ bytes) size = absurd (omega (arith, size))
 flat-chunks (suc k) bytes size =
-    flat_map-cons (λ x. x) (take 16 bytes) (first_chunks 16 k (drop 16 bytes))
-    ∙ ap (λ (l : List ℕ). take 16 bytes ++ l) (flat-chunks k (drop 16 bytes) (omega (arith, length-drop 16 bytes, size)))
-    ∙ take-append-drop 16 bytes
+    flat_map-cons (λ x. x) (take 32 bytes) (first_chunks 32 k (drop 32 bytes))
+    ∙ ap (λ (l : List ℕ). take 32 bytes ++ l) (flat-chunks k (drop 32 bytes) (omega (arith, length-drop 32 bytes, size)))
+    ∙ take-append-drop 32 bytes
 
--- each chunk has 16 bytes
-pub chunk-size : (k : ℕ) (bytes : List ℕ) → k * 16 ≤ length bytes → AreNumbers (first_chunks 16 k bytes)
+-- each chunk has 32 bytes
+pub chunk-size : (k : ℕ) (bytes : List ℕ) → k * 32 ≤ length bytes → AreNodes (first_chunks 32 k bytes)
 chunk-size zero bytes enough j inside = absurd (omega (arith, inside))
-chunk-size (suc k) bytes enough zero inside = length-take-le 16 bytes (omega (arith, enough))
+chunk-size (suc k) bytes enough zero inside = length-take-le 32 bytes (omega (arith, enough))
 chunk-size (suc k) bytes enough (suc j) inside =
-    chunk-size k (drop 16 bytes) (omega (arith, length-drop 16 bytes, enough)) j (omega (arith, inside))
+    chunk-size k (drop 32 bytes) (omega (arith, length-drop 32 bytes, enough)) j (omega (arith, inside))
 
--- one number more
-pub number_written : (numbers : List (List ℕ)) (place : ℕ) (number old new front : List ℕ) → place < length numbers
-    → number ≡ get_or numbers place number → new ≡ old ++ number → old ≡ front ++ flat (take place numbers)
-    → new ≡ front ++ flat (take (place + 1) numbers)
-number_written numbers place number old new front inside is written so_far =
-    written ∙ ap (λ (l : List ℕ). l ++ number) so_far ∙ append_assoc front (flat (take place numbers)) number
+pub chunk-count : (k : ℕ) (bytes : List ℕ) → length (first_chunks 32 k bytes) ≡ k
+chunk-count zero bytes = refl
+chunk-count (suc k) bytes = ap suc (chunk-count k (drop 32 bytes))
+
+-- one node more
+pub node_written : (nodes : List (List ℕ)) (place : ℕ) (node old new front : List ℕ) → place < length nodes
+    → node ≡ get_or nodes place node → new ≡ old ++ node → old ≡ front ++ flat (take place nodes)
+    → new ≡ front ++ flat (take (place + 1) nodes)
+node_written nodes place node old new front inside is written so_far =
+    written ∙ ap (λ (l : List ℕ). l ++ node) so_far ∙ append_assoc front (flat (take place nodes)) node
     ∙ ap (λ (l : List ℕ). front ++ l)
-    (sym (ap (λ (n : ℕ). flat (take n numbers)) (add-one place)
-    ∙ ap flat (take-suc numbers place number inside ∙ ap (λ y. take place numbers ++ y ∷ []) (sym is))
-    ∙ flat_map-append (λ x. x) (take place numbers) (number ∷ [])
-    ∙ ap (λ (ys : List ℕ). flat (take place numbers) ++ ys) (append-nil number)))
+    (sym (ap (λ (n : ℕ). flat (take n nodes)) (add-one place)
+    ∙ ap flat (take-suc nodes place node inside ∙ ap (λ y. take place nodes ++ y ∷ []) (sym is))
+    ∙ flat_map-append (λ x. x) (take place nodes) (node ∷ [])
+    ∙ ap (λ (ys : List ℕ). flat (take place nodes) ++ ys) (append-nil node)))
 
 -- ---- files
 
+-- the parts of a file, one behind the other
+nested : (rounds : ℕ) (left right body : List ℕ) (nodes : List (List ℕ))
+    → file_bytes rounds left right body nodes ≡ head ++ (rounds ∷ (left ++ (right ++ (body ++ flat nodes))))
+nested rounds left right body nodes =
+    append_assoc (head ++ (rounds ∷ []) ++ left ++ right) body (flat nodes)
+    ∙ append_assoc (head ++ (rounds ∷ []) ++ left) right (body ++ flat nodes)
+    ∙ append_assoc (head ++ (rounds ∷ [])) left (right ++ (body ++ flat nodes))
+    ∙ append_assoc head (rounds ∷ []) (left ++ (right ++ (body ++ flat nodes)))
+
+-- a part, and what stands behind it
+split : (bytes : List ℕ) (from size : ℕ) → take size (drop from bytes) ++ drop (from + size) bytes ≡ drop from bytes
+split bytes from size = ap (λ (l : List ℕ). take size (drop from bytes) ++ l) (sym (drop-drop size from bytes)) ∙ take-append-drop size (drop from bytes)
+
+-- the byte at a place, and what stands behind it
+byte-at : (bytes : List ℕ) (place : ℕ) → place < length bytes → slice_index bytes place ∷ drop (suc place) bytes ≡ drop place bytes
+byte-at [] place inside = absurd (omega (arith, inside))
+byte-at (b ∷ bytes) zero inside = refl
+byte-at (b ∷ bytes) (suc place) inside = byte-at bytes place (omega (arith, inside))
+
 module _ (bytes : List ℕ) where
   -- the parts of a file
+  abbrev pub rounds_of : ℕ
+  rounds_of = slice_index bytes 8
+
   abbrev pub left_of : List ℕ
-  left_of = take 32 (drop 8 bytes)
+  left_of = take 32 (drop 9 bytes)
 
   abbrev pub right_of : List ℕ
-  right_of = take 32 (drop 40 bytes)
+  right_of = take 32 (drop 41 bytes)
 
-  abbrev pub numbers_of : List (List ℕ)
-  numbers_of = first_chunks 16 (length (drop 72 bytes) / 16) (drop 72 bytes)
+  abbrev pub body_of : ℕ → List ℕ
+  body_of size = take size (drop 73 bytes)
+
+  abbrev pub nodes_of : ℕ → List (List ℕ)
+  nodes_of size = first_chunks 32 (length (drop (73 + size) bytes) / 32) (drop (73 + size) bytes)
 
   -- bytes of which enough are there, and which begin so, are the file of their parts
-  pub whole : 72 ≤ length bytes → (length bytes - 72) % 16 ≡ 0 → take 8 bytes ≡ head → bytes ≡ file_bytes left_of right_of numbers_of
-  whole enough even same =
-      sym (ap (λ (l : List ℕ). head ++ left_of ++ right_of ++ l)
-      (flat-chunks (length (drop 72 bytes) / 16) (drop 72 bytes) (omega (arith, length-drop 72 bytes, even, enough)))
-      ∙ ap (λ (h : List ℕ). h ++ left_of ++ right_of ++ drop 72 bytes) (sym same) ∙ joined)
-    where
-      -- the left root, the right one and the rest
-      behind : left_of ++ (right_of ++ drop 72 bytes) ≡ drop 8 bytes
-      behind =
-          ap (λ (l : List ℕ). left_of ++ (take 32 l ++ drop 72 bytes)) (sym (drop-drop 32 8 bytes))
-          ∙ ap (λ (l : List ℕ). left_of ++ (take 32 (drop 32 (drop 8 bytes)) ++ l))
-          (sym (drop-drop 32 40 bytes) ∙ ap (drop 32) (sym (drop-drop 32 8 bytes)))
-          ∙ ap (λ (l : List ℕ). left_of ++ l) (take-append-drop 32 (drop 32 (drop 8 bytes)))
-          ∙ take-append-drop 32 (drop 8 bytes)
+  pub whole : (size : ℕ) → 73 + size ≤ length bytes → (length bytes - (73 + size)) % 64 ≡ 0 → take 8 bytes ≡ head
+      → bytes ≡ file_bytes rounds_of left_of right_of (body_of size) (nodes_of size)
+  whole size enough even same =
+      sym (nested rounds_of left_of right_of (body_of size) (nodes_of size)
+      ∙ ap (λ (l : List ℕ). head ++ (rounds_of ∷ (left_of ++ (right_of ++ (body_of size ++ l)))))
+      (flat-chunks (length (drop (73 + size) bytes) / 32) (drop (73 + size) bytes) (let all = length-drop (73 + size) bytes in omega (arith, all, even, enough)))
+      ∙ ap (λ (l : List ℕ). head ++ (rounds_of ∷ (left_of ++ (right_of ++ l)))) (split bytes 73 size)
+      ∙ ap (λ (l : List ℕ). head ++ (rounds_of ∷ (left_of ++ l))) (split bytes 41 32)
+      ∙ ap (λ (l : List ℕ). head ++ (rounds_of ∷ l)) (split bytes 9 32)
+      ∙ ap (λ (l : List ℕ). head ++ l) (byte-at bytes 8 (omega (arith, enough)))
+      ∙ ap (λ (h : List ℕ). h ++ drop 8 bytes) (sym same) ∙ take-append-drop 8 bytes)
 
-      joined : take 8 bytes ++ left_of ++ right_of ++ drop 72 bytes ≡ bytes
-      joined =
-          append_assoc (take 8 bytes ++ left_of) right_of (drop 72 bytes)
-          ∙ append_assoc (take 8 bytes) left_of (right_of ++ drop 72 bytes)
-          ∙ ap (λ (l : List ℕ). take 8 bytes ++ l) behind ∙ take-append-drop 8 bytes
+  module _ (rounds : ℕ) (left right body : List ℕ) (nodes : List (List ℕ)) (is : IsFile rounds left right body nodes)
+      (same : bytes ≡ file_bytes rounds left right body nodes) where
+    all : bytes ≡ head ++ (rounds ∷ (left ++ (right ++ (body ++ flat nodes))))
+    all = same ∙ nested rounds left right body nodes
 
-  module _ (left right : List ℕ) (numbers : List (List ℕ)) (is : IsFile left right numbers) (same : bytes ≡ file_bytes left right numbers) where
-    -- what stands behind the head
-    behind_head : drop 8 bytes ≡ left ++ (right ++ flat numbers)
-    behind_head = ap (drop 8) same ∙ append_assoc left right (flat numbers)
+    behind_head : drop 9 bytes ≡ left ++ (right ++ (body ++ flat nodes))
+    behind_head = ap (drop 9) all
 
-    behind_left : drop 40 bytes ≡ right ++ flat numbers
+    behind_left : drop 41 bytes ≡ right ++ (body ++ flat nodes)
     behind_left =
-        sym (drop-drop 32 8 bytes) ∙ ap (drop 32) behind_head
-        ∙ ap (λ (n : ℕ). drop n (left ++ (right ++ flat numbers))) (sym is.left_size) ∙ drop-append_seam left (right ++ flat numbers)
+        sym (drop-drop 32 9 bytes) ∙ ap (drop 32) behind_head
+        ∙ ap (λ (n : ℕ). drop n (left ++ (right ++ (body ++ flat nodes)))) (sym is.left_size) ∙ drop-append_seam left (right ++ (body ++ flat nodes))
 
-    behind_right : drop 72 bytes ≡ flat numbers
+    behind_right : drop 73 bytes ≡ body ++ flat nodes
     behind_right =
-        sym (drop-drop 32 40 bytes) ∙ ap (drop 32) behind_left
-        ∙ ap (λ (n : ℕ). drop n (right ++ flat numbers)) (sym is.right_size) ∙ drop-append_seam right (flat numbers)
+        sym (drop-drop 32 41 bytes) ∙ ap (drop 32) behind_left
+        ∙ ap (λ (n : ℕ). drop n (right ++ (body ++ flat nodes))) (sym is.right_size) ∙ drop-append_seam right (body ++ flat nodes)
+
+    behind_body : (size : ℕ) → size ≡ length body → drop (73 + size) bytes ≡ flat nodes
+    behind_body size long =
+        sym (drop-drop size 73 bytes) ∙ ap (drop size) behind_right ∙ ap (λ (n : ℕ). drop n (body ++ flat nodes)) long
+        ∙ drop-append_seam body (flat nodes)
 
     pub file_head : take 8 bytes ≡ head
-    file_head = ap (take 8) same
+    file_head = ap (take 8) all
+
+    pub file_rounds : rounds_of ≡ rounds
+    file_rounds = ap (λ (l : List ℕ). slice_index l 8) all
 
     pub file_left : left_of ≡ left
     file_left =
-        ap (take 32) behind_head ∙ ap (λ (n : ℕ). take n (left ++ (right ++ flat numbers))) (sym is.left_size)
-        ∙ take-append_seam left (right ++ flat numbers)
+        ap (take 32) behind_head ∙ ap (λ (n : ℕ). take n (left ++ (right ++ (body ++ flat nodes)))) (sym is.left_size)
+        ∙ take-append_seam left (right ++ (body ++ flat nodes))
 
     pub file_right : right_of ≡ right
     file_right =
-        ap (take 32) behind_left ∙ ap (λ (n : ℕ). take n (right ++ flat numbers)) (sym is.right_size) ∙ take-append_seam right (flat numbers)
+        ap (take 32) behind_left ∙ ap (λ (n : ℕ). take n (right ++ (body ++ flat nodes))) (sym is.right_size)
+        ∙ take-append_seam right (body ++ flat nodes)
 
-    pub file_numbers : numbers_of ≡ numbers
-    file_numbers =
-        ap₂ (λ (n : ℕ) (l : List ℕ). first_chunks 16 (n / 16) l) (ap length behind_right) behind_right
-        ∙ chunks-flat numbers is.number_size (length (flat numbers) / 16)
-        (let all = length-flat numbers is.number_size in omega (arith, all))
+    pub file_body : (size : ℕ) → size ≡ length body → body_of size ≡ body
+    file_body size long =
+        ap (take size) behind_right ∙ ap (λ (n : ℕ). take n (body ++ flat nodes)) long ∙ take-append_seam body (flat nodes)
 
-    -- a file has 72 bytes and so many times 16
-    pub file_length : length bytes ≡ 72 + length numbers * 16
+    pub file_nodes : (size : ℕ) → size ≡ length body → nodes_of size ≡ nodes
+    file_nodes size long =
+        ap₂ (λ (n : ℕ) (l : List ℕ). first_chunks 32 (n / 32) l) (ap length (behind_body size long)) (behind_body size long)
+        ∙ chunks-flat nodes is.node_size (length (flat nodes) / 32)
+        (let long = length-flat nodes is.node_size in omega (arith, long))
+
+    -- a file has so many bytes
+    pub file_length : length bytes ≡ 73 + length body + length nodes * 32
     file_length =
-        let all = length-flat numbers is.number_size in
-        let one = length-append head left in
-        let two = length-append (head ++ left) right in
-        let three = length-append (head ++ left ++ right) (flat numbers) in
-        let eight : length head ≡ 8 = refl in
-        ap length same ∙ omega (arith, all, one, two, three, eight, is.left_size, is.right_size)
+        let last = length-flat nodes is.node_size in
+        let three = length-append body (flat nodes) in
+        let two = length-append right (body ++ flat nodes) in
+        let one = length-append left (right ++ (body ++ flat nodes)) in
+        ap length all ∙ omega (arith, last, one, two, three, is.left_size, is.right_size)
+
+-- elements of 16 bytes
+pub length-joined : {F : Type 0} (repr : F → ℕ) (elements : List F) → length (joined_bytes 16 repr elements) ≡ length elements * 16
+length-joined repr [] = refl
+length-joined repr (x ∷ xs) =
+    let rest = length-joined repr xs in
+    let first = length-chunks 8 16 (repr x) in
+    ap length (flat_map-cons (λ y. low_bytes 16 (repr y)) x xs) ∙ length-append (low_bytes 16 (repr x)) (joined_bytes 16 repr xs)
+    ∙ omega (arith, first, rest)
+
+-- ---- what is read
+
+module _ (bytes : List ℕ) (rounds : ℕ) (left right body : List ℕ) (nodes : List (List ℕ)) (size : ℕ) (rounds_are : rounds ≡ rounds_of bytes)
+    (left_is : left ≡ left_of bytes) (right_is : right ≡ right_of bytes) (body_is : body ≡ body_of bytes size)
+    (nodes_are : nodes ≡ nodes_of bytes size) (fits : size ≡ element_count rounds * 16) (few : rounds ≤ 39) (enough : 73 + size ≤ length bytes)
+    (even : (length bytes - (73 + size)) % 64 ≡ 0) (begins : take 8 bytes ≡ head) where
+  -- a file
+  read-file : IsFile rounds left right body nodes
+  read-file = record {
+    few = few;
+    left_size = ap length left_is ∙ length-take-le 32 (drop 9 bytes) (let all = length-drop 9 bytes in omega (arith, all, enough));
+    right_size = ap length right_is ∙ length-take-le 32 (drop 41 bytes) (let all = length-drop 41 bytes in omega (arith, all, enough));
+    body_size = ap length body_is ∙ length-take-le size (drop 73 bytes) (let all = length-drop 73 bytes in omega (arith, all, enough)) ∙ fits;
+    node_size =
+        subst (λ (ns : List (List ℕ)). AreNodes ns) (sym nodes_are)
+        (chunk-size (length (drop (73 + size) bytes) / 32) (drop (73 + size) bytes) (omega arith));
+    even =
+        let all = length-drop (73 + size) bytes in
+        let count = ap length nodes_are ∙ chunk-count (length (drop (73 + size) bytes) / 32) (drop (73 + size) bytes) in
+        omega (arith, all, count, even);
+  }
+
+  read-whole : bytes ≡ file_bytes rounds left right body nodes
+  read-whole =
+      whole bytes size enough even begins
+      ∙ ap₂ (λ (n : ℕ) (l : List ℕ). file_bytes n l (right_of bytes) (body_of bytes size) (nodes_of bytes size)) (sym rounds_are) (sym left_is)
+      ∙ ap₂ (λ (r b : List ℕ). file_bytes rounds left r b (nodes_of bytes size)) (sym right_is) (sym body_is)
+      ∙ ap (file_bytes rounds left right body) (sym nodes_are)
+
+  -- and the only one
+  read-same : (n : ℕ) (l r b : List ℕ) (ns : List (List ℕ)) → IsFile n l r b ns → bytes ≡ file_bytes n l r b ns
+      → (rounds ≡ n) × (left ≡ l) × (right ≡ r) × (body ≡ b) × (nodes ≡ ns)
+  read-same n l r b ns is same =
+      let number : rounds ≡ n = rounds_are ∙ file_rounds bytes n l r b ns is same in
+      let long : size ≡ length b = fits ∙ ap (λ (m : ℕ). element_count m * 16) number ∙ sym is.body_size in (
+        number,
+        left_is ∙ file_left bytes n l r b ns is same,
+        right_is ∙ file_right bytes n l r b ns is same,
+        body_is ∙ file_body bytes n l r b ns is same size long,
+        nodes_are ∙ file_nodes bytes n l r b ns is same size long,
+      )
+
+  pub reads : IsCutTo bytes rounds left right body nodes
+  reads = record { may_be = read-file; written = read-whole; only = read-same }
+
+-- sixteen of each
+pub sixteen : (a b : ℕ) → a ≡ b → 16 * a ≡ b * 16
+sixteen a b same = omega (arith, same)
+
+-- so many elements are read
+pub same-count : {F : Type 0} (repr : F → ℕ) (body : List ℕ) (elements : List F) (count : ℕ) → body ≡ joined_bytes 16 repr elements
+    → length body ≡ count * 16 → length elements ≡ count
+same-count repr body elements count is size =
+    let long = length-joined repr elements in
+    let same = ap length is in
+    omega (arith, long, same, size)
+
+-- what is said of an optional value, where it is known
+pub some-read : {T : Type 0} (P : T → Type 0) (found : Option T) (x : T) → found ≡ Some x → IfSome found P → P x
+some-read P found x is holds = subst (λ (f : Option _). IfSome f P) is holds
+
+pub none-read : {T : Type 0} (Q : Type 0) (found : Option T) → found ≡ None → IfNone found Q → Q
+none-read Q found is holds = subst (λ (f : Option _). IfNone f Q) is holds

@@ -1,8 +1,6 @@
 mod Files
 mod Places
-mod Programs
 mod Refusals
+mod Sizes
 mod StateRuns
 mod SumSteps
-mod TableRoots
-mod WordNumbers

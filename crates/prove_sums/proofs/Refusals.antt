@@ -1,35 +1,47 @@
 -- What is answered, by how far a file of a proof was read.
-use Rattle.std.proofs.Common.{◌≡◌, ℕ, ◌+◌, ◌*◌, Bool, true, false, List, [], length, map, inl, refl, sym, subst}
+use Rattle.std.proofs.Common.{◌≡◌, ℕ, Bool, true, false, List, [], refl, sym, subst}
 use Rattle.std.specs.Prelude.{Option, None, Some}
-use Rattle.prove_sums.specs.ProofFiles.{IsReadRefusal, file_bytes}
-use Rattle.prove_sums.specs.Verdicts.{IsAnswerTo, IsFileOf, IsNoFile, IsSumVerdict, number_of_word}
+use Rattle.prove_sums.specs.ProofFiles.{IsFileOf, IsNoFile, IsReadRefusal, file_bytes}
+use Rattle.prove_sums.specs.Verdicts.{IsAnswerTo, IsSumVerdict}
 use Rattle.prove_sums.specs.declared.refusal.Refusal.{Refusal}
 use Rattle.prove_sums.specs.declared.refusal.Refusal.TheVariants.{NotAProof, OtherField, Length, OtherLeft, OtherRight, NotProved}
 
--- a file with the roots that are compared
-pub same-file : (bytes one other left_root right_root : List ℕ) (numbers : List (List ℕ)) → one ≡ left_root → other ≡ right_root
-    → IsFileOf bytes one other numbers → IsFileOf bytes left_root right_root numbers
-same-file bytes one other left_root right_root numbers is_left is_right file =
-    subst (λ (l : List ℕ). IsFileOf bytes l right_root numbers) is_left (subst (λ (r : List ℕ). IsFileOf bytes one r numbers) is_right file)
-
-module _ {H : Type 0} (digest : H → List ℕ → List ℕ) (hasher : H) (rounds : ℕ) (left right left_root right_root bytes : List ℕ) where
+module _ {F H : Type 0} (digest : H → List ℕ → List ℕ) (hasher : H) (repr : F → ℕ) (left right bytes : List ℕ) where
   -- bytes that were not read
-  pub unread : (refusal : Refusal) → IsNoFile bytes → IsReadRefusal refusal
-      → IsAnswerTo digest hasher rounds left right left_root right_root bytes (Some refusal)
+  pub unread : (refusal : Refusal) → IsNoFile repr bytes → IsReadRefusal refusal → IsAnswerTo digest hasher repr left right bytes (Some refusal)
   unread NotAProof none is = none
   unread OtherField none is = none
-  unread Length none is = inl none
+  unread Length none is = none
   unread OtherLeft none is = absurd is
   unread OtherRight none is = absurd is
   unread NotProved none is = absurd is
 
-  -- numbers with a verdict
-  pub answered : (accepted : Bool) (refusal : Option Refusal) (numbers : List (List ℕ)) → IsFileOf bytes left_root right_root numbers
-      → length numbers ≡ 2 * rounds + 1
-      → IsSumVerdict digest hasher (file_bytes left_root right_root []) rounds left right (map number_of_word numbers) accepted
-      → (accepted ≡ true → refusal ≡ None) → (accepted ≡ false → refusal ≡ Some NotProved)
-      → IsAnswerTo digest hasher rounds left right left_root right_root bytes refusal
-  answered true refusal numbers file long verdict accept refuse =
-      subst (λ (r : Option Refusal). IsAnswerTo digest hasher rounds left right left_root right_root bytes r) (sym (accept refl)) (numbers, file, long, verdict)
-  answered false refusal numbers file long verdict accept refuse =
-      subst (λ (r : Option Refusal). IsAnswerTo digest hasher rounds left right left_root right_root bytes r) (sym (refuse refl)) (numbers, file, long, verdict)
+  module _ (n : ℕ) (one other : List ℕ) (elements : List F) (nodes : List (List ℕ)) (file : IsFileOf repr bytes n one other elements nodes) where
+    -- another root
+    pub other_left : (one ≡ left → ⊥) → IsAnswerTo digest hasher repr left right bytes (Some OtherLeft)
+    other_left differs = (n, one, other, elements, nodes, file, differs)
+
+    pub other_right : one ≡ left → (other ≡ right → ⊥) → IsAnswerTo digest hasher repr left right bytes (Some OtherRight)
+    other_right same differs =
+        (n, other, elements, nodes, subst (λ (l : List ℕ). IsFileOf repr bytes n l other elements nodes) same file, differs)
+
+    -- the same roots, with a verdict
+    pub answered : (accepted : Bool) (refusal : Option Refusal) → one ≡ left → other ≡ right
+        → IsSumVerdict digest hasher repr (file_bytes n one other [] []) n one other elements nodes accepted
+        → (accepted ≡ true → refusal ≡ None) → (accepted ≡ false → refusal ≡ Some NotProved)
+        → IsAnswerTo digest hasher repr left right bytes refusal
+    answered accepted refusal is_left is_right verdict accept refuse = by accepted (both accepted verdict) accept refuse
+      where
+        -- the file, and the verdict on it
+        Has : Bool → List ℕ → List ℕ → Type 0
+        Has says l r = IsFileOf repr bytes n l r elements nodes × IsSumVerdict digest hasher repr (file_bytes n l r [] []) n l r elements nodes says
+
+        both : (says : Bool) → IsSumVerdict digest hasher repr (file_bytes n one other [] []) n one other elements nodes says → Has says left right
+        both says found = subst (λ (l : List ℕ). Has says l right) is_left (subst (λ (r : List ℕ). Has says one r) is_right (file, found))
+
+        by : (says : Bool) → Has says left right → (says ≡ true → refusal ≡ None) → (says ≡ false → refusal ≡ Some NotProved)
+            → IsAnswerTo digest hasher repr left right bytes refusal
+        by true has yes no =
+            subst (λ (r : Option Refusal). IsAnswerTo digest hasher repr left right bytes r) (sym (yes refl)) (n, elements, nodes, has.0, has.1)
+        by false has yes no =
+            subst (λ (r : Option Refusal). IsAnswerTo digest hasher repr left right bytes r) (sym (no refl)) (n, elements, nodes, has.0, has.1)

@@ -1,8 +1,7 @@
 -- The terms of a sum of products of two tables, and what their proofs say.
-use Rattle.std.proofs.Common.{◌≡◌, ◌↔◌, ℕ, zero, suc, ◌-◌, ◌*◌, ◌<◌, Bool, true, false, List, [], ◌∷◌, ◌++◌, length, map, take, drop, get_or, refl, sym, ◌∙◌, ap, subst, arith}
+use Rattle.std.proofs.Common.{◌≡◌, ◌↔◌, ℕ, zero, suc, ◌*◌, ◌<◌, Bool, true, false, List, [], ◌∷◌, length, map, take, drop, get_or, refl, sym, ◌∙◌, ap, subst, arith}
 use Rattle.std.specs.Prelude.{IsTrue, None, Option, Some, is_some, slice_index}
-use Rattle.std.proofs.lemmas.List.{take_rest}
-use Rattle.protocols.specs.Sumcheck.{IsRunOf, messages_of, statement_of}
+use Rattle.protocols.specs.Sumcheck.{AreTurns, IsRunOf, messages_of, statement_of}
 use Rattle.protocols.specs.SumcheckClaims.{AreHonestMessages, reduced_claim}
 use Rattle.protocols.specs.Terms.{AreWithin, Product, cube_sum, degree_of}
 use Rattle.prove_sums.specs.Verdicts.{interleaved, product_terms, sum_statement}
@@ -38,20 +37,12 @@ rows-length (x ∷ xs) (y ∷ ys) same = let others = rows-length xs ys (omega (
 
 -- ---- numbers
 
--- the first one
-pub first-number : {F : Type 0} (repr : F → ℕ) (xs : List F) (x : F) → 0 < length xs → x ≡ get_or xs 0 x → repr x ≡ slice_index (map repr xs) 0
-first-number repr [] x some read = absurd (omega (arith, some))
-first-number repr (y ∷ ys) x some read = ap repr read
-
--- and the others
-pub other-numbers : {F : Type 0} (xs rest : List F) → rest ≡ take (length xs - 1) (drop 1 xs) → rest ≡ drop 1 xs
-other-numbers xs rest is = is ∙ take_rest xs 1
-
-pub numbers-listed : {F : Type 0} (none pushed final messages read : List F) (sum : F) → none ≡ [] → pushed ≡ none ++ sum ∷ []
-    → final ≡ pushed ++ read → read ≡ messages → final ≡ sum ∷ messages
-numbers-listed none pushed final messages read sum is_none is_pushed is_final is_read =
-    is_final ∙ ap (λ (xs : List _). pushed ++ xs) is_read ∙ ap (λ (xs : List _). xs ++ messages) is_pushed
-    ∙ ap (λ (xs : List _). (xs ++ sum ∷ []) ++ messages) is_none
+-- the number of the element at a place
+pub number-at : {F : Type 0} (repr : F → ℕ) (xs : List F) (place : ℕ) (x : F) → place < length xs → x ≡ get_or xs place x
+    → repr x ≡ slice_index (map repr xs) place
+number-at repr [] place x inside read = absurd (omega (arith, inside))
+number-at repr (y ∷ ys) zero x inside read = ap repr read
+number-at repr (y ∷ ys) (suc place) x inside read = number-at repr ys place x (omega (arith, inside)) read
 
 -- a comparison of elements as one of numbers
 pub decided : (accepted test : Bool) (one other left right : ℕ) → accepted ≡ test → IsTrue test ↔ (one ≡ other) → one ≡ left → other ≡ right
@@ -60,9 +51,25 @@ decided accepted test one other left right same law is_left is_right =
     subst (λ (t : Bool). IsTrue t ↔ (left ≡ right)) (sym same)
     ((λ holds. sym is_left ∙ law.0 holds ∙ is_right), λ equal. law.1 (is_left ∙ equal ∙ sym is_right))
 
+-- ---- runs
+
+-- there is a challenge for each message
+turns-length : {C F : Type 0} (observes gives : C → F → C → Type 0) (messages : List (List F)) (challenges : List F) (old new : C)
+    → AreTurns observes gives old messages challenges new → length challenges ≡ length messages
+unfolding AreTurns
+turns-length observes gives [] [] old new same = refl
+turns-length observes gives [] (r ∷ rs) old new none = absurd none
+turns-length observes gives (m ∷ ms) [] old new none = absurd none
+turns-length observes gives (m ∷ ms) (r ∷ rs) old new turns = ap suc (turns-length observes gives ms rs turns.0 new turns.2)
+
+messages-length : {F : Type 0} (d n : ℕ) (values : List F) → length (messages_of d n values) ≡ n
+unfolding messages_of
+messages-length d zero values = refl
+messages-length d (suc n) values = ap suc (messages-length d n (drop d values))
+
 module _ {C F : Type 0} (observes : C → F → C → Type 0) (gives : C → F → C → Type 0) (repr : F → ℕ) (width : ℕ) (times : ℕ → ℕ → ℕ)
     (rounds : ℕ) (old new : C) (terms : List Product) (same : terms ≡ product_terms) where
-  two : degree_of terms ≡ 2
+  pub two : degree_of terms ≡ 2
   two = ap degree_of same ∙ degree-product
 
   -- what the verifier has read
@@ -71,33 +78,29 @@ module _ {C F : Type 0} (observes : C → F → C → Type 0) (gives : C → F �
       IsRunOf observes gives repr old (statement_of width times rounds 2 ts sum) (messages_of d rounds messages) point new
       × (claim ≡ reduced_claim width times sum (map (map repr) (messages_of d rounds messages)) (map repr point))
 
-  pub verified-sum : (sum : F) (numbers read point : List F) (claim : ℕ) → 0 < length numbers → sum ≡ get_or numbers 0 sum
-      → read ≡ take (length numbers - 1) (drop 1 numbers)
-      → IsRunOf observes gives repr old (statement_of width times rounds 2 terms (repr sum)) (messages_of (degree_of terms) rounds read) point new
-      → claim ≡ reduced_claim width times (repr sum) (map (map repr) (messages_of (degree_of terms) rounds read)) (map repr point)
-      → IsRunOf observes gives repr old (sum_statement width times rounds (slice_index (map repr numbers) 0))
-      (messages_of 2 rounds (drop 1 numbers)) point new
-      × (claim ≡ reduced_claim width times (slice_index (map repr numbers) 0) (map (map repr) (messages_of 2 rounds (drop 1 numbers))) (map repr point))
-  verified-sum sum numbers read point claim some first rest run is_claim =
-      subst (λ (ts : List Product). Read ts 2 (slice_index (map repr numbers) 0) (drop 1 numbers) point claim) same
-      (subst (λ (n : ℕ). Read terms 2 n (drop 1 numbers) point claim) (first-number repr numbers sum some first)
-      (subst (λ (ms : List F). Read terms 2 (repr sum) ms point claim) (other-numbers numbers read rest)
-      (subst (λ (d : ℕ). Read terms d (repr sum) read point claim) two (run, is_claim))))
+  pub verified-sum : (sum first : ℕ) (read messages point : List F) (claim : ℕ) → sum ≡ first → read ≡ messages
+      → IsRunOf observes gives repr old (statement_of width times rounds 2 terms sum) (messages_of (degree_of terms) rounds read) point new
+      → claim ≡ reduced_claim width times sum (map (map repr) (messages_of (degree_of terms) rounds read)) (map repr point)
+      → IsRunOf observes gives repr old (sum_statement width times rounds first) (messages_of 2 rounds messages) point new
+      × (claim ≡ reduced_claim width times first (map (map repr) (messages_of 2 rounds messages)) (map repr point))
+  verified-sum sum first read messages point claim is_first is_read run is_claim =
+      subst (λ (ts : List Product). Read ts 2 first messages point claim) same
+      (subst (λ (n : ℕ). Read terms 2 n messages point claim) is_first
+      (subst (λ (ms : List F). Read terms 2 sum ms point claim) is_read
+      (subst (λ (d : ℕ). Read terms d sum read point claim) two (run, is_claim))))
 
   -- what the prover has sent
-  abbrev Sent : List Product → ℕ → F → List F → List F → List F → Type 0
+  abbrev Sent : List Product → ℕ → ℕ → List F → List F → List F → Type 0
   Sent ts d sum messages point rows =
-      IsRunOf observes gives repr old (statement_of width times rounds 2 ts (repr sum)) (messages_of d rounds messages) point new
-      × (repr sum ≡ cube_sum times ts 2 rounds (map repr rows))
+      IsRunOf observes gives repr old (statement_of width times rounds 2 ts sum) (messages_of d rounds messages) point new
+      × (sum ≡ cube_sum times ts 2 rounds (map repr rows))
       × AreHonestMessages times ts 2 d (map repr rows) (map (map repr) (messages_of d rounds messages)) (map repr point)
 
-  pub proved-sum : (sum : F) (messages point rows read written : List F) → read ≡ rows → written ≡ rows
-      → IsRunOf observes gives repr old (statement_of width times rounds 2 terms (repr sum)) (messages_of (degree_of terms) rounds messages) point new
-      → repr sum ≡ cube_sum times terms 2 rounds (map repr read)
+  pub proved-sum : (sum : ℕ) (messages point rows read written : List F) → read ≡ rows → written ≡ rows
+      → IsRunOf observes gives repr old (statement_of width times rounds 2 terms sum) (messages_of (degree_of terms) rounds messages) point new
+      → sum ≡ cube_sum times terms 2 rounds (map repr read)
       → AreHonestMessages times terms 2 (degree_of terms) (map repr written) (map (map repr) (messages_of (degree_of terms) rounds messages)) (map repr point)
-      → IsRunOf observes gives repr old (sum_statement width times rounds (repr sum)) (messages_of 2 rounds messages) point new
-      × (repr sum ≡ cube_sum times product_terms 2 rounds (map repr rows))
-      × AreHonestMessages times product_terms 2 2 (map repr rows) (map (map repr) (messages_of 2 rounds messages)) (map repr point)
+      → Sent product_terms 2 sum messages point rows
   proved-sum sum messages point rows read written is_read is_written run is_sum honest =
       subst (λ (ts : List Product). Sent ts 2 sum messages point rows) same
       (subst (λ (d : ℕ). Sent terms d sum messages point rows) two (
@@ -106,3 +109,17 @@ module _ {C F : Type 0} (observes : C → F → C → Type 0) (gives : C → F �
         subst (λ (xs : List F). AreHonestMessages times terms 2 (degree_of terms) (map repr xs)
             (map (map repr) (messages_of (degree_of terms) rounds messages)) (map repr point)) is_written honest,
       ))
+
+-- a run has as many challenges as rounds
+pub run-length : {C F : Type 0} (observes gives : C → F → C → Type 0) (d rounds : ℕ) (messages challenges : List F) (begun new : C)
+    → AreTurns observes gives begun (messages_of d rounds messages) challenges new → length challenges ≡ rounds
+run-length observes gives d rounds messages challenges begun new turns =
+    turns-length observes gives (messages_of d rounds messages) challenges begun new turns ∙ messages-length d rounds messages
+
+-- four tests that hold together
+pub all-decided : {all one two three four : Bool} {B C D : Type 0} → IsTrue all ↔ (IsTrue one × IsTrue two × IsTrue three × IsTrue four)
+    → IsTrue two ↔ B → IsTrue three ↔ C → IsTrue four ↔ D → IsTrue all ↔ (IsTrue one × B × C × D)
+all-decided whole second third fourth = (
+  λ holds. let each = whole.0 holds in (each.0, second.0 each.1, third.0 each.2, fourth.0 each.3),
+  λ each. whole.1 (each.0, second.1 each.1, third.1 each.2, fourth.1 each.3),
+)

@@ -1,2 +1,3 @@
 pub mod ProofFiles
+pub mod Shapes
 pub mod Verdicts

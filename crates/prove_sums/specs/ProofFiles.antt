@@ -1,22 +1,46 @@
 -- Files of proofs.
-use Rattle.std.specs.Prelude.{◌≡◌, ⊤, ℕ, ◌<◌, List, [], ◌∷◌, ◌++◌, get_or, length}
+use Rattle.std.specs.Prelude.{◌≡◌, ◌≢◌, ⊤, ℕ, ◌*◌, ◌%◌, ◌≤◌, ◌<◌, List, [], ◌∷◌, ◌++◌, get_or, length}
 use Rattle.std.specs.List.{flat_map}
+use Rattle.field_bytes.specs.Streams.{joined_bytes}
+use Rattle.prove_sums.specs.Shapes.{element_count}
 use Rattle.prove_sums.specs.declared.refusal.Refusal.{Refusal}
 use Rattle.prove_sums.specs.declared.refusal.Refusal.TheVariants.{NotAProof, OtherField, Length, OtherLeft, OtherRight, NotProved}
 
--- what a file begins with: "sum 1 ", the letter G for the field of GHASH, and a line feed
+-- what a file begins with: "sum 2 ", the letter G for the field of GHASH, and a line feed
 abbrev pub head : List ℕ
-head = 115 ∷ 117 ∷ 109 ∷ 32 ∷ 49 ∷ 32 ∷ 71 ∷ 10 ∷ []
+head = 115 ∷ 117 ∷ 109 ∷ 32 ∷ 50 ∷ 32 ∷ 71 ∷ 10 ∷ []
 
--- the bytes of a file: the head, the roots of the left and of the right table, and the numbers, one after the other
-abbrev pub file_bytes : List ℕ → List ℕ → List (List ℕ) → List ℕ
-file_bytes left right numbers = head ++ left ++ right ++ flat_map (λ number. number) numbers
+-- the bytes of a file: the head, the number of rounds as one byte, the roots of the left and of the right table, the bytes of the elements,
+-- and the nodes, one after the other
+abbrev pub file_bytes : ℕ → List ℕ → List ℕ → List ℕ → List (List ℕ) → List ℕ
+file_bytes rounds left right body nodes = head ++ (rounds ∷ []) ++ left ++ right ++ body ++ flat_map (λ node. node) nodes
 
--- what a file may hold: roots of 32 bytes, and numbers of 16 bytes
-pub record IsFile (left right : List ℕ) (numbers : List (List ℕ)) : Type 0 where
+-- what a file may hold: roots and nodes of 32 bytes, as many nodes for one table as for the other, and as many bytes as the elements have
+pub record IsFile (rounds : ℕ) (left right body : List ℕ) (nodes : List (List ℕ)) : Type 0 where
+  pub few : rounds ≤ 39
   pub left_size : length left ≡ 32
   pub right_size : length right ≡ 32
-  pub number_size : (k : ℕ) → k < length numbers → length (get_or numbers k []) ≡ 16
+  pub body_size : length body ≡ element_count rounds * 16
+  pub node_size : (k : ℕ) → k < length nodes → length (get_or nodes k []) ≡ 32
+  pub even : length nodes % 2 ≡ 0
+
+-- bytes are a file of these parts, and of no others
+pub record IsCutTo (bytes : List ℕ) (rounds : ℕ) (left right body : List ℕ) (nodes : List (List ℕ)) : Type 0 where
+  pub may_be : IsFile rounds left right body nodes
+  pub written : bytes ≡ file_bytes rounds left right body nodes
+  pub only : (n : ℕ) (l r b : List ℕ) (ns : List (List ℕ)) → IsFile n l r b ns → bytes ≡ file_bytes n l r b ns
+      → (rounds ≡ n) × (left ≡ l) × (right ≡ r) × (body ≡ b) × (nodes ≡ ns)
+
+-- a file of a proof with these roots, elements and nodes
+pub record IsFileOf {F : Type 0} (repr : F → ℕ) (bytes : List ℕ) (rounds : ℕ) (left right : List ℕ) (elements : List F) (nodes : List (List ℕ))
+    : Type 0 where
+  pub may_be : IsFile rounds left right (joined_bytes 16 repr elements) nodes
+  pub written : bytes ≡ file_bytes rounds left right (joined_bytes 16 repr elements) nodes
+
+-- bytes that are no file of a proof
+abbrev pub IsNoFile : {F : Type 0} → (F → ℕ) → List ℕ → Type 0
+IsNoFile {F} repr bytes =
+    (rounds : ℕ) (left right : List ℕ) (elements : List F) (nodes : List (List ℕ)) → IsFileOf repr bytes rounds left right elements nodes → ⊥
 
 -- why bytes are not read as a file: their length, or what they begin with
 abbrev pub IsReadRefusal : Refusal → Type 0

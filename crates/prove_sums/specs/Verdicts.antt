@@ -1,21 +1,24 @@
--- What is proved of two tables, and what a verifier says of a proof, over numbers and bytes alone. A table is a list of numbers, each the
--- representation of an element of the field of GHASH, and `digest` a hash function.
-use Rattle.std.specs.Prelude.{◌≡◌, ◌≢◌, ◌↔◌, ◌⊎◌, ℕ, ◌+◌, ◌*◌, ◌^◌, ◌<◌, ◌≤◌, ◌/◌, Bool, true, false, List, [], ◌∷◌, length, map, drop, slice_index, IsTrue}
-use Rattle.std.specs.Int.{from_le_bytes, w64, w128}
-use Rattle.std.specs.Simd.{first_chunks}
+-- What is proved of two tables, and what a verifier says of a proof, over elements and bytes alone. Elements have numbers by `repr`, the sum is
+-- `bit_xor` and the product `times`. `hash` and `digest` are hash functions.
+use Rattle.std.specs.Prelude.{◌≡◌, ◌≢◌, ◌↔◌, ◌⊎◌, ℕ, ◌+◌, ◌*◌, ◌^◌, ◌<◌, ◌≤◌, ◌/◌, Bool, true, false, List, [], ◌∷◌, length, map, take, drop, IsTrue}
 use Rattle.std.specs.declared.option.Option.{Option}
 use Rattle.std.specs.declared.option.Option.TheVariants.{None, Some}
 use Rattle.transcript_bytes.specs.ByteCalls.{after, observing}
 use Rattle.transcript_bytes.specs.HashBuffers.{HashState, hash_transitions}
 use Rattle.field_bytes.specs.Bytes.{low_bytes}
-use Rattle.transcript_elements.specs.Sampled.{SamplesCoefficients}
+use Rattle.transcript_elements.specs.Sampled.{SamplesBits, SamplesCoefficients, check_calls, passes}
+use Rattle.transcript_elements.specs.Lists.{InTurn}
+use Rattle.field_base.specs.Basis.{basis_image, ghash_images}
 use Rattle.field_base.specs.Remainder.{ghash_modulus, mul_mod}
 use Rattle.field_slices.specs.Multilinear.{multilinear_value}
-use Rattle.protocols.specs.Sumcheck.{IsRunOf, Statement, messages_of, statement_of}
+use Rattle.word_tables.specs.Cantor.{cantor_vector}
+use Rattle.protocols.specs.Queries.{AreQueries}
+use Rattle.protocols.specs.Sumcheck.{IsRunOf, IsTurn, Statement, messages_of, statement_of}
 use Rattle.protocols.specs.SumcheckClaims.{AreHonestMessages, reduced_claim}
+use Rattle.protocols.specs.Tables.{OpensColumns}
 use Rattle.protocols.specs.Terms.{Product, cube_sum}
-use Rattle.protocols.specs.MerkleTrees.{merkle_root}
-use Rattle.prove_sums.specs.ProofFiles.{IsFile, file_bytes}
+use Rattle.prove_sums.specs.ProofFiles.{IsFileOf, IsNoFile, file_bytes}
+use Rattle.prove_sums.specs.Shapes.{block_bits, block_count, columns_in, levels_of, messages_in, nodes_in, places_of, row_in, rows_in, rows_of, sum_in, witness_in}
 use Rattle.prove_sums.specs.declared.refusal.Refusal.{Refusal}
 use Rattle.prove_sums.specs.declared.refusal.Refusal.TheVariants.{NotAProof, OtherField, Length, OtherLeft, OtherRight, NotProved}
 
@@ -35,7 +38,85 @@ interleaved [] others = []
 interleaved (x ∷ xs) [] = []
 interleaved (x ∷ xs) (y ∷ ys) = x ∷ y ∷ interleaved xs ys
 
--- ---- the transcript
+-- ---- the sum
+
+-- what an honest prover has of two tables of 2 ^ n elements: the sum of their products, its messages, and the challenges
+pub record IsSummed {C F : Type 0} (observes gives : C → F → C → Type 0) (repr : F → ℕ) (width : ℕ) (times : ℕ → ℕ → ℕ) (n : ℕ)
+    (left right : List F) (old : C) (sum : F) (messages point : List F) (new : C) : Type 0 where
+  pub run : IsRunOf observes gives repr old (sum_statement width times n (repr sum)) (messages_of 2 n messages) point new
+  pub total : repr sum ≡ cube_sum times product_terms 2 n (map repr (interleaved left right))
+  pub honest : AreHonestMessages times product_terms 2 2 (map repr (interleaved left right)) (map (map repr) (messages_of 2 n messages)) (map repr point)
+  pub message_count : length messages ≡ 2 * n
+  pub challenge_count : length point ≡ n
+
+-- what a verifier is left with of the claim that the first element is the sum: a claim at a point, by the messages
+pub record IsReduced {C F : Type 0} (observes gives : C → F → C → Type 0) (repr : F → ℕ) (width : ℕ) (times : ℕ → ℕ → ℕ) (n : ℕ)
+    (elements : List F) (old : C) (point : List F) (claim : ℕ) (new : C) : Type 0 where
+  pub run : IsRunOf observes gives repr old (sum_statement width times n (sum_in repr elements)) (messages_of 2 n (messages_in n elements)) point new
+  pub left : claim ≡ reduced_claim width times (sum_in repr elements) (map (map repr) (messages_of 2 n (messages_in n elements))) (map repr point)
+  pub challenge_count : length point ≡ n
+
+-- ---- the verdict
+
+-- the bits of a proof's work
+abbrev pub work_bits : ℕ
+work_bits = 16
+
+-- both rows are observed and a challenge is sampled, a witness is checked, which says whether it works, and then places are sampled, a number
+-- for each block
+pub record DrawsPlaces {C F : Type 0} (observes gives : C → F → C → Type 0) (passing : C → ℕ → ℕ → Bool)
+    (checks : C → ℕ → ℕ → C → Type 0) (gives_bits : C → ℕ → ℕ → C → Type 0) (number : F → ℕ) (n : ℕ) (elements : List F) (old : C)
+    (works : Bool) (places : List ℕ) (new : C) : Type 0 where
+  pub challenge : F
+  pub sent : C
+  pub numbers : List ℕ
+  pub turn : IsTurn observes gives old (rows_in n elements) challenge sent
+  pub queries : AreQueries passing checks gives_bits sent work_bits (witness_in number n elements) works (block_bits n) numbers new
+  pub count : length numbers ≡ block_count n
+  pub chosen : places ≡ places_of (block_bits n) numbers
+
+-- the claim is the product of both rows' values at the other coordinates of the point
+abbrev pub IsProductAt : {F : Type 0} → (F → ℕ) → (ℕ → ℕ → ℕ) → ℕ → List F → List F → ℕ → Type 0
+IsProductAt repr times n elements others claim =
+    claim ≡ times (multilinear_value times (map repr (row_in n 0 elements)) (map repr others))
+    (multilinear_value times (map repr (row_in n 1 elements)) (map repr others))
+
+-- the nodes open the columns of table 0 or 1 at these places under its root, and its row's code word agrees with them at the point
+abbrev pub OpensTable : {F : Type 0} → (List ℕ → List ℕ) → (F → ℕ) → ℕ → ℕ → (ℕ → ℕ → ℕ) → (ℕ → ℕ) → ℕ → ℕ → List ℕ → List F
+    → List F → List ℕ → List (List ℕ) → Type 0
+OpensTable hash repr size width times vector n which root point elements places nodes =
+    OpensColumns hash repr size width times vector (levels_of n) 2 root point (row_in n which elements) places (columns_in n which elements)
+    (nodes_in which nodes)
+
+-- The verdict on elements and nodes: true exactly if the witness works, the claim that the messages leave is the product of both rows' values,
+-- and the rows agree with the columns that are opened under the roots.
+pub record IsVerdict {C F : Type 0} (observes gives : C → F → C → Type 0) (passing : C → ℕ → ℕ → Bool)
+    (checks : C → ℕ → ℕ → C → Type 0) (gives_bits : C → ℕ → ℕ → C → Type 0) (number repr : F → ℕ) (hash : List ℕ → List ℕ)
+    (size width : ℕ) (times : ℕ → ℕ → ℕ) (vector : ℕ → ℕ) (n : ℕ) (left right : List ℕ) (elements : List F) (nodes : List (List ℕ))
+    (old : C) (accepted : Bool) : Type 0 where
+  pub point : List F
+  pub claim : ℕ
+  pub works : Bool
+  pub places : List ℕ
+  pub between : C
+  pub new : C
+  pub reduced : IsReduced observes gives repr width times n elements old point claim between
+  pub drawn : DrawsPlaces observes gives passing checks gives_bits number n elements between works places new
+  pub decided : IsTrue accepted
+      ↔ IsTrue works
+      × IsProductAt repr times n elements (drop (rows_of n) point) claim
+      × OpensTable hash repr size width times vector n 0 left (take (rows_of n) point) elements places nodes
+      × OpensTable hash repr size width times vector n 1 right (take (rows_of n) point) elements places nodes
+
+-- ---- in the field of GHASH, and in a transcript over a hash function
+
+-- the product
+abbrev pub ghash_times : ℕ → ℕ → ℕ
+ghash_times = mul_mod 128 ghash_modulus
+
+-- the Cantor vectors, at whose sums the code words have their values
+abbrev pub ghash_vector : ℕ → ℕ
+ghash_vector i = basis_image 128 ghash_modulus ghash_images (cantor_vector i)
 
 -- an element is observed: its 16 bytes are, the lowest first
 abbrev pub observes_number : {H : Type 0} → (H → List ℕ → List ℕ) → HashState H → ℕ → HashState H → Type 0
@@ -45,96 +126,33 @@ observes_number digest old n new = new ≡ after (hash_transitions digest) (obse
 abbrev pub gives_number : {H : Type 0} → (H → List ℕ → List ℕ) → HashState H → ℕ → HashState H → Type 0
 gives_number digest old n new = (n < 2 ^ 128) × SamplesCoefficients (hash_transitions digest) 16 128 1 old n new
 
--- the product of the field of GHASH
-abbrev pub times : ℕ → ℕ → ℕ
-times = mul_mod 128 ghash_modulus
+-- the verdict in the transcript that begins with these bytes
+abbrev pub IsSumVerdict : {F H : Type 0} → (H → List ℕ → List ℕ) → H → (F → ℕ) → List ℕ → ℕ → List ℕ → List ℕ → List F → List (List ℕ)
+    → Bool → Type 0
+IsSumVerdict digest hasher repr front n left right elements nodes accepted =
+    IsVerdict (λ old x new. observes_number digest old (repr x) new) (λ old x new. gives_number digest old (repr x) new)
+    (λ old bits witness. passes (hash_transitions digest) 16 bits old witness)
+    (λ old bits witness new. new ≡ after (hash_transitions digest) (check_calls 16 bits witness) old)
+    (λ old bits number new. SamplesBits (hash_transitions digest) old bits number new)
+    repr repr (digest hasher) 16 128 ghash_times ghash_vector n left right elements nodes (hasher, front, []) accepted
 
--- in a transcript that begins with the bytes `front`, the statement that the first number is the sum is observed, and then come the others as
--- messages of two, with these challenges
-abbrev pub IsSumRun : {H : Type 0} → (H → List ℕ → List ℕ) → H → List ℕ → ℕ → List ℕ → List ℕ → HashState H → Type 0
-IsSumRun digest hasher front rounds numbers challenges new =
-    IsRunOf (observes_number digest) (gives_number digest) (λ n. n) (hasher, front, [])
-    (sum_statement 128 times rounds (slice_index numbers 0)) (messages_of 2 rounds (drop 1 numbers)) challenges new
+-- ---- files
 
--- ---- the verdict
+-- a file of a proof for these roots, with this verdict on it
+abbrev pub HasVerdict : {F H : Type 0} → (H → List ℕ → List ℕ) → H → (F → ℕ) → List ℕ → List ℕ → List ℕ → Bool → Type 0
+HasVerdict {F} digest hasher repr left right bytes accepted =
+    (n : ℕ) × (elements : List F) × (nodes : List (List ℕ)) × IsFileOf repr bytes n left right elements nodes
+    × IsSumVerdict digest hasher repr (file_bytes n left right [] []) n left right elements nodes accepted
 
--- The verdict on a sum and messages: true exactly if the claim that the messages leave is the product of the values of both tables'
--- multilinear polynomials at the challenges.
-abbrev pub IsSumVerdict : {H : Type 0} → (H → List ℕ → List ℕ) → H → List ℕ → ℕ → List ℕ → List ℕ → List ℕ → Bool → Type 0
-IsSumVerdict {H} digest hasher front rounds left right numbers accepted =
-    (challenges : List ℕ) × (new : HashState H) × IsSumRun digest hasher front rounds numbers challenges new
-    × (IsTrue accepted ↔ (reduced_claim 128 times (slice_index numbers 0) (messages_of 2 rounds (drop 1 numbers)) challenges
-    ≡ times (multilinear_value times left challenges) (multilinear_value times right challenges)))
-
--- an honest prover's sum and messages
-abbrev pub IsHonestProof : {H : Type 0} → (H → List ℕ → List ℕ) → H → List ℕ → ℕ → List ℕ → List ℕ → List ℕ → Type 0
-IsHonestProof {H} digest hasher front rounds left right numbers =
-    (challenges : List ℕ) × (new : HashState H) × IsSumRun digest hasher front rounds numbers challenges new
-    × (slice_index numbers 0 ≡ cube_sum times product_terms 2 rounds (interleaved left right))
-    × AreHonestMessages times product_terms 2 2 (interleaved left right) (messages_of 2 rounds (drop 1 numbers)) challenges
-
--- ---- tables and proofs as bytes
-
--- the number of a word of 16 bytes, the lowest first
-abbrev pub number_of_word : List ℕ → ℕ
-number_of_word = from_le_bytes w128
-
--- the words of a table
-abbrev pub table_words : List ℕ → List (List ℕ)
-table_words bytes = first_chunks 16 (length bytes / 16) bytes
-
--- the numbers of its words
-abbrev pub table_numbers : List ℕ → List ℕ
-table_numbers bytes = map number_of_word (table_words bytes)
-
--- 2 ^ rounds words
-abbrev pub IsTable : ℕ → List ℕ → Type 0
-IsTable rounds bytes = (rounds ≤ 39) × (length bytes ≡ 2 ^ rounds * 16)
-
--- the root of the Merkle tree whose leaves are the words of eight bytes
-abbrev pub table_root : (List ℕ → List ℕ) → ℕ → List ℕ → List ℕ
-table_root hash rounds bytes =
-    merkle_root hash (rounds + 1) (slice_index (map (from_le_bytes w64) (first_chunks 8 (length bytes / 8) bytes)))
-
--- bytes that are no file of a proof
-abbrev pub IsNoFile : List ℕ → Type 0
-IsNoFile bytes = (left right : List ℕ) (numbers : List (List ℕ)) → IsFile left right numbers → bytes ≢ file_bytes left right numbers
-
--- a file of a proof with these roots and numbers
-abbrev pub IsFileOf : List ℕ → List ℕ → List ℕ → List (List ℕ) → Type 0
-IsFileOf bytes left right numbers = IsFile left right numbers × (bytes ≡ file_bytes left right numbers)
-
--- What is answered on a file of a proof for two tables with these roots: nothing, and it is accepted, if it has these roots and as many
--- numbers as the tables need, and the verdict on the numbers is true; else what is wrong.
-abbrev pub IsAnswerTo : {H : Type 0} → (H → List ℕ → List ℕ) → H → ℕ → List ℕ → List ℕ → List ℕ → List ℕ → List ℕ → Option Refusal → Type 0
-IsAnswerTo digest hasher rounds left right left_root right_root bytes None =
-    (numbers : List (List ℕ)) × IsFileOf bytes left_root right_root numbers × (length numbers ≡ 2 * rounds + 1)
-    × IsSumVerdict digest hasher (file_bytes left_root right_root []) rounds left right (map number_of_word numbers) true
-IsAnswerTo digest hasher rounds left right left_root right_root bytes (Some NotProved) =
-    (numbers : List (List ℕ)) × IsFileOf bytes left_root right_root numbers × (length numbers ≡ 2 * rounds + 1)
-    × IsSumVerdict digest hasher (file_bytes left_root right_root []) rounds left right (map number_of_word numbers) false
-IsAnswerTo digest hasher rounds left right left_root right_root bytes (Some OtherLeft) =
-    (one other : List ℕ) × (numbers : List (List ℕ)) × IsFileOf bytes one other numbers × (one ≢ left_root)
-IsAnswerTo digest hasher rounds left right left_root right_root bytes (Some OtherRight) =
-    (other : List ℕ) × (numbers : List (List ℕ)) × IsFileOf bytes left_root other numbers × (other ≢ right_root)
-IsAnswerTo digest hasher rounds left right left_root right_root bytes (Some Length) =
-    IsNoFile bytes ⊎ ((numbers : List (List ℕ)) × IsFileOf bytes left_root right_root numbers × (length numbers ≢ 2 * rounds + 1))
-IsAnswerTo digest hasher rounds left right left_root right_root bytes (Some NotAProof) = IsNoFile bytes
-IsAnswerTo digest hasher rounds left right left_root right_root bytes (Some OtherField) = IsNoFile bytes
-
--- What the program answers on the bytes of two tables and of a proof: the tables have as many words, one as the other, and the answer is
--- that for their numbers and roots.
-abbrev pub IsProgramAnswer : {H : Type 0} → (H → List ℕ → List ℕ) → H → List ℕ → List ℕ → List ℕ → Option Refusal → Type 0
-IsProgramAnswer digest hasher left right proof refusal =
-    (rounds : ℕ) × IsTable rounds left × IsTable rounds right
-    × IsAnswerTo digest hasher rounds (table_numbers left) (table_numbers right) (table_root (digest hasher) rounds left)
-    (table_root (digest hasher) rounds right) proof refusal
-
--- and the proof that it writes for them
-abbrev pub IsProgramProof : {H : Type 0} → (H → List ℕ → List ℕ) → H → List ℕ → List ℕ → List ℕ → Type 0
-IsProgramProof digest hasher left right proof =
-    (rounds : ℕ) × (numbers : List (List ℕ)) × IsTable rounds left × IsTable rounds right
-    × (proof ≡ file_bytes (table_root (digest hasher) rounds left) (table_root (digest hasher) rounds right) numbers)
-    × IsHonestProof digest hasher
-    (file_bytes (table_root (digest hasher) rounds left) (table_root (digest hasher) rounds right) []) rounds (table_numbers left)
-    (table_numbers right) (map number_of_word numbers)
+-- What is answered on a file of a proof for the tables with these roots: nothing, and it is accepted, if it has these roots, and the verdict
+-- on what it holds is true; else what is wrong.
+abbrev pub IsAnswerTo : {F H : Type 0} → (H → List ℕ → List ℕ) → H → (F → ℕ) → List ℕ → List ℕ → List ℕ → Option Refusal → Type 0
+IsAnswerTo digest hasher repr left right bytes None = HasVerdict digest hasher repr left right bytes true
+IsAnswerTo digest hasher repr left right bytes (Some NotProved) = HasVerdict digest hasher repr left right bytes false
+IsAnswerTo {F} digest hasher repr left right bytes (Some OtherLeft) =
+    (n : ℕ) × (one other : List ℕ) × (elements : List F) × (nodes : List (List ℕ)) × IsFileOf repr bytes n one other elements nodes × (one ≢ left)
+IsAnswerTo {F} digest hasher repr left right bytes (Some OtherRight) =
+    (n : ℕ) × (other : List ℕ) × (elements : List F) × (nodes : List (List ℕ)) × IsFileOf repr bytes n left other elements nodes × (other ≢ right)
+IsAnswerTo digest hasher repr left right bytes (Some Length) = IsNoFile repr bytes
+IsAnswerTo digest hasher repr left right bytes (Some NotAProof) = IsNoFile repr bytes
+IsAnswerTo digest hasher repr left right bytes (Some OtherField) = IsNoFile repr bytes

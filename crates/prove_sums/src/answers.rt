@@ -6,38 +6,32 @@ ghost use Rattle.prove_sums.specs.Verdicts.{IsAnswerTo};
 
 use crate::proof_file::decode;
 use crate::refusal::Refusal;
-use crate::tables::Table;
 use crate::word_sums::verify;
 use protocols::ProtocolError;
 use std::alloc::Global;
 use transcript_bytes::ByteHasher32;
 
-/// Why a file of a proof for two tables of as many words is refused, if it is. It fails if memory was refused.
+/// Why a file of a proof for the tables with these roots is refused, if it is. It fails if memory was refused.
 pub fn answer_to<H: ByteHasher32>(
     alloc: Global,
     hasher: &H,
-    left: &Table,
-    right: &Table,
+    left: &[u8; 32],
+    right: &[u8; 32],
     bytes: &[u8],
 ) -> Result<Option<Refusal>, ProtocolError>
-    requires { right.now.rounds ≡ left.now.rounds }
-    ensures { IfOk result (λ refusal. IsAnswerTo H.digest hasher.now left.now.rounds (map repr_of left.now.elements.items)
-        (map repr_of right.now.elements.items) left.now.root right.now.root bytes.now refusal) }
+    ensures { IfOk result (λ refusal. IsAnswerTo H.digest hasher.now repr_of left.now right.now bytes.now refusal) }
 {
-    let read = match decode(bytes) {
+    let read = match decode(alloc, bytes)? {
         Ok(read) => read,
         Err(refusal) => return Ok(Some(refusal)),
     };
-    if read.left != left.root {
+    if read.left != *left {
         return Ok(Some(Refusal::OtherLeft));
     }
-    if read.right != right.root {
+    if read.right != *right {
         return Ok(Some(Refusal::OtherRight));
     }
-    if read.numbers.len() != 2 * left.rounds + 1 {
-        return Ok(Some(Refusal::Length));
-    }
-    let accepted = verify(alloc, hasher, left, right, read.numbers)?;
+    let accepted = verify(alloc, hasher, &read)?;
     Ok(refusal_of(accepted))
 }
 

@@ -1,32 +1,34 @@
 // What the program does.
 ghost use Rattle.std.specs.Prelude.{◌≡◌, map, IfOk};
-ghost use Rattle.field_element.specs.Element.{repr_of};
-ghost use Rattle.prove_sums.specs.Verdicts.{IsProgramAnswer, IsProgramProof, IsTable, table_numbers, table_root};
 
 use crate::answers::answer_to;
 use crate::example;
 use crate::proof_file::{decode, encode};
 use crate::refusal::Refusal;
-use crate::tables::{Table, table_of};
-use crate::word_sums::prove;
+use crate::tables::table_of;
+use crate::word_sums::{commit_table, prove, root_of};
 use anyhow::{Context, Result, bail};
+use hex::FromHex;
 use std::alloc::Global;
 use std::{env, fs};
 use transcript_bytes::{ByteHasher32, Sha256Hasher};
 
 const VERSION: &str = "prove_sums 0.1.0";
 
-const USAGE: &str = "usage: prove_sums prove LEFT RIGHT PROOF | prove_sums verify LEFT RIGHT PROOF
+const USAGE: &str =
+    "usage: prove_sums commit TABLE | prove_sums prove LEFT RIGHT PROOF | prove_sums verify PROOF LEFT_ROOT RIGHT_ROOT
 
-LEFT and RIGHT are files of 2^n words of 16 bytes, n from 0 to 39, as many in one as in the other. A word is an element of the
-field of GHASH, from its lowest byte. `prove` adds the products of the words at the same places, proves by the sum-check protocol
-that this is their sum, and writes the proof to PROOF. `verify` says whether PROOF proves that, and for which sum.
+TABLE, LEFT and RIGHT are files of 2^n words of 16 bytes, n from 0 to 39, as many in LEFT as in RIGHT. A word is an element of the field of
+GHASH, from its lowest byte. `commit` prints the root that commits to a table, as 64 hexadecimal digits. `prove` adds the products of the words
+at the same places, proves that this is their sum, and writes the proof to PROOF. `verify` says whether PROOF proves that for the tables with
+these roots, and for which sum. It reads neither table.
 
-A proof is 8 bytes that name it and its field, the two tables' commitments, which are the roots of their Merkle trees over SHA-256
-with leaves of 8 bytes, the sum, and 2 n numbers of 16 bytes. The transcript begins with the first two and with sum-check's statement,
-in which the sum is, so that no proof serves for other tables or another sum. The verifier needs no sum of products, but it reads both
-tables once: it hashes them, to compare the roots, and takes the value of either at the point to which the proof reduces the claim. No
-opening stands for that value.
+A table is a matrix of 2^h rows, h = (n - 7) / 2, or 0 where n is below 7. Each row of 2^k words, k = n - h, is extended to a code word of four
+times its length, and the root is that of the Merkle tree over SHA-256 whose leaves are the columns. A proof is 8 bytes that name the format
+and the field, one byte for n, both roots, the sum, the 2 n numbers of the sum-check protocol, a witness of 16 bits of work, a row of 2^k
+numbers for each table, which has the values of its columns at the first h challenges, the columns at 128 places, or at all where there are
+fewer, for each table, and the nodes that open them, as many for either. Numbers have 16 bytes and nodes 32. The transcript begins with the
+bytes before the sum. What the proof shows rests on the tables' roots, and on SHA-256.
 
 The exit status is 0 if a proof was written or is accepted, 1 if it is refused, and 2 after an error. Without arguments the program
 prints a worked example. --version prints the version.";
@@ -41,50 +43,67 @@ pub fn run(rt: &HostRuntime) -> Result<bool> {
         example::print(rt)?;
         return Ok(true);
     }
-    if words.len() == 2 && words[1].as_str() == "--help" {
+    let command = words[1].as_str();
+    if words.len() == 2 && command == "--help" {
         println!(rt; "{USAGE}")?;
         return Ok(true);
     }
-    if words.len() == 2 && words[1].as_str() == "--version" {
+    if words.len() == 2 && command == "--version" {
         println!(rt; "{VERSION}")?;
         return Ok(true);
     }
-    if words.len() != 5 {
-        bail!("{USAGE}")
-    }
-    let left = fs::read(rt, words[2].as_str()).context("reading the left table")?;
-    let right = fs::read(rt, words[3].as_str()).context("reading the right table")?;
-    if words[1].as_str() == "prove" {
-        let proof = prove_tables(rt.alloc(), &Sha256Hasher, left.as_slice(), right.as_slice())?;
-        fs::write(rt, words[4].as_str(), proof.as_slice()).context("writing the proof")?;
-        say_sum(rt, proof.as_slice())?;
+    if words.len() == 3 && command == "commit" {
+        let table = fs::read(rt, words[2].as_str()).context("reading the table")?;
+        let root = commit_bytes(rt.alloc(), &Sha256Hasher, table.as_slice())?;
+        println!(rt; "{}", hex::encode(rt.alloc(), &root[..])?)?;
         return Ok(true);
     }
-    if words[1].as_str() == "verify" {
-        let proof = fs::read(rt, words[4].as_str()).context("reading the proof")?;
-        let refusal = verify_tables(
-            rt.alloc(),
-            &Sha256Hasher,
-            left.as_slice(),
-            right.as_slice(),
-            proof.as_slice(),
-        )?;
-        match refusal {
-            None => say_sum(rt, proof.as_slice())?,
-            Some(refusal) => println!(rt; "refused: {refusal}")?,
-        }
-        return Ok(refusal.is_none());
+    if words.len() == 5 && command == "prove" {
+        run_prove(rt, words[2].as_str(), words[3].as_str(), words[4].as_str())?;
+        return Ok(true);
+    }
+    if words.len() == 5 && command == "verify" {
+        return run_verify(rt, words[2].as_str(), words[3].as_str(), words[4].as_str());
     }
     bail!("{USAGE}")
 }
 
+// Proves the sum of the tables in two files, and writes the proof to a third.
+fn run_prove(rt: &HostRuntime, left: &str, right: &str, to: &str) -> Result<()> {
+    let left = fs::read(rt, left).context("reading the left table")?;
+    let right = fs::read(rt, right).context("reading the right table")?;
+    let proof = prove_tables(rt.alloc(), &Sha256Hasher, left.as_slice(), right.as_slice())?;
+    fs::write(rt, to, proof.as_slice()).context("writing the proof")?;
+    say_sum(rt, proof.as_slice())
+}
+
+// Verifies the proof in a file, for the tables with these roots. It returns whether it is accepted.
+fn run_verify(rt: &HostRuntime, from: &str, left: &str, right: &str) -> Result<bool> {
+    let proof = fs::read(rt, from).context("reading the proof")?;
+    let left = root_from(left).context("reading the left root")?;
+    let right = root_from(right).context("reading the right root")?;
+    let refusal = answer_to(rt.alloc(), &Sha256Hasher, &left, &right, proof.as_slice())?;
+    match refusal {
+        None => say_sum(rt, proof.as_slice())?,
+        Some(refusal) => println!(rt; "refused: {refusal}")?,
+    }
+    Ok(refusal.is_none())
+}
+
+// The root with these digits.
+fn root_from(digits: &str) -> Result<[u8; 32]> {
+    let Ok(root) = <[u8; 32] as FromHex>::from_hex(digits) else {
+        bail!("a root has to be 64 hexadecimal digits")
+    };
+    Ok(root)
+}
+
 // Prints the sum of a proof, from its highest digit, and its length.
 fn say_sum(rt: &HostRuntime, proof: &[u8]) -> Result<()> {
-    if let Ok(read) = decode(proof) {
-        if let Some(sum) = read.numbers.first() {
-            let digits = u128::from_le_bytes(*sum);
+    if let Ok(read) = decode(rt.alloc(), proof)? {
+        if let Some(sum) = read.elements.first() {
             println!(rt;
-                "the sum is {digits:032x}, and its proof has {} bytes",
+                "the sum is {sum:032x}, and its proof has {} bytes",
                 proof.len()
             )?;
         }
@@ -92,27 +111,14 @@ fn say_sum(rt: &HostRuntime, proof: &[u8]) -> Result<()> {
     Ok(())
 }
 
-// Two tables of as many words, one as the other.
-fn tables_of<H: ByteHasher32>(
+/// The root that commits to a table.
+pub(crate) fn commit_bytes<H: ByteHasher32>(
     alloc: Global,
     hasher: &H,
-    left: &[u8],
-    right: &[u8],
-) -> Result<(Table, Table)>
-    ensures rounds { IfOk result (λ tables. tables.1.rounds ≡ tables.0.rounds) }
-    ensures left { IfOk result (λ tables. IsTable tables.0.rounds left.now
-        × (map repr_of tables.0.elements.items ≡ table_numbers left.now)
-        × (tables.0.root ≡ table_root (H.digest hasher.now) tables.0.rounds left.now)) }
-    ensures right { IfOk result (λ tables. IsTable tables.1.rounds right.now
-        × (map repr_of tables.1.elements.items ≡ table_numbers right.now)
-        × (tables.1.root ≡ table_root (H.digest hasher.now) tables.1.rounds right.now)) }
-{
-    let first = table_of(alloc, hasher, left)?;
-    let second = table_of(alloc, hasher, right)?;
-    if second.rounds != first.rounds {
-        bail!("the tables have to have as many words, one as the other")
-    }
-    Ok((first, second))
+    table: &[u8],
+) -> Result<[u8; 32]> {
+    let committed = commit_table(alloc, hasher, table_of(alloc, table)?)?;
+    Ok(root_of(&committed))
 }
 
 /// The bytes of the proof of the sum of two tables.
@@ -121,26 +127,24 @@ pub(crate) fn prove_tables<H: ByteHasher32>(
     hasher: &H,
     left: &[u8],
     right: &[u8],
-) -> Result<Vec<u8>>
-    ensures { IfOk result (λ proof. IsProgramProof H.digest hasher.now left.now right.now proof.items) }
-{
-    let (first, second) = tables_of(alloc, hasher, left, right)?;
-    let numbers = prove(alloc, hasher, &first, &second)?;
-    let proof = encode(alloc, &first.root, &second.root, numbers.as_slice())?;
+) -> Result<Vec<u8>> {
+    let first = table_of(alloc, left)?;
+    let second = table_of(alloc, right)?;
+    let rounds = first.rounds;
+    if second.rounds != rounds {
+        bail!("the tables have to have as many words, one as the other")
+    }
+    let first = commit_table(alloc, hasher, first)?;
+    let second = commit_table(alloc, hasher, second)?;
+    let sent = prove(alloc, hasher, rounds, &first, &second)?;
+    let (elements, nodes) = (sent.elements.as_slice(), sent.nodes.as_slice());
+    let proof = encode(
+        alloc,
+        rounds,
+        &root_of(&first),
+        &root_of(&second),
+        elements,
+        nodes,
+    )?;
     Ok(proof)
-}
-
-/// Why the proof of the sum of two tables is refused, if it is.
-pub(crate) fn verify_tables<H: ByteHasher32>(
-    alloc: Global,
-    hasher: &H,
-    left: &[u8],
-    right: &[u8],
-    proof: &[u8],
-) -> Result<Option<Refusal>>
-    ensures { IfOk result (λ refusal. IsProgramAnswer H.digest hasher.now left.now right.now proof.now refusal) }
-{
-    let (first, second) = tables_of(alloc, hasher, left, right)?;
-    let answer = answer_to(alloc, hasher, &first, &second, proof)?;
-    Ok(answer)
 }

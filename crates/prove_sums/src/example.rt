@@ -1,11 +1,18 @@
-// A worked example: two tables of eight words, and what becomes of their proof where it, or a table, is changed.
-use crate::commands::{prove_tables, verify_tables};
+// A worked example: two tables of eight words, and what becomes of their proof where it, or a root, is changed.
+use crate::answers::answer_to;
+use crate::commands::{commit_bytes, prove_tables};
 use anyhow::Result;
 use transcript_bytes::Sha256Hasher;
 
-// Prints what the verifier says of a proof.
-fn say(rt: &HostRuntime, what: &str, left: &[u8], right: &[u8], proof: &[u8]) -> Result<()> {
-    match verify_tables(rt.alloc(), &Sha256Hasher, left, right, proof)? {
+// Prints the verifier's answer on a proof for the tables with these roots.
+fn say(
+    rt: &HostRuntime,
+    what: &str,
+    left: &[u8; 32],
+    right: &[u8; 32],
+    proof: &[u8],
+) -> Result<()> {
+    match answer_to(rt.alloc(), &Sha256Hasher, left, right, proof)? {
         None => println!(rt; "{what}: accepted")?,
         Some(refusal) => println!(rt; "{what}: refused, {refusal}")?,
     }
@@ -16,8 +23,8 @@ fn say(rt: &HostRuntime, what: &str, left: &[u8], right: &[u8], proof: &[u8]) ->
 fn say_changed(
     rt: &HostRuntime,
     what: &str,
-    left: &[u8],
-    right: &[u8],
+    left: &[u8; 32],
+    right: &[u8; 32],
     proof: &mut [u8],
     place: usize,
 ) -> Result<()> {
@@ -37,25 +44,33 @@ pub(crate) fn print(rt: &HostRuntime) -> Result<()> {
     let left = &left[..128];
     let mut proof = prove_tables(rt.alloc(), &Sha256Hasher, left, &right)?;
     let proof = proof.as_mut_slice();
+    let left = commit_bytes(rt.alloc(), &Sha256Hasher, left)?;
+    let right = commit_bytes(rt.alloc(), &Sha256Hasher, &right)?;
+    let (left, right) = (&left, &right);
     let text = hex::encode(rt.alloc(), &proof[..])?;
     println!(rt; "{text}")?;
-    say(rt, "the proof", left, &right, proof)?;
-    say(rt, "the proof for the tables in turn", &right, left, proof)?;
-    say_changed(rt, "with another first byte", left, &right, proof, 0)?;
-    say_changed(rt, "over another field", left, &right, proof, 6)?;
-    say_changed(rt, "for another left table", left, &right, proof, 8)?;
-    say_changed(rt, "for another right table", left, &right, proof, 40)?;
-    say_changed(rt, "with another sum", left, &right, proof, 72)?;
-    say_changed(rt, "with another first message", left, &right, proof, 88)?;
-    say_changed(rt, "with another last message", left, &right, proof, 183)?;
+    say(rt, "the proof", left, right, proof)?;
+    say(rt, "the proof for the tables in turn", right, left, proof)?;
+    say_changed(rt, "with another first byte", left, right, proof, 0)?;
+    say_changed(rt, "over another field", left, right, proof, 6)?;
+    say_changed(rt, "with another number of rounds", left, right, proof, 8)?;
+    say_changed(rt, "for another left table", left, right, proof, 9)?;
+    say_changed(rt, "for another right table", left, right, proof, 41)?;
+    say_changed(rt, "with another sum", left, right, proof, 73)?;
+    say_changed(rt, "with another first message", left, right, proof, 89)?;
+    say_changed(rt, "with another witness", left, right, proof, 185)?;
+    say_changed(rt, "with another left row", left, right, proof, 201)?;
+    say_changed(rt, "with another right row", left, right, proof, 329)?;
+    say_changed(rt, "with another left column", left, right, proof, 457)?;
+    say_changed(rt, "with another right column", left, right, proof, 969)?;
     let short = proof.len().saturating_sub(1);
-    say(rt, "without its last byte", left, &right, &proof[..short])?;
-    let shorter = proof.len().saturating_sub(16);
+    say(rt, "without its last byte", left, right, &proof[..short])?;
+    let shorter = proof.len().saturating_sub(64);
     say(
         rt,
-        "without its last number",
+        "without its last numbers",
         left,
-        &right,
+        right,
         &proof[..shorter],
     )?;
     Ok(())

@@ -1,5 +1,6 @@
 //! Proves, and verifies, that the sum of the products of two tables of words is a number, in the field of GHASH:
-//! `prove_sums prove LEFT RIGHT PROOF` and `prove_sums verify LEFT RIGHT PROOF`. `--help` says what the files are.
+//! `prove_sums commit TABLE`, `prove_sums prove LEFT RIGHT PROOF` and `prove_sums verify PROOF LEFT_ROOT RIGHT_ROOT`. `--help` says what
+//! the files are.
 //!
 //! The exit status is 0 where a proof was written or is accepted, 1 where a proof is refused, and 2 after an error, which standard error
 //! then names. Without arguments a worked example is printed.
@@ -9,11 +10,13 @@ mod answers;
 mod commands;
 mod example;
 mod proof_file;
+mod proving;
 mod refusal;
+mod shapes;
 mod sums;
 mod tables;
+mod verifying;
 mod word_sums;
-mod words;
 
 use std::process::ExitCode;
 

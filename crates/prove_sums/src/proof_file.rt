@@ -1,73 +1,139 @@
-// The bytes of a proof: eight that name the format and the field, the roots of the left and of the right table, 32 bytes each, and the
-// numbers of 16 bytes each, from the lowest: the sum, and then the messages.
-ghost use Rattle.std.specs.Prelude.{◌≡◌, ◌≢◌, ℕ, List, length, IfOk, IfErr};
-ghost use Rattle.prove_sums.specs.ProofFiles.{file_bytes, IsFile, IsReadRefusal};
+// The bytes of a proof: eight that name the format and the field, one that says how many rounds there are, the roots of the left and of the
+// right table, 32 bytes each, the elements of 16 bytes each, from the lowest, and the nodes of 32 bytes each.
+ghost use Rattle.std.specs.Prelude.{◌≡◌, ◌≢◌, ◌*◌, ◌≤◌, ℕ, List, length, vec_len, IfOk, IfErr};
+ghost use Rattle.field_bytes.specs.Streams.{joined_bytes};
+ghost use Rattle.field_element.specs.Element.{repr_of};
+ghost use Rattle.prove_sums.specs.ProofFiles.{file_bytes, IsCutTo, IsFile, IsFileOf, IsNoFile, IsReadRefusal};
+ghost use Rattle.prove_sums.specs.Shapes.{element_count};
 
 use crate::refusal::Refusal;
-use std::alloc::{AllocError, Allocator};
+use crate::shapes::{Shape, part};
+use field_element::Ghash128;
+use protocols::proof_bytes;
+use std::alloc::{AllocError, Global};
 
-/// How many bytes stand before the numbers.
-const FRONT: usize = 72;
+/// How many bytes stand before the elements.
+const FRONT: usize = 73;
 
 /// What a proof begins with: the seventh byte names the field, which is that of GHASH.
-static HEAD: [u8; 8] = *b"sum 1 G\n";
+static HEAD: [u8; 8] = *b"sum 2 G\n";
 
 /// What a file of a proof holds.
-#[derive(Clone, Copy)]
+#[derive(Drop)]
 pub struct Proof<'a> {
+    /// The number of coordinates of the tables' polynomials, at most 39.
+    pub rounds: usize,
     /// The root of the left table.
     pub left: [u8; 32],
     /// The root of the right table.
     pub right: [u8; 32],
-    /// The sum, and the messages.
-    pub numbers: &'a [[u8; 16]],
+    /// The sum, the messages, the witness, the rows and the columns.
+    pub elements: Vec<Ghash128>,
+    /// The nodes that open the columns.
+    pub nodes: &'a [[u8; 32]],
+    ghost few: { rounds ≤ 39 },
+    ghost count: { vec_len elements ≡ element_count rounds },
 }
 
-/// The bytes of the proof with these roots and numbers. It fails if memory was refused.
-pub fn encode<A: Allocator>(
-    alloc: A,
+/// The parts of a file, with the bytes of its elements.
+#[derive(Clone, Copy)]
+struct Parts<'a> {
+    rounds: usize,
+    left: [u8; 32],
+    right: [u8; 32],
+    body: &'a [u8],
+    nodes: &'a [[u8; 32]],
+}
+
+/// The bytes of the proof with these roots, elements and nodes. It fails if memory was refused.
+pub fn encode(
+    alloc: Global,
+    rounds: usize,
     left: &[u8; 32],
     right: &[u8; 32],
-    numbers: &[[u8; 16]],
-) -> Result<Vec<u8, A>, AllocError>
-    ensures { IfOk result (λ bytes. bytes.items ≡ file_bytes left.now right.now numbers.now) }
+    elements: &[Ghash128],
+    nodes: &[[u8; 32]],
+) -> Result<Vec<u8>, AllocError>
+    requires { rounds ≤ 39 }
+    ensures { IfOk result (λ bytes. bytes.items
+        ≡ file_bytes rounds left.now right.now (joined_bytes 16 repr_of elements.now) nodes.now) }
 {
+    let body = proof_bytes::encode(alloc, elements)?;
     let mut bytes = Vec::new(alloc);
     bytes.extend_from_slice(&HEAD)?;
+    bytes.push(rounds as u8)?;
     bytes.extend_from_slice(left)?;
     bytes.extend_from_slice(right)?;
-    'numbers: for index in 0..numbers.len() {
-        bytes.extend_from_slice(&numbers[index])?;
+    bytes.extend_from_slice(body.as_slice())?;
+    'nodes: for index in 0..nodes.len() {
+        bytes.extend_from_slice(&nodes[index])?;
     }
     Ok(bytes)
 }
 
-/// The proof of which these are the bytes. Bytes that `encode` wrote are accepted, and give the roots and numbers of which they were
-/// written; what is accepted is what `encode` writes of the result.
-pub fn decode(bytes: &[u8]) -> Result<Proof<'_>, Refusal>
-    ensures whole { IfOk result (λ proof. bytes.now ≡ file_bytes proof.left proof.right proof.numbers.now) }
-    ensures sizes { IfOk result (λ proof. IsFile proof.left proof.right proof.numbers.now) }
-    ensures written { IfOk result (λ proof. (left right : List ℕ) (numbers : List (List ℕ)) → IsFile left right numbers
-        → bytes.now ≡ file_bytes left right numbers → (proof.left ≡ left) × (proof.right ≡ right) × (proof.numbers.now ≡ numbers)) }
-    ensures refused { IfErr result (λ _. (left right : List ℕ) (numbers : List (List ℕ)) → IsFile left right numbers
-        → bytes.now ≢ file_bytes left right numbers) }
+/// The proof of which these are the bytes, or why there is none. Bytes that `encode` wrote are accepted, and give what they were written of;
+/// what is accepted is what `encode` writes of the result. It fails if memory was refused.
+pub fn decode(alloc: Global, bytes: &[u8]) -> Result<Result<Proof<'_>, Refusal>, AllocError>
+    ensures whole { IfOk result (λ read. IfOk read (λ proof. IsFileOf repr_of bytes.now proof.rounds proof.left proof.right
+        proof.elements.items proof.nodes.now)) }
+    ensures own { IfOk result (λ read. IfOk read (λ proof. (rounds : ℕ) (left right : List ℕ) (elements : List Ghash128) (nodes : List (List ℕ))
+        → IsFileOf repr_of bytes.now rounds left right elements nodes → (proof.rounds ≡ rounds) × (proof.left ≡ left) × (proof.right ≡ right)
+        × (proof.elements.items ≡ elements) × (proof.nodes.now ≡ nodes))) }
+    ensures refused { IfOk result (λ read. IfErr read (λ refusal. IsNoFile repr_of bytes.now × IsReadRefusal refusal)) }
+{
+    let parts = match cut(bytes) {
+        Ok(parts) => parts,
+        Err(refusal) => return Ok(Err(refusal)),
+    };
+    let read = proof_bytes::decode(alloc, parts.body)?;
+    let elements = match read {
+        Some(elements) => elements,
+        None => return Ok(Err(Refusal::Length)),
+    };
+    Ok(Ok(Proof {
+        rounds: parts.rounds,
+        left: parts.left,
+        right: parts.right,
+        elements,
+        nodes: parts.nodes,
+    }))
+}
+
+// The parts of a file.
+fn cut(bytes: &[u8]) -> Result<Parts<'_>, Refusal>
+    ensures file { IfOk result (λ parts. IsCutTo bytes.now parts.rounds parts.left parts.right parts.body.now parts.nodes.now) }
+    ensures refused { IfErr result (λ _. (rounds : ℕ) (left right body : List ℕ) (nodes : List (List ℕ)) → IsFile rounds left right body nodes
+        → bytes.now ≢ file_bytes rounds left right body nodes) }
     ensures reason { IfErr result (λ refusal. IsReadRefusal refusal) }
 {
-    if bytes.len() < FRONT || (bytes.len() - FRONT) % 16 != 0 {
+    if bytes.len() < FRONT {
         return Err(Refusal::Length);
     }
     if bytes[..8] != HEAD[..] {
         return Err(other_head(&bytes[..8]));
     }
+    let rounds = bytes[8] as usize;
+    if rounds > 39 {
+        return Err(Refusal::Length);
+    }
+    let size = 16 * Shape::new(rounds).element_count();
+    if bytes.len() < FRONT + size {
+        return Err(Refusal::Length);
+    }
+    if (bytes.len() - FRONT - size) % 64 != 0 {
+        return Err(Refusal::Length);
+    }
     let mut left = [0; 32];
     let mut right = [0; 32];
-    left.copy_from_slice(&bytes[8..40]);
-    right.copy_from_slice(&bytes[40..FRONT]);
-    let (numbers, _rest) = bytes[FRONT..].as_chunks::<16>();
-    Ok(Proof {
+    left.copy_from_slice(&bytes[9..41]);
+    right.copy_from_slice(&bytes[41..FRONT]);
+    let (nodes, _rest) = bytes[FRONT + size..].as_chunks::<32>();
+    Ok(Parts {
+        rounds,
         left,
         right,
-        numbers,
+        body: part(bytes, FRONT, size),
+        nodes,
     })
 }
 
@@ -75,7 +141,7 @@ pub fn decode(bytes: &[u8]) -> Result<Proof<'_>, Refusal>
 fn other_head(head: &[u8]) -> Refusal
     ensures { IsReadRefusal result }
 {
-    if head.starts_with(b"sum 1 ") {
+    if head.starts_with(b"sum 2 ") {
         Refusal::OtherField
     } else {
         Refusal::NotAProof

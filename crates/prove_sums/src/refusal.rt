@@ -19,7 +19,7 @@ pub enum Refusal {
     /// The proof is for another table on the right.
     #[error("the proof is for another right table")]
     OtherRight,
-    /// The messages do not lead from the sum to the tables.
+    /// The messages do not lead from the sum to the rows, or the columns that are opened do not agree with them.
     #[error("the sum is not proved")]
     NotProved,
 }

@@ -1,22 +1,16 @@
-use Rattle.std.proofs.Common.{arith, map, rules}
+use Rattle.std.proofs.Common.{arith, rules}
 use Rattle.field_element.specs.Element.{repr_of}
-use Rattle.prove_sums.proofs.Refusals.{answered, same-file, unread}
+use Rattle.prove_sums.proofs.Refusals.{answered, other_left, other_right, unread}
 use Rattle.prove_sums.proofs.answers.answer_to.Goals as goal
 
 pub returns-in-Err : goal.returns-in-Err
 returns-in-Err g c =
-    let left = c.args.left.now in
-    let right = c.args.right.now in
-    unread g.H.ByteHasher32.digest c.args.hasher.now left.rounds (map repr_of left.elements.items) (map repr_of right.elements.items) left.root
-    right.root c.args.bytes.now c.in-Err.refusal c.in-Err.ensures.refused c.in-Err.ensures.reason
+    unread g.H.ByteHasher32.digest c.args.hasher.now repr_of c.args.left.now c.args.right.now c.args.bytes.now c.in-Err.refusal
+    c.in-Err.ensures.refused.0 c.in-Err.ensures.refused.1
 
 pub returns : goal.returns
 returns g c =
-    let left = c.args.left.now in
-    let right = c.args.right.now in
     let read = c.in-Ok.read in
-    answered g.H.ByteHasher32.digest c.args.hasher.now left.rounds (map repr_of left.elements.items) (map repr_of right.elements.items) left.root
-    right.root c.args.bytes.now c.in_ok-accepted.accepted c.refusal_of.result read.numbers.now
-    (same-file c.args.bytes.now read.left read.right left.root right.root read.numbers.now (search rules) (search rules)
-    (c.in-Ok.ensures.sizes, c.in-Ok.ensures.whole))
-    (omega arith) c.in_ok-accepted.ensures c.refusal_of.ensures.accepted c.refusal_of.ensures.refused
+    answered g.H.ByteHasher32.digest c.args.hasher.now repr_of c.args.left.now c.args.right.now c.args.bytes.now read.rounds read.left read.right
+    read.elements.items read.nodes.now c.in-Ok.ensures.whole c.in_ok-accepted.accepted c.refusal_of.result (search rules) (search rules)
+    c.in_ok-accepted.ensures c.refusal_of.ensures.accepted c.refusal_of.ensures.refused

@@ -1,8 +1,11 @@
-use Rattle.std.proofs.Common.{◌≡◌, ◌++◌, take}
+use Rattle.std.proofs.Common.{◌≡◌, ◌∷◌, [], ◌++◌, take}
+use Rattle.field_bytes.specs.Streams.{joined_bytes}
+use Rattle.field_element.specs.Element.{repr_of}
 use Rattle.prove_sums.specs.ProofFiles.{head}
 use Rattle.prove_sums.proofs.Files.{flat}
 use Rattle.prove_sums.proofs.proof_file.encode.Given as goal
 
--- the numbers before the index are written
-abbrev pub invariant-numbers : goal.invariant-numbers
-invariant-numbers g l = l.bytes.items ≡ head ++ l.left ++ l.right ++ flat (take l.index l.numbers)
+-- the nodes before the index are written
+abbrev pub invariant-nodes : goal.invariant-nodes
+invariant-nodes l =
+    l.bytes.items ≡ head ++ (l.rounds ∷ []) ++ l.left ++ l.right ++ joined_bytes 16 repr_of l.elements ++ flat (take l.index l.nodes)

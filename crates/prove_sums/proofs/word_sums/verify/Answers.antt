@@ -1,19 +1,21 @@
-use Rattle.std.proofs.Common.{◌∙◌, [], ap, map}
+use Rattle.std.proofs.Common.{[], List, refl, subst}
 use Rattle.field_element.specs.Element.{repr_of}
 use Rattle.transcript_elements.specs.Challengers.{state_of}
 use Rattle.prove_sums.specs.ProofFiles.{file_bytes}
-use Rattle.prove_sums.specs.Verdicts.{number_of_word}
-use Rattle.prove_sums.proofs.StateRuns.{verdict-by_numbers}
+use Rattle.prove_sums.specs.Verdicts.{IsSumVerdict, ghash_times, ghash_vector}
+use Rattle.prove_sums.proofs.StateRuns.{verdict-on_states}
 use Rattle.prove_sums.proofs.word_sums.verify.Goals as goal
 
 pub returns : goal.returns
 returns g c =
-    let accepted = c.in_ok-accepted.ensures in
-    let left = c.args.left.now in
-    let right = c.args.right.now in
-    verdict-by_numbers _ _ g.H.ByteHasher32.digest state_of repr_of (λ old x new is. is) (λ old x new is. (x.in_range, is)) left.rounds
-    c.in_ok-challenger.challenger c.verify.new.challenger c.args.hasher.now (file_bytes left.root right.root []) c.as_slice.result.now
-    c.as_slice-2.result.now c.as_slice-3.result.now accepted.0 (map repr_of left.elements.items) (map repr_of right.elements.items)
-    (map number_of_word c.args.numbers.now) c.in_ok-accepted.accepted c.in_ok-challenger.ensures
-    (ap (map repr_of) c.as_slice.ensures.value) (ap (map repr_of) c.as_slice-2.ensures.value)
-    (ap (map repr_of) c.as_slice-3.ensures.value ∙ c.in_ok-read.ensures) accepted.1 accepted.2
+    let proof = c.args.proof.now in
+    let digest = g.H.ByteHasher32.digest in
+    let hasher = c.args.hasher.now in
+    let front = file_bytes proof.rounds proof.left proof.right [] [] in
+    let verdict =
+    verdict-on_states state_of _ _ _ _ (λ old x new is. is) (λ old x new is. (x.in_range, is)) _ _ _ _ _ _ (λ old bits witness. refl)
+    (λ old bits witness new is. is) (λ old bits number new is. is) repr_of repr_of proof.rounds c.as_slice.result.now (digest hasher) 16 128
+    ghash_times ghash_vector proof.left proof.right proof.nodes.now c.in_ok-challenger.challenger (hasher, front, []) c.in_ok-accepted.accepted
+    c.in_ok-challenger.ensures c.in_ok-accepted.ensures in
+    subst (λ (l : List _). IsSumVerdict digest hasher repr_of front proof.rounds proof.left proof.right l proof.nodes.now c.in_ok-accepted.accepted)
+    c.as_slice.ensures.value verdict

@@ -1,0 +1,95 @@
+-- Sizes of proofs, which are far below 2 ^ 64.
+use Rattle.std.proofs.Common.{◌≡◌, ℕ, ◌+◌, ◌-◌, ◌*◌, ◌%◌, ◌^◌, ◌<◌, ◌≤◌, ◌/◌, zero, suc, List, length, drop, refl, sym, ◌∙◌, ap, subst, arith, lit<}
+use Rattle.std.proofs.Math.Nat.{mul-le-mul_left, mul-le-mul_right}
+use Rattle.std.proofs.lemmas.List.{length-drop, length-take-le}
+use native.Mathlib.Nat.{mod-eq_of_lt, mod-lt, one-mul, pow-le-pow_right}
+use Rattle.prove_sums.specs.Shapes.{block_bits, block_count, columns_size, depth_of, element_count, levels_of, row_in, row_size, rows_of}
+
+-- a power of two in 64 bits
+pub power-room : (n most : ℕ) → n ≤ most → most ≤ 40 → (1 * 2 ^ n % 18446744073709551616 ≡ 2 ^ n) × (2 ^ n ≤ 2 ^ most)
+power-room n most below few =
+    let up : 2 ^ n ≤ 2 ^ most = pow-le-pow_right (lit< tt) below in
+    let bound : 2 ^ most ≤ 2 ^ 40 = pow-le-pow_right (lit< tt) few in
+    (mod-eq_of_lt {n = 1 * 2 ^ n} (omega (arith, up, bound)) ∙ one-mul (2 ^ n), up)
+
+module _ (n : ℕ) (few : n ≤ 39) where
+  pub rows-few : rows_of n ≤ 16
+  rows-few = omega (arith, few)
+
+  pub levels-few : levels_of n ≤ 24
+  levels-few = omega (arith, few)
+
+  pub bits-few : block_bits n ≤ 19
+  bits-few = omega (arith, few)
+
+  pub blocks-few : depth_of n - block_bits n ≤ 7
+  blocks-few = omega (arith, few)
+
+-- a product below its bounds
+pub product-few : (a b c d : ℕ) → a ≤ c → b ≤ d → a * b ≤ c * d
+product-few a b c d one other =
+    let first : a * b ≤ c * b = mul-le-mul_right b one in
+    let second : c * b ≤ c * d = mul-le-mul_left c other in
+    omega (arith, first, second)
+
+-- place `i` of so many blocks
+pub place-few : (i count size number : ℕ) → i < count → count ≤ 128 → 0 < size → size ≤ 524288 → i * size + number % size < 67108864
+place-few i count size number inside few some small =
+    let whole : i * size ≤ 127 * size = mul-le-mul_right size (omega (arith, inside, few)) in
+    let rest = mod-lt number some in
+    omega (arith, whole, rest, small)
+
+-- ---- parts of the elements of a proof
+
+-- half of what two parts have
+twice-few : (which size : ℕ) → which < 2 → (which * size ≤ size)
+twice-few zero size below = omega arith
+twice-few (suc zero) size below = omega arith
+twice-few (suc (suc which)) size below = absurd (omega (arith, below))
+
+module _ {F : Type 0} (n which : ℕ) (elements : List F) (below : which < 2) (count : length elements ≡ element_count n) where
+  -- a table's row is within
+  pub row-room : (size : ℕ) → size ≡ row_size n → 2 * n + 2 + which * size + size ≤ length elements
+  row-room size is = subst (λ (r : ℕ). 2 * n + 2 + which * r + r ≤ length elements) (sym is) (enough (row_size n) (columns_size n) count)
+    where
+      enough : (r s : ℕ) → length elements ≡ 2 * n + 2 + 2 * r + 2 * s → 2 * n + 2 + which * r + r ≤ length elements
+      enough r s is = let few = twice-few which r below in omega (arith, few, is)
+
+  pub row-long : length (row_in n which elements) ≡ row_size n
+  row-long =
+      let room = row-room (row_size n) refl in
+      let behind = length-drop (2 * n + 2 + which * row_size n) elements in
+      length-take-le (row_size n) (drop (2 * n + 2 + which * row_size n) elements)
+      (enough (2 * n + 2 + which * row_size n) (row_size n) (length elements) (length (drop (2 * n + 2 + which * row_size n) elements)) room behind)
+    where
+      enough : (from size all left : ℕ) → from + size ≤ all → left ≡ all - from → size ≤ left
+      enough from size all left room is = omega (arith, room, is)
+
+  -- and so are its columns
+  pub columns-room : (row size : ℕ) → row ≡ row_size n → size ≡ columns_size n → 2 * n + 2 + 2 * row + which * size + size ≤ length elements
+  columns-room row size is same =
+      subst (λ (r : ℕ). 2 * n + 2 + 2 * r + which * size + size ≤ length elements) (sym is)
+      (subst (λ (s : ℕ). 2 * n + 2 + 2 * row_size n + which * s + s ≤ length elements) (sym same) (enough (row_size n) (columns_size n) count))
+    where
+      enough : (r s : ℕ) → length elements ≡ 2 * n + 2 + 2 * r + 2 * s → 2 * n + 2 + 2 * r + which * s + s ≤ length elements
+      enough r s is = let few = twice-few which s below in omega (arith, few, is)
+
+-- what stands before the columns is within
+pub front-room : {F : Type 0} (n : ℕ) (elements : List F) (row : ℕ) → length elements ≡ element_count n → row ≡ row_size n
+    → 2 * n + 2 + 2 * row ≤ length elements
+front-room n elements row count is =
+    subst (λ (r : ℕ). 2 * n + 2 + 2 * r ≤ length elements) (sym is) (enough (row_size n) (columns_size n) count)
+  where
+    enough : (r s : ℕ) → length elements ≡ 2 * n + 2 + 2 * r + 2 * s → 2 * n + 2 + 2 * r ≤ length elements
+    enough r s is = omega (arith, is)
+
+-- half of the nodes, for each of two
+pub half-room : (which size : ℕ) → which < 2 → which * (size / 2) + size / 2 ≤ size
+half-room which size below = let few = twice-few which (size / 2) below in omega (arith, few)
+
+-- what is said of parts, said of others that are the same
+pub same-opening : {F : Type 0} (says : ℕ → List F → List F → List (List ℕ) → Type 0) {k levels : ℕ} {row rows columns all : List F}
+    {nodes half : List (List ℕ)} → k ≡ levels → row ≡ rows → columns ≡ all → nodes ≡ half → says k row columns nodes → says levels rows all half
+same-opening says {k} {levels} {row} {rows} {columns} {all} {nodes} {half} one two three four holds =
+    subst (λ (l : ℕ). says l rows all half) one
+    (subst (λ (r : List _). says k r all half) two (subst (λ (c : List _). says k row c half) three (subst (λ n. says k row columns n) four holds)))

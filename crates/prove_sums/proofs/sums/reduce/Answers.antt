@@ -1,0 +1,23 @@
+use Rattle.std.proofs.Common.{map, ◌∙◌, ap, arith}
+use Rattle.protocols.specs.Products.{term_product}
+use Rattle.prove_sums.specs.Shapes.{messages_in, sum_in}
+use Rattle.prove_sums.proofs.SumSteps.{number-at, verified-sum}
+use Rattle.prove_sums.proofs.sums.reduce.Goals as goal
+
+pub returns : goal.returns
+returns g c =
+    let field = g.F.Represented in
+    let reduced = c.in_ok-reduced.ensures.read in
+    let elements = c.args.elements.now in
+    let first = c.index-elements-0.result in
+    let read =
+    verified-sum g.C.CanObserve.observes g.C.CanSample.gives field.repr field.width field.product c.args.rounds c.args.challenger.now _
+    (map (term_product field.repr) c.as_slice-terms.result.now)
+    (ap (map (term_product field.repr)) c.as_slice-terms.ensures.value ∙ c.in_ok-terms.ensures) (field.repr first) (sum_in field.repr elements)
+    c.part-messages.result.now (messages_in c.args.rounds elements) c.in_ok-reduced.reduced.point.items (field.repr c.in_ok-reduced.reduced.claim)
+    (number-at field.repr elements 0 first (omega (arith, c.requires)) c.index-elements-0.is) c.part-messages.ensures.values reduced.0 reduced.1 in
+    record {
+      run = read.0;
+      left = read.1;
+      challenge_count = reduced.2;
+    }

@@ -1,0 +1,153 @@
+// The verifier of a sum of products of two tables, of which it has the commitments alone.
+ghost use Rattle.std.specs.Prelude.{◌≡◌, ◌↔◌, ◌+◌, ◌*◌, ◌^◌, ◌≤◌, ◌<◌, length, map, IfOk, IsTrue};
+ghost use Rattle.field_slices.specs.Multilinear.{multilinear_value};
+ghost use Rattle.prove_sums.specs.Shapes.{block_count, columns_size, element_count, levels_of, row_in, rows_of};
+ghost use Rattle.prove_sums.specs.Verdicts.{DrawsPlaces, IsProductAt, IsVerdict, OpensTable};
+
+use crate::shapes::{EXPANSION, Shape, part};
+use crate::sums::reduce;
+use field_slices::evaluate_multilinear;
+use protocols::ProtocolError;
+use protocols::merkle_paths::Commitment;
+use protocols::queries::check_queries;
+use protocols::tables::verify_columns;
+use std::alloc::{AllocError, Global};
+use transcript_bytes::ByteHasher32;
+use transcript_elements::{ByteLevel, CanSampleUniformBits, FieldChallenger, GrindingChallenger};
+
+/// The bits of a proof's work.
+pub(crate) const WORK: usize = 16;
+
+/// Whether these elements and nodes prove that the first element is the sum of the products of the tables to which these roots commit. It
+/// fails where the challenger does, or memory is refused.
+pub fn verify<
+    F: ByteLevel,
+    H: ByteHasher32,
+    C: FieldChallenger<F> + GrindingChallenger<Witness = F> + CanSampleUniformBits<F>,
+>(
+    alloc: Global,
+    hasher: &H,
+    challenger: &mut C,
+    shape: &Shape,
+    left: &[u8; 32],
+    right: &[u8; 32],
+    elements: &[F],
+    nodes: &[[u8; 32]],
+) -> Result<bool, ProtocolError>
+    requires count { length elements.now ≡ element_count shape.now.rounds }
+    requires points { 40 ≤ F.width }
+    ensures { IfOk result (λ accepted. IsVerdict C.observes C.gives C.passing C.checks C.gives_bits C.number F.repr (H.digest hasher.now)
+        F.NUM_BYTES F.width F.product (λ i. F.basis (F.cantor i)) shape.now.rounds left.now right.now elements.now nodes.now challenger.old
+        accepted) }
+{
+    let reduced = reduce(alloc, challenger, shape.rounds, elements)?;
+    let (works, places) = sample_places(alloc, challenger, shape, elements)?;
+    let (point, others) = reduced.point.as_slice().split_at(shape.rows);
+    let places = places.as_slice();
+    let first = opens_table(
+        alloc, hasher, shape, 0, left, point, elements, places, nodes,
+    )?;
+    let second = opens_table(
+        alloc, hasher, shape, 1, right, point, elements, places, nodes,
+    )?;
+    let holds = is_product(shape, elements, others, reduced.claim);
+    Ok(all_hold(works, holds, first, second))
+}
+
+// Whether all four hold.
+fn all_hold(one: bool, two: bool, three: bool, four: bool) -> bool
+    ensures { IsTrue result ↔ IsTrue one × IsTrue two × IsTrue three × IsTrue four }
+{
+    one && two && three && four
+}
+
+// Observes the rows, checks the work, and samples the places. A challenge is sampled in between, so that a witness is tried on its digest
+// and not on the rows.
+fn sample_places<
+    F: ByteLevel,
+    C: FieldChallenger<F> + GrindingChallenger<Witness = F> + CanSampleUniformBits<F>,
+>(
+    alloc: Global,
+    challenger: &mut C,
+    shape: &Shape,
+    elements: &[F],
+) -> Result<(bool, Vec<usize>), ProtocolError>
+    requires { length elements.now ≡ element_count shape.now.rounds }
+    ensures { IfOk result (λ drawn. DrawsPlaces C.observes C.gives C.passing C.checks C.gives_bits C.number shape.now.rounds elements.now
+        challenger.old drawn.0 drawn.1.items challenger.new) }
+{
+    let rows = part(elements, 2 * shape.rounds + 2, 2 * shape.row_size());
+    challenger.observe_slice(rows)?;
+    let _challenge = challenger.sample()?;
+    let place = 2 * shape.rounds + 1;
+    let witness = elements[place];
+    let count = shape.block_count();
+    let (works, numbers) = check_queries(alloc, challenger, witness, WORK, shape.bits, count)?;
+    let places = shape.places(alloc, numbers.as_slice())?;
+    Ok((works, places))
+}
+
+// Whether the row of table 0 or 1 agrees with the columns that the nodes open, at the first coordinates of the point.
+fn opens_table<F: ByteLevel, H: ByteHasher32>(
+    alloc: Global,
+    hasher: &H,
+    shape: &Shape,
+    which: usize,
+    root: &[u8; 32],
+    point: &[F],
+    elements: &[F],
+    places: &[usize],
+    nodes: &[[u8; 32]],
+) -> Result<bool, AllocError>
+    requires which { which < 2 }
+    requires points { 40 ≤ F.width }
+    requires count { length elements.now ≡ element_count shape.now.rounds }
+    requires coordinates { length point.now ≡ rows_of shape.now.rounds }
+    ensures { IfOk result (λ opens. IsTrue opens ↔ OpensTable (H.digest hasher.now) F.repr F.NUM_BYTES F.width F.product
+        (λ i. F.basis (F.cantor i)) shape.now.rounds which root.now point.now elements.now places.now nodes.now) }
+{
+    let front = 2 * shape.rounds + 2 + 2 * shape.row_size();
+    let size = shape.columns_size();
+    let columns = part(elements, front + which * size, size);
+    let half = nodes.len() / 2;
+    let opening = part(nodes, which * half, half);
+    let row = row_of(shape, which, elements);
+    let commitment = Commitment {
+        depth: EXPANSION + shape.levels,
+        root: *root,
+    };
+    let opens = verify_columns(
+        alloc,
+        hasher,
+        commitment,
+        shape.levels,
+        EXPANSION,
+        point,
+        row,
+        places,
+        columns,
+        opening,
+    )?;
+    Ok(opens)
+}
+
+// The row of table 0 or 1.
+fn row_of<'a, F>(shape: &Shape, which: usize, elements: &'a [F]) -> &'a [F]
+    requires which { which < 2 }
+    requires count { length elements.now ≡ element_count shape.now.rounds }
+    ensures { result.now ≡ row_in shape.now.rounds which elements.now }
+{
+    let size = shape.row_size();
+    part(elements, 2 * shape.rounds + 2 + which * size, size)
+}
+
+// Whether the claim is the product of both rows' values at the other coordinates of the point.
+fn is_product<F: ByteLevel>(shape: &Shape, elements: &[F], others: &[F], claim: F) -> bool
+    requires count { length elements.now ≡ element_count shape.now.rounds }
+    requires coordinates { length others.now ≡ levels_of shape.now.rounds }
+    ensures { IsTrue result ↔ IsProductAt F.repr F.product shape.now.rounds elements.now others.now (F.repr claim) }
+{
+    let one = evaluate_multilinear(row_of(shape, 0, elements), others);
+    let other = evaluate_multilinear(row_of(shape, 1, elements), others);
+    claim == one * other
+}
