@@ -2,8 +2,12 @@
 use Rattle.std.proofs.Common.{◌≡◌, ℕ, ◌+◌, ◌-◌, ◌*◌, ◌%◌, ◌^◌, ◌<◌, ◌≤◌, ◌/◌, zero, suc, List, length, drop, refl, sym, ◌∙◌, ap, subst, arith, lit<}
 use Rattle.std.proofs.Math.Nat.{mul-le-mul_left, mul-le-mul_right}
 use Rattle.std.proofs.lemmas.List.{length-drop, length-take-le}
+use Rattle.std.specs.Prelude.{slice_index}
+use Rattle.std.proofs.lemmas.List.FromFn.{get_or-map-range_with_len, length-map-range_with_len}
+use Rattle.std.proofs.lemmas.Nat.{pow-add, pow_pos}
 use native.Mathlib.Nat.{mod-eq_of_lt, mod-lt, one-mul, pow-le-pow_right}
-use Rattle.prove_sums.specs.Shapes.{block_bits, block_count, columns_size, depth_of, element_count, levels_of, row_in, row_size, rows_of}
+use Rattle.protocols.specs.Openings.{AreAscending}
+use Rattle.prove_sums.specs.Shapes.{block_bits, block_count, columns_size, depth_of, element_count, levels_of, places_of, row_in, row_size, rows_of}
 
 -- a power of two in 64 bits
 pub power-room : (n most : ℕ) → n ≤ most → most ≤ 40 → (1 * 2 ^ n % 18446744073709551616 ≡ 2 ^ n) × (2 ^ n ≤ 2 ^ most)
@@ -93,3 +97,75 @@ pub same-opening : {F : Type 0} (says : ℕ → List F → List F → List (List
 same-opening says {k} {levels} {row} {rows} {columns} {all} {nodes} {half} one two three four holds =
     subst (λ (l : ℕ). says l rows all half) one
     (subst (λ (r : List _). says k r all half) two (subst (λ (c : List _). says k row c half) three (subst (λ n. says k row columns n) four holds)))
+
+-- ---- places
+
+module _ (n : ℕ) (numbers : List ℕ) (count : length numbers ≡ block_count n) where
+  abbrev place : ℕ → ℕ
+  place i = i * 2 ^ block_bits n + slice_index numbers i % 2 ^ block_bits n
+
+  place-at : (k : ℕ) → k < length numbers → slice_index (places_of (block_bits n) numbers) k ≡ place k
+  place-at k inside = get_or-map-range_with_len place 0 (length numbers) k k 0 inside (omega arith)
+
+  -- a place is in its block
+  within : (k : ℕ) → (k * 2 ^ block_bits n ≤ place k) × (place k < suc k * 2 ^ block_bits n)
+  within k =
+      let rest = mod-lt (slice_index numbers k) (pow_pos (block_bits n)) in
+      let next : suc k * 2 ^ block_bits n ≡ k * 2 ^ block_bits n + 2 ^ block_bits n = omega arith in
+      (omega arith, omega (arith, rest, next))
+
+  blocks : block_count n * 2 ^ block_bits n ≡ 2 ^ depth_of n
+  blocks =
+      sym (pow-add 2 (depth_of n - block_bits n) (block_bits n))
+      ∙ ap (λ (m : ℕ). 2 ^ m) (let few : block_bits n ≤ depth_of n = omega arith in omega (arith, few))
+
+  -- the places ascend
+  pub ascending : AreAscending (2 ^ depth_of n) (places_of (block_bits n) numbers)
+  ascending = record {
+    below = λ k inside.
+        let inner : k < length numbers = subst (λ (m : ℕ). k < m) long inside in
+        let room : suc k * 2 ^ block_bits n ≤ block_count n * 2 ^ block_bits n =
+        mul-le-mul_right (2 ^ block_bits n) (subst (λ (m : ℕ). k < m) count inner) in
+        let own = (within k).1 in
+        subst (λ (p : ℕ). p < 2 ^ depth_of n) (sym (place-at k inner))
+        (subst (λ (m : ℕ). place k < m) blocks (enough (place k) (suc k * 2 ^ block_bits n) (block_count n * 2 ^ block_bits n) own room));
+    grow = λ k inside.
+        let later : suc k < length numbers = subst (λ (m : ℕ). suc k < m) long inside in
+        let first : k < length numbers = omega (arith, later) in
+        subst (λ (p : ℕ). p < slice_index (places_of (block_bits n) numbers) (suc k)) (sym (place-at k first))
+        (subst (λ (p : ℕ). place k < p) (sym (place-at (suc k) later))
+        (enough (place k) (suc k * 2 ^ block_bits n) (place (suc k)) (within k).1 (within (suc k)).0));
+  }
+    where
+      long : length (places_of (block_bits n) numbers) ≡ length numbers
+      long = length-map-range_with_len place 0 (length numbers)
+
+      enough : (a b c : ℕ) → a < b → b ≤ c → a < c
+      enough a b c one other = omega (arith, one, other)
+
+-- ---- matrices
+
+-- a table as a matrix
+pub matrix-size : (n rows levels : ℕ) → rows ≡ rows_of n → levels ≡ levels_of n → 2 ^ n ≡ 2 ^ rows * 2 ^ levels
+matrix-size n rows levels is same =
+    ap (λ (m : ℕ). 2 ^ m) (let whole : n ≡ rows + levels = omega (arith, is, same) in whole) ∙ pow-add 2 rows levels
+
+-- the columns of a table's extension have room for its own
+pub held-room : {F : Type 0} (n : ℕ) (columns : List F) → length columns ≡ 2 ^ 2 * 2 ^ levels_of n * 2 ^ rows_of n
+    → row_size n * 2 ^ rows_of n ≤ length columns
+held-room n columns count =
+    subst (λ (m : ℕ). row_size n * 2 ^ rows_of n ≤ m) (sym count)
+    (mul-le-mul_right (2 ^ rows_of n) (let four : 2 ^ levels_of n ≤ 4 * 2 ^ levels_of n = omega arith in four))
+
+pub columns-held : {size row point height all have : ℕ} → size ≡ row → point ≡ height → all ≡ have → row * 2 ^ height ≤ have → size * 2 ^ point ≤ all
+columns-held {size} {row} {point} {height} {all} {have} one two three room =
+    subst (λ (s : ℕ). s * 2 ^ point ≤ all) (sym one)
+    (subst (λ (p : ℕ). row * 2 ^ p ≤ all) (sym two) (subst (λ (a : ℕ). row * 2 ^ height ≤ a) (sym three) room))
+
+-- the column at a place is there
+pub column-held : (n : ℕ) {height all have place : ℕ} → height ≡ 2 ^ rows_of n → all ≡ have → have ≡ 2 ^ 2 * 2 ^ levels_of n * 2 ^ rows_of n
+    → place < 2 ^ depth_of n → (place + 1) * height ≤ all
+column-held n {height} {all} {have} {place} is same count below =
+    subst (λ (h : ℕ). (place + 1) * h ≤ all) (sym is)
+    (subst (λ (a : ℕ). (place + 1) * 2 ^ rows_of n ≤ a) (sym (same ∙ count))
+    (mul-le-mul_right (2 ^ rows_of n) (let whole = pow-add 2 2 (levels_of n) in omega (arith, whole, below))))

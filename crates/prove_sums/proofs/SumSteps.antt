@@ -1,5 +1,5 @@
 -- The terms of a sum of products of two tables, and what their proofs say.
-use Rattle.std.proofs.Common.{◌≡◌, ◌↔◌, ℕ, zero, suc, ◌*◌, ◌<◌, Bool, true, false, List, [], ◌∷◌, length, map, take, drop, get_or, refl, sym, ◌∙◌, ap, subst, arith}
+use Rattle.std.proofs.Common.{◌≡◌, ◌↔◌, ℕ, zero, suc, ◌*◌, ◌<◌, Bool, true, false, List, [], ◌∷◌, ◌++◌, append_assoc, length, map, take, drop, get_or, refl, sym, ◌∙◌, ap, subst, arith}
 use Rattle.std.specs.Prelude.{IsTrue, None, Option, Some, is_some, slice_index}
 use Rattle.protocols.specs.Sumcheck.{AreTurns, IsRunOf, messages_of, statement_of}
 use Rattle.protocols.specs.SumcheckClaims.{AreHonestMessages, reduced_claim}
@@ -123,3 +123,15 @@ all-decided whole second third fourth = (
   λ holds. let each = whole.0 holds in (each.0, second.0 each.1, third.0 each.2, fourth.0 each.3),
   λ each. whole.1 (each.0, second.1 each.1, third.1 each.2, fourth.1 each.3),
 )
+
+-- the elements of a proof, as they are written
+pub elements-listed : {F : Type 0} {none one twice three four five six ms rs messages rows : List F} (gained more : List F) (sum witness : F) → none ≡ []
+    → one ≡ none ++ sum ∷ [] → twice ≡ one ++ ms → ms ≡ messages → three ≡ twice ++ witness ∷ [] → four ≡ three ++ rs → rs ≡ rows
+    → five ≡ four ++ gained → six ≡ five ++ more → six ≡ sum ∷ messages ++ (witness ∷ rows ++ (gained ++ more))
+elements-listed {one = one} {three = three} {messages = messages} {rows = rows} gained more sum witness a b c d e f g h i =
+    i ∙ ap (λ (l : List _). l ++ more) h ∙ ap (λ (l : List _). (l ++ gained) ++ more) f
+    ∙ ap (λ (l : List _). ((three ++ l) ++ gained) ++ more) g ∙ ap (λ (l : List _). ((l ++ rows) ++ gained) ++ more) e
+    ∙ ap (λ (l : List _). (((l ++ witness ∷ []) ++ rows) ++ gained) ++ more) (c ∙ ap (λ (l : List _). one ++ l) d
+    ∙ ap (λ (l : List _). l ++ messages) (b ∙ ap (λ (l : List _). l ++ sum ∷ []) a))
+    ∙ append_assoc (((sum ∷ messages) ++ witness ∷ []) ++ rows) gained more
+    ∙ append_assoc ((sum ∷ messages) ++ witness ∷ []) rows (gained ++ more) ∙ append_assoc (sum ∷ messages) (witness ∷ []) (rows ++ (gained ++ more))

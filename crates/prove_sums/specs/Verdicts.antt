@@ -1,6 +1,7 @@
 -- What is proved of two tables, and what a verifier says of a proof, over elements and bytes alone. Elements have numbers by `repr`, the sum is
 -- `bit_xor` and the product `times`. `hash` and `digest` are hash functions.
-use Rattle.std.specs.Prelude.{◌≡◌, ◌≢◌, ◌↔◌, ◌⊎◌, ℕ, ◌+◌, ◌*◌, ◌^◌, ◌<◌, ◌≤◌, ◌/◌, Bool, true, false, List, [], ◌∷◌, length, map, take, drop, IsTrue}
+use Rattle.std.specs.Prelude.{◌≡◌, ◌≢◌, ◌↔◌, ◌⊎◌, ℕ, ◌+◌, ◌*◌, ◌^◌, ◌<◌, ◌≤◌, ◌/◌, Bool, true, false, List, [], ◌∷◌, ◌++◌, length, map, take, drop, IsTrue}
+use Rattle.std.specs.List.{range_with_len}
 use Rattle.std.specs.declared.option.Option.{Option}
 use Rattle.std.specs.declared.option.Option.TheVariants.{None, Some}
 use Rattle.transcript_bytes.specs.ByteCalls.{after, observing}
@@ -15,10 +16,12 @@ use Rattle.word_tables.specs.Cantor.{cantor_vector}
 use Rattle.protocols.specs.Queries.{AreQueries}
 use Rattle.protocols.specs.Sumcheck.{IsRunOf, IsTurn, Statement, messages_of, statement_of}
 use Rattle.protocols.specs.SumcheckClaims.{AreHonestMessages, reduced_claim}
-use Rattle.protocols.specs.Tables.{OpensColumns}
+use Rattle.protocols.specs.Tables.{AreExtendedColumns, OpensColumns}
+use Rattle.protocols.specs.Commitments.{row_at}
+use Rattle.protocols.specs.declared.merkle_tree.MerkleTree.{MerkleTree}
 use Rattle.protocols.specs.Terms.{Product, cube_sum}
 use Rattle.prove_sums.specs.ProofFiles.{IsFileOf, IsNoFile, file_bytes}
-use Rattle.prove_sums.specs.Shapes.{block_bits, block_count, columns_in, levels_of, messages_in, nodes_in, places_of, row_in, rows_in, rows_of, sum_in, witness_in}
+use Rattle.prove_sums.specs.Shapes.{block_bits, block_count, columns_in, depth_of, levels_of, messages_in, nodes_in, places_of, row_in, row_size, rows_in, rows_of, sum_in, witness_in}
 use Rattle.prove_sums.specs.declared.refusal.Refusal.{Refusal}
 use Rattle.prove_sums.specs.declared.refusal.Refusal.TheVariants.{NotAProof, OtherField, Length, OtherLeft, OtherRight, NotProved}
 
@@ -107,6 +110,43 @@ pub record IsVerdict {C F : Type 0} (observes gives : C → F → C → Type 0) 
       × IsProductAt repr times n elements (drop (rows_of n) point) claim
       × OpensTable hash repr size width times vector n 0 left (take (rows_of n) point) elements places nodes
       × OpensTable hash repr size width times vector n 1 right (take (rows_of n) point) elements places nodes
+
+-- ---- the prover
+
+-- a table of 2 ^ n elements, the columns of its extension, and a tree of as many leaves
+pub record HoldsTable {F A : Type 0} (repr : F → ℕ) (width : ℕ) (times : ℕ → ℕ → ℕ) (vector : ℕ → ℕ) (n : ℕ) (elements columns : List F)
+    (tree : MerkleTree A) : Type 0 where
+  pub count : length elements ≡ 2 ^ n
+  pub extended : AreExtendedColumns repr width times vector (levels_of n) 2 (2 ^ rows_of n) (map repr elements) columns
+  pub depth : tree.depth ≡ depth_of n
+
+-- the values of a table's columns at the first coordinates of a point
+abbrev pub values_at : {F : Type 0} → (F → ℕ) → (ℕ → ℕ → ℕ) → ℕ → List F → List F → List ℕ
+values_at repr times n columns point =
+    map (λ p. multilinear_value times (map repr (row_at (2 ^ length point) columns p)) (map repr point)) (range_with_len 0 (row_size n))
+
+-- What an honest prover sends of two tables: the sum of their products, its messages, a witness that works, the values of both tables' columns,
+-- and columns.
+pub record IsHonestProof {C F : Type 0} (observes gives : C → F → C → Type 0) (passing : C → ℕ → ℕ → Bool)
+    (checks : C → ℕ → ℕ → C → Type 0) (gives_bits : C → ℕ → ℕ → C → Type 0) (number repr : F → ℕ) (width : ℕ) (times : ℕ → ℕ → ℕ)
+    (n : ℕ) (left right left_columns right_columns elements : List F) (old : C) : Type 0 where
+  pub sum : F
+  pub messages : List F
+  pub point : List F
+  pub rows : List F
+  pub challenge : F
+  pub witness : F
+  pub numbers : List ℕ
+  pub columns : List F
+  pub between : C
+  pub sent : C
+  pub new : C
+  pub summed : IsSummed observes gives repr width times n left right old sum messages point between
+  pub rows_are : map repr rows ≡ values_at repr times n left_columns (take (rows_of n) point)
+      ++ values_at repr times n right_columns (take (rows_of n) point)
+  pub turn : IsTurn observes gives between rows challenge sent
+  pub queries : AreQueries passing checks gives_bits sent work_bits (number witness) true (block_bits n) numbers new
+  pub written : elements ≡ sum ∷ messages ++ (witness ∷ rows ++ columns)
 
 -- ---- in the field of GHASH, and in a transcript over a hash function
 

@@ -1,7 +1,11 @@
 // The prover of a sum of products of two tables, both committed to.
-ghost use Rattle.std.specs.Prelude.{◌≡◌, ◌+◌, ◌*◌, ◌^◌, ◌≤◌, ◌<◌, length, map, IfOk};
+ghost use Rattle.std.specs.Prelude.{◌≡◌, ◌*◌, ◌^◌, ◌≤◌, ◌++◌, List, length, map, vec_len, IfOk, OnOk};
 ghost use Rattle.transcript_elements.specs.Grinding.{MayGrind};
-ghost use Rattle.prove_sums.specs.Shapes.{block_count, element_count, levels_of, row_size, rows_of};
+ghost use Rattle.field_bytes.specs.Streams.{joined_bytes};
+ghost use Rattle.protocols.specs.Commitments.{IsTreeOver, row_at};
+ghost use Rattle.protocols.specs.Openings.{AreAscending};
+ghost use Rattle.prove_sums.specs.Shapes.{depth_of, row_size, rows_of};
+ghost use Rattle.prove_sums.specs.Verdicts.{HoldsTable, IsHonestProof, values_at};
 
 use crate::shapes::{EXPANSION, Shape};
 use crate::sums;
@@ -38,15 +42,17 @@ pub fn commit<F: ByteLevel, H: ByteHasher32>(
     hasher: &H,
     shape: &Shape,
     elements: Vec<F>,
-) -> Result<Committed<F>, AllocError> {
-    let held = commit_table(
-        alloc,
-        hasher,
-        elements.as_slice(),
-        shape.rows,
-        shape.levels,
-        EXPANSION,
-    )?;
+) -> Result<Committed<F>, AllocError>
+    requires count { vec_len elements ≡ 2 ^ shape.now.rounds }
+    requires points { 40 ≤ F.width }
+    ensures table { IfOk result (λ committed. committed.elements.items ≡ elements.items) }
+    ensures holds { IfOk result (λ committed. HoldsTable F.repr F.width F.product (λ i. F.basis (F.cantor i)) shape.now.rounds
+        committed.elements.items committed.held.columns.items committed.held.tree) }
+    ensures tree { IfOk result (λ committed. IsTreeOver (H.digest hasher.now)
+        (λ p. joined_bytes F.NUM_BYTES F.repr (row_at (2 ^ rows_of shape.now.rounds) committed.held.columns.items p)) committed.held.tree) }
+{
+    let table = elements.as_slice();
+    let held = commit_table(alloc, hasher, table, shape.rows, shape.levels, EXPANSION)?;
     Ok(Committed { elements, held })
 }
 
@@ -60,33 +66,70 @@ pub fn prove<
     shape: &Shape,
     left: &Committed<F>,
     right: &Committed<F>,
-) -> Result<Sent<F>, ProtocolError> {
+) -> Result<Sent<F>, ProtocolError>
+    requires work { MayGrind C.witness_bits 16 }
+    requires left { HoldsTable F.repr F.width F.product (λ i. F.basis (F.cantor i)) shape.now.rounds left.now.elements.items
+        left.now.held.columns.items left.now.held.tree }
+    requires right { HoldsTable F.repr F.width F.product (λ i. F.basis (F.cantor i)) shape.now.rounds right.now.elements.items
+        right.now.held.columns.items right.now.held.tree }
+    ensures { IfOk result (λ sent. IsHonestProof C.observes C.gives C.passing C.checks C.gives_bits C.number F.repr F.width F.product
+        shape.now.rounds left.now.elements.items right.now.elements.items left.now.held.columns.items right.now.held.columns.items
+        sent.elements.items challenger.old) }
+{
     let (one, other) = (left.elements.as_slice(), right.elements.as_slice());
     let summed = sums::prove(alloc, challenger, one, other, shape.rounds)?;
-    let point = &summed.point.as_slice()[..shape.rows];
-    let mut rows = column_values(alloc, left.held.columns.as_slice(), shape.row_size(), point)?;
-    let second = column_values(
-        alloc,
-        right.held.columns.as_slice(),
-        shape.row_size(),
-        point,
-    )?;
-    rows.extend_from_slice(second.as_slice())?;
-    challenger.observe_slice(rows.as_slice())?;
+    let (point, _others) = summed.point.as_slice().split_at(shape.rows);
+    let rows = rows_of(alloc, shape, left, right, point)?;
+    let rows = rows.as_slice();
+    challenger.observe_slice(rows)?;
     let _challenge = challenger.sample()?;
     let count = shape.block_count();
     let (witness, numbers) = draw_queries(alloc, challenger, WORK, shape.bits, count)?;
     let places = shape.places(alloc, numbers.as_slice())?;
-    let places = places.as_slice();
     let mut elements = Vec::new(alloc);
     elements.push(summed.sum)?;
     elements.extend_from_slice(summed.messages.as_slice())?;
     elements.push(witness)?;
-    elements.extend_from_slice(rows.as_slice())?;
+    elements.extend_from_slice(rows)?;
     let mut nodes = Vec::new(alloc);
-    open(alloc, shape, left, places, &mut elements, &mut nodes)?;
-    open(alloc, shape, right, places, &mut elements, &mut nodes)?;
+    open(
+        alloc,
+        shape,
+        left,
+        places.as_slice(),
+        &mut elements,
+        &mut nodes,
+    )?;
+    open(
+        alloc,
+        shape,
+        right,
+        places.as_slice(),
+        &mut elements,
+        &mut nodes,
+    )?;
     Ok(Sent { elements, nodes })
+}
+
+// The values of both tables' columns at a point, one row after the other.
+fn rows_of<F: Field>(
+    alloc: Global,
+    shape: &Shape,
+    left: &Committed<F>,
+    right: &Committed<F>,
+    point: &[F],
+) -> Result<Vec<F>, AllocError>
+    requires coordinates { length point.now ≡ rows_of shape.now.rounds }
+    requires left { row_size shape.now.rounds * 2 ^ rows_of shape.now.rounds ≤ length left.now.held.columns.items }
+    requires right { row_size shape.now.rounds * 2 ^ rows_of shape.now.rounds ≤ length right.now.held.columns.items }
+    ensures { IfOk result (λ rows. map F.repr rows.items ≡ values_at F.repr F.product shape.now.rounds left.now.held.columns.items point.now
+        ++ values_at F.repr F.product shape.now.rounds right.now.held.columns.items point.now) }
+{
+    let size = shape.row_size();
+    let mut rows = column_values(alloc, left.held.columns.as_slice(), size, point)?;
+    let second = column_values(alloc, right.held.columns.as_slice(), size, point)?;
+    rows.extend_from_slice(second.as_slice())?;
+    Ok(rows)
 }
 
 // Appends the columns of a table at these places, and the nodes that open them.
@@ -97,7 +140,12 @@ fn open<F: ByteLevel>(
     places: &[usize],
     elements: &mut Vec<F>,
     nodes: &mut Vec<[u8; 32]>,
-) -> Result<(), AllocError> {
+) -> Result<(), AllocError>
+    requires holds { HoldsTable F.repr F.width F.product (λ i. F.basis (F.cantor i)) shape.now.rounds table.now.elements.items
+        table.now.held.columns.items table.now.held.tree }
+    requires places { AreAscending (2 ^ depth_of shape.now.rounds) places.now }
+    ensures { OnOk result ((columns : List F) × (elements.new.items ≡ elements.old.items ++ columns)) }
+{
     let columns = columns_at(alloc, table.held.columns.as_slice(), shape.height(), places)?;
     elements.extend_from_slice(columns.as_slice())?;
     let opening = table.held.tree.open_many(alloc, places)?;
