@@ -151,12 +151,12 @@ pub record IsHonestProof {C F : Type 0} (observes gives : C → F → C → Type
 -- ---- in the field of GHASH, and in a transcript over a hash function
 
 -- the product
-abbrev pub ghash_times : ℕ → ℕ → ℕ
-ghash_times = mul_mod 128 ghash_modulus
+abbrev pub word_times : ℕ → ℕ → ℕ
+word_times = mul_mod 128 ghash_modulus
 
 -- the Cantor vectors, at whose sums the code words have their values
-abbrev pub ghash_vector : ℕ → ℕ
-ghash_vector i = basis_image 128 ghash_modulus ghash_images (cantor_vector i)
+abbrev pub word_vector : ℕ → ℕ
+word_vector i = basis_image 128 ghash_modulus ghash_images (cantor_vector i)
 
 -- an element is observed: its 16 bytes are, the lowest first
 abbrev pub observes_number : {H : Type 0} → (H → List ℕ → List ℕ) → HashState H → ℕ → HashState H → Type 0
@@ -174,7 +174,7 @@ IsSumVerdict digest hasher repr front n left right elements nodes accepted =
     (λ old bits witness. passes (hash_transitions digest) 16 bits old witness)
     (λ old bits witness new. new ≡ after (hash_transitions digest) (check_calls 16 bits witness) old)
     (λ old bits number new. SamplesBits (hash_transitions digest) old bits number new)
-    repr repr (digest hasher) 16 128 ghash_times ghash_vector n left right elements nodes (hasher, front, []) accepted
+    repr repr (digest hasher) 16 128 word_times word_vector n left right elements nodes (hasher, front, []) accepted
 
 -- ---- files
 

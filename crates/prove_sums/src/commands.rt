@@ -16,19 +16,19 @@ use transcript_bytes::{ByteHasher32, Sha256Hasher};
 const VERSION: &str = "prove_sums 0.1.0";
 
 const USAGE: &str =
-    "usage: prove_sums commit TABLE | prove_sums prove LEFT RIGHT PROOF | prove_sums verify PROOF LEFT_ROOT RIGHT_ROOT
+    "usage: prove_sums commit TABLE | prove LEFT RIGHT PROOF | verify PROOF ROOT ROOT
 
-TABLE, LEFT and RIGHT are files of 2^n words of 16 bytes, n from 0 to 39, as many in LEFT as in RIGHT. A word is an element of the field of
-GHASH, from its lowest byte. `commit` prints the root that commits to a table, as 64 hexadecimal digits. `prove` adds the products of the words
-at the same places, proves that this is their sum, and writes the proof to PROOF. `verify` says whether PROOF proves that for the tables with
-these roots, and for which sum. It reads neither table.
+TABLE, LEFT and RIGHT are files of 2^n words of 16 bytes, n from 0 to 39, as many in LEFT as in RIGHT. A word is an element of the
+field of GHASH, from its lowest byte. `commit` prints the root that commits to a table, as 64 hexadecimal digits. `prove` adds the
+products of the words at the same places, proves that this is their sum, and writes the proof to PROOF. `verify` says whether PROOF
+proves that for the tables with these roots, that of LEFT first, and for which sum. It reads neither table.
 
-A table is a matrix of 2^h rows, h = (n - 7) / 2, or 0 where n is below 7. Each row of 2^k words, k = n - h, is extended to a code word of four
-times its length, and the root is that of the Merkle tree over SHA-256 whose leaves are the columns. A proof is 8 bytes that name the format
-and the field, one byte for n, both roots, the sum, the 2 n numbers of the sum-check protocol, a witness of 16 bits of work, a row of 2^k
-numbers for each table, which has the values of its columns at the first h challenges, the columns at 128 places, or at all where there are
-fewer, for each table, and the nodes that open them, as many for either. Numbers have 16 bytes and nodes 32. The transcript begins with the
-bytes before the sum. What the proof shows rests on the tables' roots, and on SHA-256.
+A table is a matrix of 2^h rows, h = (n - 7) / 2, or 0 where n is below 7. Each row of 2^k words, k = n - h, is extended to a code word
+of four times its length, and the root is that of the Merkle tree over SHA-256 whose leaves are the columns. A proof is 8 bytes that
+name the format and the field, one byte for n, both roots, the sum, the 2 n numbers of the sum-check protocol, a witness of 16 bits of
+work, a row of 2^k numbers for each table, which has the values of its columns at the first h challenges, the columns at 128 places for
+each table, or at all places where there are fewer, and the nodes that open them, as many for either. Numbers have 16 bytes and nodes
+32. The transcript begins with the bytes before the sum. What a proof shows rests on the roots, and on SHA-256.
 
 The exit status is 0 if a proof was written or is accepted, 1 if it is refused, and 2 after an error. Without arguments the program
 prints a worked example. --version prints the version.";

@@ -4,7 +4,7 @@ ghost use Rattle.field_element.specs.Element.{repr_of};
 ghost use Rattle.transcript_bytes.specs.HashChallengers.{hash_state};
 ghost use Rattle.transcript_elements.specs.Challengers.{inner_of};
 ghost use Rattle.prove_sums.specs.ProofFiles.{file_bytes};
-ghost use Rattle.prove_sums.specs.Verdicts.{ghash_times, ghash_vector, HoldsTable, IsSumVerdict};
+ghost use Rattle.prove_sums.specs.Verdicts.{word_times, word_vector, HoldsTable, IsSumVerdict};
 
 use crate::proof_file::{Proof, encode};
 use crate::proving::{Committed, Sent, commit};
@@ -39,7 +39,7 @@ pub fn commit_table<H: ByteHasher32>(
     hasher: &H,
     table: Table,
 ) -> Result<Committed<Ghash128>, AllocError>
-    ensures { IfOk result (λ committed. HoldsTable repr_of 128 ghash_times ghash_vector table.rounds committed.elements.items
+    ensures { IfOk result (λ committed. HoldsTable repr_of 128 word_times word_vector table.rounds committed.elements.items
         committed.held.columns.items committed.held.tree) }
 {
     let shape = Shape::new(table.rounds);
@@ -61,9 +61,9 @@ pub fn prove<H: ByteHasher32>(
     right: &Committed<Ghash128>,
 ) -> Result<Sent<Ghash128>, ProtocolError>
     requires few { rounds ≤ 39 }
-    requires left { HoldsTable repr_of 128 ghash_times ghash_vector rounds left.now.elements.items left.now.held.columns.items
+    requires left { HoldsTable repr_of 128 word_times word_vector rounds left.now.elements.items left.now.held.columns.items
         left.now.held.tree }
-    requires right { HoldsTable repr_of 128 ghash_times ghash_vector rounds right.now.elements.items right.now.held.columns.items
+    requires right { HoldsTable repr_of 128 word_times word_vector rounds right.now.elements.items right.now.held.columns.items
         right.now.held.tree }
 {
     let mut challenger = transcript(alloc, hasher, rounds, &root_of(left), &root_of(right))?;

@@ -2,7 +2,7 @@ use Rattle.std.proofs.Common.{[], List, refl, subst}
 use Rattle.field_element.specs.Element.{repr_of}
 use Rattle.transcript_elements.specs.Challengers.{state_of}
 use Rattle.prove_sums.specs.ProofFiles.{file_bytes}
-use Rattle.prove_sums.specs.Verdicts.{IsSumVerdict, ghash_times, ghash_vector}
+use Rattle.prove_sums.specs.Verdicts.{IsSumVerdict, word_times, word_vector}
 use Rattle.prove_sums.proofs.StateRuns.{verdict-on_states}
 use Rattle.prove_sums.proofs.word_sums.verify.Goals as goal
 
@@ -15,7 +15,7 @@ returns g c =
     let verdict =
     verdict-on_states state_of _ _ _ _ (λ old x new is. is) (λ old x new is. (x.in_range, is)) _ _ _ _ _ _ (λ old bits witness. refl)
     (λ old bits witness new is. is) (λ old bits number new is. is) repr_of repr_of proof.rounds c.as_slice.result.now (digest hasher) 16 128
-    ghash_times ghash_vector proof.left proof.right proof.nodes.now c.in_ok-challenger.challenger (hasher, front, []) c.in_ok-accepted.accepted
+    word_times word_vector proof.left proof.right proof.nodes.now c.in_ok-challenger.challenger (hasher, front, []) c.in_ok-accepted.accepted
     c.in_ok-challenger.ensures c.in_ok-accepted.ensures in
     subst (λ (l : List _). IsSumVerdict digest hasher repr_of front proof.rounds proof.left proof.right l proof.nodes.now c.in_ok-accepted.accepted)
     c.as_slice.ensures.value verdict
