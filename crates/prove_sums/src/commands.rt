@@ -15,13 +15,12 @@ use transcript_bytes::{ByteHasher32, Sha256Hasher};
 
 const VERSION: &str = "prove_sums 0.1.0";
 
-const USAGE: &str =
-    "usage: prove_sums commit TABLE | prove LEFT RIGHT PROOF | verify PROOF ROOT ROOT
+const USAGE: &str = "usage: prove_sums commit TABLE | prove LEFT RIGHT PROOF | verify PROOF ROOTS
 
 TABLE, LEFT and RIGHT are files of 2^n words of 16 bytes, n from 0 to 39, as many in LEFT as in RIGHT. A word is an element of the
 field of GHASH, from its lowest byte. `commit` prints the root that commits to a table, as 64 hexadecimal digits. `prove` adds the
 products of the words at the same places, proves that this is their sum, and writes the proof to PROOF. `verify` says whether PROOF
-proves that for the tables with these roots, that of LEFT first, and for which sum. It reads neither table.
+proves that for the tables with these two roots, that of LEFT first, and for which sum. It reads neither table.
 
 A table is a matrix of 2^h rows, h = (n - 7) / 2, or 0 where n is below 7. Each row of 2^k words, k = n - h, is extended to a code word
 of four times its length, and the root is that of the Merkle tree over SHA-256 whose leaves are the columns. A proof is 8 bytes that
