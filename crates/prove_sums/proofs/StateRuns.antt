@@ -1,9 +1,10 @@
 -- What is stated over a challenger, over its states.
-use Rattle.std.proofs.Common.{◌≡◌, ◌∙◌, ℕ, Bool, List, [], ◌∷◌, ap, subst}
+use Rattle.std.proofs.Common.{◌≡◌, ◌∙◌, ℕ, Bool, true, List, [], ◌∷◌, ap, subst}
 use Rattle.transcript_elements.specs.Lists.{InTurn}
+use Rattle.protocols.specs.Queries.{AreQueries}
 use Rattle.protocols.specs.Sumcheck.{AreTurns, IsRunOf, IsTurn, Statement, messages_of}
 use Rattle.prove_sums.specs.Shapes.{block_bits, messages_in, rows_in, sum_in, witness_in}
-use Rattle.prove_sums.specs.Verdicts.{DrawsPlaces, IsVerdict, sum_statement, work_bits}
+use Rattle.prove_sums.specs.Verdicts.{DrawsPlaces, IsHonestProof, IsVerdict, sum_statement, work_bits}
 
 module _ {C S : Type 0} (state : C → S) where
   -- steps in turn, as steps of the states
@@ -41,6 +42,18 @@ module _ {C S : Type 0} (state : C → S) where
         (checks_by : (old : C) (bits witness : ℕ) (new : C) → checks old bits witness new → checked (state old) bits witness (state new))
         (bits_by : (old : C) (bits number : ℕ) (new : C) → gives_bits old bits number new → given_bits (state old) bits number (state new))
         (number repr : F → ℕ) (n : ℕ) (elements : List F) where
+      queries : (old new : C) (witness : ℕ) (works : Bool) (places : List ℕ)
+          → AreQueries passing checks gives_bits old work_bits witness works (block_bits n) places new
+          → AreQueries passed checked given_bits (state old) work_bits witness works (block_bits n) places (state new)
+      queries old new witness works places all = (
+        state all.0,
+        all.1 ∙ passing_by old work_bits witness,
+        checks_by old work_bits witness all.0 all.2,
+        in_turn (λ (from : C) (place : ℕ) (to : C). gives_bits from (block_bits n) place to)
+            (λ (from : S) (place : ℕ) (to : S). given_bits from (block_bits n) place to)
+            (λ from place to is. bits_by from (block_bits n) place to is) places all.0 new all.3,
+      )
+
       draws-on_states : (old new : C) (works : Bool) (places : List ℕ)
           → DrawsPlaces observes gives passing checks gives_bits number n elements old works places new
           → DrawsPlaces observed given passed checked given_bits number n elements (state old) works places (state new)
@@ -49,13 +62,7 @@ module _ {C S : Type 0} (state : C → S) where
         sent = state drawn.sent;
         numbers = drawn.numbers;
         turn = turn (rows_in n elements) drawn.challenge old drawn.sent drawn.turn;
-        queries = (
-          state drawn.queries.0,
-          drawn.queries.1 ∙ passing_by drawn.sent work_bits (witness_in number n elements),
-          checks_by drawn.sent work_bits (witness_in number n elements) drawn.queries.0 drawn.queries.2,
-          in_turn (λ (from : C) (place : ℕ) (to : C). gives_bits from (block_bits n) place to) (λ (from : S) (place : ℕ) (to : S). given_bits from (block_bits n) place to)
-              (λ from place to is. bits_by from (block_bits n) place to is) drawn.numbers drawn.queries.0 new drawn.queries.3,
-        );
+        queries = queries drawn.sent new (witness_in number n elements) works drawn.numbers drawn.queries;
         count = drawn.count;
         chosen = drawn.chosen;
       }
@@ -81,4 +88,36 @@ module _ {C S : Type 0} (state : C → S) where
             };
             drawn = draws-on_states verdict.between verdict.new verdict.works verdict.places verdict.drawn;
             decided = verdict.decided;
+          })
+
+      pub honest-on_states : (width : ℕ) (times : ℕ → ℕ → ℕ) (left right left_columns right_columns : List F) (old : C) (begun : S)
+          → state old ≡ begun
+          → IsHonestProof observes gives passing checks gives_bits number repr width times n left right left_columns right_columns elements old
+          → IsHonestProof observed given passed checked given_bits number repr width times n left right left_columns right_columns elements begun
+      honest-on_states width times left right left_columns right_columns old begun is honest =
+          subst (λ (s : S). IsHonestProof observed given passed checked given_bits number repr width times n left right left_columns right_columns elements s) is
+          (record {
+            sum = honest.sum;
+            messages = honest.messages;
+            point = honest.point;
+            rows = honest.rows;
+            challenge = honest.challenge;
+            witness = honest.witness;
+            numbers = honest.numbers;
+            columns = honest.columns;
+            between = state honest.between;
+            sent = state honest.sent;
+            new = state honest.new;
+            summed = record {
+              run = run-on_states repr old honest.between (sum_statement width times n (repr honest.sum)) (messages_of 2 n honest.messages)
+                  honest.point honest.summed.run;
+              total = honest.summed.total;
+              honest = honest.summed.honest;
+              message_count = honest.summed.message_count;
+              challenge_count = honest.summed.challenge_count;
+            };
+            rows_are = honest.rows_are;
+            turn = turn honest.rows honest.challenge honest.between honest.sent honest.turn;
+            queries = queries honest.sent honest.new (number honest.witness) true honest.numbers honest.queries;
+            written = honest.written;
           })

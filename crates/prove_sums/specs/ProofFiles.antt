@@ -2,7 +2,9 @@
 use Rattle.std.specs.Prelude.{◌≡◌, ◌≢◌, ⊤, ℕ, ◌*◌, ◌%◌, ◌≤◌, ◌<◌, List, [], ◌∷◌, ◌++◌, get_or, length}
 use Rattle.std.specs.List.{flat_map}
 use Rattle.field_bytes.specs.Streams.{joined_bytes}
+use Rattle.field_element.specs.Element.{repr_of}
 use Rattle.prove_sums.specs.Shapes.{element_count}
+use Rattle.prove_sums.specs.declared.tables.Table.{Table}
 use Rattle.prove_sums.specs.declared.refusal.Refusal.{Refusal}
 use Rattle.prove_sums.specs.declared.refusal.Refusal.TheVariants.{NotAProof, OtherField, Length, OtherLeft, OtherRight, NotProved}
 
@@ -37,10 +39,24 @@ pub record IsFileOf {F : Type 0} (repr : F → ℕ) (bytes : List ℕ) (rounds :
   pub may_be : IsFile rounds left right (joined_bytes 16 repr elements) nodes
   pub written : bytes ≡ file_bytes rounds left right (joined_bytes 16 repr elements) nodes
 
+-- that file holds nothing else
+abbrev pub IsOnlyFileOf : {F : Type 0} → (F → ℕ) → List ℕ → ℕ → List ℕ → List ℕ → List F → List (List ℕ) → Type 0
+IsOnlyFileOf {F} repr bytes rounds left right elements nodes =
+    (n : ℕ) (l r : List ℕ) (es : List F) (ns : List (List ℕ)) → IsFileOf repr bytes n l r es ns
+    → (rounds ≡ n) × (left ≡ l) × (right ≡ r) × (elements ≡ es) × (nodes ≡ ns)
+
 -- bytes that are no file of a proof
 abbrev pub IsNoFile : {F : Type 0} → (F → ℕ) → List ℕ → Type 0
 IsNoFile {F} repr bytes =
     (rounds : ℕ) (left right : List ℕ) (elements : List F) (nodes : List (List ℕ)) → IsFileOf repr bytes rounds left right elements nodes → ⊥
+
+-- what gives the elements of a table their numbers, as a function of these elements alone
+abbrev pub number_in : {T F : Type 0} → (T → List F) → (F → ℕ) → F → ℕ
+number_in items repr = repr
+
+-- .. where the elements are words
+abbrev pub IsNoWordFile : List ℕ → Type 0
+IsNoWordFile bytes = IsNoFile (number_in (λ (table : Table). table.elements.items) repr_of) bytes
 
 -- why bytes are not read as a file: their length, or what they begin with
 abbrev pub IsReadRefusal : Refusal → Type 0

@@ -7,6 +7,7 @@ use Rattle.std.specs.declared.option.Option.TheVariants.{None, Some}
 use Rattle.transcript_bytes.specs.ByteCalls.{after, observing}
 use Rattle.transcript_bytes.specs.HashBuffers.{HashState, hash_transitions}
 use Rattle.field_bytes.specs.Bytes.{low_bytes}
+use Rattle.field_bytes.specs.Streams.{joined_bytes}
 use Rattle.transcript_elements.specs.Sampled.{SamplesBits, SamplesCoefficients, check_calls, passes}
 use Rattle.transcript_elements.specs.Lists.{InTurn}
 use Rattle.field_base.specs.Basis.{basis_image, ghash_images}
@@ -18,9 +19,12 @@ use Rattle.protocols.specs.Sumcheck.{IsRunOf, IsTurn, Statement, messages_of, st
 use Rattle.protocols.specs.SumcheckClaims.{AreHonestMessages, reduced_claim}
 use Rattle.protocols.specs.Tables.{AreExtendedColumns, OpensColumns}
 use Rattle.protocols.specs.Commitments.{row_at}
+use Rattle.protocols.specs.MerkleTrees.{rows_root}
 use Rattle.protocols.specs.declared.merkle_tree.MerkleTree.{MerkleTree}
 use Rattle.protocols.specs.Terms.{Product, cube_sum}
-use Rattle.prove_sums.specs.ProofFiles.{IsFileOf, IsNoFile, file_bytes}
+use Rattle.field_element.specs.Element.{repr_of}
+use Rattle.prove_sums.specs.ProofFiles.{IsFileOf, IsNoFile, file_bytes, number_in}
+use Rattle.prove_sums.specs.declared.tables.Table.{Table}
 use Rattle.prove_sums.specs.Shapes.{block_bits, block_count, columns_in, depth_of, levels_of, messages_in, nodes_in, places_of, row_in, row_size, rows_in, rows_of, sum_in, witness_in}
 use Rattle.prove_sums.specs.declared.refusal.Refusal.{Refusal}
 use Rattle.prove_sums.specs.declared.refusal.Refusal.TheVariants.{NotAProof, OtherField, Length, OtherLeft, OtherRight, NotProved}
@@ -166,15 +170,52 @@ observes_number digest old n new = new ≡ after (hash_transitions digest) (obse
 abbrev pub gives_number : {H : Type 0} → (H → List ℕ → List ℕ) → HashState H → ℕ → HashState H → Type 0
 gives_number digest old n new = (n < 2 ^ 128) × SamplesCoefficients (hash_transitions digest) 16 128 1 old n new
 
+-- whether a witness works for so many bits, where checking one may lead, and sampling so many bits
+abbrev pub passes_number : {H : Type 0} → (H → List ℕ → List ℕ) → HashState H → ℕ → ℕ → Bool
+passes_number digest old bits witness = passes (hash_transitions digest) 16 bits old witness
+
+abbrev pub checks_number : {H : Type 0} → (H → List ℕ → List ℕ) → HashState H → ℕ → ℕ → HashState H → Type 0
+checks_number digest old bits witness new = new ≡ after (hash_transitions digest) (check_calls 16 bits witness) old
+
+abbrev pub samples_bits : {H : Type 0} → (H → List ℕ → List ℕ) → HashState H → ℕ → ℕ → HashState H → Type 0
+samples_bits digest old bits number new = SamplesBits (hash_transitions digest) old bits number new
+
 -- the verdict in the transcript that begins with these bytes
 abbrev pub IsSumVerdict : {F H : Type 0} → (H → List ℕ → List ℕ) → H → (F → ℕ) → List ℕ → ℕ → List ℕ → List ℕ → List F → List (List ℕ)
     → Bool → Type 0
 IsSumVerdict digest hasher repr front n left right elements nodes accepted =
-    IsVerdict (λ old x new. observes_number digest old (repr x) new) (λ old x new. gives_number digest old (repr x) new)
-    (λ old bits witness. passes (hash_transitions digest) 16 bits old witness)
-    (λ old bits witness new. new ≡ after (hash_transitions digest) (check_calls 16 bits witness) old)
-    (λ old bits number new. SamplesBits (hash_transitions digest) old bits number new)
-    repr repr (digest hasher) 16 128 word_times word_vector n left right elements nodes (hasher, front, []) accepted
+    IsVerdict (λ old x new. observes_number digest old (repr x) new) (λ old x new. gives_number digest old (repr x) new) (passes_number digest)
+    (checks_number digest) (samples_bits digest) repr repr (digest hasher) 16 128 word_times word_vector n left right elements nodes
+    (hasher, front, []) accepted
+
+-- .. and what an honest prover sends of two tables with these columns
+abbrev pub IsHonestSum : {F H : Type 0} → (H → List ℕ → List ℕ) → H → (F → ℕ) → List ℕ → ℕ → List F → List F → List F → List F → List F
+    → Type 0
+IsHonestSum digest hasher repr front n left right left_columns right_columns elements =
+    IsHonestProof (λ old x new. observes_number digest old (repr x) new) (λ old x new. gives_number digest old (repr x) new)
+    (passes_number digest) (checks_number digest) (samples_bits digest) repr repr 128 word_times n left right left_columns right_columns
+    elements (hasher, front, [])
+
+-- ---- tables
+
+-- bytes are a table of 2 ^ n words of 16 bytes
+pub record IsTable {F : Type 0} (repr : F → ℕ) (bytes : List ℕ) (n : ℕ) (elements : List F) : Type 0 where
+  pub few : n ≤ 39
+  pub count : length elements ≡ 2 ^ n
+  pub written : bytes ≡ joined_bytes 16 repr elements
+
+-- the root that commits to a table: that of the tree over the columns of its extension
+pub record IsTableRoot {F : Type 0} (hash : List ℕ → List ℕ) (repr : F → ℕ) (n : ℕ) (elements columns : List F) (root : List ℕ) : Type 0 where
+  pub extended : AreExtendedColumns repr 128 word_times word_vector (levels_of n) 2 (2 ^ rows_of n) (map repr elements) columns
+  pub rooted : root ≡ rows_root hash (depth_of n) (λ p. joined_bytes 16 repr (row_at (2 ^ rows_of n) columns p))
+
+-- .. for the bytes of a table
+pub record IsCommitment {F : Type 0} (hash : List ℕ → List ℕ) (repr : F → ℕ) (bytes root : List ℕ) : Type 0 where
+  pub rounds : ℕ
+  pub elements : List F
+  pub columns : List F
+  pub table : IsTable repr bytes rounds elements
+  pub commits : IsTableRoot hash repr rounds elements columns root
 
 -- ---- files
 
@@ -196,3 +237,36 @@ IsAnswerTo {F} digest hasher repr left right bytes (Some OtherRight) =
 IsAnswerTo digest hasher repr left right bytes (Some Length) = IsNoFile repr bytes
 IsAnswerTo digest hasher repr left right bytes (Some NotAProof) = IsNoFile repr bytes
 IsAnswerTo digest hasher repr left right bytes (Some OtherField) = IsNoFile repr bytes
+
+-- What the program writes for the bytes of two tables: they have as many words, one as the other, and the file has the roots that commit to
+-- them, and what an honest prover sends.
+pub record IsProgramProof {F H : Type 0} (digest : H → List ℕ → List ℕ) (hasher : H) (repr : F → ℕ) (left right proof : List ℕ) : Type 0 where
+  pub rounds : ℕ
+  pub one : List F
+  pub other : List F
+  pub one_columns : List F
+  pub other_columns : List F
+  pub one_root : List ℕ
+  pub other_root : List ℕ
+  pub elements : List F
+  pub nodes : List (List ℕ)
+  pub left_table : IsTable repr left rounds one
+  pub right_table : IsTable repr right rounds other
+  pub left_root : IsTableRoot (digest hasher) repr rounds one one_columns one_root
+  pub right_root : IsTableRoot (digest hasher) repr rounds other other_columns other_root
+  pub written : proof ≡ file_bytes rounds one_root other_root (joined_bytes 16 repr elements) nodes
+  pub honest : IsHonestSum digest hasher repr (file_bytes rounds one_root other_root [] []) rounds one other one_columns other_columns elements
+
+-- ---- the same of words
+
+-- what is answered on a file, the root that commits to a table, and what is written for two tables
+abbrev pub IsWordAnswer : {H : Type 0} → (H → List ℕ → List ℕ) → H → List ℕ → List ℕ → List ℕ → Option Refusal → Type 0
+IsWordAnswer digest hasher left right bytes refusal =
+    IsAnswerTo digest hasher (number_in (λ (table : Table). table.elements.items) repr_of) left right bytes refusal
+
+abbrev pub IsWordCommitment : (List ℕ → List ℕ) → List ℕ → List ℕ → Type 0
+IsWordCommitment hash bytes root = IsCommitment hash (number_in (λ (table : Table). table.elements.items) repr_of) bytes root
+
+abbrev pub IsWordProof : {H : Type 0} → (H → List ℕ → List ℕ) → H → List ℕ → List ℕ → List ℕ → Type 0
+IsWordProof digest hasher left right proof =
+    IsProgramProof digest hasher (number_in (λ (table : Table). table.elements.items) repr_of) left right proof

@@ -1,8 +1,7 @@
 // What is answered on a file of a proof.
 ghost use Rattle.std.specs.Prelude.{◌≡◌, true, false, map, IfOk, None, Some};
-ghost use Rattle.field_element.specs.Element.{repr_of};
 ghost use Rattle.prove_sums.specs.declared.refusal.Refusal.TheVariants.{NotProved};
-ghost use Rattle.prove_sums.specs.Verdicts.{IsAnswerTo};
+ghost use Rattle.prove_sums.specs.Verdicts.{IsWordAnswer};
 
 use crate::proof_file::decode;
 use crate::refusal::Refusal;
@@ -19,7 +18,7 @@ pub fn answer_to<H: ByteHasher32>(
     right: &[u8; 32],
     bytes: &[u8],
 ) -> Result<Option<Refusal>, ProtocolError>
-    ensures { IfOk result (λ refusal. IsAnswerTo H.digest hasher.now repr_of left.now right.now bytes.now refusal) }
+    ensures { IfOk result (λ refusal. IsWordAnswer H.digest hasher.now left.now right.now bytes.now refusal) }
 {
     let read = match decode(alloc, bytes)? {
         Ok(read) => read,

@@ -1,13 +1,17 @@
 // What the program does.
 ghost use Rattle.std.specs.Prelude.{◌≡◌, map, IfOk};
+ghost use Rattle.field_element.specs.Element.{repr_of};
+ghost use Rattle.prove_sums.specs.Verdicts.{word_times, word_vector, HoldsTable, IsTable, IsTableRoot, IsWordCommitment, IsWordProof};
 
 use crate::answers::answer_to;
 use crate::example;
 use crate::proof_file::{decode, encode};
+use crate::proving::Committed;
 use crate::refusal::Refusal;
 use crate::tables::table_of;
 use crate::word_sums::{commit_table, prove, root_of};
 use anyhow::{Context, Result, bail};
+use field_element::Ghash128;
 use hex::FromHex;
 use std::alloc::Global;
 use std::{env, fs};
@@ -110,14 +114,35 @@ fn say_sum(rt: &HostRuntime, proof: &[u8]) -> Result<()> {
     Ok(())
 }
 
+// A table, and what commits to it.
+fn commit<H: ByteHasher32>(
+    alloc: Global,
+    hasher: &H,
+    bytes: &[u8],
+) -> Result<(usize, Committed<Ghash128>, [u8; 32])>
+    ensures table { IfOk result (λ made. IsTable repr_of bytes.now made.0 made.1.elements.items) }
+    ensures holds { IfOk result (λ made. HoldsTable repr_of 128 word_times word_vector made.0 made.1.elements.items
+        made.1.held.columns.items made.1.held.tree) }
+    ensures root { IfOk result (λ made. IsTableRoot (H.digest hasher.now) repr_of made.0 made.1.elements.items made.1.held.columns.items
+        made.2) }
+{
+    let table = table_of(alloc, bytes)?;
+    let rounds = table.rounds;
+    let committed = commit_table(alloc, hasher, table)?;
+    let root = root_of(&committed);
+    Ok((rounds, committed, root))
+}
+
 /// The root that commits to a table.
 pub(crate) fn commit_bytes<H: ByteHasher32>(
     alloc: Global,
     hasher: &H,
     table: &[u8],
-) -> Result<[u8; 32]> {
-    let committed = commit_table(alloc, hasher, table_of(alloc, table)?)?;
-    Ok(root_of(&committed))
+) -> Result<[u8; 32]>
+    ensures { IfOk result (λ root. IsWordCommitment (H.digest hasher.now) table.now root) }
+{
+    let (_rounds, _committed, root) = commit(alloc, hasher, table)?;
+    Ok(root)
 }
 
 /// The bytes of the proof of the sum of two tables.
@@ -126,24 +151,24 @@ pub(crate) fn prove_tables<H: ByteHasher32>(
     hasher: &H,
     left: &[u8],
     right: &[u8],
-) -> Result<Vec<u8>> {
-    let first = table_of(alloc, left)?;
-    let second = table_of(alloc, right)?;
-    let rounds = first.rounds;
-    if second.rounds != rounds {
+) -> Result<Vec<u8>>
+    ensures { IfOk result (λ proof. IsWordProof H.digest hasher.now left.now right.now proof.items) }
+{
+    let (rounds, first, left_root) = commit(alloc, hasher, left)?;
+    let (others, second, right_root) = commit(alloc, hasher, right)?;
+    if others != rounds {
         bail!("the tables have to have as many words, one as the other")
     }
-    let first = commit_table(alloc, hasher, first)?;
-    let second = commit_table(alloc, hasher, second)?;
-    let sent = prove(alloc, hasher, rounds, &first, &second)?;
-    let (elements, nodes) = (sent.elements.as_slice(), sent.nodes.as_slice());
-    let proof = encode(
+    let sent = prove(
         alloc,
+        hasher,
         rounds,
-        &root_of(&first),
-        &root_of(&second),
-        elements,
-        nodes,
+        &left_root,
+        &right_root,
+        &first,
+        &second,
     )?;
+    let (elements, nodes) = (sent.elements.as_slice(), sent.nodes.as_slice());
+    let proof = encode(alloc, rounds, &left_root, &right_root, elements, nodes)?;
     Ok(proof)
 }

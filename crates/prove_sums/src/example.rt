@@ -4,6 +4,22 @@ use crate::commands::{commit_bytes, prove_tables};
 use anyhow::Result;
 use transcript_bytes::Sha256Hasher;
 
+// What the example changes, and at which byte of the proof.
+static CHANGES: [(&str, usize); 12] = [
+    ("with another first byte", 0),
+    ("over another field", 6),
+    ("with another number of rounds", 8),
+    ("for another left table", 9),
+    ("for another right table", 41),
+    ("with another sum", 73),
+    ("with another first message", 89),
+    ("with another witness", 185),
+    ("with another left row", 201),
+    ("with another right row", 329),
+    ("with another left column", 457),
+    ("with another right column", 969),
+];
+
 // Prints the verifier's answer on a proof for the tables with these roots.
 fn say(
     rt: &HostRuntime,
@@ -51,18 +67,10 @@ pub(crate) fn print(rt: &HostRuntime) -> Result<()> {
     println!(rt; "{text}")?;
     say(rt, "the proof", left, right, proof)?;
     say(rt, "the proof for the tables in turn", right, left, proof)?;
-    say_changed(rt, "with another first byte", left, right, proof, 0)?;
-    say_changed(rt, "over another field", left, right, proof, 6)?;
-    say_changed(rt, "with another number of rounds", left, right, proof, 8)?;
-    say_changed(rt, "for another left table", left, right, proof, 9)?;
-    say_changed(rt, "for another right table", left, right, proof, 41)?;
-    say_changed(rt, "with another sum", left, right, proof, 73)?;
-    say_changed(rt, "with another first message", left, right, proof, 89)?;
-    say_changed(rt, "with another witness", left, right, proof, 185)?;
-    say_changed(rt, "with another left row", left, right, proof, 201)?;
-    say_changed(rt, "with another right row", left, right, proof, 329)?;
-    say_changed(rt, "with another left column", left, right, proof, 457)?;
-    say_changed(rt, "with another right column", left, right, proof, 969)?;
+    'changes: for index in 0..CHANGES.len() {
+        let (what, place) = CHANGES[index];
+        say_changed(rt, what, left, right, proof, place)?;
+    }
     let short = proof.len().saturating_sub(1);
     say(rt, "without its last byte", left, right, &proof[..short])?;
     let shorter = proof.len().saturating_sub(64);

@@ -3,7 +3,7 @@
 ghost use Rattle.std.specs.Prelude.{◌≡◌, ◌≢◌, ◌*◌, ◌≤◌, ℕ, List, length, vec_len, IfOk, IfErr};
 ghost use Rattle.field_bytes.specs.Streams.{joined_bytes};
 ghost use Rattle.field_element.specs.Element.{repr_of};
-ghost use Rattle.prove_sums.specs.ProofFiles.{file_bytes, IsCutTo, IsFile, IsFileOf, IsNoFile, IsReadRefusal};
+ghost use Rattle.prove_sums.specs.ProofFiles.{file_bytes, IsCutTo, IsFile, IsFileOf, IsNoWordFile, IsOnlyFileOf, IsReadRefusal};
 ghost use Rattle.prove_sums.specs.Shapes.{element_count};
 
 use crate::refusal::Refusal;
@@ -76,10 +76,9 @@ pub fn encode(
 pub fn decode(alloc: Global, bytes: &[u8]) -> Result<Result<Proof<'_>, Refusal>, AllocError>
     ensures whole { IfOk result (λ read. IfOk read (λ proof. IsFileOf repr_of bytes.now proof.rounds proof.left proof.right
         proof.elements.items proof.nodes.now)) }
-    ensures own { IfOk result (λ read. IfOk read (λ proof. (rounds : ℕ) (left right : List ℕ) (elements : List Ghash128) (nodes : List (List ℕ))
-        → IsFileOf repr_of bytes.now rounds left right elements nodes → (proof.rounds ≡ rounds) × (proof.left ≡ left) × (proof.right ≡ right)
-        × (proof.elements.items ≡ elements) × (proof.nodes.now ≡ nodes))) }
-    ensures refused { IfOk result (λ read. IfErr read (λ refusal. IsNoFile repr_of bytes.now × IsReadRefusal refusal)) }
+    ensures own { IfOk result (λ read. IfOk read (λ proof. IsOnlyFileOf repr_of bytes.now proof.rounds proof.left proof.right
+        proof.elements.items proof.nodes.now)) }
+    ensures refused { IfOk result (λ read. IfErr read (λ refusal. IsNoWordFile bytes.now × IsReadRefusal refusal)) }
 {
     let parts = match cut(bytes) {
         Ok(parts) => parts,

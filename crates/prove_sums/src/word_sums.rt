@@ -1,10 +1,14 @@
 // Proofs over tables of words, in the field of GHASH and in a transcript over a hash function: here the program names its field.
-ghost use Rattle.std.specs.Prelude.{◌≡◌, ◌≤◌, [], length, map, IfOk};
+ghost use Rattle.std.specs.Prelude.{◌≡◌, ◌^◌, ◌≤◌, ℕ, List, [], length, map, IfOk};
+ghost use Rattle.field_bytes.specs.Streams.{joined_bytes};
 ghost use Rattle.field_element.specs.Element.{repr_of};
 ghost use Rattle.transcript_bytes.specs.HashChallengers.{hash_state};
 ghost use Rattle.transcript_elements.specs.Challengers.{inner_of};
+ghost use Rattle.protocols.specs.Commitments.{IsTreeOver, row_at};
+ghost use Rattle.protocols.specs.MerkleTrees.{rows_root};
 ghost use Rattle.prove_sums.specs.ProofFiles.{file_bytes};
-ghost use Rattle.prove_sums.specs.Verdicts.{word_times, word_vector, HoldsTable, IsSumVerdict};
+ghost use Rattle.prove_sums.specs.Shapes.{rows_of};
+ghost use Rattle.prove_sums.specs.Verdicts.{word_times, word_vector, HoldsTable, IsHonestSum, IsSumVerdict};
 
 use crate::proof_file::{Proof, encode};
 use crate::proving::{Committed, Sent, commit};
@@ -39,8 +43,11 @@ pub fn commit_table<H: ByteHasher32>(
     hasher: &H,
     table: Table,
 ) -> Result<Committed<Ghash128>, AllocError>
-    ensures { IfOk result (λ committed. HoldsTable repr_of 128 word_times word_vector table.rounds committed.elements.items
+    ensures table { IfOk result (λ committed. committed.elements.items ≡ table.elements.items) }
+    ensures holds { IfOk result (λ committed. HoldsTable repr_of 128 word_times word_vector table.rounds committed.elements.items
         committed.held.columns.items committed.held.tree) }
+    ensures tree { IfOk result (λ committed. IsTreeOver (H.digest hasher.now)
+        (λ p. joined_bytes 16 repr_of (row_at (2 ^ rows_of table.rounds) committed.held.columns.items p)) committed.held.tree) }
 {
     let shape = Shape::new(table.rounds);
     let committed = commit(alloc, hasher, &shape, table.elements)?;
@@ -48,15 +55,21 @@ pub fn commit_table<H: ByteHasher32>(
 }
 
 /// The root of a committed table.
-pub fn root_of(table: &Committed<Ghash128>) -> [u8; 32] {
+pub fn root_of(table: &Committed<Ghash128>) -> [u8; 32]
+    ensures { (hash : List ℕ → List ℕ) (row : ℕ → List ℕ) → IsTreeOver hash row table.now.held.tree
+        → result ≡ rows_root hash table.now.held.tree.depth row }
+{
     table.held.tree.commitment().root
 }
 
-/// The proof of the sum of the products of two committed tables of 2^rounds words. It fails if memory was refused.
+/// The proof of the sum of the products of two committed tables of 2^rounds words, in the transcript that begins with these roots. It fails
+/// if memory was refused.
 pub fn prove<H: ByteHasher32>(
     alloc: Global,
     hasher: &H,
     rounds: usize,
+    left_root: &[u8; 32],
+    right_root: &[u8; 32],
     left: &Committed<Ghash128>,
     right: &Committed<Ghash128>,
 ) -> Result<Sent<Ghash128>, ProtocolError>
@@ -65,9 +78,12 @@ pub fn prove<H: ByteHasher32>(
         left.now.held.tree }
     requires right { HoldsTable repr_of 128 word_times word_vector rounds right.now.elements.items right.now.held.columns.items
         right.now.held.tree }
+    ensures { IfOk result (λ sent. IsHonestSum H.digest hasher.now repr_of (file_bytes rounds left_root.now right_root.now [] []) rounds
+        left.now.elements.items right.now.elements.items left.now.held.columns.items right.now.held.columns.items sent.elements.items) }
 {
-    let mut challenger = transcript(alloc, hasher, rounds, &root_of(left), &root_of(right))?;
-    let sent = proving::prove(alloc, &mut challenger, &Shape::new(rounds), left, right)?;
+    let mut challenger = transcript(alloc, hasher, rounds, left_root, right_root)?;
+    let shape = Shape::new(rounds);
+    let sent = proving::prove(alloc, &mut challenger, &shape, left, right)?;
     Ok(sent)
 }
 
