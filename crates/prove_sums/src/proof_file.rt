@@ -71,8 +71,8 @@ pub fn encode(
     Ok(bytes)
 }
 
-/// The proof of which these are the bytes, or why there is none. Bytes that `encode` wrote are accepted, and give what they were written of;
-/// what is accepted is what `encode` writes of the result. It fails if memory was refused.
+/// The proof of which these are the bytes, or why there is none. Bytes that `encode` wrote are accepted, and give what they were written
+/// of; what is accepted is what `encode` writes of the result. It fails if memory was refused.
 pub fn decode(alloc: Global, bytes: &[u8]) -> Result<Result<Proof<'_>, Refusal>, AllocError>
     ensures whole { IfOk result (λ read. IfOk read (λ proof. IsFileOf repr_of bytes.now proof.rounds proof.left proof.right
         proof.elements.items proof.nodes.now)) }
@@ -101,8 +101,8 @@ pub fn decode(alloc: Global, bytes: &[u8]) -> Result<Result<Proof<'_>, Refusal>,
 // The parts of a file.
 fn cut(bytes: &[u8]) -> Result<Parts<'_>, Refusal>
     ensures file { IfOk result (λ parts. IsCutTo bytes.now parts.rounds parts.left parts.right parts.body.now parts.nodes.now) }
-    ensures refused { IfErr result (λ _. (rounds : ℕ) (left right body : List ℕ) (nodes : List (List ℕ)) → IsFile rounds left right body nodes
-        → bytes.now ≢ file_bytes rounds left right body nodes) }
+    ensures refused { IfErr result (λ _. (rounds : ℕ) (left right body : List ℕ) (nodes : List (List ℕ))
+        → IsFile rounds left right body nodes → bytes.now ≢ file_bytes rounds left right body nodes) }
     ensures reason { IfErr result (λ refusal. IsReadRefusal refusal) }
 {
     if bytes.len() < FRONT {

@@ -1,6 +1,7 @@
 // The sizes of a proof for two tables of 2^rounds elements, and its parts.
 ghost use Rattle.std.specs.Prelude.{◌≡◌, ◌+◌, ◌*◌, ◌^◌, ◌<◌, ◌≤◌, ℕ, length, IfOk};
-ghost use Rattle.prove_sums.specs.Shapes.{block_bits, block_count, columns_size, element_count, levels_of, part, places_of, row_size, rows_of};
+ghost use Rattle.prove_sums.specs.Shapes.{block_bits, block_count, columns_size, element_count, levels_of};
+ghost use Rattle.prove_sums.specs.Shapes.{part, places_of, row_size, rows_of};
 
 use std::alloc::{AllocError, Global};
 

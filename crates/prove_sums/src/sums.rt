@@ -64,8 +64,8 @@ pub fn prove<F: Field, C: FieldChallenger<F>>(
     requires left { length left.now ≡ 2 ^ rounds }
     requires right { length right.now ≡ 2 ^ rounds }
     requires few { rounds ≤ 39 }
-    ensures { IfOk result (λ summed. IsSummed C.observes C.gives F.repr F.width F.product rounds left.now right.now challenger.old summed.sum
-        summed.messages.items summed.point.items challenger.new) }
+    ensures { IfOk result (λ summed. IsSummed C.observes C.gives F.repr F.width F.product rounds left.now right.now challenger.old
+        summed.sum summed.messages.items summed.point.items challenger.new) }
 {
     let mut rows = rows(alloc, left, right)?;
     let terms = terms(alloc)?;
