@@ -1,10 +1,19 @@
 -- What is answered, by how far a file of a proof was read.
-use Rattle.std.proofs.Common.{◌≡◌, ℕ, Bool, true, false, List, [], refl, sym, subst}
+use Rattle.std.proofs.Common.{◌≡◌, ℕ, Bool, Ok, Err, true, false, List, [], refl, sym, subst}
 use Rattle.std.specs.Prelude.{Option, None, Some}
+use Rattle.std.specs.Result.{IfErr, IfOk}
+use Rattle.std.specs.declared.result.Result.{Result}
 use Rattle.prove_sums.specs.ProofFiles.{IsFileOf, IsNoFile, IsReadRefusal, file_bytes}
 use Rattle.prove_sums.specs.Verdicts.{IsAnswerTo, IsSumVerdict}
 use Rattle.prove_sums.specs.declared.refusal.Refusal.{Refusal}
 use Rattle.prove_sums.specs.declared.refusal.Refusal.TheVariants.{NotAProof, OtherField, Length, OtherLeft, OtherRight, NotProved}
+
+-- what is said of an error, and of a value, is said of the one there is
+pub err-told : {X R : Type 0} (says : R → Type 0) (told : Result X R) (refusal : R) → told ≡ Err refusal → IfErr told says → says refusal
+err-told {X} {R} says told refusal is has = subst (λ (r : Result X R). IfErr r says) is has
+
+pub ok-told : {X R : Type 0} (says : X → Type 0) (told : Result X R) (read : X) → told ≡ Ok read → IfOk told says → says read
+ok-told {X} {R} says told read is has = subst (λ (r : Result X R). IfOk r says) is has
 
 module _ {F H : Type 0} (digest : H → List ℕ → List ℕ) (hasher : H) (repr : F → ℕ) (left right bytes : List ℕ) where
   -- bytes that were not read
@@ -30,7 +39,7 @@ module _ {F H : Type 0} (digest : H → List ℕ → List ℕ) (hasher : H) (rep
         → IsSumVerdict digest hasher repr (file_bytes n one other [] []) n one other elements nodes accepted
         → (accepted ≡ true → refusal ≡ None) → (accepted ≡ false → refusal ≡ Some NotProved)
         → IsAnswerTo digest hasher repr left right bytes refusal
-    answered accepted refusal is_left is_right verdict accept refuse = by accepted (both accepted verdict) accept refuse
+    answered accepted refusal is_left is_right verdict when_true when_false = by accepted (both accepted verdict) when_true when_false
       where
         -- the file, and the verdict on it
         Has : Bool → List ℕ → List ℕ → Type 0
@@ -41,7 +50,7 @@ module _ {F H : Type 0} (digest : H → List ℕ → List ℕ) (hasher : H) (rep
 
         by : (says : Bool) → Has says left right → (says ≡ true → refusal ≡ None) → (says ≡ false → refusal ≡ Some NotProved)
             → IsAnswerTo digest hasher repr left right bytes refusal
-        by true has yes no =
-            subst (λ (r : Option Refusal). IsAnswerTo digest hasher repr left right bytes r) (sym (yes refl)) (n, elements, nodes, has.0, has.1)
-        by false has yes no =
-            subst (λ (r : Option Refusal). IsAnswerTo digest hasher repr left right bytes r) (sym (no refl)) (n, elements, nodes, has.0, has.1)
+        by true has accept refuse =
+            subst (λ (r : Option Refusal). IsAnswerTo digest hasher repr left right bytes r) (sym (accept refl)) (n, elements, nodes, has.0, has.1)
+        by false has accept refuse =
+            subst (λ (r : Option Refusal). IsAnswerTo digest hasher repr left right bytes r) (sym (refuse refl)) (n, elements, nodes, has.0, has.1)

@@ -12,7 +12,7 @@ pub prove-requires-clause-right : goal.prove-requires-clause-right
 prove-requires-clause-right g c =
     let second = c.in_ok-others.second in
     subst (λ (n : ℕ). HoldsTable repr_of 128 word_times word_vector n second.elements.items second.held.columns.items second.held.tree)
-    (omega (arith, c.if-others-ne-rounds.false)) c.in_ok-others.ensures.holds
+    (omega (arith, c.if-others-rounds.false)) c.in_ok-others.ensures.holds
 
 pub encode-requires : goal.encode-requires
 encode-requires g c = c.in_ok-rounds.ensures.table.few
@@ -25,7 +25,7 @@ returns g c =
     let sent = c.in_ok-sent.sent in
     let left = c.in_ok-rounds.ensures in
     let right = c.in_ok-others.ensures in
-    let same : c.in_ok-others.others ≡ rounds = omega (arith, c.if-others-ne-rounds.false) in
+    let same : c.in_ok-others.others ≡ rounds = omega (arith, c.if-others-rounds.false) in
     record {
       rounds = rounds;
       one = first.elements.items;
