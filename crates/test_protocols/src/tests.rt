@@ -3,4 +3,3 @@ mod code_words;
 mod openings;
 mod rows;
 mod tables;
-mod zeros;
