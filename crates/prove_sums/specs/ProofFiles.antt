@@ -1,5 +1,5 @@
 -- Files of proofs.
-use Rattle.std.specs.Prelude.{◌≡◌, ◌≢◌, ⊤, ℕ, ◌*◌, ◌%◌, ◌≤◌, ◌<◌, List, [], ◌∷◌, ◌++◌, get_or, length}
+use Rattle.std.specs.Prelude.{◌≡◌, ⊤, ℕ, ◌*◌, ◌%◌, ◌≤◌, ◌<◌, List, [], ◌∷◌, ◌++◌, get_or, length}
 use Rattle.std.specs.List.{flat_map}
 use Rattle.field_bytes.specs.Streams.{joined_bytes}
 use Rattle.field_element.specs.Element.{repr_of}

@@ -4,11 +4,11 @@ use Rattle.std.specs.List.{range_with_len}
 
 -- ---- sizes
 
--- A table is a matrix of 2 ^ rows_of n rows of 2 ^ levels_of n elements each: with 128 columns opened, a row is then about as long as they
--- are together.
+-- A table is a matrix of 2 ^ rows_of n rows: with 128 columns opened, a row is then about as long as they are together.
 abbrev pub rows_of : ℕ → ℕ
 rows_of n = (n - 7) / 2
 
+-- a row has 2 ^ levels_of n elements
 abbrev pub levels_of : ℕ → ℕ
 levels_of n = n - rows_of n
 
@@ -16,18 +16,19 @@ levels_of n = n - rows_of n
 abbrev pub depth_of : ℕ → ℕ
 depth_of n = 2 + levels_of n
 
--- One place is opened in each block of a code word's places: there are 128 blocks, or as many as places where those are fewer. A place of a
--- block is a number of so many bits.
+-- one place is opened in each block of a code word's places, and a place of a block is a number of so many bits
 abbrev pub block_bits : ℕ → ℕ
 block_bits n = depth_of n - 7
 
+-- there are 128 blocks, or as many as places where those are fewer
 abbrev pub block_count : ℕ → ℕ
 block_count n = 2 ^ (depth_of n - block_bits n)
 
--- the elements of a row, and those of the columns that are opened
+-- the elements of a row
 abbrev pub row_size : ℕ → ℕ
 row_size n = 2 ^ levels_of n
 
+-- the elements of the columns that are opened
 abbrev pub columns_size : ℕ → ℕ
 columns_size n = block_count n * 2 ^ rows_of n
 
@@ -46,10 +47,11 @@ element_count n = 2 * n + 2 + 2 * row_size n + 2 * columns_size n
 abbrev pub part : {X : Type 0} → ℕ → ℕ → List X → List X
 part from size values = take size (drop from values)
 
--- the sum, and the witness, as numbers
+-- the sum as a number
 abbrev pub sum_in : {F : Type 0} → (F → ℕ) → List F → ℕ
 sum_in repr elements = slice_index (map repr elements) 0
 
+-- the witness as a number
 abbrev pub witness_in : {F : Type 0} → (F → ℕ) → ℕ → List F → ℕ
 witness_in repr n elements = slice_index (map repr elements) (2 * n + 1)
 

@@ -1,6 +1,6 @@
 -- What is proved of two tables, and what a verifier says of a proof, over elements and bytes alone. Elements have numbers by `repr`, the sum is
 -- `bit_xor` and the product `times`. `hash` and `digest` are hash functions.
-use Rattle.std.specs.Prelude.{◌≡◌, ◌≢◌, ◌↔◌, ◌⊎◌, ℕ, ◌+◌, ◌*◌, ◌^◌, ◌<◌, ◌≤◌, ◌/◌, Bool, true, false, List, [], ◌∷◌, ◌++◌, length, map, take, drop, IsTrue}
+use Rattle.std.specs.Prelude.{◌≡◌, ◌≢◌, ◌↔◌, ℕ, ◌*◌, ◌^◌, ◌<◌, ◌≤◌, Bool, true, false, List, [], ◌∷◌, ◌++◌, length, map, take, drop, IsTrue}
 use Rattle.std.specs.List.{range_with_len}
 use Rattle.std.specs.declared.option.Option.{Option}
 use Rattle.std.specs.declared.option.Option.TheVariants.{None, Some}
@@ -9,7 +9,6 @@ use Rattle.transcript_bytes.specs.HashBuffers.{HashState, hash_transitions}
 use Rattle.field_bytes.specs.Bytes.{low_bytes}
 use Rattle.field_bytes.specs.Streams.{joined_bytes}
 use Rattle.transcript_elements.specs.Sampled.{SamplesBits, SamplesCoefficients, check_calls, passes}
-use Rattle.transcript_elements.specs.Lists.{InTurn}
 use Rattle.field_base.specs.Basis.{basis_image, ghash_images}
 use Rattle.field_base.specs.Remainder.{ghash_modulus, mul_mod}
 use Rattle.field_slices.specs.Multilinear.{multilinear_value}
@@ -170,13 +169,15 @@ observes_number digest old n new = new ≡ after (hash_transitions digest) (obse
 abbrev pub gives_number : {H : Type 0} → (H → List ℕ → List ℕ) → HashState H → ℕ → HashState H → Type 0
 gives_number digest old n new = (n < 2 ^ 128) × SamplesCoefficients (hash_transitions digest) 16 128 1 old n new
 
--- whether a witness works for so many bits, where checking one may lead, and sampling so many bits
+-- whether a witness works for so many bits
 abbrev pub passes_number : {H : Type 0} → (H → List ℕ → List ℕ) → HashState H → ℕ → ℕ → Bool
 passes_number digest old bits witness = passes (hash_transitions digest) 16 bits old witness
 
+-- where checking a witness leads
 abbrev pub checks_number : {H : Type 0} → (H → List ℕ → List ℕ) → HashState H → ℕ → ℕ → HashState H → Type 0
 checks_number digest old bits witness new = new ≡ after (hash_transitions digest) (check_calls 16 bits witness) old
 
+-- what sampling so many bits gives, and where it leads
 abbrev pub samples_bits : {H : Type 0} → (H → List ℕ → List ℕ) → HashState H → ℕ → ℕ → HashState H → Type 0
 samples_bits digest old bits number new = SamplesBits (hash_transitions digest) old bits number new
 
@@ -259,14 +260,16 @@ pub record IsProgramProof {F H : Type 0} (digest : H → List ℕ → List ℕ) 
 
 -- ---- the same of words
 
--- what is answered on a file, the root that commits to a table, and what is written for two tables
+-- what is answered on a file
 abbrev pub IsWordAnswer : {H : Type 0} → (H → List ℕ → List ℕ) → H → List ℕ → List ℕ → List ℕ → Option Refusal → Type 0
 IsWordAnswer digest hasher left right bytes refusal =
     IsAnswerTo digest hasher (number_in (λ (table : Table). table.elements.items) repr_of) left right bytes refusal
 
+-- the root that commits to a table
 abbrev pub IsWordCommitment : (List ℕ → List ℕ) → List ℕ → List ℕ → Type 0
 IsWordCommitment hash bytes root = IsCommitment hash (number_in (λ (table : Table). table.elements.items) repr_of) bytes root
 
+-- what is written for two tables
 abbrev pub IsWordProof : {H : Type 0} → (H → List ℕ → List ℕ) → H → List ℕ → List ℕ → List ℕ → Type 0
 IsWordProof digest hasher left right proof =
     IsProgramProof digest hasher (number_in (λ (table : Table). table.elements.items) repr_of) left right proof

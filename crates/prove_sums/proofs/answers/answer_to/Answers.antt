@@ -1,6 +1,6 @@
-use Rattle.std.proofs.Common.{arith, rules}
+use Rattle.std.proofs.Common.{rules}
 use Rattle.field_element.specs.Element.{repr_of}
-use Rattle.prove_sums.proofs.Refusals.{answered, err-told, ok-told, other_left, other_right, unread}
+use Rattle.prove_sums.proofs.Refusals.{answered, err-told, ok-told, unread}
 use Rattle.prove_sums.proofs.answers.answer_to.Goals as goal
 
 pub returns-in-Err : goal.returns-in-Err

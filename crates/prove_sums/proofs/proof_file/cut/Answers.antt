@@ -1,4 +1,4 @@
-use Rattle.std.proofs.Common.{rules, arith, ◌≡◌, ℕ, length, take, drop, ◌+◌, ◌-◌, ◌*◌, ◌%◌, ◌/◌, ◌≤◌, refl, sym, ◌∙◌, ap}
+use Rattle.std.proofs.Common.{rules, arith, ◌≡◌, ℕ, length, take, ◌+◌, ◌*◌, ◌/◌, refl, sym, ◌∙◌, ap}
 use Rattle.std.specs.Simd.{first_chunks}
 use Rattle.std.proofs.lemmas.List.{take_rest}
 use Rattle.prove_sums.specs.ProofFiles.{head}

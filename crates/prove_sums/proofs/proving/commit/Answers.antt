@@ -1,8 +1,8 @@
-use Rattle.std.proofs.Common.{◌≡◌, ◌+◌, ◌*◌, ◌^◌, ℕ, List, length, map, sym, ◌∙◌, ap, subst, arith, rules}
+use Rattle.std.proofs.Common.{◌≡◌, ◌+◌, ◌^◌, ℕ, List, length, map, ◌∙◌, ap, subst, rules}
 use Rattle.field_bytes.specs.Streams.{joined_bytes}
 use Rattle.protocols.specs.Commitments.{IsTreeOver, row_at}
 use Rattle.protocols.specs.Tables.{AreExtendedColumns}
-use Rattle.prove_sums.specs.Shapes.{levels_of, rows_of}
+use Rattle.prove_sums.specs.Shapes.{rows_of}
 use Rattle.prove_sums.proofs.Sizes.{matrix-size}
 use Rattle.prove_sums.proofs.proving.commit.Goals as goal
 

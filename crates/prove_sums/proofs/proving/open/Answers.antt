@@ -1,6 +1,5 @@
-use Rattle.std.proofs.Common.{◌≡◌, ◌+◌, ◌*◌, ◌^◌, ◌<◌, ◌≤◌, ◌++◌, ℕ, List, length, sym, ◌∙◌, ap, subst}
+use Rattle.std.proofs.Common.{◌^◌, ◌++◌, ℕ, List, length, sym, ◌∙◌, ap, subst}
 use Rattle.protocols.specs.Openings.{AreAscending}
-use Rattle.prove_sums.specs.Shapes.{depth_of}
 use Rattle.prove_sums.proofs.Sizes.{column-held}
 use Rattle.prove_sums.proofs.proving.open.Goals as goal
 

@@ -1,8 +1,8 @@
-use Rattle.std.proofs.Common.{◌≡◌, ◌++◌, ◌^◌, true, ℕ, List, length, map, take, sym, ◌∙◌, ap, subst}
+use Rattle.std.proofs.Common.{◌≡◌, ◌++◌, ◌^◌, true, ℕ, List, length, take, sym, ◌∙◌, ap, subst}
 use Rattle.transcript_elements.specs.Lists.{InTurn}
 use Rattle.protocols.specs.Openings.{AreAscending}
 use Rattle.protocols.specs.Queries.{AreQueries}
-use Rattle.prove_sums.specs.Shapes.{block_bits, depth_of, rows_of}
+use Rattle.prove_sums.specs.Shapes.{depth_of, rows_of}
 use Rattle.prove_sums.specs.Verdicts.{IsSummed, values_at}
 use Rattle.prove_sums.proofs.Sizes.{ascending}
 use Rattle.prove_sums.proofs.SumSteps.{elements-listed}

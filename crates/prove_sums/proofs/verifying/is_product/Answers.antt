@@ -1,6 +1,5 @@
 use Rattle.std.proofs.Common.{◌^◌, ℕ, List, length, map, refl, sym, ◌∙◌, ap, ap₂, arith}
 use Rattle.field_slices.specs.Multilinear.{multilinear_value}
-use Rattle.prove_sums.specs.Shapes.{row_in}
 use Rattle.prove_sums.proofs.Sizes.{row-long}
 use Rattle.prove_sums.proofs.SumSteps.{decided}
 use Rattle.prove_sums.proofs.verifying.is_product.Goals as goal

@@ -1,7 +1,7 @@
-use Rattle.std.proofs.Common.{◌≡◌, ◌+◌, ◌*◌, ◌/◌, ℕ, List, length, sym, ◌∙◌, ap, ap₂, subst, arith}
+use Rattle.std.proofs.Common.{◌+◌, ◌*◌, ℕ, length, ◌∙◌, ap₂}
 use Rattle.std.specs.Prelude.{◌↔◌, IsTrue}
 use Rattle.protocols.specs.Tables.{OpensColumns}
-use Rattle.prove_sums.specs.Shapes.{columns_in, columns_size, levels_of, nodes_in, part, row_in}
+use Rattle.prove_sums.specs.Shapes.{part}
 use Rattle.prove_sums.proofs.Sizes.{columns-room, half-room, same-opening}
 use Rattle.prove_sums.proofs.verifying.opens_table.Goals as goal
 

@@ -1,4 +1,4 @@
-use Rattle.std.proofs.Common.{◌+◌, ◌*◌, ℕ, ◌∙◌, ap, arith}
+use Rattle.std.proofs.Common.{◌+◌, ◌*◌, ℕ, ◌∙◌, ap}
 use Rattle.prove_sums.specs.Shapes.{part}
 use Rattle.prove_sums.proofs.Sizes.{row-room}
 use Rattle.prove_sums.proofs.verifying.row_of.Goals as goal

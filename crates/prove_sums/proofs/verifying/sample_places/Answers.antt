@@ -1,4 +1,4 @@
-use Rattle.std.proofs.Common.{◌≡◌, ◌+◌, ◌*◌, ℕ, List, length, refl, sym, ◌∙◌, ap, subst, arith}
+use Rattle.std.proofs.Common.{◌≡◌, ◌+◌, ◌*◌, ℕ, List, refl, ◌∙◌, ap, subst, arith}
 use Rattle.transcript_elements.specs.Lists.{InTurn}
 use Rattle.protocols.specs.Queries.{AreQueries}
 use Rattle.prove_sums.specs.Shapes.{block_bits, part, places_of, row_size, rows_in, witness_in}

@@ -1,6 +1,6 @@
-use Rattle.std.proofs.Common.{◌≡◌, ◌+◌, ◌*◌, ◌≤◌, ℕ, List, length, take, drop, refl, sym, ◌∙◌, ap, subst, arith}
+use Rattle.std.proofs.Common.{◌≡◌, ℕ, List, length, take, drop, refl, ◌∙◌, ap, subst, arith}
 use Rattle.std.specs.Prelude.{◌↔◌, IsTrue}
-use Rattle.prove_sums.specs.Shapes.{levels_of, row_size, rows_of}
+use Rattle.prove_sums.specs.Shapes.{row_size, rows_of}
 use Rattle.prove_sums.specs.Verdicts.{IsProductAt, OpensTable}
 use Rattle.prove_sums.proofs.Sizes.{front-room}
 use Rattle.prove_sums.proofs.SumSteps.{all-decided}

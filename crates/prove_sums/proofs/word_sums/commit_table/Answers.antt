@@ -1,4 +1,4 @@
-use Rattle.std.proofs.Common.{◌≡◌, ◌^◌, ℕ, List, sym, ◌∙◌, ap, subst, rules}
+use Rattle.std.proofs.Common.{◌^◌, ℕ, sym, ◌∙◌, ap, subst}
 use Rattle.field_bytes.specs.Streams.{joined_bytes}
 use Rattle.field_element.specs.Element.{repr_of}
 use Rattle.protocols.specs.Commitments.{IsTreeOver, row_at}

@@ -1,4 +1,4 @@
-use Rattle.std.proofs.Common.{◌≡◌, [], ℕ, List, refl, sym, subst}
+use Rattle.std.proofs.Common.{[], ℕ, refl, sym, subst}
 use Rattle.field_element.specs.Element.{repr_of}
 use Rattle.transcript_elements.specs.Challengers.{state_of}
 use Rattle.prove_sums.specs.ProofFiles.{file_bytes}

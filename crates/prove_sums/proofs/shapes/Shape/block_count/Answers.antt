@@ -1,6 +1,4 @@
-use Rattle.std.proofs.Common.{◌≡◌, ◌≤◌, ◌+◌, ◌-◌, ◌^◌, ℕ, ◌∙◌, ap, ap₂, arith, subst, sym}
-use Rattle.prove_sums.specs.Shapes.{block_bits, levels_of}
-use Rattle.prove_sums.proofs.Sizes.{blocks-few}
+use Rattle.std.proofs.Common.{◌+◌, ◌-◌, ◌^◌, ℕ, ◌∙◌, ap₂, arith}
 use Rattle.prove_sums.proofs.shapes.Shape.block_count.Goals as goal
 
 pub power_of_two-requires : goal.power_of_two-requires

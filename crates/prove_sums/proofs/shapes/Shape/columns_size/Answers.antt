@@ -1,4 +1,4 @@
-use Rattle.std.proofs.Common.{◌*◌, ℕ, ◌∙◌, ap₂, arith}
+use Rattle.std.proofs.Common.{◌*◌, ℕ, ap₂}
 use Rattle.prove_sums.proofs.Sizes.{product-few}
 use Rattle.prove_sums.proofs.shapes.Shape.columns_size.Goals as goal
 

@@ -1,4 +1,4 @@
-use Rattle.std.proofs.Common.{◌≡◌, ◌+◌, ◌*◌, ◌%◌, ◌^◌, ℕ, map, slice_index}
+use Rattle.std.proofs.Common.{◌≡◌, ◌+◌, ◌*◌, ◌%◌, ℕ, map, slice_index}
 use Rattle.std.specs.List.{range_with_len}
 use Rattle.prove_sums.proofs.shapes.Shape.places.Given as goal
 
