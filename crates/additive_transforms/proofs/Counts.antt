@@ -50,10 +50,6 @@ two_halves m above =
     let next : m ≡ suc (m - 1) = omega arith in
     ap (λ (e : ℕ). 2 ^ e) next ∙ two-pow-succ (m - 1)
 
--- and what is behind the first 2 ^ (m - 1) is as long
-pub other_half : (m values front back : ℕ) → 0 < m → values ≡ 2 ^ m → front ≡ 2 ^ (m - 1) → back + front ≡ values → back ≡ 2 ^ (m - 1)
-other_half m values front back above is first parts = let twice = two_halves m above in omega (arith, twice, is, first, parts)
-
 -- half of 2 ^ m is 2 ^ (m - 1)
 pub half_count : (m length : ℕ) → 0 < m → length ≡ 2 ^ m → length / 2 ≡ 2 ^ (m - 1)
 half_count m length above is = let twice = is ∙ two_halves m above in omega (arith, twice)

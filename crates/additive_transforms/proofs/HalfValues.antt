@@ -1,10 +1,10 @@
 -- The values of a polynomial by those of the two halves that its highest stage leaves.
-use Rattle.std.proofs.Common.{◌≡◌, ◌≢◌, ◌⊎◌, inl, inr, ℕ, suc, ◌+◌, ◌-◌, ◌*◌, ◌^◌, ◌<◌, ◌≤◌, Bool, false, List, ◌++◌, length, map, sym, ◌∙◌, ap, ap₂, subst, arith}
+use Rattle.std.proofs.Common.{◌≡◌, ◌≢◌, ◌⊎◌, inl, inr, ℕ, suc, ◌+◌, ◌-◌, ◌*◌, ◌^◌, ◌<◌, ◌≤◌, Bool, false, List, length, take, drop, sym, ◌∙◌, ap, ap₂, subst, arith}
 use Rattle.std.specs.Prelude.{bit_xor, slice_index, IsTrue}
 use Rattle.std.specs.Int.{bit_at}
 use Rattle.std.proofs.Math.Nat.{two-pow-succ}
 use Rattle.std.proofs.lemmas.Bool.{cases_lt}
-use Rattle.std.proofs.lemmas.List.{length-append, length-map, map-append}
+use Rattle.std.proofs.lemmas.List.{get_or-drop, get_or-take, length-drop, length-take-le}
 use Rattle.std.proofs.lemmas.Nat.Bits.{bit_at-lt, bit_at-pow_other, bit_at-pow_same, bit_at_above}
 use native.Mathlib.Nat.{one-mul, zero-mul}
 use lib.Bits.{xor_comm, xor_zero_r}
@@ -16,11 +16,9 @@ use Rattle.field_base.proofs.AdditiveMaps.{keeps_zero}
 use Rattle.ghash_slices.specs.Cantor.{point, polynomial_value, subspace_value, SubspaceValues}
 use Rattle.ghash_slices.proofs.CantorValues.{cantor_vectors_step_down, sum_below-image, sum_below-nothing, sum_below-stops}
 use Rattle.ghash_slices.proofs.StageSums.{sum_of_factors-next}
-use Rattle.ghash_slices.proofs.WordValues.{values_fit}
 use Rattle.additive_transforms.specs.Stages.{IsButterfly}
 use Rattle.additive_transforms.specs.Transform.{HoldValuesAtPoints, TakesTransform}
 use Rattle.additive_transforms.proofs.BlockPoints.{point-joined}
-use Rattle.additive_transforms.proofs.Butterflies.{read_lower, read_upper}
 use Rattle.additive_transforms.proofs.CantorSums.{value-same}
 use Rattle.additive_transforms.proofs.Counts.{one_exponent}
 use Rattle.additive_transforms.proofs.WholeStages.{upper_result}
@@ -126,11 +124,12 @@ module _ (width : ℕ) (times : ℕ → ℕ → ℕ) (vector : ℕ → ℕ) (wid
   -- ---- lists
 
   -- the values of both halves of what the butterfly leaves are those of the whole
-  halves_hold : (z t : ℕ) → t ≡ subspace_value times n z → (old lo hi lo' hi' : List ℕ) → length old ≡ 2 ^ suc n → length lo ≡ 2 ^ n
-      → length hi ≡ 2 ^ n → length lo' ≡ 2 ^ n → ((k : ℕ) → slice_index old k < 2 ^ width)
-      → IsButterfly times t (2 ^ n) (slice_index old) (slice_index (lo ++ hi)) → HoldValuesAtPoints width times vector z lo lo'
-      → HoldValuesAtPoints width times vector (bit_xor z (vector n)) hi hi' → HoldValuesAtPoints width times vector z old (lo' ++ hi')
-  halves_hold z t twiddle old lo hi lo' hi' whole low high low' fits is lower upper m count p inside = pick (cases_lt p (2 ^ n))
+  pub halves_hold : (z t : ℕ) → t ≡ subspace_value times n z → (old mid new : List ℕ) → length old ≡ 2 ^ suc n → length mid ≡ 2 ^ suc n
+      → ((k : ℕ) → slice_index old k < 2 ^ width) → IsButterfly times t (2 ^ n) (slice_index old) (slice_index mid)
+      → HoldValuesAtPoints width times vector z (take (2 ^ n) mid) (take (2 ^ n) new)
+      → HoldValuesAtPoints width times vector (bit_xor z (vector n)) (drop (2 ^ n) mid) (drop (2 ^ n) new)
+      → HoldValuesAtPoints width times vector z old new
+  halves_hold z t twiddle old mid new whole whole' fits is lower upper m count p inside = pick (cases_lt p (2 ^ n))
     where
       same : suc n ≡ m
       same = one_exponent (suc n) m (sym whole ∙ count)
@@ -139,59 +138,25 @@ module _ (width : ℕ) (times : ℕ → ℕ → ℕ) (vector : ℕ → ℕ) (wid
           ≡ polynomial_value times m (slice_index old) (point width vector z p)
       stages_are = ap (λ (e : ℕ). polynomial_value times e (slice_index old) (point width vector z p)) same
 
-      pick : (p < 2 ^ n) ⊎ (2 ^ n ≤ p)
-          → slice_index (lo' ++ hi') p ≡ polynomial_value times m (slice_index old) (point width vector z p)
+      low : length (take (2 ^ n) mid) ≡ 2 ^ n
+      low = let halves = two-pow-succ n in length-take-le (2 ^ n) mid (omega (arith, whole', halves))
+
+      high : length (drop (2 ^ n) mid) ≡ 2 ^ n
+      high = let halves = two-pow-succ n in length-drop (2 ^ n) mid ∙ omega (arith, whole', halves)
+
+      pick : (p < 2 ^ n) ⊎ (2 ^ n ≤ p) → slice_index new p ≡ polynomial_value times m (slice_index old) (point width vector z p)
       pick (inl small) =
-          read_lower (2 ^ n) lo' hi' low' p small ∙ lower n low p small
-          ∙ value-same width times wide ring n (slice_index lo) (slice_index (lo ++ hi)) (point width vector z p)
-          (λ k within. sym (read_lower (2 ^ n) lo hi low k within))
-          ∙ value-lower_half z t twiddle (slice_index old) (slice_index (lo ++ hi)) fits is p small ∙ stages_are
+          sym (get_or-take (2 ^ n) new p 0 small) ∙ lower n low p small
+          ∙ value-same width times wide ring n (slice_index (take (2 ^ n) mid)) (slice_index mid) (point width vector z p)
+          (λ k within. get_or-take (2 ^ n) mid k 0 within)
+          ∙ value-lower_half z t twiddle (slice_index old) (slice_index mid) fits is p small ∙ stages_are
       pick (inr large) =
           let r : ℕ = p - 2 ^ n in
           let at : 2 ^ n + r ≡ p = omega (arith, large) in
           let halves = two-pow-succ n in
           let small : r < 2 ^ n = omega (arith, at, halves, inside, ap (λ (e : ℕ). 2 ^ e) same) in
-          ap (slice_index (lo' ++ hi')) (sym at) ∙ read_upper (2 ^ n) lo' hi' low' r ∙ upper n high r small
-          ∙ value-same width times wide ring n (slice_index hi) (λ k. slice_index (lo ++ hi) (2 ^ n + k))
-          (point width vector (bit_xor z (vector n)) r) (λ k within. sym (read_upper (2 ^ n) lo hi low k))
-          ∙ value-upper_half z t twiddle (slice_index old) (slice_index (lo ++ hi)) fits is r small
+          ap (slice_index new) (sym at) ∙ sym (get_or-drop (2 ^ n) new r 0) ∙ upper n high r small
+          ∙ value-same width times wide ring n (slice_index (drop (2 ^ n) mid)) (λ k. slice_index mid (2 ^ n + k))
+          (point width vector (bit_xor z (vector n)) r) (λ k within. get_or-drop (2 ^ n) mid k 0)
+          ∙ value-upper_half z t twiddle (slice_index old) (slice_index mid) fits is r small
           ∙ ap (λ (q : ℕ). polynomial_value times (suc n) (slice_index old) (point width vector z q)) at ∙ stages_are
-
--- ---- elements, by their values
-
-module _ {width : ℕ} {times : ℕ → ℕ → ℕ} {vector : ℕ → ℕ} (wide : 0 < width) (ring : IsRing width 1 times) (vectors : AreCantorVectors width times vector) {A : Type 0} (value : A → ℕ) (range : (x : A) → value x < 2 ^ width) where
-  -- the halves c and d become lo and hi by the butterfly, whose values are those at lo' and hi': the lower ones from the shift z on, and
-  -- the upper ones from one vector on
-  pub joined_hold : (n half z t v next : ℕ) → n < width → half ≡ 2 ^ n → t ≡ subspace_value times n z → v ≡ vector n → next ≡ bit_xor z v
-      → (c d lo hi lo' hi' coefficients values : List A) → coefficients ≡ c ++ d → values ≡ lo' ++ hi' → length c ≡ half → length d ≡ half
-      → length lo ≡ half → length hi ≡ half → length lo' ≡ half
-      → IsButterfly times t half (slice_index (map value c ++ map value d)) (slice_index (map value lo ++ map value hi))
-      → HoldValuesAtPoints width times vector z (map value lo) (map value lo')
-      → HoldValuesAtPoints width times vector next (map value hi) (map value hi')
-      → HoldValuesAtPoints width times vector z (map value coefficients) (map value values)
-  joined_hold n half z t v next below half_is twiddle vector_is next_is c d lo hi lo' hi' coefficients values first second c_long d_long low
-      high low' is lower upper =
-      subst (λ (l : List ℕ). HoldValuesAtPoints width times vector z (map value coefficients) l) (sym second_is)
-      (halves_hold width times vector wide ring vectors n below z t twiddle (map value coefficients) (map value lo) (map value hi)
-      (map value lo') (map value hi') whole (length-map lo value ∙ low ∙ half_is) (length-map hi value ∙ high ∙ half_is)
-      (length-map lo' value ∙ low' ∙ half_is) (values_fit width value range coefficients)
-      (subst (λ (l : List ℕ). IsButterfly times t (2 ^ n) (slice_index l) (slice_index (map value lo ++ map value hi))) (sym first_is)
-      (subst (λ (h : ℕ). IsButterfly times t h (slice_index (map value c ++ map value d)) (slice_index (map value lo ++ map value hi)))
-      half_is is))
-      lower
-      (subst (λ (s : ℕ). HoldValuesAtPoints width times vector s (map value hi) (map value hi')) (next_is ∙ ap (bit_xor z) vector_is)
-      upper))
-    where
-      first_is : map value coefficients ≡ map value c ++ map value d
-      first_is = ap (map value) first ∙ map-append value c d
-
-      second_is : map value values ≡ map value lo' ++ map value hi'
-      second_is = ap (map value) second ∙ map-append value lo' hi'
-
-      whole : length (map value coefficients) ≡ 2 ^ suc n
-      whole =
-          let parts = ap length first_is ∙ length-append (map value c) (map value d) in
-          let front = length-map c value in
-          let back = length-map d value in
-          let halves = two-pow-succ n in
-          omega (arith, parts, front, back, halves, c_long, d_long, half_is)

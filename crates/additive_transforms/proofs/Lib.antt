@@ -5,6 +5,7 @@ pub mod Butterflies
 pub mod CantorSums
 pub mod Carries
 pub mod Counts
+pub mod DepthFirst
 pub mod ElementPoints
 pub mod ElementStages
 pub mod HalfValues

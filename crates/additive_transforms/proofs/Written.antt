@@ -6,13 +6,13 @@ use lib.Seq.{length-take-le}
 use borrow.Rule.Slice.PartMut.{mid_of, put_mid}
 
 -- the images of the first n items are the first n images
-map-take : {A : Type 0} (f : A → ℕ) (n : ℕ) (xs : List A) → map f (take n xs) ≡ take n (map f xs)
+pub map-take : {A : Type 0} (f : A → ℕ) (n : ℕ) (xs : List A) → map f (take n xs) ≡ take n (map f xs)
 map-take f zero xs = refl
 map-take f (suc n) [] = refl
 map-take f (suc n) (x ∷ xs) = ap (λ (zs : List ℕ). f x ∷ zs) (map-take f n xs)
 
 -- the images of the items from n on are the images from n on
-map-drop : {A : Type 0} (f : A → ℕ) (n : ℕ) (xs : List A) → map f (drop n xs) ≡ drop n (map f xs)
+pub map-drop : {A : Type 0} (f : A → ℕ) (n : ℕ) (xs : List A) → map f (drop n xs) ≡ drop n (map f xs)
 map-drop f zero xs = refl
 map-drop f (suc n) [] = refl
 map-drop f (suc n) (x ∷ xs) = map-drop f n xs

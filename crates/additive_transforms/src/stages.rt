@@ -68,7 +68,8 @@ fn run_block<K: Kernel>(
     requires pairs { length block.old ≡ 2 * half }
     requires room { K.count kernel.old + half < 2 ^ 64 }
     ensures length { length block.new ≡ length block.old }
-    ensures values { TakesBlock inverse ghash_product twiddle half (slice_index (map K.value block.old)) (slice_index (map K.value block.new)) }
+    ensures values { TakesBlock inverse ghash_product twiddle half (slice_index (map K.value block.old))
+        (slice_index (map K.value block.new)) }
     ensures count { K.count kernel.new ≡ K.count kernel.old + half }
 {
     let (lower, upper) = block.split_at_mut(half);

@@ -1,6 +1,6 @@
 // Transforms depth first: a slice that is too large for the first cache takes its highest stage alone, and then each of its halves takes
 // all the others before the next half does.
-ghost use Rattle.std.specs.Prelude.{◌≡◌, ◌+◌, ◌/◌, ◌^◌, ◌<◌, ◌≤◌, length, map, slice_index};
+ghost use Rattle.std.specs.Prelude.{◌≡◌, ◌+◌, ◌-◌, ◌/◌, ◌^◌, ◌<◌, ◌≤◌, bit_xor, cond, drop, length, map, slice_index, take};
 ghost use Rattle.additive_transforms.specs.Elements.{level_shifts, twiddle_basis};
 ghost use Rattle.additive_transforms.specs.Stages.{TakesStage};
 ghost use Rattle.additive_transforms.specs.Transform.{HasStages, TakesTransform};
@@ -13,8 +13,9 @@ use crate::half_of;
 // has 16 bytes.
 const CACHED_STAGES: usize = 10;
 
-/// The transform of 2 to the power of `stages` values, or, where `inverse` is true, the inverse one. The highest stage has one block, whose
-/// halves are transforms of their own: the lower one from the same shift on, and the upper one from the highest vector on.
+/// The transform of 2 to the power of `stages` values, or, where `inverse` is true, the inverse one: stage by stage, or, where that is
+/// more than fits the first cache, the highest stage on the whole slice and the others on each half.
+#[cycle(halves)]
 pub(crate) fn run_halves<K: StageArithmetic>(
     values: &mut [K::Value],
     stages: usize,
@@ -27,48 +28,54 @@ pub(crate) fn run_halves<K: StageArithmetic>(
     ensures values { TakesTransform inverse K.width K.product K.vector (K.number z) (map K.value values.old) (map K.value values.new) }
 {
     if stages <= CACHED_STAGES {
-        run_stages::<K>(values, stages, z, inverse);
-        return;
-    }
-    let highest = stages - 1;
-    let twiddle = K::shift(z, highest);
-    let next = K::sum(z, K::cantor_vector(highest));
-    let (lower, upper) = values.split_at_mut(half_of(highest));
-    if inverse {
-        run_halves::<K>(lower, highest, z, true);
-        run_halves::<K>(upper, highest, next, true);
-        K::butterflies(lower, upper, twiddle, true);
-        return;
-    }
-    K::butterflies(lower, upper, twiddle, false);
-    run_halves::<K>(lower, highest, z, false);
-    run_halves::<K>(upper, highest, next, false);
-}
-
-// The same, stage by stage: from the highest down, or, of the inverse transform, from the lowest up.
-fn run_stages<K: StageArithmetic>(
-    values: &mut [K::Value],
-    stages: usize,
-    z: K::Twiddle,
-    inverse: bool,
-)
-    requires stages { HasStages stages (length values.old) }
-    requires few { stages ≤ K.width }
-    ensures length { length values.new ≡ length values.old }
-    ensures values { TakesTransform inverse K.width K.product K.vector (K.number z) (map K.value values.old) (map K.value values.new) }
-{
-    if inverse {
-        for stage in 0..stages {
-            stage_of::<K>(values, stages, stage, z, true);
+        for done in 0..stages {
+            let stage = stage_after(done, stages, inverse);
+            stage_of::<K>(values, stages, stage, z, inverse);
         }
         return;
     }
-    for stage in (0..stages).rev() {
-        stage_of::<K>(values, stages, stage, z, false);
+    let highest = stages - 1;
+    if inverse {
+        both_halves::<K>(values, highest, z, true);
+        stage_of::<K>(values, stages, highest, z, true);
+        return;
     }
+    stage_of::<K>(values, stages, highest, z, false);
+    both_halves::<K>(values, highest, z, false);
 }
 
-// One of them, with its shift.
+// Both halves of the one block of the highest stage, which are transforms of their own: the lower one from the same shift on, and the upper
+// one from the highest vector on.
+#[cycle(halves)]
+fn both_halves<K: StageArithmetic>(
+    values: &mut [K::Value],
+    highest: usize,
+    z: K::Twiddle,
+    inverse: bool,
+)
+    requires stages { HasStages (highest + 1) (length values.old) }
+    requires few { highest < K.width }
+    ensures length { length values.new ≡ length values.old }
+    ensures lower { TakesTransform inverse K.width K.product K.vector (K.number z) (map K.value (take (2 ^ highest) values.old))
+        (map K.value (take (2 ^ highest) values.new)) }
+    ensures upper { TakesTransform inverse K.width K.product K.vector (bit_xor (K.number z) (K.vector highest))
+        (map K.value (drop (2 ^ highest) values.old)) (map K.value (drop (2 ^ highest) values.new)) }
+{
+    let next = K::sum(z, K::cantor_vector(highest));
+    let (lower, upper) = values.split_at_mut(half_of(highest));
+    run_halves::<K>(lower, highest, z, inverse);
+    run_halves::<K>(upper, highest, next, inverse);
+}
+
+// The stage that runs when so many are done: they go from the highest down, or, of the inverse transform, from the lowest up.
+fn stage_after(done: usize, stages: usize, inverse: bool) -> usize
+    requires { done < stages }
+    ensures { result ≡ cond inverse done (stages - 1 - done) }
+{
+    if inverse { done } else { stages - 1 - done }
+}
+
+// A stage, with its shift.
 fn stage_of<K: StageArithmetic>(
     values: &mut [K::Value],
     stages: usize,

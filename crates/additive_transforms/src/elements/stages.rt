@@ -40,7 +40,8 @@ fn run_block<K: StageArithmetic>(
 )
     requires { length block.old ≡ 2 * half }
     ensures length { length block.new ≡ length block.old }
-    ensures values { TakesBlock inverse K.product (K.number twiddle) half (slice_index (map K.value block.old)) (slice_index (map K.value block.new)) }
+    ensures values { TakesBlock inverse K.product (K.number twiddle) half (slice_index (map K.value block.old))
+        (slice_index (map K.value block.new)) }
 {
     let (lower, upper) = block.split_at_mut(half);
     K::butterflies(lower, upper, twiddle, inverse);

@@ -27,7 +27,7 @@ loop-block-preserved g c =
     c.args.values.now c.loop-block.values c.run_block.new.block c.start_of-start.ensures.start c.start_of-start.ensures.inside
     c.run_block.ensures.length c.block_twiddle-twiddle.ensures c.run_block.ensures.values c.loop-block.invariant.0
     c.loop-block.invariant.1 in
-    (both.0, both.1, λ above. c.block_twiddle-twiddle.ensures ∙ ap twiddle last)
+    (both.0, both.1, λ above. ◌∙◌ {b = twiddle c.loop-block.block} c.block_twiddle-twiddle.ensures (ap twiddle last))
 
 pub returns-clause-stage : goal.returns-clause-stage
 returns-clause-stage g c =
