@@ -6,8 +6,9 @@ use Rattle.std.proofs.Math.ListN.{set}
 use Rattle.std.proofs.lemmas.Bool.{cases_lt}
 use Rattle.std.proofs.lemmas.List.{ext_get_or, get_or-map, length-map, length-set, map-set}
 use Rattle.std.proofs.lemmas.Simd.{length-zip2}
+use Rattle.ghash_slices.specs.LowStages.{ghash_product}
 use Rattle.ghash_slices.specs.Stages.{add_multiple}
-use Rattle.additive_transforms.specs.Stages.{IsButterfly, TakesBlock}
+use Rattle.additive_transforms.specs.Stages.{IsButterfly, TakesBlock, TakesSlices}
 use Rattle.additive_transforms.proofs.Butterflies.{read_both, read_lower, read_upper, taken_back, taken_on, twice}
 
 -- the forward butterfly takes a pair to a pair
@@ -18,7 +19,12 @@ forward_of times s x y x' y' = (x' ≡ add_multiple times s x y) × (y' ≡ bit_
 abbrev pub inverse_of : (ℕ → ℕ → ℕ) → ℕ → ℕ → ℕ → ℕ → ℕ → Type 0
 inverse_of times s x y x' y' = (y' ≡ bit_xor y x) × (x' ≡ add_multiple times s x y')
 
--- one of them does: a pair is a block of two places
+-- the forward one does, or, where `inverse` is true, the inverse one
+abbrev pub one_of : Bool → (ℕ → ℕ → ℕ) → ℕ → ℕ → ℕ → ℕ → ℕ → Type 0
+one_of false = forward_of
+one_of true = inverse_of
+
+-- the same where a pair is a block of two places
 abbrev pub taken_pair : Bool → (ℕ → ℕ → ℕ) → ℕ → ℕ → ℕ → ℕ → ℕ → Type 0
 taken_pair inverse times s x y x' y' = TakesBlock inverse times s 1 (slice_index (x ∷ y ∷ [])) (slice_index (x' ∷ y' ∷ []))
 
@@ -98,6 +104,23 @@ module _ {A : Type 0} (value : A → ℕ) (pair : ℕ → ℕ → ℕ → ℕ �
           (same _ _ _ _ _ _ _ _ (sym (get_or-map value low n x 0 low_in) ∙ so_far.low_rest n from)
           (sym (get_or-map value high n y 0 high_in) ∙ so_far.high_rest n from) (sym (at low x' low_in)) (sym (at high y' high_in)) is)
 
+-- the same of a pair that one butterfly took, whichever way
+pub slices_step : {A : Type 0} (value : A → ℕ) (s n : ℕ) (lo hi low high : List A) → length lo ≡ length hi → n < length lo
+    → (inverse : Bool) → PairsSoFar (one_of inverse ghash_product s) n (map value lo) (map value hi) (map value low) (map value high)
+    → (way : Bool) → inverse ≡ way → (x y x' y' : A) (low' high' : List A) → low' ≡ set low n x' → high' ≡ set high n y'
+    → one_of way ghash_product s (value (get_or low n x)) (value (get_or high n y)) (value x') (value y')
+    → PairsSoFar (one_of inverse ghash_product s) (n + 1) (map value lo) (map value hi) (map value low') (map value high')
+slices_step {A} value s n lo hi low high equal below inverse so_far way chosen x y x' y' low' high' lower upper is =
+    subst (λ (l : List A). PairsSoFar pair (n + 1) (map value lo) (map value hi) (map value l) (map value high')) (sym lower)
+    (subst (λ (l : List A). PairsSoFar pair (n + 1) (map value lo) (map value hi) (map value (set low n x')) (map value l)) (sym upper)
+    (pairs_step value pair n lo hi low high x y x' y' equal below
+    (subst (λ (b : Bool). one_of b ghash_product s (value (get_or low n x)) (value (get_or high n y)) (value x') (value y')) (sym chosen)
+    is)
+    so_far))
+  where
+    pair : ℕ → ℕ → ℕ → ℕ → Type 0
+    pair = one_of inverse ghash_product s
+
 -- after the last pair each list is the butterfly's
 module _ (times : ℕ → ℕ → ℕ) (s n : ℕ) (lo hi lo' hi' : List ℕ) (equal : length lo ≡ length hi) (all : length lo ≤ n) where
   forward_numbers : PairsSoFar (forward_of times s) n lo hi lo' hi'
@@ -131,21 +154,21 @@ module _ (times : ℕ → ℕ → ℕ) (s n : ℕ) (lo hi lo' hi' : List ℕ) (e
         ∙ sym (read_both (add_multiple times s) (length lo) lo hi' refl (so_far.high_length ∙ sym equal) p inside)),
   )
 
--- so each slice has its values
-module _ {A : Type 0} (value : A → ℕ) (times : ℕ → ℕ → ℕ) (s n : ℕ) (lo hi lo' hi' : List A) (equal : length lo ≡ length hi) (all : length lo ≤ n) where
+-- so each slice has its values, whichever way
+module _ {A : Type 0} (value : A → ℕ) (s n : ℕ) (lo hi lo' hi' : List A) (equal : length lo ≡ length hi) (all : length lo ≤ n) where
   same_count : length (map value lo) ≡ length (map value hi)
   same_count = length-map lo value ∙ equal ∙ sym (length-map hi value)
 
   all_counted : length (map value lo) ≤ n
   all_counted = let count = length-map lo value in omega (arith, count, all)
 
-  pub forward_ends : PairsSoFar (forward_of times s) n (map value lo) (map value hi) (map value lo') (map value hi')
-      → (map value lo' ≡ zip2 (add_multiple times s) (map value lo) (map value hi)) × (map value hi' ≡ zip2 bit_xor (map value hi) (map value lo'))
-  forward_ends = forward_numbers times s n (map value lo) (map value hi) (map value lo') (map value hi') same_count all_counted
-
-  pub inverse_ends : PairsSoFar (inverse_of times s) n (map value lo) (map value hi) (map value lo') (map value hi')
-      → (map value hi' ≡ zip2 bit_xor (map value hi) (map value lo)) × (map value lo' ≡ zip2 (add_multiple times s) (map value lo) (map value hi'))
-  inverse_ends = inverse_numbers times s n (map value lo) (map value hi) (map value lo') (map value hi') same_count all_counted
+  pub slices_end : (inverse : Bool)
+      → PairsSoFar (one_of inverse ghash_product s) n (map value lo) (map value hi) (map value lo') (map value hi')
+      → TakesSlices inverse s (map value lo) (map value hi) (map value lo') (map value hi')
+  slices_end false so_far =
+      let both = forward_numbers ghash_product s n _ _ _ _ same_count all_counted so_far in record { low = both.0; high = both.1 }
+  slices_end true so_far =
+      let both = inverse_numbers ghash_product s n _ _ _ _ same_count all_counted so_far in record { high = both.0; low = both.1 }
 
 -- ---- whichever way
 

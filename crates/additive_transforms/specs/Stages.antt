@@ -1,8 +1,9 @@
 -- One stage of a transform, block by block, over any ring of characteristic two whose elements are numbers. An array is a function
 -- from its places to its values.
-use Rattle.std.specs.Prelude.{◌≡◌, ℕ, suc, ◌+◌, ◌*◌, ◌^◌, ◌<◌, Bool, List, bit_xor, cond, slice_index}
+use Rattle.std.specs.Prelude.{◌≡◌, ℕ, suc, ◌+◌, ◌*◌, ◌^◌, ◌<◌, Bool, true, false, List, bit_xor, cond, slice_index}
 use Rattle.field_base.specs.LinearMaps.{linear_image}
 use Rattle.ghash_slices.specs.LowStages.{values_from}
+use Rattle.ghash_slices.specs.Slices.{IsForward, IsInverse}
 use Rattle.ghash_slices.specs.Stages.{add_multiple, factor, stages}
 
 -- in a block of twice `half` places the array a becomes b by the forward butterfly with the scalar t. A pair is a place of the
@@ -15,6 +16,11 @@ pub record IsButterfly (times : ℕ → ℕ → ℕ) (t half : ℕ) (a b : ℕ �
 -- back
 abbrev pub TakesBlock : Bool → (ℕ → ℕ → ℕ) → ℕ → ℕ → (ℕ → ℕ) → (ℕ → ℕ) → Type 0
 TakesBlock inverse times t half old new = IsButterfly times t half (cond inverse new old) (cond inverse old new)
+
+-- the forward butterfly at each place takes two lists to two others, or, where `inverse` is true, the inverse one does
+abbrev pub TakesSlices : Bool → ℕ → List ℕ → List ℕ → List ℕ → List ℕ → Type 0
+TakesSlices false = IsForward
+TakesSlices true = IsInverse
 
 -- stage j takes the values a to the values b in so many blocks of 2 ^ (j + 1) places: the scalar of a block is its twiddle, which
 -- is the shift of the stage, and the elements of the basis at the set bits of the block's number

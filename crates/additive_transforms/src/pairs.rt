@@ -1,9 +1,8 @@
 // Kernels that compute one pair of places at a time.
 ghost use Rattle.std.specs.Prelude.{◌≡◌, ℕ, ◌+◌, ◌-◌, ◌*◌, ◌%◌, ◌/◌, ◌^◌, ◌<◌, ◌≤◌, length, map, slice_index, bit_xor};
 ghost use Rattle.ghash_slices.specs.LowStages.{ghash_product, HoldSums};
-ghost use Rattle.ghash_slices.specs.Slices.{IsForward, IsInverse};
 ghost use Rattle.ghash_slices.specs.Stages.{add_multiple};
-ghost use Rattle.additive_transforms.specs.Stages.{IsButterfly, IsStageFrom};
+ghost use Rattle.additive_transforms.specs.Stages.{IsButterfly, IsStageFrom, TakesSlices};
 
 use crate::kernel::Kernel;
 use crate::stages::{half_of, start_of};
@@ -53,12 +52,12 @@ impl<P: PairKernel> Kernel for PairByPair<P> {
 
     fn butterfly_forward(&mut self, lo: &mut [P::Elem], hi: &mut [P::Elem], s: u128) {
         self.products += lo.len() as u64;
-        forward_pairs(&mut self.pairs, lo, hi, s);
+        run_pairs(&mut self.pairs, lo, hi, s, false);
     }
 
     fn butterfly_inverse(&mut self, lo: &mut [P::Elem], hi: &mut [P::Elem], s: u128) {
         self.products += lo.len() as u64;
-        inverse_pairs(&mut self.pairs, lo, hi, s);
+        run_pairs(&mut self.pairs, lo, hi, s, true);
     }
 
     fn low_forward<A: Allocator>(
@@ -74,23 +73,23 @@ impl<P: PairKernel> Kernel for PairByPair<P> {
     }
 }
 
-// The forward butterfly of each pair of places of two slices.
-fn forward_pairs<P: PairKernel>(pairs: &mut P, lo: &mut [P::Elem], hi: &mut [P::Elem], s: u128)
+// The butterfly of each pair of places of two slices, or, where `inverse` is true, the inverse one.
+fn run_pairs<P: PairKernel>(
+    pairs: &mut P,
+    lo: &mut [P::Elem],
+    hi: &mut [P::Elem],
+    s: u128,
+    inverse: bool,
+)
     requires { length lo.old ≡ length hi.old }
-    ensures { IsForward s (map P.value lo.old) (map P.value hi.old) (map P.value lo.new) (map P.value hi.new) }
+    ensures { TakesSlices inverse s (map P.value lo.old) (map P.value hi.old) (map P.value lo.new) (map P.value hi.new) }
 {
     for place in 0..lo.len() {
-        pairs.forward_pair(&mut lo[place], &mut hi[place], s);
-    }
-}
-
-// The inverse butterfly of each pair of places of two slices.
-fn inverse_pairs<P: PairKernel>(pairs: &mut P, lo: &mut [P::Elem], hi: &mut [P::Elem], s: u128)
-    requires { length lo.old ≡ length hi.old }
-    ensures { IsInverse s (map P.value lo.old) (map P.value hi.old) (map P.value lo.new) (map P.value hi.new) }
-{
-    for place in 0..lo.len() {
-        pairs.inverse_pair(&mut lo[place], &mut hi[place], s);
+        if inverse {
+            pairs.inverse_pair(&mut lo[place], &mut hi[place], s);
+        } else {
+            pairs.forward_pair(&mut lo[place], &mut hi[place], s);
+        }
     }
 }
 
@@ -144,7 +143,7 @@ fn pairs_of_block<P: PairKernel>(pairs: &mut P, block: &mut [P::Elem], half: usi
     ensures values { IsButterfly ghash_product twiddle half (slice_index (map P.value block.old)) (slice_index (map P.value block.new)) }
 {
     let (lower, upper) = block.split_at_mut(half);
-    forward_pairs(pairs, lower, upper, twiddle);
+    run_pairs(pairs, lower, upper, twiddle, false);
 }
 
 // The first block of a stage in a run: a run has 2^(3 - stage).
