@@ -3,15 +3,8 @@ use Rattle.std.proofs.Common.{◌≡◌, ◌⊎◌, inl, inr, ℕ, ◌+◌, ◌-
 use Rattle.std.proofs.Math.Nat.{div-add-mod}
 use Rattle.std.proofs.lemmas.Bool.{cases_lt}
 use native.Mathlib.Nat.{mod-lt}
-use Rattle.tower_transforms.specs.Butterflies.{TakesPair, TakesRows}
+use Rattle.tower_transforms.specs.Butterflies.{AreTaken, TakesPair, TakesRows}
 use Rattle.tower_transforms.specs.Rows.{count_of, element_of}
-
--- the pairs before place n are taken
-pub record AreTaken (inverse : Bool) (d s n : ℕ) (lo hi now_lo now_hi : List ℕ) : Type 0 where
-  pub taken : (i : ℕ) → i < n → i < count_of d (length lo)
-      → TakesPair inverse d s (element_of d lo i) (element_of d hi i) (element_of d now_lo i) (element_of d now_hi i)
-  pub lower : (i : ℕ) → n ≤ i → i < count_of d (length lo) → element_of d now_lo i ≡ element_of d lo i
-  pub upper : (i : ℕ) → n ≤ i → i < count_of d (length lo) → element_of d now_hi i ≡ element_of d hi i
 
 -- before the first place none is
 pub none_taken : (inverse : Bool) (d s n : ℕ) (lo hi : List ℕ) → n ≡ 0 → AreTaken inverse d s n lo hi lo hi
@@ -34,8 +27,7 @@ within_next count lanes some =
 
 -- k pairs more: their elements a and b are read, taken to x and y, and written
 module _ (inverse : Bool) (d s n k m : ℕ) (lo hi now_lo now_hi next_lo next_hi : List ℕ) (a b x y : ℕ → ℕ) (next : m ≡ n + k)
-    (same : length lo ≡ length hi) (lower_long : length now_lo ≡ length lo) (upper_long : length now_hi ≡ length hi)
-    (before : AreTaken inverse d s n lo hi now_lo now_hi)
+    (long : length now_lo ≡ length lo) (same : length now_lo ≡ length now_hi) (before : AreTaken inverse d s n lo hi now_lo now_hi)
     (read_lower : (l : ℕ) → l < k → n + l < count_of d (length now_lo) → a l ≡ element_of d now_lo (n + l))
     (read_upper : (l : ℕ) → l < k → n + l < count_of d (length now_hi) → b l ≡ element_of d now_hi (n + l))
     (pairs : (l : ℕ) → l < k → TakesPair inverse d s (a l) (b l) (x l) (y l))
@@ -44,10 +36,10 @@ module _ (inverse : Bool) (d s n k m : ℕ) (lo hi now_lo now_hi next_lo next_hi
     (kept_lower : (i : ℕ) → (i < n) ⊎ (n + k ≤ i) → i < count_of d (length now_lo) → element_of d next_lo i ≡ element_of d now_lo i)
     (kept_upper : (i : ℕ) → (i < n) ⊎ (n + k ≤ i) → i < count_of d (length now_hi) → element_of d next_hi i ≡ element_of d now_hi i) where
   in_lower : (i : ℕ) → i < count_of d (length lo) → i < count_of d (length now_lo)
-  in_lower i inside = subst (λ (c : ℕ). i < count_of d c) (sym lower_long) inside
+  in_lower i inside = subst (λ (c : ℕ). i < count_of d c) (sym long) inside
 
   in_upper : (i : ℕ) → i < count_of d (length lo) → i < count_of d (length now_hi)
-  in_upper i inside = subst (λ (c : ℕ). i < count_of d c) (same ∙ sym upper_long) inside
+  in_upper i inside = subst (λ (c : ℕ). i < count_of d c) same (in_lower i inside)
 
   of_place : (i a0 b0 x0 y0 a1 b1 x1 y1 : ℕ) → a0 ≡ a1 → b0 ≡ b1 → x0 ≡ x1 → y0 ≡ y1 → TakesPair inverse d s a0 b0 x0 y0
       → TakesPair inverse d s a1 b1 x1 y1

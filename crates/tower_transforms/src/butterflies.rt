@@ -1,9 +1,8 @@
 // Butterflies of rows of elements (S. Gao and T. Mateer, Additive fast Fourier transforms over finite fields, IEEE Transactions on
 // Information Theory 56, 2010).
-ghost use Rattle.std.specs.Prelude.{◌≡◌, ◌⊎◌, ℕ, ◌+◌, ◌%◌, ◌^◌, ◌<◌, ◌≤◌, bit_xor, length, slice_index};
-ghost use Rattle.field_base.specs.Tower.{tower_mul};
-ghost use Rattle.tower_transforms.specs.Rows.{CanBeHalved};
-ghost use Rattle.tower_transforms.specs.Butterflies.{TakesPair, TakesRows};
+ghost use Rattle.std.specs.Prelude.{◌≡◌, ℕ, ◌+◌, ◌%◌, ◌<◌, ◌≤◌, IsTrue, cond, length};
+ghost use Rattle.tower_transforms.specs.Rows.{CanBeHalved, count_of};
+ghost use Rattle.tower_transforms.specs.Butterflies.{TakesNext, TakesPair, TakesRows};
 
 use crate::blocks::ByteBlock;
 use crate::multiples::{multiples_8, multiples_16, multiples_32};
@@ -58,21 +57,38 @@ fn run_rows<P: Planes<M>, M>(lo: &mut [u8], hi: &mut [u8], multiples: &M, invers
     let count = P::elements_of(lo.len());
     let lanes = P::lane_count();
     for block in 0..count / lanes {
-        let start = lanes * block;
-        let mut lower = P::read(lo, start);
-        let mut upper = P::read(hi, start);
-        run_pair(&mut lower, &mut upper, multiples, inverse);
-        lower.write(lo, start);
-        upper.write(hi, start);
+        run_lanes::<P, M>(lo, hi, multiples, inverse, lanes * block, false);
     }
     let start = lanes * (count / lanes);
     if start < count {
-        let mut lower = P::read_rest(lo, start);
-        let mut upper = P::read_rest(hi, start);
-        run_pair(&mut lower, &mut upper, multiples, inverse);
-        lower.write_rest(lo, start);
-        upper.write_rest(hi, start);
+        run_lanes::<P, M>(lo, hi, multiples, inverse, start, true);
     }
+}
+
+// Those of the elements from `start` on: one for each lane, or, where `rest` is true, fewer, to the end of the rows.
+#[inline(always)]
+fn run_lanes<P: Planes<M>, M>(
+    lo: &mut [u8],
+    hi: &mut [u8],
+    multiples: &M,
+    inverse: bool,
+    start: usize,
+    rest: bool,
+)
+    requires same { length lo.old ≡ length hi.old }
+    requires whole { CanBeHalved P.depth (length lo.old) }
+    requires inside { cond rest start (start + P.lanes) ≤ count_of P.depth (length lo.old) }
+    requires few { IsTrue rest → count_of P.depth (length lo.old) < start + P.lanes }
+    ensures lower { length lo.new ≡ length lo.old }
+    ensures upper { length hi.new ≡ length hi.old }
+    ensures values { (s : ℕ) → P.are_multiples multiples.now s
+        → TakesNext inverse P.depth s start (start + P.lanes) lo.old hi.old lo.new hi.new }
+{
+    let mut lower = P::read(lo, start, rest);
+    let mut upper = P::read(hi, start, rest);
+    run_pair(&mut lower, &mut upper, multiples, inverse);
+    lower.write(lo, start, rest);
+    upper.write(hi, start, rest);
 }
 
 // The butterfly in each lane.

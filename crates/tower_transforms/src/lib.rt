@@ -31,7 +31,7 @@ mod word_planes;
 mod word_rows;
 mod words;
 
-pub use crate::blocks::ByteBlock;
+pub use crate::blocks::{ByteBlock, SliceVector};
 pub use crate::butterflies::{butterflies_8, butterflies_16, butterflies_32};
 pub use crate::chunks::{Paired, Scales, times_number};
 pub use crate::ghash::{forward, forward_numbers, inverse, inverse_numbers, transform_ghash};

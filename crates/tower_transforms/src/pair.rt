@@ -35,35 +35,19 @@ impl<M, P: Planes<M>> Planes<HalfMultiples<M>> for Pair<P> {
     }
 
     #[inline(always)]
-    fn read(row: &[u8], start: usize) -> Pair<P> {
+    fn read(row: &[u8], start: usize, rest: bool) -> Pair<P> {
         let (low, high) = row.split_at(row.len() / 2);
         Pair {
-            low: P::read(low, start),
-            high: P::read(high, start),
+            low: P::read(low, start, rest),
+            high: P::read(high, start, rest),
         }
     }
 
     #[inline(always)]
-    fn write(&self, row: &mut [u8], start: usize) {
+    fn write(&self, row: &mut [u8], start: usize, rest: bool) {
         let (low, high) = row.split_at_mut(row.len() / 2);
-        self.low.write(low, start);
-        self.high.write(high, start);
-    }
-
-    #[inline(always)]
-    fn read_rest(row: &[u8], start: usize) -> Pair<P> {
-        let (low, high) = row.split_at(row.len() / 2);
-        Pair {
-            low: P::read_rest(low, start),
-            high: P::read_rest(high, start),
-        }
-    }
-
-    #[inline(always)]
-    fn write_rest(&self, row: &mut [u8], start: usize) {
-        let (low, high) = row.split_at_mut(row.len() / 2);
-        self.low.write_rest(low, start);
-        self.high.write_rest(high, start);
+        self.low.write(low, start, rest);
+        self.high.write(high, start, rest);
     }
 
     #[inline(always)]

@@ -1,11 +1,11 @@
 // Elements of 8, 16 or 32 bits in vectors of bytes. A plane is a vector that has a byte of each of them.
-ghost use Rattle.std.specs.Prelude.{◌≡◌, ◌⊎◌, ℕ, ◌+◌, ◌%◌, ◌^◌, ◌<◌, ◌≤◌, bit_xor, length, slice_index};
+ghost use Rattle.std.specs.Prelude.{◌≡◌, ◌⊎◌, ℕ, ◌+◌, ◌%◌, ◌^◌, ◌<◌, ◌≤◌, IsTrue, bit_xor, cond, length, slice_index};
 ghost use Rattle.field_base.specs.Tower.{tower_mul};
 ghost use Rattle.tower_transforms.specs.Rows.{CanBeHalved, byte_of_lane, count_of, element_of, level_of};
 ghost use Rattle.tower_transforms.specs.Products.{AreMultiples};
 ghost use Rattle.tower_transforms.specs.LaneLemmas.{byte_of_lane-lt};
 
-use crate::blocks::ByteBlock;
+use crate::blocks::{ByteBlock, SliceVector};
 use crate::multiples::ByteMultiples;
 use word_tables::entry_sums;
 
@@ -33,36 +33,19 @@ pub trait Planes<M>: Copy {
     fn elements_of(length: usize) -> usize
         ensures { result ≡ count_of depth length };
 
-    /// The elements of a row from `start` on.
-    fn read(row: &[u8], start: usize) -> Self
+    /// The elements of a row from `start` on: it has as many as these, or, where `rest` is true, fewer.
+    fn read(row: &[u8], start: usize, rest: bool) -> Self
         requires whole { CanBeHalved depth (length row.now) }
-        requires inside { start + lanes ≤ count_of depth (length row.now) }
+        requires inside { cond rest start (start + lanes) ≤ count_of depth (length row.now) }
+        requires few { IsTrue rest → count_of depth (length row.now) < start + lanes }
         ensures { (l : ℕ) → l < lanes → start + l < count_of depth (length row.now)
             → lane result l ≡ element_of depth row.now (start + l) };
 
-    /// Writes the elements to a row from `start` on.
-    fn write(&self, row: &mut [u8], start: usize)
+    /// Writes the elements to a row from `start` on: all, or, where `rest` is true, as many as it has, which are fewer.
+    fn write(&self, row: &mut [u8], start: usize, rest: bool)
         requires whole { CanBeHalved depth (length row.old) }
-        requires inside { start + lanes ≤ count_of depth (length row.old) }
-        ensures length { length row.new ≡ length row.old }
-        ensures written { (l : ℕ) → l < lanes → start + l < count_of depth (length row.old)
-            → element_of depth row.new (start + l) ≡ lane self.now l }
-        ensures kept { (i : ℕ) → (i < start) ⊎ (start + lanes ≤ i) → i < count_of depth (length row.old)
-            → element_of depth row.new i ≡ element_of depth row.old i };
-
-    /// The elements of a row from `start` on, which are fewer than these.
-    fn read_rest(row: &[u8], start: usize) -> Self
-        requires whole { CanBeHalved depth (length row.now) }
-        requires inside { start ≤ count_of depth (length row.now) }
-        requires few { count_of depth (length row.now) < start + lanes }
-        ensures { (l : ℕ) → l < lanes → start + l < count_of depth (length row.now)
-            → lane result l ≡ element_of depth row.now (start + l) };
-
-    /// Writes as many of the elements as the row has from `start` on, which are fewer than these.
-    fn write_rest(&self, row: &mut [u8], start: usize)
-        requires whole { CanBeHalved depth (length row.old) }
-        requires inside { start ≤ count_of depth (length row.old) }
-        requires few { count_of depth (length row.old) < start + lanes }
+        requires inside { cond rest start (start + lanes) ≤ count_of depth (length row.old) }
+        requires few { IsTrue rest → count_of depth (length row.old) < start + lanes }
         ensures length { length row.new ≡ length row.old }
         ensures written { (l : ℕ) → l < lanes → start + l < count_of depth (length row.old)
             → element_of depth row.new (start + l) ≡ lane self.now l }
@@ -92,7 +75,7 @@ impl<V: ByteBlock> Planes<ByteMultiples> for V {
 
     #[inline(always)]
     fn lane_count() -> usize {
-        <V as ByteBlock>::lane_count()
+        <V as SliceVector>::lane_count()
     }
 
     #[inline(always)]
@@ -101,27 +84,23 @@ impl<V: ByteBlock> Planes<ByteMultiples> for V {
     }
 
     #[inline(always)]
-    fn read(row: &[u8], start: usize) -> V {
-        <V as ByteBlock>::read(row, start)
+    fn read(row: &[u8], start: usize, rest: bool) -> V {
+        if rest {
+            V::read_rest(row, start)
+        } else {
+            <V as SliceVector>::read(row, start)
+        }
     }
 
     #[inline(always)]
-    fn write(&self, row: &mut [u8], start: usize) {
+    fn write(&self, row: &mut [u8], start: usize, rest: bool) {
         let bytes = *self;
         bytes.holds_bytes();
-        <V as ByteBlock>::write(bytes, row, start);
-    }
-
-    #[inline(always)]
-    fn read_rest(row: &[u8], start: usize) -> V {
-        <V as ByteBlock>::read_rest(row, start)
-    }
-
-    #[inline(always)]
-    fn write_rest(&self, row: &mut [u8], start: usize) {
-        let bytes = *self;
-        bytes.holds_bytes();
-        <V as ByteBlock>::write_rest(bytes, row, start);
+        if rest {
+            bytes.write_rest(row, start);
+        } else {
+            <V as SliceVector>::write(bytes, row, start);
+        }
     }
 
     #[inline(always)]

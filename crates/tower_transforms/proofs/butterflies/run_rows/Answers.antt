@@ -1,6 +1,7 @@
 use Rattle.std.proofs.Common.{◌≡◌, ◌+◌, ◌*◌, ◌/◌, ◌≤◌, ℕ, length, refl, ◌∙◌, subst, arith}
+use Rattle.tower_transforms.specs.Butterflies.{AreTaken}
 use Rattle.tower_transforms.specs.Rows.{count_of}
-use Rattle.tower_transforms.proofs.RowSteps.{AreTaken, all_taken, more_taken, none_taken, within_next}
+use Rattle.tower_transforms.proofs.RowSteps.{all_taken, none_taken, within_next}
 use Rattle.tower_transforms.proofs.butterflies.run_rows.Goals as goal
 
 pub loop-block-init : goal.loop-block-init
@@ -15,19 +16,15 @@ loop-block-init g c =
 pub loop-block-preserved : goal.loop-block-preserved
 loop-block-preserved g c =
     let lanes = c.lane_count-lanes.result in
-    let block = c.loop-block.block in
     let so_far = c.loop-block.invariant in
     let count = c.lane_count-lanes.ensures.count in
     let within = c.loop-block-test.true in
-    let next : lanes * (block + 1) ≡ lanes * block + g.P.Planes.lanes = omega (arith, count) in (
-      c.write.ensures.length ∙ so_far.0,
-      c.write-in-loop-block.ensures.length ∙ so_far.1,
+    let next : lanes * c.loop-block.block + g.P.Planes.lanes ≡ lanes * (c.loop-block.block + 1) = omega (arith, count) in (
+      c.run_lanes.ensures.lower ∙ so_far.0,
+      c.run_lanes.ensures.upper ∙ so_far.1,
       λ s are.
-          more_taken c.args.inverse g.P.Planes.depth s (lanes * block) g.P.Planes.lanes (lanes * (block + 1)) c.args.lo.now c.args.hi.now
-          c.loop-block.lo c.loop-block.hi c.write.new.row c.write-in-loop-block.new.row _ _ _ _ next c.requires.same so_far.0
-          so_far.1 (so_far.2 s are) c.read-lower.ensures c.read-upper.ensures
-          (c.run_pair.ensures s are) c.write.ensures.written c.write-in-loop-block.ensures.written c.write.ensures.kept
-          c.write-in-loop-block.ensures.kept,
+          subst (λ (n : ℕ). AreTaken c.args.inverse g.P.Planes.depth s n c.args.lo.now c.args.hi.now c.run_lanes.new.lo c.run_lanes.new.hi) next
+          (c.run_lanes.ensures.values s are c.args.lo.now c.args.hi.now so_far.0 (so_far.2 s are)),
       omega (arith, within),
     )
 
@@ -43,13 +40,8 @@ returns-then-start-count-clause-values g c s are =
     let last = within_next count lanes c.lane_count-lanes.ensures.some in
     let all : count_of d (length c.args.lo.now) ≤ lanes * (count / lanes) + g.P.Planes.lanes =
     omega (arith, last, c.elements_of-count.ensures, c.lane_count-lanes.ensures.count) in
-    all_taken c.args.inverse d s (lanes * (count / lanes) + g.P.Planes.lanes) c.args.lo.now c.args.hi.now c.write_rest.new.row
-    c.write_rest-then-start-count.new.row
-    (more_taken c.args.inverse d s (lanes * (count / lanes)) g.P.Planes.lanes (lanes * (count / lanes) + g.P.Planes.lanes) c.args.lo.now
-    c.args.hi.now c.loop-block.lo c.loop-block.hi c.write_rest.new.row c.write_rest-then-start-count.new.row _ _ _ _ refl c.requires.same
-    so_far.0 so_far.1
+    all_taken c.args.inverse d s (lanes * (count / lanes) + g.P.Planes.lanes) c.args.lo.now c.args.hi.now _ _
+    (c.run_lanes-then-start-count.ensures.values s are c.args.lo.now c.args.hi.now so_far.0
     (subst (λ (b : ℕ). AreTaken c.args.inverse d s (lanes * b) c.args.lo.now c.args.hi.now c.loop-block.lo c.loop-block.hi) block
-    (so_far.2 s are))
-    c.read_rest-lower.ensures c.read_rest-upper.ensures (c.run_pair-then-start-count.ensures s are) c.write_rest.ensures.written
-    c.write_rest-then-start-count.ensures.written c.write_rest.ensures.kept c.write_rest-then-start-count.ensures.kept)
+    (so_far.2 s are)))
     all

@@ -1,5 +1,5 @@
 use Rattle.std.proofs.Common.{◌≡◌, ◌*◌, ◌/◌, ◌≤◌, ℕ, length}
-use Rattle.tower_transforms.proofs.RowSteps.{AreTaken}
+use Rattle.tower_transforms.specs.Butterflies.{AreTaken}
 use Rattle.tower_transforms.proofs.butterflies.run_rows.Given as goal
 
 -- the pairs of the blocks before this one are taken

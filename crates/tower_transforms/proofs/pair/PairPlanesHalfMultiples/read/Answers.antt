@@ -1,4 +1,5 @@
-use Rattle.std.proofs.Common.{◌+◌, ◌≤◌, ℕ, length}
+use Rattle.std.proofs.Common.{◌+◌, ◌<◌, ◌≤◌, ℕ, length}
+use Rattle.std.specs.Prelude.{IsTrue, cond}
 use Rattle.tower_transforms.specs.Rows.{CanBeHalved, count_of}
 use Rattle.tower_transforms.proofs.RowHalves.{halves_read, of_first, of_second}
 use Rattle.tower_transforms.proofs.pair.PairPlanesHalfMultiples.read.Goals as goal
@@ -12,8 +13,13 @@ read-requires-2-clause-whole g c =
 
 pub read-requires-2-clause-inside : goal.read-requires-2-clause-inside
 read-requires-2-clause-inside g c =
-    of_second (λ (n : ℕ). c.args.start + g.P.Planes.lanes ≤ count_of g.P.Planes.depth n) (length c.args.row.now) _ c.split_at.ensures.back_len
-    c.requires.whole.0 c.requires.inside
+    of_second (λ (n : ℕ). cond c.args.rest c.args.start (c.args.start + g.P.Planes.lanes) ≤ count_of g.P.Planes.depth n) (length c.args.row.now) _
+    c.split_at.ensures.back_len c.requires.whole.0 c.requires.inside
+
+pub read-requires-2-clause-few : goal.read-requires-2-clause-few
+read-requires-2-clause-few g c =
+    of_second (λ (n : ℕ). IsTrue c.args.rest → count_of g.P.Planes.depth n < c.args.start + g.P.Planes.lanes) (length c.args.row.now) _
+    c.split_at.ensures.back_len c.requires.whole.0 c.requires.few
 
 pub returns : goal.returns
 returns g c l below inside =
