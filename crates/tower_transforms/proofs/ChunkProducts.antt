@@ -1,6 +1,6 @@
 -- Products of elements that stand one after another in sixteen bytes, by products of their halves and as the products of one number.
-use Rattle.std.proofs.Common.{◌≡◌, ◌⊎◌, inl, inr, ℕ, zero, suc, ◌+◌, ◌-◌, ◌*◌, ◌/◌, ◌^◌, ◌<◌, ◌≤◌, List, ◌++◌, drop, length, get_or, map, refl, take, sym, ◌∙◌, ap, ap₂, subst, arith, w8, Fits}
-use Rattle.std.specs.Prelude.{bit_xor, slice_index}
+use Rattle.std.proofs.Common.{◌≡◌, ◌⊎◌, inl, inr, Bool, true, false, ℕ, zero, suc, ◌+◌, ◌-◌, ◌*◌, ◌/◌, ◌^◌, ◌<◌, ◌≤◌, List, ◌++◌, drop, length, get_or, map, refl, take, sym, ◌∙◌, ap, ap₂, subst, arith, w8, Fits}
+use Rattle.std.specs.Prelude.{bit_xor, cond, slice_index}
 use Rattle.std.specs.Simd.Lanes.{Each1, digits_l, number_l, pick_l, zip2}
 use Rattle.std.specs.List.{range_with_len}
 use Rattle.std.proofs.lemmas.Bool.{cases_lt}
@@ -16,7 +16,7 @@ use Rattle.field_base.proofs.QuadraticRing.{high_half-pair, low_half-pair, pair_
 use Rattle.field_base.proofs.RingLemmas.{times-zero}
 use Rattle.field_base.proofs.TowerProducts.{level-lt, tower_mul-low_times}
 use Rattle.field_base.proofs.TowerRing.{halves-lt, tower_ring}
-use Rattle.tower_transforms.specs.Chunks.{AreExchanged, AreMerged, AreTimes, chunk_of}
+use Rattle.tower_transforms.specs.Chunks.{AreExchanged, AreMerged, AreTimes, chunk_of, paired_depth}
 use Rattle.tower_transforms.specs.Products.{AreMultiples}
 use Rattle.tower_transforms.specs.Rows.{level_of}
 use Rattle.tower_transforms.specs.declared.multiples.ByteMultiples.{ByteMultiples}
@@ -280,6 +280,14 @@ even_next h i = omega arith
 
 odd_next : (h i : ℕ) → 2 * (h + i) + 1 ≡ 2 * h + (2 * i + 1)
 odd_next h i = omega arith
+
+-- how many pairs of elements of 16 bits, or of bytes, sixteen bytes have
+abbrev pub half_pairs : Bool → ℕ
+half_pairs wide = cond wide 4 8
+
+pub pairs_fill : (wide : Bool) → 2 ^ paired_depth wide * (2 * half_pairs wide) ≡ 16
+pairs_fill true = refl
+pairs_fill false = refl
 
 -- so elements are exchanged in a vector where they are in both halves
 pub two_exchanged : (d h : ℕ) (old new old_a old_b a b : List ℕ) → 2 ^ d * (2 * h) ≡ 16 → length old ≡ 32
