@@ -553,6 +553,67 @@ use crate::integer::Integer;
             yield INTEGER.substitute(integer=f"{sign}{bits}", value=value)
 
 
+# ---- the unsigned integers of Rust by their bytes in vectors (tower_transforms)
+
+STORED_BYTES = Template("""\
+impl StoredBytes for u$bits {
+    ghost number_law = { refl };
+}
+""")
+
+WORD_BYTES = Template("""\
+impl WordBytes<u$bits> for u$bits {
+    ghost size = { $size };
+
+    #[inline(always)]
+    fn read_bytes(words: &[u$bits], start: usize) -> u8x16 {
+        $read
+    }
+
+    #[inline(always)]
+    fn write_bytes(words: &mut [u$bits], start: usize, bytes: u8x16) {
+        $written.copy_to_slice(&mut words[start..]);
+    }
+
+    #[inline(always)]
+    fn in_sixteen() -> usize {
+        $count
+    }
+
+    ghost size_law = { $size_law };
+
+    ghost bits_law = { refl };
+}
+""")
+
+# How often words have halves before they are bytes, in words.
+HALVES = ["no_halves", "one_half", "two_halves", "three_halves"]
+
+
+def word_bytes():
+    yield """\
+// The unsigned integers of Rust as words that are read into vectors of their bytes. Words of 128 bits have an impl for all that hold them.
+ghost use Rattle.std.specs.Prelude.{refl};
+ghost use Rattle.tower_transforms.specs.ChunkLemmas.{no_halves, one_half, two_halves, three_halves};
+
+use crate::word_bytes::{StoredBytes, WordBytes};
+use std::simd::prelude::*;
+"""
+    for bits in UNSIGNED:
+        yield STORED_BYTES.substitute(bits=bits)
+    for size, halves in enumerate(HALVES):
+        bits, count = 8 << size, 16 >> size
+        vector = f"u{bits}x{count}"
+        yield WORD_BYTES.substitute(
+            bits=bits,
+            size=size,
+            count=count,
+            size_law=halves,
+            read=f"{vector}::from_slice(&words[start..])" + (".to_le_bytes()" if size else ""),
+            written=f"{vector}::from_le_bytes(bytes)" if size else "bytes",
+        )
+
+
 if __name__ == "__main__":
     keep_all(
         "make_word_impls.py",
@@ -567,5 +628,6 @@ if __name__ == "__main__":
             "field_bytes/src/little_endian/impls.rt": little_endian,
             "field_bytes/src/sized_words.rt": streams,
             "field_integers/src/integer/impls.rt": integers,
+            "tower_transforms/src/word_bytes/impls.rt": word_bytes,
         },
     )

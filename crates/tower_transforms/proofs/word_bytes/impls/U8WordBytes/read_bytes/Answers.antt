@@ -2,7 +2,7 @@ use Rattle.std.proofs.Common.{refl, sym, w8, arith}
 use Rattle.std.specs.Simd.Lanes.{chunk}
 use Rattle.std.proofs.lemmas.Simd.{chunk-fits, length-chunk}
 use Rattle.tower_transforms.proofs.WordPlaces.{own_words_read, sixteen_digits}
-use Rattle.tower_transforms.proofs.word_bytes.U8WordBytes.read_bytes.Goals as goal
+use Rattle.tower_transforms.proofs.word_bytes.impls.U8WordBytes.read_bytes.Goals as goal
 
 pub returns : goal.returns
 returns c =

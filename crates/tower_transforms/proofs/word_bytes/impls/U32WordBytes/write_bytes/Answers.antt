@@ -1,7 +1,7 @@
 use Rattle.std.proofs.Common.{◌^◌, refl}
 use Rattle.std.specs.Simd.Lanes.{digits_l, number_l, put_chunk}
 use Rattle.tower_transforms.proofs.WordPlaces.{own_words_put}
-use Rattle.tower_transforms.proofs.word_bytes.U32WordBytes.write_bytes.Goals as goal
+use Rattle.tower_transforms.proofs.word_bytes.impls.U32WordBytes.write_bytes.Goals as goal
 
 pub returns-clause-words : goal.returns-clause-words
 returns-clause-words c =

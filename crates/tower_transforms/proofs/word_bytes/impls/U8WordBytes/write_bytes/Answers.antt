@@ -1,7 +1,7 @@
 use Rattle.std.proofs.Common.{List, ℕ, refl, sym, ap}
 use Rattle.std.specs.Simd.Lanes.{put_chunk}
 use Rattle.tower_transforms.proofs.WordPlaces.{own_words_put, sixteen_digits}
-use Rattle.tower_transforms.proofs.word_bytes.U8WordBytes.write_bytes.Goals as goal
+use Rattle.tower_transforms.proofs.word_bytes.impls.U8WordBytes.write_bytes.Goals as goal
 
 pub returns-clause-words : goal.returns-clause-words
 returns-clause-words c =
