@@ -1,14 +1,12 @@
 // The arithmetic of the stages of a transform of words: each block by as narrow a scalar as its twiddle is.
-ghost use Rattle.std.specs.Prelude.{◌≡◌, ◌++◌, ◌+◌, ◌^◌, ◌<◌, ◌≤◌, ℕ, length, map, slice_index};
+ghost use Rattle.std.specs.Prelude.{◌≡◌, ◌^◌, ◌<◌, ◌≤◌, ℕ, length};
 ghost use Rattle.std.proofs.lemmas.Nat.{pow_pos};
 ghost use native.Mathlib.Nat.{mod-lt};
-ghost use Rattle.additive_transforms.specs.Stages.{TakesBlock};
 ghost use Rattle.field_base.proofs.TowerRing.{tower_ring};
 ghost use Rattle.field_base.specs.Tower.{tower_mul};
 ghost use Rattle.ghash_slices.specs.Cantor.{subspace_value};
 ghost use Rattle.tower_transforms.specs.LevelVectors.{level_vectors};
-ghost use Rattle.tower_transforms.specs.Words.{level_element};
-ghost use Rattle.word_tables.specs.Cantor.{cantor_vector};
+ghost use Rattle.tower_transforms.specs.Words.{TakesWords, cantor_vector, level_element};
 
 use crate::multiples::{multiples_8, multiples_16, multiples_32};
 use crate::pairs::run_all;
@@ -92,9 +90,7 @@ pub(crate) fn run_block<R: Unsigned, L: Level<R>, W: WordBytes<R>>(
     requires { length lo.old ≡ length hi.old }
     ensures lower { length lo.new ≡ length lo.old }
     ensures upper { length hi.new ≡ length hi.old }
-    ensures values { let element = level_element W.Holds.number L.LEVEL in
-        TakesBlock inverse (tower_mul L.LEVEL) (R.number twiddle) (length lo.old) (slice_index (map element lo.old ++ map element hi.old))
-        (slice_index (map element lo.new ++ map element hi.new)) }
+    ensures values { TakesWords W.Holds.number L.LEVEL inverse (R.number twiddle) lo.old hi.old lo.new hi.new }
 {
     let level = PhantomData::<L>;
     let scalar = twiddle.to_u128();

@@ -1,9 +1,8 @@
 // Butterflies of pairs of words of two slices (S. Gao and T. Mateer, Additive fast Fourier transforms over finite fields, 2010).
-ghost use Rattle.std.specs.Prelude.{◌≡◌, [], ◌∷◌, ◌++◌, ℕ, ◌≤◌, length, map, slice_index};
+ghost use Rattle.std.specs.Prelude.{◌≡◌, [], ◌∷◌, ℕ, ◌≤◌, length, slice_index};
 ghost use Rattle.field_base.specs.Tower.{tower_mul};
 ghost use Rattle.additive_transforms.specs.Stages.{TakesBlock};
-ghost use Rattle.additive_transforms.proofs.PairLoops.{taken_pair};
-ghost use Rattle.tower_transforms.specs.Words.{TakesPairs, level_element};
+ghost use Rattle.tower_transforms.specs.Words.{TakesWordPairs, TakesWords, level_element};
 
 use crate::products::Multiplies;
 use crate::words::Holds;
@@ -20,9 +19,7 @@ pub(crate) fn run_all<R: Unsigned, W: Holds<R>, S: Multiplies<R>>(
     requires { length lo.old ≡ length hi.old }
     ensures lower { length lo.new ≡ length lo.old }
     ensures upper { length hi.new ≡ length hi.old }
-    ensures values { (s : ℕ) → S.is_scalar scalar.now s → let element = level_element W.number S.level in
-        TakesBlock inverse (tower_mul S.level) s (length lo.old) (slice_index (map element lo.old ++ map element hi.old))
-        (slice_index (map element lo.new ++ map element hi.new)) }
+    ensures values { (s : ℕ) → S.is_scalar scalar.now s → TakesWords W.number S.level inverse s lo.old hi.old lo.new hi.new }
 {
     run_pairs(lo, hi, 0, scalar, inverse);
 }
@@ -40,9 +37,8 @@ pub(crate) fn run_pairs<R: Unsigned, W: Holds<R>, S: Multiplies<R>>(
     requires inside { first ≤ length lo.old }
     ensures lower { length lo.new ≡ length lo.old }
     ensures upper { length hi.new ≡ length hi.old }
-    ensures values { (s : ℕ) → S.is_scalar scalar.now s → let element = level_element W.number S.level in
-        TakesPairs (taken_pair inverse (tower_mul S.level) s) first (length lo.old) (map element lo.old) (map element hi.old) (map element lo.new)
-        (map element hi.new) }
+    ensures values { (s : ℕ) → S.is_scalar scalar.now s
+        → TakesWordPairs W.number S.level inverse s first (length lo.old) lo.old hi.old lo.new hi.new }
 {
     for place in first..lo.len() {
         run_pair(&mut lo[place], &mut hi[place], scalar, inverse);

@@ -3,8 +3,7 @@ ghost use Rattle.std.specs.Prelude.{◌≡◌, ◌^◌, length, map};
 ghost use Rattle.additive_transforms.specs.Elements.{FitsField};
 ghost use Rattle.additive_transforms.specs.Transform.{AreTheCoefficients, HoldValuesAtPoints};
 ghost use Rattle.field_base.specs.Tower.{tower_mul};
-ghost use Rattle.tower_transforms.specs.Words.{level_element};
-ghost use Rattle.word_tables.specs.Cantor.{cantor_vector};
+ghost use Rattle.tower_transforms.specs.Words.{cantor_vector, level_element};
 
 use crate::arithmetic::OfLevel;
 use crate::word_bytes::WordBytes;

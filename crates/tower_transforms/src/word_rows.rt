@@ -1,13 +1,10 @@
 // Butterflies of rows of words by a scalar of 8, 16 or 32 bits, in vectors of their bytes (S. Gao and T. Mateer, Additive fast Fourier
 // transforms over finite fields, 2010). A word is a row of elements of as many bits as the scalar has, so that no word is taken apart.
 ghost use Rattle.std.specs.Prelude.{◌≡◌, ◌⊎◌, List, ◌++◌, ◌+◌, ◌*◌, ◌^◌, ◌<◌, ◌≤◌, ℕ, length, map, slice_index};
-ghost use Rattle.additive_transforms.proofs.PairLoops.{taken_pair};
-ghost use Rattle.additive_transforms.specs.Stages.{TakesBlock};
-ghost use Rattle.field_base.specs.Tower.{tower_mul};
 ghost use Rattle.tower_transforms.specs.Chunks.{TakesChunks};
 ghost use Rattle.tower_transforms.specs.Rows.{level_of};
 ghost use Rattle.tower_transforms.specs.Units.{AreChunks};
-ghost use Rattle.tower_transforms.specs.Words.{TakesPairs, level_element};
+ghost use Rattle.tower_transforms.specs.Words.{TakesWordPairs, TakesWords};
 
 use crate::chunks::{Scales, pair_of_vectors, two_pairs_of_vectors};
 use crate::multiples::ByteMultiples;
@@ -77,12 +74,7 @@ impl<R: Stored, W: WordBytes<R>> WordBlock<R, W> for u8x16 {
     }
 
     #[inline(always)]
-    fn butterflies<M: Scales>(
-        multiples: &M,
-        lo: u8x16,
-        hi: u8x16,
-        inverse: bool,
-    ) -> (u8x16, u8x16) {
+    fn butterflies<M: Scales>(multiples: &M, lo: Self, hi: Self, inverse: bool) -> (Self, Self) {
         pair_of_vectors(multiples, lo, hi, inverse)
     }
 }
@@ -125,12 +117,7 @@ impl<R: Stored, W: WordBytes<R>> WordBlock<R, W> for TwoVectors {
     }
 
     #[inline(always)]
-    fn butterflies<M: Scales>(
-        multiples: &M,
-        lo: TwoVectors,
-        hi: TwoVectors,
-        inverse: bool,
-    ) -> (TwoVectors, TwoVectors) {
+    fn butterflies<M: Scales>(multiples: &M, lo: Self, hi: Self, inverse: bool) -> (Self, Self) {
         let (low, high) = two_pairs_of_vectors(
             multiples,
             (lo.first, lo.second),
@@ -167,9 +154,7 @@ pub(crate) fn run_words<R: Unsigned, L: Level<R>, W: WordBytes<R>, M: Scales>(
     ensures upper { length hi.new ≡ length hi.old }
     ensures values { (s : ℕ)
         → M.are_multiples scalar.now.multiples s × (s < 2 ^ 2 ^ level_of M.depth) × (level_of M.depth ≤ L.LEVEL)
-        → let element = level_element W.Holds.number L.LEVEL in
-        TakesBlock inverse (tower_mul L.LEVEL) s (length lo.old) (slice_index (map element lo.old ++ map element hi.old))
-        (slice_index (map element lo.new ++ map element hi.new)) }
+        → TakesWords W.Holds.number L.LEVEL inverse s lo.old hi.old lo.new hi.new }
 {
     let multiples = &scalar.multiples;
     let wide = run_blocks::<R, W, M, TwoVectors>(lo, hi, 0, multiples, inverse);
@@ -192,9 +177,8 @@ fn run_blocks<R: Stored, W: WordBytes<R>, M: Scales, B: WordBlock<R, W>>(
     ensures upper { length hi.new ≡ length hi.old }
     ensures inside { result ≤ length lo.old }
     ensures values { (s : ℕ) → M.are_multiples multiples.now s → s < 2 ^ 2 ^ level_of M.depth
-        → (k : ℕ) → level_of M.depth ≤ k → k ≤ level_of W.size → let element = level_element W.Holds.number k in
-        TakesPairs (taken_pair inverse (tower_mul k) s) first result (map element lo.old) (map element hi.old)
-        (map element lo.new) (map element hi.new) }
+        → (k : ℕ) → level_of M.depth ≤ k → k ≤ level_of W.size
+        → TakesWordPairs W.Holds.number k inverse s first result lo.old hi.old lo.new hi.new }
 {
     let count = B::words();
     let blocks = (lo.len() - first) / count;
@@ -220,9 +204,8 @@ fn run_at<R: Stored, W: WordBytes<R>, M: Scales, B: WordBlock<R, W>>(
     ensures lower { length lo.new ≡ length lo.old }
     ensures upper { length hi.new ≡ length hi.old }
     ensures values { (s : ℕ) → M.are_multiples multiples.now s → s < 2 ^ 2 ^ level_of M.depth
-        → (k : ℕ) → level_of M.depth ≤ k → k ≤ level_of W.size → let element = level_element W.Holds.number k in
-        TakesPairs (taken_pair inverse (tower_mul k) s) start (start + count) (map element lo.old) (map element hi.old)
-        (map element lo.new) (map element hi.new) }
+        → (k : ℕ) → level_of M.depth ≤ k → k ≤ level_of W.size
+        → TakesWordPairs W.Holds.number k inverse s start (start + count) lo.old hi.old lo.new hi.new }
 {
     let lower = B::read_words(lo, start, count);
     let upper = B::read_words(hi, start, count);

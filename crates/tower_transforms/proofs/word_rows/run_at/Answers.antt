@@ -1,4 +1,4 @@
-use Rattle.std.proofs.Common.{refl, arith}
+use Rattle.std.proofs.Common.{arith}
 use Rattle.tower_transforms.specs.Rows.{level_of}
 use Rattle.tower_transforms.proofs.WordRows.{depth_within, vector_taken}
 use Rattle.tower_transforms.proofs.word_rows.run_at.Goals as goal

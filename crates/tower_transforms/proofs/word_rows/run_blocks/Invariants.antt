@@ -1,8 +1,6 @@
-use Rattle.std.proofs.Common.{◌≡◌, ◌+◌, ◌*◌, ◌^◌, ◌<◌, ◌≤◌, ℕ, length, map}
-use Rattle.additive_transforms.proofs.PairLoops.{taken_pair}
-use Rattle.field_base.specs.Tower.{tower_mul}
+use Rattle.std.proofs.Common.{◌≡◌, ◌+◌, ◌*◌, ◌^◌, ◌<◌, ◌≤◌, ℕ, length}
 use Rattle.tower_transforms.specs.Rows.{level_of}
-use Rattle.tower_transforms.specs.Words.{TakesPairs, level_element}
+use Rattle.tower_transforms.specs.Words.{TakesWordPairs}
 use Rattle.tower_transforms.proofs.word_rows.run_blocks.Given as goal
 
 -- the pairs of the blocks before this one are done
@@ -11,6 +9,5 @@ invariant-loop-block g l =
     (length l.lo ≡ length l.fn.lo) × (length l.hi ≡ length l.fn.hi)
     × ((s : ℕ) → g.M.Scales.are_multiples l.multiples s → s < 2 ^ 2 ^ level_of g.M.Scales.depth
     → (k : ℕ) → level_of g.M.Scales.depth ≤ k → k ≤ level_of g.W.WordBytes.size
-    → TakesPairs (taken_pair l.inverse (tower_mul k) s) l.fn.first (l.fn.first + l.count * l.block) (map (level_element g.W.Holds.number k) l.fn.lo)
-    (map (level_element g.W.Holds.number k) l.fn.hi) (map (level_element g.W.Holds.number k) l.lo) (map (level_element g.W.Holds.number k) l.hi))
+    → TakesWordPairs g.W.Holds.number k l.inverse s l.fn.first (l.fn.first + l.count * l.block) l.fn.lo l.fn.hi l.lo l.hi)
     × (l.block ≤ l.blocks)

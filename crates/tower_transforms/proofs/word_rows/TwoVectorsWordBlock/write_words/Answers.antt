@@ -1,6 +1,6 @@
 use Rattle.std.proofs.Common.{map, refl}
 use Rattle.tower_transforms.proofs.UnitFacts.{half_count}
-use Rattle.tower_transforms.proofs.WordRows.{others_kept, two_chunks_put, two_chunks_read}
+use Rattle.tower_transforms.proofs.WordRows.{two_chunks_put}
 use Rattle.tower_transforms.proofs.word_rows.TwoVectorsWordBlock.write_words.Goals as goal
 
 pub scatter-requires-clause-count : goal.scatter-requires-clause-count
