@@ -11,6 +11,7 @@ use field_base::Stored;
 /// Multiplies the words by the scalar of the multiples, as many at once as a vector has bytes, and returns how many: those that fill no
 /// vector at the end stay. A word has as many bytes as an element of the planes.
 #[inline]
+#[tactic(auto, using(crate::proofs::WordSteps::none_first))]
 pub fn multiply_words<R: Stored, W: WordBytes<R>, M, P: WordPlanes<R, W, M>>(
     words: &mut [W],
     multiples: &M,
@@ -35,6 +36,7 @@ pub fn multiply_words<R: Stored, W: WordBytes<R>, M, P: WordPlanes<R, W, M>>(
 /// Adds the products of other words by the scalar of the multiples to the sums, as many at once as a vector has bytes, and returns how
 /// many. The slices are of one length, and a word has as many bytes as an element of the planes, and fits its level.
 #[inline]
+#[tactic(auto, using(crate::proofs::WordSteps::none_first))]
 pub fn add_multiples<R: Stored, W: WordBytes<R>, M, P: WordPlanes<R, W, M>>(
     sums: &mut [W],
     words: &[W],

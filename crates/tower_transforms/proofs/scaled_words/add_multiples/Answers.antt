@@ -1,9 +1,6 @@
-use Rattle.std.proofs.Common.{◌/◌, length, map, refl, ◌∙◌, arith}
-use Rattle.tower_transforms.proofs.WordSteps.{block_added, last_first, none_first}
+use Rattle.std.proofs.Common.{map, ◌∙◌, arith}
+use Rattle.tower_transforms.proofs.WordSteps.{block_added, last_first}
 use Rattle.tower_transforms.proofs.scaled_words.add_multiples.Goals as goal
-
-pub loop-block-init : goal.loop-block-init
-loop-block-init g c = (refl, λ s are. none_first _ _ _ (omega arith), omega arith)
 
 pub loop-block-preserved : goal.loop-block-preserved
 loop-block-preserved g c =
@@ -19,7 +16,4 @@ loop-block-preserved g c =
 
 pub returns-clause-products : goal.returns-clause-products
 returns-clause-products g c s are =
-    let so_far = c.loop-block.invariant in
-    let over = c.loop-block-test.false in
-    last_first _ _ _ c.lane_count-lanes.result c.loop-block.block (length c.args.words.now / c.lane_count-lanes.result)
-    (omega (arith, so_far.2, over)) (so_far.1 s are)
+    last_first _ _ _ _ _ _ (omega (arith, c.loop-block.invariant.2, c.loop-block-test.false)) (c.loop-block.invariant.1 s are)
