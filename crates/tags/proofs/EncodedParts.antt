@@ -11,6 +11,7 @@ use Rattle.tags.specs.Blocks.{AreBytes, IsBlock, blocks_of}
 use Rattle.tags.specs.Collisions.{AtMostCollide, HaveSameBlocks}
 use Rattle.tags.specs.EncodedParts.{EncodesParts, FewKeysCollide, GcmCollides, GcmSivCollides, GcmEncodesParts, GcmSivEncodesParts, IsPart}
 use Rattle.tags.specs.Gcm.{gcm_hash, gcm_product, ghash}
+use Rattle.tags.specs.Hash.{polynomial_hash}
 use Rattle.tags.specs.Polyval.{dot, polyval, polyval_hash}
 use Rattle.tags.proofs.BlockBytes.{from_be-to_be, from_le-lt}
 use Rattle.tags.proofs.BlocksDiffer.{blocks_of-injective, first_blocks_are, from_be-injective, from_be-lt, from_le-injective, from_le-to_le, length-first_blocks, single}
@@ -110,6 +111,7 @@ module _ (number : List ℕ → ℕ) (write : ℕ → List ℕ) (way : TellsApar
       omega (arith, eight)
 
   parts_are_encoded : EncodesParts number encoded
+  unfolding EncodesParts
   parts_are_encoded a t b u of_a of_t of_b of_u same =
       let last : lengths a t ≡ lengths b u = same_lengths a t b u same in
       let eight : length (write (length a * 8)) ≡ length (write (length b * 8)) =
@@ -146,7 +148,7 @@ module _ (number : List ℕ → ℕ) (write : ℕ → List ℕ) (way : TellsApar
       (number_of_bytes : (key : List ℕ) (blocks : List (List ℕ)) → number (of_bytes key blocks) ≡ of_numbers (number key) (map number blocks))
       (few : AtMostCollide 128 of_numbers) where
     few_keys : FewKeysCollide number of_bytes encoded
-    unfolding AtMostCollide
+    unfolding AtMostCollide EncodesParts FewKeysCollide
     few_keys n count difference a t b u key of_a of_t of_b of_u differ left_fits right_fits of_keys keys_differ collide =
         few n count difference (map number (encoded a t)) (map number (encoded b u)) (λ i. number (key i))
         (omega (arith, length-map (encoded a t) number, left_fits), numbers_fit (encoded a t) (encoded_are a t of_a of_t))
@@ -177,30 +179,29 @@ low_first_are i zero n = All-nil (λ byte. byte < 256)
 low_first_are i (suc k) n =
     All-cons (λ byte. byte < 256) (byte_at i n) (bytes_low_first (suc i) k n) (byte_at-lt i n) (low_first_are (suc i) k n)
 
--- numbers that are read back from what is written are told apart
-read_back : (write : ℕ → List ℕ) (read : List ℕ → ℕ) → ((n : ℕ) → n < 2 ^ 64 → read (write n) ≡ n)
-    → (m n : ℕ) → m < 2 ^ 64 → n < 2 ^ 64 → write m ≡ write n → m ≡ n
-read_back write read back m n m_fits n_fits same = sym (back m m_fits) ∙ ap read same ∙ back n n_fits
+-- blocks and numbers are told apart where a number is read back from its bytes
+told_apart : (number : List ℕ → ℕ) (write : ℕ → List ℕ) (read : List ℕ → ℕ)
+    → ((b c : List ℕ) → IsBlock b → IsBlock c → number b ≡ number c → b ≡ c) → ((b : List ℕ) → IsBlock b → number b < 2 ^ 128)
+    → ((n : ℕ) → length (write n) ≡ 8) → ((n : ℕ) → AreBytes (write n)) → ((n : ℕ) → n < 2 ^ 64 → read (write n) ≡ n)
+    → TellsApart number write
+told_apart number write read injective below long are back =
+    record {
+      number_injective = injective;
+      number_lt = below;
+      length_write = long;
+      bytes_write = are;
+      write_injective = λ m n m_fits n_fits same. sym (back m m_fits) ∙ ap read same ∙ back n n_fits;
+    }
 
 of_gcm : TellsApart (from_be_bytes w128) (to_be_bytes w64)
 of_gcm =
-    record {
-      number_injective = from_be-injective;
-      number_lt = from_be-lt;
-      length_write = λ n. refl;
-      bytes_write = high_first_are 8;
-      write_injective = read_back (to_be_bytes w64) (from_be_bytes w64) from_be_bytes-to_be_bytes_8;
-    }
+    told_apart (from_be_bytes w128) (to_be_bytes w64) (from_be_bytes w64) from_be-injective from_be-lt (λ n. refl) (high_first_are 8)
+    from_be_bytes-to_be_bytes_8
 
 of_gcm_siv : TellsApart (from_le_bytes w128) (to_le_bytes w64)
 of_gcm_siv =
-    record {
-      number_injective = from_le-injective;
-      number_lt = from_le-lt;
-      length_write = λ n. refl;
-      bytes_write = low_first_are 0 8;
-      write_injective = read_back (to_le_bytes w64) (from_le_bytes w64) from_le_bytes-to_le_bytes_8;
-    }
+    told_apart (from_le_bytes w128) (to_le_bytes w64) (from_le_bytes w64) from_le-injective from_le-lt (λ n. refl) (low_first_are 0 8)
+    from_le_bytes-to_le_bytes_8
 
 pub gcm_encodes_parts : GcmEncodesParts
 gcm_encodes_parts = parts_are_encoded (from_be_bytes w128) (to_be_bytes w64) of_gcm
@@ -208,20 +209,26 @@ gcm_encodes_parts = parts_are_encoded (from_be_bytes w128) (to_be_bytes w64) of_
 pub gcm_siv_encodes_parts : GcmSivEncodesParts
 gcm_siv_encodes_parts = parts_are_encoded (from_le_bytes w128) (to_le_bytes w64) of_gcm_siv
 
--- the number of the hash of bytes
+-- the number of a hash that is written as bytes
+hash_number : (product : ℕ → ℕ → ℕ) (number : List ℕ → ℕ) (bytes : ℕ → List ℕ) → ((a b : ℕ) → product a b < 2 ^ 128)
+    → ((n : ℕ) → n < 2 ^ 128 → number (bytes n) ≡ n) → (key : ℕ) (blocks : List ℕ)
+    → number (bytes (polynomial_hash product key blocks)) ≡ polynomial_hash product key blocks
+hash_number product number bytes below back key blocks =
+    back (polynomial_hash product key blocks) (fold-lt product key (λ a. below a _) 0 blocks (pow_pos 128))
+
 ghash_number : (key : List ℕ) (blocks : List (List ℕ))
     → from_be_bytes w128 (ghash key blocks) ≡ gcm_hash (from_be_bytes w128 key) (map (from_be_bytes w128) blocks)
 unfolding ghash
 ghash_number key blocks =
-    from_be-to_be (gcm_hash (from_be_bytes w128 key) (map (from_be_bytes w128) blocks))
-    (fold-lt gcm_product (from_be_bytes w128 key) (λ a. gcm_product-lt a _) 0 (map (from_be_bytes w128) blocks) (pow_pos 128))
+    hash_number gcm_product (from_be_bytes w128) (to_be_bytes w128) gcm_product-lt from_be-to_be
+    (from_be_bytes w128 key) (map (from_be_bytes w128) blocks)
 
 polyval_number : (key : List ℕ) (blocks : List (List ℕ))
     → from_le_bytes w128 (polyval key blocks) ≡ polyval_hash (from_le_bytes w128 key) (map (from_le_bytes w128) blocks)
 unfolding polyval
 polyval_number key blocks =
-    from_le-to_le (polyval_hash (from_le_bytes w128 key) (map (from_le_bytes w128) blocks))
-    (fold-lt dot (from_le_bytes w128 key) (λ a. dot-lt a _) 0 (map (from_le_bytes w128) blocks) (pow_pos 128))
+    hash_number dot (from_le_bytes w128) (to_le_bytes w128) dot-lt from_le-to_le (from_le_bytes w128 key)
+    (map (from_le_bytes w128) blocks)
 
 pub gcm_collides : GcmCollides
 gcm_collides = few_keys (from_be_bytes w128) (to_be_bytes w64) of_gcm gcm_hash ghash ghash_number ghash_collides

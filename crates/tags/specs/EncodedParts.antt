@@ -12,7 +12,7 @@ abbrev pub IsPart : List ℕ → Type 0
 IsPart bytes = AreBytes bytes × (length bytes < 2 ^ 61)
 
 -- the encoding of two parts into blocks, which have these numbers, is injective, also where blocks of zeros in front do not count
-abbrev pub EncodesParts : (List ℕ → ℕ) → (List ℕ → List ℕ → List (List ℕ)) → Type 0
+unfoldable pub EncodesParts : (List ℕ → ℕ) → (List ℕ → List ℕ → List (List ℕ)) → Type 0
 EncodesParts number encoded = (a t b u : List ℕ) → IsPart a → IsPart t → IsPart b → IsPart u
     → HaveSameBlocks (map number (encoded a t)) (map number (encoded b u)) → (a ≡ b) × (t ≡ u)
 
@@ -26,7 +26,7 @@ GcmSivEncodesParts = EncodesParts (from_le_bytes w128) gcm_siv_blocks
 
 -- of any different keys key 0, .., key (count - 1) under which two different pairs of parts, of at most n blocks with the one of lengths,
 -- have hashes with this difference, there are at most n
-abbrev pub FewKeysCollide : (List ℕ → ℕ) → (List ℕ → List (List ℕ) → List ℕ) → (List ℕ → List ℕ → List (List ℕ)) → Type 0
+unfoldable pub FewKeysCollide : (List ℕ → ℕ) → (List ℕ → List (List ℕ) → List ℕ) → (List ℕ → List ℕ → List (List ℕ)) → Type 0
 FewKeysCollide number hash encoded = (n count difference : ℕ) (a t b u : List ℕ) (key : ℕ → List ℕ)
     → IsPart a → IsPart t → IsPart b → IsPart u → ((a ≡ b) × (t ≡ u) → ⊥)
     → length (encoded a t) ≤ n → length (encoded b u) ≤ n

@@ -1,6 +1,7 @@
 // How a standard writes blocks: a block of 16 bytes as an element of the field, where bit i of a number is the coefficient of x^i, a key as what
-// the field multiplies by, and a hash as a block.
+// the field multiplies by, a hash as a block, and a length as 8 bytes.
 ghost use Rattle.std.specs.Prelude.{◌≡◌, ℕ, List, map};
+ghost use Rattle.std.specs.Int.{to_be_bytes, to_le_bytes, w64};
 ghost use Rattle.tags.specs.Blocks.{IsBlock};
 ghost use Rattle.tags.specs.Gcm.{ghash};
 ghost use Rattle.tags.specs.Hash.{polynomial_hash, polynomial_hash_from};
@@ -11,10 +12,10 @@ ghost use Rattle.tags.specs.Reversed.{ghash_element, ghash_times, polyval_elemen
 use crate::reversal::reversed_bits;
 use word_carryless::multiply_mod_128;
 
-/// How a standard writes blocks, keys and hashes.
+/// How a standard writes blocks, keys, hashes and lengths.
 pub trait Encoding {
-    // The element of a block, what the field multiplies by for a key, the standard's hash of blocks under a key, and the one that goes on
-    // from a hash.
+    // The element of a block, what the field multiplies by for a key, the standard's hash of blocks under a key, the one that goes on
+    // from a hash, and a number as 8 bytes.
     ghost element: { List ℕ → ℕ };
 
     ghost multiplier: { List ℕ → ℕ };
@@ -22,6 +23,8 @@ pub trait Encoding {
     ghost hash: { List ℕ → List (List ℕ) → List ℕ };
 
     ghost hash_from: { List ℕ → List ℕ → List (List ℕ) → List ℕ };
+
+    ghost bytes: { ℕ → List ℕ };
 
     /// The element of a block.
     fn read(block: [u8; 16]) -> u128
@@ -39,6 +42,10 @@ pub trait Encoding {
         ensures continued { (key start : List ℕ) (blocks : List (List ℕ)) → IsBlock start
             → sum ≡ polynomial_hash_from ghash_times (multiplier key) (element start) (map element blocks)
             → result ≡ hash_from key start blocks };
+
+    /// The 8 bytes of a number.
+    fn bytes_of(number: u64) -> [u8; 8]
+        ensures { result ≡ bytes number };
 }
 
 /// The blocks of GHASH (NIST SP 800-38D): the highest bit of the first byte is the coefficient of x^0.
@@ -53,6 +60,8 @@ impl Encoding for HighestFirst {
 
     ghost hash_from = { ghash_from };
 
+    ghost bytes = { to_be_bytes w64 };
+
     #[inline]
     fn read(block: [u8; 16]) -> u128 {
         reversed_bits(u128::from_be_bytes(block))
@@ -64,6 +73,10 @@ impl Encoding for HighestFirst {
 
     fn write(sum: u128) -> [u8; 16] {
         sum.reverse_bits().to_be_bytes()
+    }
+
+    fn bytes_of(number: u64) -> [u8; 8] {
+        number.to_be_bytes()
     }
 }
 
@@ -80,6 +93,8 @@ impl Encoding for LowestFirst {
 
     ghost hash_from = { polyval_from };
 
+    ghost bytes = { to_le_bytes w64 };
+
     #[inline]
     fn read(block: [u8; 16]) -> u128 {
         reversed_bits(u128::from_le_bytes(block))
@@ -91,5 +106,9 @@ impl Encoding for LowestFirst {
 
     fn write(sum: u128) -> [u8; 16] {
         sum.reverse_bits().to_le_bytes()
+    }
+
+    fn bytes_of(number: u64) -> [u8; 8] {
+        number.to_le_bytes()
     }
 }

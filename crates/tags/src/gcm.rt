@@ -1,15 +1,11 @@
-// GHASH, and as GCM uses it.
+// GHASH as GCM uses it, and POLYVAL as GCM-SIV does.
 ghost use Rattle.std.specs.Prelude.{◌≡◌, ◌<◌, ◌^◌, length};
-ghost use Rattle.tags.specs.Blocks.{gcm_blocks};
+ghost use Rattle.tags.specs.Blocks.{gcm_blocks, gcm_siv_blocks};
 ghost use Rattle.tags.specs.Gcm.{ghash};
+ghost use Rattle.tags.specs.Polyval.{polyval};
 
-use crate::encoding::HighestFirst;
-use crate::universal::{KeyedHash, hash_of_parts};
-
-/// GHASH (NIST SP 800-38D, section 6.4) of the message so far, under a hash key.
-///
-/// In a block the highest bit of byte 0 is the coefficient of x^0. What a hash holds is its key and its message.
-pub type Ghash = KeyedHash<HighestFirst>;
+use crate::encoding::{HighestFirst, LowestFirst};
+use crate::universal::hash_of_parts;
 
 /// The hash from which GCM makes its tag (NIST SP 800-38D, section 7.1, step 5): GHASH, under the hash key `key`, of the
 /// associated data and of the text, each filled up with zeros to whole blocks, and of a block with both lengths in bits, 8 bytes
@@ -22,11 +18,17 @@ pub fn gcm_ghash(key: &[u8; 16], associated: &[u8], text: &[u8]) -> [u8; 16]
     requires text_fits { length text.now < 2 ^ 61 }
     ensures { result ≡ ghash key.now (gcm_blocks associated.now text.now) }
 {
-    hash_of_parts::<Ghash>(
-        key,
-        associated,
-        text,
-        &(associated.len() as u64 * 8).to_be_bytes(),
-        &(text.len() as u64 * 8).to_be_bytes(),
-    )
+    hash_of_parts::<HighestFirst>(key, associated, text)
+}
+
+/// The hash from which GCM-SIV makes its tag (RFC 8452, section 4): POLYVAL, under the message-authentication key `key`, of the associated
+/// data and of the text, each filled up with zeros to whole blocks, and of a block with both lengths in bits, 8 bytes each, the lowest first.
+///
+/// The text is the plain one. Each length in bits has to fit 64 bits; the standard allows 2^39 bits.
+pub fn gcm_siv_polyval(key: &[u8; 16], associated: &[u8], text: &[u8]) -> [u8; 16]
+    requires associated_fits { length associated.now < 2 ^ 61 }
+    requires text_fits { length text.now < 2 ^ 61 }
+    ensures { result ≡ polyval key.now (gcm_siv_blocks associated.now text.now) }
+{
+    hash_of_parts::<LowestFirst>(key, associated, text)
 }

@@ -31,6 +31,7 @@ pub fn few_keys_collide()
 /// States that the blocks that GCM and GCM-SIV hash of associated data and text determine both, so that at most n keys let two different
 /// pairs of them, of at most n blocks with the one of lengths, have hashes with a given difference: those of `gcm_ghash`, over bytes, and of
 /// `gcm_siv_polyval`.
+#[tactic(auto, using(crate::proofs::EncodedParts::gcm_encodes_parts, crate::proofs::EncodedParts::gcm_siv_encodes_parts, crate::proofs::EncodedParts::gcm_collides, crate::proofs::EncodedParts::gcm_siv_collides))]
 pub fn parts_are_encoded()
     ensures gcm { GcmEncodesParts }
     ensures gcm_siv { GcmSivEncodesParts }

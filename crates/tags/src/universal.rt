@@ -1,11 +1,11 @@
 // Universal hashes of a message that comes in pieces.
-ghost use Rattle.std.specs.Prelude.{◌≡◌, ◌↔◌, List, ℕ, [], ◌∷◌, ◌++◌, length, true};
+ghost use Rattle.std.specs.Prelude.{◌≡◌, ◌↔◌, ◌*◌, ◌<◌, ◌^◌, List, ℕ, [], ◌∷◌, ◌++◌, length, true};
 ghost use Rattle.tags.specs.Absorbed.{HoldsKeyed};
 ghost use Rattle.tags.specs.Blocks.{blocks_of, zero_padded};
 
 use crate::absorber::Absorber;
 use crate::compare::tags_are_equal;
-use crate::encoding::Encoding;
+use crate::encoding::{Encoding, HighestFirst, LowestFirst};
 use std::marker::PhantomData;
 
 /// A universal hash of the message so far, under a key: it takes its message in pieces, and what it holds is its key and its message.
@@ -83,22 +83,27 @@ impl<E: Encoding> UniversalHash for KeyedHash<E> {
     }
 }
 
-// The hash of two parts of a message, each filled up with zeros to whole blocks, and of a block of two numbers.
-pub(crate) fn hash_of_parts<H: UniversalHash>(
-    key: &[u8; 16],
-    associated: &[u8],
-    text: &[u8],
-    first: &[u8],
-    second: &[u8],
-) -> [u8; 16]
-    requires first { length first.now ≡ 8 }
-    requires second { length second.now ≡ 8 }
-    ensures { result ≡ H.hash key.now (blocks_of associated.now ++ blocks_of text.now ++ (first.now ++ second.now) ∷ []) }
+/// GHASH (NIST SP 800-38D, section 6.4) of the message so far, under a hash key.
+///
+/// In a block the highest bit of byte 0 is the coefficient of x^0. What a hash holds is its key and its message.
+pub type Ghash = KeyedHash<HighestFirst>;
+
+/// POLYVAL (RFC 8452, section 3) of the message so far, under a key.
+///
+/// In a block the lowest bit of byte 0 is the coefficient of x^0. What a hash holds is its key and its message.
+pub type Polyval = KeyedHash<LowestFirst>;
+
+// The hash of two parts of a message, each filled up with zeros to whole blocks, and of a block of both lengths in bits.
+pub(crate) fn hash_of_parts<E: Encoding>(key: &[u8; 16], associated: &[u8], text: &[u8]) -> [u8; 16]
+    requires associated_fits { length associated.now < 2 ^ 61 }
+    requires text_fits { length text.now < 2 ^ 61 }
+    ensures { result ≡ E.hash key.now (blocks_of associated.now ++ blocks_of text.now
+        ++ (E.bytes (length associated.now * 8) ++ E.bytes (length text.now * 8)) ∷ []) }
 {
-    let mut hash = H::new(key);
+    let mut hash = KeyedHash::<E>::new(key);
     hash.update_padded(associated);
     hash.update_padded(text);
-    hash.update(first);
-    hash.update(second);
+    hash.update(&E::bytes_of(associated.len() as u64 * 8));
+    hash.update(&E::bytes_of(text.len() as u64 * 8));
     hash.finalize()
 }
