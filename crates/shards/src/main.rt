@@ -41,13 +41,10 @@ fn main(rt: HostRuntime) -> ExitCode {
         File::open(&rt, "/dev/null"),
         File::open(&rt, "/dev/null"),
     );
-    match run(&rt) {
-        Ok(status) => status,
-        Err(error) => {
-            let _ = eprintln!(rt; "shards: {error:#}");
-            ExitCode::FAILURE
-        }
-    }
+    run(&rt).unwrap_or_else(|error| {
+        let _ = eprintln!(rt; "shards: {error:#}");
+        ExitCode::FAILURE
+    })
 }
 
 // Does what the words of the command line say.

@@ -36,13 +36,10 @@ pub enum Choice {
 }
 
 fn main(rt: HostRuntime) -> ExitCode {
-    match run(&rt) {
-        Ok(status) => status,
-        Err(error) => {
-            let _ = eprintln!(rt; "tag: {error:#}");
-            ExitCode::FAILURE
-        }
-    }
+    run(&rt).unwrap_or_else(|error| {
+        let _ = eprintln!(rt; "tag: {error:#}");
+        ExitCode::FAILURE
+    })
 }
 
 // Does what the words of the command line say.

@@ -32,8 +32,8 @@ pub fn reconstruct_data<A: Allocator + Copy>(
     alloc: A,
     shards: &mut [Option<Vec<u8, A>>],
 ) -> Result<(), ShardVectorError>
-    ensures { let total = code.now.data_shards + code.now.parity_shards in
-        RestoresUntil code.now.data_shards total code.now.data_shards shards.old shards.new result }
+    ensures { RestoresUntil code.now.data_shards (code.now.data_shards + code.now.parity_shards) code.now.data_shards
+        shards.old shards.new result }
 {
     reconstruct_until(code, alloc, shards, code.data_shard_count())
 }
