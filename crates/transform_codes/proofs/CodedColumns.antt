@@ -4,19 +4,15 @@ use Rattle.std.specs.Prelude.{slice_index}
 use Rattle.std.proofs.lemmas.Bool.{cases_lt}
 use Rattle.std.proofs.lemmas.List.{get_or-map, length-map}
 use Rattle.field_base.specs.Tower.{tower_mul}
-use Rattle.additive_transforms.specs.Transform.{HoldValuesAtPoints}
 use Rattle.ghash_slices.specs.Cantor.{point, polynomial_value}
 use Rattle.word_tables.specs.Cantor.{cantor_vector}
 use Rattle.transform_codes.specs.Codes.{IsCodedColumn, shard_symbol, value_at}
-use Rattle.transform_codes.specs.Columns.{AreParityBelow, AreScattered, HoldColumn, OthersAreKept}
+use Rattle.transform_codes.specs.Columns.{AreParityBelow, AreScattered, HoldColumn, HoldWordValues, OthersAreKept}
 use Rattle.additive_transforms.proofs.BlockPoints.{point-joined}
 
 module _ {W : Type 0} (element : W → ℕ) (zero : W) (level n : ℕ) where
-  abbrev pub Holds : ℕ → List W → List W → Type 0
-  Holds z coefficients values = HoldValuesAtPoints (2 ^ level) (tower_mul level) cantor_vector z (map element coefficients) (map element values)
-
   -- the value that a place holds
-  pub held : (z : ℕ) (coefficients values : List W) → length coefficients ≡ 2 ^ n → length values ≡ 2 ^ n → Holds z coefficients values
+  pub held : (z : ℕ) (coefficients values : List W) → length coefficients ≡ 2 ^ n → length values ≡ 2 ^ n → HoldWordValues element level z coefficients values
       → (p : ℕ) → p < 2 ^ n
       → element (get_or values p zero) ≡ polynomial_value (tower_mul level) n (slice_index (map element coefficients)) (point (2 ^ level) cantor_vector z p)
   held z coefficients values count long holds p below =
@@ -24,7 +20,7 @@ module _ {W : Type 0} (element : W → ℕ) (zero : W) (level n : ℕ) where
       ∙ holds n (length-map coefficients element ∙ count) p below
 
   module _ (k size column : ℕ) (shards values coefficients : List W) (z : ℕ) (nothing : z ≡ 0) (count : length coefficients ≡ 2 ^ n)
-      (long : length values ≡ 2 ^ n) (column_is : HoldColumn zero k size column shards (2 ^ n) values) (holds : Holds z coefficients values) where
+      (long : length values ≡ 2 ^ n) (column_is : HoldColumn zero k size column shards (2 ^ n) values) (holds : HoldWordValues element level z coefficients values) where
     at_first : (p : ℕ) → p < 2 ^ n → element (get_or values p zero) ≡ value_at level n (map element coefficients) p
     at_first p below =
         held z coefficients values count long holds p below
@@ -44,7 +40,7 @@ module _ {W : Type 0} (element : W → ℕ) (zero : W) (level n : ℕ) where
   pub next_block : (m size column q first taken z : ℕ) (coefficients block old new : List W)
       → column < size → length coefficients ≡ 2 ^ n → length block ≡ 2 ^ n → first ≡ q * 2 ^ n
       → z ≡ point (2 ^ level) cantor_vector 0 ((q + 1) * 2 ^ n) → (taken ≡ 2 ^ n) ⊎ (first + taken ≡ m)
-      → Holds z coefficients block
+      → HoldWordValues element level z coefficients block
       → AreParityBelow element zero level n m size column (map element coefficients) (q * 2 ^ n) old
       → AreScattered zero size column first taken block old new
       → AreParityBelow element zero level n m size column (map element coefficients) ((q + 1) * 2 ^ n) new

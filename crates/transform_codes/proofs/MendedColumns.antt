@@ -4,7 +4,7 @@ use Rattle.std.proofs.lemmas.Bool.{cases_Bool, cases_lt, true≢false}
 use Rattle.std.proofs.lemmas.List.{get_or-set_other, get_or-set_same}
 use Rattle.transform_codes.specs.Restoring.{AreMended, AreRestoredColumns, IsAtHand, RestoresSymbols}
 use Rattle.transform_codes.specs.Codes.{IsCodedColumn, shard_symbol, value_at}
-use Rattle.transform_codes.specs.Returned.{LostSymbolsReturn}
+use Rattle.transform_codes.specs.Determined.{LostSymbolsReturn}
 use Rattle.transform_codes.proofs.ColumnPlaces.{same_column, same_shard}
 
 module _ {W : Type 0} (zero : W) (size column i from first : ℕ) (present : List Bool) (values old now : List W)

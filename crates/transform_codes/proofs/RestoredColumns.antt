@@ -1,9 +1,10 @@
 -- A column that is restored: what the four transforms leave is the word's polynomial at each point.
-use Rattle.std.proofs.Common.{◌≡◌, inl, inr, ℕ, suc, ◌+◌, ◌-◌, ◌*◌, ◌%◌, ◌^◌, ◌<◌, ◌≤◌, Bool, true, false, List, length, get_or, map, sym, ◌∙◌, ap, arith}
+use Rattle.std.proofs.Common.{◌≡◌, inl, inr, ℕ, suc, ◌+◌, ◌-◌, ◌*◌, ◌%◌, ◌^◌, ◌<◌, ◌≤◌, Bool, true, false, List, length, get_or, map, sym, ◌∙◌, ap, subst, arith}
 use Rattle.std.specs.Prelude.{slice_index}
 use Rattle.std.proofs.lemmas.Bool.{cases_Bool, cases_lt, true≢false}
 use Rattle.std.proofs.lemmas.Bool.Decides.{nat_tests}
 use Rattle.std.proofs.lemmas.Nat.{pow_pos}
+use Rattle.std.proofs.Math.Pow.{pow_mono}
 use native.Mathlib.Nat.{mod-eq_of_lt, one-mul}
 use Rattle.field_base.proofs.RingLemmas.{mod-times}
 use Rattle.field_base.proofs.TowerRing.{tower_ring}
@@ -12,11 +13,14 @@ use Rattle.ghash_slices.specs.Cantor.{point, polynomial_value}
 use Rattle.tower_transforms.specs.Words.{level_element}
 use Rattle.word_tables.specs.Cantor.{cantor_vector}
 use Rattle.transform_codes.specs.Codes.{IsCodedColumn, shard_symbol, value_at}
+use Rattle.transform_codes.specs.Columns.{HoldWordValues}
 use Rattle.transform_codes.specs.Locators.{lost_count}
-use Rattle.transform_codes.specs.Restoring.{AreFactors, IsAtHand, is_lost, missing_locator, word_at}
+use Rattle.transform_codes.specs.Restoring.{AreFactors, ArePoints, FitRestoring, IsAtHand, is_lost, is_missing, missing_locator, word_at}
+use Rattle.transform_codes.specs.Sizes.{CanRebuild}
 use Rattle.additive_transforms.proofs.BlockPoints.{point-joined}
-use Rattle.transform_codes.proofs.CodedColumns.{Holds, held}
+use Rattle.transform_codes.proofs.CodedColumns.{held}
 use Rattle.transform_codes.proofs.Decoding.{decoded_is, divisor, product_is, quotient_is}
+use Rattle.transform_codes.proofs.LostCounts.{enough_left}
 
 module _ {W : Type 0} (number : W → ℕ) (zero : W) (level k n m r : ℕ) (present : List Bool) (low : level ≤ 7) (room : suc r ≤ 2 ^ level)
     (enough : lost_count (is_lost k n m present) (2 ^ r) + 2 ^ n ≤ 2 ^ r) (coefficients : ℕ → ℕ) where
@@ -48,21 +52,21 @@ module _ {W : Type 0} (number : W → ℕ) (zero : W) (level k n m r : ℕ) (pre
       (products_long : length products ≡ 2 ^ r) (first_long : length first ≡ 2 ^ r) (behind_long : length behind ≡ 2 ^ r)
       (quotients_long : length quotients ≡ 2 ^ r) (second_long : length second ≡ 2 ^ r) (values_long : length values ≡ 2 ^ r)
       (products_are : (p : ℕ) → p < 2 ^ r → number (get_or products p zero) ≡ tower_mul level (number (word p)) (number (get_or factors p zero)))
-      (first_is : Holds element zero level r y first products)
-      (behind_are : Holds element zero level r z first behind)
+      (first_is : HoldWordValues element level y first products)
+      (behind_are : HoldWordValues element level z first behind)
       (quotients_are : (p : ℕ) → p < 2 ^ r
       → number (get_or quotients p zero) ≡ tower_mul level (number (get_or behind p zero)) (number (get_or factors (2 ^ r + p) zero)))
-      (second_is : Holds element zero level r z second quotients)
-      (values_are : Holds element zero level r y second values)
+      (second_is : HoldWordValues element level z second quotients)
+      (values_are : HoldWordValues element level y second values)
       (known : (p : ℕ) → p < 2 ^ r → is_lost k n m present p ≡ false → element (word p) ≡ f (at p)) where
     -- a value of a list at its point
-    value_in : (list held_in : List W) → length list ≡ 2 ^ r → length held_in ≡ 2 ^ r → Holds element zero level r y list held_in
+    value_in : (list held_in : List W) → length list ≡ 2 ^ r → length held_in ≡ 2 ^ r → HoldWordValues element level y list held_in
         → (p : ℕ) → p < 2 ^ r → element (get_or held_in p zero) ≡ polynomial_value (tower_mul level) r (slice_index (map element list)) (at p)
     value_in list held_in list_long long holds p below =
         held element zero level r y list held_in list_long long holds p below
         ∙ ap (λ (x : ℕ). polynomial_value (tower_mul level) r (slice_index (map element list)) (point (2 ^ level) cantor_vector x p)) origin
 
-    value_behind : (list held_in : List W) → length list ≡ 2 ^ r → length held_in ≡ 2 ^ r → Holds element zero level r z list held_in
+    value_behind : (list held_in : List W) → length list ≡ 2 ^ r → length held_in ≡ 2 ^ r → HoldWordValues element level z list held_in
         → (p : ℕ) → p < 2 ^ r
         → element (get_or held_in p zero) ≡ polynomial_value (tower_mul level) r (slice_index (map element list)) (at (2 ^ r + p))
     value_behind list held_in list_long long holds p below =
@@ -153,3 +157,38 @@ module _ {W : Type 0} (number : W → ℕ) (zero : W) (nothing : number zero ≡
           ap (level_element number level) (word-behind p past late within)
           ∙ parity_known (p - 2 ^ n) t_below (lost-behind p past late within is)
           ∙ word.of_parity (p - 2 ^ n) t_below ∙ ap (value_at level n word.coefficients) place
+
+-- ---- what restored columns need
+
+-- a level that has twice as many points as 2 ^ r has more than r bits
+bits_left : (r bits : ℕ) → 2 * 2 ^ r ≤ 2 ^ bits → r + 1 ≤ bits
+bits_left r bits points =
+    elim (cases_lt r bits) [
+      | inl below ↦ omega (arith, below)
+      | inr past ↦ absurd (omega (arith, points, pow_mono past, pow_pos r))
+    ]
+
+-- it is there once words were found to be those of shards that can be restored, and the points and factors of twice `count` were set
+pub fits_restoring : {W : Type 0} (number : W → ℕ) (zero : W) (level n k m size r count set old old_parity space words parity_words values : ℕ)
+    (present : List Bool) (points factors : List W) (behind : W)
+    → CanRebuild level r k m old old_parity space present → k ≤ 2 ^ n → 2 ^ n + m ≤ 2 ^ r → r ≤ 16
+    → words ≡ k * size → parity_words ≡ m * size → values ≡ count → count ≡ 2 ^ r
+    → ArePoints number zero level points → count < length points → behind ≡ get_or points count zero
+    → AreFactors number zero level k n m present count set factors → set ≡ 2 * 2 ^ r → length factors ≡ set
+    → FitRestoring number zero level n k m size r present words parity_words values behind factors
+fits_restoring number zero level n k m size r count set old old_parity space words parity_words values present points factors behind can padded
+    room few whole parity_whole as_many count_is are_points within read are_factors set_is long =
+    record {
+      flags = can.flags;
+      whole = whole;
+      parity_whole = parity_whole;
+      count = as_many ∙ count_is;
+      few = few;
+      points = bits_left r (2 ^ level) can.points;
+      room = room;
+      enough = enough_left k n m present padded (2 ^ r) room (subst (λ (s : ℕ). lost_count (is_missing present) s ≤ m) can.flags can.enough);
+      next = ap number read ∙ are_points count within ∙ ap (point (2 ^ level) cantor_vector 0) count_is;
+      factors_long = long ∙ set_is;
+      all = subst (λ (q : ℕ). AreFactors number zero level k n m present q (2 * 2 ^ r) factors) count_is
+          (subst (λ (s : ℕ). AreFactors number zero level k n m present count s factors) set_is are_factors);
+    }

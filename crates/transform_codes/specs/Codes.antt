@@ -28,8 +28,12 @@ pub record IsCodedColumn (level n k m : ℕ) (symbol parity : ℕ → ℕ) : Typ
 abbrev pub shard_symbol : {W : Type 0} → (W → ℕ) → W → ℕ → List W → ℕ → ℕ → ℕ
 shard_symbol element zero size shards column i = element (slice_index_or shards (i * size + column) zero)
 
--- each column of the shards of data and of parity is a code word
-abbrev pub AreCodedColumns : {W : Type 0} → (W → ℕ) → W → ℕ → ℕ → ℕ → ℕ → ℕ → List W → List W → Type 0
-AreCodedColumns element zero level n k m size shards parity =
-    (column : ℕ) → column < size
+-- each column of the shards of data and of parity before column `until` is a code word
+abbrev pub AreCodedBefore : {W : Type 0} → (W → ℕ) → W → ℕ → ℕ → ℕ → ℕ → ℕ → ℕ → List W → List W → Type 0
+AreCodedBefore element zero level n k m size until shards parity =
+    (column : ℕ) → column < until
     → IsCodedColumn level n k m (shard_symbol element zero size shards column) (shard_symbol element zero size parity column)
+
+-- each column is
+abbrev pub AreCodedColumns : {W : Type 0} → (W → ℕ) → W → ℕ → ℕ → ℕ → ℕ → ℕ → List W → List W → Type 0
+AreCodedColumns element zero level n k m size shards parity = AreCodedBefore element zero level n k m size size shards parity

@@ -1,5 +1,8 @@
--- One column of shards, read and written word by word.
-use Rattle.std.specs.Prelude.{◌≡◌, ◌≢◌, ◌⊎◌, ℕ, ◌+◌, ◌*◌, ◌^◌, ◌<◌, ◌≤◌, List, slice_index_or}
+-- One column of shards, transformed, and read and written word by word.
+use Rattle.std.specs.Prelude.{◌≡◌, ◌≢◌, ◌⊎◌, ℕ, ◌+◌, ◌*◌, ◌^◌, ◌<◌, ◌≤◌, List, map, slice_index_or}
+use Rattle.additive_transforms.specs.Transform.{AreTheCoefficients, HoldValuesAtPoints}
+use Rattle.field_base.specs.Tower.{tower_mul}
+use Rattle.word_tables.specs.Cantor.{cantor_vector}
 use Rattle.transform_codes.specs.Codes.{shard_symbol, value_at}
 
 -- what coded columns need: words of k shards and of m of parity, and 2 ^ n coefficients and as many words of a block, where the level has
@@ -11,6 +14,16 @@ pub record FitEncoding (level n k m size words parity_words coefficients block :
   pub block_long : block ≡ 2 ^ n
   pub whole : words ≡ k * size
   pub parity_whole : parity_words ≡ m * size
+
+-- words have as their elements the values, at the points of a level from z on, of the polynomial with other words' elements as coefficients
+abbrev pub HoldWordValues : {W : Type 0} → (W → ℕ) → ℕ → ℕ → List W → List W → Type 0
+HoldWordValues element level z coefficients values =
+    HoldValuesAtPoints (2 ^ level) (tower_mul level) cantor_vector z (map element coefficients) (map element values)
+
+-- they have the coefficients of the one polynomial that has the other words' elements as its values there
+abbrev pub AreWordCoefficients : {W : Type 0} → (W → ℕ) → ℕ → ℕ → List W → List W → Type 0
+AreWordCoefficients element level z values coefficients =
+    AreTheCoefficients (2 ^ level) (tower_mul level) cantor_vector z (map element values) (map element coefficients)
 
 -- the first `until` places hold the words of a column of `count` shards, and zeros behind them
 abbrev pub HoldColumn : {W : Type 0} → W → ℕ → ℕ → ℕ → List W → ℕ → List W → Type 0

@@ -4,5 +4,4 @@ pub mod Determined
 pub mod Located
 pub mod Locators
 pub mod Restoring
-pub mod Returned
 pub mod Sizes

@@ -212,7 +212,7 @@ impl TransformCode {
         let behind = points[count];
         for column in 0..size {
             restore_column::<R, L>(
-                values, factors, behind, self, present, shards, parity, size, column,
+                self, present, values, factors, behind, shards, parity, size, column,
             );
         }
     }

@@ -1,8 +1,7 @@
 // The laws of the codes, as contracts of functions that compute nothing.
-ghost use Rattle.transform_codes.specs.Determined.{ShardsDetermine};
 ghost use Rattle.tower_transforms.specs.Words.{level_element};
+ghost use Rattle.transform_codes.specs.Determined.{LostSymbolsReturn, ShardsDetermine};
 ghost use Rattle.transform_codes.specs.Located.{LostSymbolsAreLocated};
-ghost use Rattle.transform_codes.specs.Returned.{LostSymbolsReturn};
 
 use field_base::Unsigned;
 use word_tower::Level;

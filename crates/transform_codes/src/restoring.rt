@@ -41,22 +41,20 @@ fn is_lost(code: &TransformCode, present: &[bool], p: usize) -> bool
     }
 }
 
-// The value at x of the locator of the symbols that are lost at the first `count` points.
+// The value at x of the locator of the symbols that are lost at these points, the first ones.
 fn locator_at<R: Unsigned, L: Level<R>>(
     code: &TransformCode,
     present: &[bool],
     points: &[R],
-    count: usize,
     x: R,
 ) -> R
     requires flags { length present.now ≡ code.now.data_shards + code.now.parity_shards }
-    requires within { count ≤ length points.now }
     requires points { ArePoints R.number R.ZERO L.LEVEL points.now }
-    ensures { R.number result ≡ missing_locator L.LEVEL code.now.data_shards code.now.levels code.now.parity_shards present.now count
-        (R.number x) }
+    ensures { R.number result ≡ missing_locator L.LEVEL code.now.data_shards code.now.levels code.now.parity_shards present.now
+        (length points.now) (R.number x) }
 {
     let mut product = R::ONE;
-    for p in 0..count {
+    for p in 0..points.len() {
         if is_lost(code, present, p) {
             product = L::multiply(x.xor(points[p]), product);
         }
@@ -78,7 +76,7 @@ fn factor_at<R: Unsigned, L: Level<R>>(
     requires points { ArePoints R.number R.ZERO L.LEVEL points.now }
     ensures { IsFactor L.LEVEL code.now.data_shards code.now.levels code.now.parity_shards present.now count p (R.number result) }
 {
-    let value = locator_at::<R, L>(code, present, points, count, points[p]);
+    let value = locator_at::<R, L>(code, present, &points[..count], points[p]);
     if p < count { value } else { L::invert(value) }
 }
 
@@ -195,11 +193,11 @@ fn mend<R: Unsigned>(
 
 // Restores one column.
 pub(crate) fn restore_column<R: StoredBytes, L: Level<R>>(
+    code: &TransformCode,
+    present: &[bool],
     values: &mut [R],
     factors: &[R],
     behind: R,
-    code: &TransformCode,
-    present: &[bool],
     shards: &mut [R],
     parity: &mut [R],
     size: usize,

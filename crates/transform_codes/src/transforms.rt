@@ -1,10 +1,8 @@
 // Transforms of stored words, the symbols of one column, over a level of the tower.
-ghost use Rattle.std.specs.Prelude.{◌≡◌, ◌^◌, length, map};
+ghost use Rattle.std.specs.Prelude.{◌≡◌, ◌^◌, length};
 ghost use Rattle.additive_transforms.specs.Elements.{FitsField};
-ghost use Rattle.additive_transforms.specs.Transform.{AreTheCoefficients, HoldValuesAtPoints};
-ghost use Rattle.field_base.specs.Tower.{tower_mul};
 ghost use Rattle.tower_transforms.specs.Words.{level_element};
-ghost use Rattle.word_tables.specs.Cantor.{cantor_vector};
+ghost use Rattle.transform_codes.specs.Columns.{AreWordCoefficients, HoldWordValues};
 
 use tower_transforms::StoredBytes;
 use word_tower::Level;
@@ -13,9 +11,7 @@ use word_tower::Level;
 pub(crate) fn forward_level<R: StoredBytes, L: Level<R>>(words: &mut [R], z: R)
     requires { FitsField (2 ^ L.LEVEL) (length words.old) }
     ensures length { length words.new ≡ length words.old }
-    ensures values { let element = level_element R.Stored.number L.LEVEL in
-        HoldValuesAtPoints (2 ^ L.LEVEL) (tower_mul L.LEVEL) cantor_vector (R.Stored.number z) (map element words.old)
-        (map element words.new) }
+    ensures values { HoldWordValues (level_element R.Stored.number L.LEVEL) L.LEVEL (R.Stored.number z) words.old words.new }
 {
     tower_transforms::forward_level::<R, L, R>(words, z);
 }
@@ -23,9 +19,7 @@ pub(crate) fn forward_level<R: StoredBytes, L: Level<R>>(words: &mut [R], z: R)
 // From those values to the coefficients.
 pub(crate) fn inverse_level<R: StoredBytes, L: Level<R>>(words: &mut [R], z: R)
     requires { FitsField (2 ^ L.LEVEL) (length words.old) }
-    ensures coefficients { let element = level_element R.Stored.number L.LEVEL in
-        AreTheCoefficients (2 ^ L.LEVEL) (tower_mul L.LEVEL) cantor_vector (R.Stored.number z) (map element words.old)
-        (map element words.new) }
+    ensures coefficients { AreWordCoefficients (level_element R.Stored.number L.LEVEL) L.LEVEL (R.Stored.number z) words.old words.new }
     ensures length { length words.new ≡ length words.old }
 {
     tower_transforms::inverse_level::<R, L, R>(words, z);

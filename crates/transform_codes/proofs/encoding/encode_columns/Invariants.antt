@@ -1,11 +1,9 @@
-use Rattle.std.proofs.Common.{ℕ, ◌<◌}
 use Rattle.tower_transforms.specs.Words.{level_element}
-use Rattle.transform_codes.specs.Codes.{IsCodedColumn, shard_symbol}
+use Rattle.transform_codes.specs.Codes.{AreCodedBefore}
 use Rattle.transform_codes.proofs.encoding.encode_columns.Given as goal
 
+-- the columns so far are code words
 abbrev pub invariant-loop-column : goal.invariant-loop-column
 invariant-loop-column g l =
-    let element = level_element g.R.Stored.number g.L.Level.LEVEL in
-    (column : ℕ) → column < l.column
-    → IsCodedColumn g.L.Level.LEVEL l.code.levels l.code.data_shards l.code.parity_shards
-    (shard_symbol element g.R.Stored.ZERO l.size l.shards column) (shard_symbol element g.R.Stored.ZERO l.size l.parity column)
+    AreCodedBefore (level_element g.R.Stored.number g.L.Level.LEVEL) g.R.Stored.ZERO g.L.Level.LEVEL l.code.levels l.code.data_shards
+    l.code.parity_shards l.size l.column l.shards l.parity

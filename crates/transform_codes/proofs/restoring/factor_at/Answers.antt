@@ -1,4 +1,4 @@
-use Rattle.std.proofs.Common.{ℕ, ◌^◌, ◌<◌, sym, subst}
+use Rattle.std.proofs.Common.{ℕ, ◌^◌, ◌<◌, length, take, sym, subst}
 use Rattle.std.proofs.lemmas.Nat.{pow_pos}
 use Rattle.field_base.specs.Tower.{tower_mul}
 use Rattle.field_base.proofs.TowerLaws.{tower_field}
@@ -14,4 +14,4 @@ invert-requires g c =
     let level = g.L.Level.LEVEL in
     subst (λ (v : ℕ). v < 2 ^ 2 ^ level) (sym c.locator_at-value.ensures)
     (locator-lt (2 ^ level) (tower_mul level) (pow_pos level) (tower_field level) (point (2 ^ level) cantor_vector 0)
-    (is_lost code.data_shards code.levels code.parity_shards c.args.present.now) c.args.count (g.R.Stored.number c.index-points-p.result))
+    (is_lost code.data_shards code.levels code.parity_shards c.args.present.now) (length (take c.args.count c.args.points.now)) (g.R.Stored.number c.index-points-p.result))

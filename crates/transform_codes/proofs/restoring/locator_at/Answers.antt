@@ -25,7 +25,7 @@ loop-p-preserved g c =
     let at : ℕ → ℕ = point (2 ^ level) cantor_vector 0 in
     let lost : ℕ → Bool = is_lost code.data_shards code.levels code.parity_shards c.args.present.now in
     let p = c.loop-p.p in
-    let within : p < length c.args.points.now = omega (arith, c.loop-p-test.true, c.requires.within) in
+    let within : p < length c.args.points.now = omega (arith, c.loop-p-test.true) in
     elim c.if-is_lost.branch [
       | then-is_lost w ↦
           let read = get_or_read c.args.points.now p w.index-points-p.result within w.index-points-p.is g.R.Stored.ZERO in

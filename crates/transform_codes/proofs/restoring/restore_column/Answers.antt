@@ -2,8 +2,8 @@ use Rattle.std.proofs.Common.{◌≡◌, ◌≤◌, ◌^◌, ◌+◌, ℕ, suc, 
 use Rattle.std.specs.Prelude.{slice_index}
 use Rattle.field_base.specs.Tower.{tower_mul}
 use Rattle.tower_transforms.specs.Words.{level_element}
+use Rattle.transform_codes.specs.Columns.{HoldWordValues}
 use Rattle.transform_codes.specs.Restoring.{word_at}
-use Rattle.transform_codes.proofs.CodedColumns.{Holds}
 use Rattle.transform_codes.proofs.MendedColumns.{data_restored, parity_restored}
 use Rattle.transform_codes.proofs.RestoredColumns.{known_words, restored_values}
 use Rattle.transform_codes.proofs.restoring.restore_column.Goals as goal
@@ -43,13 +43,13 @@ returns-clause-restored g c =
     (word_at zero k n m c.args.size c.args.column shards parity) c.args.factors.now products first behind quotients second values 0
     (number c.args.behind) (omega arith) c.requires.fit.next c.requires.fit.all products_long first_long behind_long quotients_long second_long
     values_long (λ p below. c.set_products.ensures.products p (omega (arith, below, c.requires.fit.count)))
-    (subst (λ (y : ℕ). Holds element zero level r y first products) nothing c.inverse_level.ensures.coefficients.have)
+    (subst (λ (y : ℕ). HoldWordValues element level y first products) nothing c.inverse_level.ensures.coefficients.have)
     c.forward_level.ensures.values
     (λ p below.
     c.divide_each.ensures.products p (omega (arith, below, behind_long))
     ∙ ap (λ (s : ℕ). tower_mul level (number (get_or behind p zero)) (number (get_or c.args.factors.now (s + p) zero))) behind_long)
     c.inverse_level-2.ensures.coefficients.have
-    (subst (λ (y : ℕ). Holds element zero level r y second values) nothing_too c.forward_level-2.ensures.values)
+    (subst (λ (y : ℕ). HoldWordValues element level y second values) nothing_too c.forward_level-2.ensures.values)
     (λ p below known.
     known_words number zero g.R.Stored.zero_number level k n m c.args.size c.args.column present shards parity symbol word_parity word data_known
     parity_known padded p known) in (
