@@ -8,7 +8,7 @@ use Rattle.field_base.specs.Ring.{IsRing}
 use Rattle.field_base.proofs.RingLemmas.{times-zero}
 use Rattle.field_base.proofs.PowerLemmas.{one-times, times-one}
 use Rattle.field_slices.specs.Matrices.{IsRowCombination, HaveSameRowSpace, IsReducedEchelon, IsRowWritten, cleared_entry, entry_of, joined_entry}
-use Rattle.field_slices.proofs.MatrixRows.{RowsWritten}
+use Rattle.field_slices.proofs.MatrixRows.{RowsWritten, mixed, mixed-before, mixed-past, rows_end}
 use Rattle.field_slices.proofs.Places.{numbers-lt}
 use Rattle.field_slices.proofs.RowSpaces.{same_space, space_then, combination_row, combination_rows, combination_multiple}
 
@@ -29,28 +29,66 @@ module _ (times : ℕ → ℕ → ℕ) (row column : ℕ) (A : ℕ → ℕ → �
   cleared-other differs =
       ap (λ (b : Bool). if b then A i j else bit_xor (A i j) (times (A i column) (A row j))) (ne_eqb i row differs)
 
-module _ {V : Type 0} {number : V → ℕ} {columns : ℕ} (times : ℕ → ℕ → ℕ) (row column : ℕ) {old now : List V} {n : ℕ}
-    (so_far : RowsWritten number columns (cleared_entry times row column (entry_of number columns old)) old now n) where
-  -- the row that clears the others stays
-  clearing-stays : (j : ℕ) → j < columns → entry_of number columns now row j ≡ entry_of number columns old row j
-  clearing-stays j inside =
-      elim (cases_lt row n) [
-        | inl below ↦ so_far.done row j below inside ∙ cleared-own times row column (entry_of number columns old) row j refl
-        | inr past ↦ so_far.rest row j past inside
-      ]
+-- the rows from row `from` on are to be cleared, and those before it stay
+abbrev pub cleared_from : (ℕ → ℕ → ℕ) → ℕ → ℕ → ℕ → (ℕ → ℕ → ℕ) → ℕ → ℕ → ℕ
+cleared_from times from row column A = mixed from A (cleared_entry times row column A)
 
-  -- so that what the next row is to become can be said by the entries as they are
-  pub cleared-step : column < columns → (j : ℕ) → j < columns
-      → cleared_entry times row column (entry_of number columns now) n j ≡ cleared_entry times row column (entry_of number columns old) n j
-  cleared-step within j inside =
-      elim (cases_eq n row) [
-        | inl same ↦ cleared-own times row column (entry_of number columns now) n j same ∙ so_far.rest n j (omega arith) inside
-            ∙ sym (cleared-own times row column (entry_of number columns old) n j same)
-        | inr other ↦ cleared-other times row column (entry_of number columns now) n j other
-            ∙ ap₂ bit_xor (so_far.rest n j (omega arith) inside)
-            (ap₂ times (so_far.rest n column (omega arith) within) (clearing-stays j inside))
-            ∙ sym (cleared-other times row column (entry_of number columns old) n j other)
-      ]
+module _ {V : Type 0} {number : V → ℕ} {columns : ℕ} (times : ℕ → ℕ → ℕ) (from row column : ℕ) {old : List V} where
+  -- at first none is
+  pub cleared-start : RowsWritten number columns (cleared_from times from row column (entry_of number columns old)) old old from
+  cleared-start =
+      let A = entry_of number columns old in
+      record {
+        shape = refl;
+        done = λ i j before inside. ap (λ (w : ℕ → ℕ). w j) (sym (mixed-before from A (cleared_entry times row column A) i before));
+        rest = λ i j past inside. refl;
+      }
+
+  module _ {now : List V} {n : ℕ}
+      (so_far : RowsWritten number columns (cleared_from times from row column (entry_of number columns old)) old now n) where
+    -- the row that clears the others stays
+    clearing-stays : (j : ℕ) → j < columns → entry_of number columns now row j ≡ entry_of number columns old row j
+    clearing-stays j inside =
+        elim (cases_lt row n) [
+          | inl below ↦ so_far.done row j below inside ∙ own (cases_lt row from)
+          | inr past ↦ so_far.rest row j past inside
+        ]
+      where
+        own : (row < from) ⊎ (from ≤ row) → cleared_from times from row column (entry_of number columns old) row j ≡ entry_of number columns old row j
+        own (inl before) =
+            ap (λ (w : ℕ → ℕ). w j)
+            (mixed-before from (entry_of number columns old) (cleared_entry times row column (entry_of number columns old)) row before)
+        own (inr past) =
+            ap (λ (w : ℕ → ℕ). w j)
+            (mixed-past from (entry_of number columns old) (cleared_entry times row column (entry_of number columns old)) row past)
+            ∙ cleared-own times row column (entry_of number columns old) row j refl
+
+    -- so that what the next row is to become can be said by the entries as they are
+    pub cleared-step : column < columns → from ≤ n → (j : ℕ) → j < columns
+        → cleared_entry times row column (entry_of number columns now) n j
+        ≡ cleared_from times from row column (entry_of number columns old) n j
+    cleared-step within reached j inside =
+        elim (cases_eq n row) [
+          | inl same ↦ cleared-own times row column (entry_of number columns now) n j same ∙ so_far.rest n j (omega arith) inside
+              ∙ sym (cleared-own times row column (entry_of number columns old) n j same) ∙ sym later
+          | inr other ↦ cleared-other times row column (entry_of number columns now) n j other
+              ∙ ap₂ bit_xor (so_far.rest n j (omega arith) inside)
+              (ap₂ times (so_far.rest n column (omega arith) within) (clearing-stays j inside))
+              ∙ sym (cleared-other times row column (entry_of number columns old) n j other) ∙ sym later
+        ]
+      where
+        later : cleared_from times from row column (entry_of number columns old) n j
+            ≡ cleared_entry times row column (entry_of number columns old) n j
+        later =
+            ap (λ (w : ℕ → ℕ). w j)
+            (mixed-past from (entry_of number columns old) (cleared_entry times row column (entry_of number columns old)) n reached)
+
+    pub cleared-end : (rows : ℕ) → rows ≤ n → (i j : ℕ) → from ≤ i → i < rows → j < columns
+        → entry_of number columns now i j ≡ cleared_entry times row column (entry_of number columns old) i j
+    cleared-end rows past i j reached below inside =
+        rows_end so_far rows past i j below inside
+        ∙ ap (λ (w : ℕ → ℕ). w j)
+        (mixed-past from (entry_of number columns old) (cleared_entry times row column (entry_of number columns old)) i reached)
 
 -- ---- a pivot
 

@@ -3,6 +3,10 @@ pub mod Completeness
 pub mod CornerSums
 pub mod CubeLaws
 pub mod CubeTables
+pub mod DeterminantInverses
+pub mod DeterminantProducts
+pub mod DeterminantRows
+pub mod Determinants
 pub mod EchelonUniqueness
 pub mod Elimination
 pub mod InverseMatrices
@@ -13,6 +17,7 @@ pub mod MatrixRows
 pub mod MixedDots
 pub mod NullSpaces
 pub mod PackedPowers
+pub mod PivotDeterminants
 pub mod Places
 pub mod PowerLists
 pub mod RoundSums

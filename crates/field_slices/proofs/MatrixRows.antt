@@ -1,6 +1,7 @@
 -- Places of the entries of a matrix, and loops that write one row, or one row after the other.
-use Rattle.std.proofs.Common.{◌≡◌, ◌≢◌, ◌⊎◌, inl, inr, ℕ, ◌+◌, ◌*◌, ◌<◌, ◌≤◌, List, length, refl, sym, ◌∙◌, ap, arith, below_more}
-use Rattle.std.proofs.lemmas.Bool.{cases_order}
+use Rattle.std.proofs.Common.{◌≡◌, ◌≢◌, ◌⊎◌, inl, inr, ℕ, ◌+◌, ◌*◌, ◌<◌, ◌≤◌, Bool, List, length, suc, refl, sym, ◌∙◌, ap, arith, below_more}
+use Rattle.std.specs.Prelude.{if◌then◌else◌, nat_lt}
+use Rattle.std.proofs.lemmas.Bool.{cases_lt, cases_order, lt-ltb, le-ltb}
 use Rattle.std.proofs.lemmas.Nat.{mul-add-lt}
 use Rattle.field_slices.specs.Matrices.{IsEntryWritten, IsRowWritten, entry_of}
 
@@ -102,3 +103,24 @@ module _ {V : Type 0} {number : V → ℕ} {columns : ℕ} {wanted : ℕ → ℕ
 
   pub rows_end : (rows : ℕ) → rows ≤ n → (i j : ℕ) → i < rows → j < columns → entry_of number columns now i j ≡ wanted i j
   rows_end rows past i j below inside = so_far.done i j (omega (arith, below, past)) inside
+
+-- ---- rows of two matrices
+
+-- the first k rows of one matrix, and behind them those of another
+abbrev pub mixed : ℕ → (ℕ → ℕ → ℕ) → (ℕ → ℕ → ℕ) → ℕ → ℕ → ℕ
+mixed k C A i = if nat_lt i k then C i else A i
+
+module _ (k : ℕ) (C A : ℕ → ℕ → ℕ) (i : ℕ) where
+  pub mixed-before : i < k → mixed k C A i ≡ C i
+  mixed-before before = ap (λ (t : Bool). if t then C i else A i) (lt-ltb i k before)
+
+  pub mixed-past : k ≤ i → mixed k C A i ≡ A i
+  mixed-past past = ap (λ (t : Bool). if t then C i else A i) (le-ltb i k past)
+
+-- with one row more
+pub mixed-more : (k : ℕ) (C A : ℕ → ℕ → ℕ) (i j : ℕ) → i ≢ k → mixed (suc k) C A i j ≡ mixed k C A i j
+mixed-more k C A i j other =
+    elim (cases_lt i k) [
+      | inl before ↦ ap (λ (w : ℕ → ℕ). w j) (mixed-before (suc k) C A i (omega (arith, before)) ∙ sym (mixed-before k C A i before))
+      | inr past ↦ ap (λ (w : ℕ → ℕ). w j) (mixed-past (suc k) C A i (omega (arith, past, other)) ∙ sym (mixed-past k C A i past))
+    ]

@@ -2,7 +2,7 @@
 //! packings and back; and polynomials over any field: values in one variable by coefficients or by values at the first elements,
 //! multilinear polynomials by their values at the corners of the cube {0, 1}^n, and the rounds of sum-check for a product of two of these;
 //! and matrices over any field: identity matrices and those of Vandermonde and Cauchy, products, reduced row echelon form, null spaces,
-//! inverses and linear equations.
+//! determinants, inverses and linear equations.
 #![tactic(auto)]
 
 mod cube;
@@ -23,8 +23,8 @@ pub use crate::inversion::{
     batch_multiplicative_inverse_into,
 };
 pub use crate::laws::{
-    corner_values_extend, first_coordinate_is_linear, folding_evaluates, null_space_is_kept,
-    reduced_echelon_is_unique,
+    corner_values_extend, determinant_tells_inverses, determinants_multiply,
+    first_coordinate_is_linear, folding_evaluates, null_space_is_kept, reduced_echelon_is_unique,
 };
 pub use crate::nodes::interpolate_at_nodes;
 pub use crate::packings::powers::{packed_powers, packed_powers_vec};

@@ -2,6 +2,7 @@
 //! place i * columns + j. `Scalars` is what a place holds and how it is computed with; for the elements of a field `F` that is
 //! `Elements<F>`, as in `row_reduce::<Elements<F>>(..)`.
 
+mod determinants;
 mod identities;
 mod inverses;
 mod null_spaces;
@@ -12,6 +13,7 @@ mod rows;
 mod scalars;
 mod systems;
 
+pub use crate::matrices::determinants::determinant;
 pub use crate::matrices::identities::identity_into;
 pub use crate::matrices::inverses::invert_beside;
 pub use crate::matrices::null_spaces::null_space_into;

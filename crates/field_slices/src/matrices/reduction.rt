@@ -126,11 +126,16 @@ fn make_pivot<S: Scalars>(
     bring_nonzero::<S>(matrix, shape, rank, row);
     let inverse = S::invert(entry::<S>(matrix, shape, rank, column));
     scale_row::<S>(matrix, shape, rank, inverse);
-    clear_column::<S>(matrix, shape, rank, column);
+    clear_column::<S>(matrix, shape, 0, rank, column);
 }
 
 // Adds row `row` to row `rank`, if it is another one.
-fn bring_nonzero<S: Scalars>(matrix: &mut [S::Value], shape: Shape, rank: usize, row: usize)
+pub(crate) fn bring_nonzero<S: Scalars>(
+    matrix: &mut [S::Value],
+    shape: Shape,
+    rank: usize,
+    row: usize,
+)
     requires rank { HasMatrixRow shape.rows shape.columns rank (length matrix.old) }
     requires row { row < shape.rows }
     ensures { IsRowWritten S.number shape.columns rank (joined_entry rank row (entry_of S.number shape.columns matrix.old))
@@ -141,14 +146,20 @@ fn bring_nonzero<S: Scalars>(matrix: &mut [S::Value], shape: Shape, rank: usize,
     }
 }
 
-// Makes the other rows 0 in this column, where row `row` is 1, by adding multiples of that row.
-fn clear_column<S: Scalars>(matrix: &mut [S::Value], shape: Shape, row: usize, column: usize)
+// Makes the other rows from row `from` on 0 in this column, where row `row` is 1, by adding multiples of that row.
+pub(crate) fn clear_column<S: Scalars>(
+    matrix: &mut [S::Value],
+    shape: Shape,
+    from: usize,
+    row: usize,
+    column: usize,
+)
     requires { HasMatrixEntry shape.rows shape.columns row column (length matrix.old) }
     ensures shape { length matrix.new ≡ length matrix.old }
-    ensures cleared { (i j : ℕ) → i < shape.rows → j < shape.columns → entry_of S.number shape.columns matrix.new i j
+    ensures cleared { (i j : ℕ) → from ≤ i → i < shape.rows → j < shape.columns → entry_of S.number shape.columns matrix.new i j
         ≡ cleared_entry S.product row column (entry_of S.number shape.columns matrix.old) i j }
 {
-    for other in 0..shape.rows {
+    for other in from..shape.rows {
         clear_entry::<S>(matrix, shape, row, other, column);
     }
 }

@@ -1,4 +1,4 @@
-use Rattle.std.proofs.Common.{ℕ, ◌∙◌, ap, sym}
+use Rattle.std.proofs.Common.{ℕ, ◌∙◌, ap, sym, arith}
 use Rattle.field_slices.proofs.Elimination.{joined-nonzero, pivot-written}
 use Rattle.field_slices.proofs.matrices.reduction.make_pivot.Goals as goal
 
@@ -24,7 +24,7 @@ returns g c =
     c.args.shape.columns c.args.rank c.args.row c.args.column inverse own.row_within c.requires.row own.column_within
     c.args.matrix.now brought c.scale_row.new.matrix c.clear_column.new.matrix c.bring_nonzero.ensures
     (ap (λ (x : ℕ). scalars.product x inverse) (sym c.entry.ensures) ∙ c.invert-inverse.ensures)
-    c.scale_row.ensures c.clear_column.ensures.cleared in
+    c.scale_row.ensures (λ i j. c.clear_column.ensures.cleared i j (omega arith)) in
     record {
       shape = c.clear_column.ensures.shape ∙ c.scale_row.ensures.shape ∙ c.bring_nonzero.ensures.shape;
       leading = made.leading;
