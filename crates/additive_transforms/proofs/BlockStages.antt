@@ -101,59 +101,53 @@ module _ {A : Type 0} (value : A → ℕ) (size : ℕ) (holds : ℕ → (ℕ →
           ∙ read_inside value start k now block room as_long r in_k)
           is)
 
--- ---- the blocks of a stage
+-- ---- the butterflies of blocks
 
--- a place of a block of 2 ^ (j + 1) lies in its two halves
-both_halves : (j r : ℕ) → r < 2 ^ suc j → r < 2 ^ j + 2 ^ j
-both_halves j r below = let halves = two-pow-succ j in omega (arith, halves)
-
--- and a place of the two halves in the block
-both_halves' : (j r : ℕ) → r < 2 ^ j + 2 ^ j → r < 2 ^ suc j
-both_halves' j r below = let halves = two-pow-succ j in omega (arith, halves)
-
--- stage j, or its inverse, where the scalar of block q is t q
-module _ (inverse : Bool) (times : ℕ → ℕ → ℕ) (t : ℕ → ℕ) (j : ℕ) where
+-- the butterfly of blocks of twice `half` places, or its inverse, where the scalar of block q is t q
+module _ (inverse : Bool) (times : ℕ → ℕ → ℕ) (t : ℕ → ℕ) (half : ℕ) where
   -- block q becomes what it should
   abbrev pub taken_block : ℕ → (ℕ → ℕ) → (ℕ → ℕ) → Type 0
-  taken_block q old now = TakesBlock inverse times (t q) (2 ^ j) old now
+  taken_block q old now = TakesBlock inverse times (t q) half old now
 
   -- that depends on the block's values alone
-  taken_local : InBlocks (2 ^ suc j) taken_block
+  pub taken_local : InBlocks (2 * half) taken_block
   taken_local = record { same = λ q a b c d first second. local inverse q a b c d first second }
     where
-      local : (back : Bool) (q : ℕ) (a b c d : ℕ → ℕ) → ((r : ℕ) → r < 2 ^ suc j → c r ≡ a r) → ((r : ℕ) → r < 2 ^ suc j → d r ≡ b r)
-          → TakesBlock back times (t q) (2 ^ j) a b → TakesBlock back times (t q) (2 ^ j) c d
+      local : (back : Bool) (q : ℕ) (a b c d : ℕ → ℕ) → ((r : ℕ) → r < 2 * half → c r ≡ a r) → ((r : ℕ) → r < 2 * half → d r ≡ b r)
+          → TakesBlock back times (t q) half a b → TakesBlock back times (t q) half c d
       local false q a b c d first second =
-          butterfly-same times (t q) (2 ^ j) a b c d (λ r below. first r (both_halves' j r below)) (λ r below. second r (both_halves' j r below))
+          butterfly-same times (t q) half a b c d (λ r below. first r (omega arith)) (λ r below. second r (omega arith))
       local true q a b c d first second =
-          butterfly-same times (t q) (2 ^ j) b a d c (λ r below. second r (both_halves' j r below)) (λ r below. first r (both_halves' j r below))
+          butterfly-same times (t q) half b a d c (λ r below. second r (omega arith)) (λ r below. first r (omega arith))
 
   -- the blocks before block n have become that, and the others are as they were: what a loop over the blocks keeps
   abbrev pub StageSoFar : ℕ → List ℕ → List ℕ → Type 0
-  StageSoFar n old now = BlocksSoFar (2 ^ suc j) taken_block n old now
+  StageSoFar n old now = BlocksSoFar (2 * half) taken_block n old now
 
-  module _ (half : ℕ) (half_is : half ≡ 2 ^ j) where
+  -- one more block, which was lent from its first place on, and its scalar as it was computed
+  pub stage_step : {A : Type 0} (value : A → ℕ) (n start s : ℕ) (old now block : List A) → start ≡ n * (2 * half)
+      → start + 2 * half ≤ length now → length block ≡ length (mid_of start (start + 2 * half - start) now) → s ≡ t n
+      → TakesBlock inverse times s half (slice_index (map value (mid_of start (start + 2 * half - start) now)))
+      (slice_index (map value block))
+      → length now ≡ length old → StageSoFar n (map value old) (map value now)
+      → (length (put_mid start (start + 2 * half - start) now block) ≡ length old)
+      × StageSoFar (n + 1) (map value old) (map value (put_mid start (start + 2 * half - start) now block))
+  stage_step value n start s old now block start_is inside lent scalar is same so_far = (
+    same_len_mid start (start + 2 * half - start) now block lent ∙ same,
+    blocks_step value (2 * half) taken_block taken_local n start (start + 2 * half - start) old now block start_is (omega arith) inside
+        (lent ∙ mid_len start (start + 2 * half) now inside)
+        (subst (λ (x : ℕ). TakesBlock inverse times x half (slice_index (map value (mid_of start (start + 2 * half - start) now)))
+        (slice_index (map value block))) scalar is)
+        so_far,
+  )
+
+  -- ---- the blocks of a stage
+
+  -- where `half` is that of stage j
+  module _ (j : ℕ) (half_is : half ≡ 2 ^ j) where
     -- a block in both numbers of its places
     size : 2 * half ≡ 2 ^ suc j
     size = let halves = two-pow-succ j in omega (arith, half_is, halves)
-
-    -- one more block, which was lent from its first place on, and its scalar as it was computed
-    pub stage_step : {A : Type 0} (value : A → ℕ) (n start s : ℕ) (old now block : List A) → start ≡ n * (2 * half)
-        → start + 2 * half ≤ length now → length block ≡ length (mid_of start (start + 2 * half - start) now) → s ≡ t n
-        → TakesBlock inverse times s half (slice_index (map value (mid_of start (start + 2 * half - start) now)))
-        (slice_index (map value block))
-        → length now ≡ length old → StageSoFar n (map value old) (map value now)
-        → (length (put_mid start (start + 2 * half - start) now block) ≡ length old)
-        × StageSoFar (n + 1) (map value old) (map value (put_mid start (start + 2 * half - start) now block))
-    stage_step value n start s old now block start_is inside lent scalar is same so_far =
-        let whole = size in
-        let part : start + 2 * half - start ≡ 2 ^ suc j = omega (arith, whole) in
-        let room : start + 2 ^ suc j ≤ length now = omega (arith, inside, whole) in (
-          same_len_mid start (start + 2 * half - start) now block lent ∙ same,
-          blocks_step value (2 ^ suc j) taken_block taken_local n start (start + 2 * half - start) old now block
-              (start_is ∙ ap (λ (m : ℕ). n * m) whole) part room (lent ∙ mid_len start (start + 2 * half) now inside)
-              (butterfly-at times s (t n) half (2 ^ j) _ _ scalar half_is is) so_far,
-        )
 
     -- a count of values has as many blocks by both numbers
     pub stage_blocks : (count : ℕ) → count / 2 ^ (j + 1) ≡ count / (2 * half)
@@ -161,8 +155,19 @@ module _ (inverse : Bool) (times : ℕ → ℕ → ℕ) (t : ℕ → ℕ) (j : �
         let next : j + 1 ≡ suc j = omega arith in
         ap (λ (n : ℕ). count / n) (ap (λ (e : ℕ). 2 ^ e) next ∙ sym size)
 
-    -- after the last block the stage is done
+    -- where all blocks have become what they should the stage is done
+    pub stage_taken : (count : ℕ) (old now : List ℕ)
+        → ((q : ℕ) → q < count / (2 * half) → taken_block q (values_from old (q * (2 * half))) (values_from now (q * (2 * half))))
+        → (q : ℕ) → q < count / 2 ^ (j + 1)
+        → TakesBlock inverse times (t q) (2 ^ j) (values_from old (q * 2 ^ suc j)) (values_from now (q * 2 ^ suc j))
+    stage_taken count old now all q below =
+        let blocks = stage_blocks count in
+        subst (λ (s : ℕ). TakesBlock inverse times (t q) (2 ^ j) (values_from old (q * s)) (values_from now (q * s))) size
+        (subst (λ (h : ℕ). TakesBlock inverse times (t q) h (values_from old (q * (2 * half))) (values_from now (q * (2 * half)))) half_is
+        (all q (omega (arith, blocks, below))))
+
+    -- so it is after the last block
     pub stage_done : (count n : ℕ) (old now : List ℕ) → count / (2 * half) ≤ n → StageSoFar n old now
-        → (q : ℕ) → q < count / 2 ^ (j + 1) → taken_block q (values_from old (q * 2 ^ suc j)) (values_from now (q * 2 ^ suc j))
-    stage_done count n old now last so_far q below =
-        let blocks = stage_blocks count in so_far.done q (omega (arith, blocks, last, below))
+        → (q : ℕ) → q < count / 2 ^ (j + 1)
+        → TakesBlock inverse times (t q) (2 ^ j) (values_from old (q * 2 ^ suc j)) (values_from now (q * 2 ^ suc j))
+    stage_done count n old now last so_far = stage_taken count old now (λ q below. so_far.done q (omega (arith, last, below)))

@@ -1,5 +1,5 @@
 -- The loops over the stages of a transform, and the twiddles of a field of `width` bits, which reach as many stages as it has bits.
-use Rattle.std.proofs.Common.{◌≡◌, ℕ, suc, Bool, true, false, ◌+◌, ◌-◌, ◌/◌, ◌^◌, ◌<◌, ◌≤◌, List, length, map, ◌∙◌, ap, subst, arith, lit<}
+use Rattle.std.proofs.Common.{◌≡◌, ℕ, suc, Bool, true, false, ◌+◌, ◌-◌, ◌/◌, ◌^◌, ◌<◌, ◌≤◌, List, length, map, sym, ◌∙◌, ap, subst, arith, lit<}
 use Rattle.std.specs.Prelude.{slice_index, IsTrue}
 use Rattle.std.proofs.Math.Nat.{pow-le-pow_right}
 use Rattle.std.proofs.lemmas.List.{length-map}
@@ -123,13 +123,21 @@ module _ {width : ℕ} {times : ℕ → ℕ → ℕ} {vector : ℕ → ℕ} (wid
       (subst (λ (k : ℕ). AreUndone times shifts basis m k (map value old) (map value now)) last so_far.1))
 
 -- the coefficients that have the values are the only ones
+pub the_numbers : {width : ℕ} {times : ℕ → ℕ → ℕ} {vector : ℕ → ℕ} → 0 < width → IsRing width 1 times → AreCantorVectors width times vector
+    → (z : ℕ) (old new : List ℕ) → FitsField width (length old) → length new ≡ length old → ((p : ℕ) → slice_index new p < 2 ^ width)
+    → HoldValuesAtPoints width times vector z new old → AreTheCoefficients width times vector z old new
+the_numbers wide ring vectors z old new room same =
+    only_these _ _ _ wide ring vectors _ _ z _ (level_twiddles wide z) (basis_length _ _ wide) room.0 room.2 old new room.1.1
+    (same ∙ room.1.1)
+
+-- and so are those of elements
 pub the_coefficients : {width : ℕ} {times : ℕ → ℕ → ℕ} {vector : ℕ → ℕ} → 0 < width → IsRing width 1 times
     → AreCantorVectors width times vector → {A : Type 0} (value : A → ℕ) → ((x : A) → value x < 2 ^ width) → (z : ℕ) (old new : List A)
     → FitsField width (length old) → length new ≡ length old → HoldValuesAtPoints width times vector z (map value new) (map value old)
     → AreTheCoefficients width times vector z (map value old) (map value new)
 the_coefficients wide ring vectors value range z old new room same =
-    only_these _ _ _ wide ring vectors _ _ z _ (level_twiddles wide z) (basis_length _ _ wide) room.0 room.2 (map value old) (map value new)
-    (length-map old value ∙ room.1.1) (length-map new value ∙ same ∙ room.1.1) (values_fit _ value range new)
+    the_numbers wide ring vectors z (map value old) (map value new) (room.0, (room.1.0, length-map old value ∙ room.1.1), room.2)
+    (length-map new value ∙ same ∙ sym (length-map old value)) (values_fit _ value range new)
 
 -- in the field of GHASH
 pub ghash_coefficients : {A : Type 0} (value : A → ℕ) → ((x : A) → value x < 2 ^ 128) → (z m : ℕ) (old new : List A)

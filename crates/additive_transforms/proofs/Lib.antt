@@ -4,6 +4,7 @@ pub mod BlockStages
 pub mod Butterflies
 pub mod CantorSums
 pub mod Carries
+pub mod ColumnStages
 pub mod Counts
 pub mod DepthFirst
 pub mod ElementPoints

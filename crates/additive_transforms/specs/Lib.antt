@@ -1,3 +1,4 @@
+pub mod Columns
 pub mod Elements
 pub mod Stages
 pub mod Subfields

@@ -29,6 +29,13 @@ IsStage times shift basis j blocks a b =
     (q : ℕ) → q < blocks
     → IsButterfly times (bit_xor shift (linear_image basis q)) (2 ^ j) (values_from a (q * 2 ^ suc j)) (values_from b (q * 2 ^ suc j))
 
+-- in each of so many blocks of twice `half` places the values `old` become `new` by the butterfly with the block's twiddle, which is as
+-- above, or, where `inverse` is true, by the inverse one
+abbrev pub TakesBlocks : Bool → (ℕ → ℕ → ℕ) → ℕ → List ℕ → ℕ → ℕ → List ℕ → List ℕ → Type 0
+TakesBlocks inverse times shift basis half blocks old new =
+    (q : ℕ) → q < blocks
+    → TakesBlock inverse times (bit_xor shift (linear_image basis q)) half (values_from old (q * (2 * half))) (values_from new (q * (2 * half)))
+
 -- stage j takes the values `old` to `new`, or, where `inverse` is true, its inverse does
 abbrev pub TakesStage : Bool → (ℕ → ℕ → ℕ) → ℕ → List ℕ → ℕ → ℕ → List ℕ → List ℕ → Type 0
 TakesStage inverse times shift basis j blocks old new =

@@ -21,6 +21,7 @@ mod twiddles;
 mod whole;
 
 pub use crate::elements::arithmetic::StageArithmetic;
+pub use crate::elements::columns::{forward_columns_by, inverse_columns_by};
 pub use crate::elements::points::element_point;
 pub use crate::elements::whole::{forward_by, forward_elements, inverse_by, inverse_elements};
 pub use crate::kernel::{Kernel, PolyKernel, WordKernel};

@@ -1,7 +1,7 @@
 // One stage of a transform, block by block.
 ghost use Rattle.std.specs.Prelude.{◌≡◌, ◌+◌, ◌-◌, ◌*◌, ◌/◌, ◌%◌, ◌^◌, ◌<◌, ◌≤◌, length, map, slice_index};
 ghost use Rattle.additive_transforms.specs.Elements.{twiddle_basis};
-ghost use Rattle.additive_transforms.specs.Stages.{TakesBlock, TakesStage};
+ghost use Rattle.additive_transforms.specs.Stages.{TakesBlock, TakesBlocks, TakesStage};
 
 use crate::elements::arithmetic::StageArithmetic;
 use crate::elements::twiddles::block_twiddle;
@@ -22,7 +22,23 @@ pub(crate) fn run_stage<K: StageArithmetic>(
     ensures stage { TakesStage inverse K.product (K.number shift) (twiddle_basis K.width K.vector) stage
         (length values.old / 2 ^ (stage + 1)) (map K.value values.old) (map K.value values.new) }
 {
-    let half = half_of(stage);
+    run_blocks::<K>(values, half_of(stage), shift, inverse);
+}
+
+/// The butterfly, or the inverse one, in each whole block of twice `half` places, with the block's twiddle.
+pub(crate) fn run_blocks<K: StageArithmetic>(
+    values: &mut [K::Value],
+    half: usize,
+    shift: K::Twiddle,
+    inverse: bool,
+)
+    requires half { 0 < half }
+    requires size { 2 * half < 2 ^ 64 }
+    requires few { length values.old / (2 * half) ≤ 2 ^ (K.width - 1) }
+    ensures length { length values.new ≡ length values.old }
+    ensures blocks { TakesBlocks inverse K.product (K.number shift) (twiddle_basis K.width K.vector) half (length values.old / (2 * half))
+        (map K.value values.old) (map K.value values.new) }
+{
     let mut twiddle = shift;
     for block in 0..values.len() / (2 * half) {
         let start = start_of(block, 2 * half, values.len());

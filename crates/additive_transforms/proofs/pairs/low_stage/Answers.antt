@@ -8,8 +8,8 @@ use Rattle.additive_transforms.proofs.pairs.low_stage.Goals as goal
 pub loop-block-preserved : goal.loop-block-preserved
 loop-block-preserved g c =
     let twiddle : ℕ → ℕ = λ b. bit_xor (slice_index c.args.shifts.now c.args.stage) (linear_image c.args.basis.now b) in
-    stage_step false ghash_product (λ (q : ℕ). twiddle (c.args.first_run * 2 ^ (3 - c.args.stage) + q)) c.args.stage _
-    c.half_of-half.ensures.half g.P.PairKernel.value _ _ _ c.args.values.now c.loop-block.values c.pairs_of_block.new.block
+    stage_step false ghash_product (λ (q : ℕ). twiddle (c.args.first_run * 2 ^ (3 - c.args.stage) + q)) _
+    g.P.PairKernel.value _ _ _ c.args.values.now c.loop-block.values c.pairs_of_block.new.block
     c.start_of-start.ensures.start c.start_of-start.ensures.inside c.pairs_of_block.ensures.length
     (ap (bit_xor (slice_index c.args.shifts.now c.args.stage)) c.sum_of_images.ensures
     ∙ ap (λ (b : ℕ). twiddle (b + c.loop-block.block)) c.first_block-first.ensures.first)
@@ -17,4 +17,4 @@ loop-block-preserved g c =
 
 pub returns-clause-stage : goal.returns-clause-stage
 returns-clause-stage g c =
-    stage_done false _ _ c.args.stage _ c.half_of-half.ensures.half _ c.loop-block.block _ _ (omega arith) c.loop-block.invariant.1
+    stage_done false _ _ _ c.args.stage c.half_of-half.ensures.half _ c.loop-block.block _ _ (omega arith) c.loop-block.invariant.1

@@ -10,5 +10,5 @@ abbrev pub invariant-loop-block : goal.invariant-loop-block
 invariant-loop-block g l =
     (length l.values ≡ length l.fn.values)
     × StageSoFar false ghash_product
-    (λ (q : ℕ). bit_xor (slice_index l.shifts l.stage) (linear_image l.basis (l.fn.first_run * 2 ^ (3 - l.stage) + q))) l.stage l.block
+    (λ (q : ℕ). bit_xor (slice_index l.shifts l.stage) (linear_image l.basis (l.fn.first_run * 2 ^ (3 - l.stage) + q))) l.half l.block
     (map g.P.PairKernel.value l.fn.values) (map g.P.PairKernel.value l.values)

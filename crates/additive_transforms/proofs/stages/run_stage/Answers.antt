@@ -13,7 +13,7 @@ loop-block-preserved g c =
     let counted = c.loop-block.invariant.2 in
     let both =
     stage_step c.args.inverse ghash_product
-    (λ (q : ℕ). bit_xor (slice_index twiddles.shifts c.args.stage) (linear_image twiddles.basis q)) c.args.stage _ half
+    (λ (q : ℕ). bit_xor (slice_index twiddles.shifts c.args.stage) (linear_image twiddles.basis q)) _
     g.K.Kernel.value _ _ _ c.args.values.now c.loop-block.values c.run_block.new.block c.start_of-start.ensures.start
     c.start_of-start.ensures.inside c.run_block.ensures.length
     (ap (bit_xor (slice_index twiddles.shifts c.args.stage)) c.sum_of_images.ensures) c.run_block.ensures.values
@@ -22,4 +22,4 @@ loop-block-preserved g c =
 
 pub returns-clause-stage : goal.returns-clause-stage
 returns-clause-stage g c =
-    stage_done _ _ _ c.args.stage _ c.half_of-half.ensures.half _ c.loop-block.block _ _ (omega arith) c.loop-block.invariant.1
+    stage_done _ _ _ _ c.args.stage c.half_of-half.ensures.half _ c.loop-block.block _ _ (omega arith) c.loop-block.invariant.1

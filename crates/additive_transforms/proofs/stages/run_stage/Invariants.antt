@@ -10,6 +10,6 @@ abbrev pub invariant-loop-block : goal.invariant-loop-block
 invariant-loop-block g l =
     (length l.values ≡ length l.fn.values)
     × StageSoFar l.inverse ghash_product
-    (λ (q : ℕ). bit_xor (slice_index l.twiddles.shifts l.stage) (linear_image l.twiddles.basis q)) l.stage l.block
+    (λ (q : ℕ). bit_xor (slice_index l.twiddles.shifts l.stage) (linear_image l.twiddles.basis q)) l.half l.block
     (map g.K.Kernel.value l.fn.values) (map g.K.Kernel.value l.values)
     × (g.K.Kernel.count l.kernel ≡ g.K.Kernel.count l.fn.kernel + l.block * 2 ^ l.stage)

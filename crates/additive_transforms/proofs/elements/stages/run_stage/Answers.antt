@@ -1,34 +1,25 @@
-use Rattle.std.proofs.Common.{◌≡◌, ℕ, ◌+◌, ◌-◌, length, refl, ◌∙◌, ap, arith}
+use Rattle.std.proofs.Common.{ℕ, length, arith}
+use Rattle.std.proofs.lemmas.Nat.{pow_pos}
 use Rattle.std.specs.Prelude.{bit_xor}
 use Rattle.field_base.specs.LinearMaps.{linear_image}
 use Rattle.additive_transforms.specs.Elements.{twiddle_basis}
-use Rattle.additive_transforms.proofs.BlockStages.{blocks_start, stage_blocks, stage_done, stage_step}
+use Rattle.additive_transforms.proofs.BlockStages.{stage_blocks, stage_taken}
 use Rattle.additive_transforms.proofs.elements.stages.run_stage.Goals as goal
 
-pub loop-block-init : goal.loop-block-init
-loop-block-init g c = (refl, blocks_start _ _ _, λ above. absurd (omega (arith, above)))
+pub run_blocks-requires-clause-half : goal.run_blocks-requires-clause-half
+run_blocks-requires-clause-half g c =
+    let some = pow_pos c.args.stage in
+    omega (arith, some, c.half_of.ensures.half)
 
-pub block_twiddle-twiddle-requires-clause-few : goal.block_twiddle-twiddle-requires-clause-few
-block_twiddle-twiddle-requires-clause-few g c =
-    let by = g.K.StageArithmetic in
-    let all = stage_blocks c.args.inverse by.product (λ (q : ℕ). q) c.args.stage _ c.half_of-half.ensures.half (length c.args.values.now) in
-    let few = c.requires.few in
-    let inside = c.loop-block-test.true in
-    omega (arith, all, few, inside)
-
-pub loop-block-preserved : goal.loop-block-preserved
-loop-block-preserved g c =
-    let by = g.K.StageArithmetic in
-    let twiddle : ℕ → ℕ =
-    λ q. bit_xor (by.number c.args.shift) (linear_image (twiddle_basis by.width by.vector) q) in
-    let last : c.loop-block.block ≡ c.loop-block.block + 1 - 1 = omega arith in
-    let both =
-    stage_step c.args.inverse by.product twiddle c.args.stage _ c.half_of-half.ensures.half by.value _ _ _
-    c.args.values.now c.loop-block.values c.run_block.new.block c.start_of-start.ensures.start c.start_of-start.ensures.inside
-    c.run_block.ensures.length c.block_twiddle-twiddle.ensures c.run_block.ensures.values c.loop-block.invariant.0
-    c.loop-block.invariant.1 in
-    (both.0, both.1, λ above. ◌∙◌ {b = twiddle c.loop-block.block} c.block_twiddle-twiddle.ensures (ap twiddle last))
+pub run_blocks-requires-clause-few : goal.run_blocks-requires-clause-few
+run_blocks-requires-clause-few g c =
+    let blocks = stage_blocks c.args.inverse g.K.StageArithmetic.product (λ (q : ℕ). q) _ c.args.stage c.half_of.ensures.half
+    (length c.args.values.now) in
+    omega (arith, blocks, c.requires.few)
 
 pub returns-clause-stage : goal.returns-clause-stage
 returns-clause-stage g c =
-    stage_done _ _ _ c.args.stage _ c.half_of-half.ensures.half _ c.loop-block.block _ _ (omega arith) c.loop-block.invariant.1
+    let by = g.K.StageArithmetic in
+    stage_taken c.args.inverse by.product
+    (λ (q : ℕ). bit_xor (by.number c.args.shift) (linear_image (twiddle_basis by.width by.vector) q)) _ c.args.stage
+    c.half_of.ensures.half _ _ _ c.run_blocks.ensures.blocks
