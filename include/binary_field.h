@@ -675,7 +675,7 @@ uint32_t bf_erasure_verify(
  * and parity are not both at least 1, or data, counted up to a power of two, and parity are together more than 32768.
  * BF_LENGTH unless shards has data, and parity_shards parity, times one number of words, which is not 0, and space at least
  * what bf_erasure_space gives, and present has data + parity. BF_TOO_FEW_SHARDS unless at least as many entries of present
- * as data are not 0. */
+ * as data are not 0. It takes 64 KiB of the stack, for the flags of the shards. */
 uint32_t bf_erasure_reconstruct(
     size_t data, size_t parity, uint16_t *shards, size_t shards_length, uint16_t *parity_shards,
     size_t parity_shards_length, const uint8_t *present, size_t present_length, uint16_t *space,

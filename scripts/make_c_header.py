@@ -46,6 +46,9 @@ LENGTHS = {
     "erasure_reconstruct": f"{ERASURE_LENGTHS}, and present has data + parity",
 }
 
+# What a function takes of the stack, where it is much.
+STACK = {"erasure_reconstruct": "It takes 64 KiB of the stack, for the flags of the shards."}
+
 
 def lengths_of(name, parameters):
     """What has to hold of the lengths, or nothing where every length will do."""
@@ -79,11 +82,14 @@ def comment(text):
 
 
 def told(name, parameters, bits, text):
-    """What a function computes, after the name of what it writes where that is one thing, and when it returns which status."""
+    """What a function computes, after the name of what it writes where that is one thing, when it returns which status, and what it takes of
+    the stack, where that is much."""
     written = [it[1] for it in parameters if it[0] in ("out", "result")]
     words = [f"{written[0]}: {text}." if written else sentence(text, parameters)]
     for status, condition in statuses_of(name, parameters, bits):
         words.append(f"{status} {'if' if status == 'BF_CODE' else 'unless'} {condition}.")
+    if name in STACK:
+        words.append(STACK[name])
     return " ".join(words)
 
 

@@ -2139,7 +2139,8 @@ unsafe extern "C" {
     /// BF_CODE if data and parity are not both at least 1, or data, counted up to a power of two, and parity are
     /// together more than 32768. BF_LENGTH unless shards has data, and parity_shards parity, times one number of
     /// words, which is not 0, and space at least what bf_erasure_space gives, and present has data + parity.
-    /// BF_TOO_FEW_SHARDS unless at least as many entries of present as data are not 0.
+    /// BF_TOO_FEW_SHARDS unless at least as many entries of present as data are not 0. It takes 64 KiB of the stack,
+    /// for the flags of the shards.
     pub fn bf_erasure_reconstruct(
         data: usize,
         parity: usize,
