@@ -1,12 +1,14 @@
 -- What a call in a transcript returns, by its exits, and what fits.
 use Rattle.std.proofs.Common.{◌≡◌, ◌≢◌, ◌↔◌, ◌⊎◌, inl, inr, ℕ, ◌*◌, ◌^◌, ◌<◌, ◌≤◌, Bool, true, false, List, [], ◌∷◌, length, Err, Ok, Result, refl, sym, ◌∙◌, ap, subst, arith}
-use Rattle.std.specs.Prelude.{IsErrAnd, IsTrue, IfErr, OnErr, slice_index}
+use Rattle.std.specs.Prelude.{IsErrAnd, IsTrue, OnErr}
 use Rattle.std.proofs.lemmas.Bool.{true≢false}
 use Rattle.std.proofs.lemmas.Result.{err_from_is_err_and}
+use Rattle.transcript_bytes.specs.declared.error.ChallengerError.{ChallengerError}
+use Rattle.transcript_bytes.specs.declared.error.ChallengerError.TheVariants as challenger_error
 use Rattle.transcript_elements.specs.Grinding.{FailsSearch, NonePasses, candidate_count}
 use Rattle.transcript_elements.specs.declared.error.GrindError.{GrindError}
-use Rattle.protocols.specs.Refusals.{CanBeProved, CanBeStated, error_of_search, IsAnswer, IsOutcome, ProverRefuses, VerifierRefuses}
-use Rattle.protocols.specs.Terms.{AreWithin, FactorsAreWithin, Product, degree_of}
+use Rattle.protocols.specs.Refusals.{CanBeStated, error_of_call, error_of_search, IsAnswer, IsOutcome, VerifierRefuses}
+use Rattle.protocols.specs.Terms.{AreWithin, Product, degree_of}
 use Rattle.protocols.specs.declared.error.ProtocolError.{ProtocolError}
 use Rattle.protocols.specs.declared.error.ProtocolError.TheVariants.{Challenger, Length, Memory, NoWitness, Shape}
 
@@ -66,7 +68,19 @@ module _ {T : Type 0} (before after : Bool) (allowed : ProtocolError → Type 0)
         goes_on = tt;
       })
 
--- why a search stops a protocol
+  pub outcome-ok : (value : T) → before ≡ false → after ≡ false → IsOutcome before after allowed kept (Ok value)
+  outcome-ok value goes on = record {
+    failed = λ fails. absurd (true≢false (sym fails ∙ goes));
+    errors = λ _. tt;
+    goes_on = on;
+  }
+
+-- why a call of a challenger stops a protocol, with what else is known of the call
+pub call-stops : {P : Type 0} (refusal : ChallengerError) (error : ProtocolError) → error ≡ error_of_call refusal
+    → (refusal ≡ challenger_error.Memory) × P → (error ≡ Memory) × P
+call-stops refusal error same is = (same ∙ ap error_of_call is.0, is.1)
+
+-- .. and why a search does
 pub search-stops : (passing : ℕ → Bool) (width : ℕ) (refusal : GrindError) (error : ProtocolError) → error ≡ error_of_search refusal
     → FailsSearch passing width refusal → (error ≡ Memory) ⊎ (error ≡ NoWitness) × NonePasses passing (candidate_count width)
 search-stops passing width refusal error same (inl is) = inl (same ∙ ap error_of_search is)

@@ -1,20 +1,20 @@
 // The prover and the verifier of a commitment by a Merkle tree, over any hash function and any challenger. The transcript observes the
 // whole statement, so that no root, depth or work can be chosen after the index.
-ghost use Rattle.std.specs.Prelude.{◌≡◌, ◌%◌, ◌^◌, ◌<◌, ◌≤◌, ℕ, List, true, length, slice_index, IfOk, IsTrue};
-ghost use Rattle.transcript_elements.specs.declared.digest.Hash.{Hash};
+ghost use Rattle.std.specs.Prelude.{◌≡◌, ◌%◌, ◌^◌, ◌<◌, ◌≤◌, ◌||◌, ℕ, List, true, length, slice_index, IfOk, IsTrue};
 ghost use Rattle.transcript_elements.specs.Digests.{words_of};
 ghost use Rattle.transcript_elements.specs.Grinding.{MayGrind};
-ghost use Rattle.protocols.specs.declared.commitment.OpeningStatement.{OpeningStatement};
 ghost use Rattle.protocols.specs.Commitments.{IsTreeOf, root_of};
 ghost use Rattle.protocols.specs.MerkleTrees.{Leads};
-ghost use Rattle.protocols.specs.Runs.{IsRun, IsVerdict, statement_bytes, StatementsDiffer};
+ghost use Rattle.protocols.specs.Refusals.{IsOutcome};
+ghost use Rattle.protocols.specs.Runs.{IsRun, IsVerdict, statement_bytes, StatementsDiffer, StopsProver};
+ghost use Rattle.protocols.specs.declared.error.ProtocolError.TheVariants.{Memory};
 
 use crate::error::ProtocolError;
 use crate::merkle_paths::{Commitment, verify};
 use crate::merkle_tree::MerkleTree;
 use crate::verdicts::both;
 use std::alloc::Allocator;
-use transcript_bytes::{ByteHasher32, ChallengerError};
+use transcript_bytes::ByteHasher32;
 use transcript_elements::{CanObserve, GrindingChallenger, Hash};
 
 /// Names, in the type of what is observed, the statement of an opening: 48 bytes, which are the depth and the bits of the work, each as
@@ -38,6 +38,8 @@ pub struct Opening<W: Drop, A: Allocator> {
 
 /// Proves, and verifies in a challenger that begins in the same state, that 2^depth words are committed to. The verifier observes the
 /// statement, checks the work and samples an index, as `accepts` does, and accepts, whatever the hash function and the challenger are.
+/// It fails with `Challenger` exactly if a call of either challenger had failed before, and both are then as before; else with `NoWitness`
+/// only if no candidate passes, and with no other error than that and `Memory`.
 pub fn prove_and_verify<
     H: ByteHasher32,
     W: Drop,
@@ -56,19 +58,24 @@ pub fn prove_and_verify<
     requires work { MayGrind C.witness_bits bits }
     requires tree { IsTreeOf (H.digest hasher.now) words.now tree.now }
     ensures accepted { IfOk result (λ accepted. IsTrue accepted) }
-    ensures verified { IfOk result (λ accepted. (statement : Hash OpeningStatement ℕ 48) × (witness index : ℕ) × (path : List (List ℕ))
-        × (words_of statement ≡ statement_bytes tree.now.depth bits (root_of tree.now))
-        × IsVerdict C.observes C.passing C.checks C.gives_bits (H.digest hasher.now) verifier.old statement bits witness tree.now.depth
-        (root_of tree.now) index (slice_index words.now index) path accepted verifier.new) }
+    ensures verified { IfOk result (λ accepted. (witness index : ℕ) × (path : List (List ℕ))
+        × IsVerdict C.observes C.passing C.checks C.gives_bits (H.digest hasher.now) tree.now.depth bits (root_of tree.now) verifier.old witness
+        index (slice_index words.now index) path accepted verifier.new) }
+    ensures answer { IsOutcome (C.has_failed prover.old || C.has_failed verifier.old) (C.has_failed prover.new || C.has_failed verifier.new)
+        (StopsProver C.observes C.passing C.witness_bits tree.now.depth bits (root_of tree.now) prover.old)
+        ((prover.new ≡ prover.old) × (verifier.new ≡ verifier.old)) result }
 {
-    let commitment = tree.commitment();
-    let statement = statement_of(commitment, bits);
-    let opening = prove_statement(alloc, prover, statement, tree, words, bits)?;
-    let accepted = accepts_statement(hasher, verifier, statement, commitment, opening, bits)?;
+    if prover.failed() || verifier.failed() {
+        return Err(ProtocolError::Challenger);
+    }
+    let opening = prove(alloc, prover, tree, words, bits)?;
+    let accepted = accepts(hasher, verifier, tree.commitment(), opening, bits)?;
     Ok(accepted)
 }
 
-/// Observes the statement, searches for a witness for `bits` bits, and opens the commitment at the index that is sampled then.
+/// Observes the statement, searches for a witness for `bits` bits, and opens the commitment at the index that is sampled then. It fails
+/// with `Challenger` exactly if a call of the challenger had failed before, which then stays as it is; else with `NoWitness` only if no
+/// candidate passes, and with no other error than that and `Memory`.
 pub fn prove<
     W: Drop,
     C: GrindingChallenger<Witness = W> + CanObserve<Hash<OpeningStatement, u8, 48>>,
@@ -83,44 +90,24 @@ pub fn prove<
 ) -> Result<Opening<W, B>, ProtocolError>
     requires work { MayGrind C.witness_bits bits }
     requires count { length words.now ≡ 2 ^ tree.now.depth }
-    ensures { IfOk result (λ opening. (statement : Hash OpeningStatement ℕ 48) × (number : ℕ)
-        × (words_of statement ≡ statement_bytes tree.now.depth bits (root_of tree.now))
-        × IsRun C.observes C.passing C.checks C.gives_bits challenger.old statement bits (C.number opening.witness) true tree.now.depth
-        number challenger.new
-        × (opening.index ≡ number % 2 ^ tree.now.depth)
-        × (opening.word ≡ slice_index words.now opening.index)
-        × ((hash : List ℕ → List ℕ) → IsTreeOf hash words.now tree.now
-        → Leads hash tree.now.depth (root_of tree.now) opening.index opening.word opening.path.items)) }
+    ensures opened { IfOk result (λ opening. (number : ℕ)
+        × IsRun C.observes C.passing C.checks C.gives_bits tree.now.depth bits (root_of tree.now) challenger.old (C.number opening.witness)
+        true number challenger.new
+        × (opening.index ≡ number % 2 ^ tree.now.depth)) }
+    ensures word { IfOk result (λ opening. opening.word ≡ slice_index words.now opening.index) }
+    ensures path { IfOk result (λ opening. (hash : List ℕ → List ℕ) → IsTreeOf hash words.now tree.now
+        → Leads hash tree.now.depth (root_of tree.now) opening.index opening.word opening.path.items) }
+    ensures answer { IsOutcome (C.has_failed challenger.old) (C.has_failed challenger.new)
+        (StopsProver C.observes C.passing C.witness_bits tree.now.depth bits (root_of tree.now) challenger.old)
+        (challenger.new ≡ challenger.old) result }
 {
+    if challenger.failed() {
+        return Err(ProtocolError::Challenger);
+    }
     let statement = statement_of(tree.commitment(), bits);
-    prove_statement(alloc, challenger, statement, tree, words, bits)
-}
-
-// Observes this statement, searches for a witness, and opens the commitment.
-fn prove_statement<
-    W: Drop,
-    C: GrindingChallenger<Witness = W> + CanObserve<Hash<OpeningStatement, u8, 48>>,
-    A: Allocator,
-    B: Allocator,
->(
-    alloc: B,
-    challenger: &mut C,
-    statement: Hash<OpeningStatement, u8, 48>,
-    tree: &MerkleTree<A>,
-    words: &[u64],
-    bits: usize,
-) -> Result<Opening<W, B>, ProtocolError>
-    requires work { MayGrind C.witness_bits bits }
-    requires count { length words.now ≡ 2 ^ tree.now.depth }
-    ensures { IfOk result (λ opening. (number : ℕ)
-        × IsRun C.observes C.passing C.checks C.gives_bits challenger.old statement bits (C.number opening.witness) true tree.now.depth
-        number challenger.new
-        × (opening.index ≡ number % 2 ^ tree.now.depth)
-        × (opening.word ≡ slice_index words.now opening.index)
-        × ((hash : List ℕ → List ℕ) → IsTreeOf hash words.now tree.now
-        → Leads hash tree.now.depth (root_of tree.now) opening.index opening.word opening.path.items)) }
-{
-    let (witness, number) = work(challenger, statement, bits, tree.depth)?;
+    challenger.observe(statement)?;
+    let witness = challenger.grind(bits)?;
+    let number = challenger.sample_bits(tree.depth)?;
     let index = number % words.len();
     let path = tree.open(alloc, index)?;
     Ok(Opening {
@@ -131,26 +118,9 @@ fn prove_statement<
     })
 }
 
-// Observes the statement, searches for a witness, and samples a number of `depth` bits.
-fn work<W: Drop, C: GrindingChallenger<Witness = W> + CanObserve<Hash<OpeningStatement, u8, 48>>>(
-    challenger: &mut C,
-    statement: Hash<OpeningStatement, u8, 48>,
-    bits: usize,
-    depth: usize,
-) -> Result<(W, usize), ProtocolError>
-    requires work { MayGrind C.witness_bits bits }
-    requires depth { depth < 64 }
-    ensures { IfOk result (λ run. IsRun C.observes C.passing C.checks C.gives_bits challenger.old statement bits (C.number run.0) true
-        depth run.1 challenger.new) }
-{
-    challenger.observe(statement)?;
-    let witness = challenger.grind(bits)?;
-    let number = challenger.sample_bits(depth)?;
-    Ok((witness, number))
-}
-
 /// Whether the witness works, the opening is at the index that is sampled after it, and the path leads from the word there to the
-/// root. Everything that the opening holds is read. It fails where the challenger does.
+/// root. Everything that the opening holds is read. It fails with `Challenger` exactly if a call of the challenger had failed before, which
+/// then stays as it is, and else only with `Memory`, where memory was refused to the challenger: it takes none of its own.
 pub fn accepts<
     H: ByteHasher32,
     W: Drop,
@@ -165,42 +135,19 @@ pub fn accepts<
 ) -> Result<bool, ProtocolError>
     requires bits { bits < 64 }
     requires depth { commitment.depth ≤ 40 }
-    ensures { IfOk result (λ accepted. (statement : Hash OpeningStatement ℕ 48)
-        × (words_of statement ≡ statement_bytes commitment.depth bits commitment.root)
-        × IsVerdict C.observes C.passing C.checks C.gives_bits (H.digest hasher.now) challenger.old statement bits
-        (C.number opening.witness) commitment.depth commitment.root opening.index opening.word opening.path.items accepted challenger.new) }
-{
-    let statement = statement_of(commitment, bits);
-    accepts_statement(hasher, challenger, statement, commitment, opening, bits)
-}
-
-// Whether an opening is accepted for this statement.
-fn accepts_statement<
-    H: ByteHasher32,
-    W: Drop,
-    C: GrindingChallenger<Witness = W> + CanObserve<Hash<OpeningStatement, u8, 48>>,
-    B: Allocator,
->(
-    hasher: &H,
-    challenger: &mut C,
-    statement: Hash<OpeningStatement, u8, 48>,
-    commitment: Commitment,
-    opening: Opening<W, B>,
-    bits: usize,
-) -> Result<bool, ProtocolError>
-    requires bits { bits < 64 }
-    requires depth { commitment.depth ≤ 40 }
-    ensures { IfOk result (λ accepted. IsVerdict C.observes C.passing C.checks C.gives_bits (H.digest hasher.now) challenger.old statement
-        bits (C.number opening.witness) commitment.depth commitment.root opening.index opening.word opening.path.items accepted
+    ensures verdict { IfOk result (λ accepted. IsVerdict C.observes C.passing C.checks C.gives_bits (H.digest hasher.now) commitment.depth
+        bits commitment.root challenger.old (C.number opening.witness) opening.index opening.word opening.path.items accepted
         challenger.new) }
+    ensures answer { IsOutcome (C.has_failed challenger.old) (C.has_failed challenger.new)
+        (λ error. (error ≡ Memory) × (C.has_refused challenger.new ≡ true)) (challenger.new ≡ challenger.old) result }
 {
-    let (works, number) = check(
-        challenger,
-        statement,
-        opening.witness,
-        bits,
-        commitment.depth,
-    )?;
+    if challenger.failed() {
+        return Err(ProtocolError::Challenger);
+    }
+    let statement = statement_of(commitment, bits);
+    challenger.observe(statement)?;
+    let works = challenger.check_witness(bits, opening.witness)?;
+    let number = challenger.sample_bits(commitment.depth)?;
     let is_there = opening.index == number % (1 << commitment.depth);
     let leads = verify(
         hasher,
@@ -210,25 +157,6 @@ fn accepts_statement<
         opening.path.as_slice(),
     );
     Ok(both(works, both(is_there, leads)))
-}
-
-// Observes the statement, checks the witness, and samples a number of `depth` bits.
-fn check<W: Drop, C: GrindingChallenger<Witness = W> + CanObserve<Hash<OpeningStatement, u8, 48>>>(
-    challenger: &mut C,
-    statement: Hash<OpeningStatement, u8, 48>,
-    witness: W,
-    bits: usize,
-    depth: usize,
-) -> Result<(bool, usize), ChallengerError>
-    requires bits { bits < 64 }
-    requires depth { depth < 64 }
-    ensures { IfOk result (λ run. IsRun C.observes C.passing C.checks C.gives_bits challenger.old statement bits (C.number witness) run.0
-        depth run.1 challenger.new) }
-{
-    challenger.observe(statement)?;
-    let works = challenger.check_witness(bits, witness)?;
-    let number = challenger.sample_bits(depth)?;
-    Ok((works, number))
 }
 
 // The statement that is observed.
