@@ -1,6 +1,7 @@
 mod Binding
 mod CapPaths
 mod CodeColumns
+mod HonestColumns
 mod OpenedLeaves
 mod OpeningPaths
 mod OpeningTrees

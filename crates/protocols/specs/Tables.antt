@@ -12,7 +12,8 @@ use Rattle.field_bytes.specs.Streams.{joined_bytes}
 use Rattle.field_laws.specs.PolynomialRoots.{AreDistinctBelow}
 use Rattle.field_slices.specs.Multilinear.{AreCornerValues, multilinear_value}
 use Rattle.protocols.specs.CodeWords.{IsCodeWordOf}
-use Rattle.protocols.specs.Commitments.{row_at}
+use Rattle.protocols.specs.declared.merkle_tree.MerkleTree.{MerkleTree}
+use Rattle.protocols.specs.Commitments.{IsTreeOver, root_of, row_at}
 use Rattle.protocols.specs.Interleaved.{AreCodeWords}
 use Rattle.protocols.specs.Openings.{OpensRows}
 
@@ -88,3 +89,14 @@ pub record OpensColumns {F : Type 0} (hash : List ℕ → List ℕ) (repr : F �
   pub count : length columns ≡ length places * 2 ^ length point
   pub opened : OpensRows hash (r + k) root places (λ i. joined_bytes size repr (row_at (2 ^ length point) columns i)) nodes
   pub agrees : AgreesAt width times vector k r (map repr point) (map repr row) places (λ i. map repr (row_at (2 ^ length point) columns i))
+
+-- What a prover opens at places of columns of 2 ^ h elements each, under their tree: whatever the table, the hash function, the point and the
+-- rate are, a verifier accepts it with the row of the columns' values at the point.
+abbrev pub IsHonestOpening : {F A : Type 0} → (F → ℕ) → ℕ → ℕ → (ℕ → ℕ → ℕ) → (ℕ → ℕ) → ℕ → MerkleTree A → List F → List ℕ → List F
+    → List (List ℕ) → Type 0
+IsHonestOpening {F} repr size width times vector h tree columns places opened nodes =
+    (hash : List ℕ → List ℕ) (k r : ℕ) (table : List ℕ) (point row : List F) → r + k ≡ tree.depth → length point ≡ h
+    → AreExtendedColumns repr width times vector k r (2 ^ h) table columns
+    → IsTreeOver hash (λ p. joined_bytes size repr (row_at (2 ^ h) columns p)) tree
+    → map repr row ≡ map (λ p. multilinear_value times (map repr (row_at (2 ^ h) columns p)) (map repr point)) (range_with_len 0 (2 ^ k))
+    → OpensColumns hash repr size width times vector k r (root_of tree) point row places opened nodes

@@ -1,11 +1,12 @@
 // Commitments to tables of multilinear polynomials by the columns of interleaved code words, and openings of their values.
-ghost use Rattle.std.specs.Prelude.{◌≡◌, ◌↔◌, ◌+◌, ◌*◌, ◌^◌, ◌<◌, ◌≤◌, ℕ, length, map, slice_index, IfOk, IsTrue};
+ghost use Rattle.std.specs.Prelude.{◌≡◌, ◌↔◌, ◌+◌, ◌*◌, ◌^◌, ◌<◌, ◌≤◌, ℕ, List, length, map, slice_index, IfOk, IsTrue};
 ghost use Rattle.std.specs.List.{range_with_len};
 ghost use Rattle.field_bytes.specs.Streams.{joined_bytes};
 ghost use Rattle.field_slices.specs.Multilinear.{multilinear_value};
-ghost use Rattle.protocols.specs.Commitments.{IsTreeOver, row_at};
+ghost use Rattle.protocols.specs.Commitments.{IsTreeOver, root_of, row_at};
+ghost use Rattle.protocols.specs.Openings.{AreAscending, OpensRows};
 ghost use Rattle.protocols.specs.Tables.{AreExtendedColumns, ColumnValuesAgree, ColumnValuesEvaluate, FewPlacesAgree};
-ghost use Rattle.protocols.specs.Tables.{OpensColumns, column_at};
+ghost use Rattle.protocols.specs.Tables.{IsHonestOpening, OpensColumns, column_at};
 
 use crate::extension::extend;
 use crate::interleaved::extend_rows;
@@ -28,6 +29,15 @@ pub struct TableColumns<F: Field, A: Allocator> {
     pub columns: Vec<F, A>,
     /// The tree over their bytes.
     pub tree: MerkleTree<A>,
+}
+
+/// What a prover opens of a committed table.
+#[derive(Drop)]
+pub struct OpenedColumns<F: Field, A: Allocator> {
+    /// The columns, one after the other.
+    pub columns: Vec<F, A>,
+    /// The nodes that open their bytes.
+    pub nodes: Vec<[u8; 32], A>,
 }
 
 /// Commits to a table of 2^(rows + levels) values, a matrix of 2^rows rows of 2^levels values each: each row is extended to a code word at
@@ -123,6 +133,31 @@ pub fn columns_at<F: Field, A: Allocator>(
         chosen.extend_from_slice(row_of(columns, height, places[index]))?;
     }
     Ok(chosen)
+}
+
+/// Opens a committed table, of columns of 2^rows elements each, rows at most 40, at places that ascend, none twice, and are below 2^depth:
+/// the columns there, and the nodes that open their bytes. With the row of the columns' values at any point (`column_values`),
+/// `verify_columns` accepts it. It fails if memory was refused.
+pub fn open_columns<F: ByteLevel, A: Allocator + Copy>(
+    alloc: A,
+    table: &TableColumns<F, A>,
+    rows: usize,
+    places: &[usize],
+) -> Result<OpenedColumns<F, A>, AllocError>
+    requires few { rows ≤ 40 }
+    requires count { length table.now.columns.items ≡ 2 ^ table.now.tree.depth * 2 ^ rows }
+    requires places { AreAscending (2 ^ table.now.tree.depth) places.now }
+    ensures columns { IfOk result (λ opened. (i : ℕ) → i < length places.now
+        → row_at (2 ^ rows) opened.columns.items i ≡ row_at (2 ^ rows) table.now.columns.items (slice_index places.now i)) }
+    ensures nodes { IfOk result (λ opened. (hash : List ℕ → List ℕ) (row : ℕ → List ℕ) → IsTreeOver hash row table.now.tree
+        → OpensRows hash table.now.tree.depth (root_of table.now.tree) places.now (λ i. row (slice_index places.now i)) opened.nodes.items) }
+    ensures accepted { IfOk result (λ opened. IsHonestOpening F.repr F.NUM_BYTES F.width F.product (λ i. F.basis (F.cantor i)) rows
+        table.now.tree table.now.columns.items places.now opened.columns.items opened.nodes.items) }
+{
+    let height = power_of_two(rows);
+    let columns = columns_at(alloc, table.columns.as_slice(), height, places)?;
+    let nodes = table.tree.open_many(alloc, places)?;
+    Ok(OpenedColumns { columns, nodes })
 }
 
 /// Whether a row has the values of a committed table's columns at a point, as far as the columns at these places say: nodes open their

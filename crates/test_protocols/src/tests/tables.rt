@@ -3,7 +3,7 @@
 use additive_transforms::element_point;
 use field_element::{BinaryField16, Ghash128};
 use field_slices::evaluate_multilinear;
-use protocols::tables::{column_values, columns_at, commit_table, verify_columns};
+use protocols::tables::{column_values, commit_table, open_columns, verify_columns};
 use std::alloc::{AllocError, Global};
 use test_support::next_word;
 use transcript_bytes::Sha256Hasher;
@@ -55,8 +55,7 @@ fn is_opened<F: ByteLevel>(
     }
     let places = [place];
     let mut row = column_values(alloc, held.columns.as_slice(), 4, first)?;
-    let mut columns = columns_at(alloc, held.columns.as_slice(), 4, &places)?;
-    let nodes = held.tree.open_many(alloc, &places)?;
+    let mut opened = open_columns(alloc, &held, 2, &places)?;
     if row.len() != 4
         || evaluate_multilinear(row.as_slice(), last)
             != evaluate_multilinear(table.as_slice(), point.as_slice())
@@ -66,7 +65,7 @@ fn is_opened<F: ByteLevel>(
     match change {
         Change::Nothing => (),
         Change::Row(index) => increment(row.as_mut_slice(), index),
-        Change::Column(index) => increment(columns.as_mut_slice(), index),
+        Change::Column(index) => increment(opened.columns.as_mut_slice(), index),
     }
     let accepted = verify_columns(
         alloc,
@@ -77,8 +76,8 @@ fn is_opened<F: ByteLevel>(
         first,
         row.as_slice(),
         &places,
-        columns.as_slice(),
-        nodes.as_slice(),
+        opened.columns.as_slice(),
+        opened.nodes.as_slice(),
     )?;
     Ok(accepted == wanted)
 }
