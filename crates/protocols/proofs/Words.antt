@@ -1,16 +1,17 @@
 -- The values of a polynomial, block by block, are a code word, and as many symbols as the message has determine it.
-use Rattle.std.proofs.Common.{◌≡◌, ◌⊎◌, inl, inr, ℕ, ◌+◌, ◌-◌, ◌*◌, ◌%◌, ◌^◌, ◌<◌, ◌≤◌, List, ◌++◌, length, map, sym, ◌∙◌, ap, subst, le_trans, arith, lit<}
+use Rattle.std.proofs.Common.{◌≡◌, ◌⊎◌, inl, inr, ℕ, ◌+◌, ◌-◌, ◌*◌, ◌%◌, ◌^◌, ◌<◌, ◌≤◌, List, ◌++◌, length, map, take, drop, sym, ◌∙◌, ap, subst, le_trans, arith, lit<}
 use Rattle.std.specs.Prelude.{slice_index}
 use Rattle.std.proofs.Math.Nat.{add-mul, mul-le-mul_left, pow-le-pow_right}
 use Rattle.std.proofs.Math.Pow.{shl_exact}
 use Rattle.std.proofs.lemmas.Bool.{cases_lt}
 use Rattle.std.proofs.lemmas.Grind.{same_number_lists}
-use Rattle.std.proofs.lemmas.List.{get_or_append_left, get_or-append_right, length-append}
+use Rattle.std.proofs.lemmas.List.{get_or_append_left, get_or-append_right, length-append, take_at}
 use Rattle.std.proofs.lemmas.Nat.{pow-add}
 use native.Mathlib.Nat.{one-mul}
 use Rattle.field_laws.proofs.Polynomials.{polynomial-unique}
 use Rattle.ghash_slices.specs.Cantor.{point, polynomial_value}
 use Rattle.ghash_slices.proofs.CantorValues.{points_are_distinct}
+use Rattle.additive_transforms.specs.Elements.{FitsField}
 use Rattle.additive_transforms.specs.Transform.{HoldValuesAtPoints}
 use Rattle.protocols.specs.CodeWords.{IsCodeWordOf, PartsDetermine}
 use Rattle.additive_transforms.proofs.BlockPoints.{point-joined, point-lt}
@@ -26,6 +27,26 @@ same_values repr width times vector z y from before to behind shift coefficients
     subst (λ (n : ℕ). HoldValuesAtPoints width times vector n (map repr before) (map repr behind)) shift
     (subst (λ l. HoldValuesAtPoints width times vector z (map repr l) (map repr behind)) coefficients
     (subst (λ l. HoldValuesAtPoints width times vector z (map repr from) (map repr l)) places holds))
+
+-- so many values of a list can be transformed
+pub fits-held : {X : Type 0} (width levels : ℕ) (values held : List X) → held ≡ values → levels ≤ 40 → levels ≤ width
+    → length values ≡ 2 ^ levels → FitsField width (length held)
+fits-held width levels values held same few points count = (levels, (few, ap length same ∙ count), points)
+
+-- .. where one of both lists was written over a vector's slice of as many elements
+module _ {X : Type 0} (repr : X → ℕ) (width : ℕ) (times : ℕ → ℕ → ℕ) (vector : ℕ → ℕ) (z y : ℕ) (shift : z ≡ y)
+    (from before after held : List X) (same : from ≡ before) (len : ℕ) (long : length after ≡ len) where
+  pub values-written : HoldValuesAtPoints width times vector z (map repr from) (map repr after)
+      → HoldValuesAtPoints width times vector y (map repr before) (map repr (take len (after ++ drop (length after) held)))
+  values-written =
+      same_values repr width times vector z y from before after (take len (after ++ drop (length after) held)) shift same
+      (sym (take_at after (drop (length after) held) len long))
+
+  pub coefficients-written : HoldValuesAtPoints width times vector z (map repr after) (map repr from)
+      → HoldValuesAtPoints width times vector y (map repr (take len (after ++ drop (length after) held))) (map repr before)
+  coefficients-written =
+      same_values repr width times vector z y after (take len (after ++ drop (length after) held)) from before shift
+      (sym (take_at after (drop (length after) held) len long)) same
 
 module _ (width : ℕ) (times : ℕ → ℕ → ℕ) (vector : ℕ → ℕ) (k : ℕ) (coefficients : List ℕ) where
   abbrev value : ℕ → ℕ

@@ -61,9 +61,13 @@ module _ {F : Type 0} (repr : F → ℕ) (times : ℕ → ℕ → ℕ) (point a 
   abbrev pub AreWeights : List F → Type 0
   AreWeights weights = map repr weights ≡ map (eq_corner times (map repr point)) (range_with_len 0 (2 ^ length point))
 
-  pub weights-long : (weights : List F) → AreWeights weights → length weights ≡ 2 ^ length point
+  weights-long : (weights : List F) → AreWeights weights → length weights ≡ 2 ^ length point
   weights-long weights table =
       sym (length-map weights repr) ∙ ap length table ∙ length-map-range_with_len (eq_corner times (map repr point)) 0 (2 ^ length point)
+
+  -- .. which has an entry for each corner
+  pub corner-inside : (weights : List F) (i : ℕ) → AreWeights weights → i < length a → length a ≡ 2 ^ length point → i < length weights
+  corner-inside weights i table within size = subst (λ (n : ℕ). i < n) (size ∙ sym (weights-long weights table)) within
 
   -- e at a corner
   weight-at : (weights : List F) (i : ℕ) (e : F) → AreWeights weights → i < 2 ^ length point → e ≡ get_or weights i e

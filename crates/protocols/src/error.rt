@@ -48,10 +48,7 @@ impl From<ChallengerError> for ProtocolError {
     ghost from_gives = { λ refusal error. error ≡ error_of_call refusal };
 
     fn from(error: ChallengerError) -> ProtocolError {
-        match error {
-            ChallengerError::Memory => ProtocolError::Memory,
-            ChallengerError::Failed => ProtocolError::Challenger,
-        }
+        ProtocolError::from(GrindError::from(error))
     }
 }
 

@@ -62,14 +62,31 @@ pub fn extend<F: TowerLevel, A: Allocator + Copy>(
     ensures code_word { IfOk result (λ word. IsCodeWordOf F.width F.product (λ i. F.basis (F.cantor i)) levels expansion
         (map F.repr word.items)) }
 {
-    let mut coefficients = Vec::from_slice(alloc, message)?;
-    inverse_elements(coefficients.as_mut_slice(), F::ZERO);
+    let coefficients = coefficients_of(alloc, message, levels)?;
     let mut word = Vec::from_slice(alloc, message)?;
     for block in 1..1 << expansion {
         let values = block_of(alloc, coefficients.as_slice(), levels, block)?;
         word.extend_from_slice(values.as_slice())?;
     }
     Ok(word)
+}
+
+// The 2^levels coefficients of the polynomial that has these values at the first points.
+fn coefficients_of<F: TowerLevel, A: Allocator>(
+    alloc: A,
+    values: &[F],
+    levels: usize,
+) -> Result<Vec<F, A>, AllocError>
+    requires few { levels ≤ 40 }
+    requires points { levels ≤ F.width }
+    requires count { length values.now ≡ 2 ^ levels }
+    ensures count { IfOk result (λ coefficients. length coefficients.items ≡ 2 ^ levels) }
+    ensures values { IfOk result (λ coefficients. HoldValuesAtPoints F.width F.product (λ i. F.basis (F.cantor i)) 0
+        (map F.repr coefficients.items) (map F.repr values.now)) }
+{
+    let mut coefficients = Vec::from_slice(alloc, values)?;
+    inverse_elements(coefficients.as_mut_slice(), F::ZERO);
+    Ok(coefficients)
 }
 
 // The values of the polynomial with these 2^levels coefficients at the points of a block of as many.

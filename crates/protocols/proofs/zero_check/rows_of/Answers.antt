@@ -1,5 +1,5 @@
 use Rattle.std.proofs.Common.{◌≡◌, ◌^◌, length, map, ap, arith, ◌∙◌}
-use Rattle.protocols.proofs.ZeroRuns.{four-pushed, rows-more, rows-none, rows-whole, weights-long}
+use Rattle.protocols.proofs.ZeroRuns.{corner-inside, four-pushed, rows-more, rows-none, rows-whole}
 use Rattle.protocols.proofs.zero_check.rows_of.Goals as goal
 
 pub corners-init : goal.corners-init
@@ -9,19 +9,14 @@ corners-init g c =
 
 pub offset_bounds-table-corner : goal.offset_bounds-table-corner
 offset_bounds-table-corner g c =
-    let repr = g.F.Represented.repr in
-    let long : length c.as_slice-table.result.now ≡ 2 ^ length c.args.point.now =
-    weights-long repr g.F.Represented.product c.args.point.now c.args.a.now c.args.b.now c.args.c.now c.as_slice-table.result.now
-    (ap (map repr) c.as_slice-table.ensures.value ∙ c.in_ok-weights.ensures) in
-    omega (arith, long, c.corners-test.true, c.requires.first)
+    let table = ap (map g.F.Represented.repr) c.as_slice-table.ensures.value ∙ c.in_ok-weights.ensures in
+    let inside = corner-inside _ _ c.args.point.now c.args.a.now c.args.b.now c.args.c.now _ _ table c.corners-test.true c.requires.first in
+    omega (arith, inside)
 
 pub bounds-table-corner : goal.bounds-table-corner
 bounds-table-corner g c =
-    let repr = g.F.Represented.repr in
-    let long : length c.as_slice-table.result.now ≡ 2 ^ length c.args.point.now =
-    weights-long repr g.F.Represented.product c.args.point.now c.args.a.now c.args.b.now c.args.c.now c.as_slice-table.result.now
-    (ap (map repr) c.as_slice-table.ensures.value ∙ c.in_ok-weights.ensures) in
-    omega (arith, long, c.corners-test.true, c.requires.first)
+    corner-inside _ _ c.args.point.now c.args.a.now c.args.b.now c.args.c.now _ _
+    (ap (map g.F.Represented.repr) c.as_slice-table.ensures.value ∙ c.in_ok-weights.ensures) c.corners-test.true c.requires.first
 
 pub corners-preserved : goal.corners-preserved
 corners-preserved g c =
