@@ -1,12 +1,12 @@
 -- Two openings of one root that begin with different inputs have a collision on the way.
-use Rattle.std.proofs.Common.{◌≡◌, ◌≢◌, ℕ, suc, ◌/◌, ◌%◌, ◌^◌, ◌<◌, Bool, true, false, List, [], ◌∷◌, ◌++◌, length, take, drop, get_or, cond, Decides, refl, sym, ◌∙◌, ap, arith}
+use Rattle.std.proofs.Common.{◌≡◌, ◌≢◌, ℕ, suc, ◌/◌, ◌%◌, ◌^◌, ◌<◌, Bool, true, false, List, [], ◌∷◌, ◌++◌, length, take, drop, cond, Decides, refl, sym, ◌∙◌, ap, arith}
 use Rattle.std.specs.Prelude.{nat_eq}
 use Rattle.std.specs.Int.{from_le_bytes, to_le_bytes, w64}
 use Rattle.std.proofs.lemmas.Bool.{false≢true}
 use Rattle.std.proofs.lemmas.Nat.{from_le_bytes-to_le_bytes_8}
 use Rattle.std.proofs.lemmas.Slice.Eq.{bytes_eq-Decides}
 use Rattle.std.proofs.Math.Seq.{drop-append_seam, take-append_seam}
-use Rattle.protocols.specs.MerkleTrees.{CapsBind, ending, HaveCollision, HaveDigestSize, inputs, IsCollision, leaf_input, node_input, pair_input, PathsBind, row_input, RowCapsBind, RowPathsBind}
+use Rattle.protocols.specs.MerkleTrees.{CapsBind, ending, HaveCollision, HaveDigestSize, inputs, node_input, pair_input, PathsBind, row_input, RowCapsBind, RowPathsBind}
 
 -- ---- inputs tell what they are made of
 

@@ -1,5 +1,5 @@
 -- Openings of many leaves: the leaves are within the tree, one front of the nodes at most opens them, and each leads to the root.
-use Rattle.std.proofs.Common.{◌≡◌, ◌≢◌, ◌↔◌, ◌⊎◌, inl, inr, ℕ, zero, suc, ◌+◌, ◌-◌, ◌*◌, ◌/◌, ◌%◌, ◌^◌, ◌<◌, ◌≤◌, List, [], ◌∷◌, ◌++◌, length, map, get_or, take, drop, cond, refl, sym, ◌∙◌, ap, ap₂, subst, append_assoc, arith, lit<}
+use Rattle.std.proofs.Common.{◌≡◌, ◌↔◌, ◌⊎◌, inl, inr, ℕ, zero, suc, ◌+◌, ◌-◌, ◌^◌, ◌<◌, ◌≤◌, List, [], ◌∷◌, ◌++◌, length, get_or, take, drop, refl, sym, ◌∙◌, ap, ap₂, subst, append_assoc, arith}
 use Rattle.std.specs.Prelude.{Bool, false, IfNone, IsTrue}
 use Rattle.std.specs.declared.option.Option.{Option}
 use Rattle.std.specs.declared.option.Option.TheVariants.{None, Some}
@@ -7,8 +7,7 @@ use Rattle.std.proofs.Math.Nat.{two-pow-succ}
 use Rattle.std.proofs.Math.Seq.{drop-append_seam, take-add, take-append_seam}
 use Rattle.std.proofs.lemmas.Bool.{cases_lt, false≢true}
 use Rattle.std.proofs.lemmas.List.{append-nil, get_or-append_right, get_or_append_left, length-append, length-drop, length-take-le, take-append-drop, take_all}
-use Rattle.std.proofs.lemmas.Nat.{pow_pos}
-use Rattle.protocols.specs.MerkleTrees.{DigestLeads, ending, HaveDigestSize, node_input, pair_input}
+use Rattle.protocols.specs.MerkleTrees.{node_input}
 use Rattle.protocols.specs.Openings.{NoFrontOpens, Opens}
 
 abbrev pub Leaves : Type 0

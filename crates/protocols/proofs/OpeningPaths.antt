@@ -1,12 +1,11 @@
 -- Each leaf that is opened with others leads to the root by a path of its own.
-use Rattle.std.proofs.Common.{◌≡◌, ◌≢◌, ◌⊎◌, inl, inr, ℕ, zero, suc, ◌+◌, ◌-◌, ◌*◌, ◌/◌, ◌%◌, ◌^◌, ◌<◌, ◌≤◌, List, [], ◌∷◌, ◌++◌, length, map, get_or, cond, refl, sym, ◌∙◌, ap, ap₂, subst, arith, lit<}
+use Rattle.std.proofs.Common.{◌≡◌, ◌⊎◌, inl, inr, ℕ, zero, suc, ◌+◌, ◌-◌, ◌*◌, ◌/◌, ◌%◌, ◌^◌, ◌<◌, ◌≤◌, List, [], ◌∷◌, ◌++◌, length, get_or, cond, refl, sym, ◌∙◌, ap, ap₂, subst, arith}
 use Rattle.std.specs.Prelude.{nat_eq, slice_index}
-use Rattle.std.specs.List.{range_with_len}
 use Rattle.std.proofs.Math.Nat.{div-eq_of_lt, div-one, two-pow-succ}
 use Rattle.std.proofs.lemmas.Bool.{cases_lt}
 use Rattle.std.proofs.lemmas.List.{get_or-append_right, get_or_append_left, length-append}
 use Rattle.std.proofs.lemmas.List.FromFn.{get_or-map-range_with_len, length-map-range_with_len}
-use Rattle.std.proofs.lemmas.Nat.{div-mul-add, pow_pos, shr-shr}
+use Rattle.std.proofs.lemmas.Nat.{div-mul-add, shr-shr}
 use native.Mathlib.Nat.{one-mul}
 use Rattle.protocols.specs.MerkleTrees.{DigestLeads, ending, HaveDigestSize, node_input, pair_input, row_input, RowLeads}
 use Rattle.protocols.specs.Openings.{leaves_at, Opens, OpeningsBind, OpeningsLead}

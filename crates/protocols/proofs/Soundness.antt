@@ -1,22 +1,19 @@
 -- The polynomial of a round by a claim and a message, completeness and soundness: by induction on the challenges.
-use Rattle.std.proofs.Common.{◌≡◌, ◌≢◌, ◌⊎◌, ℕ, zero, suc, ◌+◌, ◌-◌, ◌*◌, ◌^◌, ◌<◌, ◌≤◌, inl, inr, List, [], ◌∷◌, length, map, take, drop, get_or, refl, sym, ◌∙◌, ap, ap₂, subst, arith}
+use Rattle.std.proofs.Common.{◌≡◌, ◌≢◌, ℕ, zero, suc, ◌-◌, ◌*◌, ◌^◌, ◌<◌, ◌≤◌, inl, inr, List, [], ◌∷◌, length, take, get_or, refl, sym, ◌∙◌, ap, ap₂, subst, arith}
 use Rattle.std.specs.Prelude.{bit_xor, slice_index}
-use Rattle.std.specs.List.{range_with_len}
 use Rattle.std.proofs.lemmas.Bool.{cases_lt}
 use Rattle.std.proofs.lemmas.Bool.Decides.{eqb_tells}
 use Rattle.std.proofs.lemmas.List.FromFn.{get_or-map-range_with_len, length-map-range_with_len}
 use Rattle.std.proofs.lemmas.Nat.{xor_lt, xor_comm}
 use Rattle.field_base.specs.Field.{IsField}
-use Rattle.field_base.specs.Ring.{IsRing}
 use Rattle.field_base.proofs.RingLemmas.{xor_cancel}
-use Rattle.field_laws.specs.PolynomialRoots.{AreDistinctBelow}
 use Rattle.field_laws.specs.Interpolation.{interpolated}
 use Rattle.field_laws.proofs.Interpolation.{interpolated-at, interpolated-is, interpolated-polynomial}
 use Rattle.field_laws.proofs.Polynomials.{IsPolynomial, polynomial-lt, polynomial-unique}
 use Rattle.field_slices.specs.Multilinear.{folded, folded_all}
-use Rattle.protocols.proofs.Rows.{cube_sum-halves, cube_sum-lt, cube_sum-none, even-length, folded-fit, folded-values, honest-polynomial, rows-twice, terms_value-same}
+use Rattle.protocols.proofs.Rows.{cube_sum-halves, cube_sum-none, even-length, folded-fit, folded-values, honest-polynomial, rows-twice, terms_value-same}
 use Rattle.protocols.specs.SumcheckClaims.{AreHonestMessages, AreMessages, FalseClaimsNeedLuck, FewChallengesSave, HonestReduces, IsClaimShape, IsSaved, honest_message, message_at, node_values, reduced_claim}
-use Rattle.protocols.specs.Terms.{AreWithin, HaveFactors, Product, cube_sum, honest_at, table_value, terms_value}
+use Rattle.protocols.specs.Terms.{Product, cube_sum, honest_at, table_value, terms_value}
 
 -- the nodes are different elements
 identity-differs : (k : ℕ) (i j : ℕ) → i < k → j < k → i ≡ j → i ≡ j

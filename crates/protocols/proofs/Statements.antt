@@ -1,5 +1,5 @@
 -- Statements of openings are told apart by the bytes that are observed.
-use Rattle.std.proofs.Common.{◌≡◌, ℕ, ◌^◌, ◌<◌, List, ◌++◌, length, refl, sym, ◌∙◌, ap}
+use Rattle.std.proofs.Common.{◌≡◌, ℕ, List, ◌++◌, length, refl, sym, ◌∙◌}
 use Rattle.std.specs.Int.{to_le_bytes, w64}
 use Rattle.std.proofs.lemmas.List.{append_assoc}
 use Rattle.protocols.specs.Runs.{statement_bytes, StatementsDiffer}

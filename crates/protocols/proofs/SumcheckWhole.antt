@@ -1,6 +1,6 @@
 -- The whole of a proof by sum-check and of its verification.
-use Rattle.std.proofs.Common.{◌≡◌, ◌↔◌, Bool, ℕ, zero, suc, ◌+◌, ◌*◌, ◌^◌, ◌<◌, ◌≤◌, List, [], ◌∷◌, ◌++◌, length, map, refl, sym, ◌∙◌, ap, ap₂, subst, arith, lit<}
-use Rattle.std.specs.Prelude.{IsTrue, max, min, slice_index}
+use Rattle.std.proofs.Common.{◌≡◌, ◌↔◌, Bool, ℕ, ◌*◌, ◌^◌, ◌<◌, ◌≤◌, List, [], ◌∷◌, ◌++◌, length, map, sym, ◌∙◌, ap, subst, arith, lit<}
+use Rattle.std.specs.Prelude.{IsTrue, min, slice_index}
 use Rattle.std.proofs.Math.Nat.{max-le, min-le_left, min-le_right, pow-le-pow_right}
 use Rattle.std.proofs.lemmas.List.{length-map, length-take}
 use Rattle.field_base.specs.Field.{IsField}

@@ -5,7 +5,7 @@ use Rattle.std.proofs.Math.Nat.{le-max_left, le-max_right, lt_of_lt_of_le, mul-l
 use Rattle.std.proofs.lemmas.Bool.{false≢true}
 use Rattle.std.proofs.lemmas.List.{get_or-drop, get_or-take, take-map, take_rest}
 use Rattle.field_slices.proofs.CubeTables.{drop-map}
-use Rattle.field_base.specs.Basis.{product_below, sum_below}
+use Rattle.field_base.specs.Basis.{product_below}
 use Rattle.field_base.specs.Ring.{IsRing}
 use Rattle.field_base.proofs.PowerLemmas.{one-times}
 use Rattle.protocols.specs.Terms.{AreWithin, HaveFactors, FactorsAreWithin, Product, degree_of, product_value, terms_value}

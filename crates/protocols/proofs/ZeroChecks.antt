@@ -1,24 +1,22 @@
 -- Where a multilinear polynomial that is not 0 has the value 0, and the sum of a zero-check.
-use Rattle.std.proofs.Common.{◌≡◌, ◌≢◌, ◌⊎◌, ℕ, zero, suc, ◌+◌, ◌-◌, ◌*◌, ◌^◌, ◌<◌, ◌≤◌, inl, inr, List, [], ◌∷◌, length, map, take, refl, sym, ◌∙◌, ap, ap₂, subst, arith}
+use Rattle.std.proofs.Common.{◌≡◌, ◌≢◌, ℕ, suc, ◌+◌, ◌-◌, ◌*◌, ◌^◌, ◌<◌, inl, inr, List, [], ◌∷◌, length, take, sym, ◌∙◌, ap, ap₂, subst, arith}
 use Rattle.std.specs.Prelude.{bit_xor, slice_index}
-use Rattle.std.specs.List.{range_with_len}
 use Rattle.std.proofs.Math.Nat.{two-pow-succ}
 use Rattle.std.proofs.lemmas.Bool.{cases_lt}
 use Rattle.std.proofs.lemmas.Bool.Decides.{eqb_tells}
 use Rattle.std.proofs.lemmas.List.FromFn.{get_or-map-range_with_len}
 use Rattle.std.proofs.lemmas.Nat.{xor_lt}
 use lib.Bits.{xor_self, xor_zero_r}
-use Rattle.field_base.specs.Basis.{product_below, sum_below}
+use Rattle.field_base.specs.Basis.{product_below}
 use Rattle.field_base.specs.Field.{IsField}
 use Rattle.field_base.specs.Ring.{IsRing}
 use Rattle.field_base.proofs.BasisSums.{sum_below-same}
 use Rattle.field_base.proofs.FieldLemmas.{no_zero_divisors}
 use Rattle.field_base.proofs.PowerLemmas.{one-times}
 use Rattle.field_base.proofs.RingLemmas.{sum_times, times-zero, xor_nothing}
-use Rattle.field_laws.proofs.Polynomials.{nil_xor}
 use Rattle.field_slices.specs.Multilinear.{AreCornerValues, eq_corner, folded, folded_all, multilinear_value, on_line}
 use Rattle.field_slices.proofs.CubeLaws.{folded-at, folded-corners, value-alone, value-folded}
-use Rattle.protocols.specs.Terms.{cube_sum, product_value, terms_value}
+use Rattle.protocols.specs.Terms.{terms_value}
 use Rattle.protocols.specs.ZeroCheck.{IsNonzeroLine, IsRootAt, LinesHaveOneRoot, ZeroCheckEvaluates, ZeroNeedsRoot, zero_check_terms, zero_check_values}
 
 module _ (width : ℕ) (times : ℕ → ℕ → ℕ) (field : IsField width times) (wide : 0 < width) where

@@ -1,5 +1,5 @@
 -- The sum of a zero-check of three tables, what it leaves at the challenges, and what both say of the tables.
-use Rattle.std.proofs.Common.{◌≡◌, ◌≢◌, ◌⊎◌, ℕ, zero, suc, ◌+◌, ◌*◌, ◌/◌, ◌%◌, ◌^◌, ◌<◌, ◌≤◌, inl, inr, List, [], ◌∷◌, length, map, refl, sym, ◌∙◌, ap, ap₂, subst, arith, lit<}
+use Rattle.std.proofs.Common.{◌≡◌, ℕ, zero, suc, ◌+◌, ◌*◌, ◌/◌, ◌%◌, ◌^◌, ◌<◌, ◌≤◌, inl, inr, List, [], ◌∷◌, length, map, refl, sym, ◌∙◌, ap, ap₂, subst, arith, lit<}
 use Rattle.std.specs.Prelude.{bit_xor, slice_index}
 use Rattle.std.specs.List.{range_with_len}
 use Rattle.std.proofs.Math.Nat.{mod-eq_of_lt, pow-le-pow_right}
@@ -16,7 +16,7 @@ use Rattle.field_base.proofs.BasisSums.{sum_below-same}
 use Rattle.field_base.proofs.RingLemmas.{sum_times, xor_nothing, zero-times}
 use Rattle.field_slices.specs.Multilinear.{AreCornerValues, eq_coordinate, eq_corner, multilinear_value, on_line}
 use Rattle.field_slices.proofs.CornerSums.{corners-line, eq_corner-lower, eq_corner-upper, line-weights, weighted-lt, weighted-scaled}
-use Rattle.protocols.specs.SumcheckClaims.{AreMessages, IsClaimShape}
+use Rattle.protocols.specs.SumcheckClaims.{IsClaimShape}
 use Rattle.protocols.specs.Terms.{AreWithin, HaveFactors, cube_sum, table_value, terms_value}
 use Rattle.protocols.specs.ZeroCheck.{FalseZerosNeedLuck, ZerosReduce, eq_point, zero_check_entry, zero_check_rows, zero_check_terms, zero_check_value, zero_check_values, zero_differences}
 use Rattle.protocols.specs.ZeroCheckRuns.{zero_check_row}

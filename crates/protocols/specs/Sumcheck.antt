@@ -1,5 +1,5 @@
 -- Statements and runs of the sum-check protocol in a transcript, whose relations say where observing and sampling may lead.
-use Rattle.std.specs.Prelude.{◌≡◌, ◌*◌, ℕ, zero, suc, List, [], ◌∷◌, ◌++◌, length, map, take, drop}
+use Rattle.std.specs.Prelude.{◌≡◌, ℕ, zero, suc, List, [], ◌∷◌, ◌++◌, length, map, take, drop}
 use Rattle.std.specs.List.{flat_map}
 use Rattle.transcript_elements.specs.Lists.{InTurn}
 use Rattle.protocols.specs.Terms.{Product}

@@ -2,7 +2,7 @@
 -- methods for interactive proof systems, 1992; J. Thaler, Proofs, Arguments, and Zero-Knowledge, section 4.1). So many polynomials are
 -- given by a list of rows: row i has their values at corner i, so that value `i * count + j` is that of polynomial j at corner i. A
 -- sum is `bit_xor`, and `times` the product of a ring.
-use Rattle.std.specs.Prelude.{◌≡◌, ℕ, ◌+◌, ◌*◌, ◌^◌, ◌<◌, ◌≤◌, List, [], ◌∷◌, length, max, slice_index, bit_xor}
+use Rattle.std.specs.Prelude.{ℕ, ◌+◌, ◌*◌, ◌^◌, ◌<◌, ◌≤◌, List, [], ◌∷◌, length, max, slice_index, bit_xor}
 use Rattle.field_base.specs.Basis.{product_below, sum_below}
 use Rattle.field_slices.specs.Multilinear.{eq_corner, folded}
 

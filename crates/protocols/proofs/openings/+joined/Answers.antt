@@ -1,4 +1,4 @@
-use Rattle.std.proofs.Common.{◌≡◌, ◌+◌, ◌-◌, ◌^◌, ◌<◌, ◌≤◌, ℕ, suc, List, length, take, drop, sym, ◌∙◌, ap, subst, arith, rules}
+use Rattle.std.proofs.Common.{◌+◌, ◌-◌, ◌^◌, ◌<◌, ◌≤◌, ℕ, take, sym, ap, subst, arith, rules}
 use Rattle.protocols.specs.Openings.{Opens}
 use Rattle.protocols.proofs.OpenedLeaves.{anyway, both-halves, first-node, half-power, no-left, no-node, no-right, none-as, not-leaf, opens-as, opens-leaf, opens-none, rest-is}
 use Rattle.protocols.proofs.openings.+joined.Goals as goal

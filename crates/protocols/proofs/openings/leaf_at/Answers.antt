@@ -1,4 +1,4 @@
-use Rattle.std.proofs.Common.{◌+◌, ◌^◌, ℕ, [], ◌∙◌, ap, arith}
+use Rattle.std.proofs.Common.{◌+◌, ℕ, [], ◌∙◌, ap, arith}
 use Rattle.std.proofs.lemmas.List.{get_or_read}
 use Rattle.protocols.specs.Commitments.{digest_at}
 use Rattle.protocols.proofs.openings.leaf_at.Goals as goal

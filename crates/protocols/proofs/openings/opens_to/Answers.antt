@@ -1,4 +1,4 @@
-use Rattle.std.proofs.Common.{◌^◌, ◌≤◌, ℕ, length, arith, lit<, rules}
+use Rattle.std.proofs.Common.{◌^◌, ◌≤◌, length, arith, lit<, rules}
 use Rattle.std.proofs.Math.Nat.{pow-le-pow_right}
 use Rattle.std.proofs.lemmas.Bool.Decides.{Decides-eqb}
 use Rattle.protocols.proofs.OpenedLeaves.{opens-refused, opens-verdict}

@@ -1,5 +1,4 @@
-use Rattle.std.proofs.Common.{◌≡◌, ◌/◌, ◌%◌, ◌<◌, ℕ, List, length, sym, ◌∙◌, ap, arith}
-use Rattle.field_bytes.specs.Streams.{joined_bytes}
+use Rattle.std.proofs.Common.{length, sym, ◌∙◌, ap, arith}
 use Rattle.protocols.proofs.ProofBytes.{all-read, element-read, no-part, no-proof, part-fits, part-size, same-bytes, same-proof}
 use Rattle.protocols.proofs.proof_bytes.decode.Goals as goal
 

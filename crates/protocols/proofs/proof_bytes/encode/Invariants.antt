@@ -1,6 +1,5 @@
 use Rattle.std.proofs.Common.{◌≡◌, take}
 use Rattle.field_bytes.specs.Streams.{joined_bytes}
-use Rattle.protocols.proofs.ProofBytes.{element-written}
 use Rattle.protocols.proofs.proof_bytes.encode.Given as goal
 
 -- the elements before this one are written

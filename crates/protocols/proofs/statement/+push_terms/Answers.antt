@@ -1,4 +1,4 @@
-use Rattle.std.proofs.Common.{◌≡◌, ◌++◌, ◌∷◌, ℕ, List, map, refl, ap, ◌∙◌, sym, rules}
+use Rattle.std.proofs.Common.{◌++◌, List, map, refl, ap, ◌∙◌, sym, rules}
 use Rattle.std.specs.List.{flat_map}
 use Rattle.field_slices.proofs.CubeTables.{none-if_empty, some-unless_empty}
 use Rattle.protocols.specs.Products.{term_product}

@@ -1,4 +1,4 @@
-use Rattle.std.proofs.Common.{◌≤◌, ◌<◌, ◌^◌, ℕ, refl, subst, arith, lit<}
+use Rattle.std.proofs.Common.{◌≤◌, ◌^◌, ℕ, refl, subst, arith, lit<}
 use Rattle.std.proofs.Math.Nat.{pow-le-pow_right}
 use Rattle.protocols.proofs.statement.has_element.Goals as goal
 

@@ -1,4 +1,4 @@
-use Rattle.std.proofs.Common.{◌≡◌, ◌<◌, ◌≤◌, ◌^◌, ◌++◌, ◌∷◌, [], ℕ, List, length, map, refl, ap, ap₂, ◌∙◌, sym, subst, arith, lit<}
+use Rattle.std.proofs.Common.{◌≤◌, ◌^◌, ◌++◌, ◌∷◌, [], ℕ, List, length, map, refl, ap, ◌∙◌, sym, subst, arith, lit<}
 use Rattle.protocols.specs.Products.{factors_of}
 use Rattle.std.proofs.Math.Nat.{pow-le-pow_right}
 use Rattle.protocols.proofs.SumcheckSteps.{appended-two, pushed-number}

@@ -1,5 +1,4 @@
-use Rattle.std.proofs.Common.{◌≡◌, ◌<◌, length, map, sym, ◌∙◌, ap, subst, arith, rules}
-use Rattle.transcript_elements.specs.Lists.{InTurn}
+use Rattle.std.proofs.Common.{◌<◌, length, map, ◌∙◌, ap, arith, rules}
 use Rattle.protocols.proofs.SumcheckSteps.{message-fits, message-long, next-claim, nodes-few, rest-long, verified-more, verified-none}
 use Rattle.protocols.proofs.sumcheck.+verify_rounds.Goals as goal
 

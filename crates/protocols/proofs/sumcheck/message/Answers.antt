@@ -1,8 +1,7 @@
-use Rattle.std.proofs.Common.{◌≡◌, ◌-◌, ◌*◌, ◌/◌, ◌∷◌, ◌≤◌, ◌<◌, ◌^◌, ℕ, length, map, refl, ap, ◌∙◌, sym, subst, arith, lit<}
+use Rattle.std.proofs.Common.{◌≡◌, ◌*◌, ◌/◌, ◌≤◌, ◌^◌, length, map, refl, ap, ◌∙◌, arith, lit<}
 use Rattle.std.proofs.Math.Nat.{pow-le-pow_right}
-use Rattle.std.specs.List.{range_with_len}
 use Rattle.protocols.specs.Products.{term_product}
-use Rattle.protocols.specs.Terms.{cube_sum, degree_of, honest_at}
+use Rattle.protocols.specs.Terms.{cube_sum, honest_at}
 use Rattle.std.proofs.lemmas.List.{length-take-le}
 use Rattle.protocols.proofs.SumcheckSteps.{cube-even, cube-half, lower-is, values-first, values-more}
 use Rattle.protocols.proofs.sumcheck.message.Goals as goal

@@ -1,4 +1,4 @@
-use Rattle.std.proofs.Common.{length, map, sym, ◌∙◌, ap}
+use Rattle.std.proofs.Common.{map, sym, ◌∙◌, ap}
 use Rattle.protocols.specs.Products.{term_product}
 use Rattle.protocols.specs.Sumcheck.{statement_of}
 use Rattle.protocols.specs.Terms.{degree_of}

@@ -1,8 +1,5 @@
-use Rattle.std.proofs.Common.{◌≡◌, ◌*◌, ◌/◌, ◌%◌, ◌^◌, ◌≤◌, ℕ, List, length, map, take, ap, ◌∙◌, sym, arith}
+use Rattle.std.proofs.Common.{◌≡◌, ◌*◌, ◌/◌, ◌^◌, ◌≤◌, length, ◌∙◌, arith}
 use Rattle.std.proofs.lemmas.List.{length-take-le}
-use Rattle.field_slices.specs.Multilinear.{folded}
-use Rattle.protocols.specs.Products.{term_product}
-use Rattle.protocols.specs.Terms.{cube_sum}
 use Rattle.protocols.proofs.SumcheckSteps.{cube-even, cube-half}
 use Rattle.protocols.proofs.sumcheck.value_at.Goals as goal
 

@@ -1,4 +1,4 @@
-use Rattle.std.proofs.Common.{◌≡◌, ◌*◌, ℕ, length, map, sym, ◌∙◌, ap}
+use Rattle.std.proofs.Common.{◌*◌, ℕ, map, sym, ◌∙◌, ap}
 use Rattle.protocols.specs.Products.{term_product}
 use Rattle.protocols.specs.Sumcheck.{statement_of}
 use Rattle.protocols.specs.Terms.{degree_of}

@@ -1,10 +1,10 @@
-use Rattle.std.proofs.Common.{◌≡◌, ◌+◌, ◌*◌, ◌^◌, ◌<◌, ◌≤◌, ℕ, List, length, map, refl, ap, ap₂, ◌∙◌, sym, subst, arith}
+use Rattle.std.proofs.Common.{◌+◌, ◌*◌, map, refl, ap, ◌∙◌, sym, arith}
 use Rattle.std.specs.Prelude.{bit_xor, slice_index}
 use Rattle.field_slices.proofs.LagrangeSteps.{sum-more, sum-none}
 use Rattle.protocols.specs.Products.{term_product}
 use Rattle.protocols.specs.Terms.{terms_value}
 use Rattle.protocols.proofs.Rows.{terms_value-same}
-use Rattle.protocols.proofs.TermSteps.{row-fits, row-value}
+use Rattle.protocols.proofs.TermSteps.{row-value}
 use Rattle.protocols.proofs.terms.cube_sum.Goals as goal
 
 pub loop-corner-init : goal.loop-corner-init

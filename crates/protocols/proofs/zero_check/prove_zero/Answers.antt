@@ -1,4 +1,4 @@
-use Rattle.std.proofs.Common.{◌≡◌, ◌*◌, ℕ, List, inl, inr, length, map, sym, ◌∙◌, ap, subst, rules}
+use Rattle.std.proofs.Common.{◌≡◌, ◌*◌, ℕ, List, inl, inr, map, sym, ◌∙◌, ap, subst, rules}
 use Rattle.protocols.specs.Products.{term_product}
 use Rattle.protocols.specs.Terms.{Product, degree_of}
 use Rattle.protocols.specs.Sumcheck.{messages_of}

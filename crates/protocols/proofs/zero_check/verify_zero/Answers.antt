@@ -69,7 +69,6 @@ returns-in_err-sum-clause-answer g c =
 pub returns : goal.returns
 returns g c =
     let field = g.F.Represented in
-    let law = g.met.F.Field in
     let repr = field.repr in
     let can = c.can_be_stated.ensures.0 c.if-not-can_be_stated.false in
     let start = c.in_ok-start.start.items in
@@ -97,7 +96,7 @@ returns g c =
       claim = claim;
       weight = c.eq_at-weight.ensures ∙ ap₂ (λ (xs ys : List _). eq_point field.product (map repr xs) (map repr ys)) c.as_slice-3.ensures.value c.as_slice-4.ensures.value;
       sound =
-          zeros-sound repr field.width field.product law.field_law can.field field.range_law start sum.point.items c.args.rounds begun.length read.2
+          zeros-sound repr field.width field.product g.met.F.Field.field_law can.field field.range_law start sum.point.items c.args.rounds begun.length read.2
           c.args.messages.now (repr sum.claim) long claim;
       answer =
           answer-ok _ _ _ _ _ (sym c.failed.ensures ∙ c.if-failed.false)
