@@ -25,43 +25,33 @@ returns-in_err-accepted-clause-answer g c =
 
 pub returns : goal.returns
 returns g c =
-    let observes = g.C.CanObserve.observes in
-    let passing = g.C.GrindingChallenger.passing in
-    let checks = g.C.GrindingChallenger.checks in
-    let gives_bits = g.C.CanSampleBits.gives_bits in
     let hash = g.H.ByteHasher32.digest c.args.hasher.now in
     let depth = c.args.tree.now.depth in
     let root = root_of c.args.tree.now in
     let proof = c.in_ok-opening.ensures in
     let opening = c.in_ok-opening.opening in
-    let witness = g.C.GrindingChallenger.number opening.witness in
-    let accepted = c.in_ok-accepted.accepted in
-    let after = c.accepts.new.challenger in
-    let prover_goes = sym c.failed.ensures ∙ c.if-failed.false in
-    let verifier_goes = sym c.failed-else-failed.ensures ∙ c.if-failed-2.false in
-    let verdict : IsVerdict observes passing checks gives_bits hash depth c.args.bits root c.args.verifier.now witness opening.index opening.word
-    opening.path.items accepted after =
-    subst
-    (λ (r : List ℕ). IsVerdict observes passing checks gives_bits hash depth c.args.bits r c.args.verifier.now witness opening.index opening.word
-    opening.path.items accepted after) c.commitment.ensures.held
-    (subst
-    (λ (d : ℕ). IsVerdict observes passing checks gives_bits hash d c.args.bits c.commitment.result.root c.args.verifier.now witness opening.index
-    opening.word opening.path.items accepted after) c.commitment.ensures.depth c.in_ok-accepted.ensures.verdict) in
+    let says : ℕ → List ℕ → ℕ → Type 0 =
+    λ (d : ℕ) (r : List ℕ) (word : ℕ). IsVerdict g.C.CanObserve.observes g.C.GrindingChallenger.passing g.C.GrindingChallenger.checks
+    g.C.CanSampleBits.gives_bits hash d c.args.bits r c.args.verifier.now (g.C.GrindingChallenger.number opening.witness) opening.index word
+    opening.path.items c.in_ok-accepted.accepted c.accepts.new.challenger in
+    let verdict : says depth root opening.word =
+    subst (λ (r : List ℕ). says depth r opening.word) c.commitment.ensures.held
+    (subst (λ (d : ℕ). says d c.commitment.result.root opening.word) c.commitment.ensures.depth c.in_ok-accepted.ensures.verdict) in
+    let going =
+    ap₂ (λ (a b : Bool). a || b) (sym c.failed.ensures ∙ c.if-failed.false) (sym c.failed-else-failed.ensures ∙ c.if-failed-2.false) in
     record {
       accepted =
-          accepted-run g.C.Transcript.state observes passing checks gives_bits g.met.C.CanObserve.observes_law
-          g.met.C.GrindingChallenger.passing_law g.met.C.GrindingChallenger.checks_law g.met.C.CanSampleBits.gives_bits_law depth c.args.bits root
-          c.args.prover.now c.prove.new.challenger c.args.verifier.now after witness proof.opened.0 hash opening.index opening.word
-          opening.path.items accepted c.requires.state proof.opened.1 proof.opened.2 (proof.path hash c.requires.tree) verdict;
+          accepted-run g.C.Transcript.state g.C.CanObserve.observes g.C.GrindingChallenger.passing g.C.GrindingChallenger.checks
+          g.C.CanSampleBits.gives_bits g.met.C.CanObserve.observes_law g.met.C.GrindingChallenger.passing_law
+          g.met.C.GrindingChallenger.checks_law g.met.C.CanSampleBits.gives_bits_law depth c.args.bits root c.args.prover.now
+          c.prove.new.challenger c.args.verifier.now c.accepts.new.challenger (g.C.GrindingChallenger.number opening.witness) proof.opened.0 hash
+          opening.index opening.word opening.path.items c.in_ok-accepted.accepted c.requires.state proof.opened.1 proof.opened.2
+          (proof.path hash c.requires.tree) verdict;
       verified = (
-        witness,
+        g.C.GrindingChallenger.number opening.witness,
         opening.index,
         opening.path.items,
-        subst
-            (λ (word : ℕ). IsVerdict observes passing checks gives_bits hash depth c.args.bits root c.args.verifier.now witness opening.index word
-            opening.path.items accepted after) proof.word verdict,
+        subst (λ (word : ℕ). says depth root word) proof.word verdict,
       );
-      answer =
-          outcome-ok _ _ _ _ _ (ap₂ (λ (a b : Bool). a || b) prover_goes verifier_goes)
-          (ap₂ (λ (a b : Bool). a || b) proof.answer.goes_on c.in_ok-accepted.ensures.answer.goes_on);
+      answer = outcome-ok _ _ _ _ _ going (ap₂ (λ (a b : Bool). a || b) proof.answer.goes_on c.in_ok-accepted.ensures.answer.goes_on);
     }
