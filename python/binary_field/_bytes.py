@@ -144,6 +144,24 @@ class _Code:
     def __repr__(self) -> str:
         return f"{type(self).__name__}({self.data}, {self.parity})"
 
+    def verify(self, shards: Any) -> bool:
+        """Whether the shards of parity are those of the data.
+
+        >>> for code in bf.ReedSolomon(2, 1), bf.TransformCode(2, 1):
+        ...     shards = code.encode([b"ab", b"cd"])
+        ...     shards[0, 0] += 1
+        ...     code.verify(shards)
+        False
+        False
+        """
+        result = np.zeros(1, np.uint8)
+        self._verify(self._rows(shards, self.data + self.parity), result)
+        return bool(result[0])
+
+    def _verify(self, shards: Words, result: Words) -> None:
+        """Writes whether the shards of parity are those of the data."""
+        raise NotImplementedError
+
     def _with_room(self, data: Any) -> Words:
         """All shards, those of data as they are and those of parity with zeros."""
         data = self._rows(data, self.data)
@@ -257,17 +275,8 @@ class ReedSolomon(_Code):
         added = sums if isinstance(sums, np.ndarray) else np.frombuffer(sums, np.uint8)
         call("rs_add_shard", self.data, self.parity, self._tables, data_shard, parity_shard, _bytes(shard), added)
 
-    def verify(self, shards: Any) -> bool:
-        """Whether the shards of parity are those of the data.
-
-        >>> shards = bf.ReedSolomon(2, 1).encode([b"ab", b"cd"])
-        >>> shards[0, 0] += 1
-        >>> bf.ReedSolomon(2, 1).verify(shards)
-        False
-        """
-        result = np.zeros(1, np.uint8)
-        call("rs_verify_prepared", self.data, self.parity, self._tables, self._rows(shards, self.data + self.parity), result)
-        return bool(result[0])
+    def _verify(self, shards: Words, result: Words) -> None:
+        call("rs_verify_prepared", self.data, self.parity, self._tables, shards, result)
 
     def reconstruct(self, shards: Sequence[Any] | Words, present: Sequence[bool] | None = None) -> Words:
         """All shards, the missing ones restored. A shard is missing where it is None, and where `present` has False.
@@ -324,18 +333,8 @@ class TransformCode(_Code):
         call("erasure_encode", self.data, self.parity, *self._halves(shards), self._space())
         return shards
 
-    def verify(self, shards: Any) -> bool:
-        """Whether the shards of parity are those of the data.
-
-        >>> shards = bf.TransformCode(2, 1).encode([b"ab", b"cd"])
-        >>> shards[0, 0] += 1
-        >>> bf.TransformCode(2, 1).verify(shards)
-        False
-        """
-        result = np.zeros(1, np.uint8)
-        halves = self._halves(self._rows(shards, self.data + self.parity))
-        call("erasure_verify", self.data, self.parity, *halves, self._space(), result)
-        return bool(result[0])
+    def _verify(self, shards: Words, result: Words) -> None:
+        call("erasure_verify", self.data, self.parity, *self._halves(shards), self._space(), result)
 
     def reconstruct(self, shards: Sequence[Any] | Words, present: Sequence[bool] | None = None) -> Words:
         """All shards, the missing ones restored. A shard is missing where it is None, and where `present` has False.

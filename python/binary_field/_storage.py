@@ -5,7 +5,7 @@ from __future__ import annotations
 import contextlib
 import functools
 import operator
-from typing import Any, Callable, Iterator, Sequence, TypeVar, Union
+from typing import Any, Callable, Final, Iterator, Sequence, TypeVar, Union
 
 import numpy as np
 
@@ -73,6 +73,11 @@ class _Constants(type):
         below: Any = _FIELDS["p64" if name == "p192" else "gf2"]
         power = int(cls(1 << below.degree) ** (cls.degree // below.degree))
         return Poly.Int(cls.order | power, below)
+
+
+def _of_words(name: str) -> Any:
+    """A property of elements that is numpy's of the array of words in which they lie."""
+    return property(operator.attrgetter(f"_words.{name}"))
 
 
 class Stored(metaclass=_Constants):
@@ -282,33 +287,13 @@ class Stored(metaclass=_Constants):
         """
         return np.dtype(self._words.dtype)
 
-    @property
-    def shape(self) -> tuple[int, ...]:
-        return self._words.shape
-
-    @property
-    def ndim(self) -> int:
-        return self._words.ndim
-
-    @property
-    def size(self) -> int:
-        return self._words.size
-
-    @property
-    def nbytes(self) -> int:
-        return self._words.nbytes
-
-    @property
-    def itemsize(self) -> int:
-        return self._words.itemsize
-
-    @property
-    def strides(self) -> tuple[int, ...]:
-        return self._words.strides
-
-    @property
-    def flags(self) -> Any:
-        return self._words.flags
+    shape: Final[tuple[int, ...]] = _of_words("shape")
+    ndim: Final[int] = _of_words("ndim")
+    size: Final[int] = _of_words("size")
+    nbytes: Final[int] = _of_words("nbytes")
+    itemsize: Final[int] = _of_words("itemsize")
+    strides: Final[tuple[int, ...]] = _of_words("strides")
+    flags: Final[Any] = _of_words("flags")
 
     @property
     def flat(self: S) -> Iterator[S]:
