@@ -27,17 +27,7 @@ fn hash_into(
     message: &[u8],
     hash: &mut [u8; 16],
 ) -> Result<(), Error> {
-    // SAFETY: the pointers and lengths are those of slices, of which the one that is written overlaps no other. So it is below.
-    Error::of(unsafe {
-        function(
-            key.as_ptr(),
-            16,
-            message.as_ptr(),
-            message.len(),
-            hash.as_mut_ptr(),
-            16,
-        )
-    })
+    Error::of(call!(function: [key], [message], [mut hash]))
 }
 
 fn hashed(function: Hash, key: &[u8; 16], message: &[u8]) -> [u8; 16] {
@@ -59,19 +49,7 @@ pub fn polyval(key: &[u8; 16], message: &[u8]) -> [u8; 16] {
 /// The hash of GCM over associated data and ciphertext, with the block of their lengths.
 pub fn gcm_ghash(key: &[u8; 16], associated: &[u8], ciphertext: &[u8]) -> [u8; 16] {
     let mut hash = [0; 16];
-    // SAFETY: as above.
-    succeed(unsafe {
-        bf_tag_gcm_ghash(
-            key.as_ptr(),
-            16,
-            associated.as_ptr(),
-            associated.len(),
-            ciphertext.as_ptr(),
-            ciphertext.len(),
-            hash.as_mut_ptr(),
-            16,
-        )
-    });
+    succeed(call!(bf_tag_gcm_ghash: [key], [associated], [ciphertext], [mut hash]));
     hash
 }
 
@@ -105,32 +83,15 @@ pub fn gcm_ghash_final(
     associated_length: usize,
     ciphertext_length: usize,
 ) -> Result<(), Error> {
-    // SAFETY: as above.
-    Error::of(unsafe {
-        bf_tag_gcm_ghash_final(
-            key.as_ptr(),
-            16,
-            associated_length,
-            ciphertext_length,
-            hash.as_mut_ptr(),
-            16,
-        )
-    })
+    Error::of(
+        call!(bf_tag_gcm_ghash_final: [key], associated_length, ciphertext_length, [mut hash]),
+    )
 }
 
 /// Whether the two have the same bytes. Nothing is claimed on the time that it takes.
 pub fn tags_are_equal(left: &[u8], right: &[u8]) -> bool {
     let mut equal = 0;
-    // SAFETY: as above.
-    succeed(unsafe {
-        bf_tags_are_equal(
-            left.as_ptr(),
-            left.len(),
-            right.as_ptr(),
-            right.len(),
-            &raw mut equal,
-        )
-    });
+    succeed(call!(bf_tags_are_equal: [left], [right], &raw mut equal));
     equal == 1
 }
 
@@ -156,25 +117,13 @@ impl ReedSolomon {
 
     /// Writes the shards of parity.
     pub fn encode(&self, shards: &mut [u8]) -> Result<(), Error> {
-        // SAFETY: as above.
-        Error::of(unsafe {
-            bf_rs_encode(self.data, self.parity, shards.as_mut_ptr(), shards.len())
-        })
+        Error::of(call!(bf_rs_encode: self.data, self.parity, [mut shards]))
     }
 
     /// Whether the shards of parity are those of the data.
     pub fn verify(&self, shards: &[u8]) -> Result<bool, Error> {
         let mut whole = 0;
-        // SAFETY: as above.
-        Error::of(unsafe {
-            bf_rs_verify(
-                self.data,
-                self.parity,
-                shards.as_ptr(),
-                shards.len(),
-                &raw mut whole,
-            )
-        })?;
+        Error::of(call!(bf_rs_verify: self.data, self.parity, [shards], &raw mut whole))?;
         Ok(whole == 1)
     }
 
@@ -182,17 +131,13 @@ impl ReedSolomon {
     /// counted up to a multiple of four.
     pub fn tables_length(&self) -> usize {
         let mut length = 0;
-        // SAFETY: as above.
-        succeed(unsafe { bf_rs_tables_length(self.data, self.parity, &raw mut length) });
+        succeed(call!(bf_rs_tables_length: self.data, self.parity, &raw mut length));
         length as usize
     }
 
     /// The code with its tables, which are written into `tables`, of `tables_length` bytes. They are read faster from a multiple of 16 on.
     pub fn prepare<'a>(&self, tables: &'a mut [u8]) -> Result<Prepared<'a>, Error> {
-        // SAFETY: as above.
-        Error::of(unsafe {
-            bf_rs_prepare(self.data, self.parity, tables.as_mut_ptr(), tables.len())
-        })?;
+        Error::of(call!(bf_rs_prepare: self.data, self.parity, [mut tables]))?;
         Ok(Prepared {
             code: *self,
             tables,
@@ -215,17 +160,7 @@ impl ReedSolomon {
         shards: &mut [u8],
         present: &[bool],
     ) -> Result<(), Error> {
-        // SAFETY: as above; a bool is the byte 0 or 1.
-        Error::of(unsafe {
-            function(
-                self.data,
-                self.parity,
-                shards.as_mut_ptr(),
-                shards.len(),
-                present.as_ptr().cast(),
-                present.len(),
-            )
-        })
+        Error::of(call!(function: self.data, self.parity, [mut shards], [present]))
     }
 }
 
@@ -244,17 +179,9 @@ impl Prepared<'_> {
 
     /// Writes the shards of parity.
     pub fn encode(&self, shards: &mut [u8]) -> Result<(), Error> {
-        // SAFETY: as above.
-        Error::of(unsafe {
-            bf_rs_encode_prepared(
-                self.code.data,
-                self.code.parity,
-                self.tables.as_ptr(),
-                self.tables.len(),
-                shards.as_mut_ptr(),
-                shards.len(),
-            )
-        })
+        Error::of(
+            call!(bf_rs_encode_prepared: self.code.data, self.code.parity, [self.tables], [mut shards]),
+        )
     }
 
     /// Adds to `sums` what a shard of data is in a shard of parity, both counted from 0. Once each shard of data was added to zeros, in any
@@ -266,21 +193,9 @@ impl Prepared<'_> {
         shard: &[u8],
         sums: &mut [u8],
     ) -> Result<(), Error> {
-        // SAFETY: as above.
-        Error::of(unsafe {
-            bf_rs_add_shard(
-                self.code.data,
-                self.code.parity,
-                self.tables.as_ptr(),
-                self.tables.len(),
-                data_shard,
-                parity_shard,
-                shard.as_ptr(),
-                shard.len(),
-                sums.as_mut_ptr(),
-                sums.len(),
-            )
-        })
+        Error::of(
+            call!(bf_rs_add_shard: self.code.data, self.code.parity, [self.tables], data_shard, parity_shard, [shard], [mut sums]),
+        )
     }
 
     /// Writes the shards of parity of shards that stand apart, all of one size.
@@ -310,18 +225,9 @@ impl Prepared<'_> {
     /// Whether the shards of parity are those of the data.
     pub fn verify(&self, shards: &[u8]) -> Result<bool, Error> {
         let mut whole = 0;
-        // SAFETY: as above.
-        Error::of(unsafe {
-            bf_rs_verify_prepared(
-                self.code.data,
-                self.code.parity,
-                self.tables.as_ptr(),
-                self.tables.len(),
-                shards.as_ptr(),
-                shards.len(),
-                &raw mut whole,
-            )
-        })?;
+        Error::of(
+            call!(bf_rs_verify_prepared: self.code.data, self.code.parity, [self.tables], [shards], &raw mut whole),
+        )?;
         Ok(whole == 1)
     }
 }

@@ -27,8 +27,7 @@ impl TransformCode {
     /// How many words of space a call works in: five times the least power of two that is at least that sum.
     pub fn space_length(&self) -> usize {
         let mut length = 0;
-        // SAFETY: the pointers and lengths are those of slices, of which those that are written overlap no other. So it is below.
-        succeed(unsafe { bf_erasure_space(self.data, self.parity, &raw mut length) });
+        succeed(call!(bf_erasure_space: self.data, self.parity, &raw mut length));
         length as usize
     }
 
@@ -39,19 +38,9 @@ impl TransformCode {
         parity_shards: &mut [u16],
         space: &mut [u16],
     ) -> Result<(), Error> {
-        // SAFETY: as above.
-        Error::of(unsafe {
-            bf_erasure_encode(
-                self.data,
-                self.parity,
-                shards.as_ptr(),
-                shards.len(),
-                parity_shards.as_mut_ptr(),
-                parity_shards.len(),
-                space.as_mut_ptr(),
-                space.len(),
-            )
-        })
+        Error::of(
+            call!(bf_erasure_encode: self.data, self.parity, [shards], [mut parity_shards], [mut space]),
+        )
     }
 
     /// Whether the shards of parity are those of the data.
@@ -62,20 +51,9 @@ impl TransformCode {
         space: &mut [u16],
     ) -> Result<bool, Error> {
         let mut whole = 0;
-        // SAFETY: as above.
-        Error::of(unsafe {
-            bf_erasure_verify(
-                self.data,
-                self.parity,
-                shards.as_ptr(),
-                shards.len(),
-                parity_shards.as_ptr(),
-                parity_shards.len(),
-                space.as_mut_ptr(),
-                space.len(),
-                &raw mut whole,
-            )
-        })?;
+        Error::of(
+            call!(bf_erasure_verify: self.data, self.parity, [shards], [parity_shards], [mut space], &raw mut whole),
+        )?;
         Ok(whole == 1)
     }
 
@@ -87,20 +65,8 @@ impl TransformCode {
         present: &[bool],
         space: &mut [u16],
     ) -> Result<(), Error> {
-        // SAFETY: as above; a bool is the byte 0 or 1.
-        Error::of(unsafe {
-            bf_erasure_reconstruct(
-                self.data,
-                self.parity,
-                shards.as_mut_ptr(),
-                shards.len(),
-                parity_shards.as_mut_ptr(),
-                parity_shards.len(),
-                present.as_ptr().cast(),
-                present.len(),
-                space.as_mut_ptr(),
-                space.len(),
-            )
-        })
+        Error::of(
+            call!(bf_erasure_reconstruct: self.data, self.parity, [mut shards], [mut parity_shards], [present], [mut space]),
+        )
     }
 }

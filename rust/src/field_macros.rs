@@ -1,12 +1,25 @@
-//! What makes a field of its word and of its functions in the library. An element is stored as the word that the library takes, so
-//! that a slice of elements is one of words.
+//! Calls of the library, and what makes a field of its word and of its functions there. An element is stored as the word that the
+//! library takes, so that a slice of elements is one of words.
 
-/// A call over slices: each as its pointer and its length, and what is no slice as it is.
-macro_rules! over {
-    ($function:ident: $($slices:ident),* $(; $($middle:expr),* ; $last:ident)?) => {
-        // SAFETY: the pointers and lengths are those of slices, which are never null; a slice of elements is one of the words
-        // that the library takes; and what is borrowed to be written overlaps nothing.
-        unsafe { $function($($slices.as_ptr().cast(), $slices.len(),)* $($($middle,)* $last.as_mut_ptr().cast(), $last.len())?) }
+/// A call of the library. `[x]` is a slice that is read and `[mut x]` one that is written: its pointer and its length. Everything else
+/// goes as it is.
+macro_rules! call {
+    ($function:ident: $($given:tt)*) => {
+        call!(@ $function () $($given)*)
+    };
+    (@ $function:ident ($($made:expr,)*) [mut $slice:expr] $(, $($rest:tt)*)?) => {
+        call!(@ $function ($($made,)* $slice.as_mut_ptr().cast(), $slice.len(),) $($($rest)*)?)
+    };
+    (@ $function:ident ($($made:expr,)*) [$slice:expr] $(, $($rest:tt)*)?) => {
+        call!(@ $function ($($made,)* $slice.as_ptr().cast(), $slice.len(),) $($($rest)*)?)
+    };
+    (@ $function:ident ($($made:expr,)*) $other:expr $(, $($rest:tt)*)?) => {
+        call!(@ $function ($($made,)* $other,) $($($rest)*)?)
+    };
+    (@ $function:ident ($($made:expr,)*)) => {
+        // SAFETY: the pointers and lengths are those of slices, which are never null, and other pointers those of values; a slice of
+        // elements is one of the words that the library takes, and a bool the byte 0 or 1; what is written overlaps nothing else.
+        unsafe { $function($($made),*) }
     };
 }
 
@@ -178,97 +191,83 @@ macro_rules! field {
             }
 
             fn add_slices(left: &[$field], right: &[$field], sums: &mut [$field]) -> Result<(), Error> {
-                Error::of(over!($add: left, right; ; sums))
+                Error::of(call!($add: [left], [right], [mut sums]))
             }
 
             fn multiply_slices(left: &[$field], right: &[$field], products: &mut [$field]) -> Result<(), Error> {
-                Error::of(over!($multiply: left, right; ; products))
+                Error::of(call!($multiply: [left], [right], [mut products]))
             }
 
             fn multiply_slice_by(values: &[$field], scalar: $field, products: &mut [$field]) -> Result<(), Error> {
-                Error::of(over!($multiply_by: values; scalar.0.scalar(); products))
+                Error::of(call!($multiply_by: [values], scalar.0.scalar(), [mut products]))
             }
 
             fn add_scaled_slice(sums: &mut [$field], scalar: $field, values: &[$field]) -> Result<(), Error> {
-                // SAFETY: as in `over`.
-                Error::of(unsafe {
-                    $add_scaled(sums.as_mut_ptr().cast(), sums.len(), scalar.0.scalar(), values.as_ptr().cast(), values.len())
-                })
+                Error::of(call!($add_scaled: [mut sums], scalar.0.scalar(), [values]))
             }
 
             fn add_assign_slice(sums: &mut [$field], values: &[$field]) -> Result<(), Error> {
-                // SAFETY: as in `over`. So it is below.
-                Error::of(unsafe { $add_in_place(sums.as_mut_ptr().cast(), sums.len(), values.as_ptr().cast(), values.len()) })
+                Error::of(call!($add_in_place: [mut sums], [values]))
             }
 
             fn multiply_assign_slice(products: &mut [$field], values: &[$field]) -> Result<(), Error> {
-                // SAFETY: as above.
-                Error::of(unsafe { $multiply_in_place(products.as_mut_ptr().cast(), products.len(), values.as_ptr().cast(), values.len()) })
+                Error::of(call!($multiply_in_place: [mut products], [values]))
             }
 
             fn scale_slice(values: &mut [$field], scalar: $field) {
-                // SAFETY: as above.
-                succeed(unsafe { $multiply_by_in_place(values.as_mut_ptr().cast(), values.len(), scalar.0.scalar()) });
+                succeed(call!($multiply_by_in_place: [mut values], scalar.0.scalar()));
             }
 
             fn square_assign_slice(values: &mut [$field]) {
-                // SAFETY: as above.
-                succeed(unsafe { $square_in_place(values.as_mut_ptr().cast(), values.len()) });
+                succeed(call!($square_in_place: [mut values]));
             }
 
             fn invert_assign_slice(values: &mut [$field]) {
-                // SAFETY: as above.
-                succeed(unsafe { $inverse_in_place(values.as_mut_ptr().cast(), values.len()) });
+                succeed(call!($inverse_in_place: [mut values]));
             }
 
             fn square_root_assign_slice(values: &mut [$field]) {
-                // SAFETY: as above.
-                succeed(unsafe { $square_root_in_place(values.as_mut_ptr().cast(), values.len()) });
+                succeed(call!($square_root_in_place: [mut values]));
             }
 
             fn power_assign_slice(values: &mut [$field], exponent: u64) {
-                // SAFETY: as above.
-                succeed(unsafe { $power_in_place(values.as_mut_ptr().cast(), values.len(), exponent) });
+                succeed(call!($power_in_place: [mut values], exponent));
             }
 
             fn square_slice(values: &[$field], squares: &mut [$field]) -> Result<(), Error> {
-                Error::of(over!($square: values; ; squares))
+                Error::of(call!($square: [values], [mut squares]))
             }
 
             fn square_root_slice(values: &[$field], roots: &mut [$field]) -> Result<(), Error> {
-                Error::of(over!($square_root: values; ; roots))
+                Error::of(call!($square_root: [values], [mut roots]))
             }
 
             fn inverse_slice(values: &[$field], inverses: &mut [$field]) -> Result<(), Error> {
-                Error::of(over!($inverse: values; ; inverses))
+                Error::of(call!($inverse: [values], [mut inverses]))
             }
 
             fn batch_inverse_slice(values: &[$field], inverses: &mut [$field]) -> Result<(), Error> {
-                Error::of(over!($batch_inverse: values; ; inverses))
+                Error::of(call!($batch_inverse: [values], [mut inverses]))
             }
 
             fn power_slice(values: &[$field], exponent: u64, powers: &mut [$field]) -> Result<(), Error> {
-                Error::of(over!($power: values; exponent; powers))
+                Error::of(call!($power: [values], exponent, [mut powers]))
             }
 
             fn product_of_slice(values: &[$field]) -> $field {
                 let mut result = $field::ZERO;
-                // SAFETY: as in `over`; the result is an element.
-                succeed(unsafe { $product(values.as_ptr().cast(), values.len(), (&raw mut result).cast()) });
+                succeed(call!($product: [values], (&raw mut result).cast()));
                 result
             }
 
             fn dot_product_of_slices(left: &[$field], right: &[$field]) -> Result<$field, Error> {
                 let mut result = $field::ZERO;
-                // SAFETY: as in `over`; the result is an element.
-                Error::of(unsafe {
-                    $dot_product(left.as_ptr().cast(), left.len(), right.as_ptr().cast(), right.len(), (&raw mut result).cast())
-                })?;
+                Error::of(call!($dot_product: [left], [right], (&raw mut result).cast()))?;
                 Ok(result)
             }
 
             fn evaluate(coefficients: &[$field], points: &[$field], values: &mut [$field]) -> Result<(), Error> {
-                Error::of(over!($evaluate: coefficients, points; ; values))
+                Error::of(call!($evaluate: [coefficients], [points], [mut values]))
             }
         }
 
@@ -567,7 +566,7 @@ macro_rules! bases {
         impl $to {
             /// Writes the images of elements in the isomorphic field. The slices have one length.
             pub fn from_slice(values: &[$from], images: &mut [$to]) -> Result<(), Error> {
-                Error::of(over!($function: values; ; images))
+                Error::of(call!($function: [values], [mut images]))
             }
         }
     )*};

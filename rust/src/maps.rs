@@ -12,23 +12,19 @@ pub fn linear_map(
     images: &[Ghash128],
     mapped: &mut [Ghash128],
 ) -> Result<(), Error> {
-    Error::of(over!(bf_g128_linear_map: values, images; ; mapped))
+    Error::of(call!(bf_g128_linear_map: [values], [images], [mut mapped]))
 }
 
 /// Writes for each byte the sum of the images at its set bits, of eight images.
 pub fn linear_map_of_bytes(values: &[u8], images: &[u8], mapped: &mut [u8]) -> Result<(), Error> {
-    Error::of(over!(bf_r8_linear_map: values, images; ; mapped))
+    Error::of(call!(bf_r8_linear_map: [values], [images], [mut mapped]))
 }
 
 macro_rules! butterflies {
     ($($(#[$about:meta])* $name:ident = $function:ident;)*) => {$(
         $(#[$about])*
         pub fn $name(low: &mut [Ghash128], high: &mut [Ghash128], scalar: Ghash128) -> Result<(), Error> {
-            let scalar = (&raw const scalar).cast();
-            // SAFETY: the pointers and lengths are those of slices, which overlap no other. So it is below.
-            Error::of(unsafe {
-                $function(low.as_mut_ptr().cast(), low.len(), high.as_mut_ptr().cast(), high.len(), scalar)
-            })
+            Error::of(call!($function: [mut low], [mut high], (&raw const scalar).cast()))
         }
     )*};
 }
@@ -48,18 +44,7 @@ pub fn low_stages(
     basis: &[Ghash128],
     first_run: usize,
 ) -> Result<(), Error> {
-    // SAFETY: as above.
-    Error::of(unsafe {
-        bf_g128_low_stages(
-            values.as_mut_ptr().cast(),
-            values.len(),
-            shifts.as_ptr().cast(),
-            shifts.len(),
-            basis.as_ptr().cast(),
-            basis.len(),
-            first_run,
-        )
-    })
+    Error::of(call!(bf_g128_low_stages: [mut values], [shifts], [basis], first_run))
 }
 
 /// A field over which there is the additive transform: `Ghash128`, and the levels of the tower of 16 to 128 bits.
@@ -75,13 +60,11 @@ macro_rules! transforms {
     ($($field:ident: $forward:ident, $inverse:ident;)*) => {$(
         impl Transformed for $field {
             fn forward(values: &mut [Self], shift: Self) -> Result<(), Error> {
-                // SAFETY: as above.
-                Error::of(unsafe { $forward(values.as_mut_ptr().cast(), values.len(), shift.to_repr().scalar()) })
+                Error::of(call!($forward: [mut values], shift.to_repr().scalar()))
             }
 
             fn inverse_of(values: &mut [Self], shift: Self) -> Result<(), Error> {
-                // SAFETY: as above.
-                Error::of(unsafe { $inverse(values.as_mut_ptr().cast(), values.len(), shift.to_repr().scalar()) })
+                Error::of(call!($inverse: [mut values], shift.to_repr().scalar()))
             }
         }
     )*};

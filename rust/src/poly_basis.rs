@@ -29,7 +29,7 @@ pub fn to_tower(number: u128) -> BinaryField128 {
 pub fn from_tower_slice(values: &mut [u128]) {
     in_place(
         values,
-        |block, images| over!(bf_t128_to_g128: block; ; images),
+        |block, images| call!(bf_t128_to_g128: [block], [mut images]),
     );
 }
 
@@ -37,7 +37,7 @@ pub fn from_tower_slice(values: &mut [u128]) {
 pub fn to_tower_slice(values: &mut [u128]) {
     in_place(
         values,
-        |block, images| over!(bf_g128_to_t128: block; ; images),
+        |block, images| call!(bf_g128_to_t128: [block], [mut images]),
     );
 }
 
@@ -56,7 +56,7 @@ pub fn mul_slice(values: &mut [u128], scalar: u128) {
     let scalar = (&raw const scalar).cast();
     in_place(
         values,
-        |block, products| over!(bf_g128_multiply_by: block; scalar; products),
+        |block, products| call!(bf_g128_multiply_by: [block], scalar, [mut products]),
     );
 }
 
