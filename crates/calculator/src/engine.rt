@@ -95,7 +95,7 @@ fn answer_lines<A: Allocator, W: Write>(
 {
     let mut start = 0;
     'lines: while let Some(len) = memchr(b'\n', &chunk[start..]) {
-        end_line(&chunk[start..start + len], line, outbox, writer)?;
+        end_line(line, &chunk[start..start + len], outbox, writer)?;
         start += len + 1;
     }
     match line.extend_from_slice(&chunk[start..]) {
@@ -106,8 +106,8 @@ fn answer_lines<A: Allocator, W: Write>(
 
 // Answers `line` with `tail` behind it, and empties `line`. Before it returns `Memory`, it writes all that waits.
 fn end_line<A: Allocator, W: Write>(
-    tail: &[u8],
     line: &mut Vec<u8, A>,
+    tail: &[u8],
     outbox: &mut Outbox,
     writer: &mut Watched<W>,
 ) -> Result<(), RunError>
