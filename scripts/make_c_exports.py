@@ -284,10 +284,10 @@ def change_of_basis(name, parameters, text):
     source, image = (fields.field_named(it) for it in name.split("_to_"))
     is_image = image.modulus is not None
     field = image if is_image else source
-    contract, call = ("TakesImages", "from_tower") if is_image else ("TakesPreimages", "to_tower")
+    contract, change = ("TakesImages", "FromTower") if is_image else ("TakesPreimages", "ToTower")
     number = "wide_number" if field.word in WORDS else "itself"
     basis = f"(basis_image {field.bits} {field.basis}_modulus {field.basis}_images)"
-    called = called_over(field, f"slices::{call}")
+    called = called_over_words(field, "slices::change_basis", f"{WORDS.get(field.word, field.word)}, {change}<{field.kernel}>")
     return function(name, parameters, text, called, f"{contract} {number} {basis} values.now images.old images.new result")
 
 

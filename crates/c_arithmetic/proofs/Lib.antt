@@ -1,6 +1,7 @@
 mod ByteProducts
 pub mod BatchProducts
 mod ErasureCounts
+mod ErasureRestored
 mod FirstPlaces
 mod PlacesPut
 mod ScaledBytes

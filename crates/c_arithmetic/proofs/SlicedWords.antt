@@ -1,5 +1,5 @@
 -- Products and inverses in a level of the tower are those of a field that is this level.
-use Rattle.std.proofs.Common.{◌≡◌, ◌≢◌, ℕ, ◌<◌, ◌^◌, List, length, get_or, sym, ◌∙◌, ap₂, subst}
+use Rattle.std.proofs.Common.{◌≡◌, ℕ, ◌<◌, ◌^◌, List, length, get_or, sym, ◌∙◌, ap₂, subst}
 use Rattle.field_base.specs.Field.{IsInverseOrZero}
 use Rattle.field_base.specs.Tower.{tower_mul}
 use Rattle.c_arithmetic.specs.Calls.{EachOfTwo, HoldInverses}

@@ -108,14 +108,16 @@ module _ {W : Type 0} (field : WordField W) where
       (status ≡ OK) × (field.number new ≡ field.generator)
       × (field.width ≤ 16 → HasFullOrder field.width field.times field.generator)
 
+-- a call that writes one word for each word, whose numbers are related; every word is taken
+abbrev pub ChangesBasis : {W : Type 0} → (W → ℕ) → (ℕ → ℕ → Type 0) → List W → List W → List W → ℕ → Type 0
+ChangesBasis number relates xs old new status =
+    CallOf (length xs ≡ length old) (Unit {0})
+    ((k : ℕ) → k < length new → (d : _) → relates (number (get_or xs k d)) (number (get_or new k d))) old new status
+
 -- the images under a map between two fields of every word
 abbrev pub TakesImages : {W : Type 0} → (W → ℕ) → (ℕ → ℕ) → List W → List W → List W → ℕ → Type 0
-TakesImages number image xs old new status =
-    CallOf (length xs ≡ length old) (Unit {0})
-    ((k : ℕ) → k < length new → (d : _) → number (get_or new k d) ≡ image (number (get_or xs k d))) old new status
+TakesImages number image xs old new status = ChangesBasis number (λ x y. y ≡ image x) xs old new status
 
 -- the call back: each word has the word given as its image
 abbrev pub TakesPreimages : {W : Type 0} → (W → ℕ) → (ℕ → ℕ) → List W → List W → List W → ℕ → Type 0
-TakesPreimages number image xs old new status =
-    CallOf (length xs ≡ length old) (Unit {0})
-    ((k : ℕ) → k < length new → (d : _) → image (number (get_or new k d)) ≡ number (get_or xs k d)) old new status
+TakesPreimages number image xs old new status = ChangesBasis number (λ x y. image y ≡ x) xs old new status

@@ -1,6 +1,7 @@
 // Erasure codes by transforms, over words of a level of the tower. The shards of data, and those of parity, stand one after the other.
-ghost use Rattle.std.specs.Prelude.{◌≡◌, ◌*◌, ◌+◌, ◌^◌, ◌≤◌, ℕ, IfSome, IsNone, length};
+ghost use Rattle.std.specs.Prelude.{◌≡◌, ◌≢◌, ◌*◌, ◌+◌, ◌^◌, ◌<◌, ◌≤◌, ℕ, IfErr, IfOk, IfSome, IsNone, length};
 ghost use Rattle.c_arithmetic.specs.Erasure.{AreCounts, EncodesErasure, IsErasureCode, ReconstructsErasure, TellsSpace, VerifiesErasure};
+ghost use Rattle.c_arithmetic.specs.declared.status.TheConstants.{CODE, LENGTH, OK};
 
 use crate::shards::flags_of;
 use crate::status;
@@ -32,13 +33,10 @@ pub fn erasure_encode<R: StoredBytes, L: Level<R>>(
     ensures { EncodesErasure R.Stored.number R.ZERO L.LEVEL «data» parity shards.now parity_shards.old parity_shards.new
         (length space.old) result }
 {
-    let code = match code_of::<R, L>(data, parity) {
-        Some(code) => code,
-        None => return status::CODE,
+    let code = match code_within::<R, L>(data, parity, space.len()) {
+        Ok(code) => code,
+        Err(status) => return status,
     };
-    if space.len() < 5 * code.point_count() {
-        return status::LENGTH;
-    }
     match code.encode::<R, L>(space, shards, parity_shards) {
         Ok(()) => status::OK,
         Err(_) => status::LENGTH,
@@ -57,13 +55,10 @@ pub fn erasure_verify<R: StoredBytes, L: Level<R>>(
     ensures { VerifiesErasure R.Stored.number R.ZERO L.LEVEL «data» parity shards.now parity_shards.now (length space.old)
         whole.old whole.new result }
 {
-    let code = match code_of::<R, L>(data, parity) {
-        Some(code) => code,
-        None => return status::CODE,
+    let code = match code_within::<R, L>(data, parity, space.len()) {
+        Ok(code) => code,
+        Err(status) => return status,
     };
-    if space.len() < 5 * code.point_count() {
-        return status::LENGTH;
-    }
     match code.verify::<R, L>(space, shards, parity_shards) {
         Ok(is_whole) => {
             *whole = u8::from(is_whole);
@@ -85,9 +80,9 @@ pub fn erasure_reconstruct<R: StoredBytes, L: Level<R>>(
     ensures { ReconstructsErasure R.Stored.number R.ZERO L.LEVEL «data» parity present.now shards.old parity_shards.old shards.new
         parity_shards.new (length space.old) result }
 {
-    let code = match code_of::<R, L>(data, parity) {
-        Some(code) => code,
-        None => return status::CODE,
+    let code = match code_within::<R, L>(data, parity, space.len()) {
+        Ok(code) => code,
+        Err(status) => return status,
     };
     let total = code.data_shard_count() + code.parity_shard_count();
     if present.len() != total {
@@ -97,14 +92,35 @@ pub fn erasure_reconstruct<R: StoredBytes, L: Level<R>>(
         Ok(_) => {}
         Err(_) => return status::LENGTH,
     }
-    if space.len() < 5 * code.point_count() {
-        return status::LENGTH;
-    }
     let flags = flags_of::<65536>(present);
     match code.reconstruct::<R, L>(space, shards, parity_shards, &flags[..total]) {
         Ok(()) => status::OK,
         Err(_) => status::TOO_FEW_SHARDS,
     }
+}
+
+// The code, where its calls take no more than so many words of space, or the status of a call.
+fn code_within<R: StoredBytes, L: Level<R>>(
+    data: u64,
+    parity: u64,
+    space: usize,
+) -> Result<TransformCode, u32>
+    ensures made { IfOk result (λ code. (code.data_shards ≡ «data») × (code.parity_shards ≡ parity)
+        × (2 * 2 ^ code.all_levels ≤ 2 ^ 2 ^ L.LEVEL) × (5 * 2 ^ code.all_levels ≤ space)) }
+    ensures no_code { IfErr result (λ status. (n r : ℕ) → AreCounts «data» parity n r → ¬ IsErasureCode L.LEVEL «data» parity n r
+        → status ≡ CODE) }
+    ensures no_room { IfErr result (λ status. (n r : ℕ) → AreCounts «data» parity n r → IsErasureCode L.LEVEL «data» parity n r
+        → (status ≡ LENGTH) × (space < 5 * 2 ^ r)) }
+    ensures no_success { IfErr result (λ status. status ≢ OK) }
+{
+    let code = match code_of::<R, L>(data, parity) {
+        Some(code) => code,
+        None => return Err(status::CODE),
+    };
+    if space < 5 * code.point_count() {
+        return Err(status::LENGTH);
+    }
+    Ok(code)
 }
 
 // The code, where the level can restore its missing shards.

@@ -102,14 +102,9 @@ pub fn dot_product<R: Stored, W: Holds<R>, K: FieldKernel<R>>(left: &[W], right:
     let pair_count = left.len() / 2;
     'pairs: for pair in 0..pair_count {
         let at = 2 * pair;
-        (low, high) = K::add_two_products(
-            low,
-            high,
-            left[at].stored(),
-            left[at + 1].stored(),
-            right[at].stored(),
-            right[at + 1].stored(),
-        );
+        let (x, next_x) = (left[at].stored(), left[at + 1].stored());
+        let (y, next_y) = (right[at].stored(), right[at + 1].stored());
+        (low, high) = K::add_two_products(low, high, x, next_x, y, next_y);
     }
     'rest: for at in 2 * pair_count..left.len() {
         (low, high) = K::add_product(low, high, left[at].stored(), right[at].stored());

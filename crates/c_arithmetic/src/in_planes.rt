@@ -1,20 +1,16 @@
 // Arithmetic by one scalar on slices of words of a level of the tower, many words at once: in planes, of which each has a byte of each
 // word. The scalar's multiples are made once, and few words are multiplied one after another.
 ghost use Rattle.std.specs.Prelude.{◌≡◌, ◌<◌, ◌^◌, bit_xor, get_or, length};
-ghost use Rattle.std.proofs.Common.{lit≤};
 ghost use Rattle.c_arithmetic.specs.Calls.{AddsScaled, AreElements, MultipliesBy};
 ghost use Rattle.c_arithmetic.specs.Fields.{field_of};
-ghost use Rattle.c_arithmetic.specs.Places.{FirstHold, IsInPlanes, level_in_planes};
+ghost use Rattle.c_arithmetic.specs.Places.{FirstHold, IsInPlanes};
+
+mod impls;
 
 use crate::slices::are_elements;
-use crate::{Wide, fields, slices, status};
+use crate::{fields, slices, status};
 use field_base::{FieldKernel, Unsigned};
-use std::simd::prelude::*;
-use tower_transforms::{
-    ByteMultiples, HalfMultiples, Holds, Pair, PlaneScalars, WordBytes, WordPlanes, add_multiples,
-    multiply_words,
-};
-use word_tower::{Bits8, Bits16, Bits32, Bits64, Bits128, Tower};
+use tower_transforms::{Holds, PlaneScalars, WordBytes, WordPlanes, add_multiples, multiply_words};
 
 /// A field that is a level of the tower, its words, and the planes that it multiplies them in.
 pub trait FieldInPlanes<R: Unsigned>: FieldKernel<R> {
@@ -29,77 +25,6 @@ pub trait FieldInPlanes<R: Unsigned>: FieldKernel<R> {
 
     // The words are of this level.
     ghost level_law: { IsInPlanes Self.Vectors.Planes.depth Self.Word.size Self.width Self.product };
-}
-
-// The planes of words of 8 to 128 bits, thirty-two words at once, and the multiples of a scalar.
-type Planes8 = u8x32;
-
-type Planes16 = Pair<Planes8>;
-
-type Planes32 = Pair<Planes16>;
-
-type Planes64 = Pair<Planes32>;
-
-type Planes128 = Pair<Planes64>;
-
-type Multiples8 = ByteMultiples;
-
-type Multiples16 = HalfMultiples<Multiples8>;
-
-type Multiples32 = HalfMultiples<Multiples16>;
-
-type Multiples64 = HalfMultiples<Multiples32>;
-
-type Multiples128 = HalfMultiples<Multiples64>;
-
-impl FieldInPlanes<u8> for Tower<Bits8> {
-    type Word = u8;
-
-    type Multiples = Multiples8;
-
-    type Vectors = Planes8;
-
-    ghost level_law = { level_in_planes 0 (lit≤ tt) };
-}
-
-impl FieldInPlanes<u16> for Tower<Bits16> {
-    type Word = u16;
-
-    type Multiples = Multiples16;
-
-    type Vectors = Planes16;
-
-    ghost level_law = { level_in_planes 1 (lit≤ tt) };
-}
-
-impl FieldInPlanes<u32> for Tower<Bits32> {
-    type Word = u32;
-
-    type Multiples = Multiples32;
-
-    type Vectors = Planes32;
-
-    ghost level_law = { level_in_planes 2 (lit≤ tt) };
-}
-
-impl FieldInPlanes<u64> for Tower<Bits64> {
-    type Word = u64;
-
-    type Multiples = Multiples64;
-
-    type Vectors = Planes64;
-
-    ghost level_law = { level_in_planes 3 (lit≤ tt) };
-}
-
-impl FieldInPlanes<u128> for Tower<Bits128> {
-    type Word = Wide;
-
-    type Multiples = Multiples128;
-
-    type Vectors = Planes128;
-
-    ghost level_law = { level_in_planes 4 (lit≤ tt) };
 }
 
 /// The least number of words that are multiplied in planes.
@@ -128,21 +53,6 @@ pub fn multiply_by<R: Unsigned, K: FieldInPlanes<R>>(
     status::OK
 }
 
-/// Multiplies each word by the scalar.
-#[inline]
-pub fn multiply_by_in_place<R: Unsigned, K: FieldInPlanes<R>>(
-    words: &mut [K::Word],
-    scalar: K::Word,
-) -> u32
-    ensures { MultipliesBy (field_of K.Word.Holds.number K.width K.product K.generator) scalar words.old words.old words.new result }
-{
-    if !fields::is_element::<R, K::Word, K>(scalar) || !are_elements::<R, K::Word, K>(words) {
-        return status::NOT_AN_ELEMENT;
-    }
-    multiply_all::<R, K>(words, scalar);
-    status::OK
-}
-
 /// Adds to each sum the product of the scalar and the word at its place.
 #[inline]
 pub fn add_scaled<R: Unsigned, K: FieldInPlanes<R>>(
@@ -162,6 +72,21 @@ pub fn add_scaled<R: Unsigned, K: FieldInPlanes<R>>(
         return status::NOT_AN_ELEMENT;
     }
     add_all::<R, K>(sums, words, scalar);
+    status::OK
+}
+
+/// Multiplies each word by the scalar.
+#[inline]
+pub fn multiply_by_in_place<R: Unsigned, K: FieldInPlanes<R>>(
+    words: &mut [K::Word],
+    scalar: K::Word,
+) -> u32
+    ensures { MultipliesBy (field_of K.Word.Holds.number K.width K.product K.generator) scalar words.old words.old words.new result }
+{
+    if !fields::is_element::<R, K::Word, K>(scalar) || !are_elements::<R, K::Word, K>(words) {
+        return status::NOT_AN_ELEMENT;
+    }
+    multiply_all::<R, K>(words, scalar);
     status::OK
 }
 

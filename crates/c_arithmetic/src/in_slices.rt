@@ -5,13 +5,14 @@ ghost use Rattle.c_arithmetic.specs.Calls.{EachOfTwo, HoldInverses, Inverts, Mul
 ghost use Rattle.c_arithmetic.specs.Fields.{field_of};
 ghost use Rattle.c_arithmetic.specs.Places.{IsInSlices};
 
+mod impls;
+
 use crate::operations::{Inverse, Product};
 use crate::slices::are_elements;
-use crate::{Wide, in_place, slices, status};
+use crate::{in_place, slices, status};
 use bit_slices::{SlicedWord, Vector, invert_each, multiply_each};
 use field_base::{FieldKernel, Stored};
 use tower_transforms::Holds;
-use word_tower::{Bits16, Bits32, Bits64, Bits128, Tower};
 
 /// A field whose words are multiplied and inverted many at once, by slices of as many as a vector `V` has bits. A call at a field names these
 /// methods alone, and not the slices: naming them takes seconds in each function, and more with each level.
@@ -30,54 +31,6 @@ pub trait FieldInSlices<R: Stored, V: Vector>: FieldKernel<R> {
     fn invert_all(words: &mut [Self::Word])
         ensures long { length words.new ≡ length words.old }
         ensures inverses { HoldInverses (field_of Self.Word.Holds.number Self.width Self.product Self.generator) words.old words.new };
-}
-
-impl<V: Vector> FieldInSlices<u16, V> for Tower<Bits16> {
-    type Word = u16;
-
-    fn multiply_all(products: &mut [u16], words: &[u16]) {
-        multiply_words::<u16, u16, Tower<Bits16>, V>(products, words);
-    }
-
-    fn invert_all(words: &mut [u16]) {
-        invert_words::<u16, u16, Tower<Bits16>, V>(words);
-    }
-}
-
-impl<V: Vector> FieldInSlices<u32, V> for Tower<Bits32> {
-    type Word = u32;
-
-    fn multiply_all(products: &mut [u32], words: &[u32]) {
-        multiply_words::<u32, u32, Tower<Bits32>, V>(products, words);
-    }
-
-    fn invert_all(words: &mut [u32]) {
-        invert_words::<u32, u32, Tower<Bits32>, V>(words);
-    }
-}
-
-impl<V: Vector> FieldInSlices<u64, V> for Tower<Bits64> {
-    type Word = u64;
-
-    fn multiply_all(products: &mut [u64], words: &[u64]) {
-        multiply_words::<u64, u64, Tower<Bits64>, V>(products, words);
-    }
-
-    fn invert_all(words: &mut [u64]) {
-        invert_words::<u64, u64, Tower<Bits64>, V>(words);
-    }
-}
-
-impl<V: Vector> FieldInSlices<u128, V> for Tower<Bits128> {
-    type Word = Wide;
-
-    fn multiply_all(products: &mut [Wide], words: &[Wide]) {
-        multiply_words::<u128, Wide, Tower<Bits128>, V>(products, words);
-    }
-
-    fn invert_all(words: &mut [Wide]) {
-        invert_words::<u128, Wide, Tower<Bits128>, V>(words);
-    }
 }
 
 /// The least number of words that may pay in slices of bits: fewer are computed one after another, and neither copied first nor put in a block.

@@ -3,6 +3,7 @@
 //! status. On every status but `OK` what it would have written is as before. None takes memory.
 #![tactic(auto)]
 
+mod bases;
 mod batch;
 mod bytes;
 mod erasure;
@@ -10,7 +11,6 @@ mod fields;
 pub mod in_place;
 pub mod in_planes;
 pub mod in_slices;
-mod kernels;
 mod lanes;
 mod linear;
 mod messages;
@@ -27,10 +27,10 @@ mod wide;
 mod wide_level;
 mod words;
 
+pub use crate::bases::{ChangeOfBasis, FromTower, ToTower};
 pub use crate::batch::batch_invert;
 pub use crate::bytes::multiply_bytes;
 pub use crate::erasure::{erasure_encode, erasure_reconstruct, erasure_space, erasure_verify};
-pub use crate::kernels::Basis;
 pub use crate::linear::{map_bytes, map_wide};
 pub use crate::messages::{
     gcm_ghash, gcm_ghash_final, hash, hash_update, hash_update_padded, tags_are_equal,

@@ -2,11 +2,11 @@
 // lengths are compared first, then it is seen that all words are elements, and nothing is written before.
 ghost use Rattle.std.specs.Prelude.{◌≡◌, ◌↔◌, ◌*◌, ◌≤◌, IsTrue};
 ghost use Rattle.field_base.specs.Powers.{power, value_of};
-ghost use Rattle.c_arithmetic.specs.Calls.{AreElements, CallOnEach, CallOnTwo, Evaluates, MultipliesBy, NamesGenerator};
-ghost use Rattle.c_arithmetic.specs.Calls.{TakesDotProduct, TakesImages, TakesPreimages, TakesProduct};
+ghost use Rattle.c_arithmetic.specs.Calls.{AreElements, CallOnEach, CallOnTwo, ChangesBasis, Evaluates, MultipliesBy};
+ghost use Rattle.c_arithmetic.specs.Calls.{NamesGenerator, TakesDotProduct, TakesProduct};
 ghost use Rattle.c_arithmetic.specs.Fields.{field_of};
 
-use crate::kernels::Basis;
+use crate::bases::ChangeOfBasis;
 use crate::operations::{OnOne, OnTwo, Scaled};
 use crate::{fields, status};
 use field_base::{FieldKernel, Stored};
@@ -155,30 +155,19 @@ pub fn generator<R: Stored, W: Holds<R>, K: FieldKernel<R>>(generator: &mut W) -
     status::OK
 }
 
-/// Writes the polynomial that is the image of each element of the tower.
+/// Writes the image of each word under a change of basis.
 #[inline]
-pub fn from_tower<R: Stored, W: Holds<R>, K: Basis<R>>(words: &[W], images: &mut [W]) -> u32
-    ensures { TakesImages W.number K.image words.now images.old images.new result }
+pub fn change_basis<R: Stored, W: Holds<R>, C: ChangeOfBasis<R>>(
+    words: &[W],
+    images: &mut [W],
+) -> u32
+    ensures { ChangesBasis W.number C.relates words.now images.old images.new result }
 {
     if words.len() != images.len() {
         return status::LENGTH;
     }
     for place in 0..images.len() {
-        images[place] = W::of_stored(K::from_tower(words[place].stored()));
-    }
-    status::OK
-}
-
-/// Writes the element of the tower whose image each polynomial is.
-#[inline]
-pub fn to_tower<R: Stored, W: Holds<R>, K: Basis<R>>(words: &[W], elements: &mut [W]) -> u32
-    ensures { TakesPreimages W.number K.image words.now elements.old elements.new result }
-{
-    if words.len() != elements.len() {
-        return status::LENGTH;
-    }
-    for place in 0..elements.len() {
-        elements[place] = W::of_stored(K::to_tower(words[place].stored()));
+        images[place] = W::of_stored(C::change(words[place].stored()));
     }
     status::OK
 }

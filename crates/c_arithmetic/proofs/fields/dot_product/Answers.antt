@@ -12,8 +12,8 @@ pairs-preserved g c =
     c.index-right-at-in-pairs.is c.pairs.invariant
     (c.add_two_products.ensures
     ∙ ap₂ (λ (first second : ℕ). bit_xor (bit_xor (kernel.reduced c.pairs.low c.pairs.high) first) second)
-    (ap₂ kernel.product c.stored.ensures c.stored-in-pairs-2.ensures)
-    (ap₂ kernel.product c.stored-in-pairs.ensures c.stored-in-pairs-3.ensures))
+    (ap₂ kernel.product c.stored-x.ensures c.stored-y.ensures)
+    (ap₂ kernel.product c.stored-next_x.ensures c.stored-next_y.ensures))
 
 pub rest-preserved : goal.rest-preserved
 rest-preserved g c =
@@ -27,5 +27,5 @@ rest-preserved g c =
     (dot_of-drop kernel.product number c.args.left.now c.args.right.now c.rest.at x y within within_right
     c.index-left-at-in-rest.is c.index-right-at-in-rest.is)
     (c.add_product.ensures
-    ∙ ap₂ (λ (m n : ℕ). bit_xor (kernel.reduced c.rest.low c.rest.high) (kernel.product m n)) c.stored-in-rest.ensures
-    c.stored-in-rest-2.ensures)
+    ∙ ap₂ (λ (m n : ℕ). bit_xor (kernel.reduced c.rest.low c.rest.high) (kernel.product m n)) c.stored.ensures
+    c.stored-in-rest.ensures)

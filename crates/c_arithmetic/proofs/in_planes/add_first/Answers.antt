@@ -1,4 +1,4 @@
-use Rattle.std.proofs.Common.{ℕ, ◌^◌, ◌<◌, get_or, ap, subst}
+use Rattle.std.proofs.Common.{ℕ, ◌^◌, ◌<◌, get_or, subst}
 use Rattle.std.proofs.lemmas.Nat.{pow_pos}
 use Rattle.tower_transforms.specs.Rows.{level_of}
 use Rattle.c_arithmetic.proofs.FirstPlaces.{all_fit, first_added}

@@ -1,4 +1,4 @@
-use Rattle.std.proofs.Common.{◌≡◌, ℕ, ◌<◌, List, length, get_or, map, sym, ◌∙◌, ap, subst, arith}
+use Rattle.std.proofs.Common.{◌≡◌, ℕ, ◌<◌, List, length, get_or, map, sym, ◌∙◌, ap, subst}
 use Rattle.std.specs.Simd.Lanes.{zip2}
 use Rattle.c_arithmetic.specs.Fields.{wide_number}
 use Rattle.c_arithmetic.specs.declared.wide.Wide.{Wide}

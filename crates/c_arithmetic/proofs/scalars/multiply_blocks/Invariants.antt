@@ -1,4 +1,4 @@
-use Rattle.std.proofs.Common.{◌≡◌, ◌-◌, get_or, length}
+use Rattle.std.proofs.Common.{◌≡◌, ◌-◌, length}
 use Rattle.c_arithmetic.specs.Fields.{wide_number}
 use Rattle.ghash_slices.specs.LowStages.{ghash_product}
 use Rattle.c_arithmetic.proofs.PlacesPut.{AreRelated}

@@ -1,0 +1,104 @@
+#!/usr/bin/env python3
+"""Writes what a call over words of a level of the tower computes them in: planes of bytes, and slices of bits (c_arithmetic)."""
+
+from string import Template
+
+import fields
+from impls import keep_all
+
+# The levels that calls compute many words of at once, by their bits.
+LEVELS = [it.bits for it in fields.FIELDS if it.level is not None and it.bits >= 8]
+
+# The tower's highest level, whose words cross to other languages as two of 64 bits.
+WIDE = 128
+
+
+def word(bits):
+    """The word in which an element of the level crosses to other languages."""
+    return "Wide" if bits == WIDE else f"u{bits}"
+
+
+# ---- planes
+
+PLANES_HEAD = """\
+// The levels of 8 to 128 bits by their planes of bytes, thirty-two words at once, and by the multiples of a scalar. Those of a level
+// are made of those of the level below.
+ghost use Rattle.std.proofs.Common.{lit≤};
+ghost use Rattle.c_arithmetic.specs.Places.{level_in_planes};
+
+use super::FieldInPlanes;
+use crate::Wide;
+use std::simd::prelude::*;
+use tower_transforms::{ByteMultiples, HalfMultiples, Pair};
+use word_tower::{Bits8, Bits16, Bits32, Bits64, Bits128, Tower};
+"""
+
+PLANES = Template("""\
+type Planes$bits = $planes;
+
+type Multiples$bits = $multiples;
+""")
+
+IN_PLANES = Template("""\
+impl FieldInPlanes<u$bits> for Tower<Bits$bits> {
+    type Word = $word;
+
+    type Multiples = Multiples$bits;
+
+    type Vectors = Planes$bits;
+
+    ghost level_law = { level_in_planes $depth (lit≤ tt) };
+}
+""")
+
+
+def in_planes():
+    yield PLANES_HEAD
+    for bits in LEVELS:
+        half = bits // 2
+        planes = "u8x32" if bits == 8 else f"Pair<Planes{half}>"
+        multiples = "ByteMultiples" if bits == 8 else f"HalfMultiples<Multiples{half}>"
+        yield PLANES.substitute(bits=bits, planes=planes, multiples=multiples)
+    for depth, bits in enumerate(LEVELS):
+        yield IN_PLANES.substitute(bits=bits, word=word(bits), depth=depth)
+
+
+# ---- slices of bits
+
+SLICES_HEAD = """\
+// The levels of 16 to 128 bits by slices of bits.
+use super::{FieldInSlices, invert_words, multiply_words};
+use crate::Wide;
+use bit_slices::Vector;
+use word_tower::{Bits16, Bits32, Bits64, Bits128, Tower};
+"""
+
+IN_SLICES = Template("""\
+impl<V: Vector> FieldInSlices<u$bits, V> for Tower<Bits$bits> {
+    type Word = $word;
+
+    fn multiply_all(products: &mut [$word], words: &[$word]) {
+        multiply_words::<u$bits, $word, Tower<Bits$bits>, V>(products, words);
+    }
+
+    fn invert_all(words: &mut [$word]) {
+        invert_words::<u$bits, $word, Tower<Bits$bits>, V>(words);
+    }
+}
+""")
+
+
+def in_slices():
+    yield SLICES_HEAD
+    for bits in LEVELS[1:]:
+        yield IN_SLICES.substitute(bits=bits, word=word(bits))
+
+
+if __name__ == "__main__":
+    keep_all(
+        "make_call_impls.py",
+        {
+            "c_arithmetic/src/in_planes/impls.rt": in_planes,
+            "c_arithmetic/src/in_slices/impls.rt": in_slices,
+        },
+    )
