@@ -1,8 +1,11 @@
 // Matrices of bytes: the inverse of the matrix of MixColumns, which is that of InvMixColumns (FIPS 197, sections 5.1.3 and 5.3.3),
-// equations with a solution and with none, a product of rectangular matrices, and the pivots of a matrix of rank 1.
+// determinants of such turned rows, equations with a solution and with none, a product of rectangular matrices, and the pivots of a matrix of
+// rank 1.
 use field_base::traits::{PrimeCharacteristicRing, TowerLevel};
 use field_element::Rijndael8b;
-use field_slices::matrices::{Elements, invert_beside, multiply_into, row_reduce, solve_augmented};
+use field_slices::matrices::{
+    Elements, determinant, invert_beside, multiply_into, row_reduce, solve_augmented,
+};
 
 /// The first rows of the matrices of MixColumns and of InvMixColumns, each of whose rows is the one above, turned by a place.
 static MIXING: [u8; 4] = [0x02, 0x03, 0x01, 0x01];
@@ -27,6 +30,17 @@ fn mixing_is_inverted() -> bool {
         }
     }
     found
+}
+
+/// Whether the matrix of a first row, each of whose rows is the one above, turned by a place, has this determinant. That is the fourth
+/// power of the sum of the row: the product of the values of its polynomial at the roots of x^4 + 1, which is (x + 1)^4.
+fn turned_rows_have_determinant(first_row: [u8; 4], wanted: u8) -> bool {
+    let mut matrix = [Rijndael8b::ZERO; 16];
+    for place in 0..16 {
+        let row = place / 4;
+        matrix[place] = Rijndael8b::from_repr(first_row[(place + 3 * row) % 4]);
+    }
+    determinant::<Elements<Rijndael8b>>(&mut matrix, 4) == Rijndael8b::from_repr(wanted)
 }
 
 fn byte(repr: u8) -> Rijndael8b {
@@ -89,4 +103,14 @@ fn a_matrix_is_inverted_and_equations_are_solved(rt: HostRuntime) {
 #[test]
 fn a_product_and_a_rank(rt: HostRuntime) {
     assert!(rt; rows_are_multiplied() && rows_of_rank_one_are_reduced());
+}
+
+// 0x02 + 0x03 + 0x01 + 0x01 = 1; 0 + 1 + 2 + 7 = 4, whose fourth power is x^8; and 1 + 2 + 3 + 0 = 0.
+#[test]
+fn determinants_of_turned_rows(rt: HostRuntime) {
+    assert!(rt;
+        turned_rows_have_determinant(MIXING, 1)
+            && turned_rows_have_determinant([0, 1, 2, 7], 0x1b)
+            && turned_rows_have_determinant([1, 2, 3, 0], 0)
+    );
 }
