@@ -21,7 +21,9 @@ pub struct Shape {
     pub bits: usize,
     ghost few: { rounds ≤ 39 },
     ghost rows_are: { rows ≡ rows_of rounds },
+    ghost few_rows: { rows ≤ 16 },
     ghost levels_are: { levels ≡ levels_of rounds },
+    ghost few_levels: { levels ≤ 24 },
     ghost bits_are: { bits ≡ block_bits rounds },
 }
 

@@ -4,10 +4,8 @@ ghost use Rattle.field_bytes.specs.Streams.{joined_bytes};
 ghost use Rattle.field_element.specs.Element.{repr_of};
 ghost use Rattle.transcript_bytes.specs.HashChallengers.{hash_state};
 ghost use Rattle.transcript_elements.specs.Challengers.{inner_of};
-ghost use Rattle.protocols.specs.Commitments.{IsTreeOver, row_at};
-ghost use Rattle.protocols.specs.MerkleTrees.{rows_root};
-ghost use Rattle.prove_sums.specs.ProofFiles.{file_bytes};
-ghost use Rattle.prove_sums.specs.Shapes.{rows_of};
+ghost use Rattle.protocols.specs.{Commitments.{IsTreeOver, row_at}, MerkleTrees.{rows_root}};
+ghost use Rattle.prove_sums.specs.{ProofFiles.{file_bytes}, Shapes.{rows_of}};
 ghost use Rattle.prove_sums.specs.Verdicts.{word_times, word_vector, HoldsTable, IsHonestSum, IsSumVerdict};
 
 use crate::proof_file::{Proof, encode};
