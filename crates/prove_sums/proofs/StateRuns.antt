@@ -4,7 +4,7 @@ use Rattle.transcript_elements.specs.Lists.{InTurn}
 use Rattle.protocols.specs.Queries.{AreQueries}
 use Rattle.protocols.specs.Sumcheck.{AreTurns, IsRunOf, IsTurn, Statement, messages_of}
 use Rattle.prove_sums.specs.Shapes.{block_bits, messages_in, rows_in, sum_in, witness_in}
-use Rattle.prove_sums.specs.Verdicts.{DrawsPlaces, IsHonestProof, IsVerdict, sum_statement, work_bits}
+use Rattle.prove_sums.specs.Verdicts.{DrawsPlaces, IsHonestProof, IsReduced, IsSummed, IsVerdict, sum_statement, work_bits}
 
 module _ {C S : Type 0} (state : C → S) where
   -- steps in turn, as steps of the states
@@ -54,17 +54,27 @@ module _ {C S : Type 0} (state : C → S) where
             (λ from place to is. bits_by from (block_bits n) place to is) places all.0 new all.3,
       )
 
-      draws-on_states : (old new : C) (works : Bool) (places : List ℕ)
-          → DrawsPlaces observes gives passing checks gives_bits number n elements old works places new
-          → DrawsPlaces observed given passed checked given_bits number n elements (state old) works places (state new)
-      draws-on_states old new works places drawn = record {
+      draws-on_states : (rows : List F) (witness : ℕ) (old new : C) (works : Bool) (places : List ℕ)
+          → DrawsPlaces observes gives passing checks gives_bits n rows witness old works places new
+          → DrawsPlaces observed given passed checked given_bits n rows witness (state old) works places (state new)
+      draws-on_states rows witness old new works places drawn = record {
         challenge = drawn.challenge;
         sent = state drawn.sent;
         numbers = drawn.numbers;
-        turn = turn (rows_in n elements) drawn.challenge old drawn.sent drawn.turn;
-        queries = queries drawn.sent new (witness_in number n elements) works drawn.numbers drawn.queries;
+        turn = turn rows drawn.challenge old drawn.sent drawn.turn;
+        queries = queries drawn.sent new witness works drawn.numbers drawn.queries;
         count = drawn.count;
         chosen = drawn.chosen;
+      }
+
+      reduced-on_states : (width : ℕ) (times : ℕ → ℕ → ℕ) (old new : C) (point : List F) (claim : ℕ)
+          → IsReduced observes gives repr width times n elements old point claim new
+          → IsReduced observed given repr width times n elements (state old) point claim (state new)
+      reduced-on_states width times old new point claim reduced = record {
+        run = run-on_states repr old new (sum_statement width times n (sum_in repr elements)) (messages_of 2 n (messages_in n elements)) point
+            reduced.run;
+        left = reduced.left;
+        challenge_count = reduced.challenge_count;
       }
 
       pub verdict-on_states : (hash : List ℕ → List ℕ) (size width : ℕ) (times : ℕ → ℕ → ℕ) (vector : ℕ → ℕ) (left right : List ℕ)
@@ -80,44 +90,40 @@ module _ {C S : Type 0} (state : C → S) where
             places = verdict.places;
             between = state verdict.between;
             new = state verdict.new;
-            reduced = record {
-              run = run-on_states repr old verdict.between (sum_statement width times n (sum_in repr elements))
-                  (messages_of 2 n (messages_in n elements)) verdict.point verdict.reduced.run;
-              left = verdict.reduced.left;
-              challenge_count = verdict.reduced.challenge_count;
-            };
-            drawn = draws-on_states verdict.between verdict.new verdict.works verdict.places verdict.drawn;
+            reduced = reduced-on_states width times old verdict.between verdict.point verdict.claim verdict.reduced;
+            drawn = draws-on_states (rows_in n elements) (witness_in number n elements) verdict.between verdict.new verdict.works verdict.places
+                verdict.drawn;
             decided = verdict.decided;
           })
+
+      summed-on_states : (width : ℕ) (times : ℕ → ℕ → ℕ) (left right : List F) (old new : C) (sum : F) (messages point : List F)
+          → IsSummed observes gives repr width times n left right old sum messages point new
+          → IsSummed observed given repr width times n left right (state old) sum messages point (state new)
+      summed-on_states width times left right old new sum messages point summed = record {
+        run = run-on_states repr old new (sum_statement width times n (repr sum)) (messages_of 2 n messages) point summed.run;
+        total = summed.total;
+        honest = summed.honest;
+        message_count = summed.message_count;
+        challenge_count = summed.challenge_count;
+      }
 
       pub honest-on_states : (width : ℕ) (times : ℕ → ℕ → ℕ) (left right left_columns right_columns : List F) (old : C) (begun : S)
           → state old ≡ begun
           → IsHonestProof observes gives passing checks gives_bits number repr width times n left right left_columns right_columns elements old
           → IsHonestProof observed given passed checked given_bits number repr width times n left right left_columns right_columns elements begun
       honest-on_states width times left right left_columns right_columns old begun is honest =
+          let parts = honest.parts in
           subst (λ (s : S). IsHonestProof observed given passed checked given_bits number repr width times n left right left_columns right_columns elements s) is
           (record {
-            sum = honest.sum;
-            messages = honest.messages;
+            parts = parts;
             point = honest.point;
-            rows = honest.rows;
-            challenge = honest.challenge;
-            witness = honest.witness;
-            numbers = honest.numbers;
-            columns = honest.columns;
+            places = honest.places;
             between = state honest.between;
-            sent = state honest.sent;
             new = state honest.new;
-            summed = record {
-              run = run-on_states repr old honest.between (sum_statement width times n (repr honest.sum)) (messages_of 2 n honest.messages)
-                  honest.point honest.summed.run;
-              total = honest.summed.total;
-              honest = honest.summed.honest;
-              message_count = honest.summed.message_count;
-              challenge_count = honest.summed.challenge_count;
-            };
+            summed = summed-on_states width times left right old honest.between parts.sum parts.messages honest.point honest.summed;
             rows_are = honest.rows_are;
-            turn = turn honest.rows honest.challenge honest.between honest.sent honest.turn;
-            queries = queries honest.sent honest.new (number honest.witness) true honest.numbers honest.queries;
+            drawn = draws-on_states parts.rows (number parts.witness) honest.between honest.new true honest.places honest.drawn;
+            left_opened = honest.left_opened;
+            right_opened = honest.right_opened;
             written = honest.written;
           })

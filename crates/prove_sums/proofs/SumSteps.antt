@@ -1,10 +1,13 @@
 -- The terms of a sum of products of two tables, and what their proofs say.
 use Rattle.std.proofs.Common.{◌≡◌, ◌↔◌, ℕ, zero, suc, ◌*◌, ◌<◌, Bool, true, false, List, [], ◌∷◌, ◌++◌, append_assoc, length, map, drop, get_or, refl, sym, ◌∙◌, ap, subst, arith}
 use Rattle.std.specs.Prelude.{IsTrue, None, Option, Some, is_some, slice_index}
+use Rattle.transcript_elements.specs.Lists.{InTurn}
+use Rattle.protocols.specs.Queries.{AreQueries}
 use Rattle.protocols.specs.Sumcheck.{AreTurns, IsRunOf, messages_of, statement_of}
 use Rattle.protocols.specs.SumcheckClaims.{AreHonestMessages, reduced_claim}
 use Rattle.protocols.specs.Terms.{AreWithin, Product, cube_sum, degree_of}
-use Rattle.prove_sums.specs.Verdicts.{interleaved, product_terms, sum_statement}
+use Rattle.prove_sums.specs.Shapes.{block_bits, block_count, places_of}
+use Rattle.prove_sums.specs.Verdicts.{DrawsPlaces, interleaved, product_terms, sum_statement, work_bits}
 
 -- ---- the terms
 
@@ -115,6 +118,25 @@ pub run-length : {C F : Type 0} (observes gives : C → F → C → Type 0) (d r
     → AreTurns observes gives begun (messages_of d rounds messages) challenges new → length challenges ≡ rounds
 run-length observes gives d rounds messages challenges begun new turns =
     turns-length observes gives (messages_of d rounds messages) challenges begun new turns ∙ messages-length d rounds messages
+
+-- places that are drawn by numbers of `bits` bits, behind what was read as rows and as a witness
+pub places-drawn : {C F : Type 0} (observes gives : C → F → C → Type 0) (passing : C → ℕ → ℕ → Bool) (checks gives_bits : C → ℕ → ℕ → C → Type 0)
+    (n : ℕ) (numbers : List ℕ) {bits witness number : ℕ} {read rows : List F} {works : Bool} {places : List ℕ} {old turned sent new : C} {challenge : F}
+    → read ≡ rows → witness ≡ number → bits ≡ block_bits n → InTurn observes read old turned → gives turned challenge sent
+    → AreQueries passing checks gives_bits sent work_bits witness works bits numbers new → length numbers ≡ block_count n
+    → places ≡ places_of (block_bits n) numbers → DrawsPlaces observes gives passing checks gives_bits n rows number old works places new
+places-drawn observes gives passing checks gives_bits n numbers {bits} {witness} {number} {read} {rows} {works} {places} {old} {turned} {sent} {new}
+    {challenge} are is_number are_bits observed given queries count chosen = record {
+      challenge = challenge;
+      sent = sent;
+      numbers = numbers;
+      turn = (turned, subst (λ (l : List _). InTurn observes l old turned) are observed, given);
+      queries =
+          subst (λ (b : ℕ). AreQueries passing checks gives_bits sent work_bits number works b numbers new) are_bits
+          (subst (λ (w : ℕ). AreQueries passing checks gives_bits sent work_bits w works bits numbers new) is_number queries);
+      count = count;
+      chosen = chosen;
+    }
 
 -- four tests that hold together
 pub all-decided : {all one two three four : Bool} {B C D : Type 0} → IsTrue all ↔ (IsTrue one × IsTrue two × IsTrue three × IsTrue four)

@@ -1,6 +1,6 @@
 -- What is proved of two tables, and what a verifier says of a proof, over elements and bytes alone. Elements have numbers by `repr`, the sum is
 -- `bit_xor` and the product `times`. `hash` and `digest` are hash functions.
-use Rattle.std.specs.Prelude.{◌≡◌, ◌≢◌, ◌↔◌, ℕ, ◌*◌, ◌^◌, ◌<◌, ◌≤◌, Bool, true, false, List, [], ◌∷◌, ◌++◌, length, map, take, drop, IsTrue}
+use Rattle.std.specs.Prelude.{◌≡◌, ◌≢◌, ◌↔◌, ℕ, ◌*◌, ◌^◌, ◌<◌, ◌≤◌, Bool, true, false, List, [], ◌∷◌, ◌++◌, length, map, take, drop, slice_index, IsTrue}
 use Rattle.std.specs.List.{range_with_len}
 use Rattle.std.specs.declared.option.Option.{Option}
 use Rattle.std.specs.declared.option.Option.TheVariants.{None, Some}
@@ -68,16 +68,16 @@ pub record IsReduced {C F : Type 0} (observes gives : C → F → C → Type 0) 
 abbrev pub work_bits : ℕ
 work_bits = 16
 
--- both rows are observed and a challenge is sampled, a witness is checked, which says whether it works, and then places are sampled, a number
--- for each block
+-- rows are observed and a challenge is sampled, a witness is checked, which says whether it works, and then places are sampled, a number for
+-- each block
 pub record DrawsPlaces {C F : Type 0} (observes gives : C → F → C → Type 0) (passing : C → ℕ → ℕ → Bool)
-    (checks : C → ℕ → ℕ → C → Type 0) (gives_bits : C → ℕ → ℕ → C → Type 0) (number : F → ℕ) (n : ℕ) (elements : List F) (old : C)
+    (checks : C → ℕ → ℕ → C → Type 0) (gives_bits : C → ℕ → ℕ → C → Type 0) (n : ℕ) (rows : List F) (witness : ℕ) (old : C)
     (works : Bool) (places : List ℕ) (new : C) : Type 0 where
   pub challenge : F
   pub sent : C
   pub numbers : List ℕ
-  pub turn : IsTurn observes gives old (rows_in n elements) challenge sent
-  pub queries : AreQueries passing checks gives_bits sent work_bits (witness_in number n elements) works (block_bits n) numbers new
+  pub turn : IsTurn observes gives old rows challenge sent
+  pub queries : AreQueries passing checks gives_bits sent work_bits witness works (block_bits n) numbers new
   pub count : length numbers ≡ block_count n
   pub chosen : places ≡ places_of (block_bits n) numbers
 
@@ -107,7 +107,7 @@ pub record IsVerdict {C F : Type 0} (observes gives : C → F → C → Type 0) 
   pub between : C
   pub new : C
   pub reduced : IsReduced observes gives repr width times n elements old point claim between
-  pub drawn : DrawsPlaces observes gives passing checks gives_bits number n elements between works places new
+  pub drawn : DrawsPlaces observes gives passing checks gives_bits n (rows_in n elements) (witness_in number n elements) between works places new
   pub decided : IsTrue accepted
       ↔ IsTrue works
       × IsProductAt repr times n elements (drop (rows_of n) point) claim
@@ -128,28 +128,42 @@ abbrev pub values_at : {F : Type 0} → (F → ℕ) → (ℕ → ℕ → ℕ) �
 values_at repr times n columns point =
     map (λ p. multilinear_value times (map repr (row_at (2 ^ length point) columns p)) (map repr point)) (range_with_len 0 (row_size n))
 
+-- these columns, of `height` elements each and one after the other, are those of a table at these places
+abbrev pub AreColumnsAt : {F : Type 0} → ℕ → List F → List ℕ → List F → Type 0
+AreColumnsAt height columns places chosen =
+    (length chosen ≡ length places * height)
+    × ((i : ℕ) → i < length places → row_at height chosen i ≡ row_at height columns (slice_index places i))
+
+-- what a prover sends beside nodes: a sum, messages, a witness of work, both tables' rows, and the columns of each that are opened
+pub record SentParts (F : Type 0) : Type 0 where
+  pub sum : F
+  pub messages : List F
+  pub witness : F
+  pub rows : List F
+  pub left : List F
+  pub right : List F
+
+-- .. as elements, one after the other
+abbrev pub sent_elements : {F : Type 0} → SentParts F → List F
+sent_elements parts = parts.sum ∷ parts.messages ++ (parts.witness ∷ parts.rows ++ (parts.left ++ parts.right))
+
 -- What an honest prover sends of two tables: the sum of their products, its messages, a witness that works, the values of both tables' columns,
--- and columns.
+-- and the columns of both at the places that are drawn after these.
 pub record IsHonestProof {C F : Type 0} (observes gives : C → F → C → Type 0) (passing : C → ℕ → ℕ → Bool)
     (checks : C → ℕ → ℕ → C → Type 0) (gives_bits : C → ℕ → ℕ → C → Type 0) (number repr : F → ℕ) (width : ℕ) (times : ℕ → ℕ → ℕ)
     (n : ℕ) (left right left_columns right_columns elements : List F) (old : C) : Type 0 where
-  pub sum : F
-  pub messages : List F
+  pub parts : SentParts F
   pub point : List F
-  pub rows : List F
-  pub challenge : F
-  pub witness : F
-  pub numbers : List ℕ
-  pub columns : List F
+  pub places : List ℕ
   pub between : C
-  pub sent : C
   pub new : C
-  pub summed : IsSummed observes gives repr width times n left right old sum messages point between
-  pub rows_are : map repr rows ≡ values_at repr times n left_columns (take (rows_of n) point)
+  pub summed : IsSummed observes gives repr width times n left right old parts.sum parts.messages point between
+  pub rows_are : map repr parts.rows ≡ values_at repr times n left_columns (take (rows_of n) point)
       ++ values_at repr times n right_columns (take (rows_of n) point)
-  pub turn : IsTurn observes gives between rows challenge sent
-  pub queries : AreQueries passing checks gives_bits sent work_bits (number witness) true (block_bits n) numbers new
-  pub written : elements ≡ sum ∷ messages ++ (witness ∷ rows ++ columns)
+  pub drawn : DrawsPlaces observes gives passing checks gives_bits n parts.rows (number parts.witness) between true places new
+  pub left_opened : AreColumnsAt (2 ^ rows_of n) left_columns places parts.left
+  pub right_opened : AreColumnsAt (2 ^ rows_of n) right_columns places parts.right
+  pub written : elements ≡ sent_elements parts
 
 -- ---- in the field of GHASH, and in a transcript over a hash function
 

@@ -5,7 +5,7 @@ ghost use Rattle.field_bytes.specs.Streams.{joined_bytes};
 ghost use Rattle.protocols.specs.Commitments.{IsTreeOver, row_at};
 ghost use Rattle.protocols.specs.Openings.{AreAscending};
 ghost use Rattle.prove_sums.specs.Shapes.{depth_of, row_size, rows_of};
-ghost use Rattle.prove_sums.specs.Verdicts.{HoldsTable, IsHonestProof, values_at};
+ghost use Rattle.prove_sums.specs.Verdicts.{AreColumnsAt, HoldsTable, IsHonestProof, values_at};
 
 use crate::shapes::{EXPANSION, Shape};
 use crate::sums;
@@ -144,7 +144,8 @@ fn open<F: ByteLevel>(
     requires holds { HoldsTable F.repr F.width F.product (λ i. F.basis (F.cantor i)) shape.now.rounds table.now.elements.items
         table.now.held.columns.items table.now.held.tree }
     requires places { AreAscending (2 ^ depth_of shape.now.rounds) places.now }
-    ensures { OnOk result ((columns : List F) × (elements.new.items ≡ elements.old.items ++ columns)) }
+    ensures { OnOk result ((columns : List F) × (elements.new.items ≡ elements.old.items ++ columns)
+        × AreColumnsAt (2 ^ rows_of shape.now.rounds) table.now.held.columns.items places.now columns) }
 {
     let columns = columns_at(alloc, table.held.columns.as_slice(), shape.height(), places)?;
     elements.extend_from_slice(columns.as_slice())?;

@@ -1,7 +1,7 @@
 // The verifier of a sum of products of two tables, of which it has the commitments alone.
 ghost use Rattle.std.specs.Prelude.{◌≡◌, ◌↔◌, ◌+◌, ◌*◌, ◌^◌, ◌≤◌, ◌<◌, length, map, IfOk, IsTrue};
 ghost use Rattle.field_slices.specs.Multilinear.{multilinear_value};
-ghost use Rattle.prove_sums.specs.Shapes.{block_count, columns_size, element_count, levels_of, row_in, rows_of};
+ghost use Rattle.prove_sums.specs.Shapes.{block_count, columns_size, element_count, levels_of, row_in, rows_in, rows_of, witness_in};
 ghost use Rattle.prove_sums.specs.Verdicts.{DrawsPlaces, IsProductAt, IsVerdict, OpensTable};
 
 use crate::shapes::{EXPANSION, Shape, part};
@@ -73,8 +73,9 @@ fn sample_places<
     elements: &[F],
 ) -> Result<(bool, Vec<usize>), ProtocolError>
     requires { length elements.now ≡ element_count shape.now.rounds }
-    ensures { IfOk result (λ drawn. DrawsPlaces C.observes C.gives C.passing C.checks C.gives_bits C.number shape.now.rounds elements.now
-        challenger.old drawn.0 drawn.1.items challenger.new) }
+    ensures { IfOk result (λ drawn. DrawsPlaces C.observes C.gives C.passing C.checks C.gives_bits shape.now.rounds
+        (rows_in shape.now.rounds elements.now) (witness_in C.number shape.now.rounds elements.now) challenger.old drawn.0 drawn.1.items
+        challenger.new) }
 {
     let rows = part(elements, 2 * shape.rounds + 2, 2 * shape.row_size());
     challenger.observe_slice(rows)?;

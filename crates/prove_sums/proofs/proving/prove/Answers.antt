@@ -1,11 +1,9 @@
-use Rattle.std.proofs.Common.{◌≡◌, ◌++◌, ◌^◌, true, ℕ, List, length, take, sym, ◌∙◌, ap, subst}
-use Rattle.transcript_elements.specs.Lists.{InTurn}
+use Rattle.std.proofs.Common.{◌≡◌, ◌++◌, ◌^◌, ℕ, List, length, take, refl, sym, ◌∙◌, ap, subst}
 use Rattle.protocols.specs.Openings.{AreAscending}
-use Rattle.protocols.specs.Queries.{AreQueries}
-use Rattle.prove_sums.specs.Shapes.{depth_of, rows_of}
-use Rattle.prove_sums.specs.Verdicts.{IsSummed, values_at}
+use Rattle.prove_sums.specs.Shapes.{block_bits, depth_of, places_of, rows_of}
+use Rattle.prove_sums.specs.Verdicts.{AreColumnsAt, IsSummed, values_at}
 use Rattle.prove_sums.proofs.Sizes.{ascending}
-use Rattle.prove_sums.proofs.SumSteps.{elements-listed}
+use Rattle.prove_sums.proofs.SumSteps.{elements-listed, places-drawn}
 use Rattle.prove_sums.proofs.proving.prove.Goals as goal
 
 pub open-requires-clause-places : goal.open-requires-clause-places
@@ -35,16 +33,17 @@ returns g c =
     IsSummed g.C.CanObserve.observes g.C.CanSample.gives field.repr field.width field.product n one other c.args.challenger.now summed.sum
     summed.messages.items summed.point.items c.prove.new.challenger in
     record {
-      sum = summed.sum;
-      messages = summed.messages.items;
+      parts = record {
+        sum = summed.sum;
+        messages = summed.messages.items;
+        witness = c.in_ok-witness.witness;
+        rows = c.in_ok-rows.rows.items;
+        left = c.in_ok-open.ensures.0;
+        right = c.in_ok-open-2.ensures.0;
+      };
       point = summed.point.items;
-      rows = c.in_ok-rows.rows.items;
-      challenge = c.in_ok-_challenge._challenge;
-      witness = c.in_ok-witness.witness;
-      numbers = c.in_ok-witness.numbers.items;
-      columns = c.in_ok-open.ensures.0 ++ c.in_ok-open-2.ensures.0;
+      places = c.in_ok-places.places.items;
       between = c.prove.new.challenger;
-      sent = c.sample.new.self;
       new = c.draw_queries.new.challenger;
       summed =
           subst (λ (l : List _). says l right.elements.items) c.as_slice-one.ensures.value
@@ -53,16 +52,17 @@ returns g c =
           c.in_ok-rows.ensures
           ∙ ap (λ (p : List _). values_at field.repr field.product n left.held.columns.items p
           ++ values_at field.repr field.product n right.held.columns.items p) point;
-      turn = (
-        c.observe_slice.new.self,
-        subst (λ (l : List _). InTurn g.C.CanObserve.observes l c.prove.new.challenger c.observe_slice.new.self) c.as_slice-rows.ensures.value
-            c.in_ok-observe_slice.ensures.ok,
-        c.in_ok-_challenge.ensures.ok,
-      );
-      queries =
-          subst (λ (b : ℕ). AreQueries g.C.GrindingChallenger.passing g.C.GrindingChallenger.checks g.C.CanSampleBits.gives_bits c.sample.new.self 16
-          (g.C.GrindingChallenger.number c.in_ok-witness.witness) true b c.in_ok-witness.numbers.items c.draw_queries.new.challenger) shape.bits_are
-          c.in_ok-witness.ensures.drawn;
+      drawn =
+          places-drawn g.C.CanObserve.observes g.C.CanSample.gives g.C.GrindingChallenger.passing g.C.GrindingChallenger.checks
+          g.C.CanSampleBits.gives_bits n c.in_ok-witness.numbers.items c.as_slice-rows.ensures.value refl shape.bits_are c.in_ok-observe_slice.ensures.ok
+          c.in_ok-_challenge.ensures.ok c.in_ok-witness.ensures.drawn (c.in_ok-witness.ensures.count ∙ c.block_count-count.ensures.count)
+          (c.in_ok-places.ensures ∙ ap (places_of (block_bits n)) c.as_slice-2.ensures.value);
+      left_opened =
+          subst (λ (ps : List ℕ). AreColumnsAt (2 ^ rows_of n) left.held.columns.items ps c.in_ok-open.ensures.0) c.as_slice-4.ensures.value
+          c.in_ok-open.ensures.2;
+      right_opened =
+          subst (λ (ps : List ℕ). AreColumnsAt (2 ^ rows_of n) right.held.columns.items ps c.in_ok-open-2.ensures.0) c.as_slice-5.ensures.value
+          c.in_ok-open-2.ensures.2;
       written =
           elements-listed c.in_ok-open.ensures.0 c.in_ok-open-2.ensures.0 summed.sum c.in_ok-witness.witness c.new-elements.ensures.items c.in_ok-push.ensures.items c.in_ok-extend_from_slice.ensures.items
           c.as_slice-3.ensures.value c.in_ok-push-2.ensures.items c.in_ok-extend_from_slice-2.ensures.items c.as_slice-rows.ensures.value
