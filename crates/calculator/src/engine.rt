@@ -111,7 +111,7 @@ fn end_line<A: Allocator, W: Write>(
     outbox: &mut Outbox,
     writer: &mut Watched<W>,
 ) -> Result<(), RunError>
-    requires { has_failed writer.old ≡ false }
+    requires writer { has_failed writer.old ≡ false }
     ensures ok { OnOk result (Takes (W.contents (watched_inner writer.old))
         (W.contents (watched_inner writer.new))
         (waiting outbox.old ++ (answer_of (line.old.items ++ tail.now) ++ 10 ∷ []))
