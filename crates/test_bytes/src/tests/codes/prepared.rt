@@ -34,11 +34,10 @@ fn writes_same<A: Allocator>(
 // Whether a code of so many shards does, with ample memory.
 fn prepared_is_same<A: Allocator>(
     alloc: A,
-    data_shards: usize,
-    parity_shards: usize,
+    shards: (usize, usize),
     size: usize,
 ) -> Result<bool, AllocError> {
-    match code_of(data_shards, parity_shards) {
+    match code_of(shards.0, shards.1) {
         Some(code) => {
             let encoder = PreparedEncoder::new(&code, alloc)?;
             Ok(writes_same(&encoder, &code, size))
@@ -49,10 +48,10 @@ fn prepared_is_same<A: Allocator>(
 
 #[test]
 fn tables_made_once(rt: HostRuntime) -> Result<(), Fail> {
-    assert!(rt; prepared_is_same(rt.alloc(), 10, 4, 75)?);
-    assert!(rt; prepared_is_same(rt.alloc(), 5, 3, 64)?);
-    assert!(rt; prepared_is_same(rt.alloc(), 16, 9, 7)?);
-    assert!(rt; prepared_is_same(rt.alloc(), 128, 128, 3)?);
+    assert!(rt; prepared_is_same(rt.alloc(), (10, 4), 75)?);
+    assert!(rt; prepared_is_same(rt.alloc(), (5, 3), 64)?);
+    assert!(rt; prepared_is_same(rt.alloc(), (16, 9), 7)?);
+    assert!(rt; prepared_is_same(rt.alloc(), (128, 128), 3)?);
     Ok(())
 }
 
