@@ -2,8 +2,7 @@
 ghost use Rattle.std.specs.Prelude.{◌≡◌, ◌*◌, ◌^◌, ◌≤◌, ◌++◌, List, length, map, vec_len, IfOk, OnOk};
 ghost use Rattle.transcript_elements.specs.Grinding.{MayGrind};
 ghost use Rattle.field_bytes.specs.Streams.{joined_bytes};
-ghost use Rattle.protocols.specs.Commitments.{IsTreeOver, row_at};
-ghost use Rattle.protocols.specs.Openings.{AreAscending};
+ghost use Rattle.protocols.specs.{Commitments.{IsTreeOver, row_at}, Openings.{AreAscending}};
 ghost use Rattle.prove_sums.specs.Shapes.{depth_of, row_size, rows_of};
 ghost use Rattle.prove_sums.specs.Verdicts.{AreColumnsAt, HoldsTable, IsHonestProof, values_at};
 
