@@ -3,3 +3,4 @@ mod code_words;
 mod openings;
 mod rows;
 mod tables;
+mod zeros;
