@@ -22,6 +22,15 @@ copy_crates() {
     done
 }
 
+# copy_texts FROM TO: copies src/ and proofs/ of a crate that stands as text.
+copy_texts() {
+    (cd "$1" && find src proofs -name '*.txt') | while read -r text; do
+        case $text in src/*) end=rt ;; *) end=antt ;; esac
+        mkdir -p "$2/$(dirname "$text")"
+        cp "$1/$text" "$2/${text%.txt}.$end"
+    done
+}
+
 # in_copy COMMAND ..: a command of rt, whose output is shown where it fails.
 in_copy() {
     "$RT" "$@" > "$copy/proved" 2>&1 || { tail -n 40 "$copy/proved" >&2; exit 1; }

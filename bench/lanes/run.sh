@@ -18,11 +18,7 @@ mkdir -p "$archives"
 copy_crates "$copy"
 to="$copy/crates/bench_lanes"
 rm -rf "$to/src" "$to/proofs"
-(cd "$here/library" && find . -name '*.txt') | while read -r text; do
-    case $text in ./src/*) end=rt ;; *) end=antt ;; esac
-    mkdir -p "$to/$(dirname "$text")"
-    cp "$here/library/$text" "$to/${text%.txt}.$end"
-done
+copy_texts "$here/library" "$to"
 echo "bench_lanes staticlib: field_base field_element field_aes packed_lanes word_carryless word_tables ghash_slices additive_transforms" >> "$copy/crates.txt"
 
 # Both builds, with the kit's calls of malloc and free; of their symbols the units alone stay global, under a name of the build.
