@@ -1,3 +1,5 @@
+mod FourRowTables
+mod WordRanges
 mod LaneAccess
 mod RoundPairs
 mod Rounds

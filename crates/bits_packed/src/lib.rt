@@ -1,6 +1,8 @@
-//! Packed bits: 8 to 512 lanes of GF(2) in one value, which is a ring, and square matrices of them, transposed.
+//! Packed bits: 8 to 512 lanes of GF(2) in one value, which is a ring, and square matrices of them, transposed; matrices over GF(2),
+//! multiplied.
 #![tactic(auto)]
 
+pub mod bit_matrices;
 mod laws;
 mod packed;
 
