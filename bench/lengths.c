@@ -1,9 +1,10 @@
-/* Products and inverses of slices of the tower, by the length of the slice, on one core.
+/* Products and inverses of slices of the tower, and inverses of slices of polynomials, by the length of the slice, on one core.
  *
  *   gcc -O2 -Iinclude -o lengths bench/lengths.c crates/binary_field_c/out/libbinary_field_c.a && ./lengths [SAMPLES]
  *
  * It links one build of the library: `rt lib` for x86-64-v2, `rt lib --cpu x86-64-v3` for AVX2. A number is processor time in nanoseconds an
- * element, the least of so many samples (40), each of as many calls as take some 65,536 elements.
+ * element, the least of so many samples (40), each of as many calls as take some 65,536 elements. The second forms, whose names end in
+ * `_wide`, are made for AVX2.
  */
 #include "binary_field.h"
 #include <stdio.h>
@@ -15,22 +16,34 @@ enum { MOST = 65536, WIDEST = 16 };
 static const size_t lengths[] = {16, 31, 32, 64, 80, 100, 128, 300, 1024, MOST};
 static void *left, *right, *results;
 
-#define ROW(field, word)                                                                                                       \
-    static uint32_t multiply_##field(size_t n) { return bf_##field##_multiply((word *)left, n, (word *)right, n, (word *)results, n); } \
-    static uint32_t inverse_##field(size_t n) { return bf_##field##_inverse((word *)left, n, (word *)results, n); }
-ROW(t8, uint8_t)
-ROW(t16, uint16_t)
-ROW(t32, uint32_t)
-ROW(t64, uint64_t)
-ROW(t128, bf_u128)
+#define PRODUCT(call, word) \
+    static uint32_t run_##call(size_t n) { return bf_##call((word *)left, n, (word *)right, n, (word *)results, n); }
+#define INVERSE(call, word) \
+    static uint32_t run_##call(size_t n) { return bf_##call((word *)left, n, (word *)results, n); }
+#define LEVEL(field, word) PRODUCT(field##_multiply, word) INVERSE(field##_inverse, word)
+#define FORMS(field, word) LEVEL(field, word) PRODUCT(field##_multiply_wide, word) INVERSE(field##_inverse_wide, word)
+#define POLYNOMIALS(field, word)    \
+    INVERSE(field##_inverse, word) INVERSE(field##_batch_inverse, word) INVERSE(field##_inverse_wide, word)
+LEVEL(t8, uint8_t)
+FORMS(t16, uint16_t)
+FORMS(t32, uint32_t)
+FORMS(t64, uint64_t)
+FORMS(t128, bf_u128)
+POLYNOMIALS(p64, uint64_t)
+POLYNOMIALS(g128, bf_u128)
 
+#define NAMED(call) {"bf_" #call, run_##call}
 static const struct {
     const char *name;
     uint32_t (*call)(size_t);
 } rows[] = {
-    {"bf_t8_multiply", multiply_t8},   {"bf_t8_inverse", inverse_t8},     {"bf_t16_multiply", multiply_t16}, {"bf_t16_inverse", inverse_t16},
-    {"bf_t32_multiply", multiply_t32}, {"bf_t32_inverse", inverse_t32},   {"bf_t64_multiply", multiply_t64}, {"bf_t64_inverse", inverse_t64},
-    {"bf_t128_multiply", multiply_t128}, {"bf_t128_inverse", inverse_t128},
+    NAMED(t8_multiply), NAMED(t8_inverse),
+    NAMED(t16_multiply), NAMED(t16_inverse), NAMED(t16_multiply_wide), NAMED(t16_inverse_wide),
+    NAMED(t32_multiply), NAMED(t32_inverse), NAMED(t32_multiply_wide), NAMED(t32_inverse_wide),
+    NAMED(t64_multiply), NAMED(t64_inverse), NAMED(t64_multiply_wide), NAMED(t64_inverse_wide),
+    NAMED(t128_multiply), NAMED(t128_inverse), NAMED(t128_multiply_wide), NAMED(t128_inverse_wide),
+    NAMED(p64_inverse), NAMED(p64_batch_inverse), NAMED(p64_inverse_wide),
+    NAMED(g128_inverse), NAMED(g128_batch_inverse), NAMED(g128_inverse_wide),
 };
 
 static double now(void) {
@@ -67,12 +80,12 @@ int main(int count, char **words) {
         ((uint64_t *)left)[i] = state ^ state >> 29;
         ((uint64_t *)right)[i] = state ^ state >> 31;
     }
-    printf("%-18s", "elements");
+    printf("%-22s", "elements");
     for (size_t at = 0; at < sizeof lengths / sizeof *lengths; at++) {
         printf(" %6zu", lengths[at]);
     }
     for (size_t row = 0; row < sizeof rows / sizeof *rows; row++) {
-        printf("\n%-18s", rows[row].name);
+        printf("\n%-22s", rows[row].name);
         for (size_t at = 0; at < sizeof lengths / sizeof *lengths; at++) {
             printf(" %6.2f", least(lengths[at], rows[row].call, samples));
         }

@@ -24,8 +24,8 @@
  *   bf_F_add_scaled(sums, scalar, values)  adds to each element of sums the scalar times the value at its place
  *   bf_F_square(values, squares)  squares: the square of each element
  *   bf_F_inverse(values, inverses)  inverses: the inverse of each element, and 0 for 0
- *   bf_F_batch_inverse(values, inverses)  inverses: the same as inverse; in p64 and g128 by one inverse and three products
- *       an element
+ *   bf_F_batch_inverse(values, inverses)  inverses: the same as inverse; of few elements of p64 and g128 by one inverse
+ *       and three products an element
  *   bf_F_square_root(values, roots)  roots: the square root of each element
  *   bf_F_power(values, exponent, powers)  powers: each element to the power of the exponent; to the power 0 it is 1
  *   bf_F_product(values, product)  product: the product of all elements, 1 of none
@@ -697,6 +697,22 @@ uint32_t bf_g128_butterfly_inverse_wide(bf_u128 *low, size_t low_length, bf_u128
 uint32_t bf_g128_low_stages_wide(bf_u128 *values, size_t values_length, const bf_u128 *shifts, size_t shifts_length, const bf_u128 *basis, size_t basis_length, size_t first_run) BF_CHECKED;
 uint32_t bf_g128_transform_wide(bf_u128 *values, size_t values_length, const bf_u128 *shift) BF_CHECKED BF_NONNULL(3);
 uint32_t bf_g128_inverse_transform_wide(bf_u128 *values, size_t values_length, const bf_u128 *shift) BF_CHECKED BF_NONNULL(3);
+uint32_t bf_t16_multiply_wide(const uint16_t *left, size_t left_length, const uint16_t *right, size_t right_length, uint16_t *products, size_t products_length) BF_CHECKED;
+uint32_t bf_t16_inverse_wide(const uint16_t *values, size_t values_length, uint16_t *inverses, size_t inverses_length) BF_CHECKED;
+uint32_t bf_t16_batch_inverse_wide(const uint16_t *values, size_t values_length, uint16_t *inverses, size_t inverses_length) BF_CHECKED;
+uint32_t bf_t32_multiply_wide(const uint32_t *left, size_t left_length, const uint32_t *right, size_t right_length, uint32_t *products, size_t products_length) BF_CHECKED;
+uint32_t bf_t32_inverse_wide(const uint32_t *values, size_t values_length, uint32_t *inverses, size_t inverses_length) BF_CHECKED;
+uint32_t bf_t32_batch_inverse_wide(const uint32_t *values, size_t values_length, uint32_t *inverses, size_t inverses_length) BF_CHECKED;
+uint32_t bf_t64_multiply_wide(const uint64_t *left, size_t left_length, const uint64_t *right, size_t right_length, uint64_t *products, size_t products_length) BF_CHECKED;
+uint32_t bf_t64_inverse_wide(const uint64_t *values, size_t values_length, uint64_t *inverses, size_t inverses_length) BF_CHECKED;
+uint32_t bf_t64_batch_inverse_wide(const uint64_t *values, size_t values_length, uint64_t *inverses, size_t inverses_length) BF_CHECKED;
+uint32_t bf_t128_multiply_wide(const bf_u128 *left, size_t left_length, const bf_u128 *right, size_t right_length, bf_u128 *products, size_t products_length) BF_CHECKED;
+uint32_t bf_t128_inverse_wide(const bf_u128 *values, size_t values_length, bf_u128 *inverses, size_t inverses_length) BF_CHECKED;
+uint32_t bf_t128_batch_inverse_wide(const bf_u128 *values, size_t values_length, bf_u128 *inverses, size_t inverses_length) BF_CHECKED;
+uint32_t bf_p64_inverse_wide(const uint64_t *values, size_t values_length, uint64_t *inverses, size_t inverses_length) BF_CHECKED;
+uint32_t bf_p64_batch_inverse_wide(const uint64_t *values, size_t values_length, uint64_t *inverses, size_t inverses_length) BF_CHECKED;
+uint32_t bf_g128_inverse_wide(const bf_u128 *values, size_t values_length, bf_u128 *inverses, size_t inverses_length) BF_CHECKED;
+uint32_t bf_g128_batch_inverse_wide(const bf_u128 *values, size_t values_length, bf_u128 *inverses, size_t inverses_length) BF_CHECKED;
 
 /* Writes the shards of parity of shards that stand apart, each of size bytes: the pointers are those of the shards of data and of parity, of
  * which none of parity overlaps another shard. tables is what bf_rs_prepare wrote for this code. It is bf_rs_add_shard for each pair of shards,

@@ -34,7 +34,7 @@ FIELD_FUNCTIONS = [
     ("add_scaled", [("inout", "sums"), ("scalar", "scalar"), ("in", "values")], "adds to each element of sums the scalar times the value at its place"),
     ("square", [("in", "values"), ("out", "squares")], "the square of each element"),
     ("inverse", [("in", "values"), ("out", "inverses")], "the inverse of each element, and 0 for 0"),
-    ("batch_inverse", [("in", "values"), ("out", "inverses")], "the same as inverse; in p64 and g128 by one inverse and three products an element"),
+    ("batch_inverse", [("in", "values"), ("out", "inverses")], "the same as inverse; of few elements of p64 and g128 by one inverse and three products an element"),
     ("square_root", [("in", "values"), ("out", "roots")], "the square root of each element"),
     ("power", [("in", "values"), ("number", "exponent"), ("out", "powers")], "each element to the power of the exponent; to the power 0 it is 1"),
     ("product", [("in", "values"), ("result", "product")], "the product of all elements, 1 of none"),
@@ -134,6 +134,8 @@ OTHER_FUNCTIONS = [
 WIDE = [
     "g128_multiply", "g128_multiply_in_place", "g128_multiply_by", "g128_multiply_by_in_place", "g128_add_scaled", "g128_dot_product",
     "g128_butterfly_forward", "g128_butterfly_inverse", "g128_low_stages", "g128_transform", "g128_inverse_transform",
+    *[f"{field}_{name}" for field in ("t16", "t32", "t64", "t128") for name in ("multiply", "inverse", "batch_inverse")],
+    *[f"{field}_{name}" for field in ("p64", "g128") for name in ("inverse", "batch_inverse")],
 ]
 
 # These return no status.

@@ -27,7 +27,7 @@ multiply_by    slices::multiply_by        MultipliesBy
 add_scaled     in_place::add_scaled       AddsScaled
 square         slices::write_each         Squares       Square
 inverse        slices::write_each         Inverts       Inverse
-batch_inverse  batch_invert               Inverts
+batch_inverse  in_slices::batch_invert    Inverts
 square_root    slices::write_each         TakesRoots    SquareRoot
 power          slices::write_each         RaisesTo      Power
 product        slices::product            TakesProduct
@@ -49,9 +49,14 @@ OPERATIONS = {row[0]: row[3] for row in CALL_ROWS if len(row) > 3}
 IN_PLANES = ("multiply_by", "multiply_by_in_place", "add_scaled")
 PLANED = ("t8", "t16", "t32", "t64", "t128")
 
-# The products and inverses of levels of the tower that go by slices of bits, which pay from 16 bits on, and the functions that they call.
-IN_SLICES = {"multiply": "multiply", "multiply_in_place": "multiply_in_place", "inverse": "invert", "inverse_in_place": "invert_in_place"}
+# The products and inverses that go by slices of bits, which pay from 16 bits on, and the functions that they call.
+PRODUCTS_IN_SLICES = {"multiply": "multiply", "multiply_in_place": "multiply_in_place"}
+INVERSES_IN_SLICES = {"inverse": "invert", "inverse_in_place": "invert_in_place", "batch_inverse": "batch_invert"}
+IN_SLICES = PRODUCTS_IN_SLICES | INVERSES_IN_SLICES
 SLICED = ("t16", "t32", "t64", "t128")
+
+# The fields of polynomials whose inverses go by slices of the level of the tower that is the same field.
+INVERTED_IN_SLICES = ("p64", "g128")
 
 # What a field does by functions of its own.
 OWN_CALLS = {
@@ -251,18 +256,22 @@ def called_in_vectors(field, name, vector):
     """The call of a function that a field has of its own, or that goes by slices of bits, in vectors of that type."""
     if name in OWN_CALLS.get(field.name, {}):
         return of_width(OWN_CALLS[field.name][name], vector)
-    if name in IN_SLICES and field.name in SLICED:
+    if name in IN_SLICES and field.name in SLICED or name in INVERSES_IN_SLICES and field.name in INVERTED_IN_SLICES:
         return called_over_words(field, f"in_slices::{IN_SLICES[name]}", f"{field.kernel}, {vector}")
     return None
 
 
+def alike(field, name):
+    """The function that does the same: where an inverse costs no more than three products, a batch is inverted one by one."""
+    return "inverse" if name == "batch_inverse" and not field.is_batched else name
+
+
 def field_function(field, name, parameters, text):
     """A function of a field."""
-    # Where an inverse costs no more than three products, a batch is inverted one by one.
-    alike = "inverse" if name == "batch_inverse" and not field.is_batched else name
-    (call, contract), operation = CALLS[alike], OPERATIONS.get(alike)
+    as_called = alike(field, name)
+    (call, contract), operation = CALLS[as_called], OPERATIONS.get(as_called)
     inside = [OPERANDS[operation]] if operation in OPERANDS else []
-    in_vectors = called_in_vectors(field, alike, NARROW)
+    in_vectors = called_in_vectors(field, as_called, NARROW)
     if in_vectors:
         called, more = in_vectors, []
     elif name in IN_PLANES and field.name in PLANED:
@@ -306,7 +315,7 @@ def wide_function(name, parameters):
     else:
         field = fields.field_named(field_name)
         typed = [(kind, it, WORDS.get(word, word)) for kind, it, word in parameters]
-        called, clause = called_in_vectors(field, own, WIDE), field_clause(CALLS[own][1], field.contract, typed, own.endswith("_in_place"))
+        called, clause = called_in_vectors(field, alike(field, own), WIDE), field_clause(CALLS[own][1], field.contract, typed, own.endswith("_in_place"))
     return function(f"{name}_wide", parameters, f"the same as `bf_{name}`", called, clause)
 
 
@@ -329,15 +338,24 @@ def in_order(name):
     return [int(it) if it.isdigit() else it for it in re.split(r"(\d+)", name)]
 
 
+def import_of(names):
+    """The import of several names, in lines as `rt fmt` breaks them."""
+    line = f"use c_arithmetic::{{{names}}};"
+    if len(line) <= COLUMNS:
+        return line
+    return "\n".join(["use c_arithmetic::{", textwrap.fill(f"{names},", COLUMNS, initial_indent=" " * 4, subsequent_indent=" " * 4), "};"])
+
+
 def used(bodies):
     """The line that brings in what bodies and signatures name without a path."""
     operations = sorted({it for it in OPERATIONS.values() if re.search(rf"&{it}\b", bodies)})
-    names = set(re.findall(r"[&\[]&?(Wide|Cubic)\b|<\w+,(?: \w+,)? (\w+)(?:<(\w+)>)?(?:, \w+)?>|\b(slices)::|\b(in_place)::|\b(in_planes)::|\b(in_slices)::|\b(batch_invert)\b", bodies))
+    names = set(re.findall(r"[&\[]&?(Wide|Cubic)\b|<\w+,(?: \w+,)? (?!u64x)(\w+)(?:<(\w+)>)?(?:, \w+)?>|\b(slices)::|\b(in_place)::|\b(in_planes)::|\b(in_slices)::", bodies))
     words = [*WORDS.values(), *STORED.values()]
     named = {it for group in names for it in group if it} | {it for it in words if re.search(rf"\b{it}\b", bodies)}
     named -= {NARROW, WIDE}
     lines = [f"use c_arithmetic::operations::{{{', '.join(operations)}}};"] if operations else []
-    lines += [f"use c_arithmetic::{{{', '.join(sorted(named, key=in_order))}}};" if len(named) > 1 else f"use c_arithmetic::{named.pop()};"] if named else []
+    if named:
+        lines.append(import_of(", ".join(sorted(named, key=in_order))) if len(named) > 1 else f"use c_arithmetic::{named.pop()};")
     lines += ["use std::simd::prelude::*;"] if re.search(rf"\b({NARROW}|{WIDE})\b", bodies) else []
     return [*lines, ""] if lines else []
 

@@ -66,32 +66,52 @@ def in_planes():
 # ---- slices of bits
 
 SLICES_HEAD = """\
-// The levels of 16 to 128 bits by slices of bits.
-use super::{FieldInSlices, invert_words, multiply_words};
+// The levels of 16 to 128 bits by slices of bits, and the polynomials of 64 and 128 bits, whose inverses go by their levels.
+use super::{InversesInSlices, ProductsInSlices, invert_images, invert_words, multiply_words};
 use crate::Wide;
 use bit_slices::Vector;
+use word_polynomial::{GhashKernel, GhashModulus, Poly64Kernel, Poly64Modulus};
 use word_tower::{Bits16, Bits32, Bits64, Bits128, Tower};
 """
 
 IN_SLICES = Template("""\
-impl<V: Vector> FieldInSlices<u$bits, V> for Tower<Bits$bits> {
+impl ProductsInSlices<u$bits> for Tower<Bits$bits> {
     type Word = $word;
 
-    fn multiply_all(products: &mut [$word], words: &[$word]) {
+    fn multiply_all<V: Vector>(products: &mut [$word], words: &[$word]) {
         multiply_words::<u$bits, $word, Tower<Bits$bits>, V>(products, words);
     }
+}
 
-    fn invert_all(words: &mut [$word]) {
+impl InversesInSlices<u$bits> for Tower<Bits$bits> {
+    type Word = $word;
+
+    fn invert_all<V: Vector>(words: &mut [$word]) {
         invert_words::<u$bits, $word, Tower<Bits$bits>, V>(words);
     }
 }
 """)
+
+OF_IMAGES = Template("""\
+impl InversesInSlices<u$bits> for ${name}Kernel {
+    type Word = $word;
+
+    fn invert_all<V: Vector>(words: &mut [$word]) {
+        invert_images::<u$bits, $word, Bits$bits, ${name}Modulus, V>(words);
+    }
+}
+""")
+
+# The polynomials whose inverses go by levels of the tower, by their bits. Those of 8 bits are looked up.
+POLYNOMIALS = {64: "Poly64", 128: "Ghash"}
 
 
 def in_slices():
     yield SLICES_HEAD
     for bits in LEVELS[1:]:
         yield IN_SLICES.substitute(bits=bits, word=word(bits))
+    for bits, name in POLYNOMIALS.items():
+        yield OF_IMAGES.substitute(bits=bits, name=name, word=word(bits))
 
 
 if __name__ == "__main__":

@@ -72,8 +72,9 @@ unsafe extern "C" {
         inverses: *mut u8,
         inverses_length: usize,
     ) -> u32;
-    /// inverses: the same as inverse; in p64 and g128 by one inverse and three products an element. BF_LENGTH unless
-    /// values and inverses have one length. BF_NOT_AN_ELEMENT unless each word that is read is below 2.
+    /// inverses: the same as inverse; of few elements of p64 and g128 by one inverse and three products an element.
+    /// BF_LENGTH unless values and inverses have one length. BF_NOT_AN_ELEMENT unless each word that is read is below
+    /// 2.
     pub fn bf_gf2_batch_inverse(
         values: *const u8,
         values_length: usize,
@@ -221,8 +222,9 @@ unsafe extern "C" {
         inverses: *mut u8,
         inverses_length: usize,
     ) -> u32;
-    /// inverses: the same as inverse; in p64 and g128 by one inverse and three products an element. BF_LENGTH unless
-    /// values and inverses have one length. BF_NOT_AN_ELEMENT unless each word that is read is below 4.
+    /// inverses: the same as inverse; of few elements of p64 and g128 by one inverse and three products an element.
+    /// BF_LENGTH unless values and inverses have one length. BF_NOT_AN_ELEMENT unless each word that is read is below
+    /// 4.
     pub fn bf_t2_batch_inverse(
         values: *const u8,
         values_length: usize,
@@ -370,8 +372,9 @@ unsafe extern "C" {
         inverses: *mut u8,
         inverses_length: usize,
     ) -> u32;
-    /// inverses: the same as inverse; in p64 and g128 by one inverse and three products an element. BF_LENGTH unless
-    /// values and inverses have one length. BF_NOT_AN_ELEMENT unless each word that is read is below 16.
+    /// inverses: the same as inverse; of few elements of p64 and g128 by one inverse and three products an element.
+    /// BF_LENGTH unless values and inverses have one length. BF_NOT_AN_ELEMENT unless each word that is read is below
+    /// 16.
     pub fn bf_t4_batch_inverse(
         values: *const u8,
         values_length: usize,
@@ -515,8 +518,8 @@ unsafe extern "C" {
         inverses: *mut u8,
         inverses_length: usize,
     ) -> u32;
-    /// inverses: the same as inverse; in p64 and g128 by one inverse and three products an element. BF_LENGTH unless
-    /// values and inverses have one length.
+    /// inverses: the same as inverse; of few elements of p64 and g128 by one inverse and three products an element.
+    /// BF_LENGTH unless values and inverses have one length.
     pub fn bf_t8_batch_inverse(
         values: *const u8,
         values_length: usize,
@@ -616,6 +619,7 @@ unsafe extern "C" {
     ) -> u32;
     /// products: the product of the elements at each place. BF_LENGTH unless left, right and products have one
     /// length.
+    #[cfg_attr(binary_field_wide, link_name = "bf_t16_multiply_wide")]
     pub fn bf_t16_multiply(
         left: *const u16,
         left_length: usize,
@@ -649,14 +653,16 @@ unsafe extern "C" {
         squares_length: usize,
     ) -> u32;
     /// inverses: the inverse of each element, and 0 for 0. BF_LENGTH unless values and inverses have one length.
+    #[cfg_attr(binary_field_wide, link_name = "bf_t16_inverse_wide")]
     pub fn bf_t16_inverse(
         values: *const u16,
         values_length: usize,
         inverses: *mut u16,
         inverses_length: usize,
     ) -> u32;
-    /// inverses: the same as inverse; in p64 and g128 by one inverse and three products an element. BF_LENGTH unless
-    /// values and inverses have one length.
+    /// inverses: the same as inverse; of few elements of p64 and g128 by one inverse and three products an element.
+    /// BF_LENGTH unless values and inverses have one length.
+    #[cfg_attr(binary_field_wide, link_name = "bf_t16_batch_inverse_wide")]
     pub fn bf_t16_batch_inverse(
         values: *const u16,
         values_length: usize,
@@ -756,6 +762,7 @@ unsafe extern "C" {
     ) -> u32;
     /// products: the product of the elements at each place. BF_LENGTH unless left, right and products have one
     /// length.
+    #[cfg_attr(binary_field_wide, link_name = "bf_t32_multiply_wide")]
     pub fn bf_t32_multiply(
         left: *const u32,
         left_length: usize,
@@ -789,14 +796,16 @@ unsafe extern "C" {
         squares_length: usize,
     ) -> u32;
     /// inverses: the inverse of each element, and 0 for 0. BF_LENGTH unless values and inverses have one length.
+    #[cfg_attr(binary_field_wide, link_name = "bf_t32_inverse_wide")]
     pub fn bf_t32_inverse(
         values: *const u32,
         values_length: usize,
         inverses: *mut u32,
         inverses_length: usize,
     ) -> u32;
-    /// inverses: the same as inverse; in p64 and g128 by one inverse and three products an element. BF_LENGTH unless
-    /// values and inverses have one length.
+    /// inverses: the same as inverse; of few elements of p64 and g128 by one inverse and three products an element.
+    /// BF_LENGTH unless values and inverses have one length.
+    #[cfg_attr(binary_field_wide, link_name = "bf_t32_batch_inverse_wide")]
     pub fn bf_t32_batch_inverse(
         values: *const u32,
         values_length: usize,
@@ -896,6 +905,7 @@ unsafe extern "C" {
     ) -> u32;
     /// products: the product of the elements at each place. BF_LENGTH unless left, right and products have one
     /// length.
+    #[cfg_attr(binary_field_wide, link_name = "bf_t64_multiply_wide")]
     pub fn bf_t64_multiply(
         left: *const u64,
         left_length: usize,
@@ -929,14 +939,16 @@ unsafe extern "C" {
         squares_length: usize,
     ) -> u32;
     /// inverses: the inverse of each element, and 0 for 0. BF_LENGTH unless values and inverses have one length.
+    #[cfg_attr(binary_field_wide, link_name = "bf_t64_inverse_wide")]
     pub fn bf_t64_inverse(
         values: *const u64,
         values_length: usize,
         inverses: *mut u64,
         inverses_length: usize,
     ) -> u32;
-    /// inverses: the same as inverse; in p64 and g128 by one inverse and three products an element. BF_LENGTH unless
-    /// values and inverses have one length.
+    /// inverses: the same as inverse; of few elements of p64 and g128 by one inverse and three products an element.
+    /// BF_LENGTH unless values and inverses have one length.
+    #[cfg_attr(binary_field_wide, link_name = "bf_t64_batch_inverse_wide")]
     pub fn bf_t64_batch_inverse(
         values: *const u64,
         values_length: usize,
@@ -1036,6 +1048,7 @@ unsafe extern "C" {
     ) -> u32;
     /// products: the product of the elements at each place. BF_LENGTH unless left, right and products have one
     /// length.
+    #[cfg_attr(binary_field_wide, link_name = "bf_t128_multiply_wide")]
     pub fn bf_t128_multiply(
         left: *const [u64; 2],
         left_length: usize,
@@ -1069,14 +1082,16 @@ unsafe extern "C" {
         squares_length: usize,
     ) -> u32;
     /// inverses: the inverse of each element, and 0 for 0. BF_LENGTH unless values and inverses have one length.
+    #[cfg_attr(binary_field_wide, link_name = "bf_t128_inverse_wide")]
     pub fn bf_t128_inverse(
         values: *const [u64; 2],
         values_length: usize,
         inverses: *mut [u64; 2],
         inverses_length: usize,
     ) -> u32;
-    /// inverses: the same as inverse; in p64 and g128 by one inverse and three products an element. BF_LENGTH unless
-    /// values and inverses have one length.
+    /// inverses: the same as inverse; of few elements of p64 and g128 by one inverse and three products an element.
+    /// BF_LENGTH unless values and inverses have one length.
+    #[cfg_attr(binary_field_wide, link_name = "bf_t128_batch_inverse_wide")]
     pub fn bf_t128_batch_inverse(
         values: *const [u64; 2],
         values_length: usize,
@@ -1215,8 +1230,8 @@ unsafe extern "C" {
         inverses: *mut u8,
         inverses_length: usize,
     ) -> u32;
-    /// inverses: the same as inverse; in p64 and g128 by one inverse and three products an element. BF_LENGTH unless
-    /// values and inverses have one length.
+    /// inverses: the same as inverse; of few elements of p64 and g128 by one inverse and three products an element.
+    /// BF_LENGTH unless values and inverses have one length.
     pub fn bf_r8_batch_inverse(
         values: *const u8,
         values_length: usize,
@@ -1349,14 +1364,16 @@ unsafe extern "C" {
         squares_length: usize,
     ) -> u32;
     /// inverses: the inverse of each element, and 0 for 0. BF_LENGTH unless values and inverses have one length.
+    #[cfg_attr(binary_field_wide, link_name = "bf_p64_inverse_wide")]
     pub fn bf_p64_inverse(
         values: *const u64,
         values_length: usize,
         inverses: *mut u64,
         inverses_length: usize,
     ) -> u32;
-    /// inverses: the same as inverse; in p64 and g128 by one inverse and three products an element. BF_LENGTH unless
-    /// values and inverses have one length.
+    /// inverses: the same as inverse; of few elements of p64 and g128 by one inverse and three products an element.
+    /// BF_LENGTH unless values and inverses have one length.
+    #[cfg_attr(binary_field_wide, link_name = "bf_p64_batch_inverse_wide")]
     pub fn bf_p64_batch_inverse(
         values: *const u64,
         values_length: usize,
@@ -1492,14 +1509,16 @@ unsafe extern "C" {
         squares_length: usize,
     ) -> u32;
     /// inverses: the inverse of each element, and 0 for 0. BF_LENGTH unless values and inverses have one length.
+    #[cfg_attr(binary_field_wide, link_name = "bf_g128_inverse_wide")]
     pub fn bf_g128_inverse(
         values: *const [u64; 2],
         values_length: usize,
         inverses: *mut [u64; 2],
         inverses_length: usize,
     ) -> u32;
-    /// inverses: the same as inverse; in p64 and g128 by one inverse and three products an element. BF_LENGTH unless
-    /// values and inverses have one length.
+    /// inverses: the same as inverse; of few elements of p64 and g128 by one inverse and three products an element.
+    /// BF_LENGTH unless values and inverses have one length.
+    #[cfg_attr(binary_field_wide, link_name = "bf_g128_batch_inverse_wide")]
     pub fn bf_g128_batch_inverse(
         values: *const [u64; 2],
         values_length: usize,
@@ -1641,8 +1660,8 @@ unsafe extern "C" {
         inverses: *mut [u64; 3],
         inverses_length: usize,
     ) -> u32;
-    /// inverses: the same as inverse; in p64 and g128 by one inverse and three products an element. BF_LENGTH unless
-    /// values and inverses have one length.
+    /// inverses: the same as inverse; of few elements of p64 and g128 by one inverse and three products an element.
+    /// BF_LENGTH unless values and inverses have one length.
     pub fn bf_p192_batch_inverse(
         values: *const [u64; 3],
         values_length: usize,

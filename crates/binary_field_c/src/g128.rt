@@ -4,8 +4,8 @@ ghost use Rattle.c_arithmetic.specs.Calls.{Adds, AddsScaled, Evaluates, Inverts,
 ghost use Rattle.c_arithmetic.specs.Calls.{Squares, TakesDotProduct, TakesProduct, TakesRoots};
 ghost use Rattle.c_arithmetic.specs.Fields.{ghash_field};
 
-use c_arithmetic::operations::{Inverse, Power, Square, SquareRoot, Sum};
-use c_arithmetic::{GhashKernel, Wide, batch_invert, in_place, slices};
+use c_arithmetic::operations::{Power, Square, SquareRoot, Sum};
+use c_arithmetic::{GhashKernel, Wide, in_place, in_slices, slices};
 use std::simd::prelude::*;
 
 /// The sum of the elements at each place.
@@ -53,15 +53,15 @@ pub extern "C" fn bf_g128_square(values: &[Wide], squares: &mut [Wide]) -> u32
 pub extern "C" fn bf_g128_inverse(values: &[Wide], inverses: &mut [Wide]) -> u32
     ensures { Inverts ghash_field values.now inverses.old inverses.new result }
 {
-    slices::write_each::<u128, Wide, GhashKernel, _>(values, inverses, &Inverse, false)
+    in_slices::invert::<u128, GhashKernel, u64x2>(values, inverses)
 }
 
-/// The same as inverse; in p64 and g128 by one inverse and three products an element.
+/// The same as inverse; of few elements of p64 and g128 by one inverse and three products an element.
 #[unsafe(no_mangle)]
 pub extern "C" fn bf_g128_batch_inverse(values: &[Wide], inverses: &mut [Wide]) -> u32
     ensures { Inverts ghash_field values.now inverses.old inverses.new result }
 {
-    batch_invert::<u128, Wide, GhashKernel>(values, inverses)
+    in_slices::batch_invert::<u128, GhashKernel, u64x2>(values, inverses)
 }
 
 /// The square root of each element.
@@ -145,7 +145,7 @@ pub extern "C" fn bf_g128_square_in_place(values: &mut [Wide]) -> u32
 pub extern "C" fn bf_g128_inverse_in_place(values: &mut [Wide]) -> u32
     ensures { Inverts ghash_field values.old values.old values.new result }
 {
-    in_place::change_each::<u128, Wide, GhashKernel, _>(values, &Inverse)
+    in_slices::invert_in_place::<u128, GhashKernel, u64x2>(values)
 }
 
 /// Leaves the square root of each element.

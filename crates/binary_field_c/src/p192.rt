@@ -59,7 +59,7 @@ pub extern "C" fn bf_p192_inverse(values: &[Cubic], inverses: &mut [Cubic]) -> u
     slices::write_each::<Triple, Cubic, CubicKernel, _>(values, inverses, &Inverse, false)
 }
 
-/// The same as inverse; in p64 and g128 by one inverse and three products an element.
+/// The same as inverse; of few elements of p64 and g128 by one inverse and three products an element.
 #[unsafe(no_mangle)]
 pub extern "C" fn bf_p192_batch_inverse(values: &[Cubic], inverses: &mut [Cubic]) -> u32
     ensures { Inverts cubic_field values.now inverses.old inverses.new result }

@@ -4,8 +4,9 @@ ghost use Rattle.c_arithmetic.specs.Calls.{Adds, AddsScaled, Evaluates, Inverts,
 ghost use Rattle.c_arithmetic.specs.Calls.{Squares, TakesDotProduct, TakesProduct, TakesRoots};
 ghost use Rattle.c_arithmetic.specs.Fields.{poly64_field};
 
-use c_arithmetic::operations::{Inverse, Power, Product, Square, SquareRoot, Sum};
-use c_arithmetic::{Poly64Kernel, batch_invert, in_place, slices};
+use c_arithmetic::operations::{Power, Product, Square, SquareRoot, Sum};
+use c_arithmetic::{Poly64Kernel, in_place, in_slices, slices};
+use std::simd::prelude::*;
 
 /// The sum of the elements at each place.
 #[unsafe(no_mangle)]
@@ -52,15 +53,15 @@ pub extern "C" fn bf_p64_square(values: &[u64], squares: &mut [u64]) -> u32
 pub extern "C" fn bf_p64_inverse(values: &[u64], inverses: &mut [u64]) -> u32
     ensures { Inverts poly64_field values.now inverses.old inverses.new result }
 {
-    slices::write_each::<u64, u64, Poly64Kernel, _>(values, inverses, &Inverse, false)
+    in_slices::invert::<u64, Poly64Kernel, u64x2>(values, inverses)
 }
 
-/// The same as inverse; in p64 and g128 by one inverse and three products an element.
+/// The same as inverse; of few elements of p64 and g128 by one inverse and three products an element.
 #[unsafe(no_mangle)]
 pub extern "C" fn bf_p64_batch_inverse(values: &[u64], inverses: &mut [u64]) -> u32
     ensures { Inverts poly64_field values.now inverses.old inverses.new result }
 {
-    batch_invert::<u64, u64, Poly64Kernel>(values, inverses)
+    in_slices::batch_invert::<u64, Poly64Kernel, u64x2>(values, inverses)
 }
 
 /// The square root of each element.
@@ -140,7 +141,7 @@ pub extern "C" fn bf_p64_square_in_place(values: &mut [u64]) -> u32
 pub extern "C" fn bf_p64_inverse_in_place(values: &mut [u64]) -> u32
     ensures { Inverts poly64_field values.old values.old values.new result }
 {
-    in_place::change_each::<u64, u64, Poly64Kernel, _>(values, &Inverse)
+    in_slices::invert_in_place::<u64, Poly64Kernel, u64x2>(values)
 }
 
 /// Leaves the square root of each element.

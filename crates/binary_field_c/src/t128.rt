@@ -56,7 +56,7 @@ pub extern "C" fn bf_t128_inverse(values: &[Wide], inverses: &mut [Wide]) -> u32
     in_slices::invert::<u128, Tower<Bits128>, u64x2>(values, inverses)
 }
 
-/// The same as inverse; in p64 and g128 by one inverse and three products an element.
+/// The same as inverse; of few elements of p64 and g128 by one inverse and three products an element.
 #[unsafe(no_mangle)]
 pub extern "C" fn bf_t128_batch_inverse(values: &[Wide], inverses: &mut [Wide]) -> u32
     ensures { Inverts wide_level_field values.now inverses.old inverses.new result }

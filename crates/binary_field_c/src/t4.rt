@@ -55,7 +55,7 @@ pub extern "C" fn bf_t4_inverse(values: &[u8], inverses: &mut [u8]) -> u32
     slices::write_each::<u8, u8, Tower<Bits4>, _>(values, inverses, &Inverse, false)
 }
 
-/// The same as inverse; in p64 and g128 by one inverse and three products an element.
+/// The same as inverse; of few elements of p64 and g128 by one inverse and three products an element.
 #[unsafe(no_mangle)]
 pub extern "C" fn bf_t4_batch_inverse(values: &[u8], inverses: &mut [u8]) -> u32
     ensures { Inverts (level_field 2) values.now inverses.old inverses.new result }

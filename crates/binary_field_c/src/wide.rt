@@ -1,10 +1,12 @@
 // Second forms of calls, made for x86-64-v3, whose vectors have 256 bits.
 // Written by scripts/make_c_exports.py; do not edit.
 ghost use Rattle.c_arithmetic.specs.Transforms.{ButterfliesForward, ButterfliesInverse, InvertsTransform, RunsLowStages, Transforms};
-ghost use Rattle.c_arithmetic.specs.Calls.{AddsScaled, Multiplies, MultipliesBy, TakesDotProduct};
-ghost use Rattle.c_arithmetic.specs.Fields.{ghash_field, wide_number};
+ghost use Rattle.c_arithmetic.specs.Calls.{AddsScaled, Inverts, Multiplies, MultipliesBy, TakesDotProduct};
+ghost use Rattle.c_arithmetic.specs.Fields.{ghash_field, level_field, poly64_field, wide_level_field, wide_number};
 
-use c_arithmetic::Wide;
+use c_arithmetic::{
+    Bits16, Bits32, Bits64, Bits128, GhashKernel, Poly64Kernel, Tower, Wide, in_slices,
+};
 use std::simd::prelude::*;
 
 /// The same as `bf_g128_multiply`.
@@ -110,4 +112,132 @@ pub extern "C" fn bf_g128_inverse_transform_wide(values: &mut [Wide], shift: &Wi
     ensures { InvertsTransform (wide_number shift.now) values.old values.new result }
 {
     c_arithmetic::inverse_transform::<u64x4>(values, *shift)
+}
+
+/// The same as `bf_t16_multiply`.
+#[unsafe(no_mangle)]
+pub extern "C" fn bf_t16_multiply_wide(left: &[u16], right: &[u16], products: &mut [u16]) -> u32
+    ensures { Multiplies (level_field 4) left.now right.now products.old products.new result }
+{
+    in_slices::multiply::<u16, Tower<Bits16>, u64x4>(left, right, products)
+}
+
+/// The same as `bf_t16_inverse`.
+#[unsafe(no_mangle)]
+pub extern "C" fn bf_t16_inverse_wide(values: &[u16], inverses: &mut [u16]) -> u32
+    ensures { Inverts (level_field 4) values.now inverses.old inverses.new result }
+{
+    in_slices::invert::<u16, Tower<Bits16>, u64x4>(values, inverses)
+}
+
+/// The same as `bf_t16_batch_inverse`.
+#[unsafe(no_mangle)]
+pub extern "C" fn bf_t16_batch_inverse_wide(values: &[u16], inverses: &mut [u16]) -> u32
+    ensures { Inverts (level_field 4) values.now inverses.old inverses.new result }
+{
+    in_slices::invert::<u16, Tower<Bits16>, u64x4>(values, inverses)
+}
+
+/// The same as `bf_t32_multiply`.
+#[unsafe(no_mangle)]
+pub extern "C" fn bf_t32_multiply_wide(left: &[u32], right: &[u32], products: &mut [u32]) -> u32
+    ensures { Multiplies (level_field 5) left.now right.now products.old products.new result }
+{
+    in_slices::multiply::<u32, Tower<Bits32>, u64x4>(left, right, products)
+}
+
+/// The same as `bf_t32_inverse`.
+#[unsafe(no_mangle)]
+pub extern "C" fn bf_t32_inverse_wide(values: &[u32], inverses: &mut [u32]) -> u32
+    ensures { Inverts (level_field 5) values.now inverses.old inverses.new result }
+{
+    in_slices::invert::<u32, Tower<Bits32>, u64x4>(values, inverses)
+}
+
+/// The same as `bf_t32_batch_inverse`.
+#[unsafe(no_mangle)]
+pub extern "C" fn bf_t32_batch_inverse_wide(values: &[u32], inverses: &mut [u32]) -> u32
+    ensures { Inverts (level_field 5) values.now inverses.old inverses.new result }
+{
+    in_slices::invert::<u32, Tower<Bits32>, u64x4>(values, inverses)
+}
+
+/// The same as `bf_t64_multiply`.
+#[unsafe(no_mangle)]
+pub extern "C" fn bf_t64_multiply_wide(left: &[u64], right: &[u64], products: &mut [u64]) -> u32
+    ensures { Multiplies (level_field 6) left.now right.now products.old products.new result }
+{
+    in_slices::multiply::<u64, Tower<Bits64>, u64x4>(left, right, products)
+}
+
+/// The same as `bf_t64_inverse`.
+#[unsafe(no_mangle)]
+pub extern "C" fn bf_t64_inverse_wide(values: &[u64], inverses: &mut [u64]) -> u32
+    ensures { Inverts (level_field 6) values.now inverses.old inverses.new result }
+{
+    in_slices::invert::<u64, Tower<Bits64>, u64x4>(values, inverses)
+}
+
+/// The same as `bf_t64_batch_inverse`.
+#[unsafe(no_mangle)]
+pub extern "C" fn bf_t64_batch_inverse_wide(values: &[u64], inverses: &mut [u64]) -> u32
+    ensures { Inverts (level_field 6) values.now inverses.old inverses.new result }
+{
+    in_slices::invert::<u64, Tower<Bits64>, u64x4>(values, inverses)
+}
+
+/// The same as `bf_t128_multiply`.
+#[unsafe(no_mangle)]
+pub extern "C" fn bf_t128_multiply_wide(left: &[Wide], right: &[Wide], products: &mut [Wide]) -> u32
+    ensures { Multiplies wide_level_field left.now right.now products.old products.new result }
+{
+    in_slices::multiply::<u128, Tower<Bits128>, u64x4>(left, right, products)
+}
+
+/// The same as `bf_t128_inverse`.
+#[unsafe(no_mangle)]
+pub extern "C" fn bf_t128_inverse_wide(values: &[Wide], inverses: &mut [Wide]) -> u32
+    ensures { Inverts wide_level_field values.now inverses.old inverses.new result }
+{
+    in_slices::invert::<u128, Tower<Bits128>, u64x4>(values, inverses)
+}
+
+/// The same as `bf_t128_batch_inverse`.
+#[unsafe(no_mangle)]
+pub extern "C" fn bf_t128_batch_inverse_wide(values: &[Wide], inverses: &mut [Wide]) -> u32
+    ensures { Inverts wide_level_field values.now inverses.old inverses.new result }
+{
+    in_slices::invert::<u128, Tower<Bits128>, u64x4>(values, inverses)
+}
+
+/// The same as `bf_p64_inverse`.
+#[unsafe(no_mangle)]
+pub extern "C" fn bf_p64_inverse_wide(values: &[u64], inverses: &mut [u64]) -> u32
+    ensures { Inverts poly64_field values.now inverses.old inverses.new result }
+{
+    in_slices::invert::<u64, Poly64Kernel, u64x4>(values, inverses)
+}
+
+/// The same as `bf_p64_batch_inverse`.
+#[unsafe(no_mangle)]
+pub extern "C" fn bf_p64_batch_inverse_wide(values: &[u64], inverses: &mut [u64]) -> u32
+    ensures { Inverts poly64_field values.now inverses.old inverses.new result }
+{
+    in_slices::batch_invert::<u64, Poly64Kernel, u64x4>(values, inverses)
+}
+
+/// The same as `bf_g128_inverse`.
+#[unsafe(no_mangle)]
+pub extern "C" fn bf_g128_inverse_wide(values: &[Wide], inverses: &mut [Wide]) -> u32
+    ensures { Inverts ghash_field values.now inverses.old inverses.new result }
+{
+    in_slices::invert::<u128, GhashKernel, u64x4>(values, inverses)
+}
+
+/// The same as `bf_g128_batch_inverse`.
+#[unsafe(no_mangle)]
+pub extern "C" fn bf_g128_batch_inverse_wide(values: &[Wide], inverses: &mut [Wide]) -> u32
+    ensures { Inverts ghash_field values.now inverses.old inverses.new result }
+{
+    in_slices::batch_invert::<u128, GhashKernel, u64x4>(values, inverses)
 }

@@ -1,8 +1,10 @@
-mod ByteProducts
 pub mod BatchProducts
+mod BothParts
+mod ByteProducts
 mod ErasureCounts
 mod ErasureRestored
 mod FirstPlaces
+mod ImageInverses
 mod PlacesPut
 mod ScaledBytes
 mod SlicedWords

@@ -28,7 +28,6 @@ mod wide_level;
 mod words;
 
 pub use crate::bases::{ChangeOfBasis, FromTower, ToTower};
-pub use crate::batch::batch_invert;
 pub use crate::bytes::multiply_bytes;
 pub use crate::erasure::{erasure_encode, erasure_reconstruct, erasure_space, erasure_verify};
 pub use crate::linear::{map_bytes, map_wide};

@@ -1,0 +1,15 @@
+use Rattle.std.proofs.Common.{◌<◌, ◌^◌, ◌∙◌}
+use Rattle.field_base.specs.Field.{IsInverseOrZero}
+use Rattle.c_arithmetic.proofs.BothParts.{both_parts_of}
+use Rattle.c_arithmetic.proofs.in_slices.invert_blocks.Goals as goal
+
+pub returns-clause-inverses : goal.returns-clause-inverses
+returns-clause-inverses g c =
+    let number = g.K.Word.Holds.number in
+    let parts = c.split_at_mut-blocks in
+    let front = parts.result.0.now in
+    let back = parts.result.1.now in
+    let long = parts.ensures.front_len in
+    both_parts_of (λ x y z. (number z < 2 ^ g.K.FieldKernel.width) × IsInverseOrZero g.K.FieldKernel.product (number x) (number z)) _
+    front back front back c.invert_all.new.words c.invert_all-2.new.words long long (c.invert_all.ensures.long ∙ long) c.args.words.now
+    c.args.words.now parts.ensures.value parts.ensures.value c.invert_all.ensures.inverses c.invert_all-2.ensures.inverses
