@@ -1,53 +1,79 @@
--- A column that is encoded: its data are values of a polynomial, and its parity too, block by block.
-use Rattle.std.proofs.Common.{◌≡◌, ◌≢◌, ◌⊎◌, inl, inr, ℕ, ◌+◌, ◌-◌, ◌*◌, ◌/◌, ◌^◌, ◌<◌, ◌≤◌, List, length, get_or, map, sym, ◌∙◌, ap, subst, arith, div-mul-le_self, mul-le-mul_right}
+-- Columns of a strip that are encoded: the data of each are values of a polynomial, and its parity too, block by block.
+use Rattle.std.proofs.Common.{◌≡◌, ◌⊎◌, inl, inr, ℕ, ◌+◌, ◌-◌, ◌*◌, ◌/◌, ◌^◌, ◌<◌, ◌≤◌, List, length, get_or, map, sym, ◌∙◌, ap, subst, arith, div-mul-le_self, mul-le-mul_right}
 use Rattle.std.specs.Prelude.{slice_index}
 use Rattle.std.proofs.lemmas.Bool.{cases_lt}
 use Rattle.std.proofs.lemmas.List.{get_or-map, length-map}
+use Rattle.std.proofs.lemmas.Nat.{div-mul-add}
+use Rattle.additive_transforms.specs.Columns.{column_of}
+use Rattle.additive_transforms.proofs.ColumnStages.{column-at, column-length}
 use Rattle.field_base.specs.Tower.{tower_mul}
 use Rattle.ghash_slices.specs.Cantor.{point, polynomial_value}
 use Rattle.word_tables.specs.Cantor.{cantor_vector}
-use Rattle.transform_codes.specs.Codes.{IsCodedColumn, shard_symbol, value_at}
-use Rattle.transform_codes.specs.Columns.{AreParityBelow, AreScattered, HoldColumn, HoldWordValues, OthersAreKept}
+use Rattle.transform_codes.specs.Codes.{AreCodedBefore, AreCodedColumns, AreOfData, IsCodedColumn, shard_symbol, value_at}
+use Rattle.transform_codes.specs.Columns.{AreParityBelow, AreScattered, HoldStrip, HoldWordValues, OthersAreKept}
 use Rattle.additive_transforms.proofs.BlockPoints.{point-joined}
+use Rattle.transform_codes.proofs.ColumnPlaces.{columns_more, place_below}
 
-module _ {W : Type 0} (element : W → ℕ) (zero : W) (level n : ℕ) where
+-- so many words are rows of a strip
+pub rows_in : (n width words : ℕ) → 0 < width → words ≡ 2 ^ n * width → words / width ≡ 2 ^ n
+rows_in n width words some all =
+    let whole : 2 ^ n * width ≡ 2 ^ n * width + 0 = omega arith in
+    ap (λ (k : ℕ). k / width) (all ∙ whole) ∙ div-mul-add (2 ^ n) width 0 some
+
+module _ {W : Type 0} (element : W → ℕ) (zero : W) (level n width c : ℕ) (inside : c < width) where
+  abbrev column : List W → List ℕ
+  column words = column_of width c (map element words)
+
+  rows : (words : List W) → length words ≡ 2 ^ n * width → length (map element words) / width ≡ 2 ^ n
+  rows words count = rows_in n width (length (map element words)) (omega (arith, inside)) (length-map words element ∙ count)
+
+  -- a column has a coefficient of each row
+  pub column_long : (words : List W) → length words ≡ 2 ^ n * width → length (column words) ≡ 2 ^ n
+  column_long words count = column-length width c (map element words) ∙ rows words count
+
   -- the value that a place holds
-  pub held : (z : ℕ) (coefficients values : List W) → length coefficients ≡ 2 ^ n → length values ≡ 2 ^ n → HoldWordValues element level z coefficients values
-      → (p : ℕ) → p < 2 ^ n
-      → element (get_or values p zero) ≡ polynomial_value (tower_mul level) n (slice_index (map element coefficients)) (point (2 ^ level) cantor_vector z p)
+  pub held : (z : ℕ) (coefficients values : List W) → length coefficients ≡ 2 ^ n * width → length values ≡ 2 ^ n * width
+      → HoldWordValues element level z width c coefficients values → (p : ℕ) → p < 2 ^ n
+      → element (get_or values (p * width + c) zero)
+      ≡ polynomial_value (tower_mul level) n (slice_index (column coefficients)) (point (2 ^ level) cantor_vector z p)
   held z coefficients values count long holds p below =
-      sym (get_or-map element values p zero 0 (omega (arith, long, below)))
-      ∙ holds n (length-map coefficients element ∙ count) p below
+      let within = place_below width (2 ^ n) p c below inside in
+      let in_rows = rows values long in
+      sym (get_or-map element values (p * width + c) zero 0 (omega (arith, long, within)))
+      ∙ sym (column-at width c (map element values) p (omega (arith, in_rows, below)))
+      ∙ holds n (column_long coefficients count) p below
 
-  module _ (k size column : ℕ) (shards values coefficients : List W) (z : ℕ) (nothing : z ≡ 0) (count : length coefficients ≡ 2 ^ n)
-      (long : length values ≡ 2 ^ n) (column_is : HoldColumn zero k size column shards (2 ^ n) values) (holds : HoldWordValues element level z coefficients values) where
-    at_first : (p : ℕ) → p < 2 ^ n → element (get_or values p zero) ≡ value_at level n (map element coefficients) p
+  module _ (k size start : ℕ) (shards values coefficients : List W) (z : ℕ) (nothing : z ≡ 0) (count : length coefficients ≡ 2 ^ n * width)
+      (long : length values ≡ 2 ^ n * width) (strip_is : HoldStrip zero k size start width shards (2 ^ n) values)
+      (holds : HoldWordValues element level z width c coefficients values) where
+    at_first : (p : ℕ) → p < 2 ^ n → element (get_or values (p * width + c) zero) ≡ value_at level n (column coefficients) p
     at_first p below =
         held z coefficients values count long holds p below
-        ∙ ap (λ (y : ℕ). polynomial_value (tower_mul level) n (slice_index (map element coefficients)) (point (2 ^ level) cantor_vector y p)) nothing
+        ∙ ap (λ (y : ℕ). polynomial_value (tower_mul level) n (slice_index (column coefficients)) (point (2 ^ level) cantor_vector y p)) nothing
 
-    -- the data are values
-    pub data_values : k ≤ 2 ^ n → (i : ℕ) → i < k → shard_symbol element zero size shards column i ≡ value_at level n (map element coefficients) i
-    data_values padded i below =
-        let within : i < 2 ^ n = omega (arith, below, padded) in
-        sym (ap element ((column_is i within).0 below)) ∙ at_first i within
-
-    -- and so are zeros behind them
-    pub padding_values : element zero ≡ 0 → (p : ℕ) → k ≤ p → p < 2 ^ n → value_at level n (map element coefficients) p ≡ 0
-    padding_values none p past below = sym (at_first p below) ∙ ap element ((column_is p below).1 past) ∙ none
+    -- the polynomial of a column of data
+    pub of_data : k ≤ 2 ^ n → element zero ≡ 0 → AreOfData level n k (shard_symbol element zero size shards (start + c)) (column coefficients)
+    of_data padded none =
+        record {
+          count = column_long coefficients count;
+          values = λ i below.
+              let within : i < 2 ^ n = omega (arith, below, padded) in
+              sym (ap element ((strip_is i c within inside).0 below)) ∙ at_first i within;
+          padding = λ p past below. sym (at_first p below) ∙ ap element ((strip_is p c below inside).1 past) ∙ none;
+        }
 
   -- one more block of parity
-  pub next_block : (m size column q first taken z : ℕ) (coefficients block old new : List W)
-      → column < size → length coefficients ≡ 2 ^ n → length block ≡ 2 ^ n → first ≡ q * 2 ^ n
+  pub next_block : (m size start q first taken z : ℕ) (coefficients block old new : List W)
+      → start + width ≤ size → length coefficients ≡ 2 ^ n * width → length block ≡ 2 ^ n * width → first ≡ q * 2 ^ n
       → z ≡ point (2 ^ level) cantor_vector 0 ((q + 1) * 2 ^ n) → (taken ≡ 2 ^ n) ⊎ (first + taken ≡ m)
-      → HoldWordValues element level z coefficients block
-      → AreParityBelow element zero level n m size column (map element coefficients) (q * 2 ^ n) old
-      → AreScattered zero size column first taken block old new
-      → AreParityBelow element zero level n m size column (map element coefficients) ((q + 1) * 2 ^ n) new
-  next_block m size column q first taken z coefficients block old new inside count long first_is shift end holds before now t below few =
+      → HoldWordValues element level z width c coefficients block
+      → AreParityBelow element zero level n m size (start + c) (column coefficients) (q * 2 ^ n) old
+      → AreScattered zero size start width first taken block old new
+      → AreParityBelow element zero level n m size (start + c) (column coefficients) ((q + 1) * 2 ^ n) new
+  next_block m size start q first taken z coefficients block old new fits count long first_is shift end holds before now t below few =
       elim (cases_lt t (q * 2 ^ n)) [
         | inl early ↦
-            ap element (now.kept t column inside (inr (inl (omega (arith, early, first_is)))))
+            ap element (now.kept t (start + c) (omega (arith, inside, fits)) (inr (inl (omega (arith, early, first_is)))))
             ∙ before t early few
         | inr late ↦ in_block late
       ]
@@ -55,31 +81,66 @@ module _ {W : Type 0} (element : W → ℕ) (zero : W) (level n : ℕ) where
       more : (q + 1) * 2 ^ n ≡ q * 2 ^ n + 2 ^ n
       more = omega arith
 
-      in_block : q * 2 ^ n ≤ t → shard_symbol element zero size new column t ≡ value_at level n (map element coefficients) (2 ^ n + t)
+      in_block : q * 2 ^ n ≤ t
+          → shard_symbol element zero size new (start + c) t ≡ value_at level n (column coefficients) (2 ^ n + t)
       in_block late =
           let s : ℕ = t - q * 2 ^ n in
           let s_below : s < 2 ^ n = omega (arith, below, more, late) in
           let reached : s < taken = elim end [ inl all ↦ omega (arith, s_below, all) | inr rest ↦ omega (arith, few, rest, first_is, late) ] in
           let place : first + s ≡ t = omega (arith, first_is, late) in
           let behind : (q + 1) * 2 ^ n + s ≡ 2 ^ n + t = omega (arith, more, late) in
-          ap (λ (i : ℕ). element (get_or new (i * size + column) zero)) (sym place)
-          ∙ ap element (now.written s reached)
+          ap (λ (i : ℕ). element (get_or new (i * size + (start + c)) zero)) (sym place)
+          ∙ ap element (now.written s c reached inside)
           ∙ held z coefficients block count long holds s s_below
-          ∙ ap (polynomial_value (tower_mul level) n (slice_index (map element coefficients)))
+          ∙ ap (polynomial_value (tower_mul level) n (slice_index (column coefficients)))
           (ap (λ (y : ℕ). point (2 ^ level) cantor_vector y s) shift
           ∙ point-joined cantor_vector n (q + 1) s s_below (2 ^ level) 0
           ∙ ap (point (2 ^ level) cantor_vector 0) behind)
 
+module _ {W : Type 0} (element : W → ℕ) (zero : W) (level n k m size start width : ℕ) (shards old new : List W) where
+  abbrev is_coded : ℕ → List W → ℕ → Type 0
+  is_coded of_size parity column =
+      IsCodedColumn level n k m (shard_symbol element zero of_size shards column) (shard_symbol element zero of_size parity column)
+
   -- a column keeps its code word where it keeps its words
-  pub kept_word : (k m size column c : ℕ) (symbol : ℕ → ℕ) (old new : List W) → c < size → c ≢ column → OthersAreKept zero size column old new
-      → IsCodedColumn level n k m symbol (shard_symbol element zero size old c)
-      → IsCodedColumn level n k m symbol (shard_symbol element zero size new c)
-  kept_word k m size column c symbol old new inside other kept word =
+  kept_word : start + width ≤ size → OthersAreKept zero size start width old new → (column : ℕ) → column < start
+      → is_coded size old column → is_coded size new column
+  kept_word fits kept column before word =
       record {
         coefficients = word.coefficients;
         of_data = word.of_data;
-        of_parity = λ t below. ap element (kept t c inside other) ∙ word.of_parity t below;
+        of_parity = λ t below. ap element (kept t column (omega (arith, before, fits)) (inl before)) ∙ word.of_parity t below;
       }
+
+  more_columns : start + width ≤ size → OthersAreKept zero size start width old new
+      → AreCodedBefore element zero level n k m size start shards old → ((c : ℕ) → c < width → is_coded size new (start + c))
+      → AreCodedBefore element zero level n k m size (start + width) shards new
+  more_columns fits kept before strip =
+      columns_more start width (is_coded size new) (λ column below. kept_word fits kept column below (before column below)) strip
+
+-- one more strip, which begins behind the columns so far
+pub next_strip : {W : Type 0} (element : W → ℕ) (zero : W) (level n k m size start width at_size at_start : ℕ) (shards old new : List W)
+    → at_size ≡ size → at_start ≡ start → at_start + width ≤ at_size → OthersAreKept zero at_size at_start width old new
+    → AreCodedBefore element zero level n k m size start shards old
+    → ((c : ℕ) → c < width → IsCodedColumn level n k m (shard_symbol element zero at_size shards (at_start + c))
+    (shard_symbol element zero at_size new (at_start + c)))
+    → (start + width ≤ size) × AreCodedBefore element zero level n k m size (start + width) shards new
+next_strip element zero level n k m size start width at_size at_start shards old new size_is start_is fits kept before strip =
+    subst (λ (s : ℕ). (start + width ≤ s) × AreCodedBefore element zero level n k m s (start + width) shards new) size_is
+    (subst (λ (b : ℕ). (b + width ≤ at_size) × AreCodedBefore element zero level n k m at_size (b + width) shards new) start_is (
+      fits,
+      more_columns element zero level n k m at_size at_start width shards old new fits kept
+          (subst (λ (s : ℕ). AreCodedBefore element zero level n k m s at_start shards old) (sym size_is)
+          (subst (λ (b : ℕ). AreCodedBefore element zero level n k m size b shards old) (sym start_is) before)) strip,
+    ))
+
+-- where each column is a code word, those of a strip are
+pub strip_of_coded : {W : Type 0} (element : W → ℕ) (zero : W) (level n k m size width at_size at_start : ℕ) (shards parity : List W)
+    → at_size ≡ size → at_start + width ≤ at_size → AreCodedColumns element zero level n k m size shards parity
+    → (c : ℕ) → c < width → IsCodedColumn level n k m (shard_symbol element zero at_size shards (at_start + c))
+    (shard_symbol element zero at_size parity (at_start + c))
+strip_of_coded element zero level n k m size width at_size at_start shards parity size_is fits words c inside =
+    subst (λ (s : ℕ). AreCodedColumns element zero level n k m s shards parity) (sym size_is) words (at_start + c) (omega (arith, inside, fits))
 
 -- so many blocks have all places
 pub all_blocks : (m long len : ℕ) → long ≡ len → 0 < len → m ≤ ((m - 1) / long + 1) * len

@@ -1,53 +1,167 @@
--- Places of a column among the words of shards.
-use Rattle.std.proofs.Common.{◌≡◌, ◌≢◌, ◌⊎◌, inl, inr, ℕ, ◌+◌, ◌*◌, ◌/◌, ◌%◌, ◌<◌, ◌≤◌, List, length, get_or, set, sym, ◌∙◌, ap, arith, below_more}
+-- Places of strips among the words of shards, and rows that are put there one after the other.
+use Rattle.std.proofs.Common.{◌≡◌, ◌≢◌, ◌⊎◌, inl, inr, ℕ, ◌+◌, ◌-◌, ◌*◌, ◌<◌, ◌≤◌, List, length, get_or, set, sym, ◌∙◌, ap, subst, arith, below_more, mul-le-mul_right}
+use Rattle.std.proofs.lemmas.Bool.{cases_lt}
 use Rattle.std.proofs.lemmas.List.{get_or-set_other, get_or-set_same}
-use Rattle.std.proofs.lemmas.Nat.{div-mul-add, mod-mul-add, mul-add-lt}
-use Rattle.transform_codes.specs.Columns.{AreScattered}
-
--- two places are the same only in the same shard and the same column
-pub same_shard : (size i j c d : ℕ) → c < size → d < size → i * size + c ≡ j * size + d → i ≡ j
-same_shard size i j c d c_below d_below same =
-    sym (div-mul-add i size c c_below) ∙ ap (λ (x : ℕ). x / size) same ∙ div-mul-add j size d d_below
-
-pub same_column : (size i j c d : ℕ) → c < size → d < size → i * size + c ≡ j * size + d → c ≡ d
-same_column size i j c d c_below d_below same =
-    sym (mod-mul-add i size c c_below) ∙ ap (λ (x : ℕ). x % size) same ∙ mod-mul-add j size d d_below
+use Rattle.std.proofs.lemmas.Nat.{mul-add-lt}
+use Rattle.field_base.specs.Tower.{tower_mul}
+use Rattle.transform_codes.specs.Columns.{ArePutWords, ArePutProducts, AreRowProducts, AreScattered, HoldStrip, IsOutside}
 
 -- a place lies within the shards
 pub place_below : (size count i c : ℕ) → i < count → c < size → i * size + c < count * size
 place_below size count i c within inside = let below = mul-add-lt i size c count within inside in omega (arith, below)
 
--- the same, where the shards have so many words
-pub place_within : (size count i c words : ℕ) → words ≡ count * size → i < count → c < size → i * size + c ≤ words
-place_within size count i c words long within inside = omega (arith, long, place_below size count i c within inside)
+-- a strip of a shard ends within the shards
+pub strip_within : (size count i start width : ℕ) → i < count → start + width ≤ size → i * size + start + width ≤ count * size
+strip_within size count i start width within inside =
+    let rows : (i + 1) * size ≤ count * size = mul-le-mul_right size (omega (arith, within)) in
+    let next : (i + 1) * size ≡ i * size + size = omega arith in
+    omega (arith, rows, next, inside)
 
--- one more word is written
-pub scattered_more : {W : Type 0} (zero : W) (size column first t count : ℕ) (values old now : List W) (v : W)
-    → column < size → length now ≡ count * size → first + t < count → v ≡ get_or values t zero
-    → AreScattered zero size column first t values old now
-    → AreScattered zero size column first (t + 1) values old (set now ((first + t) * size + column) v)
-scattered_more zero size column first t count values old now v inside whole within is before =
-    record {
-      written = below_more _ t
-          (λ s below.
-          get_or-set_other now place ((first + s) * size + column) v zero
-          (λ same. absurd (omega (arith, below, same_shard size (first + s) (first + t) column column inside inside same)))
-          ∙ before.written s below)
-          (get_or-set_same now place v zero (omega (arith, whole, place_below size count (first + t) column within inside)) ∙ is);
-      kept = λ i c c_below side.
-          get_or-set_other now place (i * size + c) v zero (apart i c c_below side)
-          ∙ before.kept i c c_below (weaker i c side);
-    }
+-- a word of another shard or another column lies before a strip of shard j, or behind it
+pub apart : (size start width j i c : ℕ) → c < size → start + width ≤ size → (IsOutside start width c) ⊎ (i ≢ j)
+    → (i * size + c < j * size + start) ⊎ (j * size + start + width ≤ i * size + c)
+apart size start width j i c c_below inside side =
+    elim (cases_lt i j) [
+      | inl early ↦ let below = place_below size j i c early c_below in inl (omega (arith, below))
+      | inr late ↦ elim (cases_lt j i) [
+        | inl later ↦ let ends = strip_within size i j start width later inside in inr (omega (arith, ends))
+        | inr reached ↦ here (omega (arith, late, reached)) side
+      ]
+    ]
   where
-    place : ℕ
-    place = (first + t) * size + column
+    here : i ≡ j → (IsOutside start width c) ⊎ (i ≢ j) → (i * size + c < j * size + start) ⊎ (j * size + start + width ≤ i * size + c)
+    here equal (inl (inl before)) = let at : i * size ≡ j * size = ap (λ (k : ℕ). k * size) equal in inl (omega (arith, at, before))
+    here equal (inl (inr behind)) = let at : i * size ≡ j * size = ap (λ (k : ℕ). k * size) equal in inr (omega (arith, at, behind))
+    here equal (inr differ) = absurd (differ equal)
 
-    apart : (i c : ℕ) → c < size → (c ≢ column) ⊎ ((i < first) ⊎ (first + (t + 1) ≤ i)) → i * size + c ≢ place
-    apart i c c_below (inl other) same = other (same_column size i (first + t) c column c_below inside same)
-    apart i c c_below (inr (inl early)) same = absurd (omega (arith, early, same_shard size i (first + t) c column c_below inside same))
-    apart i c c_below (inr (inr late)) same = absurd (omega (arith, late, same_shard size i (first + t) c column c_below inside same))
+-- what holds of the columns so far, and of those of a strip, holds of all these
+pub columns_more : (start width : ℕ) (holds : ℕ → Type 0) → ((column : ℕ) → column < start → holds column)
+    → ((c : ℕ) → c < width → holds (start + c)) → (column : ℕ) → column < start + width → holds column
+columns_more start width holds before strip column below =
+    elim (cases_lt column start) [
+      | inl early ↦ before column early
+      | inr late ↦
+          let place : start + (column - start) ≡ column = omega (arith, late) in
+          subst holds place (strip (column - start) (omega (arith, below, late)))
+    ]
 
-    weaker : (i c : ℕ) → (c ≢ column) ⊎ ((i < first) ⊎ (first + (t + 1) ≤ i)) → (c ≢ column) ⊎ ((i < first) ⊎ (first + t ≤ i))
-    weaker i c (inl other) = inl other
-    weaker i c (inr (inl early)) = inr (inl early)
-    weaker i c (inr (inr late)) = inr (inr (omega (arith, late)))
+-- ---- words of one row
+
+module _ {W : Type 0} (zero : W) (place c : ℕ) (old now : List W) (v : W) (within : place + c < length now) where
+  other : (p : ℕ) → (p < place) ⊎ (place + (c + 1) ≤ p) → p ≢ place + c
+  other p (inl early) same = absurd (omega (arith, early, same))
+  other p (inr late) same = absurd (omega (arith, late, same))
+
+  weaker : (p : ℕ) → (p < place) ⊎ (place + (c + 1) ≤ p) → (p < place) ⊎ (place + c ≤ p)
+  weaker p (inl early) = inl early
+  weaker p (inr late) = inr (omega (arith, late))
+
+  before_it : (s : ℕ) → s < c → place + s ≢ place + c
+  before_it s below same = absurd (omega (arith, below, same))
+
+  -- one more is put
+  pub put_more : (word : ℕ → W) → v ≡ word c → ArePutWords zero place c word old now → ArePutWords zero place (c + 1) word old (set now (place + c) v)
+  put_more word is before =
+      record {
+        written = below_more _ c
+            (λ s below. get_or-set_other now (place + c) (place + s) v zero (before_it s below) ∙ before.written s below)
+            (get_or-set_same now (place + c) v zero within ∙ is);
+        kept = λ p side. get_or-set_other now (place + c) p v zero (other p side) ∙ before.kept p (weaker p side);
+      }
+
+  -- one more is multiplied
+  pub product_more : (number : W → ℕ) (level factor : ℕ) → number v ≡ tower_mul level (number (get_or now (place + c) zero)) factor
+      → ArePutProducts number zero level place c factor old now
+      → ArePutProducts number zero level place (c + 1) factor old (set now (place + c) v)
+  product_more number level factor is before =
+      let reached : place + c ≤ place + c = omega arith in
+      record {
+        product = below_more _ c
+            (λ s below. ap number (get_or-set_other now (place + c) (place + s) v zero (before_it s below)) ∙ before.product s below)
+            (ap number (get_or-set_same now (place + c) v zero within) ∙ is
+            ∙ ap (λ (w : W). tower_mul level (number w) factor) (before.kept (place + c) (inr reached)));
+        kept = λ p side. get_or-set_other now (place + c) p v zero (other p side) ∙ before.kept p (weaker p side);
+      }
+
+-- ---- row after row
+
+module _ {W : Type 0} (zero : W) (size start width : ℕ) where
+  -- one more row is read
+  pub gathered_more : (count i : ℕ) (word : ℕ → W) (shards old now : List W)
+      → (i < count → (c : ℕ) → c < width → word c ≡ get_or shards (i * size + (start + c)) zero)
+      → (count ≤ i → (c : ℕ) → c < width → word c ≡ zero)
+      → ArePutWords zero (i * width) width word old now
+      → HoldStrip zero count size start width shards i old
+      → HoldStrip zero count size start width shards (i + 1) now
+  gathered_more count i word shards old now read none put before j c below inside =
+      elim (cases_lt j i) [
+        | inl early ↦
+            let kept = put.kept (j * width + c) (inl (place_below width i j c early inside)) in
+            ((λ within. kept ∙ (before j c early inside).0 within), λ past. kept ∙ (before j c early inside).1 past)
+        | inr late ↦
+            let same : i ≡ j = omega (arith, below, late) in
+            subst (λ (s : ℕ). (s < count → get_or now (s * width + c) zero ≡ get_or shards (s * size + (start + c)) zero)
+            × (count ≤ s → get_or now (s * width + c) zero ≡ zero)) same
+            ((λ within. put.written c inside ∙ read within c inside), λ past. put.written c inside ∙ none past c inside)
+      ]
+
+  -- one more row is written
+  pub scattered_more : (first t : ℕ) (values old mid now : List W) → start + width ≤ size
+      → ArePutWords zero ((first + t) * size + start) width (λ c. get_or values (t * width + c) zero) mid now
+      → AreScattered zero size start width first t values old mid
+      → AreScattered zero size start width first (t + 1) values old now
+  scattered_more first t values old mid now inside put before =
+      record {
+        written = λ s c below in_row.
+            elim (cases_lt s t) [
+              | inl early ↦
+                  let under = place_below size (first + t) (first + s) (start + c) (omega (arith, early)) (omega (arith, in_row, inside)) in
+                  put.kept ((first + s) * size + (start + c)) (inl (omega (arith, under)))
+                  ∙ before.written s c early in_row
+              | inr late ↦
+                  let same : t ≡ s = omega (arith, below, late) in
+                  let place : (first + t) * size + (start + c) ≡ (first + t) * size + start + c = omega arith in
+                  subst (λ (r : ℕ). get_or now ((first + r) * size + (start + c)) zero ≡ get_or values (r * width + c) zero) same
+                  (ap (λ (p : ℕ). get_or now p zero) place ∙ put.written c in_row)
+            ];
+        kept = λ i c c_below side.
+            put.kept (i * size + c) (apart size start width (first + t) i c c_below inside (differs i c side))
+            ∙ before.kept i c c_below (fewer i c side);
+      }
+    where
+      differs : (i c : ℕ) → (IsOutside start width c) ⊎ ((i < first) ⊎ (first + (t + 1) ≤ i)) → (IsOutside start width c) ⊎ (i ≢ first + t)
+      differs i c (inl outside) = inl outside
+      differs i c (inr (inl early)) = inr (λ same. absurd (omega (arith, early, same)))
+      differs i c (inr (inr late)) = inr (λ same. absurd (omega (arith, late, same)))
+
+      fewer : (i c : ℕ) → (IsOutside start width c) ⊎ ((i < first) ⊎ (first + (t + 1) ≤ i)) → (IsOutside start width c) ⊎ ((i < first) ⊎ (first + t ≤ i))
+      fewer i c (inl outside) = inl outside
+      fewer i c (inr (inl early)) = inr (inl early)
+      fewer i c (inr (inr late)) = inr (inr (omega (arith, late)))
+
+module _ {W : Type 0} (number : W → ℕ) (zero : W) (level width p first : ℕ) (factors old mid now : List W) (factor : ℕ)
+    (factor_is : factor ≡ number (get_or factors (first + p) zero))
+    (put : ArePutProducts number zero level (p * width) width factor mid now)
+    (before : AreRowProducts number zero level width p first factors old mid)
+    (rest : (q : ℕ) → p * width ≤ q → get_or mid q zero ≡ get_or old q zero) where
+  -- one more row is multiplied
+  pub row_product_more : AreRowProducts number zero level width (p + 1) first factors old now
+  row_product_more q c below inside =
+      elim (cases_lt q p) [
+        | inl early ↦
+            let under = place_below width p q c early inside in
+            ap number (put.kept (q * width + c) (inl (omega (arith, under)))) ∙ before q c early inside
+        | inr late ↦
+            let same : p ≡ q = omega (arith, below, late) in
+            subst (λ (s : ℕ). number (get_or now (s * width + c) zero)
+            ≡ tower_mul level (number (get_or old (s * width + c) zero)) (number (get_or factors (first + s) zero))) same
+            (put.product c inside
+            ∙ ap (λ (w : W). tower_mul level (number w) factor) (rest (p * width + c) (omega arith))
+            ∙ ap (tower_mul level (number (get_or old (p * width + c) zero))) factor_is)
+      ]
+
+  -- and those behind it are left
+  pub row_rest_more : (q : ℕ) → (p + 1) * width ≤ q → get_or now q zero ≡ get_or old q zero
+  row_rest_more q past =
+      let next : (p + 1) * width ≡ p * width + width = omega arith in
+      put.kept q (inr (omega (arith, past, next))) ∙ rest q (omega (arith, past, next))

@@ -7,3 +7,4 @@ mod LocatorFacts
 mod LostCounts
 mod MendedColumns
 mod RestoredColumns
+mod StripWords

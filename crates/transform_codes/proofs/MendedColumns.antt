@@ -1,26 +1,27 @@
--- The missing shards of a column that are written, one after the other.
+-- The missing shards of a strip that are written, one after the other.
 use Rattle.std.proofs.Common.{◌≡◌, ◌≢◌, ◌⊎◌, inl, inr, ℕ, ◌+◌, ◌*◌, ◌^◌, ◌<◌, ◌≤◌, Bool, true, false, List, length, get_or, set, sym, ◌∙◌, ap, subst, arith}
 use Rattle.std.proofs.lemmas.Bool.{cases_Bool, cases_lt, true≢false}
-use Rattle.std.proofs.lemmas.List.{get_or-set_other, get_or-set_same}
+use Rattle.transform_codes.specs.Columns.{ArePutWords, IsOutside}
 use Rattle.transform_codes.specs.Restoring.{AreMended, AreRestoredColumns, IsAtHand, RestoresSymbols}
 use Rattle.transform_codes.specs.Codes.{IsCodedColumn, shard_symbol, value_at}
 use Rattle.transform_codes.specs.Determined.{LostSymbolsReturn}
-use Rattle.transform_codes.proofs.ColumnPlaces.{same_column, same_shard}
+use Rattle.transform_codes.proofs.ColumnPlaces.{apart, columns_more, place_below}
 
-module _ {W : Type 0} (zero : W) (size column i from first : ℕ) (present : List Bool) (values old now : List W)
-    (before : AreMended zero size column i from first present values old now) where
-  weaker : (j c : ℕ) → (c ≢ column) ⊎ ((IsAtHand present (first + j)) ⊎ (i + 1 ≤ j)) → (c ≢ column) ⊎ ((IsAtHand present (first + j)) ⊎ (i ≤ j))
-  weaker j c (inl other) = inl other
+module _ {W : Type 0} (zero : W) (size start width i from first : ℕ) (present : List Bool) (values old now : List W)
+    (before : AreMended zero size start width i from first present values old now) where
+  weaker : (j c : ℕ) → (IsOutside start width c) ⊎ ((IsAtHand present (first + j)) ⊎ (i + 1 ≤ j))
+      → (IsOutside start width c) ⊎ ((IsAtHand present (first + j)) ⊎ (i ≤ j))
+  weaker j c (inl outside) = inl outside
   weaker j c (inr (inl here)) = inr (inl here)
   weaker j c (inr (inr late)) = inr (inr (omega (arith, late)))
 
   -- one that is at hand stays
-  pub mended_passed : get_or present (first + i) false ≡ true → AreMended zero size column (i + 1) from first present values old now
+  pub mended_passed : get_or present (first + i) false ≡ true → AreMended zero size start width (i + 1) from first present values old now
   mended_passed here =
       record {
-        mended = λ j below absent.
+        mended = λ j c below inside absent.
             elim (cases_lt j i) [
-              | inl early ↦ before.mended j early absent
+              | inl early ↦ before.mended j c early inside absent
               | inr late ↦
                   let same : j ≡ i = omega (arith, below, late) in
                   absurd (true≢false (sym (ap (λ (s : ℕ). get_or present (first + s) false) same ∙ here) ∙ absent))
@@ -29,112 +30,133 @@ module _ {W : Type 0} (zero : W) (size column i from first : ℕ) (present : Lis
       }
 
   -- one that is missing is written
-  pub mended_wrote : (v : W) → get_or present (first + i) false ≡ false → column < size → i * size + column < length now
-      → v ≡ get_or values (from + i) zero
-      → AreMended zero size column (i + 1) from first present values old (set now (i * size + column) v)
-  mended_wrote v absent inside within is =
+  pub mended_wrote : (next : List W) → get_or present (first + i) false ≡ false → start + width ≤ size
+      → ArePutWords zero (i * size + start) width (λ c. get_or values ((from + i) * width + c) zero) now next
+      → AreMended zero size start width (i + 1) from first present values old next
+  mended_wrote next absent fits put =
       record {
-        mended = λ j below missing.
+        mended = λ j c below inside missing.
             elim (cases_lt j i) [
               | inl early ↦
-                  get_or-set_other now (i * size + column) (j * size + column) v zero
-                  (λ same. absurd (omega (arith, early, same_shard size j i column column inside inside same)))
-                  ∙ before.mended j early missing
+                  let under = place_below size i j (start + c) early (omega (arith, inside, fits)) in
+                  put.kept (j * size + (start + c)) (inl (omega (arith, under))) ∙ before.mended j c early inside missing
               | inr late ↦
                   let same : i ≡ j = omega (arith, below, late) in
-                  subst (λ (s : ℕ). get_or (set now (i * size + column) v) (s * size + column) zero ≡ get_or values (from + s) zero) same
-                  (get_or-set_same now (i * size + column) v zero within ∙ is)
+                  let place : i * size + (start + c) ≡ i * size + start + c = omega arith in
+                  subst (λ (s : ℕ). get_or next (s * size + (start + c)) zero ≡ get_or values ((from + s) * width + c) zero) same
+                  (ap (λ (p : ℕ). get_or next p zero) place ∙ put.written c inside)
             ];
         kept = λ j c c_below side.
-            get_or-set_other now (i * size + column) (j * size + c) v zero (apart j c c_below side)
+            put.kept (j * size + c) (apart size start width i j c c_below fits (differs j c side))
             ∙ before.kept j c c_below (weaker j c side);
       }
     where
-      apart : (j c : ℕ) → c < size → (c ≢ column) ⊎ ((IsAtHand present (first + j)) ⊎ (i + 1 ≤ j)) → j * size + c ≢ i * size + column
-      apart j c c_below (inl other) same = other (same_column size j i c column c_below inside same)
-      apart j c c_below (inr (inl here)) same =
-          let equal : j ≡ i = same_shard size j i c column c_below inside same in
-          true≢false (sym here ∙ ap (λ (s : ℕ). get_or present (first + s) false) equal ∙ absent)
-      apart j c c_below (inr (inr late)) same = absurd (omega (arith, late, same_shard size j i c column c_below inside same))
+      differs : (j c : ℕ) → (IsOutside start width c) ⊎ ((IsAtHand present (first + j)) ⊎ (i + 1 ≤ j)) → (IsOutside start width c) ⊎ (j ≢ i)
+      differs j c (inl outside) = inl outside
+      differs j c (inr (inl here)) =
+          inr (λ same. true≢false (sym here ∙ ap (λ (s : ℕ). get_or present (first + s) false) same ∙ absent))
+      differs j c (inr (inr late)) = inr (λ same. absurd (omega (arith, late, same)))
 
 -- ---- all columns
 
 module _ {W : Type 0} (element : W → ℕ) (zero : W) (level n k m size : ℕ) (present : List Bool) where
-  -- one more column is restored
-  pub restored_more : (column : ℕ) (shards parity mid mid_parity now now_parity : List W) → column < size
-      → AreRestoredColumns element zero level n k m size present column shards parity mid mid_parity
-      → ((i c : ℕ) → c < size → (c ≢ column) ⊎ (IsAtHand present i) → get_or now (i * size + c) zero ≡ get_or mid (i * size + c) zero)
-      → ((t c : ℕ) → c < size → (c ≢ column) ⊎ (IsAtHand present (k + t))
+  -- one more strip is restored
+  restored_more : (start width : ℕ) (shards parity mid mid_parity now now_parity : List W) → start + width ≤ size
+      → AreRestoredColumns element zero level n k m size present start shards parity mid mid_parity
+      → ((i c : ℕ) → c < size → (IsOutside start width c) ⊎ (IsAtHand present i)
+      → get_or now (i * size + c) zero ≡ get_or mid (i * size + c) zero)
+      → ((t c : ℕ) → c < size → (IsOutside start width c) ⊎ (IsAtHand present (k + t))
       → get_or now_parity (t * size + c) zero ≡ get_or mid_parity (t * size + c) zero)
-      → RestoresSymbols element zero level n k m size present column mid mid_parity now now_parity
-      → AreRestoredColumns element zero level n k m size present (column + 1) shards parity now now_parity
-  restored_more column shards parity mid mid_parity now now_parity inside before keeps parity_keeps restores =
+      → ((c : ℕ) → c < width → RestoresSymbols element zero level n k m size present (start + c) mid mid_parity now now_parity)
+      → AreRestoredColumns element zero level n k m size present (start + width) shards parity now now_parity
+  restored_more start width shards parity mid mid_parity now now_parity fits before keeps parity_keeps restores =
       record {
-        restored = λ c below. elim (cases_lt c column) [ inl early ↦ earlier c early | inr late ↦ this c (omega (arith, below, late)) ];
+        restored = columns_more start width (λ c. RestoresSymbols element zero level n k m size present c shards parity now now_parity) earlier own;
         kept = λ i c c_below side. keeps i c c_below (weaken i c side) ∙ before.kept i c c_below (earlier_side i c side);
         parity_kept = λ t c c_below side.
             parity_keeps t c c_below (weaken (k + t) c side) ∙ before.parity_kept t c c_below (earlier_side (k + t) c side);
       }
     where
-      weaken : (i c : ℕ) → (column + 1 ≤ c) ⊎ (IsAtHand present i) → (c ≢ column) ⊎ (IsAtHand present i)
-      weaken i c (inl late) = inl (λ same. absurd (omega (arith, late, same)))
+      weaken : (i c : ℕ) → (start + width ≤ c) ⊎ (IsAtHand present i) → (IsOutside start width c) ⊎ (IsAtHand present i)
+      weaken i c (inl late) = inl (inr late)
       weaken i c (inr here) = inr here
 
-      earlier_side : (i c : ℕ) → (column + 1 ≤ c) ⊎ (IsAtHand present i) → (column ≤ c) ⊎ (IsAtHand present i)
+      earlier_side : (i c : ℕ) → (start + width ≤ c) ⊎ (IsAtHand present i) → (start ≤ c) ⊎ (IsAtHand present i)
       earlier_side i c (inl late) = inl (omega (arith, late))
       earlier_side i c (inr here) = inr here
 
-      earlier : (c : ℕ) → c < column → RestoresSymbols element zero level n k m size present c shards parity now now_parity
+      earlier : (c : ℕ) → c < start → RestoresSymbols element zero level n k m size present c shards parity now now_parity
       earlier c early symbol word_parity word data_known parity_known =
-          let c_below : c < size = omega (arith, early, inside) in
-          let other : c ≢ column = λ same. absurd (omega (arith, early, same)) in
+          let c_below : c < size = omega (arith, early, fits) in
           let done = before.restored c early symbol word_parity word data_known parity_known in (
-            (λ i below. ap element (keeps i c c_below (inl other)) ∙ done.0 i below),
-            λ t below. ap element (parity_keeps t c c_below (inl other)) ∙ done.1 t below,
+            (λ i below. ap element (keeps i c c_below (inl (inl early))) ∙ done.0 i below),
+            λ t below. ap element (parity_keeps t c c_below (inl (inl early))) ∙ done.1 t below,
           )
 
-      own : RestoresSymbols element zero level n k m size present column shards parity now now_parity
-      own symbol word_parity word data_known parity_known =
-          let now_on : column ≤ column = omega arith in
-          restores symbol word_parity word
-          (λ i below here. ap element (before.kept i column inside (inl now_on)) ∙ data_known i below here)
-          (λ t below here. ap element (before.parity_kept t column inside (inl now_on)) ∙ parity_known t below here)
+      own : (c : ℕ) → c < width → RestoresSymbols element zero level n k m size present (start + c) shards parity now now_parity
+      own c inside symbol word_parity word data_known parity_known =
+          let now_on : start ≤ start + c = omega arith in
+          let c_below : start + c < size = omega (arith, inside, fits) in
+          restores c inside symbol word_parity word
+          (λ i below here. ap element (before.kept i (start + c) c_below (inl now_on)) ∙ data_known i below here)
+          (λ t below here. ap element (before.parity_kept t (start + c) c_below (inl now_on)) ∙ parity_known t below here)
 
-      this : (c : ℕ) → c ≡ column → RestoresSymbols element zero level n k m size present c shards parity now now_parity
-      this c same =
-          subst (λ (d : ℕ). RestoresSymbols element zero level n k m size present d shards parity now now_parity) (sym same) own
+-- one more strip, which begins behind the columns so far
+pub next_restored : {W : Type 0} (element : W → ℕ) (zero : W) (level n k m size start width at_size at_start : ℕ) (present : List Bool)
+    (shards parity mid mid_parity now now_parity : List W) → at_size ≡ size → at_start ≡ start → at_start + width ≤ at_size
+    → AreRestoredColumns element zero level n k m size present start shards parity mid mid_parity
+    → ((i c : ℕ) → c < at_size → (IsOutside at_start width c) ⊎ (IsAtHand present i)
+    → get_or now (i * at_size + c) zero ≡ get_or mid (i * at_size + c) zero)
+    → ((t c : ℕ) → c < at_size → (IsOutside at_start width c) ⊎ (IsAtHand present (k + t))
+    → get_or now_parity (t * at_size + c) zero ≡ get_or mid_parity (t * at_size + c) zero)
+    → ((c : ℕ) → c < width → RestoresSymbols element zero level n k m at_size present (at_start + c) mid mid_parity now now_parity)
+    → (start + width ≤ size) × AreRestoredColumns element zero level n k m size present (start + width) shards parity now now_parity
+next_restored element zero level n k m size start width at_size at_start present shards parity mid mid_parity now now_parity size_is start_is fits
+    before keeps parity_keeps restores =
+    subst (λ (s : ℕ). (start + width ≤ s) × AreRestoredColumns element zero level n k m s present (start + width) shards parity now now_parity) size_is
+    (subst (λ (b : ℕ). (b + width ≤ at_size) × AreRestoredColumns element zero level n k m at_size present (b + width) shards parity now now_parity)
+    start_is (
+      fits,
+      restored_more element zero level n k m at_size present at_start width shards parity mid mid_parity now now_parity fits
+          (subst (λ (s : ℕ). AreRestoredColumns element zero level n k m s present at_start shards parity mid mid_parity) (sym size_is)
+          (subst (λ (b : ℕ). AreRestoredColumns element zero level n k m size present b shards parity mid mid_parity) (sym start_is) before))
+          keeps parity_keeps restores,
+    ))
 
 -- ---- what a column becomes
 
-module _ {W : Type 0} (element : W → ℕ) (zero : W) (level n k m r size column first : ℕ) (present : List Bool)
+module _ {W : Type 0} (element : W → ℕ) (zero : W) (level n k m r size start width c first : ℕ) (present : List Bool)
     (shards parity now_shards now_parity values : List W) (symbol word_parity : ℕ → ℕ) (word : IsCodedColumn level n k m symbol word_parity)
-    (inside : column < size) (padded : k ≤ 2 ^ n) (room : 2 ^ n + m ≤ 2 ^ r) (first_is : first ≡ 2 ^ n)
-    (values_are : (p : ℕ) → p < 2 ^ r → element (get_or values p zero) ≡ value_at level n word.coefficients p) where
+    (fits : start + width ≤ size) (inside : c < width) (padded : k ≤ 2 ^ n) (room : 2 ^ n + m ≤ 2 ^ r) (first_is : first ≡ 2 ^ n)
+    (values_are : (p : ℕ) → p < 2 ^ r → element (get_or values (p * width + c) zero) ≡ value_at level n word.coefficients p) where
+  within : start + c < size
+  within = omega (arith, fits, inside)
+
   -- the data are those of the word
-  pub data_restored : ((i : ℕ) → i < k → IsAtHand present i → shard_symbol element zero size shards column i ≡ symbol i)
-      → AreMended zero size column k 0 0 present values shards now_shards
-      → (i : ℕ) → i < k → shard_symbol element zero size now_shards column i ≡ symbol i
+  pub data_restored : ((i : ℕ) → i < k → IsAtHand present i → shard_symbol element zero size shards (start + c) i ≡ symbol i)
+      → AreMended zero size start width k 0 0 present values shards now_shards
+      → (i : ℕ) → i < k → shard_symbol element zero size now_shards (start + c) i ≡ symbol i
   data_restored known done i below =
       let same : 0 + i ≡ i = omega arith in
       let flag : get_or present (0 + i) false ≡ get_or present i false = ap (λ (s : ℕ). get_or present s false) same in
       elim (cases_Bool (get_or present i false)) [
-        | inl here ↦ ap element (done.kept i column inside (inr (inl (flag ∙ here)))) ∙ known i below here
+        | inl here ↦ ap element (done.kept i (start + c) within (inr (inl (flag ∙ here)))) ∙ known i below here
         | inr absent ↦
-            ap element (done.mended i below (flag ∙ absent))
-            ∙ ap (λ (s : ℕ). element (get_or values s zero)) same
+            ap element (done.mended i c below inside (flag ∙ absent))
+            ∙ ap (λ (s : ℕ). element (get_or values (s * width + c) zero)) same
             ∙ values_are i (omega (arith, below, padded, room)) ∙ sym (word.of_data.values i below)
       ]
 
   -- and so is the parity
-  pub parity_restored : ((t : ℕ) → t < m → IsAtHand present (k + t) → shard_symbol element zero size parity column t ≡ word_parity t)
-      → AreMended zero size column m first k present values parity now_parity
-      → (t : ℕ) → t < m → shard_symbol element zero size now_parity column t ≡ word_parity t
+  pub parity_restored : ((t : ℕ) → t < m → IsAtHand present (k + t) → shard_symbol element zero size parity (start + c) t ≡ word_parity t)
+      → AreMended zero size start width m first k present values parity now_parity
+      → (t : ℕ) → t < m → shard_symbol element zero size now_parity (start + c) t ≡ word_parity t
   parity_restored known done t below =
       elim (cases_Bool (get_or present (k + t) false)) [
-        | inl here ↦ ap element (done.kept t column inside (inr (inl here))) ∙ known t below here
+        | inl here ↦ ap element (done.kept t (start + c) within (inr (inl here))) ∙ known t below here
         | inr absent ↦
-            ap element (done.mended t below absent)
-            ∙ ap (λ (s : ℕ). element (get_or values (s + t) zero)) first_is
+            ap element (done.mended t c below inside absent)
+            ∙ ap (λ (s : ℕ). element (get_or values ((s + t) * width + c) zero)) first_is
             ∙ values_are (2 ^ n + t) (omega (arith, below, room)) ∙ sym (word.of_parity t below)
       ]
 

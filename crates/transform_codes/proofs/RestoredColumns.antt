@@ -1,4 +1,4 @@
--- A column that is restored: what the four transforms leave is the word's polynomial at each point.
+-- Columns of a strip that are restored: what the four transforms leave of each is the word's polynomial at each point.
 use Rattle.std.proofs.Common.{◌≡◌, inl, inr, ℕ, suc, ◌+◌, ◌-◌, ◌*◌, ◌%◌, ◌^◌, ◌<◌, ◌≤◌, Bool, true, false, List, length, get_or, map, sym, ◌∙◌, ap, subst, arith}
 use Rattle.std.specs.Prelude.{slice_index}
 use Rattle.std.proofs.lemmas.Bool.{cases_Bool, cases_lt, true≢false}
@@ -6,6 +6,7 @@ use Rattle.std.proofs.lemmas.Bool.Decides.{nat_tests}
 use Rattle.std.proofs.lemmas.Nat.{pow_pos}
 use Rattle.std.proofs.Math.Pow.{pow_mono}
 use native.Mathlib.Nat.{mod-eq_of_lt, one-mul}
+use Rattle.additive_transforms.specs.Columns.{column_of}
 use Rattle.field_base.proofs.RingLemmas.{mod-times}
 use Rattle.field_base.proofs.TowerRing.{tower_ring}
 use Rattle.field_base.specs.Tower.{tower_mul}
@@ -13,7 +14,7 @@ use Rattle.ghash_slices.specs.Cantor.{point, polynomial_value}
 use Rattle.tower_transforms.specs.Words.{level_element}
 use Rattle.word_tables.specs.Cantor.{cantor_vector}
 use Rattle.transform_codes.specs.Codes.{IsCodedColumn, shard_symbol, value_at}
-use Rattle.transform_codes.specs.Columns.{HoldWordValues}
+use Rattle.transform_codes.specs.Columns.{AreRowProducts, HoldStrip, HoldWordValues}
 use Rattle.transform_codes.specs.Locators.{lost_count}
 use Rattle.transform_codes.specs.Restoring.{AreFactors, ArePoints, FitRestoring, IsAtHand, is_lost, is_missing, missing_locator, word_at}
 use Rattle.transform_codes.specs.Sizes.{CanRebuild}
@@ -21,6 +22,7 @@ use Rattle.additive_transforms.proofs.BlockPoints.{point-joined}
 use Rattle.transform_codes.proofs.CodedColumns.{held}
 use Rattle.transform_codes.proofs.Decoding.{decoded_is, divisor, product_is, quotient_is}
 use Rattle.transform_codes.proofs.LostCounts.{enough_left}
+use Rattle.transform_codes.proofs.StripWords.{word_at-behind, word_at-first, word_at-padding}
 
 module _ {W : Type 0} (number : W → ℕ) (zero : W) (level k n m r : ℕ) (present : List Bool) (low : level ≤ 7) (room : suc r ≤ 2 ^ level)
     (enough : lost_count (is_lost k n m present) (2 ^ r) + 2 ^ n ≤ 2 ^ r) (coefficients : ℕ → ℕ) where
@@ -47,46 +49,56 @@ module _ {W : Type 0} (number : W → ℕ) (zero : W) (level k n m r : ℕ) (pre
       ∙ point-joined cantor_vector r 1 p below (2 ^ level) 0
       ∙ ap (λ (y : ℕ). at (y + p)) once
 
-  module _ (word : ℕ → W) (factors products first behind quotients second values : List W) (y z : ℕ)
+  module _ (width c : ℕ) (inside : c < width) (word : ℕ → W) (factors words products first behind quotients second values : List W) (y z : ℕ)
       (origin : y ≡ 0) (shift : z ≡ at (2 ^ r)) (factors_are : AreFactors number zero level k n m present (2 ^ r) (2 * 2 ^ r) factors)
-      (products_long : length products ≡ 2 ^ r) (first_long : length first ≡ 2 ^ r) (behind_long : length behind ≡ 2 ^ r)
-      (quotients_long : length quotients ≡ 2 ^ r) (second_long : length second ≡ 2 ^ r) (values_long : length values ≡ 2 ^ r)
-      (products_are : (p : ℕ) → p < 2 ^ r → number (get_or products p zero) ≡ tower_mul level (number (word p)) (number (get_or factors p zero)))
-      (first_is : HoldWordValues element level y first products)
-      (behind_are : HoldWordValues element level z first behind)
-      (quotients_are : (p : ℕ) → p < 2 ^ r
-      → number (get_or quotients p zero) ≡ tower_mul level (number (get_or behind p zero)) (number (get_or factors (2 ^ r + p) zero)))
-      (second_is : HoldWordValues element level z second quotients)
-      (values_are : HoldWordValues element level y second values)
+      (products_long : length products ≡ 2 ^ r * width) (first_long : length first ≡ 2 ^ r * width) (behind_long : length behind ≡ 2 ^ r * width)
+      (quotients_long : length quotients ≡ 2 ^ r * width) (second_long : length second ≡ 2 ^ r * width) (values_long : length values ≡ 2 ^ r * width)
+      (words_are : (p : ℕ) → p < 2 ^ r → get_or words (p * width + c) zero ≡ word p)
+      (products_are : AreRowProducts number zero level width (2 ^ r) 0 factors words products)
+      (first_is : HoldWordValues element level y width c first products)
+      (behind_are : HoldWordValues element level z width c first behind)
+      (quotients_are : AreRowProducts number zero level width (2 ^ r) (2 ^ r) factors behind quotients)
+      (second_is : HoldWordValues element level z width c second quotients)
+      (values_are : HoldWordValues element level y width c second values)
       (known : (p : ℕ) → p < 2 ^ r → is_lost k n m present p ≡ false → element (word p) ≡ f (at p)) where
+    abbrev of_column : List W → ℕ → ℕ
+    of_column list = slice_index (column_of width c (map element list))
+
     -- a value of a list at its point
-    value_in : (list held_in : List W) → length list ≡ 2 ^ r → length held_in ≡ 2 ^ r → HoldWordValues element level y list held_in
-        → (p : ℕ) → p < 2 ^ r → element (get_or held_in p zero) ≡ polynomial_value (tower_mul level) r (slice_index (map element list)) (at p)
+    value_in : (list held_in : List W) → length list ≡ 2 ^ r * width → length held_in ≡ 2 ^ r * width → HoldWordValues element level y width c list held_in
+        → (p : ℕ) → p < 2 ^ r → element (get_or held_in (p * width + c) zero) ≡ polynomial_value (tower_mul level) r (of_column list) (at p)
     value_in list held_in list_long long holds p below =
-        held element zero level r y list held_in list_long long holds p below
-        ∙ ap (λ (x : ℕ). polynomial_value (tower_mul level) r (slice_index (map element list)) (point (2 ^ level) cantor_vector x p)) origin
+        held element zero level r width c inside y list held_in list_long long holds p below
+        ∙ ap (λ (x : ℕ). polynomial_value (tower_mul level) r (of_column list) (point (2 ^ level) cantor_vector x p)) origin
 
-    value_behind : (list held_in : List W) → length list ≡ 2 ^ r → length held_in ≡ 2 ^ r → HoldWordValues element level z list held_in
+    value_behind : (list held_in : List W) → length list ≡ 2 ^ r * width → length held_in ≡ 2 ^ r * width → HoldWordValues element level z width c list held_in
         → (p : ℕ) → p < 2 ^ r
-        → element (get_or held_in p zero) ≡ polynomial_value (tower_mul level) r (slice_index (map element list)) (at (2 ^ r + p))
+        → element (get_or held_in (p * width + c) zero) ≡ polynomial_value (tower_mul level) r (of_column list) (at (2 ^ r + p))
     value_behind list held_in list_long long holds p below =
-        held element zero level r z list held_in list_long long holds p below
-        ∙ ap (polynomial_value (tower_mul level) r (slice_index (map element list))) (behind_is z p shift below)
+        held element zero level r width c inside z list held_in list_long long holds p below
+        ∙ ap (polynomial_value (tower_mul level) r (of_column list)) (behind_is z p shift below)
 
-    product_everywhere : (x : ℕ) → polynomial_value (tower_mul level) r (slice_index (map element first)) x
+    -- a product of a word and the locator
+    product_at : (p : ℕ) → p < 2 ^ r → element (get_or products (p * width + c) zero)
+        ≡ tower_mul level (element (word p)) (missing_locator level k n m present (2 ^ r) (at p))
+    product_at p below =
+        let none : 0 + p ≡ p = omega arith in
+        of_product (get_or products (p * width + c) zero) (number (word p)) (number (get_or factors p zero))
+        (products_are p c below inside
+        ∙ ap (λ (s : ℕ). tower_mul level (number (get_or words (p * width + c) zero)) (number (get_or factors s zero))) none
+        ∙ ap (λ (w : W). tower_mul level (number w) (number (get_or factors p zero))) (words_are p below))
+        ∙ ap (tower_mul level (element (word p))) ((factors_are p (omega (arith, below))).value below)
+
+    product_everywhere : (x : ℕ) → polynomial_value (tower_mul level) r (of_column first) x
         ≡ tower_mul level (missing_locator level k n m present (2 ^ r) x) (f x)
     product_everywhere =
-        product_is level n r low room (is_lost k n m present) enough coefficients (slice_index (map element first)) (λ p. element (word p))
-        (λ p below.
-        sym (value_in first products first_long products_long first_is p below)
-        ∙ of_product (get_or products p zero) (number (word p)) (number (get_or factors p zero)) (products_are p below)
-        ∙ ap (tower_mul level (element (word p))) ((factors_are p (omega (arith, below))).value below))
-        known
+        product_is level n r low room (is_lost k n m present) enough coefficients (of_column first) (λ p. element (word p))
+        (λ p below. sym (value_in first products first_long products_long first_is p below) ∙ product_at p below) known
 
-    quotient_at : (p : ℕ) → p < 2 ^ r → element (get_or quotients p zero) ≡ f (at (2 ^ r + p))
+    quotient_at : (p : ℕ) → p < 2 ^ r → element (get_or quotients (p * width + c) zero) ≡ f (at (2 ^ r + p))
     quotient_at p below =
         let factor : ℕ = number (get_or factors (2 ^ r + p) zero) in
-        of_product (get_or quotients p zero) (number (get_or behind p zero)) factor (quotients_are p below)
+        of_product (get_or quotients (p * width + c) zero) (number (get_or behind (p * width + c) zero)) factor (quotients_are p c below inside)
         ∙ ap (λ (a : ℕ). tower_mul level a factor)
         (value_behind first behind first_long behind_long behind_are p below ∙ product_everywhere (at (2 ^ r + p)))
         ∙ quotient_is level n r low room (is_lost k n m present) enough coefficients (at (2 ^ r + p)) factor
@@ -94,10 +106,10 @@ module _ {W : Type 0} (number : W → ℕ) (zero : W) (level k n m r : ℕ) (pre
         (divisor level n r low room (is_lost k n m present) enough coefficients p below))
 
     -- the values are those of the word's polynomial
-    pub restored_values : (p : ℕ) → p < 2 ^ r → element (get_or values p zero) ≡ f (at p)
+    pub restored_values : (p : ℕ) → p < 2 ^ r → element (get_or values (p * width + c) zero) ≡ f (at p)
     restored_values p below =
         value_in second values second_long values_long values_are p below
-        ∙ decoded_is level n r low room (is_lost k n m present) enough coefficients (slice_index (map element second))
+        ∙ decoded_is level n r low room (is_lost k n m present) enough coefficients (of_column second)
         (λ q q_below.
         sym (value_behind second quotients second_long quotients_long second_is q q_below) ∙ quotient_at q q_below)
         (at p)
@@ -111,16 +123,6 @@ module _ {W : Type 0} (number : W → ℕ) (zero : W) (nothing : number zero ≡
     → shard_symbol (level_element number level) zero size parity column t ≡ word_parity t) where
   lost-first : (p : ℕ) → p < k → is_lost k n m present p ≡ false → IsAtHand present p
   lost-first p below is = elim (cases_Bool (get_or present p false)) [ inl here ↦ here | inr absent ↦ grind (arith, nat_tests) ]
-
-  word-first : (p : ℕ) → p < k → word_at zero k n m size column shards parity p ≡ get_or shards (p * size + column) zero
-  word-first p below = grind (arith, nat_tests)
-
-  word-padding : (p : ℕ) → k ≤ p → p < 2 ^ n → word_at zero k n m size column shards parity p ≡ zero
-  word-padding p past below = grind (arith, nat_tests)
-
-  word-behind : (p : ℕ) → k ≤ p → 2 ^ n ≤ p → p < 2 ^ n + m
-      → word_at zero k n m size column shards parity p ≡ get_or parity ((p - 2 ^ n) * size + column) zero
-  word-behind p past late below = grind (arith, nat_tests)
 
   lost-behind : (p : ℕ) → k ≤ p → 2 ^ n ≤ p → p < 2 ^ n + m → is_lost k n m present p ≡ false → IsAtHand present (k + (p - 2 ^ n))
   lost-behind p past late below is =
@@ -138,10 +140,10 @@ module _ {W : Type 0} (number : W → ℕ) (zero : W) (nothing : number zero ≡
   known_words padded p is =
       elim (cases_lt p k) [
         | inl lower ↦
-            ap (level_element number level) (word-first p lower)
+            ap (level_element number level) (word_at-first zero k n m size column shards parity p lower)
             ∙ data_known p lower (lost-first p lower is) ∙ word.of_data.values p lower
         | inr past ↦ elim (cases_lt p (2 ^ n)) [
-          | inl below ↦ ap (level_element number level) (word-padding p past below) ∙ none ∙ sym (word.of_data.padding p past below)
+          | inl below ↦ ap (level_element number level) (word_at-padding zero k n m size column shards parity p past below) ∙ none ∙ sym (word.of_data.padding p past below)
           | inr late ↦ elim (cases_lt p (2 ^ n + m)) [
             | inl within ↦ of_parity past late within
             | inr far ↦ absurd (true≢false (sym (lost-past p past late far) ∙ is))
@@ -154,7 +156,7 @@ module _ {W : Type 0} (number : W → ℕ) (zero : W) (nothing : number zero ≡
       of_parity past late within =
           let t_below : p - 2 ^ n < m = omega (arith, late, within) in
           let place : 2 ^ n + (p - 2 ^ n) ≡ p = omega (arith, late) in
-          ap (level_element number level) (word-behind p past late within)
+          ap (level_element number level) (word_at-behind zero k n m size column shards parity p past late within)
           ∙ parity_known (p - 2 ^ n) t_below (lost-behind p past late within is)
           ∙ word.of_parity (p - 2 ^ n) t_below ∙ ap (value_at level n word.coefficients) place
 
@@ -169,20 +171,19 @@ bits_left r bits points =
     ]
 
 -- it is there once words were found to be those of shards that can be restored, and the points and factors of twice `count` were set
-pub fits_restoring : {W : Type 0} (number : W → ℕ) (zero : W) (level n k m size r count set old old_parity space words parity_words values : ℕ)
+pub fits_restoring : {W : Type 0} (number : W → ℕ) (zero : W) (level n k m size r count set old old_parity space words parity_words : ℕ)
     (present : List Bool) (points factors : List W) (behind : W)
     → CanRebuild level r k m old old_parity space present → k ≤ 2 ^ n → 2 ^ n + m ≤ 2 ^ r → r ≤ 16
-    → words ≡ k * size → parity_words ≡ m * size → values ≡ count → count ≡ 2 ^ r
+    → words ≡ k * size → parity_words ≡ m * size → count ≡ 2 ^ r
     → ArePoints number zero level points → count < length points → behind ≡ get_or points count zero
     → AreFactors number zero level k n m present count set factors → set ≡ 2 * 2 ^ r → length factors ≡ set
-    → FitRestoring number zero level n k m size r present words parity_words values behind factors
-fits_restoring number zero level n k m size r count set old old_parity space words parity_words values present points factors behind can padded
-    room few whole parity_whole as_many count_is are_points within read are_factors set_is long =
+    → FitRestoring number zero level n k m size r present words parity_words behind factors
+fits_restoring number zero level n k m size r count set old old_parity space words parity_words present points factors behind can padded
+    room few whole parity_whole count_is are_points within read are_factors set_is long =
     record {
       flags = can.flags;
       whole = whole;
       parity_whole = parity_whole;
-      count = as_many ∙ count_is;
       few = few;
       points = bits_left r (2 ^ level) can.points;
       room = room;

@@ -1,47 +1,71 @@
--- One column of shards, transformed, and read and written word by word.
-use Rattle.std.specs.Prelude.{◌≡◌, ◌≢◌, ◌⊎◌, ℕ, ◌+◌, ◌*◌, ◌^◌, ◌<◌, ◌≤◌, List, map, slice_index_or}
+-- Strips of shards, the `width` columns from column `start` on, in rows of as many words: transformed, and read and written row by row.
+use Rattle.std.specs.Prelude.{◌≡◌, ◌⊎◌, ℕ, ◌+◌, ◌*◌, ◌^◌, ◌<◌, ◌≤◌, List, map, slice_index_or}
+use Rattle.additive_transforms.specs.Columns.{column_of}
 use Rattle.additive_transforms.specs.Transform.{AreTheCoefficients, HoldValuesAtPoints}
 use Rattle.field_base.specs.Tower.{tower_mul}
 use Rattle.word_tables.specs.Cantor.{cantor_vector}
 use Rattle.transform_codes.specs.Codes.{shard_symbol, value_at}
 
--- what coded columns need: words of k shards and of m of parity, and 2 ^ n coefficients and as many words of a block, where the level has
--- the points
-pub record FitEncoding (level n k m size words parity_words coefficients block : ℕ) : Type 0 where
+-- what coded columns need: words of k shards and of m of parity, where the level has the points
+pub record FitEncoding (level n k m size words parity_words : ℕ) : Type 0 where
   pub points : n ≤ 2 ^ level
   pub room : 2 ^ n + m ≤ 2 ^ 2 ^ level
-  pub coefficients_long : coefficients ≡ 2 ^ n
-  pub block_long : block ≡ 2 ^ n
   pub whole : words ≡ k * size
   pub parity_whole : parity_words ≡ m * size
 
--- words have as their elements the values, at the points of a level from z on, of the polynomial with other words' elements as coefficients
-abbrev pub HoldWordValues : {W : Type 0} → (W → ℕ) → ℕ → ℕ → List W → List W → Type 0
-HoldWordValues element level z coefficients values =
-    HoldValuesAtPoints (2 ^ level) (tower_mul level) cantor_vector z (map element coefficients) (map element values)
+-- in column c of rows of `columns` words they have as their elements the values, at the points of a level from z on, of the polynomial with
+-- the elements of that column of other words as coefficients
+abbrev pub HoldWordValues : {W : Type 0} → (W → ℕ) → ℕ → ℕ → ℕ → ℕ → List W → List W → Type 0
+HoldWordValues element level z columns c coefficients values =
+    HoldValuesAtPoints (2 ^ level) (tower_mul level) cantor_vector z (column_of columns c (map element coefficients))
+    (column_of columns c (map element values))
 
--- they have the coefficients of the one polynomial that has the other words' elements as its values there
-abbrev pub AreWordCoefficients : {W : Type 0} → (W → ℕ) → ℕ → ℕ → List W → List W → Type 0
-AreWordCoefficients element level z values coefficients =
-    AreTheCoefficients (2 ^ level) (tower_mul level) cantor_vector z (map element values) (map element coefficients)
+-- they have the coefficients of the one polynomial that has the elements of that column of other words as its values there
+abbrev pub AreWordCoefficients : {W : Type 0} → (W → ℕ) → ℕ → ℕ → ℕ → ℕ → List W → List W → Type 0
+AreWordCoefficients element level z columns c values coefficients =
+    AreTheCoefficients (2 ^ level) (tower_mul level) cantor_vector z (column_of columns c (map element values))
+    (column_of columns c (map element coefficients))
 
--- the first `until` places hold the words of a column of `count` shards, and zeros behind them
-abbrev pub HoldColumn : {W : Type 0} → W → ℕ → ℕ → ℕ → List W → ℕ → List W → Type 0
-HoldColumn zero count size column shards until values =
-    (i : ℕ) → i < until
-    → (i < count → slice_index_or values i zero ≡ slice_index_or shards (i * size + column) zero)
-    × (count ≤ i → slice_index_or values i zero ≡ zero)
+-- `count` words from place `place` on are the given ones, and all others are as they were
+pub record ArePutWords {W : Type 0} (zero : W) (place count : ℕ) (word : ℕ → W) (old new : List W) : Type 0 where
+  pub written : (c : ℕ) → c < count → slice_index_or new (place + c) zero ≡ word c
+  pub kept : (p : ℕ) → (p < place) ⊎ (place + count ≤ p) → slice_index_or new p zero ≡ slice_index_or old p zero
 
--- the words of a column of the `taken` shards from shard `first` on are the values, and all other words of shards are as they were
-pub record AreScattered {W : Type 0} (zero : W) (size column first taken : ℕ) (values old new : List W) : Type 0 where
-  pub written : (t : ℕ) → t < taken → slice_index_or new ((first + t) * size + column) zero ≡ slice_index_or values t zero
-  pub kept : (i c : ℕ) → c < size → (c ≢ column) ⊎ ((i < first) ⊎ (first + taken ≤ i))
+-- they were multiplied by a factor, and all others are as they were
+pub record ArePutProducts {W : Type 0} (number : W → ℕ) (zero : W) (level place count factor : ℕ) (old new : List W) : Type 0 where
+  pub product : (c : ℕ) → c < count
+      → number (slice_index_or new (place + c) zero) ≡ tower_mul level (number (slice_index_or old (place + c) zero)) factor
+  pub kept : (p : ℕ) → (p < place) ⊎ (place + count ≤ p) → slice_index_or new p zero ≡ slice_index_or old p zero
+
+-- each of so many rows of `width` words was multiplied by a factor, those from factor `first` on
+abbrev pub AreRowProducts : {W : Type 0} → (W → ℕ) → W → ℕ → ℕ → ℕ → ℕ → List W → List W → List W → Type 0
+AreRowProducts number zero level width rows first factors old new =
+    (p c : ℕ) → p < rows → c < width
+    → number (slice_index_or new (p * width + c) zero)
+    ≡ tower_mul level (number (slice_index_or old (p * width + c) zero)) (number (slice_index_or factors (first + p) zero))
+
+-- the first `until` rows hold the words of a strip of `count` shards, and zeros behind them
+abbrev pub HoldStrip : {W : Type 0} → W → ℕ → ℕ → ℕ → ℕ → List W → ℕ → List W → Type 0
+HoldStrip zero count size start width shards until values =
+    (i c : ℕ) → i < until → c < width
+    → (i < count → slice_index_or values (i * width + c) zero ≡ slice_index_or shards (i * size + (start + c)) zero)
+    × (count ≤ i → slice_index_or values (i * width + c) zero ≡ zero)
+
+-- column c is none of a strip
+abbrev pub IsOutside : ℕ → ℕ → ℕ → Type 0
+IsOutside start width c = (c < start) ⊎ (start + width ≤ c)
+
+-- the words of a strip of the `taken` shards from shard `first` on are the rows, and all other words of shards are as they were
+pub record AreScattered {W : Type 0} (zero : W) (size start width first taken : ℕ) (values old new : List W) : Type 0 where
+  pub written : (t c : ℕ) → t < taken → c < width
+      → slice_index_or new ((first + t) * size + (start + c)) zero ≡ slice_index_or values (t * width + c) zero
+  pub kept : (i c : ℕ) → c < size → (IsOutside start width c) ⊎ ((i < first) ⊎ (first + taken ≤ i))
       → slice_index_or new (i * size + c) zero ≡ slice_index_or old (i * size + c) zero
 
 -- the other columns are as they were
-abbrev pub OthersAreKept : {W : Type 0} → W → ℕ → ℕ → List W → List W → Type 0
-OthersAreKept zero size column old new =
-    (i c : ℕ) → c < size → c ≢ column → slice_index_or new (i * size + c) zero ≡ slice_index_or old (i * size + c) zero
+abbrev pub OthersAreKept : {W : Type 0} → W → ℕ → ℕ → ℕ → List W → List W → Type 0
+OthersAreKept zero size start width old new =
+    (i c : ℕ) → c < size → IsOutside start width c → slice_index_or new (i * size + c) zero ≡ slice_index_or old (i * size + c) zero
 
 -- in one column the shards of parity before shard `until`, of m, have the values of the polynomial at their points
 abbrev pub AreParityBelow : {W : Type 0} → (W → ℕ) → W → ℕ → ℕ → ℕ → ℕ → ℕ → List ℕ → ℕ → List W → Type 0

@@ -4,6 +4,7 @@ use Rattle.field_base.specs.Tower.{tower_mul}
 use Rattle.ghash_slices.specs.Cantor.{point}
 use Rattle.word_tables.specs.Cantor.{cantor_vector}
 use Rattle.transform_codes.specs.Codes.{IsCodedColumn, shard_symbol}
+use Rattle.transform_codes.specs.Columns.{IsOutside}
 use Rattle.transform_codes.specs.Locators.{locator, lost_count}
 
 -- shard i is at hand
@@ -42,15 +43,13 @@ abbrev pub AreFactors : {W : Type 0} → (W → ℕ) → W → ℕ → ℕ → �
 AreFactors number zero level k n m present count until factors =
     (p : ℕ) → p < until → IsFactor level k n m present count p (number (slice_index_or factors p zero))
 
--- what restored columns need: words of k shards and of m of parity, with a flag for each, values at 2 ^ r points, of which the level has
--- twice as many, no more lost symbols among them than leave as many as a polynomial has coefficients, the point behind them, and the
--- factors of all
-pub record FitRestoring {W : Type 0} (number : W → ℕ) (zero : W) (level n k m size r : ℕ) (present : List Bool)
-    (words parity_words values : ℕ) (behind : W) (factors : List W) : Type 0 where
+-- what restored columns need: words of k shards and of m of parity, with a flag for each, 2 ^ r points, of which the level has twice as many,
+-- no more lost symbols among them than leave as many as a polynomial has coefficients, the point behind them, and the factors of all
+pub record FitRestoring {W : Type 0} (number : W → ℕ) (zero : W) (level n k m size r : ℕ) (present : List Bool) (words parity_words : ℕ)
+    (behind : W) (factors : List W) : Type 0 where
   pub flags : length present ≡ k + m
   pub whole : words ≡ k * size
   pub parity_whole : parity_words ≡ m * size
-  pub count : values ≡ 2 ^ r
   pub few : r ≤ 16
   pub points : r + 1 ≤ 2 ^ level
   pub room : 2 ^ n + m ≤ 2 ^ r
@@ -67,11 +66,11 @@ word_at zero k n m size column shards parity p =
     else if nat_lt p (2 ^ n + m) then slice_index_or parity ((p - 2 ^ n) * size + column) zero
     else zero
 
--- the words of the missing shards in a column are the values from place `from` on, and all other words are as they were
-pub record AreMended {W : Type 0} (zero : W) (size column count from first : ℕ) (present : List Bool) (values old new : List W) : Type 0 where
-  pub mended : (i : ℕ) → i < count → slice_index_or present (first + i) false ≡ false
-      → slice_index_or new (i * size + column) zero ≡ slice_index_or values (from + i) zero
-  pub kept : (i c : ℕ) → c < size → (c ≢ column) ⊎ ((IsAtHand present (first + i)) ⊎ (count ≤ i))
+-- the words of the missing shards in a strip are the rows from row `from` on, and all other words are as they were
+pub record AreMended {W : Type 0} (zero : W) (size start width count from first : ℕ) (present : List Bool) (values old new : List W) : Type 0 where
+  pub mended : (i c : ℕ) → i < count → c < width → slice_index_or present (first + i) false ≡ false
+      → slice_index_or new (i * size + (start + c)) zero ≡ slice_index_or values ((from + i) * width + c) zero
+  pub kept : (i c : ℕ) → c < size → (IsOutside start width c) ⊎ ((IsAtHand present (first + i)) ⊎ (count ≤ i))
       → slice_index_or new (i * size + c) zero ≡ slice_index_or old (i * size + c) zero
 
 -- in one column the shards become those of each code word that those at hand agree with, of which there is one at most

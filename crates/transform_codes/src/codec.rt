@@ -10,7 +10,8 @@ ghost use Rattle.transform_codes.specs.declared.error.TransformCodeError.TheVari
 use crate::comparing::are_coded;
 use crate::encoding::encode_columns;
 use crate::error::TransformCodeError;
-use crate::restoring::{restore_column, set_factors, set_points};
+use crate::restoring::{restore_strip, set_factors, set_points};
+use crate::strips::{columns_at_once, strip_at};
 use field_base::Unsigned;
 use tower_transforms::StoredBytes;
 use word_tower::Level;
@@ -105,7 +106,8 @@ impl TransformCode {
 
     /// Writes the shards of parity. `data` and `parity` have their shards, of one size, one after the other; a word is an element of the
     /// level `L`, by as many bits as that has. What `space` has before and afterwards does not matter: it takes two words for each of
-    /// `coefficient_count`. The error is the first that applies.
+    /// `coefficient_count`. Where it has so many several times, as many columns are encoded at once, up to 32, which is much faster. The
+    /// error is the first that applies.
     pub fn encode<R: StoredBytes, L: Level<R>>(
         &self,
         space: &mut [R],
@@ -123,15 +125,13 @@ impl TransformCode {
     {
         let points = self.coefficient_count();
         let size = self.shard_size::<R, L>(shards.len(), parity.len(), 2 * points, space.len())?;
-        let (coefficients, rest) = space.split_at_mut(points);
-        let (block, _rest) = rest.split_at_mut(points);
-        encode_columns::<R, L>(self, coefficients, block, shards, parity, size);
+        encode_columns::<R, L>(self, space, shards, parity, size);
         Ok(())
     }
 
     /// Whether the shards of parity are those of the data, symbol by symbol: those that `encode` writes, where bits of a word above the
     /// level do not count. What `space` has before and afterwards does not matter: it takes two words for each of `coefficient_count`,
-    /// and one for each shard of parity. The error is the first that applies.
+    /// and one for each shard of parity, or several times as many, as for `encode`. The error is the first that applies.
     pub fn verify<R: StoredBytes, L: Level<R>>(
         &self,
         space: &mut [R],
@@ -149,19 +149,17 @@ impl TransformCode {
         let points = self.coefficient_count();
         let needed = 2 * points + self.parity_shards;
         let size = self.shard_size::<R, L>(shards.len(), parity.len(), needed, space.len())?;
-        let (coefficients, rest) = space.split_at_mut(points);
-        let (block, others) = rest.split_at_mut(points);
-        let (symbols, _rest) = others.split_at_mut(self.parity_shards);
-        let is_whole = are_coded::<R, L>(self, coefficients, block, symbols, shards, parity, size);
+        let is_whole = are_coded::<R, L>(self, space, shards, parity, size);
         Ok(is_whole)
     }
 
     /// Restores the missing shards: shard i, of the data and then of the parity, is missing where `present[i]` is false, no more are than
     /// there are of parity, and what their words are does not matter. The shards become those of the code word that the ones at hand agree
     /// with, by as many bits of a word as the level has; where they agree with none, since a word is wrong, the missing ones become
-    /// anything. The shards at hand stay. What `space` has does not matter: it takes five words for each of `point_count`, and the level
-    /// has to have twice as many points. A column takes four transforms, and all columns together a product for each of twice
-    /// `point_count` points and each symbol that is lost. The error is the first that applies.
+    /// anything. The shards at hand stay. What `space` has does not matter: it takes five words for each of `point_count`, and one more of
+    /// each for each further column that is restored at once, up to 32 in all. The level has to have twice as many points. A column takes
+    /// four transforms, and all columns together a product for each of twice `point_count` points and each symbol that is lost. The error
+    /// is the first that applies.
     pub fn reconstruct<R: StoredBytes, L: Level<R>>(
         &self,
         space: &mut [R],
@@ -204,16 +202,20 @@ impl TransformCode {
         ensures parity_long { length parity.new ≡ length parity.old }
     {
         let count = self.point_count();
-        let (values, rest) = space.split_at_mut(count);
-        let (points, others) = rest.split_at_mut(2 * count);
-        let (factors, _rest) = others.split_at_mut(2 * count);
+        let (points, others) = space.split_at_mut(2 * count);
+        let (factors, rest) = others.split_at_mut(2 * count);
         set_points::<R, L>(points);
         set_factors::<R, L>(factors, self, present, points, count);
         let behind = points[count];
-        for column in 0..size {
-            restore_column::<R, L>(
-                self, present, values, factors, behind, shards, parity, size, column,
+        let most = columns_at_once(rest.len(), count);
+        let mut start = 0;
+        while start < size {
+            let strip = strip_at(size, start, most);
+            let (values, _rest) = rest.split_at_mut(count * strip.width);
+            restore_strip::<R, L>(
+                self, present, values, factors, behind, shards, parity, strip,
             );
+            start += strip.width;
         }
     }
 

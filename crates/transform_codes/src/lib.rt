@@ -16,6 +16,7 @@ mod error;
 mod laws;
 mod points;
 mod restoring;
+mod strips;
 mod transforms;
 
 pub use crate::codec::TransformCode;

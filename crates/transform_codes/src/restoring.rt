@@ -1,15 +1,18 @@
-// Lost shards, column by column, by four transforms. The product of a word's polynomial and the locator of its lost symbols is known at all
+// Lost shards, strip by strip, by four transforms. The product of a word's polynomial and the locator of its lost symbols is known at all
 // points, since it is 0 at the lost ones, so that an inverse transform gives its coefficients. At as many points behind those, where the
 // locator has no root, it is divided by the locator, and what an inverse transform makes of that is the word's polynomial.
-ghost use Rattle.std.specs.Prelude.{◌≡◌, ◌≢◌, ◌⊎◌, ℕ, ◌+◌, ◌-◌, ◌*◌, ◌<◌, ◌≤◌, length, slice_index_or};
+ghost use Rattle.std.specs.Prelude.{◌≡◌, ◌≢◌, ◌⊎◌, ℕ, ◌+◌, ◌-◌, ◌*◌, ◌^◌, ◌<◌, ◌≤◌, length, slice_index_or};
 ghost use Rattle.field_base.specs.Tower.{tower_mul};
 ghost use Rattle.tower_transforms.specs.Words.{level_element};
+ghost use Rattle.transform_codes.specs.Columns.{AreRowProducts, ArePutProducts, IsOutside};
 ghost use Rattle.transform_codes.specs.Restoring.{AreFactors, AreMended, ArePoints, FitRestoring, IsAtHand, IsFactor};
 ghost use Rattle.transform_codes.specs.Restoring.{RestoresSymbols, is_lost, missing_locator, word_at};
 
 use crate::codec::TransformCode;
+use crate::columns::{copy_words, gather};
 use crate::points::point_of;
-use crate::transforms::{forward_level, inverse_level};
+use crate::strips::Strip;
+use crate::transforms::{forward_strip, inverse_strip};
 use field_base::Unsigned;
 use tower_transforms::StoredBytes;
 use word_tower::Level;
@@ -101,98 +104,83 @@ pub(crate) fn set_factors<R: Unsigned, L: Level<R>>(
     }
 }
 
-// The word of a column at point p.
-fn word_at<R: Unsigned>(
-    code: &TransformCode,
-    shards: &[R],
-    parity: &[R],
-    size: usize,
-    column: usize,
-    p: usize,
-) -> R
-    requires inside { column < size }
-    requires whole { length shards.now ≡ code.now.data_shards * size }
-    requires parity_whole { length parity.now ≡ code.now.parity_shards * size }
-    ensures { result ≡ word_at R.ZERO code.now.data_shards code.now.levels code.now.parity_shards size column shards.now parity.now p }
-{
-    let first = code.coefficient_count();
-    if p < code.data_shards {
-        shards[p * size + column]
-    } else if p < first {
-        R::ZERO
-    } else if p < first + code.parity_shards {
-        let t = p - first;
-        parity[t * size + column]
-    } else {
-        R::ZERO
-    }
-}
-
-// Sets the values to the products of a column's words and the factors.
-fn set_products<R: Unsigned, L: Level<R>>(
+// Sets the values, a row for each point, to the words of a strip.
+fn read_strip<R: Unsigned>(
     values: &mut [R],
     code: &TransformCode,
     shards: &[R],
     parity: &[R],
-    factors: &[R],
-    size: usize,
-    column: usize,
+    strip: Strip,
 )
-    requires inside { column < size }
-    requires whole { length shards.now ≡ code.now.data_shards * size }
-    requires parity_whole { length parity.now ≡ code.now.parity_shards * size }
-    requires enough { length values.old ≤ length factors.now }
+    requires whole { length shards.now ≡ code.now.data_shards * strip.size }
+    requires parity_whole { length parity.now ≡ code.now.parity_shards * strip.size }
+    requires rows { length values.old ≡ 2 ^ code.now.all_levels * strip.width }
     ensures long { length values.new ≡ length values.old }
-    ensures products { (p : ℕ) → p < length values.old → R.number (slice_index_or values.new p R.ZERO)
-        ≡ tower_mul L.LEVEL (R.number (word_at R.ZERO code.now.data_shards code.now.levels code.now.parity_shards size column shards.now
-        parity.now p)) (R.number (slice_index_or factors.now p R.ZERO)) }
+    ensures words { (p c : ℕ) → p < 2 ^ code.now.all_levels → c < strip.width → slice_index_or values.new (p * strip.width + c) R.ZERO
+        ≡ word_at R.ZERO code.now.data_shards code.now.levels code.now.parity_shards strip.size (strip.start + c) shards.now parity.now p }
 {
-    for p in 0..values.len() {
-        values[p] = L::multiply(word_at(code, shards, parity, size, column, p), factors[p]);
+    let first = code.coefficient_count();
+    let behind = code.point_count() - first;
+    let (of_data, others) = values.split_at_mut(first * strip.width);
+    gather(of_data, first, shards, code.data_shards, strip);
+    gather(others, behind, parity, code.parity_shards, strip);
+}
+
+// Multiplies each of so many rows by a factor, those from factor `first` on.
+fn multiply_rows<R: Unsigned, L: Level<R>>(
+    values: &mut [R],
+    rows: usize,
+    width: usize,
+    factors: &[R],
+    first: usize,
+)
+    requires rows { length values.old ≡ rows * width }
+    requires factors { first + rows ≤ length factors.now }
+    ensures long { length values.new ≡ length values.old }
+    ensures products { AreRowProducts R.number R.ZERO L.LEVEL width rows first factors.now values.old values.new }
+{
+    for p in 0..rows {
+        multiply_words::<R, L>(values, p * width, width, factors[first + p]);
     }
 }
 
-// Multiplies each value by the factor of its place behind the first points.
-fn divide_each<R: Unsigned, L: Level<R>>(values: &mut [R], factors: &[R])
-    requires { length factors.now ≡ 2 * length values.old }
-    ensures long { length values.new ≡ length values.old }
-    ensures products { (p : ℕ) → p < length values.old → R.number (slice_index_or values.new p R.ZERO)
-        ≡ tower_mul L.LEVEL (R.number (slice_index_or values.old p R.ZERO))
-        (R.number (slice_index_or factors.now (length values.old + p) R.ZERO)) }
+// Multiplies `count` words by a factor, from place `place` on.
+fn multiply_words<R: Unsigned, L: Level<R>>(words: &mut [R], place: usize, count: usize, factor: R)
+    requires { place + count ≤ length words.old }
+    ensures long { length words.new ≡ length words.old }
+    ensures products { ArePutProducts R.number R.ZERO L.LEVEL place count (R.number factor) words.old words.new }
 {
-    let count = values.len();
-    for p in 0..count {
-        values[p] = L::multiply(values[p], factors[count + p]);
+    for c in 0..count {
+        words[place + c] = L::multiply(words[place + c], factor);
     }
 }
 
-// Writes the values from place `from` on to the missing shards of a column, whose flags begin at `first`.
+// Writes the rows from row `from` on to the missing shards in a strip, whose flags begin at `first`.
 fn mend<R: Unsigned>(
     shards: &mut [R],
     values: &[R],
     present: &[bool],
     count: usize,
-    size: usize,
-    column: usize,
+    strip: Strip,
     from: usize,
     first: usize,
 )
-    requires inside { column < size }
-    requires whole { length shards.old ≡ count * size }
+    requires whole { length shards.old ≡ count * strip.size }
     requires flags { first + count ≤ length present.now }
-    requires enough { from + count ≤ length values.now }
+    requires enough { (from + count) * strip.width ≤ length values.now }
     ensures long { length shards.new ≡ length shards.old }
-    ensures mended { AreMended R.ZERO size column count from first present.now values.now shards.old shards.new }
+    ensures mended { AreMended R.ZERO strip.size strip.start strip.width count from first present.now values.now shards.old shards.new }
 {
     for i in 0..count {
         if !present[first + i] {
-            shards[i * size + column] = values[from + i];
+            let place = i * strip.size + strip.start;
+            copy_words(shards, place, values, (from + i) * strip.width, strip.width);
         }
     }
 }
 
-// Restores one column.
-pub(crate) fn restore_column<R: StoredBytes, L: Level<R>>(
+// Restores the columns of a strip.
+pub(crate) fn restore_strip<R: StoredBytes, L: Level<R>>(
     code: &TransformCode,
     present: &[bool],
     values: &mut [R],
@@ -200,46 +188,39 @@ pub(crate) fn restore_column<R: StoredBytes, L: Level<R>>(
     behind: R,
     shards: &mut [R],
     parity: &mut [R],
-    size: usize,
-    column: usize,
+    strip: Strip,
 )
-    requires inside { column < size }
-    requires fit { FitRestoring R.Stored.number R.ZERO L.LEVEL code.now.levels code.now.data_shards code.now.parity_shards size
-        code.now.all_levels present.now (length shards.old) (length parity.old) (length values.old) behind factors.now }
+    requires fit { FitRestoring R.Stored.number R.ZERO L.LEVEL code.now.levels code.now.data_shards code.now.parity_shards strip.size
+        code.now.all_levels present.now (length shards.old) (length parity.old) behind factors.now }
+    requires rows { length values.old ≡ 2 ^ code.now.all_levels * strip.width }
     ensures values_long { length values.new ≡ length values.old }
     ensures long { length shards.new ≡ length shards.old }
     ensures parity_long { length parity.new ≡ length parity.old }
-    ensures kept { (i c : ℕ) → c < size → (c ≢ column) ⊎ (IsAtHand present.now i)
-        → slice_index_or shards.new (i * size + c) R.ZERO ≡ slice_index_or shards.old (i * size + c) R.ZERO }
-    ensures parity_kept { (t c : ℕ) → c < size → (c ≢ column) ⊎ (IsAtHand present.now (code.now.data_shards + t))
-        → slice_index_or parity.new (t * size + c) R.ZERO ≡ slice_index_or parity.old (t * size + c) R.ZERO }
-    ensures restored { RestoresSymbols (level_element R.Stored.number L.LEVEL) R.ZERO L.LEVEL code.now.levels code.now.data_shards
-        code.now.parity_shards size present.now column shards.old parity.old shards.new parity.new }
+    ensures kept { (i c : ℕ) → c < strip.size → (IsOutside strip.start strip.width c) ⊎ (IsAtHand present.now i)
+        → slice_index_or shards.new (i * strip.size + c) R.ZERO ≡ slice_index_or shards.old (i * strip.size + c) R.ZERO }
+    ensures parity_kept { (t c : ℕ) → c < strip.size
+        → (IsOutside strip.start strip.width c) ⊎ (IsAtHand present.now (code.now.data_shards + t))
+        → slice_index_or parity.new (t * strip.size + c) R.ZERO ≡ slice_index_or parity.old (t * strip.size + c) R.ZERO }
+    ensures restored { (c : ℕ) → c < strip.width → RestoresSymbols (level_element R.Stored.number L.LEVEL) R.ZERO L.LEVEL code.now.levels
+        code.now.data_shards code.now.parity_shards strip.size present.now (strip.start + c) shards.old parity.old shards.new parity.new }
 {
-    set_products::<R, L>(values, code, shards, parity, factors, size, column);
-    inverse_level::<R, L>(values, R::ZERO);
-    forward_level::<R, L>(values, behind);
-    divide_each::<R, L>(values, factors);
-    inverse_level::<R, L>(values, behind);
-    forward_level::<R, L>(values, R::ZERO);
-    mend(
-        shards,
-        values,
-        present,
-        code.data_shards,
-        size,
-        column,
-        0,
-        0,
-    );
+    let count = code.point_count();
+    let width = strip.width;
+    read_strip(values, code, shards, parity, strip);
+    multiply_rows::<R, L>(values, count, width, factors, 0);
+    inverse_strip::<R, L>(values, width, R::ZERO);
+    forward_strip::<R, L>(values, width, behind);
+    multiply_rows::<R, L>(values, count, width, factors, count);
+    inverse_strip::<R, L>(values, width, behind);
+    forward_strip::<R, L>(values, width, R::ZERO);
+    mend(shards, values, present, code.data_shards, strip, 0, 0);
     let first = code.coefficient_count();
     mend(
         parity,
         values,
         present,
         code.parity_shards,
-        size,
-        column,
+        strip,
         first,
         code.data_shards,
     );

@@ -1,39 +1,26 @@
-use Rattle.std.proofs.Common.{sym, ◌∙◌, arith, below_more, map}
+use Rattle.std.proofs.Common.{refl, sym, ◌∙◌}
 use Rattle.std.proofs.lemmas.Bool.{false≢true}
 use Rattle.tower_transforms.specs.Words.{level_element}
-use Rattle.transform_codes.specs.Codes.{shard_symbol}
-use Rattle.transform_codes.proofs.ComparedColumns.{parity_is_computed}
+use Rattle.transform_codes.proofs.CodedColumns.{next_strip, strip_of_coded}
 use Rattle.transform_codes.proofs.comparing.are_coded.Goals as goal
 
-pub returns-then-not-are_of_column : goal.returns-then-not-are_of_column
-returns-then-not-are_of_column g c =
+pub returns-then-not-is_coded_strip : goal.returns-then-not-is_coded_strip
+returns-then-not-is_coded_strip g c =
     let level = g.L.Level.LEVEL in
-    let zero = g.R.Stored.ZERO in
-    let element = level_element g.R.Stored.number level in
     let code = c.args.code.now in
-    let size = c.args.size in
-    let column = c.loop-column.column in
-    let symbols = c.write_parity.new.parity in (
+    let strip = c.strip_at-strip in (
       (λ wrong. absurd (false≢true wrong)),
-      λ words. absurd (false≢true (sym c.if-not-are_of_column.true ∙ c.are_of_column.ensures.1
-          (λ t below.
-          parity_is_computed level code.levels code.data_shards code.parity_shards (shard_symbol element zero size c.args.shards.now column)
-          (shard_symbol element zero size c.args.parity.now column) (shard_symbol element zero 1 symbols 0)
-          (map element c.interpolate.new.coefficients) g.L.Level.few code.padded.enough c.requires.fit.room c.interpolate.ensures.of_data
-          (λ s s_below. c.write_parity.ensures.written s s_below s_below) (words column c.loop-column-test.true) t
-          (omega (arith, below, c.write_parity.ensures.long, c.loop-column.auto.symbols, c.requires.symbols))))),
+      λ words. absurd (false≢true (sym c.if-not-is_coded_strip.true ∙ c.is_coded_strip.ensures.answer.1
+          (strip_of_coded (level_element g.R.Stored.number level) g.R.Stored.ZERO level code.levels code.data_shards code.parity_shards c.args.size
+          strip.result.width strip.result.size strip.result.start c.args.shards.now c.args.parity.now strip.ensures.size strip.result.inside words))),
     )
 
-pub loop-column-preserved : goal.loop-column-preserved
-loop-column-preserved g c =
-    let element = level_element g.R.Stored.number g.L.Level.LEVEL in
+pub loop-start-preserved : goal.loop-start-preserved
+loop-start-preserved g c =
+    let level = g.L.Level.LEVEL in
     let code = c.args.code.now in
-    below_more _ c.loop-column.column c.loop-column.invariant
-    (record {
-      coefficients = map element c.interpolate.new.coefficients;
-      of_data = c.interpolate.ensures.of_data;
-      of_parity = λ t below.
-          c.are_of_column.ensures.0 c.if-not-are_of_column.false t
-          (omega (arith, below, c.write_parity.ensures.long, c.loop-column.auto.symbols, c.requires.symbols))
-          ∙ c.write_parity.ensures.written t below below;
-    })
+    let strip = c.strip_at-strip in
+    next_strip (level_element g.R.Stored.number level) g.R.Stored.ZERO level code.levels code.data_shards code.parity_shards c.args.size
+    c.loop-start.start strip.result.width strip.result.size strip.result.start c.args.shards.now c.args.parity.now c.args.parity.now
+    strip.ensures.size strip.ensures.start strip.result.inside (λ i d below other. refl) c.loop-start.invariant.1
+    (c.is_coded_strip.ensures.answer.0 c.if-not-is_coded_strip.false)

@@ -1,10 +1,9 @@
-use Rattle.std.proofs.Common.{◌≡◌, ℕ, ◌%◌, ◌^◌, length, ◌∙◌, ap, subst}
-use Rattle.std.proofs.lemmas.List.{length-map}
+use Rattle.std.proofs.Common.{◌≡◌, ℕ, ◌%◌, ◌*◌, ◌^◌, length, ◌∙◌, ap, subst}
 use Rattle.std.proofs.lemmas.Nat.{pow_pos}
 use native.Mathlib.Nat.{mod-eq_of_lt}
 use Rattle.tower_transforms.specs.Words.{level_element}
-use Rattle.transform_codes.specs.Columns.{HoldColumn}
-use Rattle.transform_codes.proofs.CodedColumns.{data_values, padding_values}
+use Rattle.transform_codes.specs.Columns.{HoldStrip}
+use Rattle.transform_codes.proofs.CodedColumns.{of_data}
 use Rattle.transform_codes.proofs.encoding.interpolate.Goals as goal
 
 pub returns-clause-of_data : goal.returns-clause-of_data
@@ -14,18 +13,15 @@ returns-clause-of_data g c =
     let zero = g.R.Stored.ZERO in
     let element = level_element number level in
     let code = c.args.code.now in
+    let strip = c.args.strip in
     let values = c.gather.new.values in
-    let words = c.inverse_level.new.words in
-    let long : length values ≡ 2 ^ code.levels = c.gather.ensures.long ∙ c.requires.count in
-    let count : length words ≡ 2 ^ code.levels = c.inverse_level.ensures.length ∙ long in
+    let words = c.inverse_strip.new.words in
+    let long : length values ≡ 2 ^ code.levels * strip.width = c.gather.ensures.long ∙ c.requires.count in
+    let count : length words ≡ 2 ^ code.levels * strip.width = c.inverse_strip.ensures.length ∙ long in
     let nothing : number c.ZERO.result ≡ 0 = ap number c.ZERO.ensures ∙ g.R.Stored.zero_number in
     let none : element zero ≡ 0 = ap (λ (x : ℕ). x % 2 ^ 2 ^ level) g.R.Stored.zero_number ∙ mod-eq_of_lt (pow_pos (2 ^ level)) in
-    let column_is = subst (λ (u : ℕ). HoldColumn zero code.data_shards c.args.size c.args.column c.args.shards.now u values)
-    c.requires.count c.gather.ensures.column in
-    record {
-      count = length-map words element ∙ count;
-      values = data_values element zero level code.levels code.data_shards c.args.size c.args.column c.args.shards.now values words
-          (number c.ZERO.result) nothing count long column_is c.inverse_level.ensures.coefficients.have code.padded.enough;
-      padding = padding_values element zero level code.levels code.data_shards c.args.size c.args.column c.args.shards.now values words
-          (number c.ZERO.result) nothing count long column_is c.inverse_level.ensures.coefficients.have none;
-    }
+    let strip_is = subst (λ (u : ℕ). HoldStrip zero code.data_shards strip.size strip.start strip.width c.args.shards.now u values)
+    c.coefficient_count.ensures c.gather.ensures.strip in
+    λ k inside.
+    of_data element zero level code.levels strip.width k inside code.data_shards strip.size strip.start c.args.shards.now values words
+    (number c.ZERO.result) nothing count long strip_is (c.inverse_strip.ensures.coefficients k inside).have code.padded.enough none

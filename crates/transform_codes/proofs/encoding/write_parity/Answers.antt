@@ -1,10 +1,9 @@
 use Rattle.std.proofs.Common.{◌≡◌, ◌⊎◌, inl, inr, ℕ, ◌+◌, ◌*◌, ◌^◌, ◌≤◌, length, map, ◌∙◌, ap, subst, arith}
 use Rattle.std.proofs.lemmas.Nat.{pow_pos}
-use Rattle.field_base.specs.Tower.{tower_mul}
-use Rattle.additive_transforms.specs.Transform.{HoldValuesAtPoints}
 use Rattle.ghash_slices.specs.Cantor.{point}
 use Rattle.tower_transforms.specs.Words.{level_element}
 use Rattle.word_tables.specs.Cantor.{cantor_vector}
+use Rattle.transform_codes.specs.Columns.{HoldWordValues}
 use Rattle.transform_codes.proofs.CodedColumns.{all_blocks, block_begins, next_block}
 use Rattle.transform_codes.proofs.encoding.write_parity.Goals as goal
 
@@ -13,34 +12,38 @@ loop-number-preserved g c =
     let level = g.L.Level.LEVEL in
     let element = level_element g.R.Stored.number level in
     let coefficients = c.args.coefficients.now in
-    let block = c.forward_level.new.words in
+    let block = c.forward_strip.new.words in
     let code = c.args.code.now in
+    let strip = c.args.strip in
     let n = code.levels in
     let number = c.loop-number.number in
-    let first : ℕ = number * length coefficients in
-    let first_is : first ≡ number * 2 ^ n = ap (λ (k : ℕ). number * k) c.requires.count in
-    let shift : g.R.Stored.number c.point_of.result ≡ point (2 ^ level) cantor_vector 0 ((number + 1) * 2 ^ n) =
-    c.point_of.ensures ∙ ap (λ (k : ℕ). point (2 ^ level) cantor_vector 0 ((number + 1) * k)) c.requires.count in
+    let points = c.coefficient_count-points.result in
+    let points_are : points ≡ 2 ^ n = c.coefficient_count-points.ensures in
+    let first : ℕ = number * points in
+    let first_is : first ≡ number * 2 ^ n = ap (λ (k : ℕ). number * k) points_are in
+    let shift : g.R.Stored.number c.point_of-behind.result ≡ point (2 ^ level) cantor_vector 0 ((number + 1) * 2 ^ n) =
+    c.point_of-behind.ensures ∙ ap (λ (k : ℕ). point (2 ^ level) cantor_vector 0 ((number + 1) * k)) points_are in
     let end : (c.least-taken.result ≡ 2 ^ n) ⊎ (first + c.least-taken.result ≡ code.parity_shards) =
     elim c.least-taken.ensures.either [
-      | inl all ↦ inl (all ∙ c.requires.count)
-      | inr rest ↦ inr (omega (arith, rest, block_begins code.parity_shards (length coefficients) number code.some_parity c.loop-number-test.true))
+      | inl all ↦ inl (all ∙ points_are)
+      | inr rest ↦ inr (omega (arith, rest, block_begins code.parity_shards points number code.some_parity c.loop-number-test.true))
     ] in (
-      next_block element g.R.Stored.ZERO level n code.parity_shards c.args.size c.args.column number first c.least-taken.result
-          (g.R.Stored.number c.point_of.result) coefficients block c.loop-number.parity c.scatter.new.shards c.requires.inside c.requires.count
-          (c.forward_level.ensures.length ∙ c.copy_from_slice.ensures.len ∙ c.loop-number.auto.block ∙ c.requires.block) first_is shift end
-          (subst (λ l. HoldValuesAtPoints (2 ^ level) (tower_mul level) cantor_vector (g.R.Stored.number c.point_of.result) (map element l) (map element block))
-          c.copy_from_slice.ensures.after c.forward_level.ensures.values)
-          c.loop-number.invariant.0 c.scatter.ensures.scattered,
+      λ k inside.
+          next_block element g.R.Stored.ZERO level n strip.width k inside code.parity_shards strip.size strip.start number first
+          c.least-taken.result (g.R.Stored.number c.point_of-behind.result) coefficients block c.loop-number.parity c.scatter.new.shards
+          strip.inside c.requires.count
+          (c.forward_strip.ensures.length ∙ c.copy_from_slice.ensures.len ∙ c.loop-number.auto.block ∙ c.requires.block) first_is shift end
+          (subst (λ l. HoldWordValues element level (g.R.Stored.number c.point_of-behind.result) strip.width k l block)
+          c.copy_from_slice.ensures.after (c.forward_strip.ensures.values k inside))
+          (c.loop-number.invariant.0 k inside) c.scatter.ensures.scattered,
       λ i d below other. c.scatter.ensures.scattered.kept i d below (inl other) ∙ c.loop-number.invariant.1 i d below other,
     )
 
 pub returns-clause-written : goal.returns-clause-written
 returns-clause-written g c =
     let code = c.args.code.now in
-    let coefficients = c.args.coefficients.now in
     let some = pow_pos code.levels in
-    let blocks = all_blocks code.parity_shards (length coefficients) (2 ^ code.levels) c.requires.count some in
+    let blocks = all_blocks code.parity_shards c.coefficient_count-points.result (2 ^ code.levels) c.coefficient_count-points.ensures some in
     let all : code.parity_shards ≤ c.loop-number.number * 2 ^ code.levels =
     subst (λ (q : ℕ). code.parity_shards ≤ q * 2 ^ code.levels) (omega arith) blocks in
-    λ t below few. c.loop-number.invariant.0 t (omega (arith, below, all)) below
+    λ k inside t below few. c.loop-number.invariant.0 k inside t (omega (arith, below, all)) below

@@ -1,4 +1,5 @@
-use Rattle.std.proofs.Common.{◌*◌, ◌^◌, map}
+use Rattle.std.proofs.Common.{◌+◌, ◌*◌, ◌^◌, ◌<◌, ℕ, map}
+use Rattle.additive_transforms.specs.Columns.{column_of}
 use Rattle.tower_transforms.specs.Words.{level_element}
 use Rattle.transform_codes.specs.Columns.{AreParityBelow, OthersAreKept}
 use Rattle.transform_codes.proofs.encoding.write_parity.Given as goal
@@ -7,6 +8,7 @@ use Rattle.transform_codes.proofs.encoding.write_parity.Given as goal
 abbrev pub invariant-loop-number : goal.invariant-loop-number
 invariant-loop-number g l =
     let element = level_element g.R.Stored.number g.L.Level.LEVEL in
-    AreParityBelow element g.R.Stored.ZERO g.L.Level.LEVEL l.code.levels l.code.parity_shards l.size l.column (map element l.coefficients)
-    (l.number * 2 ^ l.code.levels) l.parity
-    × OthersAreKept g.R.Stored.ZERO l.size l.column l.initial.parity l.parity
+    let zero = g.R.Stored.ZERO in
+    ((c : ℕ) → c < l.strip.width → AreParityBelow element zero g.L.Level.LEVEL l.code.levels l.code.parity_shards l.strip.size (l.strip.start + c)
+    (column_of l.strip.width c (map element l.coefficients)) (l.number * 2 ^ l.code.levels) l.parity)
+    × OthersAreKept zero l.strip.size l.strip.start l.strip.width l.initial.parity l.parity

@@ -1,9 +1,14 @@
+use Rattle.std.proofs.Common.{◌-◌, ◌≤◌}
 use Rattle.tower_transforms.specs.Words.{level_element}
 use Rattle.transform_codes.specs.Restoring.{AreRestoredColumns}
 use Rattle.transform_codes.proofs.codec.TransformCode.restore_shards.Given as goal
 
 -- so many columns are restored
-abbrev pub invariant-loop-column : goal.invariant-loop-column
-invariant-loop-column g l =
-    AreRestoredColumns (level_element g.R.Stored.number g.L.Level.LEVEL) g.R.Stored.ZERO g.L.Level.LEVEL l.self.levels l.self.data_shards
-    l.self.parity_shards l.size l.present l.column l.initial.shards l.initial.parity l.shards l.parity
+abbrev pub invariant-loop-start : goal.invariant-loop-start
+invariant-loop-start g l =
+    (l.start ≤ l.size)
+    × AreRestoredColumns (level_element g.R.Stored.number g.L.Level.LEVEL) g.R.Stored.ZERO g.L.Level.LEVEL l.self.levels l.self.data_shards
+    l.self.parity_shards l.size l.present l.start l.initial.shards l.initial.parity l.shards l.parity
+
+abbrev pub decreases-loop-start : goal.decreases-loop-start
+decreases-loop-start g l = l.size - l.start
