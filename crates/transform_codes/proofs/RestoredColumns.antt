@@ -14,7 +14,7 @@ use Rattle.ghash_slices.specs.Cantor.{point, polynomial_value}
 use Rattle.tower_transforms.specs.Words.{level_element}
 use Rattle.word_tables.specs.Cantor.{cantor_vector}
 use Rattle.transform_codes.specs.Codes.{IsCodedColumn, shard_symbol, value_at}
-use Rattle.transform_codes.specs.Columns.{AreRowProducts, HoldStrip, HoldWordValues}
+use Rattle.transform_codes.specs.Columns.{AreRowProducts, HoldWordValues}
 use Rattle.transform_codes.specs.Locators.{lost_count}
 use Rattle.transform_codes.specs.Restoring.{AreFactors, ArePoints, FitRestoring, IsAtHand, is_lost, is_missing, missing_locator, word_at}
 use Rattle.transform_codes.specs.Sizes.{CanRebuild}

@@ -1,4 +1,4 @@
-use Rattle.std.proofs.Common.{◌+◌, ◌<◌, get_or, arith}
+use Rattle.std.proofs.Common.{◌+◌, get_or, arith}
 use Rattle.std.proofs.lemmas.List.{get_or_read}
 use Rattle.transform_codes.proofs.ColumnPlaces.{put_more}
 use Rattle.transform_codes.proofs.columns.copy_words.Goals as goal
