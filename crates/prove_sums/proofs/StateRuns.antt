@@ -2,6 +2,7 @@
 use Rattle.std.proofs.Common.{◌≡◌, ◌∙◌, ℕ, Bool, true, List, [], ◌∷◌, ap, subst}
 use Rattle.transcript_elements.specs.Lists.{InTurn}
 use Rattle.protocols.specs.Queries.{AreQueries}
+use Rattle.protocols.specs.declared.merkle_tree.MerkleTree.{MerkleTree}
 use Rattle.protocols.specs.Sumcheck.{AreTurns, IsRunOf, IsTurn, Statement, messages_of}
 use Rattle.prove_sums.specs.Shapes.{block_bits, messages_in, rows_in, sum_in, witness_in}
 use Rattle.prove_sums.specs.Verdicts.{DrawsPlaces, IsHonestProof, IsReduced, IsSummed, IsVerdict, sum_statement, work_bits}
@@ -107,13 +108,17 @@ module _ {C S : Type 0} (state : C → S) where
         challenge_count = summed.challenge_count;
       }
 
-      pub honest-on_states : (width : ℕ) (times : ℕ → ℕ → ℕ) (left right left_columns right_columns : List F) (old : C) (begun : S)
-          → state old ≡ begun
-          → IsHonestProof observes gives passing checks gives_bits number repr width times n left right left_columns right_columns elements old
-          → IsHonestProof observed given passed checked given_bits number repr width times n left right left_columns right_columns elements begun
-      honest-on_states width times left right left_columns right_columns old begun is honest =
+      pub honest-on_states : {A : Type 0} (width : ℕ) (times : ℕ → ℕ → ℕ) (left right left_columns right_columns : List F)
+          (left_tree right_tree : MerkleTree A) (nodes : List (List ℕ)) (old : C) (begun : S) → state old ≡ begun
+          → IsHonestProof observes gives passing checks gives_bits number repr width times n left right left_columns right_columns left_tree right_tree
+          elements nodes old
+          → IsHonestProof observed given passed checked given_bits number repr width times n left right left_columns right_columns left_tree right_tree
+          elements nodes begun
+      honest-on_states width times left right left_columns right_columns left_tree right_tree nodes old begun is honest =
           let parts = honest.parts in
-          subst (λ (s : S). IsHonestProof observed given passed checked given_bits number repr width times n left right left_columns right_columns elements s) is
+          subst
+          (λ (s : S). IsHonestProof observed given passed checked given_bits number repr width times n left right left_columns right_columns
+          left_tree right_tree elements nodes s) is
           (record {
             parts = parts;
             point = honest.point;
@@ -126,4 +131,9 @@ module _ {C S : Type 0} (state : C → S) where
             left_opened = honest.left_opened;
             right_opened = honest.right_opened;
             written = honest.written;
+            left_nodes = honest.left_nodes;
+            right_nodes = honest.right_nodes;
+            left_nodes_open = honest.left_nodes_open;
+            right_nodes_open = honest.right_nodes_open;
+            nodes_are = honest.nodes_are;
           })

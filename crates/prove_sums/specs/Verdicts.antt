@@ -2,6 +2,7 @@
 -- `bit_xor` and the product `times`. `hash` and `digest` are hash functions.
 use Rattle.std.specs.Prelude.{◌≡◌, ◌≢◌, ◌↔◌, ℕ, ◌*◌, ◌^◌, ◌<◌, ◌≤◌, Bool, true, false, List, [], ◌∷◌, ◌++◌, length, map, take, drop, slice_index, IsTrue}
 use Rattle.std.specs.List.{range_with_len}
+use Rattle.std.specs.declared.alloc.Global.{Global}
 use Rattle.std.specs.declared.option.Option.{Option}
 use Rattle.std.specs.declared.option.Option.TheVariants.{None, Some}
 use Rattle.transcript_bytes.specs.ByteCalls.{after, observing}
@@ -17,8 +18,9 @@ use Rattle.protocols.specs.Queries.{AreQueries}
 use Rattle.protocols.specs.Sumcheck.{IsRunOf, IsTurn, Statement, messages_of, statement_of}
 use Rattle.protocols.specs.SumcheckClaims.{AreHonestMessages, reduced_claim}
 use Rattle.protocols.specs.Tables.{AreExtendedColumns, OpensColumns}
-use Rattle.protocols.specs.Commitments.{row_at}
+use Rattle.protocols.specs.Commitments.{IsTreeOver, root_of, row_at}
 use Rattle.protocols.specs.MerkleTrees.{rows_root}
+use Rattle.protocols.specs.Openings.{OpensRows}
 use Rattle.protocols.specs.declared.merkle_tree.MerkleTree.{MerkleTree}
 use Rattle.protocols.specs.Terms.{Product, cube_sum}
 use Rattle.field_element.specs.Element.{repr_of}
@@ -134,6 +136,12 @@ AreColumnsAt height columns places chosen =
     (length chosen ≡ length places * height)
     × ((i : ℕ) → i < length places → row_at height chosen i ≡ row_at height columns (slice_index places i))
 
+-- nodes open these places of a tree, whatever the hash function and the rows are that it is over
+abbrev pub OpensPlaces : {A : Type 0} → MerkleTree A → List ℕ → List (List ℕ) → Type 0
+OpensPlaces tree places nodes =
+    (hash : List ℕ → List ℕ) (row : ℕ → List ℕ) → IsTreeOver hash row tree
+    → OpensRows hash tree.depth (root_of tree) places (λ i. row (slice_index places i)) nodes
+
 -- what a prover sends beside nodes: a sum, messages, a witness of work, both tables' rows, and the columns of each that are opened
 pub record SentParts (F : Type 0) : Type 0 where
   pub sum : F
@@ -148,10 +156,12 @@ abbrev pub sent_elements : {F : Type 0} → SentParts F → List F
 sent_elements parts = parts.sum ∷ parts.messages ++ (parts.witness ∷ parts.rows ++ (parts.left ++ parts.right))
 
 -- What an honest prover sends of two tables: the sum of their products, its messages, a witness that works, the values of both tables' columns,
--- and the columns of both at the places that are drawn after these.
-pub record IsHonestProof {C F : Type 0} (observes gives : C → F → C → Type 0) (passing : C → ℕ → ℕ → Bool)
+-- the columns of both at the places that are drawn after these, and nodes, first those that open these places of the left tree, then those
+-- of the right one.
+pub record IsHonestProof {C F A : Type 0} (observes gives : C → F → C → Type 0) (passing : C → ℕ → ℕ → Bool)
     (checks : C → ℕ → ℕ → C → Type 0) (gives_bits : C → ℕ → ℕ → C → Type 0) (number repr : F → ℕ) (width : ℕ) (times : ℕ → ℕ → ℕ)
-    (n : ℕ) (left right left_columns right_columns elements : List F) (old : C) : Type 0 where
+    (n : ℕ) (left right left_columns right_columns : List F) (left_tree right_tree : MerkleTree A) (elements : List F) (nodes : List (List ℕ))
+    (old : C) : Type 0 where
   pub parts : SentParts F
   pub point : List F
   pub places : List ℕ
@@ -164,6 +174,11 @@ pub record IsHonestProof {C F : Type 0} (observes gives : C → F → C → Type
   pub left_opened : AreColumnsAt (2 ^ rows_of n) left_columns places parts.left
   pub right_opened : AreColumnsAt (2 ^ rows_of n) right_columns places parts.right
   pub written : elements ≡ sent_elements parts
+  pub left_nodes : List (List ℕ)
+  pub right_nodes : List (List ℕ)
+  pub left_nodes_open : OpensPlaces left_tree places left_nodes
+  pub right_nodes_open : OpensPlaces right_tree places right_nodes
+  pub nodes_are : nodes ≡ left_nodes ++ right_nodes
 
 -- ---- in the field of GHASH, and in a transcript over a hash function
 
@@ -204,12 +219,12 @@ IsSumVerdict digest hasher repr front n left right elements nodes accepted =
     (hasher, front, []) accepted
 
 -- .. and what an honest prover sends of two tables with these columns
-abbrev pub IsHonestSum : {F H : Type 0} → (H → List ℕ → List ℕ) → H → (F → ℕ) → List ℕ → ℕ → List F → List F → List F → List F → List F
-    → Type 0
-IsHonestSum digest hasher repr front n left right left_columns right_columns elements =
+abbrev pub IsHonestSum : {F H A : Type 0} → (H → List ℕ → List ℕ) → H → (F → ℕ) → List ℕ → ℕ → List F → List F → List F → List F
+    → MerkleTree A → MerkleTree A → List F → List (List ℕ) → Type 0
+IsHonestSum digest hasher repr front n left right left_columns right_columns left_tree right_tree elements nodes =
     IsHonestProof (λ old x new. observes_number digest old (repr x) new) (λ old x new. gives_number digest old (repr x) new)
     (passes_number digest) (checks_number digest) (samples_bits digest) repr repr 128 word_times n left right left_columns right_columns
-    elements (hasher, front, [])
+    left_tree right_tree elements nodes (hasher, front, [])
 
 -- ---- tables
 
@@ -224,7 +239,13 @@ pub record IsTableRoot {F : Type 0} (hash : List ℕ → List ℕ) (repr : F →
   pub extended : AreExtendedColumns repr 128 word_times word_vector (levels_of n) 2 (2 ^ rows_of n) (map repr elements) columns
   pub rooted : root ≡ rows_root hash (depth_of n) (λ p. joined_bytes 16 repr (row_at (2 ^ rows_of n) columns p))
 
--- .. for the bytes of a table
+-- a tree over the columns of a table's extension, with this root
+pub record IsTableTree {F A : Type 0} (hash : List ℕ → List ℕ) (repr : F → ℕ) (n : ℕ) (columns : List F) (root : List ℕ)
+    (tree : MerkleTree A) : Type 0 where
+  pub over : IsTreeOver hash (λ p. joined_bytes 16 repr (row_at (2 ^ rows_of n) columns p)) tree
+  pub top : root ≡ root_of tree
+
+-- the root that commits to the bytes of a table
 pub record IsCommitment {F : Type 0} (hash : List ℕ → List ℕ) (repr : F → ℕ) (bytes root : List ℕ) : Type 0 where
   pub rounds : ℕ
   pub elements : List F
@@ -254,7 +275,7 @@ IsAnswerTo digest hasher repr left right bytes (Some NotAProof) = IsNoFile repr 
 IsAnswerTo digest hasher repr left right bytes (Some OtherField) = IsNoFile repr bytes
 
 -- What the program writes for the bytes of two tables: they have as many words, one as the other, and the file has the roots that commit to
--- them, and what an honest prover sends.
+-- them, and what an honest prover sends, with nodes of the trees that have these roots.
 pub record IsProgramProof {F H : Type 0} (digest : H → List ℕ → List ℕ) (hasher : H) (repr : F → ℕ) (left right proof : List ℕ) : Type 0 where
   pub rounds : ℕ
   pub one : List F
@@ -263,14 +284,19 @@ pub record IsProgramProof {F H : Type 0} (digest : H → List ℕ → List ℕ) 
   pub other_columns : List F
   pub one_root : List ℕ
   pub other_root : List ℕ
+  pub one_tree : MerkleTree Global
+  pub other_tree : MerkleTree Global
   pub elements : List F
   pub nodes : List (List ℕ)
   pub left_table : IsTable repr left rounds one
   pub right_table : IsTable repr right rounds other
   pub left_root : IsTableRoot (digest hasher) repr rounds one one_columns one_root
   pub right_root : IsTableRoot (digest hasher) repr rounds other other_columns other_root
+  pub left_tree : IsTableTree (digest hasher) repr rounds one_columns one_root one_tree
+  pub right_tree : IsTableTree (digest hasher) repr rounds other_columns other_root other_tree
   pub written : proof ≡ file_bytes rounds one_root other_root (joined_bytes 16 repr elements) nodes
-  pub honest : IsHonestSum digest hasher repr (file_bytes rounds one_root other_root [] []) rounds one other one_columns other_columns elements
+  pub honest : IsHonestSum digest hasher repr (file_bytes rounds one_root other_root [] []) rounds one other one_columns other_columns
+      one_tree other_tree elements nodes
 
 -- ---- the same of words
 

@@ -1,7 +1,8 @@
 // What the program does.
 ghost use Rattle.std.specs.Prelude.{◌≡◌, map, IfOk};
 ghost use Rattle.field_element.specs.Element.{repr_of};
-ghost use Rattle.prove_sums.specs.Verdicts.{word_times, word_vector, HoldsTable, IsTable, IsTableRoot, IsWordCommitment, IsWordProof};
+ghost use Rattle.prove_sums.specs.Verdicts.{word_times, word_vector, HoldsTable, IsTable, IsTableRoot, IsTableTree};
+ghost use Rattle.prove_sums.specs.Verdicts.{IsWordCommitment, IsWordProof};
 
 use crate::answers::answer_to;
 use crate::example;
@@ -125,6 +126,8 @@ fn commit<H: ByteHasher32>(
         made.1.held.columns.items made.1.held.tree) }
     ensures root { IfOk result (λ made. IsTableRoot (H.digest hasher.now) repr_of made.0 made.1.elements.items made.1.held.columns.items
         made.2) }
+    ensures tree { IfOk result (λ made. IsTableTree (H.digest hasher.now) repr_of made.0 made.1.held.columns.items made.2
+        made.1.held.tree) }
 {
     let table = table_of(alloc, bytes)?;
     let rounds = table.rounds;

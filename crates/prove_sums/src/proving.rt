@@ -1,10 +1,10 @@
 // The prover of a sum of products of two tables, both committed to.
-ghost use Rattle.std.specs.Prelude.{◌≡◌, ◌*◌, ◌^◌, ◌≤◌, ◌++◌, List, length, map, vec_len, IfOk, OnOk};
+ghost use Rattle.std.specs.Prelude.{◌≡◌, ◌*◌, ◌^◌, ◌≤◌, ◌++◌, ℕ, List, length, map, vec_len, IfOk, OnOk};
 ghost use Rattle.transcript_elements.specs.Grinding.{MayGrind};
 ghost use Rattle.field_bytes.specs.Streams.{joined_bytes};
 ghost use Rattle.protocols.specs.{Commitments.{IsTreeOver, row_at}, Openings.{AreAscending}};
 ghost use Rattle.prove_sums.specs.Shapes.{depth_of, row_size, rows_of};
-ghost use Rattle.prove_sums.specs.Verdicts.{AreColumnsAt, HoldsTable, IsHonestProof, values_at};
+ghost use Rattle.prove_sums.specs.Verdicts.{AreColumnsAt, HoldsTable, IsHonestProof, OpensPlaces, values_at};
 
 use crate::shapes::{EXPANSION, Shape};
 use crate::sums;
@@ -73,7 +73,7 @@ pub fn prove<
         right.now.held.columns.items right.now.held.tree }
     ensures { IfOk result (λ sent. IsHonestProof C.observes C.gives C.passing C.checks C.gives_bits C.number F.repr F.width F.product
         shape.now.rounds left.now.elements.items right.now.elements.items left.now.held.columns.items right.now.held.columns.items
-        sent.elements.items challenger.old) }
+        left.now.held.tree right.now.held.tree sent.elements.items sent.nodes.items challenger.old) }
 {
     let (one, other) = (left.elements.as_slice(), right.elements.as_slice());
     let summed = sums::prove(alloc, challenger, one, other, shape.rounds)?;
@@ -144,7 +144,9 @@ fn open<F: ByteLevel>(
         table.now.held.columns.items table.now.held.tree }
     requires places { AreAscending (2 ^ depth_of shape.now.rounds) places.now }
     ensures { OnOk result ((columns : List F) × (elements.new.items ≡ elements.old.items ++ columns)
-        × AreColumnsAt (2 ^ rows_of shape.now.rounds) table.now.held.columns.items places.now columns) }
+        × AreColumnsAt (2 ^ rows_of shape.now.rounds) table.now.held.columns.items places.now columns
+        × (opening : List (List ℕ)) × (nodes.new.items ≡ nodes.old.items ++ opening)
+        × OpensPlaces table.now.held.tree places.now opening) }
 {
     let columns = columns_at(alloc, table.held.columns.as_slice(), shape.height(), places)?;
     elements.extend_from_slice(columns.as_slice())?;

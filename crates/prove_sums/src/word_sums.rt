@@ -4,7 +4,7 @@ ghost use Rattle.field_bytes.specs.Streams.{joined_bytes};
 ghost use Rattle.field_element.specs.Element.{repr_of};
 ghost use Rattle.transcript_bytes.specs.HashChallengers.{hash_state};
 ghost use Rattle.transcript_elements.specs.Challengers.{inner_of};
-ghost use Rattle.protocols.specs.{Commitments.{IsTreeOver, row_at}, MerkleTrees.{rows_root}};
+ghost use Rattle.protocols.specs.{Commitments.{IsTreeOver, digest_at, row_at}, MerkleTrees.{rows_root}};
 ghost use Rattle.prove_sums.specs.{ProofFiles.{file_bytes}, Shapes.{rows_of}};
 ghost use Rattle.prove_sums.specs.Verdicts.{word_times, word_vector, HoldsTable, IsHonestSum, IsSumVerdict};
 
@@ -54,7 +54,8 @@ pub fn commit_table<H: ByteHasher32>(
 
 /// The root of a committed table.
 pub fn root_of(table: &Committed<Ghash128>) -> [u8; 32]
-    ensures { (hash : List ℕ → List ℕ) (row : ℕ → List ℕ) → IsTreeOver hash row table.now.held.tree
+    ensures top { result ≡ digest_at table.now.held.tree 1 }
+    ensures rows { (hash : List ℕ → List ℕ) (row : ℕ → List ℕ) → IsTreeOver hash row table.now.held.tree
         → result ≡ rows_root hash table.now.held.tree.depth row }
 {
     table.held.tree.commitment().root
@@ -77,7 +78,8 @@ pub fn prove<H: ByteHasher32>(
     requires right { HoldsTable repr_of 128 word_times word_vector rounds right.now.elements.items right.now.held.columns.items
         right.now.held.tree }
     ensures { IfOk result (λ sent. IsHonestSum H.digest hasher.now repr_of (file_bytes rounds left_root.now right_root.now [] []) rounds
-        left.now.elements.items right.now.elements.items left.now.held.columns.items right.now.held.columns.items sent.elements.items) }
+        left.now.elements.items right.now.elements.items left.now.held.columns.items right.now.held.columns.items
+        left.now.held.tree right.now.held.tree sent.elements.items sent.nodes.items) }
 {
     let mut challenger = transcript(alloc, hasher, rounds, left_root, right_root)?;
     let shape = Shape::new(rounds);

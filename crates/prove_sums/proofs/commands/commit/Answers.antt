@@ -24,6 +24,9 @@ returns-clause-root g c =
     record {
       extended = held.extended;
       rooted =
-          c.root_of-root.ensures hash row c.in_ok-committed.ensures.tree
+          c.root_of-root.ensures.rows hash row c.in_ok-committed.ensures.tree
           ∙ ap (λ (n : ℕ). rows_root hash n row) held.depth;
     }
+
+pub returns-clause-tree : goal.returns-clause-tree
+returns-clause-tree g c = record { over = c.in_ok-committed.ensures.tree; top = c.root_of-root.ensures.top }

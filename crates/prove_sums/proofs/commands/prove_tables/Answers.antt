@@ -2,7 +2,7 @@ use Rattle.std.proofs.Common.{◌≡◌, ℕ, List, ◌∙◌, ap₂, subst, ari
 use Rattle.field_bytes.specs.Streams.{joined_bytes}
 use Rattle.field_element.specs.Element.{repr_of}
 use Rattle.prove_sums.specs.ProofFiles.{file_bytes}
-use Rattle.prove_sums.specs.Verdicts.{HoldsTable, IsTable, IsTableRoot, word_times, word_vector}
+use Rattle.prove_sums.specs.Verdicts.{HoldsTable, IsTable, IsTableRoot, IsTableTree, word_times, word_vector}
 use Rattle.prove_sums.proofs.commands.prove_tables.Goals as goal
 
 pub prove-requires-clause-few : goal.prove-requires-clause-few
@@ -34,6 +34,8 @@ returns g c =
       other_columns = second.held.columns.items;
       one_root = c.in_ok-rounds.left_root;
       other_root = c.in_ok-others.right_root;
+      one_tree = first.held.tree;
+      other_tree = second.held.tree;
       elements = sent.elements.items;
       nodes = sent.nodes.items;
       left_table = left.table;
@@ -42,6 +44,10 @@ returns g c =
       right_root =
           subst (λ (n : ℕ). IsTableRoot (g.H.ByteHasher32.digest c.args.hasher.now) repr_of n second.elements.items
           second.held.columns.items c.in_ok-others.right_root) same right.root;
+      left_tree = left.tree;
+      right_tree =
+          subst (λ (n : ℕ). IsTableTree (g.H.ByteHasher32.digest c.args.hasher.now) repr_of n second.held.columns.items c.in_ok-others.right_root
+          second.held.tree) same right.tree;
       written =
           c.in_ok-proof.ensures
           ∙ ap₂ (λ (l : List _) (ns : List (List ℕ)). file_bytes rounds c.in_ok-rounds.left_root c.in_ok-others.right_root

@@ -23,4 +23,8 @@ returns g c =
       subst (λ (h : ℕ). AreColumnsAt h c.args.table.now.held.columns.items places chosen) c.height.ensures.size
           (subst (λ (l : List _). AreColumnsAt c.height.result l places chosen) c.as_slice.ensures.value
           (c.in_ok-columns.ensures.count, c.in_ok-columns.ensures.each)),
+      c.in_ok-opening.opening.items,
+      c.in_ok-extend_from_slice-2.ensures.items
+          ∙ ap (λ (l : List (List ℕ)). c.args.nodes.now.items ++ l) c.as_slice-3.ensures.value,
+      c.in_ok-opening.ensures,
     )

@@ -1,7 +1,7 @@
 use Rattle.std.proofs.Common.{◌≡◌, ◌++◌, ◌^◌, ℕ, List, length, take, refl, sym, ◌∙◌, ap, subst}
 use Rattle.protocols.specs.Openings.{AreAscending}
 use Rattle.prove_sums.specs.Shapes.{block_bits, depth_of, places_of, rows_of}
-use Rattle.prove_sums.specs.Verdicts.{AreColumnsAt, IsSummed, values_at}
+use Rattle.prove_sums.specs.Verdicts.{AreColumnsAt, IsSummed, OpensPlaces, values_at}
 use Rattle.prove_sums.proofs.Sizes.{ascending}
 use Rattle.prove_sums.proofs.SumSteps.{elements-listed, places-drawn}
 use Rattle.prove_sums.proofs.proving.prove.Goals as goal
@@ -67,4 +67,14 @@ returns g c =
           elements-listed c.in_ok-open.ensures.0 c.in_ok-open-2.ensures.0 summed.sum c.in_ok-witness.witness c.new-elements.ensures.items c.in_ok-push.ensures.items c.in_ok-extend_from_slice.ensures.items
           c.as_slice-3.ensures.value c.in_ok-push-2.ensures.items c.in_ok-extend_from_slice-2.ensures.items c.as_slice-rows.ensures.value
           c.in_ok-open.ensures.1 c.in_ok-open-2.ensures.1;
+      left_nodes = c.in_ok-open.ensures.3;
+      right_nodes = c.in_ok-open-2.ensures.3;
+      left_nodes_open =
+          subst (λ (ps : List ℕ). OpensPlaces left.held.tree ps c.in_ok-open.ensures.3) c.as_slice-4.ensures.value c.in_ok-open.ensures.5;
+      right_nodes_open =
+          subst (λ (ps : List ℕ). OpensPlaces right.held.tree ps c.in_ok-open-2.ensures.3) c.as_slice-5.ensures.value c.in_ok-open-2.ensures.5;
+      nodes_are =
+          c.in_ok-open-2.ensures.4
+          ∙ ap (λ (l : List (List ℕ)). l ++ c.in_ok-open-2.ensures.3)
+          (c.in_ok-open.ensures.4 ∙ ap (λ (l : List (List ℕ)). l ++ c.in_ok-open.ensures.3) c.new-nodes.ensures.items);
     }

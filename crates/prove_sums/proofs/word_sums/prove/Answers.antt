@@ -26,12 +26,14 @@ returns g c =
     let hasher = c.args.hasher.now in
     let front = file_bytes c.args.rounds c.args.left_root.now c.args.right_root.now [] [] in
     let sent = c.in_ok-sent.sent.elements.items in
+    let nodes = c.in_ok-sent.sent.nodes.items in
     let honest : IsHonestSum digest hasher repr_of front c.new-shape.result.rounds left.elements.items right.elements.items
-    left.held.columns.items right.held.columns.items sent =
+    left.held.columns.items right.held.columns.items left.held.tree right.held.tree sent nodes =
     honest-on_states state_of _ _ _ _ (λ old x new is. is) (λ old x new is. (x.in_range, is)) _ _ _ _ _ _ (λ old bits witness. refl)
     (λ old bits witness new is. is) (λ old bits number new is. is) repr_of repr_of c.new-shape.result.rounds sent 128 word_times
-    left.elements.items right.elements.items left.held.columns.items right.held.columns.items c.in_ok-challenger.challenger (hasher, front, [])
+    left.elements.items right.elements.items left.held.columns.items right.held.columns.items left.held.tree right.held.tree nodes
+    c.in_ok-challenger.challenger (hasher, front, [])
     c.in_ok-challenger.ensures c.in_ok-sent.ensures in
     subst
     (λ (n : ℕ). IsHonestSum digest hasher repr_of front n left.elements.items right.elements.items left.held.columns.items
-    right.held.columns.items sent) c.new-shape.ensures honest
+    right.held.columns.items left.held.tree right.held.tree sent nodes) c.new-shape.ensures honest
