@@ -10,8 +10,8 @@ import numpy as np
 from ._library import WORDS, Words, call
 from ._storage import Stored
 
-# So many columns of shards a call of an erasure code by transforms takes at once at most.
-_COLUMNS_AT_ONCE = 32
+# With room for so many columns of shards a call of an erasure code by transforms takes as little time as with more.
+_COLUMNS_AT_ONCE = 8
 
 
 def _bytes(value: Any) -> Words:
@@ -358,7 +358,7 @@ class TransformCode(_Code):
         return words[: self.data], words[self.data :]
 
     def _space(self, shards: Words) -> Words:
-        """What a call works in, with room for as many columns as it takes at once."""
+        """What a call works in, with room for some columns at once."""
         length = np.zeros(1, np.uint64)
         call("erasure_space", self.data, self.parity, length)
         columns = max(1, min(_COLUMNS_AT_ONCE, shards.shape[1] // 2))
