@@ -684,8 +684,8 @@ uint32_t bf_erasure_reconstruct(
 
 /* --------------------------------------------------------------------------------------------------------------------- */
 /* Second forms, made for x86-64-v3, whose vectors have 256 bits. Each gives the same as the function without _wide, in every
- * library; in one built for x86-64-v2 it is the slower of the two. The file libbinary_field.cpu beside the library says
- * which it is. */
+ * library; in one built for x86-64-v2 most are slower than that. The file libbinary_field.cpu beside the library says which
+ * it is. */
 
 uint32_t bf_g128_multiply_wide(const bf_u128 *left, size_t left_length, const bf_u128 *right, size_t right_length, bf_u128 *products, size_t products_length) BF_CHECKED;
 uint32_t bf_g128_multiply_in_place_wide(bf_u128 *products, size_t products_length, const bf_u128 *values, size_t values_length) BF_CHECKED;

@@ -130,7 +130,7 @@ OTHER_FUNCTIONS = [
 ]
 
 # Of these there is a second form, bf_NAME_wide. It gives the same, and is made for x86-64-v3, whose vectors have 256 bits: in a library
-# built for x86-64-v2 it is the slower one.
+# built for x86-64-v2 most of them are the slower form.
 WIDE = [
     "g128_multiply", "g128_multiply_in_place", "g128_multiply_by", "g128_multiply_by_in_place", "g128_add_scaled", "g128_dot_product",
     "g128_butterfly_forward", "g128_butterfly_inverse", "g128_low_stages", "g128_transform", "g128_inverse_transform",

@@ -173,7 +173,7 @@ def sections():
         "for each set bit b of p, as above. Shards of data stand one after the other, and so do those of parity, in an array of their own. A call "
         "takes as many columns at once, up to 32, as the space has room for: less time where it has more than bf_erasure_space gives.",
         "_wide": "Second forms, made for x86-64-v3, whose vectors have 256 bits. Each gives the same as the function without _wide, in every "
-        "library; in one built for x86-64-v2 it is the slower of the two. The file libbinary_field.cpu beside the library says which it is.",
+        "library; in one built for x86-64-v2 most are slower than that. The file libbinary_field.cpu beside the library says which it is.",
     }
     groups = []
     for row in rest:
