@@ -2,20 +2,11 @@
 use Rattle.std.proofs.Common.{◌≡◌, ◌≢◌, ℕ, ◌+◌, ◌^◌, ◌<◌, ◌≤◌, refl, sym, ◌∙◌, ap, ap₂, arith}
 use Rattle.std.specs.Prelude.{bit_xor}
 use native.Mathlib.Numerals.{add-one}
-use Rattle.field_base.specs.Basis.{product_below, sum_below}
+use Rattle.field_base.specs.Basis.{product_below}
 use Rattle.field_base.specs.Field.{IsField}
 use Rattle.field_base.proofs.FieldLemmas.{inverse-power}
 use Rattle.field_laws.specs.Interpolation.{lagrange, other_factors}
 use Rattle.field_laws.proofs.Interpolation.{factors-lt, factors-nonzero, factors_more, factors_skip}
-
--- a sum with one term more
-pub sum-none : (f : ℕ → ℕ) → sum_below f 0 ≡ 0
-unfolding sum_below
-sum-none f = refl
-
-pub sum-more : (f : ℕ → ℕ) (n sum next : ℕ) → sum ≡ sum_below f n → next ≡ bit_xor sum (f n) → next ≡ sum_below f (n + 1)
-unfolding sum_below
-sum-more f n sum next so_far is = is ∙ ap (λ (s : ℕ). bit_xor s (f n)) so_far ∙ ap (sum_below f) (sym (add-one n))
 
 module _ (width : ℕ) (times : ℕ → ℕ → ℕ) (field : IsField width times) (wide : 0 < width) where
   pub differences-none : (own x : ℕ) → 1 ≡ other_factors times (λ i. i) own x 0

@@ -1,15 +1,13 @@
 //! Many elements at once, over any field or ring of `field_base`: batch inversion, sums and products of slices, and powers; a slice as
 //! packings and back; and polynomials over any field: values in one variable by coefficients or by values at the first elements,
-//! multilinear polynomials by their values at the corners of the cube {0, 1}^n, and the rounds of sum-check for a product of two of these;
-//! and matrices over any field: identity matrices and those of Vandermonde and Cauchy, products, reduced row echelon form, null spaces,
-//! determinants, inverses and linear equations.
+//! multilinear polynomials by their values at the corners of the cube {0, 1}^n, and the rounds of sum-check for a product of two of these.
+//! It passes on the crate of matrices, as `matrices`, and its laws.
 #![tactic(auto)]
 
 mod cube;
 mod horner;
 mod inversion;
 mod laws;
-pub mod matrices;
 mod nodes;
 mod packings;
 mod powers;
@@ -22,10 +20,7 @@ pub use crate::inversion::{
     batch_multiplicative_inverse, batch_multiplicative_inverse_in_place,
     batch_multiplicative_inverse_into,
 };
-pub use crate::laws::{
-    corner_values_extend, determinant_tells_inverses, determinants_multiply,
-    first_coordinate_is_linear, folding_evaluates, null_space_is_kept, reduced_echelon_is_unique,
-};
+pub use crate::laws::{corner_values_extend, first_coordinate_is_linear, folding_evaluates};
 pub use crate::nodes::interpolate_at_nodes;
 pub use crate::packings::powers::{packed_powers, packed_powers_vec};
 pub use crate::packings::slices::{pack_slice, pack_slice_into, unpack_slice};
@@ -33,3 +28,8 @@ pub use crate::packings::sums::sum_of_lanes;
 pub use crate::powers::{powers_vec, shifted_powers_vec};
 pub use crate::rounds::{RoundPolynomial, honest_is_accepted};
 pub use crate::sums::{add_scaled_slice, add_slice, mixed_dot_product, mul_slice};
+pub use field_matrices as matrices;
+pub use field_matrices::{
+    determinant_tells_inverses, determinants_multiply, null_space_is_kept,
+    reduced_echelon_is_unique,
+};

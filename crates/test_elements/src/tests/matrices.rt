@@ -3,7 +3,7 @@
 // rank 1.
 use field_base::traits::{PrimeCharacteristicRing, TowerLevel};
 use field_element::Rijndael8b;
-use field_slices::matrices::{
+use field_matrices::{
     Elements, determinant, invert_beside, multiply_into, row_reduce, solve_augmented,
 };
 

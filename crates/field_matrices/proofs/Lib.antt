@@ -1,0 +1,14 @@
+pub mod DeterminantInverses
+pub mod DeterminantProducts
+pub mod DeterminantRows
+pub mod EchelonUniqueness
+pub mod Elimination
+pub mod InverseMatrices
+pub mod LaplaceExpansion
+pub mod LinearSystems
+pub mod MatrixRows
+pub mod NextTerms
+pub mod NullSpaces
+pub mod PivotDeterminants
+pub mod Places
+pub mod RowSpaces

@@ -1,0 +1,2 @@
+pub mod Determinants
+pub mod Matrices

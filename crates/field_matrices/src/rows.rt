@@ -1,0 +1,90 @@
+// Entries of matrices, and row operations.
+ghost use Rattle.std.specs.Prelude.{◌≡◌, ◌≢◌, ◌+◌, ◌*◌, ◌<◌, ℕ, bit_xor, length};
+ghost use Rattle.field_matrices.specs.Matrices.{HasMatrixEntry, HasMatrixRow, IsEntryWritten, IsRowWritten, entry_of};
+
+use crate::scalars::Scalars;
+
+// How many rows and columns a matrix has.
+#[derive(Clone, Copy)]
+pub(crate) struct Shape {
+    pub(crate) rows: usize,
+    pub(crate) columns: usize,
+}
+
+// The place of an entry of a matrix of `len` entries.
+fn place(len: usize, shape: Shape, row: usize, column: usize) -> usize
+    requires { HasMatrixEntry shape.rows shape.columns row column len }
+    ensures is { result ≡ row * shape.columns + column }
+    ensures inside { result < len }
+{
+    row * shape.columns + column
+}
+
+// The entry in this row and column.
+pub(crate) fn entry<S: Scalars>(
+    matrix: &[S::Value],
+    shape: Shape,
+    row: usize,
+    column: usize,
+) -> S::Value
+    requires { HasMatrixEntry shape.rows shape.columns row column (length matrix.now) }
+    ensures { S.number result ≡ entry_of S.number shape.columns matrix.now row column }
+{
+    let own = place(matrix.len(), shape, row, column);
+    matrix[own]
+}
+
+// Writes the entry in this row and column.
+pub(crate) fn set_entry<S: Scalars>(
+    matrix: &mut [S::Value],
+    shape: Shape,
+    row: usize,
+    column: usize,
+    value: S::Value,
+)
+    requires { HasMatrixEntry shape.rows shape.columns row column (length matrix.old) }
+    ensures { IsEntryWritten S.number shape.columns row column (S.number value) matrix.old matrix.new }
+{
+    let own = place(matrix.len(), shape, row, column);
+    matrix[own] = value;
+}
+
+// Adds `scalar` times row `from` to row `to`, which has to be another one.
+pub(crate) fn add_scaled_row<S: Scalars>(
+    matrix: &mut [S::Value],
+    shape: Shape,
+    to: usize,
+    from: usize,
+    scalar: S::Value,
+)
+    requires to { HasMatrixRow shape.rows shape.columns to (length matrix.old) }
+    requires from { from < shape.rows }
+    requires other { from ≢ to }
+    ensures { IsRowWritten S.number shape.columns to (λ j. bit_xor (entry_of S.number shape.columns matrix.old to j)
+        (S.product (S.number scalar) (entry_of S.number shape.columns matrix.old from j))) matrix.old matrix.new }
+{
+    for column in 0..shape.columns {
+        let own = entry::<S>(matrix, shape, to, column);
+        let other = entry::<S>(matrix, shape, from, column);
+        let value = S::add(own, S::multiply(scalar, other));
+        set_entry::<S>(matrix, shape, to, column, value);
+    }
+}
+
+// Multiplies a row by `scalar`.
+pub(crate) fn scale_row<S: Scalars>(
+    matrix: &mut [S::Value],
+    shape: Shape,
+    row: usize,
+    scalar: S::Value,
+)
+    requires { HasMatrixRow shape.rows shape.columns row (length matrix.old) }
+    ensures { IsRowWritten S.number shape.columns row
+        (λ j. S.product (S.number scalar) (entry_of S.number shape.columns matrix.old row j)) matrix.old matrix.new }
+{
+    for column in 0..shape.columns {
+        let own = entry::<S>(matrix, shape, row, column);
+        let value = S::multiply(scalar, own);
+        set_entry::<S>(matrix, shape, row, column, value);
+    }
+}
