@@ -141,14 +141,14 @@ module _ (width : ℕ) (times : ℕ → ℕ → ℕ) (ring : IsRing width 1 time
       let back : n + j - n ≡ j = omega arith in
       halves i (n + j) inside (omega (arith, within)) ∙ beside-right n A i (n + j) (omega arith) ∙ ap (identity_entry i) back
 
-  inverse_found : r ≡ n → AreInverseMatrices times n A (λ i j. N i (n + j))
+  pub inverse_found : r ≡ n → AreInverseMatrices times n A (λ i j. N i (n + j))
   inverse_found full =
       let whole = subst (λ (k : ℕ). IsReducedEchelon n n k pivot N) full reduced in (
         inverse_right width times ring n A M N M_fits N_fits left_half right_half same pivot whole,
         inverse_left width times ring n A M N M_fits N_fits left_half right_half same pivot whole,
       )
 
-  inverse_missing : r ≢ n → (B : ℕ → ℕ → ℕ) → IsMatrixProduct times n n n B A identity_entry → ⊥
+  pub inverse_missing : r ≢ n → (B : ℕ → ℕ → ℕ) → IsMatrixProduct times n n n B A identity_entry → ⊥
   inverse_missing short B inverts =
       short (sym (inverse_rank width times ring n A M N M_fits N_fits left_half right_half same r pivot reduced B inverts))
 

@@ -22,14 +22,16 @@ module _ (count : ℕ) (pivot right x : ℕ → ℕ) where
   solved_start zeros =
       record { at_pivots = λ k below. absurd (omega (arith, below)); elsewhere = λ j inside none. zeros j inside }
 
-  pub solved_step : (next : ℕ → ℕ) (n : ℕ) → next (pivot n) ≡ right n → ((j : ℕ) → j ≢ pivot n → next j ≡ x j)
-      → ((k : ℕ) → k < n → pivot k < pivot n) → SolvedBefore count pivot right x n → SolvedBefore count pivot right next (n + 1)
-  solved_step next n own others rises so_far =
+  pub solved_step : (next : ℕ → ℕ) (n : ℕ) → pivot n < count → next (pivot n) ≡ right n
+      → ((j : ℕ) → j < count → j ≢ pivot n → next j ≡ x j) → ((k : ℕ) → k < n → pivot k < pivot n)
+      → SolvedBefore count pivot right x n → SolvedBefore count pivot right next (n + 1)
+  solved_step next n fits own others rises so_far =
       record {
         at_pivots = below_more (λ k. next (pivot k) ≡ right k) n
-            (λ k before. others (pivot k) (apart k before) ∙ so_far.at_pivots k before) own;
+            (λ k before.
+            others (pivot k) (let rise = rises k before in omega (arith, rise, fits)) (apart k before) ∙ so_far.at_pivots k before) own;
         elsewhere = λ j inside none.
-            others j (λ e. none n (omega arith) (sym e))
+            others j inside (λ e. none n (omega arith) (sym e))
             ∙ so_far.elsewhere j inside (λ k before. none k (omega (arith, before)));
       }
     where
@@ -70,7 +72,7 @@ module _ (width : ℕ) (times : ℕ → ℕ → ℕ) (ring : IsRing width 1 time
           (λ j below. ap (λ (z : ℕ). times z (x j)) (reduced.zero_rows i j past inside below)) ∙ sum_of_nothing x count
 
       -- so that none solves an equation of zeros whose right side is not 0
-      solution_missing : (i : ℕ) → r ≤ i → i < rows → N i count ≢ 0 → (x : ℕ → ℕ) → IsSolution times rows count M x → ⊥
+      pub solution_missing : (i : ℕ) → r ≤ i → i < rows → N i count ≢ 0 → (x : ℕ → ℕ) → IsSolution times rows count M x → ⊥
       solution_missing i past inside nonzero x solves =
           nonzero (sym (solution_passes M N x N_fits same solves i inside) ∙ zero_row_sum x i past inside)
 
@@ -117,7 +119,7 @@ module _ (width : ℕ) (times : ℕ → ℕ → ℕ) (ring : IsRing width 1 time
                     ap (λ (z : ℕ). times z (x j)) zero_there ∙ zero-times width 1 times ring (x j)
                     ∙ sym (ap (λ (z : ℕ). times z 1) (only-other (pivot i) (N i count) j (differs zero_there)) ∙ zero-times width 1 times ring 1)
 
-        solution_found : IsSolution times rows count M x
+        pub solution_found : IsSolution times rows count M x
         solution_found =
             solution_passes N M x M_fits (λ v. ((same v).1, (same v).0))
             (λ i inside. elim (cases_lt i r) [

@@ -20,13 +20,13 @@ use Rattle.field_matrices.proofs.EchelonUniqueness.{find-pivot}
 
 module _ (pivot : ℕ → ℕ) (A : ℕ → ℕ → ℕ) (f : ℕ) where
   -- at the column of the next leading entry it has what that row has in column f, and elsewhere what it had
-  taken : (n j : ℕ) → j ≡ pivot n → null_entry pivot A f (suc n) j ≡ A n f
+  pub null-taken : (n j : ℕ) → j ≡ pivot n → null_entry pivot A f (suc n) j ≡ A n f
   unfolding null_entry
-  taken n j same = ap (λ (b : Bool). if b then A n f else null_entry pivot A f n j) (eq-eqb j (pivot n) same)
+  null-taken n j same = ap (λ (b : Bool). if b then A n f else null_entry pivot A f n j) (eq-eqb j (pivot n) same)
 
-  kept : (n j : ℕ) → j ≢ pivot n → null_entry pivot A f (suc n) j ≡ null_entry pivot A f n j
+  pub null-kept : (n j : ℕ) → j ≢ pivot n → null_entry pivot A f (suc n) j ≡ null_entry pivot A f n j
   unfolding null_entry
-  kept n j other = ap (λ (b : Bool). if b then A n f else null_entry pivot A f n j) (ne_eqb j (pivot n) other)
+  null-kept n j other = ap (λ (b : Bool). if b then A n f else null_entry pivot A f n j) (ne_eqb j (pivot n) other)
 
   pub null-start : (j : ℕ) → null_entry pivot A f 0 j ≡ only j 1 f
   unfolding null_entry
@@ -36,14 +36,14 @@ module _ (pivot : ℕ → ℕ) (A : ℕ → ℕ → ℕ) (f : ℕ) where
   pub null-apart : (n j : ℕ) → ((k : ℕ) → k < n → pivot k ≢ j) → null_entry pivot A f n j ≡ only j 1 f
   null-apart zero j none = null-start j
   null-apart (suc n) j none =
-      kept n j (λ e. none n (omega arith) (sym e)) ∙ null-apart n j (λ k below. none k (omega (arith, below)))
+      null-kept n j (λ e. none n (omega arith) (sym e)) ∙ null-apart n j (λ k below. none k (omega (arith, below)))
 
   pub null-pivot : (n k : ℕ) → k < n → ((m : ℕ) → m < n → m ≢ k → pivot m ≢ pivot k) → null_entry pivot A f n (pivot k) ≡ A k f
   null-pivot zero k below apart = absurd (omega (arith, below))
   null-pivot (suc n) k below apart =
       elim (cases_eq k n) [
-        | inl same ↦ taken n (pivot k) (ap pivot same) ∙ ap (λ (m : ℕ). A m f) (sym same)
-        | inr other ↦ kept n (pivot k) (λ e. apart n (omega arith) (λ q. other (sym q)) (sym e))
+        | inl same ↦ null-taken n (pivot k) (ap pivot same) ∙ ap (λ (m : ℕ). A m f) (sym same)
+        | inr other ↦ null-kept n (pivot k) (λ e. apart n (omega arith) (λ q. other (sym q)) (sym e))
             ∙ null-pivot n k (less other) (λ m m_below. apart m (omega (arith, m_below)))
       ]
     where
@@ -67,8 +67,8 @@ module _ (pivot : ℕ → ℕ) (A : ℕ → ℕ → ℕ) (f : ℕ) where
     shape = write.shape ∙ so_far.shape;
     entries = λ j inside.
         elim (cases_eq j (pivot n)) [
-          | inl same ↦ ap (entry_of number columns next row) same ∙ write.written ∙ is ∙ sym (more j ∙ taken n j same)
-          | inr other ↦ write.others row j inside (inr other) ∙ so_far.entries j inside ∙ sym (more j ∙ kept n j other)
+          | inl same ↦ ap (entry_of number columns next row) same ∙ write.written ∙ is ∙ sym (more j ∙ null-taken n j same)
+          | inr other ↦ write.others row j inside (inr other) ∙ so_far.entries j inside ∙ sym (more j ∙ null-kept n j other)
         ];
     others = λ i j other inside. write.others i j inside (inl other) ∙ so_far.others i j other inside;
   }
@@ -100,14 +100,15 @@ module _ (times : ℕ → ℕ → ℕ) (columns r : ℕ) (p : ℕ → ℕ) (A : 
   abbrev pub vectors_sum : (ℕ → ℕ) → ℕ → ℕ → ℕ
   vectors_sum x n j = sum_below (λ f. times (where_none (find-pivot p f r) (x f)) (null_entry p A f r j)) n
 
-  module _ {V : Type 0} (number : V → ℕ) where
+  -- `read` gives the entries of a matrix that stands in a list
+  module _ {V : Type 0} (read : List V → ℕ → ℕ → ℕ) where
     -- row q is the vector of a column where the other rows have 0
     pub record IsVectorRow (now : List V) (count n q : ℕ) : Type 0 where
       pub column : ℕ
       pub before : column < n
       pub free : (k : ℕ) → k < r → p k ≢ column
-      pub entries : (j : ℕ) → j < columns → entry_of number columns now q j ≡ null_entry p A column r j
-      pub alone : (m : ℕ) → m < count → entry_of number columns now m column ≡ identity_entry m q
+      pub entries : (j : ℕ) → j < columns → read now q j ≡ null_entry p A column r j
+      pub alone : (m : ℕ) → m < count → read now m column ≡ identity_entry m q
 
     -- the columns before n are done: `passed` of them have leading entries, and the `count` others have their vectors as rows
     pub record VectorsWritten (old now : List V) (passed count n : ℕ) : Type 0 where
@@ -118,7 +119,7 @@ module _ (times : ℕ → ℕ → ℕ) (columns r : ℕ) (p : ℕ → ℕ) (A : 
       pub ahead : (k : ℕ) → passed ≤ k → k < r → n ≤ p k
       pub rows_are : (q : ℕ) → q < count → IsVectorRow now count n q
       pub spans : (x : ℕ → ℕ) → (c : ℕ → ℕ) × ((j : ℕ) → j < columns
-          → vectors_sum x n j ≡ sum_below (λ q. times (c q) (entry_of number columns now q j)) count)
+          → vectors_sum x n j ≡ sum_below (λ q. times (c q) (read now q j)) count)
 
     pub vectors_same : (old now next : List V) (passed count next_passed next_count n : ℕ) → next ≡ now → next_passed ≡ passed
         → next_count ≡ count → VectorsWritten old now passed count n → VectorsWritten old next next_passed next_count n
@@ -338,8 +339,8 @@ module _ (width : ℕ) (times : ℕ → ℕ → ℕ) (ring : IsRing width 1 time
           let fits = reduced.pivots_fit (r - 1) (omega (arith, some)) in
           omega (arith, apart, last, fits, some)
 
-  module _ {V : Type 0} (number : V → ℕ) (old : List V) where
-    pub vectors_start : VectorsWritten times columns r p A number old old 0 0 0
+  module _ {V : Type 0} (read : List V → ℕ → ℕ → ℕ) (old : List V) where
+    pub vectors_start : VectorsWritten times columns r p A read old old 0 0 0
     unfolding sum_below
     vectors_start = record {
       shape = refl;
@@ -351,8 +352,8 @@ module _ (width : ℕ) (times : ℕ → ℕ → ℕ) (ring : IsRing width 1 time
       spans = λ x. (x, λ j inside. refl);
     }
 
-    module _ (now : List V) (passed count n : ℕ) (so_far : VectorsWritten times columns r p A number old now passed count n) where
-      pub vectors_pass : passed < r → p passed ≡ n → VectorsWritten times columns r p A number old now (passed + 1) count (n + 1)
+    module _ (now : List V) (passed count n : ℕ) (so_far : VectorsWritten times columns r p A read old now passed count n) where
+      pub vectors_pass : passed < r → p passed ≡ n → VectorsWritten times columns r p A read old now (passed + 1) count (n + 1)
       vectors_pass below is = record {
         shape = so_far.shape;
         all = let all = so_far.all in omega (arith, all);
@@ -413,15 +414,18 @@ module _ (width : ℕ) (times : ℕ → ℕ → ℕ) (ring : IsRing width 1 time
                 let all = so_far.all in
                 omega (arith, first, differs, apart, last, fits, all, more)
 
-        pub vectors_add : (next : List V) → IsRowWritten number columns count (null_entry p A n r) now next
-            → VectorsWritten times columns r p A number old next passed (count + 1) (n + 1)
-        vectors_add next write = record {
-          shape = write.shape ∙ so_far.shape;
+        -- a row more, where the others stay
+        pub vectors_add : (next : List V) → length next ≡ length now
+            → ((j : ℕ) → j < columns → read next count j ≡ null_entry p A n r j)
+            → ((i j : ℕ) → i ≢ count → j < columns → read next i j ≡ read now i j)
+            → VectorsWritten times columns r p A read old next passed (count + 1) (n + 1)
+        vectors_add next long entries_are others_are = record {
+          shape = long ∙ so_far.shape;
           all = let all = so_far.all in omega (arith, all);
           few = so_far.few;
           behind = λ k before. let is_behind = so_far.behind k before in omega (arith, is_behind);
           ahead = λ k after below. let first = so_far.ahead k after below in let differs = free k below in omega (arith, first, differs);
-          rows_are = below_more (λ q. IsVectorRow times columns r p A number next (count + 1) (n + 1) q) count earlier own;
+          rows_are = below_more (λ q. IsVectorRow times columns r p A read next (count + 1) (n + 1) q) count earlier own;
           spans = λ x.
               let sum = so_far.spans x in (
                 with_last sum.0 count (x n),
@@ -429,33 +433,33 @@ module _ (width : ℕ) (times : ℕ → ℕ → ℕ) (ring : IsRing width 1 time
                     last-term (λ f. times (where_none (find-pivot p f r) (x f)) (null_entry p A f r j)) n
                     ∙ ap₂ bit_xor
                     (sum.1 j inside
-                    ∙ sum_below-same (λ q. times (sum.0 q) (entry_of number columns now q j))
-                    (λ q. times (with_last sum.0 count (x n) q) (entry_of number columns next q j)) count
+                    ∙ sum_below-same (λ q. times (sum.0 q) (read now q j))
+                    (λ q. times (with_last sum.0 count (x n) q) (read next q j)) count
                     (λ q below.
                     ap₂ times (sym (last-other sum.0 count (x n) q (λ e. absurd (omega (arith, e, below)))))
-                    (sym (write.others q j (λ e. absurd (omega (arith, e, below))) inside))))
-                    (ap₂ times (free-term n free (find-pivot p n r) (x n) ∙ sym (last-own sum.0 count (x n))) (sym (write.entries j inside)))
-                    ∙ sym (last-term (λ q. times (with_last sum.0 count (x n) q) (entry_of number columns next q j)) count),
+                    (sym (others_are q j (λ e. absurd (omega (arith, e, below))) inside))))
+                    (ap₂ times (free-term n free (find-pivot p n r) (x n) ∙ sym (last-own sum.0 count (x n))) (sym (entries_are j inside)))
+                    ∙ sym (last-term (λ q. times (with_last sum.0 count (x n) q) (read next q j)) count),
               );
         }
           where
-            own : IsVectorRow times columns r p A number next (count + 1) (n + 1) count
+            own : IsVectorRow times columns r p A read next (count + 1) (n + 1) count
             own = record {
               column = n;
               before = omega arith;
               free = free;
-              entries = write.entries;
-              alone = below_more (λ m. entry_of number columns next m n ≡ identity_entry m count) count
+              entries = entries_are;
+              alone = below_more (λ m. read next m n ≡ identity_entry m count) count
                   (λ m below.
                   let row = so_far.rows_are m below in
                   let before = row.before in
-                  write.others m n (λ e. absurd (omega (arith, e, below))) inside_n ∙ row.entries n inside_n
+                  others_are m n (λ e. absurd (omega (arith, e, below))) inside_n ∙ row.entries n inside_n
                   ∙ vector-other row.column n free (λ e. absurd (omega (arith, e, before)))
                   ∙ sym (identity-only m count ∙ only-other count 1 m (λ e. absurd (omega (arith, e, below)))))
-                  (write.entries n inside_n ∙ vector-own n free ∙ sym (identity-only count count ∙ only-same count 1 count refl));
+                  (entries_are n inside_n ∙ vector-own n free ∙ sym (identity-only count count ∙ only-same count 1 count refl));
             }
 
-            earlier : (q : ℕ) → q < count → IsVectorRow times columns r p A number next (count + 1) (n + 1) q
+            earlier : (q : ℕ) → q < count → IsVectorRow times columns r p A read next (count + 1) (n + 1) q
             earlier q below =
                 let row = so_far.rows_are q below in
                 let before = row.before in
@@ -465,38 +469,40 @@ module _ (width : ℕ) (times : ℕ → ℕ → ℕ) (ring : IsRing width 1 time
                   column = f;
                   before = omega (arith, before);
                   free = row.free;
-                  entries = λ j inside. write.others q j (λ e. absurd (omega (arith, e, below))) inside ∙ row.entries j inside;
-                  alone = below_more (λ m. entry_of number columns next m f ≡ identity_entry m q) count
-                      (λ m m_below. write.others m f (λ e. absurd (omega (arith, e, m_below))) f_inside ∙ row.alone m m_below)
-                      (write.entries f f_inside ∙ vector-other n f row.free (λ e. absurd (omega (arith, e, before)))
+                  entries = λ j inside. others_are q j (λ e. absurd (omega (arith, e, below))) inside ∙ row.entries j inside;
+                  alone = below_more (λ m. read next m f ≡ identity_entry m q) count
+                      (λ m m_below. others_are m f (λ e. absurd (omega (arith, e, m_below))) f_inside ∙ row.alone m m_below)
+                      (entries_are f f_inside ∙ vector-other n f row.free (λ e. absurd (omega (arith, e, before)))
                       ∙ sym (identity-only count q ∙ only-other q 1 count (λ e. absurd (omega (arith, e, below)))));
                 }
 
-    pub vectors_end : (now : List V) (passed count n : ℕ) → n ≡ columns → VectorsWritten times columns r p A number old now passed count n
-        → IsNullBasis width times rows columns (columns - r) A (entry_of number columns now)
-    vectors_end now passed count n ends so_far =
-        let whole = subst (λ (m : ℕ). VectorsWritten times columns r p A number old now passed count m) ends so_far in
-        subst (λ (m : ℕ). IsNullBasis width times rows columns m A (entry_of number columns now)) (rest whole) (basis whole)
+    -- then each row that there is room for is written
+    pub vectors_count : (now : List V) (passed count n : ℕ) → n ≡ columns → VectorsWritten times columns r p A read old now passed count n
+        → count ≡ columns - r
+    vectors_count now passed count n ends so_far =
+        elim (cases_lt passed r) [
+          | inl more ↦ clash more
+          | inr past ↦ let all = so_far.all in let few = so_far.few in omega (arith, all, few, past, ends)
+        ]
       where
-        rest : VectorsWritten times columns r p A number old now passed count columns → count ≡ columns - r
-        rest whole =
-            elim (cases_lt passed r) [
-              | inl more ↦ clash whole more
-              | inr past ↦ let all = whole.all in let few = whole.few in omega (arith, all, few, past)
-            ]
-          where
-            clash : VectorsWritten times columns r p A number old now passed count columns → passed < r → count ≡ columns - r
-            clash whole more =
-                let first = whole.ahead passed (omega arith) more in
-                let fits = reduced.pivots_fit passed more in
-                absurd (omega (arith, first, fits))
+        clash : passed < r → count ≡ columns - r
+        clash more =
+            let first = so_far.ahead passed (omega arith) more in
+            let fits = reduced.pivots_fit passed more in
+            absurd (omega (arith, first, fits, ends))
 
-        basis : VectorsWritten times columns r p A number old now passed count columns
-            → IsNullBasis width times rows columns count A (entry_of number columns now)
+    pub vectors_end : (now : List V) (passed count n : ℕ) → n ≡ columns → VectorsWritten times columns r p A read old now passed count n
+        → IsNullBasis width times rows columns (columns - r) A (read now)
+    vectors_end now passed count n ends so_far =
+        let whole = subst (λ (m : ℕ). VectorsWritten times columns r p A read old now passed count m) ends so_far in
+        subst (λ (m : ℕ). IsNullBasis width times rows columns m A (read now)) (vectors_count now passed count n ends so_far) (basis whole)
+      where
+        basis : VectorsWritten times columns r p A read old now passed count columns
+            → IsNullBasis width times rows columns count A (read now)
         basis whole = record {
           null = λ q below i i_inside.
               let row = whole.rows_are q below in
-              sum_below-same (λ j. times (A i j) (entry_of number columns now q j)) (λ j. times (A i j) (null_entry p A row.column r j)) columns
+              sum_below-same (λ j. times (A i j) (read now q j)) (λ j. times (A i j) (null_entry p A row.column r j)) columns
               (λ j inside. ap (times (A i j)) (row.entries j inside)) ∙ vector-null row.column row.before row.free i i_inside;
           spans = λ x x_fits null.
               let sum = whole.spans x in (sum.0, λ j inside. sym (vectors-span x x_fits null j inside) ∙ sum.1 j inside);

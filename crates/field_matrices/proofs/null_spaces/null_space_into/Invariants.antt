@@ -7,5 +7,5 @@ use Rattle.field_matrices.proofs.null_spaces.null_space_into.Given as goal
 abbrev pub invariant-loop-column : goal.invariant-loop-column
 invariant-loop-column g l =
     let scalars = g.S.Scalars in
-    VectorsWritten scalars.product l.columns l.rank (slice_index l.pivots) (entry_of scalars.number l.columns l.reduced) scalars.number
-    l.fn.basis l.basis l.passed l.count l.column
+    VectorsWritten scalars.product l.columns l.rank (slice_index l.pivots) (entry_of scalars.number l.columns l.reduced)
+    (entry_of scalars.number l.columns) l.fn.basis l.basis l.passed l.count l.column

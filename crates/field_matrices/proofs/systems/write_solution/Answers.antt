@@ -29,9 +29,9 @@ loop-row-preserved g c =
     let behind : c.args.shape.columns - 1 ≡ count = omega (arith, c.requires.unknowns) in (
       length-set solution (pivot row) value ∙ same,
       solved_step count pivot (λ k. entry_of number c.args.shape.columns c.args.reduced.now k count) (slice_index (map number solution))
-          (slice_index (map number (set solution (pivot row) value))) row
+          (slice_index (map number (set solution (pivot row) value))) row fits
           (number-set_same number solution (pivot row) value (omega (arith, fits, same)) ∙ c.entry.ensures
           ∙ ap (entry_of number c.args.shape.columns c.args.reduced.now row) behind)
-          (λ j other. number-set_other number solution (pivot row) j value other)
+          (λ j inside other. number-set_other number solution (pivot row) j value other)
           (λ k before. c.requires.reduced.pivots_rise k row before below) c.loop-row.invariant.1,
     )
