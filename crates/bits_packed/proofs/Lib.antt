@@ -1,5 +1,3 @@
-mod FourRowTables
-mod WordRanges
 mod LaneAccess
 mod RoundPairs
 mod Rounds

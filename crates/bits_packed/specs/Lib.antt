@@ -1,4 +1,3 @@
-pub mod BitMatrices
 pub mod BitsRingLemmas
 pub mod EveryLaneLemmas
 pub mod Lanes

@@ -1,8 +1,6 @@
-//! Packed bits: 8 to 512 lanes of GF(2) in one value, which is a ring, and square matrices of them, transposed; matrices over GF(2),
-//! multiplied.
+//! Packed bits: 8 to 512 lanes of GF(2) in one value, which is a ring, and square matrices of them, transposed.
 #![tactic(auto)]
 
-pub mod bit_matrices;
 mod laws;
 mod packed;
 

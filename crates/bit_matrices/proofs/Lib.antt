@@ -1,0 +1,6 @@
+mod WordRanges
+mod FourRowTables
+mod BitRows
+mod BitPivots
+mod BitIdentities
+mod BitNullRows

@@ -1,0 +1,93 @@
+-- Matrices over GF(2), packed: each row in as many words of 64 bits, row after row in a list, place j of a row in bit j % 64 of its word
+-- j / 64. They are multiplied by the method of the four Russians (V. Arlazarov, E. Dinic, M. Kronrod and I. Faradzev, 1970; M. Albrecht,
+-- G. Bard and W. Hart, Efficient Multiplication of Dense Matrices over GF(2), ACM TOMS 37, 2010).
+use Rattle.std.specs.Prelude.{◌≡◌, ◌≢◌, ◌⊎◌, ℕ, ◌+◌, ◌*◌, ◌/◌, ◌%◌, ◌^◌, ◌<◌, ◌≤◌, List, bit_xor, if◌then◌else◌, length, nat_lt, slice_index}
+use Rattle.std.specs.Int.{bit_at, div_ceil}
+use Rattle.field_base.specs.Basis.{sum_below}
+
+-- how many words a row of so many bits takes
+abbrev pub words_for : ℕ → ℕ
+words_for columns = div_ceil columns 64
+
+-- word v of row i of a matrix of so many words a row
+abbrev pub word_of : ℕ → List ℕ → ℕ → ℕ → ℕ
+word_of words values i v = slice_index values (i * words + v)
+
+-- entry (i, j) of a matrix of so many words a row
+abbrev pub bit_entry : ℕ → List ℕ → ℕ → ℕ → ℕ
+bit_entry words values i j = bit_at (word_of words values i (j / 64)) (j % 64)
+
+-- ---- what functions that read and write a matrix need and leave
+
+-- a list has rows of so many words one behind the other, and this row and column are those of an entry
+pub record HasBitEntry (rows words row column len : ℕ) : Type 0 where
+  pub shape : len ≡ rows * words
+  pub row_within : row < rows
+  pub column_within : column < 64 * words
+
+-- the row has these entries, in all bits of its words, and the other rows are as they were
+pub record IsBitRowWritten (words row : ℕ) (wanted : ℕ → ℕ) (old now : List ℕ) : Type 0 where
+  pub shape : length now ≡ length old
+  pub entries : (j : ℕ) → j < 64 * words → bit_entry words now row j ≡ wanted j
+  pub others : (i j : ℕ) → i ≢ row → j < 64 * words → bit_entry words now i j ≡ bit_entry words old i j
+
+-- the entry in this row and column has a value, and the others are as they were
+pub record IsBitWritten (words row column value : ℕ) (old now : List ℕ) : Type 0 where
+  pub shape : length now ≡ length old
+  pub written : bit_entry words now row column ≡ value
+  pub others : (i j : ℕ) → j < 64 * words → (i ≢ row) ⊎ (j ≢ column) → bit_entry words now i j ≡ bit_entry words old i j
+
+-- what a row has before column n, and 0 from there on
+abbrev pub kept_before : ℕ → (ℕ → ℕ) → ℕ → ℕ
+kept_before n row j = if nat_lt j n then row j else 0
+
+-- ---- steps of the method
+
+-- the words from a place on have these values, and the others are as they were
+pub record IsRangeWritten (start count : ℕ) (wanted : ℕ → ℕ) (old now : List ℕ) : Type 0 where
+  pub shape : length now ≡ length old
+  pub written : (p : ℕ) → p < count → slice_index now (start + p) ≡ wanted p
+  pub others : (p : ℕ) → (p < start) ⊎ (start + count ≤ p) → slice_index now p ≡ slice_index old p
+
+-- of the words outside of a range, each is as it was
+abbrev pub IsKeptOutside : ℕ → ℕ → List ℕ → List ℕ → Type 0
+IsKeptOutside start count old now = (p : ℕ) → (p < start) ⊎ (start + count ≤ p) → slice_index now p ≡ slice_index old p
+
+-- a strip of a matrix is `width` words of each row, 8 at most, from word `start` on
+pub record IsStrip (words start width : ℕ) : Type 0 where
+  pub within : start + width ≤ words
+  pub narrow : width ≤ 8
+
+-- in a strip of so many rows these words were added, word w of the strip in row i, and the other words are as they were
+pub record IsStripAdded (words start width rows : ℕ) (sums : ℕ → ℕ → ℕ) (old now : List ℕ) : Type 0 where
+  pub shape : length now ≡ length old
+  pub added : (i w : ℕ) → i < rows → w < width
+      → word_of words now i (start + w) ≡ bit_xor (word_of words old i (start + w)) (sums i w)
+  pub others : (i v : ℕ) → v < words → (v < start) ⊎ (start + width ≤ v) → word_of words now i v ≡ word_of words old i v
+
+-- word v of row k of a matrix of `inner` rows, and 0 behind its last row
+abbrev pub row_word : ℕ → ℕ → List ℕ → ℕ → ℕ → ℕ
+row_word inner words values k v = if nat_lt k inner then word_of words values k v else 0
+
+-- the sum of f b over the set bits b < n of x
+abbrev pub sum_at_bits : (ℕ → ℕ) → ℕ → ℕ → ℕ
+sum_at_bits f n x = sum_below (λ b. bit_at x b * f b) n
+
+-- the first `size` entries of a table of four rows that begins at a place of a list: entry u has the sum of the rows at the set bits of u
+abbrev pub HasEntries : ℕ → ℕ → (ℕ → ℕ → ℕ) → ℕ → List ℕ → Type 0
+HasEntries width size rows start values =
+    (u w : ℕ) → u < size → w < width → slice_index values (start + (8 * u + w)) ≡ sum_at_bits (λ c. rows c w) 4 u
+
+-- tables of four rows each, one behind the other, for so many groups of rows
+abbrev pub HasTables : ℕ → ℕ → (ℕ → ℕ → ℕ) → List ℕ → Type 0
+HasTables width groups rows values =
+    (g : ℕ) → g < groups → HasEntries width 16 (λ c w. rows (4 * g + c) w) (128 * g) values
+
+-- word w of the sum of one entry of each of n tables: those at the digits of a word to base 16
+abbrev pub sum_of_digits : List ℕ → ℕ → ℕ → ℕ → ℕ
+sum_of_digits values word n w = sum_below (λ g. slice_index values (128 * g + (8 * (word / 2 ^ (4 * g) % 16) + w))) n
+
+-- row i of the left matrix times word v of the rows of the right one, as far as its first n rows
+abbrev pub partial_word : ℕ → ℕ → ℕ → List ℕ → List ℕ → ℕ → ℕ → ℕ → ℕ
+partial_word inner left_words words left right n i v =
+    sum_below (λ k. bit_entry left_words left i k * row_word inner words right k v) n
