@@ -1,5 +1,6 @@
 pub mod ReversedBits
 pub mod Swapping
+pub mod Turns
 pub mod Steps
 pub mod GcmProduct
 pub mod PolyvalProduct

@@ -5,6 +5,7 @@ ghost use Rattle.tags.specs.Powers.{ArePowers, added_block};
 ghost use Rattle.tags.specs.Reversed.{ghash_times};
 
 use crate::encoding::Encoding;
+use crate::interleaved::{LEAST_INTERLEAVED, TURN, with_turns};
 use word_carryless::{multiply_128_twice, multiply_mod_128, reduce_128};
 
 pub(crate) const BLOCK_LENGTH: usize = 16;
@@ -14,7 +15,7 @@ const FOUR_BLOCKS: usize = 64;
 // A key and its powers, up to the fourth.
 #[derive(Drop)]
 pub(crate) struct Powers {
-    key: u128,
+    pub(crate) key: u128,
     square: u128,
     cube: u128,
     fourth: u128,
@@ -39,7 +40,7 @@ impl Powers {
 
 // a key^4 + b key^3 + c key^2 + d key: the four products are taken two at once, and added before one reduction.
 #[inline]
-fn sum_of_products(a: u128, b: u128, c: u128, d: u128, powers: &Powers) -> u128
+pub(crate) fn sum_of_products(a: u128, b: u128, c: u128, d: u128, powers: &Powers) -> u128
     ensures { result ≡ bit_xor (bit_xor (ghash_times a powers.now.fourth) (ghash_times b powers.now.cube))
         (bit_xor (ghash_times c powers.now.square) (ghash_times d powers.now.key)) }
 {
@@ -53,7 +54,7 @@ fn sum_of_products(a: u128, b: u128, c: u128, d: u128, powers: &Powers) -> u128
 
 // The element of 16 bytes.
 #[inline]
-fn read_block<E: Encoding>(block: &[u8]) -> u128
+pub(crate) fn read_block<E: Encoding>(block: &[u8]) -> u128
     requires { length block.now ≡ 16 }
     ensures { result ≡ E.element block.now }
 {
@@ -88,8 +89,22 @@ fn with_four_blocks<E: Encoding>(sum: u128, powers: &Powers, blocks: &[u8]) -> u
     )
 }
 
-// The hash after whole blocks more.
+// The hash after whole blocks more: many of them in interleaved sums, and the rest four at a time.
 pub(crate) fn with_blocks<E: Encoding>(sum: u128, powers: &Powers, blocks: &[u8]) -> u128
+    requires { length blocks.now % 16 ≡ 0 }
+    ensures { (key : ℕ) → ArePowers key powers.now
+        → result ≡ fold (λ y x. ghash_times (bit_xor y x) key) sum (map E.element (first_blocks (length blocks.now / 16) blocks.now)) }
+{
+    if blocks.len() < LEAST_INTERLEAVED {
+        return with_few_blocks::<E>(sum, powers, blocks);
+    }
+    let (turns, rest) = blocks.split_at(blocks.len() - blocks.len() % TURN);
+    let hash = with_turns::<E>(sum, powers, turns);
+    with_few_blocks::<E>(hash, powers, rest)
+}
+
+// The hash after whole blocks more, four at a time.
+fn with_few_blocks<E: Encoding>(sum: u128, powers: &Powers, blocks: &[u8]) -> u128
     requires { length blocks.now % 16 ≡ 0 }
     ensures { (key : ℕ) → ArePowers key powers.now
         → result ≡ fold (λ y x. ghash_times (bit_xor y x) key) sum (map E.element (first_blocks (length blocks.now / 16) blocks.now)) }

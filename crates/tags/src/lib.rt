@@ -10,6 +10,7 @@ mod compare;
 mod continued;
 mod encoding;
 mod gcm;
+mod interleaved;
 mod laws;
 mod reversal;
 mod universal;

@@ -1,32 +1,30 @@
-use Rattle.std.proofs.Common.{◌≡◌, ℕ, List, ◌+◌, ◌-◌, ◌*◌, ◌/◌, length, take, drop, arith, sym, ap, ◌∙◌}
-use Rattle.tags.proofs.Folding.{hash_from, hash_from_none, hash_from_slice, hash_from_four_slice}
+use Rattle.std.proofs.Common.{◌≡◌, ℕ, ◌+◌, ◌-◌, ◌*◌, ◌/◌, ◌%◌, ◌≤◌, List, length, take, drop, fold, map, refl, sym, ◌∙◌, ap, ap₂, arith, length-drop}
+use Rattle.std.proofs.lemmas.List.{length-take-le}
+use Rattle.tags.specs.Blocks.{first_blocks}
+use Rattle.tags.proofs.AbsorbingBlocks.{blocks_alone}
+use Rattle.tags.proofs.Folding.{hash_from}
+use Rattle.tags.proofs.Turns.{hash_from_more}
 use Rattle.tags.proofs.blocks.with_blocks.Goals as goal
-
--- the n bytes from place a to place a + n
-take_exact : (n : ℕ) (m : List ℕ) (a : ℕ) → take (a + n - a) (drop a m) ≡ take n (drop a m)
-take_exact n m a =
-    let whole : a + n - a ≡ n = omega arith in
-    ap (λ (k : ℕ). take k (drop a m)) whole
-
-pub fours-init : goal.fours-init
-fours-init g c = λ key are. sym (hash_from_none g.E.Encoding.element key c.args.sum c.args.blocks.now)
-
-pub fours-preserved : goal.fours-preserved
-fours-preserved g c = λ key are.
-    hash_from_four_slice g.E.Encoding.element key c.args.sum c.args.blocks.now c.fours.i c.fours.hash _ _ (c.fours.invariant key are)
-    (omega arith) (take_exact 64 c.args.blocks.now (64 * c.fours.i)) (c.with_four_blocks-hash.ensures key are)
-
-pub rest-init : goal.rest-init
-rest-init g c = λ key are.
-    let done : 4 * c.fours.i ≡ 4 * (length c.args.blocks.now / 16 / 4) = omega arith in
-    c.fours.invariant key are ∙ ap (λ (n : ℕ). hash_from g.E.Encoding.element key c.args.sum c.args.blocks.now n) done
-
-pub rest-preserved : goal.rest-preserved
-rest-preserved g c = λ key are.
-    hash_from_slice g.E.Encoding.element key c.args.sum c.args.blocks.now c.rest.i c.rest.hash _ _ (c.rest.invariant key are)
-    (omega arith) (take_exact 16 c.args.blocks.now (16 * c.rest.i)) (c.with_block-hash.ensures key are)
 
 pub returns : goal.returns
 returns g c = λ key are.
-    let all : c.rest.i ≡ length c.args.blocks.now / 16 = omega arith in
-    c.rest.invariant key are ∙ ap (λ (n : ℕ). hash_from g.E.Encoding.element key c.args.sum c.args.blocks.now n) all
+    let element = g.E.Encoding.element in
+    let blocks = c.args.blocks.now in
+    let size = length blocks in
+    let sum = c.args.sum in
+    let m : ℕ = (size - size % 512) / 16 in
+    let n : ℕ = size % 512 / 16 in
+    let all : size - size % 512 ≡ m * 16 = omega (arith, c.requires) in
+    let turns : c.split_at.result.0.now ≡ take (m * 16) blocks = c.split_at.ensures.front ∙ ap (λ (k : ℕ). take k blocks) all in
+    let rest : c.split_at.result.1.now ≡ drop (m * 16) blocks = c.split_at.ensures.back ∙ ap (λ (k : ℕ). drop k blocks) all in
+    let first : c.with_turns-hash.result ≡ hash_from element key sum blocks m =
+    c.with_turns-hash.ensures key are
+    ∙ ap₂ (λ (b : List ℕ) (k : ℕ). hash_from element key sum b k) turns
+    (let long = ap length turns in let whole = length-take-le (m * 16) blocks (omega (arith, c.requires)) in omega (arith, long, whole))
+    ∙ blocks_alone element key sum blocks 0 m (omega (arith, c.requires)) in
+    c.with_few_blocks-2.ensures key are
+    ∙ ap₂ (λ (h : ℕ) (b : List ℕ). hash_from element key h b (length c.split_at.result.1.now / 16)) first rest
+    ∙ ap (λ (k : ℕ). hash_from element key (hash_from element key sum blocks m) (drop (m * 16) blocks) k)
+    (let long = ap length rest in let left = length-drop (m * 16) blocks in omega (arith, long, left, c.requires))
+    ∙ hash_from_more element key sum blocks m n (omega (arith, c.requires))
+    ∙ ap (λ (k : ℕ). hash_from element key sum blocks k) (omega (arith, c.requires))

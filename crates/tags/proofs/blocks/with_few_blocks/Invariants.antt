@@ -1,7 +1,7 @@
 use Rattle.std.proofs.Common.{◌≡◌, ℕ, ◌*◌}
 use Rattle.tags.specs.Powers.{ArePowers}
 use Rattle.tags.proofs.Folding.{hash_from}
-use Rattle.tags.proofs.blocks.with_blocks.Given as goal
+use Rattle.tags.proofs.blocks.with_few_blocks.Given as goal
 
 -- the blocks before have been added, four at a time
 abbrev pub invariant-fours : goal.invariant-fours
