@@ -131,7 +131,6 @@ module _ (key : ℕ) where
       ∙ ap (λ (y : ℕ). horner_step y x2) (next (4 * n + 1) (4 * n + 2) (omega arith) (omega (arith, room))
       ∙ ap (λ (y : ℕ). horner_step y x1) (next (4 * n) (4 * n + 1) (omega arith) (omega (arith, room))))))
     where
-
       x0 : ℕ
       x0 = get_or xs (4 * n) 0
 

@@ -16,8 +16,9 @@ loop-place-preserved g c =
     let at : 16 * n ≡ n * 16 = omega arith in
     let read : c.read_block.result ≡ g.E.Encoding.element (take 16 (drop (n * 16) blocks)) =
     c.read_block.ensures
-    ∙ ap₂ (λ (k l : ℕ). g.E.Encoding.element (take k (drop l blocks))) whole at in
-    (length-set c.loop-place.elements n c.read_block.result ∙ c.loop-place.invariant.0,
-    take_more_set c.loop-place.elements n c.read_block.result (omega (arith, c.loop-place.invariant.0))
-    ∙ ap₂ (λ (xs : List ℕ) (x : ℕ). xs ++ x ∷ []) c.loop-place.invariant.1 read
-    ∙ sym (elements_next g.E.Encoding.element blocks n (omega (arith, c.requires))))
+    ∙ ap₂ (λ (k l : ℕ). g.E.Encoding.element (take k (drop l blocks))) whole at in (
+      length-set c.loop-place.elements n c.read_block.result ∙ c.loop-place.invariant.0,
+      take_more_set c.loop-place.elements n c.read_block.result (omega (arith, c.loop-place.invariant.0))
+          ∙ ap₂ (λ (xs : List ℕ) (x : ℕ). xs ++ x ∷ []) c.loop-place.invariant.1 read
+          ∙ sym (elements_next g.E.Encoding.element blocks n (omega (arith, c.requires))),
+    )

@@ -22,13 +22,14 @@ loop-turn-init g c =
     let element = g.E.Encoding.element in
     let blocks = c.args.blocks.now in
     let sums = c.read_blocks-sums.result in
-    let long : length sums ≡ 32 = ap length c.read_blocks-sums.ensures ∙ counted element (take 512 blocks) in
-    (length-set sums 0 (bit_xor c.args.sum (slice_index_or sums 0 0)) ∙ long,
-    λ key are.
-    begun key c.args.sum sums (omega (arith, long))
-    ∙ ap (fold (horner_step key) c.args.sum) c.read_blocks-sums.ensures
-    ∙ ap (λ (h : ℕ). fold (horner_step key) h (map element (first_blocks 32 (take 512 blocks)))) (sym (hash_from_none element key c.args.sum blocks))
-    ∙ turn_more element key c.args.sum blocks (take 512 blocks) 0 32 (omega (arith, c.requires.some)) refl)
+    let long : length sums ≡ 32 = ap length c.read_blocks-sums.ensures ∙ counted element (take 512 blocks) in (
+      length-set sums 0 (bit_xor c.args.sum (slice_index_or sums 0 0)) ∙ long,
+      λ key are.
+          begun key c.args.sum sums (omega (arith, long))
+          ∙ ap (fold (horner_step key) c.args.sum) c.read_blocks-sums.ensures
+          ∙ ap (λ (h : ℕ). fold (horner_step key) h (map element (first_blocks 32 (take 512 blocks)))) (sym (hash_from_none element key c.args.sum blocks))
+          ∙ turn_more element key c.args.sum blocks (take 512 blocks) 0 32 (omega (arith, c.requires.some)) refl,
+    )
 
 pub loop-turn-preserved : goal.loop-turn-preserved
 loop-turn-preserved g c =
@@ -41,18 +42,19 @@ loop-turn-preserved g c =
     let read : take (512 * turn + 512 - 512 * turn) (drop (512 * turn) blocks) ≡ bytes =
     ap₂ (λ (k l : ℕ). take k (drop l blocks)) size place in
     let next : 32 * turn + 32 ≡ 32 * (turn + 1) = omega arith in
-    let room : (32 * turn + 32) * 16 ≤ length blocks = omega (arith, c.loop-turn-test.true) in
-    (c.add_turn.array_long,
-    λ key are.
-    let scalar : scalar_of c.new-multiples.result ≡ repeated_square 1 ghash_times 5 key =
-    c.new-multiples.ensures ∙ c.power_of_turn.ensures ∙ ap (repeated_square 1 ghash_times 5) are.0 in
-    ap (fold (horner_step key) 0)
-    (c.add_turn.ensures
-    ∙ ap₂ (λ (s : ℕ) (b : List ℕ). zip2 (add_multiple ghash_product s) (map element (first_blocks 32 b)) c.loop-turn.sums) scalar read)
-    ∙ turned key (hash_from element key c.args.sum blocks (32 * turn)) c.loop-turn.sums (map element (first_blocks 32 bytes)) c.loop-turn.invariant.0
-    (counted element bytes) (c.loop-turn.invariant.1 key are)
-    ∙ turn_more element key c.args.sum blocks bytes (32 * turn) 32 room refl
-    ∙ ap (λ (n : ℕ). hash_from element key c.args.sum blocks n) next)
+    let room : (32 * turn + 32) * 16 ≤ length blocks = omega (arith, c.loop-turn-test.true) in (
+      c.add_turn.array_long,
+      λ key are.
+          let scalar : scalar_of c.new-multiples.result ≡ repeated_square 1 ghash_times 5 key =
+          c.new-multiples.ensures ∙ c.power_of_turn.ensures ∙ ap (repeated_square 1 ghash_times 5) are.0 in
+          ap (fold (horner_step key) 0)
+          (c.add_turn.ensures
+          ∙ ap₂ (λ (s : ℕ) (b : List ℕ). zip2 (add_multiple ghash_product s) (map element (first_blocks 32 b)) c.loop-turn.sums) scalar read)
+          ∙ turned key (hash_from element key c.args.sum blocks (32 * turn)) c.loop-turn.sums (map element (first_blocks 32 bytes)) c.loop-turn.invariant.0
+          (counted element bytes) (c.loop-turn.invariant.1 key are)
+          ∙ turn_more element key c.args.sum blocks bytes (32 * turn) 32 room refl
+          ∙ ap (λ (n : ℕ). hash_from element key c.args.sum blocks n) next,
+    )
 
 pub returns : goal.returns
 returns g c = λ key are.
