@@ -12,3 +12,4 @@ pub mod NullSpaces
 pub mod PivotDeterminants
 pub mod Places
 pub mod RowSpaces
+pub mod ScaledSums

@@ -30,6 +30,10 @@ AreInverseMatrices times n A B = IsMatrixProduct times n n n A B identity_entry 
 abbrev pub beside_identity : ℕ → (ℕ → ℕ → ℕ) → ℕ → ℕ → ℕ
 beside_identity n A i j = if nat_lt j n then A i j else identity_entry i (j - n)
 
+-- entry j of a row in which so many entries from place `from` on are those of another row
+abbrev pub put_entry : ℕ → ℕ → (ℕ → ℕ) → (ℕ → ℕ) → ℕ → ℕ
+put_entry from count other own j = if nat_lt j from then own j else if nat_lt j (from + count) then other (j - from) else own j
+
 -- x solves the equations whose coefficients are the first `count` columns of A, and whose right sides are the column behind them
 abbrev pub IsSolution : (ℕ → ℕ → ℕ) → ℕ → ℕ → (ℕ → ℕ → ℕ) → (ℕ → ℕ) → Type 0
 IsSolution times rows count A x = (i : ℕ) → i < rows → sum_below (λ j. times (A i j) (x j)) count ≡ A i count
@@ -114,6 +118,11 @@ pub record IsRowWritten {V : Type 0} (number : V → ℕ) (columns row : ℕ) (w
   pub shape : length now ≡ length old
   pub entries : (j : ℕ) → j < columns → entry_of number columns now row j ≡ wanted j
   pub others : (i j : ℕ) → i ≢ row → j < columns → entry_of number columns now i j ≡ entry_of number columns old i j
+
+-- each of the numbers that are now there is the sum of the one before and a scalar times another at its place
+abbrev pub AreScaledSums : (ℕ → ℕ → ℕ) → ℕ → List ℕ → List ℕ → List ℕ → Type 0
+AreScaledSums times scalar others old now =
+    (k : ℕ) → k < length old → slice_index now k ≡ bit_xor (slice_index old k) (times scalar (slice_index others k))
 
 -- entry j of a row after another row was added to it, and of a row alone
 abbrev pub joined_entry : ℕ → ℕ → (ℕ → ℕ → ℕ) → ℕ → ℕ

@@ -3,6 +3,7 @@
 //! `Elements<F>`, as in `row_reduce::<Elements<F>>(..)`.
 #![tactic(auto)]
 
+mod columns;
 mod determinants;
 mod identities;
 mod inverses;
@@ -15,6 +16,7 @@ mod rows;
 mod scalars;
 mod systems;
 
+pub use crate::columns::{columns_into, put_columns};
 pub use crate::determinants::determinant;
 pub use crate::identities::identity_into;
 pub use crate::inverses::invert_beside;

@@ -2,7 +2,7 @@
 ghost use Rattle.std.specs.Prelude.{◌≡◌, ◌*◌, ◌<◌, ℕ, length};
 ghost use Rattle.field_matrices.specs.Matrices.{HasMatrixEntry, HasMatrixRow, IsMatrixProduct, IsRowWritten, entry_of, product_entry};
 
-use crate::rows::{Shape, entry, set_entry};
+use crate::rows::{Shape, add_to_row, entry, row_of, set_entry};
 use crate::scalars::Scalars;
 
 /// Writes the product of two matrices to `target`: entry (i, j) is the sum over k of entry (i, k) of `left` times entry (k, j) of `right`.
@@ -29,7 +29,7 @@ pub fn multiply_into<S: Scalars>(
     }
 }
 
-// Writes a row of the product, and leaves the other rows.
+// Writes a row of the product, and leaves the other rows: the sum of the rows of `right`, times the entries of the row of `left`.
 fn write_product_row<S: Scalars>(
     target: &mut [S::Value],
     shape: Shape,
@@ -45,27 +45,6 @@ fn write_product_row<S: Scalars>(
         (product_entry S.product inner (entry_of S.number inner left.now) (entry_of S.number shape.columns right.now) row)
         target.old target.new }
 {
-    for column in 0..shape.columns {
-        let value = row_times_column::<S>(left, right, shape, inner, row, column);
-        set_entry::<S>(target, shape, row, column, value);
-    }
-}
-
-// The entry of the product, which has this shape, in a row and a column: the sum of the products of their entries.
-fn row_times_column<S: Scalars>(
-    left: &[S::Value],
-    right: &[S::Value],
-    shape: Shape,
-    inner: usize,
-    row: usize,
-    column: usize,
-) -> S::Value
-    requires left { HasMatrixRow shape.rows inner row (length left.now) }
-    requires right { length right.now ≡ inner * shape.columns }
-    requires column { column < shape.columns }
-    ensures { S.number result
-        ≡ product_entry S.product inner (entry_of S.number inner left.now) (entry_of S.number shape.columns right.now) row column }
-{
     let Shape { rows, columns } = shape;
     let left_shape = Shape {
         rows,
@@ -75,13 +54,27 @@ fn row_times_column<S: Scalars>(
         rows: inner,
         columns,
     };
-    let mut sum = S::zero();
+    write_zero_row::<S>(target, shape, row);
     for k in 0..inner {
-        let x = entry::<S>(left, left_shape, row, k);
-        let y = entry::<S>(right, right_shape, k, column);
-        sum = S::add(sum, S::multiply(x, y));
+        let scalar = entry::<S>(left, left_shape, row, k);
+        add_to_row::<S>(
+            target,
+            shape,
+            row,
+            scalar,
+            row_of::<S>(right, right_shape, k),
+        );
     }
-    sum
+}
+
+// Makes the entries of a row 0, and leaves the other rows.
+fn write_zero_row<S: Scalars>(target: &mut [S::Value], shape: Shape, row: usize)
+    requires { HasMatrixRow shape.rows shape.columns row (length target.old) }
+    ensures { IsRowWritten S.number shape.columns row (λ j. 0) target.old target.new }
+{
+    for column in 0..shape.columns {
+        set_entry::<S>(target, shape, row, column, S::zero());
+    }
 }
 
 /// Writes the transpose of `source`, a matrix of `rows` rows of `columns` entries, to `target`, of `columns` rows of `rows` entries: its

@@ -1,6 +1,7 @@
 // What matrices compute with.
-ghost use Rattle.std.specs.Prelude.{◌≡◌, ◌≢◌, ◌↔◌, ◌^◌, ◌<◌, ℕ, IsTrue, bit_xor};
+ghost use Rattle.std.specs.Prelude.{◌≡◌, ◌≢◌, ◌↔◌, ◌^◌, ◌<◌, ℕ, IsTrue, bit_xor, length, map};
 ghost use Rattle.field_base.specs.Field.{IsField};
+ghost use Rattle.field_matrices.specs.Matrices.{AreScaledSums};
 
 use field_base::traits::Field;
 use std::marker::PhantomData;
@@ -43,6 +44,12 @@ pub trait Scalars {
         requires { number x ≢ 0 }
         ensures { product (number x) (number result) ≡ 1 };
 
+    /// Adds to each sum the product of `scalar` and the value at its place. Products and eliminations spend their time in it.
+    fn add_scaled(sums: &mut [Self::Value], scalar: Self::Value, values: &[Self::Value])
+        requires { length values.now ≡ length sums.old }
+        ensures long { length sums.new ≡ length sums.old }
+        ensures sums { AreScaledSums product (number scalar) (map number values.now) (map number sums.old) (map number sums.new) };
+
     ghost wide_law: { 0 < width };
 
     ghost field_law: { IsField width product };
@@ -84,6 +91,12 @@ impl<F: Field> Scalars for Elements<F> {
 
     fn invert(x: F) -> F {
         x.inverse()
+    }
+
+    fn add_scaled(sums: &mut [F], scalar: F, values: &[F]) {
+        for place in 0..sums.len() {
+            sums[place] = sums[place] + scalar * values[place];
+        }
     }
 
     ghost wide_law = { F.wide_law };
