@@ -1,3 +1,4 @@
 pub mod Arrays
+mod BlockProducts
 mod NumberDigits
 pub mod PlaceProducts

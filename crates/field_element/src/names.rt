@@ -1,5 +1,5 @@
 // The fields by their names.
-use crate::element::{Coefficients, Element, HasPacking};
+use crate::element::{Coefficients, Element, HasPacking, dot_of_elements, multiply_elements};
 use crate::packings::multiply_bytes;
 use field_base::Unsigned;
 use packed_lanes::Packed;
@@ -69,6 +69,19 @@ pub type PackedGhash128 = Packed<Ghash128, 4>;
 
 impl<R: Unsigned, L: Level<R>> HasPacking<R> for Tower<L> {
     type Packing = Element<R, Tower<L>>;
+
+    #[inline]
+    fn multiply_each(left: &mut [Element<R, Tower<L>>], right: &[Element<R, Tower<L>>]) {
+        multiply_elements(left, right);
+    }
+
+    #[inline]
+    fn dot_product(
+        left: &[Element<R, Tower<L>>],
+        right: &[Element<R, Tower<L>>],
+    ) -> Element<R, Tower<L>> {
+        dot_of_elements(left, right)
+    }
 }
 
 impl HasPacking<u8> for RijndaelKernel {

@@ -8,7 +8,7 @@ ghost use Rattle.field_element.specs.Element.{repr_of};
 
 mod impls;
 
-use crate::element::Element;
+use crate::element::{Element, HasPacking};
 use field_base::traits::Algebra;
 use field_base::{Contains, LevelKernel, Unsigned};
 use word_polynomial::{EmbedsIn, Modulus, Polynomials};
@@ -38,7 +38,10 @@ impl<
     M: Modulus<R, B>,
     S: Unsigned,
     L: EmbedsIn<R, Polynomials<M, B>, S>,
-> Algebra<Element<S, Tower<L>>> for Element<R, Polynomials<M, B>> {
+> Algebra<Element<S, Tower<L>>> for Element<R, Polynomials<M, B>>
+where
+    Polynomials<M, B>: HasPacking<R>,
+{
     ghost use Rattle.field_base.proofs.BasisFields.{image_of_lower_injective, image_of_lower_product};
 
     ghost image = { basis_image M.width M.modulus M.images };

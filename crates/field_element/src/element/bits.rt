@@ -8,7 +8,7 @@ ghost use Rattle.field_element.specs.Element.{repr_of};
 
 mod operators;
 
-use crate::element::Element;
+use crate::element::{Element, HasPacking};
 use field_base::traits::{Algebra, TowerLevel};
 use field_base::{FieldKernel, Gf2, Stored};
 use std::ops::Mul;
@@ -36,7 +36,7 @@ impl<R: Stored, K: FieldKernel<R>> Mul<Element<R, K>> for Gf2 {
     }
 }
 
-impl<R: Stored, K: FieldKernel<R>> Algebra<Gf2> for Element<R, K> {
+impl<R: Stored, K: HasPacking<R>> Algebra<Gf2> for Element<R, K> {
     ghost image = { λ a. a };
 
     ghost image_unit_law = { refl };

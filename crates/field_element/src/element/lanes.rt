@@ -1,5 +1,6 @@
-// Kernels whose elements have a packing, and products of many elements, which a packing multiplies by.
+// Kernels whose elements have a packing, and products of many elements, which a packing multiplies by, and their sums.
 ghost use Rattle.std.specs.Prelude.{◌≡◌, length, map};
+ghost use Rattle.field_base.specs.Powers.{dot_of};
 ghost use Rattle.field_element.specs.Element.{repr_of};
 ghost use Rattle.packed_lanes.specs.Lanes.{lane_by_lane};
 
@@ -51,6 +52,35 @@ pub trait HasPacking<R: Stored>: FieldKernel<R> {
                 repr: Self::multiply(left[at].repr, right[at].repr),
                 field: PhantomData,
             };
+        }
+    }
+
+    /// The sum of the products of the elements of `left` by those of `right`, place by place: two at a time, and where the count is odd
+    /// the last alone. It is reduced once. The slices are of one length. A kernel may do it on more at once.
+    #[inline]
+    fn dot_product(left: &[Element<R, Self>], right: &[Element<R, Self>]) -> Element<R, Self>
+        requires { length left.now ≡ length right.now }
+        ensures { repr_of result ≡ dot_of Self.product repr_of left.now right.now }
+    {
+        let (mut low, mut high) = Self::no_products();
+        let pair_count = left.len() / 2;
+        'pairs: for pair in 0..pair_count {
+            let at = 2 * pair;
+            (low, high) = Self::add_two_products(
+                low,
+                high,
+                left[at].repr,
+                left[at + 1].repr,
+                right[at].repr,
+                right[at + 1].repr,
+            );
+        }
+        'rest: for at in 2 * pair_count..left.len() {
+            (low, high) = Self::add_product(low, high, left[at].repr, right[at].repr);
+        }
+        Element {
+            repr: Self::reduce_sum(low, high),
+            field: PhantomData,
         }
     }
 }

@@ -53,7 +53,7 @@ impl<R: Stored, K: FieldKernel<R>> Represented for Element<R, K> {
     ghost mul_law = { λ x y r is. is };
 }
 
-impl<R: Stored, K: FieldKernel<R>> PrimeCharacteristicRing for Element<R, K> {
+impl<R: Stored, K: HasPacking<R>> PrimeCharacteristicRing for Element<R, K> {
     ghost use Rattle.field_base.specs.Bit.{bit_number as bit_of};
     ghost use Rattle.field_base.proofs.TowerLaws.{is_times_one};
 
@@ -104,28 +104,9 @@ impl<R: Stored, K: FieldKernel<R>> PrimeCharacteristicRing for Element<R, K> {
         }
     }
 
-    // Two products at once, and where the count is odd the last alone. The kernel reduces their sum once.
+    #[inline]
     fn dot_product_of_slices(left: &[Element<R, K>], right: &[Element<R, K>]) -> Element<R, K> {
-        let (mut low, mut high) = K::no_products();
-        let pair_count = left.len() / 2;
-        'pairs: for pair in 0..pair_count {
-            let at = 2 * pair;
-            (low, high) = K::add_two_products(
-                low,
-                high,
-                left[at].repr,
-                left[at + 1].repr,
-                right[at].repr,
-                right[at + 1].repr,
-            );
-        }
-        'rest: for at in 2 * pair_count..left.len() {
-            (low, high) = K::add_product(low, high, left[at].repr, right[at].repr);
-        }
-        Element {
-            repr: K::reduce_sum(low, high),
-            field: PhantomData,
-        }
+        K::dot_product(left, right)
     }
 
     ghost zero_law = { R.zero_number };

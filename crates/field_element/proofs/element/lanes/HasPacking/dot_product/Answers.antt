@@ -2,11 +2,11 @@ use Rattle.std.proofs.Common.{ℕ, ◌+◌, ◌*◌, sym, ◌∙◌, ap, ap₂, 
 use Rattle.std.specs.Prelude.{bit_xor}
 use Rattle.field_base.proofs.DotLemmas.{dot_two_steps}
 use Rattle.field_element.specs.Element.{repr_of}
-use Rattle.field_element.proofs.element.ring.ElementPrimeCharacteristicRing.dot_product_of_slices.Goals as goal
+use Rattle.field_element.proofs.element.lanes.HasPacking.dot_product.Goals as goal
 
 pub pairs-preserved : goal.pairs-preserved
 pairs-preserved g c =
-    let kernel = g.K.FieldKernel in
+    let kernel = g.Self.FieldKernel in
     let a = c.index-left-at in
     let b = c.index-left-at-in-pairs in
     let p = c.index-right-at in
