@@ -4,6 +4,7 @@
 //! This crate holds nothing of its own: it passes on what the crates below it make public.
 #![tactic(auto)]
 
+pub mod erasure;
 pub mod laws;
 pub mod over;
 pub mod poly_basis;
