@@ -8,7 +8,7 @@ use Rattle.field_base.specs.Ring.{IsRing}
 use Rattle.field_base.proofs.RingLemmas.{times-zero}
 use Rattle.field_base.proofs.PowerLemmas.{one-times, times-one}
 use Rattle.field_matrices.specs.Matrices.{IsRowCombination, HaveSameRowSpace, IsReducedEchelon, IsRowWritten, cleared_entry, entry_of, joined_entry}
-use Rattle.field_matrices.proofs.MatrixRows.{RowsWritten, mixed, mixed-before, mixed-past, rows_end}
+use Rattle.field_matrices.proofs.MatrixRows.{RowsWritten, mixed, mixed-before, mixed-past, rows_end, rows_from}
 use Rattle.field_matrices.proofs.Places.{numbers-lt}
 use Rattle.field_matrices.proofs.RowSpaces.{same_space, space_then, combination_row, combination_rows, combination_multiple}
 
@@ -38,11 +38,8 @@ module _ {V : Type 0} {number : V → ℕ} {columns : ℕ} (times : ℕ → ℕ 
   pub cleared-start : RowsWritten number columns (cleared_from times from row column (entry_of number columns old)) old old from
   cleared-start =
       let A = entry_of number columns old in
-      record {
-        shape = refl;
-        done = λ i j before inside. ap (λ (w : ℕ → ℕ). w j) (sym (mixed-before from A (cleared_entry times row column A) i before));
-        rest = λ i j past inside. refl;
-      }
+      rows_from number columns (cleared_from times from row column A) old from
+      (λ i j before inside. ap (λ (w : ℕ → ℕ). w j) (sym (mixed-before from A (cleared_entry times row column A) i before)))
 
   module _ {now : List V} {n : ℕ}
       (so_far : RowsWritten number columns (cleared_from times from row column (entry_of number columns old)) old now n) where

@@ -11,5 +11,7 @@ pub mod NextTerms
 pub mod NullSpaces
 pub mod PivotDeterminants
 pub mod Places
+pub mod RowExchanges
 pub mod RowSpaces
 pub mod ScaledSums
+pub mod TriangularSteps

@@ -117,10 +117,13 @@ pub record RowsWritten {V : Type 0} (number : V → ℕ) (columns : ℕ) (wanted
   pub done : (i j : ℕ) → i < n → j < columns → entry_of number columns now i j ≡ wanted i j
   pub rest : (i j : ℕ) → n ≤ i → j < columns → entry_of number columns now i j ≡ entry_of number columns old i j
 
-pub rows_start : {V : Type 0} (number : V → ℕ) (columns : ℕ) (wanted : ℕ → ℕ → ℕ) (old : List V)
-    → RowsWritten number columns wanted old old 0
-rows_start number columns wanted old =
-    record { shape = refl; done = λ i j below inside. absurd (omega (arith, below)); rest = λ i j past inside. refl }
+module _ {V : Type 0} (number : V → ℕ) (columns : ℕ) (wanted : ℕ → ℕ → ℕ) (old : List V) where
+  pub rows_from : (n : ℕ) → ((i j : ℕ) → i < n → j < columns → entry_of number columns old i j ≡ wanted i j)
+      → RowsWritten number columns wanted old old n
+  rows_from n done = record { shape = refl; done = done; rest = λ i j past inside. refl }
+
+  pub rows_start : RowsWritten number columns wanted old old 0
+  rows_start = rows_from 0 (λ i j below inside. absurd (omega (arith, below)))
 
 module _ {V : Type 0} {number : V → ℕ} {columns : ℕ} {wanted : ℕ → ℕ → ℕ} {old now : List V} {n : ℕ}
     (so_far : RowsWritten number columns wanted old now n) where

@@ -1,2 +1,3 @@
+pub mod Decompositions
 pub mod Determinants
 pub mod Matrices

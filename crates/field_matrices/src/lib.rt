@@ -4,6 +4,7 @@
 #![tactic(auto)]
 
 mod columns;
+mod decompositions;
 mod determinants;
 mod identities;
 mod inverses;
@@ -17,6 +18,7 @@ mod scalars;
 mod systems;
 
 pub use crate::columns::{columns_into, put_columns};
+pub use crate::decompositions::plu_decompose;
 pub use crate::determinants::determinant;
 pub use crate::identities::identity_into;
 pub use crate::inverses::invert_beside;
