@@ -1,9 +1,8 @@
 -- Elements as vectors: what one coefficient more makes of the coefficients so far.
-use Rattle.std.proofs.Common.{◌≡◌, ◌≢◌, ℕ, zero, suc, ◌+◌, ◌*◌, ◌-◌, ◌/◌, ◌%◌, ◌^◌, ◌<◌, ◌≤◌, refl, sym, ◌∙◌, ap, ap₂, arith, List, [], ◌∷◌, ◌++◌, length, map, Option, Some, subst, take, get_or, replicate, set}
-use Rattle.std.proofs.lemmas.Nat.{shr_high, pow-add, pow_pos}
-use native.Mathlib.Nat.{mul-add, mul-add-mod_self_left, mod-eq_of_lt, mod-lt, mul-suc, mul-zero, div-one}
+use Rattle.std.proofs.Common.{◌≡◌, ◌≢◌, ℕ, suc, ◌+◌, ◌*◌, ◌-◌, ◌%◌, ◌^◌, ◌<◌, ◌≤◌, refl, sym, ◌∙◌, ap, ap₂, arith, List, [], ◌∷◌, ◌++◌, length, map, Option, Some, subst, take, get_or, replicate, set}
+use Rattle.std.proofs.lemmas.Nat.{pow_pos}
+use native.Mathlib.Nat.{mul-add, mul-add-mod_self_left, mod-eq_of_lt, mul-suc, mul-zero}
 use native.Mathlib.Numerals.{add-one}
-use lib.Arith.{digits_lt}
 use Rattle.std.proofs.Math.Pow.{pow_mono}
 use Rattle.std.proofs.Math.Seq.{take-suc}
 use Rattle.std.proofs.lemmas.Grind.{flat_map-append}

@@ -13,8 +13,8 @@ ghost use Rattle.field_space.specs.Vectors.{ReadsCoefficients, ReturnsCoefficien
 
 use crate::kernel::SpaceOver;
 use field_base::traits::PrimeCharacteristicRing;
-use field_base::{FieldKernel, Gf2, Stored};
-use field_element::{Element, Poly64, Poly192, element_of_word, word_of};
+use field_base::{Gf2, Stored};
+use field_element::{Element, HasPacking, Poly64, Poly192, element_of_word, word_of};
 use std::alloc::{AllocError, Allocator};
 use std::slice;
 
@@ -165,8 +165,12 @@ pub trait BasisCoefficientsSlice<F: PrimeCharacteristicRing>: BasedVectorSpace<F
         ensures { map F.repr result.now ≡ chunks F.width Self.DIMENSION (Self.repr self.now) };
 }
 
-impl<R: Stored, K: SpaceOver<R, S, J>, S: Stored, J: FieldKernel<S>> BasedVectorSpace<Element<S, J>>
-    for Element<R, K> {
+impl<
+    R: Stored,
+    K: SpaceOver<R, S, J> + HasPacking<R>,
+    S: Stored,
+    J: HasPacking<S>,
+> BasedVectorSpace<Element<S, J>> for Element<R, K> {
     const DIMENSION: usize = K::DIMENSION;
 
     ghost DIMENSION = { K.DIMENSION };
@@ -206,7 +210,7 @@ impl BasedVectorSpace<Gf2> for Gf2 {
     }
 }
 
-impl<R: Stored, K: FieldKernel<R>> BasisCoefficients<Element<R, K>> for Element<R, K> {
+impl<R: Stored, K: HasPacking<R>> BasisCoefficients<Element<R, K>> for Element<R, K> {
     type Coefficients = [Element<R, K>; 1];
 
     ghost listed = { λ cs. cs };
@@ -226,7 +230,7 @@ impl BasisCoefficients<Gf2> for Gf2 {
     }
 }
 
-impl<R: Stored, K: FieldKernel<R>> BasisCoefficientsSlice<Element<R, K>> for Element<R, K> {
+impl<R: Stored, K: HasPacking<R>> BasisCoefficientsSlice<Element<R, K>> for Element<R, K> {
     fn as_basis_coefficients_slice(&self) -> &[Element<R, K>] {
         slice::from_ref(self)
     }
