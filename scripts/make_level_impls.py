@@ -648,7 +648,7 @@ SLICES = Template("""\
 /// Elements of $bits bits, by slices in vectors `V`, with functions that are called.
 #[derive(Clone, Copy)]
 pub struct Slices$bits<V> {
-    inner: $inner,
+    pub(crate) inner: $inner,
 }
 
 impl<V: Vector> Sliced for Slices$bits<V> {
@@ -739,6 +739,28 @@ impl<V: Vector> Sliced for Slices$bits<V> {
 
     ghost some_law = { V.some_law };
 }
+
+impl<V: Vector> SlicedPolynomials<V> for Slices$bits<V> {
+    #[inline(never)]
+    fn set_carryless_product(
+        low: &mut Slices$bits<V>,
+        high: &mut Slices$bits<V>,
+        x: &Slices$bits<V>,
+        y: &Slices$bits<V>,
+    ) {
+        SlicedPolynomials::set_carryless_product(&mut low.inner, &mut high.inner, &x.inner, &y.inner);
+    }
+
+    #[inline(always)]
+    fn set_carryless_square(low: &mut Slices$bits<V>, high: &mut Slices$bits<V>, x: &Slices$bits<V>) {
+        SlicedPolynomials::set_carryless_square(&mut low.inner, &mut high.inner, &x.inner);
+    }
+
+    #[inline(${tail_inline})]
+    fn add_by_tail<M: Tail>(&mut self, x: &Slices$bits<V>, carry: &mut Slices8<V>) {
+        self.inner.add_by_tail::<M>(&x.inner, carry);
+    }
+}
 """)
 
 SLICED_WORD = Template("""\
@@ -758,14 +780,17 @@ ghost use Rattle.std.specs.Prelude.{◌≡◌, ◌<◌, ◌^◌, ℕ, refl};
 
 use crate::bit::Bit;
 use crate::pair::Pair;
+use crate::polynomials::SlicedPolynomials;
 use crate::sliced::Sliced;
 use crate::slices::SlicedWord;
+use crate::tails::Tail;
 use crate::vector::Vector;
 use crate::word::TowerWord;
 """
     for bits in UNSIGNED:
         inner = "Pair<Pair<Pair<Bit<V>>>>" if bits == 8 else f"Pair<Slices{bits // 2}<V>>"
-        yield SLICES.substitute(bits=bits, inner=inner, path=inner.replace("<", "::<", 1), quoted=f"⟦<{inner} as Sliced>⟧")
+        yield SLICES.substitute(bits=bits, inner=inner, path=inner.replace("<", "::<", 1), quoted=f"⟦<{inner} as Sliced>⟧",
+                                tail_inline="never" if bits == 8 else "always")
         yield SLICED_WORD.substitute(bits=bits)
 
 

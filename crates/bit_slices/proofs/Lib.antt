@@ -6,3 +6,6 @@ pub mod Exchanges
 pub mod Digits
 pub mod VectorLayouts
 pub mod BlockLanes
+pub mod PolynomialPairs
+pub mod TailSteps
+pub mod Reductions

@@ -1,3 +1,5 @@
 pub mod Lanes
 pub mod LaneLemmas
 pub mod Layout
+pub mod Tails
+pub mod TailLemmas

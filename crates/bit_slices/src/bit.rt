@@ -5,7 +5,10 @@ ghost use Rattle.bits_rows.specs.Parts.{HasFirstBlocks, HasSecondBlocks, IsBlock
 ghost use Rattle.bit_slices.specs.Lanes.{bit_lane};
 ghost use Rattle.bit_slices.specs.LaneLemmas.{bit_lane-lt};
 
+use crate::levels::Slices8;
+use crate::polynomials::SlicedPolynomials;
 use crate::sliced::Sliced;
+use crate::tails::Tail;
 use crate::vector::Vector;
 use crate::word::TowerWord;
 use bits_rows::even_word;
@@ -145,4 +148,24 @@ impl<V: Vector> Sliced for Bit<V> {
     }
 
     ghost some_law = { V.some_law };
+}
+
+impl<V: Vector> SlicedPolynomials<V> for Bit<V> {
+    #[inline(always)]
+    fn set_carryless_product(low: &mut Bit<V>, high: &mut Bit<V>, x: &Bit<V>, y: &Bit<V>) {
+        low.words = product_of(x.words, y.words);
+        *high = Bit::<V>::zeros();
+    }
+
+    #[inline(always)]
+    fn set_carryless_square(low: &mut Bit<V>, high: &mut Bit<V>, x: &Bit<V>) {
+        *low = *x;
+        *high = Bit::<V>::zeros();
+    }
+
+    #[inline(always)]
+    fn add_by_tail<M: Tail>(&mut self, x: &Bit<V>, carry: &mut Slices8<V>) {
+        let lowest = M::step(carry, x);
+        self.add(&lowest);
+    }
 }

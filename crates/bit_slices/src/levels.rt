@@ -5,15 +5,17 @@ ghost use Rattle.std.specs.Prelude.{◌≡◌, ◌<◌, ◌^◌, ℕ, refl};
 
 use crate::bit::Bit;
 use crate::pair::Pair;
+use crate::polynomials::SlicedPolynomials;
 use crate::sliced::Sliced;
 use crate::slices::SlicedWord;
+use crate::tails::Tail;
 use crate::vector::Vector;
 use crate::word::TowerWord;
 
 /// Elements of 8 bits, by slices in vectors `V`, with functions that are called.
 #[derive(Clone, Copy)]
 pub struct Slices8<V> {
-    inner: Pair<Pair<Pair<Bit<V>>>>,
+    pub(crate) inner: Pair<Pair<Pair<Bit<V>>>>,
 }
 
 impl<V: Vector> Sliced for Slices8<V> {
@@ -105,6 +107,33 @@ impl<V: Vector> Sliced for Slices8<V> {
     ghost some_law = { V.some_law };
 }
 
+impl<V: Vector> SlicedPolynomials<V> for Slices8<V> {
+    #[inline(never)]
+    fn set_carryless_product(
+        low: &mut Slices8<V>,
+        high: &mut Slices8<V>,
+        x: &Slices8<V>,
+        y: &Slices8<V>,
+    ) {
+        SlicedPolynomials::set_carryless_product(
+            &mut low.inner,
+            &mut high.inner,
+            &x.inner,
+            &y.inner,
+        );
+    }
+
+    #[inline(always)]
+    fn set_carryless_square(low: &mut Slices8<V>, high: &mut Slices8<V>, x: &Slices8<V>) {
+        SlicedPolynomials::set_carryless_square(&mut low.inner, &mut high.inner, &x.inner);
+    }
+
+    #[inline(never)]
+    fn add_by_tail<M: Tail>(&mut self, x: &Slices8<V>, carry: &mut Slices8<V>) {
+        self.inner.add_by_tail::<M>(&x.inner, carry);
+    }
+}
+
 impl<V: Vector> SlicedWord<V> for u8 {
     type Block = Slices8<V>;
 
@@ -114,7 +143,7 @@ impl<V: Vector> SlicedWord<V> for u8 {
 /// Elements of 16 bits, by slices in vectors `V`, with functions that are called.
 #[derive(Clone, Copy)]
 pub struct Slices16<V> {
-    inner: Pair<Slices8<V>>,
+    pub(crate) inner: Pair<Slices8<V>>,
 }
 
 impl<V: Vector> Sliced for Slices16<V> {
@@ -206,6 +235,33 @@ impl<V: Vector> Sliced for Slices16<V> {
     ghost some_law = { V.some_law };
 }
 
+impl<V: Vector> SlicedPolynomials<V> for Slices16<V> {
+    #[inline(never)]
+    fn set_carryless_product(
+        low: &mut Slices16<V>,
+        high: &mut Slices16<V>,
+        x: &Slices16<V>,
+        y: &Slices16<V>,
+    ) {
+        SlicedPolynomials::set_carryless_product(
+            &mut low.inner,
+            &mut high.inner,
+            &x.inner,
+            &y.inner,
+        );
+    }
+
+    #[inline(always)]
+    fn set_carryless_square(low: &mut Slices16<V>, high: &mut Slices16<V>, x: &Slices16<V>) {
+        SlicedPolynomials::set_carryless_square(&mut low.inner, &mut high.inner, &x.inner);
+    }
+
+    #[inline(always)]
+    fn add_by_tail<M: Tail>(&mut self, x: &Slices16<V>, carry: &mut Slices8<V>) {
+        self.inner.add_by_tail::<M>(&x.inner, carry);
+    }
+}
+
 impl<V: Vector> SlicedWord<V> for u16 {
     type Block = Slices16<V>;
 
@@ -215,7 +271,7 @@ impl<V: Vector> SlicedWord<V> for u16 {
 /// Elements of 32 bits, by slices in vectors `V`, with functions that are called.
 #[derive(Clone, Copy)]
 pub struct Slices32<V> {
-    inner: Pair<Slices16<V>>,
+    pub(crate) inner: Pair<Slices16<V>>,
 }
 
 impl<V: Vector> Sliced for Slices32<V> {
@@ -307,6 +363,33 @@ impl<V: Vector> Sliced for Slices32<V> {
     ghost some_law = { V.some_law };
 }
 
+impl<V: Vector> SlicedPolynomials<V> for Slices32<V> {
+    #[inline(never)]
+    fn set_carryless_product(
+        low: &mut Slices32<V>,
+        high: &mut Slices32<V>,
+        x: &Slices32<V>,
+        y: &Slices32<V>,
+    ) {
+        SlicedPolynomials::set_carryless_product(
+            &mut low.inner,
+            &mut high.inner,
+            &x.inner,
+            &y.inner,
+        );
+    }
+
+    #[inline(always)]
+    fn set_carryless_square(low: &mut Slices32<V>, high: &mut Slices32<V>, x: &Slices32<V>) {
+        SlicedPolynomials::set_carryless_square(&mut low.inner, &mut high.inner, &x.inner);
+    }
+
+    #[inline(always)]
+    fn add_by_tail<M: Tail>(&mut self, x: &Slices32<V>, carry: &mut Slices8<V>) {
+        self.inner.add_by_tail::<M>(&x.inner, carry);
+    }
+}
+
 impl<V: Vector> SlicedWord<V> for u32 {
     type Block = Slices32<V>;
 
@@ -316,7 +399,7 @@ impl<V: Vector> SlicedWord<V> for u32 {
 /// Elements of 64 bits, by slices in vectors `V`, with functions that are called.
 #[derive(Clone, Copy)]
 pub struct Slices64<V> {
-    inner: Pair<Slices32<V>>,
+    pub(crate) inner: Pair<Slices32<V>>,
 }
 
 impl<V: Vector> Sliced for Slices64<V> {
@@ -408,6 +491,33 @@ impl<V: Vector> Sliced for Slices64<V> {
     ghost some_law = { V.some_law };
 }
 
+impl<V: Vector> SlicedPolynomials<V> for Slices64<V> {
+    #[inline(never)]
+    fn set_carryless_product(
+        low: &mut Slices64<V>,
+        high: &mut Slices64<V>,
+        x: &Slices64<V>,
+        y: &Slices64<V>,
+    ) {
+        SlicedPolynomials::set_carryless_product(
+            &mut low.inner,
+            &mut high.inner,
+            &x.inner,
+            &y.inner,
+        );
+    }
+
+    #[inline(always)]
+    fn set_carryless_square(low: &mut Slices64<V>, high: &mut Slices64<V>, x: &Slices64<V>) {
+        SlicedPolynomials::set_carryless_square(&mut low.inner, &mut high.inner, &x.inner);
+    }
+
+    #[inline(always)]
+    fn add_by_tail<M: Tail>(&mut self, x: &Slices64<V>, carry: &mut Slices8<V>) {
+        self.inner.add_by_tail::<M>(&x.inner, carry);
+    }
+}
+
 impl<V: Vector> SlicedWord<V> for u64 {
     type Block = Slices64<V>;
 
@@ -417,7 +527,7 @@ impl<V: Vector> SlicedWord<V> for u64 {
 /// Elements of 128 bits, by slices in vectors `V`, with functions that are called.
 #[derive(Clone, Copy)]
 pub struct Slices128<V> {
-    inner: Pair<Slices64<V>>,
+    pub(crate) inner: Pair<Slices64<V>>,
 }
 
 impl<V: Vector> Sliced for Slices128<V> {
@@ -507,6 +617,33 @@ impl<V: Vector> Sliced for Slices128<V> {
     }
 
     ghost some_law = { V.some_law };
+}
+
+impl<V: Vector> SlicedPolynomials<V> for Slices128<V> {
+    #[inline(never)]
+    fn set_carryless_product(
+        low: &mut Slices128<V>,
+        high: &mut Slices128<V>,
+        x: &Slices128<V>,
+        y: &Slices128<V>,
+    ) {
+        SlicedPolynomials::set_carryless_product(
+            &mut low.inner,
+            &mut high.inner,
+            &x.inner,
+            &y.inner,
+        );
+    }
+
+    #[inline(always)]
+    fn set_carryless_square(low: &mut Slices128<V>, high: &mut Slices128<V>, x: &Slices128<V>) {
+        SlicedPolynomials::set_carryless_square(&mut low.inner, &mut high.inner, &x.inner);
+    }
+
+    #[inline(always)]
+    fn add_by_tail<M: Tail>(&mut self, x: &Slices128<V>, carry: &mut Slices8<V>) {
+        self.inner.add_by_tail::<M>(&x.inner, carry);
+    }
 }
 
 impl<V: Vector> SlicedWord<V> for u128 {

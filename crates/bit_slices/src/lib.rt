@@ -5,18 +5,27 @@
 mod bit;
 mod blocks;
 mod levels;
+mod moduli;
 mod operations;
 mod pair;
+mod polynomials;
 mod sliced;
 mod slices;
+mod tails;
 mod vector;
 mod word;
 mod words;
 
 pub use crate::bit::Bit;
 pub use crate::levels::{Slices8, Slices16, Slices32, Slices64, Slices128};
+pub use crate::moduli::PolynomialBlock;
 pub use crate::pair::Pair;
+pub use crate::polynomials::SlicedPolynomials;
 pub use crate::sliced::Sliced;
-pub use crate::slices::{SlicedWord, invert_each, multiply_each, sqrt_each, square_each};
+pub use crate::slices::{
+    PolynomialWord, SlicedWord, invert_each, multiply_each, multiply_polynomials_each, sqrt_each,
+    square_each, square_polynomials_each,
+};
+pub use crate::tails::Tail;
 pub use crate::vector::Vector;
 pub use crate::word::TowerWord;

@@ -2,11 +2,15 @@
 ghost use Rattle.std.specs.Prelude.{◌≡◌, ◌<◌, ◌≤◌, ◌+◌, ◌*◌, ◌^◌, ℕ, List, get_or, length};
 ghost use Rattle.std.proofs.Common.{◌∙◌, ap};
 ghost use Rattle.field_base.specs.Field.{IsInverseOrZero};
+ghost use Rattle.field_base.specs.Remainder.{mul_mod};
 ghost use Rattle.field_base.specs.Tower.{tower_mul};
 
 use crate::blocks::load;
+use crate::moduli::{PolynomialBlock, multiply_block, square_block};
 use crate::sliced::Sliced;
+use crate::vector::Vector;
 use crate::word::TowerWord;
+use std::marker::PhantomData;
 
 /// An operation on elements of the level of words.
 pub trait Operation<W: TowerWord, T: Sliced> {
@@ -25,7 +29,8 @@ pub trait Operation<W: TowerWord, T: Sliced> {
 
     /// What becomes of the word at a place.
     fn result_at(word: W, others: &[W], place: usize) -> W
-        requires { reaches others.now place }
+        requires level { T.LEVEL ≡ W.LEVEL }
+        requires reaches { reaches others.now place }
         ensures { gives others.now place (W.number word) (W.number result) };
 
     /// Whether a block of 128 words takes less than so many words one by one.
@@ -145,6 +150,65 @@ impl<W: TowerWord, T: Sliced> Operation<W, T> for SquareRoot {
     #[inline(always)]
     fn result_at(word: W, _others: &[W], _place: usize) -> W {
         word.sqrt()
+    }
+
+    #[inline(always)]
+    fn pays(_count: usize) -> bool {
+        false
+    }
+
+    ghost full_law = { λ others k inside. tt };
+
+    ghost place_law = { λ others beside k n reached same x y is. is };
+}
+
+/// The product of polynomials by the other word, modulo that of the block.
+pub struct PolynomialProduct<V>(PhantomData<V>);
+
+impl<V: Vector, W: TowerWord, T: PolynomialBlock<V>> Operation<W, T> for PolynomialProduct<V> {
+    ghost reaches = { λ others k. k < length others };
+
+    ghost gives = { λ others k x y. (d : W) → y ≡ mul_mod (2 ^ W.LEVEL) T.modulus x (W.number (get_or others k d)) };
+
+    #[inline(always)]
+    fn change_block(block: &mut T, others: &[W], start: usize) {
+        let mut right = *block;
+        load(&mut right, others, start);
+        multiply_block(block, &right);
+    }
+
+    #[inline(always)]
+    fn result_at(word: W, others: &[W], place: usize) -> W {
+        W::of_number(T::multiply_numbers(word.to_number(), others[place].to_number()))
+    }
+
+    #[inline(always)]
+    fn pays(count: usize) -> bool {
+        count >= 80
+    }
+
+    ghost full_law = { λ others k inside. inside };
+
+    ghost place_law = { λ others beside k n reached same x y is d.
+        is d ∙ ap (λ (w : W). mul_mod (2 ^ W.LEVEL) T.modulus x (W.number w)) (same reached d) };
+}
+
+/// The square of polynomials, modulo that of the block.
+pub struct PolynomialSquare<V>(PhantomData<V>);
+
+impl<V: Vector, W: TowerWord, T: PolynomialBlock<V>> Operation<W, T> for PolynomialSquare<V> {
+    ghost reaches = { λ others k. Unit {0} };
+
+    ghost gives = { λ others k x y. y ≡ mul_mod (2 ^ W.LEVEL) T.modulus x x };
+
+    #[inline(always)]
+    fn change_block(block: &mut T, _others: &[W], _start: usize) {
+        square_block(block);
+    }
+
+    #[inline(always)]
+    fn result_at(word: W, _others: &[W], _place: usize) -> W {
+        W::of_number(T::square_number(word.to_number()))
     }
 
     #[inline(always)]

@@ -3,14 +3,18 @@ ghost use Rattle.std.specs.Prelude.{◌≡◌, ◌^◌, ℕ, suc};
 ghost use Rattle.field_base.specs.Quadratic.{pair};
 ghost use Rattle.field_base.proofs.TowerRing.{halves-lt};
 
+use crate::levels::Slices8;
+use crate::polynomials::SlicedPolynomials;
 use crate::sliced::Sliced;
+use crate::tails::Tail;
+use crate::vector::Vector;
 use crate::word::TowerWord;
 
 /// The elements `low + high X` of the next level.
 #[derive(Clone, Copy)]
 pub struct Pair<T> {
-    low: T,
-    high: T,
+    pub(crate) low: T,
+    pub(crate) high: T,
 }
 
 impl<T: Sliced> Sliced for Pair<T> {
@@ -141,4 +145,36 @@ impl<T: Sliced> Sliced for Pair<T> {
     }
 
     ghost some_law = { T.some_law };
+}
+
+impl<V: Vector, T: SlicedPolynomials<V>> SlicedPolynomials<V> for Pair<T> {
+    // Karatsuba's rule. The high part of the product of the low halves and the low part of that of the high ones enter both middle parts.
+    #[inline(always)]
+    fn set_carryless_product(low: &mut Pair<T>, high: &mut Pair<T>, x: &Pair<T>, y: &Pair<T>) {
+        let mut x_sum = x.low;
+        let mut y_sum = y.low;
+        x_sum.add(&x.high);
+        y_sum.add(&y.high);
+        let mut mixed = *x;
+        T::set_carryless_product(&mut mixed.low, &mut mixed.high, &x_sum, &y_sum);
+        T::set_carryless_product(&mut low.low, &mut low.high, &x.low, &y.low);
+        T::set_carryless_product(&mut high.low, &mut high.high, &x.high, &y.high);
+        low.high.add(&high.low);
+        mixed.low.add(&low.low);
+        mixed.high.add(&high.high);
+        high.low.set_sum(&low.high, &mixed.high);
+        low.high.add(&mixed.low);
+    }
+
+    #[inline(always)]
+    fn set_carryless_square(low: &mut Pair<T>, high: &mut Pair<T>, x: &Pair<T>) {
+        T::set_carryless_square(&mut low.low, &mut low.high, &x.low);
+        T::set_carryless_square(&mut high.low, &mut high.high, &x.high);
+    }
+
+    #[inline(always)]
+    fn add_by_tail<M: Tail>(&mut self, x: &Pair<T>, carry: &mut Slices8<V>) {
+        self.low.add_by_tail::<M>(&x.low, carry);
+        self.high.add_by_tail::<M>(&x.high, carry);
+    }
 }

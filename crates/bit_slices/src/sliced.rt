@@ -28,8 +28,9 @@ pub trait Sliced: Copy {
     fn lanes() -> usize
         ensures { result ≡ 128 * units };
 
-    /// A block to be read into. Nothing is said of its elements.
-    fn zeros() -> Self;
+    /// A block of zeros.
+    fn zeros() -> Self
+        ensures { (l : ℕ) → lane result l ≡ 0 };
 
     /// Sets each lane to the sum.
     fn set_sum(&mut self, x: &Self, y: &Self)

@@ -1,10 +1,15 @@
 // Products, squares, inverses and square roots of slices of words, in place.
-ghost use Rattle.std.specs.Prelude.{◌≡◌, ◌<◌, ◌≤◌, ◌^◌, ℕ, get_or, length};
+ghost use Rattle.std.specs.Prelude.{◌≡◌, ◌<◌, ◌≤◌, ◌^◌, ℕ, get_or, length, refl};
 ghost use Rattle.field_base.specs.Field.{IsInverseOrZero};
+ghost use Rattle.field_base.specs.Remainder.{mul_mod};
 ghost use Rattle.field_base.specs.Tower.{tower_mul};
 
 use crate::blocks::change_each;
-use crate::operations::{Inverse, Product, Square, SquareRoot};
+use crate::levels::{Slices64, Slices128};
+use crate::moduli::PolynomialBlock;
+use crate::operations::{
+    Inverse, PolynomialProduct, PolynomialSquare, Product, Square, SquareRoot,
+};
 use crate::sliced::Sliced;
 use crate::vector::Vector;
 use crate::word::TowerWord;
@@ -55,4 +60,44 @@ pub fn sqrt_each<V: Vector, W: SlicedWord<V>>(words: &mut [W])
         → tower_mul W.LEVEL (W.number (get_or words.new k d)) (W.number (get_or words.new k d)) ≡ W.number (get_or words.old k d) }
 {
     change_each::<W, W::Block, SquareRoot>(words, &[]);
+}
+
+/// A word that is a polynomial over GF(2), and the slices that hold as many of its kind as a vector `V` has bits.
+pub trait PolynomialWord<V: Vector>: TowerWord {
+    /// The slices.
+    type Polynomials: PolynomialBlock<V>;
+
+    // They are as wide as the word.
+    ghost polynomials_law: { Self.Polynomials.LEVEL ≡ Self.LEVEL };
+}
+
+impl<V: Vector> PolynomialWord<V> for u64 {
+    type Polynomials = Slices64<V>;
+
+    ghost polynomials_law = { refl };
+}
+
+impl<V: Vector> PolynomialWord<V> for u128 {
+    type Polynomials = Slices128<V>;
+
+    ghost polynomials_law = { refl };
+}
+
+/// Multiplies each polynomial by the factor at its place. Requires as many factors as words.
+pub fn multiply_polynomials_each<V: Vector, W: PolynomialWord<V>>(words: &mut [W], factors: &[W])
+    requires { length factors.now ≡ length words.old }
+    ensures long { length words.new ≡ length words.old }
+    ensures products { (k : ℕ) → k < length words.new → (d : W) → W.number (get_or words.new k d)
+        ≡ mul_mod (2 ^ W.LEVEL) W.Polynomials.modulus (W.number (get_or words.old k d)) (W.number (get_or factors.now k d)) }
+{
+    change_each::<W, W::Polynomials, PolynomialProduct<V>>(words, factors);
+}
+
+/// Squares each polynomial.
+pub fn square_polynomials_each<V: Vector, W: PolynomialWord<V>>(words: &mut [W])
+    ensures long { length words.new ≡ length words.old }
+    ensures squares { (k : ℕ) → k < length words.new → (d : W) → W.number (get_or words.new k d)
+        ≡ mul_mod (2 ^ W.LEVEL) W.Polynomials.modulus (W.number (get_or words.old k d)) (W.number (get_or words.old k d)) }
+{
+    change_each::<W, W::Polynomials, PolynomialSquare<V>>(words, &[]);
 }
