@@ -1,6 +1,8 @@
 mod Binding
+mod BlockSums
 mod CapPaths
 mod CodeColumns
+mod ColumnSteps
 mod HonestColumns
 mod OpenedLeaves
 mod OpeningPaths
@@ -13,6 +15,7 @@ mod Refusals
 mod Roots
 mod Statements
 mod Words
+mod RoundValues
 mod Rows
 mod Soundness
 mod SumcheckStatements

@@ -22,13 +22,13 @@ use Rattle.protocols.specs.Terms.{AreWithin, HaveFactors, FactorsAreWithin, Prod
 -- ---- folding a list of an even length
 
 module _ (h : ℕ) (values : List ℕ) (count : length values ≡ h + h) where
-  half : length values / 2 ≡ h
+  pub half : length values / 2 ≡ h
   half = omega (arith, count)
 
-  lower-length : length (take (length values / 2) values) ≡ h
+  pub lower-length : length (take (length values / 2) values) ≡ h
   lower-length = length-take-le (length values / 2) values (omega arith) ∙ half
 
-  upper-length : length (drop (length values / 2) values) ≡ h
+  pub upper-length : length (drop (length values / 2) values) ≡ h
   upper-length = length-drop (length values / 2) values ∙ omega (arith, count)
 
   module _ (times : ℕ → ℕ → ℕ) (r : ℕ) where

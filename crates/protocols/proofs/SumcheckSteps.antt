@@ -18,7 +18,7 @@ use Rattle.transcript_elements.specs.Lists.{InTurn}
 use Rattle.transcript_elements.specs.States.{GivesByState, LeadsByState}
 use Rattle.protocols.specs.Sumcheck.{AreTurns, IsTurn, messages_of, term_numbers}
 use Rattle.protocols.specs.SumcheckClaims.{AreHonestMessages, honest_message, message_at, node_values, reduced_claim}
-use Rattle.protocols.specs.Terms.{Product, honest_at}
+use Rattle.protocols.specs.Terms.{Product, cube_sum, honest_at}
 
 -- ---- lists
 
@@ -302,6 +302,16 @@ lower-is repr width times ring wide values even =
         let front = length-take-le (length numbers / 2) numbers (omega arith) in
         let back = length-drop (length numbers / 2) numbers in
         omega (arith, front, back, long, even)
+
+-- the value at 0 of a round's polynomial is the sum over the lower half of the values
+pub first-value : {F : Type 0} (repr : F → ℕ) (width : ℕ) (times : ℕ → ℕ → ℕ) → IsRing width 1 times → 0 < width → (terms : List Product)
+    (count rounds : ℕ) (values : List F) (first : ℕ) → length values ≡ 2 ^ (rounds + 1) * count
+    → first ≡ cube_sum times terms count rounds (map repr (take (length values / 2) values))
+    → first ≡ honest_at times terms count rounds (map repr values) 0
+first-value repr width times ring wide terms count rounds values first size is =
+    is
+    ∙ ap (cube_sum times terms count rounds)
+    (lower-is repr width times ring wide values (cube-even (length values) rounds count size))
 
 module _ {F : Type 0} (repr : F → ℕ) (h : ℕ → ℕ) where
   pub values-first : (none pushed : List F) (first : F) (x : ℕ) → none ≡ [] → pushed ≡ none ++ first ∷ [] → repr first ≡ h x → x ≡ 0

@@ -1,5 +1,5 @@
 -- Steps over a list of terms, from the first on, and over the factors of one.
-use Rattle.std.proofs.Common.{◌≡◌, ◌↔◌, ℕ, zero, suc, ◌+◌, ◌-◌, ◌*◌, ◌^◌, ◌<◌, ◌≤◌, Bool, true, false, List, [], ◌∷◌, length, map, take, drop, get_or, refl, sym, ◌∙◌, ap, ap₂, subst, arith, lit<}
+use Rattle.std.proofs.Common.{◌≡◌, ◌≢◌, ◌↔◌, ℕ, zero, suc, ◌+◌, ◌-◌, ◌*◌, ◌^◌, ◌<◌, ◌≤◌, Bool, true, false, List, [], ◌∷◌, length, map, take, drop, get_or, refl, sym, ◌∙◌, ap, ap₂, subst, arith, lit<}
 use Rattle.std.specs.Prelude.{IsTrue, bit_xor, max, slice_index}
 use Rattle.std.proofs.Math.Nat.{le-max_left, le-max_right, lt_of_lt_of_le, mul-le-mul_right, two-pow-succ}
 use Rattle.std.proofs.lemmas.Bool.{false≢true}
@@ -8,7 +8,7 @@ use Rattle.field_slices.proofs.CubeTables.{drop-map}
 use Rattle.field_base.specs.Basis.{product_below}
 use Rattle.field_base.specs.Ring.{IsRing}
 use Rattle.field_base.proofs.PowerLemmas.{one-times}
-use Rattle.protocols.specs.Terms.{AreWithin, HaveFactors, FactorsAreWithin, Product, degree_of, product_value, terms_value}
+use Rattle.protocols.specs.Terms.{ArePairs, AreWithin, HaveFactors, FactorsAreWithin, Product, degree_of, product_value, terms_value}
 
 -- a list that is not empty is its first element and the others
 pub first-rest : {A : Type 0} (xs : List A) (x : A) (rest : List A) → 0 < length xs → x ≡ get_or xs 0 x
@@ -98,6 +98,27 @@ module _ {A : Type 0} (term_product : A → Product) (count : ℕ) where
       → AreWithin count (map term_product rest)
   unfolding AreWithin
   within-rest terms rest term is all = (subst (λ (ts : List A). AreWithin count (map term_product ts)) is all).1
+
+-- a list of terms with two factors each
+module _ {A : Type 0} (term_product : A → Product) where
+  pub pairs-none : (terms : List A) → length terms ≡ 0 → IsTrue true ↔ ArePairs (map term_product terms)
+  unfolding ArePairs
+  pairs-none [] none = ((λ always. tt), λ all. refl)
+  pairs-none (term ∷ terms) none = absurd (omega (arith, none))
+
+  pub pairs-not : (terms rest : List A) (term : A) (n : ℕ) → terms ≡ term ∷ rest → n ≡ length (term_product term).factors → n ≢ 2
+      → IsTrue false ↔ ArePairs (map term_product terms)
+  unfolding ArePairs
+  pairs-not terms rest term n is long other =
+      subst (λ (ts : List A). IsTrue false ↔ ArePairs (map term_product ts)) (sym is)
+      ((λ never. absurd (false≢true never)), λ all. absurd (other (long ∙ all.0)))
+
+  pub pairs-more : (terms rest : List A) (term : A) (n : ℕ) (others : Bool) → terms ≡ term ∷ rest → n ≡ length (term_product term).factors → n ≡ 2
+      → IsTrue others ↔ ArePairs (map term_product rest) → IsTrue others ↔ ArePairs (map term_product terms)
+  unfolding ArePairs
+  pairs-more terms rest term n others is long two more =
+      subst (λ (ts : List A). IsTrue others ↔ ArePairs (map term_product ts)) (sym is)
+      ((λ holds. (sym long ∙ two, more.0 holds)), λ all. more.1 all.1)
 
 module _ {A : Type 0} (term_product : A → Product) where
   pub degree-none : (terms : List A) → length terms ≡ 0 → 1 ≡ degree_of (map term_product terms)

@@ -2,7 +2,7 @@
 -- methods for interactive proof systems, 1992; J. Thaler, Proofs, Arguments, and Zero-Knowledge, section 4.1). So many polynomials are
 -- given by a list of rows: row i has their values at corner i, so that value `i * count + j` is that of polynomial j at corner i. A
 -- sum is `bit_xor`, and `times` the product of a ring.
-use Rattle.std.specs.Prelude.{ℕ, ◌+◌, ◌*◌, ◌^◌, ◌<◌, ◌≤◌, List, [], ◌∷◌, length, max, slice_index, bit_xor}
+use Rattle.std.specs.Prelude.{◌≡◌, ℕ, ◌+◌, ◌*◌, ◌^◌, ◌<◌, ◌≤◌, List, [], ◌∷◌, length, max, slice_index, bit_xor}
 use Rattle.field_base.specs.Basis.{product_below, sum_below}
 use Rattle.field_slices.specs.Multilinear.{eq_corner, folded}
 
@@ -39,9 +39,27 @@ unfoldable pub AreWithin : ℕ → List Product → Type 0
 AreWithin count [] = Unit {0}
 AreWithin count (term ∷ terms) = FactorsAreWithin count term × AreWithin count terms
 
--- the sum over the corners of the cube of n coordinates
+-- each term has two factors
+unfoldable pub ArePairs : List Product → Type 0
+ArePairs [] = Unit {0}
+ArePairs (term ∷ terms) = (length term.factors ≡ 2) × ArePairs terms
+
+-- value j of row i, where a row has so many values
+abbrev pub row_entry : ℕ → List ℕ → ℕ → ℕ → ℕ
+row_entry count values i j = slice_index values (i * count + j)
+
+-- the product at row i of the polynomials of these numbers
+abbrev pub row_product : (ℕ → ℕ → ℕ) → ℕ → List ℕ → List ℕ → ℕ → ℕ
+row_product times count values factors i =
+    product_below times (λ k. row_entry count values i (slice_index factors k)) (length factors)
+
+-- the sum of a sum of products over so many rows
+abbrev pub rows_sum : (ℕ → ℕ → ℕ) → List Product → ℕ → ℕ → List ℕ → ℕ
+rows_sum times terms count rows values = sum_below (λ i. terms_value times terms (row_entry count values i)) rows
+
+-- .. over the corners of the cube of n coordinates
 abbrev pub cube_sum : (ℕ → ℕ → ℕ) → List Product → ℕ → ℕ → List ℕ → ℕ
-cube_sum times terms count n values = sum_below (λ i. terms_value times terms (λ j. slice_index values (i * count + j))) (2 ^ n)
+cube_sum times terms count n values = rows_sum times terms count (2 ^ n) values
 
 -- the value of polynomial j at a point: the sum over the corners of its value there times eq(point, corner)
 abbrev pub table_value : (ℕ → ℕ → ℕ) → ℕ → List ℕ → List ℕ → ℕ → ℕ

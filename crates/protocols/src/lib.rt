@@ -6,6 +6,7 @@
 #![tactic(auto)]
 
 pub mod caps;
+mod columns;
 pub mod commitment;
 mod digests;
 mod error;

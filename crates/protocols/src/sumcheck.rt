@@ -6,16 +6,16 @@ ghost use Rattle.protocols.specs.Refusals.{CanBeProved, CanBeStated, IsAnswer, P
 ghost use Rattle.protocols.specs.Sumcheck.{AreTurns, IsRunOf, IsTurn, messages_of, statement_of};
 ghost use Rattle.protocols.specs.SumcheckClaims.{AreHonestMessages, honest_message, message_at, node_values, reduced_claim};
 ghost use Rattle.protocols.specs.SumcheckRuns.{IsProofAndVerdict};
-ghost use Rattle.protocols.specs.Terms.{AreWithin, cube_sum, degree_of, honest_at, table_value, terms_value};
+ghost use Rattle.protocols.specs.Terms.{ArePairs, AreWithin, cube_sum, degree_of, honest_at, table_value, terms_value};
 ghost use Rattle.protocols.specs.declared.error.ProtocolError.TheVariants.{Memory, Shape};
 ghost use Rattle.field_slices.specs.Multilinear.{folded, folded_all};
 
 use crate::error::ProtocolError;
 use crate::statement::{can_be_stated, statement};
-use crate::terms::{Term, cube_sum, degree, terms_at};
+use crate::terms::{Term, are_pairs, cube_sum, degree, terms_at};
 use crate::verdicts::both;
 use field_base::traits::Field;
-use field_slices::{fold, interpolate_at_nodes};
+use field_slices::{add_slice, fold, interpolate_at_nodes};
 use std::alloc::{AllocError, Allocator};
 use transcript_elements::FieldChallenger;
 
@@ -191,13 +191,14 @@ fn message<F: Field, A: Allocator>(
     let degree = degree(terms);
     for node in 2..degree + 1 {
         let x = F::interpolation_node(node);
-        let value = value_at(terms, values, scratch, rounds, count, x);
+        let value = value_at(terms, values, scratch, rounds, count, x, first);
         message.push(value)?;
     }
     Ok(message)
 }
 
-// The value at x of the round's polynomial, where `rounds` coordinates are left besides the first. `scratch` is as long as the values.
+// The value at x of the round's polynomial, where `rounds` coordinates are left besides the first, and `first` is its value at 0.
+// `scratch` is as long as the values.
 fn value_at<F: Field>(
     terms: &[Term<F>],
     values: &[F],
@@ -205,18 +206,53 @@ fn value_at<F: Field>(
     rounds: usize,
     count: usize,
     x: F,
+    first: F,
 ) -> F
     requires few { rounds < 63 }
     requires within { AreWithin count (map (term_product F.repr) terms.now) }
     requires size { length values.now ≡ 2 ^ (rounds + 1) * count }
     requires room { length scratch.old ≡ length values.now }
+    requires first { F.repr first ≡ honest_at F.product (map (term_product F.repr) terms.now) count rounds (map F.repr values.now) 0 }
     ensures room { length scratch.new ≡ length scratch.old }
     ensures value { F.repr result
         ≡ honest_at F.product (map (term_product F.repr) terms.now) count rounds (map F.repr values.now) (F.repr x) }
 {
+    let half = values.len() / 2;
+    if are_pairs(terms) {
+        return value_of_pairs(terms, values, &mut scratch[..half], rounds, count, x, first);
+    }
     scratch.copy_from_slice(values);
     fold(scratch, x);
-    cube_sum(terms, &scratch[..values.len() / 2], count, rounds)
+    cube_sum(terms, &scratch[..half], count, rounds)
+}
+
+// The same of terms with two factors each, where `sums` is half as long as the values. The polynomial has degree two. Its leading coefficient
+// is the sum of the terms of the sums of both halves, so that no value is multiplied by x.
+fn value_of_pairs<F: Field>(
+    terms: &[Term<F>],
+    values: &[F],
+    sums: &mut [F],
+    rounds: usize,
+    count: usize,
+    x: F,
+    first: F,
+) -> F
+    requires few { rounds < 63 }
+    requires pairs { ArePairs (map (term_product F.repr) terms.now) }
+    requires within { AreWithin count (map (term_product F.repr) terms.now) }
+    requires size { length values.now ≡ 2 ^ (rounds + 1) * count }
+    requires room { length sums.old ≡ length values.now / 2 }
+    requires first { F.repr first ≡ honest_at F.product (map (term_product F.repr) terms.now) count rounds (map F.repr values.now) 0 }
+    ensures { F.repr result
+        ≡ honest_at F.product (map (term_product F.repr) terms.now) count rounds (map F.repr values.now) (F.repr x) }
+{
+    let (lower, upper) = values.split_at(values.len() / 2);
+    let second = cube_sum(terms, upper, count, rounds);
+    sums.copy_from_slice(lower);
+    add_slice(sums, upper);
+    let leading = cube_sum(terms, sums, count, rounds);
+    let linear = (first + second) + leading;
+    first + (linear * x + leading * x.square())
 }
 
 /// Reduces the claim that the sum of the terms of `count` polynomials over the cube of `rounds` coordinates is `claim` to one claim at one

@@ -1,8 +1,9 @@
 // Sums of products of polynomials, by their values.
 ghost use Rattle.std.specs.Prelude.{◌≡◌, ◌+◌, ◌*◌, ◌^◌, ◌<◌, ◌≤◌, ◌↔◌, ℕ, length, map, slice_index, IfSome, IsNone, IsTrue};
-ghost use Rattle.field_base.specs.Basis.{product_below};
-ghost use Rattle.protocols.specs.Terms.{AreWithin, FactorsAreWithin, cube_sum, degree_of, product_value, terms_value};
+ghost use Rattle.field_base.specs.Basis.{product_below, sum_below};
+ghost use Rattle.protocols.specs.Terms.{ArePairs, AreWithin, FactorsAreWithin, cube_sum, degree_of, product_value, row_entry, rows_sum, terms_value};
 
+use crate::columns::sum_of_products;
 use field_base::traits::Field;
 
 /// A product of at most four polynomials with a coefficient. A polynomial is named by its number.
@@ -47,11 +48,30 @@ impl<F: Field> Term<F> {
         requires { FactorsAreWithin (length row.now) (term_product F.repr self.now) }
         ensures { F.repr result ≡ product_value F.product (slice_index (map F.repr row.now)) (term_product F.repr self.now) }
     {
-        let product = product_of(self.factors(), row);
+        self.scaled(product_of(self.factors(), row))
+    }
+
+    // The sum over the rows, of `count` values each, of its values at them. There are as many rows as places in `left` and in `right`,
+    // which are written over.
+    fn sum_over(&self, rows: &[F], count: usize, left: &mut [F], right: &mut [F]) -> F
+        requires within { FactorsAreWithin count (term_product F.repr self.now) }
+        requires size { length rows.now ≡ length left.old * count }
+        requires same { length right.old ≡ length left.old }
+        ensures { F.repr result ≡ sum_below
+            (λ i. product_value F.product (row_entry count (map F.repr rows.now) i) (term_product F.repr self.now)) (length left.old) }
+    {
+        let factors = self.factors();
+        self.scaled(sum_of_products(factors, rows, count, left, right))
+    }
+
+    // The coefficient times the value.
+    fn scaled(&self, value: F) -> F
+        ensures { F.repr result ≡ F.product (F.repr self.now.coefficient) (F.repr value) }
+    {
         if self.coefficient == F::ONE {
-            return product;
+            return value;
         }
-        self.coefficient * product
+        self.coefficient * value
     }
 }
 
@@ -118,6 +138,21 @@ pub fn degree<F: Field>(terms: &[Term<F>]) -> usize
     factors.len().max(others)
 }
 
+// Whether each term has two factors.
+pub(crate) fn are_pairs<F: Field>(terms: &[Term<F>]) -> bool
+    ensures { IsTrue result ↔ ArePairs (map (term_product F.repr) terms.now) }
+{
+    if terms.is_empty() {
+        return true;
+    }
+    let term = terms[0];
+    let factors = term.factors();
+    if factors.len() != 2 {
+        return false;
+    }
+    are_pairs(&terms[1..])
+}
+
 /// The value of a sum of products where the polynomials have the values of the row. Each factor has to be the number of one of them.
 pub fn terms_at<F: Field>(terms: &[Term<F>], row: &[F]) -> F
     requires { AreWithin (length row.now) (map (term_product F.repr) terms.now) }
@@ -132,6 +167,87 @@ pub fn terms_at<F: Field>(terms: &[Term<F>], row: &[F]) -> F
     first + others
 }
 
+// The sum over the rows, of `count` values each, of the value of a sum of products at them. There are as many rows as places in `left` and
+// in `right`, which are written over.
+fn terms_sum<F: Field>(
+    terms: &[Term<F>],
+    rows: &[F],
+    count: usize,
+    left: &mut [F],
+    right: &mut [F],
+) -> F
+    requires within { AreWithin count (map (term_product F.repr) terms.now) }
+    requires size { length rows.now ≡ length left.old * count }
+    requires same { length right.old ≡ length left.old }
+    ensures { F.repr result ≡ rows_sum F.product (map (term_product F.repr) terms.now) count (length left.old) (map F.repr rows.now) }
+{
+    if terms.is_empty() {
+        return F::ZERO;
+    }
+    let term = terms[0];
+    let first = term.sum_over(rows, count, left, right);
+    let others = terms_sum(&terms[1..], rows, count, left, right);
+    first + others
+}
+
+// The sum over so many rows, in blocks of as many as `left` and `right` have places.
+fn blocks_sum<F: Field>(
+    terms: &[Term<F>],
+    values: &[F],
+    count: usize,
+    rows: usize,
+    left: &mut [F],
+    right: &mut [F],
+) -> F
+    requires within { AreWithin count (map (term_product F.repr) terms.now) }
+    requires size { length values.now ≡ rows * count }
+    requires some { 0 < length left.old }
+    requires same { length right.old ≡ length left.old }
+    ensures { F.repr result ≡ rows_sum F.product (map (term_product F.repr) terms.now) count rows (map F.repr values.now) }
+{
+    let mut sum = F::ZERO;
+    let mut start = 0;
+    while start < rows {
+        let size = left.len().min(rows - start);
+        let block = &values[start * count..(start + size) * count];
+        let part = terms_sum(terms, block, count, &mut left[..size], &mut right[..size]);
+        sum = sum + part;
+        start += size;
+    }
+    sum
+}
+
+// The same row by row.
+fn sum_by_rows<F: Field>(terms: &[Term<F>], values: &[F], count: usize, rows: usize) -> F
+    requires within { AreWithin count (map (term_product F.repr) terms.now) }
+    requires size { length values.now ≡ rows * count }
+    ensures { F.repr result ≡ rows_sum F.product (map (term_product F.repr) terms.now) count rows (map F.repr values.now) }
+{
+    let mut sum = F::ZERO;
+    for row in 0..rows {
+        let start = row * count;
+        let block = &values[start..start + count];
+        let value = terms_at(terms, block);
+        sum = sum + value;
+    }
+    sum
+}
+
+// How many rows go at once.
+const BLOCK: usize = 256;
+
+// The same block by block. There are at least as many values as a column has places, so that columns of a block fit in memory.
+fn sum_by_blocks<F: Field>(terms: &[Term<F>], values: &[F], count: usize, rows: usize) -> F
+    requires within { AreWithin count (map (term_product F.repr) terms.now) }
+    requires size { length values.now ≡ rows * count }
+    requires long { 256 ≤ length values.now }
+    ensures { F.repr result ≡ rows_sum F.product (map (term_product F.repr) terms.now) count rows (map F.repr values.now) }
+{
+    let mut left = [F::ZERO; BLOCK];
+    let mut right = [F::ZERO; BLOCK];
+    blocks_sum(terms, values, count, rows, &mut left, &mut right)
+}
+
 /// The sum over the corners of the cube of `rounds` coordinates, below 64: row i of the values has those of `count` polynomials at
 /// corner i, and has to have one for each factor.
 pub fn cube_sum<F: Field>(terms: &[Term<F>], values: &[F], count: usize, rounds: usize) -> F
@@ -140,12 +256,8 @@ pub fn cube_sum<F: Field>(terms: &[Term<F>], values: &[F], count: usize, rounds:
     requires size { length values.now ≡ 2 ^ rounds * count }
     ensures { F.repr result ≡ cube_sum F.product (map (term_product F.repr) terms.now) count rounds (map F.repr values.now) }
 {
-    let mut sum = F::ZERO;
-    for corner in 0..1 << rounds {
-        let start = corner * count;
-        let row = &values[start..start + count];
-        let value = terms_at(terms, row);
-        sum = sum + value;
+    if values.len() < BLOCK {
+        return sum_by_rows(terms, values, count, 1 << rounds);
     }
-    sum
+    sum_by_blocks(terms, values, count, 1 << rounds)
 }

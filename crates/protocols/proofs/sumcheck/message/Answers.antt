@@ -1,9 +1,9 @@
 use Rattle.std.proofs.Common.{◌≡◌, ◌*◌, ◌/◌, ◌≤◌, ◌^◌, length, map, refl, ap, ◌∙◌, arith, lit<}
 use Rattle.std.proofs.Math.Nat.{pow-le-pow_right}
 use Rattle.protocols.specs.Products.{term_product}
-use Rattle.protocols.specs.Terms.{cube_sum, honest_at}
+use Rattle.protocols.specs.Terms.{honest_at}
 use Rattle.std.proofs.lemmas.List.{length-take-le}
-use Rattle.protocols.proofs.SumcheckSteps.{cube-even, cube-half, lower-is, values-first, values-more}
+use Rattle.protocols.proofs.SumcheckSteps.{cube-half, first-value, values-first, values-more}
 use Rattle.protocols.proofs.sumcheck.message.Goals as goal
 
 pub loop-node-init : goal.loop-node-init
@@ -13,10 +13,8 @@ loop-node-init g c =
     let terms = map (term_product field.repr) c.args.terms.now in (
       values-first field.repr (honest_at field.product terms c.args.count c.args.rounds (map field.repr c.args.values.now))
           c.new-message.result.items c.push.new.self.items c.cube_sum-first.result 0 c.new-message.ensures.items c.in_ok-push.ensures.items
-          (c.cube_sum-first.ensures
-          ∙ ap (cube_sum field.product terms c.args.count c.args.rounds)
-          (lower-is field.repr field.width field.product law.field_law.ring law.wide_law c.args.values.now
-          (cube-even (length c.args.values.now) c.args.rounds c.args.count c.requires.size)))
+          (first-value field.repr field.width field.product law.field_law.ring law.wide_law terms c.args.count c.args.rounds c.args.values.now _
+          c.requires.size c.cube_sum-first.ensures)
           refl,
       c.requires.room,
     )
@@ -26,6 +24,13 @@ cube_sum-first-requires-clause-size g c =
     let half = cube-half (length c.args.values.now) c.args.rounds c.args.count c.requires.size in
     let all : length c.args.values.now / 2 ≡ 2 ^ c.args.rounds * c.args.count = omega (arith, half) in
     length-take-le (length c.args.values.now / 2) c.args.values.now (omega arith) ∙ all
+
+pub value_at-value-requires-clause-first : goal.value_at-value-requires-clause-first
+value_at-value-requires-clause-first g c =
+    let field = g.F.Represented in
+    let law = g.met.F.Field in
+    first-value field.repr field.width field.product law.field_law.ring law.wide_law (map (term_product field.repr) c.args.terms.now) c.args.count
+    c.args.rounds c.args.values.now _ c.requires.size c.cube_sum-first.ensures
 
 pub interpolation_node-x-requires : goal.interpolation_node-x-requires
 interpolation_node-x-requires g c =

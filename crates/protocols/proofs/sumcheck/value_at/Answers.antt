@@ -15,3 +15,6 @@ cube_sum-requires-clause-size g c =
     let all : length c.args.values.now / 2 ≡ 2 ^ c.args.rounds * c.args.count = omega (arith, half) in
     let fits : length c.args.values.now / 2 ≤ length c.fold.new.values = omega (arith, long) in
     length-take-le (length c.args.values.now / 2) c.fold.new.values fits ∙ all
+
+pub value_of_pairs-requires-clause-pairs : goal.value_of_pairs-requires-clause-pairs
+value_of_pairs-requires-clause-pairs g c = c.are_pairs.ensures.0 c.if-are_pairs.true
