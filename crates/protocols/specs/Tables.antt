@@ -82,6 +82,18 @@ pub record AreExtendedColumns {F : Type 0} (repr : F → ℕ) (width : ℕ) (tim
   pub count : length columns ≡ 2 ^ r * 2 ^ k * height
   pub each : (p : ℕ) → p < 2 ^ r * 2 ^ k → map repr (row_at height columns p) ≡ column_at height (2 ^ r * 2 ^ k) matrix p
 
+-- these columns, of `height` elements each and one after the other, are those of a table at these places
+abbrev pub AreColumnsAt : {F : Type 0} → ℕ → List F → List ℕ → List F → Type 0
+AreColumnsAt height columns places chosen =
+    (length chosen ≡ length places * height)
+    × ((i : ℕ) → i < length places → row_at height chosen i ≡ row_at height columns (slice_index places i))
+
+-- nodes open these places of a tree, whatever the hash function and the rows are that it is over
+abbrev pub OpensPlaces : {A : Type 0} → MerkleTree A → List ℕ → List (List ℕ) → Type 0
+OpensPlaces tree places nodes =
+    (hash : List ℕ → List ℕ) (row : ℕ → List ℕ) → IsTreeOver hash row tree
+    → OpensRows hash tree.depth (root_of tree) places (λ i. row (slice_index places i)) nodes
+
 -- What a verifier asks of a row and of columns that are opened at places: that nodes open the columns' bytes, of `size` bytes an element,
 -- under a root, and that the row's code word agrees with them.
 pub record OpensColumns {F : Type 0} (hash : List ℕ → List ℕ) (repr : F → ℕ) (size width : ℕ) (times : ℕ → ℕ → ℕ) (vector : ℕ → ℕ) (k r : ℕ)

@@ -5,8 +5,8 @@ ghost use Rattle.field_bytes.specs.Streams.{joined_bytes};
 ghost use Rattle.field_slices.specs.Multilinear.{multilinear_value};
 ghost use Rattle.protocols.specs.Commitments.{IsTreeOver, root_of, row_at};
 ghost use Rattle.protocols.specs.Openings.{AreAscending, OpensRows};
-ghost use Rattle.protocols.specs.Tables.{AreExtendedColumns, ColumnValuesAgree, ColumnValuesEvaluate, FewPlacesAgree};
-ghost use Rattle.protocols.specs.Tables.{IsHonestOpening, OpensColumns, column_at};
+ghost use Rattle.protocols.specs.Tables.{AreColumnsAt, AreExtendedColumns, ColumnValuesAgree, ColumnValuesEvaluate, FewPlacesAgree};
+ghost use Rattle.protocols.specs.Tables.{IsHonestOpening, OpensColumns, OpensPlaces, column_at};
 
 use crate::extension::extend;
 use crate::interleaved::extend_rows;
@@ -124,9 +124,7 @@ pub fn columns_at<F: Field, A: Allocator>(
     places: &[usize],
 ) -> Result<Vec<F, A>, AllocError>
     requires { (i : ℕ) → i < length places.now → (slice_index places.now i + 1) * height ≤ length columns.now }
-    ensures count { IfOk result (λ chosen. length chosen.items ≡ length places.now * height) }
-    ensures each { IfOk result (λ chosen. (i : ℕ) → i < length places.now
-        → row_at height chosen.items i ≡ row_at height columns.now (slice_index places.now i)) }
+    ensures { IfOk result (λ chosen. AreColumnsAt height columns.now places.now chosen.items) }
 {
     let mut chosen = Vec::new(alloc);
     'places: for index in 0..places.len() {
@@ -147,10 +145,8 @@ pub fn open_columns<F: ByteLevel, A: Allocator + Copy>(
     requires few { rows ≤ 40 }
     requires count { length table.now.columns.items ≡ 2 ^ table.now.tree.depth * 2 ^ rows }
     requires places { AreAscending (2 ^ table.now.tree.depth) places.now }
-    ensures columns { IfOk result (λ opened. (i : ℕ) → i < length places.now
-        → row_at (2 ^ rows) opened.columns.items i ≡ row_at (2 ^ rows) table.now.columns.items (slice_index places.now i)) }
-    ensures nodes { IfOk result (λ opened. (hash : List ℕ → List ℕ) (row : ℕ → List ℕ) → IsTreeOver hash row table.now.tree
-        → OpensRows hash table.now.tree.depth (root_of table.now.tree) places.now (λ i. row (slice_index places.now i)) opened.nodes.items) }
+    ensures columns { IfOk result (λ opened. AreColumnsAt (2 ^ rows) table.now.columns.items places.now opened.columns.items) }
+    ensures nodes { IfOk result (λ opened. OpensPlaces table.now.tree places.now opened.nodes.items) }
     ensures accepted { IfOk result (λ opened. IsHonestOpening F.repr F.NUM_BYTES F.width F.product (λ i. F.basis (F.cantor i)) rows
         table.now.tree table.now.columns.items places.now opened.columns.items opened.nodes.items) }
 {

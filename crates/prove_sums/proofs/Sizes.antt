@@ -162,10 +162,10 @@ columns-held {size} {row} {point} {height} {all} {have} one two three room =
     subst (λ (s : ℕ). s * 2 ^ point ≤ all) (sym one)
     (subst (λ (p : ℕ). row * 2 ^ p ≤ all) (sym two) (subst (λ (a : ℕ). row * 2 ^ height ≤ a) (sym three) room))
 
--- the column at a place is there
-pub column-held : (n : ℕ) {height all have place : ℕ} → height ≡ 2 ^ rows_of n → all ≡ have → have ≡ 2 ^ 2 * 2 ^ levels_of n * 2 ^ rows_of n
-    → place < 2 ^ depth_of n → (place + 1) * height ≤ all
-column-held n {height} {all} {have} {place} is same count below =
-    subst (λ (h : ℕ). (place + 1) * h ≤ all) (sym is)
-    (subst (λ (a : ℕ). (place + 1) * 2 ^ rows_of n ≤ a) (sym (same ∙ count))
-    (mul-le-mul_right (2 ^ rows_of n) (let whole = pow-add 2 2 (levels_of n) in omega (arith, whole, below))))
+-- the columns of a table are as many as its tree has leaves, each of as many elements as there are rows
+pub columns-counted : (n : ℕ) {rows depth count : ℕ} → rows ≡ rows_of n → depth ≡ depth_of n → count ≡ 2 ^ 2 * 2 ^ levels_of n * 2 ^ rows_of n
+    → count ≡ 2 ^ depth * 2 ^ rows
+columns-counted n {rows} {depth} {count} same deep is =
+    subst (λ (r : ℕ). count ≡ 2 ^ depth * 2 ^ r) (sym same)
+    (subst (λ (d : ℕ). count ≡ 2 ^ d * 2 ^ rows_of n) (sym deep)
+    (is ∙ ap (λ (m : ℕ). m * 2 ^ rows_of n) (sym (pow-add 2 2 (levels_of n)))))

@@ -1,6 +1,6 @@
 -- What is proved of two tables, and what a verifier says of a proof, over elements and bytes alone. Elements have numbers by `repr`, the sum is
 -- `bit_xor` and the product `times`. `hash` and `digest` are hash functions.
-use Rattle.std.specs.Prelude.{◌≡◌, ◌≢◌, ◌↔◌, ℕ, ◌*◌, ◌^◌, ◌<◌, ◌≤◌, Bool, true, false, List, [], ◌∷◌, ◌++◌, length, map, take, drop, slice_index, IsTrue}
+use Rattle.std.specs.Prelude.{◌≡◌, ◌≢◌, ◌↔◌, ℕ, ◌*◌, ◌^◌, ◌<◌, ◌≤◌, Bool, true, false, List, [], ◌∷◌, ◌++◌, length, map, take, drop, IsTrue}
 use Rattle.std.specs.List.{range_with_len}
 use Rattle.std.specs.declared.alloc.Global.{Global}
 use Rattle.std.specs.declared.option.Option.{Option}
@@ -17,10 +17,9 @@ use Rattle.word_tables.specs.Cantor.{cantor_vector}
 use Rattle.protocols.specs.Queries.{AreQueries}
 use Rattle.protocols.specs.Sumcheck.{IsRunOf, IsTurn, Statement, messages_of, statement_of}
 use Rattle.protocols.specs.SumcheckClaims.{AreHonestMessages, reduced_claim}
-use Rattle.protocols.specs.Tables.{AreExtendedColumns, OpensColumns}
+use Rattle.protocols.specs.Tables.{AreColumnsAt, AreExtendedColumns, OpensColumns, OpensPlaces}
 use Rattle.protocols.specs.Commitments.{IsTreeOver, root_of, row_at}
 use Rattle.protocols.specs.MerkleTrees.{rows_root}
-use Rattle.protocols.specs.Openings.{OpensRows}
 use Rattle.protocols.specs.declared.merkle_tree.MerkleTree.{MerkleTree}
 use Rattle.protocols.specs.Terms.{Product, cube_sum}
 use Rattle.field_element.specs.Element.{repr_of}
@@ -129,18 +128,6 @@ pub record HoldsTable {F A : Type 0} (repr : F → ℕ) (width : ℕ) (times : �
 abbrev pub values_at : {F : Type 0} → (F → ℕ) → (ℕ → ℕ → ℕ) → ℕ → List F → List F → List ℕ
 values_at repr times n columns point =
     map (λ p. multilinear_value times (map repr (row_at (2 ^ length point) columns p)) (map repr point)) (range_with_len 0 (row_size n))
-
--- these columns, of `height` elements each and one after the other, are those of a table at these places
-abbrev pub AreColumnsAt : {F : Type 0} → ℕ → List F → List ℕ → List F → Type 0
-AreColumnsAt height columns places chosen =
-    (length chosen ≡ length places * height)
-    × ((i : ℕ) → i < length places → row_at height chosen i ≡ row_at height columns (slice_index places i))
-
--- nodes open these places of a tree, whatever the hash function and the rows are that it is over
-abbrev pub OpensPlaces : {A : Type 0} → MerkleTree A → List ℕ → List (List ℕ) → Type 0
-OpensPlaces tree places nodes =
-    (hash : List ℕ → List ℕ) (row : ℕ → List ℕ) → IsTreeOver hash row tree
-    → OpensRows hash tree.depth (root_of tree) places (λ i. row (slice_index places i)) nodes
 
 -- what a prover sends beside nodes: a sum, messages, a witness of work, both tables' rows, and the columns of each that are opened
 pub record SentParts (F : Type 0) : Type 0 where

@@ -2,9 +2,9 @@
 ghost use Rattle.std.specs.Prelude.{◌≡◌, ◌*◌, ◌^◌, ◌≤◌, ◌++◌, ℕ, List, length, map, vec_len, IfOk, OnOk};
 ghost use Rattle.transcript_elements.specs.Grinding.{MayGrind};
 ghost use Rattle.field_bytes.specs.Streams.{joined_bytes};
-ghost use Rattle.protocols.specs.{Commitments.{IsTreeOver, row_at}, Openings.{AreAscending}};
+ghost use Rattle.protocols.specs.{Commitments.{IsTreeOver, row_at}, Openings.{AreAscending}, Tables.{AreColumnsAt, OpensPlaces}};
 ghost use Rattle.prove_sums.specs.Shapes.{depth_of, row_size, rows_of};
-ghost use Rattle.prove_sums.specs.Verdicts.{AreColumnsAt, HoldsTable, IsHonestProof, OpensPlaces, values_at};
+ghost use Rattle.prove_sums.specs.Verdicts.{HoldsTable, IsHonestProof, values_at};
 
 use crate::shapes::{EXPANSION, Shape};
 use crate::sums;
@@ -12,7 +12,7 @@ use crate::verifying::WORK;
 use field_base::traits::Field;
 use protocols::ProtocolError;
 use protocols::queries::draw_queries;
-use protocols::tables::{TableColumns, column_values, columns_at, commit_table};
+use protocols::tables::{TableColumns, column_values, commit_table, open_columns};
 use std::alloc::{AllocError, Global};
 use transcript_bytes::ByteHasher32;
 use transcript_elements::{ByteLevel, CanSampleUniformBits, FieldChallenger, GrindingChallenger};
@@ -148,9 +148,8 @@ fn open<F: ByteLevel>(
         × (opening : List (List ℕ)) × (nodes.new.items ≡ nodes.old.items ++ opening)
         × OpensPlaces table.now.held.tree places.now opening) }
 {
-    let columns = columns_at(alloc, table.held.columns.as_slice(), shape.height(), places)?;
-    elements.extend_from_slice(columns.as_slice())?;
-    let opening = table.held.tree.open_many(alloc, places)?;
-    nodes.extend_from_slice(opening.as_slice())?;
+    let opened = open_columns(alloc, &table.held, shape.rows, places)?;
+    elements.extend_from_slice(opened.columns.as_slice())?;
+    nodes.extend_from_slice(opened.nodes.as_slice())?;
     Ok(())
 }

@@ -1,7 +1,7 @@
 use Rattle.std.proofs.Common.{◌≡◌, ◌+◌, ◌*◌, ◌^◌, ◌<◌, ◌≤◌, ℕ, List, length, sym, ◌∙◌, ap, subst, arith}
 use Rattle.std.specs.Prelude.{slice_index}
 use Rattle.std.proofs.Math.Nat.{mul-le-mul_right}
-use Rattle.protocols.specs.Commitments.{row_at}
+use Rattle.protocols.specs.Tables.{AreColumnsAt}
 use Rattle.protocols.proofs.HonestColumns.{honest-opening}
 use Rattle.protocols.proofs.tables.open_columns.Goals as goal
 
@@ -22,16 +22,13 @@ returns g c =
     let held = c.args.table.now in
     let opened = c.in_ok-columns.columns.items in
     let height = c.power_of_two-height.ensures.power in
-    let same : (i : ℕ) → i < length c.args.places.now
-    → row_at (2 ^ c.args.rows) opened i ≡ row_at (2 ^ c.args.rows) held.columns.items (slice_index c.args.places.now i) =
-    λ i below.
-    subst (λ (n : ℕ). row_at n opened i ≡ row_at n held.columns.items (slice_index c.args.places.now i)) height
-    (c.in_ok-columns.ensures.each i below ∙ ap (λ (l : List _). row_at c.power_of_two-height.result l (slice_index c.args.places.now i)) c.as_slice.ensures.value) in
+    let at = subst (λ (n : ℕ). AreColumnsAt n held.columns.items c.args.places.now opened) height
+        (subst (λ (l : List _). AreColumnsAt c.power_of_two-height.result l c.args.places.now opened) c.as_slice.ensures.value c.in_ok-columns.ensures) in
     record {
-      columns = same;
+      columns = at;
       nodes = c.in_ok-nodes.ensures;
       accepted =
           honest-opening ring.repr ring.width ring.product (λ (i : ℕ). g.F.TowerLevel.basis (g.F.TowerLevel.cantor i)) law.wide_law law.field_law.ring
           held.columns.items g.F.RawDataSerializable.NUM_BYTES c.args.rows held.tree c.args.places.now opened c.in_ok-nodes.nodes.items
-          c.requires.places (c.in_ok-columns.ensures.count ∙ ap (λ (n : ℕ). length c.args.places.now * n) height) same c.in_ok-nodes.ensures;
+          c.requires.places at.0 at.1 c.in_ok-nodes.ensures;
     }

@@ -1,30 +1,32 @@
-use Rattle.std.proofs.Common.{◌^◌, ◌++◌, ℕ, List, length, sym, ◌∙◌, ap, subst}
+use Rattle.std.proofs.Common.{◌^◌, ◌*◌, ◌++◌, ◌≡◌, ℕ, List, length, sym, ◌∙◌, ap, subst, arith}
 use Rattle.protocols.specs.Openings.{AreAscending}
-use Rattle.prove_sums.specs.Verdicts.{AreColumnsAt}
-use Rattle.prove_sums.proofs.Sizes.{column-held}
+use Rattle.protocols.specs.Tables.{AreColumnsAt, OpensPlaces}
+use Rattle.prove_sums.specs.Shapes.{rows_of}
+use Rattle.prove_sums.proofs.Sizes.{columns-counted}
 use Rattle.prove_sums.proofs.proving.open.Goals as goal
 
-pub columns_at-requires : goal.columns_at-requires
-columns_at-requires g c = λ i inside.
-    column-held c.args.shape.now.rounds c.height.ensures.size (ap length c.as_slice.ensures.value) c.requires.holds.extended.count
-    (c.requires.places.below i inside)
+pub open_columns-requires-clause-few : goal.open_columns-requires-clause-few
+open_columns-requires-clause-few g c = let few = c.args.shape.now.few_rows in omega (arith, few)
 
-pub open_many-requires : goal.open_many-requires
-open_many-requires g c =
+pub open_columns-requires-clause-count : goal.open_columns-requires-clause-count
+open_columns-requires-clause-count g c =
+    columns-counted c.args.shape.now.rounds c.args.shape.now.rows_are c.requires.holds.depth c.requires.holds.extended.count
+
+pub open_columns-requires-clause-places : goal.open_columns-requires-clause-places
+open_columns-requires-clause-places g c =
     subst (λ (d : ℕ). AreAscending (2 ^ d) c.args.places.now) (sym c.requires.holds.depth) c.requires.places
 
 pub returns : goal.returns
 returns g c =
     let places = c.args.places.now in
-    let chosen = c.in_ok-columns.columns.items in (
-      chosen,
+    let opened = c.in_ok-opened.opened in (
+      opened.columns.items,
       c.in_ok-extend_from_slice.ensures.items
-          ∙ ap (λ (l : List _). c.args.elements.now.items ++ l) c.as_slice-2.ensures.value,
-      subst (λ (h : ℕ). AreColumnsAt h c.args.table.now.held.columns.items places chosen) c.height.ensures.size
-          (subst (λ (l : List _). AreColumnsAt c.height.result l places chosen) c.as_slice.ensures.value
-          (c.in_ok-columns.ensures.count, c.in_ok-columns.ensures.each)),
-      c.in_ok-opening.opening.items,
+          ∙ ap (λ (l : List _). c.args.elements.now.items ++ l) c.as_slice.ensures.value,
+      subst (λ (r : ℕ). AreColumnsAt (2 ^ r) c.args.table.now.held.columns.items places opened.columns.items) c.args.shape.now.rows_are
+          c.in_ok-opened.ensures.columns,
+      opened.nodes.items,
       c.in_ok-extend_from_slice-2.ensures.items
-          ∙ ap (λ (l : List (List ℕ)). c.args.nodes.now.items ++ l) c.as_slice-3.ensures.value,
-      c.in_ok-opening.ensures,
+          ∙ ap (λ (l : List (List ℕ)). c.args.nodes.now.items ++ l) c.as_slice-2.ensures.value,
+      c.in_ok-opened.ensures.nodes,
     )

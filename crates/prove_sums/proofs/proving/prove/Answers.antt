@@ -1,7 +1,8 @@
 use Rattle.std.proofs.Common.{◌≡◌, ◌++◌, ◌^◌, ℕ, List, length, take, refl, sym, ◌∙◌, ap, subst}
 use Rattle.protocols.specs.Openings.{AreAscending}
 use Rattle.prove_sums.specs.Shapes.{block_bits, depth_of, places_of, rows_of}
-use Rattle.prove_sums.specs.Verdicts.{AreColumnsAt, IsSummed, OpensPlaces, values_at}
+use Rattle.protocols.specs.Tables.{AreColumnsAt, OpensPlaces}
+use Rattle.prove_sums.specs.Verdicts.{IsSummed, values_at}
 use Rattle.prove_sums.proofs.Sizes.{ascending}
 use Rattle.prove_sums.proofs.SumSteps.{elements-listed, places-drawn}
 use Rattle.prove_sums.proofs.proving.prove.Goals as goal
