@@ -47,6 +47,65 @@ module _ (start n : ℕ) (wanted : ℕ → ℕ) (old now : List ℕ) (so_far : I
   pub range_end : (count : ℕ) → n ≡ count → IsRangeWritten start count wanted old now
   range_end count e = rw (sym e) so_far
 
+-- other names for the words that are written
+pub range_same : (start count : ℕ) (wanted other : ℕ → ℕ) (old now : List ℕ) → ((p : ℕ) → p < count → wanted p ≡ other p)
+    → IsRangeWritten start count wanted old now → IsRangeWritten start count other old now
+range_same start count wanted other old now same write =
+    record { shape = write.shape; written = λ p inside. write.written p inside ∙ same p inside; others = write.others }
+
+-- a range, and one behind it
+module _ (start n m : ℕ) (wanted : ℕ → ℕ) (old now next : List ℕ) (first : IsRangeWritten start n wanted old now)
+    (second : IsRangeWritten (start + n) m (λ p. wanted (n + p)) now next) where
+  in_second : (p : ℕ) → n ≤ p → p < n + m → slice_index next (start + p) ≡ wanted p
+  in_second p past inside =
+      let place : start + p ≡ start + n + (p - n) = omega (arith, past) in
+      let own : n + (p - n) ≡ p = omega (arith, past) in
+      ap (slice_index next) place ∙ second.written (p - n) (omega (arith, past, inside)) ∙ ap wanted own
+
+  outside_first : (p : ℕ) → (p < start) ⊎ (start + (n + m) ≤ p) → (p < start) ⊎ (start + n ≤ p)
+  outside_first p (inl before) = inl before
+  outside_first p (inr behind) = inr (omega (arith, behind))
+
+  outside_second : (p : ℕ) → (p < start) ⊎ (start + (n + m) ≤ p) → (p < start + n) ⊎ (start + n + m ≤ p)
+  outside_second p (inl before) = inl (omega (arith, before))
+  outside_second p (inr behind) = inr (omega (arith, behind))
+
+  pub range_more : IsRangeWritten start (n + m) wanted old next
+  range_more = record {
+    shape = second.shape ∙ first.shape;
+    written = λ p inside. elim (cases_lt p n) [
+      | inl before ↦ second.others (start + p) (inl (omega (arith, before))) ∙ first.written p before
+      | inr past ↦ in_second p past inside
+    ];
+    others = λ p outside. second.others p (outside_second p outside) ∙ first.others p (outside_first p outside);
+  }
+
+-- words of one range are added to those of another, a part after the other
+module _ (to from count n m : ℕ) (old now next : List ℕ) (inside : n + m ≤ count) (apart : (from + count ≤ to) ⊎ (to + count ≤ from))
+    (so_far : IsRangeWritten to n (λ p. bit_xor (slice_index old (to + p)) (slice_index old (from + p))) old now)
+    (write : IsRangeWritten (to + n) m (λ p. bit_xor (slice_index now (to + n + p)) (slice_index now (from + n + p))) now next) where
+  -- a word of the other range is none that was written
+  other_kept : (p : ℕ) → p < m → slice_index now (from + n + p) ≡ slice_index old (from + n + p)
+  other_kept p below = so_far.others (from + n + p) (away apart)
+    where
+      away : (from + count ≤ to) ⊎ (to + count ≤ from) → (from + n + p < to) ⊎ (to + n ≤ from + n + p)
+      away (inl before) = inl (omega (arith, before, inside, below))
+      away (inr behind) = inr (omega (arith, behind))
+
+  part : (p : ℕ) → p < m → bit_xor (slice_index now (to + n + p)) (slice_index now (from + n + p))
+      ≡ bit_xor (slice_index old (to + (n + p))) (slice_index old (from + (n + p)))
+  part p below =
+      let own : to + n + p ≡ to + (n + p) = omega arith in
+      let other : from + n + p ≡ from + (n + p) = omega arith in
+      ap₂ bit_xor (so_far.others (to + n + p) (inr (omega arith)) ∙ ap (slice_index old) own)
+      (other_kept p below ∙ ap (slice_index old) other)
+
+  pub added_more : IsRangeWritten to (n + m) (λ p. bit_xor (slice_index old (to + p)) (slice_index old (from + p))) old next
+  added_more =
+      range_more to n m (λ p. bit_xor (slice_index old (to + p)) (slice_index old (from + p))) old now next so_far
+      (range_same (to + n) m (λ p. bit_xor (slice_index now (to + n + p)) (slice_index now (from + n + p)))
+      (λ p. bit_xor (slice_index old (to + (n + p))) (slice_index old (from + (n + p)))) now next part write)
+
 -- what a word becomes by the sum of the words of a list and those from a place on
 abbrev pub added_to : List ℕ → List ℕ → ℕ → ℕ → ℕ
 added_to old sums start p = bit_xor (slice_index old (start + p)) (slice_index sums p)

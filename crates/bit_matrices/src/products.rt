@@ -5,7 +5,7 @@ ghost use Rattle.field_matrices.specs.Matrices.{IsMatrixProduct};
 ghost use Rattle.bit_matrices.specs.BitMatrices.{HasEntries, HasTables, IsKeptOutside, IsRangeWritten, IsStrip, IsStripAdded};
 ghost use Rattle.bit_matrices.specs.BitMatrices.{bit_entry, partial_word, row_word, sum_of_digits, word_of, words_for};
 
-use crate::rows::clear;
+use crate::rows::{add_words, clear, words_from};
 use std::simd::prelude::*;
 
 // The product is made strip by strip, and in a strip 64 rows of the right matrix at a time: for each four of them 16 sums stand in a table,
@@ -196,19 +196,6 @@ fn first_word(len: usize, rows: usize, strip: Strip, row: usize) -> usize
     row * strip.words + strip.start
 }
 
-// Up to 8 words from a place on.
-fn words_from(words: &[u64], first: usize, count: usize) -> [u64; 8]
-    requires few { count ≤ 8 }
-    requires inside { first + count ≤ length words.now }
-    ensures { (p : ℕ) → p < count → slice_index result p ≡ slice_index words.now (first + p) }
-{
-    let mut out = [0; 8];
-    for place in 0..count {
-        out[place] = words[first + place];
-    }
-    out
-}
-
 // The word of a row of the left matrix that has its bits from 64 * pass on.
 fn left_word(left: &[u64], rows: usize, inner: usize, row: usize, pass: usize) -> u64
     requires left { length left.now ≡ rows * words_for inner }
@@ -279,18 +266,5 @@ fn add_strip(target: &mut [u64], first: usize, count: usize, sums: &[u64; 8])
         add_words(target, first, 8, sums);
     } else {
         add_words(target, first, count, sums);
-    }
-}
-
-// Adds the first words of `sums` to the words from a place on.
-#[inline(always)]
-fn add_words(target: &mut [u64], first: usize, count: usize, sums: &[u64; 8])
-    requires few { count ≤ 8 }
-    requires inside { first + count ≤ length target.old }
-    ensures { IsRangeWritten first count
-        (λ p. bit_xor (slice_index target.old (first + p)) (slice_index sums.now p)) target.old target.new }
-{
-    for place in 0..count {
-        target[first + place] ^= sums[place];
     }
 }

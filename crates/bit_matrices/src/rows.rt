@@ -90,7 +90,7 @@ pub(crate) fn clear(words: &mut [u64], first: usize, count: usize)
     }
 }
 
-// Adds the words from place `from` on to as many from place `to` on, which have to be others.
+// Adds the words from place `from` on to as many from place `to` on, which have to be others: 8 after the other, and what is left.
 fn add_range(words: &mut [u64], to: usize, from: usize, count: usize)
     requires to { to + count ≤ length words.old }
     requires from { from + count ≤ length words.old }
@@ -98,7 +98,49 @@ fn add_range(words: &mut [u64], to: usize, from: usize, count: usize)
     ensures { IsRangeWritten to count
         (λ p. bit_xor (slice_index words.old (to + p)) (slice_index words.old (from + p))) words.old words.new }
 {
+    let strips = count / 8;
+    for strip in 0..strips {
+        add_few(words, to + 8 * strip, from + 8 * strip, 8);
+    }
+    add_few(words, to + 8 * strips, from + 8 * strips, count % 8);
+}
+
+// The same of up to 8 words. Where the count is a literal no loop is left in the machine code.
+#[inline(always)]
+fn add_few(words: &mut [u64], to: usize, from: usize, count: usize)
+    requires few { count ≤ 8 }
+    requires to { to + count ≤ length words.old }
+    requires from { from + count ≤ length words.old }
+    ensures { IsRangeWritten to count
+        (λ p. bit_xor (slice_index words.old (to + p)) (slice_index words.old (from + p))) words.old words.new }
+{
+    let sums = words_from(words, from, count);
+    add_words(words, to, count, &sums);
+}
+
+// Up to 8 words from a place on.
+#[inline(always)]
+pub(crate) fn words_from(words: &[u64], first: usize, count: usize) -> [u64; 8]
+    requires few { count ≤ 8 }
+    requires inside { first + count ≤ length words.now }
+    ensures { (p : ℕ) → p < count → slice_index result p ≡ slice_index words.now (first + p) }
+{
+    let mut out = [0; 8];
     for place in 0..count {
-        words[to + place] ^= words[from + place];
+        out[place] = words[first + place];
+    }
+    out
+}
+
+// Adds the first words of `sums` to the words from a place on.
+#[inline(always)]
+pub(crate) fn add_words(target: &mut [u64], first: usize, count: usize, sums: &[u64; 8])
+    requires few { count ≤ 8 }
+    requires inside { first + count ≤ length target.old }
+    ensures { IsRangeWritten first count
+        (λ p. bit_xor (slice_index target.old (first + p)) (slice_index sums.now p)) target.old target.new }
+{
+    for place in 0..count {
+        target[first + place] ^= sums[place];
     }
 }

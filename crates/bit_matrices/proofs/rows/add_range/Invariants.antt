@@ -1,9 +1,10 @@
-use Rattle.std.proofs.Common.{◌+◌}
+use Rattle.std.proofs.Common.{◌+◌, ◌*◌}
 use Rattle.std.specs.Prelude.{bit_xor, slice_index}
 use Rattle.bit_matrices.specs.BitMatrices.{IsRangeWritten}
 use Rattle.bit_matrices.proofs.rows.add_range.Given as goal
 
--- the words before this one are added
-abbrev pub invariant-loop-place : goal.invariant-loop-place
-invariant-loop-place l =
-    IsRangeWritten l.to l.place (λ p. bit_xor (slice_index l.fn.words (l.to + p)) (slice_index l.fn.words (l.from + p))) l.fn.words l.words
+-- the words before this strip are added
+abbrev pub invariant-loop-strip : goal.invariant-loop-strip
+invariant-loop-strip l =
+    IsRangeWritten l.to (8 * l.strip) (λ p. bit_xor (slice_index l.fn.words (l.to + p)) (slice_index l.fn.words (l.from + p)))
+    l.fn.words l.words

@@ -1,7 +1,7 @@
 use Rattle.std.proofs.Common.{ℕ, ◌+◌, ap, arith, le_refl}
 use Rattle.std.specs.Prelude.{bit_xor, slice_index}
 use Rattle.bit_matrices.proofs.WordRanges.{added_to, range_end, range_rest, range_start, range_step}
-use Rattle.bit_matrices.proofs.products.add_words.Goals as goal
+use Rattle.bit_matrices.proofs.rows.add_words.Goals as goal
 
 pub loop-place-init : goal.loop-place-init
 loop-place-init c = range_start c.args.first (added_to c.args.target.now c.args.sums.now c.args.first) c.args.target.now

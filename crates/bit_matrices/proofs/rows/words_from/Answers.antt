@@ -2,7 +2,7 @@ use Rattle.std.proofs.Common.{◌+◌, ◌∙◌, arith, refl}
 use Rattle.std.specs.Prelude.{slice_index}
 use Rattle.std.proofs.lemmas.List.{length-set}
 use Rattle.bit_matrices.proofs.WordRanges.{front_more}
-use Rattle.bit_matrices.proofs.products.words_from.Goals as goal
+use Rattle.bit_matrices.proofs.rows.words_from.Goals as goal
 
 pub loop-place-init : goal.loop-place-init
 loop-place-init c = (refl, λ p below. absurd (omega (arith, below)))

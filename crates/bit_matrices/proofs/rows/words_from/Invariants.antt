@@ -1,6 +1,6 @@
 use Rattle.std.proofs.Common.{◌≡◌, ℕ, ◌+◌, ◌<◌, length}
 use Rattle.std.specs.Prelude.{slice_index}
-use Rattle.bit_matrices.proofs.products.words_from.Given as goal
+use Rattle.bit_matrices.proofs.rows.words_from.Given as goal
 
 -- the words before this one are copied
 abbrev pub invariant-loop-place : goal.invariant-loop-place

@@ -1,7 +1,7 @@
 use Rattle.std.proofs.Common.{◌+◌}
 use Rattle.std.specs.Prelude.{bit_xor, slice_index}
 use Rattle.bit_matrices.specs.BitMatrices.{IsRangeWritten}
-use Rattle.bit_matrices.proofs.products.add_words.Given as goal
+use Rattle.bit_matrices.proofs.rows.add_words.Given as goal
 
 -- the words before this one are added
 abbrev pub invariant-loop-place : goal.invariant-loop-place
