@@ -19,7 +19,7 @@ use Rattle.field_matrices.proofs.RowSpaces.{identity-only, only, only-after, onl
 
 module _ (width : ℕ) (times : ℕ → ℕ → ℕ) (ring : IsRing width 1 times) where
   -- a combination of rows times a column is the combination of their products with it
-  combination-times : (c x : ℕ → ℕ) (R : ℕ → ℕ → ℕ) (n m : ℕ)
+  pub combination-times : (c x : ℕ → ℕ) (R : ℕ → ℕ → ℕ) (n m : ℕ)
       → sum_below (λ k. times (sum_below (λ l. times (c l) (R l k)) m) (x k)) n
       ≡ sum_below (λ l. times (c l) (sum_below (λ k. times (R l k) (x k)) n)) m
   unfolding sum_below

@@ -11,7 +11,7 @@ use Rattle.field_base.proofs.BasisSums.{sum_below-same}
 use Rattle.field_base.proofs.PowerLemmas.{one-times}
 use Rattle.field_base.proofs.RingLemmas.{sum_times, times_left_comm, times-zero, zero-times}
 use Rattle.field_matrices.specs.Determinants.{determinant_of, minor_entry, place_without}
-use Rattle.field_matrices.proofs.RowSpaces.{sums_exchange}
+use Rattle.field_matrices.proofs.RowSpaces.{sums_exchange, zero-xor}
 
 -- ---- places
 
@@ -122,19 +122,15 @@ sum-pair f (suc n) b inside same zeros =
     further : (n ≡ suc b → ⊥) → suc b < n
     further other = omega (arith, inside, other)
 
--- 0 on the left
-pub zero-xor : (x : ℕ) → x ≡ bit_xor 0 x
-zero-xor x = sym (xor_comm 0 x ∙ xor_zero_r x)
-
 -- only the first term
 sum-first : (f : ℕ → ℕ) (n : ℕ) → ((i : ℕ) → i < n → f (suc i) ≡ 0) → sum_below f (suc n) ≡ f 0
 unfolding sum_below
-sum-first f zero zeros = sym (zero-xor (f 0))
+sum-first f zero zeros = zero-xor (f 0)
 sum-first f (suc n) zeros =
     ap₂ bit_xor (sum-first f n (λ i below. zeros i (omega (arith, below)))) (zeros n (omega arith)) ∙ xor_zero_r (f 0)
 
 -- a sum of numbers that fit does
-sum-lt : (width : ℕ) (f : ℕ → ℕ) (n : ℕ) → ((i : ℕ) → f i < 2 ^ width) → sum_below f n < 2 ^ width
+pub sum-lt : (width : ℕ) (f : ℕ → ℕ) (n : ℕ) → ((i : ℕ) → f i < 2 ^ width) → sum_below f n < 2 ^ width
 unfolding sum_below
 sum-lt width f zero fits = pow_pos width
 sum-lt width f (suc n) fits = xor_lt width (sum_below f n) (f n) (sum-lt width f n fits) (fits n)

@@ -6,6 +6,7 @@ pub mod Elimination
 pub mod InverseMatrices
 pub mod LaplaceExpansion
 pub mod LinearSystems
+pub mod MatrixPowers
 pub mod MatrixRows
 pub mod NextTerms
 pub mod NullSpaces

@@ -15,6 +15,16 @@ pub sums_exchange : (a b c d : ℕ) → bit_xor (bit_xor a b) (bit_xor c d) ≡ 
 sums_exchange a b c d =
     xor_assoc a b (bit_xor c d) ∙ ap (bit_xor a) (xor_left_comm b c d) ∙ sym (xor_assoc a c (bit_xor b d))
 
+pub zero-xor : (x : ℕ) → bit_xor 0 x ≡ x
+zero-xor x = xor_comm 0 x ∙ xor_zero_r x
+
+-- the sum of sums, term by term
+pub sum_of_sums : (f g : ℕ → ℕ) (n : ℕ) → sum_below (λ j. bit_xor (f j) (g j)) n ≡ bit_xor (sum_below f n) (sum_below g n)
+unfolding sum_below
+sum_of_sums f g zero = refl
+sum_of_sums f g (suc n) =
+    ap (λ (s : ℕ). bit_xor s (bit_xor (f n) (g n))) (sum_of_sums f g n) ∙ sums_exchange (sum_below f n) (sum_below g n) (f n) (g n)
+
 -- coefficients of which one alone is not 0
 pub only : ℕ → ℕ → ℕ → ℕ
 only k s i = if nat_eq i k then s else 0

@@ -1,8 +1,8 @@
 -- A column more of a decomposition into triangular matrices: an exchange of two rows, and multiples of a row added to those below it.
-use Rattle.std.proofs.Common.{◌≡◌, ◌≢◌, ◌⊎◌, inl, inr, ℕ, zero, suc, ◌+◌, ◌^◌, ◌<◌, ◌≤◌, Bool, List, length, refl, sym, subst, ◌∙◌, ap, ap₂, arith}
+use Rattle.std.proofs.Common.{◌≡◌, ◌≢◌, ◌⊎◌, inl, inr, ℕ, suc, ◌+◌, ◌^◌, ◌<◌, ◌≤◌, Bool, List, length, refl, sym, subst, ◌∙◌, ap, ap₂, arith}
 use Rattle.std.specs.Prelude.{bit_xor, if◌then◌else◌, nat_lt}
 use Rattle.std.proofs.lemmas.Bool.{cases_eq, cases_lt, lt-ltb, le-ltb}
-use lib.Bits.{xor_comm, xor_self, xor_zero_r}
+use lib.Bits.{xor_self, xor_zero_r}
 use Rattle.field_base.specs.Basis.{sum_below}
 use Rattle.field_base.specs.Ring.{IsRing}
 use Rattle.field_base.proofs.BasisSums.{sum_below-same}
@@ -12,16 +12,9 @@ use Rattle.field_matrices.specs.Decompositions.{IsDecomposition, exchanged, exch
 use Rattle.field_matrices.specs.Matrices.{IsEntryWritten, entry_of, identity_entry}
 use Rattle.field_matrices.proofs.MatrixRows.{mixed, mixed-before, mixed-past}
 use Rattle.field_matrices.proofs.RowExchanges.{exchanged-before, exchanged-keeps, exchanged-kept, exchanged-taken}
-use Rattle.field_matrices.proofs.RowSpaces.{identity-only, only, only-after, only-other, only-same, sums_exchange}
+use Rattle.field_matrices.proofs.RowSpaces.{identity-only, only, only-after, only-other, only-same, sum_of_sums, zero-xor}
 
 -- ---- sums
-
--- a sum of sums, term by term
-sum_below-xor : (f g : ℕ → ℕ) (n : ℕ) → sum_below (λ k. bit_xor (f k) (g k)) n ≡ bit_xor (sum_below f n) (sum_below g n)
-unfolding sum_below
-sum_below-xor f g zero = refl
-sum_below-xor f g (suc n) =
-    ap (λ (x : ℕ). bit_xor x (bit_xor (f n) (g n))) (sum_below-xor f g n) ∙ sums_exchange (sum_below f n) (sum_below g n) (f n) (g n)
 
 -- a row of the identity matrix
 identity-row : (i k : ℕ) → identity_entry i k ≡ only i 1 k
@@ -30,9 +23,6 @@ identity-row i k =
       | inl same ↦ identity-only i k ∙ only-same k 1 i (sym same) ∙ sym (only-same i 1 k same)
       | inr other ↦ identity-only i k ∙ only-other k 1 i (λ e. other (sym e)) ∙ sym (only-other i 1 k other)
     ]
-
-zero_xor : (x : ℕ) → bit_xor 0 x ≡ x
-zero_xor x = xor_comm 0 x ∙ xor_zero_r x
 
 module _ (width : ℕ) (times : ℕ → ℕ → ℕ) (ring : IsRing width 1 times) (column rows : ℕ) where
   -- term k of the product of a row and a column, and 0 from place `column` on
@@ -54,7 +44,7 @@ module _ (width : ℕ) (times : ℕ → ℕ → ℕ) (ring : IsRing width 1 time
     split-past past inside =
         sum_below-same (λ k. times (c k) (F k)) (λ k. bit_xor (front c F k) (times (only i 1 k) (F k))) rows
         (λ k within. term k within (cases_lt k column))
-        ∙ sum_below-xor (front c F) (λ k. times (only i 1 k) (F k)) rows
+        ∙ sum_of_sums (front c F) (λ k. times (only i 1 k) (F k)) rows
         ∙ ap (bit_xor (sum_below (front c F) rows)) (only-after width times ring i 1 F rows inside)
       where
         term : (k : ℕ) → k < rows → (k < column) ⊎ (column ≤ k) → times (c k) (F k) ≡ bit_xor (front c F k) (times (only i 1 k) (F k))
@@ -65,7 +55,7 @@ module _ (width : ℕ) (times : ℕ → ℕ → ℕ) (ring : IsRing width 1 time
             ∙ xor_zero_r (times (c k) (F k)))
         term k within (inr behind) =
             ap (λ (x : ℕ). times x (F k)) (rest k behind within ∙ identity-row i k)
-            ∙ sym (zero_xor (times (only i 1 k) (F k)))
+            ∙ sym (zero-xor (times (only i 1 k) (F k)))
             ∙ ap (λ (x : ℕ). bit_xor x (times (only i 1 k) (F k))) (sym (front-past c F k behind))
 
     split-before : i < column → sum_below (λ k. times (c k) (F k)) rows ≡ sum_below (front c F) rows
@@ -275,7 +265,7 @@ module _ (width : ℕ) (times : ℕ → ℕ → ℕ) (ring : IsRing width 1 time
         unfolding added factor
         at_column k within same =
             ap₂ times (ap (L' i) same) (ap (λ (r : ℕ). U' r j) same ∙ stays column j (omega arith) j_inside)
-            ∙ sym (zero_xor (times factor (U column j)))
+            ∙ sym (zero-xor (times factor (U column j)))
             ∙ sym (ap₂ bit_xor
             (ap (λ (x : ℕ). times x (U k j))
             (so_far.rest i k inside (omega (arith, same)) within ∙ identity-row i k
@@ -295,7 +285,7 @@ module _ (width : ℕ) (times : ℕ → ℕ → ℕ) (ring : IsRing width 1 time
             ∙ ring.over_sum 1 (U k j) (times factor (U column j))
             ∙ ap₂ bit_xor (ap (λ (x : ℕ). times x (U k j)) (sym one))
             (one-times width 1 times ring (times factor (U column j)) (ring.below factor (U column j))
-            ∙ sym (ap₂ bit_xor (no-term k column not_column) (own-term k i same) ∙ zero_xor (times factor (U column j))))
+            ∙ sym (ap₂ bit_xor (no-term k column not_column) (own-term k i same) ∙ zero-xor (times factor (U column j))))
 
         elsewhere : (k : ℕ) → k < rows → k ≢ column → k ≢ i → times (L' i k) (U' k j) ≡ bit_xor (times (L i k) (U k j)) (added k)
         unfolding added
@@ -326,7 +316,7 @@ module _ (width : ℕ) (times : ℕ → ℕ → ℕ) (ring : IsRing width 1 time
         added-cancel : sum_below added rows ≡ 0
         unfolding added
         added-cancel =
-            sum_below-xor (λ k. times (only column factor k) (U column j)) (λ k. times (only i factor k) (U column j)) rows
+            sum_of_sums (λ k. times (only column factor k) (U column j)) (λ k. times (only i factor k) (U column j)) rows
             ∙ ap₂ bit_xor (only-after width times ring column factor (λ _. U column j) rows (omega (arith, below, inside)))
             (only-after width times ring i factor (λ _. U column j) rows inside)
             ∙ xor_self (times factor (U column j))
@@ -334,7 +324,7 @@ module _ (width : ℕ) (times : ℕ → ℕ → ℕ) (ring : IsRing width 1 time
         row-stays : sum_below (λ k. times (L i k) (U k j)) rows ≡ sum_below (λ k. times (L' i k) (U' k j)) rows
         row-stays =
             sym (sum_below-same (λ k. times (L' i k) (U' k j)) (λ k. bit_xor (times (L i k) (U k j)) (added k)) rows term
-            ∙ sum_below-xor (λ k. times (L i k) (U k j)) added rows
+            ∙ sum_of_sums (λ k. times (L i k) (U k j)) added rows
             ∙ ap (bit_xor (sum_below (λ k. times (L i k) (U k j)) rows)) added-cancel
             ∙ xor_zero_r (sum_below (λ k. times (L i k) (U k j)) rows))
 

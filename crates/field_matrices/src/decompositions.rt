@@ -1,8 +1,8 @@
 // Matrices as products of triangular ones, after an exchange of rows, by elimination.
 ghost use Rattle.std.specs.Prelude.{◌≡◌, ◌≢◌, ◌⊎◌, ◌+◌, ◌*◌, ◌<◌, ◌≤◌, ℕ, bit_xor, length, slice_index};
-ghost use Rattle.std.specs.List.{SwappedAt, range_with_len};
+ghost use Rattle.std.specs.List.{range_with_len};
 ghost use Rattle.std.specs.List.Sorted.{IsPermutation};
-ghost use Rattle.field_matrices.specs.Decompositions.{IsDecomposition, exchanged, exchanged_entry};
+ghost use Rattle.field_matrices.specs.Decompositions.{IsDecomposition, exchanged_entry};
 ghost use Rattle.field_matrices.specs.Matrices.{HasMatrixEntry, HasMatrixRow, entry_of};
 
 use crate::identities::identity_into;

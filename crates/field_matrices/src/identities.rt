@@ -50,7 +50,7 @@ pub(crate) fn write_identity_row<S: Scalars>(
 }
 
 // An entry of the identity matrix.
-fn identity_value<S: Scalars>(row: usize, column: usize) -> S::Value
+pub(crate) fn identity_value<S: Scalars>(row: usize, column: usize) -> S::Value
     ensures { S.number result ≡ identity_entry row column }
 {
     if row == column {

@@ -4,6 +4,7 @@
 #![tactic(auto)]
 
 mod columns;
+mod companions;
 mod decompositions;
 mod determinants;
 mod identities;
@@ -11,6 +12,7 @@ mod inverses;
 mod laws;
 mod null_spaces;
 mod points;
+mod powers;
 mod products;
 mod reduction;
 mod rows;
@@ -18,6 +20,7 @@ mod scalars;
 mod systems;
 
 pub use crate::columns::{columns_into, put_columns};
+pub use crate::companions::companion_into;
 pub use crate::decompositions::plu_decompose;
 pub use crate::determinants::determinant;
 pub use crate::identities::identity_into;
@@ -28,6 +31,7 @@ pub use crate::laws::{
 };
 pub use crate::null_spaces::null_space_into;
 pub use crate::points::{cauchy_into, vandermonde_into};
+pub use crate::powers::power_into;
 pub use crate::products::{multiply_into, transpose_into};
 pub use crate::reduction::{row_reduce, row_reduce_augmented};
 pub use crate::scalars::{Elements, Scalars};
