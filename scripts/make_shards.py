@@ -2,7 +2,7 @@
 """Writes the shards that the stored run of `shards` joins, crates/shards/data. With --check it compares instead.
 
 It encodes as klauspost/reedsolomon does, by a Vandermonde matrix over the points 0, 1, .. times the inverse of its top, and not
-by Lagrange's formula as the crate does. Of six shards one is left out, and one is damaged.
+by Lagrange's formula as the crate does. The file has three stripes. Of six shards one is left out, and two are damaged in one stripe each.
 """
 
 import hashlib
@@ -13,7 +13,10 @@ import polynomials
 
 DATA = files.CRATES / "shards/data"
 K, M = 4, 2
-MISSING, DAMAGED = 1, 3
+# The bytes of a shard in a stripe.
+SIZE = 100
+# The shard that is left out, and those that are damaged, each with its stripe.
+MISSING, DAMAGED = 1, {3: 0, 5: 1}
 
 
 def multiply(a, b):
@@ -51,30 +54,38 @@ def dot(row, column):
 
 
 def shards_of(content):
-    """The shards of a file."""
-    size = max(1, -(-len(content) // K))
-    data = content.ljust(K * size, b"\0")
-    rows = [data[i * size : (i + 1) * size] for i in range(K)]
+    """The shards of a stripe."""
+    data = content.ljust(K * SIZE, b"\0")
+    rows = [data[i * SIZE : (i + 1) * SIZE] for i in range(K)]
     vandermonde = [[power(i, j) for j in range(K)] for i in range(K + M)]
     top = inverse(vandermonde[:K])
     matrix = [[dot(row, [top[i][j] for i in range(K)]) for j in range(K)] for row in vandermonde]
     return [bytes(dot(row, column) for column in zip(*rows)) for row in matrix]
 
 
-def file_of(index, shard, content):
-    """The file of one shard."""
-    begin = b"shards 2" + bytes([1, K, M, index, 0, 0, 0, 0]) + len(content).to_bytes(8, "little") + hashlib.sha256(content).digest()
-    return begin + hashlib.sha256(begin + shard).digest() + shard
+def digest(*parts):
+    """The SHA-256 of what is joined."""
+    return hashlib.sha256(b"".join(parts)).digest()
+
+
+def file_of(index, stripes, content):
+    """The file of one shard, of whose stripes each has all shards."""
+    numbers = b"".join(it.to_bytes(4, "little") for it in (1, K, M, index))
+    begin = b"shards 3" + numbers + len(content).to_bytes(8, "little") + SIZE.to_bytes(8, "little") + digest(content)
+    head = digest(begin)
+    pieces = [digest(head, number.to_bytes(8, "little"), shards[index]) + shards[index] for number, shards in enumerate(stripes)]
+    return begin + head + b"".join(pieces)
 
 
 def main():
     content = "".join(f"Line {i} of a letter in shards.\n" for i in range(1, 31)).encode()
+    stripes = [shards_of(content[at : at + K * SIZE]) for at in range(0, len(content), K * SIZE)]
     names = set()
-    for index, shard in enumerate(shards_of(content)):
+    for index in range(K + M):
         if index != MISSING:
-            file = bytearray(file_of(index, shard, content))
-            if index == DAMAGED:
-                file[150] ^= 1
+            file = bytearray(file_of(index, stripes, content))
+            if index in DAMAGED:
+                file[104 + DAMAGED[index] * (32 + SIZE) + 50] ^= 1
             names.add(f"letter.{index}")
             files.keep(DATA / f"letter.{index}", bytes(file))
     if {it.name for it in DATA.iterdir()} != names:

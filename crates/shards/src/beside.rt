@@ -1,10 +1,13 @@
 // Files that are written beside their places, and put there when all of them are whole: under a name that ends in `.part`, synced, with
 // the mode that is asked for, and then renamed.
+use crate::progress::Progress;
 use anyhow::{Context, Result, bail};
-use std::fs;
+use shard_files::ShardFiles;
 use std::fs::{File, Files, OpenFile, OpenOptions, Permissions};
+use std::io::Write;
 use std::os::unix::fs::{OpenOptionsExt, PermissionsExt};
 use std::path::Path;
+use std::{fs, io};
 
 /// New files. What is there already is not overwritten, unless that is asked for.
 #[derive(Drop)]
@@ -97,6 +100,124 @@ impl<'a, R: Files + AllocGlobal> NewFiles<'a, R> {
             self.remove();
         }
         ended
+    }
+}
+
+/// The new files of the shards of a file, of which one is open at a time.
+#[derive(Drop)]
+pub(crate) struct NewShards<'a, R: Files> {
+    rt: &'a R,
+    files: NewFiles<'a, R>,
+    /// The names of the shards without their numbers.
+    base: String,
+    open: Option<R::File>,
+    /// The number of the shard whose file is open, or was written last.
+    index: usize,
+    is_begun: [bool; 256],
+    /// Why the last call failed.
+    fault: Option<anyhow::Error>,
+    progress: Progress,
+}
+
+impl<'a, R: Files + AllocGlobal + Eprint> NewShards<'a, R> {
+    /// No file yet.
+    pub(crate) fn new(
+        rt: &'a R,
+        files: NewFiles<'a, R>,
+        base: String,
+        is_quiet: bool,
+    ) -> NewShards<'a, R> {
+        NewShards {
+            rt,
+            files,
+            base,
+            open: None,
+            index: 256,
+            is_begun: [false; 256],
+            fault: None,
+            progress: Progress::new(is_quiet),
+        }
+    }
+
+    // The name of a shard.
+    fn target(&self, index: usize) -> Result<String> {
+        Ok(format!(in self.rt.alloc(); "{}.{index}", self.base)?)
+    }
+
+    /// Why the last call failed, where it did.
+    pub(crate) fn fault(&mut self) -> Option<anyhow::Error> {
+        self.fault.take()
+    }
+
+    /// Fails where a file is at the place of a shard, and is not to be overwritten.
+    pub(crate) fn require_free(&self, index: usize) -> Result<()> {
+        let target = self.target(index)?;
+        self.files.require_free(target.as_str())
+    }
+
+    // Opens the file of a shard at its end, or begins it.
+    fn turn_to(&mut self, index: usize) -> Result<()> {
+        if self.index == index && self.open.is_some() {
+            return Ok(());
+        }
+        self.index = index;
+        let target = self.target(index)?;
+        if index >= 256 || self.is_begun[index] {
+            let mut options = OpenOptions::new();
+            options.append(true);
+            let part = part_of(self.rt, target.as_str())?;
+            self.open = Some(options.open(self.rt, part.as_str())?);
+        } else {
+            self.is_begun[index] = true;
+            self.open = Some(self.files.begin(target)?);
+        }
+        Ok(())
+    }
+
+    // Adds bytes at the end of the file of a shard.
+    fn add(&mut self, index: usize, bytes: &[u8]) -> Result<()> {
+        self.turn_to(index)?;
+        if let Some(file) = &mut self.open {
+            file.write_all(bytes)
+                .context(format_args!("cannot write {}.{index}.part", self.base))?;
+        }
+        self.progress
+            .add(self.rt, self.base.as_str(), "wrote", bytes.len());
+        Ok(())
+    }
+
+    /// Gives each file its mode, and waits until it is on the disk.
+    pub(crate) fn finish(&mut self) -> Result<()> {
+        for index in 0..256 {
+            if self.is_begun[index] {
+                let target = self.target(index)?;
+                self.turn_to(index)?;
+                if let Some(file) = &self.open {
+                    self.files.finish(file, target.as_str())?;
+                }
+            }
+        }
+        Ok(())
+    }
+
+    /// Puts the files at their places, or removes what was begun where the work failed or they cannot be put there.
+    pub(crate) fn end(&mut self, work: Result<()>) -> Result<()> {
+        self.files.end(work)
+    }
+}
+
+// What the system's files hold is not told.
+impl<R: Files + AllocGlobal + Eprint> ShardFiles for NewShards<'_, R> {
+    ghost holds = { λ files held. ⊥ };
+
+    fn append(&mut self, index: usize, bytes: &[u8]) -> io::Result<()> {
+        match self.add(index, bytes) {
+            Ok(()) => Ok(()),
+            Err(error) => {
+                self.fault = Some(error);
+                Err(io::Error::from(io::ErrorKind::Other))
+            }
+        }
     }
 }
 

@@ -1,92 +1,41 @@
-// What the program does.
-use crate::beside::NewFiles;
-use crate::finding::{find_shards, mode_of};
-use crate::group::Group;
-use crate::head::HEAD;
-use crate::progress::Progress;
-use crate::reading::write_content;
+// Splitting and joining.
+use crate::beside::{NewFiles, NewShards};
+use crate::faults::{require_enough, too_few};
+use crate::finding::{Found, find_shards, mode_of};
 use crate::words::Words;
-use crate::writing::{ShardFiles, put_shards, split_content};
-use anyhow::{Context, Result, anyhow, bail};
-use std::fs::Files;
+use anyhow::{Context, Result, bail};
+use sha2::{Digest, Sha256};
+use shard_files::{JoinError, Origin, write_content, write_shards};
+use std::fs::{File, Files};
+use std::io;
+use std::io::{Read, Write};
 use std::path::Path;
-use std::{fs, io};
 
-/// The new files of the shards of a file.
-#[derive(Drop)]
-struct NewShards<'a, R> {
-    rt: &'a R,
-    files: NewFiles<'a, R>,
-    /// The names of the shards without their numbers.
-    base: String,
-    count: usize,
-    /// How many bytes each has.
-    size: usize,
-    progress: Progress,
-}
+/// How many bytes are read at once to compute an identity.
+const CHUNK: usize = 1 << 20;
 
-impl<R: Files + AllocGlobal> NewShards<'_, R> {
-    // The name of the next shard.
-    fn target(&self) -> Result<String> {
-        Ok(format!(in self.rt.alloc(); "{}.{}", self.base, self.count)?)
-    }
-}
-
-// What the system's files hold is not told.
-impl<R: Files + AllocGlobal + Eprint> ShardFiles for NewShards<'_, R> {
-    type File = R::File;
-
-    ghost holds = { λ files held. ⊥ };
-
-    fn begin(&mut self) -> Result<R::File> {
-        let target = self.target()?;
-        self.files.begin(target)
-    }
-
-    fn finish(&mut self, file: R::File) -> Result<()> {
-        let target = self.target()?;
-        self.files.finish(&file, target.as_str())?;
-        self.count = self.count.saturating_add(1);
-        self.progress
-            .add(self.rt, self.base.as_str(), "wrote", self.size);
-        Ok(())
-    }
-
-    fn named(&self, error: io::Error) -> anyhow::Error {
-        anyhow!("cannot write {}.{}.part: {error}", self.base, self.count)
-    }
-}
-
-/// Writes the shards of a file: FILE.0, FILE.1, .., beside it or in a folder.
+/// Writes the shards of a file: FILE.0, FILE.1, .., beside it or in a folder. The file is read twice: its identity, which each head and
+/// each piece is bound to, has to be known before the first is written.
 pub(crate) fn split_file<R: Files + AllocGlobal + Print + Eprint>(
     rt: &R,
     words: &Words<'_>,
     file: &str,
 ) -> Result<()> {
-    let content = fs::read(rt, file).context(format_args!("cannot read {file}"))?;
+    let (length, identity) = identify(rt, file)?;
     let mode = mode_of(rt, file)?;
-    let shards = split_content(
-        rt.alloc(),
-        words.data_shards,
-        words.parity_shards,
-        content.as_slice(),
-    )
-    .context(format_args!("cannot split {file}"))?;
-    let mut new = NewShards {
-        rt,
-        files: NewFiles::new(rt, mode, words.is_forced),
-        base: base_of(rt, file, words.folder)?,
-        count: 0,
-        size: shards.size.saturating_add(HEAD),
-        progress: Progress::new(words.is_quiet),
-    };
-    for index in 0..shards.origin.total() {
-        let target = format!(in rt.alloc(); "{}.{index}", new.base)?;
-        new.files.require_free(target.as_str())?;
+    let origin = Origin::of_file(words.data_shards, words.parity_shards, length, identity);
+    if !origin.is_possible() {
+        bail!("cannot split {file}: no code has so many shards")
     }
-    let work = put_shards(&shards, &mut new);
-    new.files.end(work)?;
-    let (total, size, length) = (shards.origin.total(), shards.size, content.len());
+    let base = base_of(rt, file, words.folder)?;
+    let files = NewFiles::new(rt, mode, words.is_forced);
+    let mut new = NewShards::new(rt, files, base, words.is_quiet);
+    for index in 0..origin.total() {
+        new.require_free(index)?;
+    }
+    let work = split_to(rt, file, origin, &mut new);
+    new.end(work)?;
+    let (total, size) = (origin.total(), origin.file_length());
     let _ = println!(rt;
         "{total} shards of {size} bytes, of which any {} restore {length} bytes",
         words.data_shards
@@ -94,15 +43,67 @@ pub(crate) fn split_file<R: Files + AllocGlobal + Print + Eprint>(
     Ok(())
 }
 
-/// Writes a file from its shards, as far as they are whole.
+// Writes the shards of a file beside their places.
+fn split_to<R: Files + AllocGlobal + Eprint>(
+    rt: &R,
+    file: &str,
+    origin: Origin,
+    new: &mut NewShards<'_, R>,
+) -> Result<()> {
+    let mut reader = File::open(rt, file).context(format_args!("cannot read {file}"))?;
+    if !origin.is_possible() {
+        bail!("cannot split {file}: no code has so many shards")
+    }
+    let written = write_shards(rt.alloc(), origin, &mut reader, new);
+    if let Err(error) = written {
+        match new.fault() {
+            Some(fault) => return Err(fault),
+            None => bail!("cannot split {file}: {error}"),
+        }
+    }
+    new.finish()
+}
+
+// How many bytes a file has, and their SHA-256.
+fn identify<R: Files + AllocGlobal>(rt: &R, file: &str) -> Result<(u64, [u8; 32])> {
+    let mut reader = File::open(rt, file).context(format_args!("cannot read {file}"))?;
+    let mut chunk = vec![in rt.alloc(); 0u8; CHUNK]?;
+    let mut hasher = Sha256::new();
+    let mut length = 0u64;
+    for _ in 0..u64::MAX {
+        let count = reader
+            .read(chunk.as_mut_slice())
+            .context(format_args!("cannot read {file}"))?;
+        if count == 0 {
+            break;
+        }
+        hasher.update(&chunk.as_slice()[..count]);
+        length = length.saturating_add(count as u64);
+    }
+    Ok((length, hasher.finalize()))
+}
+
+/// Writes a file from its shards, as far as they are whole: to its place, or to standard output.
 pub(crate) fn join_file<R: Files + AllocGlobal + Print + Eprint>(
     rt: &R,
     words: &Words<'_>,
     file: &str,
 ) -> Result<()> {
+    if file == "-" {
+        let found = find_shards(rt, words, file)?;
+        return join_to(rt, &found, &mut io::writer(rt));
+    }
     require_free(rt, words, file)?;
-    let (mut group, mode) = group_of(rt, words, file)?;
-    join_group(rt, words, file, &mut group, mode)
+    let found = find_shards(rt, words, file)?;
+    let mut new = NewFiles::new(rt, found.mode(rt)?, words.is_forced);
+    let work = write_joined(rt, &mut new, &found, file);
+    new.end(work)?;
+    let (origin, count) = (found.origin(), found.seen.count());
+    let (total, length, size) = (origin.total(), origin.length, origin.size);
+    let _ = println!(rt;
+        "{length} bytes from {count} of {total} shards, {size} bytes of each in a stripe"
+    );
+    Ok(())
 }
 
 // Fails where a file is at that place, and is not to be overwritten.
@@ -110,84 +111,35 @@ fn require_free<R: Files + AllocGlobal>(rt: &R, words: &Words<'_>, file: &str) -
     NewFiles::new(rt, 0o600, words.is_forced).require_free(file)
 }
 
-// The shards that are at hand of the file that is to be restored, and the mode of the first.
-fn group_of<R: Files + AllocGlobal + Eprint>(
-    rt: &R,
-    words: &Words<'_>,
-    file: &str,
-) -> Result<(Group, u32)> {
-    find_shards(rt, words, file)?.gathered(rt)
-}
-
-fn join_group<R: Files + AllocGlobal + Print>(
-    rt: &R,
-    words: &Words<'_>,
-    file: &str,
-    group: &mut Group,
-    mode: u32,
-) -> Result<()> {
-    let count = group.count();
-    if count < group.origin.data_shards as usize {
-        bail!("{file}: {}", enough_of(rt, group)?)
-    }
-    let mut new = NewFiles::new(rt, mode, words.is_forced);
-    let work = write_joined(rt, &mut new, group, file);
-    new.end(work)?;
-    let (total, length, size) = (group.origin.total(), group.origin.length, group.size);
-    let _ = println!(rt; "{length} bytes from {count} of {total} shards of {size} bytes");
-    Ok(())
-}
-
-fn write_joined<R: Files + AllocGlobal>(
+// Writes a file beside its place.
+fn write_joined<R: Files + AllocGlobal + Eprint>(
     rt: &R,
     new: &mut NewFiles<'_, R>,
-    group: &mut Group,
+    found: &Found<'_>,
     file: &str,
 ) -> Result<()> {
+    require_enough(found)?;
     let mut out = new.begin(format!(in rt.alloc(); "{file}")?)?;
-    write_content(group, &mut out).context(format_args!("cannot restore {file}"))?;
+    join_to(rt, found, &mut out)?;
     new.finish(&out, file)
 }
 
-/// Says of each shard whether it is whole, and fails where one is not, or where the shards are not those of the file.
-pub(crate) fn verify_file<R: Files + AllocGlobal + Print + Eprint>(
+// Writes the bytes of a file.
+fn join_to<R: Files + AllocGlobal + Eprint, W: Write>(
     rt: &R,
-    words: &Words<'_>,
-    file: &str,
+    found: &Found<'_>,
+    writer: &mut W,
 ) -> Result<()> {
-    let (group, _) = group_of(rt, words, file)?;
-    tell_missing(rt, &group)?;
-    tell_verdict(rt, file, &group)
-}
-
-// Tells which shards are not at hand.
-fn tell_missing<R: Print>(rt: &R, group: &Group) -> Result<()> {
-    for index in 0..group.origin.total() {
-        if index < 256 && !group.present[index] {
-            println!(rt; "shard {index} is missing or damaged")?;
-        }
+    require_enough(found)?;
+    let (file, origin) = (found.file, found.origin());
+    if !origin.is_possible() {
+        bail!("cannot restore {file}: no code has so many shards")
     }
-    Ok(())
-}
-
-// Tells that all shards are whole, or fails.
-fn tell_verdict<R: Print + AllocGlobal>(rt: &R, file: &str, group: &Group) -> Result<()> {
-    let total = group.origin.total();
-    if group.count() < total {
-        bail!("{file}: {}", enough_of(rt, group)?)
+    match write_content(rt.alloc(), &mut found.source(rt), origin, writer) {
+        Ok(()) => Ok(()),
+        Err(JoinError::TooFew) => too_few(found),
+        Err(error) => bail!("cannot restore {file}: {error}"),
     }
-    if !group.is_whole() {
-        bail!("{file}: the parity is not that of the data, or the data are not those of the file")
-    }
-    println!(rt; "all {total} shards are whole")?;
-    Ok(())
-}
-
-// How many shards are whole, and how many are enough.
-fn enough_of<R: AllocGlobal>(rt: &R, group: &Group) -> Result<String> {
-    let (count, total) = (group.count(), group.origin.total());
-    let enough = group.origin.data_shards;
-    Ok(format!(in rt.alloc(); "{count} of {total} shards are whole, and {enough} are enough")?)
 }
 
 // The names of the shards of a file without their numbers: beside it, or in a folder.

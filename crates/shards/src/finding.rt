@@ -1,21 +1,46 @@
 // The files of shards: which are looked at, which file they are of, and why others are not taken.
-use crate::group::Group;
 use crate::progress::{Progress, note};
-use crate::reading::{ShardSource, gather};
 use crate::survey::{Choice, Finding, Seen, Survey};
 use crate::words::Words;
 use anyhow::{Result, bail};
+use shard_files::{HEAD, Origin, ShardSource};
 use std::fs;
-use std::fs::Files;
+use std::fs::{File, Files};
+use std::io::{Read, Seek, SeekFrom};
 use std::os::unix::fs::PermissionsExt;
 
-/// Files that are read in turn.
+/// Files that are read in turn, of which one is open at a time.
 #[derive(Drop)]
-struct OldFiles<'a, R> {
+pub(crate) struct OldFiles<'a, R: Files> {
     rt: &'a R,
     file: &'a str,
     paths: &'a [String],
+    open: Option<R::File>,
+    /// The place of the file that is open.
+    place: usize,
     progress: Progress,
+}
+
+impl<'a, R: Files + AllocGlobal + Eprint> OldFiles<'a, R> {
+    // The files at these paths.
+    fn new(rt: &'a R, file: &'a str, paths: &'a [String], is_quiet: bool) -> OldFiles<'a, R> {
+        OldFiles {
+            rt,
+            file,
+            paths,
+            open: None,
+            place: paths.len(),
+            progress: Progress::new(is_quiet),
+        }
+    }
+
+    // Opens one of the files, where it is not open.
+    fn turn_to(&mut self, place: usize) {
+        if self.place != place && place < self.paths.len() {
+            self.place = place;
+            self.open = File::open(self.rt, self.paths[place].as_str()).ok();
+        }
+    }
 }
 
 // What the system's files hold is not told.
@@ -26,42 +51,59 @@ impl<R: Files + AllocGlobal + Eprint> ShardSource for OldFiles<'_, R> {
         self.paths.len()
     }
 
-    fn read(&mut self, place: usize) -> Option<Vec<u8>> {
+    fn read_at(&mut self, place: usize, start: u64, bytes: &mut [u8]) -> bool {
         if place >= self.paths.len() {
-            return None;
+            return false;
         }
-        let bytes = fs::read(self.rt, self.paths[place].as_str()).ok()?;
-        self.progress.add(self.rt, self.file, "read", bytes.len());
-        Some(bytes)
+        self.turn_to(place);
+        let count = bytes.len();
+        let is_read = match &mut self.open {
+            Some(file) => {
+                file.seek(SeekFrom::Start(start)).is_ok() && file.read_exact(bytes).is_ok()
+            }
+            None => false,
+        };
+        if is_read {
+            self.progress.add(self.rt, self.file, "read", count);
+        }
+        is_read
     }
 }
 
 /// The files that were looked at, and the file that is to be restored from shards among them.
 #[derive(Drop)]
 pub(crate) struct Found<'a> {
-    file: &'a str,
+    pub(crate) file: &'a str,
     is_quiet: bool,
-    paths: Vec<String>,
+    pub(crate) paths: Vec<String>,
     /// The place of the first of its shards.
     first: usize,
-    seen: Seen,
+    /// Which of the files that were seen it is.
+    pub(crate) chosen: usize,
+    pub(crate) seen: Seen,
+    pub(crate) findings: Vec<Finding>,
 }
 
 impl Found<'_> {
-    /// Its shards, which are looked for in all of the files anew, and the mode of the first.
-    pub(crate) fn gathered<R: Files + AllocGlobal + Eprint>(&self, rt: &R) -> Result<(Group, u32)> {
-        let mut source = OldFiles {
-            rt,
-            file: self.file,
-            paths: self.paths.as_slice(),
-            progress: Progress::new(self.is_quiet),
-        };
-        let group = gather(rt.alloc(), &mut source, self.seen.origin, self.seen.size)?;
-        let mode = match self.paths.as_slice().get(self.first) {
-            Some(path) => mode_of(rt, path.as_str())?,
-            None => 0o600,
-        };
-        Ok((group, mode))
+    /// What its heads say.
+    pub(crate) fn origin(&self) -> Origin {
+        self.seen.origin
+    }
+
+    /// The files that were looked at, to be read.
+    pub(crate) fn source<'b, R: Files + AllocGlobal + Eprint>(
+        &'b self,
+        rt: &'b R,
+    ) -> OldFiles<'b, R> {
+        OldFiles::new(rt, self.file, self.paths.as_slice(), self.is_quiet)
+    }
+
+    /// The mode of the first of its shards.
+    pub(crate) fn mode<R: Files>(&self, rt: &R) -> Result<u32> {
+        match self.paths.as_slice().get(self.first) {
+            Some(path) => mode_of(rt, path.as_str()),
+            None => Ok(0o600),
+        }
     }
 }
 
@@ -81,7 +123,7 @@ pub(crate) fn find_shards<'a, R: Files + AllocGlobal + Eprint>(
     file: &'a str,
 ) -> Result<Found<'a>> {
     let paths = paths_of(rt, words, file)?;
-    let survey = survey_of(rt, words, file, paths.as_slice())?;
+    let survey = survey_of(rt, paths.as_slice())?;
     let chosen = choose(rt, words, file, &survey)?;
     let first = tell_others(rt, paths.as_slice(), chosen, &survey)?;
     match survey.seen.as_slice().get(chosen) {
@@ -90,33 +132,33 @@ pub(crate) fn find_shards<'a, R: Files + AllocGlobal + Eprint>(
             is_quiet: words.is_quiet,
             paths,
             first,
+            chosen,
             seen: *seen,
+            findings: survey.findings,
         }),
         None => bail!("{file}: no shards"),
     }
 }
 
-// What the files are.
-fn survey_of<R: Files + AllocGlobal + Eprint>(
-    rt: &R,
-    words: &Words<'_>,
-    file: &str,
-    paths: &[String],
-) -> Result<Survey> {
+/// What the files at these paths are, by the bytes that they begin with.
+pub(crate) fn survey_of<R: Files + AllocGlobal>(rt: &R, paths: &[String]) -> Result<Survey> {
     let mut survey = Survey::new(rt.alloc());
-    let mut source = OldFiles {
-        rt,
-        file,
-        paths,
-        progress: Progress::new(words.is_quiet),
-    };
-    for place in 0..paths.len() {
-        match source.read(place) {
+    for path in paths {
+        match begin_of(rt, path.as_str()) {
             Some(bytes) => survey.add(Some(bytes.as_slice()))?,
             None => survey.add(None)?,
         }
     }
     Ok(survey)
+}
+
+// As many bytes as a head has, or as a file has, from its beginning.
+fn begin_of<R: Files + AllocGlobal>(rt: &R, path: &str) -> Option<Vec<u8>> {
+    let file = File::open(rt, path).ok()?;
+    let mut bytes = Vec::new(rt.alloc());
+    let mut begin = file.take(HEAD as u64);
+    begin.read_to_end(&mut bytes).ok()?;
+    Some(bytes)
 }
 
 // Tells of each file that is no shard of the chosen one, and finds the place of the first that is.
@@ -129,7 +171,7 @@ fn tell_others<R: AllocGlobal + Eprint>(
     let mut first = paths.len();
     for place in 0..paths.len() {
         match survey.findings.as_slice().get(place) {
-            Some(Finding::Shard(of)) if *of == chosen => first = first.min(place),
+            Some(Finding::Shard(of, _)) if *of == chosen => first = first.min(place),
             Some(finding) => tell(rt, paths[place].as_str(), *finding, survey)?,
             None => {}
         }
@@ -137,8 +179,12 @@ fn tell_others<R: AllocGlobal + Eprint>(
     Ok(first)
 }
 
-// The names of the files that may be shards.
-fn paths_of<R: Files + AllocGlobal>(rt: &R, words: &Words<'_>, file: &str) -> Result<Vec<String>> {
+/// The names of the files that may be shards.
+pub(crate) fn paths_of<R: Files + AllocGlobal>(
+    rt: &R,
+    words: &Words<'_>,
+    file: &str,
+) -> Result<Vec<String>> {
     let mut paths = Vec::new(rt.alloc());
     for place in 1..words.names.len() {
         paths.push(format!(in rt.alloc(); "{}", words.names[place])?)?;
@@ -194,8 +240,13 @@ fn tell<R: AllocGlobal + Eprint>(
     match finding {
         Finding::Unread => note(rt, path, "it cannot be read"),
         Finding::Damaged => note(rt, path, "it is no shard, or was damaged"),
-        Finding::OldFormat => note(rt, path, "it is a shard of format 1, which names no file"),
-        Finding::Shard(of) => {
+        Finding::OldFormat(version) => {
+            let why = format!(in rt.alloc();
+                "it is a shard of format {version}, written by an older shards"
+            )?;
+            note(rt, path, why.as_str());
+        }
+        Finding::Shard(of, _) => {
             if let Some(seen) = survey.seen.as_slice().get(of) {
                 let name = name_of(rt, seen)?;
                 let why = format!(in rt.alloc(); "it is a shard of another file: {name}")?;
@@ -206,8 +257,8 @@ fn tell<R: AllocGlobal + Eprint>(
     Ok(())
 }
 
-// The identity of a file, as 64 hexadecimal digits.
-fn name_of<R: AllocGlobal>(rt: &R, seen: &Seen) -> Result<String> {
+/// The identity of a file, as 64 hexadecimal digits.
+pub(crate) fn name_of<R: AllocGlobal>(rt: &R, seen: &Seen) -> Result<String> {
     let mut name = String::new(rt.alloc());
     for byte in &seen.origin.identity {
         let digits = format!(in rt.alloc(); "{byte:02x}")?;

@@ -3,17 +3,15 @@
 
 mod beside;
 mod commands;
+mod faults;
 mod finding;
-mod group;
-mod head;
+mod mending;
 mod progress;
-mod reading;
-mod split;
 mod survey;
 mod words;
-mod writing;
 
-use crate::commands::{join_file, split_file, verify_file};
+use crate::commands::{join_file, split_file};
+use crate::mending::{repair_file, tell_file, verify_file};
 use crate::words::{Task, Words};
 use anyhow::Result;
 use std::env;
@@ -24,15 +22,23 @@ const USAGE: &str = "usage:
   shards split FILE DATA PARITY [--out FOLDER] [--force] [--quiet]
       writes FILE.0, FILE.1, .., DATA shards of data and PARITY of parity, any DATA of which restore FILE
   shards join FILE [SHARD ..] [--identity DIGITS] [--force] [--quiet]
-      writes FILE from its shards: those that are named, or FILE.0 to FILE.255
+      writes FILE from its shards: those that are named, or FILE.0 to FILE.255; with - for FILE, to standard output
   shards verify FILE [SHARD ..] [--identity DIGITS] [--quiet]
-      says which shards are missing or damaged
+      says which shards are missing or damaged, and in which stripes
+  shards repair FILE [SHARD ..] [--identity DIGITS] [--force] [--quiet]
+      writes the shards that are missing or damaged again, to FILE.0, FILE.1, ..
+  shards info FILE [SHARD ..] [--identity DIGITS]
+      says what the shards say of themselves
   shards --help | --version
 
-DATA and PARITY may be given as --data DATA --parity PARITY. A file that is there already is overwritten with --force alone. Shards
-belong together by the SHA-256 of their file, its identity, wherever they lie and whatever they are called; where there are enough of
-more than one file, --identity says which, by the first digits. The digests have no key: they tell of damage, and of no forger.
-The exit status is 0, 1 after an error or where verify finds a shard missing or damaged, and 2 where the words are wrong.";
+DATA and PARITY may be given as --data DATA --parity PARITY. A file that is there already is overwritten with --force alone; repair
+overwrites what is no shard, and shards in which it found damage. Shards belong together by the SHA-256 of their file, its identity,
+wherever they lie and whatever they are called; where there are enough of more than one file, --identity says which, by the first digits.
+A file is split in stripes, of which each shard has a piece with a digest of its own: a shard that is damaged in one stripe serves in all
+others. The digests have no key: they tell of damage, and of no forger. What join writes to standard output is known to be the file only
+once the exit status is 0.
+The exit status is 0, 1 after an error, and 2 where the words are wrong. That of verify is 1 where shards are damaged or missing, and
+enough are left, and 2 where too few are.";
 
 fn main(rt: HostRuntime) -> ExitCode {
     // A file that is opened while a standard stream is closed would take its number, and be written what is printed.
@@ -67,10 +73,12 @@ fn run(rt: &HostRuntime) -> Result<ExitCode> {
     };
     match said.task {
         Task::Help => println!(rt; "{USAGE}")?,
-        Task::Version => println!(rt; "shards 0.1.0, format 2")?,
+        Task::Version => println!(rt; "shards 0.1.0, format 3")?,
         Task::Split => split_file(rt, &said, file)?,
         Task::Join => join_file(rt, &said, file)?,
-        Task::Verify => verify_file(rt, &said, file)?,
+        Task::Verify => return verify_file(rt, &said, file),
+        Task::Repair => repair_file(rt, &said, file)?,
+        Task::Info => tell_file(rt, &said, file)?,
     }
     Ok(ExitCode::SUCCESS)
 }

@@ -1,5 +1,5 @@
 // What shards there are: the files that were looked at, by the file that their shards are of.
-use crate::head::{HEAD, Head, Origin, is_of_old_format};
+use shard_files::{Head, Origin, older_format};
 use std::alloc::{AllocError, Global};
 
 /// What a file that was looked at is.
@@ -9,17 +9,16 @@ pub(crate) enum Finding {
     Unread,
     /// It is no shard, or one that was damaged.
     Damaged,
-    /// It is a shard of the first format.
-    OldFormat,
-    /// It is a shard of the file of that number.
-    Shard(usize),
+    /// It is a shard of an older format, of that version.
+    OldFormat(u8),
+    /// It is a shard of the file of that number, and has this number among its shards.
+    Shard(usize, usize),
 }
 
-/// A file of which shards were seen, each of `size` bytes.
+/// A file of which shards were seen.
 #[derive(Clone, Copy)]
 pub(crate) struct Seen {
     pub(crate) origin: Origin,
-    pub(crate) size: usize,
     pub(crate) present: [bool; 256],
 }
 
@@ -67,9 +66,9 @@ impl Survey {
         }
     }
 
-    /// Adds what a file is, by its bytes.
-    pub(crate) fn add(&mut self, file: Option<&[u8]>) -> Result<(), AllocError> {
-        let finding = match file {
+    /// Adds what a file is, by the bytes that it begins with.
+    pub(crate) fn add(&mut self, begin: Option<&[u8]>) -> Result<(), AllocError> {
+        let finding = match begin {
             Some(bytes) => self.finding_of(bytes)?,
             None => Finding::Unread,
         };
@@ -77,39 +76,41 @@ impl Survey {
         Ok(())
     }
 
-    // What a file with these bytes is.
-    fn finding_of(&mut self, file: &[u8]) -> Result<Finding, AllocError> {
-        match Head::of_file(file) {
+    // What a file is that begins with these bytes.
+    fn finding_of(&mut self, begin: &[u8]) -> Result<Finding, AllocError> {
+        match Head::of_bytes(begin) {
             Some(head) => {
                 if !is_possible(&head) {
                     return Ok(Finding::Damaged);
                 }
-                let place = self.place_of(&head, file.len() - HEAD)?;
-                Ok(Finding::Shard(place))
+                let place = self.place_of(&head)?;
+                Ok(Finding::Shard(place, head.index as usize))
             }
-            None => Ok(if is_of_old_format(file) {
-                Finding::OldFormat
-            } else {
-                Finding::Damaged
+            None => Ok(match older_format(begin) {
+                Some(version) => Finding::OldFormat(version),
+                None => Finding::Damaged,
             }),
         }
     }
 
-    // The number of the file that a shard of this head and size is of.
-    fn place_of(&mut self, head: &Head, size: usize) -> Result<usize, AllocError> {
+    // The number of the file that a shard of this head is of.
+    fn place_of(&mut self, head: &Head) -> Result<usize, AllocError> {
         let index = head.index as usize;
         for place in 0..self.seen.len() {
-            if self.seen[place].origin == head.origin && self.seen[place].size == size {
-                self.seen[place].present[index] = true;
+            if self.seen[place].origin.is_same(&head.origin) {
+                if index < 256 {
+                    self.seen[place].present[index] = true;
+                }
                 return Ok(place);
             }
         }
-        let place = self.seen.len();
         let mut present = [false; 256];
-        present[index] = true;
+        if index < 256 {
+            present[index] = true;
+        }
+        let place = self.seen.len();
         self.seen.push(Seen {
             origin: head.origin,
-            size,
             present,
         })?;
         Ok(place)
@@ -180,7 +181,6 @@ impl Survey {
 
 // Whether a code has so many shards, and one of that number.
 fn is_possible(head: &Head) -> bool {
-    let total = head.origin.total();
     let index = head.index as usize;
-    total <= 256 && index < total
+    head.origin.is_possible() && index < head.origin.total()
 }

@@ -9,6 +9,8 @@ pub(crate) enum Task {
     Split,
     Join,
     Verify,
+    Repair,
+    Info,
 }
 
 /// What the words say.
@@ -17,8 +19,8 @@ pub(crate) struct Words<'a> {
     pub(crate) task: Task,
     /// The file, and the names behind it.
     pub(crate) names: Vec<&'a str>,
-    pub(crate) data_shards: u8,
-    pub(crate) parity_shards: u8,
+    pub(crate) data_shards: u32,
+    pub(crate) parity_shards: u32,
     pub(crate) folder: Option<&'a str>,
     pub(crate) identity: Option<&'a str>,
     pub(crate) is_forced: bool,
@@ -101,16 +103,26 @@ impl<'a> Words<'a> {
                 && self.data_shards > 0
                 && self.parity_shards > 0
                 && self.identity.is_none(),
-            Task::Join => !self.names.is_empty() && self.has_no_counts() && self.folder.is_none(),
-            Task::Verify => !self.names.is_empty()
-                && self.has_no_counts()
-                && self.folder.is_none()
-                && !self.is_forced,
+            Task::Join => self.has_shards_to_join() && self.names_shards(),
+            Task::Repair => self.names_shards(),
+            Task::Verify | Task::Info => self.names_shards() && !self.is_forced,
         }
     }
 
-    fn has_no_counts(&self) -> bool {
-        self.data_shards == 0 && self.parity_shards == 0
+    // Whether the words are those of a task that reads shards.
+    fn names_shards(&self) -> bool {
+        !self.names.is_empty()
+            && self.data_shards == 0
+            && self.parity_shards == 0
+            && self.folder.is_none()
+    }
+
+    // Whether shards are named where the file is standard output, which has none beside it.
+    fn has_shards_to_join(&self) -> bool {
+        match self.names.first() {
+            Some(file) => *file != "-" || self.names.len() > 1,
+            None => false,
+        }
     }
 }
 
@@ -121,12 +133,14 @@ fn task_named(word: &str) -> Option<Task> {
         "split" => Some(Task::Split),
         "join" => Some(Task::Join),
         "verify" => Some(Task::Verify),
+        "repair" => Some(Task::Repair),
+        "info" => Some(Task::Info),
         _ => None,
     }
 }
 
 // Sets a count that was not set before, and says that its word was taken.
-fn set_count(count: &mut u8, word: &str) -> Option<bool> {
+fn set_count(count: &mut u32, word: &str) -> Option<bool> {
     if *count != 0 {
         return None;
     }

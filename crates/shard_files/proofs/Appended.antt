@@ -1,0 +1,48 @@
+-- Files to which bytes are added one after the other.
+use Rattle.std.proofs.Common.{◌≡◌, ◌≢◌, ◌⊎◌, inl, inr, ℕ, ◌+◌, ◌<◌, ◌≤◌, List, [], ◌++◌, None, Some, refl, sym, ◌∙◌, ap, subst, append_assoc, arith}
+use Rattle.std.specs.Prelude.{Option}
+use Rattle.std.specs.Io.KnownBytes.{Appends}
+use Rattle.std.proofs.lemmas.Bool.{cases_lt}
+use Rattle.shard_files.specs.Files.{IsAppended}
+
+-- to each file below a number its bytes were added, and the others are as they were
+pub record AppendsBelow (count : ℕ) (bytes : ℕ → List ℕ) (before after : ℕ → List ℕ) : Type 0 where
+  pub grown : (index : ℕ) → index < count → after index ≡ before index ++ bytes index
+  pub others : (index : ℕ) → count ≤ index → after index ≡ before index
+
+pub appends_none : (bytes before : ℕ → List ℕ) → AppendsBelow 0 bytes before before
+appends_none bytes before = record { grown = λ index below. absurd (omega (arith, below)); others = λ index above. refl }
+
+pub appends_more : (count : ℕ) (bytes before now next : ℕ → List ℕ) → AppendsBelow count bytes before now
+    → IsAppended count (bytes count) now next → AppendsBelow (count + 1) bytes before next
+appends_more count bytes before now next so_far one =
+    record { grown = grown; others = others }
+  where
+    grown : (index : ℕ) → index < count + 1 → next index ≡ before index ++ bytes index
+    grown index below =
+        elim (cases_lt index count) [
+          | inl less ↦ one.others index (omega (arith, less)) ∙ so_far.grown index less
+          | inr more ↦
+              let same : count ≡ index = omega (arith, more, below) in
+              subst (λ (n : ℕ). next n ≡ before n ++ bytes n) same
+              (one.grown ∙ ap (λ (l : List ℕ). l ++ bytes count) (so_far.others count (omega arith)))
+        ]
+
+    others : (index : ℕ) → count + 1 ≤ index → next index ≡ before index
+    others index above = one.others index (omega (arith, above)) ∙ so_far.others index (omega (arith, above))
+
+-- bytes that are added in two parts
+pub appended_twice : (index : ℕ) (one two : List ℕ) (before now next : ℕ → List ℕ) → IsAppended index one before now
+    → IsAppended index two now next → IsAppended index (one ++ two) before next
+appended_twice index one two before now next first second =
+    record {
+      grown = second.grown ∙ ap (λ (l : List ℕ). l ++ two) first.grown ∙ append_assoc (before index) one two;
+      others = λ other apart. second.others other apart ∙ first.others other apart;
+    }
+
+same_list : (a b : List ℕ) → Some a ≡ Some b → a ≡ b
+same_list a b same = cc
+
+-- what was added to no bytes is all that there is
+pub added_to_none : (now bytes : List ℕ) → Appends (Some []) (Some now) bytes → now ≡ bytes
+added_to_none now bytes added = added

@@ -1,0 +1,11 @@
+mod Appended
+mod Groups
+mod Heads
+mod Joined
+mod Lost
+mod Pieces
+mod Positions
+mod Restores
+mod Returns
+mod Splits
+mod Written

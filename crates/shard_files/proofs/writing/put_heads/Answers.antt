@@ -1,0 +1,21 @@
+use Rattle.std.proofs.Common.{arith}
+use Rattle.shard_files.specs.Groups.{numbered}
+use Rattle.shard_files.specs.Heads.{head_file}
+use Rattle.shard_files.proofs.Appended.{appends_more, appends_none}
+use Rattle.shard_files.proofs.writing.put_heads.Goals as goal
+
+pub loop-index-init : goal.loop-index-init
+loop-index-init g c = λ before held. (before, held, appends_none (λ index. head_file (numbered c.args.origin.now index)) before)
+
+pub loop-index-preserved : goal.loop-index-preserved
+loop-index-preserved g c =
+    λ before held.
+    let old = c.loop-index.invariant before held in
+    let put = c.in_ok-put_head.ensures old.0 old.1 in
+    (put.0, put.1, appends_more c.loop-index.index (λ index. head_file (numbered c.args.origin.now index)) before old.0 put.0 old.2 put.2)
+
+pub returns : goal.returns
+returns g c =
+    λ before held.
+    let all = c.loop-index.invariant before held in
+    (all.0, all.1, λ index below. all.2.grown index (omega (arith, below, c.loop-index-test.false, c.total-index-end.ensures)))

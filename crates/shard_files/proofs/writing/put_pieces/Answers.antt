@@ -1,0 +1,32 @@
+use Rattle.std.proofs.Common.{ℕ, List, ap, subst, arith}
+use Rattle.shard_files.specs.Files.{IsAppended}
+use Rattle.shard_files.specs.Groups.{numbered, shard_at}
+use Rattle.shard_files.specs.Heads.{head_digest}
+use Rattle.shard_files.specs.Pieces.{piece_bytes}
+use Rattle.shard_files.proofs.Appended.{appends_more, appends_none}
+use Rattle.shard_files.proofs.writing.put_pieces.Goals as goal
+
+pub loop-index-init : goal.loop-index-init
+loop-index-init g c =
+    λ before held.
+    let origin = c.args.origin.now in
+    let bytes : ℕ → List ℕ = λ index. piece_bytes (head_digest (numbered origin index)) c.args.stripe (shard_at origin.size c.args.shards.now index) in
+    (before, held, appends_none bytes before)
+
+pub loop-index-preserved : goal.loop-index-preserved
+loop-index-preserved g c =
+    λ before held.
+    let origin = c.args.origin.now in
+    let index = c.loop-index.index in
+    let bytes : ℕ → List ℕ = λ n. piece_bytes (head_digest (numbered origin n)) c.args.stripe (shard_at origin.size c.args.shards.now n) in
+    let old = c.loop-index.invariant before held in
+    let put = c.in_ok-put_piece.ensures old.0 old.1 in
+    let added =
+    subst (λ (shard : List ℕ). IsAppended index (piece_bytes (head_digest (numbered origin index)) c.args.stripe shard) old.0 put.0) c.shard_of.ensures put.2 in
+    (put.0, put.1, appends_more index bytes before old.0 put.0 old.2 added)
+
+pub returns : goal.returns
+returns g c =
+    λ before held.
+    let all = c.loop-index.invariant before held in
+    (all.0, all.1, λ index below. all.2.grown index (omega (arith, below, c.loop-index-test.false, c.total-index-end.ensures)))

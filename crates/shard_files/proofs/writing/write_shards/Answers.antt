@@ -1,0 +1,60 @@
+use Rattle.std.proofs.Common.{◌≡◌, ◌<◌, List, ℕ, [], ◌∷◌, ◌++◌, sym, ◌∙◌, ap, append_assoc, arith, rules}
+use Rattle.std.proofs.KnownBytes.{Consumes-nil, Consumes-trans}
+use Rattle.shard_files.specs.Files.{shard_file}
+use Rattle.shard_files.specs.Groups.{numbered}
+use Rattle.shard_files.specs.Stripes.{stripe_total}
+use Rattle.shard_files.proofs.Written.{file_more, file_none, piece_of, split_all, split_more, split_none}
+use Rattle.shard_files.proofs.writing.write_shards.Goals as goal
+
+pub loop-stripe-init : goal.loop-stripe-init
+loop-stripe-init g c =
+    let origin = c.args.origin in (
+      [],
+      [],
+      Consumes-nil (g.R.Read.remaining c.args.reader.now),
+      c.new-hasher.ensures,
+      split_none origin,
+      λ before held.
+          let put = c.in_ok-put_heads.ensures before held in
+          (put.0, put.1, λ index below. put.2 index below ∙ ap (λ (l : List ℕ). before index ++ l) (sym (file_none origin index))),
+    )
+
+pub loop-stripe-preserved : goal.loop-stripe-preserved
+loop-stripe-preserved g c =
+    let origin = c.args.origin in
+    let stripe = c.loop-stripe.stripe in
+    let old = c.loop-stripe.invariant in
+    let wrote = c.in_ok-write_stripe.ensures in
+    let within : stripe < stripe_total origin = omega (arith, c.loop-stripe-test.true, c.stripe_count-stripe-end.ensures) in (
+      old.0 ++ wrote.0,
+      old.1 ++ wrote.1 ∷ [],
+      Consumes-trans (g.R.Read.remaining c.args.reader.now) (g.R.Read.remaining c.loop-stripe.reader) (g.R.Read.remaining c.write_stripe.new.reader)
+          old.0 wrote.0 old.2 wrote.5,
+      wrote.6 old.0 old.3,
+      split_more origin c.requires stripe within old.0 wrote.0 wrote.1 old.1 old.4 wrote.2 wrote.3 wrote.4,
+      λ before held.
+          let so_far = old.5 before held in
+          let put = wrote.7 so_far.0 so_far.1 in (
+            put.0,
+            put.1,
+            λ index below.
+                put.2 index below
+                ∙ ap (λ (l : List ℕ). l ++ piece_of (numbered origin index) stripe wrote.1) (so_far.2 index below)
+                ∙ append_assoc (before index) (shard_file origin old.1 index) (piece_of (numbered origin index) stripe wrote.1)
+                ∙ ap (λ (l : List ℕ). before index ++ l)
+                (sym (file_more origin c.requires stripe within old.0 wrote.0 wrote.1 old.1 old.4 wrote.2 wrote.3 wrote.4 index)),
+          ),
+    )
+
+pub returns : goal.returns
+returns g c =
+    let origin = c.args.origin in
+    let done = c.loop-stripe.invariant in
+    let same : c.finalize.result ≡ origin.identity = search rules in (
+      done.0,
+      done.1,
+      split_all origin c.requires done.0 done.1 c.loop-stripe.stripe (omega (arith, c.loop-stripe-test.false, c.stripe_count-stripe-end.ensures))
+          (omega (arith, c.loop-stripe.auto.stripe-end, c.stripe_count-stripe-end.ensures)) done.4 (sym (c.finalize.ensures done.0 done.3) ∙ same),
+      done.2,
+      done.5,
+    )

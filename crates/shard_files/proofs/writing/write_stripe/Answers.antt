@@ -1,0 +1,30 @@
+use Rattle.std.proofs.Common.{◌≡◌, ◌++◌, ℕ, List, ◌∙◌, subst}
+use Rattle.sha2.specs.Hashers.{Holds256}
+use Rattle.shard_files.specs.Groups.{numbered, shard_at}
+use Rattle.shard_files.specs.Heads.{head_digest}
+use Rattle.shard_files.specs.Pieces.{piece_bytes}
+use Rattle.shard_files.specs.Splits.{IsSplit}
+use Rattle.shard_files.specs.Stripes.{shard_total}
+use Rattle.shard_files.proofs.writing.write_stripe.Goals as goal
+
+pub returns : goal.returns
+returns g c =
+    let origin = c.args.origin.now in
+    let content = c.in_ok-content.content.items in
+    let shards = c.in_ok-shards.shards.items in (
+      content,
+      shards,
+      subst (λ (l : List ℕ). IsSplit origin.data_shards (shard_total origin) l shards) c.as_slice-2.ensures.value c.in_ok-shards.ensures.split,
+      c.in_ok-shards.ensures.long,
+      c.in_ok-content.ensures.0 ∙ c.stripe_length.ensures,
+      c.in_ok-content.ensures.1,
+      λ before held. subst (λ (l : List ℕ). Holds256 c.update.new.self (before ++ l)) c.as_slice.ensures.value (c.update.ensures before held),
+      λ before held.
+          let put = c.in_ok-put_pieces.ensures before held in (
+            put.0,
+            put.1,
+            λ index below.
+                subst (λ (l : List ℕ). put.0 index ≡ before index ++ piece_bytes (head_digest (numbered origin index)) c.args.stripe (shard_at origin.size l index))
+                c.as_slice-3.ensures.value (put.2 index below),
+          ),
+    )

@@ -1,0 +1,37 @@
+-- The stripes of a file: as many bytes of it as the shards of data have bytes in one stripe, and in the last what is left.
+use Rattle.std.specs.Prelude.{◌≡◌, ℕ, ◌+◌, ◌-◌, ◌*◌, ◌/◌, ◌^◌, ◌<◌, ◌≤◌, min, List, take, drop}
+use Rattle.shard_files.specs.declared.head.Origin.{Origin}
+
+-- how many shards a file has
+abbrev pub shard_total : Origin → ℕ
+shard_total origin = origin.data_shards + origin.parity_shards
+
+-- a code has so many shards, and positions in a shard's file are numbers of 64 bits
+pub record IsPossible (origin : Origin) : Type 0 where
+  pub code_is : origin.code ≡ 1
+  pub some_data : 0 < origin.data_shards
+  pub some_parity : 0 < origin.parity_shards
+  pub few : origin.data_shards + origin.parity_shards ≤ 256
+  pub some_size : 0 < origin.size
+  pub small_size : origin.size ≤ 2 ^ 24
+  pub small_length : origin.length ≤ 2 ^ 56
+
+-- how many bytes of the file a stripe has
+abbrev pub stripe_width : Origin → ℕ
+stripe_width origin = origin.data_shards * origin.size
+
+-- how many stripes there are
+abbrev pub stripe_total : Origin → ℕ
+stripe_total origin = (origin.length + (stripe_width origin - 1)) / stripe_width origin
+
+-- how many bytes of the file stripe `stripe` has
+abbrev pub stripe_length : Origin → ℕ → ℕ
+stripe_length origin stripe = min (stripe_width origin) (origin.length - stripe * stripe_width origin)
+
+-- the bytes of the file in a stripe
+abbrev pub stripe_content : Origin → ℕ → List ℕ → List ℕ
+stripe_content origin stripe content = take (stripe_width origin) (drop (stripe * stripe_width origin) content)
+
+-- where the piece of a stripe begins in a shard's file: behind the head of 104 bytes and the pieces before it, each with a digest of 32
+abbrev pub piece_start : Origin → ℕ → ℕ
+piece_start origin stripe = 104 + stripe * (32 + origin.size)

@@ -1,0 +1,66 @@
+// Why shards are not written or a file is not restored.
+use std::io;
+use thiserror::Error;
+
+/// Why a file is not restored.
+#[derive(Clone, Copy, Debug, PartialEq, Eq, Error)]
+pub enum JoinError {
+    /// No code has so many shards, or the lengths are greater than they may be.
+    #[error("no code has so many shards")]
+    Counts,
+    /// Fewer shards are at hand in a stripe than the data have.
+    #[error("too few shards are whole")]
+    TooFew,
+    /// What the shards give is not the file whose identity their heads name.
+    #[error("the shards give other bytes than those of the file that their heads name")]
+    OtherBytes,
+    /// Memory was refused.
+    #[error("out of memory")]
+    Memory,
+    /// The bytes could not be written.
+    #[error("its bytes cannot be written")]
+    CannotWrite,
+}
+
+/// Why the shards of a file are not written.
+#[derive(Debug, Drop, Error)]
+pub enum SplitError {
+    /// No code has so many shards.
+    #[error("no code has so many shards")]
+    Counts,
+    /// Memory was refused.
+    #[error("out of memory")]
+    Memory,
+    /// The file has not the bytes that it had when its identity was computed.
+    #[error("it was changed while it was read")]
+    Changed,
+    /// The file could not be read.
+    #[error("it cannot be read: {0}")]
+    CannotRead(io::Error),
+    /// The file of a shard could not be written.
+    #[error("{0}")]
+    CannotWrite(io::Error),
+}
+
+/// Why shards of a file are not written again.
+#[derive(Debug, Drop, Error)]
+pub enum RepairError {
+    /// They are not restored.
+    #[error("{0}")]
+    Join(JoinError),
+    /// They are not written.
+    #[error("{0}")]
+    Split(SplitError),
+}
+
+impl From<JoinError> for RepairError {
+    fn from(error: JoinError) -> RepairError {
+        RepairError::Join(error)
+    }
+}
+
+impl From<SplitError> for RepairError {
+    fn from(error: SplitError) -> RepairError {
+        RepairError::Split(error)
+    }
+}

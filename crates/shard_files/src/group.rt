@@ -1,0 +1,225 @@
+// The shards of a file in one stripe: put to their places by what heads say, restored, and looked at.
+ghost use Rattle.std.specs.Prelude.{◌≡◌, ℕ, List, ◌+◌, ◌*◌, ◌/◌, ◌<◌, ◌≤◌, ◌↔◌, drop, take, length, false, replicate, slice_index_or, IsOk, IsTrue, IfErr, IfOk};
+ghost use Rattle.reed_solomon.specs.Shards.{AreCodewords, present_count};
+ghost use Rattle.reed_solomon.specs.Sizes.{HasShardSize};
+ghost use Rattle.shard_files.specs.declared.error.JoinError.TheVariants.{Memory};
+ghost use Rattle.shard_files.specs.Groups.{AreOf, HasEnough, Puts, shard_at, Takes};
+ghost use Rattle.shard_files.specs.Pieces.{piece_bytes};
+ghost use Rattle.shard_files.specs.Heads.{head_digest, IsOrigin};
+ghost use Rattle.shard_files.specs.Stripes.{IsPossible, shard_total};
+
+use crate::error::JoinError;
+use crate::head::{Head, Origin};
+use crate::piece::{DIGEST, is_piece};
+use crate::split::join;
+use reed_solomon::ReedSolomon;
+use std::alloc::{AllocError, Global};
+
+/// The shards of a file in one stripe, as far as they are at hand.
+#[derive(Drop)]
+pub struct Group {
+    pub(crate) origin: Origin,
+    pub(crate) shards: Vec<u8>,
+    pub(crate) present: Vec<bool>,
+    ghost possible: { IsPossible origin },
+    ghost whole: { length shards.items ≡ (origin.data_shards + origin.parity_shards) * origin.size },
+    ghost flags: { length present.items ≡ origin.data_shards + origin.parity_shards },
+    ghost fits: { IsOrigin origin },
+}
+
+impl Group {
+    /// No shard of the stripe is at hand yet.
+    pub fn new(alloc: Global, origin: Origin) -> Result<Group, JoinError>
+        ensures of { IfOk result (λ group. group.origin ≡ origin) }
+        ensures refused { IfErr result (λ error. IsPossible origin → error ≡ Memory) }
+        ensures empty { IfOk result (λ group. (index : ℕ) → slice_index_or group.present.items index false ≡ false) }
+    {
+        if !origin.is_possible() {
+            return Err(JoinError::Counts);
+        }
+        let total = origin.total();
+        let shards = match zeros(alloc, total, origin.size as usize) {
+            Ok(shards) => shards,
+            Err(_) => return Err(JoinError::Memory),
+        };
+        let present = match absent(alloc, total) {
+            Ok(present) => present,
+            Err(_) => return Err(JoinError::Memory),
+        };
+        Ok(Group {
+            origin,
+            shards,
+            present,
+        })
+    }
+
+    /// Takes the shard that a head and a piece of the stripe were written of, if it is one of these and none of its number is at hand.
+    pub fn take(&mut self, head: &[u8], stripe: u64, piece: &[u8])
+        ensures kept { self.new.origin ≡ self.old.origin }
+        ensures taken { Takes self.old.origin (AreOf self.old.origin stripe head.now piece.now)
+            self.old.shards.items self.old.present.items self.new.shards.items self.new.present.items }
+    {
+        match Head::of_bytes(head) {
+            Some(read) => {
+                if read.origin.is_same(&self.origin) {
+                    self.take_piece(&read, stripe, piece);
+                }
+            }
+            None => {}
+        }
+    }
+
+    // Takes a shard by its head, which is of these, and its piece, if that is one and none of its number is at hand.
+    fn take_piece(&mut self, head: &Head, stripe: u64, piece: &[u8])
+        requires { head.now.origin ≡ self.old.origin }
+        ensures kept { self.new.origin ≡ self.old.origin }
+        ensures taken { Takes self.old.origin
+            (λ index shard. (head.now.index ≡ index) × (piece.now ≡ piece_bytes (head_digest head.now) stripe shard))
+            self.old.shards.items self.old.present.items self.new.shards.items self.new.present.items }
+    {
+        if is_piece(&head.digest(), stripe, piece) {
+            self.put(head.index as usize, rest_of(piece));
+        }
+    }
+
+    // Puts a shard to its place, if it has the size of these and none of its number is at hand.
+    fn put(&mut self, index: usize, shard: &[u8])
+        ensures kept { self.new.origin ≡ self.old.origin }
+        ensures put { Puts (shard_total self.old.origin) self.old.origin.size index shard.now
+            self.old.shards.items self.old.present.items self.new.shards.items self.new.present.items }
+    {
+        let size = self.origin.size as usize;
+        if index < self.present.len() && shard.len() == size && !self.present[index] {
+            let begin = index * size;
+            self.shards.as_mut_slice()[begin..begin + size].copy_from_slice(shard);
+            self.present[index] = true;
+        }
+    }
+
+    /// What the heads of these shards say.
+    pub fn origin(&self) -> Origin
+        ensures { result ≡ self.now.origin }
+    {
+        self.origin
+    }
+
+    /// Whether the shard of a number is at hand.
+    pub fn has(&self, index: usize) -> bool
+        ensures { result ≡ slice_index_or self.now.present.items index false }
+    {
+        index < self.present.len() && self.present[index]
+    }
+
+    /// How many shards are at hand.
+    pub fn count(&self) -> usize
+        ensures { result ≡ present_count self.now.present.items }
+    {
+        self.present
+            .iter()
+            .filter(|is_present| **is_present)
+            .count()
+    }
+
+    /// The bytes of a shard in the stripe.
+    pub fn shard(&self, index: usize) -> &[u8]
+        requires { index < shard_total self.now.origin }
+        ensures { result.now ≡ shard_at self.now.origin.size self.now.shards.items index }
+    {
+        let size = self.origin.size as usize;
+        let begin = index * size;
+        &self.shards.as_slice()[begin..begin + size]
+    }
+
+    /// Restores the missing shards. It fails where fewer are at hand than the data have.
+    pub fn restore(&mut self) -> Result<(), JoinError>
+        ensures kept { (self.new.origin ≡ self.old.origin) × (self.new.present ≡ self.old.present) }
+        ensures restored { (content whole : List ℕ) → HasEnough self.old.origin content whole self.old.shards.items self.old.present.items
+            → IsOk result × (self.new.shards.items ≡ whole) }
+    {
+        if self.count() < self.origin.data_shards as usize {
+            return Err(JoinError::TooFew);
+        }
+        if !self.join_shards() {
+            return Err(JoinError::Counts);
+        }
+        Ok(())
+    }
+
+    // Restores the missing shards from those at hand, and says whether they are enough.
+    fn join_shards(&mut self) -> bool
+        ensures kept { (self.new.origin ≡ self.old.origin) × (self.new.present ≡ self.old.present) }
+        ensures joined { (content whole : List ℕ) → HasEnough self.old.origin content whole self.old.shards.items self.old.present.items
+            → IsTrue result × (self.new.shards.items ≡ whole) }
+    {
+        match join(
+            self.origin.data_shards as usize,
+            self.origin.parity_shards as usize,
+            self.shards.as_mut_slice(),
+            self.present.as_slice(),
+        ) {
+            Ok(()) => true,
+            Err(_) => false,
+        }
+    }
+
+    /// The first bytes of the stripe: its bytes of the file, once the shards are restored.
+    pub fn content(&self, length: usize) -> &[u8]
+        requires { length ≤ shard_total self.now.origin * self.now.origin.size }
+        ensures { result.now ≡ take length self.now.shards.items }
+    {
+        &self.shards.as_slice()[..length]
+    }
+
+    /// Whether the parity is that of the data.
+    pub fn has_parity(&self) -> bool
+        ensures { IsTrue result
+            ↔ AreCodewords self.now.origin.data_shards (shard_total self.now.origin) self.now.origin.size self.now.shards.items }
+    {
+        match ReedSolomon::new(
+            self.origin.data_shards as usize,
+            self.origin.parity_shards as usize,
+        ) {
+            Ok(code) => are_code_words(&code, self.shards.as_slice()),
+            Err(_) => false,
+        }
+    }
+}
+
+// What stands behind the digest of a piece.
+fn rest_of(piece: &[u8]) -> &[u8]
+    ensures { result.now ≡ drop 32 piece.now }
+{
+    if piece.len() < DIGEST {
+        &[]
+    } else {
+        &piece[DIGEST..]
+    }
+}
+
+// Whether shards have one size, and their parity is that of the data.
+fn are_code_words(code: &ReedSolomon, shards: &[u8]) -> bool
+    ensures { let total = code.now.data_shards + code.now.parity_shards in IsTrue result ↔ (HasShardSize total (length shards.now)
+        × AreCodewords code.now.data_shards total (length shards.now / total) shards.now) }
+{
+    match code.verify(shards) {
+        Ok(are_all) => are_all,
+        Err(_) => false,
+    }
+}
+
+// Flags of so many shards, none of which is at hand.
+fn absent(alloc: Global, total: usize) -> Result<Vec<bool>, AllocError>
+    ensures { IfOk result (λ flags. flags.items ≡ replicate total false) }
+{
+    vec![in alloc; false; total]
+}
+
+// So many zeros as so many shards have bytes.
+pub(crate) fn zeros(alloc: Global, total: usize, size: usize) -> Result<Vec<u8>, AllocError>
+    ensures { IfOk result (λ bytes. length bytes.items ≡ total * size) }
+{
+    match total.checked_mul(size) {
+        Some(length) => vec![in alloc; 0u8; length],
+        None => Err(AllocError),
+    }
+}

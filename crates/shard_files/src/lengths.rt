@@ -1,0 +1,125 @@
+// The stripes of a file: where their bytes begin, and how many they are.
+ghost use Rattle.std.specs.Prelude.{◌≡◌, ◌+◌, ◌-◌, ◌*◌, ◌/◌, ◌<◌, ◌≤◌, ◌↔◌, ◌^◌, IsTrue};
+ghost use Rattle.shard_files.specs.Stripes.{IsPossible, piece_start, shard_total, stripe_length, stripe_total, stripe_width};
+
+use crate::head::{HEAD, Origin};
+use crate::piece::DIGEST;
+
+/// How many bytes of a file's shards, all together, a stripe has at most, where each has at least one.
+const STRIPE: u64 = 1 << 24;
+
+impl Origin {
+    /// What the heads of the shards of a file say, of so many bytes and of this identity, by the code of the crate `reed_solomon`. A stripe
+    /// of all shards has at most 16 MiB, and the stripes are as long as one another.
+    pub fn of_file(data_shards: u32, parity_shards: u32, length: u64, identity: [u8; 32]) -> Origin
+        ensures counts { (result.code ≡ 1) × (result.data_shards ≡ data_shards) × (result.parity_shards ≡ parity_shards) }
+        ensures named { (result.length ≡ length) × (result.identity ≡ identity) }
+    {
+        let data = data_shards as u64;
+        Origin {
+            code: 1,
+            data_shards,
+            parity_shards,
+            length,
+            size: shard_size(data, data + parity_shards as u64, length),
+            identity,
+        }
+    }
+
+    /// Whether a code has so many shards, from 2 to 256, a shard has from 1 to 2^24 bytes of a stripe, and the file at most 2^56.
+    pub fn is_possible(&self) -> bool
+        ensures { IsTrue result ↔ IsPossible self.now }
+    {
+        self.has_counts() && self.has_lengths()
+    }
+
+    // Whether a code has so many shards.
+    fn has_counts(&self) -> bool
+        ensures { IsTrue result ↔ ((self.now.code ≡ 1) × (0 < self.now.data_shards) × (0 < self.now.parity_shards)
+            × (self.now.data_shards + self.now.parity_shards ≤ 256)) }
+    {
+        self.code == 1
+            && self.data_shards > 0
+            && self.parity_shards > 0
+            && self.data_shards as u64 + self.parity_shards as u64 <= 256
+    }
+
+    // Whether the lengths are no more than they may be.
+    fn has_lengths(&self) -> bool
+        ensures { IsTrue result ↔ ((0 < self.now.size) × (self.now.size ≤ 2 ^ 24) × (self.now.length ≤ 2 ^ 56)) }
+    {
+        self.size > 0 && self.size <= 1 << 24 && self.length <= 1 << 56
+    }
+
+    /// How many shards there are.
+    pub fn total(&self) -> usize
+        ensures { result ≡ shard_total self.now }
+    {
+        self.data_shards as usize + self.parity_shards as usize
+    }
+
+    /// How many bytes of the file a stripe has.
+    pub fn width(&self) -> u64
+        requires { IsPossible self.now }
+        ensures { result ≡ stripe_width self.now }
+    {
+        self.data_shards as u64 * self.size
+    }
+
+    /// How many stripes there are.
+    pub fn stripe_count(&self) -> u64
+        requires { IsPossible self.now }
+        ensures { result ≡ stripe_total self.now }
+    {
+        let width = self.width();
+        (self.length + (width - 1)) / width
+    }
+
+    /// How many bytes of the file a stripe has, of which the last may have fewer.
+    pub fn stripe_length(&self, stripe: u64) -> usize
+        requires possible { IsPossible self.now }
+        requires within { stripe < stripe_total self.now }
+        ensures { result ≡ stripe_length self.now stripe }
+    {
+        let width = self.width();
+        let left = self.length - stripe * width;
+        if left < width {
+            left as usize
+        } else {
+            width as usize
+        }
+    }
+
+    /// Where the piece of a stripe begins in a shard's file.
+    pub fn piece_start(&self, stripe: u64) -> u64
+        requires possible { IsPossible self.now }
+        requires within { stripe < stripe_total self.now }
+        ensures { result ≡ piece_start self.now stripe }
+    {
+        HEAD as u64 + stripe * (DIGEST as u64 + self.size)
+    }
+
+    /// How many bytes the file of a shard has.
+    pub fn file_length(&self) -> u64
+        requires { IsPossible self.now }
+        ensures { result ≡ piece_start self.now (stripe_total self.now) }
+    {
+        HEAD as u64 + self.stripe_count() * (DIGEST as u64 + self.size)
+    }
+}
+
+// How many bytes each shard has of a stripe, where the file has as few stripes as go, all as long as one another.
+fn shard_size(data: u64, total: u64, length: u64) -> u64 {
+    let most = parts(STRIPE, total).clamp(1, STRIPE);
+    let stripes = parts(length, most.saturating_mul(data));
+    parts(length, stripes.saturating_mul(data)).clamp(1, STRIPE)
+}
+
+// How many parts of so many bytes hold all of them, of which the last may be shorter.
+fn parts(length: u64, each: u64) -> u64 {
+    if each == 0 || length == 0 {
+        1
+    } else {
+        (length - 1) / each + 1
+    }
+}

@@ -1,0 +1,21 @@
+//! The shards of a file: what the files that hold them are, stripe by stripe, and how they are written, read and restored.
+#![tactic(auto)]
+
+mod error;
+mod group;
+mod head;
+mod laws;
+mod lengths;
+mod piece;
+mod reading;
+mod repairing;
+mod split;
+mod writing;
+
+pub use crate::error::{JoinError, RepairError, SplitError};
+pub use crate::group::Group;
+pub use crate::head::{HEAD, Head, Origin, older_format};
+pub use crate::laws::shards_return;
+pub use crate::reading::{ShardSource, gather, restored, write_content};
+pub use crate::repairing::repair_shards;
+pub use crate::writing::{ShardFiles, put_head, put_piece, write_shards};

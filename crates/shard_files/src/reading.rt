@@ -1,0 +1,168 @@
+// The shards of a file from the files that have them, stripe by stripe, and the file from its shards.
+ghost use Rattle.std.specs.Prelude.{◌≡◌, ◌⊎◌, ℕ, List, ◌+◌, ◌*◌, ◌<◌, ◌≤◌, ◌++◌, length, false, take, None, Some, IfErr, IfOk, IsTrue, OnOk};
+ghost use Rattle.std.specs.Io.KnownBytes.{Appends};
+ghost use Rattle.sha2.specs.Hashers.{Holds256};
+ghost use Rattle.sha2.specs.Sha256.{sha256};
+ghost use Rattle.shard_files.specs.declared.error.JoinError.TheVariants.{CannotWrite, Memory};
+ghost use Rattle.shard_files.specs.Groups.{GivesPiece, GivesFile, GivesStripe, Holdings, IsGathered, numbered, Takes};
+ghost use Rattle.shard_files.specs.Stripes.{IsPossible, piece_start, shard_total, stripe_length, stripe_total};
+
+use crate::error::JoinError;
+use crate::group::{Group, zeros};
+use crate::head::{HEAD, Origin};
+use crate::piece::DIGEST;
+use sha2::{Digest, Sha256};
+use std::alloc::Global;
+use std::io::Write;
+
+/// Files in which shards may stand.
+pub trait ShardSource {
+    // What reading in these files gives.
+    ghost holds: { Self → Holdings → Type 0 };
+
+    /// How many there are.
+    fn count(&self) -> usize
+        ensures { (files : Holdings) → holds self.now files → result ≡ files.places };
+
+    /// Reads as many bytes as there is room for, from a place on, in one of them, and says whether it could.
+    fn read_at(&mut self, place: usize, start: u64, bytes: &mut [u8]) -> bool
+        ensures kept { (files : Holdings) → holds self.old files → holds self.new files }
+        ensures read { (files : Holdings) → holds self.old files
+            → IsTrue result → files.reads place start (length bytes.old) ≡ Some bytes.new }
+        ensures missed { (files : Holdings) → holds self.old files → result ≡ false → files.reads place start (length bytes.old) ≡ None };
+}
+
+/// The group of all shards of one origin in a stripe that the files give, and of no other file.
+pub fn gather<S: ShardSource>(
+    alloc: Global,
+    source: &mut S,
+    origin: Origin,
+    stripe: u64,
+) -> Result<Group, JoinError>
+    requires { stripe < stripe_total origin }
+    ensures of { IfOk result (λ group. group.origin ≡ origin) }
+    ensures refused { IfErr result (λ error. IsPossible origin → error ≡ Memory) }
+    ensures kept { (files : Holdings) → S.holds source.old files → S.holds source.new files }
+    ensures gathered { (files : Holdings) → S.holds source.old files
+        → IfOk result (λ group. IsGathered origin files stripe files.places group.shards.items group.present.items) }
+{
+    let mut group = Group::new(alloc, origin)?;
+    let mut piece = match zeros(alloc, 1, DIGEST + origin.size as usize) {
+        Ok(piece) => piece,
+        Err(_) => return Err(JoinError::Memory),
+    };
+    for place in 0..source.count() {
+        take_next(source, place, stripe, &mut group, piece.as_mut_slice());
+    }
+    Ok(group)
+}
+
+// Takes the shard of one of the files, if it is one of the group.
+fn take_next<S: ShardSource>(
+    source: &mut S,
+    place: usize,
+    stripe: u64,
+    group: &mut Group,
+    piece: &mut [u8],
+)
+    requires within { stripe < stripe_total group.old.origin }
+    requires room { length piece.old ≡ 32 + group.old.origin.size }
+    ensures of { group.new.origin ≡ group.old.origin }
+    ensures kept { (files : Holdings) → S.holds source.old files → S.holds source.new files }
+    ensures taken { (files : Holdings) → S.holds source.old files
+        → Takes group.old.origin (λ index shard. GivesPiece files place (numbered group.old.origin index) stripe shard)
+        group.old.shards.items group.old.present.items group.new.shards.items group.new.present.items }
+{
+    let start = start_of(group, stripe);
+    let mut head = [0; HEAD];
+    if !source.read_at(place, 0, &mut head) {
+        return;
+    }
+    if !source.read_at(place, start, piece) {
+        return;
+    }
+    group.take(&head, stripe, piece);
+}
+
+// Where the piece of a stripe begins in the files of a group.
+fn start_of(group: &Group, stripe: u64) -> u64
+    requires { stripe < stripe_total group.now.origin }
+    ensures { result ≡ piece_start group.now.origin stripe }
+{
+    group.origin.piece_start(stripe)
+}
+
+/// Writes a file from its shards, stripe by stripe. It fails where what it wrote has not the identity that the origin names.
+pub fn write_content<S: ShardSource, W: Write>(
+    alloc: Global,
+    source: &mut S,
+    origin: Origin,
+    writer: &mut W,
+) -> Result<(), JoinError>
+    requires { IsPossible origin }
+    ensures named { OnOk result ((content : List ℕ) × Appends (W.contents writer.old) (W.contents writer.new) content
+        × (sha256 content ≡ origin.identity) × (length content ≡ origin.length)) }
+    ensures restored { (files : Holdings) (content : List ℕ) (wholes : ℕ → List ℕ) → S.holds source.old files
+        → GivesFile origin files content wholes → OnOk result (Appends (W.contents writer.old) (W.contents writer.new) content) }
+    ensures granted { (files : Holdings) (content : List ℕ) (wholes : ℕ → List ℕ) → S.holds source.old files
+        → GivesFile origin files content wholes → IfErr result (λ error. (error ≡ CannotWrite) ⊎ (error ≡ Memory)) }
+{
+    let mut hasher = Sha256::new();
+    for stripe in 0..origin.stripe_count() {
+        write_stripe(alloc, source, origin, stripe, &mut hasher, writer)?;
+    }
+    if hasher.finalize() != origin.identity {
+        return Err(JoinError::OtherBytes);
+    }
+    Ok(())
+}
+
+// Writes the bytes of a file in one stripe, and adds them to those that are hashed.
+fn write_stripe<S: ShardSource, W: Write>(
+    alloc: Global,
+    source: &mut S,
+    origin: Origin,
+    stripe: u64,
+    hasher: &mut Sha256,
+    writer: &mut W,
+) -> Result<(), JoinError>
+    requires possible { IsPossible origin }
+    requires within { stripe < stripe_total origin }
+    ensures kept { (files : Holdings) → S.holds source.old files → S.holds source.new files }
+    ensures wrote { OnOk result ((bytes : List ℕ) × Appends (W.contents writer.old) (W.contents writer.new) bytes
+        × ((before : List ℕ) → Holds256 hasher.old before → Holds256 hasher.new (before ++ bytes))
+        × (length bytes ≡ stripe_length origin stripe)
+        × ((files : Holdings) (content whole : List ℕ) → S.holds source.old files → GivesStripe origin files stripe content whole
+        → length content ≡ stripe_length origin stripe → bytes ≡ content)) }
+    ensures granted { (files : Holdings) (content whole : List ℕ) → S.holds source.old files → GivesStripe origin files stripe content whole
+        → IfErr result (λ error. (error ≡ CannotWrite) ⊎ (error ≡ Memory)) }
+{
+    let group = restored(alloc, source, origin, stripe)?;
+    let content = group.content(origin.stripe_length(stripe));
+    hasher.update(content);
+    match writer.write_all(content) {
+        Ok(()) => Ok(()),
+        Err(_) => Err(JoinError::CannotWrite),
+    }
+}
+
+/// All shards of a stripe, restored from those that the files give.
+pub fn restored<S: ShardSource>(
+    alloc: Global,
+    source: &mut S,
+    origin: Origin,
+    stripe: u64,
+) -> Result<Group, JoinError>
+    requires within { stripe < stripe_total origin }
+    requires possible { IsPossible origin }
+    ensures of { IfOk result (λ group. group.origin ≡ origin) }
+    ensures kept { (files : Holdings) → S.holds source.old files → S.holds source.new files }
+    ensures restored { (files : Holdings) (content whole : List ℕ) → S.holds source.old files
+        → GivesStripe origin files stripe content whole → IfOk result (λ group. group.shards.items ≡ whole) }
+    ensures granted { (files : Holdings) (content whole : List ℕ) → S.holds source.old files → GivesStripe origin files stripe content whole
+        → IfErr result (λ error. error ≡ Memory) }
+{
+    let mut group = gather(alloc, source, origin, stripe)?;
+    group.restore()?;
+    Ok(group)
+}

@@ -1,0 +1,229 @@
+// The files of the shards of a file, written stripe by stripe.
+ghost use Rattle.std.specs.Prelude.{◌≡◌, ◌≢◌, ℕ, List, ◌+◌, ◌*◌, ◌<◌, ◌≤◌, ◌++◌, ◌^◌, length, IfOk, OnOk};
+ghost use Rattle.std.specs.Io.KnownBytes.{Appends, Consumes};
+ghost use Rattle.sha2.specs.Hashers.{Holds256};
+ghost use Rattle.sha2.specs.Sha256.{sha256};
+ghost use Rattle.shard_files.specs.Files.{AppendsToEach, AreShards, IsAppended, shard_file};
+ghost use Rattle.shard_files.specs.Groups.{numbered, shard_at};
+ghost use Rattle.shard_files.specs.Heads.{head_digest, head_file};
+ghost use Rattle.shard_files.specs.Pieces.{piece_bytes};
+ghost use Rattle.shard_files.specs.Splits.{IsSplit};
+ghost use Rattle.shard_files.specs.Stripes.{IsPossible, shard_total, stripe_length, stripe_total};
+
+use crate::error::SplitError;
+use crate::group::zeros;
+use crate::head::{Head, Origin};
+use crate::piece::digest_of;
+use crate::split::split_into;
+use sha2::{Digest, Sha256};
+use std::alloc::Global;
+use std::io;
+use std::io::{Read, Write};
+
+/// The files of shards, as they are written.
+pub trait ShardFiles {
+    // The file of each number has these bytes so far.
+    ghost holds: { Self → (ℕ → List ℕ) → Type 0 };
+
+    /// Adds bytes at the end of the file of a shard.
+    fn append(&mut self, index: usize, bytes: &[u8]) -> io::Result<()>
+        ensures { (files : ℕ → List ℕ) → holds self.old files
+            → OnOk result ((now : ℕ → List ℕ) × holds self.new now × IsAppended index bytes.now files now) };
+}
+
+/// Splits what a reader gives into shards, and writes the file of each: the head, and behind it a piece of each stripe. It fails where the
+/// reader does not give the bytes that the origin names.
+pub fn write_shards<R: Read, F: ShardFiles>(
+    alloc: Global,
+    origin: Origin,
+    reader: &mut R,
+    files: &mut F,
+) -> Result<(), SplitError>
+    requires { IsPossible origin }
+    ensures { OnOk result ((content : List ℕ) × (wholes : List (List ℕ)) × AreShards origin content wholes
+        × Consumes (R.remaining reader.old) (R.remaining reader.new) content
+        × ((before : ℕ → List ℕ) → F.holds files.old before → (now : ℕ → List ℕ) × F.holds files.new now
+        × AppendsToEach (shard_total origin) (shard_file origin wholes) before now)) }
+{
+    put_heads(alloc, &origin, files)?;
+    let mut hasher = Sha256::new();
+    for stripe in 0..origin.stripe_count() {
+        write_stripe(alloc, &origin, stripe, reader, &mut hasher, files)?;
+    }
+    if hasher.finalize() != origin.identity {
+        return Err(SplitError::Changed);
+    }
+    Ok(())
+}
+
+// Writes the head of each shard.
+fn put_heads<F: ShardFiles>(alloc: Global, origin: &Origin, files: &mut F) -> Result<(), SplitError>
+    requires { IsPossible origin.now }
+    ensures { (before : ℕ → List ℕ) → F.holds files.old before → OnOk result ((now : ℕ → List ℕ) × F.holds files.new now
+        × AppendsToEach (shard_total origin.now) (λ index. head_file (numbered origin.now index)) before now) }
+{
+    for index in 0..origin.total() {
+        put_head(alloc, origin, index, files)?;
+    }
+    Ok(())
+}
+
+/// Writes the head of a shard at the end of its file.
+pub fn put_head<F: ShardFiles>(
+    alloc: Global,
+    origin: &Origin,
+    index: usize,
+    files: &mut F,
+) -> Result<(), SplitError>
+    requires { index < 2 ^ 32 }
+    ensures { (before : ℕ → List ℕ) → F.holds files.old before → OnOk result ((now : ℕ → List ℕ) × F.holds files.new now
+        × IsAppended index (head_file (numbered origin.now index)) before now) }
+{
+    let head = Head {
+        origin: *origin,
+        index: index as u32,
+    };
+    let bytes = bytes_of(alloc, &head)?;
+    append(files, index, bytes.as_slice())?;
+    Ok(())
+}
+
+// The bytes of a head.
+fn bytes_of(alloc: Global, head: &Head) -> Result<Vec<u8>, SplitError>
+    ensures { IfOk result (λ bytes. bytes.items ≡ head_file head.now) }
+{
+    let mut bytes = Vec::new(alloc);
+    match head.write(&mut bytes) {
+        Ok(()) => Ok(bytes),
+        Err(_) => Err(SplitError::Memory),
+    }
+}
+
+// Adds bytes at the end of the file of a shard.
+fn append<F: ShardFiles>(files: &mut F, index: usize, bytes: &[u8]) -> Result<(), SplitError>
+    ensures { (before : ℕ → List ℕ) → F.holds files.old before → OnOk result ((now : ℕ → List ℕ) × F.holds files.new now
+        × IsAppended index bytes.now before now) }
+{
+    match files.append(index, bytes) {
+        Ok(()) => Ok(()),
+        Err(error) => Err(SplitError::CannotWrite(error)),
+    }
+}
+
+// Reads the bytes of a stripe, adds them to those that are hashed, and writes a piece of each shard.
+fn write_stripe<R: Read, F: ShardFiles>(
+    alloc: Global,
+    origin: &Origin,
+    stripe: u64,
+    reader: &mut R,
+    hasher: &mut Sha256,
+    files: &mut F,
+) -> Result<(), SplitError>
+    requires possible { IsPossible origin.now }
+    requires within { stripe < stripe_total origin.now }
+    ensures { OnOk result ((bytes : List ℕ) × (whole : List ℕ) × IsSplit origin.now.data_shards (shard_total origin.now) bytes whole
+        × (length whole ≡ shard_total origin.now * origin.now.size) × (length bytes ≡ stripe_length origin.now stripe)
+        × Consumes (R.remaining reader.old) (R.remaining reader.new) bytes
+        × ((before : List ℕ) → Holds256 hasher.old before → Holds256 hasher.new (before ++ bytes))
+        × ((before : ℕ → List ℕ) → F.holds files.old before → (now : ℕ → List ℕ) × F.holds files.new now
+        × AppendsToEach (shard_total origin.now)
+        (λ index. piece_bytes (head_digest (numbered origin.now index)) stripe (shard_at origin.now.size whole index)) before now)) }
+{
+    let content = read_stripe(alloc, origin.stripe_length(stripe), reader)?;
+    hasher.update(content.as_slice());
+    let shards = split_stripe(alloc, origin, content.as_slice())?;
+    put_pieces(origin, stripe, shards.as_slice(), files)?;
+    Ok(())
+}
+
+// Reads so many bytes.
+fn read_stripe<R: Read>(alloc: Global, count: usize, reader: &mut R) -> Result<Vec<u8>, SplitError>
+    ensures { IfOk result (λ bytes. (length bytes.items ≡ count) × Consumes (R.remaining reader.old) (R.remaining reader.new) bytes.items) }
+{
+    let mut bytes = match zeros(alloc, 1, count) {
+        Ok(bytes) => bytes,
+        Err(_) => return Err(SplitError::Memory),
+    };
+    match reader.read_exact(bytes.as_mut_slice()) {
+        Ok(()) => Ok(bytes),
+        Err(error) => Err(SplitError::CannotRead(error)),
+    }
+}
+
+// All shards of the bytes of a stripe.
+fn split_stripe(alloc: Global, origin: &Origin, content: &[u8]) -> Result<Vec<u8>, SplitError>
+    ensures split { IfOk result (λ shards. IsSplit origin.now.data_shards (shard_total origin.now) content.now shards.items) }
+    ensures long { IfOk result (λ shards. length shards.items ≡ shard_total origin.now * origin.now.size) }
+{
+    let mut shards = match zeros(alloc, origin.total(), origin.size as usize) {
+        Ok(shards) => shards,
+        Err(_) => return Err(SplitError::Memory),
+    };
+    let split = split_into(
+        origin.data_shards as usize,
+        origin.parity_shards as usize,
+        content,
+        shards.as_mut_slice(),
+    );
+    if split.is_err() {
+        return Err(SplitError::Counts);
+    }
+    Ok(shards)
+}
+
+// Writes a piece of each shard.
+fn put_pieces<F: ShardFiles>(
+    origin: &Origin,
+    stripe: u64,
+    shards: &[u8],
+    files: &mut F,
+) -> Result<(), SplitError>
+    requires possible { IsPossible origin.now }
+    requires whole { length shards.now ≡ shard_total origin.now * origin.now.size }
+    ensures { (before : ℕ → List ℕ) → F.holds files.old before → OnOk result ((now : ℕ → List ℕ) × F.holds files.new now
+        × AppendsToEach (shard_total origin.now)
+        (λ index. piece_bytes (head_digest (numbered origin.now index)) stripe (shard_at origin.now.size shards.now index)) before now) }
+{
+    for index in 0..origin.total() {
+        put_piece(
+            origin,
+            stripe,
+            index,
+            shard_of(origin, shards, index),
+            files,
+        )?;
+    }
+    Ok(())
+}
+
+// The bytes of one shard.
+fn shard_of<'a>(origin: &Origin, shards: &'a [u8], index: usize) -> &'a [u8]
+    requires within { index < shard_total origin.now }
+    requires whole { length shards.now ≡ shard_total origin.now * origin.now.size }
+    ensures { result.now ≡ shard_at origin.now.size shards.now index }
+{
+    let size = origin.size as usize;
+    let begin = index * size;
+    &shards[begin..begin + size]
+}
+
+/// Writes the piece of a stripe with these bytes of a shard at the end of its file.
+pub fn put_piece<F: ShardFiles>(
+    origin: &Origin,
+    stripe: u64,
+    index: usize,
+    shard: &[u8],
+    files: &mut F,
+) -> Result<(), SplitError>
+    requires { index < 2 ^ 32 }
+    ensures { (before : ℕ → List ℕ) → F.holds files.old before → OnOk result ((now : ℕ → List ℕ) × F.holds files.new now
+        × IsAppended index (piece_bytes (head_digest (numbered origin.now index)) stripe shard.now) before now) }
+{
+    let head = Head {
+        origin: *origin,
+        index: index as u32,
+    };
+    append(files, index, &digest_of(&head.digest(), stripe, shard))?;
+    append(files, index, shard)?;
+    Ok(())
+}

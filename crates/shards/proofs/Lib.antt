@@ -1,5 +1,0 @@
-mod Groups
-mod Heads
-mod Restores
-mod Splits
-mod Writes

@@ -1,4 +1,0 @@
-pub mod Files
-pub mod Groups
-pub mod Heads
-pub mod Splits

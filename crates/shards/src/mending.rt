@@ -1,0 +1,259 @@
+// Looking at shards, and writing those again that are missing or damaged.
+use crate::beside::{NewFiles, NewShards};
+use crate::faults::{Faults, require_enough, too_few};
+use crate::finding::{Found, find_shards, name_of, paths_of, survey_of};
+use crate::survey::{Finding, Seen};
+use crate::words::Words;
+use anyhow::{Result, bail};
+use sha2::{Digest, Sha256};
+use shard_files::{Origin, gather, repair_shards};
+use std::fs;
+use std::fs::Files;
+use std::process::ExitCode;
+
+/// Says of each shard whether it is whole, and in which stripes it is not. The status is 1 where shards are missing or damaged and enough
+/// are left, and 2 where too few are, or where they are not those of the file.
+pub(crate) fn verify_file<R: Files + AllocGlobal + Print + Eprint>(
+    rt: &R,
+    words: &Words<'_>,
+    file: &str,
+) -> Result<ExitCode> {
+    let found = find_shards(rt, words, file)?;
+    let faults = faults_of(rt, &found)?;
+    tell_runs(rt, &faults, stripes_of(&found.origin()))?;
+    let (total, enough) = (found.origin().total(), found.origin().data_shards);
+    if faults.is_whole() {
+        println!(rt; "all {total} shards are whole")?;
+        return Ok(ExitCode::SUCCESS);
+    }
+    if let Some(stripe) = faults.too_few {
+        let _ = eprintln!(rt;
+            "shards: {file}: too few shards are whole in stripe {stripe}, and {enough} are enough"
+        );
+        return Ok(ExitCode::from(2));
+    }
+    if faults.is_false {
+        let _ = eprintln!(rt;
+            "shards: {file}: the parity is not that of the data, or the data are not those of the file"
+        );
+        return Ok(ExitCode::from(2));
+    }
+    let _ = eprintln!(rt; "shards: {file}: shards are missing or damaged, and enough are left");
+    Ok(ExitCode::FAILURE)
+}
+
+// How many stripes a file has.
+fn stripes_of(origin: &Origin) -> u64 {
+    if origin.is_possible() {
+        origin.stripe_count()
+    } else {
+        0
+    }
+}
+
+// What is wrong with the shards of a file.
+fn faults_of<R: Files + AllocGlobal + Eprint>(rt: &R, found: &Found<'_>) -> Result<Faults> {
+    let origin = found.origin();
+    let mut faults = Faults::new(rt.alloc(), origin);
+    if !origin.is_possible() {
+        bail!("{}: no code has so many shards", found.file)
+    }
+    if origin.stripe_count() == 0 {
+        faults.add_heads(&found.seen.present)?;
+        return Ok(faults);
+    }
+    let mut source = found.source(rt);
+    let mut hasher = Sha256::new();
+    for stripe in 0..origin.stripe_count() {
+        let mut group = gather(rt.alloc(), &mut source, origin, stripe)?;
+        faults.add(stripe, &group)?;
+        if group.count() == origin.total() && !group.has_parity() {
+            faults.is_false = true;
+        }
+        if faults.too_few.is_none() && group.restore().is_ok() {
+            hasher.update(group.content(origin.stripe_length(stripe)));
+        }
+    }
+    if faults.too_few.is_none() && hasher.finalize() != origin.identity {
+        faults.is_false = true;
+    }
+    Ok(faults)
+}
+
+// Tells of each shard in which stripes it is damaged, or that it is in none whole.
+fn tell_runs<R: Print>(rt: &R, faults: &Faults, stripes: u64) -> Result<()> {
+    for index in 0..256 {
+        for run in faults.runs.as_slice() {
+            let (first, last) = (run.first, run.last);
+            if run.index != index {
+                continue;
+            }
+            if first == 0 && last.saturating_add(1) >= stripes {
+                println!(rt; "shard {index} is missing or damaged")?;
+            } else if first == last {
+                println!(rt; "shard {index} is damaged in stripe {first}")?;
+            } else {
+                println!(rt; "shard {index} is damaged in stripes {first} to {last}")?;
+            }
+        }
+    }
+    Ok(())
+}
+
+/// Writes the shards again that are missing or damaged: to FILE.0, FILE.1, .., as they were split.
+pub(crate) fn repair_file<R: Files + AllocGlobal + Print + Eprint>(
+    rt: &R,
+    words: &Words<'_>,
+    file: &str,
+) -> Result<()> {
+    let found = find_shards(rt, words, file)?;
+    require_enough(&found)?;
+    let faults = faults_of(rt, &found)?;
+    if faults.too_few.is_some() {
+        return too_few(&found);
+    }
+    if faults.is_false {
+        bail!("{file}: the parity is not that of the data, or the data are not those of the file")
+    }
+    let mut lost = Vec::new(rt.alloc());
+    for index in 0..found.origin().total() {
+        lost.push(faults.is_lost(index))?;
+    }
+    write_lost(rt, words, &found, lost.as_slice())
+}
+
+// Writes shards of a file.
+fn write_lost<R: Files + AllocGlobal + Print + Eprint>(
+    rt: &R,
+    words: &Words<'_>,
+    found: &Found<'_>,
+    lost: &[bool],
+) -> Result<()> {
+    let file = found.file;
+    let files = NewFiles::new(rt, found.mode(rt)?, true);
+    let base = format!(in rt.alloc(); "{file}")?;
+    let mut new = NewShards::new(rt, files, base, words.is_quiet);
+    let mut count = 0u64;
+    for index in 0..lost.len() {
+        if lost[index] {
+            count = count.saturating_add(1);
+            if !words.is_forced {
+                require_damaged(rt, found, index)?;
+            }
+        }
+    }
+    let work = repair_to(rt, found, lost, &mut new);
+    new.end(work)?;
+    let total = found.origin().total();
+    let _ = println!(rt; "{count} of {total} shards are written again");
+    Ok(())
+}
+
+// Writes shards of a file beside their places.
+fn repair_to<R: Files + AllocGlobal + Eprint>(
+    rt: &R,
+    found: &Found<'_>,
+    lost: &[bool],
+    new: &mut NewShards<'_, R>,
+) -> Result<()> {
+    let (file, origin) = (found.file, found.origin());
+    if !origin.is_possible() || lost.len() != origin.total() {
+        bail!("{file}: no code has so many shards")
+    }
+    let repaired = repair_shards(rt.alloc(), &mut found.source(rt), origin, lost, new);
+    if let Err(error) = repaired {
+        match new.fault() {
+            Some(fault) => return Err(fault),
+            None => bail!("cannot repair the shards of {file}: {error}"),
+        }
+    }
+    new.finish()
+}
+
+// Fails where at the place of a shard that is written again there is what may not be overwritten: a whole shard of another number or
+// of another file, or a file that was not looked at.
+fn require_damaged<R: Files + AllocGlobal>(rt: &R, found: &Found<'_>, index: usize) -> Result<()> {
+    let target = format!(in rt.alloc(); "{}.{index}", found.file)?;
+    if fs::symlink_metadata(rt, target.as_str()).is_err() {
+        return Ok(());
+    }
+    for place in 0..found.paths.len() {
+        if found.paths[place].as_str() == target.as_str() {
+            match found.findings.as_slice().get(place) {
+                Some(Finding::Damaged | Finding::Unread) => return Ok(()),
+                Some(Finding::Shard(of, number)) if *of == found.chosen && *number == index => {
+                    return Ok(());
+                }
+                _ => {}
+            }
+        }
+    }
+    bail!(
+        "{target} is there already, and is not a damaged shard of this number; --force overwrites it"
+    )
+}
+
+/// Says what shards say of themselves: the files that they are of, and the number of each.
+pub(crate) fn tell_file<R: Files + AllocGlobal + Print>(
+    rt: &R,
+    words: &Words<'_>,
+    file: &str,
+) -> Result<()> {
+    let paths = paths_of(rt, words, file)?;
+    let survey = survey_of(rt, paths.as_slice())?;
+    let mut is_told = false;
+    for number in 0..survey.seen.len() {
+        let seen = survey.seen[number];
+        let name = name_of(rt, &seen)?;
+        let is_wanted = match words.identity {
+            Some(begin) => name.as_str().starts_with(begin),
+            None => true,
+        };
+        if is_wanted {
+            is_told = true;
+            tell_seen(rt, name.as_str(), &seen)?;
+            tell_places(rt, paths.as_slice(), survey.findings.as_slice(), number)?;
+        }
+    }
+    if !is_told {
+        bail!("{file}: no shards")
+    }
+    Ok(())
+}
+
+// Tells what the heads of the shards of a file say.
+fn tell_seen<R: Print>(rt: &R, name: &str, seen: &Seen) -> Result<()> {
+    let origin: Origin = seen.origin;
+    let (data, parity) = (origin.data_shards, origin.parity_shards);
+    println!(rt; "file {name}")?;
+    println!(rt;
+        "  {} bytes, format 3, code {}: {data} shards of data and {parity} of parity",
+        origin.length, origin.code
+    )?;
+    if origin.is_possible() {
+        println!(rt;
+            "  {} stripes, {} bytes of each shard in a stripe",
+            origin.stripe_count(),
+            origin.size
+        )?;
+    }
+    println!(rt; "  heads of {} shards were seen", seen.count())?;
+    Ok(())
+}
+
+// Tells the numbers of the shards of a file that were seen.
+fn tell_places<R: Print>(
+    rt: &R,
+    paths: &[String],
+    findings: &[Finding],
+    number: usize,
+) -> Result<()> {
+    for place in 0..paths.len() {
+        if let Some(Finding::Shard(of, index)) = findings.get(place) {
+            if *of == number {
+                println!(rt; "  {}: shard {index}", paths[place].as_str())?;
+            }
+        }
+    }
+    Ok(())
+}
