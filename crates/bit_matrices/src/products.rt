@@ -56,8 +56,8 @@ fn multiply_words(
     requires right { length right.now ≡ inner * words }
     requires shape { length target.old ≡ rows * words }
     ensures shape { length target.new ≡ length target.old }
-    ensures product { IsMatrixProduct (tower_mul 0) rows inner (64 * words) (bit_entry (words_for inner) left.now) (bit_entry words right.now)
-        (bit_entry words target.new) }
+    ensures product { IsMatrixProduct (tower_mul 0) rows inner (64 * words) (bit_entry (words_for inner) left.now)
+        (bit_entry words right.now) (bit_entry words target.new) }
 {
     let mut tables = [0; 2048];
     let len = target.len();
