@@ -1,3 +1,4 @@
+mod BlockLocators
 mod CodeWordPlaces
 mod CodedColumns
 mod ColumnPlaces
@@ -7,4 +8,5 @@ mod LocatorFacts
 mod LostCounts
 mod MendedColumns
 mod RestoredColumns
+mod RowProducts
 mod StripWords

@@ -55,7 +55,7 @@ unfolding lost_count
 lost_count-none zero = refl
 lost_count-none (suc n) = lost_count-none n
 
-lost_count-most : (f : ℕ → Bool) (n : ℕ) → lost_count f n ≤ n
+pub lost_count-most : (f : ℕ → Bool) (n : ℕ) → lost_count f n ≤ n
 unfolding lost_count
 lost_count-most f zero = omega arith
 lost_count-most f (suc n) = most (f n) (lost_count-most f n)

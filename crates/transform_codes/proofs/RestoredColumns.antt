@@ -16,7 +16,7 @@ use Rattle.word_tables.specs.Cantor.{cantor_vector}
 use Rattle.transform_codes.specs.Codes.{IsCodedColumn, shard_symbol, value_at}
 use Rattle.transform_codes.specs.Columns.{AreRowProducts, HoldWordValues}
 use Rattle.transform_codes.specs.Locators.{lost_count}
-use Rattle.transform_codes.specs.Restoring.{AreFactors, ArePoints, FitRestoring, IsAtHand, is_lost, is_missing, missing_locator, word_at}
+use Rattle.transform_codes.specs.Restoring.{AreFactors, FitRestoring, IsAtHand, is_lost, is_missing, missing_locator, word_at}
 use Rattle.transform_codes.specs.Sizes.{CanRebuild}
 use Rattle.additive_transforms.proofs.BlockPoints.{point-joined}
 use Rattle.transform_codes.proofs.CodedColumns.{held}
@@ -163,23 +163,22 @@ module _ {W : Type 0} (number : W → ℕ) (zero : W) (nothing : number zero ≡
 -- ---- what restored columns need
 
 -- a level that has twice as many points as 2 ^ r has more than r bits
-bits_left : (r bits : ℕ) → 2 * 2 ^ r ≤ 2 ^ bits → r + 1 ≤ bits
+pub bits_left : (r bits : ℕ) → 2 * 2 ^ r ≤ 2 ^ bits → r + 1 ≤ bits
 bits_left r bits points =
     elim (cases_lt r bits) [
       | inl below ↦ omega (arith, below)
       | inr past ↦ absurd (omega (arith, points, pow_mono past, pow_pos r))
     ]
 
--- it is there once words were found to be those of shards that can be restored, and the points and factors of twice `count` were set
-pub fits_restoring : {W : Type 0} (number : W → ℕ) (zero : W) (level n k m size r count set old old_parity space words parity_words : ℕ)
-    (present : List Bool) (points factors : List W) (behind : W)
+-- it is there once words were found to be those of shards that can be restored, and the factors were set
+pub fits_restoring : {W : Type 0} (number : W → ℕ) (zero : W) (level n k m size r count old old_parity space words parity_words : ℕ)
+    (present : List Bool) (factors : List W) (behind : W)
     → CanRebuild level r k m old old_parity space present → k ≤ 2 ^ n → 2 ^ n + m ≤ 2 ^ r → r ≤ 16
-    → words ≡ k * size → parity_words ≡ m * size → count ≡ 2 ^ r
-    → ArePoints number zero level points → count < length points → behind ≡ get_or points count zero
-    → AreFactors number zero level k n m present count set factors → set ≡ 2 * 2 ^ r → length factors ≡ set
+    → words ≡ k * size → parity_words ≡ m * size → count ≡ 2 ^ r → number behind ≡ point (2 ^ level) cantor_vector 0 count
+    → AreFactors number zero level k n m present (2 ^ r) (2 * 2 ^ r) factors → length factors ≡ 2 * 2 ^ r
     → FitRestoring number zero level n k m size r present words parity_words behind factors
-fits_restoring number zero level n k m size r count set old old_parity space words parity_words present points factors behind can padded
-    room few whole parity_whole count_is are_points within read are_factors set_is long =
+fits_restoring number zero level n k m size r count old old_parity space words parity_words present factors behind can padded room few whole
+    parity_whole count_is behind_is are_factors long =
     record {
       flags = can.flags;
       whole = whole;
@@ -188,8 +187,7 @@ fits_restoring number zero level n k m size r count set old old_parity space wor
       points = bits_left r (2 ^ level) can.points;
       room = room;
       enough = enough_left k n m present padded (2 ^ r) room (subst (λ (s : ℕ). lost_count (is_missing present) s ≤ m) can.flags can.enough);
-      next = ap number read ∙ are_points count within ∙ ap (point (2 ^ level) cantor_vector 0) count_is;
-      factors_long = long ∙ set_is;
-      all = subst (λ (q : ℕ). AreFactors number zero level k n m present q (2 * 2 ^ r) factors) count_is
-          (subst (λ (s : ℕ). AreFactors number zero level k n m present count s factors) set_is are_factors);
+      next = behind_is ∙ ap (point (2 ^ level) cantor_vector 0) count_is;
+      factors_long = long;
+      all = are_factors;
     }

@@ -10,7 +10,9 @@ ghost use Rattle.transform_codes.specs.declared.error.TransformCodeError.TheVari
 use crate::comparing::are_coded;
 use crate::encoding::encode_columns;
 use crate::error::TransformCodeError;
-use crate::restoring::{restore_strip, set_factors, set_points};
+use crate::locators::set_factors;
+use crate::points::point_of;
+use crate::restoring::restore_strip;
 use crate::strips::{columns_at_once, strip_at};
 use field_base::Unsigned;
 use tower_transforms::StoredBytes;
@@ -156,10 +158,10 @@ impl TransformCode {
     /// Restores the missing shards: shard i, of the data and then of the parity, is missing where `present[i]` is false, no more are than
     /// there are of parity, and what their words are does not matter. The shards become those of the code word that the ones at hand agree
     /// with, by as many bits of a word as the level has; where they agree with none, since a word is wrong, the missing ones become
-    /// anything. The shards at hand stay. What `space` has does not matter: it takes five words for each of `point_count`, and one more of
-    /// each for each further column that is restored at once, up to 32 in all. The level has to have twice as many points. A column takes
-    /// four transforms, and all columns together a product for each of twice `point_count` points and each symbol that is lost. The error
-    /// is the first that applies.
+    /// anything. The shards at hand stay. What `space` has does not matter: it takes five words for each of `point_count`, with which three
+    /// columns are restored at once, and one more of each for each further column, up to 32 in all. The level has to have twice as many
+    /// points. A column takes four transforms, and all columns together some of twice `point_count` points for each power of two below
+    /// that, from 32 on. The error is the first that applies.
     pub fn reconstruct<R: StoredBytes, L: Level<R>>(
         &self,
         space: &mut [R],
@@ -202,11 +204,9 @@ impl TransformCode {
         ensures parity_long { length parity.new ≡ length parity.old }
     {
         let count = self.point_count();
-        let (points, others) = space.split_at_mut(2 * count);
-        let (factors, rest) = others.split_at_mut(2 * count);
-        set_points::<R, L>(points);
-        set_factors::<R, L>(factors, self, present, points, count);
-        let behind = points[count];
+        let (factors, rest) = space.split_at_mut(2 * count);
+        set_factors::<R, L>(factors, rest, self, present);
+        let behind = point_of::<R, L>(count);
         let most = columns_at_once(rest.len(), count);
         let mut start = 0;
         while start < size {
@@ -318,7 +318,7 @@ fn has_points<R: Unsigned, L: Level<R>>(points: usize) -> bool
 }
 
 // 2^levels.
-fn power_of(levels: usize) -> usize
+pub(crate) fn power_of(levels: usize) -> usize
     requires { levels ≤ 16 }
     ensures power { result ≡ 2 ^ levels }
     ensures few { result ≤ 65536 }

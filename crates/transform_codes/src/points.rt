@@ -1,7 +1,8 @@
 // The points at which polynomials have symbols as their values.
-ghost use Rattle.std.specs.Prelude.{◌≡◌, ◌^◌};
+ghost use Rattle.std.specs.Prelude.{◌≡◌, ◌^◌, length};
 ghost use Rattle.ghash_slices.specs.Cantor.{point};
 ghost use Rattle.word_tables.specs.Cantor.{cantor_vector};
+ghost use Rattle.transform_codes.specs.Restoring.{ArePoints};
 
 use field_base::{FieldKernel, LevelKernel, Unsigned};
 use word_tower::{Level, Tower};
@@ -19,4 +20,14 @@ pub(crate) fn point_of<R: Unsigned, L: Level<R>>(p: usize) -> R
         rest /= 2;
     }
     sum
+}
+
+// Sets word p to point p.
+pub(crate) fn set_points<R: Unsigned, L: Level<R>>(points: &mut [R])
+    ensures long { length points.new ≡ length points.old }
+    ensures points { ArePoints R.number R.ZERO L.LEVEL points.new }
+{
+    for p in 0..points.len() {
+        points[p] = point_of::<R, L>(p);
+    }
 }

@@ -1,25 +1,23 @@
-use Rattle.std.proofs.Common.{◌≡◌, ℕ, ◌*◌, ◌^◌, ◌<◌, length, sym, ◌∙◌, ap, subst, arith}
-use Rattle.std.proofs.lemmas.List.{get_or_read}
-use Rattle.std.proofs.lemmas.Nat.{pow_pos}
+use Rattle.std.proofs.Common.{◌≡◌, ℕ, ◌*◌, ◌^◌, sym, ◌∙◌, ap, subst, arith}
 use Rattle.tower_transforms.specs.Words.{level_element}
 use Rattle.transform_codes.specs.Restoring.{AreRestoredColumns}
 use Rattle.transform_codes.proofs.MendedColumns.{next_restored}
-use Rattle.transform_codes.proofs.RestoredColumns.{fits_restoring}
+use Rattle.transform_codes.proofs.RestoredColumns.{bits_left, fits_restoring}
 use Rattle.transform_codes.proofs.codec.TransformCode.restore_shards.Goals as goal
+
+pub set_factors-requires-clause-points : goal.set_factors-requires-clause-points
+set_factors-requires-clause-points g c = bits_left c.args.self.now.all_levels (2 ^ g.L.Level.LEVEL) c.requires.can.points
 
 pub restore_strip-requires-clause-fit : goal.restore_strip-requires-clause-fit
 restore_strip-requires-clause-fit g c =
     let code = c.args.self.now in
     let size_is = c.strip_at-strip.ensures.size in
-    let points = c.set_points.new.points in
     let count : c.point_count-count.result ≡ 2 ^ code.all_levels = c.point_count-count.ensures in
-    let within : c.point_count-count.result < length points = omega (arith, pow_pos code.all_levels, count) in
     fits_restoring g.R.Stored.number g.R.Stored.ZERO g.L.Level.LEVEL code.levels code.data_shards code.parity_shards _ code.all_levels
-    c.point_count-count.result _ _ _ _ _ _ c.args.present.now points c.set_factors.new.factors c.index-points-count.result c.requires.can
+    c.point_count-count.result _ _ _ _ _ c.args.present.now c.set_factors.new.factors c.point_of-behind.result c.requires.can
     code.padded.enough code.all.enough code.all_low (c.loop-start.auto.shards ∙ c.requires.whole ∙ ap (λ (s : ℕ). code.data_shards * s) (sym size_is))
-    (c.loop-start.auto.parity ∙ c.requires.parity_whole ∙ ap (λ (s : ℕ). code.parity_shards * s) (sym size_is)) count c.set_points.ensures.points within
-    (get_or_read points c.point_count-count.result c.index-points-count.result within c.index-points-count.is g.R.Stored.ZERO)
-    c.set_factors.ensures.factors (omega (arith, count)) c.set_factors.ensures.long
+    (c.loop-start.auto.parity ∙ c.requires.parity_whole ∙ ap (λ (s : ℕ). code.parity_shards * s) (sym size_is)) count c.point_of-behind.ensures
+    c.set_factors.ensures.factors (c.set_factors.ensures.long ∙ omega (arith, count))
 
 pub loop-start-preserved : goal.loop-start-preserved
 loop-start-preserved g c =

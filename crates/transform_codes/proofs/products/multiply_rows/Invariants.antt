@@ -1,6 +1,6 @@
 use Rattle.std.proofs.Common.{◌≡◌, ◌*◌, ◌≤◌, ℕ, slice_index_or}
 use Rattle.transform_codes.specs.Columns.{AreRowProducts}
-use Rattle.transform_codes.proofs.restoring.multiply_rows.Given as goal
+use Rattle.transform_codes.proofs.products.multiply_rows.Given as goal
 
 -- the rows so far are multiplied, and the others are left
 abbrev pub invariant-loop-p : goal.invariant-loop-p

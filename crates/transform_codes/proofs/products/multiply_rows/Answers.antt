@@ -1,7 +1,7 @@
 use Rattle.std.proofs.Common.{◌+◌, ap, arith}
 use Rattle.std.proofs.lemmas.List.{get_or_read}
 use Rattle.transform_codes.proofs.ColumnPlaces.{row_product_more, row_rest_more}
-use Rattle.transform_codes.proofs.restoring.multiply_rows.Goals as goal
+use Rattle.transform_codes.proofs.products.multiply_rows.Goals as goal
 
 pub loop-p-preserved : goal.loop-p-preserved
 loop-p-preserved g c =
@@ -15,9 +15,9 @@ loop-p-preserved g c =
     c.index-factors-first.is zero) in
     let old = c.args.values.now in
     let mid = c.loop-p.values in
-    let now = c.multiply_words.new.words in (
-      row_product_more number zero level c.args.width p c.args.first factors old mid now (number factor) read c.multiply_words.ensures.products
+    let now = c.multiply_at.new.words in (
+      row_product_more number zero level c.args.width p c.args.first factors old mid now (number factor) read c.multiply_at.ensures.products
           c.loop-p.invariant.0 c.loop-p.invariant.1,
-      row_rest_more number zero level c.args.width p c.args.first factors old mid now (number factor) read c.multiply_words.ensures.products
+      row_rest_more number zero level c.args.width p c.args.first factors old mid now (number factor) read c.multiply_at.ensures.products
           c.loop-p.invariant.0 c.loop-p.invariant.1,
     )

@@ -1,7 +1,7 @@
 use Rattle.std.proofs.Common.{◌≡◌, ◌^◌, ◌<◌, ℕ, slice_index_or}
 use Rattle.ghash_slices.specs.Cantor.{point}
 use Rattle.word_tables.specs.Cantor.{cantor_vector}
-use Rattle.transform_codes.proofs.restoring.set_points.Given as goal
+use Rattle.transform_codes.proofs.points.set_points.Given as goal
 
 abbrev pub invariant-loop-p : goal.invariant-loop-p
 invariant-loop-p g l =
