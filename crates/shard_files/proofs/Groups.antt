@@ -1,6 +1,5 @@
 -- Shards that are put to their places, and the files that they are found in.
-use Rattle.std.proofs.Common.{◌≡◌, ◌≢◌, ◌⊎◌, inl, inr, ℕ, zero, suc, ◌+◌, ◌*◌, ◌<◌, ◌≤◌, Bool, true, false, cond, List, [], ◌∷◌, ◌++◌, length, get_or, take, drop, set, replicate, None, Some, refl, sym, ◌∙◌, ap, ap₂, subst, arith}
-use Rattle.std.specs.Prelude.{Option}
+use Rattle.std.proofs.Common.{◌≡◌, ◌≢◌, ◌⊎◌, inl, inr, ℕ, zero, suc, ◌+◌, ◌*◌, ◌<◌, ◌≤◌, Bool, true, false, cond, List, [], ◌∷◌, ◌++◌, length, get_or, take, drop, set, replicate, Some, refl, sym, ◌∙◌, ap, subst, arith}
 use Rattle.std.proofs.Math.ListN.{get_or-eq_default}
 use Rattle.std.proofs.Math.Nat.{eq-or-lt_of_le, mul-le-mul_right}
 use Rattle.std.proofs.lemmas.Bool.{cases_lt, true≢false}
@@ -12,10 +11,10 @@ use Rattle.reed_solomon.specs.Shards.{IsPresent, present_count}
 use Rattle.shard_files.specs.Groups.{AreOf, GivesPiece, GivesStripe, HasEnough, Holdings, IsGathered, numbered, Puts, shard_at, Takes}
 use Rattle.shard_files.specs.Heads.{head_digest, head_file, IsHead, IsOrigin}
 use Rattle.shard_files.specs.Pieces.{piece_bytes}
-use Rattle.shard_files.specs.Stripes.{piece_start, shard_total}
+use Rattle.shard_files.specs.Stripes.{shard_total}
 use Rattle.shard_files.specs.declared.head.Head.{Head}
 use Rattle.shard_files.specs.declared.head.Origin.{Origin}
-use Rattle.shard_files.proofs.Heads.{head_is, same_some}
+use Rattle.shard_files.proofs.Heads.{head_is}
 use Rattle.shard_files.proofs.Pieces.{piece_rest}
 
 -- ---- places

@@ -1,5 +1,5 @@
 -- The bytes of a head are cut into the parts of which they are made.
-use Rattle.std.proofs.Common.{◌≡◌, ℕ, ◌<◌, List, [], ◌∷◌, ◌++◌, length, get_or, take, drop, None, Some, sym, ◌∙◌, ap, ap₂, subst, arith}
+use Rattle.std.proofs.Common.{◌≡◌, ℕ, List, [], ◌∷◌, ◌++◌, length, get_or, take, drop, Some, sym, ◌∙◌, ap, ap₂, subst, arith}
 use Rattle.std.specs.Prelude.{Option}
 use Rattle.std.specs.Int.{w32, w64, from_le_bytes, to_le_bytes}
 use Rattle.std.specs.Io.KnownBytes.{Appends}
@@ -7,7 +7,7 @@ use Rattle.std.proofs.KnownBytes.{Appends-trans}
 use Rattle.std.proofs.lemmas.List.{append_assoc, drop-drop, drop_at, length-append, take-append-drop, take_at}
 use Rattle.std.proofs.lemmas.Nat.{from_le_bytes-to_le_bytes_4, from_le_bytes-to_le_bytes_8}
 use Rattle.sha2.proofs.Facts256.{length-sha256}
-use Rattle.shard_files.specs.Heads.{head_begin, head_digest, head_fields, head_file, head_name, IsHead}
+use Rattle.shard_files.specs.Heads.{head_begin, head_digest, head_fields, head_file, IsHead}
 use Rattle.shard_files.specs.declared.head.Head.{Head}
 use Rattle.shard_files.specs.declared.head.Origin.{Origin}
 

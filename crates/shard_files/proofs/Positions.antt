@@ -1,9 +1,9 @@
 -- Positions in files and in stripes.
-use Rattle.std.proofs.Common.{◌≡◌, ℕ, ◌+◌, ◌-◌, ◌*◌, ◌/◌, ◌%◌, ◌^◌, ◌<◌, ◌≤◌, min, List, length, take, drop, sym, ◌∙◌, ap, arith}
+use Rattle.std.proofs.Common.{◌≡◌, ℕ, ◌+◌, ◌-◌, ◌*◌, ◌/◌, ◌^◌, ◌<◌, ◌≤◌, min, List, length, drop, ◌∙◌, ap, arith}
 use Rattle.std.proofs.Math.Nat.{div-add-mod, mul-le-mul_left, mul-le-mul_right}
 use Rattle.std.proofs.lemmas.List.{length-drop, length-take}
 use native.Mathlib.Nat.{mod-lt}
-use Rattle.shard_files.specs.Stripes.{IsPossible, piece_start, shard_total, stripe_content, stripe_length, stripe_total, stripe_width}
+use Rattle.shard_files.specs.Stripes.{IsPossible, shard_total, stripe_content, stripe_length, stripe_total, stripe_width}
 use Rattle.shard_files.specs.declared.head.Origin.{Origin}
 
 next : (a b : ℕ) → a < b → a + 1 ≤ b

@@ -1,13 +1,13 @@
 -- The files of shards, as far as they are left, give the file that was split.
-use Rattle.std.proofs.Common.{◌≡◌, inl, inr, ℕ, ◌+◌, ◌*◌, ◌<◌, ◌≤◌, false, List, [], ◌++◌, length, get_or, take, drop, Some, refl, sym, ◌∙◌, ap, subst, arith}
+use Rattle.std.proofs.Common.{◌≡◌, inl, inr, ℕ, ◌+◌, ◌*◌, ◌<◌, false, List, [], ◌++◌, get_or, take, drop, Some, refl, sym, ◌∙◌, ap, subst, arith}
 use Rattle.std.proofs.Math.ListN.{get_or-eq_default}
 use Rattle.std.proofs.lemmas.Bool.{cases_lt, true≢false}
 use Rattle.std.proofs.lemmas.List.{drop-drop, drop_at, take_at}
 use Rattle.reed_solomon.specs.Shards.{IsPresent}
 use Rattle.shard_files.specs.Files.{AreShards, pieces_from, shard_file}
 use Rattle.shard_files.specs.Groups.{GivesPiece, GivesStripe, Holdings, numbered, shard_at}
-use Rattle.shard_files.specs.Heads.{head_file, IsHead, IsOrigin}
-use Rattle.shard_files.specs.RoundTrip.{DamageIsSeen, EnoughAreLeft, IsLeft, ShardsReturn}
+use Rattle.shard_files.specs.Heads.{head_file, IsOrigin}
+use Rattle.shard_files.specs.RoundTrip.{DamageIsSeen, EnoughAreLeft, ShardsReturn}
 use Rattle.shard_files.specs.Stripes.{IsPossible, piece_start, shard_total, stripe_content, stripe_total}
 use Rattle.shard_files.specs.declared.head.Origin.{Origin}
 use Rattle.shard_files.proofs.Groups.{numbered_fits}

@@ -1,5 +1,5 @@
 -- The file of a shard: it grows by a piece with each stripe, and each piece stands at its place.
-use Rattle.std.proofs.Common.{◌≡◌, ◌⊎◌, inl, inr, ℕ, zero, suc, ◌+◌, ◌*◌, ◌<◌, ◌≤◌, min, List, [], ◌∷◌, ◌++◌, length, get_or, take, drop, refl, sym, ◌∙◌, ap, ap₂, subst, arith}
+use Rattle.std.proofs.Common.{◌≡◌, inl, inr, ℕ, zero, suc, ◌+◌, ◌*◌, ◌<◌, ◌≤◌, min, List, [], ◌∷◌, ◌++◌, length, get_or, take, drop, refl, sym, ◌∙◌, ap, ap₂, subst, arith}
 use Rattle.std.proofs.Math.Nat.{mul-le-mul_right}
 use Rattle.std.proofs.Math.Seq.{get_or-append_seam}
 use Rattle.std.proofs.lemmas.Bool.{cases_lt}
@@ -10,7 +10,7 @@ use Rattle.shard_files.specs.Groups.{numbered, shard_at}
 use Rattle.shard_files.specs.Heads.{head_digest, head_file}
 use Rattle.shard_files.specs.Pieces.{piece_bytes}
 use Rattle.shard_files.specs.Splits.{IsSplit}
-use Rattle.shard_files.specs.Stripes.{IsPossible, piece_start, shard_total, stripe_content, stripe_length, stripe_total, stripe_width}
+use Rattle.shard_files.specs.Stripes.{IsPossible, shard_total, stripe_content, stripe_length, stripe_total, stripe_width}
 use Rattle.shard_files.specs.declared.head.Head.{Head}
 use Rattle.shard_files.specs.declared.head.Origin.{Origin}
 use Rattle.shard_files.proofs.Groups.{shard_long}

@@ -1,5 +1,5 @@
 -- The shards of a file in one stripe: which of them files give, and when they are enough.
-use Rattle.std.specs.Prelude.{◌≡◌, ◌⊎◌, ℕ, ◌+◌, ◌*◌, ◌<◌, ◌≤◌, Bool, List, length, take, drop, Option, Some, None}
+use Rattle.std.specs.Prelude.{◌≡◌, ◌⊎◌, ℕ, ◌+◌, ◌*◌, ◌<◌, ◌≤◌, Bool, List, length, take, drop, Option, Some}
 use Rattle.sha2.specs.Sha256.{sha256}
 use Rattle.reed_solomon.specs.Shards.{IsPresent, present_count}
 use Rattle.shard_files.specs.Heads.{head_digest, head_file}

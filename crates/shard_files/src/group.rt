@@ -120,7 +120,7 @@ impl Group {
             .count()
     }
 
-    /// The bytes of a shard in the stripe.
+    /// The bytes of a shard in the stripe. There is a shard of that number.
     pub fn shard(&self, index: usize) -> &[u8]
         requires { index < shard_total self.now.origin }
         ensures { result.now ≡ shard_at self.now.origin.size self.now.shards.items index }
@@ -162,7 +162,7 @@ impl Group {
         }
     }
 
-    /// The first bytes of the stripe: its bytes of the file, once the shards are restored.
+    /// The first bytes of the stripe: its bytes of the file, once the shards are restored. The shards have so many.
     pub fn content(&self, length: usize) -> &[u8]
         requires { length ≤ shard_total self.now.origin * self.now.origin.size }
         ensures { result.now ≡ take length self.now.shards.items }

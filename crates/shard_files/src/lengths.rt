@@ -5,12 +5,12 @@ ghost use Rattle.shard_files.specs.Stripes.{IsPossible, piece_start, shard_total
 use crate::head::{HEAD, Origin};
 use crate::piece::DIGEST;
 
-/// How many bytes of a file's shards, all together, a stripe has at most, where each has at least one.
+/// About how many bytes of all shards of a file a stripe has at most.
 const STRIPE: u64 = 1 << 24;
 
 impl Origin {
     /// What the heads of the shards of a file say, of so many bytes and of this identity, by the code of the crate `reed_solomon`. A stripe
-    /// of all shards has at most 16 MiB, and the stripes are as long as one another.
+    /// of all shards has some 16 MiB at most, and the stripes are as long as one another.
     pub fn of_file(data_shards: u32, parity_shards: u32, length: u64, identity: [u8; 32]) -> Origin
         ensures counts { (result.code ≡ 1) × (result.data_shards ≡ data_shards) × (result.parity_shards ≡ parity_shards) }
         ensures named { (result.length ≡ length) × (result.identity ≡ identity) }
@@ -58,7 +58,7 @@ impl Origin {
         self.data_shards as usize + self.parity_shards as usize
     }
 
-    /// How many bytes of the file a stripe has.
+    /// How many bytes of the file a stripe has. The origin is possible.
     pub fn width(&self) -> u64
         requires { IsPossible self.now }
         ensures { result ≡ stripe_width self.now }
@@ -66,7 +66,7 @@ impl Origin {
         self.data_shards as u64 * self.size
     }
 
-    /// How many stripes there are.
+    /// How many stripes there are: none of an empty file. The origin is possible.
     pub fn stripe_count(&self) -> u64
         requires { IsPossible self.now }
         ensures { result ≡ stripe_total self.now }
@@ -75,7 +75,7 @@ impl Origin {
         (self.length + (width - 1)) / width
     }
 
-    /// How many bytes of the file a stripe has, of which the last may have fewer.
+    /// How many bytes of the file a stripe has, of which the last may have fewer. The origin is possible, and has that stripe.
     pub fn stripe_length(&self, stripe: u64) -> usize
         requires possible { IsPossible self.now }
         requires within { stripe < stripe_total self.now }
@@ -90,7 +90,7 @@ impl Origin {
         }
     }
 
-    /// Where the piece of a stripe begins in a shard's file.
+    /// Where the piece of a stripe begins in a shard's file. The origin is possible, and has that stripe.
     pub fn piece_start(&self, stripe: u64) -> u64
         requires possible { IsPossible self.now }
         requires within { stripe < stripe_total self.now }
@@ -99,7 +99,7 @@ impl Origin {
         HEAD as u64 + stripe * (DIGEST as u64 + self.size)
     }
 
-    /// How many bytes the file of a shard has.
+    /// How many bytes the file of a shard has. The origin is possible.
     pub fn file_length(&self) -> u64
         requires { IsPossible self.now }
         ensures { result ≡ piece_start self.now (stripe_total self.now) }

@@ -32,7 +32,8 @@ pub trait ShardSource {
         ensures missed { (files : Holdings) → holds self.old files → result ≡ false → files.reads place start (length bytes.old) ≡ None };
 }
 
-/// The group of all shards of one origin in a stripe that the files give, and of no other file.
+/// The group of all shards of one origin in a stripe that the files give, and of no other file. The origin has that stripe. It fails where
+/// the origin is not possible, or memory is refused.
 pub fn gather<S: ShardSource>(
     alloc: Global,
     source: &mut S,
@@ -92,7 +93,9 @@ fn start_of(group: &Group, stripe: u64) -> u64
     group.origin.piece_start(stripe)
 }
 
-/// Writes a file from its shards, stripe by stripe. It fails where what it wrote has not the identity that the origin names.
+/// Writes a file from its shards, stripe by stripe. The origin is possible. It fails where in a stripe too few shards are given, where what
+/// it wrote has not the identity that the origin names, where it cannot be written, or where memory is refused; what it wrote till then is
+/// not the file.
 pub fn write_content<S: ShardSource, W: Write>(
     alloc: Global,
     source: &mut S,
@@ -146,7 +149,8 @@ fn write_stripe<S: ShardSource, W: Write>(
     }
 }
 
-/// All shards of a stripe, restored from those that the files give.
+/// All shards of a stripe, restored from those that the files give. The origin is possible, and has that stripe. It fails where too few are
+/// given, or memory is refused.
 pub fn restored<S: ShardSource>(
     alloc: Global,
     source: &mut S,

@@ -14,8 +14,9 @@ use crate::writing::{ShardFiles, put_head, put_piece};
 use sha2::{Digest, Sha256};
 use std::alloc::Global;
 
-/// Restores the shards of a file, and writes those that are lost, as `write_shards` wrote them. It fails where what is restored has not
-/// the identity that the origin names.
+/// Restores the shards of a file, and writes those that are lost, as `write_shards` wrote them. The origin is possible, and there is
+/// a flag for each shard. It fails where too few shards are given in a stripe, where what is restored has not the identity that the origin
+/// names, where a file cannot be written, or where memory is refused.
 pub fn repair_shards<S: ShardSource, F: ShardFiles>(
     alloc: Global,
     source: &mut S,

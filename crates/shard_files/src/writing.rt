@@ -31,8 +31,9 @@ pub trait ShardFiles {
             → OnOk result ((now : ℕ → List ℕ) × holds self.new now × IsAppended index bytes.now files now) };
 }
 
-/// Splits what a reader gives into shards, and writes the file of each: the head, and behind it a piece of each stripe. It fails where the
-/// reader does not give the bytes that the origin names.
+/// Splits what a reader gives into shards, and writes the file of each: the head, and behind it a piece of each stripe. The origin is
+/// possible. It fails where the reader does not give the bytes that the origin names, where a file cannot be written, or where memory is
+/// refused.
 pub fn write_shards<R: Read, F: ShardFiles>(
     alloc: Global,
     origin: Origin,
@@ -68,7 +69,7 @@ fn put_heads<F: ShardFiles>(alloc: Global, origin: &Origin, files: &mut F) -> Re
     Ok(())
 }
 
-/// Writes the head of a shard at the end of its file.
+/// Writes the head of a shard at the end of its file. The number is one of 32 bits.
 pub fn put_head<F: ShardFiles>(
     alloc: Global,
     origin: &Origin,
@@ -207,7 +208,7 @@ fn shard_of<'a>(origin: &Origin, shards: &'a [u8], index: usize) -> &'a [u8]
     &shards[begin..begin + size]
 }
 
-/// Writes the piece of a stripe with these bytes of a shard at the end of its file.
+/// Writes the piece of a stripe with these bytes of a shard at the end of its file. The number is one of 32 bits.
 pub fn put_piece<F: ShardFiles>(
     origin: &Origin,
     stripe: u64,

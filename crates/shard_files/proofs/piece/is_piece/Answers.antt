@@ -1,7 +1,7 @@
-use Rattle.std.proofs.Common.{◌≡◌, ◌-◌, length, take, drop, IsTrue, sym, ◌∙◌, ap, arith, rules}
+use Rattle.std.proofs.Common.{◌≡◌, length, take, drop, IsTrue, sym, ◌∙◌, ap, arith, rules}
 use Rattle.std.proofs.lemmas.Bool.{false≢true}
 use Rattle.std.proofs.lemmas.List.{take_rest}
-use Rattle.shard_files.specs.Pieces.{piece_bytes, piece_digest}
+use Rattle.shard_files.specs.Pieces.{piece_digest}
 use Rattle.shard_files.proofs.Pieces.{is_piece_of, piece_front, piece_size}
 use Rattle.shard_files.proofs.piece.is_piece.Goals as goal
 

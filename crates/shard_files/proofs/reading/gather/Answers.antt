@@ -1,4 +1,4 @@
-use Rattle.std.proofs.Common.{ℕ, List, length, sym, ◌∙◌, ap, subst, arith}
+use Rattle.std.proofs.Common.{ℕ, length, sym, ◌∙◌, ap, subst, arith}
 use Rattle.std.proofs.lemmas.List.{take_at}
 use Rattle.shard_files.specs.Groups.{GivesPiece, IsGathered, numbered, Takes}
 use Rattle.shard_files.specs.declared.head.Origin.{Origin}

@@ -1,4 +1,3 @@
-use Rattle.std.proofs.Common.{List, ℕ}
 use Rattle.std.proofs.lemmas.Bool.{false≢true}
 use Rattle.shard_files.proofs.Groups.{group_enough}
 use Rattle.shard_files.proofs.reading.restored.Goals as goal

@@ -1,4 +1,4 @@
-use Rattle.std.proofs.Common.{◌≡◌, ◌*◌, ◌≤◌, ℕ, false, List, [], ◌++◌, length, take, sym, ◌∙◌, ap, subst, arith, rules}
+use Rattle.std.proofs.Common.{◌≡◌, ◌*◌, false, [], ◌++◌, length, sym, ◌∙◌, ap, subst, arith, rules}
 use Rattle.std.specs.Io.KnownBytes.{Appends}
 use Rattle.std.proofs.lemmas.Bool.{true≢false}
 use Rattle.sha2.specs.Sha256.{sha256}

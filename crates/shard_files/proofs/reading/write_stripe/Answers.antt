@@ -1,7 +1,7 @@
-use Rattle.std.proofs.Common.{◌≡◌, ◌*◌, ◌≤◌, ℕ, List, length, take, inl, inr, refl, sym, ◌∙◌, ap, ap₂, subst, arith}
+use Rattle.std.proofs.Common.{◌≡◌, ◌*◌, ◌≤◌, ℕ, List, length, take, inr, sym, ◌∙◌, ap, ap₂, subst, arith}
 use Rattle.std.proofs.lemmas.List.{length-take-le}
 use Rattle.std.proofs.lemmas.Result.{err_from_is_err_and}
-use Rattle.shard_files.specs.Stripes.{shard_total, stripe_length}
+use Rattle.shard_files.specs.Stripes.{shard_total}
 use Rattle.shard_files.specs.declared.head.Origin.{Origin}
 use Rattle.shard_files.proofs.Positions.{stripe_room}
 use Rattle.shard_files.proofs.reading.write_stripe.Goals as goal

@@ -1,8 +1,8 @@
-use Rattle.std.proofs.Common.{◌≡◌, ℕ, List, length, subst, arith}
+use Rattle.std.proofs.Common.{◌≡◌, ℕ, length, subst, arith}
 use Rattle.shard_files.specs.Files.{AppendsToLost}
 use Rattle.shard_files.specs.Groups.{numbered}
 use Rattle.shard_files.specs.Heads.{head_file}
-use Rattle.shard_files.proofs.Lost.{lost_less, lost_more, lost_none}
+use Rattle.shard_files.proofs.Lost.{lost_none}
 use Rattle.shard_files.proofs.repairing.put_lost_heads.Goals as goal
 
 pub loop-index-init : goal.loop-index-init

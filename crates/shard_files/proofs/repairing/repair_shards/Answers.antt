@@ -1,4 +1,4 @@
-use Rattle.std.proofs.Common.{◌≡◌, ◌+◌, ◌<◌, ◌≤◌, ℕ, List, [], length, get_or, take, sym, ◌∙◌, ap, subst, arith}
+use Rattle.std.proofs.Common.{◌≡◌, ◌+◌, ◌<◌, ℕ, List, [], length, get_or, take, sym, subst, arith}
 use Rattle.shard_files.specs.Files.{AppendsToLost, shard_file}
 use Rattle.shard_files.specs.Groups.{numbered, shard_at}
 use Rattle.shard_files.specs.Heads.{head_digest, head_file}

@@ -1,4 +1,4 @@
-use Rattle.std.proofs.Common.{ℕ, List, ap, subst, arith}
+use Rattle.std.proofs.Common.{ℕ, List, subst, arith}
 use Rattle.shard_files.specs.Files.{IsAppended}
 use Rattle.shard_files.specs.Groups.{numbered, shard_at}
 use Rattle.shard_files.specs.Heads.{head_digest}

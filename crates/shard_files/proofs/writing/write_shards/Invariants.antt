@@ -1,8 +1,8 @@
-use Rattle.std.proofs.Common.{◌≡◌, ◌*◌, ℕ, List, length, min}
+use Rattle.std.proofs.Common.{ℕ, List}
 use Rattle.std.specs.Io.KnownBytes.{Consumes}
 use Rattle.sha2.specs.Hashers.{Holds256}
 use Rattle.shard_files.specs.Files.{AppendsToEach, shard_file}
-use Rattle.shard_files.specs.Stripes.{shard_total, stripe_width}
+use Rattle.shard_files.specs.Stripes.{shard_total}
 use Rattle.shard_files.proofs.Written.{AreSplitSoFar}
 use Rattle.shard_files.proofs.writing.write_shards.Given as goal
 

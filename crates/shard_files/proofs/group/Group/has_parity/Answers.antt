@@ -1,4 +1,3 @@
-use Rattle.std.proofs.Common.{length, ap, ◌∙◌}
 use Rattle.std.proofs.lemmas.Bool.{false≢true}
 use Rattle.shard_files.proofs.Splits.{code_words_by}
 use Rattle.shard_files.proofs.group.Group.has_parity.Goals as goal

@@ -1,4 +1,4 @@
-use Rattle.std.proofs.Common.{◌≡◌, take, drop, Some, sym, ◌∙◌, ap, arith}
+use Rattle.std.proofs.Common.{◌≡◌, Some, sym, ◌∙◌, ap, arith}
 use Rattle.std.proofs.lemmas.Bool.{true≢false}
 use Rattle.std.specs.Int.{w64, to_le_bytes}
 use Rattle.shard_files.specs.Heads.{head_digest, head_fields}
