@@ -4,11 +4,11 @@ ghost use Rattle.std.specs.Iterator.{IsFinite};
 use crate::fault::Fault;
 use crate::fields::{Asked, stored};
 use crate::reading::{numbers, word};
-use field_base::{FieldKernel, Unsigned};
+use field_base::Unsigned;
 use field_bytes::{
     LittleEndian, RawDataSerializable, into_byte_stream, into_u32_stream, into_u64_stream,
 };
-use field_element::{Element, Poly64, Poly192, element_of_word};
+use field_element::{Element, HasPacking, Poly64, Poly192, element_of_word};
 use std::alloc::Global;
 use std::fmt::Display;
 use word_polynomial::GhashKernel;
@@ -23,7 +23,7 @@ pub(crate) fn field_call(alloc: Global, field: Asked, call: &[&str]) -> Result<V
 }
 
 /// The same of the field of a kernel.
-fn kernel_call<R: Unsigned + LittleEndian, K: FieldKernel<R>>(
+fn kernel_call<R: Unsigned + LittleEndian, K: HasPacking<R>>(
     alloc: Global,
     call: &[&str],
 ) -> Result<Vec<u128>, Fault> {

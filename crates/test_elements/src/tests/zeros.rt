@@ -1,8 +1,8 @@
 // Vectors of zeros. `zero_vec` has one body for every ring; it is tried over the field of GHASH, the cubic extension and GF(2), at each length
 // from 0 to 257: each growth is refused in turn, nothing is left behind, and the call succeeds where there is memory.
 use field_base::traits::PrimeCharacteristicRing;
-use field_base::{FieldKernel, Gf2, Stored};
-use field_element::{Coefficients, Element};
+use field_base::{Gf2, Stored};
+use field_element::{Coefficients, Element, HasPacking};
 use linked_list_allocator::LocalHeap;
 use std::alloc::{AllocError, Global};
 use std::marker::PhantomData;
@@ -53,7 +53,7 @@ fn are_refused<R: PrimeCharacteristicRing>(alloc: Global) -> bool {
 }
 
 /// The same for elements of the field of a kernel.
-fn elements_are_refused<R: Stored, K: FieldKernel<R>>(alloc: Global) -> bool {
+fn elements_are_refused<R: Stored, K: HasPacking<R>>(alloc: Global) -> bool {
     are_refused::<Element<R, K>>(alloc)
 }
 

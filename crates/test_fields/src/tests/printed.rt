@@ -1,7 +1,7 @@
 // The text that `{:?}` prints of an element: the name of its type, and its number; and its number in hexadecimal.
 use field_base::traits::PrimeCharacteristicRing;
-use field_base::{FieldKernel, Gf2, Stored, Unsigned};
-use field_element::{Element, Poly64, Poly192, element_of_word};
+use field_base::{Gf2, Stored, Unsigned};
+use field_element::{Element, HasPacking, Poly64, Poly192, element_of_word};
 use std::alloc::Global;
 use std::fmt;
 use std::fmt::{Debug, Display, HasDigits, LowerHex, UpperHex};
@@ -15,7 +15,7 @@ fn prints<T: Debug>(alloc: Global, value: &T, text: &str) -> bool {
 }
 
 /// Whether `{:?}` prints `text` of the element of a word.
-fn element_prints<R: Stored, K: FieldKernel<R>>(alloc: Global, word: R, text: &str) -> bool {
+fn element_prints<R: Stored, K: HasPacking<R>>(alloc: Global, word: R, text: &str) -> bool {
     let element: Element<R, K> = element_of_word(word);
     prints(alloc, &element, text)
 }
@@ -55,7 +55,7 @@ fn has_digits<T: HasDigits + Copy>(alloc: Global, value: T, text: &str) -> bool 
 }
 
 /// Whether `{:x} {:#x} {:X} {:#X}` prints `text` of the element of a word.
-fn element_has_digits<R: Unsigned, K: FieldKernel<R>>(alloc: Global, word: R, text: &str) -> bool {
+fn element_has_digits<R: Unsigned, K: HasPacking<R>>(alloc: Global, word: R, text: &str) -> bool {
     let element: Element<R, K> = element_of_word(word);
     has_digits(alloc, element, text)
 }

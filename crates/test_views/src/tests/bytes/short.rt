@@ -1,8 +1,8 @@
 // Iterators of 0 to 26 bytes. `from_le_byte_iter` and `from_le_byte_iter_by_ref` at all twelve fields, and `word_from_iter_by_ref` at two
 // words, give None below an element's bytes; an iterator that the caller keeps is left behind those bytes, or at its end.
-use field_base::{FieldKernel, Gf2};
+use field_base::Gf2;
 use field_bytes::{LittleEndian, RawDataSerializable, word_from_iter_by_ref};
-use field_element::{Coefficients, Element};
+use field_element::{Coefficients, Element, HasPacking};
 use word_polynomial::{CubicKernel, GhashKernel, Poly64Kernel, RijndaelKernel};
 use word_tower::{Bits2, Bits4, Bits8, Bits16, Bits32, Bits64, Bits128, Tower};
 
@@ -24,7 +24,7 @@ fn takes_its_bytes<E: RawDataSerializable>() -> bool {
 }
 
 // The same for the elements of the field of a kernel.
-fn elements_take<R: LittleEndian, K: FieldKernel<R>>() -> bool {
+fn elements_take<R: LittleEndian, K: HasPacking<R>>() -> bool {
     takes_its_bytes::<Element<R, K>>()
 }
 

@@ -4,9 +4,9 @@ use super::coefficients::{all_powers_are_left, first_are_taken, is_called_in_ord
 use super::extension::{frobenius_takes, has_text};
 use super::generator::generator_has_full_order;
 use super::memory::{is_flattened, vectors_are_due};
+use field_base::Stored;
 use field_base::traits::{Field, PrimeCharacteristicRing};
-use field_base::{FieldKernel, Stored};
-use field_element::{Coefficients, Element, Poly64, Poly192, element_of_word};
+use field_element::{Coefficients, Element, HasPacking, Poly64, Poly192, element_of_word};
 use field_space::{AlgebraIdentity, BasedVectorSpace, SpaceOver};
 use rand::distr::SampleStandard;
 use rand::rngs::SmallRng;
@@ -48,7 +48,7 @@ fn succeeds<F: PrimeCharacteristicRing, E: BasedVectorSpace<F>>(
 }
 
 /// Elements that are drawn from the seed 23, or fewer than 257 where memory is refused.
-fn drawn<R: Stored + SampleStandard, K: FieldKernel<R>>(alloc: Global) -> Vec<Element<R, K>> {
+fn drawn<R: Stored + SampleStandard, K: HasPacking<R>>(alloc: Global) -> Vec<Element<R, K>> {
     let mut rng = SmallRng::seed_from_u64(23);
     let mut elements = Vec::new(alloc);
     for _ in 0..257 {
@@ -60,12 +60,12 @@ fn drawn<R: Stored + SampleStandard, K: FieldKernel<R>>(alloc: Global) -> Vec<El
 }
 
 /// The same of the field of a kernel, with elements that are drawn.
-fn succeeds_at<R: Stored + SampleStandard, K: SpaceOver<R, S, J>, S: Stored, J: FieldKernel<S>>(
-    alloc: Global,
-    trial: Trial,
-    element: Element<R, K>,
-    coefficients: &[Element<S, J>],
-) -> bool {
+fn succeeds_at<
+    R: Stored + SampleStandard,
+    K: SpaceOver<R, S, J> + HasPacking<R>,
+    S: Stored,
+    J: HasPacking<S>,
+>(alloc: Global, trial: Trial, element: Element<R, K>, coefficients: &[Element<S, J>]) -> bool {
     let elements = drawn::<R, K>(alloc);
     succeeds::<Element<S, J>, Element<R, K>>(
         alloc,

@@ -1,8 +1,8 @@
 // Elements drawn from a seed: each in range, and in 4,096 of them each bit of the representation seen as 0 and as 1. The levels that
 // have bits to spare in their word are where a range could be left.
 use field_base::traits::PrimeCharacteristicRing;
-use field_base::{FieldKernel, Gf2, Unsigned};
-use field_element::{Element, word_of};
+use field_base::{Gf2, Unsigned};
+use field_element::{Element, HasPacking, word_of};
 use rand::distr::SampleStandard;
 use rand::rngs::SmallRng;
 use rand::{RngExt, SeedableRng};
@@ -12,7 +12,7 @@ use word_tower::{Bits4, Tower};
 const DRAWS: u32 = 4096;
 
 // Whether the numbers of the elements that are drawn have the bits of `field` as 0 and as 1, and no others.
-fn all_bits_are_drawn<R: Unsigned + SampleStandard, K: FieldKernel<R>>(field: u128) -> bool {
+fn all_bits_are_drawn<R: Unsigned + SampleStandard, K: HasPacking<R>>(field: u128) -> bool {
     let mut rng = SmallRng::seed_from_u64(11);
     let mut once = 0;
     let mut always = u128::MAX;

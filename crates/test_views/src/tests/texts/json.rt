@@ -2,8 +2,8 @@
 // reading succeeds, nor which text an error holds. In the levels below a byte 2, 4 and 16, and each larger byte, get the error
 // `Value is out of range`; each smaller byte is read.
 use field_aes::LinearizedPoly8b;
-use field_base::{FieldKernel, Gf2, ReadWord};
-use field_element::{Coefficients, Element};
+use field_base::{Gf2, ReadWord};
+use field_element::{Coefficients, Element, HasPacking};
 use serde::{Deserialize, DeserializeOwned, Serialize};
 use serde_json::{Error, Value};
 use std::alloc::Global;
@@ -75,7 +75,7 @@ fn takes<'a, E: Copy + Serialize + Deserialize<'a> + DeserializeOwned>(
 }
 
 // The same for elements of the field of a kernel.
-fn elements_take<'a, R: ReadWord + Serialize, K: FieldKernel<R>>(
+fn elements_take<'a, R: ReadWord + Serialize, K: HasPacking<R>>(
     alloc: Global,
     texts: &'a str,
     taken: usize,

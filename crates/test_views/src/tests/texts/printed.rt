@@ -1,8 +1,8 @@
 // The text that `{}` prints of an element. Two rows are worked: the numbers of representations above the field, and the text of the
 // inverse of y.
 use field_base::traits::TowerLevel;
-use field_base::{FieldKernel, Gf2, Unsigned};
-use field_element::{Element, Poly64, Poly192, element_of_word};
+use field_base::{Gf2, Unsigned};
+use field_element::{Element, HasPacking, Poly64, Poly192, element_of_word};
 use std::alloc::Global;
 use std::fmt::Display;
 use word_tower::{Bits2, Tower};
@@ -15,7 +15,7 @@ fn prints<E: Display>(alloc: Global, element: &E, want: &str) -> bool {
 }
 
 // Whether the element of the low bits of a word prints so.
-fn low_bits_print<R: Unsigned, K: FieldKernel<R>>(alloc: Global, word: R, want: &str) -> bool {
+fn low_bits_print<R: Unsigned, K: HasPacking<R>>(alloc: Global, word: R, want: &str) -> bool {
     prints(alloc, &element_of_word::<R, K>(word), want)
 }
 
