@@ -66,8 +66,12 @@ def in_planes():
 # ---- slices of bits
 
 SLICES_HEAD = """\
-// The levels of 16 to 128 bits by slices of bits, and the polynomials of 64 and 128 bits, whose inverses go by their levels.
-use super::{InversesInSlices, ProductsInSlices, invert_images, invert_words, multiply_words};
+// The levels of 16 to 128 bits by slices of bits, products of polynomials of 64 bits, and inverses of those of 64 and 128 bits, which go by
+// their levels.
+use super::{
+    InversesInSlices, ProductsInSlices, invert_images, invert_words, multiply_polynomials,
+    multiply_words,
+};
 use crate::Wide;
 use bit_slices::Vector;
 use word_polynomial::{GhashKernel, GhashModulus, Poly64Kernel, Poly64Modulus};
@@ -92,6 +96,16 @@ impl InversesInSlices<u$bits> for Tower<Bits$bits> {
 }
 """)
 
+OF_POLYNOMIALS = Template("""\
+impl ProductsInSlices<u$bits> for ${name}Kernel {
+    type Word = $word;
+
+    fn multiply_all<V: Vector>(products: &mut [$word], words: &[$word]) {
+        multiply_polynomials::<u$bits, $word, ${name}Kernel, V>(products, words);
+    }
+}
+""")
+
 OF_IMAGES = Template("""\
 impl InversesInSlices<u$bits> for ${name}Kernel {
     type Word = $word;
@@ -105,12 +119,17 @@ impl InversesInSlices<u$bits> for ${name}Kernel {
 # The polynomials whose inverses go by levels of the tower, by their bits. Those of 8 bits are looked up.
 POLYNOMIALS = {64: "Poly64", 128: "Ghash"}
 
+# Those whose products go by slices of their bits. Products in the field of GHASH go by lanes.
+MULTIPLIED = (64,)
+
 
 def in_slices():
     yield SLICES_HEAD
     for bits in LEVELS[1:]:
         yield IN_SLICES.substitute(bits=bits, word=word(bits))
     for bits, name in POLYNOMIALS.items():
+        if bits in MULTIPLIED:
+            yield OF_POLYNOMIALS.substitute(bits=bits, name=name, word=word(bits))
         yield OF_IMAGES.substitute(bits=bits, name=name, word=word(bits))
 
 

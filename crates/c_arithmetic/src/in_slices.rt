@@ -1,8 +1,10 @@
-// Products and inverses of slices of words of a level of the tower, by slices of their bits: as many words at once as a vector has bits.
-// Fewer words are computed one after another. Polynomials of 64 and 128 bits are inverted by the level of the tower that is their field.
-ghost use Rattle.std.specs.Prelude.{◌≡◌, ◌<◌, ℕ, get_or, length};
+// Products and inverses of slices of words of a level of the tower, and products of polynomials of 64 bits, by slices of their bits: as many
+// words at once as a vector has bits. Fewer words are computed one after another. Polynomials of 64 and 128 bits are inverted by the level of
+// the tower that is their field.
+ghost use Rattle.std.specs.Prelude.{◌≡◌, ◌<◌, ◌^◌, ℕ, get_or, length};
 ghost use Rattle.field_base.specs.Basis.{basis_image};
 ghost use Rattle.field_base.specs.Remainder.{mul_mod};
+ghost use Rattle.field_base.specs.Tower.{tower_mul};
 ghost use Rattle.field_base.specs.TowerBasis.{tower_generator};
 ghost use Rattle.c_arithmetic.specs.Calls.{EachOfTwo, HoldInverses, Inverts, Multiplies};
 ghost use Rattle.c_arithmetic.specs.Fields.{field_of};
@@ -14,7 +16,9 @@ use crate::bases::{ChangeOfBasis, FromTower, ToTower};
 use crate::operations::{Inverse, Product};
 use crate::slices::are_elements;
 use crate::{batch, in_place, slices, status};
-use bit_slices::{SlicedWord, Vector, invert_each, multiply_each};
+use bit_slices::{
+    PolynomialWord, SlicedWord, Vector, invert_each, multiply_each, multiply_polynomials_each,
+};
 use field_base::{FieldKernel, Stored, Unsigned};
 use std::simd::prelude::*;
 use tower_transforms::Holds;
@@ -184,7 +188,7 @@ fn multiply_words<R: Stored, W: Holds<R> + SlicedWord<V>, K: FieldKernel<R>, V: 
     products: &mut [W],
     words: &[W],
 )
-    requires level { IsInSlices W.TowerWord.LEVEL K.width K.product W.Holds.number W.TowerWord.number }
+    requires level { IsInSlices W.TowerWord.LEVEL K.width K.product (tower_mul W.TowerWord.LEVEL) W.Holds.number W.TowerWord.number }
     requires same { length words.now ≡ length products.old }
     ensures long { length products.new ≡ length products.old }
     ensures products { EachOfTwo (field_of W.Holds.number K.width K.product K.generator) (λ x y z. z ≡ K.product x y) products.old words.now
@@ -193,11 +197,26 @@ fn multiply_words<R: Stored, W: Holds<R> + SlicedWord<V>, K: FieldKernel<R>, V: 
     multiply_each::<V, W>(products, words);
 }
 
+// Multiplies each polynomial by the word at its place.
+fn multiply_polynomials<R: Stored, W: Holds<R> + PolynomialWord<V>, K: FieldKernel<R>, V: Vector>(
+    products: &mut [W],
+    words: &[W],
+)
+    requires level { IsInSlices W.TowerWord.LEVEL K.width K.product (mul_mod (2 ^ W.TowerWord.LEVEL) W.Polynomials.modulus) W.Holds.number
+        W.TowerWord.number }
+    requires same { length words.now ≡ length products.old }
+    ensures long { length products.new ≡ length products.old }
+    ensures products { EachOfTwo (field_of W.Holds.number K.width K.product K.generator) (λ x y z. z ≡ K.product x y) products.old words.now
+        products.new }
+{
+    multiply_polynomials_each::<V, W>(products, words);
+}
+
 // Leaves the inverse of each word, and 0 of 0.
 fn invert_words<R: Stored, W: Holds<R> + SlicedWord<V>, K: FieldKernel<R>, V: Vector>(
     words: &mut [W],
 )
-    requires level { IsInSlices W.TowerWord.LEVEL K.width K.product W.Holds.number W.TowerWord.number }
+    requires level { IsInSlices W.TowerWord.LEVEL K.width K.product (tower_mul W.TowerWord.LEVEL) W.Holds.number W.TowerWord.number }
     ensures long { length words.new ≡ length words.old }
     ensures inverses { HoldInverses (field_of W.Holds.number K.width K.product K.generator) words.old words.new }
 {

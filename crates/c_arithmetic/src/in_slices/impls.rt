@@ -1,6 +1,10 @@
 // Written by scripts/make_call_impls.py; do not edit.
-// The levels of 16 to 128 bits by slices of bits, and the polynomials of 64 and 128 bits, whose inverses go by their levels.
-use super::{InversesInSlices, ProductsInSlices, invert_images, invert_words, multiply_words};
+// The levels of 16 to 128 bits by slices of bits, products of polynomials of 64 bits, and inverses of those of 64 and 128 bits, which go by
+// their levels.
+use super::{
+    InversesInSlices, ProductsInSlices, invert_images, invert_words, multiply_polynomials,
+    multiply_words,
+};
 use crate::Wide;
 use bit_slices::Vector;
 use word_polynomial::{GhashKernel, GhashModulus, Poly64Kernel, Poly64Modulus};
@@ -67,6 +71,14 @@ impl InversesInSlices<u128> for Tower<Bits128> {
 
     fn invert_all<V: Vector>(words: &mut [Wide]) {
         invert_words::<u128, Wide, Tower<Bits128>, V>(words);
+    }
+}
+
+impl ProductsInSlices<u64> for Poly64Kernel {
+    type Word = u64;
+
+    fn multiply_all<V: Vector>(products: &mut [u64], words: &[u64]) {
+        multiply_polynomials::<u64, u64, Poly64Kernel, V>(products, words);
     }
 }
 
