@@ -748,7 +748,12 @@ impl<V: Vector> SlicedPolynomials<V> for Slices$bits<V> {
         x: &Slices$bits<V>,
         y: &Slices$bits<V>,
     ) {
-        SlicedPolynomials::set_carryless_product(&mut low.inner, &mut high.inner, &x.inner, &y.inner);
+        SlicedPolynomials::set_carryless_product(
+            &mut low.inner,
+            &mut high.inner,
+            &x.inner,
+            &y.inner,
+        );
     }
 
     #[inline(always)]
@@ -789,8 +794,13 @@ use crate::word::TowerWord;
 """
     for bits in UNSIGNED:
         inner = "Pair<Pair<Pair<Bit<V>>>>" if bits == 8 else f"Pair<Slices{bits // 2}<V>>"
-        yield SLICES.substitute(bits=bits, inner=inner, path=inner.replace("<", "::<", 1), quoted=f"⟦<{inner} as Sliced>⟧",
-                                tail_inline="never" if bits == 8 else "always")
+        yield SLICES.substitute(
+            bits=bits,
+            inner=inner,
+            path=inner.replace("<", "::<", 1),
+            quoted=f"⟦<{inner} as Sliced>⟧",
+            tail_inline="never" if bits == 8 else "always",
+        )
         yield SLICED_WORD.substitute(bits=bits)
 
 
