@@ -44,6 +44,30 @@
  * Arrays have one length, but for evaluate, of whose arrays points and values have one, and coefficients any: else the status is
  * BF_LENGTH. In gf2, t2 and t4 each word that is read is an element: else it is BF_NOT_AN_ELEMENT.
  *
+ * Matrices. The elements of a matrix stand row after row. For each field F:
+ *
+ *   bf_F_matrix_multiply(left, right, product, rows, inner, columns)  product: the product of left, of rows rows of inner
+ *       elements, and right, of inner rows of columns elements. BF_LENGTH unless left has rows * inner elements, right
+ *       inner * columns, and product rows * columns.
+ *   bf_F_matrix_row_reduce(matrix, rows, columns, pivots, rank)  Brings a matrix of rows rows of columns elements to
+ *       reduced row echelon form; rank is its rank, and the first rank of the rows places of pivots are the columns of its
+ *       leading entries. BF_LENGTH unless matrix has rows * columns elements, and pivots rows places.
+ *   bf_F_matrix_rank(matrix, rows, columns, space, places, rank)  rank: the rank of a matrix of rows rows of columns
+ *       elements, in as much space and rows places. BF_LENGTH unless matrix and space have rows * columns elements, and
+ *       places has rows places.
+ *   bf_F_matrix_determinant(matrix, size, space, determinant)  determinant: the determinant of a matrix of size rows of
+ *       size elements, in as much space; 1 of no rows. BF_LENGTH unless matrix and space have size * size elements.
+ *   bf_F_matrix_inverse(matrix, size, inverse, space, places)  inverse: the inverse of a matrix of size rows of size
+ *       elements, in space for two of these and size places. BF_LENGTH unless matrix and inverse have size * size
+ *       elements, space 2 * size * size, and places size places. BF_UNSOLVABLE unless the matrix has an inverse.
+ *   bf_F_matrix_solve(matrix, rows, columns, right, solution, space, places)  solution: a solution x of matrix * x =
+ *       right, of rows equations in columns unknowns, in space for rows times columns + 1 elements and rows places; an
+ *       unknown that the others leave open is 0. BF_LENGTH unless matrix has rows * columns elements, right rows, solution
+ *       columns, space rows * (columns + 1), and places rows places. BF_UNSOLVABLE unless there is a solution.
+ *
+ * In gf2, t2 and t4 each word that is read is an element, else BF_NOT_AN_ELEMENT, which comes behind BF_LENGTH. A number of rows or of
+ * columns may be 0.
+ *
  * Threads. A call reads and writes its arguments alone and keeps nothing, so that threads may call at the same time, as long as
  * none writes what another reads or writes. Nothing is claimed on timing; of bf_tags_are_equal it is said what was looked at.
  */
@@ -94,6 +118,8 @@ typedef struct bf_u192 {
 #define BF_CODE 4u
 /* Too few shards are present. */
 #define BF_TOO_FEW_SHARDS 5u
+/* The equations have no solution, or the matrix has no inverse. */
+#define BF_UNSOLVABLE 6u
 
 /* The sentence of a status, without a full stop. It never returns NULL. */
 static inline const char *bf_status_text(uint32_t status)
@@ -105,6 +131,7 @@ static inline const char *bf_status_text(uint32_t status)
     case BF_MEMORY: return "out of memory, which no function of this version returns";
     case BF_CODE: return "invalid shard counts";
     case BF_TOO_FEW_SHARDS: return "too few shards are present";
+    case BF_UNSOLVABLE: return "the equations have no solution, or the matrix has no inverse";
     default: return "unknown status";
     }
 }
@@ -400,6 +427,82 @@ uint32_t bf_p192_inverse_in_place(bf_u192 *values, size_t values_length) BF_CHEC
 uint32_t bf_p192_square_root_in_place(bf_u192 *values, size_t values_length) BF_CHECKED;
 uint32_t bf_p192_power_in_place(bf_u192 *values, size_t values_length, uint64_t exponent) BF_CHECKED;
 uint32_t bf_p192_generator(bf_u192 *generator) BF_CHECKED BF_NONNULL(1);
+
+/* --------------------------------------------------------------------------------------------------------------------- */
+/* Matrices over each field. */
+
+uint32_t bf_gf2_matrix_multiply(const uint8_t *left, size_t left_length, const uint8_t *right, size_t right_length, uint8_t *product, size_t product_length, size_t rows, size_t inner, size_t columns) BF_CHECKED;
+uint32_t bf_gf2_matrix_row_reduce(uint8_t *matrix, size_t matrix_length, size_t rows, size_t columns, size_t *pivots, size_t pivots_length, size_t *rank) BF_CHECKED BF_NONNULL(7);
+uint32_t bf_gf2_matrix_rank(const uint8_t *matrix, size_t matrix_length, size_t rows, size_t columns, uint8_t *space, size_t space_length, size_t *places, size_t places_length, size_t *rank) BF_CHECKED BF_NONNULL(9);
+uint32_t bf_gf2_matrix_determinant(const uint8_t *matrix, size_t matrix_length, size_t size, uint8_t *space, size_t space_length, uint8_t *determinant) BF_CHECKED BF_NONNULL(6);
+uint32_t bf_gf2_matrix_inverse(const uint8_t *matrix, size_t matrix_length, size_t size, uint8_t *inverse, size_t inverse_length, uint8_t *space, size_t space_length, size_t *places, size_t places_length) BF_CHECKED;
+uint32_t bf_gf2_matrix_solve(const uint8_t *matrix, size_t matrix_length, size_t rows, size_t columns, const uint8_t *right, size_t right_length, uint8_t *solution, size_t solution_length, uint8_t *space, size_t space_length, size_t *places, size_t places_length) BF_CHECKED;
+uint32_t bf_t2_matrix_multiply(const uint8_t *left, size_t left_length, const uint8_t *right, size_t right_length, uint8_t *product, size_t product_length, size_t rows, size_t inner, size_t columns) BF_CHECKED;
+uint32_t bf_t2_matrix_row_reduce(uint8_t *matrix, size_t matrix_length, size_t rows, size_t columns, size_t *pivots, size_t pivots_length, size_t *rank) BF_CHECKED BF_NONNULL(7);
+uint32_t bf_t2_matrix_rank(const uint8_t *matrix, size_t matrix_length, size_t rows, size_t columns, uint8_t *space, size_t space_length, size_t *places, size_t places_length, size_t *rank) BF_CHECKED BF_NONNULL(9);
+uint32_t bf_t2_matrix_determinant(const uint8_t *matrix, size_t matrix_length, size_t size, uint8_t *space, size_t space_length, uint8_t *determinant) BF_CHECKED BF_NONNULL(6);
+uint32_t bf_t2_matrix_inverse(const uint8_t *matrix, size_t matrix_length, size_t size, uint8_t *inverse, size_t inverse_length, uint8_t *space, size_t space_length, size_t *places, size_t places_length) BF_CHECKED;
+uint32_t bf_t2_matrix_solve(const uint8_t *matrix, size_t matrix_length, size_t rows, size_t columns, const uint8_t *right, size_t right_length, uint8_t *solution, size_t solution_length, uint8_t *space, size_t space_length, size_t *places, size_t places_length) BF_CHECKED;
+uint32_t bf_t4_matrix_multiply(const uint8_t *left, size_t left_length, const uint8_t *right, size_t right_length, uint8_t *product, size_t product_length, size_t rows, size_t inner, size_t columns) BF_CHECKED;
+uint32_t bf_t4_matrix_row_reduce(uint8_t *matrix, size_t matrix_length, size_t rows, size_t columns, size_t *pivots, size_t pivots_length, size_t *rank) BF_CHECKED BF_NONNULL(7);
+uint32_t bf_t4_matrix_rank(const uint8_t *matrix, size_t matrix_length, size_t rows, size_t columns, uint8_t *space, size_t space_length, size_t *places, size_t places_length, size_t *rank) BF_CHECKED BF_NONNULL(9);
+uint32_t bf_t4_matrix_determinant(const uint8_t *matrix, size_t matrix_length, size_t size, uint8_t *space, size_t space_length, uint8_t *determinant) BF_CHECKED BF_NONNULL(6);
+uint32_t bf_t4_matrix_inverse(const uint8_t *matrix, size_t matrix_length, size_t size, uint8_t *inverse, size_t inverse_length, uint8_t *space, size_t space_length, size_t *places, size_t places_length) BF_CHECKED;
+uint32_t bf_t4_matrix_solve(const uint8_t *matrix, size_t matrix_length, size_t rows, size_t columns, const uint8_t *right, size_t right_length, uint8_t *solution, size_t solution_length, uint8_t *space, size_t space_length, size_t *places, size_t places_length) BF_CHECKED;
+uint32_t bf_t8_matrix_multiply(const uint8_t *left, size_t left_length, const uint8_t *right, size_t right_length, uint8_t *product, size_t product_length, size_t rows, size_t inner, size_t columns) BF_CHECKED;
+uint32_t bf_t8_matrix_row_reduce(uint8_t *matrix, size_t matrix_length, size_t rows, size_t columns, size_t *pivots, size_t pivots_length, size_t *rank) BF_CHECKED BF_NONNULL(7);
+uint32_t bf_t8_matrix_rank(const uint8_t *matrix, size_t matrix_length, size_t rows, size_t columns, uint8_t *space, size_t space_length, size_t *places, size_t places_length, size_t *rank) BF_CHECKED BF_NONNULL(9);
+uint32_t bf_t8_matrix_determinant(const uint8_t *matrix, size_t matrix_length, size_t size, uint8_t *space, size_t space_length, uint8_t *determinant) BF_CHECKED BF_NONNULL(6);
+uint32_t bf_t8_matrix_inverse(const uint8_t *matrix, size_t matrix_length, size_t size, uint8_t *inverse, size_t inverse_length, uint8_t *space, size_t space_length, size_t *places, size_t places_length) BF_CHECKED;
+uint32_t bf_t8_matrix_solve(const uint8_t *matrix, size_t matrix_length, size_t rows, size_t columns, const uint8_t *right, size_t right_length, uint8_t *solution, size_t solution_length, uint8_t *space, size_t space_length, size_t *places, size_t places_length) BF_CHECKED;
+uint32_t bf_t16_matrix_multiply(const uint16_t *left, size_t left_length, const uint16_t *right, size_t right_length, uint16_t *product, size_t product_length, size_t rows, size_t inner, size_t columns) BF_CHECKED;
+uint32_t bf_t16_matrix_row_reduce(uint16_t *matrix, size_t matrix_length, size_t rows, size_t columns, size_t *pivots, size_t pivots_length, size_t *rank) BF_CHECKED BF_NONNULL(7);
+uint32_t bf_t16_matrix_rank(const uint16_t *matrix, size_t matrix_length, size_t rows, size_t columns, uint16_t *space, size_t space_length, size_t *places, size_t places_length, size_t *rank) BF_CHECKED BF_NONNULL(9);
+uint32_t bf_t16_matrix_determinant(const uint16_t *matrix, size_t matrix_length, size_t size, uint16_t *space, size_t space_length, uint16_t *determinant) BF_CHECKED BF_NONNULL(6);
+uint32_t bf_t16_matrix_inverse(const uint16_t *matrix, size_t matrix_length, size_t size, uint16_t *inverse, size_t inverse_length, uint16_t *space, size_t space_length, size_t *places, size_t places_length) BF_CHECKED;
+uint32_t bf_t16_matrix_solve(const uint16_t *matrix, size_t matrix_length, size_t rows, size_t columns, const uint16_t *right, size_t right_length, uint16_t *solution, size_t solution_length, uint16_t *space, size_t space_length, size_t *places, size_t places_length) BF_CHECKED;
+uint32_t bf_t32_matrix_multiply(const uint32_t *left, size_t left_length, const uint32_t *right, size_t right_length, uint32_t *product, size_t product_length, size_t rows, size_t inner, size_t columns) BF_CHECKED;
+uint32_t bf_t32_matrix_row_reduce(uint32_t *matrix, size_t matrix_length, size_t rows, size_t columns, size_t *pivots, size_t pivots_length, size_t *rank) BF_CHECKED BF_NONNULL(7);
+uint32_t bf_t32_matrix_rank(const uint32_t *matrix, size_t matrix_length, size_t rows, size_t columns, uint32_t *space, size_t space_length, size_t *places, size_t places_length, size_t *rank) BF_CHECKED BF_NONNULL(9);
+uint32_t bf_t32_matrix_determinant(const uint32_t *matrix, size_t matrix_length, size_t size, uint32_t *space, size_t space_length, uint32_t *determinant) BF_CHECKED BF_NONNULL(6);
+uint32_t bf_t32_matrix_inverse(const uint32_t *matrix, size_t matrix_length, size_t size, uint32_t *inverse, size_t inverse_length, uint32_t *space, size_t space_length, size_t *places, size_t places_length) BF_CHECKED;
+uint32_t bf_t32_matrix_solve(const uint32_t *matrix, size_t matrix_length, size_t rows, size_t columns, const uint32_t *right, size_t right_length, uint32_t *solution, size_t solution_length, uint32_t *space, size_t space_length, size_t *places, size_t places_length) BF_CHECKED;
+uint32_t bf_t64_matrix_multiply(const uint64_t *left, size_t left_length, const uint64_t *right, size_t right_length, uint64_t *product, size_t product_length, size_t rows, size_t inner, size_t columns) BF_CHECKED;
+uint32_t bf_t64_matrix_row_reduce(uint64_t *matrix, size_t matrix_length, size_t rows, size_t columns, size_t *pivots, size_t pivots_length, size_t *rank) BF_CHECKED BF_NONNULL(7);
+uint32_t bf_t64_matrix_rank(const uint64_t *matrix, size_t matrix_length, size_t rows, size_t columns, uint64_t *space, size_t space_length, size_t *places, size_t places_length, size_t *rank) BF_CHECKED BF_NONNULL(9);
+uint32_t bf_t64_matrix_determinant(const uint64_t *matrix, size_t matrix_length, size_t size, uint64_t *space, size_t space_length, uint64_t *determinant) BF_CHECKED BF_NONNULL(6);
+uint32_t bf_t64_matrix_inverse(const uint64_t *matrix, size_t matrix_length, size_t size, uint64_t *inverse, size_t inverse_length, uint64_t *space, size_t space_length, size_t *places, size_t places_length) BF_CHECKED;
+uint32_t bf_t64_matrix_solve(const uint64_t *matrix, size_t matrix_length, size_t rows, size_t columns, const uint64_t *right, size_t right_length, uint64_t *solution, size_t solution_length, uint64_t *space, size_t space_length, size_t *places, size_t places_length) BF_CHECKED;
+uint32_t bf_t128_matrix_multiply(const bf_u128 *left, size_t left_length, const bf_u128 *right, size_t right_length, bf_u128 *product, size_t product_length, size_t rows, size_t inner, size_t columns) BF_CHECKED;
+uint32_t bf_t128_matrix_row_reduce(bf_u128 *matrix, size_t matrix_length, size_t rows, size_t columns, size_t *pivots, size_t pivots_length, size_t *rank) BF_CHECKED BF_NONNULL(7);
+uint32_t bf_t128_matrix_rank(const bf_u128 *matrix, size_t matrix_length, size_t rows, size_t columns, bf_u128 *space, size_t space_length, size_t *places, size_t places_length, size_t *rank) BF_CHECKED BF_NONNULL(9);
+uint32_t bf_t128_matrix_determinant(const bf_u128 *matrix, size_t matrix_length, size_t size, bf_u128 *space, size_t space_length, bf_u128 *determinant) BF_CHECKED BF_NONNULL(6);
+uint32_t bf_t128_matrix_inverse(const bf_u128 *matrix, size_t matrix_length, size_t size, bf_u128 *inverse, size_t inverse_length, bf_u128 *space, size_t space_length, size_t *places, size_t places_length) BF_CHECKED;
+uint32_t bf_t128_matrix_solve(const bf_u128 *matrix, size_t matrix_length, size_t rows, size_t columns, const bf_u128 *right, size_t right_length, bf_u128 *solution, size_t solution_length, bf_u128 *space, size_t space_length, size_t *places, size_t places_length) BF_CHECKED;
+uint32_t bf_r8_matrix_multiply(const uint8_t *left, size_t left_length, const uint8_t *right, size_t right_length, uint8_t *product, size_t product_length, size_t rows, size_t inner, size_t columns) BF_CHECKED;
+uint32_t bf_r8_matrix_row_reduce(uint8_t *matrix, size_t matrix_length, size_t rows, size_t columns, size_t *pivots, size_t pivots_length, size_t *rank) BF_CHECKED BF_NONNULL(7);
+uint32_t bf_r8_matrix_rank(const uint8_t *matrix, size_t matrix_length, size_t rows, size_t columns, uint8_t *space, size_t space_length, size_t *places, size_t places_length, size_t *rank) BF_CHECKED BF_NONNULL(9);
+uint32_t bf_r8_matrix_determinant(const uint8_t *matrix, size_t matrix_length, size_t size, uint8_t *space, size_t space_length, uint8_t *determinant) BF_CHECKED BF_NONNULL(6);
+uint32_t bf_r8_matrix_inverse(const uint8_t *matrix, size_t matrix_length, size_t size, uint8_t *inverse, size_t inverse_length, uint8_t *space, size_t space_length, size_t *places, size_t places_length) BF_CHECKED;
+uint32_t bf_r8_matrix_solve(const uint8_t *matrix, size_t matrix_length, size_t rows, size_t columns, const uint8_t *right, size_t right_length, uint8_t *solution, size_t solution_length, uint8_t *space, size_t space_length, size_t *places, size_t places_length) BF_CHECKED;
+uint32_t bf_p64_matrix_multiply(const uint64_t *left, size_t left_length, const uint64_t *right, size_t right_length, uint64_t *product, size_t product_length, size_t rows, size_t inner, size_t columns) BF_CHECKED;
+uint32_t bf_p64_matrix_row_reduce(uint64_t *matrix, size_t matrix_length, size_t rows, size_t columns, size_t *pivots, size_t pivots_length, size_t *rank) BF_CHECKED BF_NONNULL(7);
+uint32_t bf_p64_matrix_rank(const uint64_t *matrix, size_t matrix_length, size_t rows, size_t columns, uint64_t *space, size_t space_length, size_t *places, size_t places_length, size_t *rank) BF_CHECKED BF_NONNULL(9);
+uint32_t bf_p64_matrix_determinant(const uint64_t *matrix, size_t matrix_length, size_t size, uint64_t *space, size_t space_length, uint64_t *determinant) BF_CHECKED BF_NONNULL(6);
+uint32_t bf_p64_matrix_inverse(const uint64_t *matrix, size_t matrix_length, size_t size, uint64_t *inverse, size_t inverse_length, uint64_t *space, size_t space_length, size_t *places, size_t places_length) BF_CHECKED;
+uint32_t bf_p64_matrix_solve(const uint64_t *matrix, size_t matrix_length, size_t rows, size_t columns, const uint64_t *right, size_t right_length, uint64_t *solution, size_t solution_length, uint64_t *space, size_t space_length, size_t *places, size_t places_length) BF_CHECKED;
+uint32_t bf_g128_matrix_multiply(const bf_u128 *left, size_t left_length, const bf_u128 *right, size_t right_length, bf_u128 *product, size_t product_length, size_t rows, size_t inner, size_t columns) BF_CHECKED;
+uint32_t bf_g128_matrix_row_reduce(bf_u128 *matrix, size_t matrix_length, size_t rows, size_t columns, size_t *pivots, size_t pivots_length, size_t *rank) BF_CHECKED BF_NONNULL(7);
+uint32_t bf_g128_matrix_rank(const bf_u128 *matrix, size_t matrix_length, size_t rows, size_t columns, bf_u128 *space, size_t space_length, size_t *places, size_t places_length, size_t *rank) BF_CHECKED BF_NONNULL(9);
+uint32_t bf_g128_matrix_determinant(const bf_u128 *matrix, size_t matrix_length, size_t size, bf_u128 *space, size_t space_length, bf_u128 *determinant) BF_CHECKED BF_NONNULL(6);
+uint32_t bf_g128_matrix_inverse(const bf_u128 *matrix, size_t matrix_length, size_t size, bf_u128 *inverse, size_t inverse_length, bf_u128 *space, size_t space_length, size_t *places, size_t places_length) BF_CHECKED;
+uint32_t bf_g128_matrix_solve(const bf_u128 *matrix, size_t matrix_length, size_t rows, size_t columns, const bf_u128 *right, size_t right_length, bf_u128 *solution, size_t solution_length, bf_u128 *space, size_t space_length, size_t *places, size_t places_length) BF_CHECKED;
+uint32_t bf_p192_matrix_multiply(const bf_u192 *left, size_t left_length, const bf_u192 *right, size_t right_length, bf_u192 *product, size_t product_length, size_t rows, size_t inner, size_t columns) BF_CHECKED;
+uint32_t bf_p192_matrix_row_reduce(bf_u192 *matrix, size_t matrix_length, size_t rows, size_t columns, size_t *pivots, size_t pivots_length, size_t *rank) BF_CHECKED BF_NONNULL(7);
+uint32_t bf_p192_matrix_rank(const bf_u192 *matrix, size_t matrix_length, size_t rows, size_t columns, bf_u192 *space, size_t space_length, size_t *places, size_t places_length, size_t *rank) BF_CHECKED BF_NONNULL(9);
+uint32_t bf_p192_matrix_determinant(const bf_u192 *matrix, size_t matrix_length, size_t size, bf_u192 *space, size_t space_length, bf_u192 *determinant) BF_CHECKED BF_NONNULL(6);
+uint32_t bf_p192_matrix_inverse(const bf_u192 *matrix, size_t matrix_length, size_t size, bf_u192 *inverse, size_t inverse_length, bf_u192 *space, size_t space_length, size_t *places, size_t places_length) BF_CHECKED;
+uint32_t bf_p192_matrix_solve(const bf_u192 *matrix, size_t matrix_length, size_t rows, size_t columns, const bf_u192 *right, size_t right_length, bf_u192 *solution, size_t solution_length, bf_u192 *space, size_t space_length, size_t *places, size_t places_length) BF_CHECKED;
 
 /* --------------------------------------------------------------------------------------------------------------------- */
 /* Changes of basis, and linear maps over GF(2). */
@@ -714,6 +817,12 @@ uint32_t bf_p64_inverse_wide(const uint64_t *values, size_t values_length, uint6
 uint32_t bf_p64_batch_inverse_wide(const uint64_t *values, size_t values_length, uint64_t *inverses, size_t inverses_length) BF_CHECKED;
 uint32_t bf_g128_inverse_wide(const bf_u128 *values, size_t values_length, bf_u128 *inverses, size_t inverses_length) BF_CHECKED;
 uint32_t bf_g128_batch_inverse_wide(const bf_u128 *values, size_t values_length, bf_u128 *inverses, size_t inverses_length) BF_CHECKED;
+uint32_t bf_g128_matrix_multiply_wide(const bf_u128 *left, size_t left_length, const bf_u128 *right, size_t right_length, bf_u128 *product, size_t product_length, size_t rows, size_t inner, size_t columns) BF_CHECKED;
+uint32_t bf_g128_matrix_row_reduce_wide(bf_u128 *matrix, size_t matrix_length, size_t rows, size_t columns, size_t *pivots, size_t pivots_length, size_t *rank) BF_CHECKED BF_NONNULL(7);
+uint32_t bf_g128_matrix_rank_wide(const bf_u128 *matrix, size_t matrix_length, size_t rows, size_t columns, bf_u128 *space, size_t space_length, size_t *places, size_t places_length, size_t *rank) BF_CHECKED BF_NONNULL(9);
+uint32_t bf_g128_matrix_determinant_wide(const bf_u128 *matrix, size_t matrix_length, size_t size, bf_u128 *space, size_t space_length, bf_u128 *determinant) BF_CHECKED BF_NONNULL(6);
+uint32_t bf_g128_matrix_inverse_wide(const bf_u128 *matrix, size_t matrix_length, size_t size, bf_u128 *inverse, size_t inverse_length, bf_u128 *space, size_t space_length, size_t *places, size_t places_length) BF_CHECKED;
+uint32_t bf_g128_matrix_solve_wide(const bf_u128 *matrix, size_t matrix_length, size_t rows, size_t columns, const bf_u128 *right, size_t right_length, bf_u128 *solution, size_t solution_length, bf_u128 *space, size_t space_length, size_t *places, size_t places_length) BF_CHECKED;
 
 /* Writes the shards of parity of shards that stand apart, each of size bytes: the pointers are those of the shards of data and of parity, of
  * which none of parity overlaps another shard. tables is what bf_rs_prepare wrote for this code. It is bf_rs_add_shard for each pair of shards,

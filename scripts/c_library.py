@@ -21,10 +21,13 @@ STATUSES = [
     ("BF_MEMORY", 3, "out of memory, which no function of this version returns"),
     ("BF_CODE", 4, "invalid shard counts"),
     ("BF_TOO_FEW_SHARDS", 5, "too few shards are present"),
+    ("BF_UNSOLVABLE", 6, "the equations have no solution, or the matrix has no inverse"),
 ]
 
 # The word of C for each word of the table. The wide ones are structs of words of 64 bits, the lowest first.
-WORDS = {"u8": "uint8_t", "u16": "uint16_t", "u32": "uint32_t", "u64": "uint64_t", "u128": "bf_u128", "u192": "bf_u192"}
+WORDS = {
+    "u8": "uint8_t", "u16": "uint16_t", "u32": "uint32_t", "u64": "uint64_t", "u128": "bf_u128", "u192": "bf_u192", "usize": "size_t",
+}
 
 # For every field, as bf_FIELD_NAME. Arrays have one length unless the text says otherwise.
 FIELD_FUNCTIONS = [
@@ -49,6 +52,26 @@ FIELD_FUNCTIONS = [
     ("square_root_in_place", [("inout", "values")], "leaves the square root of each element"),
     ("power_in_place", [("inout", "values"), ("number", "exponent")], "raises each element to the power of the exponent; to the power 0 it is 1"),
     ("generator", [("result", "generator")], "the generator of the field's multiplicative group that the library names"),
+]
+
+# For every field too: matrices, whose elements stand row after row.
+MATRIX_FUNCTIONS = [
+    ("matrix_multiply", [("in", "left"), ("in", "right"), ("out", "product"), ("count", "rows"), ("count", "inner"), ("count", "columns")],
+     "the product of left, of rows rows of inner elements, and right, of inner rows of columns elements"),
+    ("matrix_row_reduce", [("inout", "matrix"), ("count", "rows"), ("count", "columns"), ("out", "pivots", "usize"), ("result", "rank", "usize")],
+     "brings a matrix of rows rows of columns elements to reduced row echelon form; rank is its rank, and the first rank of the rows places of pivots "
+     "are the columns of its leading entries"),
+    ("matrix_rank", [("in", "matrix"), ("count", "rows"), ("count", "columns"), ("space", "space"), ("space", "places", "usize"),
+                     ("result", "rank", "usize")],
+     "the rank of a matrix of rows rows of columns elements, in as much space and rows places"),
+    ("matrix_determinant", [("in", "matrix"), ("count", "size"), ("space", "space"), ("result", "determinant")],
+     "the determinant of a matrix of size rows of size elements, in as much space; 1 of no rows"),
+    ("matrix_inverse", [("in", "matrix"), ("count", "size"), ("out", "inverse"), ("space", "space"), ("space", "places", "usize")],
+     "the inverse of a matrix of size rows of size elements, in space for two of these and size places"),
+    ("matrix_solve", [("in", "matrix"), ("count", "rows"), ("count", "columns"), ("in", "right"), ("out", "solution"), ("space", "space"),
+                      ("space", "places", "usize")],
+     "a solution x of matrix * x = right, of rows equations in columns unknowns, in space for rows times columns + 1 elements and rows places; an unknown "
+     "that the others leave open is 0"),
 ]
 
 # (name, parameters, what it computes). The word of every parameter stands in it.
@@ -136,6 +159,7 @@ WIDE = [
     "g128_butterfly_forward", "g128_butterfly_inverse", "g128_low_stages", "g128_transform", "g128_inverse_transform",
     *[f"{field}_{name}" for field in ("t16", "t32", "t64", "t128") for name in ("multiply", "inverse", "batch_inverse")],
     *[f"{field}_{name}" for field in ("p64", "g128") for name in ("inverse", "batch_inverse")],
+    *[f"g128_{name}" for name, _, _ in MATRIX_FUNCTIONS],
 ]
 
 # These return no status.
@@ -163,9 +187,10 @@ def typed(parameters, word):
 
 def first_functions():
     """Those that are no second forms."""
-    for field in FIELDS:
-        for name, parameters, text in FIELD_FUNCTIONS:
-            yield f"{field.name}_{name}", typed(parameters, field.word), text
+    for functions in (FIELD_FUNCTIONS, MATRIX_FUNCTIONS):
+        for field in FIELDS:
+            for name, parameters, text in functions:
+                yield f"{field.name}_{name}", typed(parameters, field.word), text
     for name, parameters, text in OTHER_FUNCTIONS:
         yield name, [it if len(it) == 3 else (*it, "u64") for it in parameters], text
 

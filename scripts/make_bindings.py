@@ -22,7 +22,7 @@ from make_c_header import ARRAYS, sections, told
 
 WRITTEN = files.generated("make_bindings.py")
 # The words of the library as Rust passes them, and as an element holds them.
-PASSED = {"u8": "u8", "u16": "u16", "u32": "u32", "u64": "u64", "u128": "[u64; 2]", "u192": "[u64; 3]"}
+PASSED = {"u8": "u8", "u16": "u16", "u32": "u32", "u64": "u64", "u128": "[u64; 2]", "u192": "[u64; 3]", "usize": "usize"}
 HELD = PASSED | {"u128": "u128"}
 # What a field of the Rust crate calls of the functions that every field has.
 RUST_FUNCTIONS = (

@@ -133,6 +133,16 @@ for _name, _clause in (
 ):
     OTHER_CALLS[f"erasure_{_name}"] = ["erasure", f"erasure_{_name}::<u16, Bits16>", _clause]
 
+# The functions of matrices: the contract over a field.
+MATRIX_CALLS = {row.split()[0]: row.split(maxsplit=1)[1] for row in """\
+matrix_multiply     MultipliesMatrices {} rows inner columns left.now right.now product.old product.new result
+matrix_row_reduce   ReducesRows {} rows columns matrix.old pivots.old rank.old matrix.new pivots.new rank.new result
+matrix_rank         TakesRank {} rows columns matrix.now (length space.old) (length places.old) rank.old rank.new result
+matrix_determinant  TakesDeterminant {} size matrix.now (length space.old) determinant.old determinant.new result
+matrix_inverse      InvertsMatrix {} size matrix.now (length space.old) (length places.old) inverse.old inverse.new result
+matrix_solve        SolvesEquations {} rows columns matrix.now right.now (length space.old) (length places.old) solution.old solution.new result
+""".splitlines()}
+
 # What each file of such functions has.
 ABOUT = {
     "changes": "Calls over slices of elements of a level of the tower, and of their images in a field of polynomials.",
@@ -163,10 +173,13 @@ HOMES = {
     "c_arithmetic.specs.Fields": [
         "cubic_field", "ghash_field", "itself", "level_field", "poly64_field", "rijndael_field", "wide_level_field", "wide_number",
     ],
+    "c_matrices.specs.Matrices": ["InvertsMatrix", "MultipliesMatrices", "ReducesRows", "SolvesEquations", "TakesDeterminant", "TakesRank"],
 }
 
 # The columns of a line of code, of those that `rt fmt` does not break, and of a contract.
 COLUMNS, LONG_COLUMNS, CONTRACT_COLUMNS = 100, 135, 140
+# The length of an argument that shares a line where a call does not fit one.
+SHORT = 10
 
 
 def parameter(kind, name, word):
@@ -223,7 +236,9 @@ def function(name, parameters, text, called, clause, more=(), inside=()):
     passed = [*arguments, *more]
     body = f"    {called}({', '.join(passed)})"
     if len(body) > COLUMNS:
-        rows = "".join(f"        {it},\n" for it in passed)
+        # Short arguments share their lines.
+        lines = [", ".join(passed)] if all(len(it) <= SHORT for it in passed) else passed
+        rows = "".join(f"        {it},\n" for it in lines)
         body = f"    {called}(\n{rows}    )"
     return "\n".join([
         *(f"/// {it}" for it in textwrap.wrap(c_library.sentence(text, parameters), LONG_COLUMNS)),
@@ -288,6 +303,15 @@ def field_function(field, name, parameters, text):
     return function(f"{field.name}_{name}", typed, text, called, clause, more, inside)
 
 
+def matrix_function(field, name, parameters, text, vector=NARROW):
+    """A function of matrices over a field, whose rows are added in planes, in lanes or one by one."""
+    own = name.removesuffix("_wide")
+    rows = "InPlanes" if field.name in PLANED else f"InLanes<{vector}>" if field.name == "g128" else "OneByOne"
+    called = called_over(field, f"c_matrices::{own.removeprefix('matrix_')}", f", {rows}")
+    named = f"({field.contract})" if " " in field.contract else field.contract
+    return function(f"{field.name}_{name}", parameters, text, called, MATRIX_CALLS[own].format(named))
+
+
 def change_of_basis(name, parameters, text):
     """A change of basis: the field of polynomials that it goes to or comes from has the map."""
     source, image = (fields.field_named(it) for it in name.split("_to_"))
@@ -309,6 +333,8 @@ def other_function(name, parameters, text):
 def wide_function(name, parameters):
     """The second form of a function."""
     field_name, own = name.split("_", 1)
+    if own in MATRIX_CALLS:
+        return matrix_function(fields.field_named(field_name), f"{own}_wide", parameters, f"the same as `bf_{name}`", WIDE)
     if name in OTHER_CALLS:
         _, call, clause = OTHER_CALLS[name]
         called = of_width(call, WIDE)
@@ -352,10 +378,12 @@ def used(bodies):
     names = set(re.findall(r"[&\[]&?(Wide|Cubic)\b|<\w+,(?: \w+,)? (?!u64x)(\w+)(?:<(\w+)>)?(?:, \w+)?>|\b(slices)::|\b(in_place)::|\b(in_planes)::|\b(in_slices)::", bodies))
     words = [*WORDS.values(), *STORED.values()]
     named = {it for group in names for it in group if it} | {it for it in words if re.search(rf"\b{it}\b", bodies)}
-    named -= {NARROW, WIDE}
+    rows = {it for it in ("InLanes", "InPlanes", "OneByOne") if re.search(rf"\b{it}\b", bodies)}
+    named -= {NARROW, WIDE, *rows}
     lines = [f"use c_arithmetic::operations::{{{', '.join(operations)}}};"] if operations else []
     if named:
         lines.append(import_of(", ".join(sorted(named, key=in_order))) if len(named) > 1 else f"use c_arithmetic::{named.pop()};")
+    lines += [f"use c_matrices::rows::{', '.join(rows)};"] if rows else []
     lines += ["use std::simd::prelude::*;"] if re.search(rf"\b({NARROW}|{WIDE})\b", bodies) else []
     return [*lines, ""] if lines else []
 
@@ -397,6 +425,9 @@ pub extern "C" fn bf_{name}() -> u32
 def main():
     for field in fields.FIELDS:
         functions = [field_function(field, *it) for it in c_library.FIELD_FUNCTIONS]
+        functions += [
+            matrix_function(field, name, c_library.typed(parameters, field.word), text) for name, parameters, text in c_library.MATRIX_FUNCTIONS
+        ]
         write(field.name, f"Calls over slices of elements of {field.about}.", functions)
     groups = {it: [] for it in ABOUT}
     named = {name: parameters for name, parameters, _ in c_library.first_functions()}

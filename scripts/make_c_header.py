@@ -40,6 +40,12 @@ LENGTHS = {
     "prepared": "tables has the bytes that bf_rs_tables_length gives, and shards a multiple, but not 0, of data + parity",
     "reconstruct": "shards has a multiple, but not 0, of data + parity bytes, and present has data + parity",
     "reconstruct_data": "shards has a multiple, but not 0, of data + parity bytes, and present has data + parity",
+    "matrix_multiply": "left has rows * inner elements, right inner * columns, and product rows * columns",
+    "matrix_row_reduce": "matrix has rows * columns elements, and pivots rows places",
+    "matrix_rank": "matrix and space have rows * columns elements, and places has rows places",
+    "matrix_determinant": "matrix and space have size * size elements",
+    "matrix_inverse": "matrix and inverse have size * size elements, space 2 * size * size, and places size places",
+    "matrix_solve": "matrix has rows * columns elements, right rows, solution columns, space rows * (columns + 1), and places rows places",
     "erasure_space": "",
     "erasure_encode": ERASURE_LENGTHS,
     "erasure_verify": ERASURE_LENGTHS,
@@ -72,6 +78,10 @@ def statuses_of(name, parameters, bits):
         yield "BF_LENGTH", lengths
     if bits < 8 and any(it[0] in ("in", "inout", "scalar") for it in parameters):
         yield "BF_NOT_AN_ELEMENT", f"each word that is read is below {1 << bits}"
+    if name.removesuffix("_wide").endswith("matrix_inverse"):
+        yield "BF_UNSOLVABLE", "the matrix has an inverse"
+    if name.removesuffix("_wide").endswith("matrix_solve"):
+        yield "BF_UNSOLVABLE", "there is a solution"
     if "reconstruct" in name:
         yield "BF_TOO_FEW_SHARDS", "at least as many entries of present as data are not 0"
 
@@ -85,7 +95,7 @@ def told(name, parameters, bits, text):
     """What a function computes, after the name of what it writes where that is one thing, when it returns which status, and what it takes of
     the stack, where that is much."""
     written = [it[1] for it in parameters if it[0] in ("out", "result")]
-    words = [f"{written[0]}: {text}." if written else sentence(text, parameters)]
+    words = [f"{written[0]}: {text}." if len(written) == 1 else sentence(text, parameters)]
     for status, condition in statuses_of(name, parameters, bits):
         words.append(f"{status} {'if' if status == 'BF_CODE' else 'unless'} {condition}.")
     if name in STACK:
@@ -142,6 +152,16 @@ def table():
     return "".join(f" * {it}\n" for it in lines)
 
 
+def matrix_table():
+    """What the functions of matrices do and when they return which status, as a part of the head's comment."""
+    rows = [(name, parameters, told(name, c_library.typed(parameters, "u64"), 64, text)) for name, parameters, text in c_library.MATRIX_FUNCTIONS]
+    lines = []
+    for name, parameters, text in rows:
+        words = f"bf_F_{name}({', '.join(it[1] for it in parameters)})  {text}"
+        lines += textwrap.wrap(words, 120, initial_indent="  ", subsequent_indent="      ", break_long_words=False)
+    return "".join(f" * {it}\n" for it in lines)
+
+
 def sections():
     """Each section's heading with its functions: their names, parameters, bits of the field (64 for no field), texts."""
     everything = list(c_library.functions())
@@ -152,7 +172,10 @@ def sections():
         below = f", below {1 << field.bits}" if field.bits < 8 else ""
         heading = f"{field.name}: {field.about}. An element is a {c_library.WORDS[field.word]}{below}."
         yield heading, [(*row, field.bits) for row in rows]
-    rest = everything[of_fields:]
+    of_matrices = [(field, it) for field in fields.FIELDS for it in c_library.MATRIX_FUNCTIONS]
+    matrices = everything[of_fields : of_fields + len(of_matrices)]
+    yield "Matrices over each field.", [(*row, field.bits) for (field, _), row in zip(of_matrices, matrices)]
+    rest = everything[of_fields + len(of_matrices) :]
     headings = {
         "t8_to": "Changes of basis, and linear maps over GF(2).",
         "g128_butterfly": "Stages of additive transforms over g128, and the whole transform over g128 and levels of the tower. s_0(x) = x, and s_(j+1)(x) = s_j(x)^2 + s_j(x). "
@@ -188,8 +211,10 @@ def sections():
 
 def header():
     """The header."""
-    of_fields = {f"{field.name}_{name}" for field in fields.FIELDS for name, _, _ in c_library.FIELD_FUNCTIONS}
-    out = [HEAD.format(version=fields.VERSION_NUMBER, number=fields.VERSION_TEXT, written=files.generated("make_c_header.py"), table=table())]
+    of_every_field = [*c_library.FIELD_FUNCTIONS, *c_library.MATRIX_FUNCTIONS]
+    of_fields = {f"{field.name}_{name}" for field in fields.FIELDS for name, _, _ in of_every_field}
+    written = files.generated("make_c_header.py")
+    out = [HEAD.format(version=fields.VERSION_NUMBER, number=fields.VERSION_TEXT, written=written, table=table(), matrices=matrix_table())]
     for name, value, text in c_library.STATUSES:
         out.append(comment(sentence(text)))
         out.append(f"#define {name} {value}u\n")
@@ -233,6 +258,12 @@ HEAD = """\
 {table} *
  * Arrays have one length, but for evaluate, of whose arrays points and values have one, and coefficients any: else the status is
  * BF_LENGTH. In gf2, t2 and t4 each word that is read is an element: else it is BF_NOT_AN_ELEMENT.
+ *
+ * Matrices. The elements of a matrix stand row after row. For each field F:
+ *
+{matrices} *
+ * In gf2, t2 and t4 each word that is read is an element, else BF_NOT_AN_ELEMENT, which comes behind BF_LENGTH. A number of rows or of
+ * columns may be 0.
  *
  * Threads. A call reads and writes its arguments alone and keeps nothing, so that threads may call at the same time, as long as
  * none writes what another reads or writes. Nothing is claimed on timing; of bf_tags_are_equal it is said what was looked at.

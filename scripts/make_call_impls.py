@@ -1,5 +1,6 @@
 #!/usr/bin/env python3
-"""Writes what a call over words of a level of the tower computes them in: planes of bytes, and slices of bits (c_arithmetic)."""
+"""Writes what a call over words of a level of the tower computes them in: planes of bytes, and slices of bits (c_arithmetic), and how rows
+of matrices are added (c_matrices)."""
 
 from string import Template
 
@@ -133,11 +134,36 @@ def in_slices():
         yield OF_IMAGES.substitute(bits=bits, name=name, word=word(bits))
 
 
+# ---- rows
+
+ROWS_HEAD = """\
+// The levels of 8 to 128 bits.
+use super::{AddsRows, InPlanes};
+use c_arithmetic::{Bits8, Bits16, Bits32, Bits64, Bits128, Tower, Wide, in_planes};
+"""
+
+ROWS = Template("""\
+impl AddsRows<u$bits, $word, Tower<Bits$bits>> for InPlanes {
+    #[inline]
+    fn add_scaled(sums: &mut [$word], scalar: $word, words: &[$word]) -> u32 {
+        in_planes::add_scaled::<u$bits, Tower<Bits$bits>>(sums, scalar, words)
+    }
+}
+""")
+
+
+def rows():
+    yield ROWS_HEAD
+    for bits in LEVELS:
+        yield ROWS.substitute(bits=bits, word=word(bits))
+
+
 if __name__ == "__main__":
     keep_all(
         "make_call_impls.py",
         {
             "c_arithmetic/src/in_planes/impls.rt": in_planes,
             "c_arithmetic/src/in_slices/impls.rt": in_slices,
+            "c_matrices/src/rows/impls.rt": rows,
         },
     )

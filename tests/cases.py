@@ -16,7 +16,9 @@ ARRAYS = ("in", "inout", "out", "space")
 REPLAYED = pathlib.Path(__file__).resolve().parent / "replayed_calls.txt"
 STATUS = {name: value for name, value, _ in c_library.STATUSES}
 FUNCTIONS = {name: parameters for name, parameters, _ in c_library.functions()}
-SIZES = {"u8": 1, "u16": 2, "u32": 4, "u64": 8, "u128": 16, "u192": 24}
+SIZES = {"u8": 1, "u16": 2, "u32": 4, "u64": 8, "u128": 16, "u192": 24, "usize": 8}
+# A place that no call writes, as the programs fill what is only written.
+UNWRITTEN = int.from_bytes(bytes([0xA5] * 8), "little")
 
 
 @dataclasses.dataclass
@@ -125,6 +127,59 @@ def evaluated(field, coefficients, points):
                 known[point] = field.multiply(known[point], point) ^ it
         values.append(known[point])
     return case(f"{field.name}_evaluate", coefficients, points, values, each=len(points), whole=("coefficients",))
+
+
+def matrix_cases(field, draw):
+    """Matrices of every shape, with rows that are short and long, of every rank, with an inverse and without, and equations with a solution and
+    without."""
+    name = lambda it: f"{field.name}_matrix_{it}"
+    for rows, inner, columns in ((2, 3, 4), (0, 0, 0), (1, 1, 1), (3, 0, 2), (0, 3, 2), (2, 3, 0), (5, 1, 2), (1, 4, 1), (3, 5, 40), (2, 33, 33)):
+        left, right = drawn(field, draw, rows * inner), drawn(field, draw, inner * columns, 24)
+        product = field.matrix_product(left, right, rows, inner, columns)
+        yield case(name("multiply"), left, right, product, rows, inner, columns)
+    for rows, columns, most in ((3, 4, 3), (0, 0, 0), (0, 3, 0), (3, 0, 0), (1, 1, 1), (1, 1, 0), (4, 4, 2), (5, 3, 3), (3, 5, 1), (4, 40, 3), (2, 33, 2)):
+        # The product of a matrix of so many columns and one of so many rows has no higher rank.
+        matrix = field.matrix_product(drawn(field, draw, rows * most), drawn(field, draw, most * columns), rows, most, columns)
+        form, pivots = field.echelon(matrix, rows, columns)
+        rank = len(pivots)
+        yield case(name("row_reduce"), (matrix, form), rows, columns, pivots + [UNWRITTEN] * (rows - rank), [rank])
+        yield case(name("rank"), matrix, rows, columns, rows * columns, rows, [rank])
+    for size, most in ((3, 3), (0, 0), (1, 1), (1, 0), (2, 2), (2, 1), (4, 4), (4, 3), (5, 5), (17, 17)):
+        matrix = field.matrix_product(drawn(field, draw, size * most), drawn(field, draw, most * size), size, most, size)
+        if most == size:
+            matrix = invertible(field, draw, size)
+        inverse = field.matrix_inverse(matrix, size)
+        if size < 6:
+            assert (inverse is None) == (field.determinant(matrix, size) == 0)
+            yield case(name("determinant"), matrix, size, size * size, [field.determinant(matrix, size)])
+        made = case(name("inverse"), matrix, size, inverse or [0] * (size * size), 2 * size * size, size)
+        yield refused(made, "BF_UNSOLVABLE") if inverse is None else made
+    for rows, columns, most in ((3, 3, 3), (0, 0, 0), (0, 2, 0), (1, 1, 1), (2, 4, 2), (4, 2, 2), (4, 4, 2), (3, 33, 2), (2, 0, 0)):
+        matrix = field.matrix_product(drawn(field, draw, rows * most), drawn(field, draw, most * columns), rows, most, columns)
+        solvable = field.matrix_product(matrix, drawn(field, draw, columns), rows, columns, 1)
+        for right in (solvable, [it ^ 1 for it in solvable]):
+            found = field.solution(matrix, right, rows, columns)
+            made = case(name("solve"), matrix, rows, columns, right, found or [0] * columns, rows * (columns + 1), rows)
+            yield refused(made, "BF_UNSOLVABLE") if found is None else made
+
+
+    # Numbers of entries that 64 bits do not hold.
+    huge, most = 1 << 32, (1 << 64) - 1
+    for it in (
+        case(name("multiply"), [], [], [], huge, huge, huge), case(name("multiply"), [], [], [], most, most, most),
+        case(name("row_reduce"), ([], []), huge, huge, [], [0]), case(name("rank"), [], 0, huge, 0, 1, [0]),
+        case(name("determinant"), [], huge, 0, [0]), case(name("inverse"), [], huge, [], 0, 0), case(name("inverse"), [], 1 << 63, [], 0, 0),
+        case(name("solve"), [], 0, most, [], [], 0, 0), case(name("solve"), [], most, most, [], [], 0, 0),
+    ):
+        yield refused(it, "BF_LENGTH")
+
+
+def invertible(field, draw, size):
+    """A matrix with an inverse, in which rows have to be moved: rows of a triangular one in another order, with sums of others added."""
+    lower = [0 if j > i else 1 if i == j else draw.getrandbits(field.bits) for i in range(size) for j in range(size)]
+    upper = [0 if j < i else draw.getrandbits(field.bits) or 1 if i == j else draw.getrandbits(field.bits) for i in range(size) for j in range(size)]
+    product = field.matrix_product(lower, upper, size, size, size)
+    return [it for i in reversed(range(size)) for it in product[i * size : (i + 1) * size]]
 
 
 def basis_cases(draw):
@@ -425,6 +480,7 @@ def all_cases():
     cases = []
     for field in FIELDS.values():
         cases += field_cases(field, draw)
+        cases += matrix_cases(field, draw)
     for them in (basis_cases, stage_cases, tag_cases, code_cases, erasure_cases, long_cases):
         cases += them(draw)
     cases = list(with_second_forms(cases + list(status_cases(cases))))

@@ -144,6 +144,18 @@ class Functions(unittest.TestCase):
                 for x, y in zip(short, rows):
                     self.assertTrue(np.array_equal(x, y))
 
+    def test_calls_and_numpy(self):
+        """A call of the library for each matrix gives what numpy does with a stack at once."""
+        for field in FIELDS.values():
+            a, b, low = field.random((6, 6), seed=77), field.random((6, 9), seed=78), field.random((6, 2), seed=79) @ field.random((2, 6), seed=80)
+            moved = field.Identity(6)[::-1]
+            ways = (lambda: a @ b, lambda: np.linalg.det(a), lambda: np.linalg.inv(moved),
+                    lambda: LINEAR.echelon(low)[0], lambda: np.linalg.matrix_rank(low), lambda: low.left_null_space(), lambda: b.T.row_space())
+            by_calls = [it() for it in ways]
+            with mock.patch.object(LINEAR, "_FEW", -1):
+                for it, found in zip(ways, by_calls):
+                    self.assertTrue(np.array_equal(it(), found))
+
     def test_what_is_refused(self):
         for field in FIELDS.values():
             a = field.ones((2, 3))

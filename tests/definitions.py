@@ -81,6 +81,67 @@ class Field:
     def roots(self):
         return [self.frobenius(1 << i, self.bits - 1) for i in range(self.bits)]
 
+    # ---- matrices, whose elements stand row after row
+
+    def matrix_product(self, left, right, rows, inner, columns):
+        """Entry (i, j) is the sum of the products of entry (i, k) of the left and entry (k, j) of the right matrix."""
+        return [
+            total(self.multiply(left[i * inner + k], right[k * columns + j]) for k in range(inner)) for i in range(rows) for j in range(columns)
+        ]
+
+    def echelon(self, matrix, rows, columns):
+        """The reduced row echelon form, and the columns of its leading entries: each column in turn is cleared by a row that is not 0 there
+        and that led no column before."""
+        table = [list(matrix[i * columns : (i + 1) * columns]) for i in range(rows)]
+        pivots = []
+        for column in range(columns):
+            rank = len(pivots)
+            found = next((i for i in range(rank, rows) if table[i][column]), None)
+            if found is None:
+                continue
+            scalar = self.inverse(table[found][column])
+            leading = [self.multiply(scalar, it) for it in table[found]]
+            table[found] = table[rank]
+            for i in range(rows):
+                factor = table[i][column]
+                table[i] = [a ^ self.multiply(factor, b) for a, b in zip(table[i], leading)]
+            table[rank] = leading
+            pivots.append(column)
+        return [it for row in table for it in row], pivots
+
+    def determinant(self, matrix, size):
+        """By Laplace's expansion along the first row; the determinants of parts of the last rows are kept by their columns."""
+        known = {(): 1}
+
+        def part(columns):
+            if columns not in known:
+                row = size - len(columns)
+                known[columns] = total(
+                    self.multiply(matrix[row * size + it], part(columns[:at] + columns[at + 1 :])) for at, it in enumerate(columns)
+                )
+            return known[columns]
+
+        return part(tuple(range(size)))
+
+    def matrix_inverse(self, matrix, size):
+        """The right half of the reduced row echelon form of the matrix beside the identity matrix, or None where the left one is not that."""
+        beside = [it for i in range(size) for it in (*matrix[i * size : (i + 1) * size], *(int(i == j) for j in range(size)))]
+        form, pivots = self.echelon(beside, size, 2 * size)
+        if pivots != list(range(size)):
+            return None
+        return [it for i in range(size) for it in form[(2 * i + 1) * size : (2 * i + 2) * size]]
+
+    def solution(self, matrix, right, rows, columns):
+        """The x with matrix x = right that is 0 where no leading entry stands, or None where there is none."""
+        beside = [it for i in range(rows) for it in (*matrix[i * columns : (i + 1) * columns], right[i])]
+        form, pivots = self.echelon(beside, rows, columns + 1)
+        if columns in pivots:
+            return None
+        found = [0] * columns
+        for row, column in enumerate(pivots):
+            found[column] = form[row * (columns + 1) + columns]
+        return found
+
     def has_full_order(self, a):
         """Whether every element but 0 is a power of `a`."""
         order = (1 << self.bits) - 1

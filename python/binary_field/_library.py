@@ -23,6 +23,8 @@ NARROW = {"u8": ctypes.c_uint8, "u16": ctypes.c_uint16, "u32": ctypes.c_uint32, 
 Words = np.ndarray[Any, Any]
 WORDS: dict[str, np.dtype[Any]] = {it: np.dtype(f"<u{int(it[1:]) // 8}") for it in NARROW}
 WORDS |= {it: np.dtype([("words", "<u8", (int(it[1:]) // 64,))], align=True) for it in ("u128", "u192")}
+# A place in an array, as columns of matrices are told.
+WORDS["usize"] = PLACE = np.dtype(np.uintp)
 # The functions whose result at a place is made of what is at that place of the arrays, and of all of those that are taken whole.
 PLACE_BY_PLACE = {
     "add", "add_scaled", "batch_inverse", "butterfly_forward", "butterfly_inverse", "evaluate", "inverse", "linear_map", "multiply",
@@ -142,7 +144,8 @@ def _test(name: str, status: int) -> None:
     """Raises what a status says."""
     if status:
         short, text = STATUSES[status]
-        raise MemoryError(f"{name}: {text}") if short == "BF_MEMORY" else ValueError(f"{name}: {text}")
+        raised = {"BF_MEMORY": MemoryError, "BF_UNSOLVABLE": np.linalg.LinAlgError}.get(short, ValueError)
+        raise raised(f"{name}: {text}")
 
 
 def call(name: str, *arguments: Any) -> None:

@@ -1,7 +1,7 @@
 """Linear algebra over matrices in the last two axes, by Gauss' elimination (Golub and Van Loan, Matrix Computations, chapter 3).
 
-In a field each pivot that is not 0 is as good as another, so that the first one is taken, and a result is exact. A stack of matrices
-is eliminated at once, a column at a time.
+In a field each pivot that is not 0 is as good as another, so that the first one is taken, and a result is exact. The library takes one
+matrix in a call; a stack of many small ones is multiplied or eliminated at once by numpy, a column at a time.
 """
 
 from __future__ import annotations
@@ -14,12 +14,15 @@ from typing import Any, TypeVar
 import numpy as np
 
 from ._facts import Facts
-from ._library import call, packed
+from ._library import PLACE, Words, call, packed
 
 M = TypeVar("M", bound="Matrices")
 
 # Rows of so many bytes are added one by one, by a call each; shorter ones all at once, by products of all pairs.
 _LONG_ROW = 1 << 12
+
+# The library takes each matrix of a stack of at most so many for each column; numpy takes a larger stack at once.
+_FEW = 4
 
 
 class Matrices(Facts):
@@ -74,7 +77,8 @@ class Matrices(Facts):
         >>> bf.Rijndael8b([[2, 4, 6], [1, 2, 1]]).row_reduce()
         Rijndael8b([[0x1, 0x2, 0x0], [0x0, 0x0, 0x1]])
         """
-        return reduced(self._one_matrix(), self.shape[1] if ncols is None else operator.index(ncols))[0]
+        matrix = self._one_matrix()
+        return echelon(matrix)[0] if ncols is None else reduced(matrix, operator.index(ncols))[0]
 
     def row_space(self: M) -> M:
         """A basis of the combinations of a matrix's rows: the rows of its reduced echelon form that are not 0.
@@ -82,8 +86,8 @@ class Matrices(Facts):
         >>> bf.Gf2([[1, 1], [1, 1]]).row_space()
         Gf2([[0x1, 0x1]])
         """
-        echelon, ranks, _ = reduced(self._one_matrix(), self.shape[1])
-        return echelon[: int(ranks)]
+        form, ranks = echelon(self._one_matrix())
+        return form[: int(ranks)]
 
     def column_space(self: M) -> M:
         """A basis of the combinations of a matrix's columns, whose vectors are the rows of the result.
@@ -102,8 +106,8 @@ class Matrices(Facts):
         matrix: Any = self._one_matrix()
         rows, columns = self.shape
         # Each row stands beside the combination that it is.
-        both, ranks, _ = reduced(np.concatenate([matrix, matrix.Identity(rows)], axis=1), columns)
-        basis: M = both[int(ranks) :, columns:].row_space()
+        both: Any = echelon(np.concatenate([matrix, matrix.Identity(rows)], axis=1))[0]
+        basis: M = both[~both[:, :columns]._truths().astype(bool).any(axis=1), columns:]
         return basis
 
     def null_space(self: M) -> M:
@@ -168,9 +172,14 @@ def _add_multiples(matrices: Any, factors: Any, rows: Any) -> None:
         matrices[at, row].add_scaled(factors[at, row], rows[at])
 
 
+def _are_few(count: int, columns: int) -> bool:
+    """Whether so many matrices are taken one by one."""
+    return count <= _FEW * columns
+
+
 def product(left: M, right: M) -> M:
     """The product of matrices in the last two axes, with broadcasting of the others: by dot products of rows and columns where these are
-    longer than the result has places, and else by sums of multiples of rows."""
+    longer than the result has places, else by the library, and of a stack of many by sums of multiples of rows."""
     if not left.ndim or not right.ndim or left.shape[-1] != right.shape[-2 if right.ndim > 1 else 0]:
         raise ValueError(f"cannot multiply arrays of shapes {left.shape} and {right.shape}")
     rows: Any = left if left.ndim > 1 else left.reshape(1, -1)
@@ -183,6 +192,11 @@ def product(left: M, right: M) -> M:
         rows, turned = packed(rows._words), packed(columns._words.swapaxes(1, 2))
         for at, row, column in np.ndindex(result.shape):
             call(f"{left._name}_dot_product", rows[at, row], turned[at, column], result._words[at, row, column, np.newaxis])
+    elif _are_few(size, inner):
+        shape_of_each = rows.shape[1], inner, columns.shape[2]
+        rows, columns = packed(rows._words), packed(columns._words)
+        for at in range(size):
+            call(f"{left._name}_matrix_multiply", rows[at], columns[at], result._words[at], *shape_of_each)
     else:
         for at in range(inner):
             _add_multiples(result, rows[:, :, at], columns[:, at])
@@ -206,6 +220,24 @@ def reduced(matrices: M, columns: int) -> tuple[M, Any, Any]:
             pivots[found] *= _reduce_column(stack, column, found, is_left[found].argmax(axis=1), ranks[found])
             ranks[found] += 1
     return result, ranks.reshape(shape)[()], pivots.reshape(shape)
+
+
+def echelon(matrices: M) -> tuple[M, Any]:
+    """The reduced row echelon forms of a stack of matrices, and the rank of each."""
+    shape, (rows, columns) = matrices.shape[:-2], matrices.shape[-2:]
+    count = math.prod(shape)
+    if not _are_few(count, columns):
+        return reduced(matrices, columns)[:2]
+    result, ranks, pivots = matrices.copy(), np.zeros(count, PLACE), np.empty(rows, PLACE)
+    stack: Any = result.reshape(count, rows, columns)
+    for at in range(count):
+        call(f"{matrices._name}_matrix_row_reduce", stack._words[at], rows, columns, pivots, ranks[at : at + 1])
+    return result, ranks.astype(np.intp).reshape(shape)[()]
+
+
+def _space(words: Words, rows: int, columns: int) -> tuple[Words, Words]:
+    """What a call works in: a matrix, and a place for each row."""
+    return np.empty((rows, columns), words.dtype), np.empty(rows, PLACE)
 
 
 def _reduce_column(stack: Any, column: int, found: Any, first: Any, to: Any) -> Any:
@@ -258,15 +290,23 @@ def _squares(a: Any) -> Any:
 def _solved(a: Any, right: Any) -> Any:
     """What the inverse of each matrix takes the columns beside it to."""
     size = a.shape[-1]
-    both, ranks, _ = reduced(np.concatenate([a, right], axis=-1), size)
-    if np.any(ranks < size):
+    both: Any = echelon(np.concatenate([a, right], axis=-1))[0]
+    if not both[..., range(size), range(size)]._truths().all():
         raise np.linalg.LinAlgError("Singular matrix")
     return both[..., size:]
 
 
 def inverse(a: Any) -> Any:
     """`np.linalg.inv`: the inverse of each matrix."""
-    return _solved(_squares(a), np.broadcast_to(a.Identity(a.shape[-1]), a.shape)).copy()
+    shape, size = _squares(a).shape, a.shape[-1]
+    count = math.prod(shape[:-2])
+    if not _are_few(count, size):
+        return _solved(a, np.broadcast_to(a.Identity(size), shape)).copy()
+    words, result = packed(a._words).reshape(count, size, size), a.zeros((count, size, size))
+    space, places = _space(words, size, 2 * size)
+    for at in range(count):
+        call(f"{a._name}_matrix_inverse", words[at], size, result._words[at], space, places)
+    return result.reshape(shape)
 
 
 def solution(a: Any, b: Any) -> Any:
@@ -284,17 +324,26 @@ def solution(a: Any, b: Any) -> Any:
 
 
 def determinant(a: Any) -> Any:
-    """`np.linalg.det`: the product of the pivots, which 2 = 0 spares a sign, or 0 where there are too few."""
-    _, ranks, pivots = reduced(_squares(a), a.shape[-1])
-    pivots[ranks < a.shape[-1]] = 0
-    return pivots
+    """`np.linalg.det`: the determinant of each matrix; of a large stack the product of the pivots, which 2 = 0 spares a sign, or 0 where
+    there are too few."""
+    shape, size = _squares(a).shape, a.shape[-1]
+    count = math.prod(shape[:-2])
+    if not _are_few(count, size):
+        _, ranks, pivots = reduced(a, size)
+        pivots[ranks < size] = 0
+        return pivots
+    words, result = packed(a._words).reshape(count, size, size), a.zeros(count)
+    space, _ = _space(words, size, size)
+    for at in range(count):
+        call(f"{a._name}_matrix_determinant", words[at], size, space, result._words[at : at + 1])
+    return result.reshape(shape[:-2])
 
 
 def rank(a: Any) -> Any:
     """`np.linalg.matrix_rank`: of fewer than two dimensions whether an element is not 0."""
     if a.ndim < 2:
         return int(a.any())
-    return reduced(a, a.shape[-1])[1]
+    return echelon(a)[1]
 
 
 def power(a: Any, n: int) -> Any:

@@ -16,6 +16,8 @@ pub enum Error {
     Code,
     /// Too few shards are present.
     TooFewShards,
+    /// The equations have no solution, or the matrix has no inverse.
+    Unsolvable,
 }
 
 impl Error {
@@ -28,6 +30,7 @@ impl Error {
             functions::BF_MEMORY => Err(Error::Memory),
             functions::BF_CODE => Err(Error::Code),
             functions::BF_TOO_FEW_SHARDS => Err(Error::TooFewShards),
+            functions::BF_UNSOLVABLE => Err(Error::Unsolvable),
             other => panic!("the library has no status {other}"),
         }
     }
@@ -48,6 +51,7 @@ impl fmt::Display for Error {
             Error::Memory => "out of memory",
             Error::Code => "invalid shard counts",
             Error::TooFewShards => "too few shards are present",
+            Error::Unsolvable => "the equations have no solution",
         })
     }
 }

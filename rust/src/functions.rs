@@ -16,6 +16,8 @@ pub const BF_MEMORY: u32 = 3;
 pub const BF_CODE: u32 = 4;
 /// Too few shards are present.
 pub const BF_TOO_FEW_SHARDS: u32 = 5;
+/// The equations have no solution, or the matrix has no inverse.
+pub const BF_UNSOLVABLE: u32 = 6;
 
 unsafe extern "C" {
     /// sums: the sum of the elements at each place. BF_LENGTH unless left, right and sums have one length.
@@ -1749,6 +1751,981 @@ unsafe extern "C" {
         values: *mut [u64; 3],
         values_length: usize,
         exponent: u64,
+    ) -> u32;
+    /// product: the product of left, of rows rows of inner elements, and right, of inner rows of columns elements.
+    /// BF_LENGTH unless left has rows * inner elements, right inner * columns, and product rows * columns.
+    /// BF_NOT_AN_ELEMENT unless each word that is read is below 2.
+    pub fn bf_gf2_matrix_multiply(
+        left: *const u8,
+        left_length: usize,
+        right: *const u8,
+        right_length: usize,
+        product: *mut u8,
+        product_length: usize,
+        rows: usize,
+        inner: usize,
+        columns: usize,
+    ) -> u32;
+    /// Brings a matrix of rows rows of columns elements to reduced row echelon form; rank is its rank, and the first
+    /// rank of the rows places of pivots are the columns of its leading entries. BF_LENGTH unless matrix has rows *
+    /// columns elements, and pivots rows places. BF_NOT_AN_ELEMENT unless each word that is read is below 2.
+    pub fn bf_gf2_matrix_row_reduce(
+        matrix: *mut u8,
+        matrix_length: usize,
+        rows: usize,
+        columns: usize,
+        pivots: *mut usize,
+        pivots_length: usize,
+        rank: *mut usize,
+    ) -> u32;
+    /// rank: the rank of a matrix of rows rows of columns elements, in as much space and rows places. BF_LENGTH
+    /// unless matrix and space have rows * columns elements, and places has rows places. BF_NOT_AN_ELEMENT unless
+    /// each word that is read is below 2.
+    pub fn bf_gf2_matrix_rank(
+        matrix: *const u8,
+        matrix_length: usize,
+        rows: usize,
+        columns: usize,
+        space: *mut u8,
+        space_length: usize,
+        places: *mut usize,
+        places_length: usize,
+        rank: *mut usize,
+    ) -> u32;
+    /// determinant: the determinant of a matrix of size rows of size elements, in as much space; 1 of no rows.
+    /// BF_LENGTH unless matrix and space have size * size elements. BF_NOT_AN_ELEMENT unless each word that is read
+    /// is below 2.
+    pub fn bf_gf2_matrix_determinant(
+        matrix: *const u8,
+        matrix_length: usize,
+        size: usize,
+        space: *mut u8,
+        space_length: usize,
+        determinant: *mut u8,
+    ) -> u32;
+    /// inverse: the inverse of a matrix of size rows of size elements, in space for two of these and size places.
+    /// BF_LENGTH unless matrix and inverse have size * size elements, space 2 * size * size, and places size places.
+    /// BF_NOT_AN_ELEMENT unless each word that is read is below 2. BF_UNSOLVABLE unless the matrix has an inverse.
+    pub fn bf_gf2_matrix_inverse(
+        matrix: *const u8,
+        matrix_length: usize,
+        size: usize,
+        inverse: *mut u8,
+        inverse_length: usize,
+        space: *mut u8,
+        space_length: usize,
+        places: *mut usize,
+        places_length: usize,
+    ) -> u32;
+    /// solution: a solution x of matrix * x = right, of rows equations in columns unknowns, in space for rows times
+    /// columns + 1 elements and rows places; an unknown that the others leave open is 0. BF_LENGTH unless matrix has
+    /// rows * columns elements, right rows, solution columns, space rows * (columns + 1), and places rows places.
+    /// BF_NOT_AN_ELEMENT unless each word that is read is below 2. BF_UNSOLVABLE unless there is a solution.
+    pub fn bf_gf2_matrix_solve(
+        matrix: *const u8,
+        matrix_length: usize,
+        rows: usize,
+        columns: usize,
+        right: *const u8,
+        right_length: usize,
+        solution: *mut u8,
+        solution_length: usize,
+        space: *mut u8,
+        space_length: usize,
+        places: *mut usize,
+        places_length: usize,
+    ) -> u32;
+    /// product: the product of left, of rows rows of inner elements, and right, of inner rows of columns elements.
+    /// BF_LENGTH unless left has rows * inner elements, right inner * columns, and product rows * columns.
+    /// BF_NOT_AN_ELEMENT unless each word that is read is below 4.
+    pub fn bf_t2_matrix_multiply(
+        left: *const u8,
+        left_length: usize,
+        right: *const u8,
+        right_length: usize,
+        product: *mut u8,
+        product_length: usize,
+        rows: usize,
+        inner: usize,
+        columns: usize,
+    ) -> u32;
+    /// Brings a matrix of rows rows of columns elements to reduced row echelon form; rank is its rank, and the first
+    /// rank of the rows places of pivots are the columns of its leading entries. BF_LENGTH unless matrix has rows *
+    /// columns elements, and pivots rows places. BF_NOT_AN_ELEMENT unless each word that is read is below 4.
+    pub fn bf_t2_matrix_row_reduce(
+        matrix: *mut u8,
+        matrix_length: usize,
+        rows: usize,
+        columns: usize,
+        pivots: *mut usize,
+        pivots_length: usize,
+        rank: *mut usize,
+    ) -> u32;
+    /// rank: the rank of a matrix of rows rows of columns elements, in as much space and rows places. BF_LENGTH
+    /// unless matrix and space have rows * columns elements, and places has rows places. BF_NOT_AN_ELEMENT unless
+    /// each word that is read is below 4.
+    pub fn bf_t2_matrix_rank(
+        matrix: *const u8,
+        matrix_length: usize,
+        rows: usize,
+        columns: usize,
+        space: *mut u8,
+        space_length: usize,
+        places: *mut usize,
+        places_length: usize,
+        rank: *mut usize,
+    ) -> u32;
+    /// determinant: the determinant of a matrix of size rows of size elements, in as much space; 1 of no rows.
+    /// BF_LENGTH unless matrix and space have size * size elements. BF_NOT_AN_ELEMENT unless each word that is read
+    /// is below 4.
+    pub fn bf_t2_matrix_determinant(
+        matrix: *const u8,
+        matrix_length: usize,
+        size: usize,
+        space: *mut u8,
+        space_length: usize,
+        determinant: *mut u8,
+    ) -> u32;
+    /// inverse: the inverse of a matrix of size rows of size elements, in space for two of these and size places.
+    /// BF_LENGTH unless matrix and inverse have size * size elements, space 2 * size * size, and places size places.
+    /// BF_NOT_AN_ELEMENT unless each word that is read is below 4. BF_UNSOLVABLE unless the matrix has an inverse.
+    pub fn bf_t2_matrix_inverse(
+        matrix: *const u8,
+        matrix_length: usize,
+        size: usize,
+        inverse: *mut u8,
+        inverse_length: usize,
+        space: *mut u8,
+        space_length: usize,
+        places: *mut usize,
+        places_length: usize,
+    ) -> u32;
+    /// solution: a solution x of matrix * x = right, of rows equations in columns unknowns, in space for rows times
+    /// columns + 1 elements and rows places; an unknown that the others leave open is 0. BF_LENGTH unless matrix has
+    /// rows * columns elements, right rows, solution columns, space rows * (columns + 1), and places rows places.
+    /// BF_NOT_AN_ELEMENT unless each word that is read is below 4. BF_UNSOLVABLE unless there is a solution.
+    pub fn bf_t2_matrix_solve(
+        matrix: *const u8,
+        matrix_length: usize,
+        rows: usize,
+        columns: usize,
+        right: *const u8,
+        right_length: usize,
+        solution: *mut u8,
+        solution_length: usize,
+        space: *mut u8,
+        space_length: usize,
+        places: *mut usize,
+        places_length: usize,
+    ) -> u32;
+    /// product: the product of left, of rows rows of inner elements, and right, of inner rows of columns elements.
+    /// BF_LENGTH unless left has rows * inner elements, right inner * columns, and product rows * columns.
+    /// BF_NOT_AN_ELEMENT unless each word that is read is below 16.
+    pub fn bf_t4_matrix_multiply(
+        left: *const u8,
+        left_length: usize,
+        right: *const u8,
+        right_length: usize,
+        product: *mut u8,
+        product_length: usize,
+        rows: usize,
+        inner: usize,
+        columns: usize,
+    ) -> u32;
+    /// Brings a matrix of rows rows of columns elements to reduced row echelon form; rank is its rank, and the first
+    /// rank of the rows places of pivots are the columns of its leading entries. BF_LENGTH unless matrix has rows *
+    /// columns elements, and pivots rows places. BF_NOT_AN_ELEMENT unless each word that is read is below 16.
+    pub fn bf_t4_matrix_row_reduce(
+        matrix: *mut u8,
+        matrix_length: usize,
+        rows: usize,
+        columns: usize,
+        pivots: *mut usize,
+        pivots_length: usize,
+        rank: *mut usize,
+    ) -> u32;
+    /// rank: the rank of a matrix of rows rows of columns elements, in as much space and rows places. BF_LENGTH
+    /// unless matrix and space have rows * columns elements, and places has rows places. BF_NOT_AN_ELEMENT unless
+    /// each word that is read is below 16.
+    pub fn bf_t4_matrix_rank(
+        matrix: *const u8,
+        matrix_length: usize,
+        rows: usize,
+        columns: usize,
+        space: *mut u8,
+        space_length: usize,
+        places: *mut usize,
+        places_length: usize,
+        rank: *mut usize,
+    ) -> u32;
+    /// determinant: the determinant of a matrix of size rows of size elements, in as much space; 1 of no rows.
+    /// BF_LENGTH unless matrix and space have size * size elements. BF_NOT_AN_ELEMENT unless each word that is read
+    /// is below 16.
+    pub fn bf_t4_matrix_determinant(
+        matrix: *const u8,
+        matrix_length: usize,
+        size: usize,
+        space: *mut u8,
+        space_length: usize,
+        determinant: *mut u8,
+    ) -> u32;
+    /// inverse: the inverse of a matrix of size rows of size elements, in space for two of these and size places.
+    /// BF_LENGTH unless matrix and inverse have size * size elements, space 2 * size * size, and places size places.
+    /// BF_NOT_AN_ELEMENT unless each word that is read is below 16. BF_UNSOLVABLE unless the matrix has an inverse.
+    pub fn bf_t4_matrix_inverse(
+        matrix: *const u8,
+        matrix_length: usize,
+        size: usize,
+        inverse: *mut u8,
+        inverse_length: usize,
+        space: *mut u8,
+        space_length: usize,
+        places: *mut usize,
+        places_length: usize,
+    ) -> u32;
+    /// solution: a solution x of matrix * x = right, of rows equations in columns unknowns, in space for rows times
+    /// columns + 1 elements and rows places; an unknown that the others leave open is 0. BF_LENGTH unless matrix has
+    /// rows * columns elements, right rows, solution columns, space rows * (columns + 1), and places rows places.
+    /// BF_NOT_AN_ELEMENT unless each word that is read is below 16. BF_UNSOLVABLE unless there is a solution.
+    pub fn bf_t4_matrix_solve(
+        matrix: *const u8,
+        matrix_length: usize,
+        rows: usize,
+        columns: usize,
+        right: *const u8,
+        right_length: usize,
+        solution: *mut u8,
+        solution_length: usize,
+        space: *mut u8,
+        space_length: usize,
+        places: *mut usize,
+        places_length: usize,
+    ) -> u32;
+    /// product: the product of left, of rows rows of inner elements, and right, of inner rows of columns elements.
+    /// BF_LENGTH unless left has rows * inner elements, right inner * columns, and product rows * columns.
+    pub fn bf_t8_matrix_multiply(
+        left: *const u8,
+        left_length: usize,
+        right: *const u8,
+        right_length: usize,
+        product: *mut u8,
+        product_length: usize,
+        rows: usize,
+        inner: usize,
+        columns: usize,
+    ) -> u32;
+    /// Brings a matrix of rows rows of columns elements to reduced row echelon form; rank is its rank, and the first
+    /// rank of the rows places of pivots are the columns of its leading entries. BF_LENGTH unless matrix has rows *
+    /// columns elements, and pivots rows places.
+    pub fn bf_t8_matrix_row_reduce(
+        matrix: *mut u8,
+        matrix_length: usize,
+        rows: usize,
+        columns: usize,
+        pivots: *mut usize,
+        pivots_length: usize,
+        rank: *mut usize,
+    ) -> u32;
+    /// rank: the rank of a matrix of rows rows of columns elements, in as much space and rows places. BF_LENGTH
+    /// unless matrix and space have rows * columns elements, and places has rows places.
+    pub fn bf_t8_matrix_rank(
+        matrix: *const u8,
+        matrix_length: usize,
+        rows: usize,
+        columns: usize,
+        space: *mut u8,
+        space_length: usize,
+        places: *mut usize,
+        places_length: usize,
+        rank: *mut usize,
+    ) -> u32;
+    /// determinant: the determinant of a matrix of size rows of size elements, in as much space; 1 of no rows.
+    /// BF_LENGTH unless matrix and space have size * size elements.
+    pub fn bf_t8_matrix_determinant(
+        matrix: *const u8,
+        matrix_length: usize,
+        size: usize,
+        space: *mut u8,
+        space_length: usize,
+        determinant: *mut u8,
+    ) -> u32;
+    /// inverse: the inverse of a matrix of size rows of size elements, in space for two of these and size places.
+    /// BF_LENGTH unless matrix and inverse have size * size elements, space 2 * size * size, and places size places.
+    /// BF_UNSOLVABLE unless the matrix has an inverse.
+    pub fn bf_t8_matrix_inverse(
+        matrix: *const u8,
+        matrix_length: usize,
+        size: usize,
+        inverse: *mut u8,
+        inverse_length: usize,
+        space: *mut u8,
+        space_length: usize,
+        places: *mut usize,
+        places_length: usize,
+    ) -> u32;
+    /// solution: a solution x of matrix * x = right, of rows equations in columns unknowns, in space for rows times
+    /// columns + 1 elements and rows places; an unknown that the others leave open is 0. BF_LENGTH unless matrix has
+    /// rows * columns elements, right rows, solution columns, space rows * (columns + 1), and places rows places.
+    /// BF_UNSOLVABLE unless there is a solution.
+    pub fn bf_t8_matrix_solve(
+        matrix: *const u8,
+        matrix_length: usize,
+        rows: usize,
+        columns: usize,
+        right: *const u8,
+        right_length: usize,
+        solution: *mut u8,
+        solution_length: usize,
+        space: *mut u8,
+        space_length: usize,
+        places: *mut usize,
+        places_length: usize,
+    ) -> u32;
+    /// product: the product of left, of rows rows of inner elements, and right, of inner rows of columns elements.
+    /// BF_LENGTH unless left has rows * inner elements, right inner * columns, and product rows * columns.
+    pub fn bf_t16_matrix_multiply(
+        left: *const u16,
+        left_length: usize,
+        right: *const u16,
+        right_length: usize,
+        product: *mut u16,
+        product_length: usize,
+        rows: usize,
+        inner: usize,
+        columns: usize,
+    ) -> u32;
+    /// Brings a matrix of rows rows of columns elements to reduced row echelon form; rank is its rank, and the first
+    /// rank of the rows places of pivots are the columns of its leading entries. BF_LENGTH unless matrix has rows *
+    /// columns elements, and pivots rows places.
+    pub fn bf_t16_matrix_row_reduce(
+        matrix: *mut u16,
+        matrix_length: usize,
+        rows: usize,
+        columns: usize,
+        pivots: *mut usize,
+        pivots_length: usize,
+        rank: *mut usize,
+    ) -> u32;
+    /// rank: the rank of a matrix of rows rows of columns elements, in as much space and rows places. BF_LENGTH
+    /// unless matrix and space have rows * columns elements, and places has rows places.
+    pub fn bf_t16_matrix_rank(
+        matrix: *const u16,
+        matrix_length: usize,
+        rows: usize,
+        columns: usize,
+        space: *mut u16,
+        space_length: usize,
+        places: *mut usize,
+        places_length: usize,
+        rank: *mut usize,
+    ) -> u32;
+    /// determinant: the determinant of a matrix of size rows of size elements, in as much space; 1 of no rows.
+    /// BF_LENGTH unless matrix and space have size * size elements.
+    pub fn bf_t16_matrix_determinant(
+        matrix: *const u16,
+        matrix_length: usize,
+        size: usize,
+        space: *mut u16,
+        space_length: usize,
+        determinant: *mut u16,
+    ) -> u32;
+    /// inverse: the inverse of a matrix of size rows of size elements, in space for two of these and size places.
+    /// BF_LENGTH unless matrix and inverse have size * size elements, space 2 * size * size, and places size places.
+    /// BF_UNSOLVABLE unless the matrix has an inverse.
+    pub fn bf_t16_matrix_inverse(
+        matrix: *const u16,
+        matrix_length: usize,
+        size: usize,
+        inverse: *mut u16,
+        inverse_length: usize,
+        space: *mut u16,
+        space_length: usize,
+        places: *mut usize,
+        places_length: usize,
+    ) -> u32;
+    /// solution: a solution x of matrix * x = right, of rows equations in columns unknowns, in space for rows times
+    /// columns + 1 elements and rows places; an unknown that the others leave open is 0. BF_LENGTH unless matrix has
+    /// rows * columns elements, right rows, solution columns, space rows * (columns + 1), and places rows places.
+    /// BF_UNSOLVABLE unless there is a solution.
+    pub fn bf_t16_matrix_solve(
+        matrix: *const u16,
+        matrix_length: usize,
+        rows: usize,
+        columns: usize,
+        right: *const u16,
+        right_length: usize,
+        solution: *mut u16,
+        solution_length: usize,
+        space: *mut u16,
+        space_length: usize,
+        places: *mut usize,
+        places_length: usize,
+    ) -> u32;
+    /// product: the product of left, of rows rows of inner elements, and right, of inner rows of columns elements.
+    /// BF_LENGTH unless left has rows * inner elements, right inner * columns, and product rows * columns.
+    pub fn bf_t32_matrix_multiply(
+        left: *const u32,
+        left_length: usize,
+        right: *const u32,
+        right_length: usize,
+        product: *mut u32,
+        product_length: usize,
+        rows: usize,
+        inner: usize,
+        columns: usize,
+    ) -> u32;
+    /// Brings a matrix of rows rows of columns elements to reduced row echelon form; rank is its rank, and the first
+    /// rank of the rows places of pivots are the columns of its leading entries. BF_LENGTH unless matrix has rows *
+    /// columns elements, and pivots rows places.
+    pub fn bf_t32_matrix_row_reduce(
+        matrix: *mut u32,
+        matrix_length: usize,
+        rows: usize,
+        columns: usize,
+        pivots: *mut usize,
+        pivots_length: usize,
+        rank: *mut usize,
+    ) -> u32;
+    /// rank: the rank of a matrix of rows rows of columns elements, in as much space and rows places. BF_LENGTH
+    /// unless matrix and space have rows * columns elements, and places has rows places.
+    pub fn bf_t32_matrix_rank(
+        matrix: *const u32,
+        matrix_length: usize,
+        rows: usize,
+        columns: usize,
+        space: *mut u32,
+        space_length: usize,
+        places: *mut usize,
+        places_length: usize,
+        rank: *mut usize,
+    ) -> u32;
+    /// determinant: the determinant of a matrix of size rows of size elements, in as much space; 1 of no rows.
+    /// BF_LENGTH unless matrix and space have size * size elements.
+    pub fn bf_t32_matrix_determinant(
+        matrix: *const u32,
+        matrix_length: usize,
+        size: usize,
+        space: *mut u32,
+        space_length: usize,
+        determinant: *mut u32,
+    ) -> u32;
+    /// inverse: the inverse of a matrix of size rows of size elements, in space for two of these and size places.
+    /// BF_LENGTH unless matrix and inverse have size * size elements, space 2 * size * size, and places size places.
+    /// BF_UNSOLVABLE unless the matrix has an inverse.
+    pub fn bf_t32_matrix_inverse(
+        matrix: *const u32,
+        matrix_length: usize,
+        size: usize,
+        inverse: *mut u32,
+        inverse_length: usize,
+        space: *mut u32,
+        space_length: usize,
+        places: *mut usize,
+        places_length: usize,
+    ) -> u32;
+    /// solution: a solution x of matrix * x = right, of rows equations in columns unknowns, in space for rows times
+    /// columns + 1 elements and rows places; an unknown that the others leave open is 0. BF_LENGTH unless matrix has
+    /// rows * columns elements, right rows, solution columns, space rows * (columns + 1), and places rows places.
+    /// BF_UNSOLVABLE unless there is a solution.
+    pub fn bf_t32_matrix_solve(
+        matrix: *const u32,
+        matrix_length: usize,
+        rows: usize,
+        columns: usize,
+        right: *const u32,
+        right_length: usize,
+        solution: *mut u32,
+        solution_length: usize,
+        space: *mut u32,
+        space_length: usize,
+        places: *mut usize,
+        places_length: usize,
+    ) -> u32;
+    /// product: the product of left, of rows rows of inner elements, and right, of inner rows of columns elements.
+    /// BF_LENGTH unless left has rows * inner elements, right inner * columns, and product rows * columns.
+    pub fn bf_t64_matrix_multiply(
+        left: *const u64,
+        left_length: usize,
+        right: *const u64,
+        right_length: usize,
+        product: *mut u64,
+        product_length: usize,
+        rows: usize,
+        inner: usize,
+        columns: usize,
+    ) -> u32;
+    /// Brings a matrix of rows rows of columns elements to reduced row echelon form; rank is its rank, and the first
+    /// rank of the rows places of pivots are the columns of its leading entries. BF_LENGTH unless matrix has rows *
+    /// columns elements, and pivots rows places.
+    pub fn bf_t64_matrix_row_reduce(
+        matrix: *mut u64,
+        matrix_length: usize,
+        rows: usize,
+        columns: usize,
+        pivots: *mut usize,
+        pivots_length: usize,
+        rank: *mut usize,
+    ) -> u32;
+    /// rank: the rank of a matrix of rows rows of columns elements, in as much space and rows places. BF_LENGTH
+    /// unless matrix and space have rows * columns elements, and places has rows places.
+    pub fn bf_t64_matrix_rank(
+        matrix: *const u64,
+        matrix_length: usize,
+        rows: usize,
+        columns: usize,
+        space: *mut u64,
+        space_length: usize,
+        places: *mut usize,
+        places_length: usize,
+        rank: *mut usize,
+    ) -> u32;
+    /// determinant: the determinant of a matrix of size rows of size elements, in as much space; 1 of no rows.
+    /// BF_LENGTH unless matrix and space have size * size elements.
+    pub fn bf_t64_matrix_determinant(
+        matrix: *const u64,
+        matrix_length: usize,
+        size: usize,
+        space: *mut u64,
+        space_length: usize,
+        determinant: *mut u64,
+    ) -> u32;
+    /// inverse: the inverse of a matrix of size rows of size elements, in space for two of these and size places.
+    /// BF_LENGTH unless matrix and inverse have size * size elements, space 2 * size * size, and places size places.
+    /// BF_UNSOLVABLE unless the matrix has an inverse.
+    pub fn bf_t64_matrix_inverse(
+        matrix: *const u64,
+        matrix_length: usize,
+        size: usize,
+        inverse: *mut u64,
+        inverse_length: usize,
+        space: *mut u64,
+        space_length: usize,
+        places: *mut usize,
+        places_length: usize,
+    ) -> u32;
+    /// solution: a solution x of matrix * x = right, of rows equations in columns unknowns, in space for rows times
+    /// columns + 1 elements and rows places; an unknown that the others leave open is 0. BF_LENGTH unless matrix has
+    /// rows * columns elements, right rows, solution columns, space rows * (columns + 1), and places rows places.
+    /// BF_UNSOLVABLE unless there is a solution.
+    pub fn bf_t64_matrix_solve(
+        matrix: *const u64,
+        matrix_length: usize,
+        rows: usize,
+        columns: usize,
+        right: *const u64,
+        right_length: usize,
+        solution: *mut u64,
+        solution_length: usize,
+        space: *mut u64,
+        space_length: usize,
+        places: *mut usize,
+        places_length: usize,
+    ) -> u32;
+    /// product: the product of left, of rows rows of inner elements, and right, of inner rows of columns elements.
+    /// BF_LENGTH unless left has rows * inner elements, right inner * columns, and product rows * columns.
+    pub fn bf_t128_matrix_multiply(
+        left: *const [u64; 2],
+        left_length: usize,
+        right: *const [u64; 2],
+        right_length: usize,
+        product: *mut [u64; 2],
+        product_length: usize,
+        rows: usize,
+        inner: usize,
+        columns: usize,
+    ) -> u32;
+    /// Brings a matrix of rows rows of columns elements to reduced row echelon form; rank is its rank, and the first
+    /// rank of the rows places of pivots are the columns of its leading entries. BF_LENGTH unless matrix has rows *
+    /// columns elements, and pivots rows places.
+    pub fn bf_t128_matrix_row_reduce(
+        matrix: *mut [u64; 2],
+        matrix_length: usize,
+        rows: usize,
+        columns: usize,
+        pivots: *mut usize,
+        pivots_length: usize,
+        rank: *mut usize,
+    ) -> u32;
+    /// rank: the rank of a matrix of rows rows of columns elements, in as much space and rows places. BF_LENGTH
+    /// unless matrix and space have rows * columns elements, and places has rows places.
+    pub fn bf_t128_matrix_rank(
+        matrix: *const [u64; 2],
+        matrix_length: usize,
+        rows: usize,
+        columns: usize,
+        space: *mut [u64; 2],
+        space_length: usize,
+        places: *mut usize,
+        places_length: usize,
+        rank: *mut usize,
+    ) -> u32;
+    /// determinant: the determinant of a matrix of size rows of size elements, in as much space; 1 of no rows.
+    /// BF_LENGTH unless matrix and space have size * size elements.
+    pub fn bf_t128_matrix_determinant(
+        matrix: *const [u64; 2],
+        matrix_length: usize,
+        size: usize,
+        space: *mut [u64; 2],
+        space_length: usize,
+        determinant: *mut [u64; 2],
+    ) -> u32;
+    /// inverse: the inverse of a matrix of size rows of size elements, in space for two of these and size places.
+    /// BF_LENGTH unless matrix and inverse have size * size elements, space 2 * size * size, and places size places.
+    /// BF_UNSOLVABLE unless the matrix has an inverse.
+    pub fn bf_t128_matrix_inverse(
+        matrix: *const [u64; 2],
+        matrix_length: usize,
+        size: usize,
+        inverse: *mut [u64; 2],
+        inverse_length: usize,
+        space: *mut [u64; 2],
+        space_length: usize,
+        places: *mut usize,
+        places_length: usize,
+    ) -> u32;
+    /// solution: a solution x of matrix * x = right, of rows equations in columns unknowns, in space for rows times
+    /// columns + 1 elements and rows places; an unknown that the others leave open is 0. BF_LENGTH unless matrix has
+    /// rows * columns elements, right rows, solution columns, space rows * (columns + 1), and places rows places.
+    /// BF_UNSOLVABLE unless there is a solution.
+    pub fn bf_t128_matrix_solve(
+        matrix: *const [u64; 2],
+        matrix_length: usize,
+        rows: usize,
+        columns: usize,
+        right: *const [u64; 2],
+        right_length: usize,
+        solution: *mut [u64; 2],
+        solution_length: usize,
+        space: *mut [u64; 2],
+        space_length: usize,
+        places: *mut usize,
+        places_length: usize,
+    ) -> u32;
+    /// product: the product of left, of rows rows of inner elements, and right, of inner rows of columns elements.
+    /// BF_LENGTH unless left has rows * inner elements, right inner * columns, and product rows * columns.
+    pub fn bf_r8_matrix_multiply(
+        left: *const u8,
+        left_length: usize,
+        right: *const u8,
+        right_length: usize,
+        product: *mut u8,
+        product_length: usize,
+        rows: usize,
+        inner: usize,
+        columns: usize,
+    ) -> u32;
+    /// Brings a matrix of rows rows of columns elements to reduced row echelon form; rank is its rank, and the first
+    /// rank of the rows places of pivots are the columns of its leading entries. BF_LENGTH unless matrix has rows *
+    /// columns elements, and pivots rows places.
+    pub fn bf_r8_matrix_row_reduce(
+        matrix: *mut u8,
+        matrix_length: usize,
+        rows: usize,
+        columns: usize,
+        pivots: *mut usize,
+        pivots_length: usize,
+        rank: *mut usize,
+    ) -> u32;
+    /// rank: the rank of a matrix of rows rows of columns elements, in as much space and rows places. BF_LENGTH
+    /// unless matrix and space have rows * columns elements, and places has rows places.
+    pub fn bf_r8_matrix_rank(
+        matrix: *const u8,
+        matrix_length: usize,
+        rows: usize,
+        columns: usize,
+        space: *mut u8,
+        space_length: usize,
+        places: *mut usize,
+        places_length: usize,
+        rank: *mut usize,
+    ) -> u32;
+    /// determinant: the determinant of a matrix of size rows of size elements, in as much space; 1 of no rows.
+    /// BF_LENGTH unless matrix and space have size * size elements.
+    pub fn bf_r8_matrix_determinant(
+        matrix: *const u8,
+        matrix_length: usize,
+        size: usize,
+        space: *mut u8,
+        space_length: usize,
+        determinant: *mut u8,
+    ) -> u32;
+    /// inverse: the inverse of a matrix of size rows of size elements, in space for two of these and size places.
+    /// BF_LENGTH unless matrix and inverse have size * size elements, space 2 * size * size, and places size places.
+    /// BF_UNSOLVABLE unless the matrix has an inverse.
+    pub fn bf_r8_matrix_inverse(
+        matrix: *const u8,
+        matrix_length: usize,
+        size: usize,
+        inverse: *mut u8,
+        inverse_length: usize,
+        space: *mut u8,
+        space_length: usize,
+        places: *mut usize,
+        places_length: usize,
+    ) -> u32;
+    /// solution: a solution x of matrix * x = right, of rows equations in columns unknowns, in space for rows times
+    /// columns + 1 elements and rows places; an unknown that the others leave open is 0. BF_LENGTH unless matrix has
+    /// rows * columns elements, right rows, solution columns, space rows * (columns + 1), and places rows places.
+    /// BF_UNSOLVABLE unless there is a solution.
+    pub fn bf_r8_matrix_solve(
+        matrix: *const u8,
+        matrix_length: usize,
+        rows: usize,
+        columns: usize,
+        right: *const u8,
+        right_length: usize,
+        solution: *mut u8,
+        solution_length: usize,
+        space: *mut u8,
+        space_length: usize,
+        places: *mut usize,
+        places_length: usize,
+    ) -> u32;
+    /// product: the product of left, of rows rows of inner elements, and right, of inner rows of columns elements.
+    /// BF_LENGTH unless left has rows * inner elements, right inner * columns, and product rows * columns.
+    pub fn bf_p64_matrix_multiply(
+        left: *const u64,
+        left_length: usize,
+        right: *const u64,
+        right_length: usize,
+        product: *mut u64,
+        product_length: usize,
+        rows: usize,
+        inner: usize,
+        columns: usize,
+    ) -> u32;
+    /// Brings a matrix of rows rows of columns elements to reduced row echelon form; rank is its rank, and the first
+    /// rank of the rows places of pivots are the columns of its leading entries. BF_LENGTH unless matrix has rows *
+    /// columns elements, and pivots rows places.
+    pub fn bf_p64_matrix_row_reduce(
+        matrix: *mut u64,
+        matrix_length: usize,
+        rows: usize,
+        columns: usize,
+        pivots: *mut usize,
+        pivots_length: usize,
+        rank: *mut usize,
+    ) -> u32;
+    /// rank: the rank of a matrix of rows rows of columns elements, in as much space and rows places. BF_LENGTH
+    /// unless matrix and space have rows * columns elements, and places has rows places.
+    pub fn bf_p64_matrix_rank(
+        matrix: *const u64,
+        matrix_length: usize,
+        rows: usize,
+        columns: usize,
+        space: *mut u64,
+        space_length: usize,
+        places: *mut usize,
+        places_length: usize,
+        rank: *mut usize,
+    ) -> u32;
+    /// determinant: the determinant of a matrix of size rows of size elements, in as much space; 1 of no rows.
+    /// BF_LENGTH unless matrix and space have size * size elements.
+    pub fn bf_p64_matrix_determinant(
+        matrix: *const u64,
+        matrix_length: usize,
+        size: usize,
+        space: *mut u64,
+        space_length: usize,
+        determinant: *mut u64,
+    ) -> u32;
+    /// inverse: the inverse of a matrix of size rows of size elements, in space for two of these and size places.
+    /// BF_LENGTH unless matrix and inverse have size * size elements, space 2 * size * size, and places size places.
+    /// BF_UNSOLVABLE unless the matrix has an inverse.
+    pub fn bf_p64_matrix_inverse(
+        matrix: *const u64,
+        matrix_length: usize,
+        size: usize,
+        inverse: *mut u64,
+        inverse_length: usize,
+        space: *mut u64,
+        space_length: usize,
+        places: *mut usize,
+        places_length: usize,
+    ) -> u32;
+    /// solution: a solution x of matrix * x = right, of rows equations in columns unknowns, in space for rows times
+    /// columns + 1 elements and rows places; an unknown that the others leave open is 0. BF_LENGTH unless matrix has
+    /// rows * columns elements, right rows, solution columns, space rows * (columns + 1), and places rows places.
+    /// BF_UNSOLVABLE unless there is a solution.
+    pub fn bf_p64_matrix_solve(
+        matrix: *const u64,
+        matrix_length: usize,
+        rows: usize,
+        columns: usize,
+        right: *const u64,
+        right_length: usize,
+        solution: *mut u64,
+        solution_length: usize,
+        space: *mut u64,
+        space_length: usize,
+        places: *mut usize,
+        places_length: usize,
+    ) -> u32;
+    /// product: the product of left, of rows rows of inner elements, and right, of inner rows of columns elements.
+    /// BF_LENGTH unless left has rows * inner elements, right inner * columns, and product rows * columns.
+    #[cfg_attr(binary_field_wide, link_name = "bf_g128_matrix_multiply_wide")]
+    pub fn bf_g128_matrix_multiply(
+        left: *const [u64; 2],
+        left_length: usize,
+        right: *const [u64; 2],
+        right_length: usize,
+        product: *mut [u64; 2],
+        product_length: usize,
+        rows: usize,
+        inner: usize,
+        columns: usize,
+    ) -> u32;
+    /// Brings a matrix of rows rows of columns elements to reduced row echelon form; rank is its rank, and the first
+    /// rank of the rows places of pivots are the columns of its leading entries. BF_LENGTH unless matrix has rows *
+    /// columns elements, and pivots rows places.
+    #[cfg_attr(binary_field_wide, link_name = "bf_g128_matrix_row_reduce_wide")]
+    pub fn bf_g128_matrix_row_reduce(
+        matrix: *mut [u64; 2],
+        matrix_length: usize,
+        rows: usize,
+        columns: usize,
+        pivots: *mut usize,
+        pivots_length: usize,
+        rank: *mut usize,
+    ) -> u32;
+    /// rank: the rank of a matrix of rows rows of columns elements, in as much space and rows places. BF_LENGTH
+    /// unless matrix and space have rows * columns elements, and places has rows places.
+    #[cfg_attr(binary_field_wide, link_name = "bf_g128_matrix_rank_wide")]
+    pub fn bf_g128_matrix_rank(
+        matrix: *const [u64; 2],
+        matrix_length: usize,
+        rows: usize,
+        columns: usize,
+        space: *mut [u64; 2],
+        space_length: usize,
+        places: *mut usize,
+        places_length: usize,
+        rank: *mut usize,
+    ) -> u32;
+    /// determinant: the determinant of a matrix of size rows of size elements, in as much space; 1 of no rows.
+    /// BF_LENGTH unless matrix and space have size * size elements.
+    #[cfg_attr(binary_field_wide, link_name = "bf_g128_matrix_determinant_wide")]
+    pub fn bf_g128_matrix_determinant(
+        matrix: *const [u64; 2],
+        matrix_length: usize,
+        size: usize,
+        space: *mut [u64; 2],
+        space_length: usize,
+        determinant: *mut [u64; 2],
+    ) -> u32;
+    /// inverse: the inverse of a matrix of size rows of size elements, in space for two of these and size places.
+    /// BF_LENGTH unless matrix and inverse have size * size elements, space 2 * size * size, and places size places.
+    /// BF_UNSOLVABLE unless the matrix has an inverse.
+    #[cfg_attr(binary_field_wide, link_name = "bf_g128_matrix_inverse_wide")]
+    pub fn bf_g128_matrix_inverse(
+        matrix: *const [u64; 2],
+        matrix_length: usize,
+        size: usize,
+        inverse: *mut [u64; 2],
+        inverse_length: usize,
+        space: *mut [u64; 2],
+        space_length: usize,
+        places: *mut usize,
+        places_length: usize,
+    ) -> u32;
+    /// solution: a solution x of matrix * x = right, of rows equations in columns unknowns, in space for rows times
+    /// columns + 1 elements and rows places; an unknown that the others leave open is 0. BF_LENGTH unless matrix has
+    /// rows * columns elements, right rows, solution columns, space rows * (columns + 1), and places rows places.
+    /// BF_UNSOLVABLE unless there is a solution.
+    #[cfg_attr(binary_field_wide, link_name = "bf_g128_matrix_solve_wide")]
+    pub fn bf_g128_matrix_solve(
+        matrix: *const [u64; 2],
+        matrix_length: usize,
+        rows: usize,
+        columns: usize,
+        right: *const [u64; 2],
+        right_length: usize,
+        solution: *mut [u64; 2],
+        solution_length: usize,
+        space: *mut [u64; 2],
+        space_length: usize,
+        places: *mut usize,
+        places_length: usize,
+    ) -> u32;
+    /// product: the product of left, of rows rows of inner elements, and right, of inner rows of columns elements.
+    /// BF_LENGTH unless left has rows * inner elements, right inner * columns, and product rows * columns.
+    pub fn bf_p192_matrix_multiply(
+        left: *const [u64; 3],
+        left_length: usize,
+        right: *const [u64; 3],
+        right_length: usize,
+        product: *mut [u64; 3],
+        product_length: usize,
+        rows: usize,
+        inner: usize,
+        columns: usize,
+    ) -> u32;
+    /// Brings a matrix of rows rows of columns elements to reduced row echelon form; rank is its rank, and the first
+    /// rank of the rows places of pivots are the columns of its leading entries. BF_LENGTH unless matrix has rows *
+    /// columns elements, and pivots rows places.
+    pub fn bf_p192_matrix_row_reduce(
+        matrix: *mut [u64; 3],
+        matrix_length: usize,
+        rows: usize,
+        columns: usize,
+        pivots: *mut usize,
+        pivots_length: usize,
+        rank: *mut usize,
+    ) -> u32;
+    /// rank: the rank of a matrix of rows rows of columns elements, in as much space and rows places. BF_LENGTH
+    /// unless matrix and space have rows * columns elements, and places has rows places.
+    pub fn bf_p192_matrix_rank(
+        matrix: *const [u64; 3],
+        matrix_length: usize,
+        rows: usize,
+        columns: usize,
+        space: *mut [u64; 3],
+        space_length: usize,
+        places: *mut usize,
+        places_length: usize,
+        rank: *mut usize,
+    ) -> u32;
+    /// determinant: the determinant of a matrix of size rows of size elements, in as much space; 1 of no rows.
+    /// BF_LENGTH unless matrix and space have size * size elements.
+    pub fn bf_p192_matrix_determinant(
+        matrix: *const [u64; 3],
+        matrix_length: usize,
+        size: usize,
+        space: *mut [u64; 3],
+        space_length: usize,
+        determinant: *mut [u64; 3],
+    ) -> u32;
+    /// inverse: the inverse of a matrix of size rows of size elements, in space for two of these and size places.
+    /// BF_LENGTH unless matrix and inverse have size * size elements, space 2 * size * size, and places size places.
+    /// BF_UNSOLVABLE unless the matrix has an inverse.
+    pub fn bf_p192_matrix_inverse(
+        matrix: *const [u64; 3],
+        matrix_length: usize,
+        size: usize,
+        inverse: *mut [u64; 3],
+        inverse_length: usize,
+        space: *mut [u64; 3],
+        space_length: usize,
+        places: *mut usize,
+        places_length: usize,
+    ) -> u32;
+    /// solution: a solution x of matrix * x = right, of rows equations in columns unknowns, in space for rows times
+    /// columns + 1 elements and rows places; an unknown that the others leave open is 0. BF_LENGTH unless matrix has
+    /// rows * columns elements, right rows, solution columns, space rows * (columns + 1), and places rows places.
+    /// BF_UNSOLVABLE unless there is a solution.
+    pub fn bf_p192_matrix_solve(
+        matrix: *const [u64; 3],
+        matrix_length: usize,
+        rows: usize,
+        columns: usize,
+        right: *const [u64; 3],
+        right_length: usize,
+        solution: *mut [u64; 3],
+        solution_length: usize,
+        space: *mut [u64; 3],
+        space_length: usize,
+        places: *mut usize,
+        places_length: usize,
     ) -> u32;
     /// images: the image in r8 of each element of t8, by the isomorphism of the two fields. BF_LENGTH unless values
     /// and images have one length.

@@ -40,6 +40,7 @@ mod fields;
 #[rustfmt::skip]
 mod functions;
 mod maps;
+mod matrices;
 mod packed;
 pub mod poly_basis;
 mod ring;
@@ -62,6 +63,7 @@ pub use maps::{
     Transformed, butterfly_forward, butterfly_inverse, inverse_transform, linear_map,
     linear_map_of_bytes, low_stages, transform,
 };
+pub use matrices::Matrices;
 pub use packed::{Packed, PackedGhash128, PackedRijndael8b, PackedValue};
 pub use ring::{Powers, PrimeCharacteristicRing};
 pub use space::{Algebra, BasedVectorSpace, ExtensionField, HasFrobenius, HasSubfield, TowerLevel};

@@ -465,12 +465,14 @@ fn tags_and_codes() {
     prepared.add_shard(0, 0, &whole[..3], &mut first).unwrap();
     assert_eq!(first, [0; 3]);
     assert!(prepared.add_shard(2, 0, &whole[..3], &mut first).is_err());
-    assert!(prepared
-        .encode_shards(
-            &[&whole[..3], &whole[3..5]],
-            &mut [&mut first[..], &mut second]
-        )
-        .is_err());
+    assert!(
+        prepared
+            .encode_shards(
+                &[&whole[..3], &whole[3..5]],
+                &mut [&mut first[..], &mut second]
+            )
+            .is_err()
+    );
     assert_eq!(ReedSolomon::new(200, 57), Err(Error::Code));
 }
 
@@ -514,4 +516,70 @@ fn transform_codes_restore() {
     for (data, parity) in [(0, 1), (1, 0), (16385, 1), (1, 32768), (usize::MAX, 1)] {
         assert_eq!(TransformCode::new(data, parity), Err(Error::Code));
     }
+}
+
+// 0 1 and its inverse; a matrix of rank 1; equations with one solution, with many and with none.
+// 1 g
+fn matrices_of<F: Matrices>() {
+    let (zero, one, g) = (F::ZERO, F::ONE, F::GENERATOR);
+    let (matrix, wanted) = ([zero, one, one, g], [g, one, one, zero]);
+    let (mut space, mut places) = ([g; 8], [7; 2]);
+    let mut inverse = [zero; 4];
+    F::matrix_inverse(&matrix, 2, &mut inverse, &mut space, &mut places).unwrap();
+    assert_eq!(inverse, wanted);
+    let mut product = [g; 4];
+    F::matrix_multiply(&matrix, &inverse, &mut product, 2, 2, 2).unwrap();
+    assert_eq!(product, [one, zero, zero, one]);
+    assert_eq!(F::matrix_determinant(&matrix, 2, &mut space[..4]), Ok(one));
+    let (mut low, form) = ([g, g * g, one, g], [one, g, zero, zero]);
+    assert_eq!(
+        F::matrix_inverse(&low, 2, &mut inverse, &mut space, &mut places),
+        Err(Error::Unsolvable)
+    );
+    assert_eq!(inverse, wanted);
+    assert_eq!(F::matrix_determinant(&low, 2, &mut space[..4]), Ok(zero));
+    assert_eq!(
+        F::matrix_rank(&low, 2, 2, &mut space[..4], &mut places),
+        Ok(1)
+    );
+    let mut solution = [one; 2];
+    for (right, found) in [
+        ([g, one], Ok([one, zero])),
+        ([g, zero], Err(Error::Unsolvable)),
+    ] {
+        let result = F::matrix_solve(
+            &low,
+            2,
+            2,
+            &right,
+            &mut solution,
+            &mut space[..6],
+            &mut places,
+        );
+        assert_eq!(result.map(|()| solution), found);
+    }
+    assert_eq!(solution, [one, zero]);
+    assert_eq!(F::matrix_row_reduce(&mut low, 2, 2, &mut places), Ok(1));
+    assert_eq!((low, places[0]), (form, 0));
+    assert_eq!(
+        F::matrix_multiply(&matrix, &low[..3], &mut product, 2, 2, 2),
+        Err(Error::Length)
+    );
+    assert_eq!(F::matrix_determinant(&[], 0, &mut []), Ok(one));
+}
+
+#[test]
+fn matrices_have_inverses_and_ranks() {
+    matrices_of::<Gf2>();
+    matrices_of::<BinaryField2>();
+    matrices_of::<BinaryField4>();
+    matrices_of::<BinaryField8>();
+    matrices_of::<BinaryField16>();
+    matrices_of::<BinaryField32>();
+    matrices_of::<BinaryField64>();
+    matrices_of::<BinaryField128>();
+    matrices_of::<Rijndael8b>();
+    matrices_of::<Poly64>();
+    matrices_of::<Ghash128>();
+    matrices_of::<Poly192>();
 }

@@ -1,11 +1,15 @@
 // Calls over slices of elements of GF(2)[x] modulo x^128 + x^7 + x^2 + x + 1, the field of GHASH (NIST SP 800-38D), bit i for x^i.
 // Written by scripts/make_c_exports.py; do not edit.
+ghost use Rattle.std.specs.Prelude.{length};
 ghost use Rattle.c_arithmetic.specs.Calls.{Adds, AddsScaled, Evaluates, Inverts, Multiplies, MultipliesBy, NamesGenerator, RaisesTo};
 ghost use Rattle.c_arithmetic.specs.Calls.{Squares, TakesDotProduct, TakesProduct, TakesRoots};
 ghost use Rattle.c_arithmetic.specs.Fields.{ghash_field};
+ghost use Rattle.c_matrices.specs.Matrices.{InvertsMatrix, MultipliesMatrices, ReducesRows, SolvesEquations, TakesDeterminant};
+ghost use Rattle.c_matrices.specs.Matrices.{TakesRank};
 
 use c_arithmetic::operations::{Power, Square, SquareRoot, Sum};
 use c_arithmetic::{GhashKernel, Wide, in_place, in_slices, slices};
+use c_matrices::rows::InLanes;
 use std::simd::prelude::*;
 
 /// The sum of the elements at each place.
@@ -170,4 +174,109 @@ pub extern "C" fn bf_g128_generator(generator: &mut Wide) -> u32
     ensures { NamesGenerator ghash_field generator.new result }
 {
     slices::generator::<u128, Wide, GhashKernel>(generator)
+}
+
+/// The product of left, of rows rows of inner elements, and right, of inner rows of columns elements.
+#[unsafe(no_mangle)]
+pub extern "C" fn bf_g128_matrix_multiply(
+    left: &[Wide],
+    right: &[Wide],
+    product: &mut [Wide],
+    rows: u64,
+    inner: u64,
+    columns: u64,
+) -> u32
+    ensures { MultipliesMatrices ghash_field rows inner columns left.now right.now product.old product.new result }
+{
+    c_matrices::multiply::<u128, Wide, GhashKernel, InLanes<u64x2>>(
+        left, right, product, rows, inner, columns,
+    )
+}
+
+/// Brings a matrix of rows rows of columns elements to reduced row echelon form; rank is its rank, and the first rank of the rows places
+/// of pivots are the columns of its leading entries.
+#[unsafe(no_mangle)]
+pub extern "C" fn bf_g128_matrix_row_reduce(
+    matrix: &mut [Wide],
+    rows: u64,
+    columns: u64,
+    pivots: &mut [usize],
+    rank: &mut usize,
+) -> u32
+    ensures { ReducesRows ghash_field rows columns matrix.old pivots.old rank.old matrix.new pivots.new rank.new result }
+{
+    c_matrices::row_reduce::<u128, Wide, GhashKernel, InLanes<u64x2>>(
+        matrix, rows, columns, pivots, rank,
+    )
+}
+
+/// The rank of a matrix of rows rows of columns elements, in as much space and rows places.
+#[unsafe(no_mangle)]
+pub extern "C" fn bf_g128_matrix_rank(
+    matrix: &[Wide],
+    rows: u64,
+    columns: u64,
+    space: &mut [Wide],
+    places: &mut [usize],
+    rank: &mut usize,
+) -> u32
+    ensures { TakesRank ghash_field rows columns matrix.now (length space.old) (length places.old) rank.old rank.new result }
+{
+    c_matrices::rank::<u128, Wide, GhashKernel, InLanes<u64x2>>(
+        matrix, rows, columns, space, places, rank,
+    )
+}
+
+/// The determinant of a matrix of size rows of size elements, in as much space; 1 of no rows.
+#[unsafe(no_mangle)]
+pub extern "C" fn bf_g128_matrix_determinant(
+    matrix: &[Wide],
+    size: u64,
+    space: &mut [Wide],
+    determinant: &mut Wide,
+) -> u32
+    ensures { TakesDeterminant ghash_field size matrix.now (length space.old) determinant.old determinant.new result }
+{
+    c_matrices::determinant::<u128, Wide, GhashKernel, InLanes<u64x2>>(
+        matrix,
+        size,
+        space,
+        determinant,
+    )
+}
+
+/// The inverse of a matrix of size rows of size elements, in space for two of these and size places.
+#[unsafe(no_mangle)]
+pub extern "C" fn bf_g128_matrix_inverse(
+    matrix: &[Wide],
+    size: u64,
+    inverse: &mut [Wide],
+    space: &mut [Wide],
+    places: &mut [usize],
+) -> u32
+    ensures { InvertsMatrix ghash_field size matrix.now (length space.old) (length places.old) inverse.old inverse.new result }
+{
+    c_matrices::inverse::<u128, Wide, GhashKernel, InLanes<u64x2>>(
+        matrix, size, inverse, space, places,
+    )
+}
+
+/// A solution x of matrix * x = right, of rows equations in columns unknowns, in space for rows times columns + 1 elements and rows
+/// places; an unknown that the others leave open is 0.
+#[unsafe(no_mangle)]
+pub extern "C" fn bf_g128_matrix_solve(
+    matrix: &[Wide],
+    rows: u64,
+    columns: u64,
+    right: &[Wide],
+    solution: &mut [Wide],
+    space: &mut [Wide],
+    places: &mut [usize],
+) -> u32
+    ensures { SolvesEquations ghash_field rows columns matrix.now right.now (length space.old)
+        (length places.old) solution.old solution.new result }
+{
+    c_matrices::solve::<u128, Wide, GhashKernel, InLanes<u64x2>>(
+        matrix, rows, columns, right, solution, space, places,
+    )
 }

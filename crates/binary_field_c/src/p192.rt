@@ -1,11 +1,15 @@
 // Calls over slices of elements of GF(2^64)[y] modulo y^3 + y + 1 over p64, the coefficient of 1 first.
 // Written by scripts/make_c_exports.py; do not edit.
+ghost use Rattle.std.specs.Prelude.{length};
 ghost use Rattle.c_arithmetic.specs.Calls.{Adds, AddsScaled, Evaluates, Inverts, Multiplies, MultipliesBy, NamesGenerator, RaisesTo};
 ghost use Rattle.c_arithmetic.specs.Calls.{Squares, TakesDotProduct, TakesProduct, TakesRoots};
 ghost use Rattle.c_arithmetic.specs.Fields.{cubic_field};
+ghost use Rattle.c_matrices.specs.Matrices.{InvertsMatrix, MultipliesMatrices, ReducesRows, SolvesEquations, TakesDeterminant};
+ghost use Rattle.c_matrices.specs.Matrices.{TakesRank};
 
 use c_arithmetic::operations::{Inverse, Power, Product, Square, SquareRoot, Sum};
 use c_arithmetic::{Cubic, CubicKernel, Triple, in_place, slices};
+use c_matrices::rows::OneByOne;
 
 /// The sum of the elements at each place.
 #[unsafe(no_mangle)]
@@ -173,4 +177,109 @@ pub extern "C" fn bf_p192_generator(generator: &mut Cubic) -> u32
     ensures { NamesGenerator cubic_field generator.new result }
 {
     slices::generator::<Triple, Cubic, CubicKernel>(generator)
+}
+
+/// The product of left, of rows rows of inner elements, and right, of inner rows of columns elements.
+#[unsafe(no_mangle)]
+pub extern "C" fn bf_p192_matrix_multiply(
+    left: &[Cubic],
+    right: &[Cubic],
+    product: &mut [Cubic],
+    rows: u64,
+    inner: u64,
+    columns: u64,
+) -> u32
+    ensures { MultipliesMatrices cubic_field rows inner columns left.now right.now product.old product.new result }
+{
+    c_matrices::multiply::<Triple, Cubic, CubicKernel, OneByOne>(
+        left, right, product, rows, inner, columns,
+    )
+}
+
+/// Brings a matrix of rows rows of columns elements to reduced row echelon form; rank is its rank, and the first rank of the rows places
+/// of pivots are the columns of its leading entries.
+#[unsafe(no_mangle)]
+pub extern "C" fn bf_p192_matrix_row_reduce(
+    matrix: &mut [Cubic],
+    rows: u64,
+    columns: u64,
+    pivots: &mut [usize],
+    rank: &mut usize,
+) -> u32
+    ensures { ReducesRows cubic_field rows columns matrix.old pivots.old rank.old matrix.new pivots.new rank.new result }
+{
+    c_matrices::row_reduce::<Triple, Cubic, CubicKernel, OneByOne>(
+        matrix, rows, columns, pivots, rank,
+    )
+}
+
+/// The rank of a matrix of rows rows of columns elements, in as much space and rows places.
+#[unsafe(no_mangle)]
+pub extern "C" fn bf_p192_matrix_rank(
+    matrix: &[Cubic],
+    rows: u64,
+    columns: u64,
+    space: &mut [Cubic],
+    places: &mut [usize],
+    rank: &mut usize,
+) -> u32
+    ensures { TakesRank cubic_field rows columns matrix.now (length space.old) (length places.old) rank.old rank.new result }
+{
+    c_matrices::rank::<Triple, Cubic, CubicKernel, OneByOne>(
+        matrix, rows, columns, space, places, rank,
+    )
+}
+
+/// The determinant of a matrix of size rows of size elements, in as much space; 1 of no rows.
+#[unsafe(no_mangle)]
+pub extern "C" fn bf_p192_matrix_determinant(
+    matrix: &[Cubic],
+    size: u64,
+    space: &mut [Cubic],
+    determinant: &mut Cubic,
+) -> u32
+    ensures { TakesDeterminant cubic_field size matrix.now (length space.old) determinant.old determinant.new result }
+{
+    c_matrices::determinant::<Triple, Cubic, CubicKernel, OneByOne>(
+        matrix,
+        size,
+        space,
+        determinant,
+    )
+}
+
+/// The inverse of a matrix of size rows of size elements, in space for two of these and size places.
+#[unsafe(no_mangle)]
+pub extern "C" fn bf_p192_matrix_inverse(
+    matrix: &[Cubic],
+    size: u64,
+    inverse: &mut [Cubic],
+    space: &mut [Cubic],
+    places: &mut [usize],
+) -> u32
+    ensures { InvertsMatrix cubic_field size matrix.now (length space.old) (length places.old) inverse.old inverse.new result }
+{
+    c_matrices::inverse::<Triple, Cubic, CubicKernel, OneByOne>(
+        matrix, size, inverse, space, places,
+    )
+}
+
+/// A solution x of matrix * x = right, of rows equations in columns unknowns, in space for rows times columns + 1 elements and rows
+/// places; an unknown that the others leave open is 0.
+#[unsafe(no_mangle)]
+pub extern "C" fn bf_p192_matrix_solve(
+    matrix: &[Cubic],
+    rows: u64,
+    columns: u64,
+    right: &[Cubic],
+    solution: &mut [Cubic],
+    space: &mut [Cubic],
+    places: &mut [usize],
+) -> u32
+    ensures { SolvesEquations cubic_field rows columns matrix.now right.now (length space.old)
+        (length places.old) solution.old solution.new result }
+{
+    c_matrices::solve::<Triple, Cubic, CubicKernel, OneByOne>(
+        matrix, rows, columns, right, solution, space, places,
+    )
 }

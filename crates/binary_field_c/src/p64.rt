@@ -1,11 +1,15 @@
 // Calls over slices of elements of GF(2)[x] modulo x^64 + x^4 + x^3 + x + 1.
 // Written by scripts/make_c_exports.py; do not edit.
+ghost use Rattle.std.specs.Prelude.{length};
 ghost use Rattle.c_arithmetic.specs.Calls.{Adds, AddsScaled, Evaluates, Inverts, Multiplies, MultipliesBy, NamesGenerator, RaisesTo};
 ghost use Rattle.c_arithmetic.specs.Calls.{Squares, TakesDotProduct, TakesProduct, TakesRoots};
 ghost use Rattle.c_arithmetic.specs.Fields.{poly64_field};
+ghost use Rattle.c_matrices.specs.Matrices.{InvertsMatrix, MultipliesMatrices, ReducesRows, SolvesEquations, TakesDeterminant};
+ghost use Rattle.c_matrices.specs.Matrices.{TakesRank};
 
 use c_arithmetic::operations::{Power, Product, Square, SquareRoot, Sum};
 use c_arithmetic::{Poly64Kernel, in_place, in_slices, slices};
+use c_matrices::rows::OneByOne;
 use std::simd::prelude::*;
 
 /// The sum of the elements at each place.
@@ -166,4 +170,98 @@ pub extern "C" fn bf_p64_generator(generator: &mut u64) -> u32
     ensures { NamesGenerator poly64_field generator.new result }
 {
     slices::generator::<u64, u64, Poly64Kernel>(generator)
+}
+
+/// The product of left, of rows rows of inner elements, and right, of inner rows of columns elements.
+#[unsafe(no_mangle)]
+pub extern "C" fn bf_p64_matrix_multiply(
+    left: &[u64],
+    right: &[u64],
+    product: &mut [u64],
+    rows: u64,
+    inner: u64,
+    columns: u64,
+) -> u32
+    ensures { MultipliesMatrices poly64_field rows inner columns left.now right.now product.old product.new result }
+{
+    c_matrices::multiply::<u64, u64, Poly64Kernel, OneByOne>(
+        left, right, product, rows, inner, columns,
+    )
+}
+
+/// Brings a matrix of rows rows of columns elements to reduced row echelon form; rank is its rank, and the first rank of the rows places
+/// of pivots are the columns of its leading entries.
+#[unsafe(no_mangle)]
+pub extern "C" fn bf_p64_matrix_row_reduce(
+    matrix: &mut [u64],
+    rows: u64,
+    columns: u64,
+    pivots: &mut [usize],
+    rank: &mut usize,
+) -> u32
+    ensures { ReducesRows poly64_field rows columns matrix.old pivots.old rank.old matrix.new pivots.new rank.new result }
+{
+    c_matrices::row_reduce::<u64, u64, Poly64Kernel, OneByOne>(matrix, rows, columns, pivots, rank)
+}
+
+/// The rank of a matrix of rows rows of columns elements, in as much space and rows places.
+#[unsafe(no_mangle)]
+pub extern "C" fn bf_p64_matrix_rank(
+    matrix: &[u64],
+    rows: u64,
+    columns: u64,
+    space: &mut [u64],
+    places: &mut [usize],
+    rank: &mut usize,
+) -> u32
+    ensures { TakesRank poly64_field rows columns matrix.now (length space.old) (length places.old) rank.old rank.new result }
+{
+    c_matrices::rank::<u64, u64, Poly64Kernel, OneByOne>(matrix, rows, columns, space, places, rank)
+}
+
+/// The determinant of a matrix of size rows of size elements, in as much space; 1 of no rows.
+#[unsafe(no_mangle)]
+pub extern "C" fn bf_p64_matrix_determinant(
+    matrix: &[u64],
+    size: u64,
+    space: &mut [u64],
+    determinant: &mut u64,
+) -> u32
+    ensures { TakesDeterminant poly64_field size matrix.now (length space.old) determinant.old determinant.new result }
+{
+    c_matrices::determinant::<u64, u64, Poly64Kernel, OneByOne>(matrix, size, space, determinant)
+}
+
+/// The inverse of a matrix of size rows of size elements, in space for two of these and size places.
+#[unsafe(no_mangle)]
+pub extern "C" fn bf_p64_matrix_inverse(
+    matrix: &[u64],
+    size: u64,
+    inverse: &mut [u64],
+    space: &mut [u64],
+    places: &mut [usize],
+) -> u32
+    ensures { InvertsMatrix poly64_field size matrix.now (length space.old) (length places.old) inverse.old inverse.new result }
+{
+    c_matrices::inverse::<u64, u64, Poly64Kernel, OneByOne>(matrix, size, inverse, space, places)
+}
+
+/// A solution x of matrix * x = right, of rows equations in columns unknowns, in space for rows times columns + 1 elements and rows
+/// places; an unknown that the others leave open is 0.
+#[unsafe(no_mangle)]
+pub extern "C" fn bf_p64_matrix_solve(
+    matrix: &[u64],
+    rows: u64,
+    columns: u64,
+    right: &[u64],
+    solution: &mut [u64],
+    space: &mut [u64],
+    places: &mut [usize],
+) -> u32
+    ensures { SolvesEquations poly64_field rows columns matrix.now right.now (length space.old)
+        (length places.old) solution.old solution.new result }
+{
+    c_matrices::solve::<u64, u64, Poly64Kernel, OneByOne>(
+        matrix, rows, columns, right, solution, space, places,
+    )
 }

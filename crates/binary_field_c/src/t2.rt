@@ -1,11 +1,15 @@
 // Calls over slices of elements of GF(2^2), a level of the tower.
 // Written by scripts/make_c_exports.py; do not edit.
+ghost use Rattle.std.specs.Prelude.{length};
 ghost use Rattle.c_arithmetic.specs.Calls.{Adds, AddsScaled, Evaluates, Inverts, Multiplies, MultipliesBy, NamesGenerator, RaisesTo};
 ghost use Rattle.c_arithmetic.specs.Calls.{Squares, TakesDotProduct, TakesProduct, TakesRoots};
 ghost use Rattle.c_arithmetic.specs.Fields.{level_field};
+ghost use Rattle.c_matrices.specs.Matrices.{InvertsMatrix, MultipliesMatrices, ReducesRows, SolvesEquations, TakesDeterminant};
+ghost use Rattle.c_matrices.specs.Matrices.{TakesRank};
 
 use c_arithmetic::operations::{Inverse, Power, Product, Square, SquareRoot, Sum};
 use c_arithmetic::{Bits2, Tower, in_place, slices};
+use c_matrices::rows::OneByOne;
 
 /// The sum of the elements at each place.
 #[unsafe(no_mangle)]
@@ -165,4 +169,98 @@ pub extern "C" fn bf_t2_generator(generator: &mut u8) -> u32
     ensures { NamesGenerator (level_field 1) generator.new result }
 {
     slices::generator::<u8, u8, Tower<Bits2>>(generator)
+}
+
+/// The product of left, of rows rows of inner elements, and right, of inner rows of columns elements.
+#[unsafe(no_mangle)]
+pub extern "C" fn bf_t2_matrix_multiply(
+    left: &[u8],
+    right: &[u8],
+    product: &mut [u8],
+    rows: u64,
+    inner: u64,
+    columns: u64,
+) -> u32
+    ensures { MultipliesMatrices (level_field 1) rows inner columns left.now right.now product.old product.new result }
+{
+    c_matrices::multiply::<u8, u8, Tower<Bits2>, OneByOne>(
+        left, right, product, rows, inner, columns,
+    )
+}
+
+/// Brings a matrix of rows rows of columns elements to reduced row echelon form; rank is its rank, and the first rank of the rows places
+/// of pivots are the columns of its leading entries.
+#[unsafe(no_mangle)]
+pub extern "C" fn bf_t2_matrix_row_reduce(
+    matrix: &mut [u8],
+    rows: u64,
+    columns: u64,
+    pivots: &mut [usize],
+    rank: &mut usize,
+) -> u32
+    ensures { ReducesRows (level_field 1) rows columns matrix.old pivots.old rank.old matrix.new pivots.new rank.new result }
+{
+    c_matrices::row_reduce::<u8, u8, Tower<Bits2>, OneByOne>(matrix, rows, columns, pivots, rank)
+}
+
+/// The rank of a matrix of rows rows of columns elements, in as much space and rows places.
+#[unsafe(no_mangle)]
+pub extern "C" fn bf_t2_matrix_rank(
+    matrix: &[u8],
+    rows: u64,
+    columns: u64,
+    space: &mut [u8],
+    places: &mut [usize],
+    rank: &mut usize,
+) -> u32
+    ensures { TakesRank (level_field 1) rows columns matrix.now (length space.old) (length places.old) rank.old rank.new result }
+{
+    c_matrices::rank::<u8, u8, Tower<Bits2>, OneByOne>(matrix, rows, columns, space, places, rank)
+}
+
+/// The determinant of a matrix of size rows of size elements, in as much space; 1 of no rows.
+#[unsafe(no_mangle)]
+pub extern "C" fn bf_t2_matrix_determinant(
+    matrix: &[u8],
+    size: u64,
+    space: &mut [u8],
+    determinant: &mut u8,
+) -> u32
+    ensures { TakesDeterminant (level_field 1) size matrix.now (length space.old) determinant.old determinant.new result }
+{
+    c_matrices::determinant::<u8, u8, Tower<Bits2>, OneByOne>(matrix, size, space, determinant)
+}
+
+/// The inverse of a matrix of size rows of size elements, in space for two of these and size places.
+#[unsafe(no_mangle)]
+pub extern "C" fn bf_t2_matrix_inverse(
+    matrix: &[u8],
+    size: u64,
+    inverse: &mut [u8],
+    space: &mut [u8],
+    places: &mut [usize],
+) -> u32
+    ensures { InvertsMatrix (level_field 1) size matrix.now (length space.old) (length places.old) inverse.old inverse.new result }
+{
+    c_matrices::inverse::<u8, u8, Tower<Bits2>, OneByOne>(matrix, size, inverse, space, places)
+}
+
+/// A solution x of matrix * x = right, of rows equations in columns unknowns, in space for rows times columns + 1 elements and rows
+/// places; an unknown that the others leave open is 0.
+#[unsafe(no_mangle)]
+pub extern "C" fn bf_t2_matrix_solve(
+    matrix: &[u8],
+    rows: u64,
+    columns: u64,
+    right: &[u8],
+    solution: &mut [u8],
+    space: &mut [u8],
+    places: &mut [usize],
+) -> u32
+    ensures { SolvesEquations (level_field 1) rows columns matrix.now right.now (length space.old)
+        (length places.old) solution.old solution.new result }
+{
+    c_matrices::solve::<u8, u8, Tower<Bits2>, OneByOne>(
+        matrix, rows, columns, right, solution, space, places,
+    )
 }

@@ -1,11 +1,15 @@
 // Calls over slices of elements of GF(2^32), a level of the tower.
 // Written by scripts/make_c_exports.py; do not edit.
+ghost use Rattle.std.specs.Prelude.{length};
 ghost use Rattle.c_arithmetic.specs.Calls.{Adds, AddsScaled, Evaluates, Inverts, Multiplies, MultipliesBy, NamesGenerator, RaisesTo};
 ghost use Rattle.c_arithmetic.specs.Calls.{Squares, TakesDotProduct, TakesProduct, TakesRoots};
 ghost use Rattle.c_arithmetic.specs.Fields.{level_field};
+ghost use Rattle.c_matrices.specs.Matrices.{InvertsMatrix, MultipliesMatrices, ReducesRows, SolvesEquations, TakesDeterminant};
+ghost use Rattle.c_matrices.specs.Matrices.{TakesRank};
 
 use c_arithmetic::operations::{Power, Square, SquareRoot, Sum};
 use c_arithmetic::{Bits32, Tower, in_place, in_planes, in_slices, slices};
+use c_matrices::rows::InPlanes;
 use std::simd::prelude::*;
 
 /// The sum of the elements at each place.
@@ -166,4 +170,100 @@ pub extern "C" fn bf_t32_generator(generator: &mut u32) -> u32
     ensures { NamesGenerator (level_field 5) generator.new result }
 {
     slices::generator::<u32, u32, Tower<Bits32>>(generator)
+}
+
+/// The product of left, of rows rows of inner elements, and right, of inner rows of columns elements.
+#[unsafe(no_mangle)]
+pub extern "C" fn bf_t32_matrix_multiply(
+    left: &[u32],
+    right: &[u32],
+    product: &mut [u32],
+    rows: u64,
+    inner: u64,
+    columns: u64,
+) -> u32
+    ensures { MultipliesMatrices (level_field 5) rows inner columns left.now right.now product.old product.new result }
+{
+    c_matrices::multiply::<u32, u32, Tower<Bits32>, InPlanes>(
+        left, right, product, rows, inner, columns,
+    )
+}
+
+/// Brings a matrix of rows rows of columns elements to reduced row echelon form; rank is its rank, and the first rank of the rows places
+/// of pivots are the columns of its leading entries.
+#[unsafe(no_mangle)]
+pub extern "C" fn bf_t32_matrix_row_reduce(
+    matrix: &mut [u32],
+    rows: u64,
+    columns: u64,
+    pivots: &mut [usize],
+    rank: &mut usize,
+) -> u32
+    ensures { ReducesRows (level_field 5) rows columns matrix.old pivots.old rank.old matrix.new pivots.new rank.new result }
+{
+    c_matrices::row_reduce::<u32, u32, Tower<Bits32>, InPlanes>(matrix, rows, columns, pivots, rank)
+}
+
+/// The rank of a matrix of rows rows of columns elements, in as much space and rows places.
+#[unsafe(no_mangle)]
+pub extern "C" fn bf_t32_matrix_rank(
+    matrix: &[u32],
+    rows: u64,
+    columns: u64,
+    space: &mut [u32],
+    places: &mut [usize],
+    rank: &mut usize,
+) -> u32
+    ensures { TakesRank (level_field 5) rows columns matrix.now (length space.old) (length places.old) rank.old rank.new result }
+{
+    c_matrices::rank::<u32, u32, Tower<Bits32>, InPlanes>(
+        matrix, rows, columns, space, places, rank,
+    )
+}
+
+/// The determinant of a matrix of size rows of size elements, in as much space; 1 of no rows.
+#[unsafe(no_mangle)]
+pub extern "C" fn bf_t32_matrix_determinant(
+    matrix: &[u32],
+    size: u64,
+    space: &mut [u32],
+    determinant: &mut u32,
+) -> u32
+    ensures { TakesDeterminant (level_field 5) size matrix.now (length space.old) determinant.old determinant.new result }
+{
+    c_matrices::determinant::<u32, u32, Tower<Bits32>, InPlanes>(matrix, size, space, determinant)
+}
+
+/// The inverse of a matrix of size rows of size elements, in space for two of these and size places.
+#[unsafe(no_mangle)]
+pub extern "C" fn bf_t32_matrix_inverse(
+    matrix: &[u32],
+    size: u64,
+    inverse: &mut [u32],
+    space: &mut [u32],
+    places: &mut [usize],
+) -> u32
+    ensures { InvertsMatrix (level_field 5) size matrix.now (length space.old) (length places.old) inverse.old inverse.new result }
+{
+    c_matrices::inverse::<u32, u32, Tower<Bits32>, InPlanes>(matrix, size, inverse, space, places)
+}
+
+/// A solution x of matrix * x = right, of rows equations in columns unknowns, in space for rows times columns + 1 elements and rows
+/// places; an unknown that the others leave open is 0.
+#[unsafe(no_mangle)]
+pub extern "C" fn bf_t32_matrix_solve(
+    matrix: &[u32],
+    rows: u64,
+    columns: u64,
+    right: &[u32],
+    solution: &mut [u32],
+    space: &mut [u32],
+    places: &mut [usize],
+) -> u32
+    ensures { SolvesEquations (level_field 5) rows columns matrix.now right.now (length space.old)
+        (length places.old) solution.old solution.new result }
+{
+    c_matrices::solve::<u32, u32, Tower<Bits32>, InPlanes>(
+        matrix, rows, columns, right, solution, space, places,
+    )
 }

@@ -1,12 +1,16 @@
 // Second forms of calls, made for x86-64-v3, whose vectors have 256 bits.
 // Written by scripts/make_c_exports.py; do not edit.
+ghost use Rattle.std.specs.Prelude.{length};
 ghost use Rattle.c_arithmetic.specs.Transforms.{ButterfliesForward, ButterfliesInverse, InvertsTransform, RunsLowStages, Transforms};
 ghost use Rattle.c_arithmetic.specs.Calls.{AddsScaled, Inverts, Multiplies, MultipliesBy, TakesDotProduct};
 ghost use Rattle.c_arithmetic.specs.Fields.{ghash_field, level_field, poly64_field, wide_level_field, wide_number};
+ghost use Rattle.c_matrices.specs.Matrices.{InvertsMatrix, MultipliesMatrices, ReducesRows, SolvesEquations, TakesDeterminant};
+ghost use Rattle.c_matrices.specs.Matrices.{TakesRank};
 
 use c_arithmetic::{
     Bits16, Bits32, Bits64, Bits128, GhashKernel, Poly64Kernel, Tower, Wide, in_slices,
 };
+use c_matrices::rows::InLanes;
 use std::simd::prelude::*;
 
 /// The same as `bf_g128_multiply`.
@@ -240,4 +244,107 @@ pub extern "C" fn bf_g128_batch_inverse_wide(values: &[Wide], inverses: &mut [Wi
     ensures { Inverts ghash_field values.now inverses.old inverses.new result }
 {
     in_slices::batch_invert::<u128, GhashKernel, u64x4>(values, inverses)
+}
+
+/// The same as `bf_g128_matrix_multiply`.
+#[unsafe(no_mangle)]
+pub extern "C" fn bf_g128_matrix_multiply_wide(
+    left: &[Wide],
+    right: &[Wide],
+    product: &mut [Wide],
+    rows: u64,
+    inner: u64,
+    columns: u64,
+) -> u32
+    ensures { MultipliesMatrices ghash_field rows inner columns left.now right.now product.old product.new result }
+{
+    c_matrices::multiply::<u128, Wide, GhashKernel, InLanes<u64x4>>(
+        left, right, product, rows, inner, columns,
+    )
+}
+
+/// The same as `bf_g128_matrix_row_reduce`.
+#[unsafe(no_mangle)]
+pub extern "C" fn bf_g128_matrix_row_reduce_wide(
+    matrix: &mut [Wide],
+    rows: u64,
+    columns: u64,
+    pivots: &mut [usize],
+    rank: &mut usize,
+) -> u32
+    ensures { ReducesRows ghash_field rows columns matrix.old pivots.old rank.old matrix.new pivots.new rank.new result }
+{
+    c_matrices::row_reduce::<u128, Wide, GhashKernel, InLanes<u64x4>>(
+        matrix, rows, columns, pivots, rank,
+    )
+}
+
+/// The same as `bf_g128_matrix_rank`.
+#[unsafe(no_mangle)]
+pub extern "C" fn bf_g128_matrix_rank_wide(
+    matrix: &[Wide],
+    rows: u64,
+    columns: u64,
+    space: &mut [Wide],
+    places: &mut [usize],
+    rank: &mut usize,
+) -> u32
+    ensures { TakesRank ghash_field rows columns matrix.now (length space.old) (length places.old) rank.old rank.new result }
+{
+    c_matrices::rank::<u128, Wide, GhashKernel, InLanes<u64x4>>(
+        matrix, rows, columns, space, places, rank,
+    )
+}
+
+/// The same as `bf_g128_matrix_determinant`.
+#[unsafe(no_mangle)]
+pub extern "C" fn bf_g128_matrix_determinant_wide(
+    matrix: &[Wide],
+    size: u64,
+    space: &mut [Wide],
+    determinant: &mut Wide,
+) -> u32
+    ensures { TakesDeterminant ghash_field size matrix.now (length space.old) determinant.old determinant.new result }
+{
+    c_matrices::determinant::<u128, Wide, GhashKernel, InLanes<u64x4>>(
+        matrix,
+        size,
+        space,
+        determinant,
+    )
+}
+
+/// The same as `bf_g128_matrix_inverse`.
+#[unsafe(no_mangle)]
+pub extern "C" fn bf_g128_matrix_inverse_wide(
+    matrix: &[Wide],
+    size: u64,
+    inverse: &mut [Wide],
+    space: &mut [Wide],
+    places: &mut [usize],
+) -> u32
+    ensures { InvertsMatrix ghash_field size matrix.now (length space.old) (length places.old) inverse.old inverse.new result }
+{
+    c_matrices::inverse::<u128, Wide, GhashKernel, InLanes<u64x4>>(
+        matrix, size, inverse, space, places,
+    )
+}
+
+/// The same as `bf_g128_matrix_solve`.
+#[unsafe(no_mangle)]
+pub extern "C" fn bf_g128_matrix_solve_wide(
+    matrix: &[Wide],
+    rows: u64,
+    columns: u64,
+    right: &[Wide],
+    solution: &mut [Wide],
+    space: &mut [Wide],
+    places: &mut [usize],
+) -> u32
+    ensures { SolvesEquations ghash_field rows columns matrix.now right.now (length space.old)
+        (length places.old) solution.old solution.new result }
+{
+    c_matrices::solve::<u128, Wide, GhashKernel, InLanes<u64x4>>(
+        matrix, rows, columns, right, solution, space, places,
+    )
 }

@@ -1,0 +1,110 @@
+/* Products and inverses of n by n matrices of this library beside M4RIE (Debian's libm4rie-dev), on one core.
+ *
+ *   gcc -O2 -o matrices bench/matrices.c crates/binary_field_c/out/libbinary_field_c.a -lm4rie -lm4ri -lm && ./matrices [SAMPLES]
+ *
+ * It links one build of the library: `rt lib` for x86-64-v2, `rt lib --cpu x86-64-v3` for AVX2. A number is processor time in nanoseconds
+ * divided by n^3, the least of the samples. M4RIE has other polynomials, and fields of up to 16 bits: its product, and for the inverse its
+ * reduced row echelon form of the matrix.
+ */
+#include <m4rie/m4rie.h>
+#include <stdint.h>
+#include <stdio.h>
+#include <stdlib.h>
+#include <time.h>
+
+typedef struct {
+    uint64_t low, high;
+} wide;
+
+#define CALLS(name, element)                                                                                                         \
+    uint32_t bf_##name##_matrix_multiply(const element *, size_t, const element *, size_t, element *, size_t, size_t, size_t, size_t); \
+    uint32_t bf_##name##_matrix_inverse(const element *, size_t, size_t, element *, size_t, element *, size_t, size_t *, size_t);
+CALLS(t8, uint8_t)
+CALLS(r8, uint8_t)
+CALLS(t16, uint16_t)
+CALLS(t32, uint32_t)
+CALLS(t64, uint64_t)
+CALLS(p64, uint64_t)
+CALLS(t128, wide)
+CALLS(g128, wide)
+
+enum { MOST = 512 };
+
+static const size_t sizes[] = {8, 64, 256, MOST};
+static int samples = 5;
+static void *left, *right, *made, *space;
+static size_t places[MOST];
+
+static double now(void) {
+    struct timespec time;
+    clock_gettime(CLOCK_THREAD_CPUTIME_ID, &time);
+    return time.tv_sec * 1e9 + time.tv_nsec;
+}
+
+#define ROW(name, prepare, call)                                                                 \
+    do {                                                                                         \
+        printf("%-20s", name);                                                                   \
+        for (size_t at = 0; at < sizeof sizes / sizeof *sizes; at++) {                           \
+            size_t n = sizes[at], rounds = 1 + 200000 / (n * n * n);                             \
+            double least = 1e18;                                                                 \
+            prepare;                                                                             \
+            for (int sample = 0; sample < samples; sample++) {                                   \
+                double start = now();                                                            \
+                for (size_t round = 0; round < rounds; round++) {                                \
+                    call;                                                                        \
+                }                                                                                \
+                double time = (now() - start) / rounds / n / n / n;                              \
+                least = time < least ? time : least;                                             \
+            }                                                                                    \
+            printf(" %8.3f", least);                                                             \
+        }                                                                                        \
+        printf("\n");                                                                            \
+        fflush(stdout);                                                                          \
+    } while (0)
+
+static void checked(uint32_t status) {
+    /* Of a drawn matrix it may be that there is no inverse. */
+    if (status != 0 && status != 6) {
+        fprintf(stderr, "matrices: status %u\n", status);
+        exit(1);
+    }
+}
+
+#define ROWS(name)                                                                                                                       \
+    ROW(#name " product", , checked(bf_##name##_matrix_multiply(left, n * n, right, n * n, made, n * n, n, n, n)));                          \
+    ROW(#name " inverse", , checked(bf_##name##_matrix_inverse(left, n * n, n, made, n * n, space, 2 * n * n, places, n)))
+
+static void rows_of_m4rie(const char *product, const char *echelon, word polynomial) {
+    gf2e *field = gf2e_init(polynomial);
+    mzed_t *a = NULL, *b = NULL, *c = NULL;
+    ROW(product, (a = mzed_init(field, n, n), b = mzed_init(field, n, n), c = mzed_init(field, n, n), mzed_randomize(a), mzed_randomize(b)),
+        mzed_mul(c, a, b));
+    ROW(echelon, (a = mzed_init(field, n, n), c = mzed_init(field, n, n), mzed_randomize(a)), (mzed_copy(c, a), mzed_echelonize(c, 1)));
+}
+
+int main(int arguments, char **argument) {
+    size_t bytes = MOST * MOST * sizeof(wide);
+    samples = arguments > 1 ? atoi(argument[1]) : samples;
+    left = malloc(bytes), right = malloc(bytes), made = malloc(bytes), space = malloc(2 * bytes);
+    srand(1);
+    for (size_t at = 0; at < bytes; at++) {
+        ((uint8_t *)left)[at] = (uint8_t)(rand() >> 7);
+        ((uint8_t *)right)[at] = (uint8_t)(rand() >> 7);
+    }
+    printf("%-20s", "n");
+    for (size_t at = 0; at < sizeof sizes / sizeof *sizes; at++) {
+        printf(" %8zu", sizes[at]);
+    }
+    printf("\n");
+    ROWS(t8);
+    ROWS(r8);
+    rows_of_m4rie("M4RIE 8, product", "M4RIE 8, echelon", 0x11d);
+    ROWS(t16);
+    rows_of_m4rie("M4RIE 16, product", "M4RIE 16, echelon", 0x1100b);
+    ROWS(t32);
+    ROWS(t64);
+    ROWS(p64);
+    ROWS(t128);
+    ROWS(g128);
+    return 0;
+}

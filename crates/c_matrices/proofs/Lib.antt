@@ -1,0 +1,5 @@
+mod Calls
+mod Endings
+mod Equations
+mod LowNumbers
+mod RowSums

@@ -1,0 +1,3 @@
+pub mod Matrices
+pub mod WordLemmas
+pub mod Words

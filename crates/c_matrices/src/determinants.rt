@@ -1,0 +1,35 @@
+// Determinants of matrices of words.
+ghost use Rattle.std.specs.Prelude.{◌≡◌, length};
+ghost use Rattle.c_arithmetic.specs.Fields.{field_of};
+ghost use Rattle.c_matrices.specs.Matrices.{TakesDeterminant};
+
+use crate::elements::{are_elements, truncated};
+use crate::rows::AddsRows;
+use crate::shapes::has_shape;
+use crate::words::Words;
+use c_arithmetic::status;
+use field_base::{FieldKernel, Stored};
+use tower_transforms::Holds;
+
+/// Writes the determinant of a matrix of `size` rows of as many words, in as much space; of no rows it is 1.
+pub fn determinant<R: Stored, W: Holds<R>, K: FieldKernel<R>, A: AddsRows<R, W, K>>(
+    matrix: &[W],
+    size: u64,
+    space: &mut [W],
+    determinant: &mut W,
+) -> u32
+    ensures { TakesDeterminant (field_of W.number K.width K.product K.generator) size matrix.now (length space.old) determinant.old
+        determinant.new result }
+{
+    let size = size as usize;
+    if !has_shape(matrix.len(), size, size) || space.len() != matrix.len() {
+        return status::LENGTH;
+    }
+    if !are_elements::<R, W, K>(matrix) {
+        return status::NOT_AN_ELEMENT;
+    }
+    space.copy_from_slice(matrix);
+    let value = field_matrices::determinant::<Words<R, W, K, A>>(space, size);
+    *determinant = truncated::<R, W, K>(value);
+    status::OK
+}

@@ -1,0 +1,44 @@
+// Inverses of matrices of words.
+ghost use Rattle.std.specs.Prelude.{◌≡◌, length};
+ghost use Rattle.c_arithmetic.specs.Fields.{field_of};
+ghost use Rattle.c_matrices.specs.Matrices.{InvertsMatrix};
+
+use crate::elements::{are_elements, truncate_all};
+use crate::rows::AddsRows;
+use crate::shapes::has_shape;
+use crate::status::UNSOLVABLE;
+use crate::words::Words;
+use c_arithmetic::status;
+use field_base::{FieldKernel, Stored};
+use field_matrices::{columns_into, invert_beside, put_columns};
+use tower_transforms::Holds;
+
+/// Writes the inverse of a matrix of `size` rows of as many words, in space for two matrices, and a place for each row.
+pub fn inverse<R: Stored, W: Holds<R>, K: FieldKernel<R>, A: AddsRows<R, W, K>>(
+    matrix: &[W],
+    size: u64,
+    inverse: &mut [W],
+    space: &mut [W],
+    places: &mut [usize],
+) -> u32
+    ensures { InvertsMatrix (field_of W.number K.width K.product K.generator) size matrix.now (length space.old) (length places.old)
+        inverse.old inverse.new result }
+{
+    let size = size as usize;
+    if !has_shape(matrix.len(), size, size) || inverse.len() != matrix.len() {
+        return status::LENGTH;
+    }
+    if !has_shape(space.len(), size, size + size) || places.len() != size {
+        return status::LENGTH;
+    }
+    if !are_elements::<R, W, K>(matrix) {
+        return status::NOT_AN_ELEMENT;
+    }
+    put_columns::<Words<R, W, K, A>>(space, matrix, size, size + size, 0, size);
+    if !invert_beside::<Words<R, W, K, A>>(space, size, places) {
+        return UNSOLVABLE;
+    }
+    columns_into::<Words<R, W, K, A>>(inverse, space, size, size + size, size, size);
+    truncate_all::<R, W, K>(inverse);
+    status::OK
+}

@@ -1,0 +1,40 @@
+// Products of matrices of words.
+ghost use Rattle.std.specs.Prelude.{◌≡◌};
+ghost use Rattle.c_arithmetic.specs.Fields.{field_of};
+ghost use Rattle.c_matrices.specs.Matrices.{MultipliesMatrices};
+
+use crate::elements::{are_elements, truncate_all};
+use crate::rows::AddsRows;
+use crate::shapes::has_shape;
+use crate::words::Words;
+use c_arithmetic::status;
+use field_base::{FieldKernel, Stored};
+use field_matrices::multiply_into;
+use tower_transforms::Holds;
+
+/// Writes the product of `left`, of `rows` rows of `inner` words, and `right`, of `inner` rows of `columns` words.
+pub fn multiply<R: Stored, W: Holds<R>, K: FieldKernel<R>, A: AddsRows<R, W, K>>(
+    left: &[W],
+    right: &[W],
+    product: &mut [W],
+    rows: u64,
+    inner: u64,
+    columns: u64,
+) -> u32
+    ensures { MultipliesMatrices (field_of W.number K.width K.product K.generator) rows inner columns left.now right.now product.old
+        product.new result }
+{
+    let (rows, inner, columns) = (rows as usize, inner as usize, columns as usize);
+    if !has_shape(left.len(), rows, inner)
+        || !has_shape(right.len(), inner, columns)
+        || !has_shape(product.len(), rows, columns)
+    {
+        return status::LENGTH;
+    }
+    if !are_elements::<R, W, K>(left) || !are_elements::<R, W, K>(right) {
+        return status::NOT_AN_ELEMENT;
+    }
+    multiply_into::<Words<R, W, K, A>>(product, left, right, rows, inner, columns);
+    truncate_all::<R, W, K>(product);
+    status::OK
+}

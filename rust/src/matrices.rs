@@ -1,0 +1,127 @@
+//! Matrices, whose elements stand row after row in a slice.
+
+use crate::functions::*;
+use crate::{
+    BinaryField2, BinaryField4, BinaryField8, BinaryField16, BinaryField32, BinaryField64,
+    BinaryField128, Error, Field, Gf2, Ghash128, Poly64, Poly192, Rijndael8b,
+};
+
+/// Matrices over a field. A call fails with `Error::Length` where a slice has another length than it says, and then changes nothing. What it
+/// works in, `space` and `places`, may have anything before; behind the call nothing is said of it.
+pub trait Matrices: Field {
+    /// Writes the product of `left`, of `rows` rows of `inner` elements, and `right`, of `inner` rows of `columns` elements.
+    fn matrix_multiply(
+        left: &[Self],
+        right: &[Self],
+        product: &mut [Self],
+        rows: usize,
+        inner: usize,
+        columns: usize,
+    ) -> Result<(), Error>;
+
+    /// Brings a matrix of `rows` rows of `columns` elements to reduced row echelon form, and returns its rank. The first so many places of
+    /// `pivots`, which has one for each row, are then the columns of the leading entries.
+    fn matrix_row_reduce(
+        matrix: &mut [Self],
+        rows: usize,
+        columns: usize,
+        pivots: &mut [usize],
+    ) -> Result<usize, Error>;
+
+    /// The rank of a matrix of `rows` rows of `columns` elements. `space` is as long, and `places` has one for each row.
+    fn matrix_rank(
+        matrix: &[Self],
+        rows: usize,
+        columns: usize,
+        space: &mut [Self],
+        places: &mut [usize],
+    ) -> Result<usize, Error>;
+
+    /// The determinant of a matrix of `size` rows of `size` elements, of no rows ONE. `space` is as long.
+    fn matrix_determinant(matrix: &[Self], size: usize, space: &mut [Self]) -> Result<Self, Error>;
+
+    /// Writes the inverse of a matrix of `size` rows of `size` elements, or fails with `Error::Unsolvable` where it has none. `space` is two
+    /// times as long, and `places` has one for each row.
+    fn matrix_inverse(
+        matrix: &[Self],
+        size: usize,
+        inverse: &mut [Self],
+        space: &mut [Self],
+        places: &mut [usize],
+    ) -> Result<(), Error>;
+
+    /// Writes an x with `matrix` x = `right`, or fails with `Error::Unsolvable` where there is none: `rows` equations, each a row of `columns`
+    /// coefficients. `space` has a row of one element more for each equation, and `places` one for each.
+    fn matrix_solve(
+        matrix: &[Self],
+        rows: usize,
+        columns: usize,
+        right: &[Self],
+        solution: &mut [Self],
+        space: &mut [Self],
+        places: &mut [usize],
+    ) -> Result<(), Error>;
+}
+
+/// The calls of the library by which fields have matrices.
+macro_rules! matrices {
+    ($($field:ident: $multiply:ident $row_reduce:ident $rank:ident $determinant:ident $inverse:ident $solve:ident),* $(,)?) => {$(
+        impl Matrices for $field {
+            fn matrix_multiply(
+                left: &[$field], right: &[$field], product: &mut [$field], rows: usize, inner: usize, columns: usize,
+            ) -> Result<(), Error> {
+                Error::of(call!($multiply: [left], [right], [mut product], rows, inner, columns))
+            }
+
+            fn matrix_row_reduce(
+                matrix: &mut [$field], rows: usize, columns: usize, pivots: &mut [usize],
+            ) -> Result<usize, Error> {
+                let mut rank = 0;
+                Error::of(call!($row_reduce: [mut matrix], rows, columns, [mut pivots], &raw mut rank))?;
+                Ok(rank)
+            }
+
+            fn matrix_rank(
+                matrix: &[$field], rows: usize, columns: usize, space: &mut [$field], places: &mut [usize],
+            ) -> Result<usize, Error> {
+                let mut rank = 0;
+                Error::of(call!($rank: [matrix], rows, columns, [mut space], [mut places], &raw mut rank))?;
+                Ok(rank)
+            }
+
+            fn matrix_determinant(matrix: &[$field], size: usize, space: &mut [$field]) -> Result<$field, Error> {
+                let mut determinant = <$field as crate::PrimeCharacteristicRing>::ZERO;
+                Error::of(call!($determinant: [matrix], size, [mut space], (&raw mut determinant).cast()))?;
+                Ok(determinant)
+            }
+
+            fn matrix_inverse(
+                matrix: &[$field], size: usize, inverse: &mut [$field], space: &mut [$field], places: &mut [usize],
+            ) -> Result<(), Error> {
+                Error::of(call!($inverse: [matrix], size, [mut inverse], [mut space], [mut places]))
+            }
+
+            fn matrix_solve(
+                matrix: &[$field], rows: usize, columns: usize, right: &[$field], solution: &mut [$field], space: &mut [$field],
+                places: &mut [usize],
+            ) -> Result<(), Error> {
+                Error::of(call!($solve: [matrix], rows, columns, [right], [mut solution], [mut space], [mut places]))
+            }
+        }
+    )*};
+}
+
+matrices! {
+    Gf2: bf_gf2_matrix_multiply bf_gf2_matrix_row_reduce bf_gf2_matrix_rank bf_gf2_matrix_determinant bf_gf2_matrix_inverse bf_gf2_matrix_solve,
+    BinaryField2: bf_t2_matrix_multiply bf_t2_matrix_row_reduce bf_t2_matrix_rank bf_t2_matrix_determinant bf_t2_matrix_inverse bf_t2_matrix_solve,
+    BinaryField4: bf_t4_matrix_multiply bf_t4_matrix_row_reduce bf_t4_matrix_rank bf_t4_matrix_determinant bf_t4_matrix_inverse bf_t4_matrix_solve,
+    BinaryField8: bf_t8_matrix_multiply bf_t8_matrix_row_reduce bf_t8_matrix_rank bf_t8_matrix_determinant bf_t8_matrix_inverse bf_t8_matrix_solve,
+    BinaryField16: bf_t16_matrix_multiply bf_t16_matrix_row_reduce bf_t16_matrix_rank bf_t16_matrix_determinant bf_t16_matrix_inverse bf_t16_matrix_solve,
+    BinaryField32: bf_t32_matrix_multiply bf_t32_matrix_row_reduce bf_t32_matrix_rank bf_t32_matrix_determinant bf_t32_matrix_inverse bf_t32_matrix_solve,
+    BinaryField64: bf_t64_matrix_multiply bf_t64_matrix_row_reduce bf_t64_matrix_rank bf_t64_matrix_determinant bf_t64_matrix_inverse bf_t64_matrix_solve,
+    BinaryField128: bf_t128_matrix_multiply bf_t128_matrix_row_reduce bf_t128_matrix_rank bf_t128_matrix_determinant bf_t128_matrix_inverse bf_t128_matrix_solve,
+    Rijndael8b: bf_r8_matrix_multiply bf_r8_matrix_row_reduce bf_r8_matrix_rank bf_r8_matrix_determinant bf_r8_matrix_inverse bf_r8_matrix_solve,
+    Poly64: bf_p64_matrix_multiply bf_p64_matrix_row_reduce bf_p64_matrix_rank bf_p64_matrix_determinant bf_p64_matrix_inverse bf_p64_matrix_solve,
+    Ghash128: bf_g128_matrix_multiply bf_g128_matrix_row_reduce bf_g128_matrix_rank bf_g128_matrix_determinant bf_g128_matrix_inverse bf_g128_matrix_solve,
+    Poly192: bf_p192_matrix_multiply bf_p192_matrix_row_reduce bf_p192_matrix_rank bf_p192_matrix_determinant bf_p192_matrix_inverse bf_p192_matrix_solve,
+}
