@@ -23,7 +23,7 @@ returns g c =
     let opened = c.in_ok-columns.columns.items in
     let height = c.power_of_two-height.ensures.power in
     let at = subst (λ (n : ℕ). AreColumnsAt n held.columns.items c.args.places.now opened) height
-        (subst (λ (l : List _). AreColumnsAt c.power_of_two-height.result l c.args.places.now opened) c.as_slice.ensures.value c.in_ok-columns.ensures) in
+    (subst (λ (l : List _). AreColumnsAt c.power_of_two-height.result l c.args.places.now opened) c.as_slice.ensures.value c.in_ok-columns.ensures) in
     record {
       columns = at;
       nodes = c.in_ok-nodes.ensures;
