@@ -1,5 +1,5 @@
 -- What functions over low bits of words leave, as calls say it over words that are elements.
-use Rattle.std.proofs.Common.{◌≡◌, ℕ, ◌+◌, ◌*◌, ◌<◌, List, length, map, sym, ◌∙◌, ap, subst}
+use Rattle.std.proofs.Common.{◌≡◌, ℕ, ◌+◌, ◌*◌, List, map, sym, ◌∙◌, ap, subst}
 use Rattle.std.specs.Prelude.{slice_index}
 use Rattle.field_matrices.specs.Determinants.{determinant_of}
 use Rattle.field_matrices.specs.Matrices.{IsMatrixProduct, IsReducedEchelon, HaveSameRowSpace, entry_of}

@@ -1,9 +1,9 @@
 -- Matrices beside the identity matrix and beside right sides, in space of their own.
-use Rattle.std.proofs.Common.{◌≡◌, ℕ, ◌+◌, ◌-◌, ◌*◌, ◌<◌, List, length, map, sym, ◌∙◌, ap, ap₂, arith}
+use Rattle.std.proofs.Common.{◌≡◌, ℕ, ◌+◌, ◌-◌, ◌*◌, ◌<◌, List, map, sym, ◌∙◌, ap, ap₂, arith}
 use Rattle.std.specs.Prelude.{slice_index}
 use Rattle.field_base.specs.Basis.{sum_below}
 use Rattle.field_base.proofs.BasisSums.{sum_below-same}
-use Rattle.field_matrices.specs.Matrices.{AreInverseMatrices, IsMatrixProduct, IsSolution, entry_of, identity_entry, put_entry}
+use Rattle.field_matrices.specs.Matrices.{AreInverseMatrices, IsSolution, entry_of, put_entry}
 use Rattle.field_matrices.proofs.MatrixRows.{put-before, put-inside}
 use Rattle.c_arithmetic.specs.Calls.{AreElements}
 use Rattle.c_arithmetic.specs.Fields.{WordField}

@@ -1,13 +1,13 @@
 -- Rows to which multiples of others were added.
-use Rattle.std.proofs.Common.{◌≡◌, ◌⊎◌, inl, inr, ℕ, ◌^◌, ◌<◌, ◌≤◌, List, length, get_or, map, refl, sym, ◌∙◌, ap, ap₂, arith}
-use Rattle.std.specs.Prelude.{bit_xor, slice_index}
+use Rattle.std.proofs.Common.{◌≡◌, inl, inr, ℕ, ◌^◌, ◌<◌, List, length, get_or, map, sym, ◌∙◌, ap₂, arith}
+use Rattle.std.specs.Prelude.{bit_xor}
 use Rattle.std.proofs.lemmas.Bool.{cases_lt}
 use Rattle.std.proofs.lemmas.List.{get_or-map, length-map}
 use Rattle.field_base.specs.Ring.{IsRing}
 use Rattle.field_matrices.specs.Matrices.{AreScaledSums}
 use Rattle.c_arithmetic.specs.Calls.{AddsScaled, AreElements, EachOfTwo, IsElement}
 use Rattle.c_arithmetic.specs.Fields.{WordField}
-use Rattle.c_arithmetic.specs.declared.status.TheConstants.{OK, NOT_AN_ELEMENT}
+use Rattle.c_arithmetic.specs.declared.status.TheConstants.{OK}
 use Rattle.c_matrices.specs.Words.{low_number}
 use Rattle.c_matrices.proofs.LowNumbers.{low-scaled}
 

@@ -18,7 +18,8 @@ pub(crate) fn truncated<R: Stored, W: Holds<R>, K: FieldKernel<R>>(word: W) -> W
 #[inline]
 pub(crate) fn truncate_all<R: Stored, W: Holds<R>, K: FieldKernel<R>>(words: &mut [W])
     ensures long { length words.new ≡ length words.old }
-    ensures low { (k : ℕ) → k < length words.old → (d : _) → W.number (get_or words.new k d) ≡ W.number (get_or words.old k d) % 2 ^ K.width }
+    ensures low { (k : ℕ) → k < length words.old → (d : _)
+        → W.number (get_or words.new k d) ≡ W.number (get_or words.old k d) % 2 ^ K.width }
 {
     for place in 0..words.len() {
         words[place] = truncated::<R, W, K>(words[place]);

@@ -1,6 +1,5 @@
-use Rattle.std.proofs.Common.{ℕ, ◌+◌, List, map, refl, sym, ◌∙◌, ap, subst}
+use Rattle.std.proofs.Common.{ℕ, ◌+◌, List, length, map, sym, subst}
 use Rattle.std.specs.Prelude.{slice_index}
-use Rattle.std.proofs.lemmas.Bool.{false≢true}
 use Rattle.field_matrices.specs.Matrices.{IsSolution, entry_of}
 use Rattle.c_arithmetic.specs.Fields.{field_of}
 use Rattle.c_matrices.specs.Words.{low_number}
@@ -41,6 +40,6 @@ returns g c =
     solution_is field c.args.rows c.args.columns c.args.matrix.now c.args.right.now matrix_fits right_fits c.args.space.now
     c.put_columns.new.target c.put_columns-2.new.target c.put_columns.ensures.entries c.put_columns-2.ensures.entries x
     (subst (λ (n : ℕ). IsSolution field.times c.args.rows n beside x) lengths.unknowns
-    (subst (λ (ns : List ℕ). IsSolution field.times c.args.rows _ beside (slice_index ns)) (sym (now_numbers field target new long cut))
+    (subst (λ (ns : List ℕ). IsSolution field.times c.args.rows (length c.args.solution.now) beside (slice_index ns)) (sym (now_numbers field target new long cut))
     (c.solve_augmented.ensures.solution c.if-not-solve_augmented.false))) in
     call_solved lengths (matrix_fits, right_fits) (x, solved) (now_elements field target new long cut, solved)

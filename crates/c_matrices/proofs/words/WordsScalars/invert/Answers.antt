@@ -1,5 +1,4 @@
-use Rattle.std.proofs.Common.{◌≡◌, ◌%◌, ◌^◌, ◌<◌, ℕ, sym, ◌∙◌, ap, ap₂, subst}
-use Rattle.c_matrices.specs.Words.{low_number}
+use Rattle.std.proofs.Common.{◌%◌, ◌^◌, ◌<◌, ℕ, sym, ◌∙◌, ap, ap₂, subst}
 use Rattle.c_matrices.specs.WordLemmas.{low_number-lt}
 use Rattle.c_matrices.proofs.LowNumbers.{low-is}
 use Rattle.c_matrices.proofs.words.WordsScalars.invert.Goals as goal

@@ -1,4 +1,4 @@
-use Rattle.std.proofs.Common.{◌≡◌, ◌%◌, ◌^◌, ℕ, sym, ◌∙◌, ap}
+use Rattle.std.proofs.Common.{◌%◌, ◌^◌, ℕ, sym, ◌∙◌, ap}
 use Rattle.c_matrices.proofs.words.WordsScalars.is_zero.Goals as goal
 
 pub returns : goal.returns
