@@ -813,6 +813,7 @@ uint32_t bf_t64_batch_inverse_wide(const uint64_t *values, size_t values_length,
 uint32_t bf_t128_multiply_wide(const bf_u128 *left, size_t left_length, const bf_u128 *right, size_t right_length, bf_u128 *products, size_t products_length) BF_CHECKED;
 uint32_t bf_t128_inverse_wide(const bf_u128 *values, size_t values_length, bf_u128 *inverses, size_t inverses_length) BF_CHECKED;
 uint32_t bf_t128_batch_inverse_wide(const bf_u128 *values, size_t values_length, bf_u128 *inverses, size_t inverses_length) BF_CHECKED;
+uint32_t bf_p64_multiply_wide(const uint64_t *left, size_t left_length, const uint64_t *right, size_t right_length, uint64_t *products, size_t products_length) BF_CHECKED;
 uint32_t bf_p64_inverse_wide(const uint64_t *values, size_t values_length, uint64_t *inverses, size_t inverses_length) BF_CHECKED;
 uint32_t bf_p64_batch_inverse_wide(const uint64_t *values, size_t values_length, uint64_t *inverses, size_t inverses_length) BF_CHECKED;
 uint32_t bf_g128_inverse_wide(const bf_u128 *values, size_t values_length, bf_u128 *inverses, size_t inverses_length) BF_CHECKED;

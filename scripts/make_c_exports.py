@@ -55,6 +55,9 @@ INVERSES_IN_SLICES = {"inverse": "invert", "inverse_in_place": "invert_in_place"
 IN_SLICES = PRODUCTS_IN_SLICES | INVERSES_IN_SLICES
 SLICED = ("t16", "t32", "t64", "t128")
 
+# Products of Poly64 go by slices of bits in vectors of 256 bits alone: in narrow ones a product of words is faster.
+MULTIPLIED_IN_WIDE_SLICES = ("p64", "multiply", "u64x4")
+
 # The fields of polynomials whose inverses go by slices of the level of the tower that is the same field.
 INVERTED_IN_SLICES = ("p64", "g128")
 
@@ -271,7 +274,8 @@ def called_in_vectors(field, name, vector):
     """The call of a function that a field has of its own, or that goes by slices of bits, in vectors of that type."""
     if name in OWN_CALLS.get(field.name, {}):
         return of_width(OWN_CALLS[field.name][name], vector)
-    if name in IN_SLICES and field.name in SLICED or name in INVERSES_IN_SLICES and field.name in INVERTED_IN_SLICES:
+    if name in IN_SLICES and field.name in SLICED or name in INVERSES_IN_SLICES and field.name in INVERTED_IN_SLICES or (
+        (field.name, name, vector) == MULTIPLIED_IN_WIDE_SLICES):
         return called_over_words(field, f"in_slices::{IN_SLICES[name]}", f"{field.kernel}, {vector}")
     return None
 

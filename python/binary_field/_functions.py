@@ -395,6 +395,7 @@ FUNCTIONS: dict[str, list[tuple[str, str, str]]] = {
     "t128_multiply_wide": [("in", "left", "u128"), ("in", "right", "u128"), ("out", "products", "u128")],
     "t128_inverse_wide": [("in", "values", "u128"), ("out", "inverses", "u128")],
     "t128_batch_inverse_wide": [("in", "values", "u128"), ("out", "inverses", "u128")],
+    "p64_multiply_wide": [("in", "left", "u64"), ("in", "right", "u64"), ("out", "products", "u64")],
     "p64_inverse_wide": [("in", "values", "u64"), ("out", "inverses", "u64")],
     "p64_batch_inverse_wide": [("in", "values", "u64"), ("out", "inverses", "u64")],
     "g128_inverse_wide": [("in", "values", "u128"), ("out", "inverses", "u128")],

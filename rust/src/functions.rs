@@ -1333,6 +1333,7 @@ unsafe extern "C" {
     ) -> u32;
     /// products: the product of the elements at each place. BF_LENGTH unless left, right and products have one
     /// length.
+    #[cfg_attr(binary_field_wide, link_name = "bf_p64_multiply_wide")]
     pub fn bf_p64_multiply(
         left: *const u64,
         left_length: usize,

@@ -214,6 +214,14 @@ pub extern "C" fn bf_t128_batch_inverse_wide(values: &[Wide], inverses: &mut [Wi
     in_slices::invert::<u128, Tower<Bits128>, u64x4>(values, inverses)
 }
 
+/// The same as `bf_p64_multiply`.
+#[unsafe(no_mangle)]
+pub extern "C" fn bf_p64_multiply_wide(left: &[u64], right: &[u64], products: &mut [u64]) -> u32
+    ensures { Multiplies poly64_field left.now right.now products.old products.new result }
+{
+    in_slices::multiply::<u64, Poly64Kernel, u64x4>(left, right, products)
+}
+
 /// The same as `bf_p64_inverse`.
 #[unsafe(no_mangle)]
 pub extern "C" fn bf_p64_inverse_wide(values: &[u64], inverses: &mut [u64]) -> u32
