@@ -2,8 +2,8 @@
  *
  *   gcc -O2 -Iinclude -o codes bench/codes.c crates/binary_field_c/out/libbinary_field_c.a && ./codes [SAMPLES]
  *
- * Of each code and shard size: encoding, and restoring where as many shards of data are lost as there are of parity (or all of them); with
- * the least space, and with room for 32 columns. The least of so many samples (5). What is restored is compared with what was lost.
+ * Of each code and shard size: encoding, and restoring where as many shards of data are lost as there are of parity (or all of them). The
+ * least of so many samples (5). What is restored is compared with what was lost.
  */
 #include "binary_field.h"
 #include <stdio.h>
@@ -17,11 +17,10 @@ static double now(void) {
     return it.tv_sec + 1e-9 * it.tv_nsec;
 }
 
-static void measure(size_t data, size_t parity, size_t size, size_t columns, int samples) {
-    uint64_t least;
+static void measure(size_t data, size_t parity, size_t size, int samples) {
+    uint64_t space_length;
     size_t words = size / 2, total = data + parity, lost = parity < data ? parity : data;
-    if (bf_erasure_space(data, parity, &least)) exit(1);
-    size_t space_length = least * columns;
+    if (bf_erasure_space(data, parity, &space_length)) exit(1);
     uint16_t *space = malloc(2 * space_length), *shards = malloc(data * size), *copy = malloc(data * size);
     uint16_t *extra = malloc(parity * size);
     uint8_t *present = malloc(total);
@@ -46,7 +45,7 @@ static void measure(size_t data, size_t parity, size_t size, size_t columns, int
         if (taken < restore) restore = taken;
     }
     double bytes = (double)data * size;
-    printf("(%zu, %zu) of %zu bytes, room for %2zu: encode %6.3f  restore %6.3f GB/s\n", data, parity, size, columns, bytes / encode / 1e9, bytes / restore / 1e9);
+    printf("(%zu, %zu) of %zu bytes: encode %6.3f  restore %6.3f GB/s\n", data, parity, size, bytes / encode / 1e9, bytes / restore / 1e9);
     free(space); free(shards); free(copy); free(extra); free(present);
 }
 
@@ -54,7 +53,6 @@ int main(int count, char **words) {
     int samples = count > 1 ? atoi(words[1]) : 5;
     static const size_t codes[][3] = {{100, 30, 1024}, {100, 30, 65536}, {1000, 200, 1024}, {1000, 200, 65536}, {10000, 2000, 1024}};
     for (size_t i = 0; i < sizeof codes / sizeof *codes; i++)
-        for (size_t columns = 1; columns <= 32; columns *= columns == 1 ? 8 : 4)
-            measure(codes[i][0], codes[i][1], codes[i][2], columns, samples);
+        measure(codes[i][0], codes[i][1], codes[i][2], samples);
     return 0;
 }

@@ -752,12 +752,12 @@ uint32_t bf_rs_reconstruct_data(
  * values of one polynomial. With 2^n the least power of two that is at least data, it has a degree below 2^n; shard j of
  * data is its value at point j, shard j of parity that at point 2^n + j, and it is 0 at the points from data to 2^n. Point p
  * is the sum of Cantor vector b for each set bit b of p, as above. Shards of data stand one after the other, and so do those
- * of parity, in an array of their own. A call takes as many columns at once, up to 32, as the space has room for: less time
- * where it has more than bf_erasure_space gives. */
+ * of parity, in an array of their own. A call works in space, with as many columns at once as pays; what that has before
+ * does not matter, and behind the call nothing is said of it. */
 
-/* length: how many words of space each call of the code takes: 5 times the least power of two that is at least data, counted
- * up to a power of two, and parity together. BF_CODE if data and parity are not both at least 1, or data, counted up to a
- * power of two, and parity are together more than 32768. */
+/* length: how many words of space each call of the code takes: 40 times the least power of two that is at least data,
+ * counted up to a power of two, and parity together. BF_CODE if data and parity are not both at least 1, or data, counted up
+ * to a power of two, and parity are together more than 32768. */
 uint32_t bf_erasure_space(
     size_t data, size_t parity, uint64_t *length) BF_CHECKED BF_NONNULL(3);
 

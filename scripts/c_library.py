@@ -140,7 +140,7 @@ OTHER_FUNCTIONS = [
     ("rs_reconstruct_data", [("count", "data"), ("count", "parity"), ("inout", "shards", "u8"), ("in", "present", "u8")],
      "writes the missing shards of data alone"),
     ("erasure_space", [("count", "data"), ("count", "parity"), ("result", "length", "u64")],
-     "how many words of space each call of the code takes: 5 times the least power of two that is at least data, counted up to a power of two, "
+     "how many words of space each call of the code takes: 40 times the least power of two that is at least data, counted up to a power of two, "
      "and parity together"),
     ("erasure_encode", [("count", "data"), ("count", "parity"), ("in", "shards", "u16"), ("out", "parity_shards", "u16"), ("space", "space", "u16")],
      "the shards of parity of these shards of data"),

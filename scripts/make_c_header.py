@@ -194,7 +194,7 @@ def sections():
         "values of one polynomial. With 2^n the least power of two that is at least data, it has a degree below 2^n; shard j of data is its value "
         "at point j, shard j of parity that at point 2^n + j, and it is 0 at the points from data to 2^n. Point p is the sum of Cantor vector b "
         "for each set bit b of p, as above. Shards of data stand one after the other, and so do those of parity, in an array of their own. A call "
-        "takes as many columns at once, up to 32, as the space has room for: less time where it has more than bf_erasure_space gives.",
+        "works in space, with as many columns at once as pays; what that has before does not matter, and behind the call nothing is said of it.",
         "_wide": "Second forms, made for x86-64-v3, whose vectors have 256 bits. Each gives the same as the function without _wide, in every "
         "library; in one built for x86-64-v2 most are slower than that. The file libbinary_field.cpu beside the library says which it is.",
     }

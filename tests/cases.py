@@ -334,7 +334,7 @@ def erasure_cases(draw):
         yield refused(case("erasure_encode", data, parity, [0], [0], 64), "BF_CODE")
         yield refused(case("erasure_verify", data, parity, [0], [0], 64, [0]), "BF_CODE")
         yield refused(case("erasure_reconstruct", data, parity, ([0], [0]), ([0], [0]), [1, 1], 64), "BF_CODE")
-    yield case("erasure_space", 16384, 16384, [5 << 15])
+    yield case("erasure_space", 16384, 16384, [40 << 15])
 
 
 def refused(it, status):

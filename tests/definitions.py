@@ -383,4 +383,4 @@ def transform_parity(data, parity, words):
 
 def transform_space(data, parity):
     """How many words of space a call takes."""
-    return 5 * coefficient_count(coefficient_count(data) + parity)
+    return 40 * coefficient_count(coefficient_count(data) + parity)

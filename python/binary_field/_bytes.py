@@ -10,9 +10,6 @@ import numpy as np
 from ._library import WORDS, Words, call
 from ._storage import Stored
 
-# With room for so many columns of shards a call of an erasure code by transforms takes as little time as with more.
-_COLUMNS_AT_ONCE = 8
-
 
 def _bytes(value: Any) -> Words:
     """The bytes of an object that lends them; an array of numpy has to be one of bytes."""
@@ -333,11 +330,11 @@ class TransformCode(_Code):
         b'abcd'
         """
         shards = self._with_room(data)
-        call("erasure_encode", self.data, self.parity, *self._halves(shards), self._space(shards))
+        call("erasure_encode", self.data, self.parity, *self._halves(shards), self._space())
         return shards
 
     def _verify(self, shards: Words, result: Words) -> None:
-        call("erasure_verify", self.data, self.parity, *self._halves(shards), self._space(shards), result)
+        call("erasure_verify", self.data, self.parity, *self._halves(shards), self._space(), result)
 
     def reconstruct(self, shards: Sequence[Any] | Words, present: Sequence[bool] | None = None) -> Words:
         """All shards, the missing ones restored. A shard is missing where it is None, and where `present` has False.
@@ -347,7 +344,7 @@ class TransformCode(_Code):
         True
         """
         all_shards, flags = self._with_flags(shards, present)
-        call("erasure_reconstruct", self.data, self.parity, *self._halves(all_shards), flags, self._space(all_shards))
+        call("erasure_reconstruct", self.data, self.parity, *self._halves(all_shards), flags, self._space())
         return all_shards
 
     def _halves(self, shards: Words) -> tuple[Words, Words]:
@@ -357,9 +354,8 @@ class TransformCode(_Code):
         words = shards.view(WORDS["u16"])
         return words[: self.data], words[self.data :]
 
-    def _space(self, shards: Words) -> Words:
-        """What a call works in, with room for some columns at once."""
+    def _space(self) -> Words:
+        """What a call works in."""
         length = np.zeros(1, np.uint64)
         call("erasure_space", self.data, self.parity, length)
-        columns = max(1, min(_COLUMNS_AT_ONCE, shards.shape[1] // 2))
-        return np.empty(int(length[0]) * columns, WORDS["u16"])
+        return np.empty(int(length[0]), WORDS["u16"])

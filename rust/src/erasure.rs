@@ -24,8 +24,7 @@ impl TransformCode {
         Ok(TransformCode { data, parity })
     }
 
-    /// How many words of space a call works in at least: five times the least power of two that is at least that sum. With room for more
-    /// columns, up to 32 times as much, it takes so many at once, and less time.
+    /// How many words of space a call works in: forty times the least power of two that is at least that sum.
     pub fn space_length(&self) -> usize {
         let mut length = 0;
         succeed(call!(bf_erasure_space: self.data, self.parity, &raw mut length));

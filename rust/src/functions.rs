@@ -3095,7 +3095,7 @@ unsafe extern "C" {
         present: *const u8,
         present_length: usize,
     ) -> u32;
-    /// length: how many words of space each call of the code takes: 5 times the least power of two that is at least
+    /// length: how many words of space each call of the code takes: 40 times the least power of two that is at least
     /// data, counted up to a power of two, and parity together. BF_CODE if data and parity are not both at least 1,
     /// or data, counted up to a power of two, and parity are together more than 32768.
     pub fn bf_erasure_space(

@@ -6,7 +6,7 @@ ghost use Rattle.c_arithmetic.specs.Fields.{itself};
 
 use c_arithmetic::Bits16;
 
-/// How many words of space each call of the code takes: 5 times the least power of two that is at least data, counted up to a power of
+/// How many words of space each call of the code takes: 40 times the least power of two that is at least data, counted up to a power of
 /// two, and parity together.
 #[unsafe(no_mangle)]
 pub extern "C" fn bf_erasure_space(data: u64, parity: u64, length: &mut u64) -> u32

@@ -1,5 +1,5 @@
 -- What the call that restores shards returns, by what the code says of it.
-use Rattle.std.proofs.Common.{◌≡◌, ℕ, ◌+◌, ◌*◌, ◌/◌, ◌^◌, ◌≤◌, Bool, List, length, refl, sym, ◌∙◌, ap₂, subst}
+use Rattle.std.proofs.Common.{◌≡◌, ℕ, ◌+◌, ◌*◌, ◌/◌, ◌^◌, ◌≤◌, Bool, List, length, refl, sym, ◌∙◌, ap₂, subst, arith}
 use Rattle.std.proofs.lemmas.List.{length-map}
 use Rattle.tower_transforms.specs.Words.{level_element}
 use Rattle.transform_codes.specs.Locators.{lost_count}
@@ -40,16 +40,16 @@ module _ {W : Type 0} (number : W → ℕ) (zero : W) (level : ℕ) (code : Tran
   no_code P none = absurd (none (record { some_data = code.some_data; some_parity = code.some_parity; few = code.few; points = points }))
 
   -- the shards were restored
-  pub ends_well : CanBe flags
+  pub ends_well : 40 * 2 ^ code.all_levels ≤ space → CanBe flags
       → AreRestoredColumns (level_element number level) zero level code.levels code.data_shards code.parity_shards
       (length shards / code.data_shards) flags (length shards / code.data_shards) shards parity new new_parity
       → Ends 0
-  ends_well can_be restored =
+  ends_well room can_be restored =
       let can = subst CanBe same can_be in
       let size : ℕ = length shards / code.data_shards in
       ends 0 (record {
         code = λ none. no_code _ none;
-        length = λ is misfit. absurd (misfit (total, record { sizes = can.sizes; room = can.room }));
+        length = λ is misfit. absurd (misfit (total, record { sizes = can.sizes; room = room }));
         few = λ is fits missing.
             absurd (missing (subst (λ (q : ℕ). lost_count (is_missing (flags_of present)) q ≤ code.parity_shards) can.flags can.enough));
         ok = λ is fits told. (
@@ -61,7 +61,7 @@ module _ {W : Type 0} (number : W → ℕ) (zero : W) (level : ℕ) (code : Tran
       })
 
   -- they cannot be restored, though their words are those of shards of one size and there is space, since too few are there
-  pub ends_early : HaveOneSize code.data_shards code.parity_shards (length shards) (length parity) → 5 * 2 ^ code.all_levels ≤ space
+  pub ends_early : HaveOneSize code.data_shards code.parity_shards (length shards) (length parity) → 40 * 2 ^ code.all_levels ≤ space
       → (CanBe flags → ⊥) → new ≡ shards → new_parity ≡ parity → Ends 5
   ends_early sizes room cannot kept kept_parity =
       let long : length (flags_of present) ≡ code.data_shards + code.parity_shards = length-map present _ ∙ total in
@@ -75,7 +75,7 @@ module _ {W : Type 0} (number : W → ℕ) (zero : W) (level : ℕ) (code : Tran
               points = points;
               sizes = sizes;
               enough = subst (λ (q : ℕ). lost_count (is_missing (flags_of present)) q ≤ code.parity_shards) (sym long) enough;
-              room = room;
+              room = omega (arith, room);
             }));
         kept = λ failed. ap₂ (λ (one other : List W). (one, other)) kept kept_parity;
       })

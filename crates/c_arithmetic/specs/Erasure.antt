@@ -23,12 +23,12 @@ pub record IsErasureCode (level k m n r : ℕ) : Type 0 where
 -- a call that tells how many words of space each call takes
 abbrev pub TellsSpace : ℕ → ℕ → ℕ → ℕ → ℕ → ℕ → Type 0
 TellsSpace level k m old new status =
-    (n r : ℕ) → AreCounts k m n r → CallOfCode (IsErasureCode level k m n r) (Unit {0}) (Unit {0}) (new ≡ 5 * 2 ^ r) old new status
+    (n r : ℕ) → AreCounts k m n r → CallOfCode (IsErasureCode level k m n r) (Unit {0}) (Unit {0}) (new ≡ 40 * 2 ^ r) old new status
 
--- the words of data and of parity are those of shards of one size, and there is space
+-- the words of data and of parity are those of shards of one size, and there is the space that a call takes
 pub record FitErasure (k m r words parity_words space : ℕ) : Type 0 where
   pub sizes : HaveOneSize k m words parity_words
-  pub room : 5 * 2 ^ r ≤ space
+  pub room : 40 * 2 ^ r ≤ space
 
 -- what calls do where 2 ^ n and 2 ^ r are those powers, and a word has an element
 module _ {W : Type 0} (element : W → ℕ) (zero : W) (level k m n r : ℕ) where

@@ -9,13 +9,16 @@ use tower_transforms::StoredBytes;
 use transform_codes::TransformCode;
 use word_tower::Level;
 
+// How many words of space a call takes for each point, so that as many columns go at once as pays: eight times as many as one column takes.
+const WORDS_A_POINT: usize = 40;
+
 /// Writes how many words of space each call of a code takes.
 pub fn erasure_space<R: StoredBytes, L: Level<R>>(data: u64, parity: u64, length: &mut u64) -> u32
     ensures { TellsSpace L.LEVEL «data» parity length.old length.new result }
 {
     match code_of::<R, L>(data, parity) {
         Some(code) => {
-            *length = 5 * code.point_count() as u64;
+            *length = (WORDS_A_POINT * code.point_count()) as u64;
             status::OK
         }
         None => status::CODE,
@@ -106,18 +109,18 @@ fn code_within<R: StoredBytes, L: Level<R>>(
     space: usize,
 ) -> Result<TransformCode, u32>
     ensures made { IfOk result (λ code. (code.data_shards ≡ «data») × (code.parity_shards ≡ parity)
-        × (2 * 2 ^ code.all_levels ≤ 2 ^ 2 ^ L.LEVEL) × (5 * 2 ^ code.all_levels ≤ space)) }
+        × (2 * 2 ^ code.all_levels ≤ 2 ^ 2 ^ L.LEVEL) × (40 * 2 ^ code.all_levels ≤ space)) }
     ensures no_code { IfErr result (λ status. (n r : ℕ) → AreCounts «data» parity n r → ¬ IsErasureCode L.LEVEL «data» parity n r
         → status ≡ CODE) }
     ensures no_room { IfErr result (λ status. (n r : ℕ) → AreCounts «data» parity n r → IsErasureCode L.LEVEL «data» parity n r
-        → (status ≡ LENGTH) × (space < 5 * 2 ^ r)) }
+        → (status ≡ LENGTH) × (space < 40 * 2 ^ r)) }
     ensures no_success { IfErr result (λ status. status ≢ OK) }
 {
     let code = match code_of::<R, L>(data, parity) {
         Some(code) => code,
         None => return Err(status::CODE),
     };
-    if space < 5 * code.point_count() {
+    if space < WORDS_A_POINT * code.point_count() {
         return Err(status::LENGTH);
     }
     Ok(code)

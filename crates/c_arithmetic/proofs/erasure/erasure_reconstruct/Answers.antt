@@ -11,7 +11,7 @@ returns-in-Ok-reconstruct g c =
     c.args.present.now (omega arith) _
     (ap (λ (q : ℕ). take q c.flags_of-flags.result) (sym c.if-present-total.false) ∙ c.flags_of-flags.ensures)
     c.args.shards.now c.args.parity_shards.now c.reconstruct.new.shards c.reconstruct.new.parity (length c.args.space.now)
-    (c.in-Ok-reconstruct.ensures.accepted.0 refl) (c.in-Ok-reconstruct.ensures.restored refl)
+    made.3 (c.in-Ok-reconstruct.ensures.accepted.0 refl) (c.in-Ok-reconstruct.ensures.restored refl)
 
 pub returns-in-Err-reconstruct : goal.returns-in-Err-reconstruct
 returns-in-Err-reconstruct g c =
