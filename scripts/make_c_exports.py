@@ -379,7 +379,7 @@ def import_of(names):
 def used(bodies):
     """The line that brings in what bodies and signatures name without a path."""
     operations = sorted({it for it in OPERATIONS.values() if re.search(rf"&{it}\b", bodies)})
-    names = set(re.findall(r"[&\[]&?(Wide|Cubic)\b|<\w+,(?: \w+,)? (?!u64x)(\w+)(?:<(\w+)>)?(?:, \w+)?>|\b(slices)::|\b(in_place)::|\b(in_planes)::|\b(in_slices)::", bodies))
+    names = set(re.findall(r"[&\[]&?(Wide|Cubic)\b|<\w+,(?: \w+,)? (?!u64x)(\w+)(?:<(\w+)>)?(?:, \w+(?:<\w+>)?)?>|\b(slices)::|\b(in_place)::|\b(in_planes)::|\b(in_slices)::", bodies))
     words = [*WORDS.values(), *STORED.values()]
     named = {it for group in names for it in group if it} | {it for it in words if re.search(rf"\b{it}\b", bodies)}
     rows = {it for it in ("InLanes", "InPlanes", "OneByOne") if re.search(rf"\b{it}\b", bodies)}
