@@ -480,7 +480,7 @@ fn tags_and_codes() {
 fn transform_codes_restore() {
     let code = TransformCode::new(3, 2).unwrap();
     let mut space = vec![7; code.space_length()];
-    assert_eq!(space.len(), 40);
+    assert_eq!(space.len(), 320);
     let data = [1, 0x8000, 0x1234, 0xffff, 0, 5];
     let (mut shards, mut parity) = (data, [0; 4]);
     code.encode(&data, &mut parity, &mut space).unwrap();
