@@ -3,6 +3,7 @@ pub mod Completeness
 pub mod CornerSums
 pub mod CubeLaws
 pub mod CubeTables
+pub mod FoldedBlocks
 pub mod LagrangeSteps
 pub mod LaneLists
 pub mod MixedDots
