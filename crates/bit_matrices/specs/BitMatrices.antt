@@ -2,6 +2,7 @@
 -- j / 64. They are multiplied by the method of the four Russians (V. Arlazarov, E. Dinic, M. Kronrod and I. Faradzev, 1970; M. Albrecht,
 -- G. Bard and W. Hart, Efficient Multiplication of Dense Matrices over GF(2), ACM TOMS 37, 2010).
 use Rattle.std.specs.Prelude.{◌≡◌, ◌≢◌, ◌⊎◌, ℕ, ◌+◌, ◌*◌, ◌/◌, ◌%◌, ◌^◌, ◌<◌, ◌≤◌, List, bit_xor, if◌then◌else◌, length, nat_lt, slice_index}
+use Rattle.std.specs.Array.{FillsFrom}
 use Rattle.std.specs.Int.{bit_at, div_ceil}
 use Rattle.field_base.specs.Basis.{sum_below}
 
@@ -40,6 +41,14 @@ pub record IsBitWritten (words row column value : ℕ) (old now : List ℕ) : Ty
 -- what a row has before column n, and 0 from there on
 abbrev pub kept_before : ℕ → (ℕ → ℕ) → ℕ → ℕ
 kept_before n row j = if nat_lt j n then row j else 0
+
+-- draws from a random source, from the state `before` to the state `after`, gave a word for each place, the first first, and the matrix of
+-- so many rows and columns has their bits, and 0 behind the columns
+abbrev pub IsDrawnMatrix : {S : Type 0} → (S → ℕ → S → Type 0) → ℕ → ℕ → List ℕ → S → S → Type 0
+IsDrawnMatrix draws rows columns values before after =
+    (drawn : List ℕ) × FillsFrom (λ s i word t. draws s word t) before 0 drawn after × (length drawn ≡ length values)
+    × ((i j : ℕ) → i < rows → j < 64 * words_for columns
+    → bit_entry (words_for columns) values i j ≡ kept_before columns (bit_entry (words_for columns) drawn i) j)
 
 -- ---- steps of the method
 

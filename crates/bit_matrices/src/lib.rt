@@ -1,8 +1,9 @@
 //! Matrices over GF(2), in memory of the caller: rows packed in words of 64 bits, row after row in a slice. A row of `columns` bits takes
-//! `columns.div_ceil(64)` words, and place j of a row is bit j % 64 of its word j / 64. Products, identity matrices, reduced row echelon
-//! forms, null spaces, inverses and linear equations.
+//! `columns.div_ceil(64)` words, and place j of a row is bit j % 64 of its word j / 64. Products, identity and random matrices, reduced row
+//! echelon forms, null spaces, inverses and linear equations.
 #![tactic(auto)]
 
+mod draws;
 mod identities;
 mod inverses;
 mod null_spaces;
@@ -11,6 +12,7 @@ mod reduction;
 mod rows;
 mod systems;
 
+pub use crate::draws::random_into;
 pub use crate::identities::identity_into;
 pub use crate::inverses::invert_beside;
 pub use crate::null_spaces::null_space_into;

@@ -11,7 +11,7 @@ pub(crate) struct Shape {
 }
 
 // The place of a word of a row of a matrix of `len` words.
-fn place(len: usize, shape: Shape, row: usize, word: usize) -> usize
+pub(crate) fn place(len: usize, shape: Shape, row: usize, word: usize) -> usize
     requires { HasMatrixEntry shape.rows shape.words row word len }
     ensures is { result ≡ row * shape.words + word }
     ensures inside { result + (shape.words - word) ≤ len }

@@ -7,6 +7,7 @@ mod columns;
 mod companions;
 mod decompositions;
 mod determinants;
+mod draws;
 mod identities;
 mod inverses;
 mod laws;
@@ -23,6 +24,7 @@ pub use crate::columns::{columns_into, put_columns};
 pub use crate::companions::companion_into;
 pub use crate::decompositions::plu_decompose;
 pub use crate::determinants::determinant;
+pub use crate::draws::random_into;
 pub use crate::identities::identity_into;
 pub use crate::inverses::invert_beside;
 pub use crate::laws::{
