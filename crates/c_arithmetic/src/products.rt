@@ -7,7 +7,7 @@ use crate::lanes::{dot_of_words, multiply_each};
 use crate::{Wide, status};
 use ghash_slices::{WideWord, Width};
 
-/// Writes the product of the words at each place, two at once or four.
+/// Writes the product of the words at each place, four at once.
 pub fn multiply<V: Width>(left: &[Wide], right: &[Wide], products: &mut [Wide]) -> u32
     ensures { Multiplies ghash_field left.now right.now products.old products.new result }
 {
@@ -22,7 +22,7 @@ pub fn multiply<V: Width>(left: &[Wide], right: &[Wide], products: &mut [Wide]) 
     status::OK
 }
 
-/// Multiplies each product by the word at its place, two at once or four.
+/// Multiplies each product by the word at its place, four at once.
 pub fn multiply_in_place<V: Width>(products: &mut [Wide], words: &[Wide]) -> u32
     ensures { Multiplies ghash_field products.old words.now products.old products.new result }
 {
@@ -33,7 +33,7 @@ pub fn multiply_in_place<V: Width>(products: &mut [Wide], words: &[Wide]) -> u32
     status::OK
 }
 
-/// Writes the sum of the products at each place, which is 0 of none: by two products at once or four.
+/// Writes the sum of the products at each place, which is 0 of none: by four products at once.
 pub fn dot_product<V: Width>(left: &[Wide], right: &[Wide], sum: &mut Wide) -> u32
     ensures { TakesDotProduct ghash_field left.now right.now sum.old sum.new result }
 {

@@ -9,6 +9,7 @@ mod SplitProducts
 mod TabledProducts
 mod TwoBlocks
 pub mod CantorValues
+pub mod FourProducts
 pub mod GhashVectors
 pub mod LowRuns
 pub mod Places

@@ -5,5 +5,6 @@ pub mod Runs
 pub mod Slices
 pub mod Twiddles
 pub mod Cantor
+pub mod Fours
 pub mod Stages
 pub mod SplitWords

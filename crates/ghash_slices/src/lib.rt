@@ -23,8 +23,8 @@ pub use crate::laws::{
 pub use crate::low_stages::{LOW_STAGES, LowStageTwiddles, run_low_stages};
 pub use crate::multiples::Multiples;
 pub use crate::slices::{
-    LEAST_IN_LANES, LEAST_TABLED, add_each, add_in_lanes, add_multiples, butterflies_restore,
-    butterfly_forward, butterfly_inverse, mul_slice,
+    LEAST_IN_LANES, add_each, add_in_lanes, add_multiples, butterflies_restore, butterfly_forward,
+    butterfly_inverse, mul_slice,
 };
 pub use crate::width::Width;
 pub use crate::words::{WideWord, number_at, numbers_are_values, put_number};

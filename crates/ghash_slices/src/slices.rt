@@ -23,9 +23,6 @@ use std::simd::prelude::*;
 /// registers, and not one after another.
 pub const LEAST_IN_LANES: usize = 10;
 
-/// The least number of values for which a slice is multiplied by the tables of a scalar in memory.
-pub const LEAST_TABLED: usize = 400;
-
 /// Multiplies each value by `scalar`. From 10 values on it does so in lanes, by tables that it looks up in registers, so that no address
 /// depends on a value. From 400 values on it looks up tables by the digits of the values, which it makes on the stack.
 pub fn mul_slice(values: &mut [u128], scalar: u128)
@@ -78,7 +75,7 @@ fn multiply_all<W: WideWord>(values: &mut [W], scalar: u128)
 {
     if values.len() < LEAST_IN_LANES {
         multiply_few(values, 0, scalar);
-    } else if values.len() < LEAST_TABLED {
+    } else if values.len() < u64x2::LEAST_TABLED {
         multiply_in_lanes(values, &Multiples::new(scalar));
     } else {
         multiply_by_tables(values, scalar);
@@ -86,14 +83,14 @@ fn multiply_all<W: WideWord>(values: &mut [W], scalar: u128)
 }
 
 /// Adds to each value the product of `scalar` and the other value at its place. The slices are of one length. From 10 values on it works in
-/// lanes, and from 400 on by tables in memory; in vectors of 256 bits, in lanes at every length from 10 on.
+/// lanes, and from `LEAST_TABLED` of the width on by tables in memory.
 pub fn add_multiples<V: Width, W: WideWord>(values: &mut [W], others: &[W], scalar: u128)
     requires { length values.old ≡ length others.now }
     ensures { map W.value values.new ≡ zip2 (add_multiple ghash_product scalar) (map W.value values.old) (map W.value others.now) }
 {
     if values.len() < LEAST_IN_LANES {
         add_few(values, others, 0, scalar);
-    } else if V::IS_WIDE || values.len() < LEAST_TABLED {
+    } else if values.len() < V::LEAST_TABLED {
         add_in_lanes::<V, W>(values, others, &Multiples::new(scalar));
     } else {
         add_by_tables(values, others, scalar);
@@ -191,31 +188,23 @@ fn add_products<W: WideWord, S: ScalarProducts>(
     }
 }
 
-/// Adds to each value the product of the scalar and the other value at its place, in blocks of sixteen, and then what is left behind them.
-/// In vectors of 256 bits two blocks go at once while there are two. No address depends on a value. The slices are of one length.
+/// Adds to each value the product of the scalar and the other value at its place, by two blocks of sixteen while there are two, as the
+/// width multiplies them, and then what is left behind them. No address depends on a value. The slices are of one length.
 pub fn add_in_lanes<V: Width, W: WideWord>(values: &mut [W], others: &[W], multiples: &Multiples)
     requires { length values.old ≡ length others.now }
     ensures { map W.value values.new
         ≡ zip2 (add_multiple ghash_product (scalar_of multiples.now)) (map W.value values.old) (map W.value others.now) }
 {
-    let pairs = pairs_of_blocks::<V>(values.len());
+    let pairs = values.len() / 32;
     for pair in 0..pairs {
         let start = 32 * pair;
         let first = bytes_from(others, start);
         let second = bytes_from(others, start + 16);
-        let (first_products, second_products) = multiples.products_of_two(&first, &second);
+        let (first_products, second_products) = V::products_of_two(multiples, &first, &second);
         add_bytes(values, start, &first_products);
         add_bytes(values, start + 16, &second_products);
     }
     add_blocks(values, others, 2 * pairs, multiples);
-}
-
-// How many pairs of blocks go at once.
-#[inline]
-fn pairs_of_blocks<V: Width>(length: usize) -> usize
-    ensures { 32 * result ≤ length }
-{
-    if V::IS_WIDE { length / 32 } else { 0 }
 }
 
 // Adds the products of the other values in the blocks from number `first` on, and behind them.

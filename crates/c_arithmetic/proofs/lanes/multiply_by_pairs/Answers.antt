@@ -4,7 +4,7 @@ use Rattle.c_arithmetic.specs.Fields.{wide_number}
 use Rattle.ghash_slices.specs.Blocks.{HoldsPlaces}
 use Rattle.ghash_slices.specs.LowStages.{ghash_product}
 use Rattle.ghash_slices.proofs.SliceBlocks.{held_until, none_held, pair_written, place_written}
-use Rattle.c_arithmetic.specs.Lanes.{product_at}
+use Rattle.ghash_slices.specs.Fours.{product_at}
 use Rattle.c_arithmetic.proofs.lanes.multiply_by_pairs.Goals as goal
 
 pub pairs-init : goal.pairs-init

@@ -1,7 +1,7 @@
 use Rattle.std.proofs.Common.{◌+◌, ◌*◌, map}
 use Rattle.c_arithmetic.specs.Fields.{wide_number}
 use Rattle.ghash_slices.specs.Blocks.{HoldsPlaces}
-use Rattle.c_arithmetic.specs.Lanes.{product_at}
+use Rattle.ghash_slices.specs.Fours.{product_at}
 use Rattle.c_arithmetic.proofs.lanes.multiply_by_pairs.Given as goal
 
 -- the places before hold their products

@@ -1,4 +1,4 @@
-use Rattle.std.proofs.Common.{◌≡◌, ℕ, ◌+◌, ◌*◌, length, map, sym, ◌∙◌, subst, arith}
+use Rattle.std.proofs.Common.{◌≡◌, ℕ, ◌+◌, ◌*◌, ◌/◌, length, map, sym, ◌∙◌, subst, arith}
 use Rattle.std.specs.Prelude.{slice_index}
 use Rattle.std.proofs.lemmas.List.{length-map}
 use Rattle.ghash_slices.specs.Blocks.{HoldsPlaces, added_at}
@@ -40,14 +40,13 @@ returns g c =
     let long_other = length-map c.args.others.now value in
     let long_now = length-map c.loop-pair.values value in
     let same = c.loop-pair.invariant.same_length in
-    let pairs = c.pairs_of_blocks-pairs.result in
-    let few = c.pairs_of_blocks-pairs.ensures in
+    let pairs : ℕ = length c.args.values.now / 32 in
     let done : 32 * c.loop-pair.pair ≡ 16 * (2 * pairs) = omega arith in
     let all : length c.loop-pair.values ≡ length c.args.values.now = omega (arith, long, long_now, same) in
     held_zip2 (add_multiple ghash_product scalar) (length c.args.values.now) old others (map value c.add_blocks.new.values)
     (long ∙ c.requires ∙ sym long_other) (omega (arith, long))
     (more_added scalar 0 (16 * (2 * pairs)) (length c.args.values.now) old others now (map value c.add_blocks.new.values) (omega arith)
-    (omega (arith, few))
+    (omega arith)
     (subst (λ (n : ℕ). HoldsPlaces (added_at scalar old others) 0 n old now) done c.loop-pair.invariant)
     (subst (λ (n : ℕ). HoldsPlaces (added_at scalar now others) (16 * (2 * pairs)) n now
     (map value c.add_blocks.new.values)) all c.add_blocks.ensures))
