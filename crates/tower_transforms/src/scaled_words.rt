@@ -19,6 +19,7 @@ pub fn multiply_words<R: Stored, W: WordBytes<R>, M, P: WordPlanes<R, W, M>>(
     requires { W.size ≡ P.Planes.depth }
     ensures long { length words.new ≡ length words.old }
     ensures few { result ≤ length words.old }
+    ensures rest { length words.old < result + P.Planes.lanes }
     ensures products { (s : ℕ) → P.Planes.are_multiples multiples.now s
         → FirstAre result (λ k. tower_mul (level_of P.Planes.depth) s (slice_index (map W.Holds.number words.old) k))
         (map W.Holds.number words.old) (map W.Holds.number words.new) }
@@ -47,6 +48,7 @@ pub fn add_multiples<R: Stored, W: WordBytes<R>, M, P: WordPlanes<R, W, M>>(
     requires fit { (k : ℕ) → slice_index (map W.Holds.number sums.old) k < 2 ^ 2 ^ level_of P.Planes.depth }
     ensures long { length sums.new ≡ length sums.old }
     ensures few { result ≤ length sums.old }
+    ensures rest { length sums.old < result + P.Planes.lanes }
     ensures products { (s : ℕ) → P.Planes.are_multiples multiples.now s
         → FirstAre result
         (λ k. bit_xor (slice_index (map W.Holds.number sums.old) k)

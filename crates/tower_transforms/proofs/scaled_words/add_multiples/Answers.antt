@@ -1,4 +1,5 @@
-use Rattle.std.proofs.Common.{map, ◌∙◌, arith}
+use Rattle.std.proofs.Common.{map, ◌∙◌, ◌+◌, ◌*◌, ◌/◌, ◌<◌, length, arith}
+use Rattle.std.proofs.Math.Nat.{lt-div-mul-add}
 use Rattle.tower_transforms.proofs.WordSteps.{block_added, last_first}
 use Rattle.tower_transforms.proofs.scaled_words.add_multiples.Goals as goal
 
@@ -17,3 +18,9 @@ loop-block-preserved g c =
 pub returns-clause-products : goal.returns-clause-products
 returns-clause-products g c s are =
     last_first _ _ _ _ _ _ (omega (arith, c.loop-block.invariant.2, c.loop-block-test.false)) (c.loop-block.invariant.1 s are)
+
+pub returns-clause-rest : goal.returns-clause-rest
+returns-clause-rest g c =
+    let less : length c.args.words.now < length c.args.words.now / c.lane_count-lanes.result * c.lane_count-lanes.result
+    + c.lane_count-lanes.result = lt-div-mul-add c.lane_count-lanes.ensures.some in
+    omega (arith, less, c.lane_count-lanes.ensures.count, c.requires.same)
