@@ -757,26 +757,26 @@ uint32_t bf_rs_reconstruct_data(
 
 /* length: how many words of space each call of the code takes: 40 times the least power of two that is at least data,
  * counted up to a power of two, and parity together. BF_CODE if data and parity are not both at least 1, or data, counted up
- * to a power of two, and parity are together more than 32768. */
+ * to a power of two, and parity are together more than 65536. */
 uint32_t bf_erasure_space(
     size_t data, size_t parity, uint64_t *length) BF_CHECKED BF_NONNULL(3);
 
 /* parity_shards: the shards of parity of these shards of data. BF_CODE if data and parity are not both at least 1, or data,
- * counted up to a power of two, and parity are together more than 32768. BF_LENGTH unless shards has data, and parity_shards
+ * counted up to a power of two, and parity are together more than 65536. BF_LENGTH unless shards has data, and parity_shards
  * parity, times one number of words, which is not 0, and space at least what bf_erasure_space gives. */
 uint32_t bf_erasure_encode(
     size_t data, size_t parity, const uint16_t *shards, size_t shards_length, uint16_t *parity_shards,
     size_t parity_shards_length, uint16_t *space, size_t space_length) BF_CHECKED;
 
 /* whole: 1 where the shards of parity are those of the data, else 0. BF_CODE if data and parity are not both at least 1, or
- * data, counted up to a power of two, and parity are together more than 32768. BF_LENGTH unless shards has data, and
+ * data, counted up to a power of two, and parity are together more than 65536. BF_LENGTH unless shards has data, and
  * parity_shards parity, times one number of words, which is not 0, and space at least what bf_erasure_space gives. */
 uint32_t bf_erasure_verify(
     size_t data, size_t parity, const uint16_t *shards, size_t shards_length, const uint16_t *parity_shards,
     size_t parity_shards_length, uint16_t *space, size_t space_length, uint8_t *whole) BF_CHECKED BF_NONNULL(9);
 
 /* Writes the missing shards: shard i, of the data and then of the parity, is missing where present[i] is 0. BF_CODE if data
- * and parity are not both at least 1, or data, counted up to a power of two, and parity are together more than 32768.
+ * and parity are not both at least 1, or data, counted up to a power of two, and parity are together more than 65536.
  * BF_LENGTH unless shards has data, and parity_shards parity, times one number of words, which is not 0, and space at least
  * what bf_erasure_space gives, and present has data + parity. BF_TOO_FEW_SHARDS unless at least as many entries of present
  * as data are not 0. It takes 64 KiB of the stack, for the flags of the shards. */

@@ -72,7 +72,7 @@ def statuses_of(name, parameters, bits):
     if name.startswith("rs_"):
         yield "BF_CODE", "data and parity are not both at least 1 and together at most 256"
     if name.startswith("erasure_"):
-        yield "BF_CODE", "data and parity are not both at least 1, or data, counted up to a power of two, and parity are together more than 32768"
+        yield "BF_CODE", "data and parity are not both at least 1, or data, counted up to a power of two, and parity are together more than 65536"
     lengths = lengths_of(name, parameters)
     if lengths:
         yield "BF_LENGTH", lengths

@@ -329,12 +329,12 @@ def erasure_cases(draw):
         few = [0] * (parity + 1) + [1] * (data - 1)
         yield refused(case("erasure_reconstruct", data, parity, (words, words), (coded, coded), few, space), "BF_TOO_FEW_SHARDS")
     # There is no code of such counts, whatever the lengths.
-    for data, parity in ((0, 1), (1, 0), (1, 32768), (16385, 1), (32768, 1), (65536, 1), (1 << 63, 1 << 63), ((1 << 64) - 1, 1), (1, (1 << 64) - 1)):
+    for data, parity in ((0, 1), (1, 0), (1, 65536), (32769, 1), (65536, 1), (65537, 1), (1 << 63, 1 << 63), ((1 << 64) - 1, 1), (1, (1 << 64) - 1)):
         yield refused(case("erasure_space", data, parity, [0]), "BF_CODE")
         yield refused(case("erasure_encode", data, parity, [0], [0], 64), "BF_CODE")
         yield refused(case("erasure_verify", data, parity, [0], [0], 64, [0]), "BF_CODE")
         yield refused(case("erasure_reconstruct", data, parity, ([0], [0]), ([0], [0]), [1, 1], 64), "BF_CODE")
-    yield case("erasure_space", 16384, 16384, [40 << 15])
+    yield case("erasure_space", 32768, 32768, [40 << 16])
 
 
 def refused(it, status):

@@ -500,7 +500,7 @@ class Bytes(unittest.TestCase):
             self.assertRaises(ValueError, code.reconstruct, given)
         for given in (np.zeros((4, 8), np.uint8), np.zeros((5, 0), np.uint8), np.zeros((5, 3), np.uint8)):
             self.assertRaises(ValueError, code.encode, given)
-        for counts in ((0, 1), (1, 0), (-1, 3), (16385, 1), (1, 32768), (1 << 64, 1)):
+        for counts in ((0, 1), (1, 0), (-1, 3), (32769, 1), (1, 65536), (1 << 64, 1)):
             self.assertRaises(ValueError, bf.TransformCode, *counts)
         self.assertRaises(TypeError, bf.TransformCode, 2.0, 3)
         many = bf.TransformCode(3000, 1000)

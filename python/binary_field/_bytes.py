@@ -305,7 +305,7 @@ class ReedSolomon(_Code):
 class TransformCode(_Code):
     """A code that restores losses, as `ReedSolomon` does, of thousands of shards. It goes by additive transforms over `BinaryField16`.
 
-    The number of shards of data, counted up to a power of two, and that of shards of parity are together at most 32,768. Shards are the rows
+    The number of shards of data, counted up to a power of two, and that of shards of parity are together at most 65,536. Shards are the rows
     of an array of bytes, those of data first; each has an even number of bytes, of which two are an element, the low one first. The parity is
     not that of `ReedSolomon`.
 
@@ -317,9 +317,9 @@ class TransformCode(_Code):
 
     def __init__(self, data: int, parity: int) -> None:
         data, parity = operator.index(data), operator.index(parity)
-        if not (data >= 1 and parity >= 1 and (1 << (data - 1).bit_length()) + parity <= 1 << 15):
+        if not (data >= 1 and parity >= 1 and (1 << (data - 1).bit_length()) + parity <= 1 << 16):
             raise ValueError(
-                "invalid shard counts: at least one of data and one of parity, and at most 32768 in all, those of data counted up to a power of 2"
+                "invalid shard counts: at least one of data and one of parity, and at most 65536 in all, those of data counted up to a power of 2"
             )
         super().__init__(data, parity)
 

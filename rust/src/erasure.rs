@@ -15,9 +15,9 @@ pub struct TransformCode {
 
 impl TransformCode {
     /// The code, where there is at least one shard of data and one of parity, and both numbers, that of data counted up to a power of two,
-    /// are together at most 32,768.
+    /// are together at most 65,536.
     pub fn new(data: usize, parity: usize) -> Result<TransformCode, Error> {
-        const MOST: usize = 1 << 15;
+        const MOST: usize = 1 << 16;
         if data == 0 || parity == 0 || data > MOST || parity > MOST - data.next_power_of_two() {
             return Err(Error::Code);
         }

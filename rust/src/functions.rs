@@ -3097,14 +3097,14 @@ unsafe extern "C" {
     ) -> u32;
     /// length: how many words of space each call of the code takes: 40 times the least power of two that is at least
     /// data, counted up to a power of two, and parity together. BF_CODE if data and parity are not both at least 1,
-    /// or data, counted up to a power of two, and parity are together more than 32768.
+    /// or data, counted up to a power of two, and parity are together more than 65536.
     pub fn bf_erasure_space(
         data: usize,
         parity: usize,
         length: *mut u64,
     ) -> u32;
     /// parity_shards: the shards of parity of these shards of data. BF_CODE if data and parity are not both at least
-    /// 1, or data, counted up to a power of two, and parity are together more than 32768. BF_LENGTH unless shards has
+    /// 1, or data, counted up to a power of two, and parity are together more than 65536. BF_LENGTH unless shards has
     /// data, and parity_shards parity, times one number of words, which is not 0, and space at least what
     /// bf_erasure_space gives.
     pub fn bf_erasure_encode(
@@ -3118,7 +3118,7 @@ unsafe extern "C" {
         space_length: usize,
     ) -> u32;
     /// whole: 1 where the shards of parity are those of the data, else 0. BF_CODE if data and parity are not both at
-    /// least 1, or data, counted up to a power of two, and parity are together more than 32768. BF_LENGTH unless
+    /// least 1, or data, counted up to a power of two, and parity are together more than 65536. BF_LENGTH unless
     /// shards has data, and parity_shards parity, times one number of words, which is not 0, and space at least what
     /// bf_erasure_space gives.
     pub fn bf_erasure_verify(
@@ -3134,7 +3134,7 @@ unsafe extern "C" {
     ) -> u32;
     /// Writes the missing shards: shard i, of the data and then of the parity, is missing where present\[i\] is 0.
     /// BF_CODE if data and parity are not both at least 1, or data, counted up to a power of two, and parity are
-    /// together more than 32768. BF_LENGTH unless shards has data, and parity_shards parity, times one number of
+    /// together more than 65536. BF_LENGTH unless shards has data, and parity_shards parity, times one number of
     /// words, which is not 0, and space at least what bf_erasure_space gives, and present has data + parity.
     /// BF_TOO_FEW_SHARDS unless at least as many entries of present as data are not 0. It takes 64 KiB of the stack,
     /// for the flags of the shards.

@@ -513,7 +513,7 @@ fn transform_codes_restore() {
         Err(Error::Length)
     );
     assert!(TransformCode::new(16384, 16384).is_ok());
-    for (data, parity) in [(0, 1), (1, 0), (16385, 1), (1, 32768), (usize::MAX, 1)] {
+    for (data, parity) in [(0, 1), (1, 0), (32769, 1), (1, 65536), (usize::MAX, 1)] {
         assert_eq!(TransformCode::new(data, parity), Err(Error::Code));
     }
 }

@@ -11,7 +11,7 @@ use Rattle.c_arithmetic.specs.Erasure.{IsErasureCode, ReconstructsAt, Reconstruc
 use Rattle.c_arithmetic.proofs.ErasureCounts.{at_code}
 
 module _ {W : Type 0} (number : W → ℕ) (zero : W) (level : ℕ) (code : TransformCode) (k m : ℕ)
-    (k_is : code.data_shards ≡ k) (m_is : code.parity_shards ≡ m) (points : 2 * 2 ^ code.all_levels ≤ 2 ^ 2 ^ level)
+    (k_is : code.data_shards ≡ k) (m_is : code.parity_shards ≡ m) (points : 2 ^ code.all_levels ≤ 2 ^ 2 ^ level)
     (present : List ℕ) (total : length present ≡ code.data_shards + code.parity_shards)
     (flags : List Bool) (same : flags ≡ flags_of present) (shards parity new new_parity : List W) (space : ℕ) where
   -- the shards can be restored by these flags

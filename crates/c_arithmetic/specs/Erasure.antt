@@ -13,12 +13,12 @@ pub record AreCounts (k m n r : ℕ) : Type 0 where
   pub coefficients : IsPadded k n
   pub points : IsPadded (2 ^ n + m) r
 
--- there is a code of so many shards, and the level has twice the points, so that missing shards are restored
+-- there is a code of so many shards, and the level has the points, so that missing shards are restored
 pub record IsErasureCode (level k m n r : ℕ) : Type 0 where
   pub some_data : 0 < k
   pub some_parity : 0 < m
   pub few : 2 ^ n + m ≤ 65536
-  pub points : 2 * 2 ^ r ≤ 2 ^ 2 ^ level
+  pub points : 2 ^ r ≤ 2 ^ 2 ^ level
 
 -- a call that tells how many words of space each call takes
 abbrev pub TellsSpace : ℕ → ℕ → ℕ → ℕ → ℕ → ℕ → Type 0

@@ -109,7 +109,7 @@ fn code_within<R: StoredBytes, L: Level<R>>(
     space: usize,
 ) -> Result<TransformCode, u32>
     ensures made { IfOk result (λ code. (code.data_shards ≡ «data») × (code.parity_shards ≡ parity)
-        × (2 * 2 ^ code.all_levels ≤ 2 ^ 2 ^ L.LEVEL) × (40 * 2 ^ code.all_levels ≤ space)) }
+        × (2 ^ code.all_levels ≤ 2 ^ 2 ^ L.LEVEL) × (40 * 2 ^ code.all_levels ≤ space)) }
     ensures no_code { IfErr result (λ status. (n r : ℕ) → AreCounts «data» parity n r → ¬ IsErasureCode L.LEVEL «data» parity n r
         → status ≡ CODE) }
     ensures no_room { IfErr result (λ status. (n r : ℕ) → AreCounts «data» parity n r → IsErasureCode L.LEVEL «data» parity n r
@@ -129,7 +129,7 @@ fn code_within<R: StoredBytes, L: Level<R>>(
 // The code, where the level can restore its missing shards.
 fn code_of<R: StoredBytes, L: Level<R>>(data: u64, parity: u64) -> Option<TransformCode>
     ensures made { IfSome result (λ code. (code.data_shards ≡ «data») × (code.parity_shards ≡ parity)
-        × (2 * 2 ^ code.all_levels ≤ 2 ^ 2 ^ L.LEVEL)) }
+        × (2 ^ code.all_levels ≤ 2 ^ 2 ^ L.LEVEL)) }
     ensures none { IsNone result → (n r : ℕ) → AreCounts «data» parity n r → ¬ IsErasureCode L.LEVEL «data» parity n r }
 {
     match TransformCode::new(data as usize, parity as usize) {

@@ -23,11 +23,13 @@ use Rattle.word_tables.proofs.LevelLaws.{level_cantor}
 use Rattle.additive_transforms.specs.Columns.{column_of}
 use Rattle.additive_transforms.proofs.BasisPolynomials.{polynomial-widen, value-polynomial}
 use Rattle.additive_transforms.proofs.BlockPoints.{point-joined, point-lt}
-use Rattle.transform_codes.specs.Blocks.{AreDifferences, AreExtended, AreInverted, HoldLocator, block_locator}
+use Rattle.transform_codes.specs.Blocks.{AreDifferences, AreExtended, AreInverted, AreSlopes, HoldLocator, block_locator}
 use Rattle.transform_codes.specs.Columns.{HoldWordValues}
+use Rattle.transform_codes.specs.Located.{AreLocated}
 use Rattle.transform_codes.specs.Locators.{locator, lost_count}
-use Rattle.transform_codes.specs.Restoring.{AreFactors, is_lost, missing_locator}
+use Rattle.transform_codes.specs.Restoring.{AreFactors, is_lost, missing_locator, other_locator}
 use Rattle.transform_codes.proofs.CodedColumns.{held}
+use Rattle.transform_codes.proofs.Decoding.{lost_symbols_are_located}
 use Rattle.transform_codes.proofs.LocatorFacts.{locator-hit, locator-lt, locator-miss, locator-polynomial, locator-start}
 use Rattle.transform_codes.proofs.LostCounts.{lost_count-most}
 
@@ -178,6 +180,12 @@ module _ (level k n m : ℕ) (present : List Bool) where
         ∙ ap₂ (tower_mul level) (ap₂ bit_xor (points_are i (omega (arith, within, table))) x_is) (before i within)
         ∙ sym (locator-hit (tower_mul level) (λ p. at (start + p)) (λ p. is_lost k n m present (start + p)) count (at i) is)
 
+    -- the elements of such words are the values too
+    pub locator_elements : (start count : ℕ) (values : List W) → HoldLocator number zero level k n m present start count values
+        → HoldLocator element zero level k n m present start count values
+    locator_elements start count values held i below =
+        ap (λ (v : ℕ). v % 2 ^ 2 ^ level) (held i below) ∙ mod-eq_of_lt (of_block-lt start count (at i))
+
     -- ---- values at the next points
 
     module _ (low : level ≤ 7) (size start count : ℕ) (few : count < 2 ^ size) (room : suc size ≤ 2 ^ level) (known others : List W)
@@ -201,8 +209,7 @@ module _ (level k n m : ℕ) (present : List Bool) where
           (locator-polynomial (2 ^ level) (tower_mul level) (pow_pos level) field (λ p. at (start + p)) lost count))
 
       at_known : (i : ℕ) → i < 2 ^ size → element (get_or known i zero) ≡ of_block start count (at i)
-      at_known i below =
-          ap (λ (v : ℕ). v % 2 ^ 2 ^ level) (known_is i (omega (arith, below, long))) ∙ mod-eq_of_lt (of_block-lt start count (at i))
+      at_known i below = locator_elements start count known known_is i (omega (arith, below, long))
 
       -- the polynomial of the known values is the locator
       everywhere : (x : ℕ) → polynomial_value (tower_mul level) size (slice_index extended.coefficients) x ≡ of_block start count x
@@ -241,20 +248,33 @@ module _ (level k n m : ℕ) (present : List Bool) where
         locator-same (tower_mul level) x (λ p. at (0 + p)) at (λ p. is_lost k n m present (0 + p)) (is_lost k n m present) (λ p. ap at (place p))
         (λ p. ap (is_lost k n m present) (place p)) count
 
-    -- the values at the first points, and the inverses of those behind
-    pub factors_of_locator : (count : ℕ) (values factors : List W) → length values ≡ 2 * count
-        → HoldLocator number zero level k n m present 0 count values → AreInverted number zero level count (length values) values factors
-        → AreFactors number zero level k n m present count (2 * count) factors
-    factors_of_locator count values factors long held inverted p below =
-        let is = held p (omega (arith, below, long)) ∙ whole count (at p) in
+    -- the values where symbols are known, and elsewhere the inverses of what the derivative has there
+    pub factors_of_locator : (r : ℕ) → level ≤ 7 → r ≤ 2 ^ level → lost_count (is_lost k n m present) (2 ^ r) + 2 ^ n ≤ 2 ^ r
+        → (values slopes factors : List W) → length values ≡ 2 ^ r → HoldLocator number zero level k n m present 0 (2 ^ r) values
+        → AreSlopes element zero level r values slopes
+        → AreInverted element number zero level (is_lost k n m present) (length values) slopes values factors
+        → AreFactors number zero level k n m present (2 ^ r) factors
+    factors_of_locator r low room enough values slopes factors long locators are_slopes inverted p below =
         record {
-          value = λ early. ap number (inverted.kept p (inl early)) ∙ is;
-          inverse = λ late nonzero.
-              ap (λ (v : ℕ). tower_mul level v (number (get_or factors p zero))) (sym is)
-              ∙ inverted.inverse p late (omega (arith, below, long)) (λ none. nonzero (sym is ∙ none));
+          known = λ here. ap number (inverted.kept p (inl here)) ∙ value p below;
+          lost = λ absent.
+              ap (λ (v : ℕ). tower_mul level v (number (get_or factors p zero))) (sym (slope absent))
+              ∙ inverted.inverse p (omega (arith, below, long)) absent
+              (λ none. located.invertible p below absent (sym (slope absent) ∙ none));
         }
+      where
+        located : AreLocated level n r (is_lost k n m present)
+        located = lost_symbols_are_located level n r (is_lost k n m present) low room enough
 
-    -- values of a locator are elements
-    pub values_fit : (start count : ℕ) (values : List W) → HoldLocator number zero level k n m present start count values
-        → (i : ℕ) → i < length values → number (get_or values i zero) < 2 ^ 2 ^ level
-    values_fit start count values held i below = subst (λ (v : ℕ). v < 2 ^ 2 ^ level) (sym (held i below)) (of_block-lt start count (at i))
+        value : (q : ℕ) → q < 2 ^ r → number (get_or values q zero) ≡ missing_locator level k n m present (2 ^ r) (at q)
+        value q less = locators q (omega (arith, less, long)) ∙ whole (2 ^ r) (at q)
+
+        element_value : (q : ℕ) → q < 2 ^ r → element (get_or values q zero) ≡ missing_locator level k n m present (2 ^ r) (at q)
+        element_value q less =
+            ap (λ (v : ℕ). v % 2 ^ 2 ^ level) (value q less)
+            ∙ mod-eq_of_lt (locator-lt (2 ^ level) (tower_mul level) (pow_pos level) (tower_field level) at (is_lost k n m present) (2 ^ r) (at q))
+
+        slope : is_lost k n m present p ≡ true → element (get_or slopes p zero) ≡ other_locator level k n m present (2 ^ r) p
+        slope absent =
+            are_slopes.derivative p below
+            ∙ located.slopes (slice_index are_slopes.coefficients) (λ q less. sym (are_slopes.values q less) ∙ element_value q less) p below absent

@@ -31,17 +31,22 @@ module _ {W : Type 0} (element : W → ℕ) (zero : W) (level n width c : ℕ) (
   pub column_long : (words : List W) → length words ≡ 2 ^ n * width → length (column words) ≡ 2 ^ n
   column_long words count = column-length width c (map element words) ∙ rows words count
 
+  -- a place of a column is that of a row
+  pub column_word : (words : List W) → length words ≡ 2 ^ n * width → (p : ℕ) → p < 2 ^ n
+      → slice_index (column words) p ≡ element (get_or words (p * width + c) zero)
+  column_word words long p below =
+      let within = place_below width (2 ^ n) p c below inside in
+      let in_rows = rows words long in
+      column-at width c (map element words) p (omega (arith, in_rows, below))
+      ∙ get_or-map element words (p * width + c) zero 0 (omega (arith, long, within))
+
   -- the value that a place holds
   pub held : (z : ℕ) (coefficients values : List W) → length coefficients ≡ 2 ^ n * width → length values ≡ 2 ^ n * width
       → HoldWordValues element level z width c coefficients values → (p : ℕ) → p < 2 ^ n
       → element (get_or values (p * width + c) zero)
       ≡ polynomial_value (tower_mul level) n (slice_index (column coefficients)) (point (2 ^ level) cantor_vector z p)
   held z coefficients values count long holds p below =
-      let within = place_below width (2 ^ n) p c below inside in
-      let in_rows = rows values long in
-      sym (get_or-map element values (p * width + c) zero 0 (omega (arith, long, within)))
-      ∙ sym (column-at width c (map element values) p (omega (arith, in_rows, below)))
-      ∙ holds n (column_long coefficients count) p below
+      sym (column_word values long p below) ∙ holds n (column_long coefficients count) p below
 
   module _ (k size start : ℕ) (shards values coefficients : List W) (z : ℕ) (nothing : z ≡ 0) (count : length coefficients ≡ 2 ^ n * width)
       (long : length values ≡ 2 ^ n * width) (strip_is : HoldStrip zero k size start width shards (2 ^ n) values)

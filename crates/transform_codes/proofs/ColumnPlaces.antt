@@ -1,5 +1,5 @@
 -- Places of strips among the words of shards, and rows that are put there one after the other.
-use Rattle.std.proofs.Common.{◌≡◌, ◌≢◌, ◌⊎◌, inl, inr, ℕ, ◌+◌, ◌-◌, ◌*◌, ◌<◌, ◌≤◌, List, length, get_or, set, ◌∙◌, ap, subst, arith, below_more, mul-le-mul_right}
+use Rattle.std.proofs.Common.{◌≡◌, ◌≢◌, ◌⊎◌, inl, inr, ℕ, ◌+◌, ◌-◌, ◌*◌, ◌<◌, ◌≤◌, Bool, List, length, get_or, set, ◌∙◌, ap, subst, arith, below_more, mul-le-mul_right}
 use Rattle.std.proofs.lemmas.Bool.{cases_lt}
 use Rattle.std.proofs.lemmas.List.{get_or-set_other, get_or-set_same}
 use Rattle.std.proofs.lemmas.Nat.{mul-add-lt}
@@ -139,29 +139,57 @@ module _ {W : Type 0} (zero : W) (size start width : ℕ) where
       fewer i c (inr (inl early)) = inr (inl early)
       fewer i c (inr (inr late)) = inr (inr (omega (arith, late)))
 
-module _ {W : Type 0} (number : W → ℕ) (zero : W) (level width p first : ℕ) (factors old mid now : List W) (factor : ℕ)
-    (factor_is : factor ≡ number (get_or factors (first + p) zero))
-    (put : ArePutProducts number zero level (p * width) width factor mid now)
-    (before : AreRowProducts number zero level width p first factors old mid)
-    (rest : (q : ℕ) → p * width ≤ q → get_or mid q zero ≡ get_or old q zero) where
-  -- one more row is multiplied
-  pub row_product_more : AreRowProducts number zero level width (p + 1) first factors old now
-  row_product_more q c below inside =
-      elim (cases_lt q p) [
-        | inl early ↦
-            let under = place_below width p q c early inside in
-            ap number (put.kept (q * width + c) (inl (omega (arith, under)))) ∙ before q c early inside
-        | inr late ↦
-            let same : p ≡ q = omega (arith, below, late) in
-            subst (λ (s : ℕ). number (get_or now (s * width + c) zero)
-            ≡ tower_mul level (number (get_or old (s * width + c) zero)) (number (get_or factors (first + s) zero))) same
-            (put.product c inside
-            ∙ ap (λ (w : W). tower_mul level (number w) factor) (rest (p * width + c) (omega arith))
-            ∙ ap (tower_mul level (number (get_or old (p * width + c) zero))) factor_is)
-      ]
+module _ {W : Type 0} (number : W → ℕ) (zero : W) (level width p : ℕ) (lost : ℕ → Bool) (which : Bool) (factors old mid now : List W)
+    (before : AreRowProducts number zero level width p lost which factors old mid)
+    (others_stay : (q : ℕ) → (q < p * width) ⊎ (p * width + width ≤ q) → get_or now q zero ≡ get_or mid q zero) where
+  -- one more row has what it should, and the rows before it keep it
+  rows_more : (lost p ≡ which → (c : ℕ) → c < width → number (get_or now (p * width + c) zero)
+      ≡ tower_mul level (number (get_or old (p * width + c) zero)) (number (get_or factors p zero)))
+      → (lost p ≢ which → (c : ℕ) → c < width → get_or now (p * width + c) zero ≡ zero)
+      → AreRowProducts number zero level width (p + 1) lost which factors old now
+  rows_more product nothing =
+      record {
+        product = λ q c below inside is.
+            elim (cases_lt q p) [
+              | inl early ↦ ap number (stays q c early inside) ∙ before.product q c early inside is
+              | inr late ↦
+                  let same : p ≡ q = omega (arith, below, late) in
+                  subst (λ (s : ℕ). lost s ≡ which → number (get_or now (s * width + c) zero)
+                  ≡ tower_mul level (number (get_or old (s * width + c) zero)) (number (get_or factors s zero))) same (λ own. product own c inside) is
+            ];
+        nothing = λ q c below inside is.
+            elim (cases_lt q p) [
+              | inl early ↦ stays q c early inside ∙ before.nothing q c early inside is
+              | inr late ↦
+                  let same : p ≡ q = omega (arith, below, late) in
+                  subst (λ (s : ℕ). lost s ≢ which → get_or now (s * width + c) zero ≡ zero) same (λ own. nothing own c inside) is
+            ];
+      }
+    where
+      stays : (q c : ℕ) → q < p → c < width → get_or now (q * width + c) zero ≡ get_or mid (q * width + c) zero
+      stays q c early inside = let under = place_below width p q c early inside in others_stay (q * width + c) (inl (omega (arith, under)))
+
+  -- a row that is multiplied
+  pub row_product_more : (factor : ℕ) → lost p ≡ which → factor ≡ number (get_or factors p zero)
+      → ArePutProducts number zero level (p * width) width factor mid now
+      → ((q : ℕ) → p * width ≤ q → get_or mid q zero ≡ get_or old q zero)
+      → AreRowProducts number zero level width (p + 1) lost which factors old now
+  row_product_more factor is factor_is put rest =
+      rows_more
+      (λ own c inside.
+      put.product c inside
+      ∙ ap (λ (w : W). tower_mul level (number w) factor) (rest (p * width + c) (omega arith))
+      ∙ ap (tower_mul level (number (get_or old (p * width + c) zero))) factor_is)
+      (λ not c inside. absurd (not is))
+
+  -- one that is cleared
+  pub row_cleared_more : lost p ≢ which → ArePutWords zero (p * width) width (λ c. zero) mid now
+      → AreRowProducts number zero level width (p + 1) lost which factors old now
+  row_cleared_more not put = rows_more (λ is c inside. absurd (not is)) (λ own c inside. put.written c inside)
 
   -- and those behind it are left
-  pub row_rest_more : (q : ℕ) → (p + 1) * width ≤ q → get_or now q zero ≡ get_or old q zero
-  row_rest_more q past =
+  pub row_rest_more : ((q : ℕ) → p * width ≤ q → get_or mid q zero ≡ get_or old q zero)
+      → (q : ℕ) → (p + 1) * width ≤ q → get_or now q zero ≡ get_or old q zero
+  row_rest_more rest q past =
       let next : (p + 1) * width ≡ p * width + width = omega arith in
-      put.kept q (inr (omega (arith, past, next))) ∙ rest q (omega (arith, past, next))
+      others_stay q (inr (omega (arith, past, next))) ∙ rest q (omega (arith, past, next))

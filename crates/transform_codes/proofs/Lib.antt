@@ -4,6 +4,8 @@ mod CodedColumns
 mod ColumnPlaces
 mod ComparedColumns
 mod Decoding
+mod DerivedColumns
+mod DerivedValues
 mod LocatorFacts
 mod LostCounts
 mod MendedColumns

@@ -68,13 +68,14 @@ module _ (k n m : ℕ) (present : List Bool) (padded : k ≤ 2 ^ n) where
   abbrev missing : ℕ → Bool
   missing = is_missing present
 
-  lost-data : (i : ℕ) → i < k → is_lost k n m present i ≡ missing i
+  -- the place of a shard is lost where the shard is missing
+  pub lost-data : (i : ℕ) → i < k → is_lost k n m present i ≡ missing i
   lost-data i below = grind (arith, nat_tests)
 
   lost-padding : (i : ℕ) → i < 2 ^ n - k → is_lost k n m present (k + i) ≡ false
   lost-padding i below = grind (arith, nat_tests)
 
-  lost-parity : (t : ℕ) → t < m → is_lost k n m present (2 ^ n + t) ≡ missing (k + t)
+  pub lost-parity : (t : ℕ) → t < m → is_lost k n m present (2 ^ n + t) ≡ missing (k + t)
   lost-parity t below =
       let place : 2 ^ n + t - 2 ^ n ≡ t = omega arith in
       let same : missing (k + (2 ^ n + t - 2 ^ n)) ≡ missing (k + t) = ap (λ (s : ℕ). missing (k + s)) place in

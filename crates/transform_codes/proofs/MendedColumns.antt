@@ -1,11 +1,12 @@
 -- The missing shards of a strip that are written, one after the other.
-use Rattle.std.proofs.Common.{◌≡◌, ◌≢◌, ◌⊎◌, inl, inr, ℕ, ◌+◌, ◌*◌, ◌^◌, ◌<◌, ◌≤◌, Bool, true, false, List, get_or, sym, ◌∙◌, ap, subst, arith}
+use Rattle.std.proofs.Common.{◌≡◌, ◌≢◌, ◌⊎◌, inl, inr, ℕ, ◌+◌, ◌*◌, ◌^◌, ◌<◌, ◌≤◌, Bool, true, false, not, List, get_or, sym, ◌∙◌, ap, subst, arith}
 use Rattle.std.proofs.lemmas.Bool.{cases_Bool, cases_lt, true≢false}
 use Rattle.transform_codes.specs.Columns.{ArePutWords, IsOutside}
-use Rattle.transform_codes.specs.Restoring.{AreMended, AreRestoredColumns, IsAtHand, RestoresSymbols}
+use Rattle.transform_codes.specs.Restoring.{AreMended, AreRestoredColumns, IsAtHand, RestoresSymbols, is_lost}
 use Rattle.transform_codes.specs.Codes.{IsCodedColumn, shard_symbol, value_at}
 use Rattle.transform_codes.specs.Determined.{LostSymbolsReturn}
 use Rattle.transform_codes.proofs.ColumnPlaces.{apart, columns_more, place_below}
+use Rattle.transform_codes.proofs.LostCounts.{lost-data, lost-parity}
 
 module _ {W : Type 0} (zero : W) (size start width i from first : ℕ) (present : List Bool) (values old now : List W)
     (before : AreMended zero size start width i from first present values old now) where
@@ -125,10 +126,11 @@ next_restored element zero level n k m size start width at_size at_start present
 
 -- ---- what a column becomes
 
-module _ {W : Type 0} (element : W → ℕ) (zero : W) (level n k m r size start width c first : ℕ) (present : List Bool)
+module _ {W : Type 0} (element : W → ℕ) (zero : W) (level n k m size start width c first : ℕ) (present : List Bool)
     (shards parity now_shards now_parity values : List W) (symbol word_parity : ℕ → ℕ) (word : IsCodedColumn level n k m symbol word_parity)
-    (fits : start + width ≤ size) (inside : c < width) (padded : k ≤ 2 ^ n) (room : 2 ^ n + m ≤ 2 ^ r) (first_is : first ≡ 2 ^ n)
-    (values_are : (p : ℕ) → p < 2 ^ r → element (get_or values (p * width + c) zero) ≡ value_at level n word.coefficients p) where
+    (fits : start + width ≤ size) (inside : c < width) (padded : k ≤ 2 ^ n) (first_is : first ≡ 2 ^ n)
+    (values_are : (p : ℕ) → p < 2 ^ n + m → is_lost k n m present p ≡ true
+    → element (get_or values (p * width + c) zero) ≡ value_at level n word.coefficients p) where
   within : start + c < size
   within = omega (arith, fits, inside)
 
@@ -144,7 +146,7 @@ module _ {W : Type 0} (element : W → ℕ) (zero : W) (level n k m r size start
         | inr absent ↦
             ap element (done.mended i c below inside (flag ∙ absent))
             ∙ ap (λ (s : ℕ). element (get_or values (s * width + c) zero)) same
-            ∙ values_are i (omega (arith, below, padded, room)) ∙ sym (word.of_data.values i below)
+            ∙ values_are i (omega (arith, below, padded)) (lost-data k n m present padded i below ∙ ap not absent) ∙ sym (word.of_data.values i below)
       ]
 
   -- and so is the parity
@@ -157,7 +159,8 @@ module _ {W : Type 0} (element : W → ℕ) (zero : W) (level n k m r size start
         | inr absent ↦
             ap element (done.mended t c below inside absent)
             ∙ ap (λ (s : ℕ). element (get_or values ((s + t) * width + c) zero)) first_is
-            ∙ values_are (2 ^ n + t) (omega (arith, below, room)) ∙ sym (word.of_parity t below)
+            ∙ values_are (2 ^ n + t) (omega (arith, below)) (lost-parity k n m present padded t below ∙ ap not absent)
+            ∙ sym (word.of_parity t below)
       ]
 
 -- ---- what was encoded and then lost

@@ -1,31 +1,35 @@
--- Columns of a strip that are restored: what the four transforms leave of each is the word's polynomial at each point.
-use Rattle.std.proofs.Common.{◌≡◌, inl, inr, ℕ, suc, ◌+◌, ◌-◌, ◌*◌, ◌%◌, ◌^◌, ◌<◌, ◌≤◌, Bool, true, false, List, length, get_or, map, sym, ◌∙◌, ap, subst, arith}
+-- Columns of a strip that are restored: what two transforms leave of each is the word's polynomial at each lost point.
+use Rattle.std.proofs.Common.{◌≡◌, inl, inr, ℕ, ◌+◌, ◌-◌, ◌*◌, ◌%◌, ◌^◌, ◌<◌, ◌≤◌, Bool, true, false, List, length, get_or, map, sym, ◌∙◌, ap, subst, arith}
 use Rattle.std.specs.Prelude.{slice_index}
 use Rattle.std.proofs.lemmas.Bool.{cases_Bool, cases_lt, true≢false}
 use Rattle.std.proofs.lemmas.Bool.Decides.{nat_tests}
 use Rattle.std.proofs.lemmas.Nat.{pow_pos}
-use Rattle.std.proofs.Math.Pow.{pow_mono}
-use native.Mathlib.Nat.{mod-eq_of_lt, one-mul}
+use Rattle.std.proofs.Math.Pow.{pow-lt}
+use native.Mathlib.Nat.{mod-eq_of_lt}
 use Rattle.additive_transforms.specs.Columns.{column_of}
-use Rattle.field_base.proofs.RingLemmas.{mod-times}
+use Rattle.additive_transforms.proofs.BasisPolynomials.{value-polynomial}
+use Rattle.field_base.proofs.RingLemmas.{mod-times, times-zero}
+use Rattle.field_base.proofs.TowerLaws.{tower_field}
 use Rattle.field_base.proofs.TowerRing.{tower_ring}
 use Rattle.field_base.specs.Tower.{tower_mul}
+use Rattle.field_laws.proofs.Polynomials.{polynomial-lt}
 use Rattle.ghash_slices.specs.Cantor.{point, polynomial_value}
 use Rattle.tower_transforms.specs.Words.{level_element}
 use Rattle.word_tables.specs.Cantor.{cantor_vector}
 use Rattle.transform_codes.specs.Codes.{IsCodedColumn, shard_symbol, value_at}
-use Rattle.transform_codes.specs.Columns.{AreRowProducts, HoldWordValues}
+use Rattle.transform_codes.specs.Columns.{AreDerivedRows, AreRowProducts, HoldWordValues}
 use Rattle.transform_codes.specs.Locators.{lost_count}
-use Rattle.transform_codes.specs.Restoring.{AreFactors, FitRestoring, IsAtHand, is_lost, is_missing, missing_locator, word_at}
+use Rattle.transform_codes.specs.Restoring.{AreFactors, FitRestoring, IsAtHand, is_lost, is_missing, missing_locator, other_locator, word_at}
 use Rattle.transform_codes.specs.Sizes.{CanRebuild}
-use Rattle.additive_transforms.proofs.BlockPoints.{point-joined}
 use Rattle.transform_codes.proofs.CodedColumns.{held}
-use Rattle.transform_codes.proofs.Decoding.{decoded_is, divisor, product_is, quotient_is}
+use Rattle.transform_codes.proofs.Decoding.{lost_symbols_are_located, quotient_is}
+use Rattle.transform_codes.proofs.DerivedColumns.{derived_values}
+use Rattle.transform_codes.proofs.LocatorFacts.{locator-root}
 use Rattle.transform_codes.proofs.LostCounts.{enough_left}
 use Rattle.transform_codes.proofs.StripWords.{word_at-behind, word_at-first, word_at-padding}
 
-module _ {W : Type 0} (number : W → ℕ) (zero : W) (level k n m r : ℕ) (present : List Bool) (low : level ≤ 7) (room : suc r ≤ 2 ^ level)
-    (enough : lost_count (is_lost k n m present) (2 ^ r) + 2 ^ n ≤ 2 ^ r) (coefficients : ℕ → ℕ) where
+module _ {W : Type 0} (number : W → ℕ) (zero : W) (nothing : number zero ≡ 0) (level k n m r : ℕ) (present : List Bool) (low : level ≤ 7)
+    (room : r ≤ 2 ^ level) (enough : lost_count (is_lost k n m present) (2 ^ r) + 2 ^ n ≤ 2 ^ r) (coefficients : ℕ → ℕ) where
   abbrev element : W → ℕ
   element = level_element number level
 
@@ -41,78 +45,58 @@ module _ {W : Type 0} (number : W → ℕ) (zero : W) (level k n m r : ℕ) (pre
       ap (λ (x : ℕ). x % 2 ^ 2 ^ level) is ∙ mod-eq_of_lt ((tower_ring level).below a b)
       ∙ sym (mod-times (2 ^ level) 1 (tower_mul level) (tower_ring level) a b)
 
-  -- point p of the transform behind the first points
-  behind_is : (z p : ℕ) → z ≡ at (2 ^ r) → p < 2 ^ r → point (2 ^ level) cantor_vector z p ≡ at (2 ^ r + p)
-  behind_is z p is below =
-      let once : 1 * 2 ^ r ≡ 2 ^ r = one-mul (2 ^ r) in
-      ap (λ (y : ℕ). point (2 ^ level) cantor_vector y p) (is ∙ ap at (sym once))
-      ∙ point-joined cantor_vector r 1 p below (2 ^ level) 0
-      ∙ ap (λ (y : ℕ). at (y + p)) once
-
-  module _ (width c : ℕ) (inside : c < width) (word : ℕ → W) (factors words products first behind quotients second values : List W) (y z : ℕ)
-      (origin : y ≡ 0) (shift : z ≡ at (2 ^ r)) (factors_are : AreFactors number zero level k n m present (2 ^ r) (2 * 2 ^ r) factors)
-      (products_long : length products ≡ 2 ^ r * width) (first_long : length first ≡ 2 ^ r * width) (behind_long : length behind ≡ 2 ^ r * width)
-      (quotients_long : length quotients ≡ 2 ^ r * width) (second_long : length second ≡ 2 ^ r * width) (values_long : length values ≡ 2 ^ r * width)
+  module _ (width c rows : ℕ) (inside : c < width) (word : ℕ → W) (factors words products first slopes values symbols : List W) (y z : ℕ)
+      (origin : y ≡ 0) (origin_too : z ≡ 0) (factors_are : AreFactors number zero level k n m present (2 ^ r) factors)
+      (products_long : length products ≡ 2 ^ r * width) (first_long : length first ≡ 2 ^ r * width)
+      (slopes_long : length slopes ≡ 2 ^ r * width) (values_long : length values ≡ 2 ^ r * width)
       (words_are : (p : ℕ) → p < 2 ^ r → get_or words (p * width + c) zero ≡ word p)
-      (products_are : AreRowProducts number zero level width (2 ^ r) 0 factors words products)
+      (products_are : AreRowProducts number zero level width (2 ^ r) (is_lost k n m present) false factors words products)
       (first_is : HoldWordValues element level y width c first products)
-      (behind_are : HoldWordValues element level z width c first behind)
-      (quotients_are : AreRowProducts number zero level width (2 ^ r) (2 ^ r) factors behind quotients)
-      (second_is : HoldWordValues element level z width c second quotients)
-      (values_are : HoldWordValues element level y width c second values)
+      (slopes_are : AreDerivedRows number zero r width first slopes)
+      (values_are : HoldWordValues element level z width c slopes values)
+      (symbols_are : AreRowProducts number zero level width rows (is_lost k n m present) true factors values symbols)
       (known : (p : ℕ) → p < 2 ^ r → is_lost k n m present p ≡ false → element (word p) ≡ f (at p)) where
-    abbrev of_column : List W → ℕ → ℕ
-    of_column list = slice_index (column_of width c (map element list))
+    abbrev of_first : ℕ → ℕ
+    of_first = slice_index (column_of width c (map element first))
 
-    -- a value of a list at its point
-    value_in : (list held_in : List W) → length list ≡ 2 ^ r * width → length held_in ≡ 2 ^ r * width → HoldWordValues element level y width c list held_in
-        → (p : ℕ) → p < 2 ^ r → element (get_or held_in (p * width + c) zero) ≡ polynomial_value (tower_mul level) r (of_column list) (at p)
-    value_in list held_in list_long long holds p below =
-        held element zero level r width c inside y list held_in list_long long holds p below
-        ∙ ap (λ (x : ℕ). polynomial_value (tower_mul level) r (of_column list) (point (2 ^ level) cantor_vector x p)) origin
-
-    value_behind : (list held_in : List W) → length list ≡ 2 ^ r * width → length held_in ≡ 2 ^ r * width → HoldWordValues element level z width c list held_in
-        → (p : ℕ) → p < 2 ^ r
-        → element (get_or held_in (p * width + c) zero) ≡ polynomial_value (tower_mul level) r (of_column list) (at (2 ^ r + p))
-    value_behind list held_in list_long long holds p below =
-        held element zero level r width c inside z list held_in list_long long holds p below
-        ∙ ap (polynomial_value (tower_mul level) r (of_column list)) (behind_is z p shift below)
-
-    -- a product of a word and the locator
+    -- a product of a word and the locator, which is 0 where the word is lost
     product_at : (p : ℕ) → p < 2 ^ r → element (get_or products (p * width + c) zero)
         ≡ tower_mul level (element (word p)) (missing_locator level k n m present (2 ^ r) (at p))
     product_at p below =
-        let none : 0 + p ≡ p = omega arith in
-        of_product (get_or products (p * width + c) zero) (number (word p)) (number (get_or factors p zero))
-        (products_are p c below inside
-        ∙ ap (λ (s : ℕ). tower_mul level (number (get_or words (p * width + c) zero)) (number (get_or factors s zero))) none
-        ∙ ap (λ (w : W). tower_mul level (number w) (number (get_or factors p zero))) (words_are p below))
-        ∙ ap (tower_mul level (element (word p))) ((factors_are p (omega (arith, below))).value below)
+        elim (cases_Bool (is_lost k n m present p)) [
+          | inl absent ↦
+              ap element (products_are.nothing p c below inside (λ here. true≢false (sym absent ∙ here)))
+              ∙ ap (λ (v : ℕ). v % 2 ^ 2 ^ level) nothing ∙ mod-eq_of_lt (pow_pos (2 ^ level))
+              ∙ sym (ap (tower_mul level (element (word p)))
+              (locator-root (2 ^ level) (tower_mul level) (pow_pos level) (tower_field level) at (is_lost k n m present) (2 ^ r) p below absent)
+              ∙ times-zero (2 ^ level) 1 (tower_mul level) (tower_ring level) (element (word p)))
+          | inr here ↦
+              of_product (get_or products (p * width + c) zero) (number (word p)) (number (get_or factors p zero))
+              (products_are.product p c below inside here
+              ∙ ap (λ (w : W). tower_mul level (number w) (number (get_or factors p zero))) (words_are p below))
+              ∙ ap (tower_mul level (element (word p))) ((factors_are p below).known here)
+        ]
 
-    product_everywhere : (x : ℕ) → polynomial_value (tower_mul level) r (of_column first) x
-        ≡ tower_mul level (missing_locator level k n m present (2 ^ r) x) (f x)
-    product_everywhere =
-        product_is level n r low room (is_lost k n m present) enough coefficients (of_column first) (λ p. element (word p))
-        (λ p below. sym (value_in first products first_long products_long first_is p below) ∙ product_at p below) known
+    -- the coefficients of the product
+    value_in : (p : ℕ) → p < 2 ^ r → polynomial_value (tower_mul level) r of_first (at p) ≡ element (get_or products (p * width + c) zero)
+    value_in p below =
+        sym (held element zero level r width c inside y first products first_long products_long first_is p below
+        ∙ ap (λ (x : ℕ). polynomial_value (tower_mul level) r of_first (point (2 ^ level) cantor_vector x p)) origin)
 
-    quotient_at : (p : ℕ) → p < 2 ^ r → element (get_or quotients (p * width + c) zero) ≡ f (at (2 ^ r + p))
-    quotient_at p below =
-        let factor : ℕ = number (get_or factors (2 ^ r + p) zero) in
-        of_product (get_or quotients (p * width + c) zero) (number (get_or behind (p * width + c) zero)) factor (quotients_are p c below inside)
-        ∙ ap (λ (a : ℕ). tower_mul level a factor)
-        (value_behind first behind first_long behind_long behind_are p below ∙ product_everywhere (at (2 ^ r + p)))
-        ∙ quotient_is level n r low room (is_lost k n m present) enough coefficients (at (2 ^ r + p)) factor
-        ((factors_are (2 ^ r + p) (omega (arith, below))).inverse (omega arith)
-        (divisor level n r low room (is_lost k n m present) enough coefficients p below))
-
-    -- the values are those of the word's polynomial
-    pub restored_values : (p : ℕ) → p < 2 ^ r → element (get_or values (p * width + c) zero) ≡ f (at p)
-    restored_values p below =
-        value_in second values second_long values_long values_are p below
-        ∙ decoded_is level n r low room (is_lost k n m present) enough coefficients (of_column second)
-        (λ q q_below.
-        sym (value_behind second quotients second_long quotients_long second_is q q_below) ∙ quotient_at q q_below)
-        (at p)
+    -- the lost symbols are those of the word's polynomial
+    pub restored_symbols : (p : ℕ) → p < rows → p < 2 ^ r → is_lost k n m present p ≡ true
+        → element (get_or symbols (p * width + c) zero) ≡ f (at p)
+    restored_symbols p within below absent =
+        let factor : ℕ = number (get_or factors p zero) in
+        let located = lost_symbols_are_located level n r (is_lost k n m present) low room enough in
+        let fits = polynomial-lt (2 ^ level) (tower_mul level) (tower_ring level) (2 ^ n) f
+        (value-polynomial (2 ^ level) (tower_mul level) (pow_pos level) (tower_ring level) n coefficients) (at p) in
+        of_product (get_or symbols (p * width + c) zero) (number (get_or values (p * width + c) zero)) factor
+        (symbols_are.product p c within inside absent)
+        ∙ ap (λ (v : ℕ). tower_mul level v factor)
+        (derived_values number zero level r width c inside first slopes first_long slopes_long slopes_are z values origin_too values_long values_are p below
+        ∙ located.decoded coefficients of_first (λ q. element (word q)) known (λ q less. value_in q less ∙ product_at q less) p below absent)
+        ∙ quotient_is level (f (at p)) (other_locator level k n m present (2 ^ r) p) factor fits ((factors_are p below).lost absent)
 
 -- ---- what is known of a word
 
@@ -162,23 +146,29 @@ module _ {W : Type 0} (number : W → ℕ) (zero : W) (nothing : number zero ≡
 
 -- ---- what restored columns need
 
--- a level that has twice as many points as 2 ^ r has more than r bits
-pub bits_left : (r bits : ℕ) → 2 * 2 ^ r ≤ 2 ^ bits → r + 1 ≤ bits
+-- a level that has 2 ^ r points has no fewer than r bits
+pub bits_left : (r bits : ℕ) → 2 ^ r ≤ 2 ^ bits → r ≤ bits
 bits_left r bits points =
-    elim (cases_lt r bits) [
-      | inl below ↦ omega (arith, below)
-      | inr past ↦ absurd (omega (arith, points, pow_mono past, pow_pos r))
+    elim (cases_lt bits r) [
+      | inl past ↦ absurd (omega (arith, points, pow-lt past))
+      | inr below ↦ below
     ]
 
+-- so many symbols are known of shards that can be restored
+pub enough_known : (level k n m r words parity_words space : ℕ) (present : List Bool) → CanRebuild level r k m words parity_words space present
+    → k ≤ 2 ^ n → 2 ^ n + m ≤ 2 ^ r → lost_count (is_lost k n m present) (2 ^ r) + 2 ^ n ≤ 2 ^ r
+enough_known level k n m r words parity_words space present can padded room =
+    enough_left k n m present padded (2 ^ r) room (subst (λ (s : ℕ). lost_count (is_missing present) s ≤ m) can.flags can.enough)
+
 -- it is there once words were found to be those of shards that can be restored, and the factors were set
-pub fits_restoring : {W : Type 0} (number : W → ℕ) (zero : W) (level n k m size r count old old_parity space words parity_words : ℕ)
-    (present : List Bool) (factors : List W) (behind : W)
+pub fits_restoring : {W : Type 0} (number : W → ℕ) (zero : W) (level n k m size r old old_parity space words parity_words : ℕ)
+    (present : List Bool) (factors : List W)
     → CanRebuild level r k m old old_parity space present → k ≤ 2 ^ n → 2 ^ n + m ≤ 2 ^ r → r ≤ 16
-    → words ≡ k * size → parity_words ≡ m * size → count ≡ 2 ^ r → number behind ≡ point (2 ^ level) cantor_vector 0 count
-    → AreFactors number zero level k n m present (2 ^ r) (2 * 2 ^ r) factors → length factors ≡ 2 * 2 ^ r
-    → FitRestoring number zero level n k m size r present words parity_words behind factors
-fits_restoring number zero level n k m size r count old old_parity space words parity_words present factors behind can padded room few whole
-    parity_whole count_is behind_is are_factors long =
+    → words ≡ k * size → parity_words ≡ m * size
+    → AreFactors number zero level k n m present (2 ^ r) factors → length factors ≡ 2 ^ r
+    → FitRestoring number zero level n k m size r present words parity_words factors
+fits_restoring number zero level n k m size r old old_parity space words parity_words present factors can padded room few whole parity_whole
+    are_factors long =
     record {
       flags = can.flags;
       whole = whole;
@@ -186,8 +176,7 @@ fits_restoring number zero level n k m size r count old old_parity space words p
       few = few;
       points = bits_left r (2 ^ level) can.points;
       room = room;
-      enough = enough_left k n m present padded (2 ^ r) room (subst (λ (s : ℕ). lost_count (is_missing present) s ≤ m) can.flags can.enough);
-      next = behind_is ∙ ap (point (2 ^ level) cantor_vector 0) count_is;
+      enough = enough_known level k n m r old old_parity space present can padded room;
       factors_long = long;
       all = are_factors;
     }

@@ -1,7 +1,7 @@
 -- Rows of words that are multiplied by one factor, within a slice, and word by word.
-use Rattle.std.proofs.Common.{◌≡◌, ◌≢◌, ◌⊎◌, inl, inr, ℕ, zero, suc, ◌+◌, ◌-◌, ◌*◌, ◌%◌, ◌^◌, ◌<◌, ◌≤◌, List, ◌++◌, length, get_or, map, set, refl, sym, ◌∙◌, ap, subst, arith, below_more}
+use Rattle.std.proofs.Common.{◌≡◌, ◌≢◌, ◌⊎◌, inl, inr, ℕ, zero, suc, ◌+◌, ◌-◌, ◌*◌, ◌%◌, ◌^◌, ◌<◌, ◌≤◌, Bool, true, false, List, ◌++◌, length, get_or, map, set, refl, sym, ◌∙◌, ap, subst, arith, below_more}
 use Rattle.std.specs.Prelude.{bit_xor}
-use Rattle.std.proofs.lemmas.Bool.{cases_lt}
+use Rattle.std.proofs.lemmas.Bool.{cases_eq, cases_lt}
 use Rattle.std.proofs.Math.Nat.{mul-le-mul_left}
 use Rattle.std.proofs.Math.Pow.{pow-lt}
 use Rattle.std.proofs.lemmas.List.{get_or-append-add, get_or-map, get_or-set_other, get_or-set_same, get_or_append_left, get_or_past}
@@ -93,10 +93,25 @@ module _ {W : Type 0} (number : W → ℕ) (zero : W) (level factor : ℕ) where
 
 -- ---- word by word
 
-module _ {W : Type 0} (number : W → ℕ) (zero : W) (level i : ℕ) (old mid : List W) (v : W) (within : i < length mid) where
-  differ : (s : ℕ) → s < i → s ≢ i
-  differ s below same = absurd (omega (arith, below, same))
+differ : (i s : ℕ) → s < i → s ≢ i
+differ i s below same = absurd (omega (arith, below, same))
 
+module _ {W : Type 0} (number : W → ℕ) (zero : W) (i : ℕ) (old mid : List W) (v : W) (within : i < length mid) where
+  -- one more product or sum with the word at its place
+  pub each_more : (op : ℕ → ℕ → ℕ) (others : List W) → number v ≡ op (number (get_or mid i zero)) (number (get_or others i zero))
+      → ((s : ℕ) → s < i → number (get_or mid s zero) ≡ op (number (get_or old s zero)) (number (get_or others s zero)))
+      → ((s : ℕ) → i ≤ s → get_or mid s zero ≡ get_or old s zero)
+      → (s : ℕ) → s < i + 1 → number (get_or (set mid i v) s zero) ≡ op (number (get_or old s zero)) (number (get_or others s zero))
+  each_more op others is before rest =
+      below_more _ i (λ s below. ap number (get_or-set_other mid i s v zero (differ i s below)) ∙ before s below)
+      (ap number (get_or-set_same mid i v zero within) ∙ is
+      ∙ ap (λ (w : W). op (number w) (number (get_or others i zero))) (rest i (omega arith)))
+
+  -- the words behind it are left
+  pub rest_more : ((s : ℕ) → i ≤ s → get_or mid s zero ≡ get_or old s zero) → (s : ℕ) → i + 1 ≤ s → get_or (set mid i v) s zero ≡ get_or old s zero
+  rest_more rest s past = get_or-set_other mid i s v zero (λ same. absurd (omega (arith, past, same))) ∙ rest s (omega (arith, past))
+
+module _ {W : Type 0} (number : W → ℕ) (zero : W) (level i : ℕ) (old mid : List W) (v : W) (within : i < length mid) where
   -- one more difference
   pub differences_more : (x : ℕ) (points : List W)
       → number v ≡ tower_mul level (bit_xor (number (get_or points i zero)) x) (number (get_or mid i zero))
@@ -104,58 +119,41 @@ module _ {W : Type 0} (number : W → ℕ) (zero : W) (level i : ℕ) (old mid :
   differences_more x points is before =
       record {
         multiplied = below_more _ i
-            (λ s below. ap number (get_or-set_other mid i s v zero (differ s below)) ∙ before.multiplied s below)
+            (λ s below. ap number (get_or-set_other mid i s v zero (differ i s below)) ∙ before.multiplied s below)
             (ap number (get_or-set_same mid i v zero within) ∙ is
             ∙ ap (λ (w : W). tower_mul level (bit_xor (number (get_or points i zero)) x) (number w)) (before.kept i (omega arith)));
         kept = λ s past. get_or-set_other mid i s v zero (λ same. absurd (omega (arith, past, same))) ∙ before.kept s (omega (arith, past));
       }
 
-  -- one more product with the word at its place
-  pub each_more : (factors : List W) → number v ≡ tower_mul level (number (get_or mid i zero)) (number (get_or factors i zero))
-      → ((s : ℕ) → s < i → number (get_or mid s zero) ≡ tower_mul level (number (get_or old s zero)) (number (get_or factors s zero)))
-      → ((s : ℕ) → i ≤ s → get_or mid s zero ≡ get_or old s zero)
-      → (s : ℕ) → s < i + 1 → number (get_or (set mid i v) s zero) ≡ tower_mul level (number (get_or old s zero)) (number (get_or factors s zero))
-  each_more factors is before rest =
-      below_more _ i (λ s below. ap number (get_or-set_other mid i s v zero (differ s below)) ∙ before s below)
-      (ap number (get_or-set_same mid i v zero within) ∙ is
-      ∙ ap (λ (w : W). tower_mul level (number w) (number (get_or factors i zero))) (rest i (omega arith)))
-
-  -- the words behind it are left
-  pub rest_more : ((s : ℕ) → i ≤ s → get_or mid s zero ≡ get_or old s zero) → (s : ℕ) → i + 1 ≤ s → get_or (set mid i v) s zero ≡ get_or old s zero
-  rest_more rest s past = get_or-set_other mid i s v zero (λ same. absurd (omega (arith, past, same))) ∙ rest s (omega (arith, past))
-
-  -- one more inverse
-  pub inverted_more : (first : ℕ) → first ≤ i
-      → (number (get_or mid i zero) ≢ 0 → tower_mul level (number (get_or mid i zero)) (number v) ≡ 1)
-      → AreInverted number zero level first i old mid → AreInverted number zero level first (i + 1) old (set mid i v)
-  inverted_more first late is before =
+  -- one more inverse, or a word that is left
+  pub inverted_more : (element : W → ℕ) (lost : ℕ → Bool) (slopes : List W)
+      → (lost i ≡ true → element (get_or slopes i zero) ≢ 0 → tower_mul level (element (get_or slopes i zero)) (number v) ≡ 1)
+      → (lost i ≡ false → v ≡ get_or mid i zero)
+      → AreInverted element number zero level lost i slopes old mid → AreInverted element number zero level lost (i + 1) slopes old (set mid i v)
+  inverted_more element lost slopes is stays before =
       record {
-        inverse = λ s from below nonzero. here s from below nonzero (cases_lt s i);
+        inverse = below_more _ i
+            (λ s below absent nonzero.
+            ap (λ (w : W). tower_mul level (element (get_or slopes s zero)) (number w)) (get_or-set_other mid i s v zero (differ i s below))
+            ∙ before.inverse s below absent nonzero)
+            (λ absent nonzero.
+            ap (λ (w : W). tower_mul level (element (get_or slopes i zero)) (number w)) (get_or-set_same mid i v zero within) ∙ is absent nonzero);
         kept = λ s side.
-            get_or-set_other mid i s v zero (apart s side) ∙ before.kept s (fewer s side);
+            elim (cases_eq s i) [
+              | inl same ↦ own s same side
+              | inr other ↦ get_or-set_other mid i s v zero other ∙ before.kept s (fewer s side)
+            ];
       }
     where
-      apart : (s : ℕ) → (s < first) ⊎ (i + 1 ≤ s) → s ≢ i
-      apart s (inl early) same = absurd (omega (arith, early, late, same))
-      apart s (inr past) same = absurd (omega (arith, past, same))
-
-      fewer : (s : ℕ) → (s < first) ⊎ (i + 1 ≤ s) → (s < first) ⊎ (i ≤ s)
-      fewer s (inl early) = inl early
+      fewer : (s : ℕ) → (lost s ≡ false) ⊎ (i + 1 ≤ s) → (lost s ≡ false) ⊎ (i ≤ s)
+      fewer s (inl known) = inl known
       fewer s (inr past) = inr (omega (arith, past))
 
-      last : number (get_or old i zero) ≢ 0 → tower_mul level (number (get_or old i zero)) (number (get_or (set mid i v) i zero)) ≡ 1
-      last nonzero =
-          let was : get_or mid i zero ≡ get_or old i zero = before.kept i (inr (omega arith)) in
-          ap (λ (w : W). tower_mul level (number (get_or old i zero)) (number w)) (get_or-set_same mid i v zero within)
-          ∙ ap (λ (w : W). tower_mul level (number w) (number v)) (sym was)
-          ∙ is (λ none. nonzero (ap number (sym was) ∙ none))
-
-      here : (s : ℕ) → first ≤ s → s < i + 1 → number (get_or old s zero) ≢ 0 → (s < i) ⊎ (i ≤ s)
-          → tower_mul level (number (get_or old s zero)) (number (get_or (set mid i v) s zero)) ≡ 1
-      here s from below nonzero (inl early) =
-          ap (λ (w : W). tower_mul level (number (get_or old s zero)) (number w)) (get_or-set_other mid i s v zero (differ s early))
-          ∙ before.inverse s from early nonzero
-      here s from below nonzero (inr past) =
-          let same : i ≡ s = omega (arith, below, past) in
-          subst (λ (p : ℕ). number (get_or old p zero) ≢ 0 → tower_mul level (number (get_or old p zero)) (number (get_or (set mid i v) p zero)) ≡ 1)
-          same last nonzero
+      own : (s : ℕ) → s ≡ i → (lost s ≡ false) ⊎ (i + 1 ≤ s) → get_or (set mid i v) s zero ≡ get_or old s zero
+      own s same (inl known) =
+          ap (λ (q : ℕ). get_or (set mid i v) q zero) same
+          ∙ get_or-set_same mid i v zero within
+          ∙ stays (ap lost (sym same) ∙ known)
+          ∙ ap (λ (q : ℕ). get_or mid q zero) (sym same)
+          ∙ before.kept s (inl known)
+      own s same (inr past) = absurd (omega (arith, past, same))

@@ -1,10 +1,11 @@
 -- Strips of shards, the `width` columns from column `start` on, in rows of as many words: transformed, and read and written row by row.
-use Rattle.std.specs.Prelude.{◌≡◌, ◌⊎◌, ℕ, ◌+◌, ◌*◌, ◌^◌, ◌<◌, ◌≤◌, List, map, slice_index_or}
+use Rattle.std.specs.Prelude.{◌≡◌, ◌≢◌, ◌⊎◌, ℕ, ◌+◌, ◌*◌, ◌^◌, ◌<◌, ◌≤◌, Bool, List, map, slice_index_or}
 use Rattle.additive_transforms.specs.Columns.{column_of}
 use Rattle.additive_transforms.specs.Transform.{AreTheCoefficients, HoldValuesAtPoints}
 use Rattle.field_base.specs.Tower.{tower_mul}
 use Rattle.word_tables.specs.Cantor.{cantor_vector}
 use Rattle.transform_codes.specs.Codes.{shard_symbol, value_at}
+use Rattle.transform_codes.specs.Derivatives.{derived}
 
 -- what coded columns need: words of k shards and of m of parity, where the level has the points
 pub record FitEncoding (level n k m size words parity_words : ℕ) : Type 0 where
@@ -37,12 +38,20 @@ pub record ArePutProducts {W : Type 0} (number : W → ℕ) (zero : W) (level pl
       → number (slice_index_or new (place + c) zero) ≡ tower_mul level (number (slice_index_or old (place + c) zero)) factor
   pub kept : (p : ℕ) → (p < place) ⊎ (place + count ≤ p) → slice_index_or new p zero ≡ slice_index_or old p zero
 
--- each of so many rows of `width` words was multiplied by a factor, those from factor `first` on
-abbrev pub AreRowProducts : {W : Type 0} → (W → ℕ) → W → ℕ → ℕ → ℕ → ℕ → List W → List W → List W → Type 0
-AreRowProducts number zero level width rows first factors old new =
-    (p c : ℕ) → p < rows → c < width
-    → number (slice_index_or new (p * width + c) zero)
-    ≡ tower_mul level (number (slice_index_or old (p * width + c) zero)) (number (slice_index_or factors (first + p) zero))
+-- each of so many rows of `width` words was multiplied by the factor at its place where `lost` is `which` there, and the others became 0
+pub record AreRowProducts {W : Type 0} (number : W → ℕ) (zero : W) (level width rows : ℕ) (lost : ℕ → Bool) (which : Bool) (factors old new : List W)
+    : Type 0 where
+  pub product : (p c : ℕ) → p < rows → c < width → lost p ≡ which
+      → number (slice_index_or new (p * width + c) zero)
+      ≡ tower_mul level (number (slice_index_or old (p * width + c) zero)) (number (slice_index_or factors p zero))
+  pub nothing : (p c : ℕ) → p < rows → c < width → lost p ≢ which → slice_index_or new (p * width + c) zero ≡ zero
+
+-- in each column of 2 ^ n rows of `width` words, the numbers of the words became the coefficients of the derivative of the polynomial with
+-- those as its coefficients
+abbrev pub AreDerivedRows : {W : Type 0} → (W → ℕ) → W → ℕ → ℕ → List W → List W → Type 0
+AreDerivedRows number zero n width old new =
+    (k c : ℕ) → k < 2 ^ n → c < width
+    → number (slice_index_or new (k * width + c) zero) ≡ derived n (λ i. number (slice_index_or old (i * width + c) zero)) k
 
 -- the first `until` rows hold the words of a strip of `count` shards, and zeros behind them
 abbrev pub HoldStrip : {W : Type 0} → W → ℕ → ℕ → ℕ → ℕ → List W → ℕ → List W → Type 0

@@ -1,6 +1,7 @@
 pub mod Blocks
 pub mod Codes
 pub mod Columns
+pub mod Derivatives
 pub mod Determined
 pub mod Located
 pub mod Locators

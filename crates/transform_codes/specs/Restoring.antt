@@ -1,11 +1,11 @@
 -- Shards that are lost, and what restores them.
-use Rattle.std.specs.Prelude.{◌≡◌, ◌⊎◌, ◌≢◌, ℕ, ◌+◌, ◌-◌, ◌*◌, ◌^◌, ◌<◌, ◌≤◌, Bool, true, false, not, List, length, if◌then◌else◌, nat_lt, slice_index_or}
+use Rattle.std.specs.Prelude.{◌≡◌, ◌⊎◌, ℕ, ◌+◌, ◌-◌, ◌*◌, ◌^◌, ◌<◌, ◌≤◌, Bool, true, false, not, List, length, if◌then◌else◌, nat_lt, slice_index_or}
 use Rattle.field_base.specs.Tower.{tower_mul}
 use Rattle.ghash_slices.specs.Cantor.{point}
 use Rattle.word_tables.specs.Cantor.{cantor_vector}
 use Rattle.transform_codes.specs.Codes.{IsCodedColumn, shard_symbol}
 use Rattle.transform_codes.specs.Columns.{IsOutside}
-use Rattle.transform_codes.specs.Locators.{locator, lost_count}
+use Rattle.transform_codes.specs.Locators.{locator, lost_count, others_lost}
 
 -- shard i is at hand
 abbrev pub IsAtHand : List Bool → ℕ → Type 0
@@ -32,31 +32,35 @@ abbrev pub ArePoints : {W : Type 0} → (W → ℕ) → W → ℕ → List W →
 ArePoints number zero level points =
     (p : ℕ) → p < length points → number (slice_index_or points p zero) ≡ point (2 ^ level) cantor_vector 0 p
 
--- the factor of point p: the locator's value there, of the first `count` points, and behind them its inverse
+-- the value at point p of the locator of the others
+abbrev pub other_locator : ℕ → ℕ → ℕ → ℕ → List Bool → ℕ → ℕ → ℕ
+other_locator level k n m present count p =
+    let at : ℕ → ℕ = point (2 ^ level) cantor_vector 0 in
+    locator (tower_mul level) at (others_lost (is_lost k n m present) p) count (at p)
+
+-- the factor of point p: the locator's value there, or, where the symbol is lost, the inverse of that of the others
 pub record IsFactor (level k n m : ℕ) (present : List Bool) (count p factor : ℕ) : Type 0 where
-  pub value : p < count → factor ≡ missing_locator level k n m present count (point (2 ^ level) cantor_vector 0 p)
-  pub inverse : count ≤ p → missing_locator level k n m present count (point (2 ^ level) cantor_vector 0 p) ≢ 0
-      → tower_mul level (missing_locator level k n m present count (point (2 ^ level) cantor_vector 0 p)) factor ≡ 1
+  pub known : is_lost k n m present p ≡ false → factor ≡ missing_locator level k n m present count (point (2 ^ level) cantor_vector 0 p)
+  pub lost : is_lost k n m present p ≡ true → tower_mul level (other_locator level k n m present count p) factor ≡ 1
 
--- the words are the factors of points 0, 1, ..
-abbrev pub AreFactors : {W : Type 0} → (W → ℕ) → W → ℕ → ℕ → ℕ → ℕ → List Bool → ℕ → ℕ → List W → Type 0
-AreFactors number zero level k n m present count until factors =
-    (p : ℕ) → p < until → IsFactor level k n m present count p (number (slice_index_or factors p zero))
+-- the words are the factors of the first `count` points
+abbrev pub AreFactors : {W : Type 0} → (W → ℕ) → W → ℕ → ℕ → ℕ → ℕ → List Bool → ℕ → List W → Type 0
+AreFactors number zero level k n m present count factors =
+    (p : ℕ) → p < count → IsFactor level k n m present count p (number (slice_index_or factors p zero))
 
--- what restored columns need: words of k shards and of m of parity, with a flag for each, 2 ^ r points, of which the level has twice as many,
--- no more lost symbols among them than leave as many as a polynomial has coefficients, the point behind them, and the factors of all
+-- what restored columns need: words of k shards and of m of parity, with a flag for each, 2 ^ r points, which the level has, no more lost
+-- symbols among them than leave as many as a polynomial has coefficients, and the factors of all
 pub record FitRestoring {W : Type 0} (number : W → ℕ) (zero : W) (level n k m size r : ℕ) (present : List Bool) (words parity_words : ℕ)
-    (behind : W) (factors : List W) : Type 0 where
+    (factors : List W) : Type 0 where
   pub flags : length present ≡ k + m
   pub whole : words ≡ k * size
   pub parity_whole : parity_words ≡ m * size
   pub few : r ≤ 16
-  pub points : r + 1 ≤ 2 ^ level
+  pub points : r ≤ 2 ^ level
   pub room : 2 ^ n + m ≤ 2 ^ r
   pub enough : lost_count (is_lost k n m present) (2 ^ r) + 2 ^ n ≤ 2 ^ r
-  pub next : number behind ≡ point (2 ^ level) cantor_vector 0 (2 ^ r)
-  pub factors_long : length factors ≡ 2 * 2 ^ r
-  pub all : AreFactors number zero level k n m present (2 ^ r) (2 * 2 ^ r) factors
+  pub factors_long : length factors ≡ 2 ^ r
+  pub all : AreFactors number zero level k n m present (2 ^ r) factors
 
 -- the word of a column at point p: of the data, zero up to 2 ^ n, of the parity, and zero behind it
 abbrev pub word_at : {W : Type 0} → W → ℕ → ℕ → ℕ → ℕ → ℕ → List W → List W → ℕ → W

@@ -36,11 +36,11 @@ pub record EncodeError (level n k m words parity_words : ℕ) (error : Transform
   pub sizes : 2 ^ n + m ≤ 2 ^ 2 ^ level → SizeError k m words parity_words error
   pub room : 2 ^ n + m ≤ 2 ^ 2 ^ level → HaveOneSize k m words parity_words → error ≡ TooLittleSpace
 
--- the same of shards that are restored at 2 ^ r points, with a flag for each, where no more are missing than the parity has: the level has
--- twice as many points, and there is space for five times as many words
+-- the same of shards that are restored at 2 ^ r points, with a flag for each, where no more are missing than the parity has, and there is
+-- space for five times as many words
 pub record CanRebuild (level r k m words parity_words space : ℕ) (present : List Bool) : Type 0 where
   pub flags : length present ≡ k + m
-  pub points : 2 * 2 ^ r ≤ 2 ^ 2 ^ level
+  pub points : 2 ^ r ≤ 2 ^ 2 ^ level
   pub sizes : HaveOneSize k m words parity_words
   pub enough : lost_count (is_missing present) (length present) ≤ m
   pub room : 5 * 2 ^ r ≤ space
@@ -48,9 +48,9 @@ pub record CanRebuild (level r k m words parity_words space : ℕ) (present : Li
 -- why they are not restored: the first that applies
 pub record RebuildError (level r k m words parity_words space : ℕ) (present : List Bool) (error : TransformCodeError) : Type 0 where
   pub flags : length present ≢ k + m → error ≡ InvalidShardFlags
-  pub points : length present ≡ k + m → 2 ^ 2 ^ level < 2 * 2 ^ r → error ≡ TooManyShards
-  pub sizes : length present ≡ k + m → 2 * 2 ^ r ≤ 2 ^ 2 ^ level → SizeError k m words parity_words error
-  pub enough : length present ≡ k + m → 2 * 2 ^ r ≤ 2 ^ 2 ^ level → HaveOneSize k m words parity_words
+  pub points : length present ≡ k + m → 2 ^ 2 ^ level < 2 ^ r → error ≡ TooManyShards
+  pub sizes : length present ≡ k + m → 2 ^ r ≤ 2 ^ 2 ^ level → SizeError k m words parity_words error
+  pub enough : length present ≡ k + m → 2 ^ r ≤ 2 ^ 2 ^ level → HaveOneSize k m words parity_words
       → m < lost_count (is_missing present) (length present) → error ≡ TooFewShardsPresent
-  pub room : length present ≡ k + m → 2 * 2 ^ r ≤ 2 ^ 2 ^ level → HaveOneSize k m words parity_words
+  pub room : length present ≡ k + m → 2 ^ r ≤ 2 ^ 2 ^ level → HaveOneSize k m words parity_words
       → lost_count (is_missing present) (length present) ≤ m → error ≡ TooLittleSpace

@@ -11,7 +11,6 @@ use crate::comparing::are_coded;
 use crate::encoding::encode_columns;
 use crate::error::TransformCodeError;
 use crate::locators::set_factors;
-use crate::points::point_of;
 use crate::restoring::restore_strip;
 use crate::strips::{columns_at_once, strip_at};
 use field_base::Unsigned;
@@ -99,11 +98,11 @@ impl TransformCode {
         power_of(self.all_levels)
     }
 
-    /// Whether the level has twice `point_count` points, as `reconstruct` requires.
+    /// Whether the level has `point_count` points, as `reconstruct` requires.
     pub fn can_reconstruct<R: Unsigned, L: Level<R>>(&self) -> bool
-        ensures { IsTrue result ↔ 2 * 2 ^ self.now.all_levels ≤ 2 ^ 2 ^ L.LEVEL }
+        ensures { IsTrue result ↔ 2 ^ self.now.all_levels ≤ 2 ^ 2 ^ L.LEVEL }
     {
-        has_points::<R, L>(2 * self.point_count())
+        has_points::<R, L>(self.point_count())
     }
 
     /// Writes the shards of parity. `data` and `parity` have their shards, of one size, one after the other; a word is an element of the
@@ -158,10 +157,10 @@ impl TransformCode {
     /// Restores the missing shards: shard i, of the data and then of the parity, is missing where `present[i]` is false, no more are than
     /// there are of parity, and what their words are does not matter. The shards become those of the code word that the ones at hand agree
     /// with, by as many bits of a word as the level has; where they agree with none, since a word is wrong, the missing ones become
-    /// anything. The shards at hand stay. What `space` has does not matter: it takes five words for each of `point_count`, with which three
-    /// columns are restored at once, and one more of each for each further column, up to 32 in all. The level has to have twice as many
-    /// points. A column takes four transforms, and all columns together some of twice `point_count` points for each power of two below
-    /// that, from 32 on. The error is the first that applies.
+    /// anything. The shards at hand stay. What `space` has does not matter: it takes five words for each of `point_count`, with which four
+    /// columns are restored at once, and one more of each for each further column, up to 32 in all. The level has to have as many points. A
+    /// column takes two transforms, and all columns together some of `point_count` points for each power of two below that, from 32 on. The
+    /// error is the first that applies.
     pub fn reconstruct<R: StoredBytes, L: Level<R>>(
         &self,
         space: &mut [R],
@@ -204,17 +203,14 @@ impl TransformCode {
         ensures parity_long { length parity.new ≡ length parity.old }
     {
         let count = self.point_count();
-        let (factors, rest) = space.split_at_mut(2 * count);
+        let (factors, rest) = space.split_at_mut(count);
         set_factors::<R, L>(factors, rest, self, present);
-        let behind = point_of::<R, L>(count);
         let most = columns_at_once(rest.len(), count);
         let mut start = 0;
         while start < size {
             let strip = strip_at(size, start, most);
             let (values, _rest) = rest.split_at_mut(count * strip.width);
-            restore_strip::<R, L>(
-                self, present, values, factors, behind, shards, parity, strip,
-            );
+            restore_strip::<R, L>(self, present, values, factors, shards, parity, strip);
             start += strip.width;
         }
     }
@@ -311,7 +307,7 @@ fn levels_of(k: usize) -> usize
 
 // Whether the level has so many points.
 fn has_points<R: Unsigned, L: Level<R>>(points: usize) -> bool
-    requires { points ≤ 131072 }
+    requires { points ≤ 65536 }
     ensures { IsTrue result ↔ points ≤ 2 ^ 2 ^ L.LEVEL }
 {
     L::LEVEL >= 5 || points <= 1 << (1 << L::LEVEL)

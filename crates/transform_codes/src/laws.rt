@@ -12,9 +12,10 @@ pub fn shards_determine()
     ensures { ShardsDetermine }
 {}
 
-/// States that two inverse transforms and a forward one give the polynomial of a code word whose lost symbols are anything, as long as as
-/// many are known as it has coefficients: from the products of the symbols and the locator of the lost ones to the coefficients of that
-/// product, to its values at as many points behind, and from their quotients by the locator, which is 0 at none of them, to the polynomial.
+/// States that an inverse transform, a derivative and a forward transform give the lost symbols of a code word, as long as as many are known
+/// as its polynomial has coefficients: from the products of the symbols and the locator of the lost ones to the coefficients of that product,
+/// to those of its derivative, and to its values. At a lost point that is the symbol times the locator of the other lost ones, which is not 0
+/// there, and which the derivative of the locator gives as well.
 pub fn lost_symbols_are_located()
     ensures { LostSymbolsAreLocated }
 {}

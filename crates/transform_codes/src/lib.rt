@@ -5,12 +5,13 @@
 //! the points of the parity encode it (S.-J. Lin, W.-H. Chung and Y. S. Han, Novel polynomial basis and its application to Reed-Solomon
 //! erasure codes, 2014): some log k products a symbol, where a code by matrices takes m.
 //!
-//! Missing shards, no more than there are of parity, are restored by four transforms a column, in a level that has twice the points.
+//! Missing shards, no more than there are of parity, are restored by two transforms a column and a derivative between them.
 #![tactic(auto)]
 
 mod codec;
 mod columns;
 mod comparing;
+mod derivatives;
 mod encoding;
 mod error;
 mod laws;

@@ -1,16 +1,19 @@
-// The locator of the symbols that are lost, at as many points as there are places of symbols, and at as many behind those.
+// The locator of the symbols that are lost, at as many points as there are places of symbols, and its derivative at the lost ones.
 //
 // The locator of 2^j places has no more than 2^j + 1 coefficients, so that its values at 2^(j + 1) points determine those at the next as
 // many: an inverse transform gives its coefficients, and a forward one its values there. So the locators of two halves are made first, at
-// half of the points, and their values everywhere are then multiplied. The locator of few places is a product of differences.
-ghost use Rattle.std.specs.Prelude.{◌≡◌, ℕ, ◌+◌, ◌-◌, ◌*◌, ◌/◌, ◌^◌, ◌<◌, ◌≤◌, length, slice_index_or};
+// half of the points, and their values everywhere are then multiplied. The locator of few places is a product of differences. The
+// derivative of the whole locator is, at a lost point, the locator of the other lost symbols.
+ghost use Rattle.std.specs.Prelude.{◌≡◌, ◌≢◌, ℕ, ◌+◌, ◌-◌, ◌*◌, ◌/◌, ◌^◌, ◌<◌, ◌≤◌, true, false, length, slice_index_or};
 ghost use Rattle.field_base.specs.Tower.{tower_mul};
 ghost use Rattle.tower_transforms.specs.Words.{level_element};
-ghost use Rattle.transform_codes.specs.Blocks.{AreDifferences, AreExtended, AreInverted, HoldLocator};
+ghost use Rattle.transform_codes.specs.Blocks.{AreDifferences, AreExtended, AreInverted, AreSlopes, HoldLocator};
+ghost use Rattle.transform_codes.specs.Locators.{lost_count};
 ghost use Rattle.transform_codes.specs.Restoring.{AreFactors, ArePoints, is_lost};
 
 use crate::codec::{TransformCode, power_of};
-use crate::points::{point_of, set_points};
+use crate::derivatives::derive;
+use crate::points::{is_lost, point_of, set_points};
 use crate::products::multiply_each;
 use crate::transforms::{forward_strip, inverse_strip};
 use tower_transforms::StoredBytes;
@@ -19,24 +22,7 @@ use word_tower::Level;
 // The locator of at most 2^4 places is a product of differences.
 const DIRECT_LEVELS: usize = 4;
 
-// Whether the symbol at point p is lost.
-fn is_lost(code: &TransformCode, present: &[bool], p: usize) -> bool
-    requires { length present.now ≡ code.now.data_shards + code.now.parity_shards }
-    ensures { result ≡ is_lost code.now.data_shards code.now.levels code.now.parity_shards present.now p }
-{
-    let first = code.coefficient_count();
-    if p < code.data_shards {
-        !present[p]
-    } else if p < first {
-        false
-    } else if p < first + code.parity_shards {
-        !present[code.data_shards + (p - first)]
-    } else {
-        true
-    }
-}
-
-// Sets word p to the factor of point p, for twice `point_count` points. The space is to compute in.
+// Sets word p to the factor of point p, for `point_count` points. The space is to compute in.
 pub(crate) fn set_factors<R: StoredBytes, L: Level<R>>(
     factors: &mut [R],
     space: &mut [R],
@@ -44,44 +30,101 @@ pub(crate) fn set_factors<R: StoredBytes, L: Level<R>>(
     present: &[bool],
 )
     requires flags { length present.now ≡ code.now.data_shards + code.now.parity_shards }
-    requires points { code.now.all_levels + 1 ≤ 2 ^ L.LEVEL }
-    requires long { length factors.old ≡ 2 * 2 ^ code.now.all_levels }
+    requires points { code.now.all_levels ≤ 2 ^ L.LEVEL }
+    requires enough { lost_count (is_lost code.now.data_shards code.now.levels code.now.parity_shards present.now) (2 ^ code.now.all_levels)
+        + 2 ^ code.now.levels ≤ 2 ^ code.now.all_levels }
+    requires long { length factors.old ≡ 2 ^ code.now.all_levels }
     requires room { 3 * 2 ^ code.now.all_levels ≤ length space.old }
     ensures long { length factors.new ≡ length factors.old }
     ensures space { length space.new ≡ length space.old }
     ensures factors { AreFactors R.Stored.number R.ZERO L.LEVEL code.now.data_shards code.now.levels code.now.parity_shards present.now
-        (2 ^ code.now.all_levels) (2 * 2 ^ code.now.all_levels) factors.new }
+        (2 ^ code.now.all_levels) factors.new }
 {
     let count = code.point_count();
-    let levels = code.all_levels;
-    let (points, rest) = space.split_at_mut(points_needed(count, levels));
+    let (points, rest) = space.split_at_mut(count);
+    let (slopes, free) = rest.split_at_mut(count);
     set_points::<R, L>(points);
-    set_locator::<R, L>(factors, rest, code, present, points, 0, levels);
-    invert_from::<R, L>(factors, count);
+    set_all_locator::<R, L>(factors, slopes, free, code, present, points);
+    set_slopes::<R, L>(slopes, factors, code.all_levels);
+    invert_lost::<R, L>(factors, slopes, code, present);
 }
 
-// How many points are read where so many places have a locator: as many, or twice as many where they are few.
-fn points_needed(count: usize, levels: usize) -> usize
-    requires { count ≤ 65536 }
-    ensures few { levels ≤ 4 → result ≡ 2 * count }
-    ensures many { 5 ≤ levels → result ≡ count }
+// Sets word i to the value at point i of the locator of all lost symbols. The others and the space are to compute in.
+fn set_all_locator<R: StoredBytes, L: Level<R>>(
+    values: &mut [R],
+    others: &mut [R],
+    space: &mut [R],
+    code: &TransformCode,
+    present: &[bool],
+    points: &[R],
+)
+    requires flags { length present.now ≡ code.now.data_shards + code.now.parity_shards }
+    requires table { ArePoints R.Stored.number R.ZERO L.LEVEL points.now }
+    requires points { code.now.all_levels ≤ 2 ^ L.LEVEL }
+    requires long { length values.old ≡ 2 ^ code.now.all_levels }
+    requires others { length others.old ≡ 2 ^ code.now.all_levels }
+    requires room { 2 ^ code.now.all_levels ≤ length space.old }
+    requires all { length points.now ≡ 2 ^ code.now.all_levels }
+    ensures long { length values.new ≡ length values.old }
+    ensures others_long { length others.new ≡ length others.old }
+    ensures locator { HoldLocator R.Stored.number R.ZERO L.LEVEL code.now.data_shards code.now.levels code.now.parity_shards present.now
+        0 (2 ^ code.now.all_levels) values.new }
 {
+    let levels = code.all_levels;
     if levels <= DIRECT_LEVELS {
-        2 * count
-    } else {
-        count
+        set_products::<R, L>(values, code, present, points, 0, power_of(levels));
+        return;
+    }
+    let half = levels - 1;
+    set_locator::<R, L>(values, space, code, present, points, 0, half);
+    set_locator::<R, L>(others, space, code, present, points, power_of(half), half);
+    multiply_each::<R, L>(values, others);
+}
+
+// Sets word i to the value at point i of the derivative of the polynomial of 2^levels coefficients that has the known values at as many
+// points.
+fn set_slopes<R: StoredBytes, L: Level<R>>(slopes: &mut [R], known: &[R], levels: usize)
+    requires size { length known.now ≡ 2 ^ levels }
+    requires same { length slopes.old ≡ 2 ^ levels }
+    requires few { levels ≤ 2 ^ L.LEVEL }
+    requires low { levels ≤ 16 }
+    ensures long { length slopes.new ≡ length slopes.old }
+    ensures slopes { AreSlopes (level_element R.Stored.number L.LEVEL) R.ZERO L.LEVEL levels known.now slopes.new }
+{
+    slopes.copy_from_slice(known);
+    inverse_strip::<R, L>(slopes, 1, R::ZERO);
+    derive(slopes, 1, levels);
+    forward_strip::<R, L>(slopes, 1, R::ZERO);
+}
+
+// Sets the word of each lost symbol to the inverse of the slope at its place, and to 0 where that is 0.
+fn invert_lost<R: StoredBytes, L: Level<R>>(
+    words: &mut [R],
+    slopes: &[R],
+    code: &TransformCode,
+    present: &[bool],
+)
+    requires flags { length present.now ≡ code.now.data_shards + code.now.parity_shards }
+    requires long { length words.old ≤ length slopes.now }
+    ensures long { length words.new ≡ length words.old }
+    ensures inverses { AreInverted (level_element R.Stored.number L.LEVEL) R.Stored.number R.ZERO L.LEVEL
+        (is_lost code.now.data_shards code.now.levels code.now.parity_shards present.now) (length words.old) slopes.now words.old words.new }
+{
+    for p in 0..words.len() {
+        words[p] = inverse_or::<R, L>(is_lost(code, present, p), slopes[p], words[p]);
     }
 }
 
-// Sets the words from place `first` on to their inverses, and 0 to 0.
-fn invert_from<R: StoredBytes, L: Level<R>>(words: &mut [R], first: usize)
-    requires inside { first ≤ length words.old }
-    requires fit { (i : ℕ) → i < length words.old → R.Stored.number (slice_index_or words.old i R.ZERO) < 2 ^ 2 ^ L.LEVEL }
-    ensures long { length words.new ≡ length words.old }
-    ensures inverses { AreInverted R.Stored.number R.ZERO L.LEVEL first (length words.old) words.old words.new }
+// The inverse of a slope where a symbol is lost, and else the word.
+fn inverse_or<R: StoredBytes, L: Level<R>>(lost: bool, slope: R, word: R) -> R
+    ensures lost { lost ≡ true → level_element R.Stored.number L.LEVEL slope ≢ 0
+        → tower_mul L.LEVEL (level_element R.Stored.number L.LEVEL slope) (R.Stored.number result) ≡ 1 }
+    ensures known { lost ≡ false → result ≡ word }
 {
-    for i in first..words.len() {
-        words[i] = L::invert(words[i]);
+    if lost {
+        L::invert(L::truncate(slope))
+    } else {
+        word
     }
 }
 

@@ -1,9 +1,10 @@
-// The points at which polynomials have symbols as their values.
-ghost use Rattle.std.specs.Prelude.{◌≡◌, ◌^◌, length};
+// The points at which polynomials have symbols as their values, and where these are lost.
+ghost use Rattle.std.specs.Prelude.{◌≡◌, ◌+◌, ◌^◌, length};
 ghost use Rattle.ghash_slices.specs.Cantor.{point};
 ghost use Rattle.word_tables.specs.Cantor.{cantor_vector};
-ghost use Rattle.transform_codes.specs.Restoring.{ArePoints};
+ghost use Rattle.transform_codes.specs.Restoring.{ArePoints, is_lost};
 
+use crate::codec::TransformCode;
 use field_base::{FieldKernel, LevelKernel, Unsigned};
 use word_tower::{Level, Tower};
 
@@ -29,5 +30,22 @@ pub(crate) fn set_points<R: Unsigned, L: Level<R>>(points: &mut [R])
 {
     for p in 0..points.len() {
         points[p] = point_of::<R, L>(p);
+    }
+}
+
+// Whether the symbol at point p is lost.
+pub(crate) fn is_lost(code: &TransformCode, present: &[bool], p: usize) -> bool
+    requires { length present.now ≡ code.now.data_shards + code.now.parity_shards }
+    ensures { result ≡ is_lost code.now.data_shards code.now.levels code.now.parity_shards present.now p }
+{
+    let first = code.coefficient_count();
+    if p < code.data_shards {
+        !present[p]
+    } else if p < first {
+        false
+    } else if p < first + code.parity_shards {
+        !present[code.data_shards + (p - first)]
+    } else {
+        true
     }
 }

@@ -3,7 +3,11 @@ ghost use Rattle.std.specs.Prelude.{◌≡◌, ℕ, ◌+◌, ◌*◌, ◌^◌, �
 ghost use Rattle.field_base.specs.Tower.{tower_mul};
 ghost use Rattle.tower_transforms.specs.Rows.{level_of};
 ghost use Rattle.transform_codes.specs.Columns.{AreRowProducts, ArePutProducts};
+ghost use Rattle.transform_codes.specs.Restoring.{is_lost};
 
+use crate::codec::TransformCode;
+use crate::columns::clear_words;
+use crate::points::is_lost;
 use std::simd::prelude::*;
 use tower_transforms::{
     ByteMultiples, HalfMultiples, Pair, PlaneScalars, StoredBytes, WordPlanes, multiply_words,
@@ -33,21 +37,30 @@ type Multiples128 = HalfMultiples<Multiples64>;
 // The least number of words that are multiplied in planes.
 const LEAST_IN_PLANES: usize = 32;
 
-// Multiplies each of so many rows by a factor, those from factor `first` on.
+// Multiplies each of so many rows by the factor at its place where its symbol is lost, or, unless `lost`, where it is known, and sets the
+// others to 0.
 pub(crate) fn multiply_rows<R: StoredBytes, L: Level<R>>(
     values: &mut [R],
     rows: usize,
     width: usize,
     factors: &[R],
-    first: usize,
+    code: &TransformCode,
+    present: &[bool],
+    lost: bool,
 )
-    requires rows { length values.old ≡ rows * width }
-    requires factors { first + rows ≤ length factors.now }
+    requires flags { length present.now ≡ code.now.data_shards + code.now.parity_shards }
+    requires rows { rows * width ≤ length values.old }
+    requires factors { rows ≤ length factors.now }
     ensures long { length values.new ≡ length values.old }
-    ensures products { AreRowProducts R.Stored.number R.ZERO L.LEVEL width rows first factors.now values.old values.new }
+    ensures products { AreRowProducts R.Stored.number R.ZERO L.LEVEL width rows
+        (is_lost code.now.data_shards code.now.levels code.now.parity_shards present.now) lost factors.now values.old values.new }
 {
     for p in 0..rows {
-        multiply_at::<R, L>(values, p * width, width, factors[first + p]);
+        if is_lost(code, present, p) == lost {
+            multiply_at::<R, L>(values, p * width, width, factors[p]);
+        } else {
+            clear_words(values, p * width, width);
+        }
     }
 }
 

@@ -1,13 +1,14 @@
-// Lost shards, strip by strip, by four transforms. The product of a word's polynomial and the locator of its lost symbols is known at all
-// points, since it is 0 at the lost ones, so that an inverse transform gives its coefficients. At as many points behind those, where the
-// locator has no root, it is divided by the locator, and what an inverse transform makes of that is the word's polynomial.
-ghost use Rattle.std.specs.Prelude.{◌≡◌, ◌≢◌, ◌⊎◌, ℕ, ◌+◌, ◌-◌, ◌*◌, ◌^◌, ◌<◌, ◌≤◌, length, slice_index_or};
+// Lost shards, strip by strip, by two transforms. The product of a word's polynomial and the locator of its lost symbols is known at all
+// points, since it is 0 at the lost ones, so that an inverse transform gives its coefficients. The derivative of the product is, at a lost
+// point, the lost symbol times the locator of the other lost ones.
+ghost use Rattle.std.specs.Prelude.{◌≡◌, ◌⊎◌, ℕ, ◌+◌, ◌-◌, ◌*◌, ◌^◌, ◌<◌, ◌≤◌, length, slice_index_or};
 ghost use Rattle.tower_transforms.specs.Words.{level_element};
 ghost use Rattle.transform_codes.specs.Columns.{IsOutside};
 ghost use Rattle.transform_codes.specs.Restoring.{AreMended, FitRestoring, IsAtHand, RestoresSymbols, word_at};
 
 use crate::codec::TransformCode;
 use crate::columns::{copy_words, gather};
+use crate::derivatives::derive;
 use crate::products::multiply_rows;
 use crate::strips::Strip;
 use crate::transforms::{forward_strip, inverse_strip};
@@ -67,13 +68,12 @@ pub(crate) fn restore_strip<R: StoredBytes, L: Level<R>>(
     present: &[bool],
     values: &mut [R],
     factors: &[R],
-    behind: R,
     shards: &mut [R],
     parity: &mut [R],
     strip: Strip,
 )
     requires fit { FitRestoring R.Stored.number R.ZERO L.LEVEL code.now.levels code.now.data_shards code.now.parity_shards strip.size
-        code.now.all_levels present.now (length shards.old) (length parity.old) behind factors.now }
+        code.now.all_levels present.now (length shards.old) (length parity.old) factors.now }
     requires rows { length values.old ≡ 2 ^ code.now.all_levels * strip.width }
     ensures values_long { length values.new ≡ length values.old }
     ensures long { length shards.new ≡ length shards.old }
@@ -88,15 +88,15 @@ pub(crate) fn restore_strip<R: StoredBytes, L: Level<R>>(
 {
     let count = code.point_count();
     let width = strip.width;
-    read_strip(values, code, shards, parity, strip);
-    multiply_rows::<R, L>(values, count, width, factors, 0);
-    inverse_strip::<R, L>(values, width, R::ZERO);
-    forward_strip::<R, L>(values, width, behind);
-    multiply_rows::<R, L>(values, count, width, factors, count);
-    inverse_strip::<R, L>(values, width, behind);
-    forward_strip::<R, L>(values, width, R::ZERO);
-    mend(shards, values, present, code.data_shards, strip, 0, 0);
     let first = code.coefficient_count();
+    read_strip(values, code, shards, parity, strip);
+    multiply_rows::<R, L>(values, count, width, factors, code, present, false);
+    inverse_strip::<R, L>(values, width, R::ZERO);
+    derive(values, width, code.all_levels);
+    forward_strip::<R, L>(values, width, R::ZERO);
+    let rows = first + code.parity_shards;
+    multiply_rows::<R, L>(values, rows, width, factors, code, present, true);
+    mend(shards, values, present, code.data_shards, strip, 0, 0);
     mend(
         parity,
         values,

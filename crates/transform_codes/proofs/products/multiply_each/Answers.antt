@@ -18,6 +18,6 @@ loop-i-preserved g c =
     let is = c.multiply.ensures
     ∙ ap₂ (λ x y. tower_mul level (number x) (number y)) (get_or_read words i c.index-words-i.result within c.index-words-i.is zero)
     (get_or_read factors i c.index-factors-i.result factor_within c.index-factors-i.is zero) in (
-      each_more number zero level i old words c.multiply.result within factors is c.loop-i.invariant.0 c.loop-i.invariant.1,
-      rest_more number zero level i old words c.multiply.result within c.loop-i.invariant.1,
+      each_more number zero i old words c.multiply.result within (tower_mul level) factors is c.loop-i.invariant.0 c.loop-i.invariant.1,
+      rest_more number zero i old words c.multiply.result within c.loop-i.invariant.1,
     )

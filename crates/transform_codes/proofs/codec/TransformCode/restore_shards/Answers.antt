@@ -2,11 +2,17 @@ use Rattle.std.proofs.Common.{◌≡◌, ℕ, ◌*◌, ◌^◌, sym, ◌∙◌, 
 use Rattle.tower_transforms.specs.Words.{level_element}
 use Rattle.transform_codes.specs.Restoring.{AreRestoredColumns}
 use Rattle.transform_codes.proofs.MendedColumns.{next_restored}
-use Rattle.transform_codes.proofs.RestoredColumns.{bits_left, fits_restoring}
+use Rattle.transform_codes.proofs.RestoredColumns.{bits_left, enough_known, fits_restoring}
 use Rattle.transform_codes.proofs.codec.TransformCode.restore_shards.Goals as goal
 
 pub set_factors-requires-clause-points : goal.set_factors-requires-clause-points
 set_factors-requires-clause-points g c = bits_left c.args.self.now.all_levels (2 ^ g.L.Level.LEVEL) c.requires.can.points
+
+pub set_factors-requires-clause-enough : goal.set_factors-requires-clause-enough
+set_factors-requires-clause-enough g c =
+    let code = c.args.self.now in
+    enough_known g.L.Level.LEVEL code.data_shards code.levels code.parity_shards code.all_levels _ _ _ c.args.present.now c.requires.can
+    code.padded.enough code.all.enough
 
 pub restore_strip-requires-clause-fit : goal.restore_strip-requires-clause-fit
 restore_strip-requires-clause-fit g c =
@@ -14,9 +20,9 @@ restore_strip-requires-clause-fit g c =
     let size_is = c.strip_at-strip.ensures.size in
     let count : c.point_count-count.result ≡ 2 ^ code.all_levels = c.point_count-count.ensures in
     fits_restoring g.R.Stored.number g.R.Stored.ZERO g.L.Level.LEVEL code.levels code.data_shards code.parity_shards _ code.all_levels
-    c.point_count-count.result _ _ _ _ _ c.args.present.now c.set_factors.new.factors c.point_of-behind.result c.requires.can
+    _ _ _ _ _ c.args.present.now c.set_factors.new.factors c.requires.can
     code.padded.enough code.all.enough code.all_low (c.loop-start.auto.shards ∙ c.requires.whole ∙ ap (λ (s : ℕ). code.data_shards * s) (sym size_is))
-    (c.loop-start.auto.parity ∙ c.requires.parity_whole ∙ ap (λ (s : ℕ). code.parity_shards * s) (sym size_is)) count c.point_of-behind.ensures
+    (c.loop-start.auto.parity ∙ c.requires.parity_whole ∙ ap (λ (s : ℕ). code.parity_shards * s) (sym size_is))
     c.set_factors.ensures.factors (c.set_factors.ensures.long ∙ omega (arith, count))
 
 pub loop-start-preserved : goal.loop-start-preserved
