@@ -19,25 +19,26 @@ WORDS = {"u128": "Wide", "u192": "Cubic"}
 # The stored words of kernels that are no integers of Rust, by those of the table.
 STORED = {"u192": "Triple"}
 
-# The function over any field that a call goes to, the word of its contract, and the operation that it applies.
+# The function over any field that a call goes to, the word of its contract, and the operation that it applies. Those without a path are over
+# the fields of `Many` and a type of vectors.
 CALL_ROWS = [row.split() for row in """\
 add            slices::write_each_of_two  Adds          Sum
-multiply       slices::write_each_of_two  Multiplies    Product
-multiply_by    slices::multiply_by        MultipliesBy
-add_scaled     in_place::add_scaled       AddsScaled
+multiply       multiply                   Multiplies
+multiply_by    multiply_by                MultipliesBy
+add_scaled     add_scaled                 AddsScaled
 square         slices::write_each         Squares       Square
-inverse        slices::write_each         Inverts       Inverse
-batch_inverse  in_slices::batch_invert    Inverts
+inverse        invert                     Inverts
+batch_inverse  batch_invert               Inverts
 square_root    slices::write_each         TakesRoots    SquareRoot
 power          slices::write_each         RaisesTo      Power
 product        slices::product            TakesProduct
-dot_product    slices::dot_product        TakesDotProduct
+dot_product    dot_product                TakesDotProduct
 evaluate       slices::evaluate           Evaluates
 add_in_place          in_place::change_each_by  Adds          Sum
-multiply_in_place     in_place::change_each_by  Multiplies    Product
-multiply_by_in_place  in_place::multiply_by     MultipliesBy
+multiply_in_place     multiply_in_place         Multiplies
+multiply_by_in_place  multiply_by_in_place      MultipliesBy
 square_in_place       in_place::change_each     Squares       Square
-inverse_in_place      in_place::change_each     Inverts       Inverse
+inverse_in_place      invert_in_place           Inverts
 square_root_in_place  in_place::change_each     TakesRoots    SquareRoot
 power_in_place        in_place::change_each     RaisesTo      Power
 generator      slices::generator          NamesGenerator
@@ -45,35 +46,9 @@ generator      slices::generator          NamesGenerator
 CALLS = {row[0]: row[1:3] for row in CALL_ROWS}
 OPERATIONS = {row[0]: row[3] for row in CALL_ROWS if len(row) > 3}
 
-# The calls by one scalar that levels of the tower of 8 to 128 bits make in planes.
-IN_PLANES = ("multiply_by", "multiply_by_in_place", "add_scaled")
-PLANED = ("t8", "t16", "t32", "t64", "t128")
-
-# The products and inverses that go by slices of bits, which pay from 16 bits on, and the functions that they call.
-PRODUCTS_IN_SLICES = {"multiply": "multiply", "multiply_in_place": "multiply_in_place"}
-INVERSES_IN_SLICES = {"inverse": "invert", "inverse_in_place": "invert_in_place", "batch_inverse": "batch_invert"}
-IN_SLICES = PRODUCTS_IN_SLICES | INVERSES_IN_SLICES
-SLICED = ("t16", "t32", "t64", "t128")
-
-# Products of Poly64 go by slices of bits in vectors of 256 bits alone: in narrow ones a product of words is faster.
-MULTIPLIED_IN_WIDE_SLICES = ("p64", "multiply", "u64x4")
-
-# The fields of polynomials whose inverses go by slices of the level of the tower that is the same field.
-INVERTED_IN_SLICES = ("p64", "g128")
-
-# What a field does by functions of its own.
-OWN_CALLS = {
-    "g128": {it: it for it in ("multiply", "multiply_in_place", "multiply_by", "multiply_by_in_place", "add_scaled", "dot_product")},
-    "r8": {"multiply": "multiply_bytes", "multiply_by": "multiply_bytes_by::<RijndaelKernel>",
-           "multiply_by_in_place": "multiply_bytes_by_in_place::<RijndaelKernel>"},
-}
-
-# The vectors that the calls work in, and the functions of c_arithmetic over a type of vectors.
+# The vectors that the calls work in, and the functions of c_arithmetic of no field over a type of vectors.
 NARROW, WIDE = "u64x2", "u64x4"
-WITH_WIDTH = {
-    "multiply", "multiply_in_place", "multiply_by", "multiply_by_in_place", "add_scaled", "dot_product", "butterfly_forward", "butterfly_inverse",
-    "low_stages", "transform", "inverse_transform",
-}
+WITH_WIDTH = {"butterfly_forward", "butterfly_inverse", "low_stages", "transform", "inverse_transform"}
 
 # Calls whose loops may take two elements in a turn.
 IN_TURNS = {"square", "square_root"}
@@ -270,36 +245,22 @@ def of_width(call, vector):
     return f"c_arithmetic::{call}::<{vector}>" if call in WITH_WIDTH else f"c_arithmetic::{call}"
 
 
-def called_in_vectors(field, name, vector):
-    """The call of a function that a field has of its own, or that goes by slices of bits, in vectors of that type."""
-    if name in OWN_CALLS.get(field.name, {}):
-        return of_width(OWN_CALLS[field.name][name], vector)
-    if name in IN_SLICES and field.name in SLICED or name in INVERSES_IN_SLICES and field.name in INVERTED_IN_SLICES or (
-        (field.name, name, vector) == MULTIPLIED_IN_WIDE_SLICES):
-        return called_over_words(field, f"in_slices::{IN_SLICES[name]}", f"{field.kernel}, {vector}")
-    return None
-
-
-def alike(field, name):
-    """The function that does the same: where an inverse costs no more than three products, a batch is inverted one by one."""
-    return "inverse" if name == "batch_inverse" and not field.is_batched else name
+def called_on_many(field, name, vector):
+    """The call of a function over the fields of `Many`, in vectors of that type."""
+    return called_over_words(field, f"c_arithmetic::{CALLS[name][0]}", f"{field.kernel}, {vector}")
 
 
 def field_function(field, name, parameters, text):
     """A function of a field."""
-    as_called = alike(field, name)
-    (call, contract), operation = CALLS[as_called], OPERATIONS.get(as_called)
+    (call, contract), operation = CALLS[name], OPERATIONS.get(name)
     inside = [OPERANDS[operation]] if operation in OPERANDS else []
-    in_vectors = called_in_vectors(field, as_called, NARROW)
-    if in_vectors:
-        called, more = in_vectors, []
-    elif name in IN_PLANES and field.name in PLANED:
-        called, more = called_over_words(field, f"in_planes::{name}", field.kernel), []
-    elif operation:
+    if operation:
         called, more = called_over(field, call, ", _"), [f"&{operation} {{ {inside[0]} }}" if inside else f"&{operation}"]
-    else:
+    elif "::" in call:
         called, more = called_over(field, call), []
-    if call == MAY_TAKE_TURNS and not in_vectors:
+    else:
+        called, more = called_on_many(field, name, NARROW), []
+    if call == MAY_TAKE_TURNS:
         more.append(str(name in IN_TURNS and field.is_looked_up).lower())
     typed = c_library.typed(parameters, field.word)
     words = [(kind, it, WORDS.get(of, of)) for kind, it, of in typed]
@@ -308,10 +269,9 @@ def field_function(field, name, parameters, text):
 
 
 def matrix_function(field, name, parameters, text, vector=NARROW):
-    """A function of matrices over a field, whose rows are added in planes, in lanes or one by one."""
+    """A function of matrices over a field, whose rows are added in vectors of that type."""
     own = name.removesuffix("_wide")
-    rows = "InPlanes" if field.name in PLANED else f"InLanes<{vector}>" if field.name == "g128" else "OneByOne"
-    called = called_over(field, f"c_matrices::{own.removeprefix('matrix_')}", f", {rows}")
+    called = called_over(field, f"c_matrices::{own.removeprefix('matrix_')}", f", InVectors<{vector}>")
     named = f"({field.contract})" if " " in field.contract else field.contract
     return function(f"{field.name}_{name}", parameters, text, called, MATRIX_CALLS[own].format(named))
 
@@ -345,7 +305,7 @@ def wide_function(name, parameters):
     else:
         field = fields.field_named(field_name)
         typed = [(kind, it, WORDS.get(word, word)) for kind, it, word in parameters]
-        called, clause = called_in_vectors(field, alike(field, own), WIDE), field_clause(CALLS[own][1], field.contract, typed, own.endswith("_in_place"))
+        called, clause = called_on_many(field, own, WIDE), field_clause(CALLS[own][1], field.contract, typed, own.endswith("_in_place"))
     return function(f"{name}_wide", parameters, f"the same as `bf_{name}`", called, clause)
 
 
@@ -379,15 +339,15 @@ def import_of(names):
 def used(bodies):
     """The line that brings in what bodies and signatures name without a path."""
     operations = sorted({it for it in OPERATIONS.values() if re.search(rf"&{it}\b", bodies)})
-    names = set(re.findall(r"[&\[]&?(Wide|Cubic)\b|<\w+,(?: \w+,)? (?!u64x)(\w+)(?:<(\w+)>)?(?:, \w+(?:<\w+>)?)?>|\b(slices)::|\b(in_place)::|\b(in_planes)::|\b(in_slices)::", bodies))
-    words = [*WORDS.values(), *STORED.values()]
-    named = {it for group in names for it in group if it} | {it for it in words if re.search(rf"\b{it}\b", bodies)}
-    rows = {it for it in ("InLanes", "InPlanes", "OneByOne") if re.search(rf"\b{it}\b", bodies)}
-    named -= {NARROW, WIDE, *rows}
+    parameters = " ".join(re.findall(r"::<([^(]+)>\(", bodies))
+    named = set(re.findall(r"(?<![:\w])[A-Z]\w+", parameters)) | set(re.findall(r"(?<![:\w])(slices|in_place)::", bodies))
+    named |= {it for it in [*WORDS.values(), *STORED.values()] if re.search(rf"\b{it}\b", bodies)}
+    rows = named & {"InVectors"}
+    named -= rows
     lines = [f"use c_arithmetic::operations::{{{', '.join(operations)}}};"] if operations else []
     if named:
         lines.append(import_of(", ".join(sorted(named, key=in_order))) if len(named) > 1 else f"use c_arithmetic::{named.pop()};")
-    lines += [f"use c_matrices::rows::{', '.join(rows)};"] if rows else []
+    lines += [f"use c_matrices::rows::{it};" for it in rows]
     lines += ["use std::simd::prelude::*;"] if re.search(rf"\b({NARROW}|{WIDE})\b", bodies) else []
     return [*lines, ""] if lines else []
 

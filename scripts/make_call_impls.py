@@ -1,6 +1,5 @@
 #!/usr/bin/env python3
-"""Writes what a call over words of a level of the tower computes them in: planes of bytes, and slices of bits (c_arithmetic), and how rows
-of matrices are added (c_matrices)."""
+"""Writes what a call over many words of a level of the tower computes them in: planes of bytes, and slices of bits (c_arithmetic)."""
 
 from string import Template
 
@@ -64,98 +63,59 @@ def in_planes():
         yield IN_PLANES.substitute(bits=bits, word=word(bits), depth=depth)
 
 
-# ---- slices of bits
+# ---- many words
 
-SLICES_HEAD = """\
-// The levels of 16 to 128 bits by slices of bits, products of polynomials of 64 bits, and inverses of those of 64 and 128 bits, which go by
-// their levels.
-use super::{
-    InversesInSlices, ProductsInSlices, invert_images, invert_words, multiply_polynomials,
-    multiply_words,
-};
+MANY_HEAD = """\
+// The levels of 8 to 128 bits: by one scalar in planes of bytes, and from 16 bits on products and inverses in slices of bits.
+use super::Many;
 use crate::Wide;
+use crate::in_planes::{LEAST_IN_PLANES, add_all, multiply_all};
+use crate::in_slices::{LEAST_IN_SLICES, invert_words, multiply_words};
 use bit_slices::Vector;
-use word_polynomial::{GhashKernel, GhashModulus, Poly64Kernel, Poly64Modulus};
-use word_tower::{Bits16, Bits32, Bits64, Bits128, Tower};
+use ghash_slices::Width;
+use word_tower::{Bits8, Bits16, Bits32, Bits64, Bits128, Tower};
 """
 
-IN_SLICES = Template("""\
-impl ProductsInSlices<u$bits> for Tower<Bits$bits> {
+MANY = Template("""\
+impl Many<u$bits> for Tower<Bits$bits> {
     type Word = $word;
 
-    fn multiply_all<V: Vector>(products: &mut [$word], words: &[$word]) {
-        multiply_words::<u$bits, $word, Tower<Bits$bits>, V>(products, words);
+    const LEAST_SCALED: usize = LEAST_IN_PLANES;
+$sliced
+    fn multiply_all_by<V: Width>(words: &mut [$word], scalar: $word) {
+        multiply_all::<u$bits, Tower<Bits$bits>>(words, scalar);
+    }
+
+    fn add_multiples<V: Width>(sums: &mut [$word], words: &[$word], scalar: $word) {
+        add_all::<u$bits, Tower<Bits$bits>>(sums, words, scalar);
     }
 }
+""")
 
-impl InversesInSlices<u$bits> for Tower<Bits$bits> {
-    type Word = $word;
+# What levels of 16 bits and more have beside: those of 8 bits are looked up.
+SLICED = Template("""
+    const LEAST_INVERTED: usize = LEAST_IN_SLICES;
+
+    #[inline(always)]
+    fn least_multiplied<V: Vector>() -> usize {
+        LEAST_IN_SLICES
+    }
+
+    fn multiply_all<V: Width + Vector>(products: &mut [$word], words: &[$word]) {
+        multiply_words::<u$bits, $word, Tower<Bits$bits>, V>(products, words);
+    }
 
     fn invert_all<V: Vector>(words: &mut [$word]) {
         invert_words::<u$bits, $word, Tower<Bits$bits>, V>(words);
     }
-}
-""")
-
-OF_POLYNOMIALS = Template("""\
-impl ProductsInSlices<u$bits> for ${name}Kernel {
-    type Word = $word;
-
-    fn multiply_all<V: Vector>(products: &mut [$word], words: &[$word]) {
-        multiply_polynomials::<u$bits, $word, ${name}Kernel, V>(products, words);
-    }
-}
-""")
-
-OF_IMAGES = Template("""\
-impl InversesInSlices<u$bits> for ${name}Kernel {
-    type Word = $word;
-
-    fn invert_all<V: Vector>(words: &mut [$word]) {
-        invert_images::<u$bits, $word, Bits$bits, ${name}Modulus, V>(words);
-    }
-}
-""")
-
-# The polynomials whose inverses go by levels of the tower, by their bits. Those of 8 bits are looked up.
-POLYNOMIALS = {64: "Poly64", 128: "Ghash"}
-
-# Those whose products go by slices of their bits. Products in the field of GHASH go by lanes.
-MULTIPLIED = (64,)
-
-
-def in_slices():
-    yield SLICES_HEAD
-    for bits in LEVELS[1:]:
-        yield IN_SLICES.substitute(bits=bits, word=word(bits))
-    for bits, name in POLYNOMIALS.items():
-        if bits in MULTIPLIED:
-            yield OF_POLYNOMIALS.substitute(bits=bits, name=name, word=word(bits))
-        yield OF_IMAGES.substitute(bits=bits, name=name, word=word(bits))
-
-
-# ---- rows
-
-ROWS_HEAD = """\
-// The levels of 8 to 128 bits.
-use super::{AddsRows, InPlanes};
-use c_arithmetic::{Bits8, Bits16, Bits32, Bits64, Bits128, Tower, Wide, in_planes};
-"""
-
-ROWS = Template("""\
-impl AddsRows<u$bits, $word, Tower<Bits$bits>> for InPlanes {
-    #[inline]
-    fn add_scaled(sums: &mut [$word], scalar: $word, words: &[$word]) -> u32 {
-        in_planes::add_scaled::<u$bits, Tower<Bits$bits>>(sums, scalar, words)
-    }
-}
 """)
 
 
-def rows():
-    yield ROWS_HEAD
+def many():
+    yield MANY_HEAD
     for bits in LEVELS:
-        yield ROWS.substitute(bits=bits, word=word(bits))
+        sliced = SLICED.substitute(bits=bits, word=word(bits)) if bits > 8 else ""
+        yield MANY.substitute(bits=bits, word=word(bits), sliced=sliced)
 
 
 if __name__ == "__main__":
@@ -163,7 +123,6 @@ if __name__ == "__main__":
         "make_call_impls.py",
         {
             "c_arithmetic/src/in_planes/impls.rt": in_planes,
-            "c_arithmetic/src/in_slices/impls.rt": in_slices,
-            "c_matrices/src/rows/impls.rt": rows,
+            "c_arithmetic/src/many/levels.rt": many,
         },
     )

@@ -7,9 +7,9 @@ ghost use Rattle.c_arithmetic.specs.Fields.{poly64_field};
 ghost use Rattle.c_matrices.specs.Matrices.{InvertsMatrix, MultipliesMatrices, ReducesRows, SolvesEquations, TakesDeterminant};
 ghost use Rattle.c_matrices.specs.Matrices.{TakesRank};
 
-use c_arithmetic::operations::{Power, Product, Square, SquareRoot, Sum};
-use c_arithmetic::{Poly64Kernel, in_place, in_slices, slices};
-use c_matrices::rows::OneByOne;
+use c_arithmetic::operations::{Power, Square, SquareRoot, Sum};
+use c_arithmetic::{Poly64Kernel, in_place, slices};
+use c_matrices::rows::InVectors;
 use std::simd::prelude::*;
 
 /// The sum of the elements at each place.
@@ -25,7 +25,7 @@ pub extern "C" fn bf_p64_add(left: &[u64], right: &[u64], sums: &mut [u64]) -> u
 pub extern "C" fn bf_p64_multiply(left: &[u64], right: &[u64], products: &mut [u64]) -> u32
     ensures { Multiplies poly64_field left.now right.now products.old products.new result }
 {
-    slices::write_each_of_two::<u64, u64, Poly64Kernel, _>(left, right, products, &Product)
+    c_arithmetic::multiply::<u64, Poly64Kernel, u64x2>(left, right, products)
 }
 
 /// The product of each element and the scalar.
@@ -33,7 +33,7 @@ pub extern "C" fn bf_p64_multiply(left: &[u64], right: &[u64], products: &mut [u
 pub extern "C" fn bf_p64_multiply_by(values: &[u64], scalar: u64, products: &mut [u64]) -> u32
     ensures { MultipliesBy poly64_field scalar values.now products.old products.new result }
 {
-    slices::multiply_by::<u64, u64, Poly64Kernel>(values, scalar, products)
+    c_arithmetic::multiply_by::<u64, Poly64Kernel, u64x2>(values, scalar, products)
 }
 
 /// Adds to each element of sums the scalar times the value at its place.
@@ -41,7 +41,7 @@ pub extern "C" fn bf_p64_multiply_by(values: &[u64], scalar: u64, products: &mut
 pub extern "C" fn bf_p64_add_scaled(sums: &mut [u64], scalar: u64, values: &[u64]) -> u32
     ensures { AddsScaled poly64_field scalar values.now sums.old sums.new result }
 {
-    in_place::add_scaled::<u64, u64, Poly64Kernel>(sums, scalar, values)
+    c_arithmetic::add_scaled::<u64, Poly64Kernel, u64x2>(sums, scalar, values)
 }
 
 /// The square of each element.
@@ -57,7 +57,7 @@ pub extern "C" fn bf_p64_square(values: &[u64], squares: &mut [u64]) -> u32
 pub extern "C" fn bf_p64_inverse(values: &[u64], inverses: &mut [u64]) -> u32
     ensures { Inverts poly64_field values.now inverses.old inverses.new result }
 {
-    in_slices::invert::<u64, Poly64Kernel, u64x2>(values, inverses)
+    c_arithmetic::invert::<u64, Poly64Kernel, u64x2>(values, inverses)
 }
 
 /// The same as inverse; of few elements of p64 and g128 by one inverse and three products an element.
@@ -65,7 +65,7 @@ pub extern "C" fn bf_p64_inverse(values: &[u64], inverses: &mut [u64]) -> u32
 pub extern "C" fn bf_p64_batch_inverse(values: &[u64], inverses: &mut [u64]) -> u32
     ensures { Inverts poly64_field values.now inverses.old inverses.new result }
 {
-    in_slices::batch_invert::<u64, Poly64Kernel, u64x2>(values, inverses)
+    c_arithmetic::batch_invert::<u64, Poly64Kernel, u64x2>(values, inverses)
 }
 
 /// The square root of each element.
@@ -97,7 +97,7 @@ pub extern "C" fn bf_p64_product(values: &[u64], product: &mut u64) -> u32
 pub extern "C" fn bf_p64_dot_product(left: &[u64], right: &[u64], sum: &mut u64) -> u32
     ensures { TakesDotProduct poly64_field left.now right.now sum.old sum.new result }
 {
-    slices::dot_product::<u64, u64, Poly64Kernel>(left, right, sum)
+    c_arithmetic::dot_product::<u64, Poly64Kernel, u64x2>(left, right, sum)
 }
 
 /// The value at each point of the polynomial with these coefficients, the constant one first; any number of coefficients.
@@ -121,7 +121,7 @@ pub extern "C" fn bf_p64_add_in_place(sums: &mut [u64], values: &[u64]) -> u32
 pub extern "C" fn bf_p64_multiply_in_place(products: &mut [u64], values: &[u64]) -> u32
     ensures { Multiplies poly64_field products.old values.now products.old products.new result }
 {
-    in_place::change_each_by::<u64, u64, Poly64Kernel, _>(products, values, &Product)
+    c_arithmetic::multiply_in_place::<u64, Poly64Kernel, u64x2>(products, values)
 }
 
 /// Multiplies each element by the scalar.
@@ -129,7 +129,7 @@ pub extern "C" fn bf_p64_multiply_in_place(products: &mut [u64], values: &[u64])
 pub extern "C" fn bf_p64_multiply_by_in_place(values: &mut [u64], scalar: u64) -> u32
     ensures { MultipliesBy poly64_field scalar values.old values.old values.new result }
 {
-    in_place::multiply_by::<u64, u64, Poly64Kernel>(values, scalar)
+    c_arithmetic::multiply_by_in_place::<u64, Poly64Kernel, u64x2>(values, scalar)
 }
 
 /// Squares each element.
@@ -145,7 +145,7 @@ pub extern "C" fn bf_p64_square_in_place(values: &mut [u64]) -> u32
 pub extern "C" fn bf_p64_inverse_in_place(values: &mut [u64]) -> u32
     ensures { Inverts poly64_field values.old values.old values.new result }
 {
-    in_slices::invert_in_place::<u64, Poly64Kernel, u64x2>(values)
+    c_arithmetic::invert_in_place::<u64, Poly64Kernel, u64x2>(values)
 }
 
 /// Leaves the square root of each element.
@@ -184,7 +184,7 @@ pub extern "C" fn bf_p64_matrix_multiply(
 ) -> u32
     ensures { MultipliesMatrices poly64_field rows inner columns left.now right.now product.old product.new result }
 {
-    c_matrices::multiply::<u64, u64, Poly64Kernel, OneByOne>(
+    c_matrices::multiply::<u64, u64, Poly64Kernel, InVectors<u64x2>>(
         left, right, product, rows, inner, columns,
     )
 }
@@ -201,7 +201,9 @@ pub extern "C" fn bf_p64_matrix_row_reduce(
 ) -> u32
     ensures { ReducesRows poly64_field rows columns matrix.old pivots.old rank.old matrix.new pivots.new rank.new result }
 {
-    c_matrices::row_reduce::<u64, u64, Poly64Kernel, OneByOne>(matrix, rows, columns, pivots, rank)
+    c_matrices::row_reduce::<u64, u64, Poly64Kernel, InVectors<u64x2>>(
+        matrix, rows, columns, pivots, rank,
+    )
 }
 
 /// The rank of a matrix of rows rows of columns elements, in as much space and rows places.
@@ -216,7 +218,9 @@ pub extern "C" fn bf_p64_matrix_rank(
 ) -> u32
     ensures { TakesRank poly64_field rows columns matrix.now (length space.old) (length places.old) rank.old rank.new result }
 {
-    c_matrices::rank::<u64, u64, Poly64Kernel, OneByOne>(matrix, rows, columns, space, places, rank)
+    c_matrices::rank::<u64, u64, Poly64Kernel, InVectors<u64x2>>(
+        matrix, rows, columns, space, places, rank,
+    )
 }
 
 /// The determinant of a matrix of size rows of size elements, in as much space; 1 of no rows.
@@ -229,7 +233,12 @@ pub extern "C" fn bf_p64_matrix_determinant(
 ) -> u32
     ensures { TakesDeterminant poly64_field size matrix.now (length space.old) determinant.old determinant.new result }
 {
-    c_matrices::determinant::<u64, u64, Poly64Kernel, OneByOne>(matrix, size, space, determinant)
+    c_matrices::determinant::<u64, u64, Poly64Kernel, InVectors<u64x2>>(
+        matrix,
+        size,
+        space,
+        determinant,
+    )
 }
 
 /// The inverse of a matrix of size rows of size elements, in space for two of these and size places.
@@ -243,7 +252,9 @@ pub extern "C" fn bf_p64_matrix_inverse(
 ) -> u32
     ensures { InvertsMatrix poly64_field size matrix.now (length space.old) (length places.old) inverse.old inverse.new result }
 {
-    c_matrices::inverse::<u64, u64, Poly64Kernel, OneByOne>(matrix, size, inverse, space, places)
+    c_matrices::inverse::<u64, u64, Poly64Kernel, InVectors<u64x2>>(
+        matrix, size, inverse, space, places,
+    )
 }
 
 /// A solution x of matrix * x = right, of rows equations in columns unknowns, in space for rows times columns + 1 elements and rows
@@ -261,7 +272,7 @@ pub extern "C" fn bf_p64_matrix_solve(
     ensures { SolvesEquations poly64_field rows columns matrix.now right.now (length space.old)
         (length places.old) solution.old solution.new result }
 {
-    c_matrices::solve::<u64, u64, Poly64Kernel, OneByOne>(
+    c_matrices::solve::<u64, u64, Poly64Kernel, InVectors<u64x2>>(
         matrix, rows, columns, right, solution, space, places,
     )
 }

@@ -8,8 +8,8 @@ ghost use Rattle.c_matrices.specs.Matrices.{InvertsMatrix, MultipliesMatrices, R
 ghost use Rattle.c_matrices.specs.Matrices.{TakesRank};
 
 use c_arithmetic::operations::{Power, Square, SquareRoot, Sum};
-use c_arithmetic::{Bits128, Tower, Wide, in_place, in_planes, in_slices, slices};
-use c_matrices::rows::InPlanes;
+use c_arithmetic::{Bits128, Tower, Wide, in_place, slices};
+use c_matrices::rows::InVectors;
 use std::simd::prelude::*;
 
 /// The sum of the elements at each place.
@@ -25,7 +25,7 @@ pub extern "C" fn bf_t128_add(left: &[Wide], right: &[Wide], sums: &mut [Wide]) 
 pub extern "C" fn bf_t128_multiply(left: &[Wide], right: &[Wide], products: &mut [Wide]) -> u32
     ensures { Multiplies wide_level_field left.now right.now products.old products.new result }
 {
-    in_slices::multiply::<u128, Tower<Bits128>, u64x2>(left, right, products)
+    c_arithmetic::multiply::<u128, Tower<Bits128>, u64x2>(left, right, products)
 }
 
 /// The product of each element and the scalar.
@@ -33,7 +33,7 @@ pub extern "C" fn bf_t128_multiply(left: &[Wide], right: &[Wide], products: &mut
 pub extern "C" fn bf_t128_multiply_by(values: &[Wide], scalar: &Wide, products: &mut [Wide]) -> u32
     ensures { MultipliesBy wide_level_field scalar.now values.now products.old products.new result }
 {
-    in_planes::multiply_by::<u128, Tower<Bits128>>(values, *scalar, products)
+    c_arithmetic::multiply_by::<u128, Tower<Bits128>, u64x2>(values, *scalar, products)
 }
 
 /// Adds to each element of sums the scalar times the value at its place.
@@ -41,7 +41,7 @@ pub extern "C" fn bf_t128_multiply_by(values: &[Wide], scalar: &Wide, products: 
 pub extern "C" fn bf_t128_add_scaled(sums: &mut [Wide], scalar: &Wide, values: &[Wide]) -> u32
     ensures { AddsScaled wide_level_field scalar.now values.now sums.old sums.new result }
 {
-    in_planes::add_scaled::<u128, Tower<Bits128>>(sums, *scalar, values)
+    c_arithmetic::add_scaled::<u128, Tower<Bits128>, u64x2>(sums, *scalar, values)
 }
 
 /// The square of each element.
@@ -57,7 +57,7 @@ pub extern "C" fn bf_t128_square(values: &[Wide], squares: &mut [Wide]) -> u32
 pub extern "C" fn bf_t128_inverse(values: &[Wide], inverses: &mut [Wide]) -> u32
     ensures { Inverts wide_level_field values.now inverses.old inverses.new result }
 {
-    in_slices::invert::<u128, Tower<Bits128>, u64x2>(values, inverses)
+    c_arithmetic::invert::<u128, Tower<Bits128>, u64x2>(values, inverses)
 }
 
 /// The same as inverse; of few elements of p64 and g128 by one inverse and three products an element.
@@ -65,7 +65,7 @@ pub extern "C" fn bf_t128_inverse(values: &[Wide], inverses: &mut [Wide]) -> u32
 pub extern "C" fn bf_t128_batch_inverse(values: &[Wide], inverses: &mut [Wide]) -> u32
     ensures { Inverts wide_level_field values.now inverses.old inverses.new result }
 {
-    in_slices::invert::<u128, Tower<Bits128>, u64x2>(values, inverses)
+    c_arithmetic::batch_invert::<u128, Tower<Bits128>, u64x2>(values, inverses)
 }
 
 /// The square root of each element.
@@ -97,7 +97,7 @@ pub extern "C" fn bf_t128_product(values: &[Wide], product: &mut Wide) -> u32
 pub extern "C" fn bf_t128_dot_product(left: &[Wide], right: &[Wide], sum: &mut Wide) -> u32
     ensures { TakesDotProduct wide_level_field left.now right.now sum.old sum.new result }
 {
-    slices::dot_product::<u128, Wide, Tower<Bits128>>(left, right, sum)
+    c_arithmetic::dot_product::<u128, Tower<Bits128>, u64x2>(left, right, sum)
 }
 
 /// The value at each point of the polynomial with these coefficients, the constant one first; any number of coefficients.
@@ -125,7 +125,7 @@ pub extern "C" fn bf_t128_add_in_place(sums: &mut [Wide], values: &[Wide]) -> u3
 pub extern "C" fn bf_t128_multiply_in_place(products: &mut [Wide], values: &[Wide]) -> u32
     ensures { Multiplies wide_level_field products.old values.now products.old products.new result }
 {
-    in_slices::multiply_in_place::<u128, Tower<Bits128>, u64x2>(products, values)
+    c_arithmetic::multiply_in_place::<u128, Tower<Bits128>, u64x2>(products, values)
 }
 
 /// Multiplies each element by the scalar.
@@ -133,7 +133,7 @@ pub extern "C" fn bf_t128_multiply_in_place(products: &mut [Wide], values: &[Wid
 pub extern "C" fn bf_t128_multiply_by_in_place(values: &mut [Wide], scalar: &Wide) -> u32
     ensures { MultipliesBy wide_level_field scalar.now values.old values.old values.new result }
 {
-    in_planes::multiply_by_in_place::<u128, Tower<Bits128>>(values, *scalar)
+    c_arithmetic::multiply_by_in_place::<u128, Tower<Bits128>, u64x2>(values, *scalar)
 }
 
 /// Squares each element.
@@ -149,7 +149,7 @@ pub extern "C" fn bf_t128_square_in_place(values: &mut [Wide]) -> u32
 pub extern "C" fn bf_t128_inverse_in_place(values: &mut [Wide]) -> u32
     ensures { Inverts wide_level_field values.old values.old values.new result }
 {
-    in_slices::invert_in_place::<u128, Tower<Bits128>, u64x2>(values)
+    c_arithmetic::invert_in_place::<u128, Tower<Bits128>, u64x2>(values)
 }
 
 /// Leaves the square root of each element.
@@ -188,7 +188,7 @@ pub extern "C" fn bf_t128_matrix_multiply(
 ) -> u32
     ensures { MultipliesMatrices wide_level_field rows inner columns left.now right.now product.old product.new result }
 {
-    c_matrices::multiply::<u128, Wide, Tower<Bits128>, InPlanes>(
+    c_matrices::multiply::<u128, Wide, Tower<Bits128>, InVectors<u64x2>>(
         left, right, product, rows, inner, columns,
     )
 }
@@ -205,7 +205,7 @@ pub extern "C" fn bf_t128_matrix_row_reduce(
 ) -> u32
     ensures { ReducesRows wide_level_field rows columns matrix.old pivots.old rank.old matrix.new pivots.new rank.new result }
 {
-    c_matrices::row_reduce::<u128, Wide, Tower<Bits128>, InPlanes>(
+    c_matrices::row_reduce::<u128, Wide, Tower<Bits128>, InVectors<u64x2>>(
         matrix, rows, columns, pivots, rank,
     )
 }
@@ -222,7 +222,7 @@ pub extern "C" fn bf_t128_matrix_rank(
 ) -> u32
     ensures { TakesRank wide_level_field rows columns matrix.now (length space.old) (length places.old) rank.old rank.new result }
 {
-    c_matrices::rank::<u128, Wide, Tower<Bits128>, InPlanes>(
+    c_matrices::rank::<u128, Wide, Tower<Bits128>, InVectors<u64x2>>(
         matrix, rows, columns, space, places, rank,
     )
 }
@@ -237,7 +237,7 @@ pub extern "C" fn bf_t128_matrix_determinant(
 ) -> u32
     ensures { TakesDeterminant wide_level_field size matrix.now (length space.old) determinant.old determinant.new result }
 {
-    c_matrices::determinant::<u128, Wide, Tower<Bits128>, InPlanes>(
+    c_matrices::determinant::<u128, Wide, Tower<Bits128>, InVectors<u64x2>>(
         matrix,
         size,
         space,
@@ -256,7 +256,7 @@ pub extern "C" fn bf_t128_matrix_inverse(
 ) -> u32
     ensures { InvertsMatrix wide_level_field size matrix.now (length space.old) (length places.old) inverse.old inverse.new result }
 {
-    c_matrices::inverse::<u128, Wide, Tower<Bits128>, InPlanes>(
+    c_matrices::inverse::<u128, Wide, Tower<Bits128>, InVectors<u64x2>>(
         matrix, size, inverse, space, places,
     )
 }
@@ -276,7 +276,7 @@ pub extern "C" fn bf_t128_matrix_solve(
     ensures { SolvesEquations wide_level_field rows columns matrix.now right.now (length space.old)
         (length places.old) solution.old solution.new result }
 {
-    c_matrices::solve::<u128, Wide, Tower<Bits128>, InPlanes>(
+    c_matrices::solve::<u128, Wide, Tower<Bits128>, InVectors<u64x2>>(
         matrix, rows, columns, right, solution, space, places,
     )
 }

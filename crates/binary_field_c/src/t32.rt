@@ -8,8 +8,8 @@ ghost use Rattle.c_matrices.specs.Matrices.{InvertsMatrix, MultipliesMatrices, R
 ghost use Rattle.c_matrices.specs.Matrices.{TakesRank};
 
 use c_arithmetic::operations::{Power, Square, SquareRoot, Sum};
-use c_arithmetic::{Bits32, Tower, in_place, in_planes, in_slices, slices};
-use c_matrices::rows::InPlanes;
+use c_arithmetic::{Bits32, Tower, in_place, slices};
+use c_matrices::rows::InVectors;
 use std::simd::prelude::*;
 
 /// The sum of the elements at each place.
@@ -25,7 +25,7 @@ pub extern "C" fn bf_t32_add(left: &[u32], right: &[u32], sums: &mut [u32]) -> u
 pub extern "C" fn bf_t32_multiply(left: &[u32], right: &[u32], products: &mut [u32]) -> u32
     ensures { Multiplies (level_field 5) left.now right.now products.old products.new result }
 {
-    in_slices::multiply::<u32, Tower<Bits32>, u64x2>(left, right, products)
+    c_arithmetic::multiply::<u32, Tower<Bits32>, u64x2>(left, right, products)
 }
 
 /// The product of each element and the scalar.
@@ -33,7 +33,7 @@ pub extern "C" fn bf_t32_multiply(left: &[u32], right: &[u32], products: &mut [u
 pub extern "C" fn bf_t32_multiply_by(values: &[u32], scalar: u32, products: &mut [u32]) -> u32
     ensures { MultipliesBy (level_field 5) scalar values.now products.old products.new result }
 {
-    in_planes::multiply_by::<u32, Tower<Bits32>>(values, scalar, products)
+    c_arithmetic::multiply_by::<u32, Tower<Bits32>, u64x2>(values, scalar, products)
 }
 
 /// Adds to each element of sums the scalar times the value at its place.
@@ -41,7 +41,7 @@ pub extern "C" fn bf_t32_multiply_by(values: &[u32], scalar: u32, products: &mut
 pub extern "C" fn bf_t32_add_scaled(sums: &mut [u32], scalar: u32, values: &[u32]) -> u32
     ensures { AddsScaled (level_field 5) scalar values.now sums.old sums.new result }
 {
-    in_planes::add_scaled::<u32, Tower<Bits32>>(sums, scalar, values)
+    c_arithmetic::add_scaled::<u32, Tower<Bits32>, u64x2>(sums, scalar, values)
 }
 
 /// The square of each element.
@@ -57,7 +57,7 @@ pub extern "C" fn bf_t32_square(values: &[u32], squares: &mut [u32]) -> u32
 pub extern "C" fn bf_t32_inverse(values: &[u32], inverses: &mut [u32]) -> u32
     ensures { Inverts (level_field 5) values.now inverses.old inverses.new result }
 {
-    in_slices::invert::<u32, Tower<Bits32>, u64x2>(values, inverses)
+    c_arithmetic::invert::<u32, Tower<Bits32>, u64x2>(values, inverses)
 }
 
 /// The same as inverse; of few elements of p64 and g128 by one inverse and three products an element.
@@ -65,7 +65,7 @@ pub extern "C" fn bf_t32_inverse(values: &[u32], inverses: &mut [u32]) -> u32
 pub extern "C" fn bf_t32_batch_inverse(values: &[u32], inverses: &mut [u32]) -> u32
     ensures { Inverts (level_field 5) values.now inverses.old inverses.new result }
 {
-    in_slices::invert::<u32, Tower<Bits32>, u64x2>(values, inverses)
+    c_arithmetic::batch_invert::<u32, Tower<Bits32>, u64x2>(values, inverses)
 }
 
 /// The square root of each element.
@@ -97,7 +97,7 @@ pub extern "C" fn bf_t32_product(values: &[u32], product: &mut u32) -> u32
 pub extern "C" fn bf_t32_dot_product(left: &[u32], right: &[u32], sum: &mut u32) -> u32
     ensures { TakesDotProduct (level_field 5) left.now right.now sum.old sum.new result }
 {
-    slices::dot_product::<u32, u32, Tower<Bits32>>(left, right, sum)
+    c_arithmetic::dot_product::<u32, Tower<Bits32>, u64x2>(left, right, sum)
 }
 
 /// The value at each point of the polynomial with these coefficients, the constant one first; any number of coefficients.
@@ -121,7 +121,7 @@ pub extern "C" fn bf_t32_add_in_place(sums: &mut [u32], values: &[u32]) -> u32
 pub extern "C" fn bf_t32_multiply_in_place(products: &mut [u32], values: &[u32]) -> u32
     ensures { Multiplies (level_field 5) products.old values.now products.old products.new result }
 {
-    in_slices::multiply_in_place::<u32, Tower<Bits32>, u64x2>(products, values)
+    c_arithmetic::multiply_in_place::<u32, Tower<Bits32>, u64x2>(products, values)
 }
 
 /// Multiplies each element by the scalar.
@@ -129,7 +129,7 @@ pub extern "C" fn bf_t32_multiply_in_place(products: &mut [u32], values: &[u32])
 pub extern "C" fn bf_t32_multiply_by_in_place(values: &mut [u32], scalar: u32) -> u32
     ensures { MultipliesBy (level_field 5) scalar values.old values.old values.new result }
 {
-    in_planes::multiply_by_in_place::<u32, Tower<Bits32>>(values, scalar)
+    c_arithmetic::multiply_by_in_place::<u32, Tower<Bits32>, u64x2>(values, scalar)
 }
 
 /// Squares each element.
@@ -145,7 +145,7 @@ pub extern "C" fn bf_t32_square_in_place(values: &mut [u32]) -> u32
 pub extern "C" fn bf_t32_inverse_in_place(values: &mut [u32]) -> u32
     ensures { Inverts (level_field 5) values.old values.old values.new result }
 {
-    in_slices::invert_in_place::<u32, Tower<Bits32>, u64x2>(values)
+    c_arithmetic::invert_in_place::<u32, Tower<Bits32>, u64x2>(values)
 }
 
 /// Leaves the square root of each element.
@@ -184,7 +184,7 @@ pub extern "C" fn bf_t32_matrix_multiply(
 ) -> u32
     ensures { MultipliesMatrices (level_field 5) rows inner columns left.now right.now product.old product.new result }
 {
-    c_matrices::multiply::<u32, u32, Tower<Bits32>, InPlanes>(
+    c_matrices::multiply::<u32, u32, Tower<Bits32>, InVectors<u64x2>>(
         left, right, product, rows, inner, columns,
     )
 }
@@ -201,7 +201,9 @@ pub extern "C" fn bf_t32_matrix_row_reduce(
 ) -> u32
     ensures { ReducesRows (level_field 5) rows columns matrix.old pivots.old rank.old matrix.new pivots.new rank.new result }
 {
-    c_matrices::row_reduce::<u32, u32, Tower<Bits32>, InPlanes>(matrix, rows, columns, pivots, rank)
+    c_matrices::row_reduce::<u32, u32, Tower<Bits32>, InVectors<u64x2>>(
+        matrix, rows, columns, pivots, rank,
+    )
 }
 
 /// The rank of a matrix of rows rows of columns elements, in as much space and rows places.
@@ -216,7 +218,7 @@ pub extern "C" fn bf_t32_matrix_rank(
 ) -> u32
     ensures { TakesRank (level_field 5) rows columns matrix.now (length space.old) (length places.old) rank.old rank.new result }
 {
-    c_matrices::rank::<u32, u32, Tower<Bits32>, InPlanes>(
+    c_matrices::rank::<u32, u32, Tower<Bits32>, InVectors<u64x2>>(
         matrix, rows, columns, space, places, rank,
     )
 }
@@ -231,7 +233,12 @@ pub extern "C" fn bf_t32_matrix_determinant(
 ) -> u32
     ensures { TakesDeterminant (level_field 5) size matrix.now (length space.old) determinant.old determinant.new result }
 {
-    c_matrices::determinant::<u32, u32, Tower<Bits32>, InPlanes>(matrix, size, space, determinant)
+    c_matrices::determinant::<u32, u32, Tower<Bits32>, InVectors<u64x2>>(
+        matrix,
+        size,
+        space,
+        determinant,
+    )
 }
 
 /// The inverse of a matrix of size rows of size elements, in space for two of these and size places.
@@ -245,7 +252,9 @@ pub extern "C" fn bf_t32_matrix_inverse(
 ) -> u32
     ensures { InvertsMatrix (level_field 5) size matrix.now (length space.old) (length places.old) inverse.old inverse.new result }
 {
-    c_matrices::inverse::<u32, u32, Tower<Bits32>, InPlanes>(matrix, size, inverse, space, places)
+    c_matrices::inverse::<u32, u32, Tower<Bits32>, InVectors<u64x2>>(
+        matrix, size, inverse, space, places,
+    )
 }
 
 /// A solution x of matrix * x = right, of rows equations in columns unknowns, in space for rows times columns + 1 elements and rows
@@ -263,7 +272,7 @@ pub extern "C" fn bf_t32_matrix_solve(
     ensures { SolvesEquations (level_field 5) rows columns matrix.now right.now (length space.old)
         (length places.old) solution.old solution.new result }
 {
-    c_matrices::solve::<u32, u32, Tower<Bits32>, InPlanes>(
+    c_matrices::solve::<u32, u32, Tower<Bits32>, InVectors<u64x2>>(
         matrix, rows, columns, right, solution, space, places,
     )
 }

@@ -7,9 +7,10 @@ ghost use Rattle.c_arithmetic.specs.Fields.{level_field};
 ghost use Rattle.c_matrices.specs.Matrices.{InvertsMatrix, MultipliesMatrices, ReducesRows, SolvesEquations, TakesDeterminant};
 ghost use Rattle.c_matrices.specs.Matrices.{TakesRank};
 
-use c_arithmetic::operations::{Inverse, Power, Product, Square, SquareRoot, Sum};
+use c_arithmetic::operations::{Power, Square, SquareRoot, Sum};
 use c_arithmetic::{Bits4, Tower, in_place, slices};
-use c_matrices::rows::OneByOne;
+use c_matrices::rows::InVectors;
+use std::simd::prelude::*;
 
 /// The sum of the elements at each place.
 #[unsafe(no_mangle)]
@@ -24,7 +25,7 @@ pub extern "C" fn bf_t4_add(left: &[u8], right: &[u8], sums: &mut [u8]) -> u32
 pub extern "C" fn bf_t4_multiply(left: &[u8], right: &[u8], products: &mut [u8]) -> u32
     ensures { Multiplies (level_field 2) left.now right.now products.old products.new result }
 {
-    slices::write_each_of_two::<u8, u8, Tower<Bits4>, _>(left, right, products, &Product)
+    c_arithmetic::multiply::<u8, Tower<Bits4>, u64x2>(left, right, products)
 }
 
 /// The product of each element and the scalar.
@@ -32,7 +33,7 @@ pub extern "C" fn bf_t4_multiply(left: &[u8], right: &[u8], products: &mut [u8])
 pub extern "C" fn bf_t4_multiply_by(values: &[u8], scalar: u8, products: &mut [u8]) -> u32
     ensures { MultipliesBy (level_field 2) scalar values.now products.old products.new result }
 {
-    slices::multiply_by::<u8, u8, Tower<Bits4>>(values, scalar, products)
+    c_arithmetic::multiply_by::<u8, Tower<Bits4>, u64x2>(values, scalar, products)
 }
 
 /// Adds to each element of sums the scalar times the value at its place.
@@ -40,7 +41,7 @@ pub extern "C" fn bf_t4_multiply_by(values: &[u8], scalar: u8, products: &mut [u
 pub extern "C" fn bf_t4_add_scaled(sums: &mut [u8], scalar: u8, values: &[u8]) -> u32
     ensures { AddsScaled (level_field 2) scalar values.now sums.old sums.new result }
 {
-    in_place::add_scaled::<u8, u8, Tower<Bits4>>(sums, scalar, values)
+    c_arithmetic::add_scaled::<u8, Tower<Bits4>, u64x2>(sums, scalar, values)
 }
 
 /// The square of each element.
@@ -56,7 +57,7 @@ pub extern "C" fn bf_t4_square(values: &[u8], squares: &mut [u8]) -> u32
 pub extern "C" fn bf_t4_inverse(values: &[u8], inverses: &mut [u8]) -> u32
     ensures { Inverts (level_field 2) values.now inverses.old inverses.new result }
 {
-    slices::write_each::<u8, u8, Tower<Bits4>, _>(values, inverses, &Inverse, false)
+    c_arithmetic::invert::<u8, Tower<Bits4>, u64x2>(values, inverses)
 }
 
 /// The same as inverse; of few elements of p64 and g128 by one inverse and three products an element.
@@ -64,7 +65,7 @@ pub extern "C" fn bf_t4_inverse(values: &[u8], inverses: &mut [u8]) -> u32
 pub extern "C" fn bf_t4_batch_inverse(values: &[u8], inverses: &mut [u8]) -> u32
     ensures { Inverts (level_field 2) values.now inverses.old inverses.new result }
 {
-    slices::write_each::<u8, u8, Tower<Bits4>, _>(values, inverses, &Inverse, false)
+    c_arithmetic::batch_invert::<u8, Tower<Bits4>, u64x2>(values, inverses)
 }
 
 /// The square root of each element.
@@ -96,7 +97,7 @@ pub extern "C" fn bf_t4_product(values: &[u8], product: &mut u8) -> u32
 pub extern "C" fn bf_t4_dot_product(left: &[u8], right: &[u8], sum: &mut u8) -> u32
     ensures { TakesDotProduct (level_field 2) left.now right.now sum.old sum.new result }
 {
-    slices::dot_product::<u8, u8, Tower<Bits4>>(left, right, sum)
+    c_arithmetic::dot_product::<u8, Tower<Bits4>, u64x2>(left, right, sum)
 }
 
 /// The value at each point of the polynomial with these coefficients, the constant one first; any number of coefficients.
@@ -120,7 +121,7 @@ pub extern "C" fn bf_t4_add_in_place(sums: &mut [u8], values: &[u8]) -> u32
 pub extern "C" fn bf_t4_multiply_in_place(products: &mut [u8], values: &[u8]) -> u32
     ensures { Multiplies (level_field 2) products.old values.now products.old products.new result }
 {
-    in_place::change_each_by::<u8, u8, Tower<Bits4>, _>(products, values, &Product)
+    c_arithmetic::multiply_in_place::<u8, Tower<Bits4>, u64x2>(products, values)
 }
 
 /// Multiplies each element by the scalar.
@@ -128,7 +129,7 @@ pub extern "C" fn bf_t4_multiply_in_place(products: &mut [u8], values: &[u8]) ->
 pub extern "C" fn bf_t4_multiply_by_in_place(values: &mut [u8], scalar: u8) -> u32
     ensures { MultipliesBy (level_field 2) scalar values.old values.old values.new result }
 {
-    in_place::multiply_by::<u8, u8, Tower<Bits4>>(values, scalar)
+    c_arithmetic::multiply_by_in_place::<u8, Tower<Bits4>, u64x2>(values, scalar)
 }
 
 /// Squares each element.
@@ -144,7 +145,7 @@ pub extern "C" fn bf_t4_square_in_place(values: &mut [u8]) -> u32
 pub extern "C" fn bf_t4_inverse_in_place(values: &mut [u8]) -> u32
     ensures { Inverts (level_field 2) values.old values.old values.new result }
 {
-    in_place::change_each::<u8, u8, Tower<Bits4>, _>(values, &Inverse)
+    c_arithmetic::invert_in_place::<u8, Tower<Bits4>, u64x2>(values)
 }
 
 /// Leaves the square root of each element.
@@ -183,7 +184,7 @@ pub extern "C" fn bf_t4_matrix_multiply(
 ) -> u32
     ensures { MultipliesMatrices (level_field 2) rows inner columns left.now right.now product.old product.new result }
 {
-    c_matrices::multiply::<u8, u8, Tower<Bits4>, OneByOne>(
+    c_matrices::multiply::<u8, u8, Tower<Bits4>, InVectors<u64x2>>(
         left, right, product, rows, inner, columns,
     )
 }
@@ -200,7 +201,9 @@ pub extern "C" fn bf_t4_matrix_row_reduce(
 ) -> u32
     ensures { ReducesRows (level_field 2) rows columns matrix.old pivots.old rank.old matrix.new pivots.new rank.new result }
 {
-    c_matrices::row_reduce::<u8, u8, Tower<Bits4>, OneByOne>(matrix, rows, columns, pivots, rank)
+    c_matrices::row_reduce::<u8, u8, Tower<Bits4>, InVectors<u64x2>>(
+        matrix, rows, columns, pivots, rank,
+    )
 }
 
 /// The rank of a matrix of rows rows of columns elements, in as much space and rows places.
@@ -215,7 +218,9 @@ pub extern "C" fn bf_t4_matrix_rank(
 ) -> u32
     ensures { TakesRank (level_field 2) rows columns matrix.now (length space.old) (length places.old) rank.old rank.new result }
 {
-    c_matrices::rank::<u8, u8, Tower<Bits4>, OneByOne>(matrix, rows, columns, space, places, rank)
+    c_matrices::rank::<u8, u8, Tower<Bits4>, InVectors<u64x2>>(
+        matrix, rows, columns, space, places, rank,
+    )
 }
 
 /// The determinant of a matrix of size rows of size elements, in as much space; 1 of no rows.
@@ -228,7 +233,12 @@ pub extern "C" fn bf_t4_matrix_determinant(
 ) -> u32
     ensures { TakesDeterminant (level_field 2) size matrix.now (length space.old) determinant.old determinant.new result }
 {
-    c_matrices::determinant::<u8, u8, Tower<Bits4>, OneByOne>(matrix, size, space, determinant)
+    c_matrices::determinant::<u8, u8, Tower<Bits4>, InVectors<u64x2>>(
+        matrix,
+        size,
+        space,
+        determinant,
+    )
 }
 
 /// The inverse of a matrix of size rows of size elements, in space for two of these and size places.
@@ -242,7 +252,9 @@ pub extern "C" fn bf_t4_matrix_inverse(
 ) -> u32
     ensures { InvertsMatrix (level_field 2) size matrix.now (length space.old) (length places.old) inverse.old inverse.new result }
 {
-    c_matrices::inverse::<u8, u8, Tower<Bits4>, OneByOne>(matrix, size, inverse, space, places)
+    c_matrices::inverse::<u8, u8, Tower<Bits4>, InVectors<u64x2>>(
+        matrix, size, inverse, space, places,
+    )
 }
 
 /// A solution x of matrix * x = right, of rows equations in columns unknowns, in space for rows times columns + 1 elements and rows
@@ -260,7 +272,7 @@ pub extern "C" fn bf_t4_matrix_solve(
     ensures { SolvesEquations (level_field 2) rows columns matrix.now right.now (length space.old)
         (length places.old) solution.old solution.new result }
 {
-    c_matrices::solve::<u8, u8, Tower<Bits4>, OneByOne>(
+    c_matrices::solve::<u8, u8, Tower<Bits4>, InVectors<u64x2>>(
         matrix, rows, columns, right, solution, space, places,
     )
 }

@@ -7,10 +7,8 @@ ghost use Rattle.c_arithmetic.specs.Fields.{ghash_field, level_field, poly64_fie
 ghost use Rattle.c_matrices.specs.Matrices.{InvertsMatrix, MultipliesMatrices, ReducesRows, SolvesEquations, TakesDeterminant};
 ghost use Rattle.c_matrices.specs.Matrices.{TakesRank};
 
-use c_arithmetic::{
-    Bits16, Bits32, Bits64, Bits128, GhashKernel, Poly64Kernel, Tower, Wide, in_slices,
-};
-use c_matrices::rows::InLanes;
+use c_arithmetic::{Bits16, Bits32, Bits64, Bits128, GhashKernel, Poly64Kernel, Tower, Wide};
+use c_matrices::rows::InVectors;
 use std::simd::prelude::*;
 
 /// The same as `bf_g128_multiply`.
@@ -18,7 +16,7 @@ use std::simd::prelude::*;
 pub extern "C" fn bf_g128_multiply_wide(left: &[Wide], right: &[Wide], products: &mut [Wide]) -> u32
     ensures { Multiplies ghash_field left.now right.now products.old products.new result }
 {
-    c_arithmetic::multiply::<u64x4>(left, right, products)
+    c_arithmetic::multiply::<u128, GhashKernel, u64x4>(left, right, products)
 }
 
 /// The same as `bf_g128_multiply_in_place`.
@@ -26,7 +24,7 @@ pub extern "C" fn bf_g128_multiply_wide(left: &[Wide], right: &[Wide], products:
 pub extern "C" fn bf_g128_multiply_in_place_wide(products: &mut [Wide], values: &[Wide]) -> u32
     ensures { Multiplies ghash_field products.old values.now products.old products.new result }
 {
-    c_arithmetic::multiply_in_place::<u64x4>(products, values)
+    c_arithmetic::multiply_in_place::<u128, GhashKernel, u64x4>(products, values)
 }
 
 /// The same as `bf_g128_multiply_by`.
@@ -38,7 +36,7 @@ pub extern "C" fn bf_g128_multiply_by_wide(
 ) -> u32
     ensures { MultipliesBy ghash_field scalar.now values.now products.old products.new result }
 {
-    c_arithmetic::multiply_by::<u64x4>(values, *scalar, products)
+    c_arithmetic::multiply_by::<u128, GhashKernel, u64x4>(values, *scalar, products)
 }
 
 /// The same as `bf_g128_multiply_by_in_place`.
@@ -46,7 +44,7 @@ pub extern "C" fn bf_g128_multiply_by_wide(
 pub extern "C" fn bf_g128_multiply_by_in_place_wide(values: &mut [Wide], scalar: &Wide) -> u32
     ensures { MultipliesBy ghash_field scalar.now values.old values.old values.new result }
 {
-    c_arithmetic::multiply_by_in_place::<u64x4>(values, *scalar)
+    c_arithmetic::multiply_by_in_place::<u128, GhashKernel, u64x4>(values, *scalar)
 }
 
 /// The same as `bf_g128_add_scaled`.
@@ -54,7 +52,7 @@ pub extern "C" fn bf_g128_multiply_by_in_place_wide(values: &mut [Wide], scalar:
 pub extern "C" fn bf_g128_add_scaled_wide(sums: &mut [Wide], scalar: &Wide, values: &[Wide]) -> u32
     ensures { AddsScaled ghash_field scalar.now values.now sums.old sums.new result }
 {
-    c_arithmetic::add_scaled::<u64x4>(sums, *scalar, values)
+    c_arithmetic::add_scaled::<u128, GhashKernel, u64x4>(sums, *scalar, values)
 }
 
 /// The same as `bf_g128_dot_product`.
@@ -62,7 +60,7 @@ pub extern "C" fn bf_g128_add_scaled_wide(sums: &mut [Wide], scalar: &Wide, valu
 pub extern "C" fn bf_g128_dot_product_wide(left: &[Wide], right: &[Wide], sum: &mut Wide) -> u32
     ensures { TakesDotProduct ghash_field left.now right.now sum.old sum.new result }
 {
-    c_arithmetic::dot_product::<u64x4>(left, right, sum)
+    c_arithmetic::dot_product::<u128, GhashKernel, u64x4>(left, right, sum)
 }
 
 /// The same as `bf_g128_butterfly_forward`.
@@ -123,7 +121,7 @@ pub extern "C" fn bf_g128_inverse_transform_wide(values: &mut [Wide], shift: &Wi
 pub extern "C" fn bf_t16_multiply_wide(left: &[u16], right: &[u16], products: &mut [u16]) -> u32
     ensures { Multiplies (level_field 4) left.now right.now products.old products.new result }
 {
-    in_slices::multiply::<u16, Tower<Bits16>, u64x4>(left, right, products)
+    c_arithmetic::multiply::<u16, Tower<Bits16>, u64x4>(left, right, products)
 }
 
 /// The same as `bf_t16_inverse`.
@@ -131,7 +129,7 @@ pub extern "C" fn bf_t16_multiply_wide(left: &[u16], right: &[u16], products: &m
 pub extern "C" fn bf_t16_inverse_wide(values: &[u16], inverses: &mut [u16]) -> u32
     ensures { Inverts (level_field 4) values.now inverses.old inverses.new result }
 {
-    in_slices::invert::<u16, Tower<Bits16>, u64x4>(values, inverses)
+    c_arithmetic::invert::<u16, Tower<Bits16>, u64x4>(values, inverses)
 }
 
 /// The same as `bf_t16_batch_inverse`.
@@ -139,7 +137,7 @@ pub extern "C" fn bf_t16_inverse_wide(values: &[u16], inverses: &mut [u16]) -> u
 pub extern "C" fn bf_t16_batch_inverse_wide(values: &[u16], inverses: &mut [u16]) -> u32
     ensures { Inverts (level_field 4) values.now inverses.old inverses.new result }
 {
-    in_slices::invert::<u16, Tower<Bits16>, u64x4>(values, inverses)
+    c_arithmetic::batch_invert::<u16, Tower<Bits16>, u64x4>(values, inverses)
 }
 
 /// The same as `bf_t32_multiply`.
@@ -147,7 +145,7 @@ pub extern "C" fn bf_t16_batch_inverse_wide(values: &[u16], inverses: &mut [u16]
 pub extern "C" fn bf_t32_multiply_wide(left: &[u32], right: &[u32], products: &mut [u32]) -> u32
     ensures { Multiplies (level_field 5) left.now right.now products.old products.new result }
 {
-    in_slices::multiply::<u32, Tower<Bits32>, u64x4>(left, right, products)
+    c_arithmetic::multiply::<u32, Tower<Bits32>, u64x4>(left, right, products)
 }
 
 /// The same as `bf_t32_inverse`.
@@ -155,7 +153,7 @@ pub extern "C" fn bf_t32_multiply_wide(left: &[u32], right: &[u32], products: &m
 pub extern "C" fn bf_t32_inverse_wide(values: &[u32], inverses: &mut [u32]) -> u32
     ensures { Inverts (level_field 5) values.now inverses.old inverses.new result }
 {
-    in_slices::invert::<u32, Tower<Bits32>, u64x4>(values, inverses)
+    c_arithmetic::invert::<u32, Tower<Bits32>, u64x4>(values, inverses)
 }
 
 /// The same as `bf_t32_batch_inverse`.
@@ -163,7 +161,7 @@ pub extern "C" fn bf_t32_inverse_wide(values: &[u32], inverses: &mut [u32]) -> u
 pub extern "C" fn bf_t32_batch_inverse_wide(values: &[u32], inverses: &mut [u32]) -> u32
     ensures { Inverts (level_field 5) values.now inverses.old inverses.new result }
 {
-    in_slices::invert::<u32, Tower<Bits32>, u64x4>(values, inverses)
+    c_arithmetic::batch_invert::<u32, Tower<Bits32>, u64x4>(values, inverses)
 }
 
 /// The same as `bf_t64_multiply`.
@@ -171,7 +169,7 @@ pub extern "C" fn bf_t32_batch_inverse_wide(values: &[u32], inverses: &mut [u32]
 pub extern "C" fn bf_t64_multiply_wide(left: &[u64], right: &[u64], products: &mut [u64]) -> u32
     ensures { Multiplies (level_field 6) left.now right.now products.old products.new result }
 {
-    in_slices::multiply::<u64, Tower<Bits64>, u64x4>(left, right, products)
+    c_arithmetic::multiply::<u64, Tower<Bits64>, u64x4>(left, right, products)
 }
 
 /// The same as `bf_t64_inverse`.
@@ -179,7 +177,7 @@ pub extern "C" fn bf_t64_multiply_wide(left: &[u64], right: &[u64], products: &m
 pub extern "C" fn bf_t64_inverse_wide(values: &[u64], inverses: &mut [u64]) -> u32
     ensures { Inverts (level_field 6) values.now inverses.old inverses.new result }
 {
-    in_slices::invert::<u64, Tower<Bits64>, u64x4>(values, inverses)
+    c_arithmetic::invert::<u64, Tower<Bits64>, u64x4>(values, inverses)
 }
 
 /// The same as `bf_t64_batch_inverse`.
@@ -187,7 +185,7 @@ pub extern "C" fn bf_t64_inverse_wide(values: &[u64], inverses: &mut [u64]) -> u
 pub extern "C" fn bf_t64_batch_inverse_wide(values: &[u64], inverses: &mut [u64]) -> u32
     ensures { Inverts (level_field 6) values.now inverses.old inverses.new result }
 {
-    in_slices::invert::<u64, Tower<Bits64>, u64x4>(values, inverses)
+    c_arithmetic::batch_invert::<u64, Tower<Bits64>, u64x4>(values, inverses)
 }
 
 /// The same as `bf_t128_multiply`.
@@ -195,7 +193,7 @@ pub extern "C" fn bf_t64_batch_inverse_wide(values: &[u64], inverses: &mut [u64]
 pub extern "C" fn bf_t128_multiply_wide(left: &[Wide], right: &[Wide], products: &mut [Wide]) -> u32
     ensures { Multiplies wide_level_field left.now right.now products.old products.new result }
 {
-    in_slices::multiply::<u128, Tower<Bits128>, u64x4>(left, right, products)
+    c_arithmetic::multiply::<u128, Tower<Bits128>, u64x4>(left, right, products)
 }
 
 /// The same as `bf_t128_inverse`.
@@ -203,7 +201,7 @@ pub extern "C" fn bf_t128_multiply_wide(left: &[Wide], right: &[Wide], products:
 pub extern "C" fn bf_t128_inverse_wide(values: &[Wide], inverses: &mut [Wide]) -> u32
     ensures { Inverts wide_level_field values.now inverses.old inverses.new result }
 {
-    in_slices::invert::<u128, Tower<Bits128>, u64x4>(values, inverses)
+    c_arithmetic::invert::<u128, Tower<Bits128>, u64x4>(values, inverses)
 }
 
 /// The same as `bf_t128_batch_inverse`.
@@ -211,7 +209,7 @@ pub extern "C" fn bf_t128_inverse_wide(values: &[Wide], inverses: &mut [Wide]) -
 pub extern "C" fn bf_t128_batch_inverse_wide(values: &[Wide], inverses: &mut [Wide]) -> u32
     ensures { Inverts wide_level_field values.now inverses.old inverses.new result }
 {
-    in_slices::invert::<u128, Tower<Bits128>, u64x4>(values, inverses)
+    c_arithmetic::batch_invert::<u128, Tower<Bits128>, u64x4>(values, inverses)
 }
 
 /// The same as `bf_p64_multiply`.
@@ -219,7 +217,7 @@ pub extern "C" fn bf_t128_batch_inverse_wide(values: &[Wide], inverses: &mut [Wi
 pub extern "C" fn bf_p64_multiply_wide(left: &[u64], right: &[u64], products: &mut [u64]) -> u32
     ensures { Multiplies poly64_field left.now right.now products.old products.new result }
 {
-    in_slices::multiply::<u64, Poly64Kernel, u64x4>(left, right, products)
+    c_arithmetic::multiply::<u64, Poly64Kernel, u64x4>(left, right, products)
 }
 
 /// The same as `bf_p64_inverse`.
@@ -227,7 +225,7 @@ pub extern "C" fn bf_p64_multiply_wide(left: &[u64], right: &[u64], products: &m
 pub extern "C" fn bf_p64_inverse_wide(values: &[u64], inverses: &mut [u64]) -> u32
     ensures { Inverts poly64_field values.now inverses.old inverses.new result }
 {
-    in_slices::invert::<u64, Poly64Kernel, u64x4>(values, inverses)
+    c_arithmetic::invert::<u64, Poly64Kernel, u64x4>(values, inverses)
 }
 
 /// The same as `bf_p64_batch_inverse`.
@@ -235,7 +233,7 @@ pub extern "C" fn bf_p64_inverse_wide(values: &[u64], inverses: &mut [u64]) -> u
 pub extern "C" fn bf_p64_batch_inverse_wide(values: &[u64], inverses: &mut [u64]) -> u32
     ensures { Inverts poly64_field values.now inverses.old inverses.new result }
 {
-    in_slices::batch_invert::<u64, Poly64Kernel, u64x4>(values, inverses)
+    c_arithmetic::batch_invert::<u64, Poly64Kernel, u64x4>(values, inverses)
 }
 
 /// The same as `bf_g128_inverse`.
@@ -243,7 +241,7 @@ pub extern "C" fn bf_p64_batch_inverse_wide(values: &[u64], inverses: &mut [u64]
 pub extern "C" fn bf_g128_inverse_wide(values: &[Wide], inverses: &mut [Wide]) -> u32
     ensures { Inverts ghash_field values.now inverses.old inverses.new result }
 {
-    in_slices::invert::<u128, GhashKernel, u64x4>(values, inverses)
+    c_arithmetic::invert::<u128, GhashKernel, u64x4>(values, inverses)
 }
 
 /// The same as `bf_g128_batch_inverse`.
@@ -251,7 +249,7 @@ pub extern "C" fn bf_g128_inverse_wide(values: &[Wide], inverses: &mut [Wide]) -
 pub extern "C" fn bf_g128_batch_inverse_wide(values: &[Wide], inverses: &mut [Wide]) -> u32
     ensures { Inverts ghash_field values.now inverses.old inverses.new result }
 {
-    in_slices::batch_invert::<u128, GhashKernel, u64x4>(values, inverses)
+    c_arithmetic::batch_invert::<u128, GhashKernel, u64x4>(values, inverses)
 }
 
 /// The same as `bf_g128_matrix_multiply`.
@@ -266,7 +264,7 @@ pub extern "C" fn bf_g128_matrix_multiply_wide(
 ) -> u32
     ensures { MultipliesMatrices ghash_field rows inner columns left.now right.now product.old product.new result }
 {
-    c_matrices::multiply::<u128, Wide, GhashKernel, InLanes<u64x4>>(
+    c_matrices::multiply::<u128, Wide, GhashKernel, InVectors<u64x4>>(
         left, right, product, rows, inner, columns,
     )
 }
@@ -282,7 +280,7 @@ pub extern "C" fn bf_g128_matrix_row_reduce_wide(
 ) -> u32
     ensures { ReducesRows ghash_field rows columns matrix.old pivots.old rank.old matrix.new pivots.new rank.new result }
 {
-    c_matrices::row_reduce::<u128, Wide, GhashKernel, InLanes<u64x4>>(
+    c_matrices::row_reduce::<u128, Wide, GhashKernel, InVectors<u64x4>>(
         matrix, rows, columns, pivots, rank,
     )
 }
@@ -299,7 +297,7 @@ pub extern "C" fn bf_g128_matrix_rank_wide(
 ) -> u32
     ensures { TakesRank ghash_field rows columns matrix.now (length space.old) (length places.old) rank.old rank.new result }
 {
-    c_matrices::rank::<u128, Wide, GhashKernel, InLanes<u64x4>>(
+    c_matrices::rank::<u128, Wide, GhashKernel, InVectors<u64x4>>(
         matrix, rows, columns, space, places, rank,
     )
 }
@@ -314,7 +312,7 @@ pub extern "C" fn bf_g128_matrix_determinant_wide(
 ) -> u32
     ensures { TakesDeterminant ghash_field size matrix.now (length space.old) determinant.old determinant.new result }
 {
-    c_matrices::determinant::<u128, Wide, GhashKernel, InLanes<u64x4>>(
+    c_matrices::determinant::<u128, Wide, GhashKernel, InVectors<u64x4>>(
         matrix,
         size,
         space,
@@ -333,7 +331,7 @@ pub extern "C" fn bf_g128_matrix_inverse_wide(
 ) -> u32
     ensures { InvertsMatrix ghash_field size matrix.now (length space.old) (length places.old) inverse.old inverse.new result }
 {
-    c_matrices::inverse::<u128, Wide, GhashKernel, InLanes<u64x4>>(
+    c_matrices::inverse::<u128, Wide, GhashKernel, InVectors<u64x4>>(
         matrix, size, inverse, space, places,
     )
 }
@@ -352,7 +350,7 @@ pub extern "C" fn bf_g128_matrix_solve_wide(
     ensures { SolvesEquations ghash_field rows columns matrix.now right.now (length space.old)
         (length places.old) solution.old solution.new result }
 {
-    c_matrices::solve::<u128, Wide, GhashKernel, InLanes<u64x4>>(
+    c_matrices::solve::<u128, Wide, GhashKernel, InVectors<u64x4>>(
         matrix, rows, columns, right, solution, space, places,
     )
 }

@@ -1,5 +1,5 @@
--- What holds at each place of both parts of a slice holds at each place of the whole.
-use Rattle.std.proofs.Common.{◌≡◌, ◌⊎◌, inl, inr, ℕ, ◌-◌, ◌<◌, ◌≤◌, List, ◌++◌, length, get_or, sym, subst, arith}
+-- What holds at each place of both parts of a slice holds at each place of the whole, and back.
+use Rattle.std.proofs.Common.{◌≡◌, ◌⊎◌, inl, inr, ℕ, ◌+◌, ◌-◌, ◌<◌, ◌≤◌, List, ◌++◌, length, get_or, refl, sym, ◌∙◌, ap, subst, arith}
 use Rattle.std.proofs.lemmas.Bool.{cases_lt}
 use Rattle.std.proofs.lemmas.List.{get_or_append_left, get_or-append_right, length-append}
 
@@ -38,3 +38,25 @@ module _ {W : Type 0} (Relates : W → W → W → Type 0) (n : ℕ) (a more_a b
       subst (λ (l : List W). Relates (get_or l k d) (get_or ys k d) (get_or (c ++ more_c) k d)) (sym is)
       (subst (λ (l : List W). Relates (get_or (a ++ more_a) k d) (get_or l k d) (get_or (c ++ more_c) k d)) (sym also)
       (both_parts first last k inside d))
+
+-- a list in two parts, at whose places this holds
+module _ {W : Type 0} (Holds : W → Type 0) (xs a b : List W) (is : xs ≡ a ++ b)
+    (each : (k : ℕ) → k < length xs → (d : W) → Holds (get_or xs k d)) where
+  -- it holds at those of the first part
+  pub first_part : (k : ℕ) → k < length a → (d : W) → Holds (get_or a k d)
+  first_part k inside d =
+      let whole = length-append a b in
+      let same : length xs ≡ length (a ++ b) = ap length is in
+      subst Holds (ap (λ (l : List W). get_or l k d) is ∙ get_or_append_left a b d k inside) (each k (omega (arith, inside, whole, same)) d)
+
+  -- and at those of the last
+  pub last_part : (k : ℕ) → k < length b → (d : W) → Holds (get_or b k d)
+  last_part k inside d =
+      let whole = length-append a b in
+      let same : length xs ≡ length (a ++ b) = ap length is in
+      let back : length a + k - length a ≡ k = omega arith in
+      subst Holds
+      (ap (λ (l : List W). get_or l (length a + k) d) is
+      ∙ get_or-append_right a b (length a) (length a + k) d refl (omega arith)
+      ∙ ap (λ (i : ℕ). get_or b i d) back)
+      (each (length a + k) (omega (arith, inside, whole, same)) d)

@@ -10,16 +10,6 @@ use Rattle.tower_transforms.specs.Units.{FirstAre}
 use Rattle.c_arithmetic.specs.Places.{FirstHold}
 
 module _ {W : Type 0} (number : W → ℕ) (value : ℕ → W → ℕ) where
-  -- before the first place all are as they were
-  pub none_first : (words : List W) → FirstHold number 0 value words words
-  none_first words =
-      record {
-        long = refl;
-        few = omega arith;
-        done = λ k below d. absurd (omega (arith, below));
-        kept = λ k past inside d. refl;
-      }
-
   -- what is known of the numbers in their order
   pub first_of_numbers : (n : ℕ) (old new : List W) (are : ℕ → ℕ) → length new ≡ length old → n ≤ length old
       → ((k : ℕ) → k < n → slice_index (map number new) k ≡ are k)
@@ -60,12 +50,12 @@ module _ {W : Type 0} (number : W → ℕ) (value : ℕ → W → ℕ) where
           subst (λ (p : ℕ). number (get_or (set mid n word) p d) ≡ value p d) same
           (ap number (get_or-set_same mid n word d (omega (arith, inside, long))) ∙ holds d)
 
-  -- where no place is left, all words are so
+  -- where no place is left, each word is so
   pub all_hold : (n : ℕ) (old new : List W) → FirstHold number n value old new → length old ≤ n
-      → FirstHold number (length old) value old new
-  all_hold n old new are over =
-      let few = are.few in
-      subst (λ (m : ℕ). FirstHold number m value old new) (omega (arith, few, over)) are
+      → (k : ℕ) → k < length new → (d : W) → number (get_or new k d) ≡ value k d
+  all_hold n old new are over k inside d =
+      let long = are.long in
+      are.done k (omega (arith, inside, long, over)) d
 
 -- numbers of elements fit
 pub all_fit : {W : Type 0} (number : W → ℕ) (words : List W) (bound : ℕ) → 0 < bound

@@ -7,7 +7,6 @@ use Rattle.field_base.specs.LinearMaps.{linear_image}
 use Rattle.field_base.specs.Ring.{IsRing}
 use Rattle.field_base.proofs.LinearMapLemmas.{the_linear_map}
 use Rattle.field_base.proofs.RingLemmas.{sum_times}
-use Rattle.c_arithmetic.specs.Places.{FirstHold}
 
 -- the map that takes each bit to its product is the product
 pub images_are : (width : ℕ) (product : ℕ → ℕ → ℕ) → IsRing width 1 product → (s a b c d e f g h : ℕ) → a ≡ product 1 s → b ≡ product 2 s
@@ -30,15 +29,10 @@ images_are width product ring s a b c d e f g h a_is b_is c_is d_is e_is f_is g_
 -- bytes that were mapped
 pub all_mapped : (width : ℕ) (f : ℕ → ℕ) (product : ℕ → ℕ → ℕ) (s : ℕ) (old new : List ℕ) → width ≤ 8 → new ≡ map f old
     → ((k : ℕ) → k < length old → (d : ℕ) → get_or old k d < 2 ^ width) → ((x : ℕ) → x < 256 → f x ≡ product x s)
-    → FirstHold (λ x. x) (length old) (λ k d. product (get_or old k d) s) old new
-all_mapped width f product s old new few is fit same =
+    → (k : ℕ) → k < length new → (d : ℕ) → get_or new k d ≡ product (get_or old k d) s
+all_mapped width f product s old new few is fit same k inside d =
     let room : 2 ^ width ≤ 2 ^ 8 = pow-le-pow_right (lit< tt) few in
-    record {
-      long = ap length is ∙ length-map old f;
-      few = omega arith;
-      done =
-          λ k inside d.
-          ap (λ (l : List ℕ). get_or l k d) is ∙ get_or-map f old k d d inside
-          ∙ same (get_or old k d) (let below = fit k inside d in omega (arith, below, room));
-      kept = λ k past inside d. absurd (omega (arith, past, inside));
-    }
+    let long : length new ≡ length old = ap length is ∙ length-map old f in
+    let within : k < length old = omega (arith, inside, long) in
+    let below = fit k within d in
+    ap (λ (l : List ℕ). get_or l k d) is ∙ get_or-map f old k d d within ∙ same (get_or old k d) (omega (arith, below, room))

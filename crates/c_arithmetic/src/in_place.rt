@@ -1,12 +1,12 @@
 // Arithmetic on slices of words in place, over any field whose elements are words: each result takes the place of an operand. The contracts
 // are those of the functions over slices apart, whose first operand is here what the slice held before.
-ghost use Rattle.std.specs.Prelude.{◌≡◌};
-ghost use Rattle.c_arithmetic.specs.Calls.{AddsScaled, CallOnEach, CallOnTwo, MultipliesBy};
+ghost use Rattle.std.specs.Prelude.{◌≡◌, length};
+ghost use Rattle.c_arithmetic.specs.Calls.{AreElements, CallOnEach, CallOnTwo, Each, EachOfTwo};
 ghost use Rattle.c_arithmetic.specs.Fields.{field_of};
 
-use crate::operations::{OnOne, OnTwo, Scaled, ScaledSum};
+use crate::operations::{OnOne, OnTwo};
 use crate::slices::are_elements;
-use crate::{fields, status};
+use crate::status;
 use field_base::{FieldKernel, Stored};
 use tower_transforms::Holds;
 
@@ -21,9 +21,7 @@ pub fn change_each<R: Stored, W: Holds<R>, K: FieldKernel<R>, O: OnOne<R, W, K>>
     if !are_elements::<R, W, K>(words) {
         return status::NOT_AN_ELEMENT;
     }
-    for place in 0..words.len() {
-        words[place] = operation.result_at(words[place]);
-    }
+    change_all::<R, W, K, O>(words, operation);
     status::OK
 }
 
@@ -43,37 +41,37 @@ pub fn change_each_by<R: Stored, W: Holds<R>, K: FieldKernel<R>, O: OnTwo<R, W, 
     if !are_elements::<R, W, K>(words) || !are_elements::<R, W, K>(others) {
         return status::NOT_AN_ELEMENT;
     }
-    for place in 0..words.len() {
-        words[place] = operation.result_at(words[place], others[place]);
-    }
+    change_all_by::<R, W, K, O>(words, others, operation);
     status::OK
 }
 
-/// Multiplies each word by the scalar.
+/// Leaves the result of the operation at each word, an element.
 #[inline]
-pub fn multiply_by<R: Stored, W: Holds<R>, K: FieldKernel<R>>(words: &mut [W], scalar: W) -> u32
-    ensures { MultipliesBy (field_of W.number K.width K.product K.generator) scalar words.old words.old words.new result }
+pub(crate) fn change_all<R: Stored, W: Holds<R>, K: FieldKernel<R>, O: OnOne<R, W, K>>(
+    words: &mut [W],
+    operation: &O,
+)
+    requires { AreElements (field_of W.number K.width K.product K.generator) words.old }
+    ensures long { length words.new ≡ length words.old }
+    ensures results { Each (field_of W.number K.width K.product K.generator) (O.gives operation.now) words.old words.new }
 {
-    if !fields::is_element::<R, W, K>(scalar) {
-        return status::NOT_AN_ELEMENT;
+    for place in 0..words.len() {
+        words[place] = operation.result_at(words[place]);
     }
-    change_each::<R, W, K, Scaled<W>>(words, &Scaled { scalar })
 }
 
-/// Adds to each sum the product of the scalar and the word at its place.
+/// Leaves the result of the operation at each word and the other word at its place. The slices are of one length.
 #[inline]
-pub fn add_scaled<R: Stored, W: Holds<R>, K: FieldKernel<R>>(
-    sums: &mut [W],
-    scalar: W,
-    words: &[W],
-) -> u32
-    ensures { AddsScaled (field_of W.number K.width K.product K.generator) scalar words.now sums.old sums.new result }
+pub(crate) fn change_all_by<R: Stored, W: Holds<R>, K: FieldKernel<R>, O: OnTwo<R, W, K>>(
+    words: &mut [W],
+    others: &[W],
+    operation: &O,
+)
+    requires { length others.now ≡ length words.old }
+    ensures long { length words.new ≡ length words.old }
+    ensures results { EachOfTwo (field_of W.number K.width K.product K.generator) (O.gives operation.now) words.old others.now words.new }
 {
-    if words.len() != sums.len() {
-        return status::LENGTH;
+    for place in 0..words.len() {
+        words[place] = operation.result_at(words[place], others[place]);
     }
-    if !fields::is_element::<R, W, K>(scalar) {
-        return status::NOT_AN_ELEMENT;
-    }
-    change_each_by::<R, W, K, ScaledSum<W>>(sums, words, &ScaledSum { scalar })
 }

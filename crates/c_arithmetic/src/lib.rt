@@ -9,10 +9,11 @@ mod bytes;
 mod erasure;
 mod fields;
 pub mod in_place;
-pub mod in_planes;
-pub mod in_slices;
+mod in_planes;
+mod in_slices;
 mod lanes;
 mod linear;
+mod many;
 mod messages;
 mod numbers;
 pub mod operations;
@@ -28,15 +29,15 @@ mod wide_level;
 mod words;
 
 pub use crate::bases::{ChangeOfBasis, FromTower, ToTower};
-pub use crate::bytes::multiply_bytes;
 pub use crate::erasure::{erasure_encode, erasure_reconstruct, erasure_space, erasure_verify};
 pub use crate::linear::{map_bytes, map_wide};
+pub use crate::many::{
+    Many, add_scaled, batch_invert, dot_product, invert, invert_in_place, multiply, multiply_by,
+    multiply_by_in_place, multiply_in_place,
+};
 pub use crate::messages::{
     gcm_ghash, gcm_ghash_final, hash, hash_update, hash_update_padded, tags_are_equal,
 };
-pub use crate::products::{dot_product, multiply, multiply_in_place};
-pub use crate::scalars::{add_scaled, multiply_by, multiply_by_in_place};
-pub use crate::scaled_bytes::{multiply_bytes_by, multiply_bytes_by_in_place};
 pub use crate::shards::{
     add_shard, encode, encode_prepared, prepare, reconstruct, reconstruct_data, tables_length,
     verify, verify_prepared,

@@ -1,45 +1,27 @@
 // Products of words of 128 bits in the field of GHASH, in vectors of a width.
-ghost use Rattle.std.specs.Prelude.{◌≡◌};
-ghost use Rattle.c_arithmetic.specs.Calls.{Multiplies, TakesDotProduct};
-ghost use Rattle.c_arithmetic.specs.Fields.{ghash_field};
+ghost use Rattle.std.specs.Prelude.{◌≡◌, length};
+ghost use Rattle.c_arithmetic.specs.Calls.{EachOfTwo};
+ghost use Rattle.c_arithmetic.specs.Fields.{ghash_field, wide_number};
+ghost use Rattle.field_base.specs.Powers.{dot_of};
+ghost use Rattle.ghash_slices.specs.LowStages.{ghash_product};
 
+use crate::Wide;
 use crate::lanes::{dot_of_words, multiply_each};
-use crate::{Wide, status};
 use ghash_slices::{WideWord, Width};
 
-/// Writes the product of the words at each place, four at once.
-pub fn multiply<V: Width>(left: &[Wide], right: &[Wide], products: &mut [Wide]) -> u32
-    ensures { Multiplies ghash_field left.now right.now products.old products.new result }
+/// Multiplies each product by the word at its place, four at once. The slices are of one length.
+pub(crate) fn multiply_all<V: Width>(products: &mut [Wide], words: &[Wide])
+    requires { length words.now ≡ length products.old }
+    ensures long { length products.new ≡ length products.old }
+    ensures products { EachOfTwo ghash_field (λ x y z. z ≡ ghash_product x y) products.old words.now products.new }
 {
-    if left.len() != products.len() {
-        return status::LENGTH;
-    }
-    if right.len() != products.len() {
-        return status::LENGTH;
-    }
-    products.copy_from_slice(left);
-    multiply_each::<V>(products, right);
-    status::OK
-}
-
-/// Multiplies each product by the word at its place, four at once.
-pub fn multiply_in_place<V: Width>(products: &mut [Wide], words: &[Wide]) -> u32
-    ensures { Multiplies ghash_field products.old words.now products.old products.new result }
-{
-    if words.len() != products.len() {
-        return status::LENGTH;
-    }
     multiply_each::<V>(products, words);
-    status::OK
 }
 
-/// Writes the sum of the products at each place, which is 0 of none: by four products at once.
-pub fn dot_product<V: Width>(left: &[Wide], right: &[Wide], sum: &mut Wide) -> u32
-    ensures { TakesDotProduct ghash_field left.now right.now sum.old sum.new result }
+/// The sum of the products at each place, which is 0 of none: by four products at once. The slices are of one length.
+pub(crate) fn dot_product<V: Width>(left: &[Wide], right: &[Wide]) -> Wide
+    requires { length left.now ≡ length right.now }
+    ensures { wide_number result ≡ dot_of ghash_product wide_number left.now right.now }
 {
-    if left.len() != right.len() {
-        return status::LENGTH;
-    }
-    *sum = Wide::of_number(dot_of_words::<V>(left, right));
-    status::OK
+    Wide::of_number(dot_of_words::<V>(left, right))
 }

@@ -1,23 +1,20 @@
 // Products of words of 128 bits by one scalar in the field of GHASH, in vectors of a width.
-ghost use Rattle.std.specs.Prelude.{◌≡◌, ◌<◌, ◌≤◌, ℕ, length, get_or, min};
-ghost use Rattle.c_arithmetic.specs.Calls.{AddsScaled, MultipliesBy};
+ghost use Rattle.std.specs.Prelude.{◌≡◌, ◌<◌, ◌≤◌, bit_xor, length, min};
+ghost use Rattle.c_arithmetic.specs.Calls.{Each, EachOfTwo};
 ghost use Rattle.c_arithmetic.specs.Fields.{ghash_field, wide_number};
 ghost use Rattle.ghash_slices.specs.LowStages.{ghash_product};
 
+use crate::Wide;
 use crate::numbers::clear;
-use crate::{Wide, status};
 use ghash_slices::{WideWord, Width, add_multiples};
 
-/// Writes the product of each word and the scalar.
-pub fn multiply_by<V: Width>(words: &[Wide], scalar: Wide, products: &mut [Wide]) -> u32
-    ensures { MultipliesBy ghash_field scalar words.now products.old products.new result }
+/// Writes the product of each word and the scalar. The slices are of one length.
+pub(crate) fn write_multiples<V: Width>(words: &[Wide], scalar: Wide, products: &mut [Wide])
+    requires { length words.now ≡ length products.old }
+    ensures { Each ghash_field (λ x y. y ≡ ghash_product x (wide_number scalar)) words.now products.new }
 {
-    if words.len() != products.len() {
-        return status::LENGTH;
-    }
     clear(products);
     add_multiples::<V, Wide>(products, words, scalar.number());
-    status::OK
 }
 
 // How many words are copied at once in place, of few words and of many: to clear the copy of many takes longer than to multiply few.
@@ -25,19 +22,11 @@ const FEW_AT_ONCE: usize = 64;
 
 const MANY_AT_ONCE: usize = 1024;
 
-/// Multiplies each word by the scalar: a block of words is copied to the stack, and its products are added to zeros, as in `multiply_by`.
-pub fn multiply_by_in_place<V: Width>(words: &mut [Wide], scalar: Wide) -> u32
-    ensures { MultipliesBy ghash_field scalar words.old words.old words.new result }
-{
-    multiply_all::<V>(words, scalar);
-    status::OK
-}
-
-// Multiplies each word by the scalar.
-fn multiply_all<V: Width>(words: &mut [Wide], scalar: Wide)
+/// Multiplies each word by the scalar: a block of words is copied to the stack, and its products are added to zeros, as in
+/// `write_multiples`.
+pub(crate) fn multiply_all<V: Width>(words: &mut [Wide], scalar: Wide)
     ensures long { length words.new ≡ length words.old }
-    ensures products { (k : ℕ) → k < length words.new → (d : _) → wide_number (get_or words.new k d)
-        ≡ ghash_product (wide_number (get_or words.old k d)) (wide_number scalar) }
+    ensures products { Each ghash_field (λ x y. y ≡ ghash_product x (wide_number scalar)) words.old words.new }
 {
     if words.len() <= FEW_AT_ONCE {
         multiply_at_once::<V, FEW_AT_ONCE>(words, scalar);
@@ -52,8 +41,7 @@ fn multiply_at_once<V: Width, const N: usize>(words: &mut [Wide], scalar: Wide)
     requires some { 0 < N }
     requires few { N ≤ 1024 }
     ensures long { length words.new ≡ length words.old }
-    ensures products { (k : ℕ) → k < length words.new → (d : _) → wide_number (get_or words.new k d)
-        ≡ ghash_product (wide_number (get_or words.old k d)) (wide_number scalar) }
+    ensures products { Each ghash_field (λ x y. y ≡ ghash_product x (wide_number scalar)) words.old words.new }
 {
     let mut copies = [Wide::of_number(0); N];
     multiply_blocks::<V>(words, &mut copies, scalar);
@@ -63,8 +51,7 @@ fn multiply_at_once<V: Width, const N: usize>(words: &mut [Wide], scalar: Wide)
 fn multiply_blocks<V: Width>(words: &mut [Wide], copies: &mut [Wide], scalar: Wide)
     requires { 0 < length copies.old }
     ensures long { length words.new ≡ length words.old }
-    ensures products { (k : ℕ) → k < length words.new → (d : _) → wide_number (get_or words.new k d)
-        ≡ ghash_product (wide_number (get_or words.old k d)) (wide_number scalar) }
+    ensures products { Each ghash_field (λ x y. y ≡ ghash_product x (wide_number scalar)) words.old words.new }
 {
     let mut start = 0;
     while start < words.len() {
@@ -87,21 +74,17 @@ fn multiply_block<V: Width>(words: &mut [Wide], copies: &mut [Wide], scalar: Wid
     requires { length words.old ≡ length copies.old }
     ensures long { length words.new ≡ length words.old }
     ensures copied { length copies.new ≡ length copies.old }
-    ensures products { (k : ℕ) → k < length words.new → (d : _) → wide_number (get_or words.new k d)
-        ≡ ghash_product (wide_number (get_or words.old k d)) (wide_number scalar) }
+    ensures products { Each ghash_field (λ x y. y ≡ ghash_product x (wide_number scalar)) words.old words.new }
 {
     copies.copy_from_slice(words);
     clear(words);
     add_multiples::<V, Wide>(words, copies, scalar.number());
 }
 
-/// Adds to each sum the product of the scalar and the word at its place.
-pub fn add_scaled<V: Width>(sums: &mut [Wide], scalar: Wide, words: &[Wide]) -> u32
-    ensures { AddsScaled ghash_field scalar words.now sums.old sums.new result }
+/// Adds to each sum the product of the scalar and the word at its place. The slices are of one length.
+pub(crate) fn add_all<V: Width>(sums: &mut [Wide], words: &[Wide], scalar: Wide)
+    requires { length words.now ≡ length sums.old }
+    ensures { EachOfTwo ghash_field (λ sum x next. next ≡ bit_xor sum (ghash_product (wide_number scalar) x)) sums.old words.now sums.new }
 {
-    if words.len() != sums.len() {
-        return status::LENGTH;
-    }
     add_multiples::<V, Wide>(sums, words, scalar.number());
-    status::OK
 }

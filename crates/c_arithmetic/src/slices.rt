@@ -2,12 +2,12 @@
 // lengths are compared first, then it is seen that all words are elements, and nothing is written before.
 ghost use Rattle.std.specs.Prelude.{◌≡◌, ◌↔◌, ◌*◌, ◌≤◌, IsTrue};
 ghost use Rattle.field_base.specs.Powers.{power, value_of};
-ghost use Rattle.c_arithmetic.specs.Calls.{AreElements, CallOnEach, CallOnTwo, ChangesBasis, Evaluates, MultipliesBy};
-ghost use Rattle.c_arithmetic.specs.Calls.{NamesGenerator, TakesDotProduct, TakesProduct};
+ghost use Rattle.c_arithmetic.specs.Calls.{AreElements, CallOnEach, CallOnTwo, ChangesBasis, Evaluates};
+ghost use Rattle.c_arithmetic.specs.Calls.{NamesGenerator, TakesProduct};
 ghost use Rattle.c_arithmetic.specs.Fields.{field_of};
 
 use crate::bases::ChangeOfBasis;
-use crate::operations::{OnOne, OnTwo, Scaled};
+use crate::operations::{OnOne, OnTwo};
 use crate::{fields, status};
 use field_base::{FieldKernel, Stored};
 use tower_transforms::Holds;
@@ -72,24 +72,6 @@ pub fn write_each_of_two<R: Stored, W: Holds<R>, K: FieldKernel<R>, O: OnTwo<R, 
     status::OK
 }
 
-/// Writes the product of each word and the scalar.
-#[inline]
-pub fn multiply_by<R: Stored, W: Holds<R>, K: FieldKernel<R>>(
-    words: &[W],
-    scalar: W,
-    products: &mut [W],
-) -> u32
-    ensures { MultipliesBy (field_of W.number K.width K.product K.generator) scalar words.now products.old products.new result }
-{
-    if words.len() != products.len() {
-        return status::LENGTH;
-    }
-    if !fields::is_element::<R, W, K>(scalar) {
-        return status::NOT_AN_ELEMENT;
-    }
-    write_each::<R, W, K, Scaled<W>>(words, products, &Scaled { scalar }, false)
-}
-
 /// Writes the product of all words, which is 1 of none.
 #[inline]
 pub fn product<R: Stored, W: Holds<R>, K: FieldKernel<R>>(words: &[W], product: &mut W) -> u32
@@ -103,25 +85,6 @@ pub fn product<R: Stored, W: Holds<R>, K: FieldKernel<R>>(words: &[W], product: 
         value = fields::multiply::<R, W, K>(value, *word);
     }
     *product = value;
-    status::OK
-}
-
-/// Writes the sum of the products at each place, which is 0 of none.
-#[inline]
-pub fn dot_product<R: Stored, W: Holds<R>, K: FieldKernel<R>>(
-    left: &[W],
-    right: &[W],
-    sum: &mut W,
-) -> u32
-    ensures { TakesDotProduct (field_of W.number K.width K.product K.generator) left.now right.now sum.old sum.new result }
-{
-    if left.len() != right.len() {
-        return status::LENGTH;
-    }
-    if !are_elements::<R, W, K>(left) || !are_elements::<R, W, K>(right) {
-        return status::NOT_AN_ELEMENT;
-    }
-    *sum = fields::dot_product::<R, W, K>(left, right);
     status::OK
 }
 

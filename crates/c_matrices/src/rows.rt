@@ -1,11 +1,9 @@
-// How multiples of a row are added to another, by the calls over slices that are fastest for a field.
+// How multiples of a row are added to another, by the call over slices that a field has for it.
 ghost use Rattle.std.specs.Prelude.{◌≡◌};
 ghost use Rattle.c_arithmetic.specs.Calls.{AddsScaled};
 ghost use Rattle.c_arithmetic.specs.Fields.{field_of};
 
-mod impls;
-
-use c_arithmetic::{GhashKernel, Wide, in_place};
+use c_arithmetic::Many;
 use field_base::{FieldKernel, Stored};
 use ghash_slices::Width;
 use std::marker::PhantomData;
@@ -18,25 +16,12 @@ pub trait AddsRows<R: Stored, W: Holds<R>, K: FieldKernel<R>> {
         ensures { AddsScaled (field_of W.number K.width K.product K.generator) scalar words.now sums.old sums.new result };
 }
 
-/// One word after the other.
-pub struct OneByOne;
+/// The field's own, in vectors of a width where it takes vectors.
+pub struct InVectors<V>(PhantomData<V>);
 
-impl<R: Stored, W: Holds<R>, K: FieldKernel<R>> AddsRows<R, W, K> for OneByOne {
+impl<R: Stored, K: Many<R>, V: Width> AddsRows<R, K::Word, K> for InVectors<V> {
     #[inline]
-    fn add_scaled(sums: &mut [W], scalar: W, words: &[W]) -> u32 {
-        in_place::add_scaled::<R, W, K>(sums, scalar, words)
-    }
-}
-
-/// A level of the tower, in planes of bytes.
-pub struct InPlanes;
-
-/// The field of GHASH, in vectors of a width.
-pub struct InLanes<V>(PhantomData<V>);
-
-impl<V: Width> AddsRows<u128, Wide, GhashKernel> for InLanes<V> {
-    #[inline]
-    fn add_scaled(sums: &mut [Wide], scalar: Wide, words: &[Wide]) -> u32 {
-        c_arithmetic::add_scaled::<V>(sums, scalar, words)
+    fn add_scaled(sums: &mut [K::Word], scalar: K::Word, words: &[K::Word]) -> u32 {
+        c_arithmetic::add_scaled::<R, K, V>(sums, scalar, words)
     }
 }

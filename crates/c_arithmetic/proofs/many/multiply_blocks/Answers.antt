@@ -1,6 +1,6 @@
 use Rattle.std.proofs.Common.{◌≡◌, ◌∙◌}
 use Rattle.c_arithmetic.proofs.BothParts.{both_parts_of}
-use Rattle.c_arithmetic.proofs.in_slices.multiply_blocks.Goals as goal
+use Rattle.c_arithmetic.proofs.many.multiply_blocks.Goals as goal
 
 pub returns-clause-products : goal.returns-clause-products
 returns-clause-products g c =

@@ -1,7 +1,19 @@
 use Rattle.std.proofs.Common.{◌<◌, ◌^◌, ◌∙◌}
 use Rattle.field_base.specs.Field.{IsInverseOrZero}
-use Rattle.c_arithmetic.proofs.BothParts.{both_parts_of}
-use Rattle.c_arithmetic.proofs.in_slices.invert_blocks.Goals as goal
+use Rattle.c_arithmetic.proofs.BothParts.{both_parts_of, first_part, last_part}
+use Rattle.c_arithmetic.proofs.many.invert_blocks.Goals as goal
+
+pub invert_all-requires : goal.invert_all-requires
+invert_all-requires g c =
+    let parts = c.split_at_mut-blocks in
+    first_part (λ (x : _). g.K.Word.Holds.number x < 2 ^ g.K.FieldKernel.width) c.args.words.now parts.result.0.now parts.result.1.now
+    parts.ensures.value c.requires
+
+pub invert_all-requires-2 : goal.invert_all-requires-2
+invert_all-requires-2 g c =
+    let parts = c.split_at_mut-blocks in
+    last_part (λ (x : _). g.K.Word.Holds.number x < 2 ^ g.K.FieldKernel.width) c.args.words.now parts.result.0.now parts.result.1.now
+    parts.ensures.value c.requires
 
 pub returns-clause-inverses : goal.returns-clause-inverses
 returns-clause-inverses g c =

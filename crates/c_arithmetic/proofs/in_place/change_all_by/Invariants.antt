@@ -1,6 +1,6 @@
 use Rattle.std.proofs.Common.{get_or}
 use Rattle.c_arithmetic.proofs.PlacesPut.{ArePut}
-use Rattle.c_arithmetic.proofs.in_place.change_each_by.Given as goal
+use Rattle.c_arithmetic.proofs.in_place.change_all_by.Given as goal
 
 abbrev pub invariant-loop-place : goal.invariant-loop-place
 invariant-loop-place g l =
