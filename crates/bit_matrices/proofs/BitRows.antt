@@ -1,5 +1,5 @@
--- Rows of packed matrices: sums of two, the elimination of a column, and fewer columns of the same rows.
-use Rattle.std.proofs.Common.{◌≡◌, ◌≢◌, ◌⊎◌, inl, inr, ℕ, ◌+◌, ◌*◌, ◌-◌, ◌/◌, ◌%◌, ◌^◌, ◌<◌, ◌≤◌, Bool, List, length, refl, sym, subst, ◌∙◌, ap, ap₂, arith, below_more, get_or-set_other, get_or-set_same}
+-- Rows of packed matrices: sums of two, fewer columns of the same rows, and the same entries.
+use Rattle.std.proofs.Common.{◌≡◌, ◌≢◌, ◌⊎◌, inl, inr, ℕ, ◌+◌, ◌*◌, ◌-◌, ◌/◌, ◌%◌, ◌^◌, ◌<◌, ◌≤◌, Bool, List, length, refl, sym, subst, ◌∙◌, ap, ap₂, arith, get_or-set_other, get_or-set_same}
 use Rattle.std.specs.Prelude.{bit_xor, if◌then◌else◌, slice_index, slice_set}
 use Rattle.std.specs.Int.{bit_at}
 use Rattle.std.proofs.lemmas.Bool.{cases_eq, cases_lt, cases_order, le-ltb, lt-ltb}
@@ -10,8 +10,8 @@ use native.Mathlib.Nat.{one-mul, zero-mul}
 use lib.Bits.{xor_zero_r}
 use Rattle.field_base.specs.Basis.{sum_below}
 use Rattle.field_base.specs.BitRingLemmas.{two_cases}
-use Rattle.field_matrices.specs.Matrices.{HaveSameRowSpace, IsRowCombination, cleared_entry}
-use Rattle.field_matrices.proofs.Elimination.{cleared-own, cleared-other}
+use Rattle.field_base.proofs.BasisSums.{sum_below-same}
+use Rattle.field_matrices.specs.Matrices.{HaveSameRowSpace, IsReducedEchelon, IsRowCombination}
 use Rattle.field_matrices.proofs.MatrixRows.{places-differ}
 use Rattle.bit_matrices.specs.BitMatrices.{IsBitRowWritten, IsBitWritten, IsRangeWritten, bit_entry, kept_before, word_of}
 use Rattle.bit_matrices.proofs.FourRowTables.{bit_of_product, bit_of_xor}
@@ -175,51 +175,6 @@ module _ (words row column own value shifted : ℕ) (old : List ℕ) (own_is : o
         others = λ i j fits other. entry_kept i j fits other (cases_eq (i * words + j / 64) own);
       })
 
--- ---- a column that is cleared
-
--- the rows before row n are cleared, and the others are as they were
-pub record ClearedSoFar (times : ℕ → ℕ → ℕ) (columns row column : ℕ) (old now : ℕ → ℕ → ℕ) (n : ℕ) : Type 0 where
-  pub done : (i j : ℕ) → i < n → j < columns → now i j ≡ cleared_entry times row column old i j
-  pub rest : (i j : ℕ) → n ≤ i → j < columns → now i j ≡ old i j
-
-pub cleared_none : (times : ℕ → ℕ → ℕ) (columns row column : ℕ) (old : ℕ → ℕ → ℕ) → ClearedSoFar times columns row column old old 0
-cleared_none times columns row column old =
-    record { done = λ i j below inside. absurd (omega (arith, below)); rest = λ i j past inside. refl }
-
-module _ (times : ℕ → ℕ → ℕ) (columns row column : ℕ) (old now : ℕ → ℕ → ℕ) (n : ℕ)
-    (so_far : ClearedSoFar times columns row column old now n) where
-  -- the row that clears the others stays
-  pub clearing-row : (j : ℕ) → j < columns → now row j ≡ old row j
-  clearing-row j inside =
-      elim (cases_lt row n) [
-        | inl below ↦ so_far.done row j below inside ∙ cleared-own times row column old row j refl
-        | inr past ↦ so_far.rest row j past inside
-      ]
-
-  -- one row more
-  pub cleared_more : (next : ℕ → ℕ → ℕ) → column < columns
-      → ((j : ℕ) → j < columns → next n j ≡ cleared_entry times row column now n j)
-      → ((i j : ℕ) → i ≢ n → j < columns → next i j ≡ now i j) → ClearedSoFar times columns row column old next (n + 1)
-  cleared_more next within own others =
-      record {
-        done = λ i j below inside.
-            below_more (λ k. next k j ≡ cleared_entry times row column old k j) n
-            (λ k before. others k j (λ e. absurd (omega (arith, e, before))) inside ∙ so_far.done k j before inside)
-            (own j inside ∙ same j inside (cases_eq n row)) i below;
-        rest = λ i j past inside.
-            others i j (λ e. absurd (omega (arith, e, past))) inside ∙ so_far.rest i j (omega (arith, past)) inside;
-      }
-    where
-      same : (j : ℕ) → j < columns → (n ≡ row) ⊎ (n ≡ row → ⊥)
-          → cleared_entry times row column now n j ≡ cleared_entry times row column old n j
-      same j inside (inl is) =
-          cleared-own times row column now n j is ∙ so_far.rest n j (omega arith) inside ∙ sym (cleared-own times row column old n j is)
-      same j inside (inr other) =
-          cleared-other times row column now n j other
-          ∙ ap₂ bit_xor (so_far.rest n j (omega arith) inside)
-          (ap₂ times (so_far.rest n column (omega arith) within) (clearing-row j inside))
-          ∙ sym (cleared-other times row column old n j other)
-
 -- ---- some of the columns
 
 -- matrices with the same row space have it in any choice of their columns
@@ -233,3 +188,37 @@ module _ (times : ℕ → ℕ → ℕ) (rows columns some : ℕ) (place : ℕ �
   pub space_of_columns : (A B : ℕ → ℕ → ℕ) → HaveSameRowSpace times rows columns A B
       → HaveSameRowSpace times rows some (λ i j. A i (place j)) (λ i j. B i (place j))
   space_of_columns A B same = λ v. (passes A B same v, passes B A (λ u. ((same u).1, (same u).0)) v)
+
+-- ---- matrices with the same entries
+
+module _ (rows columns : ℕ) (A B : ℕ → ℕ → ℕ) (same : (i j : ℕ) → i < rows → j < columns → B i j ≡ A i j) where
+  pub space_equal : (times : ℕ → ℕ → ℕ) → HaveSameRowSpace times rows columns A B
+  space_equal times = λ v. (
+    λ given. (
+      given.0,
+      λ j inside.
+          given.1 j inside ∙ sum_below-same (λ i. times (given.0 i) (A i j)) (λ i. times (given.0 i) (B i j)) rows
+          (λ i below. ap (times (given.0 i)) (sym (same i j below inside))),
+    ),
+    λ given. (
+      given.0,
+      λ j inside.
+          given.1 j inside ∙ sum_below-same (λ i. times (given.0 i) (B i j)) (λ i. times (given.0 i) (A i j)) rows
+          (λ i below. ap (times (given.0 i)) (same i j below inside)),
+    ),
+  )
+
+  pub echelon_equal : (rank : ℕ) (pivot : ℕ → ℕ) → IsReducedEchelon rows columns rank pivot A → IsReducedEchelon rows columns rank pivot B
+  echelon_equal rank pivot form = record {
+    rank_fits = form.rank_fits;
+    pivots_fit = form.pivots_fit;
+    pivots_rise = form.pivots_rise;
+    leading = λ i below. same i (pivot i) (row i below) (form.pivots_fit i below) ∙ form.leading i below;
+    zeros_before = λ i j below before.
+        same i j (row i below) (let fits = form.pivots_fit i below in omega (arith, before, fits)) ∙ form.zeros_before i j below before;
+    alone = λ i k below within other. same k (pivot i) within (form.pivots_fit i below) ∙ form.alone i k below within other;
+    zero_rows = λ i j past within inside. same i j within inside ∙ form.zero_rows i j past within inside;
+  }
+    where
+      row : (i : ℕ) → i < rank → i < rows
+      row i below = omega (arith, below, form.rank_fits)

@@ -1,6 +1,6 @@
 -- Tables of the sums of four rows, and the product of a matrix by such sums.
 use Rattle.std.proofs.Common.{◌≡◌, inl, inr, ℕ, zero, suc, ◌+◌, ◌*◌, ◌-◌, ◌/◌, ◌%◌, ◌^◌, ◌<◌, ◌≤◌, Bool, List, [], ◌∷◌, length, replicate, refl, sym, ◌∙◌, ap, ap₂, arith, below_more, le_refl}
-use Rattle.std.specs.Prelude.{bit_and, bit_xor, if◌then◌else◌, slice_index}
+use Rattle.std.specs.Prelude.{bit_and, bit_xor, if◌then◌else◌, nat_lt, slice_index}
 use Rattle.std.specs.Int.{bit_at}
 use Rattle.std.specs.Simd.Lanes.{zip2}
 use Rattle.std.proofs.lemmas.Bool.{cases_lt, lt-ltb, le-ltb}
@@ -28,7 +28,7 @@ unfolding sum_below
 sum_next f n = let e : n + 1 ≡ suc n = omega arith in ap (sum_below f) e
 
 -- a sum of zeros
-sum_zero : (f : ℕ → ℕ) (n : ℕ) → ((j : ℕ) → f j ≡ 0) → sum_below f n ≡ 0
+pub sum_zero : (f : ℕ → ℕ) (n : ℕ) → ((j : ℕ) → f j ≡ 0) → sum_below f n ≡ 0
 unfolding sum_below
 sum_zero f zero none = refl
 sum_zero f (suc n) none = ap₂ bit_xor (sum_zero f n none) (none n) ∙ xor_zero_r 0
@@ -60,7 +60,7 @@ pub bit_of_xor : (a b j : ℕ) → bit_at (bit_xor a b) j ≡ bit_xor (bit_at a 
 bit_of_xor a b j = bit_at_xor a b j ∙ bit_sum (bit_at a j) (bit_at b j) (bit_at-lt a j) (bit_at-lt b j)
 
 -- a bit of a sum is the sum of the bits
-bit_of_sum : (f : ℕ → ℕ) (j n : ℕ) → bit_at (sum_below f n) j ≡ sum_below (λ k. bit_at (f k) j) n
+pub bit_of_sum : (f : ℕ → ℕ) (j n : ℕ) → bit_at (sum_below f n) j ≡ sum_below (λ k. bit_at (f k) j) n
 unfolding sum_below
 bit_of_sum f j zero = bit_at-zero j
 bit_of_sum f j (suc n) =
@@ -180,6 +180,22 @@ module _ (tables sum : List ℕ) (word g digit : ℕ) (room : 128 * g + 8 * digi
       ∙ ap (λ (d : ℕ). slice_index tables (128 * g + (8 * d + w))) is)
       ∙ sym (sum_next (λ h. slice_index tables (128 * h + (8 * (word / 2 ^ (4 * h) % 16) + w))) g)
 
+-- one digit gives the terms of four rows
+digit_terms : (f : ℕ → ℕ) (word g : ℕ) → sum_at_bits (λ c. f (4 * g + c)) 4 (word / 2 ^ (4 * g) % 16)
+    ≡ sum_below (λ b. bit_at word (4 * g + b) * f (4 * g + b)) 4
+digit_terms f word g =
+    sum_below-same (λ b. bit_at (word / 2 ^ (4 * g) % 16) b * f (4 * g + b)) (λ b. bit_at word (4 * g + b) * f (4 * g + b)) 4
+    (λ b below. ap (λ (x : ℕ). x * f (4 * g + b)) (bit_at-mod (word / 2 ^ (4 * g)) 4 b below ∙ sym (bit_at-add word (4 * g) b)))
+
+-- so that the sum of entries is that of the rows at the set bits of the word
+pub sum_of_tables : (width w : ℕ) (rows : ℕ → ℕ → ℕ) (tables : List ℕ) (word : ℕ) → HasTables width 16 rows tables → w < width
+    → sum_of_digits tables word 16 w ≡ sum_at_bits (λ b. rows b w) 64 word
+sum_of_tables width w rows tables word has inside =
+    sum_below-same (λ g. slice_index tables (128 * g + (8 * (word / 2 ^ (4 * g) % 16) + w)))
+    (λ g. sum_below (λ b. bit_at word (4 * g + b) * rows (4 * g + b) w) 4) 16
+    (λ g below. has g below (word / 2 ^ (4 * g) % 16) w (mod-lt (word / 2 ^ (4 * g)) (omega arith)) inside ∙ digit_terms (λ b. rows b w) word g)
+    ∙ sum_in_fours (λ b. bit_at word b * rows b w) 16
+
 -- ---- 64 rows more
 
 module _ (inner left_words words : ℕ) (left right : List ℕ) (pass i v : ℕ) where
@@ -194,19 +210,9 @@ module _ (inner left_words words : ℕ) (left right : List ℕ) (pass i v : ℕ)
       let rest : (64 * pass + k) % 64 ≡ k = omega (arith, inside) in
       sym (ap₂ (λ (p q : ℕ). bit_at (word_of left_words left i p) q * row_word inner words right (64 * pass + k) v) quotient rest)
 
-  -- one digit gives the terms of four rows
-  digit_terms : (g : ℕ) → sum_at_bits (λ c. row_word inner words right (64 * pass + (4 * g + c)) v) 4 (word_of left_words left i pass / 2 ^ (4 * g) % 16)
-      ≡ sum_below (λ b. term (4 * g + b)) 4
-  digit_terms g =
-      let word = word_of left_words left i pass in
-      sum_below-same (λ b. bit_at (word / 2 ^ (4 * g) % 16) b * row_word inner words right (64 * pass + (4 * g + b)) v)
-      (λ b. term (4 * g + b)) 4
-      (λ b below. ap (λ (x : ℕ). x * row_word inner words right (64 * pass + (4 * g + b)) v)
-      (bit_at-mod (word / 2 ^ (4 * g)) 4 b below ∙ sym (bit_at-add word (4 * g) b)))
-
   -- and the sum of entries those of all 64
   pub pass_more : (width w : ℕ) (rows : ℕ → ℕ → ℕ) (tables : List ℕ) → HasTables width 16 rows tables → w < width
-      → ((k : ℕ) → rows k w ≡ row_word inner words right (64 * pass + k) v)
+      → ((k : ℕ) → k < 64 → rows k w ≡ row_word inner words right (64 * pass + k) v)
       → bit_xor (partial_word inner left_words words left right (64 * pass) i v) (sum_of_digits tables (word_of left_words left i pass) 16 w)
       ≡ partial_word inner left_words words left right (64 * (pass + 1)) i v
   pass_more width w rows tables has inside are =
@@ -214,31 +220,33 @@ module _ (inner left_words words : ℕ) (left right : List ℕ) (pass i v : ℕ)
       let whole : ℕ → ℕ = λ k. bit_entry left_words left i k * row_word inner words right k v in
       let next : 64 * pass + 64 ≡ 64 * (pass + 1) = omega arith in
       ap (bit_xor (sum_below whole (64 * pass)))
-      (sum_below-same (λ g. slice_index tables (128 * g + (8 * (word / 2 ^ (4 * g) % 16) + w))) (λ g. sum_below (λ b. term (4 * g + b)) 4) 16
-      (λ g below. has g below (word / 2 ^ (4 * g) % 16) w (mod-lt (word / 2 ^ (4 * g)) (omega arith)) inside
-      ∙ sum_below-same (λ b. bit_at (word / 2 ^ (4 * g) % 16) b * rows (4 * g + b) w)
-      (λ b. bit_at (word / 2 ^ (4 * g) % 16) b * row_word inner words right (64 * pass + (4 * g + b)) v) 4
-      (λ b short. ap (λ (x : ℕ). bit_at (word / 2 ^ (4 * g) % 16) b * x) (are (4 * g + b)))
-      ∙ digit_terms g)
-      ∙ sum_in_fours term 16 ∙ sum_below-same term (λ k. whole (64 * pass + k)) 64 term_is)
+      (sum_of_tables width w rows tables word has inside
+      ∙ sum_below-same (λ b. bit_at word b * rows b w) (λ k. whole (64 * pass + k)) 64
+      (λ k short. ap (λ (x : ℕ). bit_at word k * x) (are k short) ∙ term_is k short))
       ∙ sym (sum_below-add whole (64 * pass) 64) ∙ ap (sum_below whole) next
 
 -- ---- the product
 
 -- a row that the matrix has, and one behind its last
-row_inside : (inner words : ℕ) (values : List ℕ) (k v : ℕ) → k < inner → row_word inner words values k v ≡ word_of words values k v
+pub row_inside : (inner words : ℕ) (values : List ℕ) (k v : ℕ) → k < inner → row_word inner words values k v ≡ word_of words values k v
 row_inside inner words values k v inside = ap (λ (t : Bool). if t then word_of words values k v else 0) (lt-ltb k inner inside)
 
-row_behind : (inner words : ℕ) (values : List ℕ) (k v : ℕ) → inner ≤ k → row_word inner words values k v ≡ 0
+pub row_behind : (inner words : ℕ) (values : List ℕ) (k v : ℕ) → inner ≤ k → row_word inner words values k v ≡ 0
 row_behind inner words values k v past = ap (λ (t : Bool). if t then word_of words values k v else 0) (le-ltb k inner past)
 
--- the same, by the test of the code
-pub row_given : (inner words : ℕ) (values : List ℕ) (row k v : ℕ) → k < inner - row
-    → word_of words values (row + k) v ≡ row_word inner words values (row + k) v
-row_given inner words values row k v inside = sym (row_inside inner words values (row + k) v (omega (arith, inside)))
-
-pub row_missing : (inner words : ℕ) (values : List ℕ) (row k v : ℕ) → row < inner → inner - row ≤ k → 0 ≡ row_word inner words values (row + k) v
-row_missing inner words values row k v some past = sym (row_behind inner words values (row + k) v (omega (arith, some, past)))
+-- the same by the places of 64 rows from one on, of which those behind the last are one place behind it
+pub row_from : (inner words row k place : ℕ) (values : List ℕ) (v : ℕ) → place ≡ (if nat_lt (row + k) inner then row + k else inner)
+    → row_word inner words values place v ≡ row_word inner words values (row + k) v
+row_from inner words row k place values v is =
+    elim (cases_lt (row + k) inner) [
+      | inl inside ↦
+          ap (λ (p : ℕ). row_word inner words values p v)
+          (is ∙ ap (λ (t : Bool). if t then row + k else inner) (lt-ltb (row + k) inner inside))
+      | inr past ↦
+          ap (λ (p : ℕ). row_word inner words values p v)
+          (is ∙ ap (λ (t : Bool). if t then row + k else inner) (le-ltb (row + k) inner past))
+          ∙ row_behind inner words values inner v (le_refl inner) ∙ sym (row_behind inner words values (row + k) v past)
+    ]
 
 -- bits of the words of the product
 pub product_bits : (rows inner left_words words : ℕ) (left right now : List ℕ) → left_words ≡ words_for inner

@@ -4,3 +4,5 @@ mod BitRows
 mod BitPivots
 mod BitIdentities
 mod BitNullRows
+mod PendingSums
+mod WordColumns

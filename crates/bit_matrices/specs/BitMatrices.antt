@@ -1,10 +1,11 @@
 -- Matrices over GF(2), packed: each row in as many words of 64 bits, row after row in a list, place j of a row in bit j % 64 of its word
 -- j / 64. They are multiplied by the method of the four Russians (V. Arlazarov, E. Dinic, M. Kronrod and I. Faradzev, 1970; M. Albrecht,
 -- G. Bard and W. Hart, Efficient Multiplication of Dense Matrices over GF(2), ACM TOMS 37, 2010).
-use Rattle.std.specs.Prelude.{◌≡◌, ◌≢◌, ◌⊎◌, ℕ, ◌+◌, ◌*◌, ◌/◌, ◌%◌, ◌^◌, ◌<◌, ◌≤◌, List, bit_xor, if◌then◌else◌, length, nat_lt, slice_index}
+use Rattle.std.specs.Prelude.{◌≡◌, ◌≢◌, ◌⊎◌, ℕ, ◌+◌, ◌-◌, ◌*◌, ◌/◌, ◌%◌, ◌^◌, ◌<◌, ◌≤◌, List, bit_xor, if◌then◌else◌, length, nat_lt, slice_index}
 use Rattle.std.specs.Array.{FillsFrom}
 use Rattle.std.specs.Int.{bit_at, div_ceil}
 use Rattle.field_base.specs.Basis.{sum_below}
+use Rattle.field_matrices.specs.Matrices.{identity_entry}
 
 -- how many words a row of so many bits takes
 abbrev pub words_for : ℕ → ℕ
@@ -100,3 +101,45 @@ sum_of_digits values word n w = sum_below (λ g. slice_index values (128 * g + (
 abbrev pub partial_word : ℕ → ℕ → ℕ → List ℕ → List ℕ → ℕ → ℕ → ℕ → ℕ
 partial_word inner left_words words left right n i v =
     sum_below (λ k. bit_entry left_words left i k * row_word inner words right k v) n
+
+-- ---- elimination, 64 columns at a time
+
+-- entry (k, j) of a matrix of so many rows, and 0 behind its last row
+abbrev pub entry_within : ℕ → (ℕ → ℕ → ℕ) → ℕ → ℕ → ℕ
+entry_within rows A k j = if nat_lt k rows then A k j else 0
+
+-- column `first + b` has its pivot in row `place b`, for b < 64; where it has none, that is no row. These are rows before row `rank`, and from
+-- bit `bit` on there is none
+pub record ArePivotPlaces (rows rank bit : ℕ) (place : ℕ → ℕ) : Type 0 where
+  pub taken : (b : ℕ) → b < 64 → place b < rows → place b < rank
+  pub free : (b : ℕ) → bit ≤ b → b < 64 → rows ≤ place b
+
+-- the sum that row i is still to have added in column j: of each row with a pivot for which its entry in the column of that pivot is 1
+abbrev pub pending_sum : ℕ → ℕ → (ℕ → ℕ) → (ℕ → ℕ → ℕ) → ℕ → ℕ → ℕ
+pending_sum rows first place A i j = sum_below (λ b. A i (first + b) * entry_within rows A (place b) j) 64
+
+-- entry (i, j) of the matrix that A stands for while columns `first` to `first + 63` are eliminated: in a column with a pivot it is 1 in the
+-- row of the pivot alone, and behind these columns the sums are added that are still to be
+unfoldable pub present_entry : ℕ → ℕ → (ℕ → ℕ) → (ℕ → ℕ → ℕ) → ℕ → ℕ → ℕ
+present_entry rows first place A i j =
+    if nat_lt j first then A i j else if nat_lt j (first + 64) then
+    (if nat_lt (place (j - first)) rows then identity_entry (place (j - first)) i else A i j)
+    else bit_xor (A i j) (pending_sum rows first place A i j)
+
+-- the same of a matrix in a list, in the word that has a column
+abbrev pub present_bit : ℕ → ℕ → ℕ → List ℕ → List ℕ → ℕ → ℕ → ℕ
+present_bit rows words column places values =
+    present_entry rows (64 * (column / 64)) (slice_index places) (bit_entry words values)
+
+-- in the words from one on and before another one of each row these words were added, word v in row i, and the other words are as they were
+pub record AreWordsAdded (words from to rows : ℕ) (sums : ℕ → ℕ → ℕ) (old now : List ℕ) : Type 0 where
+  pub shape : length now ≡ length old
+  pub added : (i v : ℕ) → i < rows → v < words → from ≤ v → v < to → word_of words now i v ≡ bit_xor (word_of words old i v) (sums i v)
+  pub others : (i v : ℕ) → v < words → (v < from) ⊎ (to ≤ v) → word_of words now i v ≡ word_of words old i v
+
+-- in so many columns from one on 1 was added in the row of the pivot, where there is one, and the other entries are as they were
+pub record ArePivotsSet (rows words first count : ℕ) (place : ℕ → ℕ) (old now : List ℕ) : Type 0 where
+  pub shape : length now ≡ length old
+  pub set : (i b : ℕ) → i < rows → b < count → bit_entry words now i (first + b)
+      ≡ bit_xor (bit_entry words old i (first + b)) (entry_within rows identity_entry (place b) i)
+  pub others : (i j : ℕ) → j < 64 * words → (j < first) ⊎ (first + count ≤ j) → bit_entry words now i j ≡ bit_entry words old i j

@@ -7,10 +7,12 @@ mod draws;
 mod identities;
 mod inverses;
 mod null_spaces;
+mod pending;
 mod products;
 mod reduction;
 mod rows;
 mod systems;
+mod tables;
 
 pub use crate::draws::random_into;
 pub use crate::identities::identity_into;

@@ -1,10 +1,18 @@
-// Reduced row echelon form over GF(2), by the elimination of Gauss and Jordan: there a row is scaled by 1 alone.
-ghost use Rattle.std.specs.Prelude.{◌≡◌, ◌≢◌, ◌+◌, ◌*◌, ◌<◌, ◌≤◌, ℕ, IsNone, IfSome, length, slice_index};
+// Reduced row echelon form over GF(2), by the elimination of Gauss and Jordan, where a row is scaled by 1 alone, and the method of the four
+// Russians.
+ghost use Rattle.std.specs.Prelude.{◌≡◌, ◌≢◌, ◌+◌, ◌*◌, ◌/◌, ◌%◌, ◌<◌, ◌≤◌, ℕ, IsNone, IfSome, length, min, slice_index};
 ghost use Rattle.field_base.specs.Tower.{tower_mul};
-ghost use Rattle.field_matrices.specs.Matrices.{HaveSameRowSpace, IsReducedEchelon, cleared_entry, joined_entry};
-ghost use Rattle.bit_matrices.specs.BitMatrices.{HasBitEntry, IsBitRowWritten, bit_entry, words_for};
+ghost use Rattle.field_matrices.specs.Matrices.{HaveSameRowSpace, IsReducedEchelon, joined_entry};
+ghost use Rattle.bit_matrices.specs.BitMatrices.{ArePivotPlaces, HasBitEntry, IsBitRowWritten, IsStripAdded};
+ghost use Rattle.bit_matrices.specs.BitMatrices.{bit_entry, present_bit, word_of, words_for};
 
-use crate::rows::{Shape, add_row, entry};
+use crate::pending::add_sums;
+use crate::rows::{Shape, add_entry, add_row, entry, place};
+
+// A row is added to others in one word of 64 columns at first, pivot after pivot. What is 0 but in the row of a pivot, its column, need not
+// be stored: there each row notes in place of it whether the row of this pivot is to be added to it behind the word as well. That is the row
+// as it is stored there, which does not change before the last of the 64 columns is done; `present_entry` says what matrix it is then that
+// is stored. At the end the sums of rows that each row has noted are added to it at once, by tables.
 
 /// Brings a matrix of `rows` rows of `columns` bits to reduced row echelon form, and returns its rank, which is the number of rows that
 /// are not 0. Place i of `pivots`, which has to have as many places as there are rows, is then the column of the leading entry of row i,
@@ -64,34 +72,85 @@ pub(crate) fn reduce_words(
         (bit_entry shape.words matrix.new) }
 {
     let mut rank = 0;
-    for column in 0..count {
-        rank = reduce_column(matrix, shape, rank, column, pivots);
+    let strips = count.div_ceil(64);
+    for index in 0..strips {
+        let from = 64 * index;
+        let to = strip_end(count, from);
+        rank = reduce_strip(matrix, shape, rank, from, to, pivots);
     }
     rank
 }
 
+// Where 64 columns from one on end, or as many as there are.
+fn strip_end(count: usize, from: usize) -> usize
+    requires { from < count }
+    ensures { result ≡ min (from + 64) count }
+{
+    let left = count - from;
+    if left < 64 { count } else { from + 64 }
+}
+
+// Goes on from a matrix whose columns before `from`, the first one of a word, are in reduced row echelon form to the columns before `to`, of
+// which 64 at most are more, and returns the rank of these.
+fn reduce_strip(
+    matrix: &mut [u64],
+    shape: Shape,
+    rank: usize,
+    from: usize,
+    to: usize,
+    pivots: &mut [usize],
+) -> usize
+    requires shape { length matrix.old ≡ shape.rows * shape.words }
+    requires room { length pivots.old ≡ shape.rows }
+    requires word { from % 64 ≡ 0 }
+    requires more { from < to }
+    requires few { to ≤ from + 64 }
+    requires within { to ≤ 64 * shape.words }
+    requires reduced { IsReducedEchelon shape.rows from rank (slice_index pivots.old) (bit_entry shape.words matrix.old) }
+    ensures shape { length matrix.new ≡ length matrix.old }
+    ensures room { length pivots.new ≡ length pivots.old }
+    ensures reduced { IsReducedEchelon shape.rows to result (slice_index pivots.new) (bit_entry shape.words matrix.new) }
+    ensures space { HaveSameRowSpace (tower_mul 0) shape.rows (64 * shape.words) (bit_entry shape.words matrix.old)
+        (bit_entry shape.words matrix.new) }
+{
+    let mut places = [shape.rows; 64];
+    let mut found = rank;
+    for column in from..to {
+        found = reduce_column(matrix, shape, found, column, pivots, &mut places);
+    }
+    add_sums(matrix, shape, from / 64, &places);
+    found
+}
+
 // Goes on from a matrix whose columns before `column` are in reduced row echelon form to one column more, and returns the rank of these.
+// The rows are those of which `places` says what is still to be added to them.
 fn reduce_column(
     matrix: &mut [u64],
     shape: Shape,
     rank: usize,
     column: usize,
     pivots: &mut [usize],
+    places: &mut [usize; 64],
 ) -> usize
     requires shape { length matrix.old ≡ shape.rows * shape.words }
     requires room { length pivots.old ≡ shape.rows }
     requires column { column < 64 * shape.words }
-    requires reduced { IsReducedEchelon shape.rows column rank (slice_index pivots.old) (bit_entry shape.words matrix.old) }
+    requires places { ArePivotPlaces shape.rows rank (column % 64) (slice_index places.old) }
+    requires reduced { IsReducedEchelon shape.rows column rank (slice_index pivots.old)
+        (present_bit shape.rows shape.words column places.old matrix.old) }
     ensures shape { length matrix.new ≡ length matrix.old }
     ensures room { length pivots.new ≡ length pivots.old }
-    ensures reduced { IsReducedEchelon shape.rows (column + 1) result (slice_index pivots.new) (bit_entry shape.words matrix.new) }
-    ensures space { HaveSameRowSpace (tower_mul 0) shape.rows (64 * shape.words) (bit_entry shape.words matrix.old)
-        (bit_entry shape.words matrix.new) }
+    ensures places { ArePivotPlaces shape.rows result (column % 64 + 1) (slice_index places.new) }
+    ensures reduced { IsReducedEchelon shape.rows (column + 1) result (slice_index pivots.new)
+        (present_bit shape.rows shape.words column places.new matrix.new) }
+    ensures space { HaveSameRowSpace (tower_mul 0) shape.rows (64 * shape.words)
+        (present_bit shape.rows shape.words column places.old matrix.old)
+        (present_bit shape.rows shape.words column places.new matrix.new) }
 {
     match find_pivot(matrix, shape, rank, column) {
         None => rank,
         Some(row) => {
-            make_pivot(matrix, shape, rank, row, column);
+            make_pivot(matrix, shape, rank, row, column, places);
             pivots[rank] = column;
             rank + 1
         }
@@ -117,23 +176,41 @@ pub(crate) fn find_pivot(matrix: &[u64], shape: Shape, from: usize, column: usiz
 
 // Makes row `rank` 1 in this column, and the others 0, by sums of rows. Row `row` is not 0 there, and row `rank` is 0, or that one. Both
 // are 0 before the column. A column where both are 0 stays.
-fn make_pivot(matrix: &mut [u64], shape: Shape, rank: usize, row: usize, column: usize)
+fn make_pivot(
+    matrix: &mut [u64],
+    shape: Shape,
+    rank: usize,
+    row: usize,
+    column: usize,
+    places: &mut [usize; 64],
+)
     requires rank { HasBitEntry shape.rows shape.words rank column (length matrix.old) }
     requires row { row < shape.rows }
+    requires behind { rank ≤ row }
     requires nonzero { bit_entry shape.words matrix.old row column ≢ 0 }
     requires first { row ≢ rank → bit_entry shape.words matrix.old rank column ≡ 0 }
-    requires rank_zeros { (j : ℕ) → j < column → bit_entry shape.words matrix.old rank j ≡ 0 }
-    requires row_zeros { (j : ℕ) → j < column → bit_entry shape.words matrix.old row j ≡ 0 }
+    requires places { ArePivotPlaces shape.rows rank (column % 64) (slice_index places.old) }
+    requires rank_zeros { (j : ℕ) → j < column
+        → present_bit shape.rows shape.words column places.old matrix.old rank j ≡ 0 }
+    requires row_zeros { (j : ℕ) → j < column
+        → present_bit shape.rows shape.words column places.old matrix.old row j ≡ 0 }
     ensures shape { length matrix.new ≡ length matrix.old }
-    ensures leading { bit_entry shape.words matrix.new rank column ≡ 1 }
-    ensures alone { (i : ℕ) → i < shape.rows → i ≢ rank → bit_entry shape.words matrix.new i column ≡ 0 }
-    ensures stays { (i j : ℕ) → i < shape.rows → j < 64 * shape.words → bit_entry shape.words matrix.old rank j ≡ 0
-        → bit_entry shape.words matrix.old row j ≡ 0 → bit_entry shape.words matrix.new i j ≡ bit_entry shape.words matrix.old i j }
-    ensures space { HaveSameRowSpace (tower_mul 0) shape.rows (64 * shape.words) (bit_entry shape.words matrix.old)
-        (bit_entry shape.words matrix.new) }
+    ensures places { ArePivotPlaces shape.rows (rank + 1) (column % 64 + 1) (slice_index places.new) }
+    ensures leading { present_bit shape.rows shape.words column places.new matrix.new rank column ≡ 1 }
+    ensures alone { (i : ℕ) → i < shape.rows → i ≢ rank → present_bit shape.rows shape.words column places.new matrix.new i column ≡ 0 }
+    ensures stays { (i j : ℕ) → i < shape.rows → j < 64 * shape.words
+        → present_bit shape.rows shape.words column places.old matrix.old rank j ≡ 0
+        → present_bit shape.rows shape.words column places.old matrix.old row j ≡ 0
+        → present_bit shape.rows shape.words column places.new matrix.new i j
+        ≡ present_bit shape.rows shape.words column places.old matrix.old i j }
+    ensures space { HaveSameRowSpace (tower_mul 0) shape.rows (64 * shape.words)
+        (present_bit shape.rows shape.words column places.old matrix.old)
+        (present_bit shape.rows shape.words column places.new matrix.new) }
 {
-    bring_nonzero(matrix, shape, rank, row, column);
-    clear_column(matrix, shape, rank, column);
+    bring_nonzero(matrix, shape, rank, row, column - column % 64);
+    add_entry(matrix, shape, rank, column, 1);
+    add_word_of(matrix, shape, rank, column);
+    places[column % 64] = rank;
 }
 
 // Adds row `row`, which is 0 before the column, to row `rank`, if it is another one.
@@ -148,30 +225,17 @@ fn bring_nonzero(matrix: &mut [u64], shape: Shape, rank: usize, row: usize, colu
     }
 }
 
-// Makes the other rows 0 in this column, where row `row` is 1 behind zeros, by adding that row.
-fn clear_column(matrix: &mut [u64], shape: Shape, row: usize, column: usize)
+// Adds the word of row `row` that has this column, where the row is 0, to that of each row that is 1 in the column.
+fn add_word_of(matrix: &mut [u64], shape: Shape, row: usize, column: usize)
     requires row { HasBitEntry shape.rows shape.words row column (length matrix.old) }
-    requires zeros { (j : ℕ) → j < column → bit_entry shape.words matrix.old row j ≡ 0 }
-    ensures shape { length matrix.new ≡ length matrix.old }
-    ensures cleared { (i j : ℕ) → i < shape.rows → j < 64 * shape.words → bit_entry shape.words matrix.new i j
-        ≡ cleared_entry (tower_mul 0) row column (bit_entry shape.words matrix.old) i j }
+    ensures { IsStripAdded shape.words (column / 64) 1 shape.rows
+        (λ i w. bit_entry shape.words matrix.old i column * word_of shape.words matrix.old row (column / 64)) matrix.old matrix.new }
 {
+    let own = place(matrix.len(), shape, row, column / 64);
+    let word = matrix[own];
     for other in 0..shape.rows {
-        clear_entry(matrix, shape, row, other, column);
-    }
-}
-
-// Adds row `row`, which is 0 before this column, to row `other`, if that is another one and not 0 in the column.
-fn clear_entry(matrix: &mut [u64], shape: Shape, row: usize, other: usize, column: usize)
-    requires row { HasBitEntry shape.rows shape.words row column (length matrix.old) }
-    requires other { other < shape.rows }
-    requires zeros { (j : ℕ) → j < column → bit_entry shape.words matrix.old row j ≡ 0 }
-    ensures { IsBitRowWritten shape.words other (cleared_entry (tower_mul 0) row column (bit_entry shape.words matrix.old) other)
-        matrix.old matrix.new }
-{
-    if other != row {
-        if entry(matrix, shape, other, column) != 0 {
-            add_row(matrix, shape, other, row, column);
-        }
+        let at = place(matrix.len(), shape, other, column / 64);
+        let bit = (matrix[at] >> (column % 64)) % 2;
+        matrix[at] ^= bit * word;
     }
 }

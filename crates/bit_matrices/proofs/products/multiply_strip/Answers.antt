@@ -1,7 +1,8 @@
-use Rattle.std.proofs.Common.{◌≡◌, ℕ, ◌+◌, ◌*◌, ◌<◌, ◌∙◌, arith, refl, subst}
+use Rattle.std.proofs.Common.{◌≡◌, ℕ, ◌+◌, ◌*◌, ◌<◌, ◌∙◌, arith, subst}
+use Rattle.std.specs.Prelude.{slice_index}
 use Rattle.std.proofs.lemmas.Grind.{div_ceil_times}
 use Rattle.bit_matrices.specs.BitMatrices.{IsStripAdded, partial_word, row_word, sum_of_digits, word_of, words_for}
-use Rattle.bit_matrices.proofs.FourRowTables.{pass_more, sum_nothing}
+use Rattle.bit_matrices.proofs.FourRowTables.{pass_more, row_from, sum_nothing}
 use Rattle.bit_matrices.proofs.WordRanges.{strip_more, strip_none}
 use Rattle.bit_matrices.proofs.products.multiply_strip.Goals as goal
 
@@ -13,8 +14,8 @@ loop-pass-init c = (
       c.args.target.now (λ i w. sum_nothing _),
 )
 
-pub write_tables-requires-clause-row : goal.write_tables-requires-clause-row
-write_tables-requires-clause-row c =
+pub rows_from-places-requires : goal.rows_from-places-requires
+rows_from-places-requires c =
     let few = (div_ceil_times c.args.inner 64 (omega arith)).1 in omega (arith, few, c.div_ceil-passes.ensures)
 
 pub add_pass-requires-clause-shape : goal.add_pass-requires-clause-shape
@@ -36,8 +37,10 @@ loop-pass-preserved c =
           c.args.target.now c.loop-pass.target c.add_pass.new.target
           (λ i w below inside.
           pass_more c.args.inner left_words strip.words c.args.left.now c.args.right.now pass i (strip.start + w) strip.width w
-          (λ k v. row_word c.args.inner strip.words c.args.right.now (64 * pass + k) (strip.start + v)) c.write_tables.new.tables
-          c.write_tables.ensures.entries inside (λ k. refl))
+          (λ k v. row_word c.args.inner strip.words c.args.right.now (slice_index c.rows_from-places.result k) (strip.start + v))
+          c.write_tables.new.tables c.write_tables.ensures.entries inside
+          (λ k short. row_from c.args.inner strip.words (64 * pass) k (slice_index c.rows_from-places.result k) c.args.right.now (strip.start + w)
+          (c.rows_from-places.ensures k short)))
           c.loop-pass.invariant.1 c.add_pass.ensures,
     )
 
