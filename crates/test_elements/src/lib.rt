@@ -1,5 +1,5 @@
-//! Tests of packings of elements, of packed bits, of vectors of zeros, and of what provers call on many elements. The crate has nothing to
-//! call.
+//! Tests of packings of elements, of packed bits, of vectors of zeros, of matrices, and of what provers call on many elements. The crate has
+//! nothing to call.
 #![tactic(auto)]
 
 #[cfg(test)]

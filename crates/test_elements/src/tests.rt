@@ -1,4 +1,5 @@
 mod arrays;
+mod bit_matrices;
 mod bits;
 mod matrices;
 mod packings;
