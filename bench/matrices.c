@@ -1,10 +1,11 @@
 /* Products and inverses of n by n matrices of this library beside M4RIE (Debian's libm4rie-dev), on one core.
  *
- *   gcc -O2 -o matrices bench/matrices.c crates/binary_field_c/out/libbinary_field_c.a -lm4rie -lm4ri -lm && ./matrices [SAMPLES]
+ *   gcc -O2 -o matrices bench/matrices.c crates/binary_field_c/out/libbinary_field_c.a -lm4rie -lm4ri -lm && ./matrices [SAMPLES] [SECONDS]
  *
  * It links one build of the library: `rt lib` for x86-64-v2, `rt lib --cpu x86-64-v3` for AVX2. A number is processor time in nanoseconds
- * divided by n^3, the least of the samples. M4RIE has other polynomials, and fields of up to 16 bits: its product, and for the inverse its
- * reduced row echelon form of the matrix.
+ * divided by n^3, the least of the samples; a row ends before a size whose sample would take more than SECONDS. M4RIE has other polynomials,
+ * and fields of up to 16 bits: its product, and for the inverse its reduced row echelon form of the matrix. FLINT and NTL are timed by
+ * bench/matrices.cpp.
  */
 #include <m4rie/m4rie.h>
 #include <stdint.h>
@@ -28,10 +29,11 @@ CALLS(p64, uint64_t)
 CALLS(t128, wide)
 CALLS(g128, wide)
 
-enum { MOST = 512 };
+enum { MOST = 2048 };
 
-static const size_t sizes[] = {8, 64, 256, MOST};
+static const size_t sizes[] = {8, 64, 256, 512, MOST};
 static int samples = 5;
+static double seconds = 30;
 static void *left, *right, *made, *space;
 static size_t places[MOST];
 
@@ -43,10 +45,14 @@ static double now(void) {
 
 #define ROW(name, prepare, call)                                                                 \
     do {                                                                                         \
+        double cubed = 0;                                                                        \
         printf("%-20s", name);                                                                   \
         for (size_t at = 0; at < sizeof sizes / sizeof *sizes; at++) {                           \
             size_t n = sizes[at], rounds = 1 + 200000 / (n * n * n);                             \
             double least = 1e18;                                                                 \
+            if (cubed * n * n * n > seconds * 1e9) {                                             \
+                break;                                                                           \
+            }                                                                                    \
             prepare;                                                                             \
             for (int sample = 0; sample < samples; sample++) {                                   \
                 double start = now();                                                            \
@@ -57,6 +63,7 @@ static double now(void) {
                 least = time < least ? time : least;                                             \
             }                                                                                    \
             printf(" %8.3f", least);                                                             \
+            cubed = least;                                                                       \
         }                                                                                        \
         printf("\n");                                                                            \
         fflush(stdout);                                                                          \
@@ -85,6 +92,7 @@ static void rows_of_m4rie(const char *product, const char *echelon, word polynom
 int main(int arguments, char **argument) {
     size_t bytes = MOST * MOST * sizeof(wide);
     samples = arguments > 1 ? atoi(argument[1]) : samples;
+    seconds = arguments > 2 ? atof(argument[2]) : seconds;
     left = malloc(bytes), right = malloc(bytes), made = malloc(bytes), space = malloc(2 * bytes);
     srand(1);
     for (size_t at = 0; at < bytes; at++) {
