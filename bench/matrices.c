@@ -3,9 +3,9 @@
  *   gcc -O2 -o matrices bench/matrices.c crates/binary_field_c/out/libbinary_field_c.a -lm4rie -lm4ri -lm && ./matrices [SAMPLES] [SECONDS]
  *
  * It links one build of the library: `rt lib` for x86-64-v2, `rt lib --cpu x86-64-v3` for AVX2. A number is processor time in nanoseconds
- * divided by n^3, the least of the samples; a row ends before a size whose sample would take more than SECONDS. M4RIE has other polynomials,
- * and fields of up to 16 bits: its product, and for the inverse its reduced row echelon form of the matrix. FLINT and NTL are timed by
- * bench/matrices.cpp.
+ * divided by n^3, the least of the samples; a row ends before a size whose sample would take more than SECONDS. M4RIE has other
+ * polynomials, and fields of up to 16 bits: its product, and for the inverse its reduced row echelon form of the matrix. FLINT and NTL are
+ * timed by bench/matrices.cpp.
  */
 #include <m4rie/m4rie.h>
 #include <stdint.h>
