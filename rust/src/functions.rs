@@ -720,6 +720,7 @@ unsafe extern "C" {
     ) -> u32;
     /// Multiplies each element of products by the value at its place. BF_LENGTH unless products and values have one
     /// length.
+    #[cfg_attr(binary_field_wide, link_name = "bf_t16_multiply_in_place_wide")]
     pub fn bf_t16_multiply_in_place(
         products: *mut u16,
         products_length: usize,
@@ -738,6 +739,7 @@ unsafe extern "C" {
         values_length: usize,
     ) -> u32;
     /// Leaves the inverse of each element, and 0 of 0.
+    #[cfg_attr(binary_field_wide, link_name = "bf_t16_inverse_in_place_wide")]
     pub fn bf_t16_inverse_in_place(
         values: *mut u16,
         values_length: usize,
@@ -863,6 +865,7 @@ unsafe extern "C" {
     ) -> u32;
     /// Multiplies each element of products by the value at its place. BF_LENGTH unless products and values have one
     /// length.
+    #[cfg_attr(binary_field_wide, link_name = "bf_t32_multiply_in_place_wide")]
     pub fn bf_t32_multiply_in_place(
         products: *mut u32,
         products_length: usize,
@@ -881,6 +884,7 @@ unsafe extern "C" {
         values_length: usize,
     ) -> u32;
     /// Leaves the inverse of each element, and 0 of 0.
+    #[cfg_attr(binary_field_wide, link_name = "bf_t32_inverse_in_place_wide")]
     pub fn bf_t32_inverse_in_place(
         values: *mut u32,
         values_length: usize,
@@ -1006,6 +1010,7 @@ unsafe extern "C" {
     ) -> u32;
     /// Multiplies each element of products by the value at its place. BF_LENGTH unless products and values have one
     /// length.
+    #[cfg_attr(binary_field_wide, link_name = "bf_t64_multiply_in_place_wide")]
     pub fn bf_t64_multiply_in_place(
         products: *mut u64,
         products_length: usize,
@@ -1024,6 +1029,7 @@ unsafe extern "C" {
         values_length: usize,
     ) -> u32;
     /// Leaves the inverse of each element, and 0 of 0.
+    #[cfg_attr(binary_field_wide, link_name = "bf_t64_inverse_in_place_wide")]
     pub fn bf_t64_inverse_in_place(
         values: *mut u64,
         values_length: usize,
@@ -1149,6 +1155,7 @@ unsafe extern "C" {
     ) -> u32;
     /// Multiplies each element of products by the value at its place. BF_LENGTH unless products and values have one
     /// length.
+    #[cfg_attr(binary_field_wide, link_name = "bf_t128_multiply_in_place_wide")]
     pub fn bf_t128_multiply_in_place(
         products: *mut [u64; 2],
         products_length: usize,
@@ -1167,6 +1174,7 @@ unsafe extern "C" {
         values_length: usize,
     ) -> u32;
     /// Leaves the inverse of each element, and 0 of 0.
+    #[cfg_attr(binary_field_wide, link_name = "bf_t128_inverse_in_place_wide")]
     pub fn bf_t128_inverse_in_place(
         values: *mut [u64; 2],
         values_length: usize,
@@ -1432,6 +1440,7 @@ unsafe extern "C" {
     ) -> u32;
     /// Multiplies each element of products by the value at its place. BF_LENGTH unless products and values have one
     /// length.
+    #[cfg_attr(binary_field_wide, link_name = "bf_p64_multiply_in_place_wide")]
     pub fn bf_p64_multiply_in_place(
         products: *mut u64,
         products_length: usize,
@@ -1450,6 +1459,7 @@ unsafe extern "C" {
         values_length: usize,
     ) -> u32;
     /// Leaves the inverse of each element, and 0 of 0.
+    #[cfg_attr(binary_field_wide, link_name = "bf_p64_inverse_in_place_wide")]
     pub fn bf_p64_inverse_in_place(
         values: *mut u64,
         values_length: usize,
@@ -1598,6 +1608,7 @@ unsafe extern "C" {
         values_length: usize,
     ) -> u32;
     /// Leaves the inverse of each element, and 0 of 0.
+    #[cfg_attr(binary_field_wide, link_name = "bf_g128_inverse_in_place_wide")]
     pub fn bf_g128_inverse_in_place(
         values: *mut [u64; 2],
         values_length: usize,

@@ -124,12 +124,28 @@ pub extern "C" fn bf_t16_multiply_wide(left: &[u16], right: &[u16], products: &m
     c_arithmetic::multiply::<u16, Tower<Bits16>, u64x4>(left, right, products)
 }
 
+/// The same as `bf_t16_multiply_in_place`.
+#[unsafe(no_mangle)]
+pub extern "C" fn bf_t16_multiply_in_place_wide(products: &mut [u16], values: &[u16]) -> u32
+    ensures { Multiplies (level_field 4) products.old values.now products.old products.new result }
+{
+    c_arithmetic::multiply_in_place::<u16, Tower<Bits16>, u64x4>(products, values)
+}
+
 /// The same as `bf_t16_inverse`.
 #[unsafe(no_mangle)]
 pub extern "C" fn bf_t16_inverse_wide(values: &[u16], inverses: &mut [u16]) -> u32
     ensures { Inverts (level_field 4) values.now inverses.old inverses.new result }
 {
     c_arithmetic::invert::<u16, Tower<Bits16>, u64x4>(values, inverses)
+}
+
+/// The same as `bf_t16_inverse_in_place`.
+#[unsafe(no_mangle)]
+pub extern "C" fn bf_t16_inverse_in_place_wide(values: &mut [u16]) -> u32
+    ensures { Inverts (level_field 4) values.old values.old values.new result }
+{
+    c_arithmetic::invert_in_place::<u16, Tower<Bits16>, u64x4>(values)
 }
 
 /// The same as `bf_t16_batch_inverse`.
@@ -148,12 +164,28 @@ pub extern "C" fn bf_t32_multiply_wide(left: &[u32], right: &[u32], products: &m
     c_arithmetic::multiply::<u32, Tower<Bits32>, u64x4>(left, right, products)
 }
 
+/// The same as `bf_t32_multiply_in_place`.
+#[unsafe(no_mangle)]
+pub extern "C" fn bf_t32_multiply_in_place_wide(products: &mut [u32], values: &[u32]) -> u32
+    ensures { Multiplies (level_field 5) products.old values.now products.old products.new result }
+{
+    c_arithmetic::multiply_in_place::<u32, Tower<Bits32>, u64x4>(products, values)
+}
+
 /// The same as `bf_t32_inverse`.
 #[unsafe(no_mangle)]
 pub extern "C" fn bf_t32_inverse_wide(values: &[u32], inverses: &mut [u32]) -> u32
     ensures { Inverts (level_field 5) values.now inverses.old inverses.new result }
 {
     c_arithmetic::invert::<u32, Tower<Bits32>, u64x4>(values, inverses)
+}
+
+/// The same as `bf_t32_inverse_in_place`.
+#[unsafe(no_mangle)]
+pub extern "C" fn bf_t32_inverse_in_place_wide(values: &mut [u32]) -> u32
+    ensures { Inverts (level_field 5) values.old values.old values.new result }
+{
+    c_arithmetic::invert_in_place::<u32, Tower<Bits32>, u64x4>(values)
 }
 
 /// The same as `bf_t32_batch_inverse`.
@@ -172,12 +204,28 @@ pub extern "C" fn bf_t64_multiply_wide(left: &[u64], right: &[u64], products: &m
     c_arithmetic::multiply::<u64, Tower<Bits64>, u64x4>(left, right, products)
 }
 
+/// The same as `bf_t64_multiply_in_place`.
+#[unsafe(no_mangle)]
+pub extern "C" fn bf_t64_multiply_in_place_wide(products: &mut [u64], values: &[u64]) -> u32
+    ensures { Multiplies (level_field 6) products.old values.now products.old products.new result }
+{
+    c_arithmetic::multiply_in_place::<u64, Tower<Bits64>, u64x4>(products, values)
+}
+
 /// The same as `bf_t64_inverse`.
 #[unsafe(no_mangle)]
 pub extern "C" fn bf_t64_inverse_wide(values: &[u64], inverses: &mut [u64]) -> u32
     ensures { Inverts (level_field 6) values.now inverses.old inverses.new result }
 {
     c_arithmetic::invert::<u64, Tower<Bits64>, u64x4>(values, inverses)
+}
+
+/// The same as `bf_t64_inverse_in_place`.
+#[unsafe(no_mangle)]
+pub extern "C" fn bf_t64_inverse_in_place_wide(values: &mut [u64]) -> u32
+    ensures { Inverts (level_field 6) values.old values.old values.new result }
+{
+    c_arithmetic::invert_in_place::<u64, Tower<Bits64>, u64x4>(values)
 }
 
 /// The same as `bf_t64_batch_inverse`.
@@ -196,12 +244,28 @@ pub extern "C" fn bf_t128_multiply_wide(left: &[Wide], right: &[Wide], products:
     c_arithmetic::multiply::<u128, Tower<Bits128>, u64x4>(left, right, products)
 }
 
+/// The same as `bf_t128_multiply_in_place`.
+#[unsafe(no_mangle)]
+pub extern "C" fn bf_t128_multiply_in_place_wide(products: &mut [Wide], values: &[Wide]) -> u32
+    ensures { Multiplies wide_level_field products.old values.now products.old products.new result }
+{
+    c_arithmetic::multiply_in_place::<u128, Tower<Bits128>, u64x4>(products, values)
+}
+
 /// The same as `bf_t128_inverse`.
 #[unsafe(no_mangle)]
 pub extern "C" fn bf_t128_inverse_wide(values: &[Wide], inverses: &mut [Wide]) -> u32
     ensures { Inverts wide_level_field values.now inverses.old inverses.new result }
 {
     c_arithmetic::invert::<u128, Tower<Bits128>, u64x4>(values, inverses)
+}
+
+/// The same as `bf_t128_inverse_in_place`.
+#[unsafe(no_mangle)]
+pub extern "C" fn bf_t128_inverse_in_place_wide(values: &mut [Wide]) -> u32
+    ensures { Inverts wide_level_field values.old values.old values.new result }
+{
+    c_arithmetic::invert_in_place::<u128, Tower<Bits128>, u64x4>(values)
 }
 
 /// The same as `bf_t128_batch_inverse`.
@@ -220,12 +284,28 @@ pub extern "C" fn bf_p64_multiply_wide(left: &[u64], right: &[u64], products: &m
     c_arithmetic::multiply::<u64, Poly64Kernel, u64x4>(left, right, products)
 }
 
+/// The same as `bf_p64_multiply_in_place`.
+#[unsafe(no_mangle)]
+pub extern "C" fn bf_p64_multiply_in_place_wide(products: &mut [u64], values: &[u64]) -> u32
+    ensures { Multiplies poly64_field products.old values.now products.old products.new result }
+{
+    c_arithmetic::multiply_in_place::<u64, Poly64Kernel, u64x4>(products, values)
+}
+
 /// The same as `bf_p64_inverse`.
 #[unsafe(no_mangle)]
 pub extern "C" fn bf_p64_inverse_wide(values: &[u64], inverses: &mut [u64]) -> u32
     ensures { Inverts poly64_field values.now inverses.old inverses.new result }
 {
     c_arithmetic::invert::<u64, Poly64Kernel, u64x4>(values, inverses)
+}
+
+/// The same as `bf_p64_inverse_in_place`.
+#[unsafe(no_mangle)]
+pub extern "C" fn bf_p64_inverse_in_place_wide(values: &mut [u64]) -> u32
+    ensures { Inverts poly64_field values.old values.old values.new result }
+{
+    c_arithmetic::invert_in_place::<u64, Poly64Kernel, u64x4>(values)
 }
 
 /// The same as `bf_p64_batch_inverse`.
@@ -242,6 +322,14 @@ pub extern "C" fn bf_g128_inverse_wide(values: &[Wide], inverses: &mut [Wide]) -
     ensures { Inverts ghash_field values.now inverses.old inverses.new result }
 {
     c_arithmetic::invert::<u128, GhashKernel, u64x4>(values, inverses)
+}
+
+/// The same as `bf_g128_inverse_in_place`.
+#[unsafe(no_mangle)]
+pub extern "C" fn bf_g128_inverse_in_place_wide(values: &mut [Wide]) -> u32
+    ensures { Inverts ghash_field values.old values.old values.new result }
+{
+    c_arithmetic::invert_in_place::<u128, GhashKernel, u64x4>(values)
 }
 
 /// The same as `bf_g128_batch_inverse`.
