@@ -8,10 +8,10 @@ use lib.Bits.{xor_self, xor_zero_r}
 use Rattle.std.specs.Int.Bits.{xor_zero_l}
 use Rattle.field_base.proofs.BasisSums.{sum_below-same}
 use Rattle.field_matrices.specs.Matrices.{identity_entry}
-use Rattle.bit_matrices.specs.BitMatrices.{ArePivotsSet, AreWordsAdded, HasTables, IsBitWritten, IsRangeWritten, IsStrip, IsStripAdded, bit_entry, pending_sum, present_entry, entry_within, row_word, sum_at_bits, sum_of_digits, word_of}
+use Rattle.bit_matrices.specs.BitMatrices.{ArePivotsSet, AreWordsAdded, HasTables, IsBitWritten, IsRangeWritten, IsStripAdded, bit_entry, pending_sum, present_entry, entry_within, row_word, sum_at_bits, sum_of_digits, word_of}
 use Rattle.bit_matrices.proofs.FourRowTables.{bit_of_product, bit_of_sum, bit_of_xor, row_behind, row_inside, sum_of_tables}
 use Rattle.bit_matrices.proofs.PendingSums.{each_column, entry-inside, entry-none, identity-other, identity-same, present-before, present-behind, present-free, present-none, present-taken}
-use Rattle.bit_matrices.proofs.WordRanges.{StripSoFar, in_strip, range_start, range_step}
+use Rattle.bit_matrices.proofs.WordRanges.{StripSoFar, range_start, range_step}
 
 -- an entry by its word
 pub entry_of_word : (words : ℕ) (values : List ℕ) (i word b : ℕ) → b < 64
@@ -20,6 +20,19 @@ entry_of_word words values i word b inside =
     let quotient : (64 * word + b) / 64 ≡ word = omega (arith, inside) in
     let rest : (64 * word + b) % 64 ≡ b = omega (arith, inside) in
     ap₂ (λ (v k : ℕ). bit_at (word_of words values i v) k) quotient rest
+
+-- the same of rows that the matrix may not have
+pub row_bits : (rows words : ℕ) (values : List ℕ) (k j : ℕ)
+    → bit_at (row_word rows words values k (j / 64)) (j % 64) ≡ entry_within rows (bit_entry words values) k j
+row_bits rows words values k j =
+    elim (cases_lt k rows) [
+      | inl inside ↦
+          ap (λ (x : ℕ). bit_at x (j % 64)) (row_inside rows words values k (j / 64) inside)
+          ∙ sym (entry-inside rows (bit_entry words values) k j inside)
+      | inr past ↦
+          ap (λ (x : ℕ). bit_at x (j % 64)) (row_behind rows words values k (j / 64) past) ∙ bit_at-zero (j % 64)
+          ∙ sym (entry-none rows (bit_entry words values) k j past)
+    ]
 
 -- ---- one word of a row
 
@@ -225,74 +238,71 @@ pub words_added_none : (words from rows : ℕ) (sums : ℕ → ℕ → ℕ) (old
 words_added_none words from rows sums old =
     record { shape = refl; added = λ i v inside within past below. absurd (omega (arith, past, below)); others = λ i v within outside. refl }
 
-module _ (words word rows to width : ℕ) (place : ℕ → ℕ) (tables old now next : List ℕ) (before : word + 1 ≤ to)
-    (strip : IsStrip words to width) (last : (width ≡ 8) ⊎ (to + width ≡ words))
-    (so_far : AreWordsAdded words (word + 1) to rows
-    (λ i v. sum_at_bits (λ b. row_word rows words old (place b) v) 64 (word_of words old i word)) old now)
-    (has : HasTables width 16 (λ k w. row_word rows words now (place k) (to + w)) tables)
-    (write : IsStripAdded words to width rows (λ i w. sum_of_digits tables (word_of words now i word) 16 w) now next) where
-  -- the rows of pivots and the word that says which are to be added are as they were
-  row_kept : (k w : ℕ) → w < width → row_word rows words now k (to + w) ≡ row_word rows words old k (to + w)
-  row_kept k w inside =
-      elim (cases_lt k rows) [
-        | inl is ↦ row_inside rows words now k (to + w) is ∙ so_far.others k (to + w) (omega (arith, inside, strip.within)) (inr (omega arith))
-            ∙ sym (row_inside rows words old k (to + w) is)
-        | inr past ↦ row_behind rows words now k (to + w) past ∙ sym (row_behind rows words old k (to + w) past)
-      ]
+-- the sum that is to be added in a word
+abbrev pub sum_behind : ℕ → ℕ → ℕ → (ℕ → ℕ) → List ℕ → ℕ → ℕ → ℕ
+sum_behind rows words word place values i v =
+    sum_at_bits (λ b. row_word rows words values (place b) v) 64 (word_of words values i word)
 
-  sum_is : (i w : ℕ) → w < width → sum_of_digits tables (word_of words now i word) 16 w
-      ≡ sum_at_bits (λ b. row_word rows words old (place b) (to + w)) 64 (word_of words old i word)
-  sum_is i w inside =
-      sum_of_tables width w (λ k w. row_word rows words now (place k) (to + w)) tables (word_of words now i word) has inside
-      ∙ sum_below-same (λ b. bit_at (word_of words now i word) b * row_word rows words now (place b) (to + w))
-      (λ b. bit_at (word_of words old i word) b * row_word rows words old (place b) (to + w)) 64
-      (λ b short. ap₂ (λ (x y : ℕ). bit_at x b * y)
-      (so_far.others i word (omega (arith, before, inside, strip.within)) (inl (omega arith))) (row_kept (place b) w inside))
-
-  here : (i w : ℕ) → i < rows → w < width → word_of words next i (to + w)
-      ≡ bit_xor (word_of words old i (to + w)) (sum_at_bits (λ b. row_word rows words old (place b) (to + w)) 64 (word_of words old i word))
-  here i w below inside =
-      write.added i w below inside
-      ∙ ap₂ bit_xor (so_far.others i (to + w) (omega (arith, inside, strip.within)) (inr (omega arith))) (sum_is i w inside)
-
-  pub words_added_more : AreWordsAdded words (word + 1) (to + 8) rows
-      (λ i v. sum_at_bits (λ b. row_word rows words old (place b) v) 64 (word_of words old i word)) old next
-  words_added_more =
-      record {
-        shape = write.shape ∙ so_far.shape;
-        added = λ i v inside within past below. elim (cases_lt v to) [
-          | inl earlier ↦ write.others i v within (inl earlier) ∙ so_far.added i v inside within past earlier
-          | inr later ↦
-              let split : to + (v - to) ≡ v = omega (arith, later) in
-              subst (λ (u : ℕ). word_of words next i u ≡ bit_xor (word_of words old i u)
-              (sum_at_bits (λ b. row_word rows words old (place b) u) 64 (word_of words old i word))) split
-              (here i (v - to) inside (in_strip words to width v last below within later))
-        ];
-        others = λ i v within outside.
-            write.others i v within (outside_strip v outside) ∙ so_far.others i v within (outside_before v outside);
-      }
-    where
-      outside_strip : (v : ℕ) → (v < word + 1) ⊎ (to + 8 ≤ v) → (v < to) ⊎ (to + width ≤ v)
-      outside_strip v (inl earlier) = inl (omega (arith, earlier, before))
-      outside_strip v (inr later) = inr (omega (arith, later, strip.narrow))
-
-      outside_before : (v : ℕ) → (v < word + 1) ⊎ (to + 8 ≤ v) → (v < word + 1) ⊎ (to ≤ v)
-      outside_before v (inl earlier) = inl earlier
-      outside_before v (inr later) = inr (omega (arith, later))
-
--- as far as the rows go
-pub words_added_all : (words from to rows : ℕ) (sums : ℕ → ℕ → ℕ) (old now : List ℕ) → words ≤ to
-    → AreWordsAdded words from to rows sums old now → AreWordsAdded words from words rows sums old now
-words_added_all words from to rows sums old now past write =
+-- in a strip, by tables
+pub strip_sums : (words word rows start width : ℕ) (place : ℕ → ℕ) (tables old now : List ℕ)
+    → HasTables width 16 (λ k w. row_word rows words old (place k) (start + w)) tables
+    → IsStripAdded words start width rows (λ i w. sum_of_digits tables (word_of words old i word) 16 w) old now
+    → AreWordsAdded words start (start + width) rows (sum_behind rows words word place old) old now
+strip_sums words word rows start width place tables old now has write =
     record {
       shape = write.shape;
-      added = λ i v inside within behind below. write.added i v inside within behind (omega (arith, within, past));
-      others = λ i v within outside. write.others i v within (side v within outside);
+      added = λ i v inside within past below.
+          let split : start + (v - start) ≡ v = omega (arith, past) in
+          subst (λ (u : ℕ). word_of words now i u ≡ bit_xor (word_of words old i u) (sum_behind rows words word place old i u)) split
+          (here i (v - start) inside (omega (arith, past, below)));
+      others = write.others;
     }
   where
-    side : (v : ℕ) → v < words → (v < from) ⊎ (words ≤ v) → (v < from) ⊎ (to ≤ v)
-    side v within (inl earlier) = inl earlier
-    side v within (inr later) = absurd (omega (arith, later, within))
+    here : (i w : ℕ) → i < rows → w < width
+        → word_of words now i (start + w) ≡ bit_xor (word_of words old i (start + w)) (sum_behind rows words word place old i (start + w))
+    here i w inside short =
+        write.added i w inside short
+        ∙ ap (bit_xor (word_of words old i (start + w)))
+        (sum_of_tables width w (λ k w. row_word rows words old (place k) (start + w)) tables (word_of words old i word) has short)
+
+-- in a strip after another one, where neither has the rows and the words that say what is to be added
+pub words_added_then : (words word rows from mid to : ℕ) (place : ℕ → ℕ) (old now next : List ℕ) → word < from → from ≤ mid → mid ≤ to
+    → to ≤ words → AreWordsAdded words from mid rows (sum_behind rows words word place old) old now
+    → AreWordsAdded words mid to rows (sum_behind rows words word place now) now next
+    → AreWordsAdded words from to rows (sum_behind rows words word place old) old next
+words_added_then words word rows from mid to place old now next before order more fits first second =
+    record {
+      shape = second.shape ∙ first.shape;
+      added = λ i v inside within past below. elim (cases_lt v mid) [
+        | inl earlier ↦ second.others i v within (inl earlier) ∙ first.added i v inside within past earlier
+        | inr later ↦ second.added i v inside within later below
+            ∙ ap₂ bit_xor (first.others i v within (inr later)) (sum_same i v within later)
+      ];
+      others = λ i v within outside.
+          second.others i v within (outside_second v outside) ∙ first.others i v within (outside_first v outside);
+    }
+  where
+    row_kept : (k v : ℕ) → v < words → mid ≤ v → row_word rows words now k v ≡ row_word rows words old k v
+    row_kept k v within later =
+        elim (cases_lt k rows) [
+          | inl is ↦ row_inside rows words now k v is ∙ first.others k v within (inr later) ∙ sym (row_inside rows words old k v is)
+          | inr past ↦ row_behind rows words now k v past ∙ sym (row_behind rows words old k v past)
+        ]
+
+    sum_same : (i v : ℕ) → v < words → mid ≤ v → sum_behind rows words word place now i v ≡ sum_behind rows words word place old i v
+    sum_same i v within later =
+        sum_below-same (λ b. bit_at (word_of words now i word) b * row_word rows words now (place b) v)
+        (λ b. bit_at (word_of words old i word) b * row_word rows words old (place b) v) 64
+        (λ b short. ap₂ (λ (x y : ℕ). bit_at x b * y) (first.others i word (omega (arith, before, order, more, fits, later, within)) (inl before))
+        (row_kept (place b) v within later))
+
+    outside_second : (v : ℕ) → (v < from) ⊎ (to ≤ v) → (v < mid) ⊎ (to ≤ v)
+    outside_second v (inl earlier) = inl (omega (arith, earlier, order))
+    outside_second v (inr later) = inr later
+
+    outside_first : (v : ℕ) → (v < from) ⊎ (to ≤ v) → (v < from) ⊎ (mid ≤ v)
+    outside_first v (inl earlier) = inl earlier
+    outside_first v (inr later) = inr (omega (arith, later, more))
 
 -- ---- the end of a word of columns
 
@@ -339,14 +349,6 @@ module _ (rows words word mask : ℕ) (place : ℕ → ℕ) (old behind cleared 
       ∙ xor_zero_r (bit_entry words behind i (first + b)) ∙ early i (first + b) (omega (arith, short))
 
   -- behind the word the sums are added
-  row_bits : (k j : ℕ) → bit_at (row_word rows words old k (j / 64)) (j % 64) ≡ entry_within rows A k j
-  row_bits k j =
-      elim (cases_lt k rows) [
-        | inl inside ↦ ap (λ (x : ℕ). bit_at x (j % 64)) (row_inside rows words old k (j / 64) inside) ∙ sym (entry-inside rows A k j inside)
-        | inr past ↦ ap (λ (x : ℕ). bit_at x (j % 64)) (row_behind rows words old k (j / 64) past) ∙ bit_at-zero (j % 64)
-            ∙ sym (entry-none rows A k j past)
-      ]
-
   sum_bits : (i j : ℕ) → bit_at (sum_at_bits (λ b. row_word rows words old (place b) (j / 64)) 64 (word_of words old i word)) (j % 64)
       ≡ pending_sum rows first place A i j
   sum_bits i j =
@@ -356,7 +358,7 @@ module _ (rows words word mask : ℕ) (place : ℕ → ℕ) (old behind cleared 
       (λ b short.
       bit_of_product (bit_at (word_of words old i word) b) (row_word rows words old (place b) (j / 64)) (j % 64)
       (bit_at-lt (word_of words old i word) b)
-      ∙ ap₂ (λ (x y : ℕ). x * y) (sym (entry_of_word words old i word b short)) (row_bits (place b) j))
+      ∙ ap₂ (λ (x y : ℕ). x * y) (sym (entry_of_word words old i word b short)) (row_bits rows words old (place b) j))
 
   behind_word : (i j : ℕ) → i < rows → j < 64 * words → first + 64 ≤ j
       → bit_entry words now i j ≡ bit_xor (A i j) (pending_sum rows first place A i j)

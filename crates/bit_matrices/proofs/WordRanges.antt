@@ -257,11 +257,6 @@ strip_more words start width rows before more sums old mid now both first second
 
 -- ---- strip after strip
 
--- a word among the next eight is one of the strip
-pub in_strip : (words start width v : ℕ) → (width ≡ 8) ⊎ (start + width ≡ words) → v < start + 8 → v < words → start ≤ v → v - start < width
-in_strip words start width v (inl full) below within past = omega (arith, full, below, past)
-in_strip words start width v (inr end) below within past = omega (arith, end, within, past)
-
 -- the words before word n of each row are these, and the others are 0
 pub record WordsSoFar (words n rows : ℕ) (total : ℕ → ℕ → ℕ) (now : List ℕ) : Type 0 where
   pub done : (i v : ℕ) → i < rows → v < words → v < n → word_of words now i v ≡ total i v
@@ -285,12 +280,16 @@ words_step words start width rows total now next strip last so_far write =
         | inl before ↦ write.others i v within (inl before) ∙ so_far.done i v inside within before
         | inr past ↦
             let split : start + (v - start) ≡ v = omega (arith, past) in
-            rw (sym split) (written i (v - start) inside (in_strip words start width v last below within past) (omega (arith, split, within)))
+            rw (sym split) (written i (v - start) inside (in_strip v last below within past) (omega (arith, split, within)))
       ];
       rest = λ i v inside within past.
           write.others i v within (inr (omega (arith, past, strip.narrow))) ∙ so_far.rest i v inside within (omega (arith, past));
     }
   where
+    in_strip : (v : ℕ) → (width ≡ 8) ⊎ (start + width ≡ words) → v < start + 8 → v < words → start ≤ v → v - start < width
+    in_strip v (inl full) below within past = omega (arith, full, below, past)
+    in_strip v (inr end) below within past = omega (arith, end, within, past)
+
     written : (i w : ℕ) → i < rows → w < width → start + w < words → word_of words next i (start + w) ≡ total i (start + w)
     written i w inside short within =
         write.added i w inside short ∙ ap (λ (x : ℕ). bit_xor x (total i (start + w))) (so_far.rest i (start + w) inside within (omega arith))

@@ -108,8 +108,8 @@ partial_word inner left_words words left right n i v =
 abbrev pub entry_within : ℕ → (ℕ → ℕ → ℕ) → ℕ → ℕ → ℕ
 entry_within rows A k j = if nat_lt k rows then A k j else 0
 
--- column `first + b` has its pivot in row `place b`, for b < 64; where it has none, that is no row. These are rows before row `rank`, and from
--- bit `bit` on there is none
+-- for b < 64, a column `first + b` has its pivot in row `place b`; where that is no row it has none. The rows are those before row `rank`,
+-- and from b = bit on no column has a pivot
 pub record ArePivotPlaces (rows rank bit : ℕ) (place : ℕ → ℕ) : Type 0 where
   pub taken : (b : ℕ) → b < 64 → place b < rows → place b < rank
   pub free : (b : ℕ) → bit ≤ b → b < 64 → rows ≤ place b
@@ -118,8 +118,8 @@ pub record ArePivotPlaces (rows rank bit : ℕ) (place : ℕ → ℕ) : Type 0 w
 abbrev pub pending_sum : ℕ → ℕ → (ℕ → ℕ) → (ℕ → ℕ → ℕ) → ℕ → ℕ → ℕ
 pending_sum rows first place A i j = sum_below (λ b. A i (first + b) * entry_within rows A (place b) j) 64
 
--- entry (i, j) of the matrix that A stands for while columns `first` to `first + 63` are eliminated: in a column with a pivot it is 1 in the
--- row of the pivot alone, and behind these columns the sums are added that are still to be
+-- entry (i, j) of the matrix that A stands for while columns `first` to `first + 63` are eliminated: a column with a pivot is 1 in the row
+-- of the pivot alone, and behind these columns the sums that are still to be added are added
 unfoldable pub present_entry : ℕ → ℕ → (ℕ → ℕ) → (ℕ → ℕ → ℕ) → ℕ → ℕ → ℕ
 present_entry rows first place A i j =
     if nat_lt j first then A i j else if nat_lt j (first + 64) then

@@ -5,10 +5,10 @@ ghost use Rattle.bit_matrices.specs.BitMatrices.{ArePivotsSet, AreWordsAdded, Is
 ghost use Rattle.bit_matrices.specs.BitMatrices.{bit_entry, present_entry, entry_within, row_word, sum_at_bits, sum_of_digits, word_of};
 
 use crate::rows::{Shape, add_bit, place};
-use crate::tables::{Strip, add_entries, strip_width, write_tables};
+use crate::tables::{Strip, add_entries, write_tables};
 
-// Adds to each row the sums that its bits in word `word` say, and sets these bits: column b of the word has its pivot in row `places[b]`, if
-// there is such a row.
+// Makes the matrix what it stands for, where column b of word `word` has its pivot in row `places[b]`, if there is such a row: adds to each
+// row, behind the word, the rows that its bits in the columns with pivots say, and writes what these columns are.
 pub(crate) fn add_sums(matrix: &mut [u64], shape: Shape, word: usize, places: &[usize; 64])
     requires shape { length matrix.old ≡ shape.rows * shape.words }
     requires word { word < shape.words }
@@ -43,7 +43,8 @@ fn pivot_bit(row: usize, rows: usize, bit: usize) -> u64
     if row < rows { 1 << bit } else { 0 }
 }
 
-// Adds to each row behind a word the rows at the places of the set bits of that word.
+// Adds to each row behind a word the rows at the places of the set bits of that word. The strips end where the rows do, so that where these
+// have whole lines of a cache the strips do.
 fn add_behind(matrix: &mut [u64], shape: Shape, word: usize, places: &[usize; 64])
     requires shape { length matrix.old ≡ shape.rows * shape.words }
     requires word { word < shape.words }
@@ -52,24 +53,54 @@ fn add_behind(matrix: &mut [u64], shape: Shape, word: usize, places: &[usize; 64
         (λ i v. sum_at_bits (λ b. row_word shape.rows shape.words matrix.old (slice_index places.now b) v) 64
         (word_of shape.words matrix.old i word)) matrix.old matrix.new }
 {
-    let words = shape.words;
+    let Shape { rows, words } = shape;
     let mut tables = [0; 2048];
-    let first = word + 1;
-    let strips = (words - first).div_ceil(8);
+    let start = word + 1;
+    let width = (words - start) % 8;
+    let strip = Strip {
+        words,
+        start,
+        width,
+    };
+    add_to_strip(matrix, &mut tables, strip, rows, word, places);
+    let first = start + width;
+    let strips = (words - first) / 8;
     for index in 0..strips {
-        let start = first + 8 * index;
-        let width = strip_width(words, start);
         let strip = Strip {
             words,
-            start,
-            width,
+            start: first + 8 * index,
+            width: 8,
         };
-        write_tables(&mut tables, matrix, shape.rows, strip, places);
-        add_own(matrix, &tables, strip, shape.rows, word);
+        add_to_strip(matrix, &mut tables, strip, rows, word, places);
     }
 }
 
-// Adds to each row of a strip one entry of each table: those at the digits to base 16 of word `word` of the row, which stands before the strip.
+// The same in a strip behind the word.
+fn add_to_strip(
+    matrix: &mut [u64],
+    tables: &mut [u64],
+    strip: Strip,
+    rows: usize,
+    word: usize,
+    places: &[usize; 64],
+)
+    requires shape { length matrix.old ≡ rows * strip.words }
+    requires tables { length tables.old ≡ 2048 }
+    requires strip { IsStrip strip.words strip.start strip.width }
+    requires word { word < strip.start }
+    ensures tables { length tables.new ≡ 2048 }
+    ensures sums { AreWordsAdded strip.words strip.start (strip.start + strip.width) rows
+        (λ i v. sum_at_bits (λ b. row_word rows strip.words matrix.old (slice_index places.now b) v) 64
+        (word_of strip.words matrix.old i word)) matrix.old matrix.new }
+{
+    let width = strip.width;
+    if width != 0 {
+        write_tables(tables, matrix, rows, strip, places);
+        add_own(matrix, tables, strip, rows, word);
+    }
+}
+
+// Adds to each row of a strip one entry of each table: those at the digits to base 16 of a word of the row that stands before the strip.
 fn add_own(matrix: &mut [u64], tables: &[u64], strip: Strip, rows: usize, word: usize)
     requires shape { length matrix.old ≡ rows * strip.words }
     requires tables { length tables.now ≡ 2048 }

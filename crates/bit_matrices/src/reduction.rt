@@ -9,10 +9,10 @@ ghost use Rattle.bit_matrices.specs.BitMatrices.{bit_entry, present_bit, word_of
 use crate::pending::add_sums;
 use crate::rows::{Shape, add_entry, add_row, entry, place};
 
-// A row is added to others in one word of 64 columns at first, pivot after pivot. What is 0 but in the row of a pivot, its column, need not
-// be stored: there each row notes in place of it whether the row of this pivot is to be added to it behind the word as well. That is the row
-// as it is stored there, which does not change before the last of the 64 columns is done; `present_entry` says what matrix it is then that
-// is stored. At the end the sums of rows that each row has noted are added to it at once, by tables.
+// Columns are eliminated 64 at a time, those of one word of each row. Row operations are made in this word, pivot after pivot. A column with
+// a pivot is 0 but in the row of the pivot, so that its bits need not be stored: in their place each row notes whether the row of the pivot
+// is still to be added to it behind the word. There no row of a pivot changes before the word is done, so that this sum is one of rows as
+// they are stored. `present_entry` is the matrix that is stored so. At the end of the word each row has its sum added, by tables.
 
 /// Brings a matrix of `rows` rows of `columns` bits to reduced row echelon form, and returns its rank, which is the number of rows that
 /// are not 0. Place i of `pivots`, which has to have as many places as there are rows, is then the column of the leading entry of row i,
@@ -90,8 +90,8 @@ fn strip_end(count: usize, from: usize) -> usize
     if left < 64 { count } else { from + 64 }
 }
 
-// Goes on from a matrix whose columns before `from`, the first one of a word, are in reduced row echelon form to the columns before `to`, of
-// which 64 at most are more, and returns the rank of these.
+// Goes on from a matrix whose columns before `from`, the first one of a word, are in reduced row echelon form to the columns before `to`,
+// 64 more at most, and returns the rank of these.
 fn reduce_strip(
     matrix: &mut [u64],
     shape: Shape,
@@ -123,7 +123,7 @@ fn reduce_strip(
 }
 
 // Goes on from a matrix whose columns before `column` are in reduced row echelon form to one column more, and returns the rank of these.
-// The rows are those of which `places` says what is still to be added to them.
+// The matrix is what is stored stands for, where bit b of the word of the column has its pivot in row `places[b]`, if there is such a row.
 fn reduce_column(
     matrix: &mut [u64],
     shape: Shape,

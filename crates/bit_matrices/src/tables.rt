@@ -5,8 +5,8 @@ ghost use Rattle.bit_matrices.specs.BitMatrices.{HasEntries, HasTables, IsKeptOu
 use crate::rows::{add_words, clear, words_from};
 use std::simd::prelude::*;
 
-// Sums are added strip by strip, and in a strip those of 64 rows at a time: for each four of these 16 sums stand in a table, of 8 words each,
-// so that any sum of the 64 rows takes 16 sums of 8 words. The tables take 16 KiB, which a processor keeps in its nearest cache.
+// Sums are added strip by strip, and in a strip those of 64 rows at a time: for each four of these 16 sums stand in a table, of 8 words
+// each, so that any sum of the 64 rows takes 16 sums of 8 words. The tables take 16 KiB, which a processor keeps in its nearest cache.
 
 // A strip of a matrix whose rows have `words` words: `width` words of each row, from word `start` on.
 #[derive(Clone, Copy)]

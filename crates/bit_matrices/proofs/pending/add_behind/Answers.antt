@@ -1,43 +1,43 @@
-use Rattle.std.proofs.Common.{◌≡◌, ℕ, ◌+◌, ◌-◌, ◌*◌, ◌≤◌, ◌∙◌, arith, refl, subst}
+use Rattle.std.proofs.Common.{◌≡◌, ℕ, ◌+◌, ◌-◌, ◌*◌, ◌%◌, ◌∙◌, arith, subst}
 use Rattle.std.specs.Prelude.{slice_index}
-use Rattle.std.proofs.lemmas.Grind.{div_ceil_times}
-use Rattle.bit_matrices.specs.BitMatrices.{AreWordsAdded, row_word, sum_at_bits, word_of}
-use Rattle.bit_matrices.proofs.WordColumns.{words_added_all, words_added_more, words_added_none}
+use Rattle.bit_matrices.specs.BitMatrices.{AreWordsAdded}
+use Rattle.bit_matrices.proofs.WordColumns.{sum_behind, words_added_then}
 use Rattle.bit_matrices.proofs.pending.add_behind.Goals as goal
+
+pub add_to_strip-requires-clause-strip : goal.add_to_strip-requires-clause-strip
+add_to_strip-requires-clause-strip c = record { within = omega (arith, c.requires.word); narrow = omega arith }
 
 pub loop-index-init : goal.loop-index-init
 loop-index-init c =
     let words = c.args.shape.words in
-    let old = c.args.matrix.now in
-    let sums : ℕ → ℕ → ℕ = λ i v. sum_at_bits (λ b. row_word c.args.shape.rows words old (slice_index c.args.places.now b) v) 64 (word_of words old i c.args.word) in
-    let none : c.args.word + 1 ≡ c.args.word + 1 + 8 * 0 = omega arith in (
-      refl,
-      subst (λ (n : ℕ). AreWordsAdded words (c.args.word + 1) n c.args.shape.rows sums old old) none
-          (words_added_none words (c.args.word + 1) c.args.shape.rows sums old),
+    let start = c.args.word + 1 in
+    let none : start + (words - start) % 8 ≡ start + (words - start) % 8 + 8 * 0 = omega arith in (
+      c.add_to_strip.ensures.tables,
+      subst (λ (n : ℕ). AreWordsAdded words start n c.args.shape.rows
+          (sum_behind c.args.shape.rows words c.args.word (slice_index c.args.places.now) c.args.matrix.now) c.args.matrix.now
+          c.add_to_strip.new.matrix) none c.add_to_strip.ensures.sums,
     )
 
-pub strip_width-width-requires : goal.strip_width-width-requires
-strip_width-width-requires c =
-    let few = (div_ceil_times (c.args.shape.words - (c.args.word + 1)) 8 (omega arith)).1 in omega (arith, few, c.div_ceil-strips.ensures)
+pub add_to_strip-requires-in-loop-index-clause-shape : goal.add_to_strip-requires-in-loop-index-clause-shape
+add_to_strip-requires-in-loop-index-clause-shape c = c.loop-index.invariant.1.shape ∙ c.requires.shape
 
-pub write_tables-requires-clause-matrix : goal.write_tables-requires-clause-matrix
-write_tables-requires-clause-matrix c = c.loop-index.invariant.1.shape ∙ c.requires.shape
-
-pub add_own-requires-clause-shape : goal.add_own-requires-clause-shape
-add_own-requires-clause-shape c = c.loop-index.invariant.1.shape ∙ c.requires.shape
+pub add_to_strip-requires-in-loop-index-clause-strip : goal.add_to_strip-requires-in-loop-index-clause-strip
+add_to_strip-requires-in-loop-index-clause-strip c = record { within = omega (arith, c.requires.word); narrow = omega arith }
 
 pub loop-index-preserved : goal.loop-index-preserved
 loop-index-preserved c =
     let words = c.args.shape.words in
-    let old = c.args.matrix.now in
-    let to = c.args.word + 1 + 8 * c.loop-index.index in
-    let next : to + 8 ≡ c.args.word + 1 + 8 * (c.loop-index.index + 1) = omega arith in
-    let sums : ℕ → ℕ → ℕ = λ i v. sum_at_bits (λ b. row_word c.args.shape.rows words old (slice_index c.args.places.now b) v) 64 (word_of words old i c.args.word) in (
-      c.write_tables.ensures.tables,
-      subst (λ (n : ℕ). AreWordsAdded words (c.args.word + 1) n c.args.shape.rows sums old c.add_own.new.matrix) next
-          (words_added_more words c.args.word c.args.shape.rows to c.strip_width-width.result (slice_index c.args.places.now)
-          c.write_tables.new.tables old c.loop-index.matrix c.add_own.new.matrix (omega arith) c.strip_width-width.ensures.strip
-          c.strip_width-width.ensures.last c.loop-index.invariant.1 c.write_tables.ensures.entries c.add_own.ensures),
+    let start = c.args.word + 1 in
+    let first = start + (words - start) % 8 in
+    let index = c.loop-index.index in
+    let next : first + 8 * index + 8 ≡ first + 8 * (index + 1) = omega arith in
+    let place = slice_index c.args.places.now in (
+      c.add_to_strip-in-loop-index.ensures.tables,
+      subst (λ (n : ℕ). AreWordsAdded words start n c.args.shape.rows (sum_behind c.args.shape.rows words c.args.word place c.args.matrix.now)
+          c.args.matrix.now c.add_to_strip-in-loop-index.new.matrix) next
+          (words_added_then words c.args.word c.args.shape.rows start (first + 8 * index) (first + 8 * index + 8) place c.args.matrix.now
+          c.loop-index.matrix c.add_to_strip-in-loop-index.new.matrix (omega arith) (omega arith) (omega arith) (omega (arith, c.requires.word))
+          c.loop-index.invariant.1 c.add_to_strip-in-loop-index.ensures.sums),
     )
 
 pub returns-clause-shape : goal.returns-clause-shape
@@ -46,7 +46,8 @@ returns-clause-shape c = c.loop-index.invariant.1.shape
 pub returns-clause-sums : goal.returns-clause-sums
 returns-clause-sums c =
     let words = c.args.shape.words in
-    let enough = (div_ceil_times (words - (c.args.word + 1)) 8 (omega arith)).0 in
-    let last : words ≤ c.args.word + 1 + 8 * c.loop-index.index = omega (arith, enough, c.div_ceil-strips.ensures) in
-    words_added_all words (c.args.word + 1) (c.args.word + 1 + 8 * c.loop-index.index) c.args.shape.rows _ c.args.matrix.now c.loop-index.matrix last
+    let start = c.args.word + 1 in
+    let last : start + (words - start) % 8 + 8 * c.loop-index.index ≡ words = omega (arith, c.requires.word) in
+    subst (λ (n : ℕ). AreWordsAdded words start n c.args.shape.rows
+    (sum_behind c.args.shape.rows words c.args.word (slice_index c.args.places.now) c.args.matrix.now) c.args.matrix.now c.loop-index.matrix) last
     c.loop-index.invariant.1
