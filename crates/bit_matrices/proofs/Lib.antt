@@ -6,3 +6,4 @@ mod BitIdentities
 mod BitNullRows
 mod PendingSums
 mod WordColumns
+mod BitTransposes

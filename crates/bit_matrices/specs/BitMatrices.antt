@@ -143,3 +143,14 @@ pub record ArePivotsSet (rows words first count : ℕ) (place : ℕ → ℕ) (ol
   pub set : (i b : ℕ) → i < rows → b < count → bit_entry words now i (first + b)
       ≡ bit_xor (bit_entry words old i (first + b)) (entry_within rows identity_entry (place b) i)
   pub others : (i j : ℕ) → j < 64 * words → (j < first) ⊎ (first + count ≤ j) → bit_entry words now i j ≡ bit_entry words old i j
+
+-- ---- transposes
+
+-- one word of each of so many rows from one on has these bits, as far as the matrix has these rows, and the other entries are as they were
+pub record IsBlockWritten (rows words first count word : ℕ) (wanted : ℕ → ℕ → ℕ) (old now : List ℕ) : Type 0 where
+  pub shape : length now ≡ length old
+  pub written : (i b : ℕ) → first ≤ i → i < first + count → i < rows → b < 64 → bit_entry words now i (64 * word + b) ≡ wanted i b
+  pub before : (i j : ℕ) → i < rows → j < 64 * words → (i < first) ⊎ (first + count ≤ i)
+      → bit_entry words now i j ≡ bit_entry words old i j
+  pub others : (i j : ℕ) → i < rows → j < 64 * words → (j < 64 * word) ⊎ (64 * word + 64 ≤ j)
+      → bit_entry words now i j ≡ bit_entry words old i j
