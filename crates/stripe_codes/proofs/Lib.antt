@@ -1,0 +1,7 @@
+mod KnownCodes
+mod MatrixWords
+pub mod PresentCounts
+pub mod ShardPlaces
+mod TransformCalls
+mod TransformWords
+mod WordLoops
