@@ -1,7 +1,7 @@
 mod arrays;
-mod bit_matrices;
 mod bits;
 mod matrices;
+mod matrices_of_bits;
 mod packings;
 mod provers;
 mod slices;
