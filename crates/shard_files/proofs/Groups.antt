@@ -1,13 +1,14 @@
 -- Shards that are put to their places, and the files that they are found in.
-use Rattle.std.proofs.Common.{◌≡◌, ◌≢◌, ◌⊎◌, inl, inr, ℕ, zero, suc, ◌+◌, ◌*◌, ◌<◌, ◌≤◌, Bool, true, false, cond, List, [], ◌∷◌, ◌++◌, length, get_or, take, drop, set, replicate, Some, refl, sym, ◌∙◌, ap, subst, arith}
+use Rattle.std.proofs.Common.{◌≡◌, ◌≢◌, ◌⊎◌, inl, inr, ℕ, zero, suc, ◌+◌, ◌*◌, ◌<◌, ◌≤◌, Bool, true, false, List, [], ◌∷◌, ◌++◌, length, get_or, take, drop, set, replicate, Some, refl, sym, ◌∙◌, ap, subst, arith}
 use Rattle.std.proofs.Math.ListN.{get_or-eq_default}
-use Rattle.std.proofs.Math.Nat.{eq-or-lt_of_le, mul-le-mul_right}
+use Rattle.std.proofs.Math.Nat.{eq-or-lt_of_le}
 use Rattle.std.proofs.lemmas.Bool.{cases_lt, true≢false}
 use Rattle.std.proofs.lemmas.List.{drop-take, drop_at, get_or-set_other, get_or-set_same, length-append, length-drop, length-take-le, take_at}
-use Rattle.std.proofs.lemmas.List.Sums.{sum_by-cons}
 use Rattle.std.proofs.lemmas.Slice.{drop-put_mid, take-put_mid_below}
 use borrow.Rule.Slice.PartMut.{put_mid}
 use Rattle.reed_solomon.specs.Shards.{IsPresent, present_count}
+use Rattle.stripe_codes.proofs.PresentCounts.{with_one, without}
+use Rattle.stripe_codes.proofs.ShardPlaces.{shard_room}
 use Rattle.shard_files.specs.Groups.{AreOf, GivesPiece, GivesStripe, HasEnough, Holdings, IsGathered, numbered, Puts, shard_at, Takes}
 use Rattle.shard_files.specs.Heads.{head_digest, head_file, IsHead, IsOrigin}
 use Rattle.shard_files.specs.Pieces.{piece_bytes}
@@ -18,17 +19,6 @@ use Rattle.shard_files.proofs.Heads.{head_is}
 use Rattle.shard_files.proofs.Pieces.{piece_rest}
 
 -- ---- places
-
--- a shard stands within the bytes of all
-pub shard_room : (index total size bytes : ℕ) → index < total → bytes ≡ total * size → index * size + size ≤ bytes
-shard_room index total size bytes within long =
-    let more = mul-le-mul_right size (next within) in omega (arith, more, long, one_more index size)
-  where
-    next : index < total → index + 1 ≤ total
-    next h = omega (arith, h)
-
-    one_more : (i n : ℕ) → (i + 1) * n ≡ i * n + n
-    one_more i n = omega arith
 
 -- a shard ends before one of a higher number
 before : (low high size : ℕ) → low < high → low * size + size ≤ high * size
@@ -167,11 +157,11 @@ takes_piece origin head stripe piece shard old new had has is puts =
         (puts.put (subst (λ (n : ℕ). n < shard_total origin) (sym given.0) inside) (ap length same ∙ sized))
 
 -- the numbers of these are those of heads
-pub numbered_fits : (origin : Origin) → IsOrigin origin → shard_total origin ≤ 256 → (index : ℕ) → index < shard_total origin → IsHead (numbered origin index)
+pub numbered_fits : (origin : Origin) → IsOrigin origin → shard_total origin ≤ 65536 → (index : ℕ) → index < shard_total origin → IsHead (numbered origin index)
 numbered_fits origin fits few index inside = record { origin_fits = fits; index_fits = omega (arith, inside, few) }
 
 -- the head of these is the one that was read
-module _ (origin : Origin) (bytes : List ℕ) (read : Head) (stripe : ℕ) (piece : List ℕ) (fits : IsOrigin origin) (few : shard_total origin ≤ 256)
+module _ (origin : Origin) (bytes : List ℕ) (read : Head) (stripe : ℕ) (piece : List ℕ) (fits : IsOrigin origin) (few : shard_total origin ≤ 65536)
     (only : (head : Head) → IsHead head → bytes ≡ head_file head → read ≡ head)
   where
     pub of_read : read.origin ≡ origin → bytes ≡ head_file read → (index : ℕ) (shard : List ℕ) → index < shard_total origin
@@ -244,12 +234,6 @@ unfolding shard_at
 shard_long size total index whole long inside =
     let room = shard_room index total size (length whole) inside long in
     length-take-le size (drop (index * size) whole) (omega (arith, room, length-drop (index * size) whole))
-
-without : (flags : List Bool) → present_count (false ∷ flags) ≡ 0 + present_count flags
-without flags = sum_by-cons (λ (flag : Bool). cond flag 1 0) false flags
-
-with_one : (flags : List Bool) → present_count (true ∷ flags) ≡ 1 + present_count flags
-with_one flags = sum_by-cons (λ (flag : Bool). cond flag 1 0) true flags
 
 -- flags of which all are true that are true of others count no fewer
 pub more_present : (a b : List Bool) → length a ≡ length b → ((i : ℕ) → IsPresent a i → IsPresent b i) → present_count a ≤ present_count b

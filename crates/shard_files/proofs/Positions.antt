@@ -35,16 +35,16 @@ product_positive a b some _ = let more = mul-le-mul_right b (at_least_one a some
     at_least_one n h = omega (arith, h)
 
 module _ (origin : Origin) (possible : IsPossible origin) where
-  data_few : origin.data_shards ≤ 256
+  data_few : origin.data_shards ≤ 65536
   data_few = omega (arith, possible.few)
 
   pub width_some : 0 < stripe_width origin
   width_some = omega (arith, product_positive origin.data_shards origin.size possible.some_data possible.some_size, possible.some_size)
 
-  pub width_small : stripe_width origin ≤ 2 ^ 32
+  pub width_small : stripe_width origin ≤ 2 ^ 40
   width_small =
       let one = mul-le-mul_right origin.size data_few in
-      let two = mul-le-mul_left 256 possible.small_size in
+      let two = mul-le-mul_left 65536 possible.small_size in
       omega (arith, one, two)
 
   pub begins : (stripe : ℕ) → stripe < stripe_total origin → stripe * stripe_width origin < origin.length
@@ -58,7 +58,7 @@ module _ (origin : Origin) (possible : IsPossible origin) where
   ends_at stripe most = let more = mul-le-mul_right (stripe_width origin) most in omega (arith, ends, more)
 
   -- a number of stripes no greater than all of them, times the bytes of a shard in one
-  few_stripes : (stripe : ℕ) → stripe ≤ stripe_total origin → stripe * stripe_width origin ≤ 2 ^ 56 + 2 ^ 32
+  few_stripes : (stripe : ℕ) → stripe ≤ stripe_total origin → stripe * stripe_width origin ≤ 2 ^ 56 + 2 ^ 40
   few_stripes stripe most =
       let whole = div-add-mod (origin.length + (stripe_width origin - 1)) (stripe_width origin) in
       let turned : stripe_width origin * stripe_total origin ≡ stripe_total origin * stripe_width origin = omega arith in

@@ -86,7 +86,7 @@ module _ (head : Head) (total : ℕ) (inside : head.index < total) where
 pub record AreSplitSoFar (origin : Origin) (stripe : ℕ) (so_far : List ℕ) (wholes : List (List ℕ)) : Type 0 where
   pub long : length so_far ≡ min (stripe * stripe_width origin) origin.length
   pub count : length wholes ≡ stripe
-  pub split : (s : ℕ) → s < stripe → IsSplit origin.data_shards (shard_total origin) (stripe_content origin s so_far) (get_or wholes s [])
+  pub split : (s : ℕ) → s < stripe → IsSplit origin (stripe_content origin s so_far) (get_or wholes s [])
   pub whole_long : (s : ℕ) → s < stripe → length (get_or wholes s []) ≡ shard_total origin * origin.size
 
 pub split_none : (origin : Origin) → AreSplitSoFar origin 0 [] []
@@ -111,7 +111,7 @@ part_behind from count a b long short =
 
 module _ (origin : Origin) (possible : IsPossible origin) (stripe : ℕ) (within : stripe < stripe_total origin) (so_far bytes whole : List ℕ)
     (wholes : List (List ℕ)) (before : AreSplitSoFar origin stripe so_far wholes)
-    (split : IsSplit origin.data_shards (shard_total origin) bytes whole) (whole_long : length whole ≡ shard_total origin * origin.size)
+    (split : IsSplit origin bytes whole) (whole_long : length whole ≡ shard_total origin * origin.size)
     (long : length bytes ≡ stripe_length origin stripe)
   where
     -- the stripes before this one are whole
@@ -153,16 +153,16 @@ module _ (origin : Origin) (possible : IsPossible origin) (stripe : ℕ) (within
         }
       where
         each : (s : ℕ) → s < stripe + 1
-            → IsSplit origin.data_shards (shard_total origin) (stripe_content origin s (so_far ++ bytes)) (get_or (wholes ++ whole ∷ []) s [])
+            → IsSplit origin (stripe_content origin s (so_far ++ bytes)) (get_or (wholes ++ whole ∷ []) s [])
         each s below =
             elim (cases_lt s stripe) [
-              | inl less ↦ subst (λ (l : List ℕ). IsSplit origin.data_shards (shard_total origin) l (get_or (wholes ++ whole ∷ []) s [])) (sym (old_content s less))
-                  (subst (λ (l : List ℕ). IsSplit origin.data_shards (shard_total origin) (stripe_content origin s so_far) l) (sym (old_whole s less)) (before.split s less))
+              | inl less ↦ subst (λ (l : List ℕ). IsSplit origin l (get_or (wholes ++ whole ∷ []) s [])) (sym (old_content s less))
+                  (subst (λ (l : List ℕ). IsSplit origin (stripe_content origin s so_far) l) (sym (old_whole s less)) (before.split s less))
               | inr more ↦
                   let same : stripe ≡ s = omega (arith, more, below) in
-                  subst (λ (n : ℕ). IsSplit origin.data_shards (shard_total origin) (stripe_content origin n (so_far ++ bytes)) (get_or (wholes ++ whole ∷ []) n [])) same
-                  (subst (λ (l : List ℕ). IsSplit origin.data_shards (shard_total origin) l (get_or (wholes ++ whole ∷ []) stripe [])) (sym new_content)
-                  (subst (λ (l : List ℕ). IsSplit origin.data_shards (shard_total origin) bytes l) (sym new_whole) split))
+                  subst (λ (n : ℕ). IsSplit origin (stripe_content origin n (so_far ++ bytes)) (get_or (wholes ++ whole ∷ []) n [])) same
+                  (subst (λ (l : List ℕ). IsSplit origin l (get_or (wholes ++ whole ∷ []) stripe [])) (sym new_content)
+                  (subst (λ (l : List ℕ). IsSplit origin bytes l) (sym new_whole) split))
             ]
 
         each_long : (s : ℕ) → s < stripe + 1 → length (get_or (wholes ++ whole ∷ []) s []) ≡ shard_total origin * origin.size

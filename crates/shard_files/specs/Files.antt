@@ -25,7 +25,7 @@ pub record AreShards (origin : Origin) (content : List ℕ) (wholes : List (List
   pub identity_is : sha256 content ≡ origin.identity
   pub count_is : length wholes ≡ stripe_total origin
   pub split : (stripe : ℕ) → stripe < stripe_total origin
-      → IsSplit origin.data_shards (shard_total origin) (stripe_content origin stripe content) (slice_index_or wholes stripe [])
+      → IsSplit origin (stripe_content origin stripe content) (slice_index_or wholes stripe [])
   pub long : (stripe : ℕ) → stripe < stripe_total origin → length (slice_index_or wholes stripe []) ≡ shard_total origin * origin.size
 
 -- bytes were added to the file of one number, and none to any other

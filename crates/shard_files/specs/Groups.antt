@@ -58,7 +58,7 @@ pub record Puts (total size index : ℕ) (shard : List ℕ) (old : List ℕ) (ha
 
 -- as many shards as the data have are at hand, each as content was split into it
 pub record HasEnough (origin : Origin) (content whole shards : List ℕ) (present : List Bool) : Type 0 where
-  pub split : IsSplit origin.data_shards (shard_total origin) content whole
+  pub split : IsSplit origin content whole
   pub long : length whole ≡ length shards
   pub same : (index : ℕ) → index < shard_total origin → IsPresent present index → shard_at origin.size shards index ≡ shard_at origin.size whole index
   pub enough : origin.data_shards ≤ present_count present
@@ -66,7 +66,7 @@ pub record HasEnough (origin : Origin) (content whole shards : List ℕ) (presen
 -- files give enough shards of a stripe: content was split into `whole`, what they give as shards of this origin is of that, and as many
 -- of the shards as the data have are given
 pub record GivesStripe (origin : Origin) (files : Holdings) (stripe : ℕ) (content whole : List ℕ) : Type 0 where
-  pub split : IsSplit origin.data_shards (shard_total origin) content whole
+  pub split : IsSplit origin content whole
   pub long : length whole ≡ shard_total origin * origin.size
   pub true_ones : (index place : ℕ) (shard : List ℕ) → index < shard_total origin → place < files.places → length shard ≡ origin.size
       → GivesPiece files place (numbered origin index) stripe shard → shard ≡ shard_at origin.size whole index

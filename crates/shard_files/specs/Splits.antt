@@ -1,11 +1,9 @@
--- A file in shards: the bytes of the file stand at the start of the shards of data, zeros behind them, and the parity is theirs.
-use Rattle.std.specs.Prelude.{◌≡◌, ℕ, ◌*◌, ◌<◌, List, length, take}
-use Rattle.reed_solomon.specs.Shards.{AreCodewords}
+-- A file in shards: the bytes of a stripe stand at the start of the shards of data, zeros behind them, and the parity is theirs.
+use Rattle.std.specs.Prelude.{◌≡◌, List, ℕ, length, take}
+use Rattle.stripe_codes.specs.Codes.{IsStripeWord}
+use Rattle.shard_files.specs.declared.head.Origin.{Origin}
 
--- the shards are those of a file with these bytes
-pub record IsSplit (k total : ℕ) (content shards : List ℕ) : Type 0 where
-  pub size : ℕ
-  pub positive : 0 < size
-  pub long : length shards ≡ total * size
+-- all shards of a stripe are those of these bytes, by the code that the origin names
+pub record IsSplit (origin : Origin) (content shards : List ℕ) : Type 0 where
   pub begins : take (length content) shards ≡ content
-  pub codewords : AreCodewords k total size shards
+  pub code_word : IsStripeWord origin.code origin.data_shards origin.parity_shards origin.size shards

@@ -1,5 +1,6 @@
 -- The stripes of a file: as many bytes of it as the shards of data have bytes in one stripe, and in the last what is left.
 use Rattle.std.specs.Prelude.{◌≡◌, ℕ, ◌+◌, ◌-◌, ◌*◌, ◌/◌, ◌^◌, ◌<◌, ◌≤◌, min, List, take, drop}
+use Rattle.stripe_codes.specs.Codes.{HasCode}
 use Rattle.shard_files.specs.declared.head.Origin.{Origin}
 
 -- how many shards a file has
@@ -8,10 +9,10 @@ shard_total origin = origin.data_shards + origin.parity_shards
 
 -- a code has so many shards, and positions in a shard's file are numbers of 64 bits
 pub record IsPossible (origin : Origin) : Type 0 where
-  pub code_is : origin.code ≡ 1
   pub some_data : 0 < origin.data_shards
   pub some_parity : 0 < origin.parity_shards
-  pub few : origin.data_shards + origin.parity_shards ≤ 256
+  pub has_code : HasCode origin.code origin.data_shards origin.parity_shards origin.size
+  pub few : origin.data_shards + origin.parity_shards ≤ 65536
   pub some_size : 0 < origin.size
   pub small_size : origin.size ≤ 2 ^ 24
   pub small_length : origin.length ≤ 2 ^ 56

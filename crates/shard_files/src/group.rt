@@ -1,18 +1,16 @@
 // The shards of a file in one stripe: put to their places by what heads say, restored, and looked at.
-ghost use Rattle.std.specs.Prelude.{◌≡◌, ℕ, List, ◌+◌, ◌*◌, ◌/◌, ◌<◌, ◌≤◌, ◌↔◌, drop, take, length, false, replicate, slice_index_or, IsOk, IsTrue, IfErr, IfOk};
-ghost use Rattle.reed_solomon.specs.Shards.{AreCodewords, present_count};
-ghost use Rattle.reed_solomon.specs.Sizes.{HasShardSize};
+ghost use Rattle.std.specs.Prelude.{◌≡◌, ℕ, List, ◌+◌, ◌*◌, ◌<◌, ◌≤◌, ◌↔◌, drop, take, length, false, replicate, slice_index_or, IsOk, IsTrue, IfErr, IfOk};
+ghost use Rattle.reed_solomon.specs.Shards.{present_count};
 ghost use Rattle.shard_files.specs.declared.error.JoinError.TheVariants.{Memory};
 ghost use Rattle.shard_files.specs.Groups.{AreOf, HasEnough, Puts, shard_at, Takes};
 ghost use Rattle.shard_files.specs.Pieces.{piece_bytes};
 ghost use Rattle.shard_files.specs.Heads.{head_digest, IsOrigin};
+ghost use Rattle.stripe_codes.specs.Codes.{IsStripeWord};
 ghost use Rattle.shard_files.specs.Stripes.{IsPossible, shard_total};
 
 use crate::error::JoinError;
 use crate::head::{Head, Origin};
 use crate::piece::{DIGEST, is_piece};
-use crate::split::join;
-use reed_solomon::ReedSolomon;
 use std::alloc::{AllocError, Global};
 
 /// The shards of a file in one stripe, as far as they are at hand.
@@ -130,35 +128,36 @@ impl Group {
         &self.shards.as_slice()[begin..begin + size]
     }
 
-    /// Restores the missing shards. It fails where fewer are at hand than the data have.
-    pub fn restore(&mut self) -> Result<(), JoinError>
+    /// Restores the missing shards. It fails where fewer are at hand than the data have, or where memory is refused.
+    pub fn restore(&mut self, alloc: Global) -> Result<(), JoinError>
         ensures kept { (self.new.origin ≡ self.old.origin) × (self.new.present ≡ self.old.present) }
         ensures restored { (content whole : List ℕ) → HasEnough self.old.origin content whole self.old.shards.items self.old.present.items
-            → IsOk result × (self.new.shards.items ≡ whole) }
+            → IsOk result → self.new.shards.items ≡ whole }
+        ensures granted { (content whole : List ℕ) → HasEnough self.old.origin content whole self.old.shards.items self.old.present.items
+            → IfErr result (λ error. error ≡ Memory) }
     {
         if self.count() < self.origin.data_shards as usize {
             return Err(JoinError::TooFew);
         }
-        if !self.join_shards() {
-            return Err(JoinError::Counts);
-        }
-        Ok(())
+        self.restore_shards(alloc)
     }
 
-    // Restores the missing shards from those at hand, and says whether they are enough.
-    fn join_shards(&mut self) -> bool
+    // Restores the missing shards, of which as many are at hand as the data have.
+    fn restore_shards(&mut self, alloc: Global) -> Result<(), JoinError>
+        requires { self.old.origin.data_shards ≤ present_count self.old.present.items }
         ensures kept { (self.new.origin ≡ self.old.origin) × (self.new.present ≡ self.old.present) }
-        ensures joined { (content whole : List ℕ) → HasEnough self.old.origin content whole self.old.shards.items self.old.present.items
-            → IsTrue result × (self.new.shards.items ≡ whole) }
+        ensures restored { (content whole : List ℕ) → HasEnough self.old.origin content whole self.old.shards.items self.old.present.items
+            → IsOk result → self.new.shards.items ≡ whole }
+        ensures refused { IfErr result (λ error. error ≡ Memory) }
     {
-        match join(
-            self.origin.data_shards as usize,
-            self.origin.parity_shards as usize,
-            self.shards.as_mut_slice(),
-            self.present.as_slice(),
-        ) {
-            Ok(()) => true,
-            Err(_) => false,
+        let code = match self.origin.stripe_code() {
+            Some(code) => code,
+            None => return Err(JoinError::Counts),
+        };
+        let shards = self.shards.as_mut_slice();
+        match code.restore(alloc, shards, self.present.as_slice()) {
+            Ok(()) => Ok(()),
+            Err(_) => Err(JoinError::Memory),
         }
     }
 
@@ -170,17 +169,19 @@ impl Group {
         &self.shards.as_slice()[..length]
     }
 
-    /// Whether the parity is that of the data.
-    pub fn has_parity(&self) -> bool
-        ensures { IsTrue result
-            ↔ AreCodewords self.now.origin.data_shards (shard_total self.now.origin) self.now.origin.size self.now.shards.items }
+    /// Whether the parity is that of the data. It fails where memory is refused.
+    pub fn has_parity(&self, alloc: Global) -> Result<bool, JoinError>
+        ensures answer { IfOk result (λ is_whole. IsTrue is_whole ↔ IsStripeWord self.now.origin.code self.now.origin.data_shards
+            self.now.origin.parity_shards self.now.origin.size self.now.shards.items) }
+        ensures refused { IfErr result (λ error. error ≡ Memory) }
     {
-        match ReedSolomon::new(
-            self.origin.data_shards as usize,
-            self.origin.parity_shards as usize,
-        ) {
-            Ok(code) => are_code_words(&code, self.shards.as_slice()),
-            Err(_) => false,
+        let code = match self.origin.stripe_code() {
+            Some(code) => code,
+            None => return Err(JoinError::Counts),
+        };
+        match code.verify(alloc, self.shards.as_slice()) {
+            Ok(is_whole) => Ok(is_whole),
+            Err(_) => Err(JoinError::Memory),
         }
     }
 }
@@ -193,17 +194,6 @@ fn rest_of(piece: &[u8]) -> &[u8]
         &[]
     } else {
         &piece[DIGEST..]
-    }
-}
-
-// Whether shards have one size, and their parity is that of the data.
-fn are_code_words(code: &ReedSolomon, shards: &[u8]) -> bool
-    ensures { let total = code.now.data_shards + code.now.parity_shards in IsTrue result ↔ (HasShardSize total (length shards.now)
-        × AreCodewords code.now.data_shards total (length shards.now / total) shards.now) }
-{
-    match code.verify(shards) {
-        Ok(are_all) => are_all,
-        Err(_) => false,
     }
 }
 

@@ -1,47 +1,68 @@
 // The stripes of a file: where their bytes begin, and how many they are.
-ghost use Rattle.std.specs.Prelude.{◌≡◌, ◌+◌, ◌-◌, ◌*◌, ◌/◌, ◌<◌, ◌≤◌, ◌↔◌, ◌^◌, IsTrue};
+ghost use Rattle.std.specs.Prelude.{◌≡◌, ◌+◌, ◌-◌, ◌*◌, ◌/◌, ◌<◌, ◌%◌, ◌≤◌, ◌↔◌, ◌^◌, IfSome, IsSome, IsTrue};
+ghost use Rattle.stripe_codes.specs.Codes.{HasCode};
 ghost use Rattle.shard_files.specs.Stripes.{IsPossible, piece_start, shard_total, stripe_length, stripe_total, stripe_width};
 
 use crate::head::{HEAD, Origin};
 use crate::piece::DIGEST;
+use stripe_codes::{StripeCode, TRANSFORM};
 
 /// About how many bytes of all shards of a file a stripe has at most.
 const STRIPE: u64 = 1 << 24;
 
 impl Origin {
-    /// What the heads of the shards of a file say, of so many bytes and of this identity, by the code of the crate `reed_solomon`. A stripe
-    /// of all shards has some 16 MiB at most, and the stripes are as long as one another.
-    pub fn of_file(data_shards: u32, parity_shards: u32, length: u64, identity: [u8; 32]) -> Origin
-        ensures counts { (result.code ≡ 1) × (result.data_shards ≡ data_shards) × (result.parity_shards ≡ parity_shards) }
+    /// What the heads of the shards of a file say, of so many bytes and of this identity, by the code of that number. A stripe of all shards
+    /// has some 16 MiB at most, and the stripes are as long as one another. A shard has whole words of a stripe, where the code has words.
+    pub fn of_file(
+        code: u32,
+        data_shards: u32,
+        parity_shards: u32,
+        length: u64,
+        identity: [u8; 32],
+    ) -> Origin
+        ensures counts { (result.code ≡ code) × (result.data_shards ≡ data_shards) × (result.parity_shards ≡ parity_shards) }
         ensures named { (result.length ≡ length) × (result.identity ≡ identity) }
+        ensures even { code ≡ 2 → result.size % 2 ≡ 0 }
     {
         let data = data_shards as u64;
+        let size = shard_size(data, data + parity_shards as u64, length);
         Origin {
-            code: 1,
+            code,
             data_shards,
             parity_shards,
             length,
-            size: shard_size(data, data + parity_shards as u64, length),
+            size: in_words(code, size),
             identity,
         }
     }
 
-    /// Whether a code has so many shards, from 2 to 256, a shard has from 1 to 2^24 bytes of a stripe, and the file at most 2^56.
+    /// Whether a code has so many shards, a shard has from 1 to 2^24 bytes of a stripe, and the file at most 2^56.
     pub fn is_possible(&self) -> bool
         ensures { IsTrue result ↔ IsPossible self.now }
     {
-        self.has_counts() && self.has_lengths()
+        if !self.has_lengths() {
+            return false;
+        }
+        match self.stripe_code() {
+            Some(_) => true,
+            None => false,
+        }
     }
 
-    // Whether a code has so many shards.
-    fn has_counts(&self) -> bool
-        ensures { IsTrue result ↔ ((self.now.code ≡ 1) × (0 < self.now.data_shards) × (0 < self.now.parity_shards)
-            × (self.now.data_shards + self.now.parity_shards ≤ 256)) }
+    /// The code of each stripe, where there is one.
+    pub fn stripe_code(&self) -> Option<StripeCode>
+        ensures made { IfSome result (λ code. (code.number ≡ self.now.code) × (code.data_shards ≡ self.now.data_shards)
+            × (code.parity_shards ≡ self.now.parity_shards) × (code.size ≡ self.now.size)) }
+        ensures accepted { IsSome result ↔ ((0 < self.now.data_shards) × (0 < self.now.parity_shards) × (0 < self.now.size)
+            × HasCode self.now.code self.now.data_shards self.now.parity_shards self.now.size) }
+        ensures few { IsSome result → shard_total self.now ≤ 65536 }
     {
-        self.code == 1
-            && self.data_shards > 0
-            && self.parity_shards > 0
-            && self.data_shards as u64 + self.parity_shards as u64 <= 256
+        StripeCode::new(
+            self.code,
+            self.data_shards as usize,
+            self.parity_shards as usize,
+            self.size as usize,
+        )
     }
 
     // Whether the lengths are no more than they may be.
@@ -109,10 +130,24 @@ impl Origin {
 }
 
 // How many bytes each shard has of a stripe, where the file has as few stripes as go, all as long as one another.
-fn shard_size(data: u64, total: u64, length: u64) -> u64 {
+fn shard_size(data: u64, total: u64, length: u64) -> u64
+    ensures { result ≤ 2 ^ 24 }
+{
     let most = parts(STRIPE, total).clamp(1, STRIPE);
     let stripes = parts(length, most.saturating_mul(data));
     parts(length, stripes.saturating_mul(data)).clamp(1, STRIPE)
+}
+
+// So many bytes of a shard, up to whole words where the code is over words.
+fn in_words(code: u32, size: u64) -> u64
+    requires { size ≤ 2 ^ 24 }
+    ensures { code ≡ 2 → result % 2 ≡ 0 }
+{
+    if code == TRANSFORM {
+        size + size % 2
+    } else {
+        size
+    }
 }
 
 // How many parts of so many bytes hold all of them, of which the last may be shorter.

@@ -10,6 +10,7 @@ mod piece;
 mod reading;
 mod repairing;
 mod split;
+mod survey;
 mod writing;
 
 pub use crate::error::{JoinError, RepairError, SplitError};
@@ -18,4 +19,5 @@ pub use crate::head::{HEAD, Head, Origin, older_format};
 pub use crate::laws::shards_return;
 pub use crate::reading::{ShardSource, gather, restored, write_content};
 pub use crate::repairing::repair_shards;
+pub use crate::survey::{Choice, Finding, Seen, Survey};
 pub use crate::writing::{ShardFiles, put_head, put_piece, write_shards};

@@ -167,6 +167,6 @@ pub fn restored<S: ShardSource>(
         → IfErr result (λ error. error ≡ Memory) }
 {
     let mut group = gather(alloc, source, origin, stripe)?;
-    group.restore()?;
+    group.restore(alloc)?;
     Ok(group)
 }

@@ -1,5 +1,5 @@
 // Shards of a file that are written again, stripe by stripe.
-ghost use Rattle.std.specs.Prelude.{◌≡◌, ℕ, List, [], ◌+◌, ◌<◌, ◌≤◌, length, slice_index_or, OnOk};
+ghost use Rattle.std.specs.Prelude.{◌≡◌, ℕ, List, [], ◌+◌, ◌^◌, ◌<◌, ◌≤◌, length, slice_index_or, OnOk};
 ghost use Rattle.shard_files.specs.Files.{AppendsToLost, shard_file};
 ghost use Rattle.shard_files.specs.Groups.{GivesFile, Holdings, numbered, shard_at};
 ghost use Rattle.shard_files.specs.Heads.{head_digest, head_file};
@@ -58,7 +58,7 @@ fn put_lost_heads<F: ShardFiles>(
     lost: &[bool],
     files: &mut F,
 ) -> Result<(), SplitError>
-    requires { length lost.now ≤ 256 }
+    requires { length lost.now ≤ 2 ^ 32 }
     ensures { (before : ℕ → List ℕ) → F.holds files.old before → OnOk result ((now : ℕ → List ℕ) × F.holds files.new now
         × AppendsToLost (length lost.now) lost.now (λ index. head_file (numbered origin.now index)) before now) }
 {

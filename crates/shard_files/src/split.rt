@@ -1,29 +1,40 @@
-// The bytes of a stripe in shards, and back.
-ghost use Rattle.std.specs.Prelude.{◌≡◌, ◌+◌, ◌*◌, ◌/◌, ◌<◌, ◌≤◌, ℕ, List, length, slice_index, IsOk, IsTrue};
-ghost use Rattle.reed_solomon.specs.RoundTrip.{AgreeWherePresent};
-ghost use Rattle.reed_solomon.specs.Shards.{present_count};
-ghost use Rattle.reed_solomon.specs.Sizes.{HasShardSize};
+// The bytes of a stripe in shards.
+ghost use Rattle.std.specs.Prelude.{◌≡◌, ◌*◌, ◌<◌, ◌≤◌, ℕ, length, slice_index, IsOk, IsTrue};
 ghost use Rattle.shard_files.specs.Splits.{IsSplit};
+ghost use Rattle.shard_files.specs.Stripes.{shard_total};
 
-use reed_solomon::{ReedSolomon, ReedSolomonError, lost_shards_return};
+use crate::error::SplitError;
+use crate::head::Origin;
+use std::alloc::Global;
 
-/// Fills `shards` with the bytes of a stripe, with zeros behind them, and with their parity. They have to be of one size.
+/// Fills `shards` with the bytes of a stripe, with zeros behind them, and with their parity. It fails where there is no such code, where the
+/// shards of data have too little room, or where memory is refused.
 pub(crate) fn split_into(
-    data_shards: usize,
-    parity_shards: usize,
+    alloc: Global,
+    origin: &Origin,
     content: &[u8],
     shards: &mut [u8],
-) -> Result<(), ReedSolomonError>
-    ensures split { IsOk result → IsSplit data_shards (data_shards + parity_shards) content.now shards.new }
+) -> Result<(), SplitError>
+    requires { length shards.old ≡ shard_total origin.now * origin.now.size }
+    ensures split { IsOk result → IsSplit origin.now content.now shards.new }
     ensures long { length shards.new ≡ length shards.old }
 {
-    let code = ReedSolomon::new(data_shards, parity_shards)?;
-    let size = shards.len() / code.total_shard_count();
-    if !has_room(content.len(), data_shards, size) {
-        return Err(ReedSolomonError::IncorrectShardSize);
+    if !has_room(
+        content.len(),
+        origin.data_shards as usize,
+        origin.size as usize,
+    ) {
+        return Err(SplitError::Counts);
     }
+    let code = match origin.stripe_code() {
+        Some(code) => code,
+        None => return Err(SplitError::Counts),
+    };
     fill(shards, content);
-    code.encode(shards)
+    match code.encode(alloc, shards) {
+        Ok(()) => Ok(()),
+        Err(_) => Err(SplitError::Memory),
+    }
 }
 
 // Whether so many bytes fit into the shards of data.
@@ -51,24 +62,4 @@ fn byte_at(content: &[u8], i: usize) -> u8
     ensures { result ≡ slice_index content.now i }
 {
     if i < content.len() { content[i] } else { 0 }
-}
-
-/// Restores the missing shards: all are as they were split, if those that are present are.
-pub(crate) fn join(
-    data_shards: usize,
-    parity_shards: usize,
-    shards: &mut [u8],
-    present: &[bool],
-) -> Result<(), ReedSolomonError>
-    ensures restored { let total = data_shards + parity_shards in
-        (content whole : List ℕ) → IsOk result → IsSplit data_shards total content whole
-        → length whole ≡ length shards.old → AgreeWherePresent total (length shards.old / total) present.now shards.old whole
-        → shards.new ≡ whole }
-    ensures accepted { 0 < data_shards → 0 < parity_shards → data_shards + parity_shards ≤ 256
-        → length present.now ≡ data_shards + parity_shards
-        → HasShardSize (data_shards + parity_shards) (length shards.old) → data_shards ≤ present_count present.now → IsOk result }
-    ensures long { length shards.new ≡ length shards.old }
-{
-    lost_shards_return();
-    ReedSolomon::new(data_shards, parity_shards)?.reconstruct(shards, present)
 }

@@ -122,7 +122,7 @@ fn write_stripe<R: Read, F: ShardFiles>(
 ) -> Result<(), SplitError>
     requires possible { IsPossible origin.now }
     requires within { stripe < stripe_total origin.now }
-    ensures { OnOk result ((bytes : List ℕ) × (whole : List ℕ) × IsSplit origin.now.data_shards (shard_total origin.now) bytes whole
+    ensures { OnOk result ((bytes : List ℕ) × (whole : List ℕ) × IsSplit origin.now bytes whole
         × (length whole ≡ shard_total origin.now * origin.now.size) × (length bytes ≡ stripe_length origin.now stripe)
         × Consumes (R.remaining reader.old) (R.remaining reader.new) bytes
         × ((before : List ℕ) → Holds256 hasher.old before → Holds256 hasher.new (before ++ bytes))
@@ -153,22 +153,14 @@ fn read_stripe<R: Read>(alloc: Global, count: usize, reader: &mut R) -> Result<V
 
 // All shards of the bytes of a stripe.
 fn split_stripe(alloc: Global, origin: &Origin, content: &[u8]) -> Result<Vec<u8>, SplitError>
-    ensures split { IfOk result (λ shards. IsSplit origin.now.data_shards (shard_total origin.now) content.now shards.items) }
+    ensures split { IfOk result (λ shards. IsSplit origin.now content.now shards.items) }
     ensures long { IfOk result (λ shards. length shards.items ≡ shard_total origin.now * origin.now.size) }
 {
     let mut shards = match zeros(alloc, origin.total(), origin.size as usize) {
         Ok(shards) => shards,
         Err(_) => return Err(SplitError::Memory),
     };
-    let split = split_into(
-        origin.data_shards as usize,
-        origin.parity_shards as usize,
-        content,
-        shards.as_mut_slice(),
-    );
-    if split.is_err() {
-        return Err(SplitError::Counts);
-    }
+    split_into(alloc, origin, content, shards.as_mut_slice())?;
     Ok(shards)
 }
 

@@ -113,30 +113,31 @@ pub(crate) struct NewShards<'a, R: Files> {
     open: Option<R::File>,
     /// The number of the shard whose file is open, or was written last.
     index: usize,
-    is_begun: [bool; 256],
+    is_begun: Vec<bool>,
     /// Why the last call failed.
     fault: Option<anyhow::Error>,
     progress: Progress,
 }
 
 impl<'a, R: Files + AllocGlobal + Eprint> NewShards<'a, R> {
-    /// No file yet.
+    /// No file of so many shards yet.
     pub(crate) fn new(
         rt: &'a R,
         files: NewFiles<'a, R>,
         base: String,
+        total: usize,
         is_quiet: bool,
-    ) -> NewShards<'a, R> {
-        NewShards {
+    ) -> Result<NewShards<'a, R>> {
+        Ok(NewShards {
             rt,
             files,
             base,
             open: None,
-            index: 256,
-            is_begun: [false; 256],
+            index: 0,
+            is_begun: vec![in rt.alloc(); false; total]?,
             fault: None,
             progress: Progress::new(is_quiet),
-        }
+        })
     }
 
     // The name of a shard.
@@ -162,14 +163,14 @@ impl<'a, R: Files + AllocGlobal + Eprint> NewShards<'a, R> {
         }
         self.index = index;
         let target = self.target(index)?;
-        if index >= 256 || self.is_begun[index] {
+        if index < self.is_begun.len() && !self.is_begun[index] {
+            self.is_begun[index] = true;
+            self.open = Some(self.files.begin(target)?);
+        } else {
             let mut options = OpenOptions::new();
             options.append(true);
             let part = part_of(self.rt, target.as_str())?;
             self.open = Some(options.open(self.rt, part.as_str())?);
-        } else {
-            self.is_begun[index] = true;
-            self.open = Some(self.files.begin(target)?);
         }
         Ok(())
     }
@@ -188,8 +189,8 @@ impl<'a, R: Files + AllocGlobal + Eprint> NewShards<'a, R> {
 
     /// Gives each file its mode, and waits until it is on the disk.
     pub(crate) fn finish(&mut self) -> Result<()> {
-        for index in 0..256 {
-            if self.is_begun[index] {
+        for index in 0..self.is_begun.len() {
+            if index < self.is_begun.len() && self.is_begun[index] {
                 let target = self.target(index)?;
                 self.turn_to(index)?;
                 if let Some(file) = &self.open {

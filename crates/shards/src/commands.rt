@@ -10,6 +10,7 @@ use std::fs::{File, Files};
 use std::io;
 use std::io::{Read, Write};
 use std::path::Path;
+use stripe_codes::{default_code, limit_of};
 
 /// How many bytes are read at once to compute an identity.
 const CHUNK: usize = 1 << 20;
@@ -23,13 +24,17 @@ pub(crate) fn split_file<R: Files + AllocGlobal + Print + Eprint>(
 ) -> Result<()> {
     let (length, identity) = identify(rt, file)?;
     let mode = mode_of(rt, file)?;
-    let origin = Origin::of_file(words.data_shards, words.parity_shards, length, identity);
+    let (data, parity) = (words.data_shards, words.parity_shards);
+    let code = words
+        .code
+        .unwrap_or(default_code(data as usize, parity as usize));
+    let origin = Origin::of_file(code, data, parity, length, identity);
     if !origin.is_possible() {
-        bail!("cannot split {file}: no code has so many shards")
+        bail!("cannot split {file}: {}", limit_of(code))
     }
     let base = base_of(rt, file, words.folder)?;
     let files = NewFiles::new(rt, mode, words.is_forced);
-    let mut new = NewShards::new(rt, files, base, words.is_quiet);
+    let mut new = NewShards::new(rt, files, base, origin.total(), words.is_quiet)?;
     for index in 0..origin.total() {
         new.require_free(index)?;
     }
@@ -37,8 +42,7 @@ pub(crate) fn split_file<R: Files + AllocGlobal + Print + Eprint>(
     new.end(work)?;
     let (total, size) = (origin.total(), origin.file_length());
     let _ = println!(rt;
-        "{total} shards of {size} bytes, of which any {} restore {length} bytes",
-        words.data_shards
+        "{total} shards of {size} bytes, of which any {data} restore {length} bytes"
     );
     Ok(())
 }
@@ -98,7 +102,7 @@ pub(crate) fn join_file<R: Files + AllocGlobal + Print + Eprint>(
     let mut new = NewFiles::new(rt, found.mode(rt)?, words.is_forced);
     let work = write_joined(rt, &mut new, &found, file);
     new.end(work)?;
-    let (origin, count) = (found.origin(), found.seen.count());
+    let (origin, count) = (found.origin(), found.seen.count);
     let (total, length, size) = (origin.total(), origin.length, origin.size);
     let _ = println!(rt;
         "{length} bytes from {count} of {total} shards, {size} bytes of each in a stripe"

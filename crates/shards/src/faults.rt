@@ -17,6 +17,8 @@ pub(crate) struct Run {
 pub(crate) struct Faults {
     origin: Origin,
     pub(crate) runs: Vec<Run>,
+    /// Of each shard one more than the place of its last run, or 0 where it has none.
+    last: Vec<usize>,
     /// The first stripe in which too few shards are whole.
     pub(crate) too_few: Option<u64>,
     /// Whether somewhere the parity is not that of the data, or the data are not those of the file.
@@ -25,26 +27,24 @@ pub(crate) struct Faults {
 
 impl Faults {
     /// Nothing was found wrong.
-    pub(crate) fn new(alloc: Global, origin: Origin) -> Faults {
-        Faults {
+    pub(crate) fn new(alloc: Global, origin: Origin) -> Result<Faults, AllocError> {
+        Ok(Faults {
             origin,
             runs: Vec::new(alloc),
+            last: vec![in alloc; 0usize; origin.total()]?,
             too_few: None,
             is_false: false,
-        }
+        })
     }
 
     /// Adds which shards of an empty file, which has no stripes, are not at hand.
-    pub(crate) fn add_heads(&mut self, present: &[bool; 256]) -> Result<(), AllocError> {
-        let mut count = 0u32;
+    pub(crate) fn add_heads(&mut self, found: &Found<'_>) -> Result<(), AllocError> {
         for index in 0..self.origin.total() {
-            if index < 256 && present[index] {
-                count = count.saturating_add(1);
-            } else {
+            if !found.survey.has(&found.seen, index) {
                 self.add_one(0, index)?;
             }
         }
-        if count < self.origin.data_shards {
+        if !found.seen.has_enough() {
             self.too_few = Some(0);
         }
         Ok(())
@@ -65,14 +65,15 @@ impl Faults {
 
     // Adds that a shard is not at hand in a stripe.
     fn add_one(&mut self, stripe: u64, index: usize) -> Result<(), AllocError> {
-        for place in (0..self.runs.len()).rev() {
-            let run = self.runs[place];
-            if run.index == index && run.last.saturating_add(1) == stripe {
-                self.runs[place].last = stripe;
+        if index >= self.last.len() {
+            return Ok(());
+        }
+        let count = self.last[index];
+        if 0 < count && count <= self.runs.len() {
+            let run = self.runs[count - 1];
+            if run.last.saturating_add(1) == stripe {
+                self.runs[count - 1].last = stripe;
                 return Ok(());
-            }
-            if run.last.saturating_add(1) < stripe {
-                break;
             }
         }
         self.runs.push(Run {
@@ -80,6 +81,7 @@ impl Faults {
             first: stripe,
             last: stripe,
         })?;
+        self.last[index] = self.runs.len();
         Ok(())
     }
 
@@ -90,7 +92,7 @@ impl Faults {
 
     /// Whether a shard is missing or damaged.
     pub(crate) fn is_lost(&self, index: usize) -> bool {
-        self.runs.as_slice().iter().any(|run| run.index == index)
+        index < self.last.len() && self.last[index] > 0
     }
 }
 
@@ -99,7 +101,7 @@ pub(crate) fn require_enough(found: &Found<'_>) -> Result<()> {
     if found.seen.has_enough() {
         Ok(())
     } else {
-        let (count, total) = (found.seen.count(), found.origin().total());
+        let (count, total) = (found.seen.count, found.origin().total());
         let enough = found.origin().data_shards;
         bail!(
             "{}: {count} of {total} shards are whole, and {enough} are enough",

@@ -1,13 +1,13 @@
 // The files of shards: which are looked at, which file they are of, and why others are not taken.
 use crate::progress::{Progress, note};
-use crate::survey::{Choice, Finding, Seen, Survey};
 use crate::words::Words;
 use anyhow::{Result, bail};
-use shard_files::{HEAD, Origin, ShardSource};
+use shard_files::{Choice, Finding, HEAD, Origin, Seen, ShardSource, Survey};
 use std::fs;
 use std::fs::{File, Files};
 use std::io::{Read, Seek, SeekFrom};
 use std::os::unix::fs::PermissionsExt;
+use stripe_codes::MOST_SHARDS;
 
 /// Files that are read in turn, of which one is open at a time.
 #[derive(Drop)]
@@ -81,7 +81,7 @@ pub(crate) struct Found<'a> {
     /// Which of the files that were seen it is.
     pub(crate) chosen: usize,
     pub(crate) seen: Seen,
-    pub(crate) findings: Vec<Finding>,
+    pub(crate) survey: Survey,
 }
 
 impl Found<'_> {
@@ -115,7 +115,7 @@ pub(crate) fn mode_of<R: Files>(rt: &R, path: &str) -> Result<u32> {
     }
 }
 
-/// Looks at the files that are named behind the file, or at FILE.0 to FILE.255 where none is, and chooses the file of which there are
+/// Looks at the files that are named behind the file, or at FILE.0, FILE.1, .. where none is, and chooses the file of which there are
 /// enough shards. It tells of each file that is not taken.
 pub(crate) fn find_shards<'a, R: Files + AllocGlobal + Eprint>(
     rt: &R,
@@ -126,18 +126,18 @@ pub(crate) fn find_shards<'a, R: Files + AllocGlobal + Eprint>(
     let survey = survey_of(rt, paths.as_slice())?;
     let chosen = choose(rt, words, file, &survey)?;
     let first = tell_others(rt, paths.as_slice(), chosen, &survey)?;
-    match survey.seen.as_slice().get(chosen) {
-        Some(seen) => Ok(Found {
-            file,
-            is_quiet: words.is_quiet,
-            paths,
-            first,
-            chosen,
-            seen: *seen,
-            findings: survey.findings,
-        }),
-        None => bail!("{file}: no shards"),
+    if chosen >= survey.seen.len() {
+        bail!("{file}: no shards")
     }
+    Ok(Found {
+        file,
+        is_quiet: words.is_quiet,
+        paths,
+        first,
+        chosen,
+        seen: survey.seen[chosen],
+        survey,
+    })
 }
 
 /// What the files at these paths are, by the bytes that they begin with.
@@ -190,7 +190,7 @@ pub(crate) fn paths_of<R: Files + AllocGlobal>(
         paths.push(format!(in rt.alloc(); "{}", words.names[place])?)?;
     }
     if paths.is_empty() {
-        for index in 0..256 {
+        for index in 0..MOST_SHARDS {
             let path = format!(in rt.alloc(); "{file}.{index}")?;
             if fs::metadata(rt, path.as_str()).is_ok() {
                 paths.push(path)?;
@@ -243,6 +243,12 @@ fn tell<R: AllocGlobal + Eprint>(
         Finding::OldFormat(version) => {
             let why = format!(in rt.alloc();
                 "it is a shard of format {version}, written by an older shards"
+            )?;
+            note(rt, path, why.as_str());
+        }
+        Finding::OtherCode(code) => {
+            let why = format!(in rt.alloc();
+                "it is a shard by code {code}, which this shards does not know"
             )?;
             note(rt, path, why.as_str());
         }

@@ -7,7 +7,6 @@ mod faults;
 mod finding;
 mod mending;
 mod progress;
-mod survey;
 mod words;
 
 use crate::commands::{join_file, split_file};
@@ -19,10 +18,10 @@ use std::fs::File;
 use std::process::ExitCode;
 
 const USAGE: &str = "usage:
-  shards split FILE DATA PARITY [--out FOLDER] [--force] [--quiet]
+  shards split FILE DATA PARITY [--code matrix|transform] [--out FOLDER] [--force] [--quiet]
       writes FILE.0, FILE.1, .., DATA shards of data and PARITY of parity, any DATA of which restore FILE
   shards join FILE [SHARD ..] [--identity DIGITS] [--force] [--quiet]
-      writes FILE from its shards: those that are named, or FILE.0 to FILE.255; with - for FILE, to standard output
+      writes FILE from its shards: those that are named, or FILE.0, FILE.1, ..; with - for FILE, to standard output
   shards verify FILE [SHARD ..] [--identity DIGITS] [--quiet]
       says which shards are missing or damaged, and in which stripes
   shards repair FILE [SHARD ..] [--identity DIGITS] [--force] [--quiet]
@@ -32,7 +31,8 @@ const USAGE: &str = "usage:
   shards --help | --version
 
 DATA and PARITY may be given as --data DATA --parity PARITY. A file that is there already is overwritten with --force alone; repair
-overwrites what is no shard, and shards in which it found damage. Shards belong together by the SHA-256 of their file, its identity,
+overwrites what is no shard, and shards in which it found damage. The matrix code, which is taken where none is named, has at most 256
+shards; for more the transform code is taken, which costs less the more shards there are. Shards belong together by the SHA-256 of their file, its identity,
 wherever they lie and whatever they are called; where there are enough of more than one file, --identity says which, by the first digits.
 A file is split in stripes, of which each shard has a piece with a digest of its own: a shard that is damaged in one stripe serves in all
 others. The digests have no key: they tell of damage, and of no forger. What join writes to standard output is known to be the file only

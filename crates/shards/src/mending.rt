@@ -2,14 +2,14 @@
 use crate::beside::{NewFiles, NewShards};
 use crate::faults::{Faults, require_enough, too_few};
 use crate::finding::{Found, find_shards, name_of, paths_of, survey_of};
-use crate::survey::{Finding, Seen};
 use crate::words::Words;
 use anyhow::{Result, bail};
 use sha2::{Digest, Sha256};
-use shard_files::{Origin, gather, repair_shards};
+use shard_files::{Finding, Origin, Seen, gather, repair_shards};
 use std::fs;
 use std::fs::Files;
 use std::process::ExitCode;
+use stripe_codes::MATRIX;
 
 /// Says of each shard whether it is whole, and in which stripes it is not. The status is 1 where shards are missing or damaged and enough
 /// are left, and 2 where too few are, or where they are not those of the file.
@@ -20,8 +20,8 @@ pub(crate) fn verify_file<R: Files + AllocGlobal + Print + Eprint>(
 ) -> Result<ExitCode> {
     let found = find_shards(rt, words, file)?;
     let faults = faults_of(rt, &found)?;
-    tell_runs(rt, &faults, stripes_of(&found.origin()))?;
     let (total, enough) = (found.origin().total(), found.origin().data_shards);
+    tell_runs(rt, &faults, total, stripes_of(&found.origin()))?;
     if faults.is_whole() {
         println!(rt; "all {total} shards are whole")?;
         return Ok(ExitCode::SUCCESS);
@@ -54,12 +54,12 @@ fn stripes_of(origin: &Origin) -> u64 {
 // What is wrong with the shards of a file.
 fn faults_of<R: Files + AllocGlobal + Eprint>(rt: &R, found: &Found<'_>) -> Result<Faults> {
     let origin = found.origin();
-    let mut faults = Faults::new(rt.alloc(), origin);
+    let mut faults = Faults::new(rt.alloc(), origin)?;
     if !origin.is_possible() {
         bail!("{}: no code has so many shards", found.file)
     }
     if origin.stripe_count() == 0 {
-        faults.add_heads(&found.seen.present)?;
+        faults.add_heads(found)?;
         return Ok(faults);
     }
     let mut source = found.source(rt);
@@ -67,10 +67,11 @@ fn faults_of<R: Files + AllocGlobal + Eprint>(rt: &R, found: &Found<'_>) -> Resu
     for stripe in 0..origin.stripe_count() {
         let mut group = gather(rt.alloc(), &mut source, origin, stripe)?;
         faults.add(stripe, &group)?;
-        if group.count() == origin.total() && !group.has_parity() {
+        if group.count() == origin.total() && !group.has_parity(rt.alloc())? {
             faults.is_false = true;
         }
-        if faults.too_few.is_none() && group.restore().is_ok() {
+        if faults.too_few.is_none() {
+            group.restore(rt.alloc())?;
             hasher.update(group.content(origin.stripe_length(stripe)));
         }
     }
@@ -81,8 +82,11 @@ fn faults_of<R: Files + AllocGlobal + Eprint>(rt: &R, found: &Found<'_>) -> Resu
 }
 
 // Tells of each shard in which stripes it is damaged, or that it is in none whole.
-fn tell_runs<R: Print>(rt: &R, faults: &Faults, stripes: u64) -> Result<()> {
-    for index in 0..256 {
+fn tell_runs<R: Print>(rt: &R, faults: &Faults, total: usize, stripes: u64) -> Result<()> {
+    for index in 0..total {
+        if !faults.is_lost(index) {
+            continue;
+        }
         for run in faults.runs.as_slice() {
             let (first, last) = (run.first, run.last);
             if run.index != index {
@@ -132,7 +136,7 @@ fn write_lost<R: Files + AllocGlobal + Print + Eprint>(
     let file = found.file;
     let files = NewFiles::new(rt, found.mode(rt)?, true);
     let base = format!(in rt.alloc(); "{file}")?;
-    let mut new = NewShards::new(rt, files, base, words.is_quiet);
+    let mut new = NewShards::new(rt, files, base, lost.len(), words.is_quiet)?;
     let mut count = 0u64;
     for index in 0..lost.len() {
         if lost[index] {
@@ -179,7 +183,7 @@ fn require_damaged<R: Files + AllocGlobal>(rt: &R, found: &Found<'_>, index: usi
     }
     for place in 0..found.paths.len() {
         if found.paths[place].as_str() == target.as_str() {
-            match found.findings.as_slice().get(place) {
+            match found.survey.findings.as_slice().get(place) {
                 Some(Finding::Damaged | Finding::Unread) => return Ok(()),
                 Some(Finding::Shard(of, number)) if *of == found.chosen && *number == index => {
                     return Ok(());
@@ -225,9 +229,14 @@ pub(crate) fn tell_file<R: Files + AllocGlobal + Print>(
 fn tell_seen<R: Print>(rt: &R, name: &str, seen: &Seen) -> Result<()> {
     let origin: Origin = seen.origin;
     let (data, parity) = (origin.data_shards, origin.parity_shards);
+    let code = if origin.code == MATRIX {
+        "matrix"
+    } else {
+        "transform"
+    };
     println!(rt; "file {name}")?;
     println!(rt;
-        "  {} bytes, format 3, code {}: {data} shards of data and {parity} of parity",
+        "  {} bytes, format 3, code {} ({code}): {data} shards of data and {parity} of parity",
         origin.length, origin.code
     )?;
     if origin.is_possible() {
@@ -237,7 +246,7 @@ fn tell_seen<R: Print>(rt: &R, name: &str, seen: &Seen) -> Result<()> {
             origin.size
         )?;
     }
-    println!(rt; "  heads of {} shards were seen", seen.count())?;
+    println!(rt; "  heads of {} shards were seen", seen.count)?;
     Ok(())
 }
 

@@ -1,5 +1,6 @@
 // The words of the command line.
 use std::alloc::{AllocError, Global};
+use stripe_codes::{MATRIX, TRANSFORM};
 
 /// What is to be done.
 #[derive(Clone, Copy, PartialEq, Eq)]
@@ -21,6 +22,8 @@ pub(crate) struct Words<'a> {
     pub(crate) names: Vec<&'a str>,
     pub(crate) data_shards: u32,
     pub(crate) parity_shards: u32,
+    /// The number of the code that is named.
+    pub(crate) code: Option<u32>,
     pub(crate) folder: Option<&'a str>,
     pub(crate) identity: Option<&'a str>,
     pub(crate) is_forced: bool,
@@ -35,6 +38,7 @@ impl<'a> Words<'a> {
             names: Vec::new(alloc),
             data_shards: 0,
             parity_shards: 0,
+            code: None,
             folder: None,
             identity: None,
             is_forced: false,
@@ -70,6 +74,10 @@ impl<'a> Words<'a> {
             ("--quiet", _) => self.is_quiet = true,
             ("--data", Some(count)) => return Ok(set_count(&mut self.data_shards, count)),
             ("--parity", Some(count)) => return Ok(set_count(&mut self.parity_shards, count)),
+            ("--code", Some(name)) => {
+                self.code = code_named(name);
+                return Ok(self.code.map(|_code| true));
+            }
             ("--out", Some(folder)) => {
                 self.folder = Some(folder);
                 return Ok(Some(true));
@@ -114,6 +122,7 @@ impl<'a> Words<'a> {
         !self.names.is_empty()
             && self.data_shards == 0
             && self.parity_shards == 0
+            && self.code.is_none()
             && self.folder.is_none()
     }
 
@@ -135,6 +144,14 @@ fn task_named(word: &str) -> Option<Task> {
         "verify" => Some(Task::Verify),
         "repair" => Some(Task::Repair),
         "info" => Some(Task::Info),
+        _ => None,
+    }
+}
+
+fn code_named(name: &str) -> Option<u32> {
+    match name {
+        "matrix" => Some(MATRIX),
+        "transform" => Some(TRANSFORM),
         _ => None,
     }
 }

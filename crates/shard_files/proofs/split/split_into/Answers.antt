@@ -1,11 +1,15 @@
-use Rattle.shard_files.proofs.Splits.{split_by}
+use Rattle.std.proofs.Common.{◌<◌, ◌≡◌, ◌*◌, ◌≤◌, ℕ, length, sym, ◌∙◌, ap, ap₂, subst, arith}
+use Rattle.shard_files.proofs.Splits.{own_long, split_of_code}
 use Rattle.shard_files.proofs.split.split_into.Goals as goal
 
-pub returns-clause-split : goal.returns-clause-split
-returns-clause-split c =
+pub encode-requires : goal.encode-requires
+encode-requires c =
+    own_long c.args.origin.now c.in-Some.code c.in-Some.ensures.made (length c.fill.new.shards) (c.fill.ensures.long ∙ c.requires)
+
+pub returns-in-Ok-clause-split : goal.returns-in-Ok-clause-split
+returns-in-Ok-clause-split c =
     λ ok.
-    let code = c.in_ok-code.code in
-    split_by c.args.data_shards c.args.parity_shards code.data_shards code.parity_shards c.in_ok-code.ensures.made.0
-    c.in_ok-code.ensures.made.1 c.args.content.now c.args.shards.now c.fill.new.shards c.encode.new.shards c.total_shard_count.result
-    c.total_shard_count.ensures c.fill.ensures.long (c.has_room.ensures c.if-not-has_room.false) c.fill.ensures.begins
-    (c.encode.ensures.accepted.0 ok) c.encode.ensures.long (c.encode.ensures.encoded ok)
+    split_of_code c.args.origin.now c.in-Some.code c.in-Some.ensures.made c.args.content.now c.fill.new.shards c.encode.new.shards
+    (c.encode.ensures.long ∙ c.fill.ensures.long ∙ c.requires) (c.has_room.ensures c.if-not-has_room.false)
+    (λ i below. c.fill.ensures.begins i (subst (λ (n : ℕ). i < n) (c.encode.ensures.long ∙ c.fill.ensures.long) below))
+    c.encode.ensures.kept (c.in-Ok.ensures.encoded ok)

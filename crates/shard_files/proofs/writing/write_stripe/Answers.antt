@@ -14,7 +14,7 @@ returns g c =
     let shards = c.in_ok-shards.shards.items in (
       content,
       shards,
-      subst (λ (l : List ℕ). IsSplit origin.data_shards (shard_total origin) l shards) c.as_slice-2.ensures.value c.in_ok-shards.ensures.split,
+      subst (λ (l : List ℕ). IsSplit origin l shards) c.as_slice-2.ensures.value c.in_ok-shards.ensures.split,
       c.in_ok-shards.ensures.long,
       c.in_ok-content.ensures.0 ∙ c.stripe_length.ensures,
       c.in_ok-content.ensures.1,

@@ -1,17 +1,21 @@
 use Rattle.std.proofs.lemmas.Bool.{false≢true}
-use Rattle.shard_files.proofs.Splits.{code_words_by}
+use Rattle.std.proofs.Common.{length, ◌∙◌, ap}
+use Rattle.shard_files.proofs.Restores.{told_whole}
+use Rattle.shard_files.proofs.Splits.{own_long}
 use Rattle.shard_files.proofs.group.Group.has_parity.Goals as goal
 
-pub returns-in-Ok : goal.returns-in-Ok
-returns-in-Ok c =
+pub verify-requires : goal.verify-requires
+verify-requires c =
     let group = c.args.self.now in
-    let code = c.in-Ok.code in
-    let made = c.in-Ok.ensures.made in
-    let law = code_words_by group.origin.data_shards group.origin.parity_shards code.data_shards code.parity_shards group.origin.size group.shards.items
-    c.as_slice.result.now made.0 made.1 c.as_slice.ensures.value group.possible.some_data group.whole in
-    (λ is. (law.0 (c.are_code_words.ensures.0 is)).1, λ words. c.are_code_words.ensures.1 (law.1 (group.possible.some_size, words)))
+    own_long group.origin c.in-Some.code c.in-Some.ensures.made (length c.as_slice.result.now) (ap length c.as_slice.ensures.value ∙ group.whole)
 
-pub returns-in-Err : goal.returns-in-Err
-returns-in-Err c =
+pub returns-in-Ok-clause-answer : goal.returns-in-Ok-clause-answer
+returns-in-Ok-clause-answer c =
     let group = c.args.self.now in
-    absurd (false≢true (c.in-Err.ensures.accepted.1 (group.possible.some_data, group.possible.some_parity, group.possible.few)))
+    told_whole group.origin c.in-Some.code c.in-Some.ensures.made group.shards.items c.as_slice.result.now c.as_slice.ensures.value c.in-Ok.ensures
+
+pub returns-in-None-clause-refused : goal.returns-in-None-clause-refused
+returns-in-None-clause-refused c =
+    let group = c.args.self.now in
+    absurd (false≢true (c.in-None.ensures.accepted.1
+    (group.possible.some_data, group.possible.some_parity, group.possible.some_size, group.possible.has_code)))

@@ -1,52 +1,55 @@
 // What shards there are: the files that were looked at, by the file that their shards are of.
-use shard_files::{Head, Origin, older_format};
+use crate::head::{Head, Origin, older_format};
 use std::alloc::{AllocError, Global};
+use stripe_codes::TRANSFORM;
 
 /// What a file that was looked at is.
 #[derive(Clone, Copy, PartialEq, Eq)]
-pub(crate) enum Finding {
+pub enum Finding {
     /// It is not there, or cannot be read.
     Unread,
     /// It is no shard, or one that was damaged.
     Damaged,
     /// It is a shard of an older format, of that version.
     OldFormat(u8),
+    /// It is a shard by a code of that number, which is none of the known ones.
+    OtherCode(u32),
     /// It is a shard of the file of that number, and has this number among its shards.
     Shard(usize, usize),
 }
 
 /// A file of which shards were seen.
 #[derive(Clone, Copy)]
-pub(crate) struct Seen {
-    pub(crate) origin: Origin,
-    pub(crate) present: [bool; 256],
+pub struct Seen {
+    /// What the heads of its shards say.
+    pub origin: Origin,
+    /// How many different shards were seen.
+    pub count: usize,
+    /// The place of the flag of its shard 0.
+    first: usize,
 }
 
 impl Seen {
-    /// How many different shards were seen.
-    pub(crate) fn count(&self) -> usize {
-        self.present
-            .iter()
-            .filter(|is_present| **is_present)
-            .count()
-    }
-
     /// Whether they are enough.
-    pub(crate) fn has_enough(&self) -> bool {
-        self.count() >= self.origin.data_shards as usize
+    pub fn has_enough(&self) -> bool {
+        self.count >= self.origin.data_shards as usize
     }
 }
 
 /// All that was seen.
 #[derive(Drop)]
-pub(crate) struct Survey {
-    pub(crate) findings: Vec<Finding>,
-    pub(crate) seen: Vec<Seen>,
+pub struct Survey {
+    /// What each file is that was looked at, in order.
+    pub findings: Vec<Finding>,
+    /// The files of which shards were seen.
+    pub seen: Vec<Seen>,
+    /// Of each file, one after the other, which shards were seen.
+    flags: Vec<bool>,
 }
 
 /// Which file is to be restored.
 #[derive(Clone, Copy)]
-pub(crate) enum Choice {
+pub enum Choice {
     /// No shard of a file was seen.
     Nothing,
     /// None has enough shards; this one has most.
@@ -59,15 +62,16 @@ pub(crate) enum Choice {
 
 impl Survey {
     /// Nothing was seen.
-    pub(crate) fn new(alloc: Global) -> Survey {
+    pub fn new(alloc: Global) -> Survey {
         Survey {
             findings: Vec::new(alloc),
             seen: Vec::new(alloc),
+            flags: Vec::new(alloc),
         }
     }
 
     /// Adds what a file is, by the bytes that it begins with.
-    pub(crate) fn add(&mut self, begin: Option<&[u8]>) -> Result<(), AllocError> {
+    pub fn add(&mut self, begin: Option<&[u8]>) -> Result<(), AllocError> {
         let finding = match begin {
             Some(bytes) => self.finding_of(bytes)?,
             None => Finding::Unread,
@@ -81,7 +85,11 @@ impl Survey {
         match Head::of_bytes(begin) {
             Some(head) => {
                 if !is_possible(&head) {
-                    return Ok(Finding::Damaged);
+                    return Ok(if head.origin.code > TRANSFORM {
+                        Finding::OtherCode(head.origin.code)
+                    } else {
+                        Finding::Damaged
+                    });
                 }
                 let place = self.place_of(&head)?;
                 Ok(Finding::Shard(place, head.index as usize))
@@ -98,26 +106,42 @@ impl Survey {
         let index = head.index as usize;
         for place in 0..self.seen.len() {
             if self.seen[place].origin.is_same(&head.origin) {
-                if index < 256 {
-                    self.seen[place].present[index] = true;
-                }
+                self.mark(place, index);
                 return Ok(place);
             }
-        }
-        let mut present = [false; 256];
-        if index < 256 {
-            present[index] = true;
         }
         let place = self.seen.len();
         self.seen.push(Seen {
             origin: head.origin,
-            present,
+            count: 0,
+            first: self.flags.len(),
         })?;
+        for _ in 0..head.origin.total() {
+            self.flags.push(false)?;
+        }
+        self.mark(place, index);
         Ok(place)
     }
 
+    // Counts a shard of a file, where none of its number was seen.
+    fn mark(&mut self, place: usize, index: usize) {
+        if place < self.seen.len() {
+            let flag = self.seen[place].first.saturating_add(index);
+            if flag < self.flags.len() && !self.flags[flag] {
+                self.flags[flag] = true;
+                self.seen[place].count = self.seen[place].count.saturating_add(1);
+            }
+        }
+    }
+
+    /// Whether the shard of a number was seen.
+    pub fn has(&self, seen: &Seen, index: usize) -> bool {
+        let flag = seen.first.saturating_add(index);
+        flag < self.flags.len() && self.flags[flag]
+    }
+
     /// The file that has enough shards, among those that are wanted. Two that have one identity are the same file.
-    pub(crate) fn choice(&self, wanted: &[bool]) -> Choice {
+    pub fn choice(&self, wanted: &[bool]) -> Choice {
         let mut choice = Choice::Nothing;
         for place in 0..self.seen.len() {
             if place < wanted.len() && wanted[place] {
@@ -154,7 +178,7 @@ impl Survey {
     // How many shards of a file were seen.
     fn count(&self, place: usize) -> usize {
         match self.seen.as_slice().get(place) {
-            Some(seen) => seen.count(),
+            Some(seen) => seen.count,
             None => 0,
         }
     }
