@@ -1,10 +1,10 @@
 -- Products of elements that stand one after another in sixteen bytes, by products of their halves and as the products of one number.
-use Rattle.std.proofs.Common.{◌≡◌, ◌⊎◌, inl, inr, Bool, true, false, ℕ, zero, suc, ◌+◌, ◌-◌, ◌*◌, ◌/◌, ◌^◌, ◌<◌, ◌≤◌, List, ◌++◌, drop, length, get_or, map, refl, take, sym, ◌∙◌, ap, ap₂, subst, arith, w8, Fits}
-use Rattle.std.specs.Prelude.{bit_xor, cond, slice_index}
+use Rattle.std.proofs.Common.{◌≡◌, ◌⊎◌, inl, inr, ℕ, zero, suc, ◌+◌, ◌-◌, ◌*◌, ◌/◌, ◌^◌, ◌<◌, ◌≤◌, List, ◌++◌, drop, length, get_or, map, refl, take, sym, ◌∙◌, ap, ap₂, subst, arith, w8, Fits}
+use Rattle.std.specs.Prelude.{bit_xor, slice_index}
 use Rattle.std.specs.Simd.Lanes.{Each1, digits_l, number_l, pick_l, zip2}
 use Rattle.std.specs.List.{range_with_len}
 use Rattle.std.proofs.lemmas.Bool.{cases_lt}
-use Rattle.std.proofs.Math.Nat.{mul-le-mul_right, two-pow-succ}
+use Rattle.std.proofs.Math.Nat.{two-pow-succ}
 use Rattle.std.proofs.lemmas.List.{get_or-append-add, get_or-map, get_or_append_left, get_or_past, length-drop, length-map, length-take-le, take-append-drop}
 use Rattle.std.proofs.lemmas.Simd.{Each1-get_or, get_or-zip2, length-zip2, pick_l_whole}
 use native.Mathlib.Nat.{pow-suc, zero-add}
@@ -16,7 +16,7 @@ use Rattle.field_base.proofs.QuadraticRing.{high_half-pair, low_half-pair, pair_
 use Rattle.field_base.proofs.RingLemmas.{times-zero}
 use Rattle.field_base.proofs.TowerProducts.{level-lt, tower_mul-low_times}
 use Rattle.field_base.proofs.TowerRing.{halves-lt, tower_ring}
-use Rattle.tower_transforms.specs.Chunks.{AreExchanged, AreMerged, AreTimes, chunk_of, paired_depth}
+use Rattle.tower_transforms.specs.Chunks.{AreExchanged, AreMerged, AreTimes, chunk_of}
 use Rattle.tower_transforms.specs.Products.{AreMultiples}
 use Rattle.tower_transforms.specs.Rows.{level_of}
 use Rattle.tower_transforms.specs.declared.multiples.ByteMultiples.{ByteMultiples}
@@ -243,73 +243,3 @@ halved whole first second count halves =
       ap length are.0 ∙ left,
       ap length are.1 ∙ right,
     )
-
--- where each h pairs of elements of halves are taken, those of the whole are: p and q say which of a pair
-two_taken : (d h : ℕ) (p q : ℕ → ℕ) (old_a old_b a b : List ℕ) → 2 ^ d * (2 * h) ≡ 16
-    → ((i : ℕ) → p i ≤ 2 * i + 1) → ((i : ℕ) → q i ≤ 2 * i + 1) → ((i : ℕ) → p (h + i) ≡ 2 * h + p i) → ((i : ℕ) → q (h + i) ≡ 2 * h + q i)
-    → length old_a ≡ 16 → length a ≡ 16
-    → ((i : ℕ) → chunk_of d a (p i) ≡ chunk_of d old_a (q i)) → ((i : ℕ) → chunk_of d b (p i) ≡ chunk_of d old_b (q i))
-    → (i : ℕ) → chunk_of d (a ++ b) (p i) ≡ chunk_of d (old_a ++ old_b) (q i)
-two_taken d h p q old_a old_b a b size p_small q_small p_next q_next old_long long first second i = pick (cases_lt i h)
-  where
-    within : (j : ℕ) → j ≤ 2 * i + 1 → i < h → 2 ^ d * j + 2 ^ d ≤ 16
-    within j small below =
-        let most : (j + 1) * 2 ^ d ≤ 2 * h * 2 ^ d = mul-le-mul_right (2 ^ d) (omega (arith, small, below)) in
-        omega (arith, most, size)
-
-    pick : (i < h) ⊎ (h ≤ i) → chunk_of d (a ++ b) (p i) ≡ chunk_of d (old_a ++ old_b) (q i)
-    pick (inl below) =
-        let inside = within (p i) (p_small i) below in
-        let old_inside = within (q i) (q_small i) below in
-        chunk_left d (p i) a b (omega (arith, inside, long)) ∙ first i
-        ∙ sym (chunk_left d (q i) old_a old_b (omega (arith, old_inside, old_long)))
-    pick (inr above) =
-        let parts : i ≡ h + (i - h) = omega (arith, above) in
-        ap (chunk_of d (a ++ b)) (ap p parts ∙ p_next (i - h))
-        ∙ chunk_right d (2 * h) (p (i - h)) a b (long ∙ sym size) ∙ second (i - h)
-        ∙ sym (ap (chunk_of d (old_a ++ old_b)) (ap q parts ∙ q_next (i - h)) ∙ chunk_right d (2 * h) (q (i - h)) old_a old_b (old_long ∙ sym size))
-
-even_small : (i : ℕ) → 2 * i ≤ 2 * i + 1
-even_small i = omega arith
-
-odd_small : (i : ℕ) → 2 * i + 1 ≤ 2 * i + 1
-odd_small i = omega arith
-
-even_next : (h i : ℕ) → 2 * (h + i) ≡ 2 * h + 2 * i
-even_next h i = omega arith
-
-odd_next : (h i : ℕ) → 2 * (h + i) + 1 ≡ 2 * h + (2 * i + 1)
-odd_next h i = omega arith
-
--- how many pairs of elements of 16 bits, or of bytes, sixteen bytes have
-abbrev pub half_pairs : Bool → ℕ
-half_pairs wide = cond wide 4 8
-
-pub pairs_fill : (wide : Bool) → 2 ^ paired_depth wide * (2 * half_pairs wide) ≡ 16
-pairs_fill true = refl
-pairs_fill false = refl
-
--- so elements are exchanged in a vector where they are in both halves
-pub two_exchanged : (d h : ℕ) (old new old_a old_b a b : List ℕ) → 2 ^ d * (2 * h) ≡ 16 → length old ≡ 32
-    → ((x y : List ℕ) → length x ≡ 16 → length y ≡ 16 → old ≡ x ++ y → (old_a ≡ x) × (old_b ≡ y)) → length a ≡ 16 → new ≡ a ++ b
-    → AreExchanged d old_a a → AreExchanged d old_b b → AreExchanged d old new
-two_exchanged d h old new old_a old_b a b size count halves long joined first second =
-    let parts = halved old old_a old_b count halves in
-    subst (λ (l : List ℕ). AreExchanged d l new) (sym parts.0) (subst (AreExchanged d (old_a ++ old_b)) (sym joined) (record {
-      low = two_taken d h (λ i. 2 * i) (λ i. 2 * i + 1) old_a old_b a b size even_small odd_small (even_next h) (odd_next h) parts.1 long first.low second.low;
-      high = two_taken d h (λ i. 2 * i + 1) (λ i. 2 * i) old_a old_b a b size odd_small even_small (odd_next h) (even_next h) parts.1 long first.high second.high;
-    }))
-
--- and taken from two vectors
-pub two_merged : (d h : ℕ) (lows highs new low_a low_b high_a high_b a b : List ℕ) → 2 ^ d * (2 * h) ≡ 16 → length lows ≡ 32
-    → ((x y : List ℕ) → length x ≡ 16 → length y ≡ 16 → lows ≡ x ++ y → (low_a ≡ x) × (low_b ≡ y)) → length highs ≡ 32
-    → ((x y : List ℕ) → length x ≡ 16 → length y ≡ 16 → highs ≡ x ++ y → (high_a ≡ x) × (high_b ≡ y)) → length a ≡ 16 → new ≡ a ++ b
-    → AreMerged d low_a high_a a → AreMerged d low_b high_b b → AreMerged d lows highs new
-two_merged d h lows highs new low_a low_b high_a high_b a b size low_count low_halves high_count high_halves long joined first second =
-    let low_parts = halved lows low_a low_b low_count low_halves in
-    let high_parts = halved highs high_a high_b high_count high_halves in
-    subst (λ (l : List ℕ). AreMerged d l highs new) (sym low_parts.0)
-    (subst (λ (l : List ℕ). AreMerged d (low_a ++ low_b) l new) (sym high_parts.0) (subst (AreMerged d (low_a ++ low_b) (high_a ++ high_b)) (sym joined) (record {
-      low = two_taken d h (λ i. 2 * i) (λ i. 2 * i) low_a low_b a b size even_small even_small (even_next h) (even_next h) low_parts.1 long first.low second.low;
-      high = two_taken d h (λ i. 2 * i + 1) (λ i. 2 * i + 1) high_a high_b a b size odd_small odd_small (odd_next h) (odd_next h) high_parts.1 long first.high second.high;
-    })))

@@ -1,6 +1,6 @@
 -- Sixteen bytes in a register as elements of the tower, one after another, and their products by a scalar of a lower level. Past the
 -- bytes there are zeros, so that what is said of each element needs no bound.
-use Rattle.std.specs.Prelude.{◌≡◌, ℕ, zero, suc, ◌+◌, ◌*◌, ◌^◌, Bool, cond, List, [], ◌∷◌, slice_index}
+use Rattle.std.specs.Prelude.{◌≡◌, ℕ, zero, suc, ◌+◌, ◌*◌, ◌^◌, Bool, List, [], ◌∷◌, slice_index}
 use Rattle.additive_transforms.specs.Stages.{TakesBlock}
 use Rattle.field_base.specs.Quadratic.{pair}
 use Rattle.field_base.specs.Tower.{tower_mul}
@@ -21,10 +21,6 @@ AreHalfTimes d s low high new_low new_high =
     (i : ℕ)
     → pair (2 ^ level_of d) (chunk_of d new_low i) (chunk_of d new_high i)
     ≡ tower_mul (suc (level_of d)) s (pair (2 ^ level_of d) (chunk_of d low i) (chunk_of d high i))
-
--- elements that stand in pairs have 2 to the power of so many bytes: two bytes where they are wide, and otherwise one
-abbrev pub paired_depth : Bool → ℕ
-paired_depth wide = cond wide 1 0
 
 -- elements of 2 ^ d bytes that stand in pairs: the two of each pair are exchanged
 pub record AreExchanged (d : ℕ) (old new : List ℕ) : Type 0 where

@@ -1,10 +1,10 @@
 // Products by a scalar of vectors of bytes: of all their elements of 8, 16 or 32 bits at once, which stand one after another.
-ghost use Rattle.std.specs.Prelude.{◌≡◌, [], ◌∷◌, ◌^◌, ◌<◌, ◌≤◌, ℕ, Bool, IsTrue, bit_xor, false, refl, slice_index, suc, true};
+ghost use Rattle.std.specs.Prelude.{◌≡◌, [], ◌∷◌, ◌^◌, ◌<◌, ◌≤◌, ℕ, Bool, IsTrue, bit_xor, false, slice_index, suc};
 ghost use Rattle.std.specs.Simd.Lanes.{zip2};
 ghost use Rattle.additive_transforms.specs.Stages.{TakesBlock};
 ghost use Rattle.field_base.specs.Tower.{tower_mul};
 ghost use Rattle.tower_transforms.specs.ChunkLemmas.{no_halves, one_half, two_halves};
-ghost use Rattle.tower_transforms.specs.Chunks.{AreHalfTimes, AreTimes, AreRegrouped, TakesChunks, chunk_of, paired_depth};
+ghost use Rattle.tower_transforms.specs.Chunks.{AreExchanged, AreHalfTimes, AreMerged, AreRegrouped, AreTimes, TakesChunks, chunk_of};
 ghost use Rattle.tower_transforms.specs.Products.{AreMultiples, AreMultiplesOfHalves};
 ghost use Rattle.tower_transforms.specs.Rows.{level_of};
 
@@ -36,12 +36,13 @@ pub trait Scales {
 
 /// The multiples of scalars whose elements stand in pairs, as the halves of wider ones.
 pub trait Paired: Scales {
-    /// Whether an element has 16 bits, and not 8.
-    const WIDE: bool;
+    /// The two elements of each pair exchanged.
+    fn exchanged<V: ChunkVector>(bytes: V) -> V
+        ensures { AreExchanged Self.Scales.depth (V.ByteVector.bytes bytes) (V.ByteVector.bytes result) };
 
-    ghost WIDE: { Bool };
-
-    ghost depth_law: { paired_depth WIDE ≡ Self.Scales.depth };
+    /// The low elements of the pairs of one vector, and the high ones of another.
+    fn merged<V: ChunkVector>(lows: V, highs: V) -> V
+        ensures { AreMerged Self.Scales.depth (V.ByteVector.bytes lows) (V.ByteVector.bytes highs) (V.ByteVector.bytes result) };
 
     ghost pairs_law: { suc Self.Scales.depth ≤ 4 };
 }
@@ -66,21 +67,29 @@ impl Scales for ByteMultiples {
 }
 
 impl Paired for ByteMultiples {
-    const WIDE: bool = false;
+    #[inline(always)]
+    fn exchanged<V: ChunkVector>(bytes: V) -> V {
+        bytes.exchanged_8()
+    }
 
-    ghost WIDE = { false };
-
-    ghost depth_law = { refl };
+    #[inline(always)]
+    fn merged<V: ChunkVector>(lows: V, highs: V) -> V {
+        lows.merged_8(highs)
+    }
 
     ghost pairs_law = { one_half };
 }
 
 impl Paired for HalfMultiples<ByteMultiples> {
-    const WIDE: bool = true;
+    #[inline(always)]
+    fn exchanged<V: ChunkVector>(bytes: V) -> V {
+        bytes.exchanged_16()
+    }
 
-    ghost WIDE = { true };
-
-    ghost depth_law = { refl };
+    #[inline(always)]
+    fn merged<V: ChunkVector>(lows: V, highs: V) -> V {
+        lows.merged_16(highs)
+    }
 
     ghost pairs_law = { two_halves };
 }
@@ -93,13 +102,12 @@ impl<M: Paired> Scales for HalfMultiples<M> {
     // (s0 + s1 X) (a0 + a1 X), where q = s1 (a0 + a1), is q + (s0 + s1) a0 and q + (s0 + s1 + t s1) a1.
     #[inline(always)]
     fn times<V: ChunkVector>(&self, bytes: V) -> V {
-        let wide = M::WIDE;
-        let exchanged = bytes.exchanged(wide);
+        let exchanged = M::exchanged(bytes);
         bytes.holds_bytes();
         exchanged.holds_bytes();
         let both = self.both.times(bytes.sum(exchanged));
         both.holds_bytes();
-        let merged = self.low.times(bytes).merged(self.high.times(bytes), wide);
+        let merged = M::merged(self.low.times(bytes), self.high.times(bytes));
         merged.holds_bytes();
         merged.sum(both)
     }
@@ -139,9 +147,8 @@ fn transposed<M: Paired, V: ChunkVector>(first: V, second: V) -> (V, V)
     ensures { AreRegrouped M.Scales.depth (V.ByteVector.bytes first) (V.ByteVector.bytes second) (V.ByteVector.bytes result.0)
         (V.ByteVector.bytes result.1) }
 {
-    let wide = M::WIDE;
-    let low = first.merged(second.exchanged(wide), wide);
-    (low, first.exchanged(wide).merged(second, wide))
+    let low = M::merged(first, M::exchanged(second));
+    (low, M::merged(M::exchanged(first), second))
 }
 
 /// The product by the scalar of a number of 128 bits, an element of the level of so many.
