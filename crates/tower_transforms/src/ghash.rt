@@ -1,6 +1,7 @@
 // Whole transforms over the field of GHASH: through the tower, where its twiddles are narrow, and by products of polynomials elsewhere.
-ghost use Rattle.std.specs.Prelude.{◌≡◌, ℕ, ◌≤◌, IfErr, IfOk, IsTrue, length, map};
+ghost use Rattle.std.specs.Prelude.{◌≡◌, ◌↔◌, ℕ, ◌^◌, ◌<◌, ◌≤◌, IfErr, IfOk, IsTrue, length, map};
 ghost use Rattle.additive_transforms.specs.Transform.{AreOnlyCoefficients, CountsPairs, FitsTransform, HasStages, HoldPolynomialValues};
+ghost use Rattle.tower_transforms.specs.Images.{IsWideShift};
 
 use crate::images::{OfImages, change_basis};
 use crate::words::GhashWord;
@@ -17,7 +18,8 @@ use word_tables::to_tower_128;
 /// the s_j: point p is `z`, and Cantor vector b for each set bit b of p. The length of `values` has to be 2^m for an m from 0 to 40.
 /// `products` rises by the m * 2^(m - 1) pairs of places that are computed, and has to fit 64 bits after it.
 /// Where `alloc` refuses the twiddles, it fails, and leaves `values` and `products` untouched; with fewer than 16 values it takes no
-/// memory, and does not fail. Nor does it where `z` is a sum of the first 32 Cantor vectors.
+/// memory, and does not fail. Nor does it where `z` is a sum of the first 32 Cantor vectors, the image of an element of the tower of at most
+/// 32 bits.
 pub fn forward<A: Allocator>(
     alloc: A,
     values: &mut [u128],
@@ -30,6 +32,7 @@ pub fn forward<A: Allocator>(
     ensures count { IfOk result (λ _. CountsPairs (length values.old) products.old products.new) }
     ensures refused { IfErr result (λ _. (values.new ≡ values.old) × (products.new ≡ products.old)) }
     ensures large { IfErr result (λ _. 16 ≤ length values.old) }
+    ensures wide { IfErr result (λ _. IsWideShift z) }
 {
     numbers_are_values(values);
     if is_narrow(to_tower_128(z)) {
@@ -59,7 +62,7 @@ pub fn inverse(values: &mut [u128], z: u128, products: &mut u64)
 }
 
 /// The transform `forward` without a count. The length of `values` has to be 2^m for an m from 0 to 40. Where `alloc` refuses the
-/// twiddles, it fails, and leaves `values` untouched; with fewer than 16 values it takes no memory, and does not fail.
+/// twiddles, it fails, and leaves `values` untouched; where `forward` does not fail, nor does this.
 ///
 /// Where the tower's twiddles are narrow it goes through the tower; elsewhere its low stages go in lanes and its long butterflies by tables.
 /// So over the field of GHASH it is the fastest form. Elements of any field with Cantor vectors are transformed by `forward_elements`.
@@ -73,6 +76,7 @@ pub fn forward_numbers<A: Allocator>(
     ensures values { IfOk result (λ _. HoldPolynomialValues z values.old values.new) }
     ensures refused { IfErr result (λ _. values.new ≡ values.old) }
     ensures large { IfErr result (λ _. 16 ≤ length values.old) }
+    ensures wide { IfErr result (λ _. IsWideShift z) }
 {
     let mut products = 0;
     forward(alloc, values, z, &mut products)
@@ -117,7 +121,9 @@ pub fn transform_ghash<V: Width, W: GhashWord>(words: &mut [W], z: u128, is_inve
 }
 
 // Whether the twiddles from this shift on are so narrow that the way through the tower is the faster one. Both ways compute the same.
-fn is_narrow(shift: u128) -> bool {
+fn is_narrow(shift: u128) -> bool
+    ensures { IsTrue result ↔ (shift < 2 ^ 32) }
+{
     shift < 1 << 32
 }
 
