@@ -13,4 +13,4 @@ mod UnitFacts
 mod VectorPairs
 mod WordPlaces
 mod WordRows
-mod WordSteps
+pub mod WordSteps

@@ -29,7 +29,7 @@ last_first value old new count block blocks last are = subst (λ (b : ℕ). Firs
 -- ---- units that are whole numbers
 
 -- those that were read
-numbers_read : (d size n lanes : ℕ) (units : ℕ → ℕ) (numbers : List ℕ) → size ≡ d → AreUnits d size n lanes units numbers
+pub numbers_read : (d size n lanes : ℕ) (units : ℕ → ℕ) (numbers : List ℕ) → size ≡ d → AreUnits d size n lanes units numbers
     → (l : ℕ) → l < lanes → units l ≡ slice_index numbers (n + l) % 2 ^ 2 ^ level_of d
 numbers_read d size n lanes units numbers same are l below =
     are n (ap (λ (e : ℕ). n * 2 ^ e) same) l below
@@ -37,7 +37,7 @@ numbers_read d size n lanes units numbers same are l below =
     (unit-modulo size (n + l) numbers)
 
 -- those that were put
-numbers_put : (d size n lanes : ℕ) (units : ℕ → ℕ) (old new : List ℕ) → size ≡ d → ArePut d size n lanes units old new
+pub numbers_put : (d size n lanes : ℕ) (units : ℕ → ℕ) (old new : List ℕ) → size ≡ d → ArePut d size n lanes units old new
     → (l : ℕ) → l < lanes → slice_index new (n + l) ≡ units l
 numbers_put d size n lanes units old new same are l below =
     let less : l * 2 ^ size < lanes * 2 ^ size = mul-lt-mul_of_pos_right below (pow_pos size) in
@@ -61,10 +61,11 @@ module _ (d size lanes count block s : ℕ) (same : size ≡ d) (counted : count
   next : count * (block + 1) ≡ count * block + lanes
   next = omega (arith, counted)
 
-  more : (value units : ℕ → ℕ) (old mid new : List ℕ) → FirstAre (count * block) value old mid
+  -- a block that is put has its values, those before it had theirs, and the others are as they were
+  pub block_put : (value units : ℕ → ℕ) (old mid new : List ℕ) → FirstAre (count * block) value old mid
       → ArePut d size (count * block) lanes units mid new → ((l : ℕ) → l < lanes → units l ≡ value (count * block + l))
       → FirstAre (count * (block + 1)) value old new
-  more value units old mid new before put here = record { done = λ k below. pick k below (cases_lt k (count * block)); kept = kept }
+  block_put value units old mid new before put here = record { done = λ k below. pick k below (cases_lt k (count * block)); kept = kept }
     where
       pick : (k : ℕ) → k < count * (block + 1) → (k < count * block) ⊎ (count * block ≤ k) → slice_index new k ≡ value k
       pick k below (inl early) = put.kept k (inl early) ∙ before.done k early
@@ -90,7 +91,7 @@ module _ (d size lanes count block s : ℕ) (same : size ≡ d) (counted : count
       → ArePut d size (count * block) lanes products mid new
       → FirstAre (count * (block + 1)) (λ k. tower_mul (level_of d) s (slice_index old k)) old new
   block_multiplied products old mid new before times put =
-      more (λ k. tower_mul (level_of d) s (slice_index old k)) products old mid new before put
+      block_put (λ k. tower_mul (level_of d) s (slice_index old k)) products old mid new before put
       (λ l below. times l below ∙ ap (tower_mul (level_of d) s) (before.kept (count * block + l) (omega arith)))
 
   -- and one that is added
@@ -103,7 +104,7 @@ module _ (d size lanes count block s : ℕ) (same : size ≡ d) (counted : count
       → ArePut d size (count * block) lanes sums mid new
       → FirstAre (count * (block + 1)) (λ k. bit_xor (slice_index old k) (tower_mul (level_of d) s (slice_index words k))) old new
   block_added products addends sums words old mid new fit before times also sum put =
-      more (λ k. bit_xor (slice_index old k) (tower_mul (level_of d) s (slice_index words k))) sums old mid new before put each
+      block_put (λ k. bit_xor (slice_index old k) (tower_mul (level_of d) s (slice_index words k))) sums old mid new before put each
     where
       each : (l : ℕ) → l < lanes
           → sums l ≡ bit_xor (slice_index old (count * block + l)) (tower_mul (level_of d) s (slice_index words (count * block + l)))

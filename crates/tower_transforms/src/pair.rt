@@ -11,8 +11,10 @@ use crate::planes::Planes;
 /// The elements `low + high X`.
 #[derive(Clone, Copy)]
 pub struct Pair<P> {
-    pub(crate) low: P,
-    pub(crate) high: P,
+    /// The planes of the low halves.
+    pub low: P,
+    /// The planes of the high halves.
+    pub high: P,
 }
 
 impl<M, P: Planes<M>> Planes<HalfMultiples<M>> for Pair<P> {
