@@ -4,11 +4,14 @@ use Rattle.std.specs.Prelude.{bit_xor, if◌then◌else◌, nat_lt}
 use Rattle.std.proofs.lemmas.Bool.{cases_eq, cases_lt, eq-eqb, le-ltb, lt-ltb, ne_eqb}
 use Rattle.field_base.specs.BitRingLemmas.{bits_ring}
 use Rattle.field_base.proofs.BasisSums.{sum_below-same}
+use Rattle.field_base.proofs.RingLemmas.{times-zero}
 use Rattle.field_base.specs.Tower.{tower_mul}
 use Rattle.field_matrices.specs.Matrices.{AreInverseMatrices, HaveSameRowSpace, IsMatrixProduct, IsReducedEchelon, beside_identity, identity_entry}
 use Rattle.field_matrices.proofs.InverseMatrices.{beside-left, beside-right, inverse_found, inverse_missing}
+use Rattle.field_matrices.proofs.RowSpaces.{combination_row}
 use Rattle.bit_matrices.specs.BitMatrices.{IsBitRowWritten, IsBitWritten, bit_entry, kept_before}
 use Rattle.bit_matrices.proofs.BitRows.{entry-lt, kept-behind, kept-front, space_of_columns}
+use Rattle.bit_matrices.proofs.FourRowTables.{sum_zero}
 
 identity-own : (i j : ℕ) → i ≡ j → 1 ≡ identity_entry i j
 identity-own i j same = sym (ap (λ (b : Bool). if b then 1 else 0) (eq-eqb i j same))
@@ -175,3 +178,22 @@ module _ (half n r : ℕ) (fits : n ≤ 64 * half) (pivot : ℕ → ℕ) (old be
       inverse_missing 1 (tower_mul 0) bits_ring n r pivot (bit_entry (half + half) old) M N
       (λ i j. entry-lt (half + half) beside i (column_of half n j)) (λ i j. entry-lt (half + half) now i (column_of half n j)) halves left_reduced
       both_same
+
+  -- behind its columns the right half is 0, as the identity matrix was
+  pub bit_inverse_behind : (i j : ℕ) → i < n → n ≤ j → j < 64 * half → bit_entry (half + half) now i (64 * half + j) ≡ 0
+  bit_inverse_behind i j inside past within =
+      let own =
+      combination_row 1 (tower_mul 0) bits_ring n (64 * (half + half)) (bit_entry (half + half) now) (entry-lt (half + half) now) i
+      (bit_entry (half + half) now i) inside (λ k _. refl) in
+      let found = (same (bit_entry (half + half) now i)).1 own in
+      found.1 (64 * half + j) (omega (arith, within))
+      ∙ sum_below-same (λ k. tower_mul 0 (found.0 k) (bit_entry (half + half) beside k (64 * half + j))) (λ k. 0) n
+      (λ k below. ap (tower_mul 0 (found.0 k)) (nothing k below) ∙ times-zero 1 1 (tower_mul 0) bits_ring (found.0 k))
+      ∙ sum_zero (λ k. 0) n (λ k. refl)
+    where
+      nothing : (k : ℕ) → k < n → bit_entry (half + half) beside k (64 * half + j) ≡ 0
+      nothing k below =
+          let back : 64 * half + j - 64 * half ≡ j = omega arith in
+          identity k (64 * half + j) below (omega (arith, within))
+          ∙ beside-right (64 * half) (bit_entry (half + half) old) k (64 * half + j) (omega arith) ∙ ap (identity_entry k) back
+          ∙ sym (identity-other k j (λ e. absurd (omega (arith, e, below, past))))

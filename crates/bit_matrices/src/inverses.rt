@@ -1,5 +1,5 @@
 // Inverses over GF(2), by reducing a matrix beside the identity matrix.
-ghost use Rattle.std.specs.Prelude.{◌≡◌, ◌+◌, ◌*◌, ℕ, IsTrue, false, length};
+ghost use Rattle.std.specs.Prelude.{◌≡◌, ◌+◌, ◌*◌, ◌<◌, ◌≤◌, ℕ, IsTrue, false, length};
 ghost use Rattle.field_base.specs.Tower.{tower_mul};
 ghost use Rattle.field_matrices.specs.Matrices.{AreInverseMatrices, IsMatrixProduct, identity_entry};
 ghost use Rattle.bit_matrices.specs.BitMatrices.{bit_entry, words_for};
@@ -10,8 +10,8 @@ use crate::rows::Shape;
 
 /// Writes the inverse of a matrix of `size` rows of `size` bits beside it, and returns whether there is one; else nothing is said of what
 /// is left. A row of `augmented` has the words of a row of the matrix and behind them as many for a row of the inverse, whose column j
-/// is thus column `64 * size.div_ceil(64) + j`. Of what these words had nothing is read, and the matrix is lost. `pivots`, of `size`
-/// places, is written too. It takes no memory.
+/// is thus column `64 * size.div_ceil(64) + j`. Of what these words had nothing is read, and the matrix is lost. Their bits behind the
+/// columns become 0, whether there is an inverse or not. `pivots`, of `size` places, is written too. It takes no memory.
 pub fn invert_beside(augmented: &mut [u64], size: usize, pivots: &mut [usize]) -> bool
     requires shape { length augmented.old ≡ size * (words_for size + words_for size) }
     requires room { length pivots.old ≡ size }
@@ -20,6 +20,8 @@ pub fn invert_beside(augmented: &mut [u64], size: usize, pivots: &mut [usize]) -
     ensures inverse { IsTrue result → AreInverseMatrices (tower_mul 0) size
         (bit_entry (words_for size + words_for size) augmented.old)
         (λ i j. bit_entry (words_for size + words_for size) augmented.new i (64 * words_for size + j)) }
+    ensures behind { (i j : ℕ) → i < size → size ≤ j → j < 64 * words_for size
+        → bit_entry (words_for size + words_for size) augmented.new i (64 * words_for size + j) ≡ 0 }
     ensures singular { result ≡ false → (B : ℕ → ℕ → ℕ) → IsMatrixProduct (tower_mul 0) size size size B
         (bit_entry (words_for size + words_for size) augmented.old) identity_entry → ⊥ }
 {

@@ -9,9 +9,9 @@ use crate::rows::{Shape, add_entry, clear, entry};
 
 /// Writes a solution of linear equations over GF(2) to `solution`, and returns whether there is one; else `solution` stays. A row of
 /// `augmented`, a matrix of `rows` rows of `unknowns + 1` bits, is an equation: the coefficients of the unknowns, and behind them the right
-/// side. The value of unknown j is bit j % 64 of word j / 64 of `solution`, which has `unknowns.div_ceil(64)` words. Sums of rows leave the
-/// columns of the unknowns in reduced row echelon form, solvable or not, and `pivots`, of as many places as there are rows, begins with
-/// the columns of its leading entries. It takes no memory.
+/// side. The value of unknown j is bit j % 64 of word j / 64 of `solution`, which has `unknowns.div_ceil(64)` words; its bits behind the
+/// unknowns are 0. Sums of rows leave the columns of the unknowns in reduced row echelon form, solvable or not, and `pivots`, of as many
+/// places as there are rows, begins with the columns of its leading entries. It takes no memory.
 pub fn solve_augmented(
     augmented: &mut [u64],
     rows: usize,
@@ -27,6 +27,8 @@ pub fn solve_augmented(
     ensures room { length pivots.new ≡ length pivots.old }
     ensures solution { IsTrue result → IsSolution (tower_mul 0) rows unknowns (bit_entry (words_for (unknowns + 1)) augmented.old)
         (bit_entry (words_for unknowns) solution.new 0) }
+    ensures behind { IsTrue result → (j : ℕ) → unknowns ≤ j → j < 64 * words_for unknowns
+        → bit_entry (words_for unknowns) solution.new 0 j ≡ 0 }
     ensures unsolvable { result ≡ false → (x : ℕ → ℕ)
         → IsSolution (tower_mul 0) rows unknowns (bit_entry (words_for (unknowns + 1)) augmented.old) x → ⊥ }
     ensures stays { result ≡ false → solution.new ≡ solution.old }
@@ -47,7 +49,7 @@ pub fn solve_augmented(
     }
 }
 
-// Gives each unknown with a leading entry the right side of its row, and the others 0.
+// Gives each unknown with a leading entry the right side of its row, and the other bits 0.
 fn write_solution(
     solution: &mut [u64],
     reduced: &[u64],
@@ -64,7 +66,7 @@ fn write_solution(
     ensures unknowns { length solution.new ≡ length solution.old }
     ensures at_pivots { (k : ℕ) → k < rank → bit_entry (words_for unknowns) solution.new 0 (slice_index pivots.now k)
         ≡ bit_entry shape.words reduced.now k unknowns }
-    ensures elsewhere { (j : ℕ) → j < unknowns → ((k : ℕ) → k < rank → slice_index pivots.now k ≢ j)
+    ensures elsewhere { (j : ℕ) → j < 64 * words_for unknowns → ((k : ℕ) → k < rank → slice_index pivots.now k ≢ j)
         → bit_entry (words_for unknowns) solution.new 0 j ≡ 0 }
 {
     let words = solution.len();

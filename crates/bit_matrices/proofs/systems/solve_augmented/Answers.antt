@@ -34,12 +34,16 @@ returns-in-None-clause-solution c = λ _.
     let words = unknowns / 64 + 1 in
     let old = c.args.augmented.now in
     let step = c.reduce_words-rank in
+    let enough = (div_ceil_times unknowns 64 (omega arith)).0 in
     let x = bit_entry (words_for unknowns) c.write_solution.new.solution 0 in
     subst (λ (n : ℕ). IsSolution (tower_mul 0) c.args.rows unknowns (bit_entry n old) x) (words_are unknowns)
     (solution_found 1 (tower_mul 0) bits_ring c.args.rows (64 * words) unknowns (omega arith) step.result (slice_index step.new.pivots)
     (bit_entry words old) (bit_entry words step.new.matrix) (entry-lt words old) (entry-lt words step.new.matrix) step.ensures.reduced
     step.ensures.space x
-    (record { at_pivots = c.write_solution.ensures.at_pivots; elsewhere = c.write_solution.ensures.elsewhere })
+    (record {
+      at_pivots = c.write_solution.ensures.at_pivots;
+      elsewhere = λ j inside none. c.write_solution.ensures.elsewhere j (omega (arith, inside, enough)) none;
+    })
     (c.in-None.ensures.none refl))
 
 pub returns-in-Some-clause-reduced : goal.returns-in-Some-clause-reduced
@@ -65,3 +69,8 @@ pub returns-in-None-clause-space : goal.returns-in-None-clause-space
 returns-in-None-clause-space c =
     subst (λ (n : ℕ). HaveSameRowSpace (tower_mul 0) c.args.rows (64 * n) (bit_entry n c.args.augmented.now)
     (bit_entry n c.reduce_words-rank.new.matrix)) (words_are c.args.unknowns) c.reduce_words-rank.ensures.space
+
+pub returns-in-None-clause-behind : goal.returns-in-None-clause-behind
+returns-in-None-clause-behind c = λ _ j past inside.
+    c.write_solution.ensures.elsewhere j inside
+    (λ k below e. let fits = c.reduce_words-rank.ensures.reduced.pivots_fit k below in absurd (omega (arith, fits, past, e)))

@@ -1,4 +1,4 @@
-use Rattle.std.proofs.Common.{◌≡◌, length}
+use Rattle.std.proofs.Common.{◌≡◌, ◌*◌, length}
 use Rattle.std.specs.Prelude.{slice_index}
 use Rattle.field_matrices.proofs.LinearSystems.{SolvedBefore}
 use Rattle.bit_matrices.specs.BitMatrices.{bit_entry, words_for}
@@ -8,5 +8,5 @@ use Rattle.bit_matrices.proofs.systems.write_solution.Given as goal
 abbrev pub invariant-loop-row : goal.invariant-loop-row
 invariant-loop-row l =
     (length l.solution ≡ length l.fn.solution)
-    × SolvedBefore l.unknowns (slice_index l.pivots) (λ k. bit_entry l.shape.words l.reduced k l.unknowns)
+    × SolvedBefore (64 * words_for l.unknowns) (slice_index l.pivots) (λ k. bit_entry l.shape.words l.reduced k l.unknowns)
     (bit_entry (words_for l.unknowns) l.solution 0) l.row
