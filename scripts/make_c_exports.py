@@ -149,8 +149,9 @@ HOMES = {
     ],
     "c_arithmetic.specs.Calls": sorted({word for _, word in CALLS.values()} | {"TakesImages", "TakesPreimages"}),
     "c_arithmetic.specs.Fields": [
-        "cubic_field", "ghash_field", "itself", "level_field", "poly64_field", "rijndael_field", "wide_level_field", "wide_number",
+        "cubic_field", "ghash_field", "level_field", "poly64_field", "wide_level_field", "wide_number",
     ],
+    "many_words.specs.Fields": ["itself", "rijndael_field"],
     "c_matrices.specs.Matrices": ["InvertsMatrix", "MultipliesMatrices", "ReducesRows", "SolvesEquations", "TakesDeterminant", "TakesRank"],
 }
 
@@ -247,7 +248,7 @@ def of_width(call, vector):
 
 def called_on_many(field, name, vector):
     """The call of a function over the fields of `Many`, in vectors of that type."""
-    return called_over_words(field, f"c_arithmetic::{CALLS[name][0]}", f"{field.kernel}, {vector}")
+    return called_over(field, f"c_arithmetic::{CALLS[name][0]}", f", {vector}")
 
 
 def field_function(field, name, parameters, text):

@@ -1,21 +1,21 @@
 #!/usr/bin/env python3
-"""Writes what a call over many words of a level of the tower computes them in: planes of bytes, and slices of bits (c_arithmetic)."""
+"""Writes what many words of a level of the tower are computed in: planes of bytes, and slices of bits (many_words)."""
 
 from string import Template
 
 import fields
 from impls import keep_all
 
-# The levels that calls compute many words of at once, by their bits.
+# The levels that compute many words at once, by their bits.
 LEVELS = [it.bits for it in fields.FIELDS if it.level is not None and it.bits >= 8]
 
-# The tower's highest level, whose words cross to other languages as two of 64 bits.
+# The tower's highest level, whose words may be two of 64 bits, as other languages have them.
 WIDE = 128
 
 
 def word(bits):
-    """The word in which an element of the level crosses to other languages."""
-    return "Wide" if bits == WIDE else f"u{bits}"
+    """The words of the level: those that store its elements, or any that hold as many bits."""
+    return "W" if bits == WIDE else f"u{bits}"
 
 
 # ---- planes
@@ -24,12 +24,11 @@ PLANES_HEAD = """\
 // The levels of 8 to 128 bits by their planes of bytes, thirty-two words at once, and by the multiples of a scalar. Those of a level
 // are made of those of the level below.
 ghost use Rattle.std.proofs.Common.{lit≤};
-ghost use Rattle.c_arithmetic.specs.Places.{level_in_planes};
+ghost use Rattle.many_words.specs.Places.{level_in_planes};
 
 use super::FieldInPlanes;
-use crate::Wide;
 use std::simd::prelude::*;
-use tower_transforms::{ByteMultiples, HalfMultiples, Pair};
+use tower_transforms::{ByteMultiples, HalfMultiples, Holds, Pair};
 use word_tower::{Bits8, Bits16, Bits32, Bits64, Bits128, Tower};
 """
 
@@ -40,9 +39,7 @@ type Multiples$bits = $multiples;
 """)
 
 IN_PLANES = Template("""\
-impl FieldInPlanes<u$bits> for Tower<Bits$bits> {
-    type Word = $word;
-
+impl$words FieldInPlanes<u$bits, $word> for Tower<Bits$bits> {
     type Multiples = Multiples$bits;
 
     type Vectors = Planes$bits;
@@ -60,15 +57,20 @@ def in_planes():
         multiples = "ByteMultiples" if bits == 8 else f"HalfMultiples<Multiples{half}>"
         yield PLANES.substitute(bits=bits, planes=planes, multiples=multiples)
     for depth, bits in enumerate(LEVELS):
-        yield IN_PLANES.substitute(bits=bits, word=word(bits), depth=depth)
+        yield IN_PLANES.substitute(bits=bits, word=word(bits), words="<W: Holds<u128>>" if bits == WIDE else "", depth=depth)
 
 
 # ---- many words
 
 MANY_HEAD = """\
 // The levels of 8 to 128 bits: by one scalar in planes of bytes, and from 16 bits on products and inverses in slices of bits.
+ghost use prog.Memory.{size};
+ghost use denote.Param.{layout};
+ghost use Rattle.std.proofs.Common.{lit<};
+ghost use Rattle.many_words.specs.Room.{few_fit, fewer_fit};
+
 use super::Many;
-use crate::Wide;
+use crate::SlicedWide;
 use crate::in_planes::{LEAST_IN_PLANES, add_all, multiply_all};
 use crate::in_slices::{LEAST_IN_SLICES, invert_words, multiply_words};
 use bit_slices::Vector;
@@ -77,18 +79,18 @@ use word_tower::{Bits8, Bits16, Bits32, Bits64, Bits128, Tower};
 """
 
 MANY = Template("""\
-impl Many<u$bits> for Tower<Bits$bits> {
-    type Word = $word;
-
+impl$words Many<u$bits, $word> for Tower<Bits$bits> {
     const LEAST_SCALED: usize = LEAST_IN_PLANES;
 $sliced
     fn multiply_all_by<V: Width>(words: &mut [$word], scalar: $word) {
-        multiply_all::<u$bits, Tower<Bits$bits>>(words, scalar);
+        multiply_all::<u$bits, $word, Tower<Bits$bits>>(words, scalar);
     }
 
     fn add_multiples<V: Width>(sums: &mut [$word], words: &[$word], scalar: $word) {
-        add_all::<u$bits, Tower<Bits$bits>>(sums, words, scalar);
+        add_all::<u$bits, $word, Tower<Bits$bits>>(sums, words, scalar);
     }
+
+    ghost room_law = { $room };
 }
 """)
 
@@ -102,11 +104,11 @@ SLICED = Template("""
     }
 
     fn multiply_all<V: Width + Vector>(products: &mut [$word], words: &[$word]) {
-        multiply_words::<u$bits, $word, Tower<Bits$bits>, V>(products, words);
+        $multiply(products, words);
     }
 
     fn invert_all<V: Vector>(words: &mut [$word]) {
-        invert_words::<u$bits, $word, Tower<Bits$bits>, V>(words);
+        $invert(words);
     }
 """)
 
@@ -114,15 +116,19 @@ SLICED = Template("""
 def many():
     yield MANY_HEAD
     for bits in LEVELS:
-        sliced = SLICED.substitute(bits=bits, word=word(bits)) if bits > 8 else ""
-        yield MANY.substitute(bits=bits, word=word(bits), sliced=sliced)
+        multiply, invert = (f"{it}_words::<u{bits}, u{bits}, Tower<Bits{bits}>, V>" for it in ("multiply", "invert"))
+        if bits == WIDE:
+            multiply, invert = "W::multiply_in_slices::<V>", "W::invert_in_slices::<V>"
+        sliced = SLICED.substitute(word=word(bits), multiply=multiply, invert=invert) if bits > 8 else ""
+        room = "fewer_fit (size (layout W.row)) W.room_law" if bits == WIDE else f"few_fit 128 {bits // 8} (lit< tt)"
+        yield MANY.substitute(bits=bits, word=word(bits), words="<W: SlicedWide>" if bits == WIDE else "", sliced=sliced, room=room)
 
 
 if __name__ == "__main__":
     keep_all(
         "make_call_impls.py",
         {
-            "c_arithmetic/src/in_planes/impls.rt": in_planes,
-            "c_arithmetic/src/many/levels.rt": many,
+            "many_words/src/in_planes/impls.rt": in_planes,
+            "many_words/src/many/levels.rt": many,
         },
     )

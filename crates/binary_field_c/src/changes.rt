@@ -3,7 +3,8 @@
 ghost use Rattle.field_base.specs.Basis.{aes_images, basis_image, ghash_images, poly64_images};
 ghost use Rattle.field_base.specs.Remainder.{aes_modulus, ghash_modulus, poly64_modulus};
 ghost use Rattle.c_arithmetic.specs.Calls.{TakesImages, TakesPreimages};
-ghost use Rattle.c_arithmetic.specs.Fields.{itself, wide_number};
+ghost use Rattle.c_arithmetic.specs.Fields.{wide_number};
+ghost use Rattle.many_words.specs.Fields.{itself};
 
 use c_arithmetic::{FromTower, GhashKernel, Poly64Kernel, RijndaelKernel, ToTower, Wide, slices};
 

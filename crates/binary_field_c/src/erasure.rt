@@ -2,7 +2,7 @@
 // Written by scripts/make_c_exports.py; do not edit.
 ghost use Rattle.std.specs.Prelude.{length};
 ghost use Rattle.c_arithmetic.specs.Erasure.{EncodesErasure, ReconstructsErasure, TellsSpace, VerifiesErasure};
-ghost use Rattle.c_arithmetic.specs.Fields.{itself};
+ghost use Rattle.many_words.specs.Fields.{itself};
 
 use c_arithmetic::Bits16;
 

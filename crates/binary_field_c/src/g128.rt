@@ -25,7 +25,7 @@ pub extern "C" fn bf_g128_add(left: &[Wide], right: &[Wide], sums: &mut [Wide]) 
 pub extern "C" fn bf_g128_multiply(left: &[Wide], right: &[Wide], products: &mut [Wide]) -> u32
     ensures { Multiplies ghash_field left.now right.now products.old products.new result }
 {
-    c_arithmetic::multiply::<u128, GhashKernel, u64x2>(left, right, products)
+    c_arithmetic::multiply::<u128, Wide, GhashKernel, u64x2>(left, right, products)
 }
 
 /// The product of each element and the scalar.
@@ -33,7 +33,7 @@ pub extern "C" fn bf_g128_multiply(left: &[Wide], right: &[Wide], products: &mut
 pub extern "C" fn bf_g128_multiply_by(values: &[Wide], scalar: &Wide, products: &mut [Wide]) -> u32
     ensures { MultipliesBy ghash_field scalar.now values.now products.old products.new result }
 {
-    c_arithmetic::multiply_by::<u128, GhashKernel, u64x2>(values, *scalar, products)
+    c_arithmetic::multiply_by::<u128, Wide, GhashKernel, u64x2>(values, *scalar, products)
 }
 
 /// Adds to each element of sums the scalar times the value at its place.
@@ -41,7 +41,7 @@ pub extern "C" fn bf_g128_multiply_by(values: &[Wide], scalar: &Wide, products: 
 pub extern "C" fn bf_g128_add_scaled(sums: &mut [Wide], scalar: &Wide, values: &[Wide]) -> u32
     ensures { AddsScaled ghash_field scalar.now values.now sums.old sums.new result }
 {
-    c_arithmetic::add_scaled::<u128, GhashKernel, u64x2>(sums, *scalar, values)
+    c_arithmetic::add_scaled::<u128, Wide, GhashKernel, u64x2>(sums, *scalar, values)
 }
 
 /// The square of each element.
@@ -57,7 +57,7 @@ pub extern "C" fn bf_g128_square(values: &[Wide], squares: &mut [Wide]) -> u32
 pub extern "C" fn bf_g128_inverse(values: &[Wide], inverses: &mut [Wide]) -> u32
     ensures { Inverts ghash_field values.now inverses.old inverses.new result }
 {
-    c_arithmetic::invert::<u128, GhashKernel, u64x2>(values, inverses)
+    c_arithmetic::invert::<u128, Wide, GhashKernel, u64x2>(values, inverses)
 }
 
 /// The same as inverse; of few elements of p64 and g128 by one inverse and three products an element.
@@ -65,7 +65,7 @@ pub extern "C" fn bf_g128_inverse(values: &[Wide], inverses: &mut [Wide]) -> u32
 pub extern "C" fn bf_g128_batch_inverse(values: &[Wide], inverses: &mut [Wide]) -> u32
     ensures { Inverts ghash_field values.now inverses.old inverses.new result }
 {
-    c_arithmetic::batch_invert::<u128, GhashKernel, u64x2>(values, inverses)
+    c_arithmetic::batch_invert::<u128, Wide, GhashKernel, u64x2>(values, inverses)
 }
 
 /// The square root of each element.
@@ -97,7 +97,7 @@ pub extern "C" fn bf_g128_product(values: &[Wide], product: &mut Wide) -> u32
 pub extern "C" fn bf_g128_dot_product(left: &[Wide], right: &[Wide], sum: &mut Wide) -> u32
     ensures { TakesDotProduct ghash_field left.now right.now sum.old sum.new result }
 {
-    c_arithmetic::dot_product::<u128, GhashKernel, u64x2>(left, right, sum)
+    c_arithmetic::dot_product::<u128, Wide, GhashKernel, u64x2>(left, right, sum)
 }
 
 /// The value at each point of the polynomial with these coefficients, the constant one first; any number of coefficients.
@@ -125,7 +125,7 @@ pub extern "C" fn bf_g128_add_in_place(sums: &mut [Wide], values: &[Wide]) -> u3
 pub extern "C" fn bf_g128_multiply_in_place(products: &mut [Wide], values: &[Wide]) -> u32
     ensures { Multiplies ghash_field products.old values.now products.old products.new result }
 {
-    c_arithmetic::multiply_in_place::<u128, GhashKernel, u64x2>(products, values)
+    c_arithmetic::multiply_in_place::<u128, Wide, GhashKernel, u64x2>(products, values)
 }
 
 /// Multiplies each element by the scalar.
@@ -133,7 +133,7 @@ pub extern "C" fn bf_g128_multiply_in_place(products: &mut [Wide], values: &[Wid
 pub extern "C" fn bf_g128_multiply_by_in_place(values: &mut [Wide], scalar: &Wide) -> u32
     ensures { MultipliesBy ghash_field scalar.now values.old values.old values.new result }
 {
-    c_arithmetic::multiply_by_in_place::<u128, GhashKernel, u64x2>(values, *scalar)
+    c_arithmetic::multiply_by_in_place::<u128, Wide, GhashKernel, u64x2>(values, *scalar)
 }
 
 /// Squares each element.
@@ -149,7 +149,7 @@ pub extern "C" fn bf_g128_square_in_place(values: &mut [Wide]) -> u32
 pub extern "C" fn bf_g128_inverse_in_place(values: &mut [Wide]) -> u32
     ensures { Inverts ghash_field values.old values.old values.new result }
 {
-    c_arithmetic::invert_in_place::<u128, GhashKernel, u64x2>(values)
+    c_arithmetic::invert_in_place::<u128, Wide, GhashKernel, u64x2>(values)
 }
 
 /// Leaves the square root of each element.

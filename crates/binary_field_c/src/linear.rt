@@ -1,7 +1,8 @@
 // Calls that map words linearly.
 // Written by scripts/make_c_exports.py; do not edit.
 ghost use Rattle.c_arithmetic.specs.Linear.{MapsLinearly};
-ghost use Rattle.c_arithmetic.specs.Fields.{itself, wide_number};
+ghost use Rattle.c_arithmetic.specs.Fields.{wide_number};
+ghost use Rattle.many_words.specs.Fields.{itself};
 
 use c_arithmetic::Wide;
 

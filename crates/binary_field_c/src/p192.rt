@@ -25,7 +25,7 @@ pub extern "C" fn bf_p192_add(left: &[Cubic], right: &[Cubic], sums: &mut [Cubic
 pub extern "C" fn bf_p192_multiply(left: &[Cubic], right: &[Cubic], products: &mut [Cubic]) -> u32
     ensures { Multiplies cubic_field left.now right.now products.old products.new result }
 {
-    c_arithmetic::multiply::<Triple, CubicKernel, u64x2>(left, right, products)
+    c_arithmetic::multiply::<Triple, Cubic, CubicKernel, u64x2>(left, right, products)
 }
 
 /// The product of each element and the scalar.
@@ -37,7 +37,7 @@ pub extern "C" fn bf_p192_multiply_by(
 ) -> u32
     ensures { MultipliesBy cubic_field scalar.now values.now products.old products.new result }
 {
-    c_arithmetic::multiply_by::<Triple, CubicKernel, u64x2>(values, *scalar, products)
+    c_arithmetic::multiply_by::<Triple, Cubic, CubicKernel, u64x2>(values, *scalar, products)
 }
 
 /// Adds to each element of sums the scalar times the value at its place.
@@ -45,7 +45,7 @@ pub extern "C" fn bf_p192_multiply_by(
 pub extern "C" fn bf_p192_add_scaled(sums: &mut [Cubic], scalar: &Cubic, values: &[Cubic]) -> u32
     ensures { AddsScaled cubic_field scalar.now values.now sums.old sums.new result }
 {
-    c_arithmetic::add_scaled::<Triple, CubicKernel, u64x2>(sums, *scalar, values)
+    c_arithmetic::add_scaled::<Triple, Cubic, CubicKernel, u64x2>(sums, *scalar, values)
 }
 
 /// The square of each element.
@@ -61,7 +61,7 @@ pub extern "C" fn bf_p192_square(values: &[Cubic], squares: &mut [Cubic]) -> u32
 pub extern "C" fn bf_p192_inverse(values: &[Cubic], inverses: &mut [Cubic]) -> u32
     ensures { Inverts cubic_field values.now inverses.old inverses.new result }
 {
-    c_arithmetic::invert::<Triple, CubicKernel, u64x2>(values, inverses)
+    c_arithmetic::invert::<Triple, Cubic, CubicKernel, u64x2>(values, inverses)
 }
 
 /// The same as inverse; of few elements of p64 and g128 by one inverse and three products an element.
@@ -69,7 +69,7 @@ pub extern "C" fn bf_p192_inverse(values: &[Cubic], inverses: &mut [Cubic]) -> u
 pub extern "C" fn bf_p192_batch_inverse(values: &[Cubic], inverses: &mut [Cubic]) -> u32
     ensures { Inverts cubic_field values.now inverses.old inverses.new result }
 {
-    c_arithmetic::batch_invert::<Triple, CubicKernel, u64x2>(values, inverses)
+    c_arithmetic::batch_invert::<Triple, Cubic, CubicKernel, u64x2>(values, inverses)
 }
 
 /// The square root of each element.
@@ -101,7 +101,7 @@ pub extern "C" fn bf_p192_product(values: &[Cubic], product: &mut Cubic) -> u32
 pub extern "C" fn bf_p192_dot_product(left: &[Cubic], right: &[Cubic], sum: &mut Cubic) -> u32
     ensures { TakesDotProduct cubic_field left.now right.now sum.old sum.new result }
 {
-    c_arithmetic::dot_product::<Triple, CubicKernel, u64x2>(left, right, sum)
+    c_arithmetic::dot_product::<Triple, Cubic, CubicKernel, u64x2>(left, right, sum)
 }
 
 /// The value at each point of the polynomial with these coefficients, the constant one first; any number of coefficients.
@@ -129,7 +129,7 @@ pub extern "C" fn bf_p192_add_in_place(sums: &mut [Cubic], values: &[Cubic]) -> 
 pub extern "C" fn bf_p192_multiply_in_place(products: &mut [Cubic], values: &[Cubic]) -> u32
     ensures { Multiplies cubic_field products.old values.now products.old products.new result }
 {
-    c_arithmetic::multiply_in_place::<Triple, CubicKernel, u64x2>(products, values)
+    c_arithmetic::multiply_in_place::<Triple, Cubic, CubicKernel, u64x2>(products, values)
 }
 
 /// Multiplies each element by the scalar.
@@ -137,7 +137,7 @@ pub extern "C" fn bf_p192_multiply_in_place(products: &mut [Cubic], values: &[Cu
 pub extern "C" fn bf_p192_multiply_by_in_place(values: &mut [Cubic], scalar: &Cubic) -> u32
     ensures { MultipliesBy cubic_field scalar.now values.old values.old values.new result }
 {
-    c_arithmetic::multiply_by_in_place::<Triple, CubicKernel, u64x2>(values, *scalar)
+    c_arithmetic::multiply_by_in_place::<Triple, Cubic, CubicKernel, u64x2>(values, *scalar)
 }
 
 /// Squares each element.
@@ -153,7 +153,7 @@ pub extern "C" fn bf_p192_square_in_place(values: &mut [Cubic]) -> u32
 pub extern "C" fn bf_p192_inverse_in_place(values: &mut [Cubic]) -> u32
     ensures { Inverts cubic_field values.old values.old values.new result }
 {
-    c_arithmetic::invert_in_place::<Triple, CubicKernel, u64x2>(values)
+    c_arithmetic::invert_in_place::<Triple, Cubic, CubicKernel, u64x2>(values)
 }
 
 /// Leaves the square root of each element.

@@ -25,7 +25,7 @@ pub extern "C" fn bf_t16_add(left: &[u16], right: &[u16], sums: &mut [u16]) -> u
 pub extern "C" fn bf_t16_multiply(left: &[u16], right: &[u16], products: &mut [u16]) -> u32
     ensures { Multiplies (level_field 4) left.now right.now products.old products.new result }
 {
-    c_arithmetic::multiply::<u16, Tower<Bits16>, u64x2>(left, right, products)
+    c_arithmetic::multiply::<u16, u16, Tower<Bits16>, u64x2>(left, right, products)
 }
 
 /// The product of each element and the scalar.
@@ -33,7 +33,7 @@ pub extern "C" fn bf_t16_multiply(left: &[u16], right: &[u16], products: &mut [u
 pub extern "C" fn bf_t16_multiply_by(values: &[u16], scalar: u16, products: &mut [u16]) -> u32
     ensures { MultipliesBy (level_field 4) scalar values.now products.old products.new result }
 {
-    c_arithmetic::multiply_by::<u16, Tower<Bits16>, u64x2>(values, scalar, products)
+    c_arithmetic::multiply_by::<u16, u16, Tower<Bits16>, u64x2>(values, scalar, products)
 }
 
 /// Adds to each element of sums the scalar times the value at its place.
@@ -41,7 +41,7 @@ pub extern "C" fn bf_t16_multiply_by(values: &[u16], scalar: u16, products: &mut
 pub extern "C" fn bf_t16_add_scaled(sums: &mut [u16], scalar: u16, values: &[u16]) -> u32
     ensures { AddsScaled (level_field 4) scalar values.now sums.old sums.new result }
 {
-    c_arithmetic::add_scaled::<u16, Tower<Bits16>, u64x2>(sums, scalar, values)
+    c_arithmetic::add_scaled::<u16, u16, Tower<Bits16>, u64x2>(sums, scalar, values)
 }
 
 /// The square of each element.
@@ -57,7 +57,7 @@ pub extern "C" fn bf_t16_square(values: &[u16], squares: &mut [u16]) -> u32
 pub extern "C" fn bf_t16_inverse(values: &[u16], inverses: &mut [u16]) -> u32
     ensures { Inverts (level_field 4) values.now inverses.old inverses.new result }
 {
-    c_arithmetic::invert::<u16, Tower<Bits16>, u64x2>(values, inverses)
+    c_arithmetic::invert::<u16, u16, Tower<Bits16>, u64x2>(values, inverses)
 }
 
 /// The same as inverse; of few elements of p64 and g128 by one inverse and three products an element.
@@ -65,7 +65,7 @@ pub extern "C" fn bf_t16_inverse(values: &[u16], inverses: &mut [u16]) -> u32
 pub extern "C" fn bf_t16_batch_inverse(values: &[u16], inverses: &mut [u16]) -> u32
     ensures { Inverts (level_field 4) values.now inverses.old inverses.new result }
 {
-    c_arithmetic::batch_invert::<u16, Tower<Bits16>, u64x2>(values, inverses)
+    c_arithmetic::batch_invert::<u16, u16, Tower<Bits16>, u64x2>(values, inverses)
 }
 
 /// The square root of each element.
@@ -97,7 +97,7 @@ pub extern "C" fn bf_t16_product(values: &[u16], product: &mut u16) -> u32
 pub extern "C" fn bf_t16_dot_product(left: &[u16], right: &[u16], sum: &mut u16) -> u32
     ensures { TakesDotProduct (level_field 4) left.now right.now sum.old sum.new result }
 {
-    c_arithmetic::dot_product::<u16, Tower<Bits16>, u64x2>(left, right, sum)
+    c_arithmetic::dot_product::<u16, u16, Tower<Bits16>, u64x2>(left, right, sum)
 }
 
 /// The value at each point of the polynomial with these coefficients, the constant one first; any number of coefficients.
@@ -121,7 +121,7 @@ pub extern "C" fn bf_t16_add_in_place(sums: &mut [u16], values: &[u16]) -> u32
 pub extern "C" fn bf_t16_multiply_in_place(products: &mut [u16], values: &[u16]) -> u32
     ensures { Multiplies (level_field 4) products.old values.now products.old products.new result }
 {
-    c_arithmetic::multiply_in_place::<u16, Tower<Bits16>, u64x2>(products, values)
+    c_arithmetic::multiply_in_place::<u16, u16, Tower<Bits16>, u64x2>(products, values)
 }
 
 /// Multiplies each element by the scalar.
@@ -129,7 +129,7 @@ pub extern "C" fn bf_t16_multiply_in_place(products: &mut [u16], values: &[u16])
 pub extern "C" fn bf_t16_multiply_by_in_place(values: &mut [u16], scalar: u16) -> u32
     ensures { MultipliesBy (level_field 4) scalar values.old values.old values.new result }
 {
-    c_arithmetic::multiply_by_in_place::<u16, Tower<Bits16>, u64x2>(values, scalar)
+    c_arithmetic::multiply_by_in_place::<u16, u16, Tower<Bits16>, u64x2>(values, scalar)
 }
 
 /// Squares each element.
@@ -145,7 +145,7 @@ pub extern "C" fn bf_t16_square_in_place(values: &mut [u16]) -> u32
 pub extern "C" fn bf_t16_inverse_in_place(values: &mut [u16]) -> u32
     ensures { Inverts (level_field 4) values.old values.old values.new result }
 {
-    c_arithmetic::invert_in_place::<u16, Tower<Bits16>, u64x2>(values)
+    c_arithmetic::invert_in_place::<u16, u16, Tower<Bits16>, u64x2>(values)
 }
 
 /// Leaves the square root of each element.

@@ -25,7 +25,7 @@ pub extern "C" fn bf_t2_add(left: &[u8], right: &[u8], sums: &mut [u8]) -> u32
 pub extern "C" fn bf_t2_multiply(left: &[u8], right: &[u8], products: &mut [u8]) -> u32
     ensures { Multiplies (level_field 1) left.now right.now products.old products.new result }
 {
-    c_arithmetic::multiply::<u8, Tower<Bits2>, u64x2>(left, right, products)
+    c_arithmetic::multiply::<u8, u8, Tower<Bits2>, u64x2>(left, right, products)
 }
 
 /// The product of each element and the scalar.
@@ -33,7 +33,7 @@ pub extern "C" fn bf_t2_multiply(left: &[u8], right: &[u8], products: &mut [u8])
 pub extern "C" fn bf_t2_multiply_by(values: &[u8], scalar: u8, products: &mut [u8]) -> u32
     ensures { MultipliesBy (level_field 1) scalar values.now products.old products.new result }
 {
-    c_arithmetic::multiply_by::<u8, Tower<Bits2>, u64x2>(values, scalar, products)
+    c_arithmetic::multiply_by::<u8, u8, Tower<Bits2>, u64x2>(values, scalar, products)
 }
 
 /// Adds to each element of sums the scalar times the value at its place.
@@ -41,7 +41,7 @@ pub extern "C" fn bf_t2_multiply_by(values: &[u8], scalar: u8, products: &mut [u
 pub extern "C" fn bf_t2_add_scaled(sums: &mut [u8], scalar: u8, values: &[u8]) -> u32
     ensures { AddsScaled (level_field 1) scalar values.now sums.old sums.new result }
 {
-    c_arithmetic::add_scaled::<u8, Tower<Bits2>, u64x2>(sums, scalar, values)
+    c_arithmetic::add_scaled::<u8, u8, Tower<Bits2>, u64x2>(sums, scalar, values)
 }
 
 /// The square of each element.
@@ -57,7 +57,7 @@ pub extern "C" fn bf_t2_square(values: &[u8], squares: &mut [u8]) -> u32
 pub extern "C" fn bf_t2_inverse(values: &[u8], inverses: &mut [u8]) -> u32
     ensures { Inverts (level_field 1) values.now inverses.old inverses.new result }
 {
-    c_arithmetic::invert::<u8, Tower<Bits2>, u64x2>(values, inverses)
+    c_arithmetic::invert::<u8, u8, Tower<Bits2>, u64x2>(values, inverses)
 }
 
 /// The same as inverse; of few elements of p64 and g128 by one inverse and three products an element.
@@ -65,7 +65,7 @@ pub extern "C" fn bf_t2_inverse(values: &[u8], inverses: &mut [u8]) -> u32
 pub extern "C" fn bf_t2_batch_inverse(values: &[u8], inverses: &mut [u8]) -> u32
     ensures { Inverts (level_field 1) values.now inverses.old inverses.new result }
 {
-    c_arithmetic::batch_invert::<u8, Tower<Bits2>, u64x2>(values, inverses)
+    c_arithmetic::batch_invert::<u8, u8, Tower<Bits2>, u64x2>(values, inverses)
 }
 
 /// The square root of each element.
@@ -97,7 +97,7 @@ pub extern "C" fn bf_t2_product(values: &[u8], product: &mut u8) -> u32
 pub extern "C" fn bf_t2_dot_product(left: &[u8], right: &[u8], sum: &mut u8) -> u32
     ensures { TakesDotProduct (level_field 1) left.now right.now sum.old sum.new result }
 {
-    c_arithmetic::dot_product::<u8, Tower<Bits2>, u64x2>(left, right, sum)
+    c_arithmetic::dot_product::<u8, u8, Tower<Bits2>, u64x2>(left, right, sum)
 }
 
 /// The value at each point of the polynomial with these coefficients, the constant one first; any number of coefficients.
@@ -121,7 +121,7 @@ pub extern "C" fn bf_t2_add_in_place(sums: &mut [u8], values: &[u8]) -> u32
 pub extern "C" fn bf_t2_multiply_in_place(products: &mut [u8], values: &[u8]) -> u32
     ensures { Multiplies (level_field 1) products.old values.now products.old products.new result }
 {
-    c_arithmetic::multiply_in_place::<u8, Tower<Bits2>, u64x2>(products, values)
+    c_arithmetic::multiply_in_place::<u8, u8, Tower<Bits2>, u64x2>(products, values)
 }
 
 /// Multiplies each element by the scalar.
@@ -129,7 +129,7 @@ pub extern "C" fn bf_t2_multiply_in_place(products: &mut [u8], values: &[u8]) ->
 pub extern "C" fn bf_t2_multiply_by_in_place(values: &mut [u8], scalar: u8) -> u32
     ensures { MultipliesBy (level_field 1) scalar values.old values.old values.new result }
 {
-    c_arithmetic::multiply_by_in_place::<u8, Tower<Bits2>, u64x2>(values, scalar)
+    c_arithmetic::multiply_by_in_place::<u8, u8, Tower<Bits2>, u64x2>(values, scalar)
 }
 
 /// Squares each element.
@@ -145,7 +145,7 @@ pub extern "C" fn bf_t2_square_in_place(values: &mut [u8]) -> u32
 pub extern "C" fn bf_t2_inverse_in_place(values: &mut [u8]) -> u32
     ensures { Inverts (level_field 1) values.old values.old values.new result }
 {
-    c_arithmetic::invert_in_place::<u8, Tower<Bits2>, u64x2>(values)
+    c_arithmetic::invert_in_place::<u8, u8, Tower<Bits2>, u64x2>(values)
 }
 
 /// Leaves the square root of each element.

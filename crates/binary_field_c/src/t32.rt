@@ -25,7 +25,7 @@ pub extern "C" fn bf_t32_add(left: &[u32], right: &[u32], sums: &mut [u32]) -> u
 pub extern "C" fn bf_t32_multiply(left: &[u32], right: &[u32], products: &mut [u32]) -> u32
     ensures { Multiplies (level_field 5) left.now right.now products.old products.new result }
 {
-    c_arithmetic::multiply::<u32, Tower<Bits32>, u64x2>(left, right, products)
+    c_arithmetic::multiply::<u32, u32, Tower<Bits32>, u64x2>(left, right, products)
 }
 
 /// The product of each element and the scalar.
@@ -33,7 +33,7 @@ pub extern "C" fn bf_t32_multiply(left: &[u32], right: &[u32], products: &mut [u
 pub extern "C" fn bf_t32_multiply_by(values: &[u32], scalar: u32, products: &mut [u32]) -> u32
     ensures { MultipliesBy (level_field 5) scalar values.now products.old products.new result }
 {
-    c_arithmetic::multiply_by::<u32, Tower<Bits32>, u64x2>(values, scalar, products)
+    c_arithmetic::multiply_by::<u32, u32, Tower<Bits32>, u64x2>(values, scalar, products)
 }
 
 /// Adds to each element of sums the scalar times the value at its place.
@@ -41,7 +41,7 @@ pub extern "C" fn bf_t32_multiply_by(values: &[u32], scalar: u32, products: &mut
 pub extern "C" fn bf_t32_add_scaled(sums: &mut [u32], scalar: u32, values: &[u32]) -> u32
     ensures { AddsScaled (level_field 5) scalar values.now sums.old sums.new result }
 {
-    c_arithmetic::add_scaled::<u32, Tower<Bits32>, u64x2>(sums, scalar, values)
+    c_arithmetic::add_scaled::<u32, u32, Tower<Bits32>, u64x2>(sums, scalar, values)
 }
 
 /// The square of each element.
@@ -57,7 +57,7 @@ pub extern "C" fn bf_t32_square(values: &[u32], squares: &mut [u32]) -> u32
 pub extern "C" fn bf_t32_inverse(values: &[u32], inverses: &mut [u32]) -> u32
     ensures { Inverts (level_field 5) values.now inverses.old inverses.new result }
 {
-    c_arithmetic::invert::<u32, Tower<Bits32>, u64x2>(values, inverses)
+    c_arithmetic::invert::<u32, u32, Tower<Bits32>, u64x2>(values, inverses)
 }
 
 /// The same as inverse; of few elements of p64 and g128 by one inverse and three products an element.
@@ -65,7 +65,7 @@ pub extern "C" fn bf_t32_inverse(values: &[u32], inverses: &mut [u32]) -> u32
 pub extern "C" fn bf_t32_batch_inverse(values: &[u32], inverses: &mut [u32]) -> u32
     ensures { Inverts (level_field 5) values.now inverses.old inverses.new result }
 {
-    c_arithmetic::batch_invert::<u32, Tower<Bits32>, u64x2>(values, inverses)
+    c_arithmetic::batch_invert::<u32, u32, Tower<Bits32>, u64x2>(values, inverses)
 }
 
 /// The square root of each element.
@@ -97,7 +97,7 @@ pub extern "C" fn bf_t32_product(values: &[u32], product: &mut u32) -> u32
 pub extern "C" fn bf_t32_dot_product(left: &[u32], right: &[u32], sum: &mut u32) -> u32
     ensures { TakesDotProduct (level_field 5) left.now right.now sum.old sum.new result }
 {
-    c_arithmetic::dot_product::<u32, Tower<Bits32>, u64x2>(left, right, sum)
+    c_arithmetic::dot_product::<u32, u32, Tower<Bits32>, u64x2>(left, right, sum)
 }
 
 /// The value at each point of the polynomial with these coefficients, the constant one first; any number of coefficients.
@@ -121,7 +121,7 @@ pub extern "C" fn bf_t32_add_in_place(sums: &mut [u32], values: &[u32]) -> u32
 pub extern "C" fn bf_t32_multiply_in_place(products: &mut [u32], values: &[u32]) -> u32
     ensures { Multiplies (level_field 5) products.old values.now products.old products.new result }
 {
-    c_arithmetic::multiply_in_place::<u32, Tower<Bits32>, u64x2>(products, values)
+    c_arithmetic::multiply_in_place::<u32, u32, Tower<Bits32>, u64x2>(products, values)
 }
 
 /// Multiplies each element by the scalar.
@@ -129,7 +129,7 @@ pub extern "C" fn bf_t32_multiply_in_place(products: &mut [u32], values: &[u32])
 pub extern "C" fn bf_t32_multiply_by_in_place(values: &mut [u32], scalar: u32) -> u32
     ensures { MultipliesBy (level_field 5) scalar values.old values.old values.new result }
 {
-    c_arithmetic::multiply_by_in_place::<u32, Tower<Bits32>, u64x2>(values, scalar)
+    c_arithmetic::multiply_by_in_place::<u32, u32, Tower<Bits32>, u64x2>(values, scalar)
 }
 
 /// Squares each element.
@@ -145,7 +145,7 @@ pub extern "C" fn bf_t32_square_in_place(values: &mut [u32]) -> u32
 pub extern "C" fn bf_t32_inverse_in_place(values: &mut [u32]) -> u32
     ensures { Inverts (level_field 5) values.old values.old values.new result }
 {
-    c_arithmetic::invert_in_place::<u32, Tower<Bits32>, u64x2>(values)
+    c_arithmetic::invert_in_place::<u32, u32, Tower<Bits32>, u64x2>(values)
 }
 
 /// Leaves the square root of each element.

@@ -25,7 +25,7 @@ pub extern "C" fn bf_t64_add(left: &[u64], right: &[u64], sums: &mut [u64]) -> u
 pub extern "C" fn bf_t64_multiply(left: &[u64], right: &[u64], products: &mut [u64]) -> u32
     ensures { Multiplies (level_field 6) left.now right.now products.old products.new result }
 {
-    c_arithmetic::multiply::<u64, Tower<Bits64>, u64x2>(left, right, products)
+    c_arithmetic::multiply::<u64, u64, Tower<Bits64>, u64x2>(left, right, products)
 }
 
 /// The product of each element and the scalar.
@@ -33,7 +33,7 @@ pub extern "C" fn bf_t64_multiply(left: &[u64], right: &[u64], products: &mut [u
 pub extern "C" fn bf_t64_multiply_by(values: &[u64], scalar: u64, products: &mut [u64]) -> u32
     ensures { MultipliesBy (level_field 6) scalar values.now products.old products.new result }
 {
-    c_arithmetic::multiply_by::<u64, Tower<Bits64>, u64x2>(values, scalar, products)
+    c_arithmetic::multiply_by::<u64, u64, Tower<Bits64>, u64x2>(values, scalar, products)
 }
 
 /// Adds to each element of sums the scalar times the value at its place.
@@ -41,7 +41,7 @@ pub extern "C" fn bf_t64_multiply_by(values: &[u64], scalar: u64, products: &mut
 pub extern "C" fn bf_t64_add_scaled(sums: &mut [u64], scalar: u64, values: &[u64]) -> u32
     ensures { AddsScaled (level_field 6) scalar values.now sums.old sums.new result }
 {
-    c_arithmetic::add_scaled::<u64, Tower<Bits64>, u64x2>(sums, scalar, values)
+    c_arithmetic::add_scaled::<u64, u64, Tower<Bits64>, u64x2>(sums, scalar, values)
 }
 
 /// The square of each element.
@@ -57,7 +57,7 @@ pub extern "C" fn bf_t64_square(values: &[u64], squares: &mut [u64]) -> u32
 pub extern "C" fn bf_t64_inverse(values: &[u64], inverses: &mut [u64]) -> u32
     ensures { Inverts (level_field 6) values.now inverses.old inverses.new result }
 {
-    c_arithmetic::invert::<u64, Tower<Bits64>, u64x2>(values, inverses)
+    c_arithmetic::invert::<u64, u64, Tower<Bits64>, u64x2>(values, inverses)
 }
 
 /// The same as inverse; of few elements of p64 and g128 by one inverse and three products an element.
@@ -65,7 +65,7 @@ pub extern "C" fn bf_t64_inverse(values: &[u64], inverses: &mut [u64]) -> u32
 pub extern "C" fn bf_t64_batch_inverse(values: &[u64], inverses: &mut [u64]) -> u32
     ensures { Inverts (level_field 6) values.now inverses.old inverses.new result }
 {
-    c_arithmetic::batch_invert::<u64, Tower<Bits64>, u64x2>(values, inverses)
+    c_arithmetic::batch_invert::<u64, u64, Tower<Bits64>, u64x2>(values, inverses)
 }
 
 /// The square root of each element.
@@ -97,7 +97,7 @@ pub extern "C" fn bf_t64_product(values: &[u64], product: &mut u64) -> u32
 pub extern "C" fn bf_t64_dot_product(left: &[u64], right: &[u64], sum: &mut u64) -> u32
     ensures { TakesDotProduct (level_field 6) left.now right.now sum.old sum.new result }
 {
-    c_arithmetic::dot_product::<u64, Tower<Bits64>, u64x2>(left, right, sum)
+    c_arithmetic::dot_product::<u64, u64, Tower<Bits64>, u64x2>(left, right, sum)
 }
 
 /// The value at each point of the polynomial with these coefficients, the constant one first; any number of coefficients.
@@ -121,7 +121,7 @@ pub extern "C" fn bf_t64_add_in_place(sums: &mut [u64], values: &[u64]) -> u32
 pub extern "C" fn bf_t64_multiply_in_place(products: &mut [u64], values: &[u64]) -> u32
     ensures { Multiplies (level_field 6) products.old values.now products.old products.new result }
 {
-    c_arithmetic::multiply_in_place::<u64, Tower<Bits64>, u64x2>(products, values)
+    c_arithmetic::multiply_in_place::<u64, u64, Tower<Bits64>, u64x2>(products, values)
 }
 
 /// Multiplies each element by the scalar.
@@ -129,7 +129,7 @@ pub extern "C" fn bf_t64_multiply_in_place(products: &mut [u64], values: &[u64])
 pub extern "C" fn bf_t64_multiply_by_in_place(values: &mut [u64], scalar: u64) -> u32
     ensures { MultipliesBy (level_field 6) scalar values.old values.old values.new result }
 {
-    c_arithmetic::multiply_by_in_place::<u64, Tower<Bits64>, u64x2>(values, scalar)
+    c_arithmetic::multiply_by_in_place::<u64, u64, Tower<Bits64>, u64x2>(values, scalar)
 }
 
 /// Squares each element.
@@ -145,7 +145,7 @@ pub extern "C" fn bf_t64_square_in_place(values: &mut [u64]) -> u32
 pub extern "C" fn bf_t64_inverse_in_place(values: &mut [u64]) -> u32
     ensures { Inverts (level_field 6) values.old values.old values.new result }
 {
-    c_arithmetic::invert_in_place::<u64, Tower<Bits64>, u64x2>(values)
+    c_arithmetic::invert_in_place::<u64, u64, Tower<Bits64>, u64x2>(values)
 }
 
 /// Leaves the square root of each element.

@@ -2,7 +2,8 @@
 // Written by scripts/make_c_exports.py; do not edit.
 ghost use Rattle.c_arithmetic.specs.Transforms.{ButterfliesForward, ButterfliesInverse, InvertsLevelTransform, InvertsTransform};
 ghost use Rattle.c_arithmetic.specs.Transforms.{RunsLowStages, Transforms, TransformsLevel};
-ghost use Rattle.c_arithmetic.specs.Fields.{itself, wide_number};
+ghost use Rattle.c_arithmetic.specs.Fields.{wide_number};
+ghost use Rattle.many_words.specs.Fields.{itself};
 
 use c_arithmetic::{Bits16, Bits32, Bits64, Bits128, Wide};
 use std::simd::prelude::*;

@@ -16,7 +16,7 @@ use std::simd::prelude::*;
 pub extern "C" fn bf_g128_multiply_wide(left: &[Wide], right: &[Wide], products: &mut [Wide]) -> u32
     ensures { Multiplies ghash_field left.now right.now products.old products.new result }
 {
-    c_arithmetic::multiply::<u128, GhashKernel, u64x4>(left, right, products)
+    c_arithmetic::multiply::<u128, Wide, GhashKernel, u64x4>(left, right, products)
 }
 
 /// The same as `bf_g128_multiply_in_place`.
@@ -24,7 +24,7 @@ pub extern "C" fn bf_g128_multiply_wide(left: &[Wide], right: &[Wide], products:
 pub extern "C" fn bf_g128_multiply_in_place_wide(products: &mut [Wide], values: &[Wide]) -> u32
     ensures { Multiplies ghash_field products.old values.now products.old products.new result }
 {
-    c_arithmetic::multiply_in_place::<u128, GhashKernel, u64x4>(products, values)
+    c_arithmetic::multiply_in_place::<u128, Wide, GhashKernel, u64x4>(products, values)
 }
 
 /// The same as `bf_g128_multiply_by`.
@@ -36,7 +36,7 @@ pub extern "C" fn bf_g128_multiply_by_wide(
 ) -> u32
     ensures { MultipliesBy ghash_field scalar.now values.now products.old products.new result }
 {
-    c_arithmetic::multiply_by::<u128, GhashKernel, u64x4>(values, *scalar, products)
+    c_arithmetic::multiply_by::<u128, Wide, GhashKernel, u64x4>(values, *scalar, products)
 }
 
 /// The same as `bf_g128_multiply_by_in_place`.
@@ -44,7 +44,7 @@ pub extern "C" fn bf_g128_multiply_by_wide(
 pub extern "C" fn bf_g128_multiply_by_in_place_wide(values: &mut [Wide], scalar: &Wide) -> u32
     ensures { MultipliesBy ghash_field scalar.now values.old values.old values.new result }
 {
-    c_arithmetic::multiply_by_in_place::<u128, GhashKernel, u64x4>(values, *scalar)
+    c_arithmetic::multiply_by_in_place::<u128, Wide, GhashKernel, u64x4>(values, *scalar)
 }
 
 /// The same as `bf_g128_add_scaled`.
@@ -52,7 +52,7 @@ pub extern "C" fn bf_g128_multiply_by_in_place_wide(values: &mut [Wide], scalar:
 pub extern "C" fn bf_g128_add_scaled_wide(sums: &mut [Wide], scalar: &Wide, values: &[Wide]) -> u32
     ensures { AddsScaled ghash_field scalar.now values.now sums.old sums.new result }
 {
-    c_arithmetic::add_scaled::<u128, GhashKernel, u64x4>(sums, *scalar, values)
+    c_arithmetic::add_scaled::<u128, Wide, GhashKernel, u64x4>(sums, *scalar, values)
 }
 
 /// The same as `bf_g128_dot_product`.
@@ -60,7 +60,7 @@ pub extern "C" fn bf_g128_add_scaled_wide(sums: &mut [Wide], scalar: &Wide, valu
 pub extern "C" fn bf_g128_dot_product_wide(left: &[Wide], right: &[Wide], sum: &mut Wide) -> u32
     ensures { TakesDotProduct ghash_field left.now right.now sum.old sum.new result }
 {
-    c_arithmetic::dot_product::<u128, GhashKernel, u64x4>(left, right, sum)
+    c_arithmetic::dot_product::<u128, Wide, GhashKernel, u64x4>(left, right, sum)
 }
 
 /// The same as `bf_g128_butterfly_forward`.
@@ -121,7 +121,7 @@ pub extern "C" fn bf_g128_inverse_transform_wide(values: &mut [Wide], shift: &Wi
 pub extern "C" fn bf_t16_multiply_wide(left: &[u16], right: &[u16], products: &mut [u16]) -> u32
     ensures { Multiplies (level_field 4) left.now right.now products.old products.new result }
 {
-    c_arithmetic::multiply::<u16, Tower<Bits16>, u64x4>(left, right, products)
+    c_arithmetic::multiply::<u16, u16, Tower<Bits16>, u64x4>(left, right, products)
 }
 
 /// The same as `bf_t16_multiply_in_place`.
@@ -129,7 +129,7 @@ pub extern "C" fn bf_t16_multiply_wide(left: &[u16], right: &[u16], products: &m
 pub extern "C" fn bf_t16_multiply_in_place_wide(products: &mut [u16], values: &[u16]) -> u32
     ensures { Multiplies (level_field 4) products.old values.now products.old products.new result }
 {
-    c_arithmetic::multiply_in_place::<u16, Tower<Bits16>, u64x4>(products, values)
+    c_arithmetic::multiply_in_place::<u16, u16, Tower<Bits16>, u64x4>(products, values)
 }
 
 /// The same as `bf_t16_inverse`.
@@ -137,7 +137,7 @@ pub extern "C" fn bf_t16_multiply_in_place_wide(products: &mut [u16], values: &[
 pub extern "C" fn bf_t16_inverse_wide(values: &[u16], inverses: &mut [u16]) -> u32
     ensures { Inverts (level_field 4) values.now inverses.old inverses.new result }
 {
-    c_arithmetic::invert::<u16, Tower<Bits16>, u64x4>(values, inverses)
+    c_arithmetic::invert::<u16, u16, Tower<Bits16>, u64x4>(values, inverses)
 }
 
 /// The same as `bf_t16_inverse_in_place`.
@@ -145,7 +145,7 @@ pub extern "C" fn bf_t16_inverse_wide(values: &[u16], inverses: &mut [u16]) -> u
 pub extern "C" fn bf_t16_inverse_in_place_wide(values: &mut [u16]) -> u32
     ensures { Inverts (level_field 4) values.old values.old values.new result }
 {
-    c_arithmetic::invert_in_place::<u16, Tower<Bits16>, u64x4>(values)
+    c_arithmetic::invert_in_place::<u16, u16, Tower<Bits16>, u64x4>(values)
 }
 
 /// The same as `bf_t16_batch_inverse`.
@@ -153,7 +153,7 @@ pub extern "C" fn bf_t16_inverse_in_place_wide(values: &mut [u16]) -> u32
 pub extern "C" fn bf_t16_batch_inverse_wide(values: &[u16], inverses: &mut [u16]) -> u32
     ensures { Inverts (level_field 4) values.now inverses.old inverses.new result }
 {
-    c_arithmetic::batch_invert::<u16, Tower<Bits16>, u64x4>(values, inverses)
+    c_arithmetic::batch_invert::<u16, u16, Tower<Bits16>, u64x4>(values, inverses)
 }
 
 /// The same as `bf_t32_multiply`.
@@ -161,7 +161,7 @@ pub extern "C" fn bf_t16_batch_inverse_wide(values: &[u16], inverses: &mut [u16]
 pub extern "C" fn bf_t32_multiply_wide(left: &[u32], right: &[u32], products: &mut [u32]) -> u32
     ensures { Multiplies (level_field 5) left.now right.now products.old products.new result }
 {
-    c_arithmetic::multiply::<u32, Tower<Bits32>, u64x4>(left, right, products)
+    c_arithmetic::multiply::<u32, u32, Tower<Bits32>, u64x4>(left, right, products)
 }
 
 /// The same as `bf_t32_multiply_in_place`.
@@ -169,7 +169,7 @@ pub extern "C" fn bf_t32_multiply_wide(left: &[u32], right: &[u32], products: &m
 pub extern "C" fn bf_t32_multiply_in_place_wide(products: &mut [u32], values: &[u32]) -> u32
     ensures { Multiplies (level_field 5) products.old values.now products.old products.new result }
 {
-    c_arithmetic::multiply_in_place::<u32, Tower<Bits32>, u64x4>(products, values)
+    c_arithmetic::multiply_in_place::<u32, u32, Tower<Bits32>, u64x4>(products, values)
 }
 
 /// The same as `bf_t32_inverse`.
@@ -177,7 +177,7 @@ pub extern "C" fn bf_t32_multiply_in_place_wide(products: &mut [u32], values: &[
 pub extern "C" fn bf_t32_inverse_wide(values: &[u32], inverses: &mut [u32]) -> u32
     ensures { Inverts (level_field 5) values.now inverses.old inverses.new result }
 {
-    c_arithmetic::invert::<u32, Tower<Bits32>, u64x4>(values, inverses)
+    c_arithmetic::invert::<u32, u32, Tower<Bits32>, u64x4>(values, inverses)
 }
 
 /// The same as `bf_t32_inverse_in_place`.
@@ -185,7 +185,7 @@ pub extern "C" fn bf_t32_inverse_wide(values: &[u32], inverses: &mut [u32]) -> u
 pub extern "C" fn bf_t32_inverse_in_place_wide(values: &mut [u32]) -> u32
     ensures { Inverts (level_field 5) values.old values.old values.new result }
 {
-    c_arithmetic::invert_in_place::<u32, Tower<Bits32>, u64x4>(values)
+    c_arithmetic::invert_in_place::<u32, u32, Tower<Bits32>, u64x4>(values)
 }
 
 /// The same as `bf_t32_batch_inverse`.
@@ -193,7 +193,7 @@ pub extern "C" fn bf_t32_inverse_in_place_wide(values: &mut [u32]) -> u32
 pub extern "C" fn bf_t32_batch_inverse_wide(values: &[u32], inverses: &mut [u32]) -> u32
     ensures { Inverts (level_field 5) values.now inverses.old inverses.new result }
 {
-    c_arithmetic::batch_invert::<u32, Tower<Bits32>, u64x4>(values, inverses)
+    c_arithmetic::batch_invert::<u32, u32, Tower<Bits32>, u64x4>(values, inverses)
 }
 
 /// The same as `bf_t64_multiply`.
@@ -201,7 +201,7 @@ pub extern "C" fn bf_t32_batch_inverse_wide(values: &[u32], inverses: &mut [u32]
 pub extern "C" fn bf_t64_multiply_wide(left: &[u64], right: &[u64], products: &mut [u64]) -> u32
     ensures { Multiplies (level_field 6) left.now right.now products.old products.new result }
 {
-    c_arithmetic::multiply::<u64, Tower<Bits64>, u64x4>(left, right, products)
+    c_arithmetic::multiply::<u64, u64, Tower<Bits64>, u64x4>(left, right, products)
 }
 
 /// The same as `bf_t64_multiply_in_place`.
@@ -209,7 +209,7 @@ pub extern "C" fn bf_t64_multiply_wide(left: &[u64], right: &[u64], products: &m
 pub extern "C" fn bf_t64_multiply_in_place_wide(products: &mut [u64], values: &[u64]) -> u32
     ensures { Multiplies (level_field 6) products.old values.now products.old products.new result }
 {
-    c_arithmetic::multiply_in_place::<u64, Tower<Bits64>, u64x4>(products, values)
+    c_arithmetic::multiply_in_place::<u64, u64, Tower<Bits64>, u64x4>(products, values)
 }
 
 /// The same as `bf_t64_inverse`.
@@ -217,7 +217,7 @@ pub extern "C" fn bf_t64_multiply_in_place_wide(products: &mut [u64], values: &[
 pub extern "C" fn bf_t64_inverse_wide(values: &[u64], inverses: &mut [u64]) -> u32
     ensures { Inverts (level_field 6) values.now inverses.old inverses.new result }
 {
-    c_arithmetic::invert::<u64, Tower<Bits64>, u64x4>(values, inverses)
+    c_arithmetic::invert::<u64, u64, Tower<Bits64>, u64x4>(values, inverses)
 }
 
 /// The same as `bf_t64_inverse_in_place`.
@@ -225,7 +225,7 @@ pub extern "C" fn bf_t64_inverse_wide(values: &[u64], inverses: &mut [u64]) -> u
 pub extern "C" fn bf_t64_inverse_in_place_wide(values: &mut [u64]) -> u32
     ensures { Inverts (level_field 6) values.old values.old values.new result }
 {
-    c_arithmetic::invert_in_place::<u64, Tower<Bits64>, u64x4>(values)
+    c_arithmetic::invert_in_place::<u64, u64, Tower<Bits64>, u64x4>(values)
 }
 
 /// The same as `bf_t64_batch_inverse`.
@@ -233,7 +233,7 @@ pub extern "C" fn bf_t64_inverse_in_place_wide(values: &mut [u64]) -> u32
 pub extern "C" fn bf_t64_batch_inverse_wide(values: &[u64], inverses: &mut [u64]) -> u32
     ensures { Inverts (level_field 6) values.now inverses.old inverses.new result }
 {
-    c_arithmetic::batch_invert::<u64, Tower<Bits64>, u64x4>(values, inverses)
+    c_arithmetic::batch_invert::<u64, u64, Tower<Bits64>, u64x4>(values, inverses)
 }
 
 /// The same as `bf_t128_multiply`.
@@ -241,7 +241,7 @@ pub extern "C" fn bf_t64_batch_inverse_wide(values: &[u64], inverses: &mut [u64]
 pub extern "C" fn bf_t128_multiply_wide(left: &[Wide], right: &[Wide], products: &mut [Wide]) -> u32
     ensures { Multiplies wide_level_field left.now right.now products.old products.new result }
 {
-    c_arithmetic::multiply::<u128, Tower<Bits128>, u64x4>(left, right, products)
+    c_arithmetic::multiply::<u128, Wide, Tower<Bits128>, u64x4>(left, right, products)
 }
 
 /// The same as `bf_t128_multiply_in_place`.
@@ -249,7 +249,7 @@ pub extern "C" fn bf_t128_multiply_wide(left: &[Wide], right: &[Wide], products:
 pub extern "C" fn bf_t128_multiply_in_place_wide(products: &mut [Wide], values: &[Wide]) -> u32
     ensures { Multiplies wide_level_field products.old values.now products.old products.new result }
 {
-    c_arithmetic::multiply_in_place::<u128, Tower<Bits128>, u64x4>(products, values)
+    c_arithmetic::multiply_in_place::<u128, Wide, Tower<Bits128>, u64x4>(products, values)
 }
 
 /// The same as `bf_t128_inverse`.
@@ -257,7 +257,7 @@ pub extern "C" fn bf_t128_multiply_in_place_wide(products: &mut [Wide], values: 
 pub extern "C" fn bf_t128_inverse_wide(values: &[Wide], inverses: &mut [Wide]) -> u32
     ensures { Inverts wide_level_field values.now inverses.old inverses.new result }
 {
-    c_arithmetic::invert::<u128, Tower<Bits128>, u64x4>(values, inverses)
+    c_arithmetic::invert::<u128, Wide, Tower<Bits128>, u64x4>(values, inverses)
 }
 
 /// The same as `bf_t128_inverse_in_place`.
@@ -265,7 +265,7 @@ pub extern "C" fn bf_t128_inverse_wide(values: &[Wide], inverses: &mut [Wide]) -
 pub extern "C" fn bf_t128_inverse_in_place_wide(values: &mut [Wide]) -> u32
     ensures { Inverts wide_level_field values.old values.old values.new result }
 {
-    c_arithmetic::invert_in_place::<u128, Tower<Bits128>, u64x4>(values)
+    c_arithmetic::invert_in_place::<u128, Wide, Tower<Bits128>, u64x4>(values)
 }
 
 /// The same as `bf_t128_batch_inverse`.
@@ -273,7 +273,7 @@ pub extern "C" fn bf_t128_inverse_in_place_wide(values: &mut [Wide]) -> u32
 pub extern "C" fn bf_t128_batch_inverse_wide(values: &[Wide], inverses: &mut [Wide]) -> u32
     ensures { Inverts wide_level_field values.now inverses.old inverses.new result }
 {
-    c_arithmetic::batch_invert::<u128, Tower<Bits128>, u64x4>(values, inverses)
+    c_arithmetic::batch_invert::<u128, Wide, Tower<Bits128>, u64x4>(values, inverses)
 }
 
 /// The same as `bf_p64_multiply`.
@@ -281,7 +281,7 @@ pub extern "C" fn bf_t128_batch_inverse_wide(values: &[Wide], inverses: &mut [Wi
 pub extern "C" fn bf_p64_multiply_wide(left: &[u64], right: &[u64], products: &mut [u64]) -> u32
     ensures { Multiplies poly64_field left.now right.now products.old products.new result }
 {
-    c_arithmetic::multiply::<u64, Poly64Kernel, u64x4>(left, right, products)
+    c_arithmetic::multiply::<u64, u64, Poly64Kernel, u64x4>(left, right, products)
 }
 
 /// The same as `bf_p64_multiply_in_place`.
@@ -289,7 +289,7 @@ pub extern "C" fn bf_p64_multiply_wide(left: &[u64], right: &[u64], products: &m
 pub extern "C" fn bf_p64_multiply_in_place_wide(products: &mut [u64], values: &[u64]) -> u32
     ensures { Multiplies poly64_field products.old values.now products.old products.new result }
 {
-    c_arithmetic::multiply_in_place::<u64, Poly64Kernel, u64x4>(products, values)
+    c_arithmetic::multiply_in_place::<u64, u64, Poly64Kernel, u64x4>(products, values)
 }
 
 /// The same as `bf_p64_inverse`.
@@ -297,7 +297,7 @@ pub extern "C" fn bf_p64_multiply_in_place_wide(products: &mut [u64], values: &[
 pub extern "C" fn bf_p64_inverse_wide(values: &[u64], inverses: &mut [u64]) -> u32
     ensures { Inverts poly64_field values.now inverses.old inverses.new result }
 {
-    c_arithmetic::invert::<u64, Poly64Kernel, u64x4>(values, inverses)
+    c_arithmetic::invert::<u64, u64, Poly64Kernel, u64x4>(values, inverses)
 }
 
 /// The same as `bf_p64_inverse_in_place`.
@@ -305,7 +305,7 @@ pub extern "C" fn bf_p64_inverse_wide(values: &[u64], inverses: &mut [u64]) -> u
 pub extern "C" fn bf_p64_inverse_in_place_wide(values: &mut [u64]) -> u32
     ensures { Inverts poly64_field values.old values.old values.new result }
 {
-    c_arithmetic::invert_in_place::<u64, Poly64Kernel, u64x4>(values)
+    c_arithmetic::invert_in_place::<u64, u64, Poly64Kernel, u64x4>(values)
 }
 
 /// The same as `bf_p64_batch_inverse`.
@@ -313,7 +313,7 @@ pub extern "C" fn bf_p64_inverse_in_place_wide(values: &mut [u64]) -> u32
 pub extern "C" fn bf_p64_batch_inverse_wide(values: &[u64], inverses: &mut [u64]) -> u32
     ensures { Inverts poly64_field values.now inverses.old inverses.new result }
 {
-    c_arithmetic::batch_invert::<u64, Poly64Kernel, u64x4>(values, inverses)
+    c_arithmetic::batch_invert::<u64, u64, Poly64Kernel, u64x4>(values, inverses)
 }
 
 /// The same as `bf_g128_inverse`.
@@ -321,7 +321,7 @@ pub extern "C" fn bf_p64_batch_inverse_wide(values: &[u64], inverses: &mut [u64]
 pub extern "C" fn bf_g128_inverse_wide(values: &[Wide], inverses: &mut [Wide]) -> u32
     ensures { Inverts ghash_field values.now inverses.old inverses.new result }
 {
-    c_arithmetic::invert::<u128, GhashKernel, u64x4>(values, inverses)
+    c_arithmetic::invert::<u128, Wide, GhashKernel, u64x4>(values, inverses)
 }
 
 /// The same as `bf_g128_inverse_in_place`.
@@ -329,7 +329,7 @@ pub extern "C" fn bf_g128_inverse_wide(values: &[Wide], inverses: &mut [Wide]) -
 pub extern "C" fn bf_g128_inverse_in_place_wide(values: &mut [Wide]) -> u32
     ensures { Inverts ghash_field values.old values.old values.new result }
 {
-    c_arithmetic::invert_in_place::<u128, GhashKernel, u64x4>(values)
+    c_arithmetic::invert_in_place::<u128, Wide, GhashKernel, u64x4>(values)
 }
 
 /// The same as `bf_g128_batch_inverse`.
@@ -337,7 +337,7 @@ pub extern "C" fn bf_g128_inverse_in_place_wide(values: &mut [Wide]) -> u32
 pub extern "C" fn bf_g128_batch_inverse_wide(values: &[Wide], inverses: &mut [Wide]) -> u32
     ensures { Inverts ghash_field values.now inverses.old inverses.new result }
 {
-    c_arithmetic::batch_invert::<u128, GhashKernel, u64x4>(values, inverses)
+    c_arithmetic::batch_invert::<u128, Wide, GhashKernel, u64x4>(values, inverses)
 }
 
 /// The same as `bf_g128_matrix_multiply`.

@@ -4,7 +4,7 @@ use Rattle.std.proofs.lemmas.List.Sums.{fold_more}
 use Rattle.field_base.specs.Field.{IsField}
 use Rattle.field_base.proofs.FieldLemmas.{no_zero_divisors}
 use Rattle.c_arithmetic.specs.Batch.{product_of_nonzero, times_nonzero}
-use Rattle.c_arithmetic.specs.Fields.{WordField}
+use Rattle.many_words.specs.Fields.{WordField}
 
 -- where the second number is 0 nothing is multiplied, and else both are
 pub times_nonzero-zero : (times : ℕ → ℕ → ℕ) (a b : ℕ) → b ≡ 0 → a ≡ times_nonzero times a b

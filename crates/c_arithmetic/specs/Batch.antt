@@ -1,7 +1,7 @@
 -- Inverses of many elements by the inverse of one product (P. L. Montgomery, Speeding the Pollard and elliptic curve methods of
 -- factorization, Mathematics of Computation 48, 1987).
 use Rattle.std.specs.Prelude.{◌≡◌, ℕ, zero, suc, ◌<◌, List, fold, get_or, length, take}
-use Rattle.c_arithmetic.specs.Fields.{WordField}
+use Rattle.many_words.specs.Fields.{WordField}
 
 -- the product of a and b, or a where b is 0
 abbrev pub times_nonzero : (ℕ → ℕ → ℕ) → ℕ → ℕ → ℕ

@@ -1,9 +1,9 @@
 -- What calls over slices of words do: which status they return, what they write, and that they keep it otherwise.
 use Rattle.std.specs.Prelude.{◌≡◌, ◌≢◌, ℕ, ◌^◌, ◌<◌, ◌≤◌, List, length, get_or, bit_xor}
-use Rattle.field_base.specs.Field.{IsInverseOrZero}
 use Rattle.field_base.specs.Orders.{HasFullOrder}
 use Rattle.field_base.specs.Powers.{dot_of, power, product_of, value_of}
-use Rattle.c_arithmetic.specs.Fields.{WordField}
+use Rattle.many_words.specs.Fields.{WordField}
+use Rattle.many_words.specs.Words.{AreElements, Each, EachOfTwo, HoldInverses, IsElement}
 use Rattle.c_arithmetic.specs.declared.status.TheConstants.{OK, LENGTH, NOT_AN_ELEMENT}
 
 -- how a call ends: lengths that do not fit are told first, and then words that are no elements. Every other call does what it says;
@@ -15,35 +15,16 @@ pub record CallOf {T : Type 0} (fits elements written : Type 0) (old new : T) (s
   pub kept : status ≢ OK → new ≡ old
 
 module _ {W : Type 0} (field : WordField W) where
-  -- a word is an element of the field
-  abbrev pub IsElement : W → Type 0
-  IsElement x = field.number x < 2 ^ field.width
-
-  -- every word is
-  abbrev pub AreElements : List W → Type 0
-  AreElements xs = (k : ℕ) → k < length xs → (d : _) → field.number (get_or xs k d) < 2 ^ field.width
-
-  -- each word of `ys` is related to the word of `xs` at its place
-  abbrev pub Each : (ℕ → ℕ → Type 0) → List W → List W → Type 0
-  Each relates xs ys =
-      (k : ℕ) → k < length ys → (d : _) → relates (field.number (get_or xs k d)) (field.number (get_or ys k d))
-
-  -- each word of `zs` is related to the words of `xs` and of `ys` at its place
-  abbrev pub EachOfTwo : (ℕ → ℕ → ℕ → Type 0) → List W → List W → List W → Type 0
-  EachOfTwo relates xs ys zs =
-      (k : ℕ) → k < length zs → (d : _)
-      → relates (field.number (get_or xs k d)) (field.number (get_or ys k d)) (field.number (get_or zs k d))
-
   -- a call that writes one word for each word
   abbrev pub CallOnEach : (ℕ → ℕ → Type 0) → List W → List W → List W → ℕ → Type 0
   CallOnEach relates xs old new status =
-      CallOf (length xs ≡ length old) (AreElements xs) (Each relates xs new) old new status
+      CallOf (length xs ≡ length old) (AreElements field xs) (Each field relates xs new) old new status
 
   -- a call that writes one word for the words of two arrays
   abbrev pub CallOnTwo : (ℕ → ℕ → ℕ → Type 0) → List W → List W → List W → List W → ℕ → Type 0
   CallOnTwo relates xs ys old new status =
-      CallOf ((length xs ≡ length old) × (length ys ≡ length old)) (AreElements xs × AreElements ys)
-      (EachOfTwo relates xs ys new) old new status
+      CallOf ((length xs ≡ length old) × (length ys ≡ length old)) (AreElements field xs × AreElements field ys)
+      (EachOfTwo field relates xs ys new) old new status
 
   -- sums
   abbrev pub Adds : List W → List W → List W → List W → ℕ → Type 0
@@ -57,13 +38,9 @@ module _ {W : Type 0} (field : WordField W) where
   abbrev pub Squares : List W → List W → List W → ℕ → Type 0
   Squares xs old new status = CallOnEach (λ x y. y ≡ field.times x x) xs old new status
 
-  -- the words of `ys` are the inverses of those of `xs`, 0 for 0, and elements
-  abbrev pub HoldInverses : List W → List W → Type 0
-  HoldInverses xs ys = Each (λ x y. (y < 2 ^ field.width) × IsInverseOrZero field.times x y) xs ys
-
-  -- a call that writes them
+  -- a call that writes the inverses of words, 0 for 0, which are elements
   abbrev pub Inverts : List W → List W → List W → ℕ → Type 0
-  Inverts xs old new status = CallOf (length xs ≡ length old) (AreElements xs) (HoldInverses xs new) old new status
+  Inverts xs old new status = CallOf (length xs ≡ length old) (AreElements field xs) (HoldInverses field xs new) old new status
 
   -- square roots, which are elements
   abbrev pub TakesRoots : List W → List W → List W → ℕ → Type 0
@@ -72,14 +49,14 @@ module _ {W : Type 0} (field : WordField W) where
   -- products with one scalar
   abbrev pub MultipliesBy : W → List W → List W → List W → ℕ → Type 0
   MultipliesBy scalar xs old new status =
-      CallOf (length xs ≡ length old) (IsElement scalar × AreElements xs)
-      (Each (λ x y. y ≡ field.times x (field.number scalar)) xs new) old new status
+      CallOf (length xs ≡ length old) (IsElement field scalar × AreElements field xs)
+      (Each field (λ x y. y ≡ field.times x (field.number scalar)) xs new) old new status
 
   -- the scalar times each word is added to the word at its place
   abbrev pub AddsScaled : W → List W → List W → List W → ℕ → Type 0
   AddsScaled scalar xs old new status =
-      CallOf (length xs ≡ length old) (AreElements old × IsElement scalar × AreElements xs)
-      (EachOfTwo (λ sum x next. next ≡ bit_xor sum (field.times (field.number scalar) x)) old xs new) old new status
+      CallOf (length xs ≡ length old) (AreElements field old × IsElement field scalar × AreElements field xs)
+      (EachOfTwo field (λ sum x next. next ≡ bit_xor sum (field.times (field.number scalar) x)) old xs new) old new status
 
   -- powers with one exponent
   abbrev pub RaisesTo : ℕ → List W → List W → List W → ℕ → Type 0
@@ -88,19 +65,19 @@ module _ {W : Type 0} (field : WordField W) where
   -- the product of all words
   abbrev pub TakesProduct : List W → W → W → ℕ → Type 0
   TakesProduct xs old new status =
-      CallOf (Unit {0}) (AreElements xs) (field.number new ≡ product_of 1 field.times field.number xs) old new status
+      CallOf (Unit {0}) (AreElements field xs) (field.number new ≡ product_of 1 field.times field.number xs) old new status
 
   -- the sum of the products at each place
   abbrev pub TakesDotProduct : List W → List W → W → W → ℕ → Type 0
   TakesDotProduct xs ys old new status =
-      CallOf (length xs ≡ length ys) (AreElements xs × AreElements ys) (field.number new ≡ dot_of field.times field.number xs ys)
+      CallOf (length xs ≡ length ys) (AreElements field xs × AreElements field ys) (field.number new ≡ dot_of field.times field.number xs ys)
       old new status
 
   -- the values at points of the polynomial with these coefficients, the constant one first
   abbrev pub Evaluates : List W → List W → List W → List W → ℕ → Type 0
   Evaluates coefficients points old new status =
-      CallOf (length points ≡ length old) (AreElements coefficients × AreElements points)
-      (Each (λ x y. y ≡ value_of 1 field.times field.number coefficients x) points new) old new status
+      CallOf (length points ≡ length old) (AreElements field coefficients × AreElements field points)
+      (Each field (λ x y. y ≡ value_of 1 field.times field.number coefficients x) points new) old new status
 
   -- the generator, which up to 16 bits has full order by a proof
   abbrev pub NamesGenerator : W → ℕ → Type 0

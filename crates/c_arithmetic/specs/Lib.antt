@@ -4,7 +4,6 @@ pub mod Calls
 pub mod Erasure
 pub mod Fields
 pub mod Fits
-pub mod Places
 pub mod Linear
 pub mod Transforms
 pub mod WideLemmas

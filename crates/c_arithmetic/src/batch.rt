@@ -2,12 +2,14 @@
 ghost use Rattle.std.specs.Prelude.{◌≡◌, ◌≢◌, ◌<◌, ◌^◌, length};
 ghost use Rattle.field_base.specs.Field.{IsInverseOrZero};
 ghost use Rattle.c_arithmetic.specs.Batch.{AreProductsBefore, product_of_nonzero, times_nonzero};
-ghost use Rattle.c_arithmetic.specs.Calls.{AreElements, Inverts, HoldInverses};
-ghost use Rattle.c_arithmetic.specs.Fields.{field_of};
+ghost use Rattle.c_arithmetic.specs.Calls.{Inverts};
+ghost use Rattle.many_words.specs.Fields.{field_of};
+ghost use Rattle.many_words.specs.Words.{AreElements, HoldInverses};
 
 use crate::slices::are_elements;
-use crate::{fields, status};
+use crate::status;
 use field_base::{FieldKernel, Stored};
+use many_words::fields;
 use tower_transforms::Holds;
 
 /// Writes the inverse of the word at each place, and 0 for 0. It takes one inverse, and three products a word; it takes no memory.

@@ -1,13 +1,13 @@
 // Arithmetic on slices of words in place, over any field whose elements are words: each result takes the place of an operand. The contracts
 // are those of the functions over slices apart, whose first operand is here what the slice held before.
-ghost use Rattle.std.specs.Prelude.{◌≡◌, length};
-ghost use Rattle.c_arithmetic.specs.Calls.{AreElements, CallOnEach, CallOnTwo, Each, EachOfTwo};
-ghost use Rattle.c_arithmetic.specs.Fields.{field_of};
+ghost use Rattle.c_arithmetic.specs.Calls.{CallOnEach, CallOnTwo};
+ghost use Rattle.many_words.specs.Fields.{field_of};
 
-use crate::operations::{OnOne, OnTwo};
 use crate::slices::are_elements;
 use crate::status;
 use field_base::{FieldKernel, Stored};
+use many_words::operations::{OnOne, OnTwo};
+use many_words::{change_all, change_all_by};
 use tower_transforms::Holds;
 
 /// Leaves the result of the operation at each word.
@@ -43,35 +43,4 @@ pub fn change_each_by<R: Stored, W: Holds<R>, K: FieldKernel<R>, O: OnTwo<R, W, 
     }
     change_all_by::<R, W, K, O>(words, others, operation);
     status::OK
-}
-
-/// Leaves the result of the operation at each word, an element.
-#[inline]
-pub(crate) fn change_all<R: Stored, W: Holds<R>, K: FieldKernel<R>, O: OnOne<R, W, K>>(
-    words: &mut [W],
-    operation: &O,
-)
-    requires { AreElements (field_of W.number K.width K.product K.generator) words.old }
-    ensures long { length words.new ≡ length words.old }
-    ensures results { Each (field_of W.number K.width K.product K.generator) (O.gives operation.now) words.old words.new }
-{
-    for place in 0..words.len() {
-        words[place] = operation.result_at(words[place]);
-    }
-}
-
-/// Leaves the result of the operation at each word and the other word at its place. The slices are of one length.
-#[inline]
-pub(crate) fn change_all_by<R: Stored, W: Holds<R>, K: FieldKernel<R>, O: OnTwo<R, W, K>>(
-    words: &mut [W],
-    others: &[W],
-    operation: &O,
-)
-    requires { length others.now ≡ length words.old }
-    ensures long { length words.new ≡ length words.old }
-    ensures results { EachOfTwo (field_of W.number K.width K.product K.generator) (O.gives operation.now) words.old others.now words.new }
-{
-    for place in 0..words.len() {
-        words[place] = operation.result_at(words[place], others[place]);
-    }
 }

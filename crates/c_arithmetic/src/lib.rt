@@ -3,23 +3,14 @@
 //! status. On every status but `OK` what it would have written is as before. None takes memory.
 #![tactic(auto)]
 
-mod bases;
 mod batch;
-mod bytes;
 mod erasure;
-mod fields;
 pub mod in_place;
-mod in_planes;
-mod in_slices;
-mod lanes;
 mod linear;
 mod many;
 mod messages;
 mod numbers;
 pub mod operations;
-mod products;
-mod scalars;
-mod scaled_bytes;
 mod shards;
 pub mod slices;
 pub mod status;
@@ -28,11 +19,10 @@ mod wide;
 mod wide_level;
 mod words;
 
-pub use crate::bases::{ChangeOfBasis, FromTower, ToTower};
 pub use crate::erasure::{erasure_encode, erasure_reconstruct, erasure_space, erasure_verify};
 pub use crate::linear::{map_bytes, map_wide};
 pub use crate::many::{
-    Many, add_scaled, batch_invert, dot_product, invert, invert_in_place, multiply, multiply_by,
+    add_scaled, batch_invert, dot_product, invert, invert_in_place, multiply, multiply_by,
     multiply_by_in_place, multiply_in_place,
 };
 pub use crate::messages::{
@@ -48,6 +38,7 @@ pub use crate::transforms::{
 };
 pub use crate::wide::Wide;
 pub use crate::words::Cubic;
+pub use many_words::{ChangeOfBasis, FromTower, ToTower};
 pub use tower_transforms::Holds;
 pub use word_cubic::Triple;
 pub use word_polynomial::{CubicKernel, GhashKernel, Poly64Kernel, RijndaelKernel};

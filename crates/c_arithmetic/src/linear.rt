@@ -1,6 +1,7 @@
 // Linear maps of bytes and of words of 128 bits.
 ghost use Rattle.c_arithmetic.specs.Linear.{MapsLinearly};
-ghost use Rattle.c_arithmetic.specs.Fields.{itself, wide_number};
+ghost use Rattle.c_arithmetic.specs.Fields.{wide_number};
+ghost use Rattle.many_words.specs.Fields.{itself};
 
 use crate::numbers::numbers_of;
 use crate::{Wide, status};

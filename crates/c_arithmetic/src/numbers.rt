@@ -1,5 +1,5 @@
 // The numbers of words of 128 bits.
-ghost use Rattle.std.specs.Prelude.{◌≡◌, ℕ, ◌<◌, ◌≤◌, length, get_or, map, take};
+ghost use Rattle.std.specs.Prelude.{◌≡◌, ◌≤◌, length, map, take};
 ghost use Rattle.c_arithmetic.specs.Fields.{wide_number};
 
 use crate::Wide;
@@ -25,14 +25,4 @@ pub(crate) fn four_numbers(words: &[Wide]) -> [u128; 4]
     ensures { result ≡ map wide_number words.now }
 {
     numbers_of::<4>(words)
-}
-
-/// Makes every word 0.
-pub(crate) fn clear(words: &mut [Wide])
-    ensures length { length words.new ≡ length words.old }
-    ensures zeros { (k : ℕ) → k < length words.new → (d : _) → wide_number (get_or words.new k d) ≡ 0 }
-{
-    for place in 0..words.len() {
-        words[place] = Wide::of_number(0);
-    }
 }

@@ -2,14 +2,15 @@
 // lengths are compared first, then it is seen that all words are elements, and nothing is written before.
 ghost use Rattle.std.specs.Prelude.{◌≡◌, ◌↔◌, ◌*◌, ◌≤◌, IsTrue};
 ghost use Rattle.field_base.specs.Powers.{power, value_of};
-ghost use Rattle.c_arithmetic.specs.Calls.{AreElements, CallOnEach, CallOnTwo, ChangesBasis, Evaluates};
+ghost use Rattle.c_arithmetic.specs.Calls.{CallOnEach, CallOnTwo, ChangesBasis, Evaluates};
 ghost use Rattle.c_arithmetic.specs.Calls.{NamesGenerator, TakesProduct};
-ghost use Rattle.c_arithmetic.specs.Fields.{field_of};
+ghost use Rattle.many_words.specs.Fields.{field_of};
+ghost use Rattle.many_words.specs.Words.{AreElements};
 
-use crate::bases::ChangeOfBasis;
-use crate::operations::{OnOne, OnTwo};
-use crate::{fields, status};
+use crate::status;
 use field_base::{FieldKernel, Stored};
+use many_words::operations::{OnOne, OnTwo};
+use many_words::{ChangeOfBasis, fields};
 use tower_transforms::Holds;
 
 /// Writes the result of the operation at the word at each place. Operations that look words up take two in a turn, for which the

@@ -2,11 +2,14 @@
 ghost use Rattle.std.specs.Prelude.{◌≡◌, ◌<◌, ◌≤◌, ◌*◌, ◌%◌, ◌^◌, refl};
 ghost use Rattle.std.proofs.Common.{lit<, lit≤};
 ghost use Rattle.c_arithmetic.specs.Fields.{wide_number};
+ghost use Rattle.many_words.specs.Room.{few_fit};
 
 use crate::Wide;
 use bit_slices::{SlicedWord, Slices128, TowerWord, Vector};
+use many_words::{SlicedWide, invert_images, invert_words, multiply_words};
 use tower_transforms::Holds;
-use word_tower::{Bits128, Level};
+use word_polynomial::GhashModulus;
+use word_tower::{Bits128, Level, Tower};
 
 impl TowerWord for Wide {
     ghost LEVEL = { 7 };
@@ -64,4 +67,22 @@ impl<V: Vector> SlicedWord<V> for Wide {
     type Block = Slices128<V>;
 
     ghost level_law = { refl };
+}
+
+impl SlicedWide for Wide {
+    fn numbers_are_values(words: &[Wide]) {}
+
+    fn multiply_in_slices<V: Vector>(products: &mut [Wide], words: &[Wide]) {
+        multiply_words::<u128, Wide, Tower<Bits128>, V>(products, words);
+    }
+
+    fn invert_in_slices<V: Vector>(words: &mut [Wide]) {
+        invert_words::<u128, Wide, Tower<Bits128>, V>(words);
+    }
+
+    fn invert_images_in_slices<V: Vector>(words: &mut [Wide]) {
+        invert_images::<u128, Wide, Bits128, GhashModulus, V>(words);
+    }
+
+    ghost room_law = { few_fit 1024 16 (lit< tt) };
 }

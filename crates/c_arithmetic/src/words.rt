@@ -3,11 +3,15 @@ ghost use Rattle.std.specs.Prelude.{◌≡◌, ◌<◌, ℕ};
 ghost use native.Mathlib.Nat.{mod-eq_of_lt};
 ghost use Rattle.c_arithmetic.specs.Fields.{cubic_number, wide_number};
 ghost use Rattle.c_arithmetic.specs.WideLemmas.{wide_number-lt};
+ghost use Rattle.many_words.specs.Room.{few_fit};
+ghost use Rattle.std.proofs.Common.{lit<};
 
 use crate::wide::Wide;
 use ghash_slices::WideWord;
+use many_words::Many;
 use tower_transforms::{GhashWord, Holds};
 use word_cubic::Triple;
+use word_polynomial::CubicKernel;
 
 impl Holds<u128> for Wide {
     ghost number = { wide_number };
@@ -56,4 +60,8 @@ impl Holds<Triple> for Cubic {
             c2: x.c2,
         }
     }
+}
+
+impl Many<Triple, Cubic> for CubicKernel {
+    ghost room_law = { few_fit 128 24 (lit< tt) };
 }

@@ -3,8 +3,8 @@ use Rattle.std.proofs.Common.{◌≡◌, ℕ, ◌+◌, ◌*◌, List, map, sym, 
 use Rattle.std.specs.Prelude.{slice_index}
 use Rattle.field_matrices.specs.Determinants.{determinant_of}
 use Rattle.field_matrices.specs.Matrices.{IsMatrixProduct, IsReducedEchelon, HaveSameRowSpace, entry_of}
-use Rattle.c_arithmetic.specs.Calls.{AreElements}
-use Rattle.c_arithmetic.specs.Fields.{WordField}
+use Rattle.many_words.specs.Words.{AreElements}
+use Rattle.many_words.specs.Fields.{WordField}
 use Rattle.c_matrices.specs.Matrices.{HasRank, IsReduced, entries}
 use Rattle.c_matrices.specs.Words.{low_number}
 use Rattle.c_matrices.proofs.LowNumbers.{low_elements}

@@ -5,8 +5,8 @@ use Rattle.field_base.specs.Basis.{sum_below}
 use Rattle.field_base.proofs.BasisSums.{sum_below-same}
 use Rattle.field_matrices.specs.Matrices.{AreInverseMatrices, IsSolution, entry_of, put_entry}
 use Rattle.field_matrices.proofs.MatrixRows.{put-before, put-inside}
-use Rattle.c_arithmetic.specs.Calls.{AreElements}
-use Rattle.c_arithmetic.specs.Fields.{WordField}
+use Rattle.many_words.specs.Words.{AreElements}
+use Rattle.many_words.specs.Fields.{WordField}
 use Rattle.c_matrices.specs.Matrices.{AreSolved, entries}
 use Rattle.c_matrices.specs.Words.{low_number}
 use Rattle.c_matrices.proofs.LowNumbers.{low_elements}

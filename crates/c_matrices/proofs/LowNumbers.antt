@@ -5,8 +5,8 @@ use Rattle.std.proofs.lemmas.Nat.{xor_mod}
 use native.Mathlib.Nat.{mod-eq_of_lt}
 use Rattle.field_base.specs.Ring.{IsRing}
 use Rattle.field_base.proofs.RingLemmas.{mod-times, times-mod}
-use Rattle.c_arithmetic.specs.Calls.{AreElements}
-use Rattle.c_arithmetic.specs.Fields.{WordField}
+use Rattle.many_words.specs.Words.{AreElements}
+use Rattle.many_words.specs.Fields.{WordField}
 use Rattle.c_matrices.specs.Words.{low_number}
 use Rattle.c_matrices.specs.WordLemmas.{low_number-lt}
 

@@ -5,8 +5,9 @@ use Rattle.std.proofs.lemmas.Bool.{cases_lt}
 use Rattle.std.proofs.lemmas.List.{get_or-map, length-map}
 use Rattle.field_base.specs.Ring.{IsRing}
 use Rattle.field_matrices.specs.Matrices.{AreScaledSums}
-use Rattle.c_arithmetic.specs.Calls.{AddsScaled, AreElements, EachOfTwo, IsElement}
-use Rattle.c_arithmetic.specs.Fields.{WordField}
+use Rattle.c_arithmetic.specs.Calls.{AddsScaled}
+use Rattle.many_words.specs.Words.{AreElements, EachOfTwo, IsElement}
+use Rattle.many_words.specs.Fields.{WordField}
 use Rattle.c_arithmetic.specs.declared.status.TheConstants.{OK}
 use Rattle.c_matrices.specs.Words.{low_number}
 use Rattle.c_matrices.proofs.LowNumbers.{low-scaled}

@@ -4,8 +4,9 @@ use Rattle.std.specs.Prelude.{◌≡◌, ◌≢◌, ℕ, ◌+◌, ◌*◌, ◌^�
 use Rattle.field_base.specs.Basis.{sum_below}
 use Rattle.field_matrices.specs.Determinants.{determinant_of}
 use Rattle.field_matrices.specs.Matrices.{AreInverseMatrices, HaveSameRowSpace, IsMatrixProduct, IsReducedEchelon, entry_of}
-use Rattle.c_arithmetic.specs.Calls.{AreElements, CallOf}
-use Rattle.c_arithmetic.specs.Fields.{WordField}
+use Rattle.c_arithmetic.specs.Calls.{CallOf}
+use Rattle.many_words.specs.Words.{AreElements}
+use Rattle.many_words.specs.Fields.{WordField}
 use Rattle.c_arithmetic.specs.declared.status.TheConstants.{OK, LENGTH, NOT_AN_ELEMENT}
 use Rattle.c_matrices.specs.declared.status.TheConstants.{UNSOLVABLE}
 

@@ -1,7 +1,7 @@
 // Words that are elements of a field.
 ghost use Rattle.std.specs.Prelude.{◌≡◌, ◌↔◌, ◌%◌, ◌^◌, ◌<◌, ℕ, IsTrue, get_or, length, map};
-ghost use Rattle.c_arithmetic.specs.Calls.{AreElements};
-ghost use Rattle.c_arithmetic.specs.Fields.{field_of};
+ghost use Rattle.many_words.specs.Words.{AreElements};
+ghost use Rattle.many_words.specs.Fields.{field_of};
 
 use field_base::{FieldKernel, Stored};
 use tower_transforms::Holds;

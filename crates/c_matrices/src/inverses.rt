@@ -1,6 +1,6 @@
 // Inverses of matrices of words.
 ghost use Rattle.std.specs.Prelude.{◌≡◌, length};
-ghost use Rattle.c_arithmetic.specs.Fields.{field_of};
+ghost use Rattle.many_words.specs.Fields.{field_of};
 ghost use Rattle.c_matrices.specs.Matrices.{InvertsMatrix};
 
 use crate::elements::{are_elements, truncate_all};

@@ -1,6 +1,6 @@
 // Reduced row echelon forms and ranks of matrices of words.
 ghost use Rattle.std.specs.Prelude.{◌≡◌, length};
-ghost use Rattle.c_arithmetic.specs.Fields.{field_of};
+ghost use Rattle.many_words.specs.Fields.{field_of};
 ghost use Rattle.c_matrices.specs.Matrices.{ReducesRows, TakesRank};
 
 use crate::elements::{are_elements, truncate_all};

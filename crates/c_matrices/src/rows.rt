@@ -1,11 +1,11 @@
 // How multiples of a row are added to another, by the call over slices that a field has for it.
 ghost use Rattle.std.specs.Prelude.{◌≡◌};
 ghost use Rattle.c_arithmetic.specs.Calls.{AddsScaled};
-ghost use Rattle.c_arithmetic.specs.Fields.{field_of};
+ghost use Rattle.many_words.specs.Fields.{field_of};
 
-use c_arithmetic::Many;
 use field_base::{FieldKernel, Stored};
 use ghash_slices::Width;
+use many_words::Many;
 use std::marker::PhantomData;
 use tower_transforms::Holds;
 
@@ -19,9 +19,9 @@ pub trait AddsRows<R: Stored, W: Holds<R>, K: FieldKernel<R>> {
 /// The field's own, in vectors of a width where it takes vectors.
 pub struct InVectors<V>(PhantomData<V>);
 
-impl<R: Stored, K: Many<R>, V: Width> AddsRows<R, K::Word, K> for InVectors<V> {
+impl<R: Stored, W: Holds<R>, K: Many<R, W>, V: Width> AddsRows<R, W, K> for InVectors<V> {
     #[inline]
-    fn add_scaled(sums: &mut [K::Word], scalar: K::Word, words: &[K::Word]) -> u32 {
-        c_arithmetic::add_scaled::<R, K, V>(sums, scalar, words)
+    fn add_scaled(sums: &mut [W], scalar: W, words: &[W]) -> u32 {
+        c_arithmetic::add_scaled::<R, W, K, V>(sums, scalar, words)
     }
 }

@@ -1,6 +1,6 @@
 // Linear equations over words.
 ghost use Rattle.std.specs.Prelude.{◌≡◌, ◌↔◌, IsTrue, length};
-ghost use Rattle.c_arithmetic.specs.Fields.{field_of};
+ghost use Rattle.many_words.specs.Fields.{field_of};
 ghost use Rattle.c_matrices.specs.Matrices.{HaveEquationLengths, SolvesEquations};
 
 use crate::elements::{are_elements, truncate_all};

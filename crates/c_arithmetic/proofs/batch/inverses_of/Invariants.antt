@@ -1,7 +1,7 @@
 use Rattle.std.proofs.Common.{◌≡◌, ℕ, ◌<◌, ◌≤◌, ◌^◌, length, get_or, take}
 use Rattle.field_base.specs.Field.{IsInverseOrZero}
 use Rattle.c_arithmetic.specs.Batch.{product_of_nonzero}
-use Rattle.c_arithmetic.specs.Fields.{field_of}
+use Rattle.many_words.specs.Fields.{field_of}
 use Rattle.c_arithmetic.proofs.batch.inverses_of.Given as goal
 
 abbrev pub invariant-loop-place : goal.invariant-loop-place

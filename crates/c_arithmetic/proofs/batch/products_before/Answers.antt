@@ -1,7 +1,7 @@
 use Rattle.std.proofs.Common.{◌<◌, ◌^◌, length, take, subst, sym, ◌∙◌, ap, arith}
 use Rattle.std.proofs.lemmas.Nat.{pow_below}
 use Rattle.c_arithmetic.specs.Batch.{product_of_nonzero, times_nonzero}
-use Rattle.c_arithmetic.specs.Fields.{field_of}
+use Rattle.many_words.specs.Fields.{field_of}
 use Rattle.c_arithmetic.proofs.BatchProducts.{product_of_nonzero-more, times_nonzero-lt, times_nonzero-nonzero, written-more}
 use Rattle.c_arithmetic.proofs.batch.products_before.Goals as goal
 

@@ -1,6 +1,6 @@
 use Rattle.std.proofs.Common.{◌≡◌, ◌≢◌, ℕ, ◌<◌, ◌^◌, get_or, take}
 use Rattle.c_arithmetic.specs.Batch.{product_of_nonzero}
-use Rattle.c_arithmetic.specs.Fields.{field_of}
+use Rattle.many_words.specs.Fields.{field_of}
 use Rattle.c_arithmetic.proofs.batch.products_before.Given as goal
 
 abbrev pub invariant-loop-place : goal.invariant-loop-place

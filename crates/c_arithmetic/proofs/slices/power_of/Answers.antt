@@ -1,7 +1,7 @@
 use Rattle.std.proofs.Common.{◌≡◌, ℕ, ◌<◌, ◌^◌, ◌%◌, sym, ◌∙◌, ap, subst, arith}
 use Rattle.std.proofs.lemmas.Nat.{pow_below}
 use Rattle.field_base.proofs.PowerLemmas.{power_start, power_step, power_skip, power_end}
-use Rattle.c_arithmetic.specs.Fields.{field_of}
+use Rattle.many_words.specs.Fields.{field_of}
 use Rattle.c_arithmetic.proofs.slices.power_of.Goals as goal
 use Rattle.c_arithmetic.proofs.slices.power_of.Goals.{then-rest-eq1, else-rest-eq1}
 

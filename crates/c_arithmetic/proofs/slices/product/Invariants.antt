@@ -1,6 +1,6 @@
 use Rattle.std.proofs.Common.{◌≡◌, take}
 use Rattle.field_base.specs.Powers.{product_of}
-use Rattle.c_arithmetic.specs.Fields.{field_of}
+use Rattle.many_words.specs.Fields.{field_of}
 use Rattle.c_arithmetic.proofs.slices.product.Given as goal
 
 abbrev pub invariant-loop-word : goal.invariant-loop-word

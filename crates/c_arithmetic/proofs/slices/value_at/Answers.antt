@@ -1,7 +1,7 @@
 use Rattle.std.proofs.Common.{ℕ, ◌^◌, ◌<◌, ◌-◌, sym, ◌∙◌, ap, subst, arith}
 use Rattle.std.specs.Prelude.{bit_xor}
 use Rattle.field_base.proofs.Horner.{horner_start, horner_step}
-use Rattle.c_arithmetic.specs.Fields.{field_of}
+use Rattle.many_words.specs.Fields.{field_of}
 use Rattle.c_arithmetic.proofs.slices.value_at.Goals as goal
 
 pub loop-place-init : goal.loop-place-init

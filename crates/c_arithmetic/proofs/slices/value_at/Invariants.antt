@@ -1,6 +1,6 @@
 use Rattle.std.proofs.Common.{◌≡◌, drop}
 use Rattle.field_base.specs.Powers.{value_of}
-use Rattle.c_arithmetic.specs.Fields.{field_of}
+use Rattle.many_words.specs.Fields.{field_of}
 use Rattle.c_arithmetic.proofs.slices.value_at.Given as goal
 
 abbrev pub invariant-loop-place : goal.invariant-loop-place

@@ -1,5 +1,5 @@
 use Rattle.std.proofs.Common.{◌∙◌}
-use Rattle.c_arithmetic.specs.Fields.{field_of}
+use Rattle.many_words.specs.Fields.{field_of}
 use Rattle.c_matrices.proofs.Calls.{determinant_is}
 use Rattle.c_matrices.proofs.Endings.{call_done}
 use Rattle.c_matrices.proofs.determinants.determinant.Goals as goal

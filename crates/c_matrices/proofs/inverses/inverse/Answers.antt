@@ -1,7 +1,7 @@
 use Rattle.std.proofs.Common.{ℕ, ◌+◌, ◌*◌, List, refl, sym, ◌∙◌, ap, arith}
 use Rattle.std.specs.Prelude.{slice_index}
 use Rattle.field_matrices.specs.Matrices.{entry_of}
-use Rattle.c_arithmetic.specs.Fields.{field_of}
+use Rattle.many_words.specs.Fields.{field_of}
 use Rattle.c_matrices.specs.Matrices.{entries}
 use Rattle.c_matrices.specs.Words.{low_number}
 use Rattle.c_matrices.proofs.Endings.{call_solved, call_unsolved}

@@ -1,4 +1,4 @@
-use Rattle.c_arithmetic.specs.Fields.{field_of}
+use Rattle.many_words.specs.Fields.{field_of}
 use Rattle.c_matrices.proofs.Calls.{product_is}
 use Rattle.c_matrices.proofs.Endings.{call_done}
 use Rattle.c_matrices.proofs.LowNumbers.{now_numbers}

@@ -1,6 +1,6 @@
 use Rattle.std.proofs.Common.{List, length, map, ◌∙◌, ap, subst}
 use Rattle.field_matrices.specs.Matrices.{AreScaledSums}
-use Rattle.c_arithmetic.specs.Fields.{field_of}
+use Rattle.many_words.specs.Fields.{field_of}
 use Rattle.c_matrices.proofs.RowSums.{added, low_numbers, low_sums}
 use Rattle.c_matrices.proofs.words.WordsScalars.add_scaled.Goals as goal
 

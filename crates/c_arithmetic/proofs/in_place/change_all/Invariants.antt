@@ -1,8 +1,0 @@
-use Rattle.std.proofs.Common.{get_or}
-use Rattle.c_arithmetic.proofs.PlacesPut.{ArePut}
-use Rattle.c_arithmetic.proofs.in_place.change_all.Given as goal
-
-abbrev pub invariant-loop-place : goal.invariant-loop-place
-invariant-loop-place g l =
-    let number = g.W.Holds.number in
-    ArePut l.fn.words l.words l.place (λ k d. g.O.OnOne.gives l.operation (number (get_or l.fn.words k d)) (number (get_or l.words k d)))

@@ -1,8 +1,0 @@
-use Rattle.field_base.specs.Tower.{tower_mul}
-use Rattle.c_arithmetic.proofs.SlicedWords.{inverses_of_field}
-use Rattle.c_arithmetic.proofs.in_slices.invert_words.Goals as goal
-
-pub returns-clause-inverses : goal.returns-clause-inverses
-returns-clause-inverses g c =
-    inverses_of_field g.W.TowerWord.LEVEL g.K.FieldKernel.width g.K.FieldKernel.generator g.K.FieldKernel.product (tower_mul g.W.TowerWord.LEVEL)
-    g.W.Holds.number g.W.TowerWord.number c.requires.level c.args.words.now c.invert_each.new.words c.invert_each.ensures.fit c.invert_each.ensures.inverses

@@ -1,8 +1,0 @@
-use Rattle.field_base.specs.Tower.{tower_mul}
-use Rattle.c_arithmetic.proofs.SlicedWords.{products_of_field}
-use Rattle.c_arithmetic.proofs.in_slices.multiply_words.Goals as goal
-
-pub returns-clause-products : goal.returns-clause-products
-returns-clause-products g c =
-    products_of_field g.W.TowerWord.LEVEL g.K.FieldKernel.width g.K.FieldKernel.generator g.K.FieldKernel.product (tower_mul g.W.TowerWord.LEVEL)
-    g.W.Holds.number g.W.TowerWord.number c.requires.level c.args.products.now c.args.words.now c.multiply_each.new.words c.multiply_each.ensures.products

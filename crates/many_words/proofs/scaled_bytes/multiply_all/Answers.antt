@@ -1,0 +1,13 @@
+use Rattle.std.proofs.Common.{◌∙◌, ap, length}
+use Rattle.std.proofs.lemmas.List.{length-map}
+use Rattle.field_base.specs.LinearMaps.{linear_image}
+use Rattle.many_words.proofs.ScaledBytes.{all_mapped}
+use Rattle.many_words.proofs.scaled_bytes.multiply_all.Goals as goal
+
+pub returns-clause-long : goal.returns-clause-long
+returns-clause-long g c = ap length c.map_bytes.ensures ∙ length-map c.args.bytes.now (linear_image c.images_of.result)
+
+pub returns-clause-products : goal.returns-clause-products
+returns-clause-products g c =
+    all_mapped g.K.FieldKernel.width (linear_image c.images_of.result) g.K.FieldKernel.product c.args.scalar c.args.bytes.now
+    c.map_bytes.new.bytes g.met.K.FieldKernel.room_law c.map_bytes.ensures c.requires c.images_of.ensures

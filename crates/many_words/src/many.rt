@@ -1,0 +1,194 @@
+// What computes many words of a field at once. Each call has a body over any field, which takes one word after another; a field that has a
+// better one for many words names it, and the least number of words that it is better for. Vectors `V` are those in which a field computes
+// many words, where it does.
+ghost use prog.Memory.{size};
+ghost use denote.Param.{layout};
+ghost use Rattle.std.specs.Prelude.{◌≡◌, ◌<◌, ◌≤◌, ◌*◌, ◌^◌, ℕ, bit_xor, length};
+ghost use Rattle.field_base.specs.Powers.{dot_of};
+ghost use Rattle.many_words.specs.Fields.{field_of};
+ghost use Rattle.many_words.specs.Words.{AreElements, Each, EachOfTwo, HoldInverses};
+
+mod kernels;
+mod levels;
+
+use crate::fields;
+use crate::one_by_one::{change_all, change_all_by};
+use crate::operations::{Inverse, Product, Scaled, ScaledSum};
+use bit_slices::Vector;
+use field_base::{FieldKernel, Stored};
+use ghash_slices::Width;
+use std::simd::prelude::*;
+use tower_transforms::Holds;
+
+/// A field, and what it computes on many of its words `W` at once. A call at a field names these methods, and not the planes or slices of bits
+/// behind them: naming those takes seconds in each function, and more with each level of the tower.
+pub trait Many<R: Stored, W: Holds<R>>: FieldKernel<R> + Sized {
+    /// The least number of words that are multiplied by `multiply_all`. Fewer are multiplied one after another, and neither copied first
+    /// nor put in a block; so are all where there is no better body.
+    #[inline(always)]
+    fn least_multiplied<V: Vector>() -> usize {
+        usize::MAX
+    }
+
+    /// The least number of words that are multiplied by one scalar at once.
+    const LEAST_SCALED: usize = usize::MAX;
+
+    /// The least number of words that are inverted at once.
+    const LEAST_INVERTED: usize = usize::MAX;
+
+    /// The least number of words whose inverses take less than as a batch: by the inverse of one product, and three products each.
+    const LEAST_IN_BATCH: usize = 0;
+
+    /// How many words a block of products in vectors `V` has: the words behind whole blocks are multiplied in narrow vectors.
+    #[inline(always)]
+    fn block<V: Vector>() -> usize
+        ensures { 0 < result }
+    {
+        V::lanes()
+    }
+
+    /// Multiplies each product by the word at its place. The slices are of one length.
+    #[inline]
+    fn multiply_all<V: Width + Vector>(products: &mut [W], words: &[W])
+        requires same { length words.now ≡ length products.old }
+        ensures long { length products.new ≡ length products.old }
+        ensures products { EachOfTwo (field_of W.number Self.width Self.product Self.generator)
+            (λ x y z. z ≡ Self.product x y) products.old words.now products.new }
+    {
+        change_all_by::<R, W, Self, Product>(products, words, &Product);
+    }
+
+    /// Multiplies each word by the scalar. All are elements.
+    #[inline]
+    fn multiply_all_by<V: Width>(words: &mut [W], scalar: W)
+        requires scalar { W.number scalar < 2 ^ Self.width }
+        requires elements { AreElements (field_of W.number Self.width Self.product Self.generator) words.old }
+        ensures long { length words.new ≡ length words.old }
+        ensures products { Each (field_of W.number Self.width Self.product Self.generator)
+            (λ x y. y ≡ Self.product x (W.number scalar)) words.old words.new }
+    {
+        change_all::<R, W, Self, Scaled<W>>(words, &Scaled { scalar });
+    }
+
+    /// Writes the product of each word and the scalar. All are elements, and the slices are of one length.
+    #[inline]
+    fn write_multiples<V: Width>(words: &[W], scalar: W, products: &mut [W])
+        requires same { length words.now ≡ length products.old }
+        requires scalar { W.number scalar < 2 ^ Self.width }
+        requires elements { AreElements (field_of W.number Self.width Self.product Self.generator) words.now }
+        ensures { Each (field_of W.number Self.width Self.product Self.generator)
+            (λ x y. y ≡ Self.product x (W.number scalar)) words.now products.new }
+    {
+        products.copy_from_slice(words);
+        Self::multiply_all_by::<V>(products, scalar);
+    }
+
+    /// Adds to each sum the product of the scalar and the word at its place. All are elements, and the slices are of one length.
+    #[inline]
+    fn add_multiples<V: Width>(sums: &mut [W], words: &[W], scalar: W)
+        requires same { length words.now ≡ length sums.old }
+        requires scalar { W.number scalar < 2 ^ Self.width }
+        requires elements { AreElements (field_of W.number Self.width Self.product Self.generator) sums.old }
+        ensures { EachOfTwo (field_of W.number Self.width Self.product Self.generator)
+            (λ sum x next. next ≡ bit_xor sum (Self.product (W.number scalar) x)) sums.old words.now sums.new }
+    {
+        change_all_by::<R, W, Self, ScaledSum<W>>(sums, words, &ScaledSum { scalar });
+    }
+
+    /// Leaves the inverse of each word, an element, and 0 of 0.
+    #[inline]
+    fn invert_all<V: Vector>(words: &mut [W])
+        requires { AreElements (field_of W.number Self.width Self.product Self.generator) words.old }
+        ensures long { length words.new ≡ length words.old }
+        ensures inverses { HoldInverses (field_of W.number Self.width Self.product Self.generator) words.old words.new }
+    {
+        change_all::<R, W, Self, Inverse>(words, &Inverse);
+    }
+
+    /// The sum of the products at each place, which is 0 of none. The slices are of one length.
+    #[inline]
+    fn dot_product<V: Width>(left: &[W], right: &[W]) -> W
+        requires { length left.now ≡ length right.now }
+        ensures { W.number result ≡ dot_of Self.product W.number left.now right.now }
+    {
+        fields::dot_product::<R, W, Self>(left, right)
+    }
+
+    // An array of up to 128 words can be a value.
+    ghost room_law: { (n : ℕ) → n ≤ 128 → n * size (layout W.row) < 2 ^ 63 };
+}
+
+/// Multiplies each product by the word at its place. The slices are of one length. Whole blocks are multiplied in vectors `V`, and the words
+/// behind them in narrow ones, whose blocks are shorter.
+#[inline]
+pub fn multiply<R: Stored, W: Holds<R>, K: Many<R, W>, V: Width + Vector>(
+    products: &mut [W],
+    words: &[W],
+)
+    requires same { length words.now ≡ length products.old }
+    ensures long { length products.new ≡ length products.old }
+    ensures products { EachOfTwo (field_of W.number K.width K.product K.generator) (λ x y z. z ≡ K.product x y) products.old words.now
+        products.new }
+{
+    if products.len() < K::least_multiplied::<V>() {
+        change_all_by::<R, W, K, Product>(products, words, &Product);
+        return;
+    }
+    let whole = words.len() - words.len() % K::block::<V>();
+    let (first, last) = words.split_at(whole);
+    let (blocks, rest) = products.split_at_mut(whole);
+    K::multiply_all::<V>(blocks, first);
+    K::multiply_all::<u64x2>(rest, last);
+}
+
+/// Multiplies each word by the scalar. All are elements.
+#[inline]
+pub fn multiply_by<R: Stored, W: Holds<R>, K: Many<R, W>, V: Width>(words: &mut [W], scalar: W)
+    requires scalar { W.number scalar < 2 ^ K.width }
+    requires elements { AreElements (field_of W.number K.width K.product K.generator) words.old }
+    ensures long { length words.new ≡ length words.old }
+    ensures products { Each (field_of W.number K.width K.product K.generator) (λ x y. y ≡ K.product x (W.number scalar)) words.old words.new }
+{
+    if words.len() < K::LEAST_SCALED {
+        change_all::<R, W, K, Scaled<W>>(words, &Scaled { scalar });
+    } else {
+        K::multiply_all_by::<V>(words, scalar);
+    }
+}
+
+/// Adds to each sum the product of the scalar and the word at its place. All are elements, and the slices are of one length.
+#[inline]
+pub fn add_scaled<R: Stored, W: Holds<R>, K: Many<R, W>, V: Width>(
+    sums: &mut [W],
+    scalar: W,
+    words: &[W],
+)
+    requires same { length words.now ≡ length sums.old }
+    requires scalar { W.number scalar < 2 ^ K.width }
+    requires elements { AreElements (field_of W.number K.width K.product K.generator) sums.old }
+    ensures { EachOfTwo (field_of W.number K.width K.product K.generator)
+        (λ sum x next. next ≡ bit_xor sum (K.product (W.number scalar) x)) sums.old words.now sums.new }
+{
+    if sums.len() < K::LEAST_SCALED {
+        change_all_by::<R, W, K, ScaledSum<W>>(sums, words, &ScaledSum { scalar });
+    } else {
+        K::add_multiples::<V>(sums, words, scalar);
+    }
+}
+
+/// Leaves the inverse of each word, an element, and 0 of 0: whole blocks in vectors `V`, and the words behind them in narrow ones.
+#[inline]
+pub fn invert<R: Stored, W: Holds<R>, K: Many<R, W>, V: Vector>(words: &mut [W])
+    requires { AreElements (field_of W.number K.width K.product K.generator) words.old }
+    ensures long { length words.new ≡ length words.old }
+    ensures inverses { HoldInverses (field_of W.number K.width K.product K.generator) words.old words.new }
+{
+    if words.len() < K::LEAST_INVERTED {
+        change_all::<R, W, K, Inverse>(words, &Inverse);
+        return;
+    }
+    let whole = words.len() - words.len() % V::lanes();
+    let (blocks, rest) = words.split_at_mut(whole);
+    K::invert_all::<V>(blocks);
+    K::invert_all::<u64x2>(rest);
+}

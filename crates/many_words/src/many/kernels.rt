@@ -1,0 +1,134 @@
+// The fields that are no levels of 8 to 128 bits: those of 1 to 4 bits and the cubic extension one word after another, bytes of AES in
+// vectors of bytes, polynomials of 64 and 128 bits in slices of bits and in lanes.
+ghost use prog.Memory.{size};
+ghost use denote.Param.{layout};
+ghost use Rattle.std.proofs.Common.{lit<};
+ghost use Rattle.many_words.specs.Room.{few_fit, fewer_fit};
+
+use super::Many;
+use crate::bytes::LEAST_IN_VECTORS;
+use crate::in_slices::{LEAST_IN_SLICES, invert_images, multiply_polynomials};
+use crate::scaled_bytes::LEAST_MAPPED;
+use crate::{SlicedWide, bytes, products, scalars, scaled_bytes};
+use bit_slices::Vector;
+use ghash_slices::Width;
+use word_cubic::Triple;
+use word_polynomial::{CubicKernel, GhashKernel, Poly64Kernel, Poly64Modulus, RijndaelKernel};
+use word_tower::{Bits1, Bits2, Bits4, Bits64, Tower};
+
+impl Many<u8, u8> for Tower<Bits1> {
+    ghost room_law = { few_fit 128 1 (lit< tt) };
+}
+
+impl Many<u8, u8> for Tower<Bits2> {
+    ghost room_law = { few_fit 128 1 (lit< tt) };
+}
+
+impl Many<u8, u8> for Tower<Bits4> {
+    ghost room_law = { few_fit 128 1 (lit< tt) };
+}
+
+impl Many<u8, u8> for RijndaelKernel {
+    const LEAST_SCALED: usize = LEAST_MAPPED;
+
+    #[inline(always)]
+    fn least_multiplied<V: Vector>() -> usize {
+        LEAST_IN_VECTORS
+    }
+
+    // They go in vectors of 256 bits, whatever `V` is.
+    #[inline(always)]
+    fn block<V: Vector>() -> usize {
+        1
+    }
+
+    fn multiply_all<V: Width + Vector>(products: &mut [u8], words: &[u8]) {
+        bytes::multiply_all(products, words);
+    }
+
+    fn multiply_all_by<V: Width>(words: &mut [u8], scalar: u8) {
+        scaled_bytes::multiply_all::<RijndaelKernel>(words, scalar);
+    }
+
+    ghost room_law = { few_fit 128 1 (lit< tt) };
+}
+
+impl Many<u64, u64> for Poly64Kernel {
+    const LEAST_INVERTED: usize = LEAST_IN_SLICES;
+
+    const LEAST_IN_BATCH: usize = LEAST_IN_SLICES;
+
+    // In vectors of 128 bits a product of words is faster than one in slices.
+    #[inline(always)]
+    fn least_multiplied<V: Vector>() -> usize {
+        if V::lanes() < 256 {
+            usize::MAX
+        } else {
+            LEAST_IN_SLICES
+        }
+    }
+
+    fn multiply_all<V: Width + Vector>(products: &mut [u64], words: &[u64]) {
+        multiply_polynomials::<u64, u64, Poly64Kernel, V>(products, words);
+    }
+
+    fn invert_all<V: Vector>(words: &mut [u64]) {
+        invert_images::<u64, u64, Bits64, Poly64Modulus, V>(words);
+    }
+
+    ghost room_law = { few_fit 128 8 (lit< tt) };
+}
+
+impl<W: SlicedWide> Many<u128, W> for GhashKernel {
+    const LEAST_SCALED: usize = 0;
+
+    const LEAST_INVERTED: usize = LEAST_IN_SLICES;
+
+    const LEAST_IN_BATCH: usize = 40;
+
+    #[inline(always)]
+    fn least_multiplied<V: Vector>() -> usize {
+        0
+    }
+
+    // Products go by lanes, which have no blocks.
+    #[inline(always)]
+    fn block<V: Vector>() -> usize {
+        1
+    }
+
+    #[inline]
+    fn multiply_all<V: Width + Vector>(products: &mut [W], words: &[W]) {
+        products::multiply_all::<V, W>(products, words);
+    }
+
+    #[inline]
+    fn multiply_all_by<V: Width>(words: &mut [W], scalar: W) {
+        scalars::multiply_all::<V, W>(words, scalar);
+    }
+
+    #[inline]
+    fn write_multiples<V: Width>(words: &[W], scalar: W, products: &mut [W]) {
+        scalars::write_multiples::<V, W>(words, scalar, products);
+    }
+
+    #[inline]
+    fn add_multiples<V: Width>(sums: &mut [W], words: &[W], scalar: W) {
+        scalars::add_all::<V, W>(sums, words, scalar);
+    }
+
+    fn invert_all<V: Vector>(words: &mut [W]) {
+        W::invert_images_in_slices::<V>(words);
+    }
+
+    #[inline]
+    fn dot_product<V: Width>(left: &[W], right: &[W]) -> W {
+        products::dot_product::<V, W>(left, right)
+    }
+
+    ghost room_law = { fewer_fit (size (layout W.row)) W.room_law };
+}
+
+impl Many<Triple, Triple> for CubicKernel {
+    ghost room_law = { few_fit 128 24 (lit< tt) };
+}

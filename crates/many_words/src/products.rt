@@ -1,0 +1,32 @@
+// Products of words of 128 bits in the field of GHASH, in vectors of a width.
+ghost use Rattle.std.specs.Prelude.{◌≡◌, length};
+ghost use Rattle.field_base.specs.Powers.{dot_of};
+ghost use Rattle.ghash_slices.specs.LowStages.{ghash_product};
+ghost use Rattle.many_words.specs.Fields.{ghash_field_of};
+ghost use Rattle.many_words.specs.Words.{EachOfTwo};
+
+use crate::SlicedWide;
+use crate::lanes::{dot_of_words, multiply_each};
+use ghash_slices::Width;
+
+/// Multiplies each product by the word at its place, four at once. The slices are of one length.
+pub(crate) fn multiply_all<V: Width, W: SlicedWide>(products: &mut [W], words: &[W])
+    requires { length words.now ≡ length products.old }
+    ensures long { length products.new ≡ length products.old }
+    ensures products { EachOfTwo (ghash_field_of W.Holds.number) (λ x y z. z ≡ ghash_product x y) products.old words.now products.new }
+{
+    W::numbers_are_values(products);
+    W::numbers_are_values(words);
+    multiply_each::<V, W>(products, words);
+    W::numbers_are_values(products);
+}
+
+/// The sum of the products at each place, which is 0 of none: by four products at once. The slices are of one length.
+pub(crate) fn dot_product<V: Width, W: SlicedWide>(left: &[W], right: &[W]) -> W
+    requires { length left.now ≡ length right.now }
+    ensures { W.Holds.number result ≡ dot_of ghash_product W.Holds.number left.now right.now }
+{
+    W::numbers_are_values(left);
+    W::numbers_are_values(right);
+    W::of_stored(dot_of_words::<V, W>(left, right))
+}
