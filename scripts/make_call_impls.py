@@ -71,10 +71,12 @@ ghost use Rattle.many_words.specs.Room.{few_fit, fewer_fit};
 
 use super::Many;
 use crate::SlicedWide;
+use crate::dots::{MultipliesBlocks, dot_product};
 use crate::in_planes::{LEAST_IN_PLANES, add_all, multiply_all};
 use crate::in_slices::{LEAST_IN_SLICES, invert_words, multiply_words};
 use bit_slices::Vector;
 use ghash_slices::Width;
+use std::simd::prelude::*;
 use word_tower::{Bits8, Bits16, Bits32, Bits64, Bits128, Tower};
 """
 
@@ -110,18 +112,36 @@ SLICED = Template("""
     fn invert_all<V: Vector>(words: &mut [$word]) {
         $invert(words);
     }
+
+    fn dot_product<V: Width>(left: &[$word], right: &[$word]) -> $word {
+        dot_product::<u$bits, $word, Tower<Bits$bits>>(left, right)
+    }
+""")
+
+BLOCKS = Template("""\
+impl$words MultipliesBlocks<u$bits, $word> for Tower<Bits$bits> {
+    fn multiply_block(products: &mut [$word], words: &[$word]) {
+        $multiply(products, words);
+    }
+
+    ghost room_law = { $room };
+}
 """)
 
 
 def many():
     yield MANY_HEAD
     for bits in LEVELS:
-        multiply, invert = (f"{it}_words::<u{bits}, u{bits}, Tower<Bits{bits}>, V>" for it in ("multiply", "invert"))
+        named = {"bits": bits, "word": word(bits), "words": "", "room": f"few_fit 128 {bits // 8} (lit< tt)"}
+        multiply, invert = (f"{it}_words::<u{bits}, u{bits}, Tower<Bits{bits}>, %s>" for it in ("multiply", "invert"))
         if bits == WIDE:
-            multiply, invert = "W::multiply_in_slices::<V>", "W::invert_in_slices::<V>"
-        sliced = SLICED.substitute(word=word(bits), multiply=multiply, invert=invert) if bits > 8 else ""
-        room = "fewer_fit (size (layout W.row)) W.room_law" if bits == WIDE else f"few_fit 128 {bits // 8} (lit< tt)"
-        yield MANY.substitute(bits=bits, word=word(bits), words="<W: SlicedWide>" if bits == WIDE else "", sliced=sliced, room=room)
+            named |= {"words": "<W: SlicedWide>", "room": "fewer_fit (size (layout W.row)) W.room_law"}
+            multiply, invert = "W::multiply_in_slices::<%s>", "W::invert_in_slices::<%s>"
+        is_sliced = bits > 8
+        sliced = SLICED.substitute(named, multiply=multiply % "V", invert=invert % "V") if is_sliced else ""
+        yield MANY.substitute(named, sliced=sliced)
+        if is_sliced:
+            yield BLOCKS.substitute(named, multiply=multiply % "u64x2")
 
 
 if __name__ == "__main__":

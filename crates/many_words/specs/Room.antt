@@ -1,6 +1,6 @@
 -- Arrays that can be values: those of fewer than 2 ^ 63 bytes.
-use Rattle.std.proofs.Common.{ℕ, ◌*◌, ◌^◌, ◌<◌, ◌≤◌, arith, lit≤}
-use native.Mathlib.Nat.{mul-le-mul_right}
+use Rattle.std.proofs.Common.{ℕ, ◌*◌, ◌^◌, ◌<◌, ◌≤◌, arith}
+use Rattle.std.proofs.Math.Nat.{mul-le-mul_right}
 
 -- where m words of so many bytes can be one, so can fewer
 pub few_fit : (m bytes : ℕ) → m * bytes < 2 ^ 63 → (n : ℕ) → n ≤ m → n * bytes < 2 ^ 63

@@ -1,10 +1,12 @@
-//! What computes many words of a field at once: products, multiples by one scalar, inverses and dot products of slices. `Many` names for each
-//! field its best body and from how many words on it pays; `multiply`, `multiply_by`, `add_scaled` and `invert` go by it. The words are the
-//! field's own stored words, or those in which other languages hold them. None takes memory, and none looks whether words are elements.
+//! What computes many words of a field at once: products, multiples by one scalar, inverses and dot products of slices. `Many` names for
+//! each field its best body and from how many words on it pays; `multiply`, `multiply_by`, `add_scaled` and `invert` go by it. The words
+//! are the field's own stored words, or those in which other languages hold them. None takes memory, and none looks whether words are
+//! elements.
 #![tactic(auto)]
 
 mod bases;
 mod bytes;
+mod dots;
 pub mod fields;
 mod in_planes;
 mod in_slices;

@@ -20,8 +20,8 @@ use ghash_slices::Width;
 use std::simd::prelude::*;
 use tower_transforms::Holds;
 
-/// A field, and what it computes on many of its words `W` at once. A call at a field names these methods, and not the planes or slices of bits
-/// behind them: naming those takes seconds in each function, and more with each level of the tower.
+/// A field, and what it computes on many of its words `W` at once: its stored words, or those in which others hold them. A call at a field names
+/// these methods, and not the planes or slices of bits behind them: naming those takes seconds in each function, and more with each level.
 pub trait Many<R: Stored, W: Holds<R>>: FieldKernel<R> + Sized {
     /// The least number of words that are multiplied by `multiply_all`. Fewer are multiplied one after another, and neither copied first
     /// nor put in a block; so are all where there is no better body.
@@ -118,8 +118,8 @@ pub trait Many<R: Stored, W: Holds<R>>: FieldKernel<R> + Sized {
     ghost room_law: { (n : ℕ) → n ≤ 128 → n * size (layout W.row) < 2 ^ 63 };
 }
 
-/// Multiplies each product by the word at its place. The slices are of one length. Whole blocks are multiplied in vectors `V`, and the words
-/// behind them in narrow ones, whose blocks are shorter.
+/// Multiplies each product by the word at its place. The slices are of one length. Whole blocks are multiplied in vectors `V`, and the
+/// words behind them in narrow ones, whose blocks are shorter.
 #[inline]
 pub fn multiply<R: Stored, W: Holds<R>, K: Many<R, W>, V: Width + Vector>(
     products: &mut [W],
@@ -147,7 +147,8 @@ pub fn multiply_by<R: Stored, W: Holds<R>, K: Many<R, W>, V: Width>(words: &mut 
     requires scalar { W.number scalar < 2 ^ K.width }
     requires elements { AreElements (field_of W.number K.width K.product K.generator) words.old }
     ensures long { length words.new ≡ length words.old }
-    ensures products { Each (field_of W.number K.width K.product K.generator) (λ x y. y ≡ K.product x (W.number scalar)) words.old words.new }
+    ensures products { Each (field_of W.number K.width K.product K.generator) (λ x y. y ≡ K.product x (W.number scalar)) words.old
+        words.new }
 {
     if words.len() < K::LEAST_SCALED {
         change_all::<R, W, K, Scaled<W>>(words, &Scaled { scalar });

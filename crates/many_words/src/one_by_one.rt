@@ -1,5 +1,5 @@
-// The results of an operation at each word of a slice in place, one word after another: what fields do that have no better body, and what is
-// done with few words.
+// The results of an operation at each word of a slice in place, one word after another: what fields do that have no better body, and
+// what is done with few words.
 ghost use Rattle.std.specs.Prelude.{◌≡◌, length};
 ghost use Rattle.many_words.specs.Fields.{field_of};
 ghost use Rattle.many_words.specs.Words.{AreElements, Each, EachOfTwo};

@@ -84,7 +84,8 @@ fn multiply_block<V: Width, W: SlicedWide>(words: &mut [W], copies: &mut [W], sc
 /// Adds to each sum the product of the scalar and the word at its place. The slices are of one length.
 pub(crate) fn add_all<V: Width, W: SlicedWide>(sums: &mut [W], words: &[W], scalar: W)
     requires { length words.now ≡ length sums.old }
-    ensures { EachOfTwo (ghash_field_of W.Holds.number) (λ sum x next. next ≡ bit_xor sum (ghash_product (W.Holds.number scalar) x)) sums.old words.now sums.new }
+    ensures { EachOfTwo (ghash_field_of W.Holds.number) (λ sum x next. next ≡ bit_xor sum (ghash_product (W.Holds.number scalar) x)) sums.old
+        words.now sums.new }
 {
     W::numbers_are_values(sums);
     W::numbers_are_values(words);

@@ -9,3 +9,4 @@ mod printed;
 mod products;
 mod sbox;
 mod slices;
+mod stored_words;

@@ -4,7 +4,6 @@ use Rattle.std.proofs.lemmas.List.{length-map}
 use Rattle.field_base.specs.Remainder.{ghash_modulus, rem}
 use Rattle.word_carryless.proofs.DotProducts.{none_added}
 use Rattle.ghash_slices.specs.Fours.{with_four_products}
-use Rattle.ghash_slices.specs.LowStages.{ghash_product}
 use Rattle.ghash_slices.proofs.FourProducts.{dot_from, four_added}
 use Rattle.many_words.proofs.lanes.dot_of_words.Goals as goal
 
