@@ -360,7 +360,7 @@ $head
     ghost from_gives = { λ x r. repr_of r ≡ repr_of x };
 
     fn from(element: Element<S, Tower<L>>) -> BinaryField$bits {
-        BinaryField$bits::from_repr(u$bits::of_u128(element.to_repr().to_u128()))
+        BinaryField$bits::of_word(u$bits::of_u128(element.word().to_u128()))
     }
 }
 """)
@@ -374,7 +374,7 @@ impl From<$name> for $level {
     ghost from_gives = { λ x r. basis_image $bits ${basis}_modulus ${basis}_images (repr_of r) ≡ repr_of x };
 
     fn from(element: $name) -> $level {
-        $level::from_repr(to_tower_$bits(element.to_repr()))
+        $level::of_word(to_tower_$bits(element.word()))
     }
 }
 """)
@@ -442,11 +442,12 @@ use crate::names::{BinaryField16, BinaryField32, BinaryField64, BinaryField128};
 use crate::subfields::Below;
 use field_base::Unsigned;
 use field_base::traits::Algebra;
+use many_words::Many;
 use word_tower::{Bits16, Bits32, Bits64, Bits128, Tower};
 """
     for bits, level in UPPER.items():
         lower = f"impl<S: Unsigned, J: Below<u{bits}, Tower<Bits{bits}>, S>>"
-        head = impl(f"{lower} Algebra<Element<S, Tower<J>>>", f"BinaryField{bits}")
+        head = over_level(impl(f"{lower} Algebra<Element<S, Tower<J>>>", f"BinaryField{bits}"))
         yield ALGEBRA.substitute(level=level, head=head)
 
 
@@ -539,6 +540,7 @@ use field_element::{
     BinaryField2, BinaryField8, BinaryField16, BinaryField32, BinaryField64, BinaryField128,
     Element,
 };
+use many_words::Many;
 use word_tower::{Bits2, Bits8, Bits16, Bits32, Bits64, Bits128, Tower};
 """
     pairs = [
@@ -551,13 +553,18 @@ use word_tower::{Bits2, Bits8, Bits16, Bits32, Bits64, Bits128, Tower};
         head = space_head(bits, f"SpaceOver<u{bits}, S, Tower<J>>", f"Tower<Bits{bits}>")
         yield SPACE_OVER.substitute(bits=bits, level=level, head=head)
     for bits in UPPER:
-        head = space_head(bits, "ExtensionField<Element<S, Tower<J>>>", f"BinaryField{bits}")
+        head = over_level(space_head(bits, "ExtensionField<Element<S, Tower<J>>>", f"BinaryField{bits}"))
         yield EXTENSION_FIELD.substitute(bits=bits, head=head)
     for bits in UPPER:
-        head = space_head(bits, "AlgebraIdentity<Element<S, Tower<J>>>", f"BinaryField{bits}")
+        head = over_level(space_head(bits, "AlgebraIdentity<Element<S, Tower<J>>>", f"BinaryField{bits}"))
         yield IDENTITY.substitute(head=head)
     for pair in pairs:
         yield BASIS_COEFFICIENTS.substitute(pair)
+
+
+def over_level(head):
+    """The head of an impl over a level `J`, with what makes its elements a field."""
+    return head.removesuffix(" {") + "\nwhere\n    Tower<J>: Many<S, S>,\n{"
 
 
 def space_head(bits, trait, target):

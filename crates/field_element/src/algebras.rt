@@ -10,9 +10,13 @@ use crate::names::{BinaryField16, BinaryField32, BinaryField64, BinaryField128};
 use crate::subfields::Below;
 use field_base::Unsigned;
 use field_base::traits::Algebra;
+use many_words::Many;
 use word_tower::{Bits16, Bits32, Bits64, Bits128, Tower};
 
-impl<S: Unsigned, J: Below<u16, Tower<Bits16>, S>> Algebra<Element<S, Tower<J>>> for BinaryField16 {
+impl<S: Unsigned, J: Below<u16, Tower<Bits16>, S>> Algebra<Element<S, Tower<J>>> for BinaryField16
+where
+    Tower<J>: Many<S, S>,
+{
     ghost image = { λ a. a };
 
     ghost image_unit_law = { refl };
@@ -28,7 +32,10 @@ impl<S: Unsigned, J: Below<u16, Tower<Bits16>, S>> Algebra<Element<S, Tower<J>>>
     ghost operators_law = { λ x y. (given, given, given, given, given, given) };
 }
 
-impl<S: Unsigned, J: Below<u32, Tower<Bits32>, S>> Algebra<Element<S, Tower<J>>> for BinaryField32 {
+impl<S: Unsigned, J: Below<u32, Tower<Bits32>, S>> Algebra<Element<S, Tower<J>>> for BinaryField32
+where
+    Tower<J>: Many<S, S>,
+{
     ghost image = { λ a. a };
 
     ghost image_unit_law = { refl };
@@ -44,7 +51,10 @@ impl<S: Unsigned, J: Below<u32, Tower<Bits32>, S>> Algebra<Element<S, Tower<J>>>
     ghost operators_law = { λ x y. (given, given, given, given, given, given) };
 }
 
-impl<S: Unsigned, J: Below<u64, Tower<Bits64>, S>> Algebra<Element<S, Tower<J>>> for BinaryField64 {
+impl<S: Unsigned, J: Below<u64, Tower<Bits64>, S>> Algebra<Element<S, Tower<J>>> for BinaryField64
+where
+    Tower<J>: Many<S, S>,
+{
     ghost image = { λ a. a };
 
     ghost image_unit_law = { refl };
@@ -61,7 +71,10 @@ impl<S: Unsigned, J: Below<u64, Tower<Bits64>, S>> Algebra<Element<S, Tower<J>>>
 }
 
 impl<S: Unsigned, J: Below<u128, Tower<Bits128>, S>> Algebra<Element<S, Tower<J>>>
-    for BinaryField128 {
+    for BinaryField128
+where
+    Tower<J>: Many<S, S>,
+{
     ghost image = { λ a. a };
 
     ghost image_unit_law = { refl };

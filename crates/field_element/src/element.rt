@@ -6,7 +6,6 @@ mod coefficients;
 mod cubic_traits;
 mod cubic_word;
 mod hexadecimal;
-mod in_slices;
 mod lanes;
 mod operators;
 mod ring;
@@ -14,8 +13,8 @@ mod stored;
 mod texts;
 
 pub use crate::element::coefficients::Coefficients;
-pub(crate) use crate::element::in_slices::{dot_of_elements, multiply_elements};
 pub use crate::element::lanes::HasPacking;
+use crate::element::lanes::{dot_of_elements, multiply_elements};
 pub use crate::element::stored::{element_of_word, word_of};
 use field_base::{FieldKernel, Gf2, Stored};
 use std::alloc::AllocError;

@@ -1,9 +1,8 @@
 // The fields by their names.
-use crate::element::{Coefficients, Element, HasPacking, dot_of_elements, multiply_elements};
-use crate::packings::multiply_bytes;
+use crate::element::{Coefficients, Element, HasPacking};
 use field_base::Unsigned;
+use many_words::Many;
 use packed_lanes::Packed;
-use word_carryless::multiply_mod_128_twice;
 use word_polynomial::{CubicKernel, GhashKernel, Poly64Kernel, RijndaelKernel};
 use word_tower::{Bits2, Bits4, Bits8, Bits16, Bits32, Bits64, Bits128, Level, Tower};
 
@@ -67,30 +66,15 @@ pub type PackedGhash128 = Packed<Ghash128, 4>;
 
 // Each field is its own packing, but for the byte field of AES, which has 16 lanes, and `Ghash128`, which has four.
 
-impl<R: Unsigned, L: Level<R>> HasPacking<R> for Tower<L> {
+impl<R: Unsigned, L: Level<R>> HasPacking<R> for Tower<L>
+where
+    Tower<L>: Many<R, R>,
+{
     type Packing = Element<R, Tower<L>>;
-
-    #[inline]
-    fn multiply_each(left: &mut [Element<R, Tower<L>>], right: &[Element<R, Tower<L>>]) {
-        multiply_elements(left, right);
-    }
-
-    #[inline]
-    fn dot_product(
-        left: &[Element<R, Tower<L>>],
-        right: &[Element<R, Tower<L>>],
-    ) -> Element<R, Tower<L>> {
-        dot_of_elements(left, right)
-    }
 }
 
 impl HasPacking<u8> for RijndaelKernel {
     type Packing = PackedRijndael8b<16>;
-
-    #[inline]
-    fn multiply_each(left: &mut [Rijndael8b], right: &[Rijndael8b]) {
-        multiply_bytes(left, right);
-    }
 }
 
 impl HasPacking<u64> for Poly64Kernel {
@@ -99,11 +83,15 @@ impl HasPacking<u64> for Poly64Kernel {
 
 impl HasPacking<u128> for GhashKernel {
     type Packing = PackedGhash128;
+}
 
-    #[inline]
-    fn multiply_twice(a: u128, b: u128, p: u128, q: u128) -> (u128, u128) {
-        multiply_mod_128_twice(a, b, p, q)
-    }
+impl Many<Coefficients, Coefficients> for CubicKernel {
+    ghost use prog.Memory.{size};
+    ghost use denote.Param.{layout};
+    ghost use Rattle.std.proofs.Common.{lit<};
+    ghost use Rattle.many_words.specs.Room.{few_fit};
+
+    ghost room_law = { few_fit 128 24 (lit< tt) };
 }
 
 impl HasPacking<Coefficients> for CubicKernel {

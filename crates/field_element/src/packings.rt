@@ -14,7 +14,6 @@ mod operators;
 
 use crate::element::{Element, HasPacking};
 use crate::names::{BinaryField128, Ghash128, PackedGhash128};
-pub(crate) use crate::packings::bytes::multiply_bytes;
 pub use crate::packings::bytes::{read_bytes, write_bytes};
 use field_base::Stored;
 use field_base::traits::Algebra;

@@ -11,6 +11,7 @@ mod impls;
 use crate::element::{Element, HasPacking};
 use field_base::traits::Algebra;
 use field_base::{Contains, LevelKernel, Unsigned};
+use many_words::Many;
 use word_polynomial::{EmbedsIn, Modulus, Polynomials};
 use word_tower::{Level, LiesIn, Tower};
 
@@ -41,6 +42,7 @@ impl<
 > Algebra<Element<S, Tower<L>>> for Element<R, Polynomials<M, B>>
 where
     Polynomials<M, B>: HasPacking<R>,
+    Tower<L>: Many<S, S>,
 {
     ghost use Rattle.field_base.proofs.BasisFields.{image_of_lower_injective, image_of_lower_product};
 

@@ -4,7 +4,6 @@ ghost use Rattle.field_base.specs.Tower.{tower_mul};
 
 use crate::element::Element;
 use field_base::Unsigned;
-use field_base::traits::TowerLevel;
 use word_tower::{Level, Tower};
 
 impl<R: Unsigned, L: Level<R>> Element<R, Tower<L>> {
@@ -14,6 +13,6 @@ impl<R: Unsigned, L: Level<R>> Element<R, Tower<L>> {
     pub fn reference_mul(self, other: Element<R, Tower<L>>) -> Element<R, Tower<L>>
         ensures { repr_of result ≡ tower_mul L.LEVEL (repr_of self) (repr_of other) }
     {
-        Element::from_repr(L::reference_multiply(self.to_repr(), other.to_repr()))
+        Element::of_word(L::reference_multiply(self.word(), other.word()))
     }
 }

@@ -14,6 +14,7 @@ use crate::seeds::observe_padded;
 use crate::tag::TypeTag;
 use field_base::LevelKernel;
 use field_element::{Element, HasPacking};
+use many_words::Many;
 use std::alloc::{AllocError, Allocator};
 use transcript_bytes::ChallengerError;
 use word_polynomial::Poly64Kernel;
@@ -136,7 +137,10 @@ impl WholeLevel<u128> for Bits128 {
     ghost whole_law = { refl };
 }
 
-impl<R: ShortWord, L: WholeLevel<R>> TranscriptKernel<R> for Tower<L> {
+impl<R: ShortWord, L: WholeLevel<R>> TranscriptKernel<R> for Tower<L>
+where
+    Tower<L>: Many<R, R>,
+{
     const IN_POLYNOMIAL_BASIS: bool = false;
 
     ghost IN_POLYNOMIAL_BASIS = { false };

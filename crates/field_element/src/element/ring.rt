@@ -6,7 +6,7 @@ ghost use Rattle.field_base.specs.Orders.{HasFullOrder};
 ghost use Rattle.field_base.specs.Powers.{repeated_square};
 ghost use Rattle.field_element.specs.RangeLemmas.{number_of_stored, one_in_range, stored_in_range, zero_in_range};
 
-use crate::element::{Element, HasPacking, value};
+use crate::element::{Element, HasPacking, dot_of_elements, multiply_elements, value};
 use field_base::traits::{Field, PrimeCharacteristicRing, Represented, Sealed, TowerLevel};
 use field_base::{FieldKernel, Gf2, LevelKernel, Stored, Unsigned};
 use packed_lanes::Laned;
@@ -106,7 +106,7 @@ impl<R: Stored, K: HasPacking<R>> PrimeCharacteristicRing for Element<R, K> {
 
     #[inline]
     fn dot_product_of_slices(left: &[Element<R, K>], right: &[Element<R, K>]) -> Element<R, K> {
-        K::dot_product(left, right)
+        dot_of_elements(left, right)
     }
 
     ghost zero_law = { R.zero_number };
@@ -147,7 +147,7 @@ impl<R: Stored, K: HasPacking<R>> Laned for Element<R, K> {
 
     #[inline]
     fn multiply_lanes(left: &mut [Element<R, K>], right: &[Element<R, K>]) {
-        K::multiply_each(left, right);
+        multiply_elements(left, right);
     }
 
     ghost zero_lane_law = { R.zero_number };

@@ -8,40 +8,6 @@ use crate::names::Rijndael8b;
 use std::simd::prelude::*;
 use word_polynomial::multiply_byte_lanes;
 
-/// Multiplies the elements of `left` by those of `right`, place by place.
-pub(crate) fn multiply_bytes(left: &mut [Rijndael8b], right: &[Rijndael8b])
-    requires { length left.old ≡ length right.now }
-    ensures { map repr_of left.new ≡ lane_by_lane (mul_mod 8 aes_modulus) (map repr_of left.old) (map repr_of right.now) }
-{
-    let pairs = right.len() / 32;
-    for pair in 0..pairs {
-        let start = 32 * pair;
-        multiply_block::<32>(&mut left[start..start + 32], &right[start..start + 32]);
-    }
-    for block in 2 * pairs..right.len() / 16 {
-        let start = 16 * block;
-        multiply_block::<16>(&mut left[start..start + 16], &right[start..start + 16]);
-    }
-    for place in right.len() / 16 * 16..right.len() {
-        left[place] = left[place] * right[place];
-    }
-}
-
-// Multiplies `N` elements.
-#[inline(always)]
-fn multiply_block<const N: usize>(left: &mut [Rijndael8b], right: &[Rijndael8b])
-    requires left { length left.old ≡ N }
-    requires right { length right.now ≡ N }
-    ensures { map repr_of left.new ≡ lane_by_lane (mul_mod 8 aes_modulus) (map repr_of left.old) (map repr_of right.now) }
-{
-    let mut factors = [0; N];
-    read_bytes(left, factors.as_mut_slice());
-    let mut others = [0; N];
-    read_bytes(right, others.as_mut_slice());
-    let products = multiply_byte_lanes(Simd::from_array(factors), Simd::from_array(others));
-    write_bytes(left, products.to_array().as_slice());
-}
-
 /// Writes the bytes that the elements are.
 #[inline(always)]
 pub fn read_bytes(elements: &[Rijndael8b], bytes: &mut [u8])

@@ -41,7 +41,7 @@ impl<S: Unsigned, L: Below<u16, Tower<Bits16>, S>> From<Element<S, Tower<L>>> fo
     ghost from_gives = { λ x r. repr_of r ≡ repr_of x };
 
     fn from(element: Element<S, Tower<L>>) -> BinaryField16 {
-        BinaryField16::from_repr(u16::of_u128(element.to_repr().to_u128()))
+        BinaryField16::of_word(u16::of_u128(element.word().to_u128()))
     }
 }
 
@@ -49,7 +49,7 @@ impl<S: Unsigned, L: Below<u32, Tower<Bits32>, S>> From<Element<S, Tower<L>>> fo
     ghost from_gives = { λ x r. repr_of r ≡ repr_of x };
 
     fn from(element: Element<S, Tower<L>>) -> BinaryField32 {
-        BinaryField32::from_repr(u32::of_u128(element.to_repr().to_u128()))
+        BinaryField32::of_word(u32::of_u128(element.word().to_u128()))
     }
 }
 
@@ -57,7 +57,7 @@ impl<S: Unsigned, L: Below<u64, Tower<Bits64>, S>> From<Element<S, Tower<L>>> fo
     ghost from_gives = { λ x r. repr_of r ≡ repr_of x };
 
     fn from(element: Element<S, Tower<L>>) -> BinaryField64 {
-        BinaryField64::from_repr(u64::of_u128(element.to_repr().to_u128()))
+        BinaryField64::of_word(u64::of_u128(element.word().to_u128()))
     }
 }
 
@@ -65,7 +65,7 @@ impl<S: Unsigned, L: Below<u128, Tower<Bits128>, S>> From<Element<S, Tower<L>>> 
     ghost from_gives = { λ x r. repr_of r ≡ repr_of x };
 
     fn from(element: Element<S, Tower<L>>) -> BinaryField128 {
-        BinaryField128::from_repr(u128::of_u128(element.to_repr().to_u128()))
+        BinaryField128::of_word(u128::of_u128(element.word().to_u128()))
     }
 }
 
@@ -76,7 +76,7 @@ impl From<Rijndael8b> for BinaryField8 {
     ghost from_gives = { λ x r. basis_image 8 aes_modulus aes_images (repr_of r) ≡ repr_of x };
 
     fn from(element: Rijndael8b) -> BinaryField8 {
-        BinaryField8::from_repr(to_tower_8(element.to_repr()))
+        BinaryField8::of_word(to_tower_8(element.word()))
     }
 }
 
@@ -87,7 +87,7 @@ impl From<Poly64> for BinaryField64 {
     ghost from_gives = { λ x r. basis_image 64 poly64_modulus poly64_images (repr_of r) ≡ repr_of x };
 
     fn from(element: Poly64) -> BinaryField64 {
-        BinaryField64::from_repr(to_tower_64(element.to_repr()))
+        BinaryField64::of_word(to_tower_64(element.word()))
     }
 }
 
@@ -98,6 +98,6 @@ impl From<Ghash128> for BinaryField128 {
     ghost from_gives = { λ x r. basis_image 128 ghash_modulus ghash_images (repr_of r) ≡ repr_of x };
 
     fn from(element: Ghash128) -> BinaryField128 {
-        BinaryField128::from_repr(to_tower_128(element.to_repr()))
+        BinaryField128::of_word(to_tower_128(element.word()))
     }
 }

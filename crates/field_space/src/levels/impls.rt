@@ -15,6 +15,7 @@ use field_element::{
     BinaryField2, BinaryField8, BinaryField16, BinaryField32, BinaryField64, BinaryField128,
     Element,
 };
+use many_words::Many;
 use word_tower::{Bits2, Bits8, Bits16, Bits32, Bits64, Bits128, Tower};
 
 impl CoefficientsOf<u16, Bits16, u8> for Bits8 {
@@ -261,35 +262,50 @@ impl<S: Unsigned, J: CoefficientsOf<u128, Bits128, S>> SpaceOver<u128, S, Tower<
 }
 
 impl<S: Unsigned, J: CoefficientsOf<u16, Bits16, S>> ExtensionField<Element<S, Tower<J>>>
-    for BinaryField16 {
+    for BinaryField16
+where
+    Tower<J>: Many<S, S>,
+{
     type ExtensionPacking = BinaryField16;
 
     ghost embeds_law = { λ a fits. refl };
 }
 
 impl<S: Unsigned, J: CoefficientsOf<u32, Bits32, S>> ExtensionField<Element<S, Tower<J>>>
-    for BinaryField32 {
+    for BinaryField32
+where
+    Tower<J>: Many<S, S>,
+{
     type ExtensionPacking = BinaryField32;
 
     ghost embeds_law = { λ a fits. refl };
 }
 
 impl<S: Unsigned, J: CoefficientsOf<u64, Bits64, S>> ExtensionField<Element<S, Tower<J>>>
-    for BinaryField64 {
+    for BinaryField64
+where
+    Tower<J>: Many<S, S>,
+{
     type ExtensionPacking = BinaryField64;
 
     ghost embeds_law = { λ a fits. refl };
 }
 
 impl<S: Unsigned, J: CoefficientsOf<u128, Bits128, S>> ExtensionField<Element<S, Tower<J>>>
-    for BinaryField128 {
+    for BinaryField128
+where
+    Tower<J>: Many<S, S>,
+{
     type ExtensionPacking = BinaryField128;
 
     ghost embeds_law = { λ a fits. refl };
 }
 
 impl<S: Unsigned, J: CoefficientsOf<u16, Bits16, S>> AlgebraIdentity<Element<S, Tower<J>>>
-    for BinaryField16 {
+    for BinaryField16
+where
+    Tower<J>: Many<S, S>,
+{
     ghost identity = { J.identity };
 
     fn identity() -> &'static [u8] {
@@ -298,7 +314,10 @@ impl<S: Unsigned, J: CoefficientsOf<u16, Bits16, S>> AlgebraIdentity<Element<S, 
 }
 
 impl<S: Unsigned, J: CoefficientsOf<u32, Bits32, S>> AlgebraIdentity<Element<S, Tower<J>>>
-    for BinaryField32 {
+    for BinaryField32
+where
+    Tower<J>: Many<S, S>,
+{
     ghost identity = { J.identity };
 
     fn identity() -> &'static [u8] {
@@ -307,7 +326,10 @@ impl<S: Unsigned, J: CoefficientsOf<u32, Bits32, S>> AlgebraIdentity<Element<S, 
 }
 
 impl<S: Unsigned, J: CoefficientsOf<u64, Bits64, S>> AlgebraIdentity<Element<S, Tower<J>>>
-    for BinaryField64 {
+    for BinaryField64
+where
+    Tower<J>: Many<S, S>,
+{
     ghost identity = { J.identity };
 
     fn identity() -> &'static [u8] {
@@ -316,7 +338,10 @@ impl<S: Unsigned, J: CoefficientsOf<u64, Bits64, S>> AlgebraIdentity<Element<S, 
 }
 
 impl<S: Unsigned, J: CoefficientsOf<u128, Bits128, S>> AlgebraIdentity<Element<S, Tower<J>>>
-    for BinaryField128 {
+    for BinaryField128
+where
+    Tower<J>: Many<S, S>,
+{
     ghost identity = { J.identity };
 
     fn identity() -> &'static [u8] {
