@@ -14,9 +14,10 @@ fn multiplies<R: Stored, K: Many<R, R>>(x: R, y: R) -> bool {
     let sum = K::dot_product::<u64x2>(&products, &factors);
     multiply::<R, R, K, u64x2>(&mut products, &factors);
     let wanted = K::multiply(x, y);
+    let made = &products[..];
     let mut same = sum == wanted;
-    for place in 0..33usize {
-        same = same && products[place] == wanted;
+    for place in 0..made.len() {
+        same = same && made[place] == wanted;
     }
     same
 }
