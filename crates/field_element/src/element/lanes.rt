@@ -1,5 +1,5 @@
-// Products of many elements, place by place, and their sums: by what their kernel computes on many words at once, of blocks of elements whose
-// words are copied. An element is no word that such a call could write to, since it has no more bits than its field.
+// Products of many elements, place by place, and their sums: by what their kernel computes on many words at once, of blocks of elements
+// whose words are copied. An element is no word that such a call could write to, since it has no more bits than its field.
 ghost use prog.Memory.{size};
 ghost use denote.Param.{layout};
 ghost use Rattle.std.specs.Prelude.{◌≡◌, ◌<◌, ◌≤◌, ◌*◌, ◌^◌, ℕ, length, map, take};

@@ -214,10 +214,11 @@ impl<R: Stored, K: HasPacking<R>> Field for Element<R, K> {
     }
 
     ghost generator_nonzero_law = { λ none. K.generator_nonzero
-        (sym (number_of_stored K.width R.bits R.number R.of_number R.number_of K.room_law K.generator K.generator_fits) ∙ none) };
+        (sym (number_of_stored K.width R.bits R.number R.of_number R.number_of K.FieldKernel.room_law K.generator K.generator_fits)
+        ∙ none) };
 
     ghost generator_law = { λ small. subst (HasFullOrder K.width K.product)
-        (sym (number_of_stored K.width R.bits R.number R.of_number R.number_of K.room_law K.generator K.generator_fits))
+        (sym (number_of_stored K.width R.bits R.number R.of_number R.number_of K.FieldKernel.room_law K.generator K.generator_fits))
         (K.generator_law small) };
 
     ghost wide_law = { K.wide_law };
@@ -240,7 +241,7 @@ impl<R: Stored, K: HasPacking<R>> Field for Element<R, K> {
         field = record {};
         in_range = stored_in_range K.width R.bits R.number R.of_number R.number_of n fits;
       },
-      number_of_stored K.width R.bits R.number R.of_number R.number_of K.room_law n fits,
+      number_of_stored K.width R.bits R.number R.of_number R.number_of K.FieldKernel.room_law n fits,
     ) };
 }
 
@@ -289,7 +290,7 @@ impl<R: Unsigned, K: LevelKernel<R> + HasPacking<R>> TowerLevel for Element<R, K
 
     ghost bits_law = { K.bits_law };
 
-    ghost room_law = { K.room_law };
+    ghost room_law = { K.FieldKernel.room_law };
 
     ghost basis_law = { K.basis_law };
 
@@ -298,7 +299,7 @@ impl<R: Unsigned, K: LevelKernel<R> + HasPacking<R>> TowerLevel for Element<R, K
     ghost cantor_image_law = { basis-cantor K.LOG_BITS K.width K.product K.basis
         K.field_law.ring K.basis_law K.cantor K.cantor_law K.bits_law };
 
-    ghost generator_image_law = { number_of_stored K.width R.bits R.number R.of_number R.number_of K.room_law K.generator K.generator_fits
+    ghost generator_image_law = { number_of_stored K.width R.bits R.number R.of_number R.number_of K.FieldKernel.room_law K.generator K.generator_fits
         ∙ K.generator_image_law };
 
     ghost no_root_law = { basis-no_root K.LOG_BITS K.width K.product K.basis K.field_law.ring K.basis_law };

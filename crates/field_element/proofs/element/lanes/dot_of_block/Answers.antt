@@ -1,5 +1,4 @@
-use Rattle.std.proofs.Common.{◌≡◌, ◌<◌, ◌^◌, ℕ, length, map, take, sym, ◌∙◌, ap, subst}
-use Rattle.field_base.specs.Powers.{dot_of}
+use Rattle.std.proofs.Common.{◌<◌, ◌^◌, ℕ, length, map, take, sym, ◌∙◌, ap, subst}
 use Rattle.field_element.specs.Element.{repr_of}
 use Rattle.field_element.proofs.BlockProducts.{dot_of-below, dot_of-same}
 use Rattle.field_element.proofs.element.lanes.dot_of_block.Goals as goal

@@ -1,4 +1,4 @@
-use Rattle.std.proofs.Common.{◌≡◌, ◌<◌, length, map, take, sym, ◌∙◌, ap, ap₂, arith}
+use Rattle.std.proofs.Common.{◌≡◌, ◌<◌, length, map, take, ◌∙◌, ap, ap₂, arith}
 use Rattle.std.proofs.lemmas.List.{get_or_append_left}
 use Rattle.field_element.specs.Element.{repr_of}
 use Rattle.packed_lanes.proofs.LanePoints.{lanes_agree}

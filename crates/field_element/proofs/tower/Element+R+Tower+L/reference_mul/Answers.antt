@@ -7,5 +7,5 @@ use Rattle.field_element.proofs.tower.Element+R+Tower+L.reference_mul.Goals as g
 pub returns : goal.returns
 returns g c =
     let k = g.L.Level.LEVEL in
-    c.from_repr.ensures ∙ ap (λ (n : ℕ). n % 2 ^ 2 ^ k) c.reference_multiply.ensures ∙ mod-eq_of_lt ((tower_ring k).below _ _)
-    ∙ ap₂ (tower_mul k) c.to_repr.ensures c.to_repr-2.ensures
+    c.of_word.ensures ∙ ap (λ (n : ℕ). n % 2 ^ 2 ^ k) c.reference_multiply.ensures ∙ mod-eq_of_lt ((tower_ring k).below _ _)
+    ∙ ap₂ (tower_mul k) (ap g.R.Stored.number c.word.ensures) (ap g.R.Stored.number c.word-2.ensures)
