@@ -194,3 +194,7 @@ module _ (code : StripeCode) (own : TransformCode)
     pub agree_own : (present : List Bool) (one other : List ℕ) → AgreeWherePresent (code.data_shards + code.parity_shards) code.size present one other
         → AgreeWherePresent (own.data_shards + own.parity_shards) code.size present one other
     agree_own present one other agree = subst (λ (n : ℕ). AgreeWherePresent n code.size present one other) (sym total_is) agree
+
+    pub agree_theirs : (present : List Bool) (one other : List ℕ) → AgreeWherePresent (own.data_shards + own.parity_shards) code.size present one other
+        → AgreeWherePresent (code.data_shards + code.parity_shards) code.size present one other
+    agree_theirs present one other agree = subst (λ (n : ℕ). AgreeWherePresent n code.size present one other) total_is agree

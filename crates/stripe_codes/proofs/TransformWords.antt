@@ -6,6 +6,7 @@ use Rattle.std.proofs.lemmas.List.{ext_get_or}
 use Rattle.std.proofs.lemmas.Nat.{div-add-mod', div_below}
 use native.Mathlib.Nat.{mod-lt}
 use Rattle.reed_solomon.specs.RoundTrip.{AgreeWherePresent}
+use Rattle.reed_solomon.specs.Shards.{IsPresent}
 use Rattle.transform_codes.specs.Codes.{AreCodedColumns}
 use Rattle.transform_codes.specs.Determined.{AgreeAtHand, HaveSameSymbols, LostSymbolsReturn}
 use Rattle.transform_codes.specs.Restoring.{AreRestoredColumns}
@@ -170,6 +171,77 @@ module _ (half : ℕ) where
 
           wide : 0 < half
           wide = some_size half below
+
+      -- a shard that has the same words has the same bytes
+      pub bytes_kept : (i : ℕ) → i < count → ((column : ℕ) → column < half → get_or words (i * half + column) 0 ≡ get_or more (i * half + column) 0)
+          → (column : ℕ) → column < 2 * half → get_or one ((from + i) * (2 * half) + column) 0 ≡ get_or other ((from + i) * (2 * half) + column) 0
+      bytes_kept i inside same column below =
+          elim (cases_lt (column % 2) 1) [
+            | inl even ↦ subst (λ (p : ℕ). get_or one p 0 ≡ get_or other p 0) (sym (even_place even)) both.0
+            | inr odd ↦ subst (λ (p : ℕ). get_or one p 0 ≡ get_or other p 0) (sym (odd_place odd)) both.1
+          ]
+        where
+          halved : column / 2 < half
+          halved = omega (arith, below)
+
+          both : (get_or one (2 * (base + (i * half + column / 2))) 0 ≡ get_or other (2 * (base + (i * half + column / 2))) 0)
+              × (get_or one (2 * (base + (i * half + column / 2)) + 1) 0 ≡ get_or other (2 * (base + (i * half + column / 2)) + 1) 0)
+          both =
+              let within = column_room i count (column / 2) inside halved in
+              same_bytes one other (2 * (base + (i * half + column / 2))) (get_or words (i * half + column / 2) 0) (get_or more (i * half + column / 2) 0)
+              (are (i * half + column / 2) (omega (arith, long, within))) (more_are (i * half + column / 2) (omega (arith, more_long, within)))
+              (ap element (same (column / 2) halved))
+
+          even_place : column % 2 < 1 → (from + i) * (2 * half) + column ≡ 2 * (base + (i * half + column / 2))
+          even_place is =
+              let whole : 2 * (column / 2) + 0 ≡ column = omega (arith, is) in
+              ap (λ (n : ℕ). (from + i) * (2 * half) + n) (sym whole) ∙ byte_place from base i (column / 2) 0 base_is
+              ∙ no_more (2 * (base + (i * half + column / 2)))
+            where
+              no_more : (n : ℕ) → n + 0 ≡ n
+              no_more n = omega arith
+
+          odd_place : 1 ≤ column % 2 → (from + i) * (2 * half) + column ≡ 2 * (base + (i * half + column / 2)) + 1
+          odd_place is =
+              let whole : 2 * (column / 2) + 1 ≡ column = omega (arith, is) in
+              ap (λ (n : ℕ). (from + i) * (2 * half) + n) (sym whole) ∙ byte_place from base i (column / 2) 1 base_is
+
+-- shards at hand whose words are as they were have the bytes that they had
+module _ (k m half levels : ℕ) (size : ℕ) (even : size ≡ 2 * half) (present : List Bool) (old new words parity now now_parity : List ℕ)
+    (are : AreShardWords k m half old words parity) (now_are : AreShardWords k m half new now now_parity)
+    (restored : AreRestoredColumns element 0 4 levels k m half present half words parity now now_parity)
+  where
+    pub restored_kept : AgreeWherePresent (k + m) size present new old
+    restored_kept i column inside below is =
+        subst (λ (n : ℕ). get_or new (i * n + column) 0 ≡ get_or old (i * n + column) 0) (sym even)
+        (elim (cases_lt i k) [
+          | inl low ↦ first i low is
+          | inr above ↦
+              let parted : k + (i - k) ≡ i = omega (arith, above) in
+              subst (λ (n : ℕ). get_or new (n * (2 * half) + column) 0 ≡ get_or old (n * (2 * half) + column) 0) parted
+              (second (i - k) (omega (arith, above, inside)) (subst (IsPresent present) (sym parted) is))
+        ])
+      where
+        width : column < 2 * half
+        width = subst (λ (n : ℕ). column < n) even below
+
+        no_shard : 0 ≡ 0 * half
+        no_shard = omega arith
+
+        first : (t : ℕ) → t < k → IsPresent present t → get_or new (t * (2 * half) + column) 0 ≡ get_or old (t * (2 * half) + column) 0
+        first t low has =
+            subst (λ (n : ℕ). get_or new (n * (2 * half) + column) 0 ≡ get_or old (n * (2 * half) + column) 0) (zero_more t)
+            (bytes_kept half 0 k 0 no_shard new old now words now_are.long are.long now_are.are are.are t low
+            (λ c less. restored.kept t c less (inr has)) column width)
+          where
+            zero_more : (n : ℕ) → 0 + n ≡ n
+            zero_more n = omega arith
+
+        second : (t : ℕ) → t < m → IsPresent present (k + t)
+            → get_or new ((k + t) * (2 * half) + column) 0 ≡ get_or old ((k + t) * (2 * half) + column) 0
+        second t inner has =
+            bytes_kept half k m (k * half) refl new old now_parity parity now_are.parity_long are.parity_long now_are.parity_are are.parity_are t inner
+            (λ c less. restored.parity_kept t c less (inr has)) column width
 
 -- ---- code words
 

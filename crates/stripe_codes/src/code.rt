@@ -1,5 +1,5 @@
 // A code of stripes, by its number. What each call does is stated over the code words, whichever code they are of.
-ghost use Rattle.std.specs.Prelude.{◌≡◌, ℕ, List, ◌+◌, ◌*◌, ◌<◌, ◌≤◌, ◌↔◌, length, slice_index, IsOk, IsSome, IsTrue, IfOk, IfSome};
+ghost use Rattle.std.specs.Prelude.{◌≡◌, ℕ, List, ◌+◌, ◌*◌, ◌<◌, ◌≤◌, ◌↔◌, length, slice_index, IsOk, IsSome, IsTrue, IfOk, IfSome, OnErr};
 ghost use Rattle.reed_solomon.specs.RoundTrip.{AgreeWherePresent};
 ghost use Rattle.reed_solomon.specs.Shards.{present_count};
 ghost use Rattle.stripe_codes.specs.Codes.{HasCode, IsStripeWord};
@@ -82,8 +82,9 @@ impl StripeCode {
         }
     }
 
-    /// Restores the missing shards: shard i is missing where `present[i]` is false, and what its bytes are does not matter. It fails where
-    /// memory is refused. All shards are of the code's size, there is a flag for each, and as many are at hand as the data have.
+    /// Restores the missing shards, and leaves the others: shard i is missing where `present[i]` is false, and what its bytes are does not
+    /// matter. It fails where memory is refused, and then all are as they were. All shards are of the code's size, there is a flag for each,
+    /// and as many are at hand as the data have.
     pub fn restore(
         &self,
         alloc: Global,
@@ -96,6 +97,9 @@ impl StripeCode {
         ensures restored { let total = self.now.data_shards + self.now.parity_shards in (whole : List ℕ) → IsOk result
             → IsStripeWord self.now.number self.now.data_shards self.now.parity_shards self.now.size whole → length whole ≡ length shards.old
             → AgreeWherePresent total self.now.size present.now shards.old whole → shards.new ≡ whole }
+        ensures kept { IsOk result
+            → AgreeWherePresent (self.now.data_shards + self.now.parity_shards) self.now.size present.now shards.new shards.old }
+        ensures same { OnErr result (shards.new ≡ shards.old) }
         ensures long { length shards.new ≡ length shards.old }
     {
         if self.number == MATRIX {
@@ -138,9 +142,11 @@ fn has_code(number: u32, data_shards: usize, parity_shards: usize, size: usize) 
     }
 }
 
-/// The number of the code by which so many shards are written where none is named: that by matrices as far as it goes.
+/// The number of the code by which so many shards are written where none is named: that by matrices as far as it goes, and that by
+/// transforms where there is none by matrices.
 pub fn default_code(data_shards: usize, parity_shards: usize) -> u32
-    ensures { (0 < data_shards) × (0 < parity_shards) × (data_shards + parity_shards ≤ 256) → result ≡ 1 }
+    ensures matrix { (0 < data_shards) × (0 < parity_shards) × (data_shards + parity_shards ≤ 256) → result ≡ 1 }
+    ensures transform { ((0 < data_shards) × (0 < parity_shards) × (data_shards + parity_shards ≤ 256) → ⊥) → result ≡ 2 }
 {
     if has_matrix_code(data_shards, parity_shards) {
         MATRIX

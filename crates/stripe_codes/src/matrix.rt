@@ -30,7 +30,7 @@ pub(crate) fn encode_by_matrix(code: &StripeCode, shards: &mut [u8])
     }
 }
 
-/// Restores the missing shards, of which as many are at hand as the data have.
+/// Restores the missing shards, of which as many are at hand as the data have, and leaves the others.
 pub(crate) fn restore_by_matrix(code: &StripeCode, shards: &mut [u8], present: &[bool])
     requires matrix { code.now.number ≡ 1 }
     requires whole { length shards.old ≡ (code.now.data_shards + code.now.parity_shards) * code.now.size }
@@ -39,6 +39,7 @@ pub(crate) fn restore_by_matrix(code: &StripeCode, shards: &mut [u8], present: &
     ensures restored { let total = code.now.data_shards + code.now.parity_shards in
         (whole : List ℕ) → AreCodewords code.now.data_shards total code.now.size whole → length whole ≡ length shards.old
         → AgreeWherePresent total code.now.size present.now shards.old whole → shards.new ≡ whole }
+    ensures kept { AgreeWherePresent (code.now.data_shards + code.now.parity_shards) code.now.size present.now shards.new shards.old }
     ensures long { length shards.new ≡ length shards.old }
 {
     lost_shards_return();

@@ -1,5 +1,5 @@
 // The code over words of 16 bits by transforms, of the crate `transform_codes`.
-ghost use Rattle.std.specs.Prelude.{◌≡◌, ◌≢◌, ℕ, List, ◌+◌, ◌*◌, ◌/◌, ◌^◌, ◌<◌, ◌≤◌, ◌↔◌, length, slice_index, IfOk, IfSome, IsOk, IsSome, IsTrue};
+ghost use Rattle.std.specs.Prelude.{◌≡◌, ◌≢◌, ℕ, List, ◌+◌, ◌*◌, ◌/◌, ◌^◌, ◌<◌, ◌≤◌, ◌↔◌, length, slice_index, IfOk, IfSome, IsOk, IsSome, IsTrue, OnErr};
 ghost use Rattle.reed_solomon.specs.RoundTrip.{AgreeWherePresent};
 ghost use Rattle.reed_solomon.specs.Shards.{present_count};
 ghost use Rattle.tower_transforms.specs.Words.{level_element};
@@ -112,7 +112,8 @@ fn encode_words(
     let _encoded = transform.encode::<u16, Bits16>(space, words, parity);
 }
 
-/// Restores the missing shards, of which as many are at hand as the data have. It fails where memory is refused.
+/// Restores the missing shards, of which as many are at hand as the data have, and leaves the others. It fails where memory is refused, and
+/// then all are as they were.
 pub(crate) fn restore_by_transform(
     alloc: Global,
     code: &StripeCode,
@@ -126,6 +127,9 @@ pub(crate) fn restore_by_transform(
     ensures restored { let total = code.now.data_shards + code.now.parity_shards in (whole : List ℕ) → IsOk result
         → AreTransformWords code.now.data_shards code.now.parity_shards code.now.size whole → length whole ≡ length shards.old
         → AgreeWherePresent total code.now.size present.now shards.old whole → shards.new ≡ whole }
+    ensures kept { IsOk result
+        → AgreeWherePresent (code.now.data_shards + code.now.parity_shards) code.now.size present.now shards.new shards.old }
+    ensures same { OnErr result (shards.new ≡ shards.old) }
     ensures long { length shards.new ≡ length shards.old }
 {
     let transform = match transform_code(code.data_shards, code.parity_shards) {
@@ -168,6 +172,8 @@ fn restore_words(
     ensures restored { let total = transform.now.data_shards + transform.now.parity_shards in (size : ℕ) (whole : List ℕ) → size ≡ 2 * half
         → AreTransformWords transform.now.data_shards transform.now.parity_shards size whole → length whole ≡ length shards.old
         → AgreeWherePresent total size present.now shards.old whole → shards.new ≡ whole }
+    ensures kept { (size : ℕ) → size ≡ 2 * half
+        → AgreeWherePresent (transform.now.data_shards + transform.now.parity_shards) size present.now shards.new shards.old }
     ensures long { length shards.new ≡ length shards.old }
 {
     lost_shards_return::<u16, Bits16>();

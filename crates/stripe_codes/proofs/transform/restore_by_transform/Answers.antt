@@ -1,8 +1,8 @@
-use Rattle.std.proofs.Common.{◌*◌, ◌/◌, ℕ, List, length, sym, ◌∙◌, ap, subst, arith}
+use Rattle.std.proofs.Common.{◌*◌, ◌/◌, ℕ, List, length, refl, sym, ◌∙◌, ap, subst, arith}
 use Rattle.std.proofs.lemmas.Bool.{false≢true}
 use Rattle.stripe_codes.specs.Codes.{AreShardWords}
 use Rattle.stripe_codes.proofs.KnownCodes.{is_transform}
-use Rattle.stripe_codes.proofs.TransformCalls.{agree_own, all_bytes, even, read, read_own, some_half, total_is, word_own, words_room}
+use Rattle.stripe_codes.proofs.TransformCalls.{agree_own, agree_theirs, all_bytes, even, read, read_own, some_half, total_is, word_own, words_room}
 use Rattle.stripe_codes.proofs.transform.restore_by_transform.Goals as goal
 
 pub returns-in-None-clause-restored : goal.returns-in-None-clause-restored
@@ -69,3 +69,15 @@ returns-clause-restored c =
     let made = c.in-Some.ensures.made in
     c.restore_words.ensures.restored code.size whole (even code own made c.requires.transform) (word_own code own made c.requires.transform whole word)
     long (agree_own code own made c.requires.transform c.args.present.now c.args.shards.now whole agree)
+
+pub returns-clause-kept : goal.returns-clause-kept
+returns-clause-kept c =
+    λ ok.
+    let code = c.args.code.now in
+    let own = c.in-Some.transform in
+    let made = c.in-Some.ensures.made in
+    agree_theirs code own made c.requires.transform c.args.present.now c.restore_words.new.shards c.args.shards.now
+    (c.restore_words.ensures.kept code.size (even code own made c.requires.transform))
+
+pub returns-in-None-clause-kept : goal.returns-in-None-clause-kept
+returns-in-None-clause-kept c = λ ok i column inside below is. refl

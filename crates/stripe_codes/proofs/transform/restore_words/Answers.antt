@@ -1,7 +1,7 @@
 use Rattle.std.proofs.Common.{◌≡◌, ◌+◌, ◌*◌, ℕ, length, refl, sym, ◌∙◌, ap, subst, arith}
 use Rattle.transform_codes.specs.Restoring.{AreRestoredColumns}
 use Rattle.stripe_codes.proofs.TransformCalls.{can_rebuild, half_is, parts, words_are}
-use Rattle.stripe_codes.proofs.TransformWords.{element, restored_whole}
+use Rattle.stripe_codes.proofs.TransformWords.{element, restored_kept, restored_whole}
 use Rattle.stripe_codes.proofs.transform.restore_words.Goals as goal
 
 pub write_words-requires : goal.write_words-requires
@@ -49,3 +49,26 @@ returns-clause-restored c =
     (subst (λ (n : ℕ). AreRestoredColumns element 0 4 own.levels own.data_shards own.parity_shards n present n words parity now now_parity)
     (half_is own.data_shards half (length words) own.some_data needs.words.long) (c.reconstruct-restored.ensures.restored ok))
     word agree (c.write_words-2.ensures.long ∙ c.write_words.ensures.long ∙ all) (long ∙ all)
+
+pub returns-clause-kept : goal.returns-clause-kept
+returns-clause-kept c =
+    λ size even.
+    let own = c.args.transform.now in
+    let half = c.args.half in
+    let needs = c.requires in
+    let old = c.args.shards.now in
+    let new = c.write_words-2.new.bytes in
+    let words = c.args.words.now in
+    let parity = c.args.parity.now in
+    let present = c.args.present.now in
+    let now = c.reconstruct-restored.new.shards in
+    let now_parity = c.reconstruct-restored.new.parity in
+    let ok = c.reconstruct-restored.ensures.accepted.1
+    (can_rebuild own half (length words) (length parity) (length c.args.space.now) needs.some needs.points needs.words.long needs.words.parity_long
+    needs.room present needs.flags needs.enough) in
+    restored_kept own.data_shards own.parity_shards half own.levels size even present old new words parity now now_parity needs.words
+    (words_are own half old c.write_words.new.bytes new words parity now now_parity (length words) refl needs.words
+    c.reconstruct-restored.ensures.long c.reconstruct-restored.ensures.parity_long c.write_words.ensures.written c.write_words-2.ensures.written
+    c.write_words-2.ensures.kept)
+    (subst (λ (n : ℕ). AreRestoredColumns element 0 4 own.levels own.data_shards own.parity_shards n present n words parity now now_parity)
+    (half_is own.data_shards half (length words) own.some_data needs.words.long) (c.reconstruct-restored.ensures.restored ok))
