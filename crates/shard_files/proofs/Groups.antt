@@ -9,7 +9,7 @@ use borrow.Rule.Slice.PartMut.{put_mid}
 use Rattle.reed_solomon.specs.Shards.{IsPresent, present_count}
 use Rattle.stripe_codes.proofs.PresentCounts.{with_one, without}
 use Rattle.stripe_codes.proofs.ShardPlaces.{shard_room}
-use Rattle.shard_files.specs.Groups.{AreOf, GivesPiece, GivesStripe, HasEnough, Holdings, IsGathered, numbered, Puts, shard_at, Takes}
+use Rattle.shard_files.specs.Groups.{AreOf, GivesEnough, GivesPiece, GivesStripe, HasEnough, HaveSameShards, Holdings, IsGathered, numbered, Puts, shard_at, Takes}
 use Rattle.shard_files.specs.Heads.{head_digest, head_file, IsHead, IsOrigin}
 use Rattle.shard_files.specs.Pieces.{piece_bytes}
 use Rattle.shard_files.specs.Stripes.{shard_total}
@@ -247,47 +247,85 @@ more_present (true ∷ ones) (true ∷ others) long more =
     let rest = more_present ones others (omega (arith, long)) (λ i. more (suc i)) in omega (arith, rest, with_one ones, with_one others)
 more_present (true ∷ ones) (false ∷ others) long more = absurd (true≢false (sym (more zero refl)))
 
-module _ (origin : Origin) (files : Holdings) (stripe : ℕ) (content whole shards : List ℕ) (present : List Bool)
-    (gives : GivesStripe origin files stripe content whole) (gathered : IsGathered origin files stripe files.places shards present)
+module _ (origin : Origin) (files : Holdings) (stripe : ℕ) (whole shards : List ℕ) (present : List Bool)
+    (gathered : IsGathered origin files stripe files.places shards present)
     (shards_long : length shards ≡ shard_total origin * origin.size) (flags : length present ≡ shard_total origin)
   where
-    inside_of : (index : ℕ) → IsPresent gives.left index → index < shard_total origin
-    inside_of index has =
+    inside_of : (flags : List Bool) → length flags ≡ shard_total origin → (index : ℕ) → IsPresent flags index → index < shard_total origin
+    inside_of flags long index has =
         elim (cases_lt index (shard_total origin)) [
           | inl below ↦ below
-          | inr above ↦ absurd (true≢false (sym has ∙ get_or-eq_default gives.left false (omega (arith, above, gives.left_long))))
+          | inr above ↦ absurd (true≢false (sym has ∙ get_or-eq_default flags false (omega (arith, above, long))))
         ]
 
-    -- what was gathered is enough
-    pub gathered_enough : HasEnough origin content whole shards present
-    gathered_enough =
-        record {
-          split = gives.split;
-          long = gives.long ∙ sym shards_long;
-          same = same;
-          enough = le_through gives.enough (more_present gives.left present (gives.left_long ∙ sym flags) more);
-        }
+    -- where enough are given, enough were gathered
+    pub enough_there : GivesEnough origin files stripe whole → origin.data_shards ≤ present_count present
+    enough_there gives = le_through gives.enough (more_present gives.left present (gives.left_long ∙ sym flags) more)
       where
-        same : (index : ℕ) → index < shard_total origin → IsPresent present index
-            → shard_at origin.size shards index ≡ shard_at origin.size whole index
-        same index inside has =
-            let given = gathered.found index inside has in
-            gives.true_ones index given.0 (shard_at origin.size shards index) inside given.1 (shard_long origin.size (shard_total origin) index shards shards_long inside) given.2
-
         more : (index : ℕ) → IsPresent gives.left index → IsPresent present index
         more index has =
             let given = gives.there index has in
-            let inside = inside_of index has in
+            let inside = inside_of gives.left gives.left_long index has in
             gathered.missed index (shard_at origin.size whole index) given.0 inside (shard_long origin.size (shard_total origin) index whole gives.long inside) given.1 given.2
 
         le_through : {a b c : ℕ} → a ≤ b → b ≤ c → a ≤ c
         le_through first second = omega (arith, first, second)
 
+    -- what was gathered is enough
+    pub gathered_enough : (content : List ℕ) → GivesStripe origin files stripe content whole → HasEnough origin content whole shards present
+    gathered_enough content gives =
+        record {
+          split = gives.split;
+          long = gives.given.long ∙ sym shards_long;
+          same = same;
+          enough = enough_there gives.given;
+        }
+      where
+        same : HaveSameShards origin present shards whole
+        same index inside has =
+            let given = gathered.found index inside has in
+            gives.true_ones index given.0 (shard_at origin.size shards index) inside given.1 (shard_long origin.size (shard_total origin) index shards shards_long inside) given.2
+
+    -- and shards that are the gathered ones where these are at hand are given, if those were enough
+    pub given_enough : length whole ≡ shard_total origin * origin.size → HaveSameShards origin present whole shards
+        → origin.data_shards ≤ present_count present → GivesEnough origin files stripe whole
+    given_enough long same enough =
+        record {
+          long = long;
+          left = present;
+          left_long = flags;
+          enough = enough;
+          there = λ index has.
+              let inside = inside_of present flags index has in
+              let found = gathered.found index inside has in
+              (found.0, found.1, subst (GivesPiece files found.0 (numbered origin index) stripe) (sym (same index inside has)) found.2);
+        }
+
 -- the same of a group whose origin is known
-pub group_enough : (origin own : Origin) (files : Holdings) (stripe : ℕ) (content whole shards : List ℕ) (present : List Bool) → own ≡ origin
-    → GivesStripe origin files stripe content whole → IsGathered origin files stripe files.places shards present
-    → length shards ≡ shard_total own * own.size → length present ≡ shard_total own → HasEnough own content whole shards present
-group_enough origin own files stripe content whole shards present same gives gathered long flags =
-    subst (λ (o : Origin). HasEnough o content whole shards present) (sym same)
-    (gathered_enough origin files stripe content whole shards present gives gathered
-    (subst (λ (o : Origin). length shards ≡ shard_total o * o.size) same long) (subst (λ (o : Origin). length present ≡ shard_total o) same flags))
+module _ (origin own : Origin) (same : own ≡ origin) (files : Holdings) (stripe : ℕ) (shards : List ℕ) (present : List Bool)
+    (gathered : IsGathered origin files stripe files.places shards present)
+    (long : length shards ≡ shard_total own * own.size) (flags : length present ≡ shard_total own)
+  where
+    shards_long : length shards ≡ shard_total origin * origin.size
+    shards_long = subst (λ (o : Origin). length shards ≡ shard_total o * o.size) same long
+
+    flags_long : length present ≡ shard_total origin
+    flags_long = subst (λ (o : Origin). length present ≡ shard_total o) same flags
+
+    pub group_enough : (content whole : List ℕ) → GivesStripe origin files stripe content whole → HasEnough own content whole shards present
+    group_enough content whole gives =
+        subst (λ (o : Origin). HasEnough o content whole shards present) (sym same)
+        (gathered_enough origin files stripe whole shards present gathered shards_long flags_long content gives)
+
+    pub group_count : (whole : List ℕ) → GivesEnough origin files stripe whole → own.data_shards ≤ present_count present
+    group_count whole gives =
+        subst (λ (o : Origin). o.data_shards ≤ present_count present) (sym same)
+        (enough_there origin files stripe whole shards present gathered shards_long flags_long gives)
+
+    pub group_given : (whole : List ℕ) → length whole ≡ shard_total own * own.size → HaveSameShards own present whole shards
+        → own.data_shards ≤ present_count present → GivesEnough origin files stripe whole
+    group_given whole whole_long kept enough =
+        given_enough origin files stripe whole shards present gathered shards_long flags_long
+        (subst (λ (o : Origin). length whole ≡ shard_total o * o.size) same whole_long)
+        (subst (λ (o : Origin). HaveSameShards o present whole shards) same kept)
+        (subst (λ (o : Origin). o.data_shards ≤ present_count present) same enough)

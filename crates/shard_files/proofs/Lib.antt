@@ -1,11 +1,14 @@
 mod Appended
+mod Faults
 mod Groups
 mod Heads
 mod Joined
 mod Lost
 mod Pieces
 mod Positions
+mod Repaired
 mod Restores
 mod Returns
+mod Sizes
 mod Splits
 mod Written

@@ -21,7 +21,7 @@ begins_within long w n some within =
     omega (arith, whole, more, turned, one_more n w, some)
 
 -- and all stripes have the whole file
-ends_beyond : (long w : ℕ) → 0 < w → long ≤ (long + (w - 1)) / w * w
+pub ends_beyond : (long w : ℕ) → 0 < w → long ≤ (long + (w - 1)) / w * w
 ends_beyond long w some =
     let whole = div-add-mod (long + (w - 1)) w in
     let rest = mod-lt (long + (w - 1)) some in

@@ -57,12 +57,14 @@ module _ (origin : Origin) (content : List ℕ) (wholes : List (List ℕ)) (file
     stripe_given stripe within enough seen =
         record {
           split = are.split stripe within;
-          long = are.long stripe within;
           true_ones = λ index place shard inside at sized given. seen stripe index place shard within inside at sized given;
-          left = enough.left;
-          left_long = enough.left_long;
-          enough = enough.enough;
-          there = there;
+          given = record {
+            long = are.long stripe within;
+            left = enough.left;
+            left_long = enough.left_long;
+            enough = enough.enough;
+            there = there;
+          };
         }
       where
         there : (index : ℕ) → IsPresent enough.left index → (place : ℕ) × (place < files.places)

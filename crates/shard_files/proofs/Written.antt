@@ -5,11 +5,10 @@ use Rattle.std.proofs.Math.Seq.{get_or-append_seam}
 use Rattle.std.proofs.lemmas.Bool.{cases_lt}
 use Rattle.std.proofs.lemmas.List.{append_assoc, drop-append-le, drop-drop, drop_at, get_or_append_left, length-append, length-drop, take-append-le, take_at}
 use Rattle.sha2.specs.Sha256.{sha256}
-use Rattle.shard_files.specs.Files.{AreShards, pieces_from, shard_file}
+use Rattle.shard_files.specs.Files.{AreStripes, pieces_from, shard_file}
 use Rattle.shard_files.specs.Groups.{numbered, shard_at}
 use Rattle.shard_files.specs.Heads.{head_digest, head_file}
 use Rattle.shard_files.specs.Pieces.{piece_bytes}
-use Rattle.shard_files.specs.Splits.{IsSplit}
 use Rattle.shard_files.specs.Stripes.{IsPossible, shard_total, stripe_content, stripe_length, stripe_total, stripe_width}
 use Rattle.shard_files.specs.declared.head.Head.{Head}
 use Rattle.shard_files.specs.declared.head.Origin.{Origin}
@@ -82,21 +81,36 @@ module _ (head : Head) (total : ℕ) (inside : head.index < total) where
 
 -- ---- stripe by stripe
 
--- the bytes of the first stripes were split into these shards
-pub record AreSplitSoFar (origin : Origin) (stripe : ℕ) (so_far : List ℕ) (wholes : List (List ℕ)) : Type 0 where
+-- the bytes of the first stripes stand in these shards: of each `are` is said
+pub record AreSoFar (are : List ℕ → List ℕ → Type 0) (origin : Origin) (stripe : ℕ) (so_far : List ℕ) (wholes : List (List ℕ)) : Type 0 where
   pub long : length so_far ≡ min (stripe * stripe_width origin) origin.length
   pub count : length wholes ≡ stripe
-  pub split : (s : ℕ) → s < stripe → IsSplit origin (stripe_content origin s so_far) (get_or wholes s [])
+  pub split : (s : ℕ) → s < stripe → are (stripe_content origin s so_far) (get_or wholes s [])
   pub whole_long : (s : ℕ) → s < stripe → length (get_or wholes s []) ≡ shard_total origin * origin.size
 
-pub split_none : (origin : Origin) → AreSplitSoFar origin 0 [] []
-split_none origin =
+pub split_none : (are : List ℕ → List ℕ → Type 0) (origin : Origin) → AreSoFar are origin 0 [] []
+split_none are origin =
     record {
       long = none_long (stripe_width origin) origin.length;
       count = refl;
       split = λ s below. absurd (omega (arith, below));
       whole_long = λ s below. absurd (omega (arith, below));
     }
+
+-- what is said of the shards of each stripe is said once those of the next stand behind them
+pub each_more : (says : ℕ → List ℕ → Type 0) (wholes : List (List ℕ)) (whole : List ℕ) (stripe : ℕ) → length wholes ≡ stripe
+    → ((s : ℕ) → s < stripe → says s (get_or wholes s [])) → says stripe whole
+    → (s : ℕ) → s < stripe + 1 → says s (get_or (wholes ++ whole ∷ []) s [])
+each_more says wholes whole stripe count before now s below =
+    elim (cases_lt s stripe) [
+      | inl less ↦ subst (says s) (sym (get_or_append_left wholes (whole ∷ []) [] s (omega (arith, less, count)))) (before s less)
+      | inr more ↦
+          let same : stripe ≡ s = omega (arith, more, below) in
+          subst (λ (n : ℕ). says n (get_or (wholes ++ whole ∷ []) n [])) same (subst (says stripe) (sym new) now)
+    ]
+  where
+    new : get_or (wholes ++ whole ∷ []) stripe [] ≡ whole
+    new = ap (λ (n : ℕ). get_or (wholes ++ whole ∷ []) n []) (sym count) ∙ get_or-append_seam wholes whole [] []
 
 -- what stands before its end of a list is as it was once more stands behind it
 part_before : (from count : ℕ) (a b : List ℕ) → from + count ≤ length a → take count (drop from (a ++ b)) ≡ take count (drop from a)
@@ -109,23 +123,14 @@ part_behind : (from count : ℕ) (a b : List ℕ) → length a ≡ from → leng
 part_behind from count a b long short =
     ap (take count) (drop_at a b from long) ∙ take_all count b short
 
-module _ (origin : Origin) (possible : IsPossible origin) (stripe : ℕ) (within : stripe < stripe_total origin) (so_far bytes whole : List ℕ)
-    (wholes : List (List ℕ)) (before : AreSplitSoFar origin stripe so_far wholes)
-    (split : IsSplit origin bytes whole) (whole_long : length whole ≡ shard_total origin * origin.size)
+module _ (are : List ℕ → List ℕ → Type 0) (origin : Origin) (possible : IsPossible origin) (stripe : ℕ) (within : stripe < stripe_total origin)
+    (so_far bytes whole : List ℕ) (wholes : List (List ℕ)) (before : AreSoFar are origin stripe so_far wholes)
+    (split : are bytes whole) (whole_long : length whole ≡ shard_total origin * origin.size)
     (long : length bytes ≡ stripe_length origin stripe)
   where
     -- the stripes before this one are whole
     full : length so_far ≡ stripe * stripe_width origin
     full = let early = begins origin possible stripe within in omega (arith, before.long, early)
-
-    next_wholes : List (List ℕ)
-    next_wholes = wholes ++ whole ∷ []
-
-    old_whole : (s : ℕ) → s < stripe → get_or (wholes ++ whole ∷ []) s [] ≡ get_or wholes s []
-    old_whole s less = get_or_append_left wholes (whole ∷ []) [] s (omega (arith, less, before.count))
-
-    new_whole : get_or (wholes ++ whole ∷ []) stripe [] ≡ whole
-    new_whole = ap (λ (n : ℕ). get_or (wholes ++ whole ∷ []) n []) (sym before.count) ∙ get_or-append_seam wholes whole [] []
 
     old_content : (s : ℕ) → s < stripe → stripe_content origin s (so_far ++ bytes) ≡ stripe_content origin s so_far
     old_content s less =
@@ -143,36 +148,16 @@ module _ (origin : Origin) (possible : IsPossible origin) (stripe : ℕ) (within
         let least : stripe_length origin stripe ≤ stripe_width origin = omega arith in
         part_behind (stripe * stripe_width origin) (stripe_width origin) so_far bytes full (omega (arith, long, least))
 
-    pub split_more : AreSplitSoFar origin (stripe + 1) (so_far ++ bytes) (wholes ++ whole ∷ [])
+    pub split_more : AreSoFar are origin (stripe + 1) (so_far ++ bytes) (wholes ++ whole ∷ [])
     split_more =
         record {
           long = joined_length stripe (stripe_width origin) origin.length so_far bytes before.long long;
           count = length-append wholes (whole ∷ []) ∙ ap (λ (n : ℕ). n + 1) before.count;
-          split = each;
-          whole_long = each_long;
+          split = each_more (λ s. are (stripe_content origin s (so_far ++ bytes))) wholes whole stripe before.count
+              (λ s less. subst (λ (l : List ℕ). are l (get_or wholes s [])) (sym (old_content s less)) (before.split s less))
+              (subst (λ (l : List ℕ). are l whole) (sym new_content) split);
+          whole_long = each_more (λ _ l. length l ≡ shard_total origin * origin.size) wholes whole stripe before.count before.whole_long whole_long;
         }
-      where
-        each : (s : ℕ) → s < stripe + 1
-            → IsSplit origin (stripe_content origin s (so_far ++ bytes)) (get_or (wholes ++ whole ∷ []) s [])
-        each s below =
-            elim (cases_lt s stripe) [
-              | inl less ↦ subst (λ (l : List ℕ). IsSplit origin l (get_or (wholes ++ whole ∷ []) s [])) (sym (old_content s less))
-                  (subst (λ (l : List ℕ). IsSplit origin (stripe_content origin s so_far) l) (sym (old_whole s less)) (before.split s less))
-              | inr more ↦
-                  let same : stripe ≡ s = omega (arith, more, below) in
-                  subst (λ (n : ℕ). IsSplit origin (stripe_content origin n (so_far ++ bytes)) (get_or (wholes ++ whole ∷ []) n [])) same
-                  (subst (λ (l : List ℕ). IsSplit origin l (get_or (wholes ++ whole ∷ []) stripe [])) (sym new_content)
-                  (subst (λ (l : List ℕ). IsSplit origin bytes l) (sym new_whole) split))
-            ]
-
-        each_long : (s : ℕ) → s < stripe + 1 → length (get_or (wholes ++ whole ∷ []) s []) ≡ shard_total origin * origin.size
-        each_long s below =
-            elim (cases_lt s stripe) [
-              | inl less ↦ ap length (old_whole s less) ∙ before.whole_long s less
-              | inr more ↦
-                  let same : stripe ≡ s = omega (arith, more, below) in
-                  subst (λ (n : ℕ). length (get_or (wholes ++ whole ∷ []) n []) ≡ shard_total origin * origin.size) same (ap length new_whole ∙ whole_long)
-            ]
 
     -- the file of a shard grows by its piece of the stripe
     pub file_more : (index : ℕ) → shard_file origin (wholes ++ whole ∷ []) index
@@ -193,11 +178,12 @@ unfolding shard_file
 file_none origin index = append_none (head_file (numbered origin index))
 
 -- once all stripes are split, the whole file is
-pub split_all : (origin : Origin) (possible : IsPossible origin) (content : List ℕ) (wholes : List (List ℕ)) (stripe : ℕ) → stripe_total origin ≤ stripe
-    → stripe ≤ stripe_total origin → AreSplitSoFar origin stripe content wholes → sha256 content ≡ origin.identity → AreShards origin content wholes
-split_all origin possible content wholes stripe least most so_far named =
+pub split_all : (are : List ℕ → List ℕ → Type 0) (origin : Origin) (possible : IsPossible origin) (content : List ℕ) (wholes : List (List ℕ))
+    (stripe : ℕ) → stripe_total origin ≤ stripe → stripe ≤ stripe_total origin → AreSoFar are origin stripe content wholes
+    → sha256 content ≡ origin.identity → AreStripes are origin content wholes
+split_all are origin possible content wholes stripe least most so_far named =
     let all : stripe ≡ stripe_total origin = omega (arith, least, most) in
-    let done = subst (λ (n : ℕ). AreSplitSoFar origin n content wholes) all so_far in
+    let done = subst (λ (n : ℕ). AreSoFar are origin n content wholes) all so_far in
     record {
       length_is = whole_length (stripe_total origin) (stripe_width origin) origin.length (length content) (ends origin possible) done.long;
       identity_is = named;

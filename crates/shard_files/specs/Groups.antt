@@ -56,25 +56,34 @@ pub record Puts (total size index : ℕ) (shard : List ℕ) (old : List ℕ) (ha
   pub found : (other : ℕ) → other < total → IsPresent has other → IsPresent had other ⊎ ((other ≡ index) × (shard_at size new other ≡ shard))
   pub put : index < total → length shard ≡ size → IsPresent has index
 
+-- two lists of all shards have the same bytes in each of those that are at hand
+abbrev pub HaveSameShards : Origin → List Bool → List ℕ → List ℕ → Type 0
+HaveSameShards origin present one other =
+    (index : ℕ) → index < shard_total origin → IsPresent present index → shard_at origin.size one index ≡ shard_at origin.size other index
+
 -- as many shards as the data have are at hand, each as content was split into it
 pub record HasEnough (origin : Origin) (content whole shards : List ℕ) (present : List Bool) : Type 0 where
   pub split : IsSplit origin content whole
   pub long : length whole ≡ length shards
-  pub same : (index : ℕ) → index < shard_total origin → IsPresent present index → shard_at origin.size shards index ≡ shard_at origin.size whole index
+  pub same : HaveSameShards origin present shards whole
   pub enough : origin.data_shards ≤ present_count present
 
--- files give enough shards of a stripe: content was split into `whole`, what they give as shards of this origin is of that, and as many
--- of the shards as the data have are given
-pub record GivesStripe (origin : Origin) (files : Holdings) (stripe : ℕ) (content whole : List ℕ) : Type 0 where
-  pub split : IsSplit origin content whole
+-- files give as many of these shards of a stripe, which stand one after the other, as the data have, each behind a head of this origin
+pub record GivesEnough (origin : Origin) (files : Holdings) (stripe : ℕ) (whole : List ℕ) : Type 0 where
   pub long : length whole ≡ shard_total origin * origin.size
-  pub true_ones : (index place : ℕ) (shard : List ℕ) → index < shard_total origin → place < files.places → length shard ≡ origin.size
-      → GivesPiece files place (numbered origin index) stripe shard → shard ≡ shard_at origin.size whole index
   pub left : List Bool
   pub left_long : length left ≡ shard_total origin
   pub enough : origin.data_shards ≤ present_count left
   pub there : (index : ℕ) → IsPresent left index
       → (place : ℕ) × (place < files.places) × GivesPiece files place (numbered origin index) stripe (shard_at origin.size whole index)
+
+-- files give enough shards of a stripe: content was split into `whole`, what they give as shards of this origin is of that, and as many
+-- of the shards as the data have are given
+pub record GivesStripe (origin : Origin) (files : Holdings) (stripe : ℕ) (content whole : List ℕ) : Type 0 where
+  pub split : IsSplit origin content whole
+  pub true_ones : (index place : ℕ) (shard : List ℕ) → index < shard_total origin → place < files.places → length shard ≡ origin.size
+      → GivesPiece files place (numbered origin index) stripe shard → shard ≡ shard_at origin.size whole index
+  pub given : GivesEnough origin files stripe whole
 
 -- files give enough shards of each stripe of a file with these bytes, which is the one that the origin names; `wholes` are all shards of each stripe
 pub record GivesFile (origin : Origin) (files : Holdings) (content : List ℕ) (wholes : ℕ → List ℕ) : Type 0 where

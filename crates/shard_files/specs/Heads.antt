@@ -1,13 +1,17 @@
 -- The head of a shard's file, in format 3: 104 bytes, of which the last 32 are a digest of those before them.
-use Rattle.std.specs.Prelude.{◌≡◌, ℕ, ◌^◌, ◌<◌, List, [], ◌∷◌, ◌++◌, length}
+use Rattle.std.specs.Prelude.{◌≡◌, ℕ, ◌+◌, ◌^◌, ◌<◌, List, [], ◌∷◌, ◌++◌, length}
 use Rattle.std.specs.Int.{w32, w64, to_le_bytes}
 use Rattle.sha2.specs.Sha256.{sha256}
 use Rattle.shard_files.specs.declared.head.Head.{Head}
 use Rattle.shard_files.specs.declared.head.Origin.{Origin}
 
--- the eight characters `shards 3`
+-- the eight characters `shards 1`, `shards 2`, .., by which a head begins that was written in the format of that version
+abbrev pub format_name : ℕ → List ℕ
+format_name version = 115 ∷ 104 ∷ 97 ∷ 114 ∷ 100 ∷ 115 ∷ 32 ∷ (48 + version) ∷ []
+
+-- those of this one
 abbrev pub head_name : List ℕ
-head_name = 115 ∷ 104 ∷ 97 ∷ 114 ∷ 100 ∷ 115 ∷ 32 ∷ 51 ∷ []
+head_name = format_name 3
 
 -- the name of the format, the code, the counts of shards of data and of parity, and the shard's number, each as four bytes, the lowest first
 abbrev pub head_fields : Origin → ℕ → List ℕ

@@ -1,3 +1,4 @@
+pub mod Faults
 pub mod Files
 pub mod Groups
 pub mod Heads

@@ -3,7 +3,11 @@ use Rattle.std.specs.Prelude.{◌≡◌, List, ℕ, length, take}
 use Rattle.stripe_codes.specs.Codes.{IsStripeWord}
 use Rattle.shard_files.specs.declared.head.Origin.{Origin}
 
+-- all shards of a stripe begin with these bytes
+abbrev pub BeginWith : List ℕ → List ℕ → Type 0
+BeginWith content shards = take (length content) shards ≡ content
+
 -- all shards of a stripe are those of these bytes, by the code that the origin names
 pub record IsSplit (origin : Origin) (content shards : List ℕ) : Type 0 where
-  pub begins : take (length content) shards ≡ content
+  pub begins : BeginWith content shards
   pub code_word : IsStripeWord origin.code origin.data_shards origin.parity_shards origin.size shards

@@ -1,5 +1,5 @@
 -- The stripes of a file: as many bytes of it as the shards of data have bytes in one stripe, and in the last what is left.
-use Rattle.std.specs.Prelude.{◌≡◌, ℕ, ◌+◌, ◌-◌, ◌*◌, ◌/◌, ◌^◌, ◌<◌, ◌≤◌, min, List, take, drop}
+use Rattle.std.specs.Prelude.{ℕ, ◌+◌, ◌-◌, ◌*◌, ◌/◌, ◌^◌, ◌<◌, ◌≤◌, max, min, List, take, drop}
 use Rattle.stripe_codes.specs.Codes.{HasCode}
 use Rattle.shard_files.specs.declared.head.Origin.{Origin}
 
@@ -16,6 +16,22 @@ pub record IsPossible (origin : Origin) : Type 0 where
   pub some_size : 0 < origin.size
   pub small_size : origin.size ≤ 2 ^ 24
   pub small_length : origin.length ≤ 2 ^ 56
+
+-- the least number of parts of `each` bytes, one at least, that hold so many bytes
+abbrev pub part_count : ℕ → ℕ → ℕ
+part_count bytes each = max 1 ((bytes + (each - 1)) / each)
+
+-- the most bytes that one of so many shards has of a stripe, so that all of them have some 2 ^ 24
+abbrev pub most_size : ℕ → ℕ
+most_size total = part_count (2 ^ 24) total
+
+-- the least number of stripes, one at least, in which a file of so many bytes stands in k shards of data among so many
+abbrev pub fewest_stripes : ℕ → ℕ → ℕ → ℕ
+fewest_stripes k total bytes = part_count bytes (most_size total * k)
+
+-- the least number of bytes, one at least, that each shard has of so many stripes, all as long as one another
+abbrev pub even_size : ℕ → ℕ → ℕ → ℕ
+even_size k total bytes = part_count bytes (fewest_stripes k total bytes * k)
 
 -- how many bytes of the file a stripe has
 abbrev pub stripe_width : Origin → ℕ

@@ -1,4 +1,7 @@
 // Why shards are not written or a file is not restored.
+ghost use Rattle.std.specs.Prelude.{◌≡◌};
+ghost use Rattle.shard_files.specs.declared.error.RepairError.TheVariants.{Join, Split};
+
 use std::io;
 use thiserror::Error;
 
@@ -54,12 +57,16 @@ pub enum RepairError {
 }
 
 impl From<JoinError> for RepairError {
+    ghost from_gives = { λ error made. made ≡ Join error };
+
     fn from(error: JoinError) -> RepairError {
         RepairError::Join(error)
     }
 }
 
 impl From<SplitError> for RepairError {
+    ghost from_gives = { λ error made. made ≡ Split error };
+
     fn from(error: SplitError) -> RepairError {
         RepairError::Split(error)
     }

@@ -1,8 +1,8 @@
 // The shards of a file in one stripe: put to their places by what heads say, restored, and looked at.
-ghost use Rattle.std.specs.Prelude.{◌≡◌, ℕ, List, ◌+◌, ◌*◌, ◌<◌, ◌≤◌, ◌↔◌, drop, take, length, false, replicate, slice_index_or, IsOk, IsTrue, IfErr, IfOk};
+ghost use Rattle.std.specs.Prelude.{◌≡◌, ℕ, List, ◌+◌, ◌*◌, ◌<◌, ◌≤◌, ◌↔◌, ◌⊎◌, drop, take, length, false, replicate, slice_index_or, Err, IsOk, IsTrue, IfErr, IfOk, OnErr};
 ghost use Rattle.reed_solomon.specs.Shards.{present_count};
-ghost use Rattle.shard_files.specs.declared.error.JoinError.TheVariants.{Memory};
-ghost use Rattle.shard_files.specs.Groups.{AreOf, HasEnough, Puts, shard_at, Takes};
+ghost use Rattle.shard_files.specs.declared.error.JoinError.TheVariants.{Counts, Memory, TooFew};
+ghost use Rattle.shard_files.specs.Groups.{AreOf, HasEnough, HaveSameShards, Puts, shard_at, Takes};
 ghost use Rattle.shard_files.specs.Pieces.{piece_bytes};
 ghost use Rattle.shard_files.specs.Heads.{head_digest, IsOrigin};
 ghost use Rattle.stripe_codes.specs.Codes.{IsStripeWord};
@@ -26,9 +26,10 @@ pub struct Group {
 }
 
 impl Group {
-    /// No shard of the stripe is at hand yet.
+    /// No shard of the stripe is at hand yet. It fails where the origin is not possible, or else where memory is refused.
     pub fn new(alloc: Global, origin: Origin) -> Result<Group, JoinError>
         ensures of { IfOk result (λ group. group.origin ≡ origin) }
+        ensures counts { (IsPossible origin → ⊥) → result ≡ Err Counts }
         ensures refused { IfErr result (λ error. IsPossible origin → error ≡ Memory) }
         ensures empty { IfOk result (λ group. (index : ℕ) → slice_index_or group.present.items index false ≡ false) }
     {
@@ -128,13 +129,18 @@ impl Group {
         &self.shards.as_slice()[begin..begin + size]
     }
 
-    /// Restores the missing shards. It fails where fewer are at hand than the data have, or where memory is refused.
+    /// Restores the missing shards, and leaves those at hand. It fails where fewer are at hand than the data have, or else where memory is
+    /// refused; then all are as they were.
     pub fn restore(&mut self, alloc: Global) -> Result<(), JoinError>
         ensures kept { (self.new.origin ≡ self.old.origin) × (self.new.present ≡ self.old.present) }
+        ensures enough { IsOk result → self.old.origin.data_shards ≤ present_count self.old.present.items }
+        ensures stays { IsOk result
+            → HaveSameShards self.old.origin self.old.present.items self.new.shards.items self.old.shards.items }
         ensures restored { (content whole : List ℕ) → HasEnough self.old.origin content whole self.old.shards.items self.old.present.items
             → IsOk result → self.new.shards.items ≡ whole }
-        ensures granted { (content whole : List ℕ) → HasEnough self.old.origin content whole self.old.shards.items self.old.present.items
-            → IfErr result (λ error. error ≡ Memory) }
+        ensures refused { IfErr result (λ error. ((error ≡ TooFew) × (present_count self.old.present.items < self.old.origin.data_shards))
+            ⊎ ((error ≡ Memory) × (self.old.origin.data_shards ≤ present_count self.old.present.items))) }
+        ensures same { OnErr result (self.new.shards.items ≡ self.old.shards.items) }
     {
         if self.count() < self.origin.data_shards as usize {
             return Err(JoinError::TooFew);
@@ -146,9 +152,12 @@ impl Group {
     fn restore_shards(&mut self, alloc: Global) -> Result<(), JoinError>
         requires { self.old.origin.data_shards ≤ present_count self.old.present.items }
         ensures kept { (self.new.origin ≡ self.old.origin) × (self.new.present ≡ self.old.present) }
+        ensures stays { IsOk result
+            → HaveSameShards self.old.origin self.old.present.items self.new.shards.items self.old.shards.items }
         ensures restored { (content whole : List ℕ) → HasEnough self.old.origin content whole self.old.shards.items self.old.present.items
             → IsOk result → self.new.shards.items ≡ whole }
         ensures refused { IfErr result (λ error. error ≡ Memory) }
+        ensures same { OnErr result (self.new.shards.items ≡ self.old.shards.items) }
     {
         let code = match self.origin.stripe_code() {
             Some(code) => code,

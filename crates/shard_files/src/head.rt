@@ -1,10 +1,10 @@
 // The head of a shard's file, 104 bytes: eight that name the format and its version, then, the lowest byte first, the code, the counts of
 // shards of data and of parity and the shard's number in four bytes each, the file's length and the bytes of a shard in a stripe in eight
 // bytes each, the SHA-256 of the file's bytes, which is the file's identity, and the SHA-256 of all this.
-ghost use Rattle.std.specs.Prelude.{◌≡◌, ◌+◌, ◌≤◌, ◌++◌, ◌↔◌, ℕ, List, drop, length, slice_index, take, IfSome, IsTrue, OnOk, Some};
+ghost use Rattle.std.specs.Prelude.{◌≡◌, ◌≢◌, ◌⊎◌, ◌+◌, ◌≤◌, ◌++◌, ◌↔◌, ℕ, List, drop, length, slice_index, take, IfSome, IsNone, IsTrue, OnOk, Some};
 ghost use Rattle.std.specs.Int.{w32, w64, from_le_bytes, to_le_bytes};
 ghost use Rattle.std.specs.Io.KnownBytes.{Appends};
-ghost use Rattle.shard_files.specs.Heads.{head_digest, head_fields, head_file, IsHead};
+ghost use Rattle.shard_files.specs.Heads.{format_name, head_digest, head_fields, head_file, IsHead};
 ghost use Rattle.shard_files.specs.declared.head.Head.{Head};
 
 use sha2::{Digest, Sha256};
@@ -210,13 +210,23 @@ fn is_long(bytes: &[u8], place: usize, number: u64) -> bool
     bytes[place..place + 8] == own[..]
 }
 
-/// The version of the format of a file that was written by an older program, where it is one.
-pub fn older_format(bytes: &[u8]) -> Option<u8> {
-    if bytes.starts_with(b"shards 1") {
+/// The version of the format of a file that was written by an older program, 1 or 2, where it begins with the name of one.
+pub fn older_format(bytes: &[u8]) -> Option<u8>
+    ensures named { IfSome result (λ version. ((version ≡ 1) ⊎ (version ≡ 2)) × (take 8 bytes.now ≡ format_name version)) }
+    ensures none { IsNone result → (version : ℕ) → (version ≡ 1) ⊎ (version ≡ 2) → take 8 bytes.now ≢ format_name version }
+{
+    if has_name(bytes, b"shards 1") {
         Some(1)
-    } else if bytes.starts_with(b"shards 2") {
+    } else if has_name(bytes, b"shards 2") {
         Some(2)
     } else {
         None
     }
+}
+
+// Whether bytes begin with a name.
+fn has_name(bytes: &[u8], name: &[u8]) -> bool
+    ensures { IsTrue result ↔ (take (length name.now) bytes.now ≡ name.now) }
+{
+    bytes.starts_with(name)
 }

@@ -1,7 +1,7 @@
 // The stripes of a file: where their bytes begin, and how many they are.
-ghost use Rattle.std.specs.Prelude.{◌≡◌, ◌+◌, ◌-◌, ◌*◌, ◌/◌, ◌<◌, ◌%◌, ◌≤◌, ◌↔◌, ◌^◌, IfSome, IsSome, IsTrue};
+ghost use Rattle.std.specs.Prelude.{◌≡◌, ◌≢◌, ◌+◌, ◌-◌, ◌*◌, ◌/◌, ◌<◌, ◌%◌, ◌≤◌, ◌↔◌, ◌^◌, IfSome, IsSome, IsTrue};
 ghost use Rattle.stripe_codes.specs.Codes.{HasCode};
-ghost use Rattle.shard_files.specs.Stripes.{IsPossible, piece_start, shard_total, stripe_length, stripe_total, stripe_width};
+ghost use Rattle.shard_files.specs.Stripes.{even_size, IsPossible, part_count, piece_start, shard_total, stripe_length, stripe_total, stripe_width};
 
 use crate::head::{HEAD, Origin};
 use crate::piece::DIGEST;
@@ -22,6 +22,8 @@ impl Origin {
     ) -> Origin
         ensures counts { (result.code ≡ code) × (result.data_shards ≡ data_shards) × (result.parity_shards ≡ parity_shards) }
         ensures named { (result.length ≡ length) × (result.identity ≡ identity) }
+        ensures size { let size = even_size data_shards (data_shards + parity_shards) length in
+            (code ≢ 2 → result.size ≡ size) × (code ≡ 2 → result.size ≡ size + size % 2) }
         ensures even { code ≡ 2 → result.size % 2 ≡ 0 }
     {
         let data = data_shards as u64;
@@ -130,18 +132,20 @@ impl Origin {
 }
 
 // How many bytes each shard has of a stripe, where the file has as few stripes as go, all as long as one another.
-fn shard_size(data: u64, total: u64, length: u64) -> u64
-    ensures { result ≤ 2 ^ 24 }
+fn shard_size(data_shards: u64, total: u64, length: u64) -> u64
+    ensures small { result ≤ 2 ^ 24 }
+    ensures size { result ≡ even_size data_shards total length }
 {
     let most = parts(STRIPE, total).clamp(1, STRIPE);
-    let stripes = parts(length, most.saturating_mul(data));
-    parts(length, stripes.saturating_mul(data)).clamp(1, STRIPE)
+    let stripes = parts(length, most.saturating_mul(data_shards));
+    parts(length, stripes.saturating_mul(data_shards)).clamp(1, STRIPE)
 }
 
 // So many bytes of a shard, up to whole words where the code is over words.
 fn in_words(code: u32, size: u64) -> u64
     requires { size ≤ 2 ^ 24 }
-    ensures { code ≡ 2 → result % 2 ≡ 0 }
+    ensures whole { (code ≢ 2 → result ≡ size) × (code ≡ 2 → result ≡ size + size % 2) }
+    ensures even { code ≡ 2 → result % 2 ≡ 0 }
 {
     if code == TRANSFORM {
         size + size % 2
@@ -151,7 +155,9 @@ fn in_words(code: u32, size: u64) -> u64
 }
 
 // How many parts of so many bytes hold all of them, of which the last may be shorter.
-fn parts(length: u64, each: u64) -> u64 {
+fn parts(length: u64, each: u64) -> u64
+    ensures { result ≡ part_count length each }
+{
     if each == 0 || length == 0 {
         1
     } else {

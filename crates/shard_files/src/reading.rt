@@ -1,10 +1,12 @@
 // The shards of a file from the files that have them, stripe by stripe, and the file from its shards.
-ghost use Rattle.std.specs.Prelude.{◌≡◌, ◌⊎◌, ℕ, List, ◌+◌, ◌*◌, ◌<◌, ◌≤◌, ◌++◌, length, false, take, None, Some, IfErr, IfOk, IsTrue, OnOk};
+ghost use Rattle.std.specs.Prelude.{◌≡◌, ◌≢◌, ◌⊎◌, ℕ, List, [], ◌+◌, ◌*◌, ◌<◌, ◌≤◌, ◌++◌, length, false, slice_index_or, take, None, Some, Err, IfErr, IfOk, IsTrue, OnOk};
 ghost use Rattle.std.specs.Io.KnownBytes.{Appends};
 ghost use Rattle.sha2.specs.Hashers.{Holds256};
 ghost use Rattle.sha2.specs.Sha256.{sha256};
-ghost use Rattle.shard_files.specs.declared.error.JoinError.TheVariants.{CannotWrite, Memory};
-ghost use Rattle.shard_files.specs.Groups.{GivesPiece, GivesFile, GivesStripe, Holdings, IsGathered, numbered, Takes};
+ghost use Rattle.shard_files.specs.declared.error.JoinError.TheVariants.{CannotWrite, Counts, Memory, OtherBytes, TooFew};
+ghost use Rattle.shard_files.specs.Files.{HoldFile};
+ghost use Rattle.shard_files.specs.Groups.{GivesEnough, GivesPiece, GivesFile, GivesStripe, Holdings, IsGathered, numbered, Takes};
+ghost use Rattle.shard_files.specs.Splits.{BeginWith};
 ghost use Rattle.shard_files.specs.Stripes.{IsPossible, piece_start, shard_total, stripe_length, stripe_total};
 
 use crate::error::JoinError;
@@ -42,6 +44,7 @@ pub fn gather<S: ShardSource>(
 ) -> Result<Group, JoinError>
     requires { stripe < stripe_total origin }
     ensures of { IfOk result (λ group. group.origin ≡ origin) }
+    ensures counts { (IsPossible origin → ⊥) → result ≡ Err Counts }
     ensures refused { IfErr result (λ error. IsPossible origin → error ≡ Memory) }
     ensures kept { (files : Holdings) → S.holds source.old files → S.holds source.new files }
     ensures gathered { (files : Holdings) → S.holds source.old files
@@ -93,9 +96,9 @@ fn start_of(group: &Group, stripe: u64) -> u64
     group.origin.piece_start(stripe)
 }
 
-/// Writes a file from its shards, stripe by stripe. The origin is possible. It fails where in a stripe too few shards are given, where what
-/// it wrote has not the identity that the origin names, where it cannot be written, or where memory is refused; what it wrote till then is
-/// not the file.
+/// Writes a file from its shards, stripe by stripe, of which it takes those alone that stand behind heads of the origin. The origin is
+/// possible. It fails where in a stripe too few shards are given, where what it wrote has not the identity that the origin names, where it
+/// cannot be written, or where memory is refused; what it wrote till then is not the file.
 pub fn write_content<S: ShardSource, W: Write>(
     alloc: Global,
     source: &mut S,
@@ -103,10 +106,17 @@ pub fn write_content<S: ShardSource, W: Write>(
     writer: &mut W,
 ) -> Result<(), JoinError>
     requires { IsPossible origin }
-    ensures named { OnOk result ((content : List ℕ) × Appends (W.contents writer.old) (W.contents writer.new) content
-        × (sha256 content ≡ origin.identity) × (length content ≡ origin.length)) }
+    ensures named { OnOk result ((content : List ℕ) × (wholes : List (List ℕ)) × HoldFile origin content wholes
+        × Appends (W.contents writer.old) (W.contents writer.new) content × ((files : Holdings) → S.holds source.old files
+        → (stripe : ℕ) → stripe < stripe_total origin → GivesEnough origin files stripe (slice_index_or wholes stripe []))) }
     ensures restored { (files : Holdings) (content : List ℕ) (wholes : ℕ → List ℕ) → S.holds source.old files
         → GivesFile origin files content wholes → OnOk result (Appends (W.contents writer.old) (W.contents writer.new) content) }
+    ensures refused { IfErr result (λ error. (error ≡ TooFew) ⊎ (error ≡ CannotWrite) ⊎ (error ≡ Memory) ⊎ ((error ≡ OtherBytes)
+        × ((content : List ℕ) × Appends (W.contents writer.old) (W.contents writer.new) content × (length content ≡ origin.length)
+        × (sha256 content ≢ origin.identity)))) }
+    ensures enough { (files : Holdings) (wholes : ℕ → List ℕ) → S.holds source.old files
+        → ((stripe : ℕ) → stripe < stripe_total origin → GivesEnough origin files stripe (wholes stripe))
+        → IfErr result (λ error. error ≢ TooFew) }
     ensures granted { (files : Holdings) (content : List ℕ) (wholes : ℕ → List ℕ) → S.holds source.old files
         → GivesFile origin files content wholes → IfErr result (λ error. (error ≡ CannotWrite) ⊎ (error ≡ Memory)) }
 {
@@ -132,12 +142,15 @@ fn write_stripe<S: ShardSource, W: Write>(
     requires possible { IsPossible origin }
     requires within { stripe < stripe_total origin }
     ensures kept { (files : Holdings) → S.holds source.old files → S.holds source.new files }
-    ensures wrote { OnOk result ((bytes : List ℕ) × Appends (W.contents writer.old) (W.contents writer.new) bytes
+    ensures wrote { OnOk result ((bytes : List ℕ) × (restored : List ℕ) × Appends (W.contents writer.old) (W.contents writer.new) bytes
+        × BeginWith bytes restored × (length restored ≡ shard_total origin * origin.size)
+        × ((files : Holdings) → S.holds source.old files → GivesEnough origin files stripe restored)
         × ((before : List ℕ) → Holds256 hasher.old before → Holds256 hasher.new (before ++ bytes))
         × (length bytes ≡ stripe_length origin stripe)
         × ((files : Holdings) (content whole : List ℕ) → S.holds source.old files → GivesStripe origin files stripe content whole
         → length content ≡ stripe_length origin stripe → bytes ≡ content)) }
-    ensures granted { (files : Holdings) (content whole : List ℕ) → S.holds source.old files → GivesStripe origin files stripe content whole
+    ensures refused { IfErr result (λ error. (error ≡ TooFew) ⊎ (error ≡ CannotWrite) ⊎ (error ≡ Memory)) }
+    ensures granted { (files : Holdings) (whole : List ℕ) → S.holds source.old files → GivesEnough origin files stripe whole
         → IfErr result (λ error. (error ≡ CannotWrite) ⊎ (error ≡ Memory)) }
 {
     let group = restored(alloc, source, origin, stripe)?;
@@ -149,8 +162,8 @@ fn write_stripe<S: ShardSource, W: Write>(
     }
 }
 
-/// All shards of a stripe, restored from those that the files give. The origin is possible, and has that stripe. It fails where too few are
-/// given, or memory is refused.
+/// All shards of a stripe, restored from those that the files give behind heads of this origin. The origin is possible, and has that stripe.
+/// It fails where too few are given, or else where memory is refused.
 pub fn restored<S: ShardSource>(
     alloc: Global,
     source: &mut S,
@@ -161,9 +174,12 @@ pub fn restored<S: ShardSource>(
     requires possible { IsPossible origin }
     ensures of { IfOk result (λ group. group.origin ≡ origin) }
     ensures kept { (files : Holdings) → S.holds source.old files → S.holds source.new files }
+    ensures given { (files : Holdings) → S.holds source.old files
+        → IfOk result (λ group. GivesEnough origin files stripe group.shards.items) }
     ensures restored { (files : Holdings) (content whole : List ℕ) → S.holds source.old files
         → GivesStripe origin files stripe content whole → IfOk result (λ group. group.shards.items ≡ whole) }
-    ensures granted { (files : Holdings) (content whole : List ℕ) → S.holds source.old files → GivesStripe origin files stripe content whole
+    ensures refused { IfErr result (λ error. (error ≡ TooFew) ⊎ (error ≡ Memory)) }
+    ensures granted { (files : Holdings) (whole : List ℕ) → S.holds source.old files → GivesEnough origin files stripe whole
         → IfErr result (λ error. error ≡ Memory) }
 {
     let mut group = gather(alloc, source, origin, stripe)?;

@@ -1,10 +1,11 @@
 // Shards of a file that are written again, stripe by stripe.
-ghost use Rattle.std.specs.Prelude.{◌≡◌, ℕ, List, [], ◌+◌, ◌^◌, ◌<◌, ◌≤◌, length, slice_index_or, OnOk};
-ghost use Rattle.shard_files.specs.Files.{AppendsToLost, shard_file};
-ghost use Rattle.shard_files.specs.Groups.{GivesFile, Holdings, numbered, shard_at};
+ghost use Rattle.std.specs.Prelude.{◌≡◌, ℕ, List, [], ◌+◌, ◌^◌, ◌<◌, ◌≤◌, length, slice_index_or, take, IfErr, OnOk};
+ghost use Rattle.shard_files.specs.Faults.{IsRepairFault, IsWriteFault};
+ghost use Rattle.shard_files.specs.Files.{AppendsToLost, HoldFile, shard_file};
+ghost use Rattle.shard_files.specs.Groups.{GivesEnough, GivesFile, Holdings, numbered, shard_at};
 ghost use Rattle.shard_files.specs.Heads.{head_digest, head_file};
 ghost use Rattle.shard_files.specs.Pieces.{piece_bytes};
-ghost use Rattle.shard_files.specs.Stripes.{IsPossible, shard_total, stripe_total};
+ghost use Rattle.shard_files.specs.Stripes.{IsPossible, shard_total, stripe_length, stripe_total};
 
 use crate::error::{JoinError, RepairError, SplitError};
 use crate::group::Group;
@@ -14,9 +15,9 @@ use crate::writing::{ShardFiles, put_head, put_piece};
 use sha2::{Digest, Sha256};
 use std::alloc::Global;
 
-/// Restores the shards of a file, and writes those that are lost, as `write_shards` wrote them. The origin is possible, and there is
-/// a flag for each shard. It fails where too few shards are given in a stripe, where what is restored has not the identity that the origin
-/// names, where a file cannot be written, or where memory is refused.
+/// Restores the shards of a file from those alone that stand behind heads of the origin, and writes those that are lost, as `write_shards`
+/// wrote them. The origin is possible, and there is a flag for each shard. It fails where too few shards are given in a stripe, where what is
+/// restored has not the identity that the origin names, where a file cannot be written, or where memory is refused.
 pub fn repair_shards<S: ShardSource, F: ShardFiles>(
     alloc: Global,
     source: &mut S,
@@ -26,10 +27,17 @@ pub fn repair_shards<S: ShardSource, F: ShardFiles>(
 ) -> Result<(), RepairError>
     requires possible { IsPossible origin }
     requires flags { length lost.now ≡ shard_total origin }
-    ensures { (held : Holdings) (content : List ℕ) (wholes : List (List ℕ)) (before : ℕ → List ℕ) → S.holds source.old held
+    ensures named { OnOk result ((content : List ℕ) × (wholes : List (List ℕ)) × HoldFile origin content wholes
+        × ((held : Holdings) → S.holds source.old held
+        → (stripe : ℕ) → stripe < stripe_total origin → GivesEnough origin held stripe (slice_index_or wholes stripe []))
+        × ((before : ℕ → List ℕ) → F.holds files.old before → (now : ℕ → List ℕ) × F.holds files.new now
+        × AppendsToLost (length lost.now) lost.now (shard_file origin wholes) before now)) }
+    ensures restored { (held : Holdings) (content : List ℕ) (wholes : List (List ℕ)) (before : ℕ → List ℕ) → S.holds source.old held
         → length wholes ≡ stripe_total origin → GivesFile origin held content (λ stripe. slice_index_or wholes stripe [])
         → F.holds files.old before → OnOk result ((now : ℕ → List ℕ) × F.holds files.new now
         × AppendsToLost (length lost.now) lost.now (shard_file origin wholes) before now) }
+    ensures granted { (held : Holdings) (content : List ℕ) (wholes : ℕ → List ℕ) → S.holds source.old held
+        → GivesFile origin held content wholes → IfErr result IsRepairFault }
 {
     put_lost_heads(alloc, &origin, lost, files)?;
     let mut hasher = Sha256::new();
@@ -47,6 +55,7 @@ pub fn repair_shards<S: ShardSource, F: ShardFiles>(
 // The bytes of the file in a stripe.
 fn content_of(group: &Group, stripe: u64) -> &[u8]
     requires { stripe < stripe_total group.now.origin }
+    ensures { result.now ≡ take (stripe_length group.now.origin stripe) group.now.shards.items }
 {
     group.content(group.origin.stripe_length(stripe))
 }
@@ -59,8 +68,9 @@ fn put_lost_heads<F: ShardFiles>(
     files: &mut F,
 ) -> Result<(), SplitError>
     requires { length lost.now ≤ 2 ^ 32 }
-    ensures { (before : ℕ → List ℕ) → F.holds files.old before → OnOk result ((now : ℕ → List ℕ) × F.holds files.new now
+    ensures put { (before : ℕ → List ℕ) → F.holds files.old before → OnOk result ((now : ℕ → List ℕ) × F.holds files.new now
         × AppendsToLost (length lost.now) lost.now (λ index. head_file (numbered origin.now index)) before now) }
+    ensures refused { IfErr result IsWriteFault }
 {
     for index in 0..lost.len() {
         if lost[index] {
@@ -78,9 +88,10 @@ fn put_lost_pieces<F: ShardFiles>(
     files: &mut F,
 ) -> Result<(), SplitError>
     requires { length lost.now ≡ shard_total group.now.origin }
-    ensures { (before : ℕ → List ℕ) → F.holds files.old before → OnOk result ((now : ℕ → List ℕ) × F.holds files.new now
+    ensures put { (before : ℕ → List ℕ) → F.holds files.old before → OnOk result ((now : ℕ → List ℕ) × F.holds files.new now
         × AppendsToLost (length lost.now) lost.now (λ index. piece_bytes (head_digest (numbered group.now.origin index)) stripe
         (shard_at group.now.origin.size group.now.shards.items index)) before now) }
+    ensures refused { IfErr result IsWriteFault }
 {
     for index in 0..lost.len() {
         if lost[index] {

@@ -1,7 +1,8 @@
 // The bytes of a stripe in shards.
-ghost use Rattle.std.specs.Prelude.{◌≡◌, ◌*◌, ◌<◌, ◌≤◌, ℕ, length, slice_index, IsOk, IsTrue};
+ghost use Rattle.std.specs.Prelude.{◌≡◌, ◌*◌, ◌<◌, ◌≤◌, ◌↔◌, ℕ, length, slice_index, IfErr, IsOk, IsTrue};
+ghost use Rattle.shard_files.specs.declared.error.SplitError.TheVariants.{Memory};
 ghost use Rattle.shard_files.specs.Splits.{IsSplit};
-ghost use Rattle.shard_files.specs.Stripes.{shard_total};
+ghost use Rattle.shard_files.specs.Stripes.{IsPossible, shard_total, stripe_width};
 
 use crate::error::SplitError;
 use crate::head::Origin;
@@ -17,6 +18,7 @@ pub(crate) fn split_into(
 ) -> Result<(), SplitError>
     requires { length shards.old ≡ shard_total origin.now * origin.now.size }
     ensures split { IsOk result → IsSplit origin.now content.now shards.new }
+    ensures refused { IfErr result (λ error. IsPossible origin.now → length content.now ≤ stripe_width origin.now → error ≡ Memory) }
     ensures long { length shards.new ≡ length shards.old }
 {
     if !has_room(
@@ -37,13 +39,13 @@ pub(crate) fn split_into(
     }
 }
 
-// Whether so many bytes fit into the shards of data.
+// Whether so many bytes fit into the shards of data: any do where the room is no number of a word.
 fn has_room(content: usize, data_shards: usize, size: usize) -> bool
-    ensures { IsTrue result → content ≤ data_shards * size }
+    ensures { IsTrue result ↔ (content ≤ data_shards * size) }
 {
     match data_shards.checked_mul(size) {
         Some(room) => content <= room,
-        None => false,
+        None => true,
     }
 }
 

@@ -1,14 +1,16 @@
 // The files of the shards of a file, written stripe by stripe.
-ghost use Rattle.std.specs.Prelude.{◌≡◌, ◌≢◌, ℕ, List, ◌+◌, ◌*◌, ◌<◌, ◌≤◌, ◌++◌, ◌^◌, length, IfOk, OnOk};
+ghost use Rattle.std.specs.Prelude.{◌≡◌, ◌≢◌, ◌⊎◌, ℕ, List, ◌+◌, ◌*◌, ◌<◌, ◌≤◌, ◌++◌, ◌^◌, length, IfErr, IfOk, OnOk};
 ghost use Rattle.std.specs.Io.KnownBytes.{Appends, Consumes};
 ghost use Rattle.sha2.specs.Hashers.{Holds256};
 ghost use Rattle.sha2.specs.Sha256.{sha256};
+ghost use Rattle.shard_files.specs.declared.error.SplitError.TheVariants.{Changed, Memory};
+ghost use Rattle.shard_files.specs.Faults.{IsSplitFault, IsWriteFault};
 ghost use Rattle.shard_files.specs.Files.{AppendsToEach, AreShards, IsAppended, shard_file};
 ghost use Rattle.shard_files.specs.Groups.{numbered, shard_at};
 ghost use Rattle.shard_files.specs.Heads.{head_digest, head_file};
 ghost use Rattle.shard_files.specs.Pieces.{piece_bytes};
 ghost use Rattle.shard_files.specs.Splits.{IsSplit};
-ghost use Rattle.shard_files.specs.Stripes.{IsPossible, shard_total, stripe_length, stripe_total};
+ghost use Rattle.shard_files.specs.Stripes.{IsPossible, shard_total, stripe_length, stripe_total, stripe_width};
 
 use crate::error::SplitError;
 use crate::group::zeros;
@@ -41,10 +43,13 @@ pub fn write_shards<R: Read, F: ShardFiles>(
     files: &mut F,
 ) -> Result<(), SplitError>
     requires { IsPossible origin }
-    ensures { OnOk result ((content : List ℕ) × (wholes : List (List ℕ)) × AreShards origin content wholes
+    ensures written { OnOk result ((content : List ℕ) × (wholes : List (List ℕ)) × AreShards origin content wholes
         × Consumes (R.remaining reader.old) (R.remaining reader.new) content
         × ((before : ℕ → List ℕ) → F.holds files.old before → (now : ℕ → List ℕ) × F.holds files.new now
         × AppendsToEach (shard_total origin) (shard_file origin wholes) before now)) }
+    ensures refused { IfErr result (λ error. IsSplitFault error ⊎ ((error ≡ Changed) × ((content : List ℕ)
+        × Consumes (R.remaining reader.old) (R.remaining reader.new) content × (length content ≡ origin.length)
+        × (sha256 content ≢ origin.identity)))) }
 {
     put_heads(alloc, &origin, files)?;
     let mut hasher = Sha256::new();
@@ -60,8 +65,9 @@ pub fn write_shards<R: Read, F: ShardFiles>(
 // Writes the head of each shard.
 fn put_heads<F: ShardFiles>(alloc: Global, origin: &Origin, files: &mut F) -> Result<(), SplitError>
     requires { IsPossible origin.now }
-    ensures { (before : ℕ → List ℕ) → F.holds files.old before → OnOk result ((now : ℕ → List ℕ) × F.holds files.new now
+    ensures put { (before : ℕ → List ℕ) → F.holds files.old before → OnOk result ((now : ℕ → List ℕ) × F.holds files.new now
         × AppendsToEach (shard_total origin.now) (λ index. head_file (numbered origin.now index)) before now) }
+    ensures refused { IfErr result IsWriteFault }
 {
     for index in 0..origin.total() {
         put_head(alloc, origin, index, files)?;
@@ -77,8 +83,9 @@ pub fn put_head<F: ShardFiles>(
     files: &mut F,
 ) -> Result<(), SplitError>
     requires { index < 2 ^ 32 }
-    ensures { (before : ℕ → List ℕ) → F.holds files.old before → OnOk result ((now : ℕ → List ℕ) × F.holds files.new now
+    ensures put { (before : ℕ → List ℕ) → F.holds files.old before → OnOk result ((now : ℕ → List ℕ) × F.holds files.new now
         × IsAppended index (head_file (numbered origin.now index)) before now) }
+    ensures refused { IfErr result IsWriteFault }
 {
     let head = Head {
         origin: *origin,
@@ -91,7 +98,8 @@ pub fn put_head<F: ShardFiles>(
 
 // The bytes of a head.
 fn bytes_of(alloc: Global, head: &Head) -> Result<Vec<u8>, SplitError>
-    ensures { IfOk result (λ bytes. bytes.items ≡ head_file head.now) }
+    ensures made { IfOk result (λ bytes. bytes.items ≡ head_file head.now) }
+    ensures refused { IfErr result (λ error. error ≡ Memory) }
 {
     let mut bytes = Vec::new(alloc);
     match head.write(&mut bytes) {
@@ -102,8 +110,9 @@ fn bytes_of(alloc: Global, head: &Head) -> Result<Vec<u8>, SplitError>
 
 // Adds bytes at the end of the file of a shard.
 fn append<F: ShardFiles>(files: &mut F, index: usize, bytes: &[u8]) -> Result<(), SplitError>
-    ensures { (before : ℕ → List ℕ) → F.holds files.old before → OnOk result ((now : ℕ → List ℕ) × F.holds files.new now
+    ensures put { (before : ℕ → List ℕ) → F.holds files.old before → OnOk result ((now : ℕ → List ℕ) × F.holds files.new now
         × IsAppended index bytes.now before now) }
+    ensures refused { IfErr result IsWriteFault }
 {
     match files.append(index, bytes) {
         Ok(()) => Ok(()),
@@ -122,13 +131,14 @@ fn write_stripe<R: Read, F: ShardFiles>(
 ) -> Result<(), SplitError>
     requires possible { IsPossible origin.now }
     requires within { stripe < stripe_total origin.now }
-    ensures { OnOk result ((bytes : List ℕ) × (whole : List ℕ) × IsSplit origin.now bytes whole
+    ensures written { OnOk result ((bytes : List ℕ) × (whole : List ℕ) × IsSplit origin.now bytes whole
         × (length whole ≡ shard_total origin.now * origin.now.size) × (length bytes ≡ stripe_length origin.now stripe)
         × Consumes (R.remaining reader.old) (R.remaining reader.new) bytes
         × ((before : List ℕ) → Holds256 hasher.old before → Holds256 hasher.new (before ++ bytes))
         × ((before : ℕ → List ℕ) → F.holds files.old before → (now : ℕ → List ℕ) × F.holds files.new now
         × AppendsToEach (shard_total origin.now)
         (λ index. piece_bytes (head_digest (numbered origin.now index)) stripe (shard_at origin.now.size whole index)) before now)) }
+    ensures refused { IfErr result IsSplitFault }
 {
     let content = read_stripe(alloc, origin.stripe_length(stripe), reader)?;
     hasher.update(content.as_slice());
@@ -139,7 +149,8 @@ fn write_stripe<R: Read, F: ShardFiles>(
 
 // Reads so many bytes.
 fn read_stripe<R: Read>(alloc: Global, count: usize, reader: &mut R) -> Result<Vec<u8>, SplitError>
-    ensures { IfOk result (λ bytes. (length bytes.items ≡ count) × Consumes (R.remaining reader.old) (R.remaining reader.new) bytes.items) }
+    ensures read { IfOk result (λ bytes. (length bytes.items ≡ count) × Consumes (R.remaining reader.old) (R.remaining reader.new) bytes.items) }
+    ensures refused { IfErr result IsSplitFault }
 {
     let mut bytes = match zeros(alloc, 1, count) {
         Ok(bytes) => bytes,
@@ -155,6 +166,7 @@ fn read_stripe<R: Read>(alloc: Global, count: usize, reader: &mut R) -> Result<V
 fn split_stripe(alloc: Global, origin: &Origin, content: &[u8]) -> Result<Vec<u8>, SplitError>
     ensures split { IfOk result (λ shards. IsSplit origin.now content.now shards.items) }
     ensures long { IfOk result (λ shards. length shards.items ≡ shard_total origin.now * origin.now.size) }
+    ensures refused { IfErr result (λ error. IsPossible origin.now → length content.now ≤ stripe_width origin.now → error ≡ Memory) }
 {
     let mut shards = match zeros(alloc, origin.total(), origin.size as usize) {
         Ok(shards) => shards,
@@ -173,9 +185,10 @@ fn put_pieces<F: ShardFiles>(
 ) -> Result<(), SplitError>
     requires possible { IsPossible origin.now }
     requires whole { length shards.now ≡ shard_total origin.now * origin.now.size }
-    ensures { (before : ℕ → List ℕ) → F.holds files.old before → OnOk result ((now : ℕ → List ℕ) × F.holds files.new now
+    ensures put { (before : ℕ → List ℕ) → F.holds files.old before → OnOk result ((now : ℕ → List ℕ) × F.holds files.new now
         × AppendsToEach (shard_total origin.now)
         (λ index. piece_bytes (head_digest (numbered origin.now index)) stripe (shard_at origin.now.size shards.now index)) before now) }
+    ensures refused { IfErr result IsWriteFault }
 {
     for index in 0..origin.total() {
         put_piece(
@@ -209,8 +222,9 @@ pub fn put_piece<F: ShardFiles>(
     files: &mut F,
 ) -> Result<(), SplitError>
     requires { index < 2 ^ 32 }
-    ensures { (before : ℕ → List ℕ) → F.holds files.old before → OnOk result ((now : ℕ → List ℕ) × F.holds files.new now
+    ensures put { (before : ℕ → List ℕ) → F.holds files.old before → OnOk result ((now : ℕ → List ℕ) × F.holds files.new now
         × IsAppended index (piece_bytes (head_digest (numbered origin.now index)) stripe shard.now) before now) }
+    ensures refused { IfErr result IsWriteFault }
 {
     let head = Head {
         origin: *origin,

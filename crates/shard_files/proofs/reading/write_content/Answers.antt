@@ -1,21 +1,27 @@
-use Rattle.std.proofs.Common.{◌≡◌, ◌*◌, false, [], ◌++◌, length, sym, ◌∙◌, ap, subst, arith, rules}
+use Rattle.std.proofs.Common.{◌≡◌, ◌*◌, ◌<◌, false, [], ◌∷◌, ◌++◌, inr, length, refl, sym, ◌∙◌, ap, subst, arith, rules}
 use Rattle.std.specs.Io.KnownBytes.{Appends}
 use Rattle.std.proofs.lemmas.Bool.{true≢false}
+use Rattle.std.proofs.lemmas.Result.{err_from_is_err_and}
 use Rattle.sha2.specs.Sha256.{sha256}
 use Rattle.std.proofs.KnownBytes.{Appends-nil, Appends-trans}
-use Rattle.shard_files.specs.Stripes.{stripe_content, stripe_width}
-use Rattle.shard_files.proofs.Joined.{joined_content, joined_length, none_long, none_yet, take_all, whole_length}
+use Rattle.shard_files.specs.Groups.{GivesEnough}
+use Rattle.shard_files.specs.Splits.{BeginWith}
+use Rattle.shard_files.specs.Stripes.{stripe_content, stripe_total, stripe_width}
+use Rattle.shard_files.proofs.Faults.{not_few}
+use Rattle.shard_files.proofs.Joined.{joined_content, none_yet, take_all, whole_length}
 use Rattle.shard_files.proofs.Positions.{content_length, ends_at}
+use Rattle.shard_files.proofs.Written.{each_more, split_all, split_more, split_none}
 use Rattle.shard_files.proofs.reading.write_content.Goals as goal
 
 pub loop-stripe-init : goal.loop-stripe-init
 loop-stripe-init g c =
-    let width = stripe_width c.args.origin in (
+    let origin = c.args.origin in (
+      [],
       [],
       Appends-nil (g.W.Write.contents c.args.writer.now),
       c.new-hasher.ensures,
-      none_long width c.args.origin.length,
-      λ files held. (held, λ content wholes gives. none_yet width content),
+      split_none BeginWith origin,
+      λ files held. (held, λ s below. absurd (omega (arith, below)), λ content wholes gives. none_yet (stripe_width origin) content),
     )
 
 pub loop-stripe-preserved : goal.loop-stripe-preserved
@@ -24,19 +30,21 @@ loop-stripe-preserved g c =
     let stripe = c.loop-stripe.stripe in
     let width = stripe_width origin in
     let old = c.loop-stripe.invariant in
-    let wrote = c.in_ok-write_stripe.ensures.wrote in (
+    let wrote = c.in_ok-write_stripe.ensures.wrote in
+    let within : stripe < stripe_total origin = omega (arith, c.loop-stripe-test.true, c.stripe_count-stripe-end.ensures) in (
       old.0 ++ wrote.0,
+      old.1 ++ wrote.1 ∷ [],
       Appends-trans (g.W.Write.contents c.args.writer.now) (g.W.Write.contents c.loop-stripe.writer) (g.W.Write.contents c.write_stripe.new.writer)
-          old.0 wrote.0 old.1 wrote.1,
-      wrote.2 old.0 old.2,
-      joined_length stripe width origin.length old.0 wrote.0 old.3 wrote.3,
+          old.0 wrote.0 old.2 wrote.2,
+      wrote.6 old.0 old.3,
+      split_more BeginWith origin c.requires stripe within old.0 wrote.0 wrote.1 old.1 old.4 wrote.3 wrote.4 wrote.7,
       λ files held.
-          let before = old.4 files held in (
+          let before = old.5 files held in (
             c.in_ok-write_stripe.ensures.kept files before.0,
+            each_more (GivesEnough origin files) old.1 wrote.1 stripe old.4.count before.1 (wrote.5 files before.0),
             λ content wholes gives.
-                joined_content stripe width content old.0 wrote.0 (before.1 content wholes gives)
-                (wrote.4 files (stripe_content origin stripe content) (wholes stripe) before.0
-                (gives.stripes stripe (omega (arith, c.loop-stripe-test.true, c.stripe_count-stripe-end.ensures)))
+                joined_content stripe width content old.0 wrote.0 (before.2 content wholes gives)
+                (wrote.8 files (stripe_content origin stripe content) (wholes stripe) before.0 (gives.stripes stripe within)
                 (content_length origin stripe content gives.length_is)),
           ),
     )
@@ -48,9 +56,12 @@ returns-clause-named g c =
     let same : c.finalize.result ≡ origin.identity = search rules in (
       done.0,
       done.1,
-      sym (c.finalize.ensures done.0 done.2) ∙ same,
-      whole_length c.loop-stripe.stripe (stripe_width origin) origin.length (length done.0)
-          (ends_at origin c.requires c.loop-stripe.stripe (omega (arith, c.loop-stripe-test.false, c.stripe_count-stripe-end.ensures))) done.3,
+      split_all BeginWith origin c.requires done.0 done.1 c.loop-stripe.stripe
+          (omega (arith, c.loop-stripe-test.false, c.stripe_count-stripe-end.ensures))
+          (omega (arith, c.loop-stripe.auto.stripe-end, c.stripe_count-stripe-end.ensures)) done.4 (sym (c.finalize.ensures done.0 done.3) ∙ same),
+      done.2,
+      λ files held stripe within.
+          (done.5 files held).1 stripe (omega (arith, within, c.loop-stripe-test.false, c.stripe_count-stripe-end.ensures)),
     )
 
 pub returns-clause-restored : goal.returns-clause-restored
@@ -60,8 +71,44 @@ returns-clause-restored g c =
     let done = c.loop-stripe.invariant in
     let all = ends_at origin c.requires c.loop-stripe.stripe (omega (arith, c.loop-stripe-test.false, c.stripe_count-stripe-end.ensures)) in
     subst (Appends (g.W.Write.contents c.args.writer.now) (g.W.Write.contents c.loop-stripe.writer))
-    ((done.4 files held).1 content wholes gives
-    ∙ take_all (c.loop-stripe.stripe * stripe_width origin) content (omega (arith, all, gives.length_is))) done.1
+    ((done.5 files held).2 content wholes gives
+    ∙ take_all (c.loop-stripe.stripe * stripe_width origin) content (omega (arith, all, gives.length_is))) done.2
+
+pub returns-in_err-write_stripe-clause-enough : goal.returns-in_err-write_stripe-clause-enough
+returns-in_err-write_stripe-clause-enough g c =
+    λ files wholes held gives.
+    let stripe = c.loop-stripe.stripe in
+    let within : stripe < stripe_total c.args.origin = omega (arith, c.loop-stripe-test.true, c.stripe_count-stripe-end.ensures) in
+    let error = err_from_is_err_and c.from_residual.result c.from_residual.ensures.1 in
+    rw (error.1, error.2) (not_few c.in_err-write_stripe.field-0.0
+    (c.in_err-write_stripe.ensures.granted files (wholes stripe) (c.loop-stripe.invariant.5 files held).0 (gives stripe within)))
+
+pub returns-in_err-write_stripe-clause-granted : goal.returns-in_err-write_stripe-clause-granted
+returns-in_err-write_stripe-clause-granted g c =
+    λ files content wholes held gives.
+    let stripe = c.loop-stripe.stripe in
+    let within : stripe < stripe_total c.args.origin = omega (arith, c.loop-stripe-test.true, c.stripe_count-stripe-end.ensures) in
+    let error = err_from_is_err_and c.from_residual.result c.from_residual.ensures.1 in
+    rw (error.1, error.2) (c.in_err-write_stripe.ensures.granted files (wholes stripe) (c.loop-stripe.invariant.5 files held).0
+    (gives.stripes stripe within).given)
+
+pub returns-then-ne-clause-refused : goal.returns-then-ne-clause-refused
+returns-then-ne-clause-refused g c =
+    let origin = c.args.origin in
+    let done = c.loop-stripe.invariant in
+    inr (inr (inr (
+      refl,
+      (
+        done.0,
+        done.2,
+        whole_length c.loop-stripe.stripe (stripe_width origin) origin.length (length done.0)
+            (ends_at origin c.requires c.loop-stripe.stripe (omega (arith, c.loop-stripe-test.false, c.stripe_count-stripe-end.ensures))) done.4.long,
+        λ is.
+            let same : c.finalize.result ≡ origin.identity = c.finalize.ensures done.0 done.3 ∙ is in
+            let equal : c.ne.result ≡ false = search rules in
+            true≢false (sym c.if-ne.true ∙ equal),
+      ),
+    )))
 
 pub returns-then-ne-clause-granted : goal.returns-then-ne-clause-granted
 returns-then-ne-clause-granted g c =
@@ -70,8 +117,8 @@ returns-then-ne-clause-granted g c =
     let done = c.loop-stripe.invariant in
     let all = ends_at origin c.requires c.loop-stripe.stripe (omega (arith, c.loop-stripe-test.false, c.stripe_count-stripe-end.ensures)) in
     let is : done.0 ≡ content =
-    (done.4 files held).1 content wholes gives
+    (done.5 files held).2 content wholes gives
     ∙ take_all (c.loop-stripe.stripe * stripe_width origin) content (omega (arith, all, gives.length_is)) in
-    let same : c.finalize.result ≡ origin.identity = c.finalize.ensures done.0 done.2 ∙ ap sha256 is ∙ gives.identity_is in
+    let same : c.finalize.result ≡ origin.identity = c.finalize.ensures done.0 done.3 ∙ ap sha256 is ∙ gives.identity_is in
     let equal : c.ne.result ≡ false = search rules in
     absurd (true≢false (sym c.if-ne.true ∙ equal))

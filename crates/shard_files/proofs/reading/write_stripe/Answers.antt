@@ -23,7 +23,12 @@ returns-in-Ok-clause-wrote g c =
       subst (λ (o : Origin). length group.shards.items ≡ shard_total o * o.size) c.in_ok-group.ensures.of group.whole,
     ) in (
       c.content-content.result.now,
+      group.shards.items,
       c.in-Ok.ensures.bytes,
+      ap (λ (n : ℕ). take n group.shards.items) (ap length c.content-content.ensures ∙ length-take-le c.stripe_length.result group.shards.items long)
+          ∙ sym c.content-content.ensures,
+      subst (λ (o : Origin). length group.shards.items ≡ shard_total o * o.size) c.in_ok-group.ensures.of group.whole,
+      c.in_ok-group.ensures.given,
       c.update.ensures,
       ap length c.content-content.ensures ∙ length-take-le c.stripe_length.result group.shards.items long ∙ c.stripe_length.ensures,
       λ files content whole held gives same.
@@ -34,6 +39,6 @@ returns-in-Ok-clause-wrote g c =
 
 pub returns-in_err-group-clause-granted : goal.returns-in_err-group-clause-granted
 returns-in_err-group-clause-granted g c =
-    λ files content whole held gives.
+    λ files whole held gives.
     let error = err_from_is_err_and c.from_residual.result c.from_residual.ensures.1 in
-    rw (error.1, error.2) (inr (c.in_err-group.ensures.granted files content whole held gives))
+    rw (error.1, error.2) (inr (c.in_err-group.ensures.granted files whole held gives))

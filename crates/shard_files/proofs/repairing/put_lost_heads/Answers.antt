@@ -8,8 +8,8 @@ use Rattle.shard_files.proofs.repairing.put_lost_heads.Goals as goal
 pub loop-index-init : goal.loop-index-init
 loop-index-init g c = λ before held. (before, held, lost_none c.args.lost.now (λ index. head_file (numbered c.args.origin.now index)) before)
 
-pub returns : goal.returns
-returns g c =
+pub returns-clause-put : goal.returns-clause-put
+returns-clause-put g c =
     λ before held.
     let all = c.loop-index.invariant before held in
     let done : c.loop-index.index ≡ length c.args.lost.now = omega (arith, c.loop-index-test.false, c.loop-index.auto.index-end) in

@@ -13,8 +13,8 @@ loop-index-init g c =
     let bytes : ℕ → List ℕ = λ index. piece_bytes (head_digest (numbered group.origin index)) c.args.stripe (shard_at group.origin.size group.shards.items index) in
     (before, held, lost_none c.args.lost.now bytes before)
 
-pub returns : goal.returns
-returns g c =
+pub returns-clause-put : goal.returns-clause-put
+returns-clause-put g c =
     λ before held.
     let group = c.args.group.now in
     let bytes : ℕ → List ℕ = λ index. piece_bytes (head_digest (numbered group.origin index)) c.args.stripe (shard_at group.origin.size group.shards.items index) in

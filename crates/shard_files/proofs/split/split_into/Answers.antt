@@ -1,4 +1,4 @@
-use Rattle.std.proofs.Common.{◌<◌, ◌≡◌, ◌*◌, ◌≤◌, ℕ, length, sym, ◌∙◌, ap, ap₂, subst, arith}
+use Rattle.std.proofs.Common.{◌<◌, ℕ, length, ◌∙◌, subst}
 use Rattle.shard_files.proofs.Splits.{own_long, split_of_code}
 use Rattle.shard_files.proofs.split.split_into.Goals as goal
 
@@ -10,6 +10,6 @@ pub returns-in-Ok-clause-split : goal.returns-in-Ok-clause-split
 returns-in-Ok-clause-split c =
     λ ok.
     split_of_code c.args.origin.now c.in-Some.code c.in-Some.ensures.made c.args.content.now c.fill.new.shards c.encode.new.shards
-    (c.encode.ensures.long ∙ c.fill.ensures.long ∙ c.requires) (c.has_room.ensures c.if-not-has_room.false)
+    (c.encode.ensures.long ∙ c.fill.ensures.long ∙ c.requires) (c.has_room.ensures.0 c.if-not-has_room.false)
     (λ i below. c.fill.ensures.begins i (subst (λ (n : ℕ). i < n) (c.encode.ensures.long ∙ c.fill.ensures.long) below))
     c.encode.ensures.kept (c.in-Ok.ensures.encoded ok)

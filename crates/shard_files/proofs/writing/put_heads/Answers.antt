@@ -11,11 +11,11 @@ pub loop-index-preserved : goal.loop-index-preserved
 loop-index-preserved g c =
     λ before held.
     let old = c.loop-index.invariant before held in
-    let put = c.in_ok-put_head.ensures old.0 old.1 in
+    let put = c.in_ok-put_head.ensures.put old.0 old.1 in
     (put.0, put.1, appends_more c.loop-index.index (λ index. head_file (numbered c.args.origin.now index)) before old.0 put.0 old.2 put.2)
 
-pub returns : goal.returns
-returns g c =
+pub returns-clause-put : goal.returns-clause-put
+returns-clause-put g c =
     λ before held.
     let all = c.loop-index.invariant before held in
     (all.0, all.1, λ index below. all.2.grown index (omega (arith, below, c.loop-index-test.false, c.total-index-end.ensures)))

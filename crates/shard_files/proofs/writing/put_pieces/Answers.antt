@@ -20,13 +20,13 @@ loop-index-preserved g c =
     let index = c.loop-index.index in
     let bytes : ℕ → List ℕ = λ n. piece_bytes (head_digest (numbered origin n)) c.args.stripe (shard_at origin.size c.args.shards.now n) in
     let old = c.loop-index.invariant before held in
-    let put = c.in_ok-put_piece.ensures old.0 old.1 in
+    let put = c.in_ok-put_piece.ensures.put old.0 old.1 in
     let added =
     subst (λ (shard : List ℕ). IsAppended index (piece_bytes (head_digest (numbered origin index)) c.args.stripe shard) old.0 put.0) c.shard_of.ensures put.2 in
     (put.0, put.1, appends_more index bytes before old.0 put.0 old.2 added)
 
-pub returns : goal.returns
-returns g c =
+pub returns-clause-put : goal.returns-clause-put
+returns-clause-put g c =
     λ before held.
     let all = c.loop-index.invariant before held in
     (all.0, all.1, λ index below. all.2.grown index (omega (arith, below, c.loop-index-test.false, c.total-index-end.ensures)))

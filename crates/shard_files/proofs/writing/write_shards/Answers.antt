@@ -1,8 +1,12 @@
-use Rattle.std.proofs.Common.{◌≡◌, ◌<◌, List, ℕ, [], ◌∷◌, ◌++◌, sym, ◌∙◌, ap, append_assoc, arith, rules}
+use Rattle.std.proofs.Common.{◌≡◌, ◌<◌, false, inr, List, ℕ, [], ◌∷◌, ◌++◌, length, refl, sym, ◌∙◌, ap, append_assoc, arith, rules}
+use Rattle.std.proofs.lemmas.Bool.{true≢false}
 use Rattle.std.proofs.KnownBytes.{Consumes-nil, Consumes-trans}
 use Rattle.shard_files.specs.Files.{shard_file}
 use Rattle.shard_files.specs.Groups.{numbered}
-use Rattle.shard_files.specs.Stripes.{stripe_total}
+use Rattle.shard_files.specs.Splits.{IsSplit}
+use Rattle.shard_files.specs.Stripes.{stripe_total, stripe_width}
+use Rattle.shard_files.proofs.Joined.{whole_length}
+use Rattle.shard_files.proofs.Positions.{ends_at}
 use Rattle.shard_files.proofs.Written.{file_more, file_none, piece_of, split_all, split_more, split_none}
 use Rattle.shard_files.proofs.writing.write_shards.Goals as goal
 
@@ -13,9 +17,9 @@ loop-stripe-init g c =
       [],
       Consumes-nil (g.R.Read.remaining c.args.reader.now),
       c.new-hasher.ensures,
-      split_none origin,
+      split_none (IsSplit origin) origin,
       λ before held.
-          let put = c.in_ok-put_heads.ensures before held in
+          let put = c.in_ok-put_heads.ensures.put before held in
           (put.0, put.1, λ index below. put.2 index below ∙ ap (λ (l : List ℕ). before index ++ l) (sym (file_none origin index))),
     )
 
@@ -24,14 +28,14 @@ loop-stripe-preserved g c =
     let origin = c.args.origin in
     let stripe = c.loop-stripe.stripe in
     let old = c.loop-stripe.invariant in
-    let wrote = c.in_ok-write_stripe.ensures in
+    let wrote = c.in_ok-write_stripe.ensures.written in
     let within : stripe < stripe_total origin = omega (arith, c.loop-stripe-test.true, c.stripe_count-stripe-end.ensures) in (
       old.0 ++ wrote.0,
       old.1 ++ wrote.1 ∷ [],
       Consumes-trans (g.R.Read.remaining c.args.reader.now) (g.R.Read.remaining c.loop-stripe.reader) (g.R.Read.remaining c.write_stripe.new.reader)
           old.0 wrote.0 old.2 wrote.5,
       wrote.6 old.0 old.3,
-      split_more origin c.requires stripe within old.0 wrote.0 wrote.1 old.1 old.4 wrote.2 wrote.3 wrote.4,
+      split_more (IsSplit origin) origin c.requires stripe within old.0 wrote.0 wrote.1 old.1 old.4 wrote.2 wrote.3 wrote.4,
       λ before held.
           let so_far = old.5 before held in
           let put = wrote.7 so_far.0 so_far.1 in (
@@ -42,19 +46,37 @@ loop-stripe-preserved g c =
                 ∙ ap (λ (l : List ℕ). l ++ piece_of (numbered origin index) stripe wrote.1) (so_far.2 index below)
                 ∙ append_assoc (before index) (shard_file origin old.1 index) (piece_of (numbered origin index) stripe wrote.1)
                 ∙ ap (λ (l : List ℕ). before index ++ l)
-                (sym (file_more origin c.requires stripe within old.0 wrote.0 wrote.1 old.1 old.4 wrote.2 wrote.3 wrote.4 index)),
+                (sym (file_more (IsSplit origin) origin c.requires stripe within old.0 wrote.0 wrote.1 old.1 old.4 wrote.2 wrote.3 wrote.4 index)),
           ),
     )
 
-pub returns : goal.returns
-returns g c =
+pub returns-clause-written : goal.returns-clause-written
+returns-clause-written g c =
     let origin = c.args.origin in
     let done = c.loop-stripe.invariant in
     let same : c.finalize.result ≡ origin.identity = search rules in (
       done.0,
       done.1,
-      split_all origin c.requires done.0 done.1 c.loop-stripe.stripe (omega (arith, c.loop-stripe-test.false, c.stripe_count-stripe-end.ensures))
+      split_all (IsSplit origin) origin c.requires done.0 done.1 c.loop-stripe.stripe (omega (arith, c.loop-stripe-test.false, c.stripe_count-stripe-end.ensures))
           (omega (arith, c.loop-stripe.auto.stripe-end, c.stripe_count-stripe-end.ensures)) done.4 (sym (c.finalize.ensures done.0 done.3) ∙ same),
       done.2,
       done.5,
+    )
+
+pub returns-then-ne-clause-refused : goal.returns-then-ne-clause-refused
+returns-then-ne-clause-refused g c =
+    let origin = c.args.origin in
+    let done = c.loop-stripe.invariant in
+    inr (
+      refl,
+      (
+        done.0,
+        done.2,
+        whole_length c.loop-stripe.stripe (stripe_width origin) origin.length (length done.0)
+            (ends_at origin c.requires c.loop-stripe.stripe (omega (arith, c.loop-stripe-test.false, c.stripe_count-stripe-end.ensures))) done.4.long,
+        λ is.
+            let same : c.finalize.result ≡ origin.identity = c.finalize.ensures done.0 done.3 ∙ is in
+            let equal : c.ne.result ≡ false = search rules in
+            true≢false (sym c.if-ne.true ∙ equal),
+      ),
     )

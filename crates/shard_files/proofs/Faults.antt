@@ -1,0 +1,18 @@
+-- Errors that are others.
+use Rattle.std.proofs.Common.{◌≡◌, ◌≢◌, ◌⊎◌, inl, inr, sym, ◌∙◌}
+use Rattle.shard_files.specs.declared.error.JoinError.{JoinError}
+use Rattle.shard_files.specs.declared.error.JoinError.TheVariants.{CannotWrite, Memory, TooFew}
+
+-- where a file cannot be written, or memory is refused, there are not too few shards
+pub not_few : (error : JoinError) → (error ≡ CannotWrite) ⊎ (error ≡ Memory) → error ≢ TooFew
+not_few error why is =
+    elim why [
+      | inl cannot ↦ writing (sym cannot ∙ is)
+      | inr memory ↦ refused (sym memory ∙ is)
+    ]
+  where
+    writing : CannotWrite ≡ TooFew → ⊥
+    writing same = cc
+
+    refused : Memory ≡ TooFew → ⊥
+    refused same = cc
