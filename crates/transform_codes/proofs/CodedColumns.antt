@@ -10,7 +10,7 @@ use Rattle.field_base.specs.Tower.{tower_mul}
 use Rattle.ghash_slices.specs.Cantor.{point, polynomial_value}
 use Rattle.word_tables.specs.Cantor.{cantor_vector}
 use Rattle.transform_codes.specs.Codes.{AreCodedBefore, AreCodedColumns, AreOfData, IsCodedColumn, shard_symbol, value_at}
-use Rattle.transform_codes.specs.Columns.{AreParityBelow, AreScattered, HoldStrip, HoldWordValues, OthersAreKept}
+use Rattle.transform_codes.specs.Columns.{AreParityBelow, AreScattered, HoldFirstValues, HoldStrip, HoldWordValues, OthersAreKept}
 use Rattle.additive_transforms.proofs.BlockPoints.{point-joined}
 use Rattle.transform_codes.proofs.ColumnPlaces.{columns_more, place_below}
 
@@ -68,18 +68,17 @@ module _ {W : Type 0} (element : W → ℕ) (zero : W) (level n width c : ℕ) (
         }
 
   -- one more block of parity
-  pub next_block : (m size start q first taken z : ℕ) (coefficients block old new : List W)
-      → start + width ≤ size → length coefficients ≡ 2 ^ n * width → length block ≡ 2 ^ n * width → first ≡ q * 2 ^ n
-      → z ≡ point (2 ^ level) cantor_vector 0 ((q + 1) * 2 ^ n) → (taken ≡ 2 ^ n) ⊎ (first + taken ≡ m)
-      → HoldWordValues element level z width c coefficients block
+  pub next_block : (m size start q first taken few z : ℕ) (coefficients block old new : List W)
+      → start + width ≤ size → first ≡ q * 2 ^ n → z ≡ point (2 ^ level) cantor_vector 0 ((q + 1) * 2 ^ n)
+      → (taken ≡ 2 ^ n) ⊎ (first + taken ≡ m) → taken ≤ 2 ^ few → HoldFirstValues element zero level n few z width c coefficients block
       → AreParityBelow element zero level n m size (start + c) (column coefficients) (q * 2 ^ n) old
       → AreScattered zero size start width first taken block old new
       → AreParityBelow element zero level n m size (start + c) (column coefficients) ((q + 1) * 2 ^ n) new
-  next_block m size start q first taken z coefficients block old new fits count long first_is shift end holds before now t below few =
+  next_block m size start q first taken few z coefficients block old new fits first_is shift end enough holds before now t below parity_below =
       elim (cases_lt t (q * 2 ^ n)) [
         | inl early ↦
             ap element (now.kept t (start + c) (omega (arith, inside, fits)) (inr (inl (omega (arith, early, first_is)))))
-            ∙ before t early few
+            ∙ before t early parity_below
         | inr late ↦ in_block late
       ]
     where
@@ -91,12 +90,12 @@ module _ {W : Type 0} (element : W → ℕ) (zero : W) (level n width c : ℕ) (
       in_block late =
           let s : ℕ = t - q * 2 ^ n in
           let s_below : s < 2 ^ n = omega (arith, below, more, late) in
-          let reached : s < taken = elim end [ inl all ↦ omega (arith, s_below, all) | inr rest ↦ omega (arith, few, rest, first_is, late) ] in
+          let reached : s < taken = elim end [ inl all ↦ omega (arith, s_below, all) | inr rest ↦ omega (arith, parity_below, rest, first_is, late) ] in
           let place : first + s ≡ t = omega (arith, first_is, late) in
           let behind : (q + 1) * 2 ^ n + s ≡ 2 ^ n + t = omega (arith, more, late) in
           ap (λ (i : ℕ). element (get_or new (i * size + (start + c)) zero)) (sym place)
           ∙ ap element (now.written s c reached inside)
-          ∙ held z coefficients block count long holds s s_below
+          ∙ holds s (omega (arith, reached, enough))
           ∙ ap (polynomial_value (tower_mul level) n (slice_index (column coefficients)))
           (ap (λ (y : ℕ). point (2 ^ level) cantor_vector y s) shift
           ∙ point-joined cantor_vector n (q + 1) s s_below (2 ^ level) 0

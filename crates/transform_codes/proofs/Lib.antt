@@ -6,6 +6,7 @@ mod ComparedColumns
 mod Decoding
 mod DerivedColumns
 mod DerivedValues
+mod FirstValues
 mod LocatorFacts
 mod LostCounts
 mod MendedColumns

@@ -1,9 +1,11 @@
 -- Columns of a strip that are restored: what two transforms leave of each is the word's polynomial at each lost point.
-use Rattle.std.proofs.Common.{◌≡◌, inl, inr, ℕ, ◌+◌, ◌-◌, ◌*◌, ◌%◌, ◌^◌, ◌<◌, ◌≤◌, Bool, true, false, List, length, get_or, map, sym, ◌∙◌, ap, subst, arith}
+use Rattle.std.proofs.Common.{◌≡◌, inl, inr, ℕ, ◌+◌, ◌-◌, ◌*◌, ◌%◌, ◌^◌, ◌<◌, ◌≤◌, Bool, true, false, List, ◌++◌, length, get_or, map, lit<, sym, ◌∙◌, ap, subst, arith}
 use Rattle.std.specs.Prelude.{slice_index}
 use Rattle.std.proofs.lemmas.Bool.{cases_Bool, cases_lt, true≢false}
 use Rattle.std.proofs.lemmas.Bool.Decides.{nat_tests}
+use Rattle.std.proofs.lemmas.List.{get_or_append_left}
 use Rattle.std.proofs.lemmas.Nat.{pow_pos}
+use Rattle.std.proofs.Math.Nat.{pow-le-pow_right}
 use Rattle.std.proofs.Math.Pow.{pow-lt}
 use native.Mathlib.Nat.{mod-eq_of_lt}
 use Rattle.additive_transforms.specs.Columns.{column_of}
@@ -17,12 +19,13 @@ use Rattle.ghash_slices.specs.Cantor.{point, polynomial_value}
 use Rattle.tower_transforms.specs.Words.{level_element}
 use Rattle.word_tables.specs.Cantor.{cantor_vector}
 use Rattle.transform_codes.specs.Codes.{IsCodedColumn, shard_symbol, value_at}
-use Rattle.transform_codes.specs.Columns.{AreDerivedRows, AreRowProducts, HoldWordValues}
+use Rattle.transform_codes.specs.Columns.{AreFirstDerivedRows, AreRowProducts, HoldWordValues}
 use Rattle.transform_codes.specs.Locators.{lost_count}
 use Rattle.transform_codes.specs.Restoring.{AreFactors, FitRestoring, IsAtHand, is_lost, is_missing, missing_locator, other_locator, word_at}
 use Rattle.transform_codes.specs.Sizes.{CanRebuild}
 use Rattle.transform_codes.proofs.CodedColumns.{held}
 use Rattle.transform_codes.proofs.Decoding.{lost_symbols_are_located, quotient_is}
+use Rattle.transform_codes.proofs.ColumnPlaces.{place_below}
 use Rattle.transform_codes.proofs.DerivedColumns.{derived_values}
 use Rattle.transform_codes.proofs.LocatorFacts.{locator-root}
 use Rattle.transform_codes.proofs.LostCounts.{enough_left}
@@ -45,16 +48,16 @@ module _ {W : Type 0} (number : W → ℕ) (zero : W) (nothing : number zero ≡
       ap (λ (x : ℕ). x % 2 ^ 2 ^ level) is ∙ mod-eq_of_lt ((tower_ring level).below a b)
       ∙ sym (mod-times (2 ^ level) 1 (tower_mul level) (tower_ring level) a b)
 
-  module _ (width c rows : ℕ) (inside : c < width) (word : ℕ → W) (factors words products first slopes values symbols : List W) (y z : ℕ)
+  module _ (width c few : ℕ) (fewer : few ≤ r) (inside : c < width) (word : ℕ → W) (factors words products first slopes values symbols : List W) (y z : ℕ)
       (origin : y ≡ 0) (origin_too : z ≡ 0) (factors_are : AreFactors number zero level k n m present (2 ^ r) factors)
       (products_long : length products ≡ 2 ^ r * width) (first_long : length first ≡ 2 ^ r * width)
-      (slopes_long : length slopes ≡ 2 ^ r * width) (values_long : length values ≡ 2 ^ r * width)
+      (slopes_long : length slopes ≡ 2 ^ few * width) (values_long : length values ≡ 2 ^ few * width)
       (words_are : (p : ℕ) → p < 2 ^ r → get_or words (p * width + c) zero ≡ word p)
       (products_are : AreRowProducts number zero level width (2 ^ r) (is_lost k n m present) false factors words products)
       (first_is : HoldWordValues element level y width c first products)
-      (slopes_are : AreDerivedRows number zero r width first slopes)
+      (slopes_are : AreFirstDerivedRows number zero r few width first slopes)
       (values_are : HoldWordValues element level z width c slopes values)
-      (symbols_are : AreRowProducts number zero level width rows (is_lost k n m present) true factors values symbols)
+      (symbols_are : AreRowProducts number zero level width (2 ^ few) (is_lost k n m present) true factors values symbols)
       (known : (p : ℕ) → p < 2 ^ r → is_lost k n m present p ≡ false → element (word p) ≡ f (at p)) where
     abbrev of_first : ℕ → ℕ
     of_first = slice_index (column_of width c (map element first))
@@ -84,9 +87,11 @@ module _ {W : Type 0} (number : W → ℕ) (zero : W) (nothing : number zero ≡
         ∙ ap (λ (x : ℕ). polynomial_value (tower_mul level) r of_first (point (2 ^ level) cantor_vector x p)) origin)
 
     -- the lost symbols are those of the word's polynomial
-    pub restored_symbols : (p : ℕ) → p < rows → p < 2 ^ r → is_lost k n m present p ≡ true
+    pub restored_symbols : (p : ℕ) → p < 2 ^ few → is_lost k n m present p ≡ true
         → element (get_or symbols (p * width + c) zero) ≡ f (at p)
-    restored_symbols p within below absent =
+    restored_symbols p within absent =
+        let more : 2 ^ few ≤ 2 ^ r = pow-le-pow_right (lit< tt) fewer in
+        let below : p < 2 ^ r = omega (arith, within, more) in
         let factor : ℕ = number (get_or factors p zero) in
         let located = lost_symbols_are_located level n r (is_lost k n m present) low room enough in
         let fits = polynomial-lt (2 ^ level) (tower_mul level) (tower_ring level) (2 ^ n) f
@@ -94,9 +99,18 @@ module _ {W : Type 0} (number : W → ℕ) (zero : W) (nothing : number zero ≡
         of_product (get_or symbols (p * width + c) zero) (number (get_or values (p * width + c) zero)) factor
         (symbols_are.product p c within inside absent)
         ∙ ap (λ (v : ℕ). tower_mul level v factor)
-        (derived_values number zero level r width c inside first slopes first_long slopes_long slopes_are z values origin_too values_long values_are p below
+        (derived_values number zero level r width c inside low few fewer room first slopes first_long slopes_long
+        (λ k less. slopes_are k c less inside) z values origin_too values_long values_are p within
         ∙ located.decoded coefficients of_first (λ q. element (word q)) known (λ q less. value_in q less ∙ product_at q less) p below absent)
         ∙ quotient_is level (f (at p)) (other_locator level k n m present (2 ^ r) p) factor fits ((factors_are p below).lost absent)
+
+    -- also where other rows stand behind them
+    pub restored_front : (others : List W) → length symbols ≡ length values → (p : ℕ) → p < 2 ^ few → is_lost k n m present p ≡ true
+        → element (get_or (symbols ++ others) (p * width + c) zero) ≡ f (at p)
+    restored_front others same p within absent =
+        let place = place_below width (2 ^ few) p c within inside in
+        ap element (get_or_append_left symbols others zero (p * width + c) (omega (arith, place, same, values_long)))
+        ∙ restored_symbols p within absent
 
 -- ---- what is known of a word
 

@@ -1,8 +1,9 @@
 -- Strips of shards, the `width` columns from column `start` on, in rows of as many words: transformed, and read and written row by row.
-use Rattle.std.specs.Prelude.{◌≡◌, ◌≢◌, ◌⊎◌, ℕ, ◌+◌, ◌*◌, ◌^◌, ◌<◌, ◌≤◌, Bool, List, map, slice_index_or}
+use Rattle.std.specs.Prelude.{◌≡◌, ◌≢◌, ◌⊎◌, ℕ, ◌+◌, ◌*◌, ◌^◌, ◌<◌, ◌≤◌, Bool, List, map, slice_index, slice_index_or}
 use Rattle.additive_transforms.specs.Columns.{column_of}
 use Rattle.additive_transforms.specs.Transform.{AreTheCoefficients, HoldValuesAtPoints}
 use Rattle.field_base.specs.Tower.{tower_mul}
+use Rattle.ghash_slices.specs.Cantor.{point, polynomial_value}
 use Rattle.word_tables.specs.Cantor.{cantor_vector}
 use Rattle.transform_codes.specs.Codes.{shard_symbol, value_at}
 use Rattle.transform_codes.specs.Derivatives.{derived}
@@ -20,6 +21,13 @@ abbrev pub HoldWordValues : {W : Type 0} → (W → ℕ) → ℕ → ℕ → ℕ
 HoldWordValues element level z columns c coefficients values =
     HoldValuesAtPoints (2 ^ level) (tower_mul level) cantor_vector z (column_of columns c (map element coefficients))
     (column_of columns c (map element values))
+
+-- in column c the first 2 ^ few rows have the values, at the first 2 ^ few of those points, of the polynomial with the 2 ^ n elements of that
+-- column of other words as coefficients
+abbrev pub HoldFirstValues : {W : Type 0} → (W → ℕ) → W → ℕ → ℕ → ℕ → ℕ → ℕ → ℕ → List W → List W → Type 0
+HoldFirstValues element zero level n few z columns c coefficients values =
+    (p : ℕ) → p < 2 ^ few → element (slice_index_or values (p * columns + c) zero)
+    ≡ polynomial_value (tower_mul level) n (slice_index (column_of columns c (map element coefficients))) (point (2 ^ level) cantor_vector z p)
 
 -- they have the coefficients of the one polynomial that has the elements of that column of other words as its values there
 abbrev pub AreWordCoefficients : {W : Type 0} → (W → ℕ) → ℕ → ℕ → ℕ → ℕ → List W → List W → Type 0
@@ -46,12 +54,16 @@ pub record AreRowProducts {W : Type 0} (number : W → ℕ) (zero : W) (level wi
       ≡ tower_mul level (number (slice_index_or old (p * width + c) zero)) (number (slice_index_or factors p zero))
   pub nothing : (p c : ℕ) → p < rows → c < width → lost p ≢ which → slice_index_or new (p * width + c) zero ≡ zero
 
--- in each column of 2 ^ n rows of `width` words, the numbers of the words became the coefficients of the derivative of the polynomial with
--- those as its coefficients
-abbrev pub AreDerivedRows : {W : Type 0} → (W → ℕ) → W → ℕ → ℕ → List W → List W → Type 0
-AreDerivedRows number zero n width old new =
-    (k c : ℕ) → k < 2 ^ n → c < width
+-- in each column of 2 ^ n rows of `width` words, the numbers of the words in the first 2 ^ few rows became those of the coefficients of the
+-- derivative of the polynomial with the numbers before as its coefficients
+abbrev pub AreFirstDerivedRows : {W : Type 0} → (W → ℕ) → W → ℕ → ℕ → ℕ → List W → List W → Type 0
+AreFirstDerivedRows number zero n few width old new =
+    (k c : ℕ) → k < 2 ^ few → c < width
     → number (slice_index_or new (k * width + c) zero) ≡ derived n (λ i. number (slice_index_or old (i * width + c) zero)) k
+
+-- those in all rows did
+abbrev pub AreDerivedRows : {W : Type 0} → (W → ℕ) → W → ℕ → ℕ → List W → List W → Type 0
+AreDerivedRows number zero n width old new = AreFirstDerivedRows number zero n n width old new
 
 -- the first `until` rows hold the words of a strip of `count` shards, and zeros behind them
 abbrev pub HoldStrip : {W : Type 0} → W → ℕ → ℕ → ℕ → ℕ → List W → ℕ → List W → Type 0

@@ -159,8 +159,8 @@ impl TransformCode {
     /// with, by as many bits of a word as the level has; where they agree with none, since a word is wrong, the missing ones become
     /// anything. The shards at hand stay. What `space` has does not matter: it takes five words for each of `point_count`, with which four
     /// columns are restored at once, and one more of each for each further column, up to 32 in all. The level has to have as many points. A
-    /// column takes two transforms, and all columns together some of `point_count` points for each power of two below that, from 32 on. The
-    /// error is the first that applies.
+    /// column takes two transforms, the second of as many points as reach the last missing shard, and all columns together some of
+    /// `point_count` points for each power of two below that, from 32 on. The error is the first that applies.
     pub fn reconstruct<R: StoredBytes, L: Level<R>>(
         &self,
         space: &mut [R],
@@ -292,7 +292,7 @@ impl TransformCode {
 }
 
 // The least n for which 2^n is not below k.
-fn levels_of(k: usize) -> usize
+pub(crate) fn levels_of(k: usize) -> usize
     requires { k ≤ 65536 }
     ensures padded { IsPadded k result }
     ensures low { result ≤ 16 }

@@ -1,6 +1,6 @@
 // Derivatives of polynomials in the basis of a transform, in place, of all columns of a strip at once.
 ghost use Rattle.std.specs.Prelude.{◌≡◌, ℕ, ◌+◌, ◌*◌, ◌^◌, ◌<◌, ◌≤◌, length, slice_index_or, bit_xor};
-ghost use Rattle.transform_codes.specs.Columns.{AreDerivedRows};
+ghost use Rattle.transform_codes.specs.Columns.{AreDerivedRows, AreFirstDerivedRows};
 
 use crate::columns::clear_words;
 use field_base::Stored;
@@ -23,6 +23,33 @@ pub(crate) fn derive<R: Stored>(values: &mut [R], width: usize, levels: usize)
     derive(lower, width, half);
     add_words(lower, upper);
     derive(upper, width, half);
+}
+
+// Sets the first 2^few of 2^levels rows to those that `derive` sets, and returns how many words they have; the other rows are space. Of each
+// upper half it reads as many rows.
+#[cycle(first)]
+pub(crate) fn derive_first<R: Stored>(
+    values: &mut [R],
+    width: usize,
+    levels: usize,
+    few: usize,
+) -> usize
+    requires low { levels ≤ 16 }
+    requires first { few ≤ levels }
+    requires rows { length values.old ≡ 2 ^ levels * width }
+    ensures long { length values.new ≡ length values.old }
+    ensures words { result ≡ 2 ^ few * width }
+    ensures derived { AreFirstDerivedRows R.number R.ZERO levels few width values.old values.new }
+{
+    if levels == few {
+        derive(values, width, levels);
+        return values.len();
+    }
+    let (lower, upper) = values.split_at_mut(values.len() / 2);
+    let words = derive_first(lower, width, levels - 1, few);
+    let (rows, _others) = lower.split_at_mut(words);
+    add_words(rows, upper);
+    words
 }
 
 // Adds to each word the one at its place.

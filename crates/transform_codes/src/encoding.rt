@@ -5,11 +5,11 @@ ghost use Rattle.tower_transforms.specs.Words.{level_element};
 ghost use Rattle.transform_codes.specs.Codes.{AreCodedColumns, AreOfData, IsCodedColumn, shard_symbol};
 ghost use Rattle.transform_codes.specs.Columns.{AreParityBelow, FitEncoding, OthersAreKept};
 
-use crate::codec::TransformCode;
+use crate::codec::{TransformCode, levels_of};
 use crate::columns::{gather, scatter};
 use crate::points::point_of;
 use crate::strips::{Strip, columns_at_once, least, strip_at};
-use crate::transforms::{forward_strip, inverse_strip};
+use crate::transforms::{forward_first, inverse_strip};
 use tower_transforms::StoredBytes;
 use word_tower::Level;
 
@@ -63,9 +63,10 @@ pub(crate) fn write_parity<R: StoredBytes, L: Level<R>>(
     for number in 0..blocks {
         block.copy_from_slice(coefficients);
         let behind = point_of::<R, L>((number + 1) * points);
-        forward_strip::<R, L>(block, strip.width, behind);
         let first = number * points;
         let taken = least(points, code.parity_shards - first);
+        let few = levels_of(taken);
+        forward_first::<R, L>(block, strip.width, code.levels, few, behind);
         scatter(block, parity, code.parity_shards, strip, first, taken);
     }
 }

@@ -1,5 +1,5 @@
 // The points at which polynomials have symbols as their values, and where these are lost.
-ghost use Rattle.std.specs.Prelude.{◌≡◌, ◌+◌, ◌^◌, length};
+ghost use Rattle.std.specs.Prelude.{◌≡◌, ℕ, ◌+◌, ◌^◌, ◌<◌, ◌≤◌, true, length};
 ghost use Rattle.ghash_slices.specs.Cantor.{point};
 ghost use Rattle.word_tables.specs.Cantor.{cantor_vector};
 ghost use Rattle.transform_codes.specs.Restoring.{ArePoints, is_lost};
@@ -48,4 +48,20 @@ pub(crate) fn is_lost(code: &TransformCode, present: &[bool], p: usize) -> bool
     } else {
         true
     }
+}
+
+// How many places there are up to the last one of a shard that is missing, and with it: 0 where none is.
+pub(crate) fn places_to_last(code: &TransformCode, present: &[bool]) -> usize
+    requires { length present.now ≡ code.now.data_shards + code.now.parity_shards }
+    ensures few { result ≤ 2 ^ code.now.levels + code.now.parity_shards }
+    ensures all { (p : ℕ) → p < 2 ^ code.now.levels + code.now.parity_shards
+        → is_lost code.now.data_shards code.now.levels code.now.parity_shards present.now p ≡ true → p < result }
+{
+    let mut count = 0;
+    for p in 0..code.coefficient_count() + code.parity_shards {
+        if is_lost(code, present, p) {
+            count = p + 1;
+        }
+    }
+    count
 }

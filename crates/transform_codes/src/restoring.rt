@@ -1,14 +1,15 @@
 // Lost shards, strip by strip, by two transforms. The product of a word's polynomial and the locator of its lost symbols is known at all
 // points, since it is 0 at the lost ones, so that an inverse transform gives its coefficients. The derivative of the product is, at a lost
-// point, the lost symbol times the locator of the other lost ones.
+// point, the lost symbol times the locator of the other lost ones. It is computed as far as the last of those that a shard has.
 ghost use Rattle.std.specs.Prelude.{◌≡◌, ◌⊎◌, ℕ, ◌+◌, ◌-◌, ◌*◌, ◌^◌, ◌<◌, ◌≤◌, length, slice_index_or};
 ghost use Rattle.tower_transforms.specs.Words.{level_element};
 ghost use Rattle.transform_codes.specs.Columns.{IsOutside};
 ghost use Rattle.transform_codes.specs.Restoring.{AreMended, FitRestoring, IsAtHand, RestoresSymbols, word_at};
 
-use crate::codec::TransformCode;
+use crate::codec::{TransformCode, levels_of, power_of};
 use crate::columns::{copy_words, gather};
-use crate::derivatives::derive;
+use crate::derivatives::derive_first;
+use crate::points::places_to_last;
 use crate::products::multiply_rows;
 use crate::strips::Strip;
 use crate::transforms::{forward_strip, inverse_strip};
@@ -88,14 +89,16 @@ pub(crate) fn restore_strip<R: StoredBytes, L: Level<R>>(
 {
     let count = code.point_count();
     let width = strip.width;
-    let first = code.coefficient_count();
     read_strip(values, code, shards, parity, strip);
     multiply_rows::<R, L>(values, count, width, factors, code, present, false);
     inverse_strip::<R, L>(values, width, R::ZERO);
-    derive(values, width, code.all_levels);
-    forward_strip::<R, L>(values, width, R::ZERO);
-    let rows = first + code.parity_shards;
-    multiply_rows::<R, L>(values, rows, width, factors, code, present, true);
+    // Up to the last lost symbol.
+    let reach = levels_of(places_to_last(code, present));
+    let words = derive_first(values, width, code.all_levels, reach);
+    let (symbols, _others) = values.split_at_mut(words);
+    forward_strip::<R, L>(symbols, width, R::ZERO);
+    let rows = power_of(reach);
+    multiply_rows::<R, L>(symbols, rows, width, factors, code, present, true);
     mend(shards, values, present, code.data_shards, strip, 0, 0);
     mend(
         parity,
@@ -103,7 +106,7 @@ pub(crate) fn restore_strip<R: StoredBytes, L: Level<R>>(
         present,
         code.parity_shards,
         strip,
-        first,
+        code.coefficient_count(),
         code.data_shards,
     );
 }

@@ -1,8 +1,10 @@
 // Transforms of stored words, the symbols of the columns of a strip, over a level of the tower.
-ghost use Rattle.std.specs.Prelude.{◌≡◌, ◌^◌, ◌<◌, ℕ, length};
+ghost use Rattle.std.specs.Prelude.{◌≡◌, ◌*◌, ◌^◌, ◌<◌, ◌≤◌, ℕ, length};
 ghost use Rattle.additive_transforms.specs.Columns.{FitsColumns};
+ghost use Rattle.field_base.specs.Tower.{tower_mul};
+ghost use Rattle.ghash_slices.specs.Cantor.{subspace_value};
 ghost use Rattle.tower_transforms.specs.Words.{level_element};
-ghost use Rattle.transform_codes.specs.Columns.{AreWordCoefficients, HoldWordValues};
+ghost use Rattle.transform_codes.specs.Columns.{AreWordCoefficients, HoldFirstValues, HoldWordValues};
 
 use tower_transforms::{StoredBytes, forward_level_columns, inverse_level_columns};
 use word_tower::Level;
@@ -25,4 +27,45 @@ pub(crate) fn inverse_strip<R: StoredBytes, L: Level<R>>(words: &mut [R], column
     ensures length { length words.new ≡ length words.old }
 {
     inverse_level_columns::<R, L, R>(words, columns, z);
+}
+
+// From the coefficients of each column to the values at the first 2^few points from `z` on, in as many rows; the rows behind them are space.
+// A stage of which the lower half alone is needed is a transform of two rows, the halves of all words.
+#[cycle(first)]
+pub(crate) fn forward_first<R: StoredBytes, L: Level<R>>(
+    words: &mut [R],
+    columns: usize,
+    levels: usize,
+    few: usize,
+    z: R,
+)
+    requires some { 0 < columns }
+    requires rows { length words.old ≡ 2 ^ levels * columns }
+    requires points { levels ≤ 2 ^ L.LEVEL }
+    requires low { levels ≤ 16 }
+    requires first { few ≤ levels }
+    ensures length { length words.new ≡ length words.old }
+    ensures values { (c : ℕ) → c < columns → HoldFirstValues (level_element R.Stored.number L.LEVEL) R.ZERO L.LEVEL levels few
+        (R.Stored.number z) columns c words.old words.new }
+{
+    if levels == few {
+        forward_strip::<R, L>(words, columns, z);
+        return;
+    }
+    let stage = levels - 1;
+    let half = words.len() / 2;
+    forward_strip::<R, L>(words, half, subspace_value::<R, L>(z, stage));
+    let (lower, _upper) = words.split_at_mut(half);
+    forward_first::<R, L>(lower, columns, stage, few, z);
+}
+
+// s_j(z), where s_0(z) = z and s_(j + 1)(z) = s_j(z)^2 + s_j(z): the twiddle of the first block of stage j.
+fn subspace_value<R: StoredBytes, L: Level<R>>(z: R, j: usize) -> R
+    ensures { R.Stored.number result ≡ subspace_value (tower_mul L.LEVEL) j (R.Stored.number z) }
+{
+    let mut value = z;
+    for _ in 0..j {
+        value = L::square(value).xor(value);
+    }
+    value
 }

@@ -67,6 +67,6 @@ returns-clause-derived g t c =
     let front = halves.ensures.front_len ∙ half_rows half c.args.levels width (length old) next c.requires.rows in
     subst (λ (n : ℕ). AreDerivedRows number zero n width old new) next
     (subst (λ (l : List _). AreDerivedRows number zero (suc half) width l new) (sym halves.ensures.value)
-    (derived_halves number zero width half lower upper c.derive.new.values c.add_words.new.words c.derive-2.new.values front
+    (derived_halves number zero width half lower upper front c.derive.new.values c.add_words.new.words c.derive-2.new.values
     (c.add_words.ensures.long ∙ long) c.derive.ensures.derived c.derive-2.ensures.derived
     (λ i below. c.add_words.ensures.sums i (omega (arith, below, long)))))

@@ -3,16 +3,20 @@ use Rattle.std.proofs.lemmas.Nat.{pow_pos}
 use Rattle.ghash_slices.specs.Cantor.{point}
 use Rattle.tower_transforms.specs.Words.{level_element}
 use Rattle.word_tables.specs.Cantor.{cantor_vector}
-use Rattle.transform_codes.specs.Columns.{HoldWordValues}
+use Rattle.transform_codes.specs.Columns.{HoldFirstValues}
 use Rattle.transform_codes.proofs.CodedColumns.{all_blocks, block_begins, next_block}
 use Rattle.transform_codes.proofs.encoding.write_parity.Goals as goal
+
+pub forward_first-requires-clause-first : goal.forward_first-requires-clause-first
+forward_first-requires-clause-first g c =
+    c.levels_of-few.ensures.padded.least c.args.code.now.levels (omega (arith, c.least-taken.ensures.first, c.coefficient_count-points.ensures))
 
 pub loop-number-preserved : goal.loop-number-preserved
 loop-number-preserved g c =
     let level = g.L.Level.LEVEL in
     let element = level_element g.R.Stored.number level in
     let coefficients = c.args.coefficients.now in
-    let block = c.forward_strip.new.words in
+    let block = c.forward_first.new.words in
     let code = c.args.code.now in
     let strip = c.args.strip in
     let n = code.levels in
@@ -30,11 +34,10 @@ loop-number-preserved g c =
     ] in (
       λ k inside.
           next_block element g.R.Stored.ZERO level n strip.width k inside code.parity_shards strip.size strip.start number first
-          c.least-taken.result (g.R.Stored.number c.point_of-behind.result) coefficients block c.loop-number.parity c.scatter.new.shards
-          strip.inside c.requires.count
-          (c.forward_strip.ensures.length ∙ c.copy_from_slice.ensures.len ∙ c.loop-number.auto.block ∙ c.requires.block) first_is shift end
-          (subst (λ l. HoldWordValues element level (g.R.Stored.number c.point_of-behind.result) strip.width k l block)
-          c.copy_from_slice.ensures.after (c.forward_strip.ensures.values k inside))
+          c.least-taken.result c.levels_of-few.result (g.R.Stored.number c.point_of-behind.result) coefficients block c.loop-number.parity
+          c.scatter.new.shards strip.inside first_is shift end c.levels_of-few.ensures.padded.enough
+          (subst (λ l. HoldFirstValues element g.R.Stored.ZERO level n c.levels_of-few.result (g.R.Stored.number c.point_of-behind.result) strip.width k l
+          block) c.copy_from_slice.ensures.after (c.forward_first.ensures.values k inside))
           (c.loop-number.invariant.0 k inside) c.scatter.ensures.scattered,
       λ i d below other. c.scatter.ensures.scattered.kept i d below (inl other) ∙ c.loop-number.invariant.1 i d below other,
     )

@@ -16,7 +16,7 @@ returns-clause-slopes g c =
     let copied = c.copy_from_slice.ensures.after in
     let count : length coefficients ≡ 2 ^ levels = c.inverse_strip.ensures.length ∙ ap length copied ∙ size in
     let same : length derivative ≡ 2 ^ levels = c.derive.ensures.long ∙ count in
-    slopes_are number g.R.Stored.ZERO level levels known coefficients derivative c.forward_strip.new.words (number c.ZERO.result)
+    slopes_are number g.R.Stored.ZERO level levels g.L.Level.few c.requires.few known coefficients derivative c.forward_strip.new.words (number c.ZERO.result)
     (number c.ZERO-2.result) (ap number c.ZERO.ensures ∙ g.R.Stored.zero_number) (ap number c.ZERO-2.ensures ∙ g.R.Stored.zero_number) size count same
     (c.forward_strip.ensures.length ∙ same)
     (subst (λ (l : List _). HoldWordValues (level_element number level) level (number c.ZERO.result) 1 0 coefficients l) copied

@@ -1,11 +1,24 @@
-use Rattle.std.proofs.Common.{◌≡◌, ◌≤◌, ◌*◌, ◌^◌, ◌+◌, ℕ, true, false, length, ◌∙◌, ap, subst, arith}
+use Rattle.std.proofs.Common.{◌≡◌, ◌≤◌, ◌*◌, ◌^◌, ◌+◌, ℕ, ◌<◌, true, false, List, ◌++◌, length, lit<, ◌∙◌, ap, subst, arith, mul-le-mul_right}
 use Rattle.std.specs.Prelude.{slice_index}
+use Rattle.std.proofs.Math.Nat.{pow-le-pow_right}
 use Rattle.tower_transforms.specs.Words.{level_element}
 use Rattle.transform_codes.specs.Columns.{AreRowProducts}
 use Rattle.transform_codes.specs.Restoring.{is_lost, word_at}
 use Rattle.transform_codes.proofs.MendedColumns.{data_restored, parity_restored}
-use Rattle.transform_codes.proofs.RestoredColumns.{known_words, restored_symbols}
+use Rattle.transform_codes.proofs.DerivedColumns.{derived_front}
+use Rattle.transform_codes.proofs.RestoredColumns.{known_words, restored_front}
 use Rattle.transform_codes.proofs.restoring.restore_strip.Goals as goal
+
+pub split_at_mut-symbols-requires : goal.split_at_mut-symbols-requires
+split_at_mut-symbols-requires g c =
+    let r = c.args.code.now.all_levels in
+    let width = c.args.strip.width in
+    let fewer : c.levels_of-reach.result ≤ r =
+    c.levels_of-reach.ensures.padded.least r (omega (arith, c.places_to_last.ensures.few, c.requires.fit.room)) in
+    let more : 2 ^ c.levels_of-reach.result * width ≤ 2 ^ r * width = mul-le-mul_right width (pow-le-pow_right (lit< tt) fewer) in
+    let long : length c.inverse_strip.new.words ≡ 2 ^ r * width =
+    c.inverse_strip.ensures.length ∙ c.multiply_rows.ensures.long ∙ c.read_strip.ensures.long ∙ c.requires.rows in
+    omega (arith, c.derive_first-words.ensures.words, c.derive_first-words.ensures.long, long, more)
 
 pub returns-clause-restored : goal.returns-clause-restored
 returns-clause-restored g c =
@@ -30,35 +43,47 @@ returns-clause-restored g c =
     let words = c.read_strip.new.values in
     let products = c.multiply_rows.new.values in
     let first = c.inverse_strip.new.words in
-    let slopes = c.derive.new.values in
+    let reach = c.levels_of-reach.result in
+    let halves = c.split_at_mut-symbols in
+    let slopes = halves.result.0.now in
+    let others = halves.result.1.now in
     let values = c.forward_strip.new.words in
     let symbols = c.multiply_rows-2.new.values in
     let lost = is_lost k n m present in
+    let room = c.requires.fit.room in
+    let fewer : reach ≤ r = c.levels_of-reach.ensures.padded.least r (omega (arith, c.places_to_last.ensures.few, room)) in
     let words_long : length words ≡ 2 ^ r * width = c.read_strip.ensures.long ∙ c.requires.rows in
     let products_long : length products ≡ 2 ^ r * width = c.multiply_rows.ensures.long ∙ words_long in
     let first_long : length first ≡ 2 ^ r * width = c.inverse_strip.ensures.length ∙ products_long in
-    let slopes_long : length slopes ≡ 2 ^ r * width = c.derive.ensures.long ∙ first_long in
-    let values_long : length values ≡ 2 ^ r * width = c.forward_strip.ensures.length ∙ slopes_long in
+    let slopes_long : length slopes ≡ 2 ^ reach * width = halves.ensures.front_len ∙ c.derive_first-words.ensures.words in
+    let slopes_are = derived_front number zero r reach width first c.derive_first-words.new.values slopes others c.derive_first-words.ensures.derived
+    halves.ensures.value slopes_long in
+    let values_long : length values ≡ 2 ^ reach * width = c.forward_strip.ensures.length ∙ slopes_long in
     let nothing : number c.ZERO.result ≡ 0 = ap number c.ZERO.ensures ∙ g.R.Stored.zero_number in
     let nothing_too : number c.ZERO-2.result ≡ 0 = ap number c.ZERO-2.ensures ∙ g.R.Stored.zero_number in
     let padded : k ≤ 2 ^ n = code.padded.enough in
-    let rows_are : c.coefficient_count-first.result + m ≡ 2 ^ n + m = ap (λ (q : ℕ). q + m) c.coefficient_count-first.ensures in
-    let room = c.requires.fit.room in
-    let restored = restored_symbols number zero g.R.Stored.zero_number level k n m r present g.L.Level.few c.requires.fit.points c.requires.fit.enough
-    (slice_index word.coefficients) width o (2 ^ n + m) inside (word_at zero k n m size (start + o) shards parity) factors words products first slopes
+    let restored = restored_front number zero g.R.Stored.zero_number level k n m r present g.L.Level.few c.requires.fit.points c.requires.fit.enough
+    (slice_index word.coefficients) width o reach fewer inside (word_at zero k n m size (start + o) shards parity) factors words products first slopes
     values symbols (number c.ZERO.result) (number c.ZERO-2.result) nothing nothing_too c.requires.fit.all products_long first_long slopes_long
     values_long (λ p below. c.read_strip.ensures.words p o below inside)
     (subst (λ (q : ℕ). AreRowProducts number zero level width q lost false factors words products) c.point_count-count.ensures
     c.multiply_rows.ensures.products)
-    (c.inverse_strip.ensures.coefficients o inside).have c.derive.ensures.derived (c.forward_strip.ensures.values o inside)
-    (subst (λ (q : ℕ). AreRowProducts number zero level width q lost true factors values symbols) rows_are c.multiply_rows-2.ensures.products)
+    (c.inverse_strip.ensures.coefficients o inside).have slopes_are (c.forward_strip.ensures.values o inside)
+    (subst (λ (q : ℕ). AreRowProducts number zero level width q lost true factors values symbols) c.power_of-rows.ensures.power
+    c.multiply_rows-2.ensures.products)
     (λ p below known.
     known_words number zero g.R.Stored.zero_number level k n m size (start + o) present shards parity symbol word_parity word data_known
-    parity_known padded p known) in (
-      data_restored element zero level n k m size start width o (2 ^ n) present shards parity c.mend.new.shards c.mend-2.new.shards symbols
+    parity_known padded p known)
+    others c.multiply_rows-2.ensures.long in
+    let reached : (p : ℕ) → p < 2 ^ n + m → lost p ≡ true → p < 2 ^ reach =
+    λ p within absent.
+    let before = c.places_to_last.ensures.all p within absent in
+    omega (arith, before, c.levels_of-reach.ensures.padded.enough) in
+    let all : List _ = symbols ++ others in (
+      data_restored element zero level n k m size start width o (2 ^ n) present shards parity c.mend.new.shards c.mend-2.new.shards all
           symbol word_parity word strip.inside inside padded (omega arith)
-          (λ p within absent. restored p within (omega (arith, within, room)) absent) data_known c.mend.ensures.mended,
-      parity_restored element zero level n k m size start width o c.coefficient_count-first.result present shards parity c.mend.new.shards
-          c.mend-2.new.shards symbols symbol word_parity word strip.inside inside padded c.coefficient_count-first.ensures
-          (λ p within absent. restored p within (omega (arith, within, room)) absent) parity_known c.mend-2.ensures.mended,
+          (λ p within absent. restored p (reached p within absent) absent) data_known c.mend.ensures.mended,
+      parity_restored element zero level n k m size start width o c.coefficient_count.result present shards parity c.mend.new.shards
+          c.mend-2.new.shards all symbol word_parity word strip.inside inside padded c.coefficient_count.ensures
+          (λ p within absent. restored p (reached p within absent) absent) parity_known c.mend-2.ensures.mended,
     )
