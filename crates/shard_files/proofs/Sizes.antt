@@ -10,12 +10,12 @@ le_through : {a b c : ℕ} → a ≤ b → b ≤ c → a ≤ c
 le_through first second = omega (arith, first, second)
 
 -- the parts hold all bytes
-part_enough : (bytes each : ℕ) → 0 < each → bytes ≤ part_count bytes each * each
+pub part_enough : (bytes each : ℕ) → 0 < each → bytes ≤ part_count bytes each * each
 part_enough bytes each some =
     le_through (ends_beyond bytes each some) (mul-le-mul_right each (le-max_right 1 ((bytes + (each - 1)) / each)))
 
 -- and no fewer parts do
-part_least : (bytes each m : ℕ) → 1 ≤ m → bytes ≤ m * each → part_count bytes each ≤ m
+pub part_least : (bytes each m : ℕ) → 1 ≤ m → bytes ≤ m * each → part_count bytes each ≤ m
 part_least bytes zero m some room =
     max-le some (subst (λ (n : ℕ). n ≤ m) (sym (div-zero (bytes + (zero - 1)))) (omega arith))
 part_least bytes (suc each) m some room =

@@ -16,7 +16,7 @@ mod writing;
 pub use crate::error::{JoinError, RepairError, SplitError};
 pub use crate::group::Group;
 pub use crate::head::{HEAD, Head, Origin, older_format};
-pub use crate::laws::shards_return;
+pub use crate::laws::{parts_are_fewest, shards_return};
 pub use crate::reading::{ShardSource, gather, restored, write_content};
 pub use crate::repairing::repair_shards;
 pub use crate::survey::{Choice, Finding, Seen, Survey};

@@ -1,4 +1,6 @@
 // What shards there are: the files that were looked at, by the file that their shards are of.
+ghost use Rattle.std.specs.Prelude.{◌≤◌, ◌↔◌, IsTrue};
+
 use crate::head::{Head, Origin, older_format};
 use std::alloc::{AllocError, Global};
 use stripe_codes::TRANSFORM;
@@ -31,7 +33,9 @@ pub struct Seen {
 
 impl Seen {
     /// Whether they are enough.
-    pub fn has_enough(&self) -> bool {
+    pub fn has_enough(&self) -> bool
+        ensures { IsTrue result ↔ (self.now.origin.data_shards ≤ self.now.count) }
+    {
         self.count >= self.origin.data_shards as usize
     }
 }

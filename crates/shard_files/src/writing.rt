@@ -149,7 +149,8 @@ fn write_stripe<R: Read, F: ShardFiles>(
 
 // Reads so many bytes.
 fn read_stripe<R: Read>(alloc: Global, count: usize, reader: &mut R) -> Result<Vec<u8>, SplitError>
-    ensures read { IfOk result (λ bytes. (length bytes.items ≡ count) × Consumes (R.remaining reader.old) (R.remaining reader.new) bytes.items) }
+    ensures read { IfOk result (λ bytes. (length bytes.items ≡ count)
+        × Consumes (R.remaining reader.old) (R.remaining reader.new) bytes.items) }
     ensures refused { IfErr result IsSplitFault }
 {
     let mut bytes = match zeros(alloc, 1, count) {
