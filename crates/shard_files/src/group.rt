@@ -1,5 +1,6 @@
 // The shards of a file in one stripe: put to their places by what heads say, restored, and looked at.
-ghost use Rattle.std.specs.Prelude.{◌≡◌, ℕ, List, ◌+◌, ◌*◌, ◌<◌, ◌≤◌, ◌↔◌, ◌⊎◌, drop, take, length, false, replicate, slice_index_or, Err, IsOk, IsTrue, IfErr, IfOk, OnErr};
+ghost use Rattle.std.specs.Prelude.{◌≡◌, ℕ, List, ◌+◌, ◌*◌, ◌<◌, ◌≤◌, ◌↔◌, ◌⊎◌, drop, take};
+ghost use Rattle.std.specs.Prelude.{length, false, replicate, slice_index_or, Err, IsOk, IsTrue, IfErr, IfOk, OnErr};
 ghost use Rattle.reed_solomon.specs.Shards.{present_count};
 ghost use Rattle.shard_files.specs.declared.error.JoinError.TheVariants.{Counts, Memory, TooFew};
 ghost use Rattle.shard_files.specs.Groups.{AreOf, HasEnough, HaveSameShards, Puts, shard_at, Takes};

@@ -1,7 +1,8 @@
 // The head of a shard's file, 104 bytes: eight that name the format and its version, then, the lowest byte first, the code, the counts of
 // shards of data and of parity and the shard's number in four bytes each, the file's length and the bytes of a shard in a stripe in eight
 // bytes each, the SHA-256 of the file's bytes, which is the file's identity, and the SHA-256 of all this.
-ghost use Rattle.std.specs.Prelude.{◌≡◌, ◌≢◌, ◌⊎◌, ◌+◌, ◌≤◌, ◌++◌, ◌↔◌, ℕ, List, drop, length, slice_index, take, IfSome, IsNone, IsTrue, OnOk, Some};
+ghost use Rattle.std.specs.Prelude.{◌≡◌, ◌≢◌, ◌⊎◌, ◌+◌, ◌≤◌, ◌++◌, ◌↔◌, ℕ, List, drop};
+ghost use Rattle.std.specs.Prelude.{length, slice_index, take, IfSome, IsNone, IsTrue, OnOk, Some};
 ghost use Rattle.std.specs.Int.{w32, w64, from_le_bytes, to_le_bytes};
 ghost use Rattle.std.specs.Io.KnownBytes.{Appends};
 ghost use Rattle.shard_files.specs.Heads.{format_name, head_digest, head_fields, head_file, IsHead};

@@ -1,7 +1,8 @@
 // The stripes of a file: where their bytes begin, and how many they are.
 ghost use Rattle.std.specs.Prelude.{◌≡◌, ◌≢◌, ◌+◌, ◌-◌, ◌*◌, ◌/◌, ◌<◌, ◌%◌, ◌≤◌, ◌↔◌, ◌^◌, IfSome, IsSome, IsTrue};
 ghost use Rattle.stripe_codes.specs.Codes.{HasCode};
-ghost use Rattle.shard_files.specs.Stripes.{even_size, IsPossible, part_count, piece_start, shard_total, stripe_length, stripe_total, stripe_width};
+ghost use Rattle.shard_files.specs.Stripes.{even_size, IsPossible, part_count, piece_start, shard_total};
+ghost use Rattle.shard_files.specs.Stripes.{stripe_length, stripe_total, stripe_width};
 
 use crate::head::{HEAD, Origin};
 use crate::piece::DIGEST;
