@@ -1,7 +1,9 @@
 mod BothParts
 mod ByteProducts
+mod ByteSums
 mod FirstPlaces
 mod ImageInverses
+mod NumberParts
 mod PlacesPut
 mod ScaledBytes
 mod SlicedWords

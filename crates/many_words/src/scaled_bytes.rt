@@ -1,12 +1,17 @@
 // Bytes of a field of up to 8 bits by one scalar, many at once: the product by the scalar is a linear map of bytes, which is looked up in
 // registers by the products of the scalar and each bit.
-ghost use Rattle.std.specs.Prelude.{◌≡◌, ◌<◌, ℕ, length};
-ghost use Rattle.many_words.specs.Words.{AreElements, Each};
+ghost use Rattle.std.specs.Prelude.{◌≡◌, ◌+◌, ◌<◌, ◌≤◌, ℕ, bit_xor, length, map, slice_index};
+ghost use Rattle.std.specs.Simd.Lanes.{chunk, zip2};
+ghost use Rattle.word_tables.specs.Nibbles.{entry_sum};
+ghost use Rattle.many_words.specs.Words.{AreElements, Each, EachOfTwo};
 ghost use Rattle.many_words.specs.Fields.{field_of, itself};
 ghost use Rattle.field_base.specs.LinearMaps.{linear_image};
 
+use crate::one_by_one::change_all_by;
+use crate::operations::ScaledSum;
 use field_base::FieldKernel;
-use word_tables::map_bytes;
+use std::simd::prelude::*;
+use word_tables::{entry_sums, map_bytes};
 
 /// The least number of bytes that are mapped.
 pub(crate) const LEAST_MAPPED: usize = 32;
@@ -18,6 +23,74 @@ pub(crate) fn multiply_all<K: FieldKernel<u8>>(bytes: &mut [u8], scalar: u8)
     ensures products { Each (field_of itself K.width K.product K.generator) (λ x y. y ≡ K.product x scalar) bytes.old bytes.new }
 {
     map_bytes(&images_of::<K>(scalar), bytes);
+}
+
+/// Adds to each sum the product of the scalar and the byte at its place. The slices are of one length.
+pub(crate) fn add_all<K: FieldKernel<u8>>(sums: &mut [u8], bytes: &[u8], scalar: u8)
+    requires { length bytes.now ≡ length sums.old }
+    ensures { EachOfTwo (field_of itself K.width K.product K.generator) (λ sum x next. next ≡ bit_xor sum (K.product scalar x)) sums.old
+        bytes.now sums.new }
+{
+    if sums.len() < LEAST_MAPPED {
+        change_all_by::<u8, u8, K, ScaledSum<u8>>(sums, bytes, &ScaledSum { scalar });
+    } else {
+        add_mapped::<K>(sums, bytes, scalar);
+    }
+}
+
+// The same of at least a block.
+fn add_mapped<K: FieldKernel<u8>>(sums: &mut [u8], bytes: &[u8], scalar: u8)
+    requires same { length bytes.now ≡ length sums.old }
+    requires block { 32 ≤ length sums.old }
+    ensures { EachOfTwo (field_of itself K.width K.product K.generator) (λ sum x next. next ≡ bit_xor sum (K.product scalar x)) sums.old
+        bytes.now sums.new }
+{
+    let (low, high) = tables_of(&images_of::<K>(scalar));
+    add_in_blocks(sums, bytes, low, high);
+}
+
+// Adds to each sum what the tables have at the halves of the byte at its place. The last block may overlap the one before it, so that its
+// sums are taken before any is written.
+fn add_in_blocks(sums: &mut [u8], bytes: &[u8], low: u8x16, high: u8x16)
+    requires same { length bytes.now ≡ length sums.old }
+    requires block { 32 ≤ length sums.old }
+    ensures long { length sums.new ≡ length sums.old }
+    ensures sums { (k : ℕ) → k < length sums.new
+        → slice_index sums.new k ≡ bit_xor (slice_index sums.old k) (entry_sum low high (slice_index bytes.now k)) }
+{
+    let last = sums.len() - 32;
+    let end = sums_at(sums, bytes, last, low, high);
+    for block in 0..(sums.len() - 1) / 32 {
+        let start = 32 * block;
+        let next = sums_at(sums, bytes, start, low, high);
+        next.copy_to_slice(&mut sums[start..]);
+    }
+    end.copy_to_slice(&mut sums[last..]);
+}
+
+// The sums from a place on, with what the tables have at the halves of the bytes there.
+#[inline(always)]
+fn sums_at(sums: &[u8], bytes: &[u8], place: usize, low: u8x16, high: u8x16) -> u8x32
+    requires same { length bytes.now ≡ length sums.now }
+    requires inside { place + 32 ≤ length sums.now }
+    ensures { result ≡ zip2 bit_xor (chunk place 32 sums.now) (map (entry_sum low high) (chunk place 32 bytes.now)) }
+{
+    u8x32::from_slice(&sums[place..]) ^ entry_sums(low, high, u8x32::from_slice(&bytes[place..]))
+}
+
+// The tables of a linear map of bytes: its values at 0 to 15, and at 0, 16, .., 240.
+fn tables_of(images: &[u8; 8]) -> (u8x16, u8x16)
+    ensures { (x : ℕ) → x < 256 → entry_sum result.0 result.1 x ≡ linear_image images.now x }
+{
+    let mut entries = [
+        0, 1, 2, 3, 4, 5, 6, 7, 8, 9, 10, 11, 12, 13, 14, 15, 0, 16, 32, 48, 64, 80, 96, 112, 128,
+        144, 160, 176, 192, 208, 224, 240,
+    ];
+    map_bytes(images, &mut entries);
+    (
+        u8x16::from_slice(&entries),
+        u8x16::from_slice(&entries[16..]),
+    )
 }
 
 // The products of the scalar and each bit of a byte.

@@ -50,6 +50,10 @@ impl Many<u8, u8> for RijndaelKernel {
         scaled_bytes::multiply_all::<RijndaelKernel>(words, scalar);
     }
 
+    fn add_multiples<V: Width>(sums: &mut [u8], words: &[u8], scalar: u8) {
+        scaled_bytes::add_all::<RijndaelKernel>(sums, words, scalar);
+    }
+
     ghost room_law = { few_fit 128 1 (lit< tt) };
 }
 
