@@ -2,10 +2,15 @@ mod BothParts
 mod ByteProducts
 mod ByteSums
 mod FirstPlaces
+mod FourImages
 mod ImageInverses
+mod MapSteps
+mod MappedWords
 mod NumberParts
 mod PlacesPut
+mod ScalarImages
 mod ScaledBytes
 mod SlicedWords
+mod TableLanes
 pub mod WordDots
 pub mod WordNumbers

@@ -1,4 +1,5 @@
 pub mod Fields
+pub mod Maps
 pub mod Places
 pub mod Room
 pub mod Words

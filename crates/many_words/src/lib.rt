@@ -7,17 +7,20 @@
 mod bases;
 mod bytes;
 mod dots;
+mod entries;
 pub mod fields;
 mod in_planes;
 mod in_slices;
 mod lanes;
 mod many;
+mod mapped_words;
 mod one_by_one;
 pub mod operations;
 mod products;
 mod scalars;
 mod scaled_bytes;
 mod wide_words;
+mod word_maps;
 
 pub use crate::bases::{ChangeOfBasis, FromTower, ToTower};
 pub use crate::in_slices::{invert_images, invert_words, multiply_words};

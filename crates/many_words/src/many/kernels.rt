@@ -1,5 +1,5 @@
 // The fields that are no levels of 8 to 128 bits: those of 1 to 4 bits and the cubic extension one word after another, bytes of AES in
-// vectors of bytes, polynomials of 64 and 128 bits in slices of bits and in lanes.
+// vectors of bytes, polynomials of 64 and 128 bits in slices of bits and in lanes, those of 64 bits by one scalar in planes of bytes.
 ghost use prog.Memory.{size};
 ghost use denote.Param.{layout};
 ghost use Rattle.std.proofs.Common.{lit<};
@@ -8,8 +8,9 @@ ghost use Rattle.many_words.specs.Room.{few_fit, fewer_fit};
 use super::Many;
 use crate::bytes::LEAST_IN_VECTORS;
 use crate::in_slices::{LEAST_IN_SLICES, invert_images, multiply_polynomials};
+use crate::mapped_words::polynomial_images;
 use crate::scaled_bytes::LEAST_MAPPED;
-use crate::{SlicedWide, bytes, products, scalars, scaled_bytes};
+use crate::{SlicedWide, bytes, mapped_words, products, scalars, scaled_bytes};
 use bit_slices::Vector;
 use ghash_slices::Width;
 use word_cubic::Triple;
@@ -58,6 +59,8 @@ impl Many<u8, u8> for RijndaelKernel {
 }
 
 impl Many<u64, u64> for Poly64Kernel {
+    const LEAST_SCALED: usize = mapped_words::LEAST_MAPPED;
+
     const LEAST_INVERTED: usize = LEAST_IN_SLICES;
 
     const LEAST_IN_BATCH: usize = LEAST_IN_SLICES;
@@ -74,6 +77,16 @@ impl Many<u64, u64> for Poly64Kernel {
 
     fn multiply_all<V: Width + Vector>(products: &mut [u64], words: &[u64]) {
         multiply_polynomials::<u64, u64, Poly64Kernel, V>(products, words);
+    }
+
+    fn multiply_all_by<V: Width>(words: &mut [u64], scalar: u64) {
+        let images = polynomial_images(scalar);
+        mapped_words::multiply_all::<Poly64Kernel, u64>(words, scalar, &images);
+    }
+
+    fn add_multiples<V: Width>(sums: &mut [u64], words: &[u64], scalar: u64) {
+        let images = polynomial_images(scalar);
+        mapped_words::add_all::<Poly64Kernel, u64>(sums, words, scalar, &images);
     }
 
     fn invert_all<V: Vector>(words: &mut [u64]) {

@@ -1,0 +1,20 @@
+use Rattle.std.proofs.Common.{map, ◌∙◌, arith}
+use Rattle.tower_transforms.proofs.WordSteps.{last_first}
+use Rattle.many_words.proofs.MapSteps.{block_mapped}
+use Rattle.many_words.proofs.word_maps.map_words.Goals as goal
+
+pub loop-block-preserved : goal.loop-block-preserved
+loop-block-preserved g c =
+    let within = c.loop-block-test.true in (
+      c.scatter.ensures.length ∙ c.loop-block.invariant.0,
+      λ f are.
+          block_mapped g.S.Planes.depth g.W.WordBytes.size g.S.Planes.lanes c.loop-block.block f c.requires.size g.met.S.Entries.sixteen_law
+          (g.S.Planes.lane c.gather.result) _ _ (map g.W.Holds.number c.args.words.now)
+          (map g.W.Holds.number c.loop-block.words) (map g.W.Holds.number c.scatter.new.words) (c.loop-block.invariant.1 f are)
+          c.gather.ensures c.zeros-images.ensures (c.add_images.ensures f 0 are) c.scatter.ensures.words,
+      omega (arith, within),
+    )
+
+pub returns-clause-images : goal.returns-clause-images
+returns-clause-images g c f are =
+    last_first _ _ _ _ _ _ (omega (arith, c.loop-block.invariant.2, c.loop-block-test.false)) (c.loop-block.invariant.1 f are)
