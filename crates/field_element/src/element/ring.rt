@@ -299,8 +299,8 @@ impl<R: Unsigned, K: LevelKernel<R> + HasPacking<R>> TowerLevel for Element<R, K
     ghost cantor_image_law = { basis-cantor K.LOG_BITS K.width K.product K.basis
         K.field_law.ring K.basis_law K.cantor K.cantor_law K.bits_law };
 
-    ghost generator_image_law = { number_of_stored K.width R.bits R.number R.of_number R.number_of K.FieldKernel.room_law K.generator K.generator_fits
-        ∙ K.generator_image_law };
+    ghost generator_image_law = { number_of_stored K.width R.bits R.number R.of_number R.number_of K.FieldKernel.room_law K.generator
+        K.generator_fits ∙ K.generator_image_law };
 
     ghost no_root_law = { basis-no_root K.LOG_BITS K.width K.product K.basis K.field_law.ring K.basis_law };
 }
