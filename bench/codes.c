@@ -1,9 +1,9 @@
 /* Erasure codes by additive transforms, over words of 16 bits, on one core: gigabytes of data a second.
  *
- *   gcc -O2 -Iinclude -o codes bench/codes.c crates/binary_field_c/out/libbinary_field_c.a && ./codes [SAMPLES]
+ *   gcc -O2 -Iinclude -o codes bench/codes.c crates/binary_field_c/out/libbinary_field_c.a && ./codes [SAMPLES] [spread]
  *
- * Of each code and shard size: encoding, and restoring where as many shards of data are lost as there are of parity (or all of them). The
- * least of so many samples (5). What is restored is compared with what was lost. With -DISAL and -lisal also ISA-L's matrix code (Cauchy),
+ * Of each code and shard size: encoding, and restoring where as many shards of data are lost as there are of parity (or all of them): the
+ * first ones, or, with the word spread, others all over. The least of so many samples (5). What is restored is compared with what was lost. With -DISAL and -lisal also ISA-L's matrix code (Cauchy),
  * as it chooses for this processor, where it has so many shards; what it makes once for a code or for what is lost is not counted.
  */
 #include "binary_field.h"
@@ -21,7 +21,7 @@ static double now(void) {
     return it.tv_sec + 1e-9 * it.tv_nsec;
 }
 
-static void measure(size_t data, size_t parity, size_t size, int samples) {
+static void measure(size_t data, size_t parity, size_t size, int samples, int spread) {
     uint64_t space_length;
     size_t words = size / 2, total = data + parity, lost = parity < data ? parity : data;
     if (bf_erasure_space(data, parity, &space_length)) exit(1);
@@ -39,9 +39,12 @@ static void measure(size_t data, size_t parity, size_t size, int samples) {
         if (taken < encode) encode = taken;
     }
     memset(present, 1, total);
-    for (size_t i = 0; i < lost; i++) present[i] = 0;
+    for (size_t left = lost, i = 0; left; i = (i + (spread ? 7919 : 1)) % data) {
+        left -= present[i];
+        present[i] = 0;
+    }
     for (int i = 0; i < samples; i++) {
-        memset(shards, 0xa5, lost * size);
+        for (size_t j = 0; j < data; j++) if (!present[j]) memset(shards + j * words, 0xa5, size);
         double start = now();
         uint32_t status = bf_erasure_reconstruct(data, parity, shards, data * words, extra, parity * words, present, total, space, space_length);
         double taken = now() - start;
@@ -95,7 +98,7 @@ int main(int count, char **words) {
         {1000, 200, 1024}, {1000, 200, 65536}, {10000, 2000, 1024}, {32768, 32768, 1024},
     };
     for (size_t i = 0; i < sizeof codes / sizeof *codes; i++) {
-        measure(codes[i][0], codes[i][1], codes[i][2], samples);
+        measure(codes[i][0], codes[i][1], codes[i][2], samples, count > 2);
 #ifdef ISAL
         if (codes[i][0] + codes[i][1] <= 256) measure_isal(codes[i][0], codes[i][1], codes[i][2], samples);
 #endif
