@@ -9,4 +9,3 @@ mod printed;
 mod products;
 mod sbox;
 mod slices;
-mod stored_words;
