@@ -2,7 +2,8 @@
 """Writes the manual pages docs/man/PROGRAM.1 from the texts that the programs print for --help: the constant USAGE of a crate's
 src/, or scripts/help/PROGRAM.txt. With --check it compares instead, and tells a program that says another version than VERSION.
 
-A text begins with `usage:` and the forms of the command, then has paragraphs, and may end with a line `Example: ..`.
+A text begins with `usage:` and the forms of the command, then has paragraphs, and may end with a line `Example: ..`. One of a program
+with commands, which scripts/write-help writes, has a line `$ PROGRAM .. --help` before each help.
 """
 
 import re
@@ -31,9 +32,9 @@ def texts():
         if not source.is_file():
             continue
         code = "\n".join(it.read_text(encoding="utf-8") for it in sorted(source.parent.glob("*.rt")))
-        if said := re.search(rf'"{name} (\d+\.\d+\.\d+)', code):
-            if said[1] != fields.VERSION_TEXT:
-                sys.exit(f"{name} says version {said[1]}, and the file VERSION {fields.VERSION_TEXT}")
+        if said := re.search(rf'"{name} (\d+\.\d+\.\d+)|VERSION: &str = "(\d+\.\d+\.\d+)', code):
+            if (version := said[1] or said[2]) != fields.VERSION_TEXT:
+                sys.exit(f"{name} says version {version}, and the file VERSION {fields.VERSION_TEXT}")
         found = USAGE.search(code)
         about = re.search(rf"^# (.*)\n{name}:", known, re.MULTILINE)[1].removeprefix("The program: ").removeprefix("The program that ")
         if found or beside.is_file():
@@ -46,27 +47,51 @@ def roff(text):
     return re.sub(r"^([.'])", r"\\&\1", text, flags=re.MULTILINE)
 
 
-def page(name, text, about):
-    """The manual page of a program."""
-    head, _, rest = text.strip().partition("\n\n")
-    rest, _, example = rest.partition("Example: ")
-    # Forms stand behind the word, or below it with what each does.
-    forms = head.removeprefix("usage:")
-    forms = textwrap.dedent(forms.strip("\n")) if forms.startswith("\n") else "\n".join(it.strip() for it in forms.splitlines())
-    written = files.generated("make_man.py")
-    parts = [
-        f'.\\" {written}',
+def heads(name, about):
+    """What the page of a program begins with."""
+    return [
+        f'.\\" {files.generated("make_man.py")}',
         f'.TH {name.upper()} 1 "" "Tiforwg {fields.VERSION_TEXT}"',
         ".SH NAME",
         roff(f"{name} - {about.rstrip('.')}"),
         ".SH SYNOPSIS",
         ".nf",
-        roff(forms),
-        ".fi",
     ]
+
+
+def paragraphs(text):
+    """The paragraphs of a text."""
+    return "\n.PP\n".join(roff(it.strip()) for it in text.strip().split("\n\n"))
+
+
+def page_of_commands(name, text, about):
+    """The manual page of a program with commands: each has a section with its help."""
+    helps = re.findall(rf"^\$ {name} ?(\w*) --help\n(.*?)(?=^\$|\Z)", text, re.MULTILINE | re.DOTALL)
+    parts = heads(name, about)
+    for command, said in helps:
+        if command:
+            forms = re.search(r"^Usage: (.*?)\n\n", said, re.MULTILINE | re.DOTALL)[1]
+            parts += [roff(it.strip()) for it in forms.splitlines()]
+    # What stands behind the options of the program.
+    parts += [".fi", ".SH DESCRIPTION", paragraphs(re.search(r"^Options:\n.*?\n\n(.*)", helps[0][1], re.MULTILINE | re.DOTALL)[1]), ".SH COMMANDS"]
+    for command, said in helps:
+        if command:
+            parts += [f".SS {command}", ".nf", roff(said.strip()), ".fi"]
+    return "\n".join(parts) + "\n"
+
+
+def page(name, text, about):
+    """The manual page of a program."""
+    if f"\n$ {name} --help\n" in text:
+        return page_of_commands(name, text, about)
+    head, _, rest = text.strip().partition("\n\n")
+    rest, _, example = rest.partition("Example: ")
+    # Forms stand behind the word, or below it with what each does.
+    forms = head.removeprefix("usage:")
+    forms = textwrap.dedent(forms.strip("\n")) if forms.startswith("\n") else "\n".join(it.strip() for it in forms.splitlines())
+    parts = [*heads(name, about), roff(forms), ".fi"]
     if rest.strip():
-        parts += [".SH DESCRIPTION", *(roff(it.strip()) + "\n.PP" for it in rest.strip().split("\n\n"))]
-        parts[-1] = parts[-1].removesuffix("\n.PP")
+        parts += [".SH DESCRIPTION", paragraphs(rest)]
     if example:
         parts += [".SH EXAMPLE", ".nf", roff(example.strip()), ".fi"]
     return "\n".join(parts) + "\n"

@@ -126,6 +126,7 @@ pub(crate) fn find_shards<'a, R: Files + AllocGlobal + Eprint>(
     let survey = survey_of(rt, paths.as_slice())?;
     let chosen = choose(rt, words, file, &survey)?;
     let first = tell_others(rt, paths.as_slice(), chosen, &survey)?;
+    require_no_shard(rt, file, survey.seen.as_slice().get(chosen))?;
     if chosen >= survey.seen.len() {
         bail!("{file}: no shards")
     }
@@ -144,12 +145,43 @@ pub(crate) fn find_shards<'a, R: Files + AllocGlobal + Eprint>(
 pub(crate) fn survey_of<R: Files + AllocGlobal>(rt: &R, paths: &[String]) -> Result<Survey> {
     let mut survey = Survey::new(rt.alloc());
     for path in paths {
-        match begin_of(rt, path.as_str()) {
-            Some(bytes) => survey.add(Some(bytes.as_slice()))?,
-            None => survey.add(None)?,
-        }
+        look_at(rt, path.as_str(), &mut survey)?;
     }
     Ok(survey)
+}
+
+// Adds what a file is.
+fn look_at<R: Files + AllocGlobal>(rt: &R, path: &str, survey: &mut Survey) -> Result<()> {
+    match begin_of(rt, path) {
+        Some(bytes) => survey.add(Some(bytes.as_slice()))?,
+        None => survey.add(None)?,
+    }
+    Ok(())
+}
+
+/// What the head of a file says, where it is a shard.
+pub(crate) fn seen_at<R: Files + AllocGlobal>(rt: &R, path: &str) -> Result<Option<Seen>> {
+    let mut survey = Survey::new(rt.alloc());
+    look_at(rt, path, &mut survey)?;
+    Ok(survey.seen.first().copied())
+}
+
+// Fails where the first name is that of a shard of the file that is chosen, or of any where none is.
+fn require_no_shard<R: Files + AllocGlobal>(
+    rt: &R,
+    file: &str,
+    chosen: Option<&Seen>,
+) -> Result<()> {
+    if let Some(own) = seen_at(rt, file)? {
+        let is_of = match chosen {
+            Some(seen) => own.origin.identity == seen.origin.identity,
+            None => true,
+        };
+        if is_of {
+            bail!("{file} is itself a shard; the first name is that of the file that was split")
+        }
+    }
+    Ok(())
 }
 
 // As many bytes as a head has, or as a file has, from its beginning.
@@ -186,8 +218,8 @@ pub(crate) fn paths_of<R: Files + AllocGlobal>(
     file: &str,
 ) -> Result<Vec<String>> {
     let mut paths = Vec::new(rt.alloc());
-    for place in 1..words.names.len() {
-        paths.push(format!(in rt.alloc(); "{}", words.names[place])?)?;
+    for shard in words.shards.as_slice() {
+        paths.push(format!(in rt.alloc(); "{shard}")?)?;
     }
     if paths.is_empty() {
         for index in 0..MOST_SHARDS {
@@ -200,7 +232,7 @@ pub(crate) fn paths_of<R: Files + AllocGlobal>(
     Ok(paths)
 }
 
-// The number of the file that is to be restored.
+// The number of the file that is to be restored, or how many there are where it is none of them.
 fn choose<R: AllocGlobal + Eprint>(
     rt: &R,
     words: &Words<'_>,
@@ -217,7 +249,7 @@ fn choose<R: AllocGlobal + Eprint>(
     }
     match survey.choice(wanted.as_slice()) {
         Choice::Only(chosen) | Choice::TooFew(chosen) => Ok(chosen),
-        Choice::Nothing => bail!("{file}: no shards"),
+        Choice::Nothing => Ok(survey.seen.len()),
         Choice::Several => {
             for seen in survey.seen.as_slice() {
                 if seen.has_enough() {
@@ -230,8 +262,8 @@ fn choose<R: AllocGlobal + Eprint>(
     }
 }
 
-// Tells why a file is not taken.
-fn tell<R: AllocGlobal + Eprint>(
+/// Tells why a file is not taken.
+pub(crate) fn tell<R: AllocGlobal + Eprint>(
     rt: &R,
     path: &str,
     finding: Finding,

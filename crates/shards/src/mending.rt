@@ -1,11 +1,11 @@
 // Looking at shards, and writing those again that are missing or damaged.
 use crate::beside::{NewFiles, NewShards};
 use crate::faults::{Faults, require_enough, too_few};
-use crate::finding::{Found, find_shards, name_of, paths_of, survey_of};
+use crate::finding::{Found, find_shards, name_of, paths_of, seen_at, survey_of, tell};
 use crate::words::Words;
 use anyhow::{Result, bail};
 use sha2::{Digest, Sha256};
-use shard_files::{Finding, Origin, Seen, gather, repair_shards};
+use shard_files::{Finding, Origin, Seen, Survey, gather, repair_shards};
 use std::fs;
 use std::fs::Files;
 use std::process::ExitCode;
@@ -197,14 +197,18 @@ fn require_damaged<R: Files + AllocGlobal>(rt: &R, found: &Found<'_>, index: usi
     )
 }
 
-/// Says what shards say of themselves: the files that they are of, and the number of each.
-pub(crate) fn tell_file<R: Files + AllocGlobal + Print>(
+/// Says what shards say of themselves: the files that they are of, and the number of each. The first name may be that of a shard too.
+pub(crate) fn tell_file<R: Files + AllocGlobal + Print + Eprint>(
     rt: &R,
     words: &Words<'_>,
     file: &str,
 ) -> Result<()> {
-    let paths = paths_of(rt, words, file)?;
+    let mut paths = paths_of(rt, words, file)?;
+    if seen_at(rt, file)?.is_some() {
+        paths.push(format!(in rt.alloc(); "{file}")?)?;
+    }
     let survey = survey_of(rt, paths.as_slice())?;
+    tell_no_shards(rt, paths.as_slice(), &survey)?;
     let mut is_told = false;
     for number in 0..survey.seen.len() {
         let seen = survey.seen[number];
@@ -221,6 +225,21 @@ pub(crate) fn tell_file<R: Files + AllocGlobal + Print>(
     }
     if !is_told {
         bail!("{file}: no shards")
+    }
+    Ok(())
+}
+
+// Tells why files are no shards.
+fn tell_no_shards<R: AllocGlobal + Eprint>(
+    rt: &R,
+    paths: &[String],
+    survey: &Survey,
+) -> Result<()> {
+    for place in 0..paths.len() {
+        match survey.findings.as_slice().get(place) {
+            Some(Finding::Shard(_, _)) | None => {}
+            Some(finding) => tell(rt, paths[place].as_str(), *finding, survey)?,
+        }
     }
     Ok(())
 }
