@@ -7,6 +7,7 @@ use std::fs::{File, Files, OpenFile, OpenOptions, Permissions};
 use std::io::Write;
 use std::os::unix::fs::{OpenOptionsExt, PermissionsExt};
 use std::path::Path;
+use std::rt::Clock;
 use std::{fs, io};
 
 /// New files. What is there already is not overwritten, unless that is asked for.
@@ -119,14 +120,14 @@ pub(crate) struct NewShards<'a, R: Files> {
     progress: Progress,
 }
 
-impl<'a, R: Files + AllocGlobal + Eprint> NewShards<'a, R> {
+impl<'a, R: Files + AllocGlobal + Clock + Eprint> NewShards<'a, R> {
     /// No file of so many shards yet.
     pub(crate) fn new(
         rt: &'a R,
         files: NewFiles<'a, R>,
         base: String,
         total: usize,
-        is_quiet: bool,
+        progress: Progress,
     ) -> Result<NewShards<'a, R>> {
         Ok(NewShards {
             rt,
@@ -136,7 +137,7 @@ impl<'a, R: Files + AllocGlobal + Eprint> NewShards<'a, R> {
             index: 0,
             is_begun: vec![in rt.alloc(); false; total]?,
             fault: None,
-            progress: Progress::new(is_quiet),
+            progress,
         })
     }
 
@@ -208,7 +209,7 @@ impl<'a, R: Files + AllocGlobal + Eprint> NewShards<'a, R> {
 }
 
 // What the system's files hold is not told.
-impl<R: Files + AllocGlobal + Eprint> ShardFiles for NewShards<'_, R> {
+impl<R: Files + AllocGlobal + Clock + Eprint> ShardFiles for NewShards<'_, R> {
     ghost holds = { λ files held. ⊥ };
 
     fn append(&mut self, index: usize, bytes: &[u8]) -> io::Result<()> {

@@ -1,7 +1,8 @@
 // Splitting and joining.
 use crate::beside::{NewFiles, NewShards};
 use crate::faults::{require_enough, too_few};
-use crate::finding::{Found, find_shards, mode_of};
+use crate::finding::{Found, find_shards, length_of, mode_of};
+use crate::progress::{Progress, clear};
 use crate::words::Words;
 use anyhow::{Context, Result, bail};
 use sha2::{Digest, Sha256};
@@ -10,6 +11,7 @@ use std::fs::{File, Files};
 use std::io;
 use std::io::{Read, Write};
 use std::path::Path;
+use std::rt::Clock;
 use stripe_codes::{default_code, limit_of};
 
 /// How many bytes are read at once to compute an identity.
@@ -17,12 +19,12 @@ const CHUNK: usize = 1 << 20;
 
 /// Writes the shards of a file: FILE.0, FILE.1, .., beside it or in a folder. The file is read twice: its identity, which each head and
 /// each piece is bound to, has to be known before the first is written.
-pub(crate) fn split_file<R: Files + AllocGlobal + Print + Eprint>(
+pub(crate) fn split_file<R: Files + AllocGlobal + Clock + Print + Eprint>(
     rt: &R,
     words: &Words<'_>,
     file: &str,
 ) -> Result<()> {
-    let (length, identity) = identify(rt, file)?;
+    let (length, identity) = identify(rt, file, words.is_quiet)?;
     let mode = mode_of(rt, file)?;
     let (data, parity) = (words.data_shards, words.parity_shards);
     let code = words
@@ -34,11 +36,14 @@ pub(crate) fn split_file<R: Files + AllocGlobal + Print + Eprint>(
     }
     let base = base_of(rt, file, words.folder)?;
     let files = NewFiles::new(rt, mode, words.is_forced);
-    let mut new = NewShards::new(rt, files, base, origin.total(), words.is_quiet)?;
+    let all = origin.file_length().saturating_mul(origin.total() as u64);
+    let progress = Progress::new(words.is_quiet, all);
+    let mut new = NewShards::new(rt, files, base, origin.total(), progress)?;
     for index in 0..origin.total() {
         new.require_free(index)?;
     }
     let work = split_to(rt, file, origin, &mut new);
+    clear(rt, words.is_quiet);
     new.end(work)?;
     let (total, size) = (origin.total(), origin.file_length());
     let _ = println!(rt;
@@ -48,7 +53,7 @@ pub(crate) fn split_file<R: Files + AllocGlobal + Print + Eprint>(
 }
 
 // Writes the shards of a file beside their places.
-fn split_to<R: Files + AllocGlobal + Eprint>(
+fn split_to<R: Files + AllocGlobal + Clock + Eprint>(
     rt: &R,
     file: &str,
     origin: Origin,
@@ -69,7 +74,12 @@ fn split_to<R: Files + AllocGlobal + Eprint>(
 }
 
 // How many bytes a file has, and their SHA-256.
-fn identify<R: Files + AllocGlobal>(rt: &R, file: &str) -> Result<(u64, [u8; 32])> {
+fn identify<R: Files + AllocGlobal + Clock + Eprint>(
+    rt: &R,
+    file: &str,
+    is_quiet: bool,
+) -> Result<(u64, [u8; 32])> {
+    let mut progress = Progress::new(is_quiet, length_of(rt, file));
     let mut reader = File::open(rt, file).context(format_args!("cannot read {file}"))?;
     let mut chunk = vec![in rt.alloc(); 0u8; CHUNK]?;
     let mut hasher = Sha256::new();
@@ -82,13 +92,14 @@ fn identify<R: Files + AllocGlobal>(rt: &R, file: &str) -> Result<(u64, [u8; 32]
             break;
         }
         hasher.update(&chunk.as_slice()[..count]);
+        progress.add(rt, file, "read", count);
         length = length.saturating_add(count as u64);
     }
     Ok((length, hasher.finalize()))
 }
 
 /// Writes a file from its shards, as far as they are whole: to its place, or to standard output.
-pub(crate) fn join_file<R: Files + AllocGlobal + Print + Eprint>(
+pub(crate) fn join_file<R: Files + AllocGlobal + Clock + Print + Eprint>(
     rt: &R,
     words: &Words<'_>,
     file: &str,
@@ -116,7 +127,7 @@ fn require_free<R: Files + AllocGlobal>(rt: &R, words: &Words<'_>, file: &str) -
 }
 
 // Writes a file beside its place.
-fn write_joined<R: Files + AllocGlobal + Eprint>(
+fn write_joined<R: Files + AllocGlobal + Clock + Eprint>(
     rt: &R,
     new: &mut NewFiles<'_, R>,
     found: &Found<'_>,
@@ -129,7 +140,7 @@ fn write_joined<R: Files + AllocGlobal + Eprint>(
 }
 
 // Writes the bytes of a file.
-fn join_to<R: Files + AllocGlobal + Eprint, W: Write>(
+fn join_to<R: Files + AllocGlobal + Clock + Eprint, W: Write>(
     rt: &R,
     found: &Found<'_>,
     writer: &mut W,
@@ -139,7 +150,9 @@ fn join_to<R: Files + AllocGlobal + Eprint, W: Write>(
     if !origin.is_possible() {
         bail!("cannot restore {file}: no code has so many shards")
     }
-    match write_content(rt.alloc(), &mut found.source(rt), origin, writer) {
+    let written = write_content(rt.alloc(), &mut found.source(rt), origin, writer);
+    clear(rt, found.is_quiet);
+    match written {
         Ok(()) => Ok(()),
         Err(JoinError::TooFew) => too_few(found),
         Err(error) => bail!("cannot restore {file}: {error}"),

@@ -7,6 +7,7 @@ use std::fs;
 use std::fs::{File, Files};
 use std::io::{Read, Seek, SeekFrom};
 use std::os::unix::fs::PermissionsExt;
+use std::rt::Clock;
 use stripe_codes::MOST_SHARDS;
 
 /// Files that are read in turn, of which one is open at a time.
@@ -21,16 +22,16 @@ pub(crate) struct OldFiles<'a, R: Files> {
     progress: Progress,
 }
 
-impl<'a, R: Files + AllocGlobal + Eprint> OldFiles<'a, R> {
+impl<'a, R: Files + AllocGlobal + Clock + Eprint> OldFiles<'a, R> {
     // The files at these paths.
-    fn new(rt: &'a R, file: &'a str, paths: &'a [String], is_quiet: bool) -> OldFiles<'a, R> {
+    fn new(rt: &'a R, file: &'a str, paths: &'a [String], progress: Progress) -> OldFiles<'a, R> {
         OldFiles {
             rt,
             file,
             paths,
             open: None,
             place: paths.len(),
-            progress: Progress::new(is_quiet),
+            progress,
         }
     }
 
@@ -44,7 +45,7 @@ impl<'a, R: Files + AllocGlobal + Eprint> OldFiles<'a, R> {
 }
 
 // What the system's files hold is not told.
-impl<R: Files + AllocGlobal + Eprint> ShardSource for OldFiles<'_, R> {
+impl<R: Files + AllocGlobal + Clock + Eprint> ShardSource for OldFiles<'_, R> {
     ghost holds = { λ source files. ⊥ };
 
     fn count(&self) -> usize {
@@ -74,7 +75,7 @@ impl<R: Files + AllocGlobal + Eprint> ShardSource for OldFiles<'_, R> {
 #[derive(Drop)]
 pub(crate) struct Found<'a> {
     pub(crate) file: &'a str,
-    is_quiet: bool,
+    pub(crate) is_quiet: bool,
     pub(crate) paths: Vec<String>,
     /// The place of the first of its shards.
     first: usize,
@@ -91,11 +92,18 @@ impl Found<'_> {
     }
 
     /// The files that were looked at, to be read.
-    pub(crate) fn source<'b, R: Files + AllocGlobal + Eprint>(
+    pub(crate) fn source<'b, R: Files + AllocGlobal + Clock + Eprint>(
         &'b self,
         rt: &'b R,
     ) -> OldFiles<'b, R> {
-        OldFiles::new(rt, self.file, self.paths.as_slice(), self.is_quiet)
+        let origin = self.seen.origin;
+        let all = if origin.is_possible() {
+            origin.file_length().saturating_mul(self.seen.count as u64)
+        } else {
+            0
+        };
+        let progress = Progress::new(self.is_quiet, all);
+        OldFiles::new(rt, self.file, self.paths.as_slice(), progress)
     }
 
     /// The mode of the first of its shards.
@@ -115,9 +123,17 @@ pub(crate) fn mode_of<R: Files>(rt: &R, path: &str) -> Result<u32> {
     }
 }
 
+/// How many bytes a file has, or 0 where that cannot be told.
+pub(crate) fn length_of<R: Files>(rt: &R, path: &str) -> u64 {
+    match fs::metadata(rt, path) {
+        Ok(about) => about.len(),
+        Err(_error) => 0,
+    }
+}
+
 /// Looks at the files that are named behind the file, or at FILE.0, FILE.1, .. where none is, and chooses the file of which there are
 /// enough shards. It tells of each file that is not taken.
-pub(crate) fn find_shards<'a, R: Files + AllocGlobal + Eprint>(
+pub(crate) fn find_shards<'a, R: Files + AllocGlobal + Clock + Eprint>(
     rt: &R,
     words: &Words<'_>,
     file: &'a str,

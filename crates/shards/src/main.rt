@@ -17,6 +17,7 @@ use clap::error::ErrorKind;
 use std::alloc::AllocError;
 use std::env;
 use std::fs::File;
+use std::io::IsTerminal;
 use std::process::ExitCode;
 
 fn main(rt: HostRuntime) -> ExitCode {
@@ -38,10 +39,12 @@ fn run(rt: &HostRuntime) -> Result<ExitCode> {
     for word in env::args(rt).context("cannot read the command line")? {
         words.push(plain_word(rt.alloc(), word)?)?;
     }
-    let said = match Words::of(rt.alloc(), words.as_slice()) {
+    let mut said = match Words::of(rt.alloc(), words.as_slice()) {
         Ok(said) => said,
         Err(error) => return tell(rt, &error),
     };
+    // Progress is told on a terminal alone.
+    said.is_quiet = said.is_quiet || !rt.stderr().is_terminal();
     let file = said.file;
     match said.task {
         Task::Split => split_file(rt, &said, file)?,

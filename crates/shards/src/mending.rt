@@ -2,6 +2,7 @@
 use crate::beside::{NewFiles, NewShards};
 use crate::faults::{Faults, require_enough, too_few};
 use crate::finding::{Found, find_shards, name_of, paths_of, seen_at, survey_of, tell};
+use crate::progress::{Progress, clear};
 use crate::words::Words;
 use anyhow::{Result, bail};
 use sha2::{Digest, Sha256};
@@ -9,11 +10,12 @@ use shard_files::{Finding, Origin, Seen, Survey, gather, repair_shards};
 use std::fs;
 use std::fs::Files;
 use std::process::ExitCode;
+use std::rt::Clock;
 use stripe_codes::MATRIX;
 
 /// Says of each shard whether it is whole, and in which stripes it is not. The status is 1 where shards are missing or damaged and enough
 /// are left, and 2 where too few are, or where they are not those of the file.
-pub(crate) fn verify_file<R: Files + AllocGlobal + Print + Eprint>(
+pub(crate) fn verify_file<R: Files + AllocGlobal + Clock + Print + Eprint>(
     rt: &R,
     words: &Words<'_>,
     file: &str,
@@ -52,7 +54,7 @@ fn stripes_of(origin: &Origin) -> u64 {
 }
 
 // What is wrong with the shards of a file.
-fn faults_of<R: Files + AllocGlobal + Eprint>(rt: &R, found: &Found<'_>) -> Result<Faults> {
+fn faults_of<R: Files + AllocGlobal + Clock + Eprint>(rt: &R, found: &Found<'_>) -> Result<Faults> {
     let origin = found.origin();
     let mut faults = Faults::new(rt.alloc(), origin)?;
     if !origin.is_possible() {
@@ -75,6 +77,7 @@ fn faults_of<R: Files + AllocGlobal + Eprint>(rt: &R, found: &Found<'_>) -> Resu
             hasher.update(group.content(origin.stripe_length(stripe)));
         }
     }
+    clear(rt, found.is_quiet);
     if faults.too_few.is_none() && hasher.finalize() != origin.identity {
         faults.is_false = true;
     }
@@ -105,7 +108,7 @@ fn tell_runs<R: Print>(rt: &R, faults: &Faults, total: usize, stripes: u64) -> R
 }
 
 /// Writes the shards again that are missing or damaged: to FILE.0, FILE.1, .., as they were split.
-pub(crate) fn repair_file<R: Files + AllocGlobal + Print + Eprint>(
+pub(crate) fn repair_file<R: Files + AllocGlobal + Clock + Print + Eprint>(
     rt: &R,
     words: &Words<'_>,
     file: &str,
@@ -127,7 +130,7 @@ pub(crate) fn repair_file<R: Files + AllocGlobal + Print + Eprint>(
 }
 
 // Writes shards of a file.
-fn write_lost<R: Files + AllocGlobal + Print + Eprint>(
+fn write_lost<R: Files + AllocGlobal + Clock + Print + Eprint>(
     rt: &R,
     words: &Words<'_>,
     found: &Found<'_>,
@@ -136,7 +139,9 @@ fn write_lost<R: Files + AllocGlobal + Print + Eprint>(
     let file = found.file;
     let files = NewFiles::new(rt, found.mode(rt)?, true);
     let base = format!(in rt.alloc(); "{file}")?;
-    let mut new = NewShards::new(rt, files, base, lost.len(), words.is_quiet)?;
+    // What is read tells how far it is.
+    let progress = Progress::new(true, 0);
+    let mut new = NewShards::new(rt, files, base, lost.len(), progress)?;
     let mut count = 0u64;
     for index in 0..lost.len() {
         if lost[index] {
@@ -154,7 +159,7 @@ fn write_lost<R: Files + AllocGlobal + Print + Eprint>(
 }
 
 // Writes shards of a file beside their places.
-fn repair_to<R: Files + AllocGlobal + Eprint>(
+fn repair_to<R: Files + AllocGlobal + Clock + Eprint>(
     rt: &R,
     found: &Found<'_>,
     lost: &[bool],
@@ -165,6 +170,7 @@ fn repair_to<R: Files + AllocGlobal + Eprint>(
         bail!("{file}: no code has so many shards")
     }
     let repaired = repair_shards(rt.alloc(), &mut found.source(rt), origin, lost, new);
+    clear(rt, found.is_quiet);
     if let Err(error) = repaired {
         match new.fault() {
             Some(fault) => return Err(fault),
@@ -198,7 +204,7 @@ fn require_damaged<R: Files + AllocGlobal>(rt: &R, found: &Found<'_>, index: usi
 }
 
 /// Says what shards say of themselves: the files that they are of, and the number of each. The first name may be that of a shard too.
-pub(crate) fn tell_file<R: Files + AllocGlobal + Print + Eprint>(
+pub(crate) fn tell_file<R: Files + AllocGlobal + Clock + Print + Eprint>(
     rt: &R,
     words: &Words<'_>,
     file: &str,

@@ -1,37 +1,66 @@
-// What is told of work that takes long, and of shards that are not taken. It goes to standard error; where that cannot be written,
-// the work goes on.
+// What is told of work that takes long, on a terminal, and of shards that are not taken. It goes to standard error; where that cannot be
+// written, the work goes on.
+use std::rt::Clock;
+use std::time::Instant;
 
-/// After how many bytes a line is written.
-const STEP: u64 = 64 << 20;
-
-/// How many bytes are done, and of how many steps it was told.
+/// How many bytes are done of all, since when, and after how many seconds it was told last.
 #[derive(Drop)]
 pub(crate) struct Progress {
     is_quiet: bool,
+    total: u64,
     done: u64,
-    told: u64,
+    begun: Option<Instant>,
+    told: u128,
 }
 
 impl Progress {
-    /// Nothing is done.
-    pub(crate) fn new(is_quiet: bool) -> Progress {
+    /// Of so many bytes none is done.
+    pub(crate) fn new(is_quiet: bool, total: u64) -> Progress {
         Progress {
             is_quiet,
+            total,
             done: 0,
+            begun: None,
             told: 0,
         }
     }
 
-    /// Counts so many bytes more, and tells of them where another 64 MiB are full.
-    pub(crate) fn add<R: Eprint>(&mut self, rt: &R, file: &str, what: &str, bytes: usize) {
+    /// Counts so many bytes more, and tells of them once a second.
+    pub(crate) fn add<R: Eprint + Clock>(&mut self, rt: &R, file: &str, what: &str, bytes: usize) {
         self.done = self.done.saturating_add(bytes as u64);
-        let steps = self.done / STEP;
-        if steps > self.told {
-            self.told = steps;
-            if !self.is_quiet {
-                let _ = eprintln!(rt; "{file}: {what} {} MiB", steps.saturating_mul(64));
-            }
+        if self.is_quiet {
+            return;
         }
+        match self.begun {
+            Some(begun) => {
+                if let Ok(passed) = begun.elapsed(rt) {
+                    self.tell(rt, file, what, passed.as_millis());
+                }
+            }
+            None => self.begun = Instant::now(rt).ok(),
+        }
+    }
+
+    // Tells what is done after so many milliseconds, where another second is full: how much of all, how fast, and how long the rest takes
+    // at that speed. What is told next overwrites it.
+    fn tell<R: Eprint>(&mut self, rt: &R, file: &str, what: &str, passed: u128) {
+        let seconds = passed / 1000;
+        if seconds > self.told {
+            self.told = seconds;
+            let (done, total) = (u128::from(self.done), u128::from(self.total));
+            let percent = (done.saturating_mul(100) / total.max(1)).min(100);
+            let speed = done / passed.max(1) / 1000;
+            let rest = total.saturating_sub(done).saturating_mul(passed);
+            let left = rest / done.max(1) / 1000;
+            let _ = eprint!(rt; "{file}: {what} {percent} %, {speed} MB/s, {left} s left\x1b[K\r");
+        }
+    }
+}
+
+/// Clears the line on which progress was told, where it is told.
+pub(crate) fn clear<R: Eprint>(rt: &R, is_quiet: bool) {
+    if !is_quiet {
+        let _ = eprint!(rt; "\x1b[K");
     }
 }
 
