@@ -5,6 +5,7 @@ use field_base::traits::{Field, PrimeCharacteristicRing, TowerLevel};
 use field_base::{LevelKernel, Unsigned};
 use field_element::{Element, HasPacking};
 use field_slices::evaluate;
+use many_words::Many;
 use std::alloc::Global;
 use word_polynomial::{GhashKernel, Poly64Kernel, RijndaelKernel};
 use word_tower::{Bits2, Bits4, Bits8, Bits16, Bits32, Bits64, Bits128, Level, Tower};
@@ -222,7 +223,10 @@ fn all_hold_at<R: Unsigned, K: LevelKernel<R> + HasPacking<R>>(
 }
 
 /// The same of a level of the tower.
-fn all_hold<R: Unsigned, L: Level<R>>(alloc: Global, known: &[Known]) -> bool {
+fn all_hold<R: Unsigned, L: Level<R>>(alloc: Global, known: &[Known]) -> bool
+where
+    Tower<L>: Many<R, R>,
+{
     all_hold_at::<R, Tower<L>>(alloc, known)
 }
 

@@ -4,34 +4,47 @@ use super::extension::has_text;
 use field_base::Unsigned;
 use field_element::{BinaryField16, BinaryField32, BinaryField64, BinaryField128, Element};
 use field_space::CoefficientsOf;
+use many_words::Many;
 use std::alloc::Global;
 use word_tower::{Bits2, Bits8, Bits16, Bits32, Bits64, Bits128, Tower};
 
 fn text_at_16_bits<S: Unsigned, J: CoefficientsOf<u16, Bits16, S>>(
     alloc: Global,
     want: &str,
-) -> bool {
+) -> bool
+where
+    Tower<J>: Many<S, S>,
+{
     has_text::<Element<S, Tower<J>>, BinaryField16>(alloc, want)
 }
 
 fn text_at_32_bits<S: Unsigned, J: CoefficientsOf<u32, Bits32, S>>(
     alloc: Global,
     want: &str,
-) -> bool {
+) -> bool
+where
+    Tower<J>: Many<S, S>,
+{
     has_text::<Element<S, Tower<J>>, BinaryField32>(alloc, want)
 }
 
 fn text_at_64_bits<S: Unsigned, J: CoefficientsOf<u64, Bits64, S>>(
     alloc: Global,
     want: &str,
-) -> bool {
+) -> bool
+where
+    Tower<J>: Many<S, S>,
+{
     has_text::<Element<S, Tower<J>>, BinaryField64>(alloc, want)
 }
 
 fn text_at_128_bits<S: Unsigned, J: CoefficientsOf<u128, Bits128, S>>(
     alloc: Global,
     want: &str,
-) -> bool {
+) -> bool
+where
+    Tower<J>: Many<S, S>,
+{
     has_text::<Element<S, Tower<J>>, BinaryField128>(alloc, want)
 }
 
