@@ -5,10 +5,9 @@ use field_base::traits::{Field, PrimeCharacteristicRing, TowerLevel};
 use field_base::{LevelKernel, Unsigned};
 use field_element::{Element, HasPacking};
 use field_slices::evaluate;
-use many_words::Many;
 use std::alloc::Global;
 use word_polynomial::{GhashKernel, Poly64Kernel, RijndaelKernel};
-use word_tower::{Bits2, Bits4, Bits8, Bits16, Bits32, Bits64, Bits128, Level, Tower};
+use word_tower::{Bits2, Bits4, Bits8, Bits16, Bits32, Bits64, Bits128, Tower};
 
 /// The primes of 2^32 - 1.
 static PRIMES_OF_32: [u64; 5] = [3, 5, 17, 257, 65537];
@@ -222,25 +221,17 @@ fn all_hold_at<R: Unsigned, K: LevelKernel<R> + HasPacking<R>>(
     true
 }
 
-/// The same of a level of the tower.
-fn all_hold<R: Unsigned, L: Level<R>>(alloc: Global, known: &[Known]) -> bool
-where
-    Tower<L>: Many<R, R>,
-{
-    all_hold_at::<R, Tower<L>>(alloc, known)
-}
-
 #[test]
 fn the_tower_is_as_known(rt: HostRuntime) {
     let alloc = rt.alloc();
     assert!(rt;
-        all_hold::<u8, Bits2>(alloc, &OF_2_BITS)
-            && all_hold::<u8, Bits4>(alloc, &[Known::Generator(5)])
-            && all_hold::<u8, Bits8>(alloc, &OF_8_BITS)
-            && all_hold::<u16, Bits16>(alloc, &OF_16_BITS)
-            && all_hold::<u32, Bits32>(alloc, &[Known::Generator(0x0001_0005)])
-            && all_hold::<u64, Bits64>(alloc, &[Known::Generator(0x0000_0001_0000_0004)])
-            && all_hold::<u128, Bits128>(alloc, &[Known::Generator((1 << 64) | 5)])
+        all_hold_at::<u8, Tower<Bits2>>(alloc, &OF_2_BITS)
+            && all_hold_at::<u8, Tower<Bits4>>(alloc, &[Known::Generator(5)])
+            && all_hold_at::<u8, Tower<Bits8>>(alloc, &OF_8_BITS)
+            && all_hold_at::<u16, Tower<Bits16>>(alloc, &OF_16_BITS)
+            && all_hold_at::<u32, Tower<Bits32>>(alloc, &[Known::Generator(0x0001_0005)])
+            && all_hold_at::<u64, Tower<Bits64>>(alloc, &[Known::Generator(0x0000_0001_0000_0004)])
+            && all_hold_at::<u128, Tower<Bits128>>(alloc, &[Known::Generator((1 << 64) | 5)])
     );
 }
 
