@@ -5,7 +5,7 @@ use Rattle.std.specs.Int.{bit_at}
 use Rattle.std.proofs.lemmas.Bool.{cases_lt}
 use Rattle.std.proofs.lemmas.List.{get_or-map, length-set}
 use Rattle.field_matrices.proofs.MatrixRows.{places-differ}
-use Rattle.field_matrices.proofs.Places.{number-set_other, number-set_same}
+use Rattle.field_base.proofs.Places.{number-set_other, number-set_same}
 use Rattle.bit_matrices.specs.BitMatrices.{IsBlockWritten, bit_entry, entry_within, row_word, word_of}
 use Rattle.bit_matrices.proofs.WordColumns.{entry_of_word, row_bits}
 

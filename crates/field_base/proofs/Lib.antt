@@ -18,6 +18,7 @@ pub mod FieldLemmas
 pub mod LinearMapLemmas
 pub mod LogTables
 pub mod Norms
+pub mod Places
 pub mod PowerLemmas
 pub mod QuadraticProducts
 pub mod QuadraticRing
@@ -38,4 +39,5 @@ pub mod TowerRing
 pub mod TowerSqrt
 pub mod TowerTraces
 pub mod ValueLemmas
+pub mod Written
 pub mod Horner

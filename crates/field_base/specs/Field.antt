@@ -1,5 +1,5 @@
 -- Fields of characteristic two whose elements are numbers: rings of Ring.antt in which one can divide.
-use Rattle.std.specs.Prelude.{◌≡◌, ◌≢◌, ◌⊎◌, ℕ, ◌-◌, ◌%◌, ◌^◌, ◌<◌}
+use Rattle.std.specs.Prelude.{◌≡◌, ◌≢◌, ◌⊎◌, ℕ, ◌-◌, ◌%◌, ◌^◌, ◌<◌, List, length, slice_index}
 use Rattle.field_base.specs.Powers.{power, repeated_square}
 use Rattle.field_base.specs.Ring.{IsRing}
 
@@ -11,6 +11,11 @@ HasInverses width times =
 -- y is the inverse of x for the product `times`, or both are 0
 abbrev pub IsInverseOrZero : (ℕ → ℕ → ℕ) → ℕ → ℕ → Type 0
 IsInverseOrZero times x y = (x ≡ 0 → y ≡ 0) × (x ≢ 0 → times x y ≡ 1)
+
+-- at each place the second list has the inverse of what the first has there, and 0 for 0
+pub record AreInverses (times : ℕ → ℕ → ℕ) (xs ys : List ℕ) : Type 0 where
+  pub count : length ys ≡ length xs
+  pub each : (i : ℕ) → i < length xs → IsInverseOrZero times (slice_index xs i) (slice_index ys i)
 
 -- `times` is the product of a field of 2 ^ width elements: every nonzero element has an inverse, and as many squarings as an element
 -- has bits return it

@@ -9,7 +9,7 @@ use Rattle.field_base.proofs.RingLemmas.{times-zero}
 use Rattle.field_base.proofs.PowerLemmas.{one-times, times-one}
 use Rattle.field_matrices.specs.Matrices.{IsRowCombination, HaveSameRowSpace, IsReducedEchelon, IsRowWritten, cleared_entry, entry_of, joined_entry}
 use Rattle.field_matrices.proofs.MatrixRows.{RowsWritten, mixed, mixed-before, mixed-past, rows_end, rows_from}
-use Rattle.field_matrices.proofs.Places.{numbers-lt}
+use Rattle.field_base.proofs.Places.{numbers-lt}
 use Rattle.field_matrices.proofs.RowSpaces.{same_space, space_then, combination_row, combination_rows, combination_multiple}
 
 -- ---- a row that is added, and rows that are cleared

@@ -8,7 +8,7 @@ use Rattle.field_base.specs.Ring.{IsRing}
 use Rattle.field_base.proofs.BasisSums.{sum_below-same}
 use Rattle.field_base.proofs.RingLemmas.{mod-times}
 use Rattle.field_matrices.specs.Matrices.{IsRowCombination, HaveSameRowSpace, IsReducedEchelon, IsMatrixProduct, AreInverseMatrices, product_entry, identity_entry, beside_identity, entry_of}
-use Rattle.field_matrices.proofs.Places.{numbers-lt}
+use Rattle.field_base.proofs.Places.{numbers-lt}
 use Rattle.field_matrices.proofs.RowSpaces.{only, only-same, only-other, identity-only, coefficient_at, combination_row}
 use Rattle.field_matrices.proofs.EchelonUniqueness.{leads-at, rising-counts}
 

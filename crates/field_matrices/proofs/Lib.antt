@@ -11,7 +11,6 @@ pub mod MatrixRows
 pub mod NextTerms
 pub mod NullSpaces
 pub mod PivotDeterminants
-pub mod Places
 pub mod RowExchanges
 pub mod RowSpaces
 pub mod ScaledSums

@@ -8,7 +8,7 @@ use Rattle.field_base.proofs.BasisSums.{sum_below-same}
 use Rattle.field_base.proofs.PowerLemmas.{times-one}
 use Rattle.field_base.proofs.RingLemmas.{times-zero, zero-times}
 use Rattle.field_matrices.specs.Matrices.{HaveSameRowSpace, IsReducedEchelon, IsSolution, entry_of}
-use Rattle.field_matrices.proofs.Places.{numbers-lt}
+use Rattle.field_base.proofs.Places.{numbers-lt}
 use Rattle.field_matrices.proofs.RowSpaces.{only, only-same, only-other, only-after, sum_with, combination_row}
 use Rattle.field_matrices.proofs.EchelonUniqueness.{find-pivot}
 

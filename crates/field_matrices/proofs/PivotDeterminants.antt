@@ -11,7 +11,7 @@ use Rattle.field_matrices.specs.Matrices.{IsRowWritten, cleared_entry, entry_of,
 use Rattle.field_matrices.proofs.DeterminantRows.{determinant-added, determinant-multiples, determinant-scaled}
 use Rattle.field_matrices.proofs.LaplaceExpansion.{determinant-corner, determinant-lt, determinant-same, determinant-zero_column}
 use Rattle.field_matrices.proofs.Elimination.{cleared-other, cleared-own, joined-other, joined-same}
-use Rattle.field_matrices.proofs.Places.{numbers-lt}
+use Rattle.field_base.proofs.Places.{numbers-lt}
 
 -- ---- a pivot
 

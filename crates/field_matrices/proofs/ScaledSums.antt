@@ -3,7 +3,7 @@ use Rattle.std.proofs.Common.{◌≡◌, ℕ, ◌+◌, ◌<◌, ◌≤◌, List,
 use Rattle.std.specs.Prelude.{bit_xor, slice_index}
 use Rattle.std.proofs.lemmas.List.{length-map}
 use Rattle.field_matrices.specs.Matrices.{AreScaledSums}
-use Rattle.field_matrices.proofs.Places.{number-at, number-set_other, number-set_same}
+use Rattle.field_base.proofs.Places.{number-at, number-set_other, number-set_same}
 
 -- the multiples are added at the places before n, and the sums from there on are as they were
 pub record AddedBefore {V : Type 0} (number : V → ℕ) (times : ℕ → ℕ → ℕ) (s : ℕ) (values old now : List V) (n : ℕ) : Type 0 where

@@ -7,12 +7,12 @@ use Rattle.std.proofs.lemmas.List.{length-map}
 use Rattle.std.proofs.lemmas.Nat.{pow_below}
 use native.Mathlib.Numerals.{add-one}
 use Rattle.field_base.specs.Basis.{product_below}
-use Rattle.field_base.specs.Field.{IsField, IsInverseOrZero}
+use Rattle.field_base.specs.Field.{AreInverses, IsField, IsInverseOrZero}
 use Rattle.field_base.proofs.FieldLemmas.{no_zero_divisors}
 use Rattle.field_base.proofs.PowerLemmas.{times-one}
 use Rattle.field_base.proofs.RingLemmas.{times_left_comm}
-use Rattle.field_slices.specs.Inverses.{AreInverses, nonzero_product, one_for_zero}
-use Rattle.field_matrices.proofs.Places.{number-at, number-set_same, number-set_other, numbers-lt}
+use Rattle.field_slices.specs.Inverses.{nonzero_product, one_for_zero}
+use Rattle.field_base.proofs.Places.{number-at, number-set_same, number-set_other, numbers-lt}
 
 module _ (width : ℕ) (times : ℕ → ℕ → ℕ) (field : IsField width times) (wide : 0 < width) where
   one_fits : 1 < 2 ^ width

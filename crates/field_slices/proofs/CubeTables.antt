@@ -13,7 +13,7 @@ use Rattle.std.proofs.lemmas.Simd.{get_or-zip2, length-zip2}
 use Rattle.field_base.specs.Ring.{IsRing}
 use Rattle.field_base.proofs.PowerLemmas.{one-times}
 use Rattle.field_base.proofs.RingLemmas.{sum_times}
-use Rattle.field_matrices.proofs.Places.{number-at, numbers-lt}
+use Rattle.field_base.proofs.Places.{number-at, numbers-lt}
 use Rattle.field_slices.specs.Multilinear.{eq_corner, multilinear_value, on_line}
 use Rattle.field_slices.proofs.CornerSums.{eq_corner-lower, eq_corner-upper}
 use Rattle.field_slices.proofs.CubeLaws.{value-alone, value-halves}

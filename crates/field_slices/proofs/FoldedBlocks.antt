@@ -11,7 +11,7 @@ use lib.Bits.{xor_assoc}
 use borrow.Rule.Slice.PartMut.{mid_of, put_mid}
 use Rattle.field_base.specs.Ring.{IsRing}
 use Rattle.field_base.proofs.RingLemmas.{xor_cancel, xor_left_comm}
-use Rattle.field_slices.proofs.Written.{both-length}
+use Rattle.field_base.proofs.Written.{both-length}
 use Rattle.field_slices.specs.Multilinear.{on_line}
 use Rattle.packed_lanes.specs.Lanes.{lane_by_lane}
 

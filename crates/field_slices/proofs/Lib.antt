@@ -10,4 +10,3 @@ pub mod MixedDots
 pub mod PackedPowers
 pub mod PowerLists
 pub mod RoundSums
-pub mod Written

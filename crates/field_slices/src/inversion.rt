@@ -1,7 +1,8 @@
 // Inverses of many elements by one inverse and three products an element (P. L. Montgomery, Speeding the Pollard and elliptic curve
 // methods of factorization, 1987, section 10.3.1).
 ghost use Rattle.std.specs.Prelude.{◌≡◌, ◌≢◌, ◌<◌, ℕ, length, map, slice_index, IfOk};
-ghost use Rattle.field_slices.specs.Inverses.{AreInverses, nonzero_product};
+ghost use Rattle.field_base.specs.Field.{AreInverses};
+ghost use Rattle.field_slices.specs.Inverses.{nonzero_product};
 
 use field_base::traits::{Field, PrimeCharacteristicRing};
 use std::alloc::{AllocError, Allocator};
@@ -35,8 +36,12 @@ pub fn batch_multiplicative_inverse_into<F: Field>(values: &[F], inverses: &mut 
     requires { length inverses.old ≡ length values.now }
     ensures { AreInverses F.product (map F.repr values.now) (map F.repr inverses.new) }
 {
-    let product = products_before(values, inverses);
-    inverses_from_products(values, inverses, product.inverse());
+    if values.len() < F::LEAST_INVERTED {
+        let product = products_before(values, inverses);
+        inverses_from_products(values, inverses, product.inverse());
+    } else {
+        F::invert_each(values, inverses);
+    }
 }
 
 // Writes to each place the product of the elements before it, without zeros, and returns that of all. It is not 0.

@@ -19,9 +19,7 @@ pub fn add_slice<R: PrimeCharacteristicRing>(values: &mut [R], others: &[R])
 pub fn mul_slice<R: PrimeCharacteristicRing>(values: &mut [R], scalar: R)
     ensures { map R.repr values.new ≡ map (λ x. R.product (R.repr scalar) x) (map R.repr values.old) }
 {
-    for place in 0..values.len() {
-        values[place] = scalar * values[place];
-    }
+    R::multiply_by(values, scalar);
 }
 
 /// Adds to each value the product of `scalar` and the other value at its place: `values += scalar * others`.
@@ -30,9 +28,7 @@ pub fn add_scaled_slice<R: PrimeCharacteristicRing>(values: &mut [R], scalar: R,
     ensures { map R.repr values.new
         ≡ zip2 (λ x y. bit_xor x (R.product (R.repr scalar) y)) (map R.repr values.old) (map R.repr others.now) }
 {
-    for place in 0..values.len() {
-        values[place] = values[place] + scalar * others[place];
-    }
+    R::add_scaled(values, scalar, others);
 }
 
 /// The sum of the products of the elements of both slices, place by place, where the right ones are of a ring that the algebra

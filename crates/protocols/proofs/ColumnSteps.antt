@@ -9,7 +9,7 @@ use lib.Bits.{xor_assoc, xor_zero_r}
 use Rattle.field_base.specs.Basis.{product_below, sum_below}
 use Rattle.field_base.specs.Powers.{dot_of}
 use Rattle.field_base.proofs.BasisSums.{product_below-same, sum_below-add, sum_below-same}
-use Rattle.field_matrices.proofs.Places.{number-at}
+use Rattle.field_base.proofs.Places.{number-at}
 use Rattle.protocols.specs.Terms.{row_entry, row_product}
 
 -- a sum is its first term and the others

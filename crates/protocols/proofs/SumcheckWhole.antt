@@ -4,7 +4,7 @@ use Rattle.std.specs.Prelude.{IsTrue, min, slice_index}
 use Rattle.std.proofs.Math.Nat.{max-le, min-le_left, min-le_right, pow-le-pow_right}
 use Rattle.std.proofs.lemmas.List.{length-map, length-take}
 use Rattle.field_base.specs.Field.{IsField}
-use Rattle.field_matrices.proofs.Places.{numbers-lt}
+use Rattle.field_base.proofs.Places.{numbers-lt}
 use Rattle.field_slices.specs.Multilinear.{folded, folded_all}
 use Rattle.transcript_elements.specs.Lists.{InTurn}
 use Rattle.transcript_elements.specs.States.{GivesByState, LeadsByState}

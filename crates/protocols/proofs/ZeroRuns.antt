@@ -6,7 +6,7 @@ use Rattle.std.proofs.lemmas.List.{ext_get_or, length-map, map-append}
 use Rattle.std.proofs.lemmas.List.FromFn.{get_or-map-range_with_len, length-map-range_with_len, map-range_with_len_more}
 use Rattle.field_base.specs.Field.{IsField}
 use Rattle.field_slices.specs.Multilinear.{AreCornerValues, eq_coordinate, eq_corner}
-use Rattle.field_matrices.proofs.Places.{number-at, numbers-lt}
+use Rattle.field_base.proofs.Places.{number-at, numbers-lt}
 use Rattle.protocols.specs.Products.{term_product}
 use Rattle.protocols.specs.Sumcheck.{IsRunOf, Statement, messages_of, statement_of}
 use Rattle.protocols.specs.SumcheckClaims.{AreHonestMessages, AreMessages, reduced_claim}

@@ -1,6 +1,6 @@
 // Fields of characteristic two.
-ghost use Rattle.std.specs.Prelude.{◌≡◌, ◌≢◌, ◌↔◌, ◌^◌, ◌<◌, ◌≤◌, ℕ, IsTrue, IsNone, IsSomeAnd, IfSome};
-ghost use Rattle.field_base.specs.Field.{IsField};
+ghost use Rattle.std.specs.Prelude.{◌≡◌, ◌≢◌, ◌↔◌, ◌^◌, ◌<◌, ◌≤◌, ℕ, length, map, IsTrue, IsNone, IsSomeAnd, IfSome};
+ghost use Rattle.field_base.specs.Field.{AreInverses, IsField};
 ghost use Rattle.field_base.specs.Orders.{HasFullOrder};
 
 use crate::traits::ring::PrimeCharacteristicRing;
@@ -56,6 +56,22 @@ pub trait Field: PrimeCharacteristicRing + Div<Self, Output = Self> + DivAssign<
         ensures { IsSomeAnd result (λ root. Self.product (Self.repr root) (Self.repr root) ≡ Self.repr self.now) }
     {
         Some(self.exp_power_of_2(Self::bits() - 1))
+    }
+
+    /// The least number of elements whose inverses `invert_each` gives in less time than one inverse and three products an element take.
+    const LEAST_INVERTED: usize = usize::MAX;
+
+    /// Writes the inverse of each value to its place, and 0 for 0. The slices are of one length.
+    fn invert_each(values: &[Self], inverses: &mut [Self])
+        requires { length inverses.old ≡ length values.now }
+        ensures { AreInverses Self.product (map Self.repr values.now) (map Self.repr inverses.new) }
+    {
+        for place in 0..values.len() {
+            inverses[place] = match values[place].try_inverse() {
+                Some(inverse) => inverse,
+                None => Self::ZERO,
+            };
+        }
     }
 
     /// The n for which the field has 2 to the power of n elements.

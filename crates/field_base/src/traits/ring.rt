@@ -1,5 +1,6 @@
 // Rings of characteristic two.
-ghost use Rattle.std.specs.Prelude.{◌≡◌, ◌↔◌, ◌*◌, ◌%◌, ◌==◌, ℕ, length, IsTrue, IfOk, bit_xor, replicate, List, if◌then◌else◌};
+ghost use Rattle.std.specs.Prelude.{◌≡◌, ◌↔◌, ◌*◌, ◌%◌, ◌==◌, ℕ, length, map, IsTrue, IfOk, bit_xor, replicate, List, if◌then◌else◌};
+ghost use Rattle.std.specs.Simd.Lanes.{zip2};
 ghost use Rattle.field_base.specs.declared.gf2.Gf2.{Gf2};
 ghost use Rattle.field_base.specs.Bit.{bit_number};
 ghost use Rattle.field_base.specs.Operators.{Gives};
@@ -213,6 +214,26 @@ pub trait PrimeCharacteristicRing: Represented
             sum = sum + left[place] * right[place];
         }
         sum
+    }
+
+    /// Multiplies each value by `scalar`.
+    fn multiply_by(values: &mut [Self], scalar: Self)
+        ensures { map Self.repr values.new ≡ map (λ x. Self.product (Self.repr scalar) x) (map Self.repr values.old) }
+    {
+        for place in 0..values.len() {
+            values[place] = scalar * values[place];
+        }
+    }
+
+    /// Adds to each sum the product of `scalar` and the value at its place: `sums += scalar * values`. The slices are of one length.
+    fn add_scaled(sums: &mut [Self], scalar: Self, values: &[Self])
+        requires { length values.now ≡ length sums.old }
+        ensures { map Self.repr sums.new
+            ≡ zip2 (λ x y. bit_xor x (Self.product (Self.repr scalar) y)) (map Self.repr sums.old) (map Self.repr values.now) }
+    {
+        for place in 0..sums.len() {
+            sums[place] = sums[place] + scalar * values[place];
+        }
     }
 
     /// A vector of `len` zeros. It fails only where the allocator refuses.

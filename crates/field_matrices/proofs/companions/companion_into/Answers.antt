@@ -2,7 +2,7 @@ use Rattle.std.proofs.Common.{ℕ, suc, length, map, sym, ap, arith}
 use Rattle.std.specs.Prelude.{◌==◌, if◌then◌else◌, slice_index}
 use Rattle.field_matrices.specs.Matrices.{companion_entry, identity_entry}
 use Rattle.field_matrices.proofs.MatrixRows.{rows_start, rows_step, rows_end}
-use Rattle.field_matrices.proofs.Places.{number-at}
+use Rattle.field_base.proofs.Places.{number-at}
 use Rattle.field_matrices.proofs.companions.companion_into.Goals as goal
 
 pub loop-row-init : goal.loop-row-init

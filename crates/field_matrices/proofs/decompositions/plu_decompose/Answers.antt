@@ -6,7 +6,7 @@ use Rattle.std.proofs.lemmas.List.FromFn.{get_or-range_with_len, length-range_wi
 use Rattle.std.proofs.lemmas.List.Sorted.{IsPermutation-refl, IsPermutation-trans, length_permutation}
 use Rattle.field_matrices.specs.Decompositions.{IsDecomposition}
 use Rattle.field_matrices.specs.Matrices.{entry_of}
-use Rattle.field_matrices.proofs.Places.{numbers-lt}
+use Rattle.field_base.proofs.Places.{numbers-lt}
 use Rattle.field_matrices.proofs.TriangularSteps.{decomposition-start}
 use Rattle.field_matrices.proofs.decompositions.plu_decompose.Goals as goal
 

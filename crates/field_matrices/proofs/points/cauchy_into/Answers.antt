@@ -5,7 +5,7 @@ use Rattle.field_base.specs.Powers.{power}
 use Rattle.field_base.proofs.FieldLemmas.{power-inverts}
 use Rattle.field_base.proofs.RingLemmas.{xor_nothing}
 use Rattle.field_matrices.proofs.MatrixRows.{rows_start, rows_step, rows_end}
-use Rattle.field_matrices.proofs.Places.{number-at, numbers-lt}
+use Rattle.field_base.proofs.Places.{number-at, numbers-lt}
 use Rattle.field_matrices.proofs.points.cauchy_into.Goals as goal
 
 pub write_inverses-requires-clause-apart : goal.write_inverses-requires-clause-apart

@@ -2,7 +2,7 @@ use Rattle.std.proofs.Common.{ℕ, length, map, sym, ap, arith}
 use Rattle.std.specs.Prelude.{slice_index}
 use Rattle.field_base.specs.Powers.{power}
 use Rattle.field_matrices.proofs.MatrixRows.{rows_start, rows_step, rows_end}
-use Rattle.field_matrices.proofs.Places.{number-at}
+use Rattle.field_base.proofs.Places.{number-at}
 use Rattle.field_matrices.proofs.points.vandermonde_into.Goals as goal
 
 pub loop-row-init : goal.loop-row-init

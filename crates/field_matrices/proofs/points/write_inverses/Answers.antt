@@ -4,7 +4,7 @@ use Rattle.field_base.specs.Powers.{power}
 use Rattle.field_base.proofs.FieldLemmas.{inverse-power}
 use Rattle.field_base.proofs.RingLemmas.{xor_nothing}
 use Rattle.field_matrices.proofs.MatrixRows.{row_start, row_step, row_end}
-use Rattle.field_matrices.proofs.Places.{number-at}
+use Rattle.field_base.proofs.Places.{number-at}
 use Rattle.field_matrices.proofs.points.write_inverses.Goals as goal
 
 pub invert-value-requires : goal.invert-value-requires

@@ -3,7 +3,7 @@ use Rattle.std.specs.Prelude.{bit_xor}
 use Rattle.field_base.proofs.PowerLemmas.{one-times}
 use Rattle.field_matrices.specs.Matrices.{entry_of}
 use Rattle.field_matrices.proofs.Elimination.{joined-same, joined-other}
-use Rattle.field_matrices.proofs.Places.{numbers-lt}
+use Rattle.field_base.proofs.Places.{numbers-lt}
 use Rattle.field_matrices.proofs.reduction.bring_nonzero.Goals as goal
 
 pub returns-then-row-rank : goal.returns-then-row-rank

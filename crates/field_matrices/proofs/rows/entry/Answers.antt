@@ -1,6 +1,6 @@
 use Rattle.std.proofs.Common.{map, sym, ◌∙◌, ap}
 use Rattle.std.specs.Prelude.{slice_index}
-use Rattle.field_matrices.proofs.Places.{number-at}
+use Rattle.field_base.proofs.Places.{number-at}
 use Rattle.field_matrices.proofs.rows.entry.Goals as goal
 
 pub returns : goal.returns

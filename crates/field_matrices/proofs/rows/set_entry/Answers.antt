@@ -1,7 +1,7 @@
 use Rattle.std.proofs.Common.{◌+◌, ◌*◌, map, set, sym, ◌∙◌, ap}
 use Rattle.std.specs.Prelude.{slice_index}
 use Rattle.std.proofs.lemmas.List.{length-set}
-use Rattle.field_matrices.proofs.Places.{number-set_same, number-set_other}
+use Rattle.field_base.proofs.Places.{number-set_same, number-set_other}
 use Rattle.field_matrices.proofs.MatrixRows.{places-differ}
 use Rattle.field_matrices.proofs.rows.set_entry.Goals as goal
 

@@ -2,7 +2,7 @@ use Rattle.std.proofs.Common.{◌≡◌, ◌-◌, length, map, set, ◌∙◌, a
 use Rattle.std.specs.Prelude.{slice_index}
 use Rattle.std.proofs.lemmas.List.{length-set}
 use Rattle.field_matrices.specs.Matrices.{entry_of}
-use Rattle.field_matrices.proofs.Places.{number-set_same, number-set_other}
+use Rattle.field_base.proofs.Places.{number-set_same, number-set_other}
 use Rattle.field_matrices.proofs.LinearSystems.{solved_start, solved_step}
 use Rattle.field_matrices.proofs.systems.write_solution.Goals as goal
 

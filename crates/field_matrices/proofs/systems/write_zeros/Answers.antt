@@ -1,6 +1,6 @@
 use Rattle.std.proofs.Common.{◌≡◌, map, set, ◌∙◌, arith, below_more, below_none}
 use Rattle.std.specs.Prelude.{slice_index}
-use Rattle.field_matrices.proofs.Places.{number-set_same, number-set_other}
+use Rattle.field_base.proofs.Places.{number-set_same, number-set_other}
 use Rattle.field_matrices.proofs.systems.write_zeros.Goals as goal
 
 pub loop-place-init : goal.loop-place-init

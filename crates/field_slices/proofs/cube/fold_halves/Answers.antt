@@ -1,7 +1,7 @@
 use Rattle.std.proofs.Common.{ℕ, map, sym, ◌∙◌, ap, arith}
 use Rattle.std.specs.Prelude.{bit_xor}
 use Rattle.std.specs.Simd.Lanes.{zip2}
-use Rattle.field_slices.proofs.Written.{written_start, written_step, written-read, written-end, both-at, both-length}
+use Rattle.field_base.proofs.Written.{written_start, written_step, written-read, written-end, both-at, both-length}
 use Rattle.field_slices.specs.Multilinear.{on_line}
 use Rattle.field_slices.proofs.cube.fold_halves.Goals as goal
 

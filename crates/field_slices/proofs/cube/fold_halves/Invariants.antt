@@ -1,6 +1,6 @@
 use Rattle.std.proofs.Common.{map}
 use Rattle.std.specs.Simd.Lanes.{zip2}
-use Rattle.field_slices.proofs.Written.{WrittenTo}
+use Rattle.field_base.proofs.Written.{WrittenTo}
 use Rattle.field_slices.specs.Multilinear.{on_line}
 use Rattle.field_slices.proofs.cube.fold_halves.Given as goal
 

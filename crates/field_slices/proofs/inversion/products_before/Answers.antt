@@ -3,7 +3,7 @@ use Rattle.std.specs.Prelude.{slice_index}
 use Rattle.std.proofs.lemmas.Bool.{true≢false}
 use Rattle.field_slices.proofs.BatchInversion.{product-none, products-nonzero, products-zero, products-more, products-step}
 use Rattle.field_slices.specs.Inverses.{nonzero_product}
-use Rattle.field_matrices.proofs.Places.{numbers-lt}
+use Rattle.field_base.proofs.Places.{numbers-lt}
 use Rattle.field_slices.proofs.inversion.products_before.Goals as goal
 use Rattle.field_slices.proofs.inversion.products_before.Goals.{then-not-is_zero, else-not-is_zero}
 

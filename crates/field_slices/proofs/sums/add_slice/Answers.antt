@@ -1,7 +1,7 @@
 use Rattle.std.proofs.Common.{map, ◌∙◌, arith}
 use Rattle.std.specs.Prelude.{bit_xor}
 use Rattle.std.specs.Simd.Lanes.{zip2}
-use Rattle.field_slices.proofs.Written.{written_start, written_step, written-read, written-end, both-at, both-length}
+use Rattle.field_base.proofs.Written.{written_start, written_step, written-read, written-end, both-at, both-length}
 use Rattle.field_slices.proofs.sums.add_slice.Goals as goal
 
 pub loop-place-init : goal.loop-place-init

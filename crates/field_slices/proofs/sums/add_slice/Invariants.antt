@@ -1,7 +1,7 @@
 use Rattle.std.proofs.Common.{map}
 use Rattle.std.specs.Prelude.{bit_xor}
 use Rattle.std.specs.Simd.Lanes.{zip2}
-use Rattle.field_slices.proofs.Written.{WrittenTo}
+use Rattle.field_base.proofs.Written.{WrittenTo}
 use Rattle.field_slices.proofs.sums.add_slice.Given as goal
 
 -- the places before this one are done

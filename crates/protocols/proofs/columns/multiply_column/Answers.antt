@@ -2,7 +2,7 @@ use Rattle.std.proofs.Common.{◌<◌, ℕ, length, map, sym, ◌∙◌, ap₂, 
 use Rattle.std.specs.Prelude.{slice_index}
 use Rattle.std.specs.List.{range_with_len}
 use Rattle.protocols.specs.Terms.{row_entry}
-use Rattle.field_slices.proofs.Written.{written_step, written-read}
+use Rattle.field_base.proofs.Written.{written_step, written-read}
 use Rattle.protocols.proofs.ColumnSteps.{listed-at, row_entry-read}
 use Rattle.protocols.proofs.columns.multiply_column.Goals as goal
 

@@ -1,7 +1,7 @@
 use Rattle.std.proofs.Common.{length, map}
 use Rattle.std.specs.Prelude.{slice_index}
 use Rattle.std.specs.List.{range_with_len}
-use Rattle.field_slices.proofs.Written.{WrittenTo}
+use Rattle.field_base.proofs.Written.{WrittenTo}
 use Rattle.protocols.specs.Terms.{row_entry}
 use Rattle.protocols.proofs.columns.multiply_column.Given as goal
 

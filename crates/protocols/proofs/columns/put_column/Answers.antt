@@ -1,7 +1,7 @@
 use Rattle.std.proofs.Common.{◌<◌, ℕ, length, map, sym, ◌∙◌, arith}
 use Rattle.std.specs.List.{range_with_len}
 use Rattle.protocols.specs.Terms.{row_entry}
-use Rattle.field_slices.proofs.Written.{written_step}
+use Rattle.field_base.proofs.Written.{written_step}
 use Rattle.protocols.proofs.ColumnSteps.{listed-at, row_entry-read}
 use Rattle.protocols.proofs.columns.put_column.Goals as goal
 

@@ -1,6 +1,6 @@
 use Rattle.std.proofs.Common.{length, map}
 use Rattle.std.specs.List.{range_with_len}
-use Rattle.field_slices.proofs.Written.{WrittenTo}
+use Rattle.field_base.proofs.Written.{WrittenTo}
 use Rattle.protocols.specs.Terms.{row_entry}
 use Rattle.protocols.proofs.columns.put_column.Given as goal
 

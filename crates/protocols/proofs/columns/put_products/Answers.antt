@@ -2,7 +2,7 @@ use Rattle.std.proofs.Common.{◌≡◌, ◌+◌, ◌*◌, length, map, ◌∙�
 use Rattle.std.specs.Prelude.{slice_index}
 use Rattle.field_base.specs.Basis.{product_below}
 use Rattle.protocols.specs.Terms.{row_entry}
-use Rattle.field_matrices.proofs.Places.{numbers-lt}
+use Rattle.field_base.proofs.Places.{numbers-lt}
 use Rattle.protocols.proofs.TermSteps.{product-first, product-more}
 use Rattle.protocols.proofs.columns.put_products.Goals as goal
 

@@ -1,7 +1,7 @@
 use Rattle.std.proofs.Common.{◌≡◌, ◌<◌, ℕ, length, map, sym, ◌∙◌, ap, arith}
 use Rattle.std.specs.Prelude.{slice_index}
 use Rattle.field_slices.specs.Multilinear.{multilinear_value}
-use Rattle.field_matrices.proofs.Places.{number-at}
+use Rattle.field_base.proofs.Places.{number-at}
 use Rattle.protocols.specs.Commitments.{row_at}
 use Rattle.protocols.proofs.TableRows.{each-more}
 use Rattle.protocols.proofs.tables.agree_at.Goals as goal

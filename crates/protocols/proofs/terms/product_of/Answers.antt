@@ -2,7 +2,7 @@ use Rattle.std.proofs.Common.{◌<◌, ◌^◌, ℕ, map, ap, ◌∙◌, sym, su
 use Rattle.std.specs.Prelude.{slice_index}
 use Rattle.field_base.specs.Basis.{product_below}
 use Rattle.field_slices.proofs.CubeTables.{none-if_empty, some-unless_empty}
-use Rattle.field_matrices.proofs.Places.{number-at}
+use Rattle.field_base.proofs.Places.{number-at}
 use Rattle.protocols.proofs.TermSteps.{product-first, product-more, product-none}
 use Rattle.protocols.proofs.terms.product_of.Goals as goal
 

@@ -4,7 +4,7 @@ use Rattle.std.specs.Prelude.{slice_index}
 use Rattle.std.specs.Simd.Lanes.{zip2}
 use Rattle.std.proofs.lemmas.List.{ext_get_or, get_or-map, length-map}
 use Rattle.std.proofs.lemmas.Simd.{get_or-zip2, length-zip2}
-use Rattle.field_matrices.proofs.Places.{number-at, number-set_same, number-set_other}
+use Rattle.field_base.proofs.Places.{number-at, number-set_same, number-set_other}
 
 -- the places before n have the numbers that are wanted, and the others those that they had
 pub record WrittenTo {A : Type 0} (repr : A → ℕ) (wanted : List ℕ) (old now : List A) (n : ℕ) : Type 0 where
