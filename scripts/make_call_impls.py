@@ -67,7 +67,7 @@ MANY_HEAD = """\
 ghost use prog.Memory.{size};
 ghost use denote.Param.{layout};
 ghost use Rattle.std.proofs.Common.{lit<};
-ghost use Rattle.many_words.specs.Room.{few_fit, fewer_fit};
+ghost use Rattle.many_words.specs.Room.{few_fit};
 
 use super::Many;
 use crate::SlicedWide;
@@ -132,10 +132,10 @@ impl$words MultipliesBlocks<u$bits, $word> for Tower<Bits$bits> {
 def many():
     yield MANY_HEAD
     for bits in LEVELS:
-        named = {"bits": bits, "word": word(bits), "words": "", "room": f"few_fit 128 {bits // 8} (lit< tt)"}
+        named = {"bits": bits, "word": word(bits), "words": "", "room": f"few_fit 1024 {bits // 8} (lit< tt)"}
         multiply, invert = (f"{it}_words::<u{bits}, u{bits}, Tower<Bits{bits}>, %s>" for it in ("multiply", "invert"))
         if bits == WIDE:
-            named |= {"words": "<W: SlicedWide>", "room": "fewer_fit (size (layout W.row)) W.room_law"}
+            named |= {"words": "<W: SlicedWide>", "room": "W.room_law"}
             multiply, invert = "W::multiply_in_slices::<%s>", "W::invert_in_slices::<%s>"
         is_sliced = bits > 8
         sliced = SLICED.substitute(named, multiply=multiply % "V", invert=invert % "V") if is_sliced else ""

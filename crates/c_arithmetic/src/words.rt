@@ -63,5 +63,5 @@ impl Holds<Triple> for Cubic {
 }
 
 impl Many<Triple, Cubic> for CubicKernel {
-    ghost room_law = { few_fit 128 24 (lit< tt) };
+    ghost room_law = { few_fit 1024 24 (lit< tt) };
 }

@@ -5,7 +5,3 @@ use Rattle.std.proofs.Math.Nat.{mul-le-mul_right}
 -- where m words of so many bytes can be one, so can fewer
 pub few_fit : (m bytes : ℕ) → m * bytes < 2 ^ 63 → (n : ℕ) → n ≤ m → n * bytes < 2 ^ 63
 few_fit m bytes fit n few = let fewer : n * bytes ≤ m * bytes = mul-le-mul_right bytes few in omega (arith, fit, fewer)
-
--- where up to 1,024 words can be, so can up to 128
-pub fewer_fit : (bytes : ℕ) → ((n : ℕ) → n ≤ 1024 → n * bytes < 2 ^ 63) → (n : ℕ) → n ≤ 128 → n * bytes < 2 ^ 63
-fewer_fit bytes fit n few = fit n (omega (arith, few))

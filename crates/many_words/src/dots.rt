@@ -23,8 +23,8 @@ pub(crate) trait MultipliesBlocks<R: Stored, W: Holds<R>>: FieldKernel<R> {
         ensures products { EachOfTwo (field_of W.number Self.width Self.product Self.generator) (λ x y z. z ≡ Self.product x y)
             products.old words.now products.new };
 
-    // An array of so many words can be a value.
-    ghost room_law: { (n : ℕ) → n ≤ 128 → n * size (layout W.row) < 2 ^ 63 };
+    // An array of up to 1,024 words can be a value.
+    ghost room_law: { (n : ℕ) → n ≤ 1024 → n * size (layout W.row) < 2 ^ 63 };
 }
 
 /// The sum of the products at each place, which is 0 of none. The slices are of one length. Few words are multiplied two at a time.

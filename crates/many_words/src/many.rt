@@ -114,8 +114,8 @@ pub trait Many<R: Stored, W: Holds<R>>: FieldKernel<R> + Sized {
         fields::dot_product::<R, W, Self>(left, right)
     }
 
-    // An array of up to 128 words can be a value.
-    ghost room_law: { (n : ℕ) → n ≤ 128 → n * size (layout W.row) < 2 ^ 63 };
+    // An array of up to 1,024 words can be a value.
+    ghost room_law: { (n : ℕ) → n ≤ 1024 → n * size (layout W.row) < 2 ^ 63 };
 }
 
 /// Multiplies each product by the word at its place. The slices are of one length. Whole blocks are multiplied in vectors `V`, and the

@@ -3,7 +3,7 @@
 ghost use prog.Memory.{size};
 ghost use denote.Param.{layout};
 ghost use Rattle.std.proofs.Common.{lit<};
-ghost use Rattle.many_words.specs.Room.{few_fit, fewer_fit};
+ghost use Rattle.many_words.specs.Room.{few_fit};
 
 use super::Many;
 use crate::bytes::LEAST_IN_VECTORS;
@@ -18,15 +18,15 @@ use word_polynomial::{CubicKernel, GhashKernel, Poly64Kernel, Poly64Modulus, Rij
 use word_tower::{Bits1, Bits2, Bits4, Bits64, Tower};
 
 impl Many<u8, u8> for Tower<Bits1> {
-    ghost room_law = { few_fit 128 1 (lit< tt) };
+    ghost room_law = { few_fit 1024 1 (lit< tt) };
 }
 
 impl Many<u8, u8> for Tower<Bits2> {
-    ghost room_law = { few_fit 128 1 (lit< tt) };
+    ghost room_law = { few_fit 1024 1 (lit< tt) };
 }
 
 impl Many<u8, u8> for Tower<Bits4> {
-    ghost room_law = { few_fit 128 1 (lit< tt) };
+    ghost room_law = { few_fit 1024 1 (lit< tt) };
 }
 
 impl Many<u8, u8> for RijndaelKernel {
@@ -55,7 +55,7 @@ impl Many<u8, u8> for RijndaelKernel {
         scaled_bytes::add_all::<RijndaelKernel>(sums, words, scalar);
     }
 
-    ghost room_law = { few_fit 128 1 (lit< tt) };
+    ghost room_law = { few_fit 1024 1 (lit< tt) };
 }
 
 impl Many<u64, u64> for Poly64Kernel {
@@ -93,7 +93,7 @@ impl Many<u64, u64> for Poly64Kernel {
         invert_images::<u64, u64, Bits64, Poly64Modulus, V>(words);
     }
 
-    ghost room_law = { few_fit 128 8 (lit< tt) };
+    ghost room_law = { few_fit 1024 8 (lit< tt) };
 }
 
 impl<W: SlicedWide> Many<u128, W> for GhashKernel {
@@ -143,9 +143,9 @@ impl<W: SlicedWide> Many<u128, W> for GhashKernel {
         products::dot_product::<V, W>(left, right)
     }
 
-    ghost room_law = { fewer_fit (size (layout W.row)) W.room_law };
+    ghost room_law = { W.room_law };
 }
 
 impl Many<Triple, Triple> for CubicKernel {
-    ghost room_law = { few_fit 128 24 (lit< tt) };
+    ghost room_law = { few_fit 1024 24 (lit< tt) };
 }

@@ -3,7 +3,7 @@
 ghost use prog.Memory.{size};
 ghost use denote.Param.{layout};
 ghost use Rattle.std.proofs.Common.{lit<};
-ghost use Rattle.many_words.specs.Room.{few_fit, fewer_fit};
+ghost use Rattle.many_words.specs.Room.{few_fit};
 
 use super::Many;
 use crate::SlicedWide;
@@ -26,7 +26,7 @@ impl Many<u8, u8> for Tower<Bits8> {
         add_all::<u8, u8, Tower<Bits8>>(sums, words, scalar);
     }
 
-    ghost room_law = { few_fit 128 1 (lit< tt) };
+    ghost room_law = { few_fit 1024 1 (lit< tt) };
 }
 
 impl Many<u16, u16> for Tower<Bits16> {
@@ -59,7 +59,7 @@ impl Many<u16, u16> for Tower<Bits16> {
         add_all::<u16, u16, Tower<Bits16>>(sums, words, scalar);
     }
 
-    ghost room_law = { few_fit 128 2 (lit< tt) };
+    ghost room_law = { few_fit 1024 2 (lit< tt) };
 }
 
 impl MultipliesBlocks<u16, u16> for Tower<Bits16> {
@@ -67,7 +67,7 @@ impl MultipliesBlocks<u16, u16> for Tower<Bits16> {
         multiply_words::<u16, u16, Tower<Bits16>, u64x2>(products, words);
     }
 
-    ghost room_law = { few_fit 128 2 (lit< tt) };
+    ghost room_law = { few_fit 1024 2 (lit< tt) };
 }
 
 impl Many<u32, u32> for Tower<Bits32> {
@@ -100,7 +100,7 @@ impl Many<u32, u32> for Tower<Bits32> {
         add_all::<u32, u32, Tower<Bits32>>(sums, words, scalar);
     }
 
-    ghost room_law = { few_fit 128 4 (lit< tt) };
+    ghost room_law = { few_fit 1024 4 (lit< tt) };
 }
 
 impl MultipliesBlocks<u32, u32> for Tower<Bits32> {
@@ -108,7 +108,7 @@ impl MultipliesBlocks<u32, u32> for Tower<Bits32> {
         multiply_words::<u32, u32, Tower<Bits32>, u64x2>(products, words);
     }
 
-    ghost room_law = { few_fit 128 4 (lit< tt) };
+    ghost room_law = { few_fit 1024 4 (lit< tt) };
 }
 
 impl Many<u64, u64> for Tower<Bits64> {
@@ -141,7 +141,7 @@ impl Many<u64, u64> for Tower<Bits64> {
         add_all::<u64, u64, Tower<Bits64>>(sums, words, scalar);
     }
 
-    ghost room_law = { few_fit 128 8 (lit< tt) };
+    ghost room_law = { few_fit 1024 8 (lit< tt) };
 }
 
 impl MultipliesBlocks<u64, u64> for Tower<Bits64> {
@@ -149,7 +149,7 @@ impl MultipliesBlocks<u64, u64> for Tower<Bits64> {
         multiply_words::<u64, u64, Tower<Bits64>, u64x2>(products, words);
     }
 
-    ghost room_law = { few_fit 128 8 (lit< tt) };
+    ghost room_law = { few_fit 1024 8 (lit< tt) };
 }
 
 impl<W: SlicedWide> Many<u128, W> for Tower<Bits128> {
@@ -182,7 +182,7 @@ impl<W: SlicedWide> Many<u128, W> for Tower<Bits128> {
         add_all::<u128, W, Tower<Bits128>>(sums, words, scalar);
     }
 
-    ghost room_law = { fewer_fit (size (layout W.row)) W.room_law };
+    ghost room_law = { W.room_law };
 }
 
 impl<W: SlicedWide> MultipliesBlocks<u128, W> for Tower<Bits128> {
@@ -190,5 +190,5 @@ impl<W: SlicedWide> MultipliesBlocks<u128, W> for Tower<Bits128> {
         W::multiply_in_slices::<u64x2>(products, words);
     }
 
-    ghost room_law = { fewer_fit (size (layout W.row)) W.room_law };
+    ghost room_law = { W.room_law };
 }
