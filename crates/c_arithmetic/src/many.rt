@@ -118,7 +118,7 @@ pub fn add_scaled<R: Stored, W: Holds<R>, K: Many<R, W>, V: Width>(
 
 /// Writes the sum of the products at each place, which is 0 of none.
 #[inline]
-pub fn dot_product<R: Stored, W: Holds<R>, K: Many<R, W>, V: Width>(
+pub fn dot_product<R: Stored, W: Holds<R>, K: Many<R, W>, V: Width + Vector>(
     left: &[W],
     right: &[W],
     sum: &mut W,

@@ -7,6 +7,7 @@ ghost use Rattle.ghash_slices.specs.Blocks.{HoldsPlaces};
 ghost use Rattle.ghash_slices.specs.LowStages.{ghash_product};
 ghost use Rattle.ghash_slices.specs.Fours.{product_at};
 
+use bit_slices::Vector;
 use ghash_slices::{WideWord, Width, number_at, put_number};
 use word_carryless::{
     multiply_128, multiply_128_twice, multiply_mod_128, multiply_mod_128_twice, reduce_128,
@@ -51,19 +52,28 @@ fn multiply_by_pairs<W: WideWord>(words: &mut [W], others: &[W], start: usize)
     }
 }
 
-/// The sum of the products at each place, which is 0 of none: of four at once, and behind them of two. The slices are of one length.
-pub(crate) fn dot_of_words<V: Width, W: WideWord>(left: &[W], right: &[W]) -> u128
+/// The sum of the products at each place, which is 0 of none: of four at once in wide vectors, and of two behind them. The slices are of
+/// one length.
+pub(crate) fn dot_of_words<V: Width + Vector, W: WideWord>(left: &[W], right: &[W]) -> u128
     requires { length left.now ≡ length right.now }
     ensures { result ≡ dot_of ghash_product (λ x. x) (map W.value left.now) (map W.value right.now) }
 {
     let mut low = 0;
     let mut high = 0;
-    let four_count = left.len() / 4;
+    let four_count = fours_added::<V>(left.len());
     'fours: for four in 0..four_count {
         let at = 4 * four;
         (low, high) = V::add_four_products(low, high, four_at(left, at), four_at(right, at));
     }
     add_pairs(low, high, left, right, 4 * four_count)
+}
+
+// How many fours of so many products are added four at once: none in narrow vectors, where two at once take less time.
+#[inline(always)]
+fn fours_added<V: Vector>(count: usize) -> usize
+    ensures { 4 * result ≤ count }
+{
+    if V::lanes() < 256 { 0 } else { count / 4 }
 }
 
 // The remainder of a sum of products, and the sum of the products from a place on: two at once, and reduced once.

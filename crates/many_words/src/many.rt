@@ -107,7 +107,7 @@ pub trait Many<R: Stored, W: Holds<R>>: FieldKernel<R> + Sized {
 
     /// The sum of the products at each place, which is 0 of none. The slices are of one length.
     #[inline]
-    fn dot_product<V: Width>(left: &[W], right: &[W]) -> W
+    fn dot_product<V: Width + Vector>(left: &[W], right: &[W]) -> W
         requires { length left.now ≡ length right.now }
         ensures { W.number result ≡ dot_of Self.product W.number left.now right.now }
     {

@@ -7,6 +7,7 @@ ghost use Rattle.many_words.specs.Words.{EachOfTwo};
 
 use crate::SlicedWide;
 use crate::lanes::{dot_of_words, multiply_each};
+use bit_slices::Vector;
 use ghash_slices::Width;
 
 /// Multiplies each product by the word at its place, four at once. The slices are of one length.
@@ -21,8 +22,9 @@ pub(crate) fn multiply_all<V: Width, W: SlicedWide>(products: &mut [W], words: &
     W::numbers_are_values(products);
 }
 
-/// The sum of the products at each place, which is 0 of none: by four products at once. The slices are of one length.
-pub(crate) fn dot_product<V: Width, W: SlicedWide>(left: &[W], right: &[W]) -> W
+/// The sum of the products at each place, which is 0 of none: by two products at once, or by four in wide vectors. The slices are of one
+/// length.
+pub(crate) fn dot_product<V: Width + Vector, W: SlicedWide>(left: &[W], right: &[W]) -> W
     requires { length left.now ≡ length right.now }
     ensures { W.Holds.number result ≡ dot_of ghash_product W.Holds.number left.now right.now }
 {

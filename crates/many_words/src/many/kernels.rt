@@ -139,7 +139,7 @@ impl<W: SlicedWide> Many<u128, W> for GhashKernel {
     }
 
     #[inline]
-    fn dot_product<V: Width>(left: &[W], right: &[W]) -> W {
+    fn dot_product<V: Width + Vector>(left: &[W], right: &[W]) -> W {
         products::dot_product::<V, W>(left, right)
     }
 
