@@ -113,6 +113,7 @@ SLICED = Template("""
         $invert(words);
     }
 
+    #[inline]
     fn dot_product<V: Width + Vector>(left: &[$word], right: &[$word]) -> $word {
         dot_product::<u$bits, $word, Tower<Bits$bits>>(left, right)
     }

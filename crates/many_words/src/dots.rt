@@ -28,6 +28,7 @@ pub(crate) trait MultipliesBlocks<R: Stored, W: Holds<R>>: FieldKernel<R> {
 }
 
 /// The sum of the products at each place, which is 0 of none. The slices are of one length. Few words are multiplied two at a time.
+#[inline]
 pub(crate) fn dot_product<R: Stored, W: Holds<R>, K: MultipliesBlocks<R, W>>(
     left: &[W],
     right: &[W],
@@ -41,7 +42,8 @@ pub(crate) fn dot_product<R: Stored, W: Holds<R>, K: MultipliesBlocks<R, W>>(
     dot_of_blocks::<R, W, K>(left, right)
 }
 
-// The sum of the products, block by block.
+// The sum of the products, block by block. It is apart, so that few words are multiplied where the call stands.
+#[inline(never)]
 fn dot_of_blocks<R: Stored, W: Holds<R>, K: MultipliesBlocks<R, W>>(left: &[W], right: &[W]) -> W
     requires { length left.now ≡ length right.now }
     ensures { W.number result ≡ dot_of K.product W.number left.now right.now }

@@ -47,6 +47,7 @@ impl Many<u16, u16> for Tower<Bits16> {
         invert_words::<u16, u16, Tower<Bits16>, V>(words);
     }
 
+    #[inline]
     fn dot_product<V: Width + Vector>(left: &[u16], right: &[u16]) -> u16 {
         dot_product::<u16, u16, Tower<Bits16>>(left, right)
     }
@@ -88,6 +89,7 @@ impl Many<u32, u32> for Tower<Bits32> {
         invert_words::<u32, u32, Tower<Bits32>, V>(words);
     }
 
+    #[inline]
     fn dot_product<V: Width + Vector>(left: &[u32], right: &[u32]) -> u32 {
         dot_product::<u32, u32, Tower<Bits32>>(left, right)
     }
@@ -129,6 +131,7 @@ impl Many<u64, u64> for Tower<Bits64> {
         invert_words::<u64, u64, Tower<Bits64>, V>(words);
     }
 
+    #[inline]
     fn dot_product<V: Width + Vector>(left: &[u64], right: &[u64]) -> u64 {
         dot_product::<u64, u64, Tower<Bits64>>(left, right)
     }
@@ -170,6 +173,7 @@ impl<W: SlicedWide> Many<u128, W> for Tower<Bits128> {
         W::invert_in_slices::<V>(words);
     }
 
+    #[inline]
     fn dot_product<V: Width + Vector>(left: &[W], right: &[W]) -> W {
         dot_product::<u128, W, Tower<Bits128>>(left, right)
     }
