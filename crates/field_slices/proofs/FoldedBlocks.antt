@@ -1,10 +1,10 @@
 -- Folding block by block: what is wanted of a block, and that one block more is done.
-use Rattle.std.proofs.Common.{◌≡◌, ℕ, zero, suc, ◌+◌, ◌^◌, ◌<◌, ◌≤◌, List, [], ◌∷◌, ◌++◌, length, map, replicate, take, drop, refl, sym, ◌∙◌, ap, ap₂, arith}
+use Rattle.std.proofs.Common.{◌≡◌, ℕ, zero, suc, ◌+◌, ◌^◌, ◌<◌, ◌≤◌, List, [], ◌∷◌, ◌++◌, length, map, take, drop, refl, sym, ◌∙◌, ap, ap₂, arith}
 use Rattle.std.specs.Prelude.{bit_xor}
 use Rattle.std.specs.Simd.Lanes.{zip2}
 use Rattle.std.proofs.Math.Nat.{mod-eq_of_lt}
 use Rattle.std.proofs.Math.Seq.{drop-drop, take-add}
-use Rattle.std.proofs.lemmas.List.{drop-map, length-map, map-append, take-map, take-replicate, take_all}
+use Rattle.std.proofs.lemmas.List.{drop-map, length-map, map-append, take-map, take_all}
 use Rattle.std.proofs.lemmas.Nat.{xor_comm, xor_lt}
 use Rattle.std.proofs.lemmas.Slice.{drop-put_mid, take-put_mid}
 use lib.Bits.{xor_assoc}
@@ -13,7 +13,6 @@ use Rattle.field_base.specs.Ring.{IsRing}
 use Rattle.field_base.proofs.RingLemmas.{xor_cancel, xor_left_comm}
 use Rattle.field_base.proofs.Written.{both-length}
 use Rattle.field_slices.specs.Multilinear.{on_line}
-use Rattle.packed_lanes.specs.Lanes.{lane_by_lane}
 
 -- ---- parts of lists that are joined place by place
 
@@ -36,42 +35,30 @@ zip2-drop f (suc n) (x ∷ xs) (y ∷ ys) = zip2-drop f n xs ys
 -- ---- a block, by its sums and its products
 
 module _ (width unit : ℕ) (times : ℕ → ℕ → ℕ) (ring : IsRing width unit times) where
-  -- y + (x + y) (1 + r) is on the line through x and y, at r
+  -- y + (1 + r) (x + y) is on the line through x and y, at r
   line-from_end : (r s x y : ℕ) → x < 2 ^ width → y < 2 ^ width → s ≡ bit_xor unit r
-      → bit_xor (times (bit_xor x y) s) y ≡ on_line times r x y
+      → bit_xor (times s (bit_xor x y)) y ≡ on_line times r x y
   line-from_end r s x y fits fits_too is =
       let sum = bit_xor x y in
       let product = times r sum in
       let once : times sum unit ≡ sum = ring.comm sum unit ∙ ring.one sum ∙ mod-eq_of_lt (xor_lt width x y fits fits_too) in
-      ap (λ (z : ℕ). bit_xor (times sum z) y) is
-      ∙ ap (λ (z : ℕ). bit_xor z y) (ring.over_sum sum unit r ∙ ap₂ bit_xor once (ring.comm sum r))
+      ap (λ (z : ℕ). bit_xor z y)
+      (ring.comm s sum ∙ ap (times sum) is ∙ ring.over_sum sum unit r ∙ ap₂ bit_xor once (ring.comm sum r))
       ∙ xor_comm (bit_xor sum product) y
       ∙ ap (bit_xor y) (xor_assoc x y product ∙ xor_left_comm x y product)
       ∙ xor_cancel y (bit_xor x product)
 
-  module _ {A : Type 0} (repr : A → ℕ) (range : (x : A) → repr x < 2 ^ width) (r : ℕ) (factor : A)
-      (factor_is : repr factor ≡ bit_xor unit r) where
-    -- so with that factor everywhere
-    line-everywhere : (xs ys : List A) (n : ℕ) → length ys ≡ length xs → n ≡ length xs
-        → zip2 bit_xor (lane_by_lane times (zip2 bit_xor (map repr xs) (map repr ys)) (map repr (replicate n factor))) (map repr ys)
-        ≡ zip2 (on_line times r) (map repr xs) (map repr ys)
-    line-everywhere [] ys n same long = refl
-    line-everywhere (x ∷ xs) [] n same long = absurd (omega (arith, same))
-    line-everywhere (x ∷ xs) (y ∷ ys) zero same long = absurd (omega (arith, long))
-    line-everywhere (x ∷ xs) (y ∷ ys) (suc n) same long =
-        ap₂ (λ (z : ℕ) (zs : List ℕ). z ∷ zs)
-        (line-from_end r (repr factor) (repr x) (repr y) (range x) (range y) factor_is)
-        (line-everywhere xs ys n (omega (arith, same)) (omega (arith, long)))
-
-    -- of m such factors a block takes the first n
-    pub block-line : (m n : ℕ) (xs ys : List A) → n ≤ m → length ys ≡ length xs → n ≡ length xs
-        → zip2 bit_xor (lane_by_lane times (zip2 bit_xor (map repr xs) (map repr ys)) (map repr (take n (replicate m factor))))
-        (map repr ys)
-        ≡ zip2 (on_line times r) (map repr xs) (map repr ys)
-    block-line m n xs ys fits same long =
-        let sums = zip2 bit_xor (map repr xs) (map repr ys) in
-        ap (λ (fs : List A). zip2 bit_xor (lane_by_lane times sums (map repr fs)) (map repr ys)) (take-replicate n m factor fits)
-        ∙ line-everywhere xs ys n same long
+  -- so with that factor at each place
+  pub block-line : {A : Type 0} (repr : A → ℕ) → ((x : A) → repr x < 2 ^ width) → (r factor : ℕ) → factor ≡ bit_xor unit r
+      → (xs ys : List A) → length ys ≡ length xs
+      → zip2 bit_xor (map (λ x. times factor x) (zip2 bit_xor (map repr xs) (map repr ys))) (map repr ys)
+      ≡ zip2 (on_line times r) (map repr xs) (map repr ys)
+  block-line repr range r factor is [] ys same = refl
+  block-line repr range r factor is (x ∷ xs) [] same = absurd (omega (arith, same))
+  block-line repr range r factor is (x ∷ xs) (y ∷ ys) same =
+      ap₂ (λ (z : ℕ) (zs : List ℕ). z ∷ zs)
+      (line-from_end r factor (repr x) (repr y) (range x) (range y) is)
+      (block-line repr range r factor is xs ys (omega (arith, same)))
 
 -- ---- a block more
 

@@ -2,15 +2,13 @@
 //
 // The first coordinate of a point is the highest bit of a corner's number, so that the corners where it is 0 are the lower half of the
 // values, and those where it is 1 the upper.
-ghost use Rattle.std.specs.Prelude.{◌≡◌, ◌/◌, ◌%◌, ◌^◌, ◌<◌, ◌≤◌, length, map, take, drop, bit_xor, IfOk};
+ghost use Rattle.std.specs.Prelude.{◌≡◌, ◌/◌, ◌%◌, ◌^◌, ◌<◌, length, map, take, drop, bit_xor, IfOk};
 ghost use Rattle.std.specs.List.{range_with_len};
 ghost use Rattle.std.specs.Simd.Lanes.{zip2};
 ghost use Rattle.field_slices.specs.Multilinear.{eq_corner, folded, multilinear_value, on_line};
-ghost use Rattle.packed_lanes.specs.Lanes.{lane_by_lane};
 
 use crate::sums::{add_slice, mul_slice};
 use field_base::traits::{Field, PrimeCharacteristicRing};
-use packed_lanes::{Laned, WiderField};
 use std::alloc::{AllocError, Allocator};
 
 /// The value at `point` of the multilinear polynomial with these values at the corners, of which there have to be two to the power of
@@ -29,73 +27,44 @@ pub fn evaluate_multilinear<F: Field>(values: &[F], point: &[F]) -> F
 }
 
 /// Sets the first coordinate of the polynomial to `r`: the lower half of the values, of which there have to be an even number, becomes
-/// `lower + r (lower + upper)`, the values at the corners of the other coordinates. The upper half stays. From 256 values on the products
-/// go by blocks, each by one call of `multiply_lanes`.
-pub fn fold<F: WiderField>(values: &mut [F], r: F)
+/// `lower + r (lower + upper)`, the values at the corners of the other coordinates. The upper half stays. It goes by blocks, and the
+/// products of a block are one call of `multiply_by`.
+pub fn fold<F: Field>(values: &mut [F], r: F)
     requires { length values.old % 2 ≡ 0 }
     ensures folded { map F.repr (take (length values.old / 2) values.new) ≡ folded F.product (F.repr r) (map F.repr values.old) }
     ensures rest { drop (length values.old / 2) values.new ≡ drop (length values.old / 2) values.old }
 {
     let half = values.len() / 2;
     let (lower, upper) = values.split_at_mut(half);
-    if half < BLOCK {
-        fold_halves(lower, upper, r);
-    } else {
-        fold_blocks(lower, upper, r);
-    }
+    fold_blocks(lower, upper, r);
 }
 
-/// Sets the first coordinate of the polynomial to `r` as `fold` does, value by value, over GF(2) too: the lower half of the values, of
-/// which there have to be an even number, becomes `lower + r (lower + upper)`. The upper half stays.
-pub fn fold_places<F: Field>(values: &mut [F], r: F)
-    requires { length values.old % 2 ≡ 0 }
-    ensures folded { map F.repr (take (length values.old / 2) values.new) ≡ folded F.product (F.repr r) (map F.repr values.old) }
-    ensures rest { drop (length values.old / 2) values.new ≡ drop (length values.old / 2) values.old }
-{
-    let half = values.len() / 2;
-    let (lower, upper) = values.split_at_mut(half);
-    fold_halves(lower, upper, r);
-}
+// How many values go at once: so many that a scalar's tables pay, and that both halves of a block stay in the caches.
+const BLOCK: usize = 1024;
 
-// Puts at each place of the lower half what the line through both halves has at `r`.
-fn fold_halves<F: Field>(lower: &mut [F], upper: &[F], r: F)
+// Puts at each place of the lower half what the line through both halves has at `r`, block by block.
+fn fold_blocks<F: Field>(lower: &mut [F], upper: &[F], r: F)
     requires { length upper.now ≡ length lower.old }
     ensures { map F.repr lower.new ≡ zip2 (on_line F.product (F.repr r)) (map F.repr lower.old) (map F.repr upper.now) }
 {
-    for place in 0..lower.len() {
-        lower[place] = lower[place] + r * (lower[place] + upper[place]);
-    }
-}
-
-// How many values go at once.
-const BLOCK: usize = 128;
-
-// The same block by block. There are at least as many values as in a block, so that its factors fit in memory.
-fn fold_blocks<F: WiderField>(lower: &mut [F], upper: &[F], r: F)
-    requires same { length upper.now ≡ length lower.old }
-    requires long { 128 ≤ length lower.old }
-    ensures { map F.repr lower.new ≡ zip2 (on_line F.product (F.repr r)) (map F.repr lower.old) (map F.repr upper.now) }
-{
-    let factors = [F::ONE + r; BLOCK];
+    let factor = F::ONE + r;
     let mut start = 0;
     while start < lower.len() {
         let size = BLOCK.min(lower.len() - start);
         let end = start + size;
-        fold_block(&mut lower[start..end], &upper[start..end], &factors[..size]);
+        fold_block(&mut lower[start..end], &upper[start..end], factor);
         start = end;
     }
 }
 
 // Puts `upper + factor (lower + upper)` at each place of the lower half: what the line has at `1 + factor`.
-fn fold_block<F: WiderField>(lower: &mut [F], upper: &[F], factors: &[F])
-    requires same { length upper.now ≡ length lower.old }
-    requires long { length factors.now ≡ length lower.old }
+fn fold_block<F: Field>(lower: &mut [F], upper: &[F], factor: F)
+    requires { length upper.now ≡ length lower.old }
     ensures { map F.repr lower.new ≡ zip2 bit_xor
-        (lane_by_lane F.product (zip2 bit_xor (map F.repr lower.old) (map F.repr upper.now)) (map F.repr factors.now))
-        (map F.repr upper.now) }
+        (map (λ x. F.product (F.repr factor) x) (zip2 bit_xor (map F.repr lower.old) (map F.repr upper.now))) (map F.repr upper.now) }
 {
     add_slice(lower, upper);
-    F::multiply_lanes(lower, factors);
+    F::multiply_by(lower, factor);
     add_slice(lower, upper);
 }
 

@@ -14,7 +14,7 @@ mod powers;
 mod rounds;
 mod sums;
 
-pub use crate::cube::{eq_poly, eq_poly_into, evaluate_multilinear, fold, fold_places};
+pub use crate::cube::{eq_poly, eq_poly_into, evaluate_multilinear, fold};
 pub use crate::horner::evaluate;
 pub use crate::inversion::{
     batch_multiplicative_inverse, batch_multiplicative_inverse_in_place,

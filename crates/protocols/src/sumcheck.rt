@@ -16,7 +16,6 @@ use crate::terms::{Term, are_pairs, cube_sum, degree, terms_at};
 use crate::verdicts::both;
 use field_base::traits::Field;
 use field_slices::{add_slice, fold, interpolate_at_nodes};
-use packed_lanes::WiderField;
 use std::alloc::{AllocError, Allocator};
 use transcript_elements::FieldChallenger;
 
@@ -45,7 +44,7 @@ pub struct Reduced<F: Field, A: Allocator> {
 /// challenge is sampled. It fails with `Challenger` if a call of the challenger had failed before; else with `Shape` exactly if there are
 /// not 2^rounds rows, or 2^64 of them, or the claim cannot be stated (`can_be_stated`); and else only with `Memory`. The first two leave
 /// the challenger and the values as they are.
-pub fn prove<F: WiderField, C: FieldChallenger<F>, A: Allocator + Copy>(
+pub fn prove<F: Field, C: FieldChallenger<F>, A: Allocator + Copy>(
     alloc: A,
     challenger: &mut C,
     values: &mut [F],
@@ -111,7 +110,7 @@ fn can_be_proved<F: Field>(rounds: usize, count: usize, terms: &[Term<F>], size:
 }
 
 // Appends the messages and the challenges of the rounds that are left, and folds the values by the challenges.
-fn prove_rounds<F: WiderField, C: FieldChallenger<F>, A: Allocator + Copy>(
+fn prove_rounds<F: Field, C: FieldChallenger<F>, A: Allocator + Copy>(
     alloc: A,
     challenger: &mut C,
     terms: &[Term<F>],
@@ -168,7 +167,7 @@ fn prove_rounds<F: WiderField, C: FieldChallenger<F>, A: Allocator + Copy>(
 
 // The message of an honest prover, where `rounds` coordinates are left besides the first: the values of the round's polynomial at the
 // elements 0, 2, 3, .., up to the degree. `scratch` is as long as the values.
-fn message<F: WiderField, A: Allocator>(
+fn message<F: Field, A: Allocator>(
     alloc: A,
     terms: &[Term<F>],
     values: &[F],
@@ -200,7 +199,7 @@ fn message<F: WiderField, A: Allocator>(
 
 // The value at x of the round's polynomial, where `rounds` coordinates are left besides the first, and `first` is its value at 0.
 // `scratch` is as long as the values.
-fn value_at<F: WiderField>(
+fn value_at<F: Field>(
     terms: &[Term<F>],
     values: &[F],
     scratch: &mut [F],
@@ -382,7 +381,7 @@ fn node_values<F: Field, A: Allocator>(
 /// Proves that the sum is what it is, and verifies the proof in a challenger that begins in the same state. The verifier accepts,
 /// whatever the challenger is. It fails with `Challenger` if a call of either challenger had failed before; else with `Shape` exactly if
 /// the claim cannot be stated (`can_be_stated`); and else only with `Memory`.
-pub fn prove_and_verify<F: WiderField, C: FieldChallenger<F>, A: Allocator + Copy>(
+pub fn prove_and_verify<F: Field, C: FieldChallenger<F>, A: Allocator + Copy>(
     alloc: A,
     prover: &mut C,
     verifier: &mut C,

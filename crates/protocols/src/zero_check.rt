@@ -17,7 +17,6 @@ use crate::terms::Term;
 use crate::verdicts::both;
 use field_base::traits::Field;
 use field_slices::eq_poly;
-use packed_lanes::WiderField;
 use std::alloc::{AllocError, Allocator};
 use transcript_elements::FieldChallenger;
 
@@ -57,7 +56,7 @@ impl<F: Field, A: Allocator> ReducedZeros<F, A> {
 /// The tables are not observed: they have to be committed to before. It fails with `Challenger` if a call of the challenger had failed
 /// before; else with `Shape` exactly if a table has not 2^rounds values, or 2^64 of them, or the claim cannot be stated; and else only
 /// with `Memory`. The first two leave the challenger as it is.
-pub fn prove_zero<F: WiderField, C: FieldChallenger<F>, A: Allocator + Copy>(
+pub fn prove_zero<F: Field, C: FieldChallenger<F>, A: Allocator + Copy>(
     alloc: A,
     challenger: &mut C,
     rounds: usize,

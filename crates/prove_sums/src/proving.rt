@@ -10,7 +10,6 @@ use crate::shapes::{EXPANSION, Shape};
 use crate::sums;
 use crate::verifying::WORK;
 use field_base::traits::Field;
-use packed_lanes::WiderField;
 use protocols::ProtocolError;
 use protocols::queries::draw_queries;
 use protocols::tables::{TableColumns, column_values, commit_table, open_columns};
@@ -58,7 +57,7 @@ pub fn commit<F: ByteLevel, H: ByteHasher32>(
 
 /// The proof of the sum of the products of two tables. It fails where the challenger does, or memory is refused.
 pub fn prove<
-    F: ByteLevel + WiderField,
+    F: ByteLevel,
     C: FieldChallenger<F> + GrindingChallenger<Witness = F> + CanSampleUniformBits<F>,
 >(
     alloc: Global,

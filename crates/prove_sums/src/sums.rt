@@ -5,7 +5,6 @@ ghost use Rattle.prove_sums.specs.Verdicts.{interleaved, IsReduced, IsSummed, pr
 
 use crate::shapes::part;
 use field_base::traits::Field;
-use packed_lanes::WiderField;
 use protocols::sumcheck::Reduced;
 use protocols::terms::{Term, cube_sum};
 use protocols::{ProtocolError, sumcheck};
@@ -55,7 +54,7 @@ pub struct Summed<F: Field> {
 
 /// The sum of the products of two tables of 2^rounds elements, the messages that prove it, and the challenges. The statement and the
 /// messages are observed, and the challenges sampled. It fails as `sumcheck::prove` does.
-pub fn prove<F: WiderField, C: FieldChallenger<F>>(
+pub fn prove<F: Field, C: FieldChallenger<F>>(
     alloc: Global,
     challenger: &mut C,
     left: &[F],

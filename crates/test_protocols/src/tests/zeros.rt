@@ -3,7 +3,6 @@
 use field_base::traits::{Field, TowerLevel};
 use field_element::BinaryField128;
 use field_slices::evaluate_multilinear;
-use packed_lanes::WiderField;
 use protocols::ProtocolError;
 use protocols::zero_check::{prove_zero, verify_zero};
 use std::alloc::Global;
@@ -23,7 +22,7 @@ fn value_at<F: Field>(table: &[F; 4], point: &[F]) -> F {
 }
 
 // Whether a verifier that has the tables a, b and a b accepts what was proved of them, after this is added to the first message.
-fn is_accepted<F: WiderField, C: FieldChallenger<F>>(
+fn is_accepted<F: Field, C: FieldChallenger<F>>(
     alloc: Global,
     prover: &mut C,
     verifier: &mut C,

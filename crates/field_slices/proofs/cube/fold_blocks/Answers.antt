@@ -18,9 +18,9 @@ loop-start-preserved g c =
     let lower = c.loop-start.lower in
     let upper = c.args.upper.now in
     let taken : start + size - start ≡ size = omega arith in
-    let factor = c.add-factors.result in
+    let factor = c.add-factor.result in
     let factor_is : field.repr factor ≡ bit_xor field.unit r =
-    g.met.F.Represented.add_law c.ONE.result c.args.r factor c.add-factors.ensures
+    g.met.F.Represented.add_law c.ONE.result c.args.r factor c.add-factor.ensures
     ∙ ap (λ (n : ℕ). bit_xor n r) (ap field.repr c.ONE.ensures ∙ g.met.F.PrimeCharacteristicRing.one_law) in
     let part = λ (xs : List _). mid_of start (start + size - start) xs in
     let old = c.args.lower.now in (
@@ -28,8 +28,8 @@ loop-start-preserved g c =
       block_more field.repr line old upper lower c.fold_block.new.lower start (start + size - start) size c.loop-start.invariant.1 taken
           (omega arith) (omega arith)
           (c.fold_block.ensures
-          ∙ block-line field.width field.unit field.product field.ring_law field.repr field.range_law r factor factor_is 128 size
-          (part lower) (part upper) (omega arith) (omega arith) (omega arith)),
+          ∙ block-line field.width field.unit field.product field.ring_law field.repr field.range_law r (field.repr factor) factor_is
+          (part lower) (part upper) (omega arith)),
     )
 
 pub returns : goal.returns
@@ -37,4 +37,4 @@ returns g c =
     let field = g.F.Represented in
     let line = on_line field.product (field.repr c.args.r) in
     all-folded field.repr line c.args.lower.now c.args.upper.now c.loop-start.lower c.loop-start.start c.loop-start.auto.lower
-    c.requires.same (omega arith) c.loop-start.invariant.1
+    c.requires (omega arith) c.loop-start.invariant.1
